@@ -1,0 +1,4 @@
+pub mod Lists
+pub mod Acyclic
+pub mod Placed
+pub mod Settling

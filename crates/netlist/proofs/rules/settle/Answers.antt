@@ -1,0 +1,36 @@
+use Rattle.std.proofs.Common.{refl, ◌+◌, ◌<◌, map, ap, sym, ◌∙◌, length, set, subst}
+use Rattle.std.proofs.lemmas.List.{get_or_default}
+use Rattle.netlist.proofs.Settling.{settle_more, settled}
+use Rattle.netlist.specs.Settling.{at, SettlesUpTo}
+use Rattle.netlist.proofs.rules.settle.Goals as goal
+
+pub evaluate-requires-clause-gate : goal.evaluate-requires-clause-gate
+evaluate-requires-clause-gate g c =
+    let l : c.loop-id.id-index < length c.args.order.now = c.loop-id-test.true in
+    let w = c.requires.ordered.placed.gates c.loop-id.id-index l in
+    (w.0, w.1, w.2 ∙ sym (c.id-item.is ∙ get_or_default c.args.order.now c.loop-id.id-index c.id-item.result 0 l))
+
+pub evaluate-requires-clause-size : goal.evaluate-requires-clause-size
+evaluate-requires-clause-size g c = c.loop-id.invariant.size
+
+pub loop-id-preserved : goal.loop-id-preserved
+loop-id-preserved g c =
+    let n = c.args.netlist.now in
+    let l : c.loop-id.id-index < length c.args.order.now = c.loop-id-test.true in
+    let w = c.requires.ordered.placed.gates c.loop-id.id-index l in
+    let is = c.id-item.is ∙ get_or_default c.args.order.now c.loop-id.id-index c.id-item.result 0 l in
+    record {
+      size = c.in_ok-evaluate.ensures.size ∙ c.loop-id.invariant.size;
+      each = λ d.
+          let rule = g.L.Logic.rule c.args.logic.now in
+          let e = c.in_ok-evaluate.ensures.set w.0 d w.1 (w.2 ∙ sym is) in
+          subst (λ v. SettlesUpTo rule n c.args.order.now c.args.inputs.now c.args.state.now v (c.loop-id.id-index + 1) d)
+          (sym (e ∙ ap (λ x. set c.loop-id.values.items x (rule.gate w.0 (map (at c.loop-id.values.items d) w.0.pins))) (is ∙ sym w.2)))
+          (settle_more n c.requires.sound.numbered c.args.order.now c.requires.ordered rule c.args.inputs.now c.args.state.now c.loop-id.values.items c.loop-id.id-index d
+          (c.loop-id.invariant.each d) l w.0 w.1 w.2 (rule.gate w.0 (map (at c.loop-id.values.items d) w.0.pins)) refl);
+    }
+
+pub returns : goal.returns
+returns g c d =
+    settled c.args.netlist.now c.requires.sound.numbered c.args.order.now c.requires.ordered (g.L.Logic.rule c.args.logic.now) c.args.inputs.now c.args.state.now
+    c.loop-id.values.items c.loop-id.id-index d (c.loop-id.invariant.each d) c.loop-id-test.false

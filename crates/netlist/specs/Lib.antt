@@ -1,0 +1,7 @@
+pub mod Netlist
+pub mod Gates
+pub mod Names
+pub mod Settled
+pub mod Conditions
+pub mod Placed
+pub mod Settling

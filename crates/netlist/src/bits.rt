@@ -1,0 +1,87 @@
+//! Bits, where one line may be stuck.
+ghost use Rattle.std.specs.Prelude.{◌≡◌, ◌≤◌, length};
+ghost use Rattle.netlist.specs.Settled.{stuck, bits};
+ghost use Rattle.netlist.specs.Gates.{conjunction, disjunction, parity, only};
+
+use crate::equations::Definition;
+use crate::kinds::Kind;
+use crate::lines::{Fault, Line};
+use crate::rules::Logic;
+
+/// Bits, where one line may be stuck.
+#[derive(Clone, Copy, Debug, PartialEq, Eq)]
+pub struct Bits {
+    pub fault: Option<Fault>,
+}
+
+/// What the bits on the pins are together.
+#[derive(Drop)]
+struct Together {
+    all: bool,
+    some: bool,
+    odd: bool,
+    first: bool,
+}
+
+/// What the bits on the pins of a gate are together.
+fn gather(pins: &[bool]) -> Together
+    ensures all { result.all ≡ conjunction pins.now }
+    ensures some { result.some ≡ disjunction pins.now }
+    ensures odd { result.odd ≡ parity pins.now }
+    ensures first { result.first ≡ only pins.now }
+{
+    let mut all = true;
+    let mut some = false;
+    let mut odd = false;
+    let mut first = false;
+    for k in (0..pins.len()).rev() {
+        let bit = pins[k];
+        all = bit && all;
+        some = bit || some;
+        odd = bit != odd;
+        first = bit;
+    }
+    Together {
+        all,
+        some,
+        odd,
+        first,
+    }
+}
+
+impl Logic for Bits {
+    type Value = bool;
+
+    ghost rule = { λ b. bits b.fault };
+
+    fn blank(&self) -> bool {
+        false
+    }
+
+    fn line(&self, line: &Line, value: bool) -> bool {
+        match &self.fault {
+            None => value,
+            Some(fault) => {
+                if fault.line.is(line) {
+                    fault.value
+                } else {
+                    value
+                }
+            }
+        }
+    }
+
+    fn gate(&self, definition: &Definition, pins: &[bool]) -> bool {
+        let pins = gather(pins);
+        match definition.kind() {
+            Kind::And => pins.all,
+            Kind::Nand => !pins.all,
+            Kind::Or => pins.some,
+            Kind::Nor => !pins.some,
+            Kind::Xor => pins.odd,
+            Kind::Xnor => !pins.odd,
+            Kind::Not => !pins.first,
+            Kind::Buff | Kind::Dff => pins.first,
+        }
+    }
+}

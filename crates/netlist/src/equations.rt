@@ -1,0 +1,63 @@
+//! Definitions, and the parts of which a netlist is made.
+ghost use Rattle.std.specs.Prelude.{◌≡◌};
+
+use crate::kinds::Kind;
+use crate::name_table::NameTable;
+use crate::signals::SignalId;
+use smallvec::SmallVec;
+use std::marker::Model;
+
+/// Memory was refused.
+#[derive(Clone, Copy, Debug, PartialEq, Eq)]
+pub struct NoMemory;
+
+/// A signal and what drives it.
+#[derive(Drop)]
+pub struct Definition {
+    pub id: SignalId,
+    pub kind: Kind,
+    pub pins: SmallVec<SignalId, 4>,
+}
+
+impl Model for Definition {
+    ghost use Rattle.netlist.specs.Netlist.{Definition};
+
+    ghost Value = { Definition };
+
+    ghost view = { λ d. record { id = d.id; kind = d.kind; pins = d.pins.items } };
+}
+
+impl Definition {
+    pub fn new(id: SignalId, kind: Kind, pins: SmallVec<SignalId, 4>) -> Definition
+        ensures { result ≡ record { id = id; kind = kind; pins = pins.items } }
+    {
+        Definition { id, kind, pins }
+    }
+
+    pub fn id(&self) -> SignalId
+        ensures { result ≡ self.now.id }
+    {
+        self.id
+    }
+
+    pub fn kind(&self) -> Kind
+        ensures { result ≡ self.now.kind }
+    {
+        self.kind
+    }
+
+    pub fn pins(&self) -> &[SignalId]
+        ensures { result.now ≡ self.now.pins }
+    {
+        self.pins.as_slice()
+    }
+}
+
+/// The parts of a netlist: `names` has the name of signal 0, 1 and so on, and then those of names that are read and not defined.
+#[derive(Drop)]
+pub struct Parts {
+    pub names: NameTable,
+    pub inputs: Vec<SignalId>,
+    pub outputs: Vec<SignalId>,
+    pub definitions: Vec<Definition>,
+}

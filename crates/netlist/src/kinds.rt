@@ -1,0 +1,46 @@
+//! What gates compute, and the values of three-valued simulation.
+ghost use Rattle.std.specs.Prelude.{◌≡◌};
+ghost use Rattle.netlist.specs.Netlist.{is_flip_flop};
+ghost use Rattle.netlist.specs.Gates.{allows_pins};
+
+/// What a definition computes.
+#[derive(Clone, Copy, Debug, PartialEq, Eq)]
+pub enum Kind {
+    And,
+    Nand,
+    Or,
+    Nor,
+    Xor,
+    Xnor,
+    Not,
+    Buff,
+    Dff,
+}
+
+impl Kind {
+    /// Whether it keeps a bit from one tick to the next.
+    pub fn is_flip_flop(self) -> bool
+        ensures { result ≡ is_flip_flop self }
+    {
+        matches!(self, Kind::Dff)
+    }
+
+    /// Whether it may have so many pins.
+    pub fn allows(self, pins: usize) -> bool
+        ensures { result ≡ allows_pins self pins }
+    {
+        match self {
+            Kind::Not | Kind::Buff | Kind::Dff => pins == 1,
+            Kind::Xor | Kind::Xnor => 2 <= pins && pins <= 1024,
+            Kind::And | Kind::Nand | Kind::Or | Kind::Nor => 1 <= pins && pins <= 1024,
+        }
+    }
+}
+
+/// 0, 1 or unknown.
+#[derive(Clone, Copy, Debug, PartialEq, Eq)]
+pub enum Tri {
+    Zero,
+    One,
+    X,
+}

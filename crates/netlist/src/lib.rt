@@ -1,0 +1,21 @@
+//! Gate netlists: signals, faults, and the one notion of settled values on which all simulation stands.
+#![tactic(auto)]
+
+mod bits;
+mod equations;
+mod kinds;
+mod lines;
+mod name_table;
+mod netlists;
+mod order;
+mod rules;
+mod signals;
+
+pub use bits::Bits;
+pub use equations::{Definition, NoMemory, Parts};
+pub use kinds::{Kind, Tri};
+pub use lines::{Fault, Line, Point};
+pub use name_table::NameTable;
+pub use netlists::{NetRefusal, Netlist};
+pub use rules::Logic;
+pub use signals::SignalId;

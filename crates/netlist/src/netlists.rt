@@ -1,0 +1,165 @@
+//! Netlists: made of parts, or refused with the first cause.
+ghost use Rattle.std.specs.Prelude.{◌≡◌, ◌<◌, ◌≤◌, ℕ, List, length, map, MatchResult, Some, [], slice_get, IfOk};
+ghost use Rattle.std.specs.List.{Contains, filter};
+ghost use Rattle.std.specs.Option.{option_map, option_map_or};
+ghost use Rattle.netlist.specs.Netlist.{Definition as Equation, cells, is_cell, signals, definition_of};
+ghost use Rattle.netlist.specs.Conditions.{IsWellFormed, IsSound, IsCause, whole};
+
+use crate::equations::{Definition, Parts};
+use crate::kinds::Kind;
+use crate::order::{first_left, sort};
+use crate::signals::SignalId;
+use std::alloc::{AllocError, Global};
+use std::marker::Model;
+
+/// The most signals of any netlist.
+const MOST_SIGNALS: usize = 8_000_000;
+
+/// Why parts are refused: the first cause in this order, with the least signal.
+#[derive(Clone, Copy, Debug, PartialEq, Eq)]
+pub enum NetRefusal {
+    /// More than 8,000,000 signals.
+    TooMany,
+    NoInput,
+    NoOutput,
+    /// A name that is read and neither an input nor defined.
+    Undefined(SignalId),
+    /// A gate of the greatest set of gates each of which reads a gate of the set.
+    Loop(SignalId),
+    NoMemory,
+}
+
+/// A netlist without loops, in which each name that is read is defined.
+#[derive(Drop)]
+pub struct Netlist {
+    parts: Parts,
+    flip_flops: Vec<SignalId>,
+}
+
+impl Model for Netlist {
+    ghost use Rattle.std.specs.Prelude.{◌≡◌, map};
+    ghost use Rattle.netlist.specs.Netlist.{Netlist, Definition, cells};
+    ghost use Rattle.netlist.specs.Conditions.{IsSound, whole};
+
+    ghost Value = { Netlist };
+
+    ghost view = { λ n. whole n.parts };
+
+    ghost invariant = { λ n. IsSound (whole n.parts) × (n.flip_flops.items ≡ map (λ (d : Definition). d.id) (cells (whole n.parts))) };
+}
+
+/// The cells, by their signals.
+fn flip_flops(alloc: Global, definitions: &[Definition]) -> Result<Vec<SignalId>, AllocError>
+    ensures { IfOk result (λ v. v.items ≡ map (λ (d : Equation). d.id) (filter is_cell definitions.now)) }
+{
+    definitions
+        .iter()
+        .filter(|d| d.kind().is_flip_flop())
+        .map(|d| d.id())
+        .collect(alloc)
+}
+
+impl Netlist {
+    /// The netlist of the parts, or the first cause against it.
+    pub fn new(alloc: Global, parts: Parts) -> Result<Netlist, NetRefusal>
+        requires { IsWellFormed (whole parts) }
+        ensures { MatchResult result (λ n. n ≡ whole parts) (IsCause (whole parts)) }
+    {
+        let inputs = parts.inputs.len();
+        if inputs > MOST_SIGNALS || parts.definitions.len() > MOST_SIGNALS - inputs {
+            return Err(NetRefusal::TooMany);
+        }
+        if inputs == 0 {
+            return Err(NetRefusal::NoInput);
+        }
+        if parts.outputs.is_empty() {
+            return Err(NetRefusal::NoOutput);
+        }
+        let signals = inputs + parts.definitions.len();
+        if signals < parts.names.len() {
+            return Err(NetRefusal::Undefined(SignalId(signals as u32)));
+        }
+        let Ok(sorting) = sort(alloc, &parts) else {
+            return Err(NetRefusal::NoMemory);
+        };
+        if let Some(z) = first_left(&sorting.ranks) {
+            return Err(NetRefusal::Loop(SignalId(z)));
+        }
+        let Ok(flip_flops) = flip_flops(alloc, &parts.definitions) else {
+            return Err(NetRefusal::NoMemory);
+        };
+        Ok(Netlist { parts, flip_flops })
+    }
+
+    /// What every netlist is.
+    pub fn sound(&self)
+        ensures { IsSound self.now }
+    {
+        let _ = &self.parts;
+    }
+
+    pub fn inputs(&self) -> &[SignalId]
+        ensures { result.now ≡ self.now.inputs }
+    {
+        &self.parts.inputs
+    }
+
+    pub fn outputs(&self) -> &[SignalId]
+        ensures { result.now ≡ self.now.outputs }
+    {
+        &self.parts.outputs
+    }
+
+    /// Gates and cells, in the order of signals.
+    pub fn definitions(&self) -> &[Definition]
+        ensures { result.now ≡ self.now.definitions }
+    {
+        &self.parts.definitions
+    }
+
+    /// The flip-flops, by their signals, in order.
+    pub fn cells(&self) -> &[SignalId]
+        ensures { result.now ≡ map (λ (d : Equation). d.id) (cells self.now) }
+    {
+        &self.flip_flops
+    }
+
+    pub fn name(&self, id: SignalId) -> &[u8]
+        requires { id < length (signals self.now) }
+        ensures { slice_get self.now.names id ≡ Some result.now }
+    {
+        self.parts.names.get(id.index())
+    }
+
+    /// The definition of a signal that is no input.
+    pub fn definition(&self, id: SignalId) -> &Definition
+        requires defined { length self.now.inputs ≤ id }
+        requires within { id < length (signals self.now) }
+        ensures member { Contains self.now.definitions result.now }
+        ensures same { result.now.id ≡ id }
+    {
+        &self.parts.definitions[id.index() - self.parts.inputs.len()]
+    }
+
+    /// None for an input.
+    pub fn kind(&self, id: SignalId) -> Option<Kind>
+        requires { id < length (signals self.now) }
+        ensures { result ≡ option_map (λ (d : Equation). d.kind) (definition_of self.now id) }
+    {
+        if id.index() < self.parts.inputs.len() {
+            return None;
+        }
+        Some(self.definition(id).kind())
+    }
+
+    /// None for an input.
+    pub fn pins(&self, id: SignalId) -> &[SignalId]
+        requires { id < length (signals self.now) }
+        ensures { result.now ≡ option_map_or (λ (d : Equation). d.pins) (definition_of self.now id) [] }
+    {
+        if id.index() < self.parts.inputs.len() {
+            return &[];
+        }
+        self.definition(id).pins()
+    }
+}

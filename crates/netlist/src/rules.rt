@@ -1,0 +1,142 @@
+//! The one evaluator, for any rule by which values settle.
+ghost use Rattle.std.specs.Prelude.{◌≡◌, ◌≢◌, ◌<◌, ◌≤◌, ℕ, List, length, map, IfOk, OnOk};
+ghost use Rattle.std.specs.List.{All, AllPairs};
+ghost use Rattle.netlist.specs.Netlist.{Definition as Equation, Netlist as Equations, cells, signals};
+ghost use Rattle.netlist.specs.Conditions.{IsSound};
+ghost use Rattle.netlist.specs.Placed.{IsOrder};
+ghost use Rattle.netlist.specs.Settled.{Settles};
+ghost use Rattle.netlist.specs.Settling.{at, IsDriven, AreRead, AllSettleUpTo, IsGateAt, IsEvaluated};
+
+use crate::equations::Definition;
+use crate::lines::Line;
+use crate::netlists::Netlist;
+use crate::signals::SignalId;
+use std::alloc::{AllocError, Global};
+
+/// How values of a kind settle on a netlist: bits, three values, words, labels.
+pub trait Logic {
+    ghost use Rattle.netlist.specs.Settled.{Rule};
+
+    type Value: Copy + Drop;
+
+    ghost rule: { Self → Rule Self.Value };
+
+    /// A value of no meaning, for signals that have none yet.
+    fn blank(&self) -> Self::Value;
+
+    /// What a line makes of the value that comes onto it.
+    fn line(&self, line: &Line, value: Self::Value) -> Self::Value
+        ensures { result ≡ (rule self.now).line line.now value };
+
+    /// What a gate makes of the values on its pins.
+    fn gate(&self, definition: &Definition, pins: &[Self::Value]) -> Self::Value
+        requires { length pins.now ≤ 1024 }
+        ensures { result ≡ (rule self.now).gate definition.now pins.now };
+}
+
+/// Puts values onto inputs or cells.
+fn drive<L: Logic>(logic: &L, ids: &[SignalId], driven: &[L::Value], values: &mut Vec<L::Value>)
+    requires enough { length driven.now ≡ length ids.now }
+    requires below { All (λ x. x < length values.old.items) ids.now }
+    requires distinct { AllPairs (λ x y. x ≢ y) ids.now }
+    ensures { IsDriven (L.rule logic.now) ids.now driven.now values.old.items values.new.items (length ids.now) }
+{
+    for k in 0..ids.len() {
+        values[ids[k].index()] = logic.line(&Line::Stem(ids[k]), driven[k]);
+    }
+}
+
+/// The values on the pins of a definition.
+fn read_pins<L: Logic>(
+    logic: &L,
+    id: SignalId,
+    ids: &[SignalId],
+    values: &[L::Value],
+    pins: &mut Vec<L::Value>,
+) -> Result<(), AllocError>
+    requires below { All (λ x. x < length values.now) ids.now }
+    requires few { length ids.now ≤ 1024 }
+    ensures { OnOk result (AreRead (L.rule logic.now) id values.now ids.now pins.new.items) }
+{
+    pins.clear();
+    for k in 0..ids.len() {
+        let value = logic.line(&Line::Pin(id, k as u32), values[ids[k].index()]);
+        pins.push(value)?;
+    }
+    Ok(())
+}
+
+/// A value of no meaning for each signal.
+fn blanks<L: Logic>(alloc: Global, logic: &L, count: usize) -> Result<Vec<L::Value>, AllocError>
+    ensures { IfOk result (λ v. length v.items ≡ count) }
+{
+    let mut values = Vec::with_capacity(alloc, count)?;
+    for _done in 0..count {
+        values.push(logic.blank())?;
+    }
+    Ok(values)
+}
+
+/// The values before any gate is evaluated.
+fn start_values<L: Logic>(
+    alloc: Global,
+    logic: &L,
+    netlist: &Netlist,
+    inputs: &[L::Value],
+    state: &[L::Value],
+) -> Result<Vec<L::Value>, AllocError>
+    requires sound { IsSound netlist.now }
+    requires inputs { length inputs.now ≡ length netlist.now.inputs }
+    requires state { length state.now ≡ length (cells netlist.now) }
+    ensures { IfOk result (λ v. (order : List ℕ) → AllSettleUpTo (L.rule logic.now) netlist.now order inputs.now state.now v.items 0) }
+{
+    let count = netlist.inputs().len() + netlist.definitions().len();
+    let mut values = blanks(alloc, logic, count)?;
+    drive(logic, netlist.inputs(), inputs, &mut values);
+    drive(logic, netlist.cells(), state, &mut values);
+    Ok(values)
+}
+
+/// Gives a gate its value.
+fn evaluate<L: Logic>(
+    logic: &L,
+    netlist: &Netlist,
+    id: SignalId,
+    values: &mut Vec<L::Value>,
+    pins: &mut Vec<L::Value>,
+) -> Result<(), AllocError>
+    requires sound { IsSound netlist.now }
+    requires gate { IsGateAt netlist.now id }
+    requires size { length values.old.items ≡ length (signals netlist.now) }
+    ensures { OnOk result (IsEvaluated (L.rule logic.now) netlist.now id values.old.items values.new.items) }
+{
+    let definition = netlist.definition(id);
+    read_pins(logic, id, definition.pins(), values, pins)?;
+    let made = logic.gate(definition, pins);
+    values[id.index()] = logic.line(&Line::Stem(id), made);
+    Ok(())
+}
+
+/// The values that settle.
+pub(crate) fn settle<L: Logic>(
+    alloc: Global,
+    logic: &L,
+    netlist: &Netlist,
+    order: &[SignalId],
+    inputs: &[L::Value],
+    state: &[L::Value],
+) -> Result<Vec<L::Value>, AllocError>
+    requires sound { IsSound netlist.now }
+    requires ordered { IsOrder netlist.now order.now }
+    requires inputs { length inputs.now ≡ length netlist.now.inputs }
+    requires state { length state.now ≡ length (cells netlist.now) }
+    ensures settled { IfOk result (λ v. (d : L.Value) → Settles (L.rule logic.now) netlist.now inputs.now state.now (at v.items d)) }
+    ensures size { IfOk result (λ v. length v.items ≡ length (signals netlist.now)) }
+{
+    let mut values = start_values(alloc, logic, netlist, inputs, state)?;
+    let mut pins = Vec::new(alloc);
+    for id in order {
+        evaluate(logic, netlist, *id, &mut values, &mut pins)?;
+    }
+    Ok(values)
+}
