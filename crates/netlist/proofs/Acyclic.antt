@@ -1,13 +1,11 @@
 -- Induction along the gates of an acyclic netlist, and what follows from it.
 use Rattle.std.proofs.Common.{◌≡◌, ℕ, Bool, true, false, not, ◌&&◌, List, map, sym, ◌∙◌, ap, inl, inr, eqb}
-use Rattle.std.specs.Bool.{Decides}
 use Rattle.std.specs.List.{All, Contains, list_any}
 use Rattle.std.proofs.lemmas.Bool.{both_ways, and_parts, and_from, eqb-true, eq-eqb, not_from_false, not-true, cases_Bool}
 use Rattle.std.proofs.lemmas.List.Elements.{All-contains, Contains-append_cases}
 use Rattle.netlist.specs.Netlist.{Definition, Netlist, is_cell, is_gate, cells, gates, signals, IsLoop, IsAcyclic}
 use Rattle.netlist.specs.Conditions.{IsClosed}
-use Rattle.netlist.specs.Settled.{Rule, Settles}
-use Rattle.netlist.proofs.Lists.{contains_map, any_true, any_from, all_or_fails, filter_contains, contains_filter, map_agree, zip_same}
+use Rattle.netlist.proofs.Lists.{contains_map, any_true, any_from, all_or_fails, filter_contains, contains_filter}
 
 module _ (n : Netlist) (holds : ℕ → Bool) (closed : IsClosed n)
     (at_inputs : All (λ x. holds x ≡ true) n.inputs)
@@ -53,19 +51,3 @@ module _ (n : Netlist) (holds : ℕ → Bool) (closed : IsClosed n)
     | inl y ↦ y
     | inr f ↦ absurd (acyclic x (failing, failing_loop, fails_at x c f))
   ]
-
--- two assignments that settle by one rule, on the same inputs and state
-pub settles_once : {V : Type 0} (same : V → V → Bool) → ((x y : V) → Decides (same x y) (x ≡ y))
-    → (rule : Rule V) (n : Netlist) (inputs state : List V) (a b : ℕ → V)
-    → IsClosed n → IsAcyclic n → Settles rule n inputs state a → Settles rule n inputs state b
-    → (x : ℕ) → Contains (signals n) x → a x ≡ b x
-settles_once {V} same decides rule n inputs state a b closed acyclic p q x c =
-    (decides (a x) (b x)).0 (everywhere n (λ y. same (a y) (b y)) closed
-    (λ k d l. (decides _ _).1 (zip_same (λ y. y) a b rule.source n.inputs inputs p.0 q.0 k d l))
-    (λ k d l. (decides _ _).1 (zip_same (λ (e : Definition). e.id) a b rule.source (cells n) state p.1 q.1 k d l))
-    (λ d g pins. (decides _ _).1
-    (let e : map a d.pins ≡ map b d.pins = map_agree a b d.pins (λ k y l. (decides _ _).0 (pins k y l)) in
-    let r : a d.id ≡ rule.gate d (map a d.pins) = All-contains (λ (e : Definition). a e.id ≡ rule.gate e (map a e.pins)) (gates n) d p.2 g in
-    let s : b d.id ≡ rule.gate d (map b d.pins) = All-contains (λ (e : Definition). b e.id ≡ rule.gate e (map b e.pins)) (gates n) d q.2 g in
-    r ∙ (ap (rule.gate d) e ∙ sym s)))
-    acyclic x c)

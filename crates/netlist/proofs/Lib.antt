@@ -2,3 +2,5 @@ pub mod Lists
 pub mod Acyclic
 pub mod Placed
 pub mod Settling
+pub mod Found
+pub mod WellFormed

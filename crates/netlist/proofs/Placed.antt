@@ -6,7 +6,7 @@ use Rattle.std.proofs.lemmas.List.{take_at, length-set, get_or-set_same, get_or-
 use Rattle.std.proofs.lemmas.List.Elements.{All-contains, All-append, All-map, Contains-append_cases, Contains-append_left, Contains-push}
 use Rattle.netlist.specs.declared.kinds.Kind.TheVariants.{Dff}
 use Rattle.netlist.specs.Netlist.{Definition, Netlist, is_cell, is_gate, gates, signals, IsLoop, IsOnLoop, IsAcyclic}
-use Rattle.netlist.specs.Conditions.{IsClosed}
+use Rattle.netlist.specs.Conditions.{IsClosed, IsNumbered}
 use Rattle.netlist.specs.Placed.{zeros, IsPlaced, IsSeen, IsStep, IsSorted, IsPass, start_ranks}
 use Rattle.netlist.proofs.Lists.{contains_filter, filter_contains, contains_map, all_or_fails}
 

@@ -1,13 +1,15 @@
 -- One more gate is evaluated.
-use Rattle.std.proofs.Common.{◌≡◌, ℕ, suc, zero, ◌+◌, ◌-◌, ◌<◌, ◌≤◌, ◌≢◌, Bool, true, false, cond, List, [], ◌∷◌, map, length, get_or, set, sym, ◌∙◌, ap, subst, inl, inr, arith}
+use Rattle.std.proofs.Common.{◌≡◌, ℕ, suc, zero, ◌+◌, ◌-◌, ◌<◌, ◌≤◌, ◌≢◌, Bool, true, false, cond, take, List, [], ◌∷◌, ◌++◌, map, length, get_or, set, sym, ◌∙◌, ap, subst, inl, inr, arith}
 use Rattle.std.specs.List.{All, AllZip, AllPairs, Contains, filter}
 use Rattle.std.proofs.lemmas.Bool.{cases_eq}
-use Rattle.std.proofs.lemmas.List.{length-set, get_or-set_same, get_or-set_other, get_or_default, get_or-map, get_or_append_left, length-map, length-append}
+use Rattle.std.proofs.lemmas.List.{length-set, get_or-set_same, get_or-set_other, get_or_default, get_or-map, get_or_append_left, length-map, length-append, map-append, length_push, length-take-le}
+use Rattle.std.proofs.lemmas.Grind.{take_at_read}
 use Rattle.std.proofs.lemmas.List.Elements.{All-contains, All-map, Contains-get_or}
 use Rattle.netlist.specs.Netlist.{Definition, Netlist, is_cell, cells, gates, signals, IsAcyclic}
-use Rattle.netlist.specs.Conditions.{IsClosed}
-use Rattle.netlist.specs.Settled.{Rule, Settles}
-use Rattle.netlist.specs.Settling.{at, SettlesUpTo, AllSettleUpTo, IsDriven}
+use Rattle.netlist.specs.Conditions.{IsClosed, IsNumbered}
+use Rattle.netlist.specs.declared.lines.Line.TheVariants.{Stem, Pin}
+use Rattle.netlist.specs.Settled.{Rule, Settles, on_pins, pins_of}
+use Rattle.netlist.specs.Settling.{at, SettlesUpTo, AllSettleUpTo, IsDriven, AreRead}
 use Rattle.netlist.specs.Placed.{IsSorted, IsOrder}
 use Rattle.netlist.proofs.Lists.{contains_head, contains_tail, map_agree, contains_filter, All-from_contains}
 use Rattle.netlist.proofs.Placed.{same_definition, definition_below, signal_below, gate_defined, on_loop, id_at}
@@ -36,7 +38,7 @@ module _ (n : Netlist) (numbered : IsNumbered n) (order : List ℕ) (ordered : I
       (omega arith, subst (λ (f : Definition). Contains (gates n) f) (sym is) w.1, ap (λ (f : Definition). f.id) is ∙ w.2, omega arith)
 
   module _ {V : Type 0} (rule : Rule V) (inputs state values : List V) (m : ℕ) (d : V) (h : SettlesUpTo rule n order inputs state values m d) (inside : m < length order)
-      (g : Definition) (gate : Contains (gates n) g) (here : g.id ≡ get_or order m 0) (v : V) (is : v ≡ rule.gate g (map (at values d) g.pins)) where
+      (g : Definition) (gate : Contains (gates n) g) (here : g.id ≡ get_or order m 0) (v : V) (is : v ≡ rule.line (Stem g.id) (rule.gate g (pins_of rule (at values d) g))) where
     rank : ℕ → ℕ
     rank x = get_or ordered.ranks x 0
 
@@ -61,18 +63,18 @@ module _ (n : Netlist) (numbered : IsNumbered n) (order : List ℕ) (ordered : I
     unfolding rank
     settle_more = record {
       size = length-set values g.id v ∙ h.size;
-      inputs_driven = zip_kept (λ x w. at values d x ≡ rule.source x w) (λ x w. at (set values g.id v) d x ≡ rule.source x w) n.inputs inputs
+      inputs_driven = zip_kept (λ x w. at values d x ≡ rule.line (Stem x) w) (λ x w. at (set values g.id v) d x ≡ rule.line (Stem x) w) n.inputs inputs
           (λ x w c e. let r = ordered.placed.inputs x c in kept x (omega arith) ∙ e) h.inputs_driven;
-      cells_driven = zip_kept (λ (c : Definition) w. at values d c.id ≡ rule.source c.id w) (λ (c : Definition) w. at (set values g.id v) d c.id ≡ rule.source c.id w) (cells n) state
+      cells_driven = zip_kept (λ (c : Definition) w. at values d c.id ≡ rule.line (Stem c.id) w) (λ (c : Definition) w. at (set values g.id v) d c.id ≡ rule.line (Stem c.id) w) (cells n) state
           (λ f w c e. let r = ordered.placed.cells f c in kept f.id (omega arith) ∙ e) h.cells_driven;
       done = λ k l f c e. elim (cases_eq k m) [
         | inl last ↦
             let same : f ≡ g = same_definition n numbered f g (gate_defined n numbered f c) (gate_defined n numbered g gate) (e ∙ (ap (λ j. get_or order j 0) last ∙ sym here)) in
-            subst (λ (q : Definition). at (set values g.id v) d q.id ≡ rule.gate q (map (at (set values g.id v) d) q.pins)) (sym same)
-            (get_or-set_same values g.id v d below ∙ (is ∙ ap (rule.gate g) (sym (kept_pins g gate (let b = rank_here in omega arith)))))
+            subst (λ (q : Definition). at (set values g.id v) d q.id ≡ rule.line (Stem q.id) (rule.gate q (pins_of rule (at (set values g.id v) d) q))) (sym same)
+            (get_or-set_same values g.id v d below ∙ (is ∙ ap (λ vs. rule.line (Stem g.id) (rule.gate g (on_pins rule g.id 0 vs))) (sym (kept_pins g gate (let b = rank_here in omega arith)))))
         | inr old ↦
             let r : rank f.id ≡ k + 2 = ap rank e ∙ ordered.placed.ranked k (omega arith) in
-            kept f.id (omega arith) ∙ (h.done k (omega arith) f c e ∙ ap (rule.gate f) (sym (kept_pins f c (omega arith))))
+            kept f.id (omega arith) ∙ (h.done k (omega arith) f c e ∙ ap (λ vs. rule.line (Stem f.id) (rule.gate f (on_pins rule f.id 0 vs))) (sym (kept_pins f c (omega arith))))
       ];
     }
 
@@ -81,7 +83,7 @@ module _ (n : Netlist) (numbered : IsNumbered n) (order : List ℕ) (ordered : I
   settled rule inputs state values m d h all = (
     h.inputs_driven,
     h.cells_driven,
-    All-from_contains (λ (g : Definition). at values d g.id ≡ rule.gate g (map (at values d) g.pins)) (gates n)
+    All-from_contains (λ (g : Definition). at values d g.id ≡ rule.line (Stem g.id) (rule.gate g (pins_of rule (at values d) g))) (gates n)
         (λ g c. let w = ordered.placed.listed g c (ordered.all g c) in
         h.done w.0 (let l : w.0 < length order = w.1 in omega arith) g c (sym w.2 ∙ get_or_default order w.0 g.id 0 w.1)),
   )
@@ -99,7 +101,7 @@ order_from n order ranks numbered closed acyclic h = record {
 
 pub drive_more : {V : Type 0} (rule : Rule V) (ids : List ℕ) (driven old new : List V) (m i : ℕ) (v w : V) → IsDriven rule ids driven old new m
     → m < length ids → m < length driven → i < length new → i ≡ get_or ids m 0
-    → ((j : ℕ) → j < m → get_or ids j 0 ≢ get_or ids m 0) → w ≡ get_or driven m w → v ≡ rule.source i w → IsDriven rule ids driven old (set new i v) (m + 1)
+    → ((j : ℕ) → j < m → get_or ids j 0 ≢ get_or ids m 0) → w ≡ get_or driven m w → v ≡ rule.line (Stem i) w → IsDriven rule ids driven old (set new i v) (m + 1)
 drive_more rule ids driven old new m i v w h l l' below is distinct read made = record {
   size = length-set new i v ∙ h.size;
   here = λ k d k<. elim (cases_eq k m) [
@@ -107,8 +109,8 @@ drive_more rule ids driven old new m i v w h l l' below is distinct read made = 
         let e : w ≡ get_or driven m d = read ∙ get_or_default driven m w d l' in
         ap (λ j. at (set new i v) d (get_or ids j 0)) last
         ∙ (ap (at (set new i v) d) (sym is)
-        ∙ (get_or-set_same new i v d below ∙ (made ∙ (ap (rule.source i) e
-        ∙ (ap (λ x. rule.source x (get_or driven m d)) is ∙ ap (λ j. rule.source (get_or ids j 0) (at driven d j)) (sym last))))))
+        ∙ (get_or-set_same new i v d below ∙ (made ∙ (ap (rule.line (Stem i)) e
+        ∙ (ap (λ x. rule.line (Stem x) (get_or driven m d)) is ∙ ap (λ j. rule.line (Stem (get_or ids j 0)) (at driven d j)) (sym last))))))
     | inr old' ↦
         get_or-set_other new i (get_or ids k 0) v d (λ e. distinct k (omega arith) (e ∙ is)) ∙ h.here k d (omega arith)
   ];
@@ -182,14 +184,18 @@ module _ (n : Netlist) (numbered : IsNumbered n) where
       (subst (λ ps. Contains ps (get_or pins k x)) e (Contains-get_or pins k x l))) in
       omega arith
 
-  pub evaluated : {V : Type 0} (rule : Rule V) (made g : Definition) (old seen read pins : List V) (ids : List ℕ) (i x : ℕ) (v d : V)
-      → Contains n.definitions made → made.id ≡ x → Contains (gates n) g → g.id ≡ x → v ≡ rule.gate made read → read ≡ pins → pins ≡ map (at seen d) ids
-      → seen ≡ old → ids ≡ made.pins → i ≡ x → set old i v ≡ set old x (rule.gate g (map (at old d) g.pins))
-  evaluated {V} rule made g old seen read pins ids i x v d member is gate same made_by p q s r e =
+  pub evaluated : {V : Type 0} (rule : Rule V) (made g : Definition) (old seen read pins : List V) (ids : List ℕ) (i x z : ℕ) (u v d : V)
+      → Contains n.definitions made → made.id ≡ x → Contains (gates n) g → g.id ≡ x → u ≡ rule.gate made read → v ≡ rule.line (Stem z) u → z ≡ x → read ≡ pins
+      → pins ≡ on_pins rule z 0 (map (at seen d) ids) → seen ≡ old → ids ≡ made.pins → i ≡ x
+      → set old i v ≡ set old x (rule.line (Stem g.id) (rule.gate g (pins_of rule (at old d) g)))
+  evaluated {V} rule made g old seen read pins ids i x z u v d member is gate same made_by stem here p q s r e =
       let one : made ≡ g = same_definition n numbered made g member (gate_defined n numbered g gate) (is ∙ sym same) in
-      let all : read ≡ map (at old d) g.pins =
-      p ∙ (q ∙ (ap (λ (o : List V). map (at o d) ids) s ∙ ap (map (at old d)) (r ∙ ap (λ (f : Definition). f.pins) one))) in
-      ap (λ j. set old j v) e ∙ ap (set old x) (made_by ∙ (ap (rule.gate made) all ∙ ap (λ (f : Definition). rule.gate f (map (at old d) g.pins)) one))
+      let at_g : z ≡ g.id = here ∙ sym same in
+      let all : read ≡ pins_of rule (at old d) g =
+      p ∙ (q ∙ (ap (λ (o : List V). on_pins rule z 0 (map (at o d) ids)) s ∙ (ap (λ (ps : List ℕ). on_pins rule z 0 (map (at old d) ps)) (r ∙ ap (λ (f : Definition). f.pins) one)
+      ∙ ap (λ y. on_pins rule y 0 (map (at old d) g.pins)) at_g))) in
+      ap (λ j. set old j v) e ∙ ap (set old x) (stem ∙ (ap (λ w. rule.line (Stem z) w) (made_by ∙ (ap (rule.gate made) all ∙ ap (λ (f : Definition). rule.gate f (pins_of rule (at old d) g)) one))
+      ∙ ap (λ y. rule.line (Stem y) (rule.gate g (pins_of rule (at old d) g))) at_g))
 
   pub driven : {V : Type 0} (rule : Rule V) (order ids cell_ids : List ℕ) (inputs state v0 v1 v2 : List V)
       → length v0 ≡ length n.inputs + length n.definitions → ids ≡ n.inputs → cell_ids ≡ map (λ (d : Definition). d.id) (cells n)
@@ -214,13 +220,38 @@ module _ (n : Netlist) (numbered : IsNumbered n) where
               let other = b.others (get_or ids k 0) d (λ j m e.
               let low = rises_above (length n.inputs) cell_ids j 0 rise m in
               let z : get_or ids k 0 ≡ k = ap (λ (xs : List ℕ). get_or xs k 0) is ∙ number in omega arith) in
-              ap (at v2 d) (sym input) ∙ (other ∙ (here ∙ (ap (λ y. rule.source y (at inputs d k)) input
-              ∙ ap (rule.source (get_or n.inputs k x)) (get_or_default inputs k d v (omega arith))))));
+              ap (at v2 d) (sym input) ∙ (other ∙ (here ∙ (ap (λ y. rule.line (Stem y) (at inputs d k)) input
+              ∙ ap (rule.line (Stem (get_or n.inputs k x))) (get_or_default inputs k d v (omega arith))))));
           cells_driven = zip_from _ (cells n) state (sym ls) (λ k c v l.
               let l' : k < length cell_ids = omega arith in
               let id : get_or cell_ids k 0 ≡ (get_or (cells n) k c).id = ap (λ (xs : List ℕ). get_or xs k 0) cs ∙ get_or-map (λ (e : Definition). e.id) (cells n) k c 0 l in
-              ap (at v2 d) (sym id) ∙ (b.here k d l' ∙ (ap (λ y. rule.source y (at state d k)) id
-              ∙ ap (rule.source (get_or (cells n) k c).id) (get_or_default state k d v (omega arith)))));
+              ap (at v2 d) (sym id) ∙ (b.here k d l' ∙ (ap (λ y. rule.line (Stem y) (at state d k)) id
+              ∙ ap (rule.line (Stem (get_or (cells n) k c).id)) (get_or_default state k d v (omega arith)))));
           done = λ k l. absurd (omega arith);
         };
       }
+
+-- one more pin has been read
+on_pins-append : {V : Type 0} (rule : Rule V) (z k : ℕ) (us : List V) (v : V) → on_pins rule z k (us ++ v ∷ []) ≡ on_pins rule z k us ++ rule.line (Pin z (k + length us)) v ∷ []
+on_pins-append rule z k [] v = ap (λ j. rule.line (Pin z j) v ∷ []) (omega arith)
+on_pins-append rule z k (u ∷ us) v =
+    ap (λ r. rule.line (Pin z k) u ∷ r) (on_pins-append rule z (k + 1) us v ∙ ap (λ j. on_pins rule z (k + 1) us ++ rule.line (Pin z j) v ∷ []) (omega arith))
+
+pub read_more : {V : Type 0} (rule : Rule V) (z : ℕ) (values pins : List V) (ids : List ℕ) (k i : ℕ) (u v w : V)
+    → AreRead rule z values (take k ids) pins → k < length ids → i ≡ get_or ids k 0 → i < length values → u ≡ get_or values i w → v ≡ rule.line (Pin z k) u
+    → AreRead rule z values (take (k + 1) ids) (pins ++ v ∷ [])
+read_more {V} rule z values pins ids k i u v w h l here below read made =
+    let more : take (k + 1) ids ≡ take k ids ++ get_or ids k 0 ∷ [] = (take_at_read ids k 0 l).1 in
+    let size : length (take k ids) ≡ k = length-take-le k ids (omega arith) in
+    record {
+      count = length_push pins v ∙ (ap (λ c. c + 1) h.count ∙ (sym (length_push (take k ids) (get_or ids k 0)) ∙ ap length (sym more)));
+      each = λ d.
+          let first : List V = map (at values d) (take k ids) in
+          let many : length first ≡ k = length-map (take k ids) (at values d) ∙ size in
+          let place : k ≡ 0 + length first = omega (arith, many) in
+          let value : u ≡ at values d (get_or ids k 0) = read ∙ (get_or_default values i w d below ∙ ap (at values d) here) in
+          ap (λ ps. ps ++ v ∷ []) (h.each d)
+          ∙ (ap (λ y. on_pins rule z 0 first ++ y ∷ []) (made ∙ (ap (λ y. rule.line (Pin z k) y) value ∙ ap (λ j. rule.line (Pin z j) (at values d (get_or ids k 0))) place))
+          ∙ (sym (on_pins-append rule z 0 first (at values d (get_or ids k 0)))
+          ∙ (ap (on_pins rule z 0) (sym (map-append (at values d) (take k ids) (get_or ids k 0 ∷ []))) ∙ ap (λ ps. on_pins rule z 0 (map (at values d) ps)) (sym more))));
+    }

@@ -3,5 +3,6 @@ pub mod Gates
 pub mod Names
 pub mod Settled
 pub mod Conditions
+pub mod Kept
 pub mod Placed
 pub mod Settling

@@ -37,26 +37,37 @@ pub struct Netlist {
 }
 
 impl Model for Netlist {
-    ghost use Rattle.std.specs.Prelude.{◌≡◌, map};
-    ghost use Rattle.netlist.specs.Netlist.{Netlist, Definition, cells};
-    ghost use Rattle.netlist.specs.Conditions.{IsSound, whole};
+    ghost use Rattle.netlist.specs.Netlist.{Netlist};
+    ghost use Rattle.netlist.specs.Conditions.{whole};
+    ghost use Rattle.netlist.specs.Kept.{IsKept};
 
     ghost Value = { Netlist };
 
     ghost view = { λ n. whole n.parts };
 
-    ghost invariant = { λ n. IsSound (whole n.parts) × (n.flip_flops.items ≡ map (λ (d : Definition). d.id) (cells (whole n.parts))) };
+    ghost invariant = { λ n. IsKept (whole n.parts) n.flip_flops.items };
 }
 
 /// The cells, by their signals.
-fn flip_flops(alloc: Global, definitions: &[Definition]) -> Result<Vec<SignalId>, AllocError>
-    ensures { IfOk result (λ v. v.items ≡ map (λ (d : Equation). d.id) (filter is_cell definitions.now)) }
+fn flip_flops(alloc: Global, parts: &Parts) -> Result<Vec<SignalId>, AllocError>
+    ensures { IfOk result (λ v. v.items ≡ map (λ (d : Equation). d.id) (cells (whole parts.now))) }
 {
-    definitions
-        .iter()
-        .filter(|d| d.kind().is_flip_flop())
-        .map(|d| d.id())
-        .collect(alloc)
+    let mut cells = Vec::new(alloc);
+    for definition in &parts.definitions {
+        if definition.kind().is_flip_flop() {
+            cells.push(definition.id())?;
+        }
+    }
+    Ok(cells)
+}
+
+/// The netlist of parts that are sound.
+fn finish(alloc: Global, parts: Parts) -> Result<Netlist, AllocError>
+    requires { IsSound (whole parts) }
+    ensures { IfOk result (λ n. n ≡ whole parts) }
+{
+    let flip_flops = flip_flops(alloc, &parts)?;
+    Ok(Netlist { parts, flip_flops })
 }
 
 impl Netlist {
@@ -82,13 +93,10 @@ impl Netlist {
         let Ok(sorting) = sort(alloc, &parts) else {
             return Err(NetRefusal::NoMemory);
         };
-        if let Some(z) = first_left(&sorting.ranks) {
-            return Err(NetRefusal::Loop(SignalId(z)));
+        match first_left(&sorting.ranks) {
+            Some(z) => Err(NetRefusal::Loop(SignalId(z))),
+            None => finish(alloc, parts).map_err(|_| NetRefusal::NoMemory),
         }
-        let Ok(flip_flops) = flip_flops(alloc, &parts.definitions) else {
-            return Err(NetRefusal::NoMemory);
-        };
-        Ok(Netlist { parts, flip_flops })
     }
 
     /// What every netlist is.
@@ -149,6 +157,7 @@ impl Netlist {
         if id.index() < self.parts.inputs.len() {
             return None;
         }
+        self.sound();
         Some(self.definition(id).kind())
     }
 
@@ -160,6 +169,7 @@ impl Netlist {
         if id.index() < self.parts.inputs.len() {
             return &[];
         }
+        self.sound();
         self.definition(id).pins()
     }
 }

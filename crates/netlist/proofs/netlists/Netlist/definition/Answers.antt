@@ -19,4 +19,4 @@ returns-clause-same c =
     let a = c.requires.defined in
     let b = c.requires.within in
     let low : k < length parts.definitions.items = omega arith in
-    ap (λ (q : Equation). q.id) c.index-2.ensures ∙ (id_at n c.self.invariant.numbered k d low ∙ omega arith)
+    ap (λ (q : Equation). q.id) c.index-2.ensures ∙ (id_at n c.self.invariant.sound.formed.numbered k d low ∙ omega arith)

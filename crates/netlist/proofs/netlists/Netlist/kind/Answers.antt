@@ -1,0 +1,18 @@
+use Rattle.std.proofs.Common.{◌<◌, ap, sym, ◌∙◌, length, arith, Some}
+use Rattle.std.specs.Option.{option_map}
+use Rattle.netlist.specs.Conditions.{whole}
+use Rattle.netlist.specs.Netlist.{Netlist, Definition as Equation, definition_of}
+use Rattle.netlist.proofs.Found.{input_undefined, defined}
+use Rattle.netlist.proofs.netlists.Netlist.kind.Goals as goal
+
+pub returns-then-index-len : goal.returns-then-index-len
+returns-then-index-len c =
+    let n = whole c.self.inside.parts in
+    let i = c.self.inside.parts.inputs.ok.0 in
+    sym (ap (λ (m : Netlist). option_map (λ (d : Equation). d.kind) (definition_of m c.args.id)) (sym c.self.view_is)
+    ∙ ap (option_map (λ (d : Equation). d.kind)) (input_undefined n c.self.invariant.sound.formed.numbered c.args.id (omega arith)))
+
+pub returns : goal.returns
+returns c =
+    ap (λ k. Some k) c.kind.ensures
+    ∙ sym (ap (option_map (λ (d : Equation). d.kind)) (defined c.args.self.now c.sound.ensures.formed.numbered c.definition.result.now c.args.id c.definition.ensures.member c.definition.ensures.same))
