@@ -2,3 +2,4 @@ pub mod Lists
 pub mod Acyclic
 pub mod Placed
 pub mod Settling
+pub mod NameTables
