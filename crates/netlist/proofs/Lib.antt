@@ -4,3 +4,4 @@ pub mod Placed
 pub mod Settling
 pub mod Found
 pub mod WellFormed
+pub mod NameTables

@@ -1,5 +1,6 @@
 //! Names in one buffer.
-ghost use Rattle.std.specs.Prelude.{◌≡◌, ◌<◌, ◌∷◌, [], ◌++◌, length, IfOk, OnOk, OnErr, slice_get, Some};
+ghost use Rattle.std.specs.Prelude.{◌≡◌, ◌<◌, ◌==◌, ◌∷◌, [], ◌++◌, length, IfOk, OnOk, OnErr, slice_get, slice_index, Some};
+ghost use Rattle.netlist.specs.Names.{names_from, AreEnds};
 
 use std::alloc::{AllocError, Global};
 use std::marker::Model;
@@ -22,6 +23,26 @@ impl Model for NameTable {
     ghost invariant = { λ t. AreEnds 0 t.bytes.items t.ends.items };
 }
 
+/// Where the name at a place begins.
+fn start_of(ends: &[usize], place: usize) -> usize
+    requires { place < length ends.now }
+    ensures { result ≡ slice_index (0 ∷ ends.now) place }
+{
+    if place == 0 { 0 } else { ends[place - 1] }
+}
+
+/// The name at a place.
+#[tactic(auto, using(crate::proofs::NameTables::begins_before_end, crate::proofs::NameTables::end_within))]
+fn name_at<'a>(bytes: &'a [u8], ends: &[usize], place: usize) -> &'a [u8]
+    requires ends { AreEnds 0 bytes.now ends.now }
+    requires within { place < length ends.now }
+    ensures { slice_get (names_from 0 bytes.now ends.now) place ≡ Some result.now }
+{
+    let start = start_of(ends, place);
+    let end = ends[place];
+    &bytes[start..end]
+}
+
 impl NameTable {
     /// No names.
     pub fn new(alloc: Global) -> NameTable
@@ -40,13 +61,19 @@ impl NameTable {
         self.ends.len()
     }
 
+    /// Whether there is no name.
+    pub fn is_empty(&self) -> bool
+        ensures { result ≡ (length self.now == 0) }
+    {
+        self.ends.is_empty()
+    }
+
     /// The name at a place.
     pub fn get(&self, place: usize) -> &[u8]
         requires { place < length self.now }
         ensures { slice_get self.now place ≡ Some result.now }
     {
-        let start = if place == 0 { 0 } else { self.ends[place - 1] };
-        &self.bytes[start..self.ends[place]]
+        name_at(&self.bytes, &self.ends, place)
     }
 
     /// Makes room for so many more names with so many bytes in all.
@@ -67,5 +94,15 @@ impl NameTable {
         self.bytes.extend_from_slice(name)?;
         self.ends.push(self.bytes.len())?;
         Ok(())
+    }
+
+    /// The same names in memory of their own.
+    pub fn copy(&self, alloc: Global) -> Result<NameTable, AllocError>
+        ensures { IfOk result (λ t. t ≡ self.now) }
+    {
+        Ok(NameTable {
+            bytes: Vec::from_slice(alloc, &self.bytes)?,
+            ends: Vec::from_slice(alloc, &self.ends)?,
+        })
     }
 }
