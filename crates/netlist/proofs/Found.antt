@@ -25,7 +25,7 @@ find_one {X} t (x ∷ xs) d c e same =
     elim [
       | true ↦ λ h. ap (λ y. Some y) (same x (contains_head x xs) h)
       | false ↦ λ h. elim (contains_cases x d xs c) [
-        | inl is ↦ absurd (both_ways (t x) (ap t is ∙ e) h)
+        | inl is ↦ absurd (both_ways (t x) h (ap t is ∙ e))
         | inr r ↦ find_one t xs d r e (λ y m. same y (contains_tail x y xs m))
       ]
     ] in

@@ -1,9 +1,14 @@
--- What the conditions on parts show of the names that nothing defines.
-use Rattle.std.proofs.Common.{◌≡◌, ℕ, ◌<◌, ◌≤◌, List, length, inl, inr, arith}
+-- What the conditions on parts show of the names that nothing defines, and of the numbers of pins.
+use Rattle.std.proofs.Common.{◌≡◌, ℕ, ◌<◌, ◌≤◌, Bool, true, false, ◌&&◌, List, length, refl, inl, inr, arith, eqb, leb}
+use Rattle.std.proofs.lemmas.Bool.{and_parts, both_ways, leb-true, eqb-true}
 use Rattle.std.specs.List.{All, Contains}
-use Rattle.netlist.specs.Netlist.{Definition, Netlist, signals}
+use Rattle.netlist.specs.declared.kinds.Kind.{Kind}
+use Rattle.netlist.specs.declared.kinds.Kind.TheVariants.{And, Nand, Or, Nor, Xor, Xnor, Not, Buff, Dff}
+use Rattle.netlist.specs.Gates.{allows_pins}
+use Rattle.netlist.specs.Netlist.{Definition, Netlist, cells, is_cell, is_flip_flop, signals}
 use Rattle.netlist.specs.Conditions.{IsWellFormed, IsClosed, IsRead, IsUndefined}
-use Rattle.netlist.proofs.Lists.{All-from_contains}
+use Rattle.netlist.proofs.Lists.{All-from_contains, contains_filter}
+use Rattle.std.proofs.lemmas.List.Elements.{All-contains}
 use Rattle.netlist.proofs.Placed.{signal_below, signal_from}
 
 module _ (n : Netlist) (formed : IsWellFormed n) where
@@ -24,11 +29,50 @@ module _ (n : Netlist) (formed : IsWellFormed n) where
 
   pub first_undefined : length (signals n) < length n.names → IsUndefined n (length (signals n))
   first_undefined more =
-      let out : ¬ Contains (signals n) (length (signals n)) = λ c. let l = signal_below n formed.numbered (length (signals n)) c in omega arith in
-      (elim (formed.used (length (signals n)) more) [
-        | inl c ↦ absurd (out c)
-        | inr r ↦ r
-      ], out)
+      let out : ¬ Contains (signals n) (length (signals n)) = λ c. let l = signal_below n formed.numbered (length (signals n)) c in omega arith in (
+        elim (formed.used (length (signals n)) more) [
+          | inl c ↦ absurd (out c)
+          | inr r ↦ r
+        ],
+        out,
+      )
 
   pub none_before : (y : ℕ) → y < length (signals n) → ¬ IsUndefined n y
   none_before y l u = u.1 (signal_from n formed.numbered y l)
+
+between : (low count : ℕ) → (leb low count && leb count 1024) ≡ true → count ≤ 1024
+between low count e = leb-true count 1024 (and_parts (leb low count) (leb count 1024) e).1
+
+single : (count : ℕ) → eqb count 1 ≡ true → count ≤ 1024
+single count e = let one = eqb-true count 1 e in omega arith
+
+pub few_pins : (kind : Kind) (count : ℕ) → allows_pins kind count ≡ true → count ≤ 1024
+few_pins And count e = between 1 count e
+few_pins Nand count e = between 1 count e
+few_pins Or count e = between 1 count e
+few_pins Nor count e = between 1 count e
+few_pins Xor count e = between 2 count e
+few_pins Xnor count e = between 2 count e
+few_pins Not count e = single count e
+few_pins Buff count e = single count e
+few_pins Dff count e = single count e
+
+flip_flop_pin : (kind : Kind) (count : ℕ) → is_flip_flop kind ≡ true → allows_pins kind count ≡ true → count ≡ 1
+flip_flop_pin And count f e = absurd (both_ways false refl f)
+flip_flop_pin Nand count f e = absurd (both_ways false refl f)
+flip_flop_pin Or count f e = absurd (both_ways false refl f)
+flip_flop_pin Nor count f e = absurd (both_ways false refl f)
+flip_flop_pin Xor count f e = absurd (both_ways false refl f)
+flip_flop_pin Xnor count f e = absurd (both_ways false refl f)
+flip_flop_pin Not count f e = absurd (both_ways false refl f)
+flip_flop_pin Buff count f e = absurd (both_ways false refl f)
+flip_flop_pin Dff count f e = eqb-true count 1 e
+
+-- each cell has one pin
+pub one_pin : (n : Netlist) → IsClosed n → All (λ (d : Definition). length d.pins ≡ 1) (cells n)
+one_pin n closed = All-from_contains (λ (d : Definition). length d.pins ≡ 1) (cells n) (λ d c.
+    let m = contains_filter is_cell n.definitions d c in
+    flip_flop_pin d.kind (length d.pins) m.1 (All-contains (λ (e : Definition). allows_pins e.kind (length e.pins) ≡ true) n.definitions d closed.allowed m.0))
+
+pub few_pins_of : (n : Netlist) → IsClosed n → (d : Definition) → Contains n.definitions d → length d.pins ≤ 1024
+few_pins_of n closed d c = few_pins d.kind (length d.pins) (All-contains (λ (e : Definition). allows_pins e.kind (length e.pins) ≡ true) n.definitions d closed.allowed c)

@@ -6,6 +6,7 @@ use Rattle.netlist.specs.Netlist.{Definition, Netlist, is_cell, is_gate, cells, 
 abbrev pub zeros : List ℕ → ℕ
 zeros [] = 0
 zeros (r ∷ rs) = (if r == 0 then 1 else 0) + zeros rs
+
 -- Inputs and cells have rank 1. The gates that are placed so far have the ranks from 2 on, in order, each above those that it reads.
 -- The others have rank 0.
 pub record IsPlaced (n : Netlist) (order ranks : List ℕ) : Type 0 where

@@ -1,6 +1,8 @@
 use Rattle.std.proofs.Common.{refl, ◌+◌, ◌<◌, map, ap, sym, ◌∙◌, length, set, subst}
 use Rattle.std.proofs.lemmas.List.{get_or_default}
 use Rattle.netlist.proofs.Settling.{settle_more, settled}
+use Rattle.netlist.specs.declared.lines.Line.TheVariants.{Stem}
+use Rattle.netlist.specs.Settled.{pins_of}
 use Rattle.netlist.specs.Settling.{at, SettlesUpTo}
 use Rattle.netlist.proofs.rules.settle.Goals as goal
 
@@ -25,12 +27,12 @@ loop-id-preserved g c =
           let rule = g.L.Logic.rule c.args.logic.now in
           let e = c.in_ok-evaluate.ensures.set w.0 d w.1 (w.2 ∙ sym is) in
           subst (λ v. SettlesUpTo rule n c.args.order.now c.args.inputs.now c.args.state.now v (c.loop-id.id-index + 1) d)
-          (sym (e ∙ ap (λ x. set c.loop-id.values.items x (rule.gate w.0 (map (at c.loop-id.values.items d) w.0.pins))) (is ∙ sym w.2)))
-          (settle_more n c.requires.sound.numbered c.args.order.now c.requires.ordered rule c.args.inputs.now c.args.state.now c.loop-id.values.items c.loop-id.id-index d
-          (c.loop-id.invariant.each d) l w.0 w.1 w.2 (rule.gate w.0 (map (at c.loop-id.values.items d) w.0.pins)) refl);
+          (sym (e ∙ ap (λ x. set c.loop-id.values.items x (rule.line (Stem w.0.id) (rule.gate w.0 (pins_of rule (at c.loop-id.values.items d) w.0)))) (is ∙ sym w.2)))
+          (settle_more n c.requires.sound.formed.numbered c.args.order.now c.requires.ordered rule c.args.inputs.now c.args.state.now c.loop-id.values.items c.loop-id.id-index d
+          (c.loop-id.invariant.each d) l w.0 w.1 w.2 (rule.line (Stem w.0.id) (rule.gate w.0 (pins_of rule (at c.loop-id.values.items d) w.0))) refl);
     }
 
-pub returns : goal.returns
-returns g c d =
-    settled c.args.netlist.now c.requires.sound.numbered c.args.order.now c.requires.ordered (g.L.Logic.rule c.args.logic.now) c.args.inputs.now c.args.state.now
+pub returns-clause-settled : goal.returns-clause-settled
+returns-clause-settled g c d =
+    settled c.args.netlist.now c.requires.sound.formed.numbered c.args.order.now c.requires.ordered (g.L.Logic.rule c.args.logic.now) c.args.inputs.now c.args.state.now
     c.loop-id.values.items c.loop-id.id-index d (c.loop-id.invariant.each d) c.loop-id-test.false
