@@ -4,4 +4,6 @@ pub mod Placed
 pub mod Settling
 pub mod Found
 pub mod WellFormed
+pub mod Alike
+pub mod Observed
 pub mod NameTables

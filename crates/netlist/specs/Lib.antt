@@ -6,3 +6,5 @@ pub mod Conditions
 pub mod Kept
 pub mod Placed
 pub mod Settling
+pub mod Evaluated
+pub mod Laws

@@ -3,7 +3,9 @@
 
 mod bits;
 mod equations;
+mod evaluation;
 mod kinds;
+mod laws;
 mod lines;
 mod name_table;
 mod netlists;
@@ -13,7 +15,9 @@ mod signals;
 
 pub use bits::Bits;
 pub use equations::{Definition, NoMemory, Parts};
+pub use evaluation::{Core, Values};
 pub use kinds::{Kind, Tri};
+pub use laws::{holds_everywhere, settle_alike, settles_once, some_settles};
 pub use lines::{Fault, Line, Point};
 pub use name_table::NameTable;
 pub use netlists::{NetRefusal, Netlist};

@@ -3,6 +3,7 @@ ghost use Rattle.std.specs.Prelude.{◌≡◌, ◌<◌, ◌≤◌, ℕ, List, le
 ghost use Rattle.std.specs.List.{Contains, filter};
 ghost use Rattle.std.specs.Option.{option_map, option_map_or};
 ghost use Rattle.netlist.specs.Netlist.{Definition as Equation, cells, is_cell, signals, definition_of};
+ghost use Rattle.netlist.specs.Placed.{IsOrder};
 ghost use Rattle.netlist.specs.Conditions.{IsWellFormed, IsSound, IsCause, whole};
 
 use crate::equations::{Definition, Parts};
@@ -97,6 +98,13 @@ impl Netlist {
             Some(z) => Err(NetRefusal::Loop(SignalId(z))),
             None => finish(alloc, parts).map_err(|_| NetRefusal::NoMemory),
         }
+    }
+
+    /// The gates, each after the gates that it reads.
+    pub(crate) fn order(&self, alloc: Global) -> Result<Vec<SignalId>, AllocError>
+        ensures { IfOk result (λ v. IsOrder self.now v.items) }
+    {
+        Ok(sort(alloc, &self.parts)?.order)
     }
 
     /// What every netlist is.
