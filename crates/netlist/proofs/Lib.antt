@@ -6,4 +6,6 @@ pub mod Found
 pub mod WellFormed
 pub mod Alike
 pub mod Observed
+pub mod OrderExists
+pub mod SomeSettled
 pub mod NameTables

@@ -174,6 +174,23 @@ module _ (n : Netlist) (numbered : IsNumbered n) where
       (All-from_contains (λ (d : Definition). d.id < m) (cells n)
       (λ d c. subst (λ k. d.id < k) (sym s) (definition_below n numbered d (contains_filter is_cell n.definitions d c).0))))
 
+  input_at : (k d : ℕ) → k < length n.inputs → get_or n.inputs k d ≡ k
+  input_at k d l =
+      let names : List ℕ = map (λ (e : Definition). e.id) n.definitions in
+      get_or_default n.inputs k d 0 l ∙ (sym (get_or_append_left n.inputs names 0 k l) ∙ numbered k (omega (arith, length-append n.inputs names)))
+
+  pub inputs_below : (m : ℕ) → m ≡ length (signals n) → All (λ x. x < m) n.inputs
+  inputs_below m e k d l =
+      let names : List ℕ = map (λ (f : Definition). f.id) n.definitions in
+      let is = input_at k d l in
+      omega (arith, length-append n.inputs names)
+
+  pub inputs_distinct : AllPairs (λ x y. x ≢ y) n.inputs
+  inputs_distinct i j d l m same =
+      let a = input_at i d (omega arith) in
+      let b = input_at j d m in
+      omega arith
+
   pub above_inputs : (d : Definition) → Contains n.definitions d → length n.inputs ≤ d.id
   above_inputs d c = let at : d.id ≡ length n.inputs + c.0 = sym (ap (λ (e : Definition). e.id) c.2) ∙ id_at n numbered c.0 d c.1 in omega arith
 
