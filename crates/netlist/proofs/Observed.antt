@@ -51,9 +51,13 @@ module _ (n : Netlist) (sound : IsSound n) where
       → (k < length (cells n)) × ((d : Definition) → Contains (cells n) (get_or (cells n) k d) × ((get_or (cells n) k d).id ≡ x))
   cell_at ids k x e l is =
       let size : length ids ≡ length (cells n) = ap length e ∙ length-map (cells n) (λ (d : Definition). d.id) in
-      let inside : k < length (cells n) = omega arith in
-      (inside, λ d. (Contains-get_or (cells n) k d inside,
-      sym (is ∙ (ap (λ zs. get_or zs k x) e ∙ get_or-map (λ (f : Definition). f.id) (cells n) k d x inside))))
+      let inside : k < length (cells n) = omega arith in (
+        inside,
+        λ d. (
+          Contains-get_or (cells n) k d inside,
+          sym (is ∙ (ap (λ zs. get_or zs k x) e ∙ get_or-map (λ (f : Definition). f.id) (cells n) k d x inside)),
+        ),
+      )
 
   pub the_cell : (ids : List ℕ) (k x : ℕ) (d : Definition) → ids ≡ map (λ (d : Definition). d.id) (cells n) → k < length ids → x ≡ get_or ids k x
       → Contains n.definitions d → d.id ≡ x → get_or (cells n) k d ≡ d

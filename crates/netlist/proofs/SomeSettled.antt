@@ -24,11 +24,12 @@ module _ {V : Type 0} (rule : Rule V) (blank : V) where
       let v = get_or values m blank in
       let low : i < length old = below m 0 (omega arith) in
       let same = w.1.size in
-      let next : m + 1 ≡ suc m = omega arith in
-      (set w.0 i (rule.line (Stem i) v),
-      subst (λ k. IsDriven rule ids values old (set w.0 i (rule.line (Stem i) v)) k) next
-      (drive_more rule ids values old w.0 m i (rule.line (Stem i) v) v w.1 (omega arith) (omega arith) (omega arith) refl
-      (λ j j<. distinct j m 0 j< (omega arith)) (get_or_default values m blank v (omega arith)) refl))
+      let next : m + 1 ≡ suc m = omega arith in (
+        set w.0 i (rule.line (Stem i) v),
+        subst (λ k. IsDriven rule ids values old (set w.0 i (rule.line (Stem i) v)) k) next
+            (drive_more rule ids values old w.0 m i (rule.line (Stem i) v) v w.1 (omega arith) (omega arith) (omega arith) refl
+            (λ j j<. distinct j m 0 j< (omega arith)) (get_or_default values m blank v (omega arith)) refl),
+      )
 
 module _ (n : Netlist) (numbered : IsNumbered n) (order : List ℕ) (ordered : IsOrder n order) where
   -- the first m gates are evaluated
@@ -40,9 +41,11 @@ module _ (n : Netlist) (numbered : IsNumbered n) (order : List ℕ) (ordered : I
       let p = ordered.placed.gates m (omega arith) in
       let g = p.0 in
       let v = rule.line (Stem g.id) (rule.gate g (pins_of rule (at w.0 blank) g)) in
-      let next : m + 1 ≡ suc m = omega arith in
-      (set w.0 g.id v, subst (λ k. SettlesUpTo rule n order inputs state (set w.0 g.id v) k blank) next
-      (settle_more n numbered order ordered rule inputs state w.0 m blank w.1 (omega arith) g p.1 p.2 v refl))
+      let next : m + 1 ≡ suc m = omega arith in (
+        set w.0 g.id v,
+        subst (λ k. SettlesUpTo rule n order inputs state (set w.0 g.id v) k blank) next
+            (settle_more n numbered order ordered rule inputs state w.0 m blank w.1 (omega arith) g p.1 p.2 v refl),
+      )
 
 pub some_settled : {V : Type 0} (blank : V) (rule : Rule V) (n : Netlist) (inputs state : List V) → IsNumbered n → IsClosed n → IsAcyclic n
     → length inputs ≡ length n.inputs → length state ≡ length (cells n) → (a : ℕ → V) × Settles rule n inputs state a

@@ -1,10 +1,12 @@
 //! Definitions, and the parts of which a netlist is made.
-ghost use Rattle.std.specs.Prelude.{◌≡◌};
+ghost use Rattle.std.specs.Prelude.{◌≡◌, IfOk};
+ghost use Rattle.netlist.specs.Conditions.{whole};
 
 use crate::kinds::Kind;
 use crate::name_table::NameTable;
 use crate::signals::SignalId;
 use smallvec::SmallVec;
+use std::alloc::{AllocError, Global};
 use std::marker::Model;
 
 /// Memory was refused.
@@ -51,6 +53,14 @@ impl Definition {
     {
         self.pins.as_slice()
     }
+
+    /// An equal definition.
+    pub fn copy(&self, alloc: Global) -> Result<Definition, AllocError>
+        ensures { IfOk result (λ d. d ≡ self.now) }
+    {
+        let pins = SmallVec::from_slice(alloc, self.pins())?;
+        Ok(Definition::new(self.id(), self.kind(), pins))
+    }
 }
 
 /// The parts of a netlist: `names` has the name of signal 0, 1 and so on, and then those of names that are read and not defined.
@@ -60,4 +70,32 @@ pub struct Parts {
     pub inputs: Vec<SignalId>,
     pub outputs: Vec<SignalId>,
     pub definitions: Vec<Definition>,
+}
+
+/// Equal definitions.
+fn copy_definitions(
+    alloc: Global,
+    definitions: &[Definition],
+) -> Result<Vec<Definition>, AllocError>
+    ensures { IfOk result (λ v. v.items ≡ definitions.now) }
+{
+    let mut copies = Vec::with_capacity(alloc, definitions.len())?;
+    for definition in definitions {
+        copies.push(definition.copy(alloc)?)?;
+    }
+    Ok(copies)
+}
+
+impl Parts {
+    /// Equal parts.
+    pub fn copy(&self, alloc: Global) -> Result<Parts, AllocError>
+        ensures { IfOk result (λ p. whole p ≡ whole self.now) }
+    {
+        Ok(Parts {
+            names: self.names.copy(alloc)?,
+            inputs: self.inputs.clone()?,
+            outputs: self.outputs.clone()?,
+            definitions: copy_definitions(alloc, &self.definitions)?,
+        })
+    }
 }

@@ -11,7 +11,7 @@ use crate::bits::Bits;
 use crate::equations::NoMemory;
 use crate::lines::{Fault, Line};
 use crate::netlists::Netlist;
-use crate::rules::{settle, Logic};
+use crate::rules::{Logic, settle};
 use crate::signals::SignalId;
 use std::alloc::{AllocError, Global};
 use std::marker::Model;

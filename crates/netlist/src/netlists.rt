@@ -6,7 +6,7 @@ ghost use Rattle.netlist.specs.Netlist.{Definition as Equation, cells, is_cell, 
 ghost use Rattle.netlist.specs.Placed.{IsOrder};
 ghost use Rattle.netlist.specs.Conditions.{IsWellFormed, IsSound, IsCause, whole};
 
-use crate::equations::{Definition, Parts};
+use crate::equations::{Definition, NoMemory, Parts};
 use crate::kinds::Kind;
 use crate::order::{first_left, sort};
 use crate::signals::SignalId;
@@ -98,6 +98,14 @@ impl Netlist {
             Some(z) => Err(NetRefusal::Loop(SignalId(z))),
             None => finish(alloc, parts).map_err(|_| NetRefusal::NoMemory),
         }
+    }
+
+    /// An equal netlist.
+    pub fn copy(&self, alloc: Global) -> Result<Netlist, NoMemory>
+        ensures { IfOk result (λ n. n ≡ self.now) }
+    {
+        let parts = self.parts.copy(alloc).map_err(|_| NoMemory)?;
+        finish(alloc, parts).map_err(|_| NoMemory)
     }
 
     /// The gates, each after the gates that it reads.
