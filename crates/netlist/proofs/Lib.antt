@@ -6,4 +6,8 @@ pub mod Found
 pub mod WellFormed
 pub mod Alike
 pub mod Observed
-pub mod NameTables
+pub mod BufferRows
+pub mod ReaderTables
+pub mod ReadingLists
+pub mod Tallies
+pub mod CountingSort
