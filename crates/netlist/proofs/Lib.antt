@@ -8,4 +8,8 @@ pub mod Alike
 pub mod Observed
 pub mod OrderExists
 pub mod SomeSettled
-pub mod NameTables
+pub mod BufferRows
+pub mod CountingSort
+pub mod ReaderTables
+pub mod ReadingLists
+pub mod Tallies

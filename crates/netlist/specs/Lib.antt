@@ -8,3 +8,6 @@ pub mod Placed
 pub mod Settling
 pub mod Evaluated
 pub mod Laws
+pub mod Rows
+pub mod Readers
+pub mod Readings

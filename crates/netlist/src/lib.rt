@@ -10,6 +10,8 @@ mod lines;
 mod name_table;
 mod netlists;
 mod order;
+mod readings;
+mod rows;
 mod rules;
 mod signals;
 

@@ -1,7 +1,7 @@
 //! Names in one buffer.
-ghost use Rattle.std.specs.Prelude.{◌≡◌, ◌<◌, ◌==◌, ◌∷◌, [], ◌++◌, length, IfOk, OnOk, OnErr, slice_get, slice_index, Some};
-ghost use Rattle.netlist.specs.Names.{names_from, AreEnds};
+ghost use Rattle.std.specs.Prelude.{◌≡◌, ◌<◌, ◌==◌, ◌∷◌, [], ◌++◌, length, IfOk, OnOk, OnErr, slice_get, Some};
 
+use crate::rows::row;
 use std::alloc::{AllocError, Global};
 use std::marker::Model;
 
@@ -14,33 +14,13 @@ pub struct NameTable {
 
 impl Model for NameTable {
     ghost use Rattle.std.specs.Prelude.{ℕ, List};
-    ghost use Rattle.netlist.specs.Names.{names_from, AreEnds};
+    ghost use Rattle.netlist.specs.Rows.{rows, AreEnds};
 
     ghost Value = { List (List ℕ) };
 
-    ghost view = { λ t. names_from 0 t.bytes.items t.ends.items };
+    ghost view = { λ t. rows 0 t.bytes.items t.ends.items };
 
     ghost invariant = { λ t. AreEnds 0 t.bytes.items t.ends.items };
-}
-
-/// Where the name at a place begins.
-fn start_of(ends: &[usize], place: usize) -> usize
-    requires { place < length ends.now }
-    ensures { result ≡ slice_index (0 ∷ ends.now) place }
-{
-    if place == 0 { 0 } else { ends[place - 1] }
-}
-
-/// The name at a place.
-#[tactic(auto, using(crate::proofs::NameTables::begins_before_end, crate::proofs::NameTables::end_within))]
-fn name_at<'a>(bytes: &'a [u8], ends: &[usize], place: usize) -> &'a [u8]
-    requires ends { AreEnds 0 bytes.now ends.now }
-    requires within { place < length ends.now }
-    ensures { slice_get (names_from 0 bytes.now ends.now) place ≡ Some result.now }
-{
-    let start = start_of(ends, place);
-    let end = ends[place];
-    &bytes[start..end]
 }
 
 impl NameTable {
@@ -73,7 +53,7 @@ impl NameTable {
         requires { place < length self.now }
         ensures { slice_get self.now place ≡ Some result.now }
     {
-        name_at(&self.bytes, &self.ends, place)
+        row(&self.bytes, &self.ends, place)
     }
 
     /// Makes room for so many more names with so many bytes in all.

@@ -1,5 +1,5 @@
 use Rattle.std.proofs.Common.{◌++◌, ◌∷◌, [], ap, ◌∙◌}
-use Rattle.netlist.proofs.NameTables.{pushed_names, pushed_ends}
+use Rattle.netlist.proofs.BufferRows.{pushed_rows, pushed_ends}
 use Rattle.netlist.proofs.name_table.NameTable.push.Goals as goal
 
 pub invariant_of-self-2 : goal.invariant_of-self-2
@@ -10,7 +10,7 @@ invariant_of-self-2 c =
 
 pub returns-clause-ok : goal.returns-clause-ok
 returns-clause-ok c =
-    pushed_names c.self.inside.bytes.items c.self.inside.ends.items c.args.name.now c.extend_from_slice.new.self.items c.push.new.self.items c.len.result
+    pushed_rows c.self.inside.bytes.items c.self.inside.ends.items c.args.name.now c.extend_from_slice.new.self.items c.push.new.self.items c.len.result
     c.self.invariant c.in_ok-extend_from_slice.ensures.items (c.in_ok-push.ensures.items ∙ ap (λ xs. xs ++ c.len.result ∷ []) c.reserve.ensures.items)
     (c.len.ensures ∙ c.extend_from_slice.new.self.ok.0)
     ∙ ap (λ names. names ++ c.args.name.now ∷ []) c.self.view_is
