@@ -5,4 +5,6 @@ pub mod Settled
 pub mod Conditions
 pub mod Kept
 pub mod Placed
+pub mod Readers
+pub mod Sorting
 pub mod Settling
