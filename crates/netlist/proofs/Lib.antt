@@ -2,6 +2,7 @@ pub mod Lists
 pub mod Acyclic
 pub mod Placed
 pub mod Sorting
+pub mod OrderExists
 pub mod Settling
 pub mod Found
 pub mod WellFormed

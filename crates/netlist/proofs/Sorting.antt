@@ -1,5 +1,5 @@
 -- Counting pins down keeps what a sorting in the making is, and shows that it is sorted where all that is placed is visited.
-use Rattle.std.proofs.Common.{◌≡◌, ℕ, suc, ◌+◌, ◌-◌, ◌<◌, ◌≤◌, ◌⊎◌, Bool, true, false, cond, ◌&&◌, ◌||◌, List, [], ◌∷◌, ◌++◌, map, length, get_or, set, take, refl, sym, ◌∙◌, ap, subst, inl, inr, arith, eqb, ltb, leb, length-append, append_assoc, Some, slice_get}
+use Rattle.std.proofs.Common.{◌≡◌, ℕ, suc, ◌+◌, ◌-◌, ◌<◌, ◌≤◌, ◌⊎◌, Bool, true, false, cond, ◌||◌, List, [], ◌∷◌, ◌++◌, map, length, get_or, set, take, refl, sym, ◌∙◌, ap, subst, inl, inr, arith, eqb, ltb, leb, length-append, append_assoc, Some, slice_get}
 use Rattle.std.specs.List.{All, Contains, flat_map, filter}
 use Rattle.std.proofs.lemmas.Bool.{both_ways, cases_Bool, cases_eq, cases_lt, eq-eqb, ne_eqb, eqb-true, lt-ltb, le-ltb, ltb-true, ltb-false, leb-true, and_from, and_parts, and_cases, and_left, or_cases, or_left, or_right}
 use Rattle.std.proofs.lemmas.List.{length-set, length_push, length-map, get_or-set_same, get_or-set_other, take_more, get_or_past, get_or-map, get_or-append-add, append-nil}
@@ -561,23 +561,17 @@ start_counts_size n =
     let d = signals_length n in
     omega arith
 
--- each kind has a pin, and none has over 1,024
-within_pins : (low m : ℕ) → (leb low m && leb m 1024) ≡ true → (low ≤ m) × (m ≤ 1024)
-within_pins low m h = let w = and_parts (leb low m) (leb m 1024) h in (leb-true low m w.0, leb-true m 1024 w.1)
-
-pub some_pins : (k : Kind) (m : ℕ) → allows_pins k m ≡ true → (0 < m) × (m ≤ 1024)
-some_pins And m h = within_pins 1 m h
-some_pins Nand m h = within_pins 1 m h
-some_pins Or m h = within_pins 1 m h
-some_pins Nor m h = within_pins 1 m h
-some_pins Xor m h = let w = within_pins 2 m h in let l = w.0 in (omega arith, w.1)
-some_pins Xnor m h = let w = within_pins 2 m h in let l = w.0 in (omega arith, w.1)
-some_pins Not m h = let e = eqb-true m 1 h in (omega arith, omega arith)
-some_pins Buff m h = let e = eqb-true m 1 h in (omega arith, omega arith)
-some_pins Dff m h = let e = eqb-true m 1 h in (omega arith, omega arith)
-
-pub few_pins : (n : Netlist) → IsClosed n → All (λ (d : Definition). length d.pins ≤ 1024) n.definitions
-few_pins n closed k d l = (some_pins (get_or n.definitions k d).kind (length (get_or n.definitions k d).pins) (closed.allowed k d l)).1
+-- each kind has a pin
+some_pins : (kind : Kind) (count : ℕ) → allows_pins kind count ≡ true → 0 < count
+some_pins And count e = leb-true 1 count (and_parts (leb 1 count) (leb count 1024) e).0
+some_pins Nand count e = leb-true 1 count (and_parts (leb 1 count) (leb count 1024) e).0
+some_pins Or count e = leb-true 1 count (and_parts (leb 1 count) (leb count 1024) e).0
+some_pins Nor count e = leb-true 1 count (and_parts (leb 1 count) (leb count 1024) e).0
+some_pins Xor count e = let two = leb-true 2 count (and_parts (leb 2 count) (leb count 1024) e).0 in omega arith
+some_pins Xnor count e = let two = leb-true 2 count (and_parts (leb 2 count) (leb count 1024) e).0 in omega arith
+some_pins Not count e = let one = eqb-true count 1 e in omega arith
+some_pins Buff count e = let one = eqb-true count 1 e in omega arith
+some_pins Dff count e = let one = eqb-true count 1 e in omega arith
 
 module _ (n : Netlist) (p : Placing) (order : p.order.items ≡ []) (ranks : p.ranks.items ≡ start_ranks n) (counts : p.counts.items ≡ start_counts n) where
   pub start_room : IsNumbered n → length (signals n) ≤ 8000000 → HasRoom p
@@ -602,7 +596,7 @@ module _ (n : Netlist) (p : Placing) (order : p.order.items ≡ []) (ranks : p.r
             let a = count d g in
             let allowed : allows_pins d.kind (length d.pins) ≡ true =
             All-contains (λ (f : Definition). allows_pins f.kind (length f.pins) ≡ true) n.definitions d closed.allowed (gate_defined n numbered d g) in
-            let some = (some_pins d.kind (length d.pins) allowed).0 in
+            let some = some_pins d.kind (length d.pins) allowed in
             omega arith;
       }
 
