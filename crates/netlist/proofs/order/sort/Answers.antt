@@ -6,7 +6,8 @@ use Rattle.netlist.specs.Netlist.{signals}
 use Rattle.netlist.specs.Conditions.{whole}
 use Rattle.netlist.specs.Readers.{readers_of}
 use Rattle.netlist.specs.Sorting.{AreBelow, Counts}
-use Rattle.netlist.proofs.Sorting.{are_below, row_below, row_is, gate_below, gate_visited, all_visited}
+use Rattle.netlist.proofs.ReaderRows.{are_below, row_below, row_is}
+use Rattle.netlist.proofs.Sorting.{gate_below, gate_visited, all_visited}
 use Rattle.netlist.proofs.order.sort.Goals as goal
 
 pub visit_sources-requires-clause-below : goal.visit_sources-requires-clause-below

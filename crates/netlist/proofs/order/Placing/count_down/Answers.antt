@@ -1,6 +1,6 @@
 use Rattle.std.proofs.Common.{◌≡◌, ℕ, ◌+◌, ◌-◌, ◌<◌, List, ◌∙◌, ap, sym, length, get_or, set, refl, arith}
 use Rattle.std.proofs.lemmas.List.{get_or_default}
-use Rattle.netlist.proofs.Sorting.{counts_placed, counts_down, counts_last}
+use Rattle.netlist.proofs.Counting.{counts_placed, counts_down, counts_last}
 use Rattle.netlist.proofs.order.Placing.count_down.Goals as goal
 
 read_at : (xs : List ℕ) (i z v : ℕ) → i ≡ z → z < length xs → v ≡ get_or xs i v → get_or xs z 0 ≡ v

@@ -3,7 +3,8 @@ use Rattle.std.proofs.lemmas.List.{get_or_default}
 use Rattle.netlist.specs.declared.lines.Line.{Line}
 use Rattle.netlist.specs.declared.order.Placing.{Placing}
 use Rattle.netlist.specs.Sorting.{Counts, HasRoom, IsCounted, sources_below}
-use Rattle.netlist.proofs.Sorting.{source_visited, source_passed, all_sources, row_is}
+use Rattle.netlist.proofs.ReaderRows.{row_is}
+use Rattle.netlist.proofs.Sorting.{source_visited, source_passed, all_sources}
 use Rattle.netlist.proofs.order.Placing.visit_sources.Goals as goal
 use Rattle.netlist.proofs.order.Placing.visit_sources.Goals.{then-index-eq1+in_ok-visit, else-index-eq1}
 
