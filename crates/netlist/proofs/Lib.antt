@@ -1,6 +1,11 @@
 pub mod Lists
 pub mod Acyclic
 pub mod Placed
+pub mod Waiting
+pub mod ReaderRows
+pub mod Counting
+pub mod Sorting
+pub mod OrderExists
 pub mod Settling
 pub mod Found
 pub mod WellFormed

@@ -1,14 +1,13 @@
 -- One more gate in the order, and what a finished order shows.
-use Rattle.std.proofs.Common.{◌≡◌, ℕ, suc, zero, ◌+◌, ◌<◌, ◌≤◌, Bool, true, false, cond, take, drop, ◌&&◌, List, [], ◌∷◌, ◌++◌, map, length, get_or, set, refl, sym, ◌∙◌, ap, subst, inl, inr, arith, eqb, ltb, length-append}
+use Rattle.std.proofs.Common.{◌≡◌, ℕ, suc, zero, ◌+◌, ◌<◌, ◌≤◌, ◌⊎◌, Bool, true, false, cond, ◌&&◌, List, [], ◌∷◌, ◌++◌, map, length, get_or, set, refl, sym, ◌∙◌, ap, subst, inl, inr, arith, eqb, ltb, length-append}
 use Rattle.std.specs.List.{All, Contains}
-use Rattle.std.proofs.lemmas.Bool.{both_ways, and_from, and_parts, lt-ltb, ltb-true, ltb-false, cases_eq, cases_lt, cases_Bool, eq-eqb, ne_eqb, eqb-true, not_from_false, not-true}
-use Rattle.std.proofs.lemmas.List.{take_at, length-set, get_or-set_same, get_or-set_other, get_or_append_left, get_or_push, get_or_default, get_or_past, length_push, length-map, get_or-append-add, get_or-map}
+use Rattle.std.proofs.lemmas.Bool.{and_from, and_parts, lt-ltb, ltb-true, cases_eq, cases_lt, cases_Bool, eq-eqb, ne_eqb, eqb-true, not_from_false, not-true}
+use Rattle.std.proofs.lemmas.List.{length-set, get_or-set_same, get_or-set_other, get_or_append_left, get_or_push, get_or_default, get_or_past, length_push, length-map, get_or-append-add, get_or-map}
 use Rattle.std.proofs.lemmas.List.Elements.{All-contains, All-append, All-map, Contains-append_cases, Contains-append_left, Contains-push}
-use Rattle.netlist.specs.declared.kinds.Kind.TheVariants.{Dff}
-use Rattle.netlist.specs.Netlist.{Definition, Netlist, is_cell, is_gate, gates, signals, IsLoop, IsOnLoop, IsAcyclic}
+use Rattle.netlist.specs.Netlist.{Definition, Netlist, is_cell, is_gate, cells, gates, signals, IsLoop, IsOnLoop, IsAcyclic}
 use Rattle.netlist.specs.Conditions.{IsClosed, IsNumbered}
-use Rattle.netlist.specs.Placed.{zeros, IsPlaced, IsSeen, IsStep, IsSorted, IsPass, start_ranks}
-use Rattle.netlist.proofs.Lists.{contains_filter, filter_contains, contains_map, all_or_fails}
+use Rattle.netlist.specs.Placed.{zeros, IsPlaced, IsSorted, start_ranks}
+use Rattle.netlist.proofs.Lists.{contains_filter, filter_contains, contains_map}
 
 zeros_cons : (y : ℕ) (ys : List ℕ) → zeros (y ∷ ys) ≡ cond {A = ℕ} (eqb y 0) 1 0 + zeros ys
 zeros_cons y ys = refl
@@ -29,7 +28,7 @@ zeros_set (y ∷ ys) (suc x) r l e p =
     let v : zeros (set (y ∷ ys) (suc x) r) ≡ zeros (y ∷ set ys x r) = refl in
     omega arith
 
-zeros-le : (ranks : List ℕ) → zeros ranks ≤ length ranks
+pub zeros-le : (ranks : List ℕ) → zeros ranks ≤ length ranks
 zeros-le [] = omega arith
 zeros-le (y ∷ ys) =
     let h = zeros-le ys in
@@ -83,6 +82,50 @@ module _ (n : Netlist) (numbered : IsNumbered n) where
 
   pub gate_defined : (d : Definition) → Contains (gates n) d → Contains n.definitions d
   gate_defined d c = (contains_filter is_gate n.definitions d c).0
+
+  -- a signal is an input, or that of a cell or of a gate
+  pub signal_cases : (x : ℕ) → x < length (signals n)
+      → Contains n.inputs x ⊎ (((d : Definition) × Contains (cells n) d × (d.id ≡ x)) ⊎ ((d : Definition) × Contains (gates n) d × (d.id ≡ x)))
+  signal_cases x l = elim (Contains-append_cases n.inputs (map (λ (d : Definition). d.id) n.definitions) x (signal_from x l)) [
+    | inl i ↦ inl i
+    | inr r ↦
+        let m = contains_map (λ (d : Definition). d.id) n.definitions x r in
+        elim (cases_Bool (is_cell m.0)) [
+          | inl y ↦ inr (inl (m.0, filter_contains is_cell n.definitions m.0 m.1 y, m.2))
+          | inr y ↦ inr (inr (m.0, filter_contains is_gate n.definitions m.0 m.1 (not_from_false (is_cell m.0) y), m.2))
+        ]
+  ]
+
+  -- what has no rank is a gate
+  pub unplaced_gate : (order ranks : List ℕ) → IsPlaced n order ranks → (z : ℕ) → z < length ranks → get_or ranks z 0 ≡ 0
+      → (d : Definition) × Contains (gates n) d × (d.id ≡ z)
+  unplaced_gate order ranks h z l e = elim (signal_cases z (subst (λ m. z < m) h.size l)) [
+    | inl i ↦ let one : get_or ranks z 0 ≡ 1 = h.inputs z i in absurd (omega arith)
+    | inr r ↦ elim r [
+      | inl c ↦ let one : get_or ranks c.0.id 0 ≡ 1 = h.cells c.0 c.1 in let same : get_or ranks c.0.id 0 ≡ get_or ranks z 0 = ap (λ i. get_or ranks i 0) c.2 in absurd (omega arith)
+      | inr g ↦ g
+    ]
+  ]
+
+  -- the rank tells the place in the order
+  pub ranked_at : (order ranks : List ℕ) → IsPlaced n order ranks → (y k : ℕ) → get_or ranks y 0 ≡ k + 2 → y ≡ get_or order k 0
+  ranked_at order ranks h y k e = elim (cases_lt y (length ranks)) [
+    | inr past ↦ let none : get_or ranks y 0 ≡ 0 = get_or_past ranks y 0 past in absurd (omega arith)
+    | inl l ↦ elim (signal_cases y (subst (λ m. y < m) h.size l)) [
+      | inl i ↦ let one : get_or ranks y 0 ≡ 1 = h.inputs y i in absurd (omega arith)
+      | inr r ↦ elim r [
+        | inl c ↦ let one : get_or ranks c.0.id 0 ≡ 1 = h.cells c.0 c.1 in let same : get_or ranks c.0.id 0 ≡ get_or ranks y 0 = ap (λ i. get_or ranks i 0) c.2 in absurd (omega arith)
+        | inr g ↦
+            let same : get_or ranks g.0.id 0 ≡ get_or ranks y 0 = ap (λ i. get_or ranks i 0) g.2 in
+            let w = h.listed g.0 g.1 (omega arith) in
+            let is : y ≡ get_or order w.0 0 = sym g.2 ∙ (sym w.2 ∙ get_or_default order w.0 g.0.id 0 w.1) in
+            let rank : get_or ranks (get_or order w.0 0) 0 ≡ w.0 + 2 = h.ranked w.0 w.1 in
+            let again : get_or ranks y 0 ≡ get_or ranks (get_or order w.0 0) 0 = ap (λ i. get_or ranks i 0) is in
+            let at : w.0 ≡ k = omega arith in
+            is ∙ ap (λ i. get_or order i 0) at
+      ]
+    ]
+  ]
 
   -- one more gate is placed
   pub placed_more : (order ranks : List ℕ) (d : Definition) → IsPlaced n order ranks → Contains (gates n) d
@@ -176,25 +219,15 @@ module _ (n : Netlist) (numbered : IsNumbered n) where
   left_loop order ranks closed h z s =
       let p = left_over_parts ranks z s in
       let size = h.placed.size in
-      let member : Contains (signals n) z = signal_from z (subst (λ m. z < m) size p.0) in
-      elim (Contains-append_cases n.inputs (map (λ (d : Definition). d.id) n.definitions) z member) [
-        | inl i ↦ let one : get_or ranks z 0 ≡ 1 = h.placed.inputs z i in absurd (omega arith)
-        | inr r ↦
-            let m = contains_map (λ (d : Definition). d.id) n.definitions z r in
-            let same : get_or ranks m.0.id 0 ≡ get_or ranks z 0 = ap (λ i. get_or ranks i 0) m.2 in
-            elim (cases_Bool (is_cell m.0)) [
-              | inl y ↦ let one : get_or ranks m.0.id 0 ≡ 1 = h.placed.cells m.0 (filter_contains is_cell n.definitions m.0 m.1 y) in absurd (omega arith)
-              | inr y ↦
-                  let g : Contains (gates n) m.0 = filter_contains is_gate n.definitions m.0 m.1 (not_from_false (is_cell m.0) y) in
-                  elim (h.seen m.0 g) [
-                    | inl ranked ↦ absurd (omega arith)
-                    | inr w ↦
-                        let pins : All (Contains (signals n)) m.0.pins =
-                        All-contains (λ (d : Definition). All (Contains (signals n)) d.pins) n.definitions m.0 closed.pins m.1 in
-                        let below = signal_below w.0 (All-contains (Contains (signals n)) m.0.pins w.0 pins w.1) in
-                        (w.0, (m.0, g, m.2, w.1), left_over_from ranks w.0 (subst (λ k. w.0 < k) (sym size) below) w.2)
-                  ]
-            ]
+      let w = unplaced_gate order ranks h.placed z p.0 p.1 in
+      let same : get_or ranks w.0.id 0 ≡ get_or ranks z 0 = ap (λ i. get_or ranks i 0) w.2 in
+      elim (h.seen w.0 w.1) [
+        | inl ranked ↦ absurd (omega arith)
+        | inr m ↦
+            let pins : All (Contains (signals n)) w.0.pins =
+            All-contains (λ (d : Definition). All (Contains (signals n)) d.pins) n.definitions w.0 closed.pins (gate_defined w.0 w.1) in
+            let below = signal_below m.0 (All-contains (Contains (signals n)) w.0.pins m.0 pins m.1) in
+            (m.0, (w.0, w.1, w.2, m.1), left_over_from ranks m.0 (subst (λ k. m.0 < k) (sym size) below) m.2)
       ]
 
   pub on_loop : (order ranks : List ℕ) → IsClosed n → IsSorted n order ranks → (z : ℕ) → z < length ranks → get_or ranks z 0 ≡ 0 → IsOnLoop n z
@@ -207,18 +240,6 @@ module _ (n : Netlist) (numbered : IsNumbered n) where
       let r = m.1 in
       let l : r.0.id < length (signals n) = definition_below r.0 (gate_defined r.0 r.1) in
       no_loop order ranks h z (all z (subst (λ i. i < length ranks) r.2 (subst (λ k. r.0.id < k) (sym h.size) l))) w
-
-  -- the same, with names for what the code has
-  pub placed_at : (order ranks : List ℕ) (d : Definition) (order' : List ℕ) (place len : ℕ) → IsPlaced n order ranks → Contains (gates n) d
-      → get_or ranks place 0 ≡ 0 → ((x : ℕ) → Contains d.pins x → 0 < get_or ranks x 0)
-      → order' ≡ order ++ d.id ∷ [] → place ≡ d.id → len ≡ length order
-      → IsPlaced n order' (set ranks place (len + 2))
-  placed_at order ranks d order' place len h g none ready is at long =
-      let none' : get_or ranks d.id 0 ≡ 0 = sym (ap (λ i. get_or ranks i 0) at) ∙ none in
-      let base = placed_more order ranks d h g none' ready in
-      subst (λ o. IsPlaced n o (set ranks place (len + 2))) (sym is)
-      (subst (λ i. IsPlaced n (order ++ d.id ∷ []) (set ranks i (len + 2))) (sym at)
-      (subst (λ k. IsPlaced n (order ++ d.id ∷ []) (set ranks d.id (k + 2))) (sym long) base))
 
   start_at : (d : Definition) → Contains n.definitions d → get_or (start_ranks n) d.id 0 ≡ cond {A = ℕ} (is_cell d) 1 0
   start_at d c =
@@ -265,74 +286,7 @@ module _ (n : Netlist) (numbered : IsNumbered n) where
         left = let z = zeros-le (start_ranks n) in omega arith;
       }
 
-  pub pass_more : (order ranks order' ranks' order'' ranks'' : List ℕ) (k : ℕ) → IsPass n order ranks order' ranks' k → IsPlaced n order'' ranks''
-      → ((d : Definition) → IsStep (get_or n.definitions k d) order' ranks' order'' ranks'') → k < length n.definitions
-      → IsPass n order ranks order'' ranks'' (k + 1)
-  pass_more order ranks order' ranks' order'' ranks'' k h placed step l =
-      let any : Definition = get_or n.definitions k (record { id = 0; kind = Dff; pins = [] }) in
-      let s = step any in
-      let a = s.grows in
-      let b = s.count in
-      let c = h.grows in
-      let d = h.count in
-      record {
-        placed = placed;
-        grows = omega arith;
-        count = omega arith;
-        seen = λ e i f m g.
-            let same = (s.same (omega arith)).0 in
-            subst (λ (r : List ℕ). IsSeen r (get_or n.definitions i f)) (sym same)
-            (elim (cases_lt i k) [
-              | inl low ↦ h.seen (omega arith) i f low g
-              | inr high ↦
-                  let is : i ≡ k = omega arith in
-                  let g' : is_gate (get_or n.definitions k f) ≡ true = subst (λ j. is_gate (get_or n.definitions j f) ≡ true) is g in
-                  subst (λ j. IsSeen ranks' (get_or n.definitions j f)) (sym is) (((step f).same (omega arith)).1 g')
-            ]);
-      }
-
-  pub pass_none : (order ranks : List ℕ) → IsPlaced n order ranks → IsPass n order ranks order ranks 0
-  pass_none order ranks h = record { placed = h; grows = omega arith; count = refl; seen = λ e i f m g. absurd (omega arith) }
-
-  pub pass_done : (order ranks order' ranks' : List ℕ) (m : ℕ) → IsPass n order ranks order' ranks' m → m ≡ length n.definitions
-      → length order' ≡ length order → IsSorted n order' ranks'
-  pass_done order ranks order' ranks' m h all same = record {
-    placed = h.placed;
-    seen = λ d c.
-        let w = contains_filter is_gate n.definitions d c in
-        let k = w.0 in
-        let l : k.0 < length n.definitions = k.1 in
-        subst (λ (e : Definition). IsSeen ranks' e) k.2
-        (h.seen same k.0 d (omega arith) (subst (λ (e : Definition). is_gate e ≡ true) (sym k.2) w.1));
-  }
-
-pub contained : {X : Type 0} (items : List X) (at n : ℕ) (d : X) → at < n → n ≡ length items → d ≡ get_or items at d → Contains items d
-contained items at n d l e is = (at, subst (λ m. at < m) e l, sym is)
-
-pub not_ready : (pins ranks : List ℕ) (b : Bool) → (All (λ x. 0 < get_or ranks x 0) pins → b ≡ true) → b ≡ false → (x : ℕ) × Contains pins x × (get_or ranks x 0 ≡ 0)
-not_ready pins ranks b h e = elim (all_or_fails (λ x. ltb 0 (get_or ranks x 0)) pins) [
-  | inl all ↦ absurd (both_ways b e (h (λ k d l. ltb-true 0 (get_or ranks (get_or pins k d) 0) (all k d l))))
-  | inr w ↦ let z : get_or ranks w.0 0 ≤ 0 = ltb-false 0 (get_or ranks w.0 0) w.2 in (w.0, w.1, omega arith)
-]
-
-pub step_at : (d : Definition) (order ranks order' : List ℕ) (id place r : ℕ) → place < length ranks → get_or ranks place 0 ≡ 0 → 0 < r
-    → order' ≡ order ++ id ∷ [] → IsStep d order ranks order' (set ranks place r)
-step_at d order ranks order' id place r l none p is =
-    let z = zeros_set ranks place r l none p in
-    let more : length order' ≡ length order + 1 = ap length is ∙ length_push order id in
-    record {
-      grows = omega arith;
-      count = omega arith;
-      same = λ e. absurd (omega arith);
-    }
-
-pub stays : (d : Definition) (order ranks : List ℕ) → (is_gate d ≡ true → IsSeen ranks d) → IsStep d order ranks order ranks
-stays d order ranks h = record { grows = omega arith; count = refl; same = λ e. (refl, h) }
-
 pub signals_length : (n : Netlist) → length (signals n) ≡ length n.inputs + length n.definitions
 signals_length n =
     length-append n.inputs (map (λ (d : Definition). d.id) n.definitions)
     ∙ ap (λ k. length n.inputs + k) (length-map n.definitions (λ (d : Definition). d.id))
-
-pub written_back : (xs ys : List ℕ) (n m : ℕ) → n ≡ length ys → length xs ≡ m → m ≡ n → take n (xs ++ drop (length xs) ys) ≡ xs
-written_back xs ys n m e f g = take_at xs (drop (length xs) ys) n (f ∙ g)

@@ -5,6 +5,8 @@ pub mod Settled
 pub mod Conditions
 pub mod Kept
 pub mod Placed
+pub mod Readers
+pub mod Sorting
 pub mod Settling
 pub mod Evaluated
 pub mod Laws

@@ -1,7 +1,7 @@
 -- An order in which each gate comes after the gates that it reads, as it is built (private to this crate).
-use Rattle.std.specs.Prelude.{ℕ, IsTrue, map, ◌++◌, ◌≡◌, ◌+◌, ◌<◌, ◌≤◌, ◌==◌, ◌⊎◌, if◌then◌else◌, List, [], ◌∷◌, length, slice_index, slice_index_or}
+use Rattle.std.specs.Prelude.{ℕ, map, ◌++◌, ◌≡◌, ◌+◌, ◌<◌, ◌≤◌, ◌==◌, ◌⊎◌, if◌then◌else◌, List, [], ◌∷◌, length, slice_index}
 use Rattle.std.specs.List.{Contains}
-use Rattle.netlist.specs.Netlist.{Definition, Netlist, is_cell, is_gate, cells, gates, signals}
+use Rattle.netlist.specs.Netlist.{Definition, Netlist, is_cell, cells, gates, signals}
 
 abbrev pub zeros : List ℕ → ℕ
 zeros [] = 0
@@ -32,23 +32,6 @@ pub record IsSorted (n : Netlist) (order ranks : List ℕ) : Type 0 where
 -- the ranks before any gate is placed
 abbrev pub start_ranks : Netlist → List ℕ
 start_ranks n = map (λ _. 1) n.inputs ++ map (λ (d : Definition). if is_cell d then 1 else 0) n.definitions
-
--- what the look at one definition does: it is placed, or nothing changes, and it was placed or can't be placed yet
-pub record IsStep (d : Definition) (order ranks order' ranks' : List ℕ) : Type 0 where
-  pub grows : length order ≤ length order'
-  pub count : length order' + zeros ranks' ≡ length order + zeros ranks
-  pub same : length order' ≡ length order → (ranks' ≡ ranks) × (IsTrue (is_gate d) → IsSeen ranks d)
-
--- so for the first definitions
-abbrev pub AreSeen : Netlist → List ℕ → ℕ → Type 0
-AreSeen n ranks m = (k : ℕ) (d : Definition) → k < m → IsTrue (is_gate (slice_index_or n.definitions k d)) → IsSeen ranks (slice_index_or n.definitions k d)
-
--- a pass over the first m definitions
-pub record IsPass (n : Netlist) (order ranks order' ranks' : List ℕ) (m : ℕ) : Type 0 where
-  pub placed : IsPlaced n order' ranks'
-  pub grows : length order ≤ length order'
-  pub count : length order' + zeros ranks' ≡ length order + zeros ranks
-  pub seen : length order' ≡ length order → AreSeen n ranks' m
 
 -- each gate stands in the order, after the gates that it reads
 pub record IsOrder (n : Netlist) (order : List ℕ) : Type 0 where

@@ -1,20 +1,31 @@
-//! An order of evaluation: each gate after the gates that it reads.
-ghost use Rattle.std.specs.Prelude.{◌≡◌, ◌↔◌, ◌+◌, ◌<◌, ◌≤◌, List, length, IfOk, OnOk, IsTrue, MatchOption, vec_len, slice_index, slice_index_or};
+//! An order of evaluation: each gate after the gates that it reads (Kahn, Topological sorting of large networks, 1962).
+ghost use Rattle.std.specs.Prelude.{◌≡◌, ◌<◌, ◌≤◌, ℕ, [], ◌∷◌, length, IfOk, OnOk, MatchOption, slice_get, slice_index};
 ghost use Rattle.std.specs.List.{All};
 ghost use Rattle.netlist.specs.Netlist.{Definition as Equation, signals};
 ghost use Rattle.netlist.specs.Conditions.{IsClosed, IsNumbered, whole};
-ghost use Rattle.netlist.specs.Placed.{IsPlaced, IsSorted, IsStep, IsPass, HasRanks, start_ranks};
+ghost use Rattle.netlist.specs.Placed.{IsSorted, HasRanks, start_ranks};
+ghost use Rattle.netlist.specs.Sorting.{AreBelow, AreReaders, Counts, HasRoom, IsCounted, IsPinBelow, VisitsSources, nothing, start_counts};
 
 use crate::equations::Parts;
+use crate::lines::Line;
+use crate::readings::ReaderTable;
 use crate::signals::SignalId;
 use std::alloc::{AllocError, Global};
 
-/// Whether all pins have a rank.
-fn is_ready(pins: &[SignalId], ranks: &[u32]) -> bool
-    requires { All (λ x. x < length ranks.now) pins.now }
-    ensures { IsTrue result ↔ All (λ x. 0 < slice_index ranks.now x) pins.now }
-{
-    pins.iter().all(|x| ranks[x.index()] != 0)
+/// The gates that are placed, in order, and the rank of each signal: 1 for inputs and cells, from 2 on for gates in order, 0 for what isn't placed.
+#[derive(Drop)]
+pub(crate) struct Sorting {
+    pub order: Vec<SignalId>,
+    pub ranks: Vec<u32>,
+}
+
+/// A sorting in the making. A signal that is placed is visited once, and then the pins that read it no longer wait.
+#[derive(Drop)]
+struct Placing {
+    order: Vec<SignalId>,
+    ranks: Vec<u32>,
+    /// For each gate that isn't placed, how many of its pins wait.
+    counts: Vec<u32>,
 }
 
 /// The ranks before any gate is placed.
@@ -34,78 +45,112 @@ fn start_ranks(alloc: Global, parts: &Parts) -> Result<Vec<u32>, AllocError>
         .collect(alloc)
 }
 
-/// Places the definition, if it is a gate that can be placed.
-fn place(
-    parts: &Parts,
-    at: usize,
-    order: &mut Vec<SignalId>,
-    ranks: &mut [u32],
-) -> Result<(), AllocError>
-    requires numbered { IsNumbered (whole parts.now) }
-    requires closed { IsClosed (whole parts.now) }
-    requires small { length (signals (whole parts.now)) ≤ 8000000 }
-    requires within { at < vec_len parts.now.definitions }
-    requires placed { IsPlaced (whole parts.now) order.old.items ranks.old }
-    ensures placed { OnOk result (IsPlaced (whole parts.now) order.new.items ranks.new) }
-    ensures step { OnOk result ((d : Equation) → IsStep (slice_index_or parts.now.definitions.items at d) order.old.items ranks.old order.new.items ranks.new) }
+/// The counts of pins.
+fn start_counts(alloc: Global, parts: &Parts) -> Result<Vec<u32>, AllocError>
+    requires { All (λ (d : Equation). length d.pins ≤ 1024) (whole parts.now).definitions }
+    ensures { IfOk result (λ counts. counts.items ≡ start_counts (whole parts.now)) }
 {
-    let definition = &parts.definitions[at];
-    let place = definition.id().index();
-    if definition.kind().is_flip_flop() {
-        return Ok(());
-    }
-    if ranks[place] != 0 {
-        return Ok(());
-    }
-    if !is_ready(definition.pins(), ranks) {
-        return Ok(());
-    }
-    let rank = order.len() as u32 + 2;
-    order.push(definition.id())?;
-    ranks[place] = rank;
-    Ok(())
+    parts
+        .inputs
+        .iter()
+        .map(|_| 0)
+        .chain(parts.definitions.iter().map(|d| d.pins().len() as u32))
+        .collect(alloc)
 }
 
-/// Places each gate that can be placed, in one pass.
-fn place_ready(
-    parts: &Parts,
-    order: &mut Vec<SignalId>,
-    ranks: &mut [u32],
-) -> Result<(), AllocError>
+impl Placing {
+    /// No gate is placed, and nothing is visited.
+    fn start(alloc: Global, parts: &Parts) -> Result<Placing, AllocError>
+        requires numbered { IsNumbered (whole parts.now) }
+        requires closed { IsClosed (whole parts.now) }
+        requires small { length (signals (whole parts.now)) ≤ 8000000 }
+        ensures room { IfOk result HasRoom }
+        ensures counted { IfOk result (IsCounted (whole parts.now) nothing []) }
+    {
+        Ok(Placing {
+            order: Vec::with_capacity(alloc, parts.definitions.len())?,
+            ranks: start_ranks(alloc, parts)?,
+            counts: start_counts(alloc, parts)?,
+        })
+    }
+
+    /// One pin of the gate no longer waits; after the last one the gate is placed.
+    fn count_down(&mut self, gate: SignalId) -> Result<(), AllocError>
+        requires room { HasRoom self.old }
+        requires within { gate < length self.old.ranks.items }
+        ensures { OnOk result ((k : ℕ) → Counts (Line.Pin gate k ∷ []) self.old self.new) }
+    {
+        let place = gate.index();
+        if self.ranks[place] != 0 {
+            return Ok(());
+        }
+        if self.counts[place] > 1 {
+            self.counts[place] -= 1;
+            return Ok(());
+        }
+        let rank = self.order.len() as u32 + 2;
+        self.order.push(gate)?;
+        self.ranks[place] = rank;
+        Ok(())
+    }
+
+    /// The pins on these lines, which read one signal, no longer wait.
+    fn visit(&mut self, readers: &[Line]) -> Result<(), AllocError>
+        requires room { HasRoom self.old }
+        requires below { All (IsPinBelow (length self.old.ranks.items)) readers.now }
+        ensures { OnOk result (Counts readers.now self.old self.new) }
+    {
+        for line in readers {
+            if let Line::Pin(gate, _) = line {
+                self.count_down(*gate)?;
+            }
+        }
+        Ok(())
+    }
+
+    /// The gate at a place in the order.
+    fn gate_at(&self, place: usize) -> Option<SignalId>
+        ensures { result ≡ slice_get self.now.order.items place }
+    {
+        self.order.get(place).copied()
+    }
+
+    /// Visits the inputs and cells.
+    fn visit_sources(&mut self, table: &ReaderTable) -> Result<(), AllocError>
+        requires room { HasRoom self.old }
+        requires below { AreBelow (length self.old.ranks.items) table.now }
+        ensures { OnOk result (VisitsSources table.now self.old self.new) }
+    {
+        for signal in 0..self.ranks.len() {
+            if self.ranks[signal] == 1 {
+                self.visit(table.readers(SignalId(signal as u32)))?;
+            }
+        }
+        Ok(())
+    }
+}
+
+/// Places gates until no more can be placed, in time linear in the pins.
+pub(crate) fn sort(alloc: Global, parts: &Parts, table: &ReaderTable) -> Result<Sorting, AllocError>
     requires numbered { IsNumbered (whole parts.now) }
     requires closed { IsClosed (whole parts.now) }
     requires small { length (signals (whole parts.now)) ≤ 8000000 }
-    requires placed { IsPlaced (whole parts.now) order.old.items ranks.old }
-    ensures { OnOk result (IsPass (whole parts.now) order.old.items ranks.old order.new.items ranks.new (vec_len parts.now.definitions)) }
-{
-    for at in 0..parts.definitions.len() {
-        place(parts, at, order, ranks)?;
-    }
-    Ok(())
-}
-
-#[derive(Drop)]
-pub(crate) struct Sorting {
-    pub order: Vec<SignalId>,
-    pub ranks: Vec<u32>,
-}
-
-/// Places gates until no more can be placed.
-pub(crate) fn sort(alloc: Global, parts: &Parts) -> Result<Sorting, AllocError>
-    requires numbered { IsNumbered (whole parts.now) }
-    requires closed { IsClosed (whole parts.now) }
-    requires small { length (signals (whole parts.now)) ≤ 8000000 }
+    requires readers { AreReaders (whole parts.now) table.now }
     ensures { IfOk result (λ s. IsSorted (whole parts.now) s.order.items s.ranks.items) }
 {
-    let mut ranks = start_ranks(alloc, parts)?;
-    let mut order = Vec::new(alloc);
-    'placing: loop {
-        let before = order.len();
-        place_ready(parts, &mut order, &mut ranks)?;
-        if order.len() == before {
-            return Ok(Sorting { order, ranks });
-        }
+    let mut placing = Placing::start(alloc, parts)?;
+    placing.visit_sources(table)?;
+    let mut cursor = 0;
+    while let Some(gate) = placing.gate_at(cursor) {
+        placing.visit(table.readers(gate))?;
+        cursor += 1;
     }
+    let Placing {
+        order,
+        ranks,
+        counts: _,
+    } = placing;
+    Ok(Sorting { order, ranks })
 }
 
 /// The first signal that is not placed.

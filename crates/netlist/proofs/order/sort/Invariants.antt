@@ -1,9 +1,15 @@
-use Rattle.netlist.specs.Placed.{IsPlaced, zeros}
+use Rattle.std.proofs.Common.{[], ◌+◌, ◌-◌, ◌≤◌, length}
+use Rattle.netlist.specs.Netlist.{signals}
 use Rattle.netlist.specs.Conditions.{whole}
+use Rattle.netlist.specs.Sorting.{HasRoom, IsCounted, placed_below}
 use Rattle.netlist.proofs.order.sort.Given as goal
 
-abbrev pub invariant-placing : goal.invariant-placing
-invariant-placing l = IsPlaced (whole l.parts) l.order.items l.ranks.items
+abbrev pub invariant-loop-gate : goal.invariant-loop-gate
+invariant-loop-gate l = record {
+  room : HasRoom l.placing;
+  within : l.cursor ≤ length l.placing.order.items;
+  counted : IsCounted (whole l.parts) (placed_below l.placing.ranks.items (l.cursor + 2)) [] l.placing;
+}
 
-abbrev pub decreases-placing : goal.decreases-placing
-decreases-placing l = zeros l.ranks.items
+abbrev pub decreases-loop-gate : goal.decreases-loop-gate
+decreases-loop-gate l = length (signals (whole l.parts)) - l.cursor
