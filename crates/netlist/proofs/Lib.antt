@@ -5,7 +5,6 @@ pub mod Waiting
 pub mod ReaderRows
 pub mod Counting
 pub mod Sorting
-pub mod OrderExists
 pub mod Settling
 pub mod Found
 pub mod WellFormed

@@ -11,5 +11,4 @@ pub mod Settling
 pub mod Evaluated
 pub mod Laws
 pub mod Rows
-pub mod Readers
 pub mod Readings

@@ -4,11 +4,15 @@ ghost use Rattle.std.specs.List.{Contains, filter};
 ghost use Rattle.std.specs.Option.{option_map, option_map_or};
 ghost use Rattle.netlist.specs.Netlist.{Definition as Equation, cells, is_cell, signals, definition_of};
 ghost use Rattle.netlist.specs.Placed.{IsOrder};
+ghost use Rattle.netlist.specs.Readers.{readers_of};
+ghost use Rattle.netlist.specs.Sorting.{AreReaders};
 ghost use Rattle.netlist.specs.Conditions.{IsWellFormed, IsSound, IsCause, whole};
 
 use crate::equations::{Definition, NoMemory, Parts};
 use crate::kinds::Kind;
+use crate::lines::Line;
 use crate::order::{first_left, sort};
+use crate::readings::ReaderTable;
 use crate::signals::SignalId;
 use std::alloc::{AllocError, Global};
 use std::marker::Model;
@@ -35,6 +39,7 @@ pub enum NetRefusal {
 pub struct Netlist {
     parts: Parts,
     flip_flops: Vec<SignalId>,
+    table: ReaderTable,
 }
 
 impl Model for Netlist {
@@ -46,7 +51,7 @@ impl Model for Netlist {
 
     ghost view = { λ n. whole n.parts };
 
-    ghost invariant = { λ n. IsKept (whole n.parts) n.flip_flops.items };
+    ghost invariant = { λ n. IsKept (whole n.parts) n.flip_flops.items n.table };
 }
 
 /// The cells, by their signals.
@@ -63,12 +68,26 @@ fn flip_flops(alloc: Global, parts: &Parts) -> Result<Vec<SignalId>, AllocError>
 }
 
 /// The netlist of parts that are sound.
-fn finish(alloc: Global, parts: Parts) -> Result<Netlist, AllocError>
-    requires { IsSound (whole parts) }
+fn finish(alloc: Global, parts: Parts, table: ReaderTable) -> Result<Netlist, AllocError>
+    requires sound { IsSound (whole parts) }
+    requires readers { AreReaders (whole parts) table }
     ensures { IfOk result (λ n. n ≡ whole parts) }
 {
     let flip_flops = flip_flops(alloc, &parts)?;
-    Ok(Netlist { parts, flip_flops })
+    Ok(Netlist {
+        parts,
+        flip_flops,
+        table,
+    })
+}
+
+/// The netlist of a copy of parts that are sound.
+fn copy_of(alloc: Global, parts: &Parts) -> Result<Netlist, AllocError>
+    requires { IsSound (whole parts.now) }
+    ensures { IfOk result (λ n. n ≡ whole parts.now) }
+{
+    let table = ReaderTable::of_parts(alloc, parts)?;
+    finish(alloc, parts.copy(alloc)?, table)
 }
 
 impl Netlist {
@@ -91,12 +110,15 @@ impl Netlist {
         if signals < parts.names.len() {
             return Err(NetRefusal::Undefined(SignalId(signals as u32)));
         }
-        let Ok(sorting) = sort(alloc, &parts) else {
+        let Ok(table) = ReaderTable::of_parts(alloc, &parts) else {
+            return Err(NetRefusal::NoMemory);
+        };
+        let Ok(sorting) = sort(alloc, &parts, &table) else {
             return Err(NetRefusal::NoMemory);
         };
         match first_left(&sorting.ranks) {
             Some(z) => Err(NetRefusal::Loop(SignalId(z))),
-            None => finish(alloc, parts).map_err(|_| NetRefusal::NoMemory),
+            None => finish(alloc, parts, table).map_err(|_| NetRefusal::NoMemory),
         }
     }
 
@@ -104,15 +126,14 @@ impl Netlist {
     pub fn copy(&self, alloc: Global) -> Result<Netlist, NoMemory>
         ensures { IfOk result (λ n. n ≡ self.now) }
     {
-        let parts = self.parts.copy(alloc).map_err(|_| NoMemory)?;
-        finish(alloc, parts).map_err(|_| NoMemory)
+        copy_of(alloc, &self.parts).map_err(|_| NoMemory)
     }
 
     /// The gates, each after the gates that it reads.
     pub(crate) fn order(&self, alloc: Global) -> Result<Vec<SignalId>, AllocError>
         ensures { IfOk result (λ v. IsOrder self.now v.items) }
     {
-        Ok(sort(alloc, &self.parts)?.order)
+        Ok(sort(alloc, &self.parts, &self.table)?.order)
     }
 
     /// What every netlist is.
@@ -187,5 +208,13 @@ impl Netlist {
         }
         self.sound();
         self.definition(id).pins()
+    }
+
+    /// The lines that read a signal: pins of gates and cells in the order of definition and place, then its output.
+    pub fn readers(&self, id: SignalId) -> &[Line]
+        requires { id < length (signals self.now) }
+        ensures { result.now ≡ readers_of self.now id }
+    {
+        self.table.readers(id)
     }
 }

@@ -23,6 +23,14 @@ returns-then-signals-len c =
     let u = undefined_at n (c.len-inputs.result + c.len-2.result) (omega arith) (first_undefined n c.requires (omega arith)) (none_before n c.requires) in
     (sized, u.0, u.1)
 
+pub of_parts-requires-clause-closed : goal.of_parts-requires-clause-closed
+of_parts-requires-clause-closed c =
+    let n = whole c.args.parts in
+    let size = signals_length n in
+    let i = c.args.parts.inputs.ok.0 in
+    let d = c.args.parts.definitions.ok.0 in
+    closed_of n c.requires (omega arith)
+
 pub sort-requires-clause-closed : goal.sort-requires-clause-closed
 sort-requires-clause-closed c =
     let n = whole c.args.parts in
@@ -31,11 +39,11 @@ sort-requires-clause-closed c =
     let d = c.args.parts.definitions.ok.0 in
     closed_of n c.requires (omega arith)
 
-pub finish-requires : goal.finish-requires
-finish-requires c =
+pub finish-requires-clause-sound : goal.finish-requires-clause-sound
+finish-requires-clause-sound c =
     let n = whole c.args.parts in
     let size = signals_length n in
-    let sorted = c.in-Ok.ensures in
+    let sorted = c.in-Ok-sort.ensures in
     let i = c.args.parts.inputs.ok.0 in
     let d = c.args.parts.definitions.ok.0 in
     let o = c.args.parts.outputs.ok.0 in
@@ -44,7 +52,7 @@ finish-requires c =
       formed = c.requires;
       sized = record { small = omega arith; input = omega arith; output = omega arith };
       closed = closed_of n c.requires (omega arith);
-      acyclic = acyclic n c.requires.numbered c.in-Ok.sorting.order.items c.in-Ok.sorting.ranks.items sorted.placed
+      acyclic = acyclic n c.requires.numbered c.in-Ok-sort.sorting.order.items c.in-Ok-sort.sorting.ranks.items sorted.placed
           (subst (λ (r : List ℕ). HasRanks r (length r)) c.deref.ensures.value c.in-None.ensures);
     }
 
@@ -56,9 +64,9 @@ returns-in-Some c =
     let d = c.args.parts.definitions.ok.0 in
     let o = c.args.parts.outputs.ok.0 in
     let some = eqb-false (vec_len c.args.parts.outputs) 0 (sym c.is_empty.ensures ∙ c.if-is_empty.false) in
-    let sorted = c.in-Ok.ensures in
-    let order = c.in-Ok.sorting.order.items in
-    let ranks = c.in-Ok.sorting.ranks.items in
+    let sorted = c.in-Ok-sort.ensures in
+    let order = c.in-Ok-sort.sorting.order.items in
+    let ranks = c.in-Ok-sort.sorting.ranks.items in
     let few : length n.names ≤ length (signals n) = omega arith in
     let w : (c.in-Some.z < length ranks) × (slice_index ranks c.in-Some.z ≡ 0) × HasRanks ranks c.in-Some.z =
     subst (λ (r : List ℕ). (c.in-Some.z < length r) × (slice_index r c.in-Some.z ≡ 0) × HasRanks r c.in-Some.z) c.deref.ensures.value c.in-Some.ensures in (
