@@ -3,6 +3,7 @@ pub mod Gates
 pub mod Names
 pub mod Settled
 pub mod Conditions
+pub mod Designs
 pub mod Kept
 pub mod Placed
 pub mod Readers
