@@ -1,0 +1,8 @@
+use Rattle.std.proofs.Common.{ap₂, ◌∙◌}
+use Rattle.clap.specs.Words.{with_subcommand}
+use Rattle.words.specs.Table.{command_table}
+use Rattle.words.proofs.commands.table.Goals as goal
+
+pub returns : goal.returns
+unfolding command_table
+returns c = c.in_ok-table.ensures ∙ ap₂ with_subcommand c.program.ensures c.in_ok-scan.ensures.shape

@@ -1,0 +1,46 @@
+-- The table of commands, in the terms of `clap`: what a parse reads of a command.
+use Rattle.std.specs.Prelude.{ℕ, true, false, List, [], ◌∷◌, Some, codes}
+use Rattle.clap.specs.Words.{App, Rule, Shape, Text, new_rule}
+use Rattle.clap.specs.Simple.{new_shape}
+use Rattle.clap.specs.declared.builder.value_parser.ValueParser.TheVariants.{Unsigned}
+
+-- a value that must be there, known by its place
+abbrev pub required : Text → Rule
+required id = record (new_rule id) { required = true }
+
+-- `--name number` or `--name=number`, from low to high. `clap` takes a plus and zeros in front
+-- of a number, so what its rule takes is read once more, by `number_in`
+abbrev pub number_option : Text → ℕ → ℕ → Rule
+number_option name low high = record (new_rule name) {
+  long = Some name;
+  parser = Some (Unsigned low high);
+}
+
+-- a command, by its name and its arguments
+abbrev pub command : Text → List Rule → Shape
+command name rules = record (new_shape name) { rules = rules }
+
+abbrev pub most_chains : ℕ
+most_chains = 256
+
+-- scan NET OUT [--chains C]
+abbrev pub scan_command : Shape
+scan_command = command (codes "scan")
+    (required (codes "NET") ∷ required (codes "OUT") ∷ number_option (codes "chains") 1 most_chains ∷ [])
+
+-- the program, before its commands: it has a version and needs a command, and `help` is none
+abbrev pub program : App
+program = record {
+  top = record (new_shape (codes "atpg")) {
+    disable_help_subcommand = true;
+    has_version = true;
+    subcommand_required = true;
+  };
+  subs = [];
+}
+
+unfoldable pub command_table : App
+command_table = record {
+  top = record program.top { is_leaf = false };
+  subs = scan_command ∷ [];
+}
