@@ -1,1 +1,2 @@
 pub mod FileMapLemmas
+pub mod StreamLemmas

@@ -4,4 +4,5 @@ pub mod Memory
 pub mod Plan
 pub mod Shelf
 pub mod Sink
+pub mod Stream
 pub mod Told

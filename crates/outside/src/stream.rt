@@ -1,5 +1,10 @@
 //! Whole reads and writes over a reader and a writer, which take and give a part at a time.
-ghost use Rattle.outside.specs.Shelf.{IsWithin};
+ghost use Rattle.std.specs.Prelude.{◌≢◌, Err, Some};
+ghost use Rattle.std.specs.Bool.{OnTrue};
+ghost use Rattle.std.specs.Io.KnownBytes.{Appends};
+ghost use Rattle.outside.specs.Shelf.{IsWithin, Tells};
+ghost use Rattle.outside.specs.Stream.{AppendsPart};
+ghost use Rattle.outside.specs.Told.{OnTold};
 
 use crate::ReadRefusal;
 use std::alloc::Global;
@@ -15,7 +20,9 @@ pub(crate) fn read_up_to<F: Read>(
     reader: &mut F,
     max: u64,
 ) -> Result<Vec<u8>, ReadRefusal>
-    ensures { IsWithin max result }
+    ensures told { OnTold (F.remaining reader.old) (λ left. Tells (Some left) max result) }
+    ensures within { IsWithin max result }
+    ensures found { result ≢ Err ReadRefusal.Missing }
 {
     let mut bytes = Vec::new(alloc);
     let mut piece = [0u8; PIECE];
@@ -36,11 +43,14 @@ pub(crate) fn read_up_to<F: Read>(
 }
 
 /// Whether a writer took all these bytes. One that takes nothing of what is left has failed.
-pub(crate) fn write_whole<F: Write>(writer: &mut F, bytes: &[u8]) -> bool {
-    let mut rest = bytes;
-    while !rest.is_empty() {
-        match writer.write(rest) {
-            Ok(count) if count > 0 => rest = &rest[count..],
+pub(crate) fn write_whole<F: Write>(writer: &mut F, bytes: &[u8]) -> bool
+    ensures whole { OnTrue result (Appends (F.contents writer.old) (F.contents writer.new) bytes.now) }
+    ensures part { AppendsPart (F.contents writer.old) (F.contents writer.new) bytes.now }
+{
+    let mut taken = 0;
+    while taken < bytes.len() {
+        match writer.write(&bytes[taken..]) {
+            Ok(count) if count > 0 => taken += count,
             _ => return false,
         }
     }
