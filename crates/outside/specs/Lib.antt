@@ -1,6 +1,7 @@
 pub mod Causes
 pub mod FileMap
 pub mod Memory
+pub mod Out
 pub mod Plan
 pub mod Shelf
 pub mod Sink

@@ -6,8 +6,8 @@ abbrev pub OnTold : {X : Type 0} → Option X → (X → Type 0) → Type 0
 OnTold None P = ⊤
 OnTold (Some x) P = P x
 
--- at the contents before and after, where they are told: what tells its content doesn't cease to, and what doesn't tell doesn't begin
+-- at the contents before and after, where they are told before: what tells its content doesn't cease to
 abbrev pub Both : {X : Type 0} → Option X → Option X → (X → X → Type 0) → Type 0
-Both None None P = ⊤
+Both None new P = ⊤
+Both (Some old) None P = ⊥
 Both (Some old) (Some new) P = P old new
-Both _ _ P = ⊥

@@ -1,5 +1,5 @@
 //! A writer of the system, as the standard output.
-ghost use Rattle.std.specs.Prelude.{◌≡◌, None};
+ghost use Rattle.std.specs.Prelude.{◌≡◌};
 
 use crate::stream::write_whole;
 use crate::{Sink, WriteRefusal};
@@ -8,7 +8,8 @@ use std::marker::Model;
 
 /// A writer of the system, as the standard output or the standard error.
 ///
-/// Nothing is told of the bytes that it has taken, since no contract can say what a system keeps.
+/// It tells the bytes that its writer tells. The standard output and error tell none, since no
+/// contract can say what a system keeps.
 #[derive(Drop)]
 pub struct OutSink<W: Write> {
     writer: W,
@@ -16,33 +17,35 @@ pub struct OutSink<W: Write> {
 }
 
 impl<W: Write> Model for OutSink<W> {
-    ghost use Rattle.std.specs.Prelude.{ℕ};
+    ghost use Rattle.outside.specs.Out.{OutState, out_code};
 
-    ghost Value = { ℕ };
+    ghost Value = { OutState };
 
-    ghost view = { λ a. a.faults };
+    ghost coded = { out_code };
+
+    ghost view = { λ a. record { taken = W.contents a.writer; faults = a.faults } };
 }
 
 impl<W: Write> OutSink<W> {
     /// A sink that has not failed yet.
     pub fn new(writer: W) -> OutSink<W>
-        ensures { result ≡ 0 }
+        ensures { result ≡ record { taken = W.contents writer; faults = 0 } }
     {
         OutSink { writer, faults: 0 }
     }
 
     /// How many times taking bytes has failed.
     pub fn faults(&self) -> u64
-        ensures { result ≡ self.now }
+        ensures { result ≡ self.now.faults }
     {
         self.faults
     }
 }
 
 impl<W: Write> Sink for OutSink<W> {
-    ghost taken = { λ _. None };
+    ghost taken = { λ sink. sink.taken };
 
-    ghost faults = { λ sink. sink };
+    ghost faults = { λ sink. sink.faults };
 
     fn put(&mut self, bytes: &[u8]) -> Result<(), WriteRefusal> {
         if write_whole(&mut self.writer, bytes) {
