@@ -1,6 +1,6 @@
 -- What a shelf and a sink in memory are seen as, and that they fail at the calls of their plan.
 use Rattle.std.specs.Prelude.{◌≡◌, ◌++◌, ℕ, List, Option, Some, None, Result, Ok, Err, take, fold, refl}
-use Rattle.std.specs.Coded.{Coded, code_by, coded×, coded_ℕ, coded_list}
+use Rattle.std.specs.Coded.{Coded, code_by, coded×, coded_ℕ}
 use Rattle.std.specs.FinMap as map
 use denote.Ref.{Bor}
 use Rattle.outside.specs.FileMap.{FileMap, file_map_code}
@@ -9,6 +9,7 @@ use Rattle.outside.specs.declared.failing.FailingCall.{FailingCall}
 use Rattle.outside.specs.declared.refusal.WriteRefusal.{WriteRefusal}
 use Rattle.outside.specs.declared.refusal.WriteRefusal.TheVariants as write
 
+-- the files, the calls that are to fail, and how many have failed
 pub record ShelfInMemory : Type 0 where
   pub files : FileMap
   pub plan : Plan
@@ -18,14 +19,11 @@ abbrev pub shelf_code : Coded ShelfInMemory
 shelf_code =
     code_by (FileMap × (Plan × ℕ)) (coded× file_map_code (coded× plan_code coded_ℕ)) (λ s. (s.files, (s.plan, s.faults))) (λ p. record { files = p.0; plan = p.1.0; faults = p.1.1 }) (λ _. refl)
 
+-- the bytes taken, the calls that are to fail, and how many have failed
 pub record SinkInMemory : Type 0 where
   pub bytes : List ℕ
   pub plan : Plan
   pub faults : ℕ
-
-abbrev pub sink_code : Coded SinkInMemory
-sink_code =
-    code_by (List ℕ × (Plan × ℕ)) (coded× (coded_list coded_ℕ) (coded× plan_code coded_ℕ)) (λ s. (s.bytes, (s.plan, s.faults))) (λ p. record { bytes = p.0; plan = p.1.0; faults = p.1.1 }) (λ _. refl)
 
 -- the files of these names and bytes, put one after another: of two with one name the last stays
 abbrev pub files_of : List (Bor (List ℕ) × Bor (List ℕ)) → FileMap

@@ -8,6 +8,7 @@ pub record Plan : Type 0 where
   pub failing : List FailingCall
   pub made : ℕ
 
+-- by which a proof tells two of them apart
 abbrev pub failing_call_code : Coded FailingCall
 failing_call_code =
     code_by (ℕ × ℕ) (coded× coded_ℕ coded_ℕ) (λ f. (f.number, f.kept)) (λ p. record { number = p.0; kept = p.1 }) (λ _. refl)

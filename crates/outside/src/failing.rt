@@ -21,11 +21,9 @@ pub(crate) struct FailingCalls {
 }
 
 impl Model for FailingCalls {
-    ghost use Rattle.outside.specs.Plan.{Plan, plan_code};
+    ghost use Rattle.outside.specs.Plan.{Plan};
 
     ghost Value = { Plan };
-
-    ghost coded = { plan_code };
 
     ghost view = { λ a. record { failing = a.failing.items; made = a.made } };
 }

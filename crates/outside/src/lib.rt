@@ -28,6 +28,8 @@ mod sink;
 mod stored;
 mod stream;
 mod sure;
+#[cfg(test)]
+mod tests;
 
 pub use failing::FailingCall;
 pub use folder::FolderShelf;

@@ -19,11 +19,9 @@ pub struct MemorySink {
 }
 
 impl Model for MemorySink {
-    ghost use Rattle.outside.specs.Memory.{SinkInMemory, sink_code};
+    ghost use Rattle.outside.specs.Memory.{SinkInMemory};
 
     ghost Value = { SinkInMemory };
-
-    ghost coded = { sink_code };
 
     ghost view = { λ a. record { bytes = a.bytes.items; plan = a.calls; faults = a.faults } };
 }

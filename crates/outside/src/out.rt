@@ -17,11 +17,9 @@ pub struct OutSink<W: Write> {
 }
 
 impl<W: Write> Model for OutSink<W> {
-    ghost use Rattle.outside.specs.Out.{OutState, out_code};
+    ghost use Rattle.outside.specs.Out.{OutState};
 
     ghost Value = { OutState };
-
-    ghost coded = { out_code };
 
     ghost view = { λ a. record { taken = W.contents a.writer; faults = a.faults } };
 }
