@@ -7,13 +7,11 @@ use crate::{
     FailingCall, FolderShelf, Gate, MemoryShelf, MemorySink, OpenGate, OutSink, ReadRefusal, Shelf,
     Sink, Stage, SureShelf, SureSink, WriteRefusal,
 };
-use std::fs;
-use std::io;
 use std::io::{ErrorKind, Read, Write};
 use std::sync::atomic::{AtomicU64, Ordering};
 use std::sync::{Barrier, Wait};
 use std::test::Fail;
-use std::thread;
+use std::{fs, io, thread};
 
 const FILES: [(&str, &[u8]); 2] = [("full", b"12345"), ("empty", b"")];
 
@@ -46,15 +44,22 @@ fn is_read(read: &Result<Vec<u8>, ReadRefusal>, want: Result<&[u8], ReadRefusal>
     }
 }
 
+fn is_file(file: Option<&[u8]>, want: &[u8]) -> bool {
+    match file {
+        Some(bytes) => bytes == want,
+        None => false,
+    }
+}
+
 #[test]
 fn a_write_replaces_a_file_or_makes_one(rt: HostRuntime) -> Result<(), Fail> {
     let alloc = rt.alloc();
     let mut shelf = SureShelf::new(alloc, FILES.as_slice())?;
     assert_eq!(rt; shelf.write(alloc, "empty", b"now full"), Ok(()));
     assert_eq!(rt; shelf.write(alloc, "third", b"3"), Ok(()));
-    assert_eq!(rt; shelf.file("full"), Some(b"12345".as_slice()));
-    assert_eq!(rt; shelf.file("empty"), Some(b"now full".as_slice()));
-    assert_eq!(rt; shelf.file("third"), Some(b"3".as_slice()));
+    assert!(rt; is_file(shelf.file("full"), b"12345"));
+    assert!(rt; is_file(shelf.file("empty"), b"now full"));
+    assert!(rt; is_file(shelf.file("third"), b"3"));
     assert_eq!(rt; shelf.len(), 3);
     Ok(())
 }
@@ -69,13 +74,19 @@ fn calls_fail_by_number_and_leave_a_prefix(rt: HostRuntime) -> Result<(), Fail> 
     ];
     let mut shelf = MemoryShelf::new(alloc, FILES.as_slice(), failing.as_slice())?;
     assert_eq!(rt; shelf.write(alloc, "full", b"first"), Ok(()));
-    assert_eq!(rt; shelf.write(alloc, "full", b"second"), Err(WriteRefusal::Failed));
-    assert_eq!(rt; shelf.file("full"), Some(b"sec".as_slice()));
-    assert_eq!(rt; shelf.write(alloc, "new", b"third"), Err(WriteRefusal::Failed));
-    assert_eq!(rt; shelf.file("new"), Some(b"third".as_slice()));
+    assert_eq!(rt;
+        shelf.write(alloc, "full", b"second"),
+        Err(WriteRefusal::Failed)
+    );
+    assert!(rt; is_file(shelf.file("full"), b"sec"));
+    assert_eq!(rt;
+        shelf.write(alloc, "new", b"third"),
+        Err(WriteRefusal::Failed)
+    );
+    assert!(rt; is_file(shelf.file("new"), b"third"));
     assert!(rt; is_read(&shelf.read(alloc, "full", 9), Err(ReadRefusal::Failed)));
     assert!(rt; is_read(&shelf.read(alloc, "full", 9), Ok(b"sec".as_slice())));
-    assert_eq!(rt; shelf.file("empty"), Some(b"".as_slice()));
+    assert!(rt; is_file(shelf.file("empty"), b""));
     assert_eq!(rt; shelf.len(), 3);
     assert_eq!(rt; shelf.calls(), 5);
     assert_eq!(rt; shelf.faults(), 3);
@@ -117,7 +128,10 @@ fn real_files(rt: HostRuntime) -> Result<(), Fail> {
 
     // A folder can't be read, and a file can't be made in a folder that isn't there.
     assert!(rt; is_read(&shelf.read(alloc, ".", 5), Err(ReadRefusal::Failed)));
-    assert_eq!(rt; shelf.write(alloc, "outside_none/file", b"1"), Err(WriteRefusal::Failed));
+    assert_eq!(rt;
+        shelf.write(alloc, "outside_none/file", b"1"),
+        Err(WriteRefusal::Failed)
+    );
     assert_eq!(rt; shelf.faults(), 2);
     Ok(())
 }

@@ -8,5 +8,5 @@ loop-taken-preserved g c =
     let left : take (length c.args.bytes.now - c.loop-taken.taken) (drop c.loop-taken.taken c.args.bytes.now) ≡ drop c.loop-taken.taken c.args.bytes.now = grind (arith, common_steps) in
     record {
       within = grind (arith, common_steps);
-      appended = appends_next _ (g.F.Write.contents c.loop-taken.writer) _ c.args.bytes.now c.loop-taken.taken c.in-Ok.count c.loop-taken.invariant.appended (rw (← left) c.in-Ok.ensures.bytes)
+      appended = appends_next _ (g.F.Write.contents c.loop-taken.writer) _ c.args.bytes.now c.loop-taken.taken c.in-Ok.count c.loop-taken.invariant.appended (rw (← left) c.in-Ok.ensures.bytes);
     }
