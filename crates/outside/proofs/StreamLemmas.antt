@@ -1,5 +1,5 @@
 -- What several writes make of the bytes that a writer holds, where those are known.
-use Rattle.std.proofs.Common.{◌≡◌, ℕ, ◌+◌, List, ◌++◌, Option, Some, None, ap, ◌∙◌, append_assoc, take, drop, take-add}
+use Rattle.std.proofs.Common.{ℕ, ◌+◌, List, ◌++◌, Option, Some, None, ap, ◌∙◌, append_assoc, take, drop, take-add}
 use Rattle.std.specs.Io.KnownBytes.{Appends}
 
 -- a writer that took some bytes and then more holds them all, one after another

@@ -6,12 +6,12 @@
 //! - [`Gate`]: where a worker passes between its steps. A test holds workers there.
 //!
 //! Each shelf and sink has a count of faults. It rises where a read or a write fails and nowhere
-//! else, so that a program can't make up a failure: what answers `Failed` shows a count that rose.
+//! else, so that no caller can make up a failure: what answers `Failed` shows a count that rose.
 //! Some tell their content too, and then a contract names the bytes.
 //!
 //! | | files | bytes | content |
 //! |---|---|---|---|
-//! | the real outside | [`FolderShelf`] | [`OutSink`] | not told |
+//! | the real outside | [`FolderShelf`] | [`OutSink`] | files: not told; bytes: what the writer tells |
 //! | in memory, fails at given calls | [`MemoryShelf`] | [`MemorySink`] | told |
 //! | in memory, never fails | [`SureShelf`] | [`SureSink`] | told |
 #![tactic(auto)]

@@ -58,10 +58,10 @@ impl MemoryShelf {
     }
 
     /// How many files there are.
-    pub fn len(&self) -> usize
+    pub fn file_count(&self) -> usize
         ensures { result ≡ map.len self.now.files }
     {
-        self.files.len()
+        self.files.file_count()
     }
 
     /// How many reads and writes have been asked for.

@@ -50,7 +50,7 @@ impl StoredFiles {
         Ok(stored)
     }
 
-    pub(crate) fn len(&self) -> usize
+    pub(crate) fn file_count(&self) -> usize
         ensures { result ≡ map.len self.now }
     {
         self.files.len()

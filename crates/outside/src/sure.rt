@@ -45,10 +45,10 @@ impl SureShelf {
     }
 
     /// How many files there are.
-    pub fn len(&self) -> usize
+    pub fn file_count(&self) -> usize
         ensures { result ≡ map.len self.now }
     {
-        self.files.len()
+        self.files.file_count()
     }
 }
 

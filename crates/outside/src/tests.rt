@@ -60,7 +60,7 @@ fn a_write_replaces_a_file_or_makes_one(rt: HostRuntime) -> Result<(), Fail> {
     assert!(rt; is_file(shelf.file("full"), b"12345"));
     assert!(rt; is_file(shelf.file("empty"), b"now full"));
     assert!(rt; is_file(shelf.file("third"), b"3"));
-    assert_eq!(rt; shelf.len(), 3);
+    assert_eq!(rt; shelf.file_count(), 3);
     Ok(())
 }
 
@@ -87,7 +87,7 @@ fn calls_fail_by_number_and_leave_a_prefix(rt: HostRuntime) -> Result<(), Fail> 
     assert!(rt; is_read(&shelf.read(alloc, "full", 9), Err(ReadRefusal::Failed)));
     assert!(rt; is_read(&shelf.read(alloc, "full", 9), Ok(b"sec".as_slice())));
     assert!(rt; is_file(shelf.file("empty"), b""));
-    assert_eq!(rt; shelf.len(), 3);
+    assert_eq!(rt; shelf.file_count(), 3);
     assert_eq!(rt; shelf.calls(), 5);
     assert_eq!(rt; shelf.faults(), 3);
     Ok(())
