@@ -1,5 +1,7 @@
 //! The files of the folder in which the program runs.
-ghost use Rattle.std.specs.Prelude.{◌≡◌, None};
+ghost use Rattle.std.specs.Prelude.{◌≡◌, ◌≢◌, None, Err};
+ghost use Rattle.outside.specs.Causes.{HasWriteCause};
+ghost use Rattle.outside.specs.Shelf.{Writes};
 
 use crate::stream::{read_up_to, write_whole};
 use crate::{ReadRefusal, Shelf, WriteRefusal};
@@ -59,7 +61,13 @@ impl<R: Files> Shelf for FolderShelf<'_, R> {
         answer
     }
 
-    fn write(&mut self, _alloc: Global, name: &str, bytes: &[u8]) -> Result<(), WriteRefusal> {
+    fn write(&mut self, _alloc: Global, name: &str, bytes: &[u8]) -> Result<(), WriteRefusal>
+        ensures told { Writes None None name.now bytes.now result }
+        ensures cause { HasWriteCause self.old self.new result }
+
+        // It takes no memory.
+        ensures unrefused { result ≢ Err WriteRefusal.NoMemory }
+    {
         let done = match fs::create(self.rt, name) {
             Ok(mut file) => write_whole(&mut file, bytes),
             Err(_) => false,

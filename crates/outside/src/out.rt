@@ -1,5 +1,7 @@
 //! A writer of the system, as the standard output.
-ghost use Rattle.std.specs.Prelude.{◌≡◌};
+ghost use Rattle.std.specs.Prelude.{◌≡◌, ◌≢◌, Err};
+ghost use Rattle.outside.specs.Causes.{HasWriteCause};
+ghost use Rattle.outside.specs.Sink.{Puts};
 
 use crate::stream::write_whole;
 use crate::{Sink, WriteRefusal};
@@ -45,7 +47,13 @@ impl<W: Write> Sink for OutSink<W> {
 
     ghost faults = { λ sink. sink.faults };
 
-    fn put(&mut self, bytes: &[u8]) -> Result<(), WriteRefusal> {
+    fn put(&mut self, bytes: &[u8]) -> Result<(), WriteRefusal>
+        ensures told { Puts self.old.taken self.new.taken bytes.now result }
+        ensures cause { HasWriteCause self.old.faults self.new.faults result }
+
+        // It takes no memory.
+        ensures unrefused { result ≢ Err WriteRefusal.NoMemory }
+    {
         if write_whole(&mut self.writer, bytes) {
             return Ok(());
         }
