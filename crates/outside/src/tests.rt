@@ -112,6 +112,33 @@ fn a_sink_gains_what_it_takes(rt: HostRuntime) -> Result<(), Fail> {
     Ok(())
 }
 
+// This passes too where any one allocation fails: rt try --test --fail-alloc 1, 2 and so on.
+#[test]
+fn want_of_memory_changes_nothing(rt: HostRuntime) -> Result<(), Fail> {
+    let alloc = rt.alloc();
+    let Ok(mut shelf) = MemoryShelf::new(alloc, FILES.as_slice(), &[]) else {
+        return Ok(());
+    };
+    let mut held = b"12345".as_slice();
+    match shelf.write(alloc, "full", b"other") {
+        Ok(()) => held = b"other".as_slice(),
+        Err(refusal) => assert_eq!(rt; refusal, WriteRefusal::NoMemory),
+    }
+    assert!(rt; is_file(shelf.file("full"), held));
+    let read = shelf.read(alloc, "full", 5);
+    assert!(rt; is_read(&read, Ok(held)) || is_read(&read, Err(ReadRefusal::NoMemory)));
+
+    let mut sink = SureSink::new(alloc);
+    match sink.put(b"one") {
+        Ok(()) => assert_eq!(rt; sink.bytes(), b"one".as_slice()),
+        Err(refusal) => {
+            assert_eq!(rt; refusal, WriteRefusal::NoMemory);
+            assert_eq!(rt; sink.bytes(), b"".as_slice());
+        }
+    }
+    Ok(())
+}
+
 #[test]
 fn real_files(rt: HostRuntime) -> Result<(), Fail> {
     let alloc = rt.alloc();
