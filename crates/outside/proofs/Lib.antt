@@ -1,0 +1,3 @@
+pub mod FileMapLemmas
+pub mod StreamLemmas
+pub mod ReadLemmas
