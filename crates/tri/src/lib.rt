@@ -3,6 +3,8 @@
 
 mod gates;
 mod laws;
+#[cfg(test)]
+mod tests;
 
 pub use gates::gate;
 pub use laws::{closed_tells_nothing, labels_above_patterns, redundant_changes_nothing, three_values_above_bits};
