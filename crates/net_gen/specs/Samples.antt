@@ -61,7 +61,7 @@ after_gates (suc count) words = after_gates count (after_gate words)
 abbrev pub drawn_cells : ℕ → ℕ → ℕ → ℕ → Stream → List Definition
 drawn_cells zero id first gates words = []
 drawn_cells (suc count) id first gates words =
-    record { id = id; kind = Dff; pins = first + word words % gates ∷ [] } ∷ drawn_cells count (id + 1) first gates (rest words)
+    record { id = id; kind = Dff; pins = (first + word words % gates) ∷ [] } ∷ drawn_cells count (id + 1) first gates (rest words)
 
 -- a letter before each number below the count
 abbrev pub names_of : ℕ → ℕ → List (List ℕ)

@@ -81,7 +81,7 @@ fn draw_cell<R: Rng>(
 ) -> Result<Definition, AllocError>
     requires some { 0 < gates }
     requires fits { first + gates < 2 ^ 32 }
-    ensures cell { IfOk result (λ cell. cell ≡ record { id = id; kind = Kind.Dff; pins = first + word (R.stream rng.old) % gates ∷ [] }) }
+    ensures cell { IfOk result (λ cell. cell ≡ record { id = id; kind = Kind.Dff; pins = (first + word (R.stream rng.old) % gates) ∷ [] }) }
     ensures left { OnOk result (R.stream rng.new ≡ rest (R.stream rng.old)) }
 {
     let mut pins = SmallVec::new(alloc);

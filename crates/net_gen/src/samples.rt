@@ -57,8 +57,11 @@ pub fn generate(alloc: Global, seed: u64, gates: u32) -> Result<Netlist, NoMemor
     };
     match Netlist::new(alloc, parts) {
         Ok(netlist) => Ok(netlist),
-        Err(NetRefusal::NoMemory) => Err(NoMemory),
-        Err(_) => unreachable!(),
+        // A sample is never refused for what it is.
+        Err(refusal) => match refusal {
+            NetRefusal::NoMemory => Err(NoMemory),
+            _ => unreachable!(),
+        },
     }
 }
 
