@@ -4,5 +4,7 @@
 mod draws;
 mod names;
 mod samples;
+#[cfg(test)]
+mod tests;
 
 pub use samples::{generate, samples_are_sound};
