@@ -1,0 +1,5 @@
+use Rattle.cubes.specs.Merging.{AreMerged}
+use Rattle.cubes.proofs.merging.merge.Given as goal
+
+abbrev pub invariant-loop-cube : goal.invariant-loop-cube
+invariant-loop-cube l = AreMerged l.cubes l.results.items l.cube-index

@@ -1,0 +1,39 @@
+-- Patterns, and cubes: patterns some of whose bits are left open. (Bushnell and Agrawal, Essentials of Electronic Testing.)
+use Rattle.std.specs.Prelude.{ℕ, ◌≡◌, Bool, not, List, [], ◌++◌, length, slice_index_or}
+use Rattle.netlist.specs.declared.kinds.Tri.{Tri}
+use Rattle.netlist.specs.declared.kinds.Tri.TheVariants.{X}
+use Rattle.tri.specs.Tri.{known, AreAllowed}
+
+-- a bit for each input and for each cell
+pub record Pattern : Type 0 where
+  pub inputs : List Bool
+  pub cells : List Bool
+
+-- the same in three values: an X is a bit that is left open
+pub record Cube : Type 0 where
+  pub inputs : List Tri
+  pub cells : List Tri
+
+-- the places of a cube: inputs, then cells
+abbrev pub row : Cube → List Tri
+row c = c.inputs ++ c.cells
+
+-- it has this bit at place k
+abbrev pub HasBit : Cube → ℕ → Bool → Type 0
+HasBit c k b = slice_index_or (row c) k X ≡ known b
+
+-- somewhere one has a bit where the other has the other bit
+abbrev pub Contradicts : Cube → Cube → Type 0
+Contradicts c d = (k : ℕ) × (b : Bool) × HasBit c k b × HasBit d k (not b)
+
+abbrev pub HasBitsOf : Cube → Cube → Type 0
+HasBitsOf r c = (k : ℕ) (b : Bool) → HasBit c k b → HasBit r k b
+
+pub record HaveSameWidths (c d : Cube) : Type 0 where
+  pub inputs : length c.inputs ≡ length d.inputs
+  pub cells : length c.cells ≡ length d.cells
+
+-- the pattern has the bits of the cube
+pub record AgreesWith (p : Pattern) (c : Cube) : Type 0 where
+  pub inputs : AreAllowed c.inputs p.inputs
+  pub cells : AreAllowed c.cells p.cells

@@ -1,0 +1,3 @@
+pub mod Cubes
+pub mod Merging
+pub mod Filling

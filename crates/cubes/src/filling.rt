@@ -1,0 +1,44 @@
+//! Cubes filled to patterns.
+ghost use Rattle.std.specs.Prelude.{◌≡◌, ◌+◌, ◌≤◌, ◌++◌, length, IfOk, OnOk, OnErr, vec_len, vec_capacity};
+ghost use Rattle.cubes.specs.Cubes.{AgreesWith};
+ghost use Rattle.cubes.specs.Filling.{filled, words_after};
+
+use crate::patterns::{Cube, Pattern};
+use netlist::{NoMemory, Tri};
+use rand_core::Rng;
+use std::alloc::{AllocError, Global};
+
+/// Adds a bit for each value, within the room that is there.
+fn fill_values<R: Rng>(values: &[Tri], rng: &mut R, bits: &mut Vec<bool>)
+    requires { vec_len bits.old + length values.now ≤ vec_capacity bits.old }
+    ensures bits { bits.new.items ≡ bits.old.items ++ filled values.now (R.stream rng.old) }
+    ensures left { R.stream rng.new ≡ words_after values.now (R.stream rng.old) }
+{
+    for value in values {
+        let bit = match value {
+            Tri::Zero => false,
+            Tri::One => true,
+            Tri::X => rng.next_u32() % 2 == 1,
+        };
+        let _ = bits.push(bit);
+    }
+}
+
+/// A pattern with the bits of the cube, where each X, inputs first, takes the lowest bit of one word.
+pub fn fill<R: Rng>(alloc: Global, cube: &Cube, rng: &mut R) -> Result<Pattern, NoMemory>
+    ensures inputs { IfOk result (λ p. p.inputs ≡ filled cube.now.inputs (R.stream rng.old)) }
+    ensures cells { IfOk result (λ p. p.cells ≡ filled cube.now.cells (words_after cube.now.inputs (R.stream rng.old))) }
+    ensures left { OnOk result (R.stream rng.new ≡ words_after cube.now.cells (words_after cube.now.inputs (R.stream rng.old))) }
+    ensures agrees { IfOk result (λ p. AgreesWith p cube.now) }
+    ensures refused { OnErr result (R.stream rng.new ≡ R.stream rng.old) }
+{
+    let Ok(mut inputs) = Vec::with_capacity(alloc, cube.inputs().len()) else {
+        return Err(NoMemory);
+    };
+    let Ok(mut cells) = Vec::with_capacity(alloc, cube.cells().len()) else {
+        return Err(NoMemory);
+    };
+    fill_values(cube.inputs(), rng, &mut inputs);
+    fill_values(cube.cells(), rng, &mut cells);
+    Ok(Pattern::new(inputs, cells))
+}

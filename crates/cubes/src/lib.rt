@@ -1,0 +1,12 @@
+//! Test patterns, and cubes: patterns some of whose bits are left open, which are merged into fewer and then filled.
+#![tactic(auto)]
+
+mod filling;
+mod merging;
+mod patterns;
+#[cfg(test)]
+mod tests;
+
+pub use filling::fill;
+pub use merging::merge;
+pub use patterns::{Cube, Pattern};

@@ -1,0 +1,71 @@
+//! Sample netlists.
+ghost use Rattle.std.specs.Prelude.{◌≡◌, ◌+◌, ◌^◌, ◌<◌, ◌≤◌, IfOk};
+ghost use Rattle.std.specs.List.{range_with_len};
+ghost use Rattle.netlist.specs.Conditions.{whole};
+ghost use Rattle.net_gen.specs.Samples.{sample, words_of};
+ghost use Rattle.net_gen.specs.Laws.{SamplesAreSound};
+
+use crate::draws::{draw_cells, draw_gates};
+use crate::names::all_names;
+use netlist::{NetRefusal, Netlist, NoMemory, Parts, SignalId};
+use rand_core::Rng;
+use rand_pcg::Lcg64Xsh32;
+use std::alloc::{AllocError, Global};
+
+const INPUTS: u32 = 8;
+const OUTPUTS: u32 = 8;
+
+/// So many ids, from this one on.
+fn ids(alloc: Global, first: u32, count: u32) -> Result<Vec<SignalId>, AllocError>
+    requires { first + count < 2 ^ 32 }
+    ensures { IfOk result (λ ids. ids.items ≡ range_with_len first count) }
+{
+    let mut ids = Vec::with_capacity(alloc, count as usize)?;
+    for k in 0..count {
+        ids.push(SignalId(first + k))?;
+    }
+    Ok(ids)
+}
+
+/// The parts of a sample netlist.
+fn draw_parts<R: Rng>(alloc: Global, gates: u32, rng: &mut R) -> Result<Parts, AllocError>
+    requires least { 16 ≤ gates }
+    requires most { gates ≤ 20000 }
+    ensures { IfOk result (λ parts. whole parts ≡ sample gates (R.stream rng.old)) }
+{
+    let cells = gates / 8;
+    let first_gate = INPUTS + cells;
+    let mut drawn = draw_gates(alloc, first_gate, gates, rng)?;
+    let mut definitions = draw_cells(alloc, cells, INPUTS, first_gate, gates, rng)?;
+    definitions.append(&mut drawn)?;
+    Ok(Parts {
+        names: all_names(alloc, cells, gates)?,
+        inputs: ids(alloc, 0, INPUTS)?,
+        outputs: ids(alloc, first_gate + gates - OUTPUTS, OUTPUTS)?,
+        definitions,
+    })
+}
+
+/// The sample netlist of a seed, with so many gates and an eighth as many cells.
+pub fn generate(alloc: Global, seed: u64, gates: u32) -> Result<Netlist, NoMemory>
+    requires least { 16 ≤ gates }
+    requires most { gates ≤ 20000 }
+    ensures { IfOk result (λ netlist. netlist ≡ sample gates (words_of seed)) }
+{
+    let Ok(parts) = draw_parts(alloc, gates, &mut Lcg64Xsh32::new(seed, 54)) else {
+        return Err(NoMemory);
+    };
+    match Netlist::new(alloc, parts) {
+        Ok(netlist) => Ok(netlist),
+        // A sample is never refused for what it is.
+        Err(refusal) => match refusal {
+            NetRefusal::NoMemory => Err(NoMemory),
+            _ => unreachable!(),
+        },
+    }
+}
+
+/// Every sample netlist meets all that is asked of a netlist.
+pub fn samples_are_sound()
+    ensures { SamplesAreSound }
+{}

@@ -1,0 +1,5 @@
+pub mod Choices
+pub mod AboveBits
+pub mod AboveLemmas
+pub mod LabelLemmas
+pub mod ToldLemmas
