@@ -1,0 +1,13 @@
+pub mod Runs
+pub mod Lists
+pub mod SightLemmas
+pub mod RoleLemmas
+pub mod FaultLemmas
+pub mod DraftLemmas
+pub mod SeenLemmas
+pub mod TokenLemmas
+pub mod FormLemmas
+pub mod LineLemmas
+pub mod TextLemmas
+pub mod NameLemmas
+pub mod CanonicalLemmas

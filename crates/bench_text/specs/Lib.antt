@@ -1,0 +1,17 @@
+pub mod Bytes
+pub mod Tokens
+pub mod Shown
+pub mod Gates
+pub mod Forms
+pub mod Stated
+pub mod Refusals
+pub mod LineRead
+pub mod Texts
+pub mod Whole
+pub mod Canonical
+pub mod Laws
+pub mod Netlists
+pub mod Said
+pub mod Sights
+pub mod Numbered
+pub mod Drafted

@@ -1,0 +1,12 @@
+//! Netlists as .bench text.
+#![tactic(auto)]
+
+mod draft;
+mod kind;
+mod line;
+mod numbered;
+mod refusal;
+mod sights;
+mod statement;
+mod token;
+mod writing;
