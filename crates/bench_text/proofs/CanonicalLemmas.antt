@@ -2,13 +2,14 @@
 use Rattle.std.proofs.Common.{◌≡◌, ◌<◌, ℕ, Bool, true, false, not, List, [], ◌∷◌, ◌++◌, length, take, refl, sym, ap, ◌∙◌, append_assoc, arith, take_all, lit<, ⊎_elim}
 use Rattle.std.specs.Prelude.{Some, option_map, ◌&&◌, ◌==◌, codes}
 use Rattle.std.specs.List.{prefix_len, list_all, AllByRecursion}
-use Rattle.bench_text.specs.declared.kind.Kind.{Kind}
-use Rattle.bench_text.specs.declared.kind.Kind.TheVariants.{And, Nand, Or, Nor, Xor, Xnor, Not, Buff, Dff}
+use Rattle.netlist.specs.declared.kinds.Kind.{Kind}
+use Rattle.netlist.specs.declared.kinds.Kind.TheVariants.{And, Nand, Or, Nor, Xor, Xnor, Not, Buff, Dff}
 use Rattle.bench_text.specs.Bytes.{code, is_allowed}
 use Rattle.bench_text.specs.Tokens.{Word, Open, Close, Comma, Equals, is_word_byte, begins_in_word, tokens}
-use Rattle.bench_text.specs.Gates.{kind_of}
+use Rattle.bench_text.specs.Keywords.{kind_of}
 use Rattle.bench_text.specs.Forms.{Statement, Input, Output, Definition, closed_name, pins, more_pins, definition, statement}
-use Rattle.bench_text.specs.Canonical.{word, further, pin_list, port_line, definition_line}
+use Rattle.bench_text.specs.Keywords.{word}
+use Rattle.bench_text.specs.Canonical.{further, pin_list, port_line, definition_line}
 use Rattle.bench_text.specs.Laws.{is_plain, IsName, Says, CanonicalLinesAreRead, ended, EndedLinesAreRead}
 use Rattle.bench_text.specs.Bytes.{lines}
 use Rattle.std.specs.List.{onto_first}

@@ -8,7 +8,7 @@ use Rattle.std.proofs.lemmas.Option.{slice_get-map, slice_get-get_or, slice_get_
 use Rattle.std.proofs.lemmas.Bool.{false≢true}
 use Rattle.std.proofs.lemmas.Bool.Decides.{nat_tests}
 use Rattle.smallvec.specs.SmallVec.{SmallVec}
-use Rattle.bench_text.specs.declared.kind.Kind.{Kind}
+use Rattle.netlist.specs.declared.kinds.Kind.{Kind}
 use Rattle.bench_text.specs.declared.numbered.Role.{Role}
 use Rattle.bench_text.specs.declared.numbered.Role.TheVariants as role
 use Rattle.bench_text.specs.declared.numbered.Numbered.{Numbered}

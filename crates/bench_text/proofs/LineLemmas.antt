@@ -9,12 +9,12 @@ use Rattle.bench_text.specs.declared.refusal.Names.{Names}
 use Rattle.bench_text.specs.declared.refusal.BenchKind.TheVariants.{BadByte, BadLine, BadPins}
 use Rattle.bench_text.specs.Bytes.{code, is_allowed}
 use Rattle.bench_text.specs.Tokens.{tokens}
-use Rattle.bench_text.specs.Gates.{allows}
+use Rattle.netlist.specs.Gates.{allows_pins}
 use Rattle.bench_text.specs.Forms.{Statement, Nothing, Input, Output, Definition, statement}
 use Rattle.bench_text.specs.Refusals.{takes, is_reserved, names_of, fits, if_fits, says, own_fault, gate_fault}
 use Rattle.bench_text.specs.declared.statement.Statement.{Statement as Borrowed}
 use Rattle.bench_text.specs.declared.statement.Statement.TheVariants as borrowed
-use Rattle.bench_text.specs.declared.kind.Kind.{Kind}
+use Rattle.netlist.specs.declared.kinds.Kind.{Kind}
 use Rattle.bench_text.specs.Stated.{names, stated}
 use Rattle.bench_text.proofs.Lists.{list_any-names, list_all-names}
 use Rattle.bench_text.proofs.Runs.{either, prefix_len-le}
@@ -70,7 +70,7 @@ module _ (reading : Names) (line : List ℕ) where
   own_fault-gate (Input x) h e = rw (h, e) refl
   own_fault-gate (Output x) h e = rw (h, e) refl
   own_fault-gate (Definition z None pins) h e = rw (h, e) refl
-  own_fault-gate (Definition z (Some kind) pins) h e = rw (h, e) (other_way (allows kind (length pins)))
+  own_fault-gate (Definition z (Some kind) pins) h e = rw (h, e) (other_way (allows_pins kind (length pins)))
 
 -- what the test of the bytes and the reader of forms said, in the line's words
 pub allowed : (line bytes : List ℕ) (r b : Bool) → bytes ≡ code line → r ≡ list_all is_allowed bytes → r ≡ b → list_all is_allowed (code line) ≡ b

@@ -16,7 +16,7 @@ use Rattle.bench_text.specs.declared.numbered.Numbered.TheVariants.{Input, Outpu
 use Rattle.bench_text.specs.declared.numbered.Entry.{Entry}
 use Rattle.bench_text.specs.Stated.{names}
 use Rattle.bench_text.specs.Forms as forms
-use Rattle.bench_text.specs.declared.kind.Kind.{Kind}
+use Rattle.netlist.specs.declared.kinds.Kind.{Kind}
 use Rattle.smallvec.specs.SmallVec.{SmallVec}
 use Rattle.bench_text.specs.Sights.{AreDistinct, name_at, with_name, IsNumber}
 use Rattle.bench_text.specs.Numbered.{spelled, spelled_entry, numbers, are_below, with_role, IsDraft}

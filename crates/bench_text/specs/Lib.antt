@@ -1,7 +1,7 @@
 pub mod Bytes
 pub mod Tokens
 pub mod Shown
-pub mod Gates
+pub mod Keywords
 pub mod Forms
 pub mod Stated
 pub mod Refusals

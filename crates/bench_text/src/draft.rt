@@ -336,4 +336,4 @@ impl<'a> Draft<'a> {
 ghost use Rattle.std.specs.Prelude.{nat_lt};
 ghost use Rattle.bench_text.specs.declared.numbered.Numbered.TheVariants.{Input, Output, Definition};
 
-use crate::kind::Kind;
+use netlist::Kind;

@@ -2,7 +2,7 @@
 #![tactic(auto)]
 
 mod draft;
-mod kind;
+mod keywords;
 mod line;
 mod numbered;
 mod refusal;

@@ -1,6 +1,6 @@
 //! Statements with numbers in place of names.
 
-use crate::kind::Kind;
+use netlist::Kind;
 use smallvec::SmallVec;
 
 /// What is known of a name: it was only read so far, or it is that of an input or of a definition, with its place among them.

@@ -5,7 +5,8 @@ ghost use Rattle.bench_text.specs.Tokens.{tokens};
 ghost use Rattle.bench_text.specs.Forms.{closed_name, port, pins, more_pins, definition, statement};
 ghost use Rattle.bench_text.specs.Stated.{names, stated};
 
-use crate::kind::{Kind, is_keyword, kind_of};
+use crate::keywords::{is_keyword, kind_of};
+use netlist::Kind;
 use crate::token::{Mark, closes, is_done, mark_at, word_at};
 use smallvec::SmallVec;
 use std::alloc::{AllocError, Global};
