@@ -15,7 +15,8 @@ use Rattle.bench_text.specs.declared.numbered.Numbered.{Numbered}
 use Rattle.bench_text.specs.declared.numbered.Numbered.TheVariants.{Input, Output, Definition}
 use Rattle.bench_text.specs.declared.numbered.Entry.{Entry}
 use Rattle.bench_text.specs.Said.{Said, statements_of}
-use Rattle.bench_text.specs.Texts.{input, defined, inputs_of, definitions_of, signals_of}
+use Rattle.bench_text.specs.Texts.{input, output, defined, inputs_of, definitions_of, signals_of}
+use Rattle.bench_text.specs.Whole.{outputs_of}
 use Rattle.bench_text.specs.Sights.{AreDistinct, name_at, with_name, IsNumber}
 use Rattle.bench_text.specs.Numbered.{spelled, spelled_entry, input_number, definition_number, output_number, input_numbers, definition_numbers, output_numbers, numbers, are_below, with_number, IsDraft}
 use Rattle.bench_text.proofs.Lists.{both_true, list_any-append, list_any-map, all_append, flat_map-push, got_push, get_front, none-any, some-any, some_same, same_name, name_same, or_right, or_left, false_if}
@@ -45,6 +46,15 @@ inputs-spelled names (e ∷ es) = (λ i. input-spelled names e.statement i ++ in
 pub definitions-spelled : (names : List (List ℕ)) (es : List Entry) → definitions_of (statements_of (map (spelled_entry names) es)) ≡ map (name_at names) (definition_numbers es)
 definitions-spelled names [] = refl
 definitions-spelled names (e ∷ es) = (λ i. defined-spelled names e.statement i ++ definitions-spelled names es i) ∙ sym (map-append (name_at names) (definition_number e.statement) (definition_numbers es))
+
+output-spelled : (names : List (List ℕ)) (s : Numbered) → output (spelled names s) ≡ map (name_at names) (output_number s)
+output-spelled names (Input n) = refl
+output-spelled names (Output n) = refl
+output-spelled names (Definition n kind pins) = refl
+
+pub outputs-spelled : (names : List (List ℕ)) (es : List Entry) → outputs_of (statements_of (map (spelled_entry names) es)) ≡ map (name_at names) (output_numbers es)
+outputs-spelled names [] = refl
+outputs-spelled names (e ∷ es) = (λ i. output-spelled names e.statement i ++ outputs-spelled names es i) ∙ sym (map-append (name_at names) (output_number e.statement) (output_numbers es))
 
 module _ (names : List (List ℕ)) (roles : List Role) (es : List Entry) (ins defs outs : List ℕ) (d : IsDraft names roles es ins defs outs) where
   pub signals-spelled : signals_of (statements_of (map (spelled_entry names) es)) ≡ map (name_at names) ins ++ map (name_at names) defs

@@ -1,5 +1,6 @@
 pub mod Runs
 pub mod Lists
+pub mod Walks
 pub mod SightLemmas
 pub mod RoleLemmas
 pub mod FaultLemmas
@@ -11,3 +12,5 @@ pub mod LineLemmas
 pub mod TextLemmas
 pub mod NameLemmas
 pub mod CanonicalLemmas
+pub mod LinesReadLemmas
+pub mod WholeLemmas

@@ -2,7 +2,7 @@
 use denote.Ref.{Bor}
 use Rattle.std.proofs.Common.{◌≡◌, ◌≢◌, ◌<◌, ◌≤◌, ◌+◌, ◌⊎◌, inl, inr, ℕ, zero, suc, Bool, true, false, List, [], ◌∷◌, ◌++◌, length, set, refl, sym, ap, ◌∙◌, map, append_assoc, append-nil, arith, length-append}
 use Rattle.std.specs.Prelude.{Option, Some, None, slice_get, nat_eq, ◌&&◌, ◌||◌, ◌==◌}
-use Rattle.std.specs.List.{list_any, list_all, flat_map}
+use Rattle.std.specs.List.{list_any, list_all, flat_map, position_or_len}
 use Rattle.std.specs.Str.{bytes_eq}
 use Rattle.std.proofs.lemmas.Bool.Decides.{nat_tests}
 use Rattle.std.proofs.lemmas.Slice.Eq.{bytes_eq-Decides}
@@ -54,6 +54,13 @@ module _ {A : Type 0} where
   pub all_append : (p : A → Bool) (xs ys : List A) → list_all p xs ≡ true → list_all p ys ≡ true → list_all p (xs ++ ys) ≡ true
   all_append p [] ys h k = k
   all_append p (x ∷ xs) ys h k = let q = both_true (p x) (list_all p xs) h in rw (q.0, all_append p xs ys q.1 k) refl
+
+  pub all_split : (p : A → Bool) (xs ys : List A) → list_all p (xs ++ ys) ≡ true → (list_all p xs ≡ true) × (list_all p ys ≡ true)
+  all_split p [] ys h = (refl, h)
+  all_split p (x ∷ xs) ys h =
+      let q = both_true (p x) (list_all p (xs ++ ys)) h in
+      let r = all_split p xs ys q.1 in
+      (rw (q.0, r.0) refl, r.1)
 
   pub flat_map-push : {B : Type 0} (f : A → List B) (xs : List A) (x : A) → flat_map f (xs ++ x ∷ []) ≡ flat_map f xs ++ f x
   flat_map-push f [] x = append-nil (f x)
@@ -116,3 +123,56 @@ some-any p (x ∷ xs) (suc k) y e h = or_right (p x) (list_any p xs) (some-any p
 pub list_any-map : {A B : Type 0} (p : B → Bool) (f : A → B) (xs : List A) → list_any p (map f xs) ≡ list_any (λ x. p (f x)) xs
 list_any-map p f [] = refl
 list_any-map p f (x ∷ xs) = ap (λ b. p (f x) || b) (list_any-map p f xs)
+
+pub list_all-map : {A B : Type 0} (p : B → Bool) (f : A → B) (xs : List A) → list_all p (map f xs) ≡ list_all (λ x. p (f x)) xs
+list_all-map p f [] = refl
+list_all-map p f (x ∷ xs) = ap (λ b. p (f x) && b) (list_all-map p f xs)
+
+module _ {A : Type 0} where
+  -- a place in two lists, one behind the other
+  pub got_append : (xs ys : List A) (j : ℕ) (y : A) → slice_get (xs ++ ys) j ≡ Some y → (slice_get xs j ≡ Some y) ⊎ ((i : ℕ) × (j ≡ length xs + i) × (slice_get ys i ≡ Some y))
+  got_append [] ys j y h = inr (j, refl, h)
+  got_append (x ∷ xs) ys zero y h = inl h
+  got_append (x ∷ xs) ys (suc j) y h = by (got_append xs ys j y h)
+    where
+      by : (slice_get xs j ≡ Some y) ⊎ ((i : ℕ) × (j ≡ length xs + i) × (slice_get ys i ≡ Some y)) → (slice_get xs j ≡ Some y) ⊎ ((i : ℕ) × (suc j ≡ suc (length xs) + i) × (slice_get ys i ≡ Some y))
+      by (inl e) = inl e
+      by (inr p) = let s : suc j ≡ suc (length xs) + p.0 = omega (arith, p.1) in inr (p.0, s, p.2)
+
+  pub get_back : (xs ys : List A) (i : ℕ) (y : A) → slice_get ys i ≡ Some y → slice_get (xs ++ ys) (length xs + i) ≡ Some y
+  get_back [] ys i y h = h
+  get_back (x ∷ xs) ys i y h = let s : suc (length xs) + i ≡ suc (length xs + i) = omega arith in rw s (get_back xs ys i y h)
+
+  -- an element of a mapped list is that of one of the list
+  pub got_map : {B : Type 0} (f : A → B) (xs : List A) (j : ℕ) (z : B) → slice_get (map f xs) j ≡ Some z → (m : A) × (slice_get xs j ≡ Some m) × (f m ≡ z)
+  got_map f [] j z h = cc
+  got_map f (x ∷ xs) zero z h = let s : f x ≡ z = cc in (x, refl, s)
+  got_map f (x ∷ xs) (suc j) z h = got_map f xs j z h
+
+  pub get_map : {B : Type 0} (f : A → B) (xs : List A) (j : ℕ) (m : A) → slice_get xs j ≡ Some m → slice_get (map f xs) j ≡ Some (f m)
+  get_map f [] j m h = cc
+  get_map f (x ∷ xs) zero m h = let s : x ≡ m = cc in ap (λ y. Some (f y)) s
+  get_map f (x ∷ xs) (suc j) m h = get_map f xs j m h
+
+  -- the first place, where there is only one
+  pub only_place : (p : A → Bool) (xs : List A) (k : ℕ) (y : A) → slice_get xs k ≡ Some y → p y ≡ true → ((j : ℕ) (z : A) → slice_get xs j ≡ Some z → p z ≡ true → j ≡ k) → position_or_len p xs ≡ k
+  only_place p [] k y e h u = cc
+  only_place p (x ∷ xs) zero y e h u = let s : x ≡ y = cc in let t : p x ≡ true = ap p s ∙ h in rw t refl
+  only_place p (x ∷ xs) (suc k) y e h u =
+      let f : p x ≡ false = false_if (p x) (λ (t : p x ≡ true). let z : 0 ≡ suc k = u 0 x refl t in cc) in
+      let n = only_place p xs k y e h (λ (j : ℕ) (z : A) (g : slice_get xs j ≡ Some z) (t : p z ≡ true). let s : suc j ≡ suc k = u (suc j) z g t in omega arith) in
+      rw f (omega (arith, n))
+
+  pub all-got : (p : A → Bool) (xs : List A) → ((k : ℕ) (y : A) → slice_get xs k ≡ Some y → p y ≡ true) → list_all p xs ≡ true
+  all-got p [] h = refl
+  all-got p (x ∷ xs) h = rw (h 0 x refl, all-got p xs (λ k y e. h (suc k) y e)) refl
+
+  pub all-flat_map : {B : Type 0} (p : B → Bool) (f : A → List B) (xs : List A) → list_all p (flat_map f xs) ≡ true → list_all (λ x. list_all p (f x)) xs ≡ true
+  all-flat_map p f [] h = refl
+  all-flat_map p f (x ∷ xs) h = let q = all_split p (f x) (flat_map f xs) h in rw (q.0, all-flat_map p f xs q.1) refl
+
+  pub flat_map-all : {B : Type 0} (p : B → Bool) (f : A → List B) (xs : List A) → list_all (λ x. list_all p (f x)) xs ≡ true → list_all p (flat_map f xs) ≡ true
+  flat_map-all p f [] h = refl
+  flat_map-all p f (x ∷ xs) h =
+      let q = both_true (list_all p (f x)) (list_all (λ y. list_all p (f y)) xs) h in
+      all_append p (f x) (flat_map f xs) q.0 (flat_map-all p f xs q.1)

@@ -7,11 +7,13 @@ pub mod Stated
 pub mod Refusals
 pub mod LineRead
 pub mod Texts
-pub mod Whole
-pub mod Canonical
-pub mod Laws
-pub mod Netlists
 pub mod Said
 pub mod Sights
 pub mod Numbered
 pub mod Drafted
+pub mod Whole
+pub mod LinesRead
+pub mod Netlists
+pub mod Reading
+pub mod Canonical
+pub mod Laws

@@ -62,6 +62,13 @@ impl<'a> Draft<'a> {
         }
     }
 
+    /// How many lines were read.
+    pub fn lines(&self) -> u32
+        ensures { result ≡ self.now.lines }
+    {
+        self.lines
+    }
+
     /// The number of a name.
     fn number(self, name: &'a [u8]) -> Result<(Draft<'a>, usize), AllocError>
         ensures keeps { IfOk result (λ p. Keeps self.entry p.0) }
@@ -156,7 +163,7 @@ impl<'a> Draft<'a> {
     }
 
     /// Whether a line defines the name of this number.
-    fn defines(&self, number: usize) -> bool
+    pub fn defines(&self, number: usize) -> bool
         requires { number < length (seen self.now) }
         ensures { result ≡ list_any (bytes_eq (name_at (seen self.now) number)) (signals_in self.now) }
     {

@@ -4,9 +4,12 @@
 mod draft;
 mod keywords;
 mod line;
+mod lines;
 mod numbered;
+mod parts;
 mod refusal;
 mod sights;
 mod statement;
 mod token;
+mod whole;
 mod writing;
