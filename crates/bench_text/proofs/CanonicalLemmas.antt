@@ -9,8 +9,8 @@ use Rattle.bench_text.specs.Tokens.{Word, Open, Close, Comma, Equals, is_word_by
 use Rattle.bench_text.specs.Keywords.{kind_of}
 use Rattle.bench_text.specs.Forms.{Statement, Input, Output, Definition, closed_name, pins, more_pins, definition, statement}
 use Rattle.bench_text.specs.Keywords.{word}
-use Rattle.bench_text.specs.Canonical.{further, pin_list, port_line, definition_line}
-use Rattle.bench_text.specs.Laws.{is_plain, IsName, Says, CanonicalLinesAreRead, ended, EndedLinesAreRead}
+use Rattle.bench_text.specs.Canonical.{further, pin_list, port_line, definition_line, ended}
+use Rattle.bench_text.proofs.Plain.{is_plain, IsRun, Says}
 use Rattle.bench_text.specs.Bytes.{lines}
 use Rattle.std.specs.List.{onto_first}
 use Rattle.std.proofs.lemmas.Bool.{false≢true}
@@ -59,7 +59,7 @@ no_word : (xs : List (List ℕ)) → begins_in_word (further xs ++ codes ")") �
 no_word [] = refl
 no_word (x ∷ xs) = refl
 
-more_pins-again : (xs : List (List ℕ)) → AllByRecursion IsName xs → more_pins (tokens (further xs ++ codes ")")) ≡ Some xs
+more_pins-again : (xs : List (List ℕ)) → AllByRecursion IsRun xs → more_pins (tokens (further xs ++ codes ")")) ≡ Some xs
 unfolding more_pins
 more_pins-again [] h = ap more_pins tokens-last
 more_pins-again (x ∷ xs) h =
@@ -68,7 +68,7 @@ more_pins-again (x ∷ xs) h =
     ∙ ap more_pins (tokens-comma _ ∙ ap (λ ts. Comma ∷ ts) (tokens-blank _ ∙ tokens-front x (further xs ++ codes ")") h.0.word h.0.some (no_word xs)))
     ∙ ap (option_map (λ ys. x ∷ ys)) (more_pins-again xs h.1)
 
-pins-again : (xs : List (List ℕ)) → AllByRecursion IsName xs → pins (tokens (pin_list xs ++ codes ")")) ≡ Some xs
+pins-again : (xs : List (List ℕ)) → AllByRecursion IsRun xs → pins (tokens (pin_list xs ++ codes ")")) ≡ Some xs
 unfolding pins
 pins-again [] h = ap pins tokens-last
 pins-again (x ∷ xs) h =
@@ -88,7 +88,7 @@ kind-again Not = refl
 kind-again Buff = refl
 kind-again Dff = refl
 
-gate-name : (kind : Kind) → IsName (word kind)
+pub gate-name : (kind : Kind) → IsRun (word kind)
 gate-name And = record { some = lit< tt; word = refl; plain = refl }
 gate-name Nand = record { some = lit< tt; word = refl; plain = refl }
 gate-name Or = record { some = lit< tt; word = refl; plain = refl }
@@ -102,7 +102,7 @@ gate-name Dff = record { some = lit< tt; word = refl; plain = refl }
 regroup : (a b c d e f : List ℕ) → ((((a ++ b) ++ c) ++ d) ++ e) ++ f ≡ a ++ (b ++ (c ++ (d ++ (e ++ f))))
 regroup a b c d e f = simp append_assoc
 
-pub definition-again : (z : List ℕ) (kind : Kind) (xs : List (List ℕ)) → IsName z → AllByRecursion IsName xs → statement (tokens (definition_line z kind xs)) ≡ Some (Definition z (Some kind) xs)
+pub definition-again : (z : List ℕ) (kind : Kind) (xs : List (List ℕ)) → IsRun z → AllByRecursion IsRun xs → statement (tokens (definition_line z kind xs)) ≡ Some (Definition z (Some kind) xs)
 unfolding definition_line definition statement
 definition-again z kind xs h k =
     let k' = gate-name kind in
@@ -111,7 +111,7 @@ definition-again z kind xs h k =
     ∙ ap (λ g. option_map (λ ys. Definition z g ys) (pins (tokens (pin_list xs ++ codes ")")))) (kind-again kind)
     ∙ ap (option_map (λ ys. Definition z (Some kind) ys)) (pins-again xs k)
 
-module _ (keyword x : List ℕ) (k : IsName keyword) (h : IsName x) where
+module _ (keyword x : List ℕ) (k : IsRun keyword) (h : IsRun x) where
   port-tokens : tokens (port_line keyword x) ≡ Word keyword ∷ Open ∷ Word x ∷ Close ∷ []
   unfolding port_line
   port-tokens =
@@ -119,11 +119,11 @@ module _ (keyword x : List ℕ) (k : IsName keyword) (h : IsName x) where
       ap tokens right ∙ tokens-front keyword _ k.word k.some refl
       ∙ ap (λ ts. Word keyword ∷ ts) (tokens-open _ ∙ ap (λ ts. Open ∷ ts) (tokens-front x (codes ")") h.word h.some refl ∙ ap (λ ts. Word x ∷ ts) tokens-last))
 
-input-again : (x : List ℕ) → IsName x → statement (tokens (port_line (codes "INPUT") x)) ≡ Some (Input x)
+input-again : (x : List ℕ) → IsRun x → statement (tokens (port_line (codes "INPUT") x)) ≡ Some (Input x)
 unfolding statement closed_name
 input-again x h = ap statement (port-tokens (codes "INPUT") x (record { some = lit< tt; word = refl; plain = refl }) h)
 
-output-again : (x : List ℕ) → IsName x → statement (tokens (port_line (codes "OUTPUT") x)) ≡ Some (Output x)
+output-again : (x : List ℕ) → IsRun x → statement (tokens (port_line (codes "OUTPUT") x)) ≡ Some (Output x)
 unfolding statement closed_name
 output-again x h = ap statement (port-tokens (codes "OUTPUT") x (record { some = lit< tt; word = refl; plain = refl }) h)
 
@@ -144,18 +144,18 @@ plain-length (x ∷ a) h =
     let n = plain-length a p.1 in
     rw q (omega (arith, n))
 
-plain-code : (a : List ℕ) → list_all is_plain a ≡ true → code a ≡ a
+pub plain-code : (a : List ℕ) → list_all is_plain a ≡ true → code a ≡ a
 plain-code a h = ap (λ n. take n a) (plain-length a h) ∙ take_all (length a) a (omega arith)
 
-plain-further : (xs : List (List ℕ)) → AllByRecursion IsName xs → list_all is_plain (further xs) ≡ true
+plain-further : (xs : List (List ℕ)) → AllByRecursion IsRun xs → list_all is_plain (further xs) ≡ true
 plain-further [] h = refl
 plain-further (x ∷ xs) h = plain-append (codes ", " ++ x) (further xs) h.0.plain (plain-further xs h.1)
 
-plain-pins : (xs : List (List ℕ)) → AllByRecursion IsName xs → list_all is_plain (pin_list xs) ≡ true
+plain-pins : (xs : List (List ℕ)) → AllByRecursion IsRun xs → list_all is_plain (pin_list xs) ≡ true
 plain-pins [] h = refl
 plain-pins (x ∷ xs) h = plain-append x (further xs) h.0.plain (plain-further xs h.1)
 
-plain-definition : (z : List ℕ) (kind : Kind) (xs : List (List ℕ)) → IsName z → AllByRecursion IsName xs → list_all is_plain (definition_line z kind xs) ≡ true
+pub plain-definition : (z : List ℕ) (kind : Kind) (xs : List (List ℕ)) → IsRun z → AllByRecursion IsRun xs → list_all is_plain (definition_line z kind xs) ≡ true
 unfolding definition_line
 plain-definition z kind xs h k =
     plain-append ((((z ++ codes " = ") ++ word kind) ++ codes "(") ++ pin_list xs) (codes ")")
@@ -164,25 +164,27 @@ plain-definition z kind xs h k =
     (plain-pins xs k))
     refl
 
-plain-port : (keyword x : List ℕ) → IsName keyword → IsName x → list_all is_plain (port_line keyword x) ≡ true
+pub plain-port : (keyword x : List ℕ) → IsRun keyword → IsRun x → list_all is_plain (port_line keyword x) ≡ true
 unfolding port_line
 plain-port keyword x k h = plain-append ((keyword ++ codes "(") ++ x) (codes ")") (plain-append (keyword ++ codes "(") x (plain-append keyword (codes "(") k.plain refl) h.plain) refl
 
 says : (line : List ℕ) (s : Statement) → list_all is_plain line ≡ true → statement (tokens line) ≡ Some s → Says line s
 says line s h e = (ap (list_all is_allowed) (plain-code line h) ∙ plain-allowed line h, ap (λ l. statement (tokens l)) (plain-code line h) ∙ e)
 
-input-name : IsName (codes "INPUT")
+pub input-name : IsRun (codes "INPUT")
 input-name = record { some = lit< tt; word = refl; plain = refl }
 
-output-name : IsName (codes "OUTPUT")
+pub output-name : IsRun (codes "OUTPUT")
 output-name = record { some = lit< tt; word = refl; plain = refl }
 
-pub lines-again : CanonicalLinesAreRead
-lines-again = (
-  λ x h. says (port_line (codes "INPUT") x) (Input x) (plain-port (codes "INPUT") x input-name h) (input-again x h),
-  λ x h. says (port_line (codes "OUTPUT") x) (Output x) (plain-port (codes "OUTPUT") x output-name h) (output-again x h),
-  λ z kind pins h k. says (definition_line z kind pins) (Definition z (Some kind) pins) (plain-definition z kind pins h k) (definition-again z kind pins h k),
-)
+pub input-says : (x : List ℕ) → IsRun x → Says (port_line (codes "INPUT") x) (Input x)
+input-says x h = says (port_line (codes "INPUT") x) (Input x) (plain-port (codes "INPUT") x input-name h) (input-again x h)
+
+pub output-says : (x : List ℕ) → IsRun x → Says (port_line (codes "OUTPUT") x) (Output x)
+output-says x h = says (port_line (codes "OUTPUT") x) (Output x) (plain-port (codes "OUTPUT") x output-name h) (output-again x h)
+
+pub definition-says : (z : List ℕ) (kind : Kind) (pins : List (List ℕ)) → IsRun z → AllByRecursion IsRun pins → Says (definition_line z kind pins) (Definition z (Some kind) pins)
+definition-says z kind pins h k = says (definition_line z kind pins) (Definition z (Some kind) pins) (plain-definition z kind pins h k) (definition-again z kind pins h k)
 
 is_ten : (b : ℕ) → (b == 10) ≡ true → b ≡ 10
 is_ten b h = grind (arith, nat_tests)
@@ -199,6 +201,6 @@ lines-front (b ∷ l) rest h =
     let p = both_true (is_plain b) (list_all is_plain l) h in
     lines-more b (l ++ 10 ∷ rest) (plain-no_end b p.0) ∙ ap (onto_first b) (lines-front l rest p.1)
 
-pub ended-again : EndedLinesAreRead
+pub ended-again : (ls : List (List ℕ)) → AllByRecursion (λ l. list_all is_plain l ≡ true) ls → lines (ended ls) ≡ ls
 ended-again [] h = lines-none
 ended-again (l ∷ ls) h = ap lines (append_assoc l (10 ∷ []) (ended ls)) ∙ lines-front l (ended ls) h.0 ∙ ap (λ ms. l ∷ ms) (ended-again ls h.1)

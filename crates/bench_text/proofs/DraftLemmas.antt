@@ -63,7 +63,7 @@ module _ (names : List (List ℕ)) (roles : List Role) (es : List Entry) (ins de
       ∙ (λ i. map (name_at names) (sym d.inputs i) ++ map (name_at names) (sym d.definitions i))
 
   -- a number with a role is that of a name
-  seen_role : (n : ℕ) (r : Role) → slice_get roles n ≡ Some r → slice_get names n ≡ Some (name_at names n)
+  pub seen_role : (n : ℕ) (r : Role) → slice_get roles n ≡ Some r → slice_get names n ≡ Some (name_at names n)
   seen_role n r e = at_name names n (omega (arith, slice_get_within roles n r e, d.paired))
 
   differ : (n m : ℕ) (r s : Role) → slice_get roles n ≡ Some r → slice_get roles m ≡ Some s → n ≢ m → bytes_eq (name_at names n) (name_at names m) ≡ false

@@ -10,7 +10,9 @@ pub mod TokenLemmas
 pub mod FormLemmas
 pub mod LineLemmas
 pub mod TextLemmas
+pub mod Plain
 pub mod NameLemmas
 pub mod CanonicalLemmas
 pub mod LinesReadLemmas
 pub mod WholeLemmas
+pub mod PartLemmas

@@ -1,17 +1,18 @@
 -- A line on its own.
 use denote.Ref.{Bor}
-use Rattle.std.proofs.Common.{◌≡◌, ◌≤◌, ℕ, Bool, true, false, not, cond, List, [], ◌∷◌, length, take, refl, sym, ap, ◌∙◌, arith, ⊎_elim, take_all}
-use Rattle.std.specs.Prelude.{Option, Some, None, position, option_and_then, option_map, nat_lt, ◌==◌, ◌&&◌}
+use Rattle.std.proofs.Common.{◌≡◌, ◌≤◌, ℕ, suc, Bool, true, false, not, cond, List, [], ◌∷◌, length, take, refl, sym, ap, ◌∙◌, arith, ⊎_elim, take_all}
+use Rattle.std.specs.Prelude.{Option, Some, None, position, option_map, nat_lt, nat_le, ◌==◌, ◌&&◌, if◌then◌else◌}
 use Rattle.smallvec.specs.SmallVec.{SmallVec}
 use Rattle.std.proofs.lemmas.Bool.Decides.{nat_tests}
-use Rattle.std.specs.List.{list_all, list_any}
+use Rattle.std.specs.List.{list_all, list_any, AllByRecursion}
 use Rattle.bench_text.specs.declared.refusal.Names.{Names}
 use Rattle.bench_text.specs.declared.refusal.BenchKind.TheVariants.{BadByte, BadLine, BadPins}
-use Rattle.bench_text.specs.Bytes.{code, is_allowed}
-use Rattle.bench_text.specs.Tokens.{tokens}
+use Rattle.bench_text.specs.Bytes.{code, is_allowed, is_blank}
+use Rattle.bench_text.specs.Tokens.{Token, Word, Open, Close, Comma, Equals, mark, begins_in_word, add, tokens}
+use Rattle.bench_text.proofs.TokenLemmas.{not_word}
 use Rattle.netlist.specs.Gates.{allows_pins}
 use Rattle.bench_text.specs.Forms.{Statement, Nothing, Input, Output, Definition, statement}
-use Rattle.bench_text.specs.Refusals.{takes, is_reserved, names_of, fits, if_fits, says, own_fault, gate_fault}
+use Rattle.bench_text.specs.Refusals.{longest, is_short, is_reserved, names_of, says, own_fault, gate_fault}
 use Rattle.bench_text.specs.declared.statement.Statement.{Statement as Borrowed}
 use Rattle.bench_text.specs.declared.statement.Statement.TheVariants as borrowed
 use Rattle.netlist.specs.declared.kinds.Kind.{Kind}
@@ -44,17 +45,13 @@ other_way true = refl
 other_way false = refl
 
 module _ (reading : Names) (line : List ℕ) where
-  pub says-none : statement (tokens (code line)) ≡ None → says reading line ≡ None
+  pub says-long : list_all (is_short reading) (tokens (code line)) ≡ false → says reading line ≡ None
   unfolding says
-  says-none e = ap (option_and_then (if_fits reading)) e
+  says-long f = ap (λ (b : Bool). if b then statement (tokens (code line)) else None) f
 
-  pub says-long : (s : Statement) → statement (tokens (code line)) ≡ Some s → fits reading s ≡ false → says reading line ≡ None
+  pub says-it : list_all (is_short reading) (tokens (code line)) ≡ true → (o : Option Statement) → statement (tokens (code line)) ≡ o → says reading line ≡ o
   unfolding says
-  says-long s e f = ap (option_and_then (if_fits reading)) e ∙ ap (λ b. cond b (Some s) None) f
-
-  pub says-some : (s : Statement) → statement (tokens (code line)) ≡ Some s → fits reading s ≡ true → says reading line ≡ Some s
-  unfolding says
-  says-some s e f = ap (option_and_then (if_fits reading)) e ∙ ap (λ b. cond b (Some s) None) f
+  says-it t o e = ap (λ (b : Bool). if b then statement (tokens (code line)) else None) t ∙ e
 
   pub own_fault-byte : list_all is_allowed (code line) ≡ false → own_fault reading line ≡ Some BadByte
   unfolding own_fault
@@ -79,10 +76,64 @@ allowed line bytes r b e f g = ap (list_all is_allowed) (sym e) ∙ sym f ∙ g
 pub stands_for : (line bytes : List ℕ) (o p : Option Borrowed) → bytes ≡ code line → option_map stated o ≡ statement (tokens bytes) → o ≡ p → statement (tokens (code line)) ≡ option_map stated p
 stands_for line bytes o p e f g = ap (λ l. statement (tokens l)) (sym e) ∙ sym f ∙ ap (option_map stated) g
 
-pub fits-definition : (reading : Names) (said : Borrowed) (z : Bor (List ℕ)) (gate : Option Kind) (pins : SmallVec (Bor (List ℕ))) (items : List (Bor (List ℕ))) (r : Bool) →
-    said ≡ borrowed.Definition z gate pins → r ≡ list_all (λ x. takes reading x.now) items → items ≡ pins.items → takes reading z.now ≡ true → r ≡ fits reading (stated said)
-fits-definition reading said z gate pins items r i e d h =
-    rw i (rw h (e ∙ ap (list_all (λ (x : Bor (List ℕ)). takes reading x.now)) d ∙ list_all-names (takes reading) pins.items))
+le_true : (m n : ℕ) → m ≤ n → nat_le m n ≡ true
+le_true m n h = grind (arith, nat_tests)
+
+abbrev IsWithin : ℕ → Token → Type 0
+IsWithin n (Word w) = length w ≤ n
+IsWithin n Open = Unit {0}
+IsWithin n Close = Unit {0}
+IsWithin n Comma = Unit {0}
+IsWithin n Equals = Unit {0}
+
+wider : (n : ℕ) (ts : List Token) → AllByRecursion (IsWithin n) ts → AllByRecursion (IsWithin (suc n)) ts
+wider n [] h = tt
+wider n (Word w ∷ ts) h = (omega (arith, h.0), wider n ts h.1)
+wider n (Open ∷ ts) h = (tt, wider n ts h.1)
+wider n (Close ∷ ts) h = (tt, wider n ts h.1)
+wider n (Comma ∷ ts) h = (tt, wider n ts h.1)
+wider n (Equals ∷ ts) h = (tt, wider n ts h.1)
+
+-- what the test of the words said
+pub fits_or_not : (reading : Names) (line bytes : List ℕ) (r b : Bool) → bytes ≡ code line → r ≡ list_all (is_short reading) (tokens bytes) → r ≡ b → list_all (is_short reading) (tokens (code line)) ≡ b
+fits_or_not reading line bytes r b e f g = ap (λ l. list_all (is_short reading) (tokens l)) (sym e) ∙ sym f ∙ g
+
+-- a word is no longer than the bytes that it stands in
+longest_in : (b : ℕ) (o : Option Token) (goes_on : Bool) (ts : List Token) (n : ℕ) → AllByRecursion (IsWithin n) ts → mark b ≡ o → AllByRecursion (IsWithin (suc n)) (add b o goes_on ts)
+longest_in b (Some t) goes_on ts n h m = (marked t m, wider n ts h)
+  where
+    marked : (t : Token) → mark b ≡ Some t → IsWithin (suc n) t
+    marked (Word w) e = absurd (not_word (b == 40) (b == 41) (b == 44) (b == 61) w e)
+    marked Open e = tt
+    marked Close e = tt
+    marked Comma e = tt
+    marked Equals e = tt
+longest_in b None true [] n h m = tt
+longest_in b None true (Word w ∷ ts) n h m = (omega (arith, h.0), wider n ts h.1)
+longest_in b None true (Open ∷ ts) n h m = (tt, wider n ts h.1)
+longest_in b None true (Close ∷ ts) n h m = (tt, wider n ts h.1)
+longest_in b None true (Comma ∷ ts) n h m = (tt, wider n ts h.1)
+longest_in b None true (Equals ∷ ts) n h m = (tt, wider n ts h.1)
+longest_in b None false ts n h m = (omega arith, wider n ts h)
+
+words-within : (bs : List ℕ) → AllByRecursion (IsWithin (length bs)) (tokens bs)
+unfolding tokens
+words-within [] = tt
+words-within (b ∷ bs) = ⊎_elim
+    (λ (t : is_blank b ≡ true). rw t (wider (length bs) (tokens bs) (words-within bs)))
+    (λ (f : is_blank b ≡ false). rw f (longest_in b (mark b) (begins_in_word bs) (tokens bs) (length bs) (words-within bs) refl))
+    (either (is_blank b))
+
+short_all : (reading : Names) (n : ℕ) (ts : List Token) → n ≤ longest reading → AllByRecursion (IsWithin n) ts → list_all (is_short reading) ts ≡ true
+short_all reading n [] h k = refl
+short_all reading n (Word w ∷ ts) h k = rw (le_true (length w) (longest reading) (omega (arith, k.0)), short_all reading n ts h k.1) refl
+short_all reading n (Open ∷ ts) h k = short_all reading n ts h k.1
+short_all reading n (Close ∷ ts) h k = short_all reading n ts h k.1
+short_all reading n (Comma ∷ ts) h k = short_all reading n ts h k.1
+short_all reading n (Equals ∷ ts) h k = short_all reading n ts h k.1
+
+pub short_line : (reading : Names) (bs : List ℕ) → length bs ≤ longest reading → list_all (is_short reading) (tokens bs) ≡ true
+short_line reading bs h = short_all reading (length bs) (tokens bs) h (words-within bs)
 
 pub reserved-definition : (said : Borrowed) (z : Bor (List ℕ)) (gate : Option Kind) (pins : SmallVec (Bor (List ℕ))) (items : List (Bor (List ℕ))) (r : Bool) →
     said ≡ borrowed.Definition z gate pins → r ≡ list_any (λ x. is_reserved x.now) items → items ≡ pins.items → is_reserved z.now ≡ false → r ≡ list_any is_reserved (names_of (stated said))

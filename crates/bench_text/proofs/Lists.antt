@@ -131,7 +131,7 @@ list_all-map p f (x ∷ xs) = ap (λ b. p (f x) && b) (list_all-map p f xs)
 module _ {A : Type 0} where
   -- a place in two lists, one behind the other
   pub got_append : (xs ys : List A) (j : ℕ) (y : A) → slice_get (xs ++ ys) j ≡ Some y → (slice_get xs j ≡ Some y) ⊎ ((i : ℕ) × (j ≡ length xs + i) × (slice_get ys i ≡ Some y))
-  got_append [] ys j y h = inr (j, refl, h)
+  got_append [] ys j y h = let s : j ≡ 0 + j = omega arith in inr (j, s, h)
   got_append (x ∷ xs) ys zero y h = inl h
   got_append (x ∷ xs) ys (suc j) y h = by (got_append xs ys j y h)
     where
@@ -140,7 +140,7 @@ module _ {A : Type 0} where
       by (inr p) = let s : suc j ≡ suc (length xs) + p.0 = omega (arith, p.1) in inr (p.0, s, p.2)
 
   pub get_back : (xs ys : List A) (i : ℕ) (y : A) → slice_get ys i ≡ Some y → slice_get (xs ++ ys) (length xs + i) ≡ Some y
-  get_back [] ys i y h = h
+  get_back [] ys i y h = let s : 0 + i ≡ i = omega arith in rw s h
   get_back (x ∷ xs) ys i y h = let s : suc (length xs) + i ≡ suc (length xs + i) = omega arith in rw s (get_back xs ys i y h)
 
   -- an element of a mapped list is that of one of the list

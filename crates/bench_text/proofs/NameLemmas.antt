@@ -4,17 +4,10 @@ use Rattle.std.specs.Prelude.{Option, Some, None, ◌==◌}
 use Rattle.std.specs.List.{list_all, AllByRecursion}
 use Rattle.bench_text.specs.Bytes.{is_blank}
 use Rattle.bench_text.specs.Tokens.{Token, Word, Open, Close, Comma, Equals, mark, is_word_byte, begins_in_word, longer, add, tokens}
-use Rattle.bench_text.specs.Laws.{is_plain, IsNamed, WordsAreNames}
+use Rattle.bench_text.proofs.Plain.{is_plain, IsNamed}
 use Rattle.bench_text.proofs.Runs.{either}
-use Rattle.bench_text.proofs.TokenLemmas.{is_word}
+use Rattle.bench_text.proofs.TokenLemmas.{is_word, not_word}
 use Rattle.bench_text.proofs.Lists.{both_true}
-
-not_word : (a b c d : Bool) (w : List ℕ) → cond a (Some Open) (cond b (Some Close) (cond c (Some Comma) (cond d (Some Equals) None))) ≡ Some (Word w) → ⊥
-not_word true b c d w h = cc
-not_word false true c d w h = cc
-not_word false false true d w h = cc
-not_word false false false true w h = cc
-not_word false false false false w h = cc
 
 marked : (b : ℕ) (t : Token) → mark b ≡ Some t → IsNamed t
 marked b (Word w) h = absurd (not_word (b == 40) (b == 41) (b == 44) (b == 61) w h)
@@ -36,7 +29,7 @@ added b goes_on ts (Some t) m n p h = (marked b t m, h)
 added b true ts None m n p h = longer-named b ts (is_word b n m) p h
 added b false ts None m n p h = let w = is_word b n m in (record { some = lit< tt; word = rw w refl; plain = rw p refl }, h)
 
-pub tokens-named : WordsAreNames
+pub tokens-named : (bs : List ℕ) → list_all is_plain bs ≡ true → AllByRecursion IsNamed (tokens bs)
 unfolding tokens
 tokens-named [] h = tt
 tokens-named (b ∷ bs) h =

@@ -16,4 +16,5 @@ pub mod LinesRead
 pub mod Netlists
 pub mod Reading
 pub mod Canonical
+pub mod Written
 pub mod Laws

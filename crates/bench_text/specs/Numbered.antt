@@ -1,5 +1,5 @@
 -- Statements in which each name stands by its number.
-use Rattle.std.specs.Prelude.{ℕ, ◌≡◌, ◌++◌, Bool, true, List, [], ◌∷◌, length, map, fold, nat_lt, nat_eq, if◌then◌else◌, Option, Some, None, slice_get}
+use Rattle.std.specs.Prelude.{ℕ, ◌≡◌, ◌++◌, Bool, true, false, List, [], ◌∷◌, length, map, fold, nat_lt, nat_eq, if◌then◌else◌, Option, Some, None, slice_get}
 use Rattle.std.specs.List.{flat_map, list_all, list_any}
 use Rattle.bench_text.specs.declared.numbered.Role.{Role}
 use Rattle.bench_text.specs.declared.numbered.Role.TheVariants as role
@@ -53,6 +53,11 @@ numbers (numbered.Definition n kind pins) = n ∷ pins.items
 
 abbrev pub are_below : ℕ → Numbered → Bool
 are_below count s = list_all (λ n. nat_lt n count) (numbers s)
+
+-- whether it is the definition of this name
+abbrev pub defines_number : ℕ → Numbered → Bool
+defines_number name (numbered.Definition n kind pins) = nat_eq n name
+defines_number name _ = false
 
 -- numbers, with one more unless it is there
 abbrev pub with_number : List ℕ → ℕ → List ℕ

@@ -1,6 +1,7 @@
 -- What the reading of a text answers.
 use Rattle.std.specs.Prelude.{ℕ, ◌≡◌, ⊤, List, ◌∷◌, ◌++◌, Option, Some, None, Result, Ok, Err}
 use Rattle.std.specs.List.{AllByRecursion}
+use Rattle.netlist.specs.declared.kinds.Kind.{Kind}
 use Rattle.netlist.specs.Netlist.{Netlist, IsOnLoop, IsAcyclic}
 use Rattle.bench_text.specs.declared.refusal.Names.{Names}
 use Rattle.bench_text.specs.declared.refusal.BenchKind.TheVariants.{Loop}
@@ -31,6 +32,19 @@ pub record IsFirstOnLoop (all : List Said) (line : ℕ) : Type 0 where
   pub here : note.line ≡ line
   pub on_loop : DefinesOnLoop (statements_of all) note.statement
   pub first : AllByRecursion (λ (s : Said). ¬ DefinesOnLoop (statements_of all) s.statement) before
+
+-- The definition of a signal stands on this line.
+pub record IsDefinedAt (all : List Said) (signal line : ℕ) : Type 0 where
+  pub before : List Said
+  pub note : Said
+  pub after : List Said
+  pub z : List ℕ
+  pub gate : Option Kind
+  pub pins : List (List ℕ)
+  pub split : all ≡ before ++ note ∷ after
+  pub here : note.line ≡ line
+  pub defines : note.statement ≡ Definition z gate pins
+  pub signal_is : id_of (signals_of (statements_of all)) z ≡ signal
 
 -- A text is refused for its first faulty line, else for what is wrong with it as a whole, and for a loop last.
 abbrev pub IsRefused : Option BenchRefusal → List Said → BenchRefusal → Type 0

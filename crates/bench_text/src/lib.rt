@@ -12,4 +12,3 @@ mod sights;
 mod statement;
 mod token;
 mod whole;
-mod writing;

@@ -5,9 +5,10 @@ ghost use Rattle.std.specs.List.{list_any, list_all, flat_map};
 ghost use Rattle.std.specs.Str.{bytes_eq};
 ghost use Rattle.netlist.specs.Conditions.{whole};
 ghost use Rattle.bench_text.specs.Said.{Said, statements_of};
-ghost use Rattle.bench_text.specs.Sights.{name_at};
+ghost use Rattle.bench_text.specs.Texts.{inputs_of};
+ghost use Rattle.bench_text.specs.Sights.{name_at, distinct};
 ghost use Rattle.bench_text.specs.Numbered.{are_below, definition_number, spelled};
-ghost use Rattle.bench_text.specs.Whole.{reads_from};
+ghost use Rattle.bench_text.specs.Whole.{outputs_of, reads_from};
 ghost use Rattle.bench_text.specs.Netlists.{id_of, equation, netlist_of};
 ghost use Rattle.bench_text.specs.Drafted.{seen, said_in, signals_in};
 
@@ -113,20 +114,43 @@ impl Draft<'_> {
         Ok(())
     }
 
+    /// The names of the signals.
+    fn names(&self, alloc: Global) -> Result<NameTable, AllocError>
+        ensures { IfOk result (λ t. t ≡ signals_in self.now) }
+    {
+        let mut names = NameTable::new(alloc);
+        names.reserve(self.signal_count(), 0)?;
+        self.push_names(&mut names, &self.inputs)?;
+        self.push_names(&mut names, &self.definitions)?;
+        Ok(names)
+    }
+
+    fn input_ids(&self, alloc: Global) -> Result<Vec<SignalId>, AllocError>
+        requires few { length (signals_in self.now) ≤ 8000000 }
+        ensures { IfOk result (λ v. v.items ≡ map (id_of (signals_in self.now)) (inputs_of (statements_of (said_in self.now)))) }
+    {
+        self.ids(alloc, &self.inputs)
+    }
+
+    /// The outputs, in the order of their first lines.
+    fn output_ids(&self, alloc: Global) -> Result<Vec<SignalId>, AllocError>
+        requires reads { list_all (λ (s : Said). reads_from (signals_in self.now) s.statement) (said_in self.now) ≡ true }
+        requires few { length (signals_in self.now) ≤ 8000000 }
+        ensures { IfOk result (λ v. v.items ≡ map (id_of (signals_in self.now)) (distinct (outputs_of (statements_of (said_in self.now))))) }
+    {
+        self.ids(alloc, self.outputs.as_slice())
+    }
+
     /// The parts of the netlist, where each name that is read is defined.
     pub fn parts(&self, alloc: Global) -> Result<Parts, AllocError>
         requires reads { list_all (λ (s : Said). reads_from (signals_in self.now) s.statement) (said_in self.now) ≡ true }
         requires few { length (signals_in self.now) ≤ 8000000 }
         ensures { IfOk result (λ p. whole p ≡ netlist_of (statements_of (said_in self.now))) }
     {
-        let mut names = NameTable::new(alloc);
-        names.reserve(self.signal_count(), 0)?;
-        self.push_names(&mut names, &self.inputs)?;
-        self.push_names(&mut names, &self.definitions)?;
         Ok(Parts {
-            names,
-            inputs: self.ids(alloc, &self.inputs)?,
-            outputs: self.ids(alloc, self.outputs.as_slice())?,
+            names: self.names(alloc)?,
+            inputs: self.input_ids(alloc)?,
+            outputs: self.output_ids(alloc)?,
             definitions: self.equations(alloc)?,
         })
     }
