@@ -16,3 +16,7 @@ pub mod CanonicalLemmas
 pub mod LinesReadLemmas
 pub mod WholeLemmas
 pub mod PartLemmas
+pub mod FineLemmas
+pub mod FormedLemmas
+pub mod LoopLemmas
+pub mod ReadLemmas

@@ -2,7 +2,7 @@
 use denote.Ref.{Bor}
 use Rattle.std.proofs.Common.{◌≡◌, ◌≢◌, ◌<◌, ◌≤◌, ◌+◌, ◌⊎◌, inl, inr, ℕ, zero, suc, Bool, true, false, List, [], ◌∷◌, ◌++◌, length, set, refl, sym, ap, ◌∙◌, map, append_assoc, append-nil, arith, length-append}
 use Rattle.std.specs.Prelude.{Option, Some, None, slice_get, nat_eq, ◌&&◌, ◌||◌, ◌==◌}
-use Rattle.std.specs.List.{list_any, list_all, flat_map, position_or_len}
+use Rattle.std.specs.List.{list_any, list_all, flat_map, position_or_len, All, AllByRecursion}
 use Rattle.std.specs.Str.{bytes_eq}
 use Rattle.std.proofs.lemmas.Bool.Decides.{nat_tests}
 use Rattle.std.proofs.lemmas.Slice.Eq.{bytes_eq-Decides}
@@ -176,3 +176,9 @@ module _ {A : Type 0} where
   flat_map-all p f (x ∷ xs) h =
       let q = both_true (list_all p (f x)) (list_all (λ y. list_all p (f y)) xs) h in
       all_append p (f x) (flat_map f xs) q.0 (flat_map-all p f xs q.1)
+
+-- what holds of each element holds at each place
+pub index-all : {A : Type 0} (P : A → Type 0) (xs : List A) → AllByRecursion P xs → All P xs
+index-all P [] h k d b = absurd (omega arith)
+index-all P (x ∷ xs) h zero d b = h.0
+index-all P (x ∷ xs) h (suc k) d b = index-all P xs h.1 k d (omega arith)

@@ -102,6 +102,17 @@ module _ (names : List (List ℕ)) (roles : List Role) (es : List Entry) (ins de
       let k = slice_get_within (ins ++ defs) (place (length ins) r) n (there-role n r e h) in
       omega (arith, size, k)
 
+  -- no signal stands twice
+  pub signals-distinct : AreDistinct signals
+  signals-distinct i j x e f =
+      let a = got_map (name_at names) (ins ++ defs) i x (ap (λ l. slice_get l i) (sym signals-map) ∙ e) in
+      let b = got_map (name_at names) (ins ++ defs) j x (ap (λ l. slice_get l j) (sym signals-map) ∙ f) in
+      let r = role-there i a.0 a.1 in
+      let s = role-there j b.0 b.1 in
+      let one : name_at names b.0 ≡ name_at names a.0 = b.2 ∙ sym a.2 in
+      let same : a.0 ≡ b.0 = same-number b.0 a.0 s.0 r.0 s.1 r.1 (ap (bytes_eq (name_at names b.0)) (sym one) ∙ name_same (name_at names b.0)) in
+      sym r.2 ∙ ap (place (length ins)) (some_same (slice_get roles b.0) r.0 s.0 (ap (slice_get roles) (sym same) ∙ r.1) s.1) ∙ s.2
+
   -- in the code's words
   pub input-place : (n k : ℕ) (r : Role) → n < length names → r ≡ get_or roles n r → r ≡ role.Input k → (k ≡ id_of signals (name_at names n)) × (k < length signals)
   input-place n k r h e f =

@@ -1,11 +1,12 @@
 -- What is wrong with a text as a whole.
-use Rattle.std.proofs.Common.{◌≡◌, ◌<◌, ◌≤◌, ◌+◌, ℕ, Bool, true, false, not, cond, List, [], ◌∷◌, ◌++◌, length, get_or, drop, refl, sym, ap, ◌∙◌, map, arith, length-append}
+use Rattle.std.proofs.Common.{◌≡◌, ◌<◌, ◌≤◌, ◌+◌, ℕ, Bool, true, false, not, cond, List, [], ◌∷◌, ◌++◌, length, get_or, drop, refl, sym, ap, ◌∙◌, map, arith, length-append, ⊎_elim}
 use Rattle.std.specs.Prelude.{Option, Some, None, nat_lt, nat_eq, find, fold, option_map, ◌==◌, if◌then◌else◌}
 use Rattle.std.specs.List.{list_any, list_all}
 use Rattle.std.specs.Str.{bytes_eq}
 use Rattle.std.proofs.lemmas.Bool.Decides.{nat_tests}
 use Rattle.std.proofs.lemmas.List.{length-map}
 use Rattle.bench_text.specs.declared.refusal.Names.{Names}
+use Rattle.bench_text.specs.declared.refusal.Names.TheVariants.{Design, Scanned}
 use Rattle.bench_text.specs.declared.refusal.BenchKind.TheVariants.{TooMany, NoInput, NoOutput, Undefined}
 use Rattle.bench_text.specs.declared.refusal.BenchRefusal.{BenchRefusal}
 use Rattle.bench_text.specs.declared.numbered.Role.{Role}
@@ -21,6 +22,7 @@ use Rattle.bench_text.specs.Sights.{name_at, distinct, with_name}
 use Rattle.bench_text.specs.Numbered.{spelled, spelled_entry, input_numbers, output_numbers, with_number, IsDraft}
 use Rattle.bench_text.specs.Whole.{outputs_of, reads_from, most_signals, refused, whole_fault}
 use Rattle.bench_text.proofs.Lists.{list_all-map}
+use Rattle.bench_text.proofs.Runs.{either}
 use Rattle.bench_text.proofs.Walks.{find-map, find-here, find-ends}
 use Rattle.bench_text.proofs.DraftLemmas.{signals-spelled, inputs-spelled, outputs-spelled}
 
@@ -130,3 +132,37 @@ module _ (names signals : List (List ℕ)) (es : List Entry) where
 
   pub undefined-none : (i : ℕ) → length es ≤ i → find reads_unknown (drop i es) ≡ find reads_unknown es → None ≡ first_line
   undefined-none i h g = ap (option_map (λ (x : Entry). x.line)) (find-ends reads_unknown es i (find reads_unknown es) h g) ∙ sym to_line
+
+-- where nothing is wrong with the whole text
+four : {A : Type 0} (a b c : Bool) (x y z : A) (f : Said → A) (o : Option Said) → cond a (Some x) (cond b (Some y) (cond c (Some z) (option_map f o))) ≡ None → (a ≡ false) × (b ≡ false) × (c ≡ false) × (o ≡ None)
+four true b c x y z f o h = cc
+four false true c x y z f o h = cc
+four false false true x y z f o h = cc
+four false false false x y z f None h = (refl, refl, refl, refl)
+four false false false x y z f (Some n) h = cc
+
+find-none : (p : Said → Bool) (xs : List Said) → find (λ s. not (p s)) xs ≡ None → list_all p xs ≡ true
+find-none p [] h = refl
+find-none p (x ∷ xs) h = ⊎_elim
+    (λ (t : p x ≡ true). rw (t, find-none p xs (ap (λ b. cond (not b) (Some x) (find (λ s. not (p s)) xs)) (sym t) ∙ h)) refl)
+    (λ (f : p x ≡ false). let e : Some x ≡ None = ap (λ b. cond (not b) (Some x) (find (λ s. not (p s)) xs)) (sym f) ∙ h in cc)
+    (either (p x))
+
+few_signals : (m n : ℕ) → nat_lt m n ≡ false → n ≤ m
+few_signals m n h = grind (arith, nat_tests)
+
+positive : (n : ℕ) → (n == 0) ≡ false → 0 < n
+positive n h = grind (arith, nat_tests)
+
+pub whole-none : (reading : Names) (all : List Said) → whole_fault reading all ≡ None
+    → (length (signals_of (statements_of all)) ≤ most_signals reading) × (0 < length (inputs_of (statements_of all))) × (0 < length (outputs_of (statements_of all)))
+    × (list_all (λ (s : Said). reads_from (signals_of (statements_of all)) s.statement) all ≡ true)
+unfolding whole_fault
+whole-none reading all h =
+    let p = four (nat_lt (most_signals reading) (length (signals_of (statements_of all)))) (length (inputs_of (statements_of all)) == 0) (length (outputs_of (statements_of all)) == 0)
+        (refused 0 TooMany) (refused 0 NoInput) (refused 0 NoOutput) (λ (s : Said). refused s.line Undefined) (find (λ (s : Said). not (reads_from (signals_of (statements_of all)) s.statement)) all) h in
+    (few_signals _ _ p.0, positive _ p.1, positive _ p.2, find-none (λ (s : Said). reads_from (signals_of (statements_of all)) s.statement) all p.3)
+
+pub most-most : (reading : Names) → most_signals reading ≤ 8000000
+most-most Design = omega arith
+most-most Scanned = omega arith

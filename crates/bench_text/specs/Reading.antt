@@ -1,7 +1,9 @@
 -- What the reading of a text answers.
-use Rattle.std.specs.Prelude.{ℕ, ◌≡◌, ⊤, List, ◌∷◌, ◌++◌, Option, Some, None, Result, Ok, Err}
+use Rattle.std.specs.Prelude.{ℕ, ◌≡◌, ◌<◌, ◌≤◌, ⊤, length, List, ◌∷◌, ◌++◌, Option, Some, None, Result, Ok, Err}
 use Rattle.std.specs.List.{AllByRecursion}
 use Rattle.netlist.specs.declared.kinds.Kind.{Kind}
+use Rattle.netlist.specs.declared.netlists.NetRefusal.{NetRefusal}
+use Rattle.netlist.specs.declared.netlists.NetRefusal.TheVariants as net
 use Rattle.netlist.specs.Netlist.{Netlist, IsOnLoop, IsAcyclic}
 use Rattle.bench_text.specs.declared.refusal.Names.{Names}
 use Rattle.bench_text.specs.declared.refusal.BenchKind.TheVariants.{Loop}
@@ -10,7 +12,7 @@ use Rattle.bench_text.specs.declared.refusal.BenchFault.{BenchFault}
 use Rattle.bench_text.specs.declared.refusal.BenchFault.TheVariants.{NoMemory, Refused}
 use Rattle.bench_text.specs.Forms.{Statement, Definition}
 use Rattle.bench_text.specs.Said.{Said, statements_of}
-use Rattle.bench_text.specs.Texts.{signals_of}
+use Rattle.bench_text.specs.Texts.{inputs_of, signals_of}
 use Rattle.bench_text.specs.Whole.{notes, refusal}
 use Rattle.bench_text.specs.Netlists.{id_of, netlist_of}
 
@@ -45,6 +47,21 @@ pub record IsDefinedAt (all : List Said) (signal line : ℕ) : Type 0 where
   pub here : note.line ≡ line
   pub defines : note.statement ≡ Definition z gate pins
   pub signal_is : id_of (signals_of (statements_of all)) z ≡ signal
+
+-- Why a netlist is refused, where the text is fine but for loops.
+abbrev pub IsLeft : List Said → NetRefusal → Type 0
+IsLeft all net.NoMemory = ⊤
+IsLeft all (net.Loop z) = IsOnLoop (netlist_of (statements_of all)) z × ((y : ℕ) → y < z → ¬ IsOnLoop (netlist_of (statements_of all)) y)
+    × (length (inputs_of (statements_of all)) ≤ z) × (z < length (signals_of (statements_of all)))
+IsLeft all net.TooMany = ⊥
+IsLeft all net.NoInput = ⊥
+IsLeft all net.NoOutput = ⊥
+IsLeft all (net.Undefined z) = ⊥
+
+-- A text is refused for a loop alone.
+abbrev pub IsLoopFault : List Said → BenchFault → Type 0
+IsLoopFault all NoMemory = ⊤
+IsLoopFault all (Refused r) = (r.kind ≡ Loop) × IsFirstOnLoop all r.line
 
 -- A text is refused for its first faulty line, else for what is wrong with it as a whole, and for a loop last.
 abbrev pub IsRefused : Option BenchRefusal → List Said → BenchRefusal → Type 0

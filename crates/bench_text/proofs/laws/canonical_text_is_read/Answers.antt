@@ -1,0 +1,4 @@
+use Rattle.bench_text.proofs.laws.canonical_text_is_read.Goals as goal
+
+pub returns : goal.returns
+returns c = ?
