@@ -20,3 +20,4 @@ pub mod FineLemmas
 pub mod FormedLemmas
 pub mod LoopLemmas
 pub mod ReadLemmas
+pub mod WriteLemmas

@@ -13,6 +13,8 @@ mod reader;
 mod refusal;
 mod sights;
 mod statement;
+#[cfg(test)]
+mod tests;
 mod token;
 mod whole;
 mod writer;
