@@ -21,41 +21,41 @@ use Rattle.bench_text.proofs.TextLemmas.{lines-end, lines-more, lines-none}
 use Rattle.bench_text.proofs.TokenLemmas.{tokens-mark, longer-word, one-word}
 
 -- a word in front of what goes on with no byte of a word
-tokens-front : (w rest : List ℕ) → list_all is_word_byte w ≡ true → 0 < length w → begins_in_word rest ≡ false → tokens (w ++ rest) ≡ Word w ∷ tokens rest
+pub tokens-front : (w rest : List ℕ) → list_all is_word_byte w ≡ true → 0 < length w → begins_in_word rest ≡ false → tokens (w ++ rest) ≡ Word w ∷ tokens rest
 tokens-front [] rest h k n = absurd (omega arith)
 tokens-front (b ∷ []) rest h k n = one-word b rest (both_true _ _ h).0 n
 tokens-front (b ∷ c ∷ w) rest h k n =
     let more = (both_true _ _ h).1 in
     longer-word b (c ∷ w ++ rest) (c ∷ w) (tokens rest) (both_true _ _ h).0 (both_true _ _ more).0 (tokens-front (c ∷ w) rest more (omega arith) n)
 
-tokens-blank : (bs : List ℕ) → tokens (32 ∷ bs) ≡ tokens bs
+pub tokens-blank : (bs : List ℕ) → tokens (32 ∷ bs) ≡ tokens bs
 unfolding tokens
 tokens-blank bs = refl
 
-tokens-open : (bs : List ℕ) → tokens (40 ∷ bs) ≡ Open ∷ tokens bs
+pub tokens-open : (bs : List ℕ) → tokens (40 ∷ bs) ≡ Open ∷ tokens bs
 tokens-open bs = tokens-mark 40 bs Open refl refl
 
 tokens-close : (bs : List ℕ) → tokens (41 ∷ bs) ≡ Close ∷ tokens bs
 tokens-close bs = tokens-mark 41 bs Close refl refl
 
-tokens-comma : (bs : List ℕ) → tokens (44 ∷ bs) ≡ Comma ∷ tokens bs
+pub tokens-comma : (bs : List ℕ) → tokens (44 ∷ bs) ≡ Comma ∷ tokens bs
 tokens-comma bs = tokens-mark 44 bs Comma refl refl
 
-tokens-equals : (bs : List ℕ) → tokens (61 ∷ bs) ≡ Equals ∷ tokens bs
+pub tokens-equals : (bs : List ℕ) → tokens (61 ∷ bs) ≡ Equals ∷ tokens bs
 tokens-equals bs = tokens-mark 61 bs Equals refl refl
 
 tokens-none : tokens [] ≡ []
 unfolding tokens
 tokens-none = refl
 
-tokens-last : tokens (codes ")") ≡ Close ∷ []
+pub tokens-last : tokens (codes ")") ≡ Close ∷ []
 tokens-last = tokens-close [] ∙ ap (λ ts. Close ∷ ts) tokens-none
 
 -- the rest of the pins, behind the first
 rest_of : List (List ℕ) → List ℕ
 rest_of xs = further xs ++ codes ")"
 
-no_word : (xs : List (List ℕ)) → begins_in_word (further xs ++ codes ")") ≡ false
+pub no_word : (xs : List (List ℕ)) → begins_in_word (further xs ++ codes ")") ≡ false
 no_word [] = refl
 no_word (x ∷ xs) = refl
 
@@ -99,7 +99,7 @@ gate-name Not = record { some = lit< tt; word = refl; plain = refl }
 gate-name Buff = record { some = lit< tt; word = refl; plain = refl }
 gate-name Dff = record { some = lit< tt; word = refl; plain = refl }
 
-regroup : (a b c d e f : List ℕ) → ((((a ++ b) ++ c) ++ d) ++ e) ++ f ≡ a ++ (b ++ (c ++ (d ++ (e ++ f))))
+pub regroup : (a b c d e f : List ℕ) → ((((a ++ b) ++ c) ++ d) ++ e) ++ f ≡ a ++ (b ++ (c ++ (d ++ (e ++ f))))
 regroup a b c d e f = simp append_assoc
 
 pub definition-again : (z : List ℕ) (kind : Kind) (xs : List (List ℕ)) → IsRun z → AllByRecursion IsRun xs → statement (tokens (definition_line z kind xs)) ≡ Some (Definition z (Some kind) xs)
@@ -112,7 +112,7 @@ definition-again z kind xs h k =
     ∙ ap (option_map (λ ys. Definition z (Some kind) ys)) (pins-again xs k)
 
 module _ (keyword x : List ℕ) (k : IsRun keyword) (h : IsRun x) where
-  port-tokens : tokens (port_line keyword x) ≡ Word keyword ∷ Open ∷ Word x ∷ Close ∷ []
+  pub port-tokens : tokens (port_line keyword x) ≡ Word keyword ∷ Open ∷ Word x ∷ Close ∷ []
   unfolding port_line
   port-tokens =
       let right : ((keyword ++ codes "(") ++ x) ++ codes ")" ≡ keyword ++ (codes "(" ++ (x ++ codes ")")) = simp append_assoc in

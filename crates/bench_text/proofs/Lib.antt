@@ -21,3 +21,5 @@ pub mod FormedLemmas
 pub mod LoopLemmas
 pub mod ReadLemmas
 pub mod WriteLemmas
+pub mod ReadBack
+pub mod RoundTrip

@@ -76,7 +76,7 @@ allowed line bytes r b e f g = ap (list_all is_allowed) (sym e) ∙ sym f ∙ g
 pub stands_for : (line bytes : List ℕ) (o p : Option Borrowed) → bytes ≡ code line → option_map stated o ≡ statement (tokens bytes) → o ≡ p → statement (tokens (code line)) ≡ option_map stated p
 stands_for line bytes o p e f g = ap (λ l. statement (tokens l)) (sym e) ∙ sym f ∙ ap (option_map stated) g
 
-le_true : (m n : ℕ) → m ≤ n → nat_le m n ≡ true
+pub le_true : (m n : ℕ) → m ≤ n → nat_le m n ≡ true
 le_true m n h = grind (arith, nat_tests)
 
 abbrev IsWithin : ℕ → Token → Type 0

@@ -14,7 +14,7 @@ enum Outcome {
     NoMemory,
 }
 
-fn outcome(alloc: Global, text: &[u8], reading: Names) -> Outcome
+fn answer(alloc: Global, text: &[u8], reading: Names) -> Outcome
     requires { length text.now < 2 ^ 32 }
 {
     match read(alloc, text, reading) {
@@ -31,7 +31,7 @@ fn outcome(alloc: Global, text: &[u8], reading: Names) -> Outcome
 fn gives(alloc: Global, text: &[u8], canonical: &[u8]) -> bool
     requires { length text.now < 2 ^ 32 }
 {
-    match outcome(alloc, text, Names::Design) {
+    match answer(alloc, text, Names::Design) {
         Outcome::Text(written) => written.as_slice() == canonical,
         Outcome::Refused(_) | Outcome::NoMemory => false,
     }
@@ -41,7 +41,7 @@ fn gives(alloc: Global, text: &[u8], canonical: &[u8]) -> bool
 fn refuses(alloc: Global, text: &[u8], reading: Names, line: u32, kind: BenchKind) -> bool
     requires { length text.now < 2 ^ 32 }
 {
-    match outcome(alloc, text, reading) {
+    match answer(alloc, text, reading) {
         Outcome::Refused(refusal) => refusal == BenchRefusal { line, kind },
         Outcome::Text(_) | Outcome::NoMemory => false,
     }
@@ -56,7 +56,7 @@ fn design(alloc: Global, text: &[u8], line: u32, kind: BenchKind) -> bool
 fn is_read(alloc: Global, text: &[u8], reading: Names) -> bool
     requires { length text.now < 2 ^ 32 }
 {
-    matches!(outcome(alloc, text, reading), Outcome::Text(_))
+    matches!(answer(alloc, text, reading), Outcome::Text(_))
 }
 
 const C17: &[u8] = b"INPUT(1)\nINPUT(2)\nINPUT(3)\nINPUT(6)\nINPUT(7)\nOUTPUT(22)\nOUTPUT(23)\n10 = NAND(1, 3)\n11 = NAND(3, 6)\n16 = NAND(2, 11)\n19 = NAND(11, 7)\n22 = NAND(10, 16)\n23 = NAND(16, 19)\n";
