@@ -1,0 +1,80 @@
+-- The least kind of refusal that applies to a line.
+use Rattle.std.proofs.Common.{◌≡◌, ℕ, Bool, true, false, cond, List, [], refl, sym, ap, ◌∙◌}
+use Rattle.std.specs.Prelude.{Option, Some, None, Err, unwrap_or}
+use Rattle.bench_text.specs.declared.draft.Draft.{Draft}
+use Rattle.bench_text.specs.declared.refusal.Names.{Names}
+use Rattle.bench_text.specs.declared.refusal.BenchKind.{BenchKind}
+use Rattle.bench_text.specs.declared.refusal.BenchKind.TheVariants.{BadByte, BadLine, UnknownGate, BadPins, DefinedTwice, Reserved}
+use Rattle.bench_text.specs.declared.refusal.LineFault.{LineFault}
+use Rattle.bench_text.specs.declared.refusal.LineFault.TheVariants.{NoMemory, Refused}
+use Rattle.bench_text.specs.Refusals.{says, fault, own_fault, defines_one_of, has_reserved_name, has_unknown_gate, holds}
+use Rattle.bench_text.specs.LineRead.{IsLine, IsFault}
+use Rattle.bench_text.specs.Forms.{Statement, Nothing}
+use Rattle.bench_text.specs.Texts.{said, signals_of}
+use Rattle.bench_text.specs.Said.{statements_of}
+use Rattle.bench_text.specs.Drafted.{signals_in, Keeps}
+use Rattle.bench_text.proofs.Lists.{false_if}
+
+-- the first four kinds, and what comes after them
+abbrev after_four : Bool → Bool → Bool → Bool → Option BenchKind → Option BenchKind
+after_four a b c d rest = cond a (Some BadByte) (cond b (Some BadLine) (cond c (Some UnknownGate) (cond d (Some BadPins) rest)))
+
+none_of_four : (a b c d : Bool) (rest : Option BenchKind) → after_four a b c d None ≡ None → after_four a b c d rest ≡ rest
+none_of_four true b c d rest h = cc
+none_of_four false true c d rest h = cc
+none_of_four false false true d rest h = cc
+none_of_four false false false true rest h = cc
+none_of_four false false false false rest h = refl
+
+one_of_four : (a b c d : Bool) (rest : Option BenchKind) (k : BenchKind) → after_four a b c d None ≡ Some k → after_four a b c d rest ≡ Some k
+one_of_four true b c d rest k h = h
+one_of_four false true c d rest k h = h
+one_of_four false false true d rest k h = h
+one_of_four false false false true rest k h = h
+one_of_four false false false false rest k h = cc
+
+module _ (reading : Names) (before : List (List ℕ)) (line : List ℕ) where
+  pub fault-own : (k : BenchKind) → own_fault reading line ≡ Some k → fault reading before line ≡ Some k
+  unfolding own_fault fault
+  fault-own k h = one_of_four _ _ _ _ _ k h
+
+  module _ (s : Statement) (fine : own_fault reading line ≡ None) (e : says reading line ≡ Some s) where
+    pub fault-twice : defines_one_of before s ≡ true → fault reading before line ≡ Some DefinedTwice
+    unfolding own_fault fault
+    fault-twice h = none_of_four _ _ _ _ _ fine ∙ (rw (e, h) refl)
+
+    pub fault-reserved : defines_one_of before s ≡ false → has_reserved_name reading s ≡ true → fault reading before line ≡ Some Reserved
+    unfolding own_fault fault
+    fault-reserved h k = none_of_four _ _ _ _ _ fine ∙ (rw (e, h, k) refl)
+
+    pub fault-none : defines_one_of before s ≡ false → has_reserved_name reading s ≡ false → fault reading before line ≡ None
+    unfolding own_fault fault
+    fault-none h k = none_of_four _ _ _ _ _ fine ∙ (rw (e, h, k) refl)
+
+  pub said-says : (s : Statement) → says reading line ≡ Some s → said reading line ≡ s
+  said-says s e = ap (λ o. unwrap_or o Nothing) e
+
+  pub line_err : (e : LineFault) → IsLine reading line (Err e) → IsFault {A = Draft} (fault reading before line) (Err e)
+  line_err NoMemory h = tt
+  line_err (Refused k) h = fault-own k h
+
+-- a line that is fine on its own has a known gate
+pub known-gate : (reading : Names) (line : List ℕ) (s : Statement) → own_fault reading line ≡ None → says reading line ≡ Some s → has_unknown_gate s ≡ false
+unfolding own_fault
+known-gate reading line s h e = false_if _ (λ (t : has_unknown_gate s ≡ true). let k : has_unknown_gate_of (says reading line) ≡ true = ap has_unknown_gate_of e ∙ t in unknown _ _ _ _ k h)
+  where
+    has_unknown_gate_of : Option Statement → Bool
+    has_unknown_gate_of o = holds has_unknown_gate o
+
+    unknown : (a b c d : Bool) → c ≡ true → after_four a b c d None ≡ None → ⊥
+    unknown true b c d k h = cc
+    unknown false true c d k h = cc
+    unknown false false true d k h = cc
+    unknown false false false d k h = cc
+
+-- what the code tested, in the line's words
+pub tested : (before now : List (List ℕ)) (s t : Statement) (r b : Bool) → now ≡ before → t ≡ s → r ≡ defines_one_of now t → r ≡ b → defines_one_of before s ≡ b
+tested before now s t r b e f g h = (λ i. defines_one_of (sym e i) (sym f i)) ∙ sym g ∙ h
+
+pub signals-kept : (old new : Draft) → Keeps old new → signals_in new ≡ signals_in old
+signals-kept old new k = ap (λ notes. signals_of (statements_of notes)) k.said

@@ -1,0 +1,141 @@
+-- A line on its own.
+use denote.Ref.{Bor}
+use Rattle.std.proofs.Common.{◌≡◌, ◌≤◌, ℕ, suc, Bool, true, false, not, cond, List, [], ◌∷◌, length, take, refl, sym, ap, ◌∙◌, arith, ⊎_elim, take_all}
+use Rattle.std.specs.Prelude.{Option, Some, None, position, option_map, nat_lt, nat_le, ◌==◌, ◌&&◌, if◌then◌else◌}
+use Rattle.smallvec.specs.SmallVec.{SmallVec}
+use Rattle.std.proofs.lemmas.Bool.Decides.{nat_tests}
+use Rattle.std.specs.List.{list_all, list_any, AllByRecursion}
+use Rattle.bench_text.specs.declared.refusal.Names.{Names}
+use Rattle.bench_text.specs.declared.refusal.BenchKind.TheVariants.{BadByte, BadLine, BadPins}
+use Rattle.bench_text.specs.Bytes.{code, is_allowed, is_blank}
+use Rattle.bench_text.specs.Tokens.{Token, Word, Open, Close, Comma, Equals, mark, begins_in_word, add, tokens}
+use Rattle.bench_text.proofs.TokenLemmas.{not_word}
+use Rattle.netlist.specs.Gates.{allows_pins}
+use Rattle.bench_text.specs.Forms.{Statement, Nothing, Input, Output, Definition, statement}
+use Rattle.bench_text.specs.Refusals.{longest, is_short, is_reserved, names_of, says, own_fault, gate_fault}
+use Rattle.bench_text.specs.declared.statement.Statement.{Statement as Borrowed}
+use Rattle.bench_text.specs.declared.statement.Statement.TheVariants as borrowed
+use Rattle.netlist.specs.declared.kinds.Kind.{Kind}
+use Rattle.bench_text.specs.Stated.{names, stated}
+use Rattle.bench_text.proofs.Lists.{list_any-names, list_all-names}
+use Rattle.bench_text.proofs.Runs.{either, prefix_len-le}
+
+some_place : (b : Bool) (n i : ℕ) → cond b (Some n) None ≡ Some i → n ≡ i
+some_place true n i e = cc
+some_place false n i e = cc
+
+pub no_place : (n m : ℕ) → cond (nat_lt n m) (Some n) None ≡ None → m ≤ n
+no_place n m e = ⊎_elim
+    (λ (h : nat_lt n m ≡ true). let f : Some n ≡ None = ap (λ b. cond b (Some n) None) (sym h) ∙ e in cc)
+    (λ (h : nat_lt n m ≡ false). grind (arith, nat_tests))
+    (either (nat_lt n m))
+
+-- the comment is cut off where it starts
+pub code-some : (line : List ℕ) (i : ℕ) → Some i ≡ position (λ b. b == 35) line → take i line ≡ code line
+code-some line i e = ap (λ n. take n line) (sym (some_place _ _ _ (sym e)))
+
+pub code-none : (line : List ℕ) → None ≡ position (λ b. b == 35) line → line ≡ code line
+code-none line e = sym (take_all _ line (no_place _ _ (sym e)))
+
+pub start-within : (line : List ℕ) (i : ℕ) → Some i ≡ position (λ b. b == 35) line → i ≤ length line
+start-within line i e = let k = some_place _ _ _ (sym e) in omega (arith, k, prefix_len-le (λ b. not (b == 35)) line)
+
+other_way : (b : Bool) → cond (not b) (Some BadPins) None ≡ cond b None (Some BadPins)
+other_way true = refl
+other_way false = refl
+
+module _ (reading : Names) (line : List ℕ) where
+  pub says-long : list_all (is_short reading) (tokens (code line)) ≡ false → says reading line ≡ None
+  unfolding says
+  says-long f = ap (λ (b : Bool). if b then statement (tokens (code line)) else None) f
+
+  pub says-it : list_all (is_short reading) (tokens (code line)) ≡ true → (o : Option Statement) → statement (tokens (code line)) ≡ o → says reading line ≡ o
+  unfolding says
+  says-it t o e = ap (λ (b : Bool). if b then statement (tokens (code line)) else None) t ∙ e
+
+  pub own_fault-byte : list_all is_allowed (code line) ≡ false → own_fault reading line ≡ Some BadByte
+  unfolding own_fault
+  own_fault-byte h = rw h refl
+
+  pub own_fault-form : list_all is_allowed (code line) ≡ true → says reading line ≡ None → own_fault reading line ≡ Some BadLine
+  unfolding own_fault
+  own_fault-form h e = rw (h, e) refl
+
+  pub own_fault-gate : (s : Statement) → list_all is_allowed (code line) ≡ true → says reading line ≡ Some s → own_fault reading line ≡ gate_fault s
+  unfolding own_fault
+  own_fault-gate Nothing h e = rw (h, e) refl
+  own_fault-gate (Input x) h e = rw (h, e) refl
+  own_fault-gate (Output x) h e = rw (h, e) refl
+  own_fault-gate (Definition z None pins) h e = rw (h, e) refl
+  own_fault-gate (Definition z (Some kind) pins) h e = rw (h, e) (other_way (allows_pins kind (length pins)))
+
+-- what the test of the bytes and the reader of forms said, in the line's words
+pub allowed : (line bytes : List ℕ) (r b : Bool) → bytes ≡ code line → r ≡ list_all is_allowed bytes → r ≡ b → list_all is_allowed (code line) ≡ b
+allowed line bytes r b e f g = ap (list_all is_allowed) (sym e) ∙ sym f ∙ g
+
+pub stands_for : (line bytes : List ℕ) (o p : Option Borrowed) → bytes ≡ code line → option_map stated o ≡ statement (tokens bytes) → o ≡ p → statement (tokens (code line)) ≡ option_map stated p
+stands_for line bytes o p e f g = ap (λ l. statement (tokens l)) (sym e) ∙ sym f ∙ ap (option_map stated) g
+
+pub le_true : (m n : ℕ) → m ≤ n → nat_le m n ≡ true
+le_true m n h = grind (arith, nat_tests)
+
+abbrev IsWithin : ℕ → Token → Type 0
+IsWithin n (Word w) = length w ≤ n
+IsWithin n Open = Unit {0}
+IsWithin n Close = Unit {0}
+IsWithin n Comma = Unit {0}
+IsWithin n Equals = Unit {0}
+
+wider : (n : ℕ) (ts : List Token) → AllByRecursion (IsWithin n) ts → AllByRecursion (IsWithin (suc n)) ts
+wider n [] h = tt
+wider n (Word w ∷ ts) h = (omega (arith, h.0), wider n ts h.1)
+wider n (Open ∷ ts) h = (tt, wider n ts h.1)
+wider n (Close ∷ ts) h = (tt, wider n ts h.1)
+wider n (Comma ∷ ts) h = (tt, wider n ts h.1)
+wider n (Equals ∷ ts) h = (tt, wider n ts h.1)
+
+-- what the test of the words said
+pub fits_or_not : (reading : Names) (line bytes : List ℕ) (r b : Bool) → bytes ≡ code line → r ≡ list_all (is_short reading) (tokens bytes) → r ≡ b → list_all (is_short reading) (tokens (code line)) ≡ b
+fits_or_not reading line bytes r b e f g = ap (λ l. list_all (is_short reading) (tokens l)) (sym e) ∙ sym f ∙ g
+
+-- a word is no longer than the bytes that it stands in
+longest_in : (b : ℕ) (o : Option Token) (goes_on : Bool) (ts : List Token) (n : ℕ) → AllByRecursion (IsWithin n) ts → mark b ≡ o → AllByRecursion (IsWithin (suc n)) (add b o goes_on ts)
+longest_in b (Some t) goes_on ts n h m = (marked t m, wider n ts h)
+  where
+    marked : (t : Token) → mark b ≡ Some t → IsWithin (suc n) t
+    marked (Word w) e = absurd (not_word (b == 40) (b == 41) (b == 44) (b == 61) w e)
+    marked Open e = tt
+    marked Close e = tt
+    marked Comma e = tt
+    marked Equals e = tt
+longest_in b None true [] n h m = tt
+longest_in b None true (Word w ∷ ts) n h m = (omega (arith, h.0), wider n ts h.1)
+longest_in b None true (Open ∷ ts) n h m = (tt, wider n ts h.1)
+longest_in b None true (Close ∷ ts) n h m = (tt, wider n ts h.1)
+longest_in b None true (Comma ∷ ts) n h m = (tt, wider n ts h.1)
+longest_in b None true (Equals ∷ ts) n h m = (tt, wider n ts h.1)
+longest_in b None false ts n h m = (omega arith, wider n ts h)
+
+words-within : (bs : List ℕ) → AllByRecursion (IsWithin (length bs)) (tokens bs)
+unfolding tokens
+words-within [] = tt
+words-within (b ∷ bs) = ⊎_elim
+    (λ (t : is_blank b ≡ true). rw t (wider (length bs) (tokens bs) (words-within bs)))
+    (λ (f : is_blank b ≡ false). rw f (longest_in b (mark b) (begins_in_word bs) (tokens bs) (length bs) (words-within bs) refl))
+    (either (is_blank b))
+
+short_all : (reading : Names) (n : ℕ) (ts : List Token) → n ≤ longest reading → AllByRecursion (IsWithin n) ts → list_all (is_short reading) ts ≡ true
+short_all reading n [] h k = refl
+short_all reading n (Word w ∷ ts) h k = rw (le_true (length w) (longest reading) (omega (arith, k.0)), short_all reading n ts h k.1) refl
+short_all reading n (Open ∷ ts) h k = short_all reading n ts h k.1
+short_all reading n (Close ∷ ts) h k = short_all reading n ts h k.1
+short_all reading n (Comma ∷ ts) h k = short_all reading n ts h k.1
+short_all reading n (Equals ∷ ts) h k = short_all reading n ts h k.1
+
+pub short_line : (reading : Names) (bs : List ℕ) → length bs ≤ longest reading → list_all (is_short reading) (tokens bs) ≡ true
+short_line reading bs h = short_all reading (length bs) (tokens bs) h (words-within bs)
+
+pub reserved-definition : (said : Borrowed) (z : Bor (List ℕ)) (gate : Option Kind) (pins : SmallVec (Bor (List ℕ))) (items : List (Bor (List ℕ))) (r : Bool) →
+    said ≡ borrowed.Definition z gate pins → r ≡ list_any (λ x. is_reserved x.now) items → items ≡ pins.items → is_reserved z.now ≡ false → r ≡ list_any is_reserved (names_of (stated said))
+reserved-definition said z gate pins items r i e d h =
+    rw i (rw h (e ∙ ap (list_any (λ (x : Bor (List ℕ)). is_reserved x.now)) d ∙ list_any-names is_reserved pins.items))

@@ -1,0 +1,218 @@
+-- Lines that are read as statements, one by one, are read so as a text.
+use Rattle.std.proofs.Common.{◌≡◌, ◌≢◌, ◌<◌, ◌≤◌, ◌+◌, ◌⊎◌, inl, inr, ℕ, zero, suc, Bool, true, false, not, cond, List, [], ◌∷◌, ◌++◌, length, get_or, refl, sym, ap, ◌∙◌, map, subst, append_assoc, append-nil, arith, ⊎_elim}
+use Rattle.std.specs.Prelude.{Option, Some, None, slice_get, find, nat_lt, nat_le, ◌==◌, ◌&&◌, ◌||◌, codes, IsTrue, unwrap_or, if◌then◌else◌, option_map}
+use Rattle.std.specs.List.{list_all, list_any, flat_map, All, AllPairs, AllByRecursion, Contains}
+use Rattle.std.specs.Str.{bytes_eq}
+use Rattle.std.proofs.lemmas.List.{length-map, map-append}
+use Rattle.std.proofs.lemmas.List.Concat.{flat_map-append}
+use Rattle.std.proofs.lemmas.Option.{slice_get_within, slice_get-get_or, get_or_from_slice_get}
+use Rattle.std.proofs.lemmas.Bool.{false≢true}
+use Rattle.std.proofs.lemmas.Bool.Decides.{nat_tests}
+use Rattle.netlist.specs.declared.kinds.Kind.{Kind}
+use Rattle.netlist.specs.declared.kinds.Kind.TheVariants.{And, Nand, Or, Nor, Xor, Xnor, Not, Buff, Dff}
+use Rattle.netlist.specs.Gates.{allows_pins}
+use Rattle.netlist.specs.Names.{is_name_byte, IsName}
+use Rattle.netlist.specs.Netlist.{Netlist, Definition as Equation, signals}
+use Rattle.netlist.specs.Conditions.{IsSound, IsRead}
+use Rattle.bench_text.specs.declared.refusal.Names.{Names}
+use Rattle.bench_text.specs.declared.refusal.Names.TheVariants.{Design, Scanned}
+use Rattle.bench_text.specs.declared.refusal.BenchKind.TheVariants.{TooMany, NoInput, NoOutput, Undefined}
+use Rattle.bench_text.specs.Bytes.{code, lines, is_allowed}
+use Rattle.bench_text.specs.Tokens.{Token, Word, Open, Close, Comma, Equals, is_word_byte, tokens}
+use Rattle.bench_text.specs.Keywords.{word}
+use Rattle.bench_text.specs.Forms.{Statement, Nothing, Input, Output, Definition, statement}
+use Rattle.bench_text.specs.Refusals.{longest, is_short, says, own_fault, gate_fault, fault, is_reserved, has_reserved_name, defines_one_of, names_of}
+use Rattle.bench_text.specs.Said.{Said, noted_at, noted, statements_of}
+use Rattle.bench_text.specs.Texts.{said, statements, input, defined, output, inputs_of, definitions_of, signals_of, first_fault}
+use Rattle.bench_text.specs.Sights.{AreDistinct, name_at, with_name, distinct}
+use Rattle.bench_text.specs.Whole.{outputs_of, reads_from, most_signals, refused, whole_fault, or_else, refusal, notes}
+use Rattle.bench_text.specs.Netlists.{id_of, equation, netlist_of}
+use Rattle.bench_text.specs.Reading.{netlist_in}
+use Rattle.bench_text.specs.Canonical.{port_line, further, pin_list, definition_line, equation_line, canonical_lines, canonical}
+use Rattle.bench_text.specs.Laws.{is_free, Fits, CanonicalTextIsRead}
+use Rattle.bench_text.specs.Written.{IsWritable}
+use Rattle.bench_text.proofs.Plain.{is_plain, IsRun, Says}
+use Rattle.bench_text.proofs.Lists.{both_true, or_false, list_any-append, list_all-map, all_append, flat_map-push, got_push, get_front, get_last, get_back, got_map, get_map, some-any, some_same, name_same, same_or_not, false_if, index-all}
+use Rattle.bench_text.proofs.Runs.{either}
+use Rattle.bench_text.proofs.LineLemmas.{says-it, own_fault-gate, le_true}
+use Rattle.bench_text.proofs.FaultLemmas.{fault-none, said-says}
+use Rattle.bench_text.proofs.LinesReadLemmas.{first_fault-fine, first_fault-none}
+use Rattle.bench_text.proofs.DraftLemmas.{at_name}
+use Rattle.bench_text.proofs.WholeLemmas.{lt_false}
+use Rattle.bench_text.proofs.FormedLemmas.{any-got, contains-got, got-contains, got-all, id-at}
+use Rattle.bench_text.proofs.WriteLemmas.{signal-below, definition-writable, outputs-writable}
+use Rattle.bench_text.proofs.CanonicalLemmas.{tokens-front, tokens-blank, tokens-comma, tokens-equals, tokens-open, tokens-last, no_word, regroup, port-tokens, gate-name, input-name, output-name, plain-code, plain-port, plain-definition, input-says, output-says, definition-says, ended-again}
+
+-- lists, element by element
+pub all-index : {A : Type 0} (P : A → Type 0) (xs : List A) → All P xs → AllByRecursion P xs
+all-index P [] h = tt
+all-index P (x ∷ xs) h = (h 0 x (omega arith), all-index P xs (λ k d b. h (suc k) d (omega arith)))
+
+pub all-true : {A : Type 0} (p : A → Bool) (xs : List A) → AllByRecursion (λ x. p x ≡ true) xs → list_all p xs ≡ true
+all-true p [] h = refl
+all-true p (x ∷ xs) h = rw (h.0, all-true p xs h.1) refl
+
+pub all-so : {A : Type 0} (P Q : A → Type 0) → ((x : A) → P x → Q x) → (xs : List A) → AllByRecursion P xs → AllByRecursion Q xs
+all-so P Q f [] h = tt
+all-so P Q f (x ∷ xs) h = (f x h.0, all-so P Q f xs h.1)
+
+pub all-mapped : {A B : Type 0} (P : B → Type 0) (f : A → B) (xs : List A) → AllByRecursion (λ x. P (f x)) xs → AllByRecursion P (map f xs)
+all-mapped P f [] h = tt
+all-mapped P f (x ∷ xs) h = (h.0, all-mapped P f xs h.1)
+
+pub map-same : {A : Type 0} (f : A → A) (xs : List A) → AllByRecursion (λ x. f x ≡ x) xs → map f xs ≡ xs
+map-same f [] h = refl
+map-same f (x ∷ xs) h = (λ i. h.0 i ∷ map-same f xs h.1 i)
+
+pub map-twice : {A B C : Type 0} (g : B → C) (f : A → B) (xs : List A) → map g (map f xs) ≡ map (λ x. g (f x)) xs
+map-twice g f [] = refl
+map-twice g f (x ∷ xs) = ap (λ l. g (f x) ∷ l) (map-twice g f xs)
+
+pub flat-one : {A B C : Type 0} (g : B → List C) (c : A → B) (h : A → C) (xs : List A) → ((x : A) → g (c x) ≡ h x ∷ []) → flat_map g (map c xs) ≡ map h xs
+flat-one g c h [] e = refl
+flat-one g c h (x ∷ xs) e = (λ i. e x i ++ flat-one g c h xs e i)
+
+pub flat-none : {A B C : Type 0} (g : B → List C) (c : A → B) (xs : List A) → ((x : A) → g (c x) ≡ []) → flat_map g (map c xs) ≡ []
+flat-none g c [] e = refl
+flat-none g c (x ∷ xs) e = (λ i. e x i ++ flat-none g c xs e i)
+
+pub same-list : {A : Type 0} (xs ys : List A) → length xs ≡ length ys → ((k : ℕ) (y : A) → slice_get xs k ≡ Some y → slice_get ys k ≡ Some y) → xs ≡ ys
+same-list [] [] e h = refl
+same-list [] (y ∷ ys) e h = absurd (omega arith)
+same-list (x ∷ xs) [] e h = absurd (omega arith)
+same-list (x ∷ xs) (y ∷ ys) e h =
+    let s : Some y ≡ Some x = h 0 x refl in
+    let t : x ≡ y = cc in
+    let n : length xs ≡ length ys = omega arith in
+    (λ i. t i ∷ same-list xs ys n (λ k z f. h (suc k) z f) i)
+
+-- two lists, pairwise
+abbrev pub Each : {A B : Type 0} (R : A → B → Type 0) → List A → List B → Type 0
+Each R [] [] = Unit {0}
+Each R [] (b ∷ bs) = ⊥
+Each R (a ∷ xs) [] = ⊥
+Each R (a ∷ xs) (b ∷ bs) = R a b × Each R xs bs
+
+pub each-mapped : {A B C : Type 0} (R : A → B → Type 0) (f : C → A) (g : C → B) (xs : List C) → AllByRecursion (λ x. R (f x) (g x)) xs → Each R (map f xs) (map g xs)
+each-mapped R f g [] h = tt
+each-mapped R f g (x ∷ xs) h = (h.0, each-mapped R f g xs h.1)
+
+pub each-append : {A B : Type 0} (R : A → B → Type 0) (xs : List A) (ys : List B) (zs : List A) (ws : List B) → Each R xs ys → Each R zs ws → Each R (xs ++ zs) (ys ++ ws)
+each-append R [] [] zs ws h k = k
+each-append R [] (y ∷ ys) zs ws h k = absurd h
+each-append R (x ∷ xs) [] zs ws h k = absurd h
+each-append R (x ∷ xs) (y ∷ ys) zs ws h k = (h.0, each-append R xs ys zs ws h.1 k)
+
+-- a line that is read as a statement, whatever stands before it but for its own name
+pub record ReadsAs (reading : Names) (line : List ℕ) (s : Statement) : Type 0 where
+  pub plain : list_all is_plain line ≡ true
+  pub says : says reading line ≡ Some s
+  pub own : own_fault reading line ≡ None
+  pub free : has_reserved_name reading s ≡ false
+  pub something : (n : ℕ) → noted_at n s ≡ record { line = n; statement = s } ∷ []
+
+pub all-plain : (reading : Names) (ls : List (List ℕ)) (ss : List Statement) → Each (ReadsAs reading) ls ss → AllByRecursion (λ l. list_all is_plain l ≡ true) ls
+all-plain reading [] [] h = tt
+all-plain reading [] (s ∷ ss) h = absurd h
+all-plain reading (l ∷ ls) [] h = absurd h
+all-plain reading (l ∷ ls) (s ∷ ss) h = (h.0.plain, all-plain reading ls ss h.1)
+
+pub all-said : (reading : Names) (ls : List (List ℕ)) (ss : List Statement) → Each (ReadsAs reading) ls ss → map (said reading) ls ≡ ss
+all-said reading [] [] h = refl
+all-said reading [] (s ∷ ss) h = absurd h
+all-said reading (l ∷ ls) [] h = absurd h
+all-said reading (l ∷ ls) (s ∷ ss) h = (λ i. said-says reading [] l s h.0.says i ∷ all-said reading ls ss h.1 i)
+
+pub all-noted : (reading : Names) (n : ℕ) (ls : List (List ℕ)) (ss : List Statement) → Each (ReadsAs reading) ls ss → statements_of (noted n ss) ≡ ss
+all-noted reading n [] [] h = refl
+all-noted reading n [] (s ∷ ss) h = absurd h
+all-noted reading n (l ∷ ls) [] h = absurd h
+all-noted reading n (l ∷ ls) (s ∷ ss) h =
+    map-append (λ (x : Said). x.statement) (noted_at n s) (noted (n + 1) ss)
+    ∙ (λ i. statements_of (h.0.something n i) ++ all-noted reading (n + 1) ls ss h.1 i)
+
+-- no statement defines a name that an earlier one defines
+abbrev pub AllFresh : List Statement → List Statement → Type 0
+AllFresh earlier [] = Unit {0}
+AllFresh earlier (s ∷ ss) = (defines_one_of (signals_of earlier) s ≡ false) × AllFresh (earlier ++ s ∷ []) ss
+
+pub no-fault : (reading : Names) (earlier : List Statement) (ls : List (List ℕ)) (ss : List Statement) → Each (ReadsAs reading) ls ss → AllFresh earlier ss → first_fault reading earlier ls ≡ None
+no-fault reading earlier [] [] h k = first_fault-none reading earlier
+no-fault reading earlier [] (s ∷ ss) h k = absurd h
+no-fault reading earlier (l ∷ ls) [] h k = absurd h
+no-fault reading earlier (l ∷ ls) (s ∷ ss) h k =
+    first_fault-fine reading earlier l ls (fault-none reading (signals_of earlier) l s h.0.own h.0.says k.0 h.0.free)
+    ∙ ap (λ x. first_fault reading (earlier ++ x ∷ []) ls) (said-says reading [] l s h.0.says)
+    ∙ no-fault reading (earlier ++ s ∷ []) ls ss h.1 k.1
+
+-- names in the order in which they are defined
+abbrev pub defines : Statement → List (List ℕ)
+defines s = input s ++ defined s
+
+abbrev pub order : List Statement → List (List ℕ)
+order ss = flat_map defines ss
+
+pub shuffle : (a b c d : Bool) → ((a || b) || (c || d)) ≡ ((a || c) || (b || d))
+shuffle true b c d = refl
+shuffle false true true d = refl
+shuffle false true false d = refl
+shuffle false false true d = refl
+shuffle false false false d = refl
+
+pub any-order : (p : List ℕ → Bool) (ss : List Statement) → list_any p (signals_of ss) ≡ list_any p (order ss)
+any-order p [] = refl
+any-order p (s ∷ ss) =
+    list_any-append p (input s ++ inputs_of ss) (defined s ++ definitions_of ss)
+    ∙ (λ i. list_any-append p (input s) (inputs_of ss) i || list_any-append p (defined s) (definitions_of ss) i)
+    ∙ shuffle (list_any p (input s)) (list_any p (inputs_of ss)) (list_any p (defined s)) (list_any p (definitions_of ss))
+    ∙ (λ i. sym (list_any-append p (input s) (defined s)) i || (sym (list_any-append p (inputs_of ss) (definitions_of ss)) ∙ any-order p ss) i)
+    ∙ sym (list_any-append p (defines s) (order ss))
+
+pub name-fresh : (earlier : List Statement) (x : List ℕ) (rest : List (List ℕ)) → AreDistinct (order earlier ++ x ∷ rest) → list_any (bytes_eq x) (signals_of earlier) ≡ false
+name-fresh earlier x rest apart = false_if _ (λ (t : list_any (bytes_eq x) (signals_of earlier) ≡ true).
+    let p = any-got x (order earlier) (sym (any-order (bytes_eq x) earlier) ∙ t) in
+    let w = slice_get_within (order earlier) p.0 x p.1 in
+    let last : slice_get (order earlier ++ x ∷ rest) (length (order earlier) + 0) ≡ Some x = get_back (order earlier) (x ∷ rest) 0 x refl in
+    let same : p.0 ≡ length (order earlier) + 0 = apart p.0 (length (order earlier) + 0) x (get_front (order earlier) (x ∷ rest) p.0 x p.1) last in
+    omega arith)
+
+pub one-more : (earlier : List Statement) (s : Statement) (ss : List Statement) → order (earlier ++ s ∷ []) ++ order ss ≡ order earlier ++ order (s ∷ ss)
+one-more earlier s ss = ap (λ l. l ++ order ss) (flat_map-push defines earlier s) ∙ append_assoc (order earlier) (defines s) (order ss)
+
+pub all-fresh : (earlier ss : List Statement) → AreDistinct (order earlier ++ order ss) → AllFresh earlier ss
+all-fresh earlier [] apart = tt
+all-fresh earlier (Nothing ∷ ss) apart = (refl, all-fresh (earlier ++ Nothing ∷ []) ss (subst AreDistinct (sym (one-more earlier Nothing ss)) apart))
+all-fresh earlier (Output x ∷ ss) apart = (refl, all-fresh (earlier ++ Output x ∷ []) ss (subst AreDistinct (sym (one-more earlier (Output x) ss)) apart))
+all-fresh earlier (Input x ∷ ss) apart = (name-fresh earlier x (order ss) apart, all-fresh (earlier ++ Input x ∷ []) ss (subst AreDistinct (sym (one-more earlier (Input x) ss)) apart))
+all-fresh earlier (Definition z gate pins ∷ ss) apart = (name-fresh earlier z (order ss) apart, all-fresh (earlier ++ Definition z gate pins ∷ []) ss (subst AreDistinct (sym (one-more earlier (Definition z gate pins) ss)) apart))
+
+-- the bytes of names make words
+pub name-word : (b : ℕ) → is_name_byte b ≡ true → is_word_byte b ≡ true
+name-word b h = grind (arith, nat_tests)
+
+pub name-plain : (b : ℕ) → is_name_byte b ≡ true → is_plain b ≡ true
+name-plain b h = grind (arith, nat_tests)
+
+pub name-run : (x : List ℕ) → IsName x → IsRun x
+name-run x h =
+    let bytes = all-index (λ b. IsTrue (is_name_byte b)) x h.bytes in
+    record {
+      some = h.some;
+      word = all-true is_word_byte x (all-so (λ b. IsTrue (is_name_byte b)) (λ b. is_word_byte b ≡ true) name-word x bytes);
+      plain = all-true is_plain x (all-so (λ b. IsTrue (is_name_byte b)) (λ b. is_plain b ≡ true) name-plain x bytes);
+    }
+
+-- what is wrong with the whole text: nothing
+pub all-found : (p : Said → Bool) (xs : List Said) → list_all p xs ≡ true → find (λ s. not (p s)) xs ≡ None
+all-found p [] h = refl
+all-found p (x ∷ xs) h = let q = both_true (p x) (list_all p xs) h in rw (q.0, all-found p xs q.1) refl
+
+pub zero_false : (n : ℕ) → 0 < n → (n == 0) ≡ false
+zero_false n h = grind (arith, nat_tests)
+
+pub whole-fine : (reading : Names) (all : List Said) → length (signals_of (statements_of all)) ≤ most_signals reading → 0 < length (inputs_of (statements_of all)) → 0 < length (outputs_of (statements_of all))
+    → list_all (λ (s : Said). reads_from (signals_of (statements_of all)) s.statement) all ≡ true → whole_fault reading all ≡ None
+unfolding whole_fault
+whole-fine reading all a b c e =
+    rw (lt_false (most_signals reading) (length (signals_of (statements_of all))) a, zero_false (length (inputs_of (statements_of all))) b, zero_false (length (outputs_of (statements_of all))) c)
+    (ap (option_map (λ (s : Said). refused s.line Undefined)) (all-found (λ (s : Said). reads_from (signals_of (statements_of all)) s.statement) all e))

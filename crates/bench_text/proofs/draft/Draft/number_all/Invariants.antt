@@ -1,0 +1,10 @@
+use Rattle.std.proofs.Common.{take}
+use Rattle.bench_text.specs.Stated.{names}
+use Rattle.bench_text.specs.Drafted.{seen, Keeps, AreNumbers}
+use Rattle.bench_text.proofs.draft.Draft.number_all.Given as goal
+
+abbrev pub invariant-loop-pin : goal.invariant-loop-pin
+invariant-loop-pin l = record {
+  keeps : Keeps l.fn.self l.draft;
+  numbers : AreNumbers (seen l.draft) l.numbers.items (names (take l.pin-index l.pins));
+}

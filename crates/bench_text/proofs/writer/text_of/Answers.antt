@@ -1,0 +1,21 @@
+use Rattle.std.proofs.Common.{◌++◌, map, ap, ◌∙◌}
+use Rattle.std.specs.Prelude.{codes}
+use Rattle.bench_text.specs.Sights.{name_at}
+use Rattle.bench_text.specs.Canonical.{port_line, equation_line, ended}
+use Rattle.bench_text.proofs.WriteLemmas.{outputs-writable, definitions-writable, blocks}
+use Rattle.bench_text.proofs.writer.text_of.Goals as goal
+
+pub push_ports-requires-2 : goal.push_ports-requires-2
+push_ports-requires-2 c = outputs-writable c.args.netlist.now _ c.sound.ensures c.outputs.ensures
+
+pub push_equations-requires : goal.push_equations-requires
+push_equations-requires c = definitions-writable c.args.netlist.now _ c.sound.ensures c.definitions.ensures
+
+pub returns : goal.returns
+returns c =
+    let n = c.args.netlist.now in
+    blocks _ _ _ _ (map (λ x. port_line (codes "INPUT") (name_at n.names x)) n.inputs) (map (λ x. port_line (codes "OUTPUT") (name_at n.names x)) n.outputs) (map (equation_line n.names) n.definitions)
+    c.new-out.ensures.items
+    (c.in_ok-push_ports.ensures ∙ ap (λ l. c.new-out.result.items ++ ended (map (λ x. port_line (codes "INPUT") (name_at n.names x)) l)) c.inputs.ensures)
+    (c.in_ok-push_ports-2.ensures ∙ ap (λ l. c.push_ports.new.out.items ++ ended (map (λ x. port_line (codes "OUTPUT") (name_at n.names x)) l)) c.outputs.ensures)
+    (c.in_ok-push_equations.ensures ∙ ap (λ l. c.push_ports-2.new.out.items ++ ended (map (equation_line n.names) l)) c.definitions.ensures)

@@ -1,0 +1,25 @@
+//! Netlists as .bench text, the format of the ISCAS'89 benchmarks: [`read`] with its refusals, and [`write`], which is canonical.
+//! docs/BENCH.md has the format.
+#![tactic(auto)]
+
+mod draft;
+mod keywords;
+mod laws;
+mod line;
+mod lines;
+mod numbered;
+mod parts;
+mod reader;
+mod refusal;
+mod sights;
+mod statement;
+#[cfg(test)]
+mod tests;
+mod token;
+mod whole;
+mod writer;
+
+pub use laws::canonical_text_is_read;
+pub use reader::read;
+pub use refusal::{BenchFault, BenchKind, BenchRefusal, Names};
+pub use writer::write;

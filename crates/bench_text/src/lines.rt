@@ -1,0 +1,66 @@
+//! A text line by line.
+
+ghost use Rattle.std.specs.Prelude.{◌≡◌, ◌==◌, ◌<◌, ◌^◌, ◌∷◌, position, length};
+ghost use Rattle.bench_text.specs.Bytes.{lines};
+ghost use Rattle.bench_text.specs.LineRead.{put_at};
+ghost use Rattle.bench_text.specs.LinesRead.{AreLinesRead};
+
+use crate::draft::Draft;
+use crate::refusal::{BenchFault, BenchRefusal, LineFault, Names};
+use std::alloc::Global;
+
+impl LineFault {
+    /// The fault of this line of a text.
+    fn at(self, line: u32) -> BenchFault
+        ensures { result ≡ put_at line self }
+    {
+        match self {
+            LineFault::NoMemory => BenchFault::NoMemory,
+            LineFault::Refused(kind) => BenchFault::Refused(BenchRefusal { line, kind }),
+        }
+    }
+}
+
+fn line_end(bytes: &[u8]) -> Option<usize>
+    ensures { result ≡ position (λ b. b == 10) bytes.now }
+{
+    bytes.iter().position(|b| *b == b'\n')
+}
+
+/// The first line, and the bytes after it.
+fn first_line(bytes: &[u8]) -> (&[u8], &[u8])
+    requires { 0 < length bytes.now }
+    ensures line { lines bytes.now ≡ result.0.now ∷ lines result.1.now }
+    ensures shorter { length result.1.now < length bytes.now }
+{
+    match line_end(bytes) {
+        Some(end) => {
+            let (line, rest) = bytes.split_at(end);
+            (line, rest.split_at(1).1)
+        }
+        None => bytes.split_at(bytes.len()),
+    }
+}
+
+/// Reads line by line, up to the first faulty one.
+pub fn read_lines<'a>(
+    alloc: Global,
+    reading: Names,
+    text: &'a [u8],
+) -> Result<Draft<'a>, BenchFault>
+    requires { length (lines text.now) < 2 ^ 32 }
+    ensures { AreLinesRead reading text.now result }
+{
+    let mut draft = Draft::new(alloc);
+    let mut rest = text;
+    'lines: while !rest.is_empty() {
+        let (line, after) = first_line(rest);
+        let number = draft.lines() + 1;
+        draft = match draft.add_line(alloc, reading, line) {
+            Ok(longer) => longer,
+            Err(fault) => return Err(fault.at(number)),
+        };
+        rest = after;
+    }
+    Ok(draft)
+}

@@ -1,0 +1,48 @@
+//! Names, numbered in the order of first sight.
+
+ghost use Rattle.std.specs.Prelude.{◌≡◌, ◌<◌, [], length, IfOk, OnOk, slice_get, Some};
+ghost use Rattle.bench_text.specs.Stated.{names};
+ghost use Rattle.bench_text.specs.Sights.{AreDistinct, IsNumber};
+
+use indexmap::IndexSet;
+use std::alloc::{AllocError, Global};
+
+/// The names of a text, each with a number: its place in the order of first sight.
+#[derive(Drop)]
+pub struct Sights<'a> {
+    pub(crate) names: IndexSet<&'a [u8]>,
+}
+
+impl<'a> Sights<'a> {
+    pub fn new(alloc: Global) -> Sights<'a>
+        ensures { result.names.keys ≡ [] }
+    {
+        Sights {
+            names: IndexSet::new(alloc),
+        }
+    }
+
+    /// How many names were seen.
+    pub fn len(&self) -> usize
+        ensures { result ≡ length self.now.names.keys }
+    {
+        self.names.len()
+    }
+
+    /// The number of a name, which is a new one at first sight.
+    pub fn number(&mut self, name: &'a [u8]) -> Result<usize, AllocError>
+        ensures number { IfOk result (IsNumber (names self.old.names.keys) (names self.new.names.keys) name.now) }
+        ensures distinct { OnOk result (AreDistinct (names self.new.names.keys)) }
+    {
+        let (number, _) = self.names.insert_full(name)?;
+        Ok(number)
+    }
+
+    /// The name of a number.
+    pub fn name(&self, number: usize) -> &'a [u8]
+        requires { number < length self.now.names.keys }
+        ensures { slice_get (names self.now.names.keys) number ≡ Some result.now }
+    {
+        self.names.as_slice()[number]
+    }
+}

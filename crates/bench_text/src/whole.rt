@@ -1,0 +1,104 @@
+//! What is wrong with a text as a whole, but for loops.
+
+ghost use Rattle.std.specs.Prelude.{◌≡◌, ◌<◌, true, not, length, find, nat_lt};
+ghost use Rattle.std.specs.Option.{option_map};
+ghost use Rattle.std.specs.List.{list_any, list_all};
+ghost use Rattle.std.specs.Str.{bytes_eq};
+ghost use Rattle.bench_text.specs.Said.{Said};
+ghost use Rattle.bench_text.specs.Sights.{name_at};
+ghost use Rattle.bench_text.specs.Numbered.{are_below, spelled};
+ghost use Rattle.bench_text.specs.Whole.{reads_from, most_signals, refused, whole_fault};
+ghost use Rattle.bench_text.specs.Drafted.{seen, said_in, signals_in};
+
+use crate::draft::Draft;
+use crate::numbered::Numbered;
+use crate::refusal::{BenchKind, BenchRefusal, Names};
+
+impl Names {
+    /// How many signals a text may have.
+    fn most_signals(self) -> usize
+        ensures { result ≡ most_signals self }
+    {
+        match self {
+            Names::Design => 1_000_000,
+            Names::Scanned => 8_000_000,
+        }
+    }
+}
+
+impl BenchRefusal {
+    /// What is wrong with a text as a whole.
+    fn of_text(kind: BenchKind) -> BenchRefusal
+        ensures { result ≡ refused 0 kind }
+    {
+        BenchRefusal { line: 0, kind }
+    }
+}
+
+impl Draft<'_> {
+    /// Whether lines define all these names.
+    fn defines_all(&self, numbers: &[usize]) -> bool
+        requires { list_all (λ n. nat_lt n (length (seen self.now))) numbers.now ≡ true }
+        ensures { result ≡ list_all (λ n. list_any (bytes_eq (name_at (seen self.now) n)) (signals_in self.now)) numbers.now }
+    {
+        for number in numbers {
+            if !self.defines(*number) {
+                return false;
+            }
+        }
+        true
+    }
+
+    /// Whether a line reads only names that lines define.
+    fn reads_defined(&self, statement: &Numbered) -> bool
+        requires { are_below (length (seen self.now)) statement.now ≡ true }
+        ensures { result ≡ reads_from (signals_in self.now) (spelled (seen self.now) statement.now) }
+    {
+        match statement {
+            Numbered::Input(_) => true,
+            Numbered::Output(number) => self.defines(*number),
+            Numbered::Definition(_, _, pins) => self.defines_all(pins),
+        }
+    }
+
+    /// The first line that reads a name that no line defines.
+    fn first_undefined(&self) -> Option<u32>
+        ensures { result ≡ option_map (λ (s : Said). s.line) (find (λ (s : Said). not (reads_from (signals_in self.now) s.statement)) (said_in self.now)) }
+    {
+        for entry in &self.entries {
+            if !self.reads_defined(&entry.statement) {
+                return Some(entry.line);
+            }
+        }
+        None
+    }
+
+    /// What is wrong with the text as a whole, but for loops.
+    pub fn whole_fault(&self, reading: Names) -> Option<BenchRefusal>
+        ensures { result ≡ whole_fault reading (said_in self.now) }
+    {
+        if self.signal_count() > reading.most_signals() {
+            return Some(BenchRefusal::of_text(BenchKind::TooMany));
+        }
+        if self.inputs.len() == 0 {
+            return Some(BenchRefusal::of_text(BenchKind::NoInput));
+        }
+        if self.outputs.len() == 0 {
+            return Some(BenchRefusal::of_text(BenchKind::NoOutput));
+        }
+        match self.first_undefined() {
+            Some(line) => Some(BenchRefusal {
+                line,
+                kind: BenchKind::Undefined,
+            }),
+            None => None,
+        }
+    }
+
+    /// How many signals the lines define.
+    pub fn signal_count(&self) -> usize
+        ensures { result ≡ length (signals_in self.now) }
+    {
+        self.inputs.len() + self.definitions.len()
+    }
+}
