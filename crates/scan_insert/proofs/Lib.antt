@@ -1,0 +1,5 @@
+pub mod Once
+pub mod Equations
+pub mod Clean
+pub mod Behaves
+pub mod Loopless

@@ -1,0 +1,6 @@
+pub mod Scan
+pub mod Lines
+pub mod Names
+pub mod Scanned
+pub mod Laws
+pub mod Origins
