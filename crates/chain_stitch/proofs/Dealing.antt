@@ -1,12 +1,12 @@
 -- The chains' lengths and where they begin.
 use Rattle.std.proofs.Common.{◌≡◌, ℕ, suc, zero, ◌+◌, ◌-◌, ◌*◌, ◌/◌, ◌%◌, ◌<◌, ◌≤◌, ◌++◌, ◌⊎◌, inl, inr, min, max, cond, ltb, List, [], ◌∷◌, length, take, drop, replicate, get_or, slice_get, Some, refl, add-one, sym, ◌∙◌, ap, subst, arith, length-append, length-drop, length-take}
-use Rattle.std.specs.List.{Contains}
+use Rattle.std.specs.List.{All, Contains}
 use Rattle.std.proofs.Math.Nat.{suc-mul, mul-suc, add-mul, zero-mul, zero-mod, mod-lt, div-add-mod', mul_comm}
 use Rattle.std.proofs.lemmas.Nat.{mul-le, div_below, mod_below, le-div}
 use Rattle.std.proofs.lemmas.Bool.{cases_lt, lt-ltb, le-ltb}
 use Rattle.std.proofs.lemmas.Bool.Decides.{nat_tests}
 use Rattle.std.proofs.lemmas.List.{length-replicate, get_or-replicate, take-replicate, get_or_append_left, get_or-append_right, get_or-take, get_or-drop, take_all, get_or_default}
-use Rattle.std.proofs.lemmas.Option.{slice_get-get_or}
+use Rattle.std.proofs.lemmas.Option.{slice_get-get_or, get_or_from_slice_get}
 use Rattle.chain_stitch.specs.Chains.{pieces, lengths_of, chains_of, cells_of, longest_of, IsAt}
 use Rattle.chain_stitch.specs.Places.{start_of, length_of, IsPlaced, AreDealt}
 use Rattle.chain_stitch.proofs.Pieces.{total, greatest, length-pieces, get-pieces, cells_of-pieces, longest_of-pieces}
@@ -210,3 +210,42 @@ found cells places count least cell dealt c =
       in_table = subst (λ x. x - least < length places) e (dealt.table.within m.0 m.1);
       told = subst (λ x. get_or places (x - least) 0 ≡ m.0) e (dealt.table.has_place m.0 m.1);
     }
+
+-- whatever number is asked for
+same_chains : (cells : List ℕ) (asked : ℕ) → chains_of cells asked ≡ chains_of cells (min asked (length cells))
+same_chains cells asked =
+    let f = length cells in
+    let same : min (min asked f) f ≡ min asked f = omega arith in
+    ap (λ k. pieces (lengths_of f k) cells) (sym same)
+
+pub stitched_cells : (cells : List ℕ) (asked : ℕ) → 0 < asked → cells_of (chains_of cells asked) ≡ cells
+stitched_cells cells asked h =
+    ap cells_of (same_chains cells asked) ∙ cells_of-chains cells (min asked (length cells)) (omega arith) (λ some. omega arith)
+
+pub stitched_count : (cells : List ℕ) (asked : ℕ) → 0 < asked → length (chains_of cells asked) ≡ min asked (length cells)
+stitched_count cells asked h =
+    ap length (same_chains cells asked) ∙ length-chains cells (min asked (length cells)) (omega arith) (λ some. omega arith)
+
+filled : (cells : List ℕ) (count : ℕ) → count ≤ length cells → 0 < count → (c : ℕ) (d : List ℕ) → c < count → 0 < length (get_or (chains_of cells count) c d)
+filled cells count l h c d w =
+    let f = length cells in
+    let start = start_of f count c in
+    let len = length_of f count c in
+    let within : start + len ≤ f = chain_within f count c w l in
+    let is : get_or (chains_of cells count) c d ≡ take len (drop start cells) =
+    get_or_from_slice_get (chains_of cells count) c (take len (drop start cells)) d (get-chains cells count c l w) in
+    let some : 1 ≤ f / count = le-div 1 f count h (omega arith) in
+    let long : 1 ≤ len = elim (cases_lt c (f % count)) [
+      | inl y ↦ let e : len ≡ f / count + 1 = ap (λ t. cond t (f / count + 1) (f / count)) (lt-ltb c (f % count) y) in omega arith
+      | inr n ↦ let e : len ≡ f / count = ap (λ t. cond t (f / count + 1) (f / count)) (le-ltb c (f % count) n) in omega arith
+    ] in
+    let size : length (take len (drop start cells)) ≡ len = omega (arith, length-take len (drop start cells), length-drop start cells) in
+    rw is (omega arith)
+
+-- no chain is without cells
+pub stitched_filled : (cells : List ℕ) (asked : ℕ) → 0 < asked → All (λ (chain : List ℕ). 0 < length chain) (chains_of cells asked)
+stitched_filled cells asked h c d w =
+    let count = min asked (length cells) in
+    let size = stitched_count cells asked h in
+    let l : c < count = omega (arith, size, w) in
+    rw (same_chains cells asked) (filled cells count (omega arith) (omega arith) c d l)
