@@ -6,3 +6,5 @@ pub mod Loopless
 pub mod Numbers
 pub mod Origins
 pub mod Placing
+pub mod Chained
+pub mod Concrete
