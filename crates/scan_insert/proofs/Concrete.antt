@@ -19,7 +19,7 @@ use Rattle.scan_insert.specs.Names.{numbers_from}
 use Rattle.scan_insert.specs.Scan.{Naming, scanned}
 use Rattle.scan_insert.specs.Origins.{Origin, IsNaming, IsChained, named_line, named_fault}
 use Rattle.scan_insert.specs.Scanned.{cell_ids, AreChainsOf, sites_of, site, befores, beside, last_of, first_scan_out, naming_of, scanned_of, line_at, fault_at}
-use Rattle.scan_insert.specs.Laws.{shifted, last_bits}
+use Rattle.scan_insert.specs.Laws.{shifted, last_bits, ScanBehaves}
 use Rattle.scan_insert.proofs.Behaves.{AsOriginal, behaves}
 use Rattle.scan_insert.proofs.Loopless.{map_contains, scanned_acyclic}
 use Rattle.scan_insert.proofs.Numbers.{length-numbers_from}
@@ -158,3 +158,14 @@ module _ (n : Netlist) (sound : IsSound n) (chain : List ℕ) (rest : List (List
       ap (λ (g : Option Fault). next (bits g) (scanned (naming_of n (chain ∷ rest)) n) b) (same_fault n (chain ∷ rest) f)
           ∙ (shown.cells_next ∙ ap (λ r. cond e r (next (bits f) n a)) shifts),
     )
+
+pub behaves_dealt : ScanBehaves
+behaves_dealt n chains f inputs state scan_inputs e a b sound are some valid p q =
+    let dealt = are_dealt n chains are in
+    let w = some_chain n chains dealt some in
+    let P : List (List ℕ) → Type 0 = λ cs.
+        AreDealt n cs → Settles (bits (fault_at (sites_of n cs) f)) (scanned_of n cs) (inputs ++ e ∷ scan_inputs) state b
+        → (outs (bits (fault_at (sites_of n cs) f)) (scanned_of n cs) b ≡ outs (bits f) n a ++ last_bits cs state)
+        × (next (bits (fault_at (sites_of n cs) f)) (scanned_of n cs) b ≡ cond e (shifted cs scan_inputs state) (next (bits f) n a)) in
+    let at : P (w.0 ∷ w.1) = λ d r. law n sound w.0 w.1 d f inputs state scan_inputs e a b valid p r in
+    subst P (sym w.2) at dealt q

@@ -8,3 +8,4 @@ pub mod Origins
 pub mod Placing
 pub mod Chained
 pub mod Concrete
+pub mod Unchanged
