@@ -9,3 +9,5 @@ pub mod Placing
 pub mod Chained
 pub mod Concrete
 pub mod Unchanged
+pub mod SignalNames
+pub mod Soundness

@@ -33,7 +33,7 @@ defined_signal n d c =
     Contains-append_right n.inputs (map (λ (e : Definition). e.id) n.definitions) d.id (map_contains (λ (e : Definition). e.id) n.definitions d c)
 
 -- the gates of the scanned netlist
-data IsScanGate (s : Naming) (n : Netlist) : Definition → Type 0 where
+pub data IsScanGate (s : Naming) (n : Netlist) : Definition → Type 0 where
   off : IsScanGate s n (define s.enable_not Not (s.enable ∷ []))
   plain : (d : Definition) → Contains (gates n) d → IsScanGate s n (define (s.stem d.id) d.kind (map s.stem d.pins))
   capture : (q : Definition) → Contains (cells n) q → IsScanGate s n (define (s.pins q.id) And (map s.stem q.pins ++ s.enable_not ∷ []))
@@ -72,7 +72,7 @@ gate_of_definition s n c d h m g =
     ] in
     step (is_cell c) refl m
 
-scan_gate : (s : Naming) (n : Netlist) (d : Definition) → Contains (gates (scanned s n)) d → IsScanGate s n d
+pub scan_gate : (s : Naming) (n : Netlist) (d : Definition) → Contains (gates (scanned s n)) d → IsScanGate s n d
 scan_gate s n d c =
     let m = contains_filter is_gate (scanned s n).definitions d c in
     elim (contains_cases (define s.enable_not Not (s.enable ∷ [])) d (flat_map (scan_definition s) n.definitions ++ map show_last s.scan_out) m.0) [

@@ -126,6 +126,13 @@ module _ (n : Netlist) (numbered : IsNumbered n) (chain : List ℕ) (rest : List
         ∙ (get_or-append_right (map own_site n.inputs) made (length n.inputs) (length n.inputs + k) (own_site 0) (length-map n.inputs own_site) (omega arith)
         ∙ (ap (λ x. get_or made x (own_site 0)) (omega arith) ∙ get_or_default made k (own_site 0) t (omega arith))))
 
+  -- the scan outputs have the last numbers
+  pub out_numbers : map (λ (p : ℕ × ℕ). p.0) (naming_of n (chain ∷ rest)).scan_out ≡ numbers_from (first_scan_out n (length (chain ∷ rest))) (length (chain ∷ rest))
+  out_numbers =
+      let c = length (chain ∷ rest) in
+      firsts (numbers_from (first_scan_out n c) c) (map (λ (q : List ℕ). (naming_of n (chain ∷ rest)).held (last_of q)) (chain ∷ rest))
+      (length-numbers_from (first_scan_out n c) c ∙ sym (length-map (chain ∷ rest) (λ (q : List ℕ). (naming_of n (chain ∷ rest)).held (last_of q))))
+
   input_numbers : map (naming_of n (chain ∷ rest)).stem n.inputs ≡ numbers_from 0 (length n.inputs)
   input_numbers =
       let places : (k : ℕ) → k < length n.inputs → get_or n.inputs k 0 ≡ k = λ k l.
@@ -146,10 +153,9 @@ module _ (n : Netlist) (numbered : IsNumbered n) (chain : List ℕ) (rest : List
       let w = width n.definitions in
       let first = first_definition n c in
       let wide : w ≡ length n.definitions + 4 * length (cells n) = width_is n.definitions in
-      let lasts : List ℕ = map (λ (q : List ℕ). s.held (last_of q)) (chain ∷ rest) in
       let shows : map id (map show_last s.scan_out) ≡ numbers_from (first + w) c =
       map_map show_last id s.scan_out
-      ∙ (firsts (numbers_from (first_scan_out n c) c) lasts (length-numbers_from (first_scan_out n c) c ∙ sym (length-map (chain ∷ rest) (λ (q : List ℕ). s.held (last_of q))))
+      ∙ (out_numbers
       ∙ ap (λ x. numbers_from x c) (let e : first_scan_out n c ≡ first + w = omega arith in e)) in
       let made : map id (flat_map (scan_definition s) n.definitions ++ map show_last s.scan_out) ≡ numbers_from first (w + c) =
       map-append id (flat_map (scan_definition s) n.definitions) (map show_last s.scan_out)
