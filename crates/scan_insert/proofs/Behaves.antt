@@ -19,7 +19,7 @@ use Rattle.netlist.proofs.WellFormed.{one_pin}
 use Rattle.scan_insert.specs.Scan.{Naming, define, scan_cell, scan_definition, show_last, scanned}
 use Rattle.scan_insert.specs.Lines.{IsFaultOf}
 use Rattle.scan_insert.specs.Origins.{Origin, Original, Enable, EnableNot, ScanIn, ScanOut, Captured, Shifted, Chosen, Held, IsNaming, named_line, named_fault}
-use Rattle.scan_insert.proofs.Once.{settles_once}
+use Rattle.netlist.proofs.Alike.{settles_once}
 use Rattle.scan_insert.proofs.Equations.{held_cell, cells_scanned}
 use Rattle.scan_insert.proofs.Clean.{stuck_bit, signal, defined, IsClean, new_clean, captured_stem_clean, second_pin_clean, buffer_clean, on_stem, on_out, on_gate, on_cell, clean, matches, gate_pins}
 

@@ -1,4 +1,3 @@
-pub mod Once
 pub mod Equations
 pub mod Clean
 pub mod Behaves
@@ -11,3 +10,4 @@ pub mod Concrete
 pub mod Unchanged
 pub mod SignalNames
 pub mod Soundness
+pub mod Making

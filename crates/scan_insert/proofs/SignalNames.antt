@@ -9,7 +9,8 @@ use Rattle.netlist.specs.Netlist.{Definition, Netlist, is_cell, cells, gates, si
 use Rattle.netlist.specs.Names.{is_name_byte, IsName}
 use Rattle.netlist.specs.Conditions.{IsSound}
 use Rattle.netlist.proofs.Lists.{contains_cases, contains_nil, contains_map, contains_filter, map_map, map_agree, All-from_contains}
-use Rattle.scan_insert.specs.Names.{numbers_from, name_of, definition_names, names_of, is_reserved, IsDesign}
+use Rattle.netlist.specs.Designs.{is_reserved, IsDesign}
+use Rattle.scan_insert.specs.Names.{numbers_from, name_of, definition_names, names_of}
 use Rattle.scan_insert.specs.Origins.{Origin, Original, Enable, EnableNot, ScanIn, ScanOut, Captured, Shifted, Chosen, Held}
 use Rattle.scan_insert.proofs.Loopless.{contains_flat_map, only_one, defined_signal}
 use Rattle.scan_insert.proofs.Numbers.{contains_numbers}

@@ -14,7 +14,8 @@ use Rattle.netlist.specs.Conditions.{IsNumbered, IsRead, IsWellFormed, IsClosed,
 use Rattle.netlist.proofs.Lists.{All-from_contains, contains_head, contains_tail, contains_cases, contains_filter, filter_contains, contains_map}
 use Rattle.netlist.proofs.Placed.{signal_below, signal_from, signals_length}
 use Rattle.netlist.proofs.WellFormed.{one_pin}
-use Rattle.scan_insert.specs.Names.{numbers_from, names_of, IsDesign}
+use Rattle.netlist.specs.Designs.{IsDesign}
+use Rattle.scan_insert.specs.Names.{numbers_from, names_of}
 use Rattle.scan_insert.specs.Scan.{Naming, show_last, scanned}
 use Rattle.scan_insert.specs.Origins.{Origin, Original, Enable, EnableNot, ScanIn, ScanOut, Captured, Shifted, Chosen, Held, IsNaming, IsChained}
 use Rattle.scan_insert.specs.Scanned.{first_scan_out, naming_of, scanned_of, AreChainsOf, last_of}

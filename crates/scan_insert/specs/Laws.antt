@@ -5,7 +5,7 @@ use Rattle.netlist.specs.Netlist.{Netlist, cells}
 use Rattle.netlist.specs.Conditions.{IsSound}
 use Rattle.netlist.specs.Settled.{Settles, bits, outs, next}
 use Rattle.scan_insert.specs.Lines.{IsFaultOf}
-use Rattle.scan_insert.specs.Names.{IsDesign}
+use Rattle.netlist.specs.Designs.{IsDesign}
 use Rattle.scan_insert.specs.Scanned.{AreChainsOf, sites_of, scanned_of, fault_at}
 
 -- what the cells hold after one shift: the first cell of each chain has the bit of its scan input, and each other cell that of the cell before

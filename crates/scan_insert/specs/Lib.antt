@@ -4,3 +4,4 @@ pub mod Names
 pub mod Scanned
 pub mod Laws
 pub mod Origins
+pub mod Made

@@ -1,7 +1,7 @@
 -- The names of the scanned netlist's signals.
-use Rattle.std.specs.Prelude.{ℕ, ◌≡◌, ◌≤◌, ◌+◌, ◌==◌, Bool, false, cond, nat_eq, suc, zero, List, [], ◌∷◌, ◌++◌, map, length, slice_index, slice_index_or, codes, decimal}
-use Rattle.std.specs.List.{All, flat_map, list_any, starts_with}
-use Rattle.netlist.specs.Netlist.{Definition, Netlist, is_cell, signals}
+use Rattle.std.specs.Prelude.{ℕ, ◌+◌, ◌==◌, cond, suc, zero, List, [], ◌∷◌, ◌++◌, map, slice_index, slice_index_or, codes, decimal}
+use Rattle.std.specs.List.{flat_map, list_any}
+use Rattle.netlist.specs.Netlist.{Definition, Netlist, is_cell}
 
 -- so many numbers from one on
 abbrev pub numbers_from : ℕ → ℕ → List ℕ
@@ -24,16 +24,6 @@ names_of n chains =
     ++ codes "SC__se" ∷ map (λ c. codes "SC__si" ++ decimal c) (numbers_from 0 chains)
     ++ codes "SC__nse" ∷ flat_map (definition_names n) n.definitions
     ++ map (λ c. codes "SC__so" ++ decimal c) (numbers_from 0 chains)
-
--- a name that a design may not have
-abbrev pub is_reserved : List ℕ → Bool
-is_reserved name = starts_with nat_eq name (codes "SC__")
-
--- what may be scanned: no more than 1,000,000 signals, and names of no more than 255 bytes that don't begin with `SC__`
-pub record IsDesign (n : Netlist) : Type 0 where
-  pub small : length (signals n) ≤ 1000000
-  pub short : All (λ name. length name ≤ 255) n.names
-  pub unreserved : All (λ name. is_reserved name ≡ false) n.names
 
 -- An output's pin has its name, or another where the signal is an input too.
 abbrev pub pin_name_of : Netlist → ℕ → List ℕ

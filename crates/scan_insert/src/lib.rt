@@ -1,7 +1,12 @@
 //! Scan insertion: each cell of a netlist becomes a scan cell, and nothing else that the netlist does changes.
 #![tactic(auto)]
 
+mod cells;
+mod insertion;
 pub mod laws;
+mod shift_paths;
+mod signal_names;
 mod sites;
 
+pub use insertion::Scanned;
 pub use sites::Site;
