@@ -11,3 +11,4 @@ pub mod Unchanged
 pub mod SignalNames
 pub mod Soundness
 pub mod Making
+pub mod Ready

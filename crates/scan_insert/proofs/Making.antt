@@ -78,9 +78,12 @@ cells_of_chain P chains c chain h got =
     let member : Contains chains chain = subst (Contains chains) is (Contains-get_or chains c [] within) in
     All-from_contains P chain (λ x p. All-contains P (cells_of chains) x h (contains_cells_of chains chain x member p))
 
+pub item_contained : (n : Netlist) (items : List Definition) (i : ℕ) (d : Definition) → items ≡ n.definitions → i < length items → d ≡ get_or items i d → Contains n.definitions d
+item_contained n items i d e l is = subst (λ (ds : List Definition). Contains ds d) e (i, l, sym is)
+
 pub item_below : (n : Netlist) → IsNumbered n → (items : List Definition) (i : ℕ) (d : Definition) → items ≡ n.definitions → i < length items → d ≡ get_or items i d → d.id < length (signals n)
 item_below n numbered items i d e l is =
-    definition_below n numbered d (subst (λ (ds : List Definition). Contains ds d) e (i, l, sym is))
+    definition_below n numbered d (item_contained n items i d e l is)
 
 -- one cell more of a chain: what stood before it is pushed, and it stands before the next one
 pub before_step : (old now new chain : List ℕ) (held : ℕ → ℕ) (input before i : ℕ) → i < length chain

@@ -10,7 +10,9 @@ use Rattle.netlist.specs.declared.kinds.Kind.TheVariants.{And}
 use Rattle.netlist.specs.Netlist.{Definition, Netlist, is_cell, is_gate, cells, gates, signals, IsAcyclic}
 use Rattle.netlist.specs.Gates.{allows_pins}
 use Rattle.netlist.specs.Names.{IsName}
-use Rattle.netlist.specs.Conditions.{IsNumbered, IsRead, IsWellFormed, IsClosed, IsSized, IsSound}
+use Rattle.netlist.specs.declared.netlists.NetRefusal.{NetRefusal}
+use Rattle.netlist.specs.declared.netlists.NetRefusal.TheVariants.{TooMany, NoInput, NoOutput, Undefined, Loop, NoMemory}
+use Rattle.netlist.specs.Conditions.{IsNumbered, IsRead, IsWellFormed, IsClosed, IsSized, IsSound, IsCause}
 use Rattle.netlist.proofs.Lists.{All-from_contains, contains_head, contains_tail, contains_cases, contains_filter, filter_contains, contains_map}
 use Rattle.netlist.proofs.Placed.{signal_below, signal_from, signals_length}
 use Rattle.netlist.proofs.WellFormed.{one_pin}
@@ -299,3 +301,14 @@ scanned_sound n (chain ∷ rest) sound design dealt = is_sound n sound chain res
 
 pub scanned_is_sound : ScannedIsSound
 scanned_is_sound n chains sound design are = scanned_sound n chains sound design (are_dealt n chains are)
+
+pub refused_for_memory : (n : Netlist) → IsSound n → (r : NetRefusal) → IsCause n r → r ≡ NoMemory
+refused_for_memory n sound TooMany c = let small = sound.sized.small in let more : 8000000 < length (signals n) = c in absurd (omega arith)
+refused_for_memory n sound NoInput c = let some = sound.sized.input in let none : length n.inputs ≡ 0 = c.1 in absurd (omega arith)
+refused_for_memory n sound NoOutput c = let some = sound.sized.output in let none : length n.outputs ≡ 0 = c.2 in absurd (omega arith)
+refused_for_memory n sound (Undefined z) c = absurd (c.1.1 (elim c.1.0 [
+  | inl w ↦ All-contains (Contains (signals n)) w.0.pins z (All-contains (λ (d : Definition). All (Contains (signals n)) d.pins) n.definitions w.0 sound.closed.pins w.1) w.2
+  | inr o ↦ All-contains (Contains (signals n)) n.outputs z sound.closed.outputs o
+]))
+refused_for_memory n sound (Loop z) c = absurd (sound.acyclic z c.2)
+refused_for_memory n sound NoMemory c = refl

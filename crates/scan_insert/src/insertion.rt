@@ -1,22 +1,15 @@
 //! Scan insertion.
-ghost use Rattle.std.specs.Prelude.{◌≡◌, ◌++◌, ◌∷◌, ◌+◌, ◌<◌, ◌≤◌, length, map, IfOk, OnOk};
-ghost use Rattle.std.specs.List.{All, flat_map};
+ghost use Rattle.std.specs.Prelude.{◌≡◌, ◌<◌, ◌≤◌, [], length, IfOk};
 ghost use Rattle.netlist.specs.Conditions.{IsSound, whole};
 ghost use Rattle.netlist.specs.Designs.{IsDesign};
 ghost use Rattle.netlist.specs.Netlist.{signals};
-ghost use Rattle.chain_stitch.specs.Chains.{cells_of};
-ghost use Rattle.scan_insert.specs.Names.{numbers_from};
-ghost use Rattle.scan_insert.specs.Scan.{scan_definition, scanned};
-ghost use Rattle.scan_insert.specs.Scanned.{AreChainsOf, insertion_of, line_at, line_signal, naming_of, sites_of, first_scan_out};
-ghost use Rattle.scan_insert.specs.Made.{stem_at};
+ghost use Rattle.scan_insert.specs.Scanned.{AreChainsOf, insertion_of, line_at, line_signal};
 
-use crate::cells::{Enables, define, moved_gate, push_scan_cell};
-use crate::shift_paths::{befores, push_scan_outputs};
-use crate::signal_names::signal_names;
+use crate::parts::scanned_parts;
 use crate::sites::{Site, moved_sites, own_sites};
 use chain_stitch::Chains;
-use netlist::{Definition, Kind, Line, NetRefusal, Netlist, NoMemory, Parts, SignalId};
-use std::alloc::{AllocError, Global};
+use netlist::{Line, NetRefusal, Netlist, NoMemory, Parts};
+use std::alloc::Global;
 use std::marker::Model;
 
 /// A scanned netlist, and where it has the lines of the original.
@@ -62,10 +55,51 @@ fn netlist_of(alloc: Global, parts: Parts) -> Result<Netlist, NoMemory>
     match Netlist::new(alloc, parts) {
         Ok(netlist) => Ok(netlist),
         Err(NetRefusal::NoMemory) => Err(NoMemory),
-        Err(NetRefusal::TooMany) => unreachable!(),
-        Err(NetRefusal::NoInput) => unreachable!(),
-        Err(NetRefusal::NoOutput) => unreachable!(),
-        Err(NetRefusal::Undefined(_)) => unreachable!(),
-        Err(NetRefusal::Loop(_)) => unreachable!(),
+        Err(_) => unreachable!(),
     }
+}
+
+/// The scanned netlist, where there are cells.
+fn scan(alloc: Global, netlist: &Netlist, chains: &Chains) -> Result<Scanned, NoMemory>
+    requires sound { IsSound netlist.now }
+    requires design { IsDesign netlist.now }
+    requires chains { AreChainsOf netlist.now chains.now }
+    requires some { 0 < length chains.now }
+    ensures { IfOk result (λ s. s ≡ insertion_of netlist.now chains.now) }
+{
+    let Ok(sites) = moved_sites(alloc, netlist, chains.count()) else {
+        return Err(NoMemory);
+    };
+    let Ok(parts) = scanned_parts(alloc, netlist, chains, &sites) else {
+        return Err(NoMemory);
+    };
+    let netlist = netlist_of(alloc, parts)?;
+    Ok(Scanned { netlist, sites })
+}
+
+/// A netlist without cells, which stays as it is.
+fn unchanged(alloc: Global, netlist: &Netlist) -> Result<Scanned, NoMemory>
+    requires sound { IsSound netlist.now }
+    requires small { length (signals netlist.now) ≤ 1000000 }
+    ensures { IfOk result (λ s. s ≡ insertion_of netlist.now []) }
+{
+    let count = netlist.inputs().len() + netlist.definitions().len();
+    let Ok(sites) = own_sites(alloc, netlist, count) else {
+        return Err(NoMemory);
+    };
+    let netlist = netlist.copy(alloc)?;
+    Ok(Scanned { netlist, sites })
+}
+
+/// The scanned netlist of a design and the chains of its cells. It is refused for want of memory alone.
+pub fn insert(alloc: Global, netlist: &Netlist, chains: &Chains) -> Result<Scanned, NoMemory>
+    requires design { IsDesign netlist.now }
+    requires chains { AreChainsOf netlist.now chains.now }
+    ensures { IfOk result (λ s. s ≡ insertion_of netlist.now chains.now) }
+{
+    netlist.sound();
+    if chains.count() == 0 {
+        return unchanged(alloc, netlist);
+    }
+    scan(alloc, netlist, chains)
 }

@@ -4,9 +4,12 @@
 mod cells;
 mod insertion;
 pub mod laws;
+mod parts;
+mod pin_names;
 mod shift_paths;
 mod signal_names;
 mod sites;
 
-pub use insertion::Scanned;
+pub use insertion::{Scanned, insert};
+pub use pin_names::pin_name;
 pub use sites::Site;
