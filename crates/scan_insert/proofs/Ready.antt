@@ -1,20 +1,21 @@
 -- What is made from the chains of a design is the scanned netlist.
-use Rattle.std.proofs.Common.{◌≡◌, ℕ, suc, zero, ◌+◌, ◌*◌, ◌<◌, ◌≤◌, Bool, true, false, cond, List, [], ◌∷◌, ◌++◌, map, length, get_or, drop, refl, sym, ◌∙◌, ap, subst, inl, inr, arith, length-append}
-use Rattle.std.specs.List.{All, Contains, filter, flat_map, zip}
-use Rattle.std.proofs.lemmas.List.{length-map, append_assoc}
-use Rattle.std.proofs.lemmas.List.Elements.{All-append, All-cons, All-nil, Contains-append_left}
+use Rattle.std.proofs.Common.{◌≡◌, ℕ, suc, zero, ◌+◌, ◌*◌, ◌<◌, ◌≤◌, Bool, true, false, cond, List, [], ◌∷◌, ◌++◌, map, length, get_or, drop, eqb, ltb, refl, sym, ◌∙◌, ap, subst, inl, inr, arith, length-append}
+use Rattle.std.specs.List.{All, Contains, filter, flat_map, list_any, zip}
+use Rattle.std.proofs.lemmas.Bool.{cases_Bool, cases_lt, lt-ltb, le-ltb, eq-eqb, eqb-true}
+use Rattle.std.proofs.lemmas.List.{length-map, get_or_append_left, get_or_default}
+use Rattle.std.proofs.lemmas.List.Elements.{All-append, All-cons, All-nil, All-head, All-tail, All-contains, Contains-get_or}
 use Rattle.netlist.specs.declared.kinds.Kind.TheVariants.{Not}
 use Rattle.netlist.specs.Netlist.{Definition, Netlist, is_cell, cells, signals}
 use Rattle.netlist.specs.Conditions.{IsSound}
 use Rattle.netlist.specs.Designs.{IsDesign}
-use Rattle.netlist.proofs.Lists.{All-from_contains, contains_map, map_map}
-use Rattle.netlist.proofs.Placed.{signals_length, input_below}
+use Rattle.netlist.proofs.Lists.{All-from_contains, contains_map, map_map, any_from, any_true}
+use Rattle.netlist.proofs.Placed.{signals_length, input_below, signal_below}
 use Rattle.netlist.proofs.Settling.{cells_distinct, cells_below}
 use Rattle.chain_stitch.specs.Chains.{cells_of}
 use Rattle.scan_insert.specs.declared.sites.Site.{Site}
 use Rattle.scan_insert.specs.Names.{numbers_from, names_of}
 use Rattle.scan_insert.specs.Scan.{Naming, define, scan_cell, scan_definition, show_last, scanned}
-use Rattle.scan_insert.specs.Scanned.{AreChainsOf, own_site, sites_from, first_definition, first_scan_out, sites_of, befores, beside, last_of, naming_of, scanned_of}
+use Rattle.scan_insert.specs.Scanned.{AreChainsOf, cell_ids, own_site, sites_from, first_definition, first_scan_out, sites_of, befores, beside, last_of, naming_of, scanned_of}
 use Rattle.scan_insert.specs.Made.{IsReady, held_at, naming_at, scan_definitions, stem_at}
 use Rattle.scan_insert.proofs.Concrete.{AreDealt, are_dealt}
 use Rattle.scan_insert.proofs.Placing.{length-sites_from, out_numbers}
@@ -127,3 +128,76 @@ module _ (n : Netlist) (sound : IsSound n) (chain : List ℕ) (rest : List (List
           ++ map show_last (zip (numbers_from (first_scan_out n (length (chain ∷ rest))) (length (chain ∷ rest))) (map (λ (q : List ℕ). held_at t (last_of q)) (chain ∷ rest)))) is
           ∙ definitions_are) in
       cc
+
+pub few_chains : (n : Netlist) (chains : List (List ℕ)) → IsDesign n → AreChainsOf n chains → length chains ≤ 1000000
+few_chains n chains design are = omega (arith, (are_dealt n chains are).few, filter_le is_cell n.definitions, signals_length n, design.small)
+
+pub made_sites : (n : Netlist) (chains : List (List ℕ)) (sites : List Site) (count : ℕ) → 0 < length chains → count ≡ length chains
+    → sites ≡ map own_site n.inputs ++ sites_from (first_definition n count) n.definitions → sites ≡ sites_of n chains
+made_sites n [] sites count some c e = absurd (omega arith)
+made_sites n (chain ∷ rest) sites count some c e = e ∙ ap (λ k. map own_site n.inputs ++ sites_from (first_definition n k) n.definitions) c
+
+pub are_ready : (n : Netlist) (chains : List (List ℕ)) (sites : List Site) → IsSound n → IsDesign n → AreChainsOf n chains → 0 < length chains
+    → sites ≡ sites_of n chains → IsReady n chains sites
+are_ready n chains sites sound design are some e = subst (IsReady n chains) (sym e) (at chains (are_dealt n chains are) some)
+  where
+    at : (cs : List (List ℕ)) → AreDealt n cs → 0 < length cs → IsReady n cs (sites_of n cs)
+    at [] dealt l = absurd (omega arith)
+    at (chain ∷ rest) dealt l = ready n sound chain rest dealt design
+
+pub befores_count : (n : Netlist) (chains : List (List ℕ)) (held : ℕ → ℕ) (first : ℕ) (bs : List ℕ) → cells_of chains ≡ cell_ids n → bs ≡ befores held first chains → length bs ≡ length (cells n)
+befores_count n chains held first bs all e =
+    ap length e ∙ (length-befores held first chains ∙ (ap length all ∙ length-map (cells n) (λ (d : Definition). d.id)))
+
+pub outputs_within : (n : Netlist) → IsSound n → (m : ℕ) → m ≡ length (signals n) → All (λ x. x < m) n.outputs
+outputs_within n sound m e = All-from_contains (λ x. x < m) n.outputs
+    (λ x c. let l = signal_below n sound.formed.numbered x (All-contains (Contains (signals n)) n.outputs x sound.closed.outputs c) in omega arith)
+
+pub parts_of : (n : Netlist) (chains : List (List ℕ)) (sites : List Site) (names : List (List ℕ)) (inputs outputs : List ℕ) (definitions : List Definition)
+    → IsSound n → IsReady n chains sites → 0 < length chains → length chains ≤ length (cells n)
+    → sites ≡ sites_of n chains → names ≡ names_of n (length chains)
+    → inputs ≡ map (stem_at sites) n.inputs ++ numbers_from (length n.inputs) (length chains + 1)
+    → outputs ≡ map (stem_at sites) n.outputs ++ numbers_from (first_scan_out n (length chains)) (length chains)
+    → definitions ≡ define (length n.inputs + 1 + length chains) Not (length n.inputs ∷ [])
+        ∷ scan_definitions sites (length n.inputs) (length n.inputs + 1 + length chains) (befores (held_at sites) (length n.inputs + 1) chains) n.definitions
+        ++ map show_last (zip (numbers_from (first_scan_out n (length chains)) (length chains)) (map (λ (q : List ℕ). held_at sites (last_of q)) chains))
+    → record { names = names; inputs = inputs; outputs = outputs; definitions = definitions } ≡ scanned_of n chains
+parts_of n [] sites names inputs outputs definitions sound known some few is e i o d = absurd (omega arith)
+parts_of n (chain ∷ rest) sites names inputs outputs definitions sound known some few is e i o d =
+    parts_are n sound chain rest (record { all = known.all; filled = known.filled; few = few }) sites names inputs outputs definitions is e i o d
+
+-- a signal is an input where its number is below their count
+pub is_input : (n : Netlist) → IsSound n → (x : ℕ) → ltb x (length n.inputs) ≡ list_any (λ y. eqb y x) n.inputs
+is_input n sound x =
+    let at : (k : ℕ) → k < length n.inputs → get_or n.inputs k 0 ≡ k = λ k l.
+        sym (get_or_append_left n.inputs (map (λ (d : Definition). d.id) n.definitions) 0 k l)
+        ∙ sound.formed.numbered k (omega (arith, length-append n.inputs (map (λ (d : Definition). d.id) n.definitions))) in
+    elim (cases_lt x (length n.inputs)) [
+      | inl l ↦
+          let e = at x l in
+          lt-ltb x (length n.inputs) l ∙ sym (any_from (λ y. eqb y x) n.inputs (get_or n.inputs x 0) (Contains-get_or n.inputs x 0 l) (eq-eqb (get_or n.inputs x 0) x e))
+      | inr h ↦ elim (cases_Bool (list_any (λ y. eqb y x) n.inputs)) [
+        | inl y ↦
+            let w = any_true (λ z. eqb z x) n.inputs y in
+            let same : w.0 ≡ x = eqb-true w.0 x w.2 in
+            let is : get_or n.inputs w.1.0 0 ≡ w.0 = get_or_default n.inputs w.1.0 0 w.0 w.1.1 ∙ w.1.2 in
+            let low = at w.1.0 w.1.1 in
+            let within : w.1.0 < length n.inputs = w.1.1 in
+            absurd (omega arith)
+        | inr f ↦ le-ltb x (length n.inputs) h ∙ sym f
+      ]
+    ]
+
+total_cells : (chains : List (List ℕ)) → All (λ (q : List ℕ). 0 < length q) chains → length chains ≤ length (cells_of chains)
+total_cells [] h = omega arith
+total_cells (chain ∷ rest) h =
+    let some : 0 < length chain = All-head (λ (q : List ℕ). 0 < length q) chain rest h in
+    omega (arith, length-append chain (cells_of rest), total_cells rest (All-tail (λ (q : List ℕ). 0 < length q) chain rest h))
+
+pub ready_few : (n : Netlist) (chains : List (List ℕ)) (sites : List Site) → IsReady n chains sites → length chains ≤ length (cells n)
+ready_few n chains sites known = omega (arith, total_cells chains known.filled, ap length known.all, length-map (cells n) (λ (d : Definition). d.id))
+
+pub output_below : (n : Netlist) → IsSound n → (output x : ℕ) (outputs : List ℕ) → outputs ≡ n.outputs → output < length n.outputs → x ≡ get_or outputs output x → x < length (signals n)
+output_below n sound output x outputs e l is =
+    signal_below n sound.formed.numbered x
+    (All-contains (Contains (signals n)) n.outputs x sound.closed.outputs (output, l, sym (is ∙ ap (λ (xs : List ℕ). get_or xs output x) e)))

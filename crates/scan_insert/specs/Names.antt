@@ -25,8 +25,9 @@ names_of n chains =
     ++ codes "SC__nse" ∷ flat_map (definition_names n) n.definitions
     ++ map (λ c. codes "SC__so" ++ decimal c) (numbers_from 0 chains)
 
--- An output's pin has its name, or another where the signal is an input too.
+-- The name of the pin at an output: the signal's name, or another where the signal is an input too.
+abbrev pub output_name : Netlist → ℕ → List ℕ
+output_name n x = cond (list_any (λ y. y == x) n.inputs) (codes "SC__o_" ++ name_of n x) (name_of n x)
+
 abbrev pub pin_name_of : Netlist → ℕ → List ℕ
-pin_name_of n output =
-    let x = slice_index n.outputs output in
-    cond (list_any (λ y. y == x) n.inputs) (codes "SC__o_" ++ name_of n x) (name_of n x)
+pin_name_of n output = output_name n (slice_index n.outputs output)

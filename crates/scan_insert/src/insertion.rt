@@ -54,8 +54,10 @@ fn netlist_of(alloc: Global, parts: Parts) -> Result<Netlist, NoMemory>
 {
     match Netlist::new(alloc, parts) {
         Ok(netlist) => Ok(netlist),
-        Err(NetRefusal::NoMemory) => Err(NoMemory),
-        Err(_) => unreachable!(),
+        Err(refusal) => {
+            prove!(matches!(&refusal, NetRefusal::NoMemory));
+            Err(NoMemory)
+        }
     }
 }
 
