@@ -1,5 +1,5 @@
 -- The scanned netlist behaves as the original: with and without a fault, with scan off and on.
-use Rattle.std.proofs.Common.{◌≡◌, ℕ, ◌+◌, ◌<◌, Bool, true, false, not, cond, ◌&&◌, ◌||◌, List, [], ◌∷◌, ◌++◌, map, length, Option, refl, sym, ◌∙◌, ap, subst, arith}
+use Rattle.std.proofs.Common.{◌≡◌, ℕ, Bool, true, false, not, cond, ◌&&◌, ◌||◌, List, [], ◌∷◌, ◌++◌, map, length, Option, refl, sym, ◌∙◌, ap, subst, arith}
 use Rattle.std.specs.Bool.{beq}
 use Rattle.std.specs.List.{All, AllZip, Contains, flat_map}
 use Rattle.std.proofs.lemmas.Bool.{both_ways, not-true}
@@ -18,10 +18,10 @@ use Rattle.netlist.proofs.Lists.{all_left, all_right, all_flat_map, all_filter, 
 use Rattle.netlist.proofs.WellFormed.{one_pin}
 use Rattle.scan_insert.specs.Scan.{Naming, define, scan_cell, scan_definition, show_last, scanned}
 use Rattle.scan_insert.specs.Lines.{IsFaultOf}
-use Rattle.scan_insert.specs.Origins.{Origin, Original, Enable, EnableNot, ScanIn, ScanOut, Captured, Shifted, Chosen, Held, IsNaming, named_line, named_fault}
+use Rattle.scan_insert.specs.Origins.{Origin, Original, Enable, EnableNot, ScanIn, ScanOut, Captured, Shifted, Chosen, Held, IsNaming, named_fault}
 use Rattle.netlist.proofs.Alike.{settles_once}
 use Rattle.scan_insert.proofs.Equations.{held_cell, cells_scanned}
-use Rattle.scan_insert.proofs.Clean.{stuck_bit, signal, defined, IsClean, new_clean, captured_stem_clean, second_pin_clean, buffer_clean, on_stem, on_out, on_gate, on_cell, clean, matches, gate_pins}
+use Rattle.scan_insert.proofs.Clean.{stuck_bit, defined, IsClean, new_clean, captured_stem_clean, second_pin_clean, buffer_clean, on_stem, on_out, on_cell, clean, matches, gate_pins}
 
 -- the bits on the pins of z
 abbrev at_pins : Option Fault → ℕ → ℕ → List Bool → List Bool
@@ -314,9 +314,9 @@ module _ (s : Naming) (n : Netlist) (naming : IsNaming s n) (numbered : IsNumber
         ∙ map_agree (λ x. stuck_bit (named_fault s f) (Out (s.stem x)) (b (s.stem x))) (λ x. stuck_bit f (Out x) (a x)) n.outputs
         (All-from_contains (λ x. stuck_bit (named_fault s f) (Out (s.stem x)) (b (s.stem x)) ≡ stuck_bit f (Out x) (a x)) n.outputs
         (λ x c.
-          let there = All-contains (Contains (signals n)) n.outputs x closed.outputs c in
-          matches s n naming numbered closed f (Out (s.stem x)) (Out x) (b (s.stem x)) valid (on_out s n naming numbered closed x there)
-          ∙ ap (stuck_bit f (Out x)) (agrees x there))))
+        let there = All-contains (Contains (signals n)) n.outputs x closed.outputs c in
+        matches s n naming numbered closed f (Out (s.stem x)) (Out x) (b (s.stem x)) valid (on_out s n naming numbered closed x there)
+        ∙ ap (stuck_bit f (Out x)) (agrees x there))))
         ∙ ap (λ r. outs (bits f) n a ++ r)
         (map_map (λ (r : ℕ × ℕ). r.0) (λ x. stuck_bit (named_fault s f) (Out x) (b x)) s.scan_out
         ∙ map_agree (λ (r : ℕ × ℕ). stuck_bit (named_fault s f) (Out r.0) (b r.0)) (λ (r : ℕ × ℕ). b r.1) s.scan_out

@@ -1,11 +1,11 @@
 -- What stands before each cell, and what a shift does.
-use Rattle.std.proofs.Common.{◌≡◌, ◌≢◌, ℕ, suc, zero, ◌+◌, ◌-◌, ◌<◌, ◌≤◌, Bool, true, false, cond, ◌⊎◌, List, [], ◌∷◌, ◌++◌, map, length, get_or, take, drop, refl, sym, ◌∙◌, ap, subst, inl, inr, arith, eqb, length-append, length-take}
+use Rattle.std.proofs.Common.{◌≡◌, ◌≢◌, ℕ, suc, zero, ◌+◌, ◌-◌, ◌<◌, Bool, true, false, cond, ◌⊎◌, List, [], ◌∷◌, ◌++◌, map, length, get_or, take, drop, refl, sym, ◌∙◌, ap, subst, inl, inr, arith, length-append, length-take}
 use Rattle.std.specs.List.{All, AllPairs, AllZip, Contains, zip}
 use Rattle.std.proofs.lemmas.Bool.{eq-eqb, ne_eqb, cases_eq, both_ways}
-use Rattle.std.proofs.lemmas.List.{length-map, get_or-map, get_or_default, get_or_append_left, map-append, take-take, take-map, take_all, same_lists}
+use Rattle.std.proofs.lemmas.List.{length-map, get_or-map, get_or_append_left, map-append, take-take, take-map, same_lists}
 use Rattle.std.proofs.lemmas.List.Elements.{All-head, All-tail, Contains-append_cases, Contains-append_left, Contains-append_right, Contains-get_or}
-use Rattle.netlist.specs.Netlist.{Definition, Netlist, is_cell, is_gate, cells, gates}
-use Rattle.netlist.proofs.Lists.{contains_head, contains_tail, contains_cases, contains_nil, contains_filter, contains_map, map_map, map_agree}
+use Rattle.netlist.specs.Netlist.{Definition, is_cell}
+use Rattle.netlist.proofs.Lists.{contains_head, contains_tail, contains_cases, contains_nil, contains_map, map_map}
 use Rattle.chain_stitch.specs.Chains.{cells_of}
 use Rattle.scan_insert.specs.declared.sites.Site.{Site}
 use Rattle.scan_insert.specs.Names.{numbers_from}
@@ -20,7 +20,7 @@ gate_site sites next [] d h c g = absurd (contains_nil d c)
 gate_site sites next (e ∷ es) d h c g =
     let R : Definition → Site → Type 0 = λ x t. site sites x.id ≡ t in
     let step : (b : Bool) → is_cell e ≡ b → AllZip R (e ∷ es) (cond b (record { stem = next + 4; pins = next } ∷ sites_from (next + 5) es) (own_site next ∷ sites_from (next + 1) es))
-        → (site sites d.id).pins ≡ (site sites d.id).stem =
+    → (site sites d.id).pins ≡ (site sites d.id).stem =
     elim [
       | true ↦ λ is k. elim (contains_cases e d es c) [
         | inl same ↦ absurd (both_ways (is_cell d) g (sym (ap is_cell same) ∙ is))
@@ -43,7 +43,7 @@ cell_site sites next [] d h c g = absurd (contains_nil d c)
 cell_site sites next (e ∷ es) d h c g =
     let R : Definition → Site → Type 0 = λ x t. site sites x.id ≡ t in
     let step : (b : Bool) → is_cell e ≡ b → AllZip R (e ∷ es) (cond b (record { stem = next + 4; pins = next } ∷ sites_from (next + 5) es) (own_site next ∷ sites_from (next + 1) es))
-        → (site sites d.id).stem ≡ (site sites d.id).pins + 4 =
+    → (site sites d.id).stem ≡ (site sites d.id).pins + 4 =
     elim [
       | true ↦ λ is k. elim (contains_cases e d es c) [
         | inl same ↦
@@ -72,8 +72,13 @@ piece_length held input chain = omega (arith, length-take (length chain) (input 
 pub length-befores : (held : ℕ → ℕ) (input : ℕ) (chains : List (List ℕ)) → length (befores held input chains) ≡ length (cells_of chains)
 length-befores held input [] = refl
 length-befores held input (chain ∷ chains) =
-    omega (arith, length-append (take (length chain) (input ∷ map held chain)) (befores held (input + 1) chains), piece_length held input chain,
-    length-befores held (input + 1) chains, length-append chain (cells_of chains))
+    omega (
+      arith,
+      length-append (take (length chain) (input ∷ map held chain)) (befores held (input + 1) chains),
+      piece_length held input chain,
+      length-befores held (input + 1) chains,
+      length-append chain (cells_of chains),
+    )
 
 -- what stands before a cell is what a cell holds, or a scan input
 pub before_cases : (held : ℕ → ℕ) (input : ℕ) (chains : List (List ℕ)) (x : ℕ) → Contains (befores held input chains) x
@@ -114,8 +119,8 @@ pub map-beside : (ys vs : List ℕ) → AllPairs (λ x y. x ≢ y) ys → length
 map-beside ys vs p e =
     same_lists (map (beside ys vs) ys) vs (length-map ys (beside ys vs) ∙ e)
     (λ k d l.
-      let w : k < length ys = omega (arith, length-map ys (beside ys vs)) in
-      get_or-map (beside ys vs) ys k d d w ∙ beside_at ys vs k d p e w)
+    let w : k < length ys = omega (arith, length-map ys (beside ys vs)) in
+    get_or-map (beside ys vs) ys k d d w ∙ beside_at ys vs k d p e w)
 
 zip_parts : {X Y : Type 0} (R : X → Y → Type 0) (xs ys : List X) (zs : List Y) → AllZip R (xs ++ ys) zs → AllZip R xs (take (length xs) zs) × AllZip R ys (drop (length xs) zs)
 zip_parts R [] ys zs h = (tt, h)

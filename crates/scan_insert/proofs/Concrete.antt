@@ -1,13 +1,13 @@
 -- The naming that insertion makes, for the chains of a netlist.
-use Rattle.std.proofs.Common.{◌≡◌, ◌≢◌, ℕ, suc, zero, ◌+◌, ◌<◌, ◌≤◌, Bool, true, false, not, cond, ◌⊎◌, List, [], ◌∷◌, ◌++◌, map, length, get_or, Option, Some, None, refl, sym, ◌∙◌, ap, subst, inl, inr, arith}
-use Rattle.std.specs.List.{All, AllPairs, AllZip, Contains, zip}
+use Rattle.std.proofs.Common.{◌≡◌, ◌≢◌, ℕ, ◌+◌, ◌<◌, ◌≤◌, Bool, cond, List, [], ◌∷◌, ◌++◌, map, length, Option, Some, None, refl, sym, ◌∙◌, ap, subst, inl, inr, arith}
+use Rattle.std.specs.List.{All, AllPairs, AllZip, Contains}
 use Rattle.std.proofs.lemmas.Bool.{not-true}
 use Rattle.std.proofs.lemmas.List.{length-map}
 use Rattle.std.proofs.lemmas.List.Elements.{All-contains}
 use Rattle.netlist.specs.declared.lines.Line.{Line}
 use Rattle.netlist.specs.declared.lines.Line.TheVariants.{Stem, Pin, Out}
 use Rattle.netlist.specs.declared.lines.Fault.{Fault}
-use Rattle.netlist.specs.Netlist.{Definition, Netlist, is_cell, is_gate, cells, gates, signals, IsAcyclic}
+use Rattle.netlist.specs.Netlist.{Definition, Netlist, is_cell, is_gate, cells, gates, IsAcyclic}
 use Rattle.netlist.specs.Conditions.{IsNumbered, IsSound}
 use Rattle.netlist.specs.Settled.{Settles, bits, outs, next}
 use Rattle.netlist.proofs.Lists.{contains_filter, contains_map, map_map}
@@ -16,9 +16,9 @@ use Rattle.chain_stitch.specs.Chains.{cells_of}
 use Rattle.chain_stitch.proofs.Dealing.{stitched_cells, stitched_count, stitched_filled}
 use Rattle.scan_insert.specs.Lines.{IsFaultOf}
 use Rattle.scan_insert.specs.Names.{numbers_from}
-use Rattle.scan_insert.specs.Scan.{Naming, scanned}
-use Rattle.scan_insert.specs.Origins.{Origin, IsNaming, IsChained, named_line, named_fault}
-use Rattle.scan_insert.specs.Scanned.{cell_ids, AreChainsOf, sites_of, site, befores, beside, last_of, first_scan_out, naming_of, scanned_of, line_at, fault_at}
+use Rattle.scan_insert.specs.Scan.{scanned}
+use Rattle.scan_insert.specs.Origins.{IsNaming, IsChained, named_line, named_fault}
+use Rattle.scan_insert.specs.Scanned.{cell_ids, AreChainsOf, sites_of, befores, last_of, first_scan_out, naming_of, scanned_of, line_at, fault_at}
 use Rattle.scan_insert.specs.Laws.{shifted, last_bits, ScanBehaves}
 use Rattle.scan_insert.proofs.Behaves.{AsOriginal, behaves}
 use Rattle.scan_insert.proofs.Loopless.{map_contains, scanned_acyclic}
@@ -101,18 +101,18 @@ module _ (n : Netlist) (sound : IsSound n) (chain : List ℕ) (rest : List (List
   pub is_chained : IsChained (naming_of n (chain ∷ rest)) n
   is_chained = record {
     before = λ d c.
-      let here : Contains (cells_of (chain ∷ rest)) d.id = subst (λ (xs : List ℕ). Contains xs d.id) (sym dealt.all) (map_contains (λ (e : Definition). e.id) (cells n) d c) in
-      elim (before_cases (naming_of n (chain ∷ rest)).held (length n.inputs + 1) (chain ∷ rest) ((naming_of n (chain ∷ rest)).before d.id)
-      (contains_beside (cells_of (chain ∷ rest)) (befores (naming_of n (chain ∷ rest)).held (length n.inputs + 1) (chain ∷ rest)) d.id befores_length here)) [
-        | inl m ↦ let w = of_cell m.0 m.1 in inl (w.0, w.1, m.2 ∙ sym (ap (naming_of n (chain ∷ rest)).held w.2))
-        | inr r ↦ inr r
-      ];
+        let here : Contains (cells_of (chain ∷ rest)) d.id = subst (λ (xs : List ℕ). Contains xs d.id) (sym dealt.all) (map_contains (λ (e : Definition). e.id) (cells n) d c) in
+        elim (before_cases (naming_of n (chain ∷ rest)).held (length n.inputs + 1) (chain ∷ rest) ((naming_of n (chain ∷ rest)).before d.id)
+        (contains_beside (cells_of (chain ∷ rest)) (befores (naming_of n (chain ∷ rest)).held (length n.inputs + 1) (chain ∷ rest)) d.id befores_length here)) [
+          | inl m ↦ let w = of_cell m.0 m.1 in inl (w.0, w.1, m.2 ∙ sym (ap (naming_of n (chain ∷ rest)).held w.2))
+          | inr r ↦ inr r
+        ];
     shows = λ p c.
-      let m = contains_map (λ (q : List ℕ). (naming_of n (chain ∷ rest)).held (last_of q)) (chain ∷ rest) p.1
-      (contains_second (numbers_from (first_scan_out n (length (chain ∷ rest))) (length (chain ∷ rest))) (map (λ (q : List ℕ). (naming_of n (chain ∷ rest)).held (last_of q)) (chain ∷ rest)) p c) in
-      let some : 0 < length m.0 = All-contains (λ (q : List ℕ). 0 < length q) (chain ∷ rest) m.0 dealt.filled m.1 in
-      let w = of_cell (last_of m.0) (contains_cells_of (chain ∷ rest) m.0 (last_of m.0) m.1 (contains_last m.0 some)) in
-      (w.0, w.1, sym m.2 ∙ sym (ap (naming_of n (chain ∷ rest)).held w.2));
+        let m = contains_map (λ (q : List ℕ). (naming_of n (chain ∷ rest)).held (last_of q)) (chain ∷ rest) p.1
+        (contains_second (numbers_from (first_scan_out n (length (chain ∷ rest))) (length (chain ∷ rest))) (map (λ (q : List ℕ). (naming_of n (chain ∷ rest)).held (last_of q)) (chain ∷ rest)) p c) in
+        let some : 0 < length m.0 = All-contains (λ (q : List ℕ). 0 < length q) (chain ∷ rest) m.0 dealt.filled m.1 in
+        let w = of_cell (last_of m.0) (contains_cells_of (chain ∷ rest) m.0 (last_of m.0) m.1 (contains_last m.0 some)) in
+        (w.0, w.1, sym m.2 ∙ sym (ap (naming_of n (chain ∷ rest)).held w.2));
   }
 
   pub is_acyclic : IsAcyclic (scanned (naming_of n (chain ∷ rest)) n)
@@ -164,8 +164,8 @@ behaves_dealt n chains f inputs state scan_inputs e a b sound are some valid p q
     let dealt = are_dealt n chains are in
     let w = some_chain n chains dealt some in
     let P : List (List ℕ) → Type 0 = λ cs.
-        AreDealt n cs → Settles (bits (fault_at (sites_of n cs) f)) (scanned_of n cs) (inputs ++ e ∷ scan_inputs) state b
-        → (outs (bits (fault_at (sites_of n cs) f)) (scanned_of n cs) b ≡ outs (bits f) n a ++ last_bits cs state)
-        × (next (bits (fault_at (sites_of n cs) f)) (scanned_of n cs) b ≡ cond e (shifted cs scan_inputs state) (next (bits f) n a)) in
+    AreDealt n cs → Settles (bits (fault_at (sites_of n cs) f)) (scanned_of n cs) (inputs ++ e ∷ scan_inputs) state b
+    → (outs (bits (fault_at (sites_of n cs) f)) (scanned_of n cs) b ≡ outs (bits f) n a ++ last_bits cs state)
+    × (next (bits (fault_at (sites_of n cs) f)) (scanned_of n cs) b ≡ cond e (shifted cs scan_inputs state) (next (bits f) n a)) in
     let at : P (w.0 ∷ w.1) = λ d r. law n sound w.0 w.1 d f inputs state scan_inputs e a b valid p r in
     subst P (sym w.2) at dealt q

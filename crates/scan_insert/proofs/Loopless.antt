@@ -2,7 +2,7 @@
 use Rattle.std.proofs.Common.{◌≡◌, ℕ, Bool, true, false, cond, ◌&&◌, List, [], ◌∷◌, ◌++◌, map, refl, sym, ◌∙◌, ap, subst, inl, inr, eqb}
 use Rattle.std.specs.List.{All, Contains, flat_map, list_any}
 use Rattle.std.proofs.lemmas.Bool.{both_ways, not_from_false, and_parts, and_from, eqb-true, eq-eqb}
-use Rattle.std.proofs.lemmas.List.Elements.{Contains-append_cases, Contains-append_left, Contains-append_right}
+use Rattle.std.proofs.lemmas.List.Elements.{Contains-append_cases, Contains-append_right}
 use Rattle.netlist.specs.declared.kinds.Kind.TheVariants.{And, Or, Not, Buff, Dff}
 use Rattle.netlist.specs.Netlist.{Definition, Netlist, is_cell, is_gate, cells, gates, signals, Reads, IsLoop, IsAcyclic}
 use Rattle.netlist.specs.Conditions.{IsClosed}
@@ -161,9 +161,9 @@ module _ (s : Naming) (n : Netlist) (naming : IsNaming s n) (chained : IsChained
   stem_out z c h = acyclic z (
     inside,
     (λ y k.
-      let i = signal_inside y k in
-      let m = loop (s.stem y) i.1 in
-      original m.1.0 (scan_gate s n m.1.0 m.1.1) y m.0 i.0 m.1.2 m.1.3 m.2),
+        let i = signal_inside y k in
+        let m = loop (s.stem y) i.1 in
+        original m.1.0 (scan_gate s n m.1.0 m.1.1) y m.0 i.0 m.1.2 m.1.3 m.2),
     is_inside z c h,
   )
 

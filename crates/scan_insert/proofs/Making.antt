@@ -1,20 +1,19 @@
 -- Steps of the loops that make the parts of the scanned netlist.
-use Rattle.std.proofs.Common.{◌≡◌, ℕ, suc, zero, ◌+◌, ◌-◌, ◌<◌, ◌≤◌, List, [], ◌∷◌, ◌++◌, map, length, get_or, take, drop, Some, refl, sym, ◌∙◌, ap, subst, add-one, arith, length-append}
+use Rattle.std.proofs.Common.{◌≡◌, ℕ, suc, ◌+◌, ◌-◌, ◌<◌, List, [], ◌∷◌, ◌++◌, map, length, get_or, take, drop, Some, sym, ◌∙◌, ap, subst, add-one, arith}
 use Rattle.std.specs.List.{All, Contains, slice_get, zip}
-use Rattle.std.proofs.lemmas.List.{map_more, append_assoc, append-nil, map-append, length-map, get_or_default, get_or_read, get_or-map, take_more, drop_more, drop_all}
+use Rattle.std.proofs.lemmas.List.{map_more, append_assoc, map-append, length-map, get_or_read, get_or-map, take_more, drop_more}
 use Rattle.std.proofs.lemmas.List.Elements.{All-contains, Contains-get_or}
 use Rattle.std.proofs.lemmas.Option.{get_or_from_slice_get, slice_get_within}
 use Rattle.netlist.specs.Netlist.{Definition, Netlist, signals}
 use Rattle.netlist.specs.Conditions.{IsNumbered}
 use Rattle.netlist.proofs.Lists.{All-from_contains}
-use Rattle.netlist.proofs.Placed.{id_at, definition_below}
+use Rattle.netlist.proofs.Placed.{definition_below}
 use Rattle.chain_stitch.specs.Chains.{cells_of}
-use Rattle.scan_insert.specs.declared.sites.Site.{Site}
 use Rattle.scan_insert.specs.Names.{numbers_from, name_of}
 use Rattle.scan_insert.specs.Scan.{show_last}
 use Rattle.scan_insert.specs.Scanned.{befores, last_of}
 use Rattle.scan_insert.proofs.Numbers.{then_one}
-use Rattle.scan_insert.proofs.Chained.{contains_last, contains_cells_of}
+use Rattle.scan_insert.proofs.Chained.{contains_cells_of}
 
 -- one more element, behind what there was before the loop
 pub map_step : {X Y : Type 0} (f : X → Y) (old now new : List Y) (xs : List X) (i : ℕ) (d : X) (y : Y)

@@ -1,10 +1,9 @@
 -- Numbers in a row.
-use Rattle.std.proofs.Common.{◌≡◌, ℕ, suc, zero, ◌+◌, ◌<◌, ◌≤◌, List, [], ◌∷◌, ◌++◌, map, length, get_or, refl, sym, ◌∙◌, ap, subst, inl, inr, ◌⊎◌, arith}
+use Rattle.std.proofs.Common.{◌≡◌, ℕ, suc, zero, ◌+◌, ◌<◌, List, [], ◌∷◌, ◌++◌, map, length, get_or, refl, sym, ◌∙◌, ap, arith}
 use Rattle.std.specs.List.{Contains}
 use Rattle.std.proofs.lemmas.List.{ext_get_or, length-map, get_or-map}
 use Rattle.netlist.specs.Netlist.{Netlist, signals}
 use Rattle.netlist.specs.Conditions.{IsNumbered}
-use Rattle.netlist.proofs.Lists.{contains_cases, contains_nil, contains_head, contains_tail}
 use Rattle.scan_insert.specs.Names.{numbers_from}
 
 pub length-numbers_from : (a m : ℕ) → length (numbers_from a m) ≡ m
@@ -52,7 +51,7 @@ pub map-numbers_from : {X : Type 0} (xs : List X) (d : X) → map (λ c. get_or 
 map-numbers_from xs d =
     ext_get_or d (map (λ c. get_or xs c d) (numbers_from 0 (length xs))) xs (length-map (numbers_from 0 (length xs)) (λ c. get_or xs c d) ∙ length-numbers_from 0 (length xs))
     (λ k l.
-      let size = length-numbers_from 0 (length xs) in
-      let w : k < length (numbers_from 0 (length xs)) = omega (arith, length-map (numbers_from 0 (length xs)) (λ c. get_or xs c d)) in
-      get_or-map (λ c. get_or xs c d) (numbers_from 0 (length xs)) k 0 d w
-      ∙ ap (λ c. get_or xs c d) (get_or-numbers_from 0 (length xs) k 0 (omega arith) ∙ omega arith))
+    let size = length-numbers_from 0 (length xs) in
+    let w : k < length (numbers_from 0 (length xs)) = omega (arith, length-map (numbers_from 0 (length xs)) (λ c. get_or xs c d)) in
+    get_or-map (λ c. get_or xs c d) (numbers_from 0 (length xs)) k 0 d w
+    ∙ ap (λ c. get_or xs c d) (get_or-numbers_from 0 (length xs) k 0 (omega arith) ∙ omega arith))

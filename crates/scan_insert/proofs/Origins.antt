@@ -1,16 +1,16 @@
 -- The signals of the scanned netlist by what they stand for, in order.
-use Rattle.std.proofs.Common.{◌≡◌, ℕ, suc, zero, ◌+◌, ◌<◌, ◌≤◌, Bool, true, false, cond, List, [], ◌∷◌, ◌++◌, map, length, get_or, refl, sym, ◌∙◌, ap, subst, inl, inr, arith}
+use Rattle.std.proofs.Common.{◌≡◌, ℕ, ◌+◌, ◌<◌, Bool, true, false, cond, List, [], ◌∷◌, ◌++◌, map, length, get_or, refl, sym, ◌∙◌, ap, subst, inl, inr, arith}
 use Rattle.std.specs.List.{Contains, flat_map}
 use Rattle.std.proofs.lemmas.List.{length-map, get_or-map, get_or_default, map-append, append_assoc}
-use Rattle.std.proofs.lemmas.List.Elements.{Contains-append_left, Contains-append_right, Contains-append_cases, Contains-get_or}
-use Rattle.netlist.specs.Netlist.{Definition, Netlist, is_cell, is_gate, cells, gates, signals}
+use Rattle.std.proofs.lemmas.List.Elements.{Contains-append_left, Contains-append_right, Contains-append_cases}
+use Rattle.netlist.specs.Netlist.{Definition, Netlist, is_cell, cells, gates, signals}
 use Rattle.netlist.specs.Conditions.{IsNumbered}
-use Rattle.netlist.proofs.Lists.{contains_head, contains_tail, contains_cases, contains_nil, contains_filter, contains_map, map_map, map_agree}
+use Rattle.netlist.proofs.Lists.{contains_head, contains_tail, contains_cases, contains_nil, contains_filter, contains_map, map_map}
 use Rattle.scan_insert.specs.Names.{numbers_from}
 use Rattle.scan_insert.specs.Scan.{Naming, define, scan_cell, scan_definition, show_last, scanned}
 use Rattle.scan_insert.specs.Origins.{Origin, Original, Enable, EnableNot, ScanIn, ScanOut, Captured, Shifted, Chosen, Held, IsNaming}
-use Rattle.scan_insert.proofs.Numbers.{length-numbers_from, map-numbers_from, numbers_contain}
-use Rattle.scan_insert.proofs.Loopless.{map_contains, only_one}
+use Rattle.scan_insert.proofs.Numbers.{map-numbers_from, numbers_contain}
+use Rattle.scan_insert.proofs.Loopless.{map_contains}
 
 abbrev pub cell_origins : ℕ → List Origin
 cell_origins q = Captured q ∷ Shifted q ∷ Chosen q ∷ Held q ∷ Original q ∷ []
@@ -53,7 +53,7 @@ numbers_of_definitions : (s : Naming) (ds : List Definition)
 numbers_of_definitions s [] = refl
 numbers_of_definitions s (d ∷ ds) =
     let step : (b : Bool) → map (number s) (cond b (cell_origins d.id) (Original d.id ∷ []))
-        ≡ map (λ (e : Definition). e.id) (cond b (scan_cell s d) (define (s.stem d.id) d.kind (map s.stem d.pins) ∷ [])) =
+    ≡ map (λ (e : Definition). e.id) (cond b (scan_cell s d) (define (s.stem d.id) d.kind (map s.stem d.pins) ∷ [])) =
     elim [ true ↦ refl | false ↦ refl ] in
     map-append (number s) (definition_origins d) (flat_map definition_origins ds)
     ∙ (ap (λ r. r ++ map (number s) (flat_map definition_origins ds)) (step (is_cell d))
@@ -117,8 +117,8 @@ stands n chains =
             subst (λ y. Contains (origins n chains) (Original y)) m.2 (of_definition m.0 (Original m.0.id) m.1 (own m.0 (is_cell m.0)))
       ];
       of_cell = λ d c o h.
-        let m = contains_filter is_cell n.definitions d c in
-        of_definition d o m.0 (subst (λ (b : Bool). Contains (cond b (cell_origins d.id) (Original d.id ∷ [])) o) (sym m.1) h);
+          let m = contains_filter is_cell n.definitions d c in
+          of_definition d o m.0 (subst (λ (b : Bool). Contains (cond b (cell_origins d.id) (Original d.id ∷ [])) o) (sym m.1) h);
       enable = behind_inputs Enable (Contains-append_left (Enable ∷ ins) tail Enable (contains_head Enable ins));
       enable_not = in_tail EnableNot (contains_head EnableNot (made ++ outs));
       scan_in = λ c l. behind_inputs (ScanIn c) (Contains-append_left (Enable ∷ ins) tail (ScanIn c) (contains_tail Enable (ScanIn c) ins (map_contains ScanIn (numbers_from 0 chains) c (place_among chains c l))));
@@ -164,9 +164,9 @@ module _ (s : Naming) (n : Netlist) (chains : ℕ) (ins : length s.scan_in ≡ c
         enable = origin_of_number Enable here.enable;
         enable_not = origin_of_number EnableNot here.enable_not;
         scan_in = λ x c.
-          let is : get_or s.scan_in c.0 0 ≡ x = get_or_default s.scan_in c.0 0 x c.1 ∙ c.2 in
-          (c.0, ap (λ w. get_or (origins n chains) w Enable) (sym is) ∙ origin_of_number (ScanIn c.0) (here.scan_in c.0 (omega (arith, c.1))));
+            let is : get_or s.scan_in c.0 0 ≡ x = get_or_default s.scan_in c.0 0 x c.1 ∙ c.2 in
+            (c.0, ap (λ w. get_or (origins n chains) w Enable) (sym is) ∙ origin_of_number (ScanIn c.0) (here.scan_in c.0 (omega (arith, c.1))));
         scan_out = λ p c.
-          let is : get_or s.scan_out c.0 (0, 0) ≡ p = get_or_default s.scan_out c.0 (0, 0) p c.1 ∙ c.2 in
-          (c.0, ap (λ (w : ℕ × ℕ). get_or (origins n chains) w.0 Enable) (sym is) ∙ origin_of_number (ScanOut c.0) (here.scan_out c.0 (omega (arith, c.1))));
+            let is : get_or s.scan_out c.0 (0, 0) ≡ p = get_or_default s.scan_out c.0 (0, 0) p c.1 ∙ c.2 in
+            (c.0, ap (λ (w : ℕ × ℕ). get_or (origins n chains) w.0 Enable) (sym is) ∙ origin_of_number (ScanOut c.0) (here.scan_out c.0 (omega (arith, c.1))));
       }

@@ -1,18 +1,17 @@
 -- Where the signals of the original stand: each definition at the next number, a cell at five.
-use Rattle.std.proofs.Common.{◌≡◌, ℕ, suc, zero, ◌+◌, ◌*◌, ◌<◌, ◌≤◌, Bool, true, false, cond, List, [], ◌∷◌, ◌++◌, map, length, get_or, refl, sym, ◌∙◌, ap, subst, inl, inr, arith, length-append}
-use Rattle.std.specs.List.{AllZip, Contains, filter, flat_map, zip}
-use Rattle.std.proofs.lemmas.List.{get_or-map, get_or_default, get_or_append_left, get_or-append_right, map-append, map-id, append_assoc, length-map}
-use Rattle.std.proofs.lemmas.List.Elements.{AllZip-get_or}
-use Rattle.netlist.specs.Netlist.{Definition, Netlist, is_cell, is_gate, cells, gates, signals}
+use Rattle.std.proofs.Common.{◌≡◌, ℕ, suc, ◌+◌, ◌*◌, ◌<◌, Bool, true, false, cond, List, [], ◌∷◌, ◌++◌, map, length, get_or, refl, sym, ◌∙◌, ap, arith, length-append}
+use Rattle.std.specs.List.{AllZip, filter, flat_map, zip}
+use Rattle.std.proofs.lemmas.List.{get_or-map, get_or_default, get_or_append_left, get_or-append_right, map-append, map-id, length-map}
+use Rattle.netlist.specs.Netlist.{Definition, Netlist, is_cell, cells, signals}
 use Rattle.netlist.specs.Conditions.{IsNumbered}
-use Rattle.netlist.proofs.Lists.{contains_filter, map_map, map_agree, All-from_contains}
-use Rattle.netlist.proofs.Placed.{id_at, input_below, signals_length}
+use Rattle.netlist.proofs.Lists.{map_map, map_agree}
+use Rattle.netlist.proofs.Placed.{id_at}
 use Rattle.netlist.proofs.Settling.{zip_from}
 use Rattle.scan_insert.specs.declared.sites.Site.{Site}
 use Rattle.scan_insert.specs.Names.{numbers_from}
 use Rattle.scan_insert.specs.Scan.{Naming, define, scan_cell, scan_definition, show_last, scanned}
 use Rattle.scan_insert.specs.Scanned.{own_site, sites_from, first_definition, first_scan_out, sites_of, site, last_of, naming_of}
-use Rattle.scan_insert.proofs.Numbers.{length-numbers_from, numbers_from-append, numbers_from_places, places_from_numbers, get_or-numbers_from}
+use Rattle.scan_insert.proofs.Numbers.{length-numbers_from, numbers_from-append, numbers_from_places, places_from_numbers}
 
 pub length-sites_from : (next : ℕ) (ds : List Definition) → length (sites_from next ds) ≡ length ds
 length-sites_from next [] = refl
@@ -65,8 +64,8 @@ definition_numbers s sites next (d ∷ ds) by h =
     let id : Definition → ℕ = λ e. e.id in
     let R : Definition → Site → Type 0 = λ e t. site sites e.id ≡ t in
     let step : (b : Bool) → AllZip R (d ∷ ds) (cond b (record { stem = next + 4; pins = next } ∷ sites_from (next + 5) ds) (own_site next ∷ sites_from (next + 1) ds))
-        → map id (cond b (scan_cell s d) (define (s.stem d.id) d.kind (map s.stem d.pins) ∷ [])) ++ map id (flat_map (scan_definition s) ds)
-        ≡ numbers_from next (cond b (suc (suc (suc (suc (suc (width ds)))))) (suc (width ds))) =
+    → map id (cond b (scan_cell s d) (define (s.stem d.id) d.kind (map s.stem d.pins) ∷ [])) ++ map id (flat_map (scan_definition s) ds)
+    ≡ numbers_from next (cond b (suc (suc (suc (suc (suc (width ds)))))) (suc (width ds))) =
     elim [
       | true ↦ λ k.
           let here : site sites d.id ≡ record { stem = next + 4; pins = next } = k.0 in
@@ -121,10 +120,10 @@ module _ (n : Netlist) (numbered : IsNumbered n) (chain : List ℕ) (rest : List
       let size : length made ≡ length n.definitions = length-sites_from (first_definition n (length (chain ∷ rest))) n.definitions in
       zip_from (λ (d : Definition) (t : Site). site (sites_of n (chain ∷ rest)) d.id ≡ t) n.definitions made (sym size)
       (λ k d t l.
-        let is : (get_or n.definitions k d).id ≡ length n.inputs + k = id_at n numbered k d l in
-        ap (λ x. get_or (map own_site n.inputs ++ made) x (own_site 0)) is
-        ∙ (get_or-append_right (map own_site n.inputs) made (length n.inputs) (length n.inputs + k) (own_site 0) (length-map n.inputs own_site) (omega arith)
-        ∙ (ap (λ x. get_or made x (own_site 0)) (omega arith) ∙ get_or_default made k (own_site 0) t (omega arith))))
+      let is : (get_or n.definitions k d).id ≡ length n.inputs + k = id_at n numbered k d l in
+      ap (λ x. get_or (map own_site n.inputs ++ made) x (own_site 0)) is
+      ∙ (get_or-append_right (map own_site n.inputs) made (length n.inputs) (length n.inputs + k) (own_site 0) (length-map n.inputs own_site) (omega arith)
+      ∙ (ap (λ x. get_or made x (own_site 0)) (omega arith) ∙ get_or_default made k (own_site 0) t (omega arith))))
 
   -- the scan outputs have the last numbers
   pub out_numbers : map (λ (p : ℕ × ℕ). p.0) (naming_of n (chain ∷ rest)).scan_out ≡ numbers_from (first_scan_out n (length (chain ∷ rest))) (length (chain ∷ rest))
@@ -136,11 +135,11 @@ module _ (n : Netlist) (numbered : IsNumbered n) (chain : List ℕ) (rest : List
   input_numbers : map (naming_of n (chain ∷ rest)).stem n.inputs ≡ numbers_from 0 (length n.inputs)
   input_numbers =
       let places : (k : ℕ) → k < length n.inputs → get_or n.inputs k 0 ≡ k = λ k l.
-          sym (get_or_append_left n.inputs (map (λ (d : Definition). d.id) n.definitions) 0 k l) ∙ numbered k (omega (arith, length-append n.inputs (map (λ (d : Definition). d.id) n.definitions))) in
+      sym (get_or_append_left n.inputs (map (λ (d : Definition). d.id) n.definitions) 0 k l) ∙ numbered k (omega (arith, length-append n.inputs (map (λ (d : Definition). d.id) n.definitions))) in
       map_agree (naming_of n (chain ∷ rest)).stem (λ x. x) n.inputs
       (λ k d l.
-        let is : get_or n.inputs k d ≡ k = get_or_default n.inputs k d 0 l ∙ places k l in
-        ap (naming_of n (chain ∷ rest)).stem is ∙ (ap (λ (t : Site). t.stem) (site_of_input k l) ∙ sym is))
+      let is : get_or n.inputs k d ≡ k = get_or_default n.inputs k d 0 l ∙ places k l in
+      ap (naming_of n (chain ∷ rest)).stem is ∙ (ap (λ (t : Site). t.stem) (site_of_input k l) ∙ sym is))
       ∙ (map-id n.inputs ∙ numbers_from_places n.inputs places)
 
   -- the signals of the scanned netlist are numbered in order

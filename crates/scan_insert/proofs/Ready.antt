@@ -1,5 +1,5 @@
 -- What is made from the chains of a design is the scanned netlist.
-use Rattle.std.proofs.Common.{◌≡◌, ℕ, suc, zero, ◌+◌, ◌*◌, ◌<◌, ◌≤◌, Bool, true, false, cond, List, [], ◌∷◌, ◌++◌, map, length, get_or, drop, eqb, ltb, refl, sym, ◌∙◌, ap, subst, inl, inr, arith, length-append}
+use Rattle.std.proofs.Common.{◌≡◌, ℕ, suc, ◌+◌, ◌*◌, ◌<◌, ◌≤◌, Bool, true, false, cond, List, [], ◌∷◌, ◌++◌, map, length, get_or, drop, eqb, ltb, refl, sym, ◌∙◌, ap, subst, inl, inr, arith, length-append}
 use Rattle.std.specs.List.{All, Contains, filter, flat_map, list_any, zip}
 use Rattle.std.proofs.lemmas.Bool.{cases_Bool, cases_lt, lt-ltb, le-ltb, eq-eqb, eqb-true}
 use Rattle.std.proofs.lemmas.List.{length-map, get_or_append_left, get_or_default}
@@ -15,7 +15,7 @@ use Rattle.chain_stitch.specs.Chains.{cells_of}
 use Rattle.scan_insert.specs.declared.sites.Site.{Site}
 use Rattle.scan_insert.specs.Names.{numbers_from, names_of}
 use Rattle.scan_insert.specs.Scan.{Naming, define, scan_cell, scan_definition, show_last, scanned}
-use Rattle.scan_insert.specs.Scanned.{AreChainsOf, cell_ids, own_site, sites_from, first_definition, first_scan_out, sites_of, befores, beside, last_of, naming_of, scanned_of}
+use Rattle.scan_insert.specs.Scanned.{AreChainsOf, cell_ids, own_site, sites_from, first_definition, first_scan_out, sites_of, befores, last_of, naming_of, scanned_of}
 use Rattle.scan_insert.specs.Made.{IsReady, held_at, naming_at, scan_definitions, stem_at}
 use Rattle.scan_insert.proofs.Concrete.{AreDealt, are_dealt}
 use Rattle.scan_insert.proofs.Placing.{length-sites_from, out_numbers}
@@ -46,11 +46,11 @@ module _ (n : Netlist) (sound : IsSound n) (chain : List ℕ) (rest : List (List
         size = sites_length;
         small = design.small;
         low = All-append (λ (t : Site). t.pins ≤ 7000000) (map own_site n.inputs) (sites_from first n.definitions)
-          (All-from_contains (λ (t : Site). t.pins ≤ 7000000) (map own_site n.inputs) (λ t c.
+            (All-from_contains (λ (t : Site). t.pins ≤ 7000000) (map own_site n.inputs) (λ t c.
             let m = contains_map own_site n.inputs t c in
             let l : m.0 < length (signals n) = input_below n sound.formed.numbered m.0 m.1 in
             subst (λ (u : Site). u.pins ≤ 7000000) m.2 (let low : m.0 ≤ 7000000 = omega (arith, design.small) in low)))
-          (sites_low first n.definitions 7000000 (omega (arith, design.small, dealt.few, signals_length n)));
+            (sites_low first n.definitions 7000000 (omega (arith, design.small, dealt.few, signals_length n)));
         room = omega (arith, design.small, dealt.few, signals_length n);
         all = dealt.all;
         filled = dealt.filled;
@@ -68,9 +68,9 @@ module _ (n : Netlist) (sound : IsSound n) (chain : List ℕ) (rest : List (List
       let off = length n.inputs + 1 + length (chain ∷ rest) in
       let befores_of : List Definition → List ℕ = map (λ (q : Definition). s.before q.id) in
       let step : (b : Bool) → befores_of (cond b (d ∷ filter is_cell ds) (filter is_cell ds)) ≡ bs
-          → cond b (scan_cell (naming_at sites on off (get_or bs 0 0)) d ++ scan_definitions sites on off (drop 1 bs) ds)
-              (define (stem_at sites d.id) d.kind (map (stem_at sites) d.pins) ∷ scan_definitions sites on off bs ds)
-          ≡ cond b (scan_cell s d) (define (s.stem d.id) d.kind (map s.stem d.pins) ∷ []) ++ flat_map (scan_definition s) ds =
+      → cond b (scan_cell (naming_at sites on off (get_or bs 0 0)) d ++ scan_definitions sites on off (drop 1 bs) ds)
+      (define (stem_at sites d.id) d.kind (map (stem_at sites) d.pins) ∷ scan_definitions sites on off bs ds)
+      ≡ cond b (scan_cell s d) (define (s.stem d.id) d.kind (map s.stem d.pins) ∷ []) ++ flat_map (scan_definition s) ds =
       elim [
         | true ↦ λ h.
             let first : get_or bs 0 0 ≡ s.before d.id = sym (ap (λ xs. get_or xs 0 0) h) in
@@ -114,19 +114,19 @@ module _ (n : Netlist) (sound : IsSound n) (chain : List ℕ) (rest : List (List
       → inputs ≡ map (stem_at sites) n.inputs ++ numbers_from (length n.inputs) (length (chain ∷ rest) + 1)
       → outputs ≡ map (stem_at sites) n.outputs ++ numbers_from (first_scan_out n (length (chain ∷ rest))) (length (chain ∷ rest))
       → definitions ≡ define (length n.inputs + 1 + length (chain ∷ rest)) Not (length n.inputs ∷ [])
-          ∷ scan_definitions sites (length n.inputs) (length n.inputs + 1 + length (chain ∷ rest)) (befores (held_at sites) (length n.inputs + 1) (chain ∷ rest)) n.definitions
-          ++ map show_last (zip (numbers_from (first_scan_out n (length (chain ∷ rest))) (length (chain ∷ rest))) (map (λ (q : List ℕ). held_at sites (last_of q)) (chain ∷ rest)))
+      ∷ scan_definitions sites (length n.inputs) (length n.inputs + 1 + length (chain ∷ rest)) (befores (held_at sites) (length n.inputs + 1) (chain ∷ rest)) n.definitions
+      ++ map show_last (zip (numbers_from (first_scan_out n (length (chain ∷ rest))) (length (chain ∷ rest))) (map (λ (q : List ℕ). held_at sites (last_of q)) (chain ∷ rest)))
       → record { names = names; inputs = inputs; outputs = outputs; definitions = definitions } ≡ scanned_of n (chain ∷ rest)
   parts_are sites names inputs outputs definitions is e i o d =
       let i' : inputs ≡ (scanned (naming_of n (chain ∷ rest)) n).inputs =
-          i ∙ (ap (λ (t : List Site). map (stem_at t) n.inputs ++ numbers_from (length n.inputs) (length (chain ∷ rest) + 1)) is ∙ inputs_are) in
+      i ∙ (ap (λ (t : List Site). map (stem_at t) n.inputs ++ numbers_from (length n.inputs) (length (chain ∷ rest) + 1)) is ∙ inputs_are) in
       let o' : outputs ≡ (scanned (naming_of n (chain ∷ rest)) n).outputs =
-          o ∙ (ap (λ (t : List Site). map (stem_at t) n.outputs ++ numbers_from (first_scan_out n (length (chain ∷ rest))) (length (chain ∷ rest))) is ∙ outputs_are) in
+      o ∙ (ap (λ (t : List Site). map (stem_at t) n.outputs ++ numbers_from (first_scan_out n (length (chain ∷ rest))) (length (chain ∷ rest))) is ∙ outputs_are) in
       let d' : definitions ≡ (scanned (naming_of n (chain ∷ rest)) n).definitions =
-          d ∙ (ap (λ (t : List Site). define (length n.inputs + 1 + length (chain ∷ rest)) Not (length n.inputs ∷ [])
-          ∷ scan_definitions t (length n.inputs) (length n.inputs + 1 + length (chain ∷ rest)) (befores (held_at t) (length n.inputs + 1) (chain ∷ rest)) n.definitions
-          ++ map show_last (zip (numbers_from (first_scan_out n (length (chain ∷ rest))) (length (chain ∷ rest))) (map (λ (q : List ℕ). held_at t (last_of q)) (chain ∷ rest)))) is
-          ∙ definitions_are) in
+      d ∙ (ap (λ (t : List Site). define (length n.inputs + 1 + length (chain ∷ rest)) Not (length n.inputs ∷ [])
+      ∷ scan_definitions t (length n.inputs) (length n.inputs + 1 + length (chain ∷ rest)) (befores (held_at t) (length n.inputs + 1) (chain ∷ rest)) n.definitions
+      ++ map show_last (zip (numbers_from (first_scan_out n (length (chain ∷ rest))) (length (chain ∷ rest))) (map (λ (q : List ℕ). held_at t (last_of q)) (chain ∷ rest)))) is
+      ∙ definitions_are) in
       cc
 
 pub few_chains : (n : Netlist) (chains : List (List ℕ)) → IsDesign n → AreChainsOf n chains → length chains ≤ 1000000
@@ -159,8 +159,8 @@ pub parts_of : (n : Netlist) (chains : List (List ℕ)) (sites : List Site) (nam
     → inputs ≡ map (stem_at sites) n.inputs ++ numbers_from (length n.inputs) (length chains + 1)
     → outputs ≡ map (stem_at sites) n.outputs ++ numbers_from (first_scan_out n (length chains)) (length chains)
     → definitions ≡ define (length n.inputs + 1 + length chains) Not (length n.inputs ∷ [])
-        ∷ scan_definitions sites (length n.inputs) (length n.inputs + 1 + length chains) (befores (held_at sites) (length n.inputs + 1) chains) n.definitions
-        ++ map show_last (zip (numbers_from (first_scan_out n (length chains)) (length chains)) (map (λ (q : List ℕ). held_at sites (last_of q)) chains))
+    ∷ scan_definitions sites (length n.inputs) (length n.inputs + 1 + length chains) (befores (held_at sites) (length n.inputs + 1) chains) n.definitions
+    ++ map show_last (zip (numbers_from (first_scan_out n (length chains)) (length chains)) (map (λ (q : List ℕ). held_at sites (last_of q)) chains))
     → record { names = names; inputs = inputs; outputs = outputs; definitions = definitions } ≡ scanned_of n chains
 parts_of n [] sites names inputs outputs definitions sound known some few is e i o d = absurd (omega arith)
 parts_of n (chain ∷ rest) sites names inputs outputs definitions sound known some few is e i o d =
@@ -170,8 +170,8 @@ parts_of n (chain ∷ rest) sites names inputs outputs definitions sound known s
 pub is_input : (n : Netlist) → IsSound n → (x : ℕ) → ltb x (length n.inputs) ≡ list_any (λ y. eqb y x) n.inputs
 is_input n sound x =
     let at : (k : ℕ) → k < length n.inputs → get_or n.inputs k 0 ≡ k = λ k l.
-        sym (get_or_append_left n.inputs (map (λ (d : Definition). d.id) n.definitions) 0 k l)
-        ∙ sound.formed.numbered k (omega (arith, length-append n.inputs (map (λ (d : Definition). d.id) n.definitions))) in
+    sym (get_or_append_left n.inputs (map (λ (d : Definition). d.id) n.definitions) 0 k l)
+    ∙ sound.formed.numbered k (omega (arith, length-append n.inputs (map (λ (d : Definition). d.id) n.definitions))) in
     elim (cases_lt x (length n.inputs)) [
       | inl l ↦
           let e = at x l in

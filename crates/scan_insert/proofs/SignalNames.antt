@@ -1,14 +1,14 @@
 -- The names of the scanned netlist's signals: in form, and no two equal.
-use Rattle.std.proofs.Common.{◌≡◌, ◌≢◌, ℕ, suc, zero, ◌+◌, ◌%◌, ◌/◌, ◌^◌, ◌<◌, ◌≤◌, Bool, true, false, cond, ◌&&◌, List, [], ◌∷◌, ◌++◌, map, length, get_or, drop, refl, sym, ◌∙◌, ap, subst, inl, inr, arith, eqb, length-append, IsTrue, codes, decimal}
-use Rattle.std.specs.List.{All, AllPairs, Contains, flat_map, list_all}
-use Rattle.std.proofs.lemmas.Bool.{both_ways, and_parts, cases_order}
-use Rattle.std.proofs.lemmas.List.{length-map, get_or-map, get_or_default, map-append, append_assoc}
-use Rattle.std.proofs.lemmas.List.Elements.{All-nil, All-cons, All-append, All-push, All-contains, Contains-append_cases, Contains-append_left, Contains-get_or}
+use Rattle.std.proofs.Common.{◌≡◌, ℕ, suc, zero, ◌+◌, ◌%◌, ◌^◌, ◌<◌, ◌≤◌, Bool, true, false, cond, List, [], ◌∷◌, ◌++◌, map, length, get_or, drop, refl, sym, ◌∙◌, ap, subst, inl, inr, arith, eqb, length-append, IsTrue, codes, decimal}
+use Rattle.std.specs.List.{All, Contains, flat_map, list_all}
+use Rattle.std.proofs.lemmas.Bool.{and_parts, cases_order}
+use Rattle.std.proofs.lemmas.List.{map-append, append_assoc}
+use Rattle.std.proofs.lemmas.List.Elements.{All-nil, All-cons, All-append, All-push, Contains-append_cases, Contains-append_left}
 use Rattle.std.proofs.lemmas.Fmt.{decimal_injective, decimal_by_steps, length-decimal-le}
-use Rattle.netlist.specs.Netlist.{Definition, Netlist, is_cell, cells, gates, signals}
+use Rattle.netlist.specs.Netlist.{Definition, Netlist, is_cell, signals}
 use Rattle.netlist.specs.Names.{is_name_byte, IsName}
 use Rattle.netlist.specs.Conditions.{IsSound}
-use Rattle.netlist.proofs.Lists.{contains_cases, contains_nil, contains_map, contains_filter, map_map, map_agree, All-from_contains}
+use Rattle.netlist.proofs.Lists.{contains_cases, contains_map, map_map}
 use Rattle.netlist.specs.Designs.{is_reserved, IsDesign}
 use Rattle.scan_insert.specs.Names.{numbers_from, name_of, definition_names, names_of}
 use Rattle.scan_insert.specs.Origins.{Origin, Original, Enable, EnableNot, ScanIn, ScanOut, Captured, Shifted, Chosen, Held}
@@ -32,7 +32,7 @@ names_of_definitions n [] = refl
 names_of_definitions n (d ∷ ds) =
     let name = name_of n d.id in
     let step : (b : Bool) → map (origin_name n) (cond b (cell_origins d.id) (Original d.id ∷ []))
-        ≡ cond b ((codes "SC__a_" ++ name) ∷ (codes "SC__b_" ++ name) ∷ (codes "SC__d_" ++ name) ∷ (codes "SC__s_" ++ name) ∷ name ∷ []) (name ∷ []) =
+    ≡ cond b ((codes "SC__a_" ++ name) ∷ (codes "SC__b_" ++ name) ∷ (codes "SC__d_" ++ name) ∷ (codes "SC__s_" ++ name) ∷ name ∷ []) (name ∷ []) =
     elim [ true ↦ refl | false ↦ refl ] in
     map-append (origin_name n) (definition_origins d) (flat_map definition_origins ds)
     ∙ (ap (λ r. r ++ map (origin_name n) (flat_map definition_origins ds)) (step (is_cell d))

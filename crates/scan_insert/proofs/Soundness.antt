@@ -1,31 +1,30 @@
 -- The scanned netlist is a netlist.
-use Rattle.std.proofs.Common.{◌≡◌, ◌≢◌, ℕ, suc, zero, ◌+◌, ◌*◌, ◌<◌, ◌≤◌, Bool, true, false, cond, ◌⊎◌, List, [], ◌∷◌, ◌++◌, map, length, get_or, refl, sym, ◌∙◌, ap, subst, inl, inr, arith, length-append, IsTrue}
-use Rattle.std.specs.List.{All, AllPairs, Contains, filter, flat_map, zip}
-use Rattle.std.proofs.lemmas.Bool.{cases_Bool, not_from_false, both_ways}
+use Rattle.std.proofs.Common.{◌≡◌, ◌≢◌, ℕ, suc, ◌+◌, ◌<◌, ◌≤◌, Bool, true, false, cond, ◌⊎◌, List, [], ◌∷◌, ◌++◌, map, length, get_or, refl, sym, ◌∙◌, ap, subst, inl, inr, arith, length-append}
+use Rattle.std.specs.List.{All, AllPairs, Contains, filter}
+use Rattle.std.proofs.lemmas.Bool.{cases_Bool, not_from_false}
 use Rattle.std.proofs.lemmas.List.{length-map, get_or-map, get_or_default}
 use Rattle.std.proofs.lemmas.List.Kept.{AllPairs-cons}
 use Rattle.std.proofs.lemmas.List.Elements.{All-contains, All-append, Contains-append_cases, Contains-append_left, Contains-append_right, Contains-get_or}
-use Rattle.netlist.specs.declared.kinds.Kind.{Kind}
 use Rattle.netlist.specs.declared.kinds.Kind.TheVariants.{And}
-use Rattle.netlist.specs.Netlist.{Definition, Netlist, is_cell, is_gate, cells, gates, signals, IsAcyclic}
+use Rattle.netlist.specs.Netlist.{Definition, Netlist, is_cell, is_gate, cells, signals}
 use Rattle.netlist.specs.Gates.{allows_pins}
 use Rattle.netlist.specs.Names.{IsName}
 use Rattle.netlist.specs.declared.netlists.NetRefusal.{NetRefusal}
 use Rattle.netlist.specs.declared.netlists.NetRefusal.TheVariants.{TooMany, NoInput, NoOutput, Undefined, Loop, NoMemory}
-use Rattle.netlist.specs.Conditions.{IsNumbered, IsRead, IsWellFormed, IsClosed, IsSized, IsSound, IsCause}
+use Rattle.netlist.specs.Conditions.{IsRead, IsWellFormed, IsClosed, IsSized, IsSound, IsCause}
 use Rattle.netlist.proofs.Lists.{All-from_contains, contains_head, contains_tail, contains_cases, contains_filter, filter_contains, contains_map}
 use Rattle.netlist.proofs.Placed.{signal_below, signal_from, signals_length}
 use Rattle.netlist.proofs.WellFormed.{one_pin}
 use Rattle.netlist.specs.Designs.{IsDesign}
-use Rattle.scan_insert.specs.Names.{numbers_from, names_of}
-use Rattle.scan_insert.specs.Scan.{Naming, show_last, scanned}
-use Rattle.scan_insert.specs.Origins.{Origin, Original, Enable, EnableNot, ScanIn, ScanOut, Captured, Shifted, Chosen, Held, IsNaming, IsChained}
-use Rattle.scan_insert.specs.Scanned.{first_scan_out, naming_of, scanned_of, AreChainsOf, last_of}
+use Rattle.scan_insert.specs.Names.{names_of}
+use Rattle.scan_insert.specs.Scan.{Naming, scanned}
+use Rattle.scan_insert.specs.Origins.{Origin, Original, Enable, EnableNot, ScanOut, Captured, Shifted, Chosen, Held}
+use Rattle.scan_insert.specs.Scanned.{first_scan_out, naming_of, scanned_of}
 use Rattle.scan_insert.specs.Laws.{ScannedIsSound}
 use Rattle.scan_insert.proofs.Equations.{held_cell, cells_scanned}
-use Rattle.scan_insert.proofs.Loopless.{IsScanGate, off, plain, capture, shift, choose, buffer, show, scan_gate, map_contains, only_one, defined_signal}
+use Rattle.scan_insert.proofs.Loopless.{IsScanGate, off, plain, capture, shift, choose, buffer, show, scan_gate, only_one}
 use Rattle.scan_insert.proofs.Numbers.{length-numbers_from, get_or-numbers_from}
-use Rattle.scan_insert.proofs.Origins.{cell_origins, origins, number, stands, number_at, origin_of_number, among_signals, numbers_of_origins}
+use Rattle.scan_insert.proofs.Origins.{cell_origins, origins, number, stands, number_at, among_signals, numbers_of_origins}
 use Rattle.scan_insert.proofs.Placing.{scanned_numbers, out_numbers}
 use Rattle.scan_insert.proofs.SignalNames.{origin_name, names_of_origins, name_in_form, name_injective, valid_origin}
 use Rattle.scan_insert.proofs.Concrete.{AreDealt, are_dealt, gates_pins, is_numbered, ins_length, outs_length, is_naming, is_chained, is_acyclic}
@@ -197,20 +196,20 @@ module _ (n : Netlist) (sound : IsSound n) (chain : List ℕ) (rest : List (List
       pairs_append (λ x y. x ≢ y) (map s.stem n.outputs) (map (λ (p : ℕ × ℕ). p.0) s.scan_out)
       (pairs_map s.stem n.outputs 0 sound.formed.once (λ x y c e same. let a = naming.stem x (signal x c) in let b = naming.stem y (signal y e) in cc))
       (λ i j d l m same.
-        let size : length (map (λ (p : ℕ × ℕ). p.0) s.scan_out) ≡ length (chain ∷ rest) = length-map s.scan_out (λ (p : ℕ × ℕ). p.0) ∙ outs_length n sound chain rest dealt in
-        let at : (k : ℕ) → k < length (chain ∷ rest) → get_or (map (λ (p : ℕ × ℕ). p.0) s.scan_out) k d ≡ first_scan_out n (length (chain ∷ rest)) + k = λ k w.
-            ap (λ (xs : List ℕ). get_or xs k d) (out_numbers n sound.formed.numbered chain rest) ∙ get_or-numbers_from (first_scan_out n (length (chain ∷ rest))) (length (chain ∷ rest)) k d w in
-        let a = at i (omega arith) in
-        let b = at j (omega arith) in
-        omega arith)
+      let size : length (map (λ (p : ℕ × ℕ). p.0) s.scan_out) ≡ length (chain ∷ rest) = length-map s.scan_out (λ (p : ℕ × ℕ). p.0) ∙ outs_length n sound chain rest dealt in
+      let at : (k : ℕ) → k < length (chain ∷ rest) → get_or (map (λ (p : ℕ × ℕ). p.0) s.scan_out) k d ≡ first_scan_out n (length (chain ∷ rest)) + k = λ k w.
+      ap (λ (xs : List ℕ). get_or xs k d) (out_numbers n sound.formed.numbered chain rest) ∙ get_or-numbers_from (first_scan_out n (length (chain ∷ rest))) (length (chain ∷ rest)) k d w in
+      let a = at i (omega arith) in
+      let b = at j (omega arith) in
+      omega arith)
       (λ x y c e same.
-        let m = contains_map s.stem n.outputs x c in
-        let w = contains_map (λ (p : ℕ × ℕ). p.0) s.scan_out y e in
-        let a = naming.stem m.0 (signal m.0 m.1) in
-        let b = (naming.scan_out w.0 w.1).1 in
-        let f : s.stem m.0 ≡ x = m.2 in
-        let g : w.0.0 ≡ y = w.2 in
-        cc)
+      let m = contains_map s.stem n.outputs x c in
+      let w = contains_map (λ (p : ℕ × ℕ). p.0) s.scan_out y e in
+      let a = naming.stem m.0 (signal m.0 m.1) in
+      let b = (naming.scan_out w.0 w.1).1 in
+      let f : s.stem m.0 ≡ x = m.2 in
+      let g : w.0.0 ≡ y = w.2 in
+      cc)
 
   names_count : length (names_of n (length (chain ∷ rest))) ≡ length (signals (scanned (naming_of n (chain ∷ rest)) n))
   names_count =
@@ -238,8 +237,8 @@ module _ (n : Netlist) (sound : IsSound n) (chain : List ℕ) (rest : List (List
         subst (All IsName) (names_of_origins n (length (chain ∷ rest)))
         (All-from_contains IsName (map (origin_name n) (origins n (length (chain ∷ rest))))
         (λ name c.
-          let m = contains_map (origin_name n) (origins n (length (chain ∷ rest))) name c in
-          subst IsName m.2 (name_in_form n sound design m.0 (valid_origin n sound design (length (chain ∷ rest)) few_chains m.0 m.1))))
+        let m = contains_map (origin_name n) (origins n (length (chain ∷ rest))) name c in
+        subst IsName m.2 (name_in_form n sound design m.0 (valid_origin n sound design (length (chain ∷ rest)) few_chains m.0 m.1))))
 
     names_differ : AllPairs (λ x y. x ≢ y) (names_of n (length (chain ∷ rest)))
     names_differ =
@@ -249,16 +248,16 @@ module _ (n : Netlist) (sound : IsSound n) (chain : List ℕ) (rest : List (List
         let valid : (k : ℕ) → k < length os → Contains os (get_or os k Enable) = λ k l. Contains-get_or os k Enable l in
         subst (AllPairs (λ x y. x ≢ y)) (names_of_origins n (length (chain ∷ rest)))
         (λ i j d l m same.
-          let size : length (map (origin_name n) os) ≡ length os = length-map os (origin_name n) in
-          let w : i < length os = omega arith in
-          let v : j < length os = omega arith in
-          let names : origin_name n (get_or os i Enable) ≡ origin_name n (get_or os j Enable) =
-          sym (get_or-map (origin_name n) os i Enable d w) ∙ (same ∙ get_or-map (origin_name n) os j Enable d v) in
-          let one = name_injective n sound design (get_or os i Enable) (get_or os j Enable)
-          (valid_origin n sound design (length (chain ∷ rest)) few_chains (get_or os i Enable) (valid i w))
-          (valid_origin n sound design (length (chain ∷ rest)) few_chains (get_or os j Enable) (valid j v)) names in
-          let numbers : i ≡ j = sym (at i Enable w) ∙ (ap (number s) one ∙ at j Enable v) in
-          omega arith)
+        let size : length (map (origin_name n) os) ≡ length os = length-map os (origin_name n) in
+        let w : i < length os = omega arith in
+        let v : j < length os = omega arith in
+        let names : origin_name n (get_or os i Enable) ≡ origin_name n (get_or os j Enable) =
+        sym (get_or-map (origin_name n) os i Enable d w) ∙ (same ∙ get_or-map (origin_name n) os j Enable d v) in
+        let one = name_injective n sound design (get_or os i Enable) (get_or os j Enable)
+        (valid_origin n sound design (length (chain ∷ rest)) few_chains (get_or os i Enable) (valid i w))
+        (valid_origin n sound design (length (chain ∷ rest)) few_chains (get_or os j Enable) (valid j v)) names in
+        let numbers : i ≡ j = sym (at i Enable w) ∙ (ap (number s) one ∙ at j Enable v) in
+        omega arith)
 
     read_there : (x : ℕ) → IsRead (scanned (naming_of n (chain ∷ rest)) n) x → Contains (signals (scanned (naming_of n (chain ∷ rest)) n)) x
     read_there x r =

@@ -1,5 +1,5 @@
 -- The lines of a netlist.
-use Rattle.std.specs.Prelude.{ℕ, ◌≡◌, ◌<◌, length, Option, Some}
+use Rattle.std.specs.Prelude.{◌≡◌, ◌<◌, length, Option, Some}
 use Rattle.std.specs.List.{Contains}
 use Rattle.netlist.specs.declared.lines.Line.{Line}
 use Rattle.netlist.specs.declared.lines.Line.TheVariants.{Stem, Pin, Out}

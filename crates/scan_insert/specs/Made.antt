@@ -1,7 +1,7 @@
 -- Parts of the scanned netlist as they are made (private to this crate).
 use Rattle.std.specs.Prelude.{ℕ, ◌≡◌, ◌+◌, ◌<◌, ◌≤◌, cond, List, [], ◌∷◌, ◌++◌, map, drop, length, slice_index}
 use Rattle.std.specs.List.{All}
-use Rattle.netlist.specs.Netlist.{Definition, Netlist, is_cell, cells, signals}
+use Rattle.netlist.specs.Netlist.{Definition, Netlist, is_cell, signals}
 use Rattle.chain_stitch.specs.Chains.{cells_of}
 use Rattle.scan_insert.specs.declared.sites.Site.{Site}
 use Rattle.scan_insert.specs.Scan.{Naming, define, scan_cell}

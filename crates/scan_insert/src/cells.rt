@@ -56,11 +56,7 @@ pub(crate) fn moved_gate(
     ensures { IfOk result (λ d. d ≡ define (stem_at sites.now gate.now.id) gate.now.kind (map (stem_at sites.now) gate.now.pins)) }
 {
     let pins = stems(alloc, gate.pins(), sites)?;
-    Ok(Definition::new(
-        sites[gate.id().index()].stem,
-        gate.kind(),
-        pins,
-    ))
+    Ok(Definition::new(sites[gate.id().index()].stem, gate.kind(), pins))
 }
 
 /// Adds the gates of a scan cell in a cell's place: `before` is what it takes when it shifts.

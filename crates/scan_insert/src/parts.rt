@@ -18,11 +18,7 @@ use netlist::{Definition, Kind, Netlist, Parts, SignalId};
 use std::alloc::{AllocError, Global};
 
 /// Adds what has the stems of these signals.
-fn push_stems(
-    ids: &[SignalId],
-    sites: &[Site],
-    stems: &mut Vec<SignalId>,
-) -> Result<(), AllocError>
+fn push_stems(ids: &[SignalId], sites: &[Site], stems: &mut Vec<SignalId>) -> Result<(), AllocError>
     requires { All (λ x. x < length sites.now) ids.now }
     ensures { OnOk result (stems.new.items ≡ stems.old.items ++ map (stem_at sites.now) ids.now) }
 {
@@ -103,7 +99,7 @@ fn scanned_definitions(
     ensures { IfOk result (λ v. v.items
         ≡ define (length netlist.now.inputs + 1 + length chains.now) Not (length netlist.now.inputs ∷ [])
         ∷ scan_definitions sites.now (length netlist.now.inputs) (length netlist.now.inputs + 1 + length chains.now)
-            (befores (held_at sites.now) (length netlist.now.inputs + 1) chains.now) netlist.now.definitions
+        (befores (held_at sites.now) (length netlist.now.inputs + 1) chains.now) netlist.now.definitions
         ++ map show_last (zip (numbers_from first_output (length chains.now)) (map (λ chain. held_at sites.now (last_of chain)) chains.now))) }
 {
     let inputs = netlist.inputs().len() as u32;
@@ -115,12 +111,7 @@ fn scanned_definitions(
     let before = befores(alloc, chains, inputs + 1, cells, sites)?;
     let count = (first_output - inputs) as usize;
     let mut made = Vec::with_capacity(alloc, count)?;
-    made.push(define(
-        alloc,
-        enables.enable_not,
-        Kind::Not,
-        &[enables.enable],
-    )?)?;
+    made.push(define(alloc, enables.enable_not, Kind::Not, &[enables.enable])?)?;
     push_definitions(alloc, netlist, sites, &enables, &before, &mut made)?;
     push_scan_outputs(alloc, chains, first_output, sites, &mut made)?;
     Ok(made)

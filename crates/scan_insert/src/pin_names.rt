@@ -27,11 +27,7 @@ fn is_input(netlist: &Netlist, signal: SignalId) -> bool
 }
 
 /// The name of an output's pin with this signal.
-fn name_at_output(
-    alloc: Global,
-    netlist: &Netlist,
-    signal: SignalId,
-) -> Result<Vec<u8>, AllocError>
+fn name_at_output(alloc: Global, netlist: &Netlist, signal: SignalId) -> Result<Vec<u8>, AllocError>
     requires sound { IsSound netlist.now }
     requires within { signal < length (signals netlist.now) }
     ensures { IfOk result (λ name. name.items ≡ output_name netlist.now signal) }

@@ -95,12 +95,7 @@ pub(crate) fn push_scan_outputs(
 {
     for c in 0..chains.count() {
         let last = held_last(chains.chain(c), sites);
-        made.push(define(
-            alloc,
-            SignalId(first_output + c),
-            Kind::Buff,
-            &[last],
-        )?)?;
+        made.push(define(alloc, SignalId(first_output + c), Kind::Buff, &[last])?)?;
     }
     Ok(())
 }

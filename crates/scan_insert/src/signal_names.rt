@@ -36,11 +36,7 @@ fn push_inputs(netlist: &Netlist, names: &mut NameTable) -> Result<(), AllocErro
 }
 
 /// Adds the names of a cell's signals.
-fn push_cell(
-    names: &mut NameTable,
-    scratch: &mut Vec<u8>,
-    name: &[u8],
-) -> Result<(), AllocError>
+fn push_cell(names: &mut NameTable, scratch: &mut Vec<u8>, name: &[u8]) -> Result<(), AllocError>
     ensures { OnOk result (names.new ≡ names.old
         ++ (codes "SC__a_" ++ name.now) ∷ (codes "SC__b_" ++ name.now) ∷ (codes "SC__d_" ++ name.now) ∷ (codes "SC__s_" ++ name.now) ∷ name.now ∷ []) }
 {
@@ -131,7 +127,9 @@ fn reserve(netlist: &Netlist, chains: u32, names: &mut NameTable) -> Result<(), 
     let cells = netlist.cells();
     let count = netlist.inputs().len() + netlist.definitions().len();
     let count = count.saturating_add(cells.len().saturating_mul(4));
-    let count = count.saturating_add((chains as usize).saturating_mul(2)).saturating_add(2);
+    let count = count
+        .saturating_add((chains as usize).saturating_mul(2))
+        .saturating_add(2);
     let bytes = bytes_of(netlist, netlist.inputs()).saturating_add(definition_bytes(netlist));
     let bytes = bytes.saturating_add(bytes_of(netlist, cells).saturating_mul(4));
     let added = count.saturating_mul(16);

@@ -1,4 +1,4 @@
-use Rattle.std.proofs.Common.{◌≡◌, ◌≤◌, sym, ◌∙◌, subst}
+use Rattle.std.proofs.Common.{◌≤◌, sym, ◌∙◌, subst}
 use Rattle.netlist.specs.Conditions.{IsSound}
 use Rattle.scan_insert.proofs.Concrete.{are_dealt}
 use Rattle.scan_insert.proofs.Soundness.{scanned_sound}

@@ -1,5 +1,4 @@
-use Rattle.std.proofs.Common.{◌<◌, length, subst, sym, refl, ℕ, List}
-use Rattle.netlist.specs.Netlist.{signals}
+use Rattle.std.proofs.Common.{◌<◌, length, subst, sym, refl, ℕ}
 use Rattle.netlist.proofs.Settling.{pins_within}
 use Rattle.scan_insert.proofs.Making.{item_below, item_contained}
 use Rattle.scan_insert.proofs.parts.push_definitions.Goals as goal

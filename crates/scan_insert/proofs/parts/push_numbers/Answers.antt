@@ -1,4 +1,4 @@
-use Rattle.std.proofs.Common.{◌≡◌, ◌++◌, ◌+◌, ◌∷◌, [], refl, sym, ◌∙◌, ap}
+use Rattle.std.proofs.Common.{◌++◌, ◌+◌, ◌∷◌, [], refl, ◌∙◌, ap}
 use Rattle.std.proofs.lemmas.List.{append_assoc}
 use Rattle.scan_insert.specs.Names.{numbers_from}
 use Rattle.scan_insert.proofs.Numbers.{then_one}

@@ -1,4 +1,4 @@
-use Rattle.std.proofs.Common.{◌+◌, length, ◌∙◌}
+use Rattle.std.proofs.Common.{◌∙◌}
 use Rattle.scan_insert.specs.Made.{held_at}
 use Rattle.scan_insert.proofs.Ready.{befores_count}
 use Rattle.scan_insert.proofs.parts.scanned_definitions.Goals as goal

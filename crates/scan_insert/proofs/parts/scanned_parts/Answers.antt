@@ -37,5 +37,5 @@ returns c =
     ∙ ap (λ k. map (stem_at sites) n.outputs ++ numbers_from (first_scan_out n (length chains)) k) count)))
     (c.in_ok-scanned_definitions.ensures
     ∙ ap (λ k. define (length n.inputs + 1 + length chains) Not (length n.inputs ∷ [])
-      ∷ scan_definitions sites (length n.inputs) (length n.inputs + 1 + length chains) (befores (held_at sites) (length n.inputs + 1) chains) n.definitions
-      ++ map show_last (zip (numbers_from k (length chains)) (map (λ (q : List ℕ). held_at sites (last_of q)) chains))) first)
+    ∷ scan_definitions sites (length n.inputs) (length n.inputs + 1 + length chains) (befores (held_at sites) (length n.inputs + 1) chains) n.definitions
+    ++ map show_last (zip (numbers_from k (length chains)) (map (λ (q : List ℕ). held_at sites (last_of q)) chains))) first)

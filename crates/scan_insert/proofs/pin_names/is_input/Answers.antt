@@ -1,4 +1,4 @@
-use Rattle.std.proofs.Common.{length, ltb, sym, ◌∙◌, ap, List, ℕ}
+use Rattle.std.proofs.Common.{length, ltb, ◌∙◌, ap, List, ℕ}
 use Rattle.scan_insert.proofs.Ready.{is_input}
 use Rattle.scan_insert.proofs.pin_names.is_input.Goals as goal
 

@@ -1,4 +1,4 @@
-use Rattle.std.proofs.Common.{ℕ, ◌≡◌, ◌+◌, ◌<◌, List, [], ◌∷◌, ◌++◌, map, length, ◌∙◌, ap}
+use Rattle.std.proofs.Common.{ℕ, ◌+◌, ◌<◌, List, [], ◌∷◌, ◌++◌, map, length, ◌∙◌, ap}
 use Rattle.std.specs.List.{zip}
 use Rattle.netlist.specs.declared.kinds.Kind.TheVariants.{Buff}
 use Rattle.scan_insert.specs.Names.{numbers_from}

@@ -1,4 +1,4 @@
-use Rattle.std.proofs.Common.{◌≡◌, ◌<◌, length, get_or, sym, ◌∙◌, ap, subst, List, ℕ}
+use Rattle.std.proofs.Common.{◌≡◌, ◌<◌, length, get_or, ◌∙◌, ap, subst, List, ℕ}
 use Rattle.std.proofs.lemmas.List.{get_or_read}
 use Rattle.scan_insert.specs.Names.{name_of}
 use Rattle.scan_insert.proofs.Making.{map_step, name_read}

@@ -1,4 +1,4 @@
-use Rattle.std.proofs.Common.{◌≡◌, ◌++◌, decimal, sym, ◌∙◌, ap}
+use Rattle.std.proofs.Common.{◌≡◌, ◌++◌, decimal, ◌∙◌, ap}
 use Rattle.scan_insert.proofs.Making.{numbers_step}
 use Rattle.scan_insert.proofs.signal_names.push_numbered.Goals as goal
 

@@ -1,4 +1,4 @@
-use Rattle.std.proofs.Common.{◌≡◌, ◌<◌, [], length, get_or, sym, ap, arith}
+use Rattle.std.proofs.Common.{◌<◌, [], length, sym, ap, arith}
 use Rattle.netlist.specs.Netlist.{signals}
 use Rattle.scan_insert.specs.Scanned.{own_site}
 use Rattle.scan_insert.proofs.Making.{map_step}
