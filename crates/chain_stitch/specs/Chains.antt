@@ -1,0 +1,30 @@
+-- Scan chains: the cells in order, in chains whose lengths differ by one at most, the longer ones first.
+use Rattle.std.specs.Prelude.{ℕ, ◌≡◌, ◌+◌, ◌-◌, ◌/◌, ◌%◌, ◌<◌, min, max, List, [], ◌∷◌, ◌++◌, length, take, drop, replicate, slice_get, slice_index, Some}
+use Rattle.std.specs.List.{flat_map}
+
+-- a list in pieces of these lengths
+abbrev pub pieces : List ℕ → List ℕ → List (List ℕ)
+pieces [] xs = []
+pieces (n ∷ ns) xs = take n xs ∷ pieces ns (drop n xs)
+
+-- The lengths of so many chains: a cell that is left over when all have equally many makes a chain one longer, from the first chain on.
+abbrev pub lengths_of : ℕ → ℕ → List ℕ
+lengths_of cells chains = replicate (cells % chains) (cells / chains + 1) ++ replicate (chains - cells % chains) (cells / chains)
+
+-- the cells in as many chains as are asked for, but in no more than there are cells
+abbrev pub chains_of : List ℕ → ℕ → List (List ℕ)
+chains_of cells asked = let count = min asked (length cells) in pieces (lengths_of (length cells) count) cells
+
+-- the cells of all chains, one chain behind the other
+abbrev pub cells_of : List (List ℕ) → List ℕ
+cells_of chains = flat_map (λ chain. chain) chains
+
+abbrev pub longest_of : List (List ℕ) → ℕ
+longest_of [] = 0
+longest_of (chain ∷ chains) = max (length chain) (longest_of chains)
+
+-- the cell stands in this chain at this place, which counts from 0 at the scan input
+pub record IsAt (chains : List (List ℕ)) (cell chain place : ℕ) : Type 0 where
+  pub chain_cells : List ℕ
+  pub has_chain : slice_get chains chain ≡ Some chain_cells
+  pub has_cell : slice_get chain_cells place ≡ Some cell

@@ -1,0 +1,14 @@
+pub mod Equations
+pub mod Clean
+pub mod Behaves
+pub mod Loopless
+pub mod Numbers
+pub mod Origins
+pub mod Placing
+pub mod Chained
+pub mod Concrete
+pub mod Unchanged
+pub mod SignalNames
+pub mod Soundness
+pub mod Making
+pub mod Ready

@@ -1,0 +1,6 @@
+use Rattle.std.proofs.Common.{◌≡◌, ◌++◌, map, take}
+use Rattle.scan_insert.specs.Made.{stem_at}
+use Rattle.scan_insert.proofs.parts.push_stems.Given as goal
+
+abbrev pub invariant-loop-x : goal.invariant-loop-x
+invariant-loop-x l = l.stems.items ≡ l.initial.stems.items ++ map (stem_at l.sites) (take l.x-index l.ids)

@@ -1,0 +1,6 @@
+use Rattle.std.proofs.Common.{◌≡◌, ◌++◌, map, take}
+use Rattle.scan_insert.specs.Names.{name_of}
+use Rattle.scan_insert.proofs.signal_names.push_inputs.Given as goal
+
+abbrev pub invariant-loop-x : goal.invariant-loop-x
+invariant-loop-x l = l.names ≡ l.initial.names ++ map (name_of l.netlist) (take l.x-index l.netlist.inputs)

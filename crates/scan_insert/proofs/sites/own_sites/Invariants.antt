@@ -1,0 +1,7 @@
+use Rattle.std.proofs.Common.{◌≡◌, map, take}
+use Rattle.netlist.specs.Netlist.{signals}
+use Rattle.scan_insert.specs.Scanned.{own_site}
+use Rattle.scan_insert.proofs.sites.own_sites.Given as goal
+
+abbrev pub invariant-loop-x : goal.invariant-loop-x
+invariant-loop-x l = l.sites.items ≡ map own_site (take l.x (signals l.netlist))

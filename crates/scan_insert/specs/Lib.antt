@@ -1,0 +1,7 @@
+pub mod Scan
+pub mod Lines
+pub mod Names
+pub mod Scanned
+pub mod Laws
+pub mod Origins
+pub mod Made

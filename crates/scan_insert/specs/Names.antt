@@ -1,0 +1,33 @@
+-- The names of the scanned netlist's signals.
+use Rattle.std.specs.Prelude.{ℕ, ◌+◌, ◌==◌, cond, suc, zero, List, [], ◌∷◌, ◌++◌, map, slice_index, slice_index_or, codes, decimal}
+use Rattle.std.specs.List.{flat_map, list_any}
+use Rattle.netlist.specs.Netlist.{Definition, Netlist, is_cell}
+
+-- so many numbers from one on
+abbrev pub numbers_from : ℕ → ℕ → List ℕ
+numbers_from first zero = []
+numbers_from first (suc count) = first ∷ numbers_from (first + 1) count
+
+abbrev pub name_of : Netlist → ℕ → List ℕ
+name_of n x = slice_index_or n.names x []
+
+-- a definition's names: a cell has four more
+abbrev pub definition_names : Netlist → Definition → List (List ℕ)
+definition_names n d =
+    let name = name_of n d.id in
+    cond (is_cell d) ((codes "SC__a_" ++ name) ∷ (codes "SC__b_" ++ name) ∷ (codes "SC__d_" ++ name) ∷ (codes "SC__s_" ++ name) ∷ name ∷ []) (name ∷ [])
+
+-- the names of the signals with so many chains, in order
+abbrev pub names_of : Netlist → ℕ → List (List ℕ)
+names_of n chains =
+    map (name_of n) n.inputs
+    ++ codes "SC__se" ∷ map (λ c. codes "SC__si" ++ decimal c) (numbers_from 0 chains)
+    ++ codes "SC__nse" ∷ flat_map (definition_names n) n.definitions
+    ++ map (λ c. codes "SC__so" ++ decimal c) (numbers_from 0 chains)
+
+-- The name of the pin at an output: the signal's name, or another where the signal is an input too.
+abbrev pub output_name : Netlist → ℕ → List ℕ
+output_name n x = cond (list_any (λ y. y == x) n.inputs) (codes "SC__o_" ++ name_of n x) (name_of n x)
+
+abbrev pub pin_name_of : Netlist → ℕ → List ℕ
+pin_name_of n output = output_name n (slice_index n.outputs output)

@@ -1,0 +1,15 @@
+//! Scan insertion: each cell of a netlist becomes a scan cell, and nothing else that the netlist does changes.
+#![tactic(auto)]
+
+mod cells;
+mod insertion;
+pub mod laws;
+mod parts;
+mod pin_names;
+mod shift_paths;
+mod signal_names;
+mod sites;
+
+pub use insertion::{Scanned, insert};
+pub use pin_names::pin_name;
+pub use sites::Site;
