@@ -69,7 +69,7 @@ longest-most : (reading : Names) → longest reading ≤ 261
 longest-most Design = omega arith
 longest-most Scanned = omega arith
 
-le_from : (m n : ℕ) → nat_le m n ≡ true → m ≤ n
+pub le_from : (m n : ℕ) → nat_le m n ≡ true → m ≤ n
 le_from m n h = grind (arith, nat_tests)
 
 named-words : (reading : Names) (ts : List Token) → AllByRecursion IsNamed ts → list_all (is_short reading) ts ≡ true → AllByRecursion (Words IsName) ts
@@ -206,11 +206,11 @@ module _ (reading : Names) (before : List (List ℕ)) (line : List ℕ) (fine : 
   unfolding fault
   none_of_six = let p = six _ _ _ _ _ _ fine in (not_false _ p.0, p.1, p.2, p.3)
 
-  reads-it : (s : Statement) × (list_all (is_short reading) (tokens (code line)) ≡ true) × (statement (tokens (code line)) ≡ Some s)
+  pub reads-it : (s : Statement) × (list_all (is_short reading) (tokens (code line)) ≡ true) × (statement (tokens (code line)) ≡ Some s)
   unfolding says
   reads-it = said-some (list_all (is_short reading) (tokens (code line))) (statement (tokens (code line))) none_of_six.1
 
-  says-that : says reading line ≡ Some (reads-it.0)
+  pub says-that : says reading line ≡ Some (reads-it.0)
   unfolding says
   says-that = ap (λ (b : Bool). if b then statement (tokens (code line)) else None) reads-it.1 ∙ reads-it.2
 
@@ -226,7 +226,7 @@ module _ (reading : Names) (before : List (List ℕ)) (line : List ℕ) (fine : 
       })
 
 -- no line is faulty
-at_line-none : (n : ℕ) (o : Option BenchKind) (later : Option BenchRefusal) → at_line n o later ≡ None → (o ≡ None) × (later ≡ None)
+pub at_line-none : (n : ℕ) (o : Option BenchKind) (later : Option BenchRefusal) → at_line n o later ≡ None → (o ≡ None) × (later ≡ None)
 at_line-none n None later h = (refl, h)
 at_line-none n (Some k) later h = cc
 
@@ -237,9 +237,10 @@ lines-fine reading earlier (line ∷ ls) h =
     let p = at_line-none (length earlier + 1) (fault reading (signals_of earlier) line) (first_fault reading (earlier ++ said reading line ∷ []) ls) h in
     (said-fine reading (signals_of earlier) line p.0, lines-fine reading (earlier ++ said reading line ∷ []) ls p.1)
 
-pub noted-fine : (n : ℕ) (ss : List Statement) → AllByRecursion IsFine ss → AllByRecursion IsFine (statements_of (noted n ss))
-noted-fine n [] h = tt
-noted-fine n (Nothing ∷ ss) h = noted-fine (n + 1) ss h.1
-noted-fine n (Input x ∷ ss) h = (h.0, noted-fine (n + 1) ss h.1)
-noted-fine n (Output x ∷ ss) h = (h.0, noted-fine (n + 1) ss h.1)
-noted-fine n (Definition z gate xs ∷ ss) h = (h.0, noted-fine (n + 1) ss h.1)
+-- what holds of each line's statement
+pub noted-all : (P : Statement → Type 0) (n : ℕ) (ss : List Statement) → AllByRecursion P ss → AllByRecursion P (statements_of (noted n ss))
+noted-all P n [] h = tt
+noted-all P n (Nothing ∷ ss) h = noted-all P (n + 1) ss h.1
+noted-all P n (Input x ∷ ss) h = (h.0, noted-all P (n + 1) ss h.1)
+noted-all P n (Output x ∷ ss) h = (h.0, noted-all P (n + 1) ss h.1)
+noted-all P n (Definition z gate xs ∷ ss) h = (h.0, noted-all P (n + 1) ss h.1)

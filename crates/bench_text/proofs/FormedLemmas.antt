@@ -112,7 +112,7 @@ module _ (sig : List (List ℕ)) (apart : AreDistinct sig) where
       get_map (id_of sig) sig k x at ∙ ap (λ i. Some i) (id-at k x at)
 
 -- statement by statement
-definition-ids : (sig : List (List ℕ)) (ss : List Statement) → AllByRecursion IsFine ss → map (λ (d : Equation). d.id) (flat_map (equation sig) ss) ≡ map (id_of sig) (definitions_of ss)
+pub definition-ids : (sig : List (List ℕ)) (ss : List Statement) → AllByRecursion IsFine ss → map (λ (d : Equation). d.id) (flat_map (equation sig) ss) ≡ map (id_of sig) (definitions_of ss)
 definition-ids sig [] h = refl
 definition-ids sig (Nothing ∷ ss) h = definition-ids sig ss h.1
 definition-ids sig (Input x ∷ ss) h = definition-ids sig ss h.1
@@ -163,7 +163,7 @@ definition-names (Input x ∷ ss) h = definition-names ss h.1
 definition-names (Output x ∷ ss) h = definition-names ss h.1
 definition-names (Definition z gate pins ∷ ss) h = (h.0.names.0, definition-names ss h.1)
 
-append-all : {A : Type 0} (P : A → Type 0) (xs ys : List A) → AllByRecursion P xs → AllByRecursion P ys → AllByRecursion P (xs ++ ys)
+pub append-all : {A : Type 0} (P : A → Type 0) (xs ys : List A) → AllByRecursion P xs → AllByRecursion P ys → AllByRecursion P (xs ++ ys)
 append-all P [] ys h k = k
 append-all P (x ∷ xs) ys h k = (h.0, append-all P xs ys h.1 k)
 

@@ -19,6 +19,7 @@ pub mod PartLemmas
 pub mod FineLemmas
 pub mod FormedLemmas
 pub mod LoopLemmas
+pub mod DesignLemmas
 pub mod ReadLemmas
 pub mod WriteLemmas
 pub mod ReadBack

@@ -28,7 +28,7 @@ use Rattle.bench_text.specs.Reading.{netlist_in, IsFirstOnLoop, IsLeft, IsLoopFa
 use Rattle.bench_text.proofs.Lists.{list_all-map}
 use Rattle.bench_text.proofs.WholeLemmas.{whole-none, most-most}
 use Rattle.bench_text.proofs.PartLemmas.{signals-distinct}
-use Rattle.bench_text.proofs.FineLemmas.{IsFine, lines-fine, noted-fine}
+use Rattle.bench_text.proofs.FineLemmas.{IsFine, lines-fine, noted-all}
 use Rattle.bench_text.proofs.FormedLemmas.{got-contains, well-formed, signal-count, signal-at, read-within}
 use Rattle.bench_text.proofs.LoopLemmas.{on-loop-place}
 
@@ -78,7 +78,7 @@ module _ (reading : Names) (text : List ℕ) (d : Draft) (said : said_in d ≡ n
     apart = signals-distinct _ _ _ _ _ _ d.sound
 
     all-fine : AllByRecursion IsFine ss
-    all-fine = subst (λ l. AllByRecursion IsFine (statements_of l)) (sym said) (noted-fine 1 (statements reading text) (lines-fine reading [] (lines text) lines-read))
+    all-fine = subst (λ l. AllByRecursion IsFine (statements_of l)) (sym said) (noted-all IsFine 1 (statements reading text) (lines-fine reading [] (lines text) lines-read))
 
     known : list_all (reads_from (signals_of ss)) ss ≡ true
     known = list_all-map (reads_from (signals_of ss)) (λ (s : Said). s.statement) all ∙ reads

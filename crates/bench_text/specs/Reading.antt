@@ -5,7 +5,9 @@ use Rattle.netlist.specs.declared.kinds.Kind.{Kind}
 use Rattle.netlist.specs.declared.netlists.NetRefusal.{NetRefusal}
 use Rattle.netlist.specs.declared.netlists.NetRefusal.TheVariants as net
 use Rattle.netlist.specs.Netlist.{Netlist, IsOnLoop, IsAcyclic}
+use Rattle.netlist.specs.Designs.{IsDesign}
 use Rattle.bench_text.specs.declared.refusal.Names.{Names}
+use Rattle.bench_text.specs.declared.refusal.Names.TheVariants.{Design, Scanned}
 use Rattle.bench_text.specs.declared.refusal.BenchKind.TheVariants.{Loop}
 use Rattle.bench_text.specs.declared.refusal.BenchRefusal.{BenchRefusal}
 use Rattle.bench_text.specs.declared.refusal.BenchFault.{BenchFault}
@@ -72,3 +74,8 @@ abbrev pub IsRead : Names → List ℕ → Result Netlist BenchFault → Type 0
 IsRead reading text (Ok n) = (n ≡ netlist_in reading text) × (refusal reading text ≡ None) × IsAcyclic n
 IsRead reading text (Err NoMemory) = ⊤
 IsRead reading text (Err (Refused r)) = IsRefused (refusal reading text) (notes reading text) r
+
+-- what is read as a design is one
+abbrev pub IsReadAs : Names → Netlist → Type 0
+IsReadAs Design n = IsDesign n
+IsReadAs Scanned n = ⊤

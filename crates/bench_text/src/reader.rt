@@ -1,11 +1,11 @@
 //! Netlists from text.
 
-ghost use Rattle.std.specs.Prelude.{◌≡◌, ◌<◌, ◌≤◌, ◌^◌, length, find};
+ghost use Rattle.std.specs.Prelude.{◌≡◌, ◌<◌, ◌≤◌, ◌^◌, length, find, IfOk};
 ghost use Rattle.std.specs.Option.{option_map};
 ghost use Rattle.bench_text.specs.Bytes.{lines};
 ghost use Rattle.bench_text.specs.declared.numbered.Entry.{Entry};
 ghost use Rattle.bench_text.specs.Numbered.{defines_number};
-ghost use Rattle.bench_text.specs.Reading.{IsRead, IsDefinedAt, IsLeft, IsLoopFault};
+ghost use Rattle.bench_text.specs.Reading.{IsRead, IsReadAs, IsDefinedAt, IsLeft, IsLoopFault};
 ghost use Rattle.bench_text.specs.Drafted.{said_in, signals_in};
 
 use crate::draft::Draft;
@@ -77,7 +77,8 @@ impl Draft<'_> {
 /// The netlist that a text stands for, or why it is refused.
 pub fn read(alloc: Global, text: &[u8], reading: Names) -> Result<Netlist, BenchFault>
     requires { length (lines text.now) < 2 ^ 32 }
-    ensures { IsRead reading text.now result }
+    ensures read { IsRead reading text.now result }
+    ensures design { IfOk result (IsReadAs reading) }
 {
     let draft = match read_lines(alloc, reading, text) {
         Ok(draft) => draft,
