@@ -1,0 +1,11 @@
+//! Tests that cross crates: the whole program over files in memory. Nothing stands on this crate.
+#![tactic(auto)]
+
+#[cfg(test)]
+mod netlists;
+#[cfg(test)]
+mod outside_faults;
+#[cfg(test)]
+mod run;
+#[cfg(test)]
+mod scan;

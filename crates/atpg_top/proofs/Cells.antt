@@ -1,0 +1,31 @@
+-- The cells of a netlist, by their signals, and the line that counts them.
+use Rattle.std.proofs.Common.{◌≡◌, ℕ, ◌≤◌, ◌<◌, ◌+◌, Bool, true, false, cond, List, [], ◌∷◌, map, length, ap, ◌∙◌, arith}
+use Rattle.std.specs.List.{filter}
+use Rattle.std.proofs.lemmas.List.{length-map}
+use Rattle.netlist.specs.Netlist.{Definition, Netlist, is_cell, cells, signals}
+use Rattle.netlist.proofs.Placed.{signals_length}
+use Rattle.std.specs.Prelude.{◌++◌, codes, decimal}
+use Rattle.atpg_top.specs.Scans.{scan_line}
+
+length-filter : {X : Type 0} (t : X → Bool) (xs : List X) → length (filter t xs) ≤ length xs
+length-filter t [] = omega arith
+length-filter {X} t (x ∷ xs) =
+    let rest = length-filter t xs in
+    let step : (b : Bool) → length (cond b (x ∷ filter t xs) (filter t xs)) ≤ length (x ∷ xs) = elim [ true ↦ omega arith | false ↦ omega arith ] in
+    step (t x)
+
+pub few_cells : (n : Netlist) (ids : List ℕ) → ids ≡ map (λ (d : Definition). d.id) (cells n) → length ids ≤ length (signals n)
+few_cells n ids e =
+    let many : length ids ≡ length (cells n) = ap length e ∙ length-map (cells n) (λ (d : Definition). d.id) in
+    let few = length-filter is_cell n.definitions in
+    let all = signals_length n in
+    omega arith
+
+pub cell_count : (n : Netlist) (ids : List ℕ) → ids ≡ map (λ (d : Definition). d.id) (cells n) → length ids ≡ length (cells n)
+cell_count n ids e = ap length e ∙ length-map (cells n) (λ (d : Definition). d.id)
+
+pub line_same : (n : Netlist) (chains : List (List ℕ)) (k c : ℕ) → k ≡ length (cells n) → c ≡ length chains
+    → codes "cells " ++ (decimal k ++ (codes " chains " ++ (decimal c ++ codes "\n"))) ≡ scan_line n chains
+line_same n chains k c e f =
+    ap (λ j. codes "cells " ++ (decimal j ++ (codes " chains " ++ (decimal c ++ codes "\n")))) e
+    ∙ ap (λ j. codes "cells " ++ (decimal (length (cells n)) ++ (codes " chains " ++ (decimal j ++ codes "\n")))) f

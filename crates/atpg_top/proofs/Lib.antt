@@ -1,0 +1,4 @@
+pub mod Outsides
+pub mod ScanOff
+pub mod Exclusive
+pub mod Cells
