@@ -1,10 +1,10 @@
 -- What is read as a design is a design.
 use Rattle.std.proofs.Common.{◌≡◌, ◌≤◌, ◌+◌, ℕ, Bool, true, false, cond, List, [], ◌∷◌, ◌++◌, length, refl, sym, ap, ◌∙◌, map, subst, arith, length-append}
 use Rattle.std.specs.Prelude.{Option, Some, None, Result, Ok, Err, IfOk, nat_le, unwrap_or}
-use Rattle.std.specs.List.{list_all, list_any, flat_map, AllByRecursion}
+use Rattle.std.specs.List.{list_all, list_any, AllByRecursion}
 use Rattle.std.proofs.lemmas.List.{length-map}
 use Rattle.netlist.specs.Netlist.{Netlist, Definition as Equation, signals}
-use Rattle.netlist.specs.Designs.{IsDesign}
+use Rattle.netlist.specs.Designs.{is_reserved, IsDesign}
 use Rattle.bench_text.specs.declared.refusal.Names.{Names}
 use Rattle.bench_text.specs.declared.refusal.Names.TheVariants.{Design, Scanned}
 use Rattle.bench_text.specs.declared.refusal.BenchKind.TheVariants.{BadByte, BadLine, UnknownGate, BadPins, DefinedTwice, Reserved}
@@ -13,11 +13,11 @@ use Rattle.bench_text.specs.declared.refusal.BenchFault.{BenchFault}
 use Rattle.bench_text.specs.Bytes.{code, lines}
 use Rattle.bench_text.specs.Tokens.{Token, Word, Open, Close, Comma, Equals, tokens}
 use Rattle.bench_text.specs.Forms.{Statement, Nothing, Input, Output, Definition}
-use Rattle.bench_text.specs.Refusals.{names_of, is_short, is_reserved, says, fault, holds, has_reserved_name}
-use Rattle.bench_text.specs.Said.{Said, noted, statements_of}
+use Rattle.bench_text.specs.Refusals.{names_of, is_short, says, fault, holds, has_reserved_name}
+use Rattle.bench_text.specs.Said.{statements_of}
 use Rattle.bench_text.specs.Texts.{said, statements, inputs_of, definitions_of, signals_of, first_fault}
 use Rattle.bench_text.specs.Whole.{whole_fault, or_else, notes, refusal}
-use Rattle.bench_text.specs.Netlists.{id_of, equation, netlist_of}
+use Rattle.bench_text.specs.Netlists.{id_of, netlist_of}
 use Rattle.bench_text.specs.Reading.{netlist_in, IsRead, IsReadAs}
 use Rattle.bench_text.proofs.Lists.{both_true, or_false, index-all}
 use Rattle.bench_text.proofs.WholeLemmas.{whole-none}

@@ -12,7 +12,8 @@ use Rattle.bench_text.specs.Tokens.{Token, Word, Open, Close, Comma, Equals, mar
 use Rattle.bench_text.proofs.TokenLemmas.{not_word}
 use Rattle.netlist.specs.Gates.{allows_pins}
 use Rattle.bench_text.specs.Forms.{Statement, Nothing, Input, Output, Definition, statement}
-use Rattle.bench_text.specs.Refusals.{longest, is_short, is_reserved, names_of, says, own_fault, gate_fault}
+use Rattle.netlist.specs.Designs.{is_reserved}
+use Rattle.bench_text.specs.Refusals.{longest, is_short, names_of, says, own_fault, gate_fault}
 use Rattle.bench_text.specs.declared.statement.Statement.{Statement as Borrowed}
 use Rattle.bench_text.specs.declared.statement.Statement.TheVariants as borrowed
 use Rattle.netlist.specs.declared.kinds.Kind.{Kind}

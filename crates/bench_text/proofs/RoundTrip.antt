@@ -20,7 +20,8 @@ use Rattle.bench_text.specs.Bytes.{code, lines}
 use Rattle.bench_text.specs.Tokens.{Token, Word, Open, Close, Comma, Equals, tokens}
 use Rattle.bench_text.specs.Keywords.{word}
 use Rattle.bench_text.specs.Forms.{Statement, Nothing, Input, Output, Definition, statement}
-use Rattle.bench_text.specs.Refusals.{longest, is_short, gate_fault, is_reserved, has_reserved_name, names_of}
+use Rattle.netlist.specs.Designs.{is_reserved}
+use Rattle.bench_text.specs.Refusals.{longest, is_short, gate_fault, has_reserved_name, names_of}
 use Rattle.bench_text.specs.Said.{Said, noted_at, noted, statements_of}
 use Rattle.bench_text.specs.Texts.{said, statements, input, defined, output, inputs_of, definitions_of, signals_of, first_fault}
 use Rattle.bench_text.specs.Sights.{AreDistinct, name_at, with_name, distinct}
