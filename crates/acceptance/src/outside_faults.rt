@@ -3,7 +3,9 @@ use crate::netlists::{S27, S27_SCANNED};
 use crate::run::{Ran, run, run_failing};
 use outside::FailingCall;
 use std::alloc::{AllocError, Global};
+use std::sync::Wait;
 use std::test::Fail;
+use std::thread::Threads;
 
 // Where a call fails.
 #[derive(Clone, Copy)]

@@ -2,6 +2,8 @@
 use atpg_top::top;
 use outside::{FailingCall, MemoryShelf, MemorySink, OpenGate};
 use std::alloc::{AllocError, Global};
+use std::sync::Wait;
+use std::thread::Threads;
 
 // What a run leaves.
 #[derive(Drop)]
