@@ -86,9 +86,9 @@ module _ (names : List (List ℕ)) (roles : List Role) (es : List Entry) (ins de
     pub defines-read : slice_get roles n ≡ Some role.Read → defines ≡ false
     defines-read e =
         let no_input = none-any (λ m. bytes_eq (name_at names n) (name_at names m)) ins
-            (λ (k m : ℕ) (f : slice_get ins k ≡ Some m). differ n m _ _ e (d.input k m f) (is_other n m _ _ e (d.input k m f) (λ (g : role.Read ≡ role.Input k). cc))) in
+        (λ (k m : ℕ) (f : slice_get ins k ≡ Some m). differ n m _ _ e (d.input k m f) (is_other n m _ _ e (d.input k m f) (λ (g : role.Read ≡ role.Input k). cc))) in
         let no_definition = none-any (λ m. bytes_eq (name_at names n) (name_at names m)) defs
-            (λ (k m : ℕ) (f : slice_get defs k ≡ Some m). differ n m _ _ e (d.definition k m f) (is_other n m _ _ e (d.definition k m f) (λ (g : role.Read ≡ role.Definition k). cc))) in
+        (λ (k m : ℕ) (f : slice_get defs k ≡ Some m). differ n m _ _ e (d.definition k m f) (is_other n m _ _ e (d.definition k m f) (λ (g : role.Read ≡ role.Definition k). cc))) in
         split ∙ (λ i. no_input i || no_definition i)
 
     pub defines-input : (k : ℕ) → slice_get roles n ≡ Some (role.Input k) → defines ≡ true

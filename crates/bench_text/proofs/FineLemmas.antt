@@ -40,7 +40,7 @@ run-bytes (b ∷ x) h k =
     (run-byte b p.0 q.0, run-bytes x p.1 q.1)
 
 run-name : (x : List ℕ) → IsRun x → length x ≤ 261 → IsName x
-run-name x h k = record { some = h.some; short = k; bytes = index-all (λ b. IsTrue (is_name_byte b)) x (run-bytes x h.word h.plain); }
+run-name x h k = record { some = h.some; short = k; bytes = index-all (λ b. IsTrue (is_name_byte b)) x (run-bytes x h.word h.plain) }
 
 -- the code of a line holds no `#`
 no_hash : (line : List ℕ) → list_all (λ b. not (b == 35)) (code line) ≡ true

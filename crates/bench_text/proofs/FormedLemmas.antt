@@ -206,7 +206,7 @@ module _ (ss : List Statement) (apart : AreDistinct (signals_of ss)) (fine : All
     pub read-within : (x : ℕ) → IsRead n x → x < length sig
     read-within x (inl p) =
         let pins = got-all (λ (d : Equation). AllByRecursion (λ y. y < length sig) d.pins) n.definitions
-            (index-all (λ (d : Equation). AllByRecursion (λ y. y < length sig) d.pins) n.definitions (definition-pins sig apart ss known)) (contains-got n.definitions p.0 p.1).0 p.0 (contains-got n.definitions p.0 p.1).1 in
+        (index-all (λ (d : Equation). AllByRecursion (λ y. y < length sig) d.pins) n.definitions (definition-pins sig apart ss known)) (contains-got n.definitions p.0 p.1).0 p.0 (contains-got n.definitions p.0 p.1).1 in
         let at = contains-got p.0.pins x p.2 in
         got-all (λ y. y < length sig) p.0.pins (index-all (λ y. y < length sig) p.0.pins pins) at.0 x at.1
     read-within x (inr c) =

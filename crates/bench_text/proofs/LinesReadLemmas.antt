@@ -61,7 +61,7 @@ pub noted-signals : (n : ℕ) (ss : List Statement) → signals_of (statements_o
 noted-signals n ss = (λ i. noted-inputs n ss i ++ noted-definitions n ss i)
 
 pub part-start : (reading : Names) (text : List ℕ) (d : Draft) → said_in d ≡ [] → d.lines ≡ 0 → IsPartRead reading text text d
-part-start reading text d e f = record { earlier = []; all = refl; kept = e; count = f; fault = refl; }
+part-start reading text d e f = record { earlier = []; all = refl; kept = e; count = f; fault = refl }
 
 module _ (reading : Names) (text rest line after : List ℕ) (d : Draft) (part : IsPartRead reading text rest d) (cut : lines rest ≡ line ∷ lines after) where
   pub room : d.lines + 1 ≤ length (lines text)

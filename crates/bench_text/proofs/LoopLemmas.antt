@@ -44,11 +44,11 @@ found-at {A} p (y ∷ xs) x h = by (either (p y)) (λ (f : find p xs ≡ Some x)
     by (inl t) more =
         let e : Some y ≡ Some x = ap (λ b. cond b (Some y) (find p xs)) (sym t) ∙ h in
         let s : y ≡ x = cc in
-        record { before = []; after = xs; split = ap (λ z. z ∷ xs) s; passes = ap p (sym s) ∙ t; }
+        record { before = []; after = xs; split = ap (λ z. z ∷ xs) s; passes = ap p (sym s) ∙ t }
     by (inr f) more =
         let e : find p xs ≡ Some x = ap (λ b. cond b (Some y) (find p xs)) (sym f) ∙ h in
         let r = more e in
-        record { before = y ∷ r.before; after = r.after; split = ap (λ l. y ∷ l) r.split; passes = r.passes; }
+        record { before = y ∷ r.before; after = r.after; split = ap (λ l. y ∷ l) r.split; passes = r.passes }
 
 same-nat : (n m : ℕ) → nat_eq n m ≡ true → n ≡ m
 same-nat n m h = grind (arith, nat_tests)
@@ -65,7 +65,7 @@ pub record IsDefinitionOf (number : ℕ) (s : Numbered) : Type 0 where
 definition-of : (number : ℕ) (s : Numbered) → defines_number number s ≡ true → IsDefinitionOf number s
 definition-of number (numbered.Input n) h = cc
 definition-of number (numbered.Output n) h = cc
-definition-of number (numbered.Definition n kind pins) h = record { kind = kind; pins = pins; is = ap (λ m. numbered.Definition m kind pins) (same-nat n number h); }
+definition-of number (numbered.Definition n kind pins) h = record { kind = kind; pins = pins; is = ap (λ m. numbered.Definition m kind pins) (same-nat n number h) }
 
 -- a number of a definition is found
 find-cons : (p : Entry → Bool) (e : Entry) (es : List Entry) → find p (e ∷ es) ≡ None → (p e ≡ false) × (find p es ≡ None)
@@ -147,7 +147,7 @@ earlier-none ss [] h = tt
 earlier-none ss (b ∷ before) h = (
   not-on ss b.statement (λ (k : ℕ) (y : List ℕ) (e : slice_get (defined b.statement) k ≡ Some y). h k y (get_front (defined b.statement) (definitions_of (statements_of before)) k y e)),
   earlier-none ss before (λ (k : ℕ) (y : List ℕ) (e : slice_get (definitions_of (statements_of before)) k ≡ Some y).
-  h (length (defined b.statement) + k) y (get_back (defined b.statement) (definitions_of (statements_of before)) k y e)),
+      h (length (defined b.statement) + k) y (get_back (defined b.statement) (definitions_of (statements_of before)) k y e)),
 )
 
 module _ (all : List Said) (apart : AreDistinct (signals_of (statements_of all))) (z line : ℕ) (at : IsDefinedAt all z line) where

@@ -87,7 +87,7 @@ module _ (names : List (List ℕ)) (roles : List Role) (es : List Entry) (ins de
   id-place n r e h =
       ap (position_or_len (bytes_eq (name_at names n))) signals-map
       ∙ only_place (bytes_eq (name_at names n)) (map (name_at names) (ins ++ defs)) (place (length ins) r) (name_at names n)
-          (get_map (name_at names) (ins ++ defs) (place (length ins) r) n (there-role n r e h)) (name_same (name_at names n)) only
+      (get_map (name_at names) (ins ++ defs) (place (length ins) r) n (there-role n r e h)) (name_same (name_at names n)) only
     where
       only : (j : ℕ) (z : List ℕ) → slice_get (map (name_at names) (ins ++ defs)) j ≡ Some z → bytes_eq (name_at names n) z ≡ true → j ≡ place (length ins) r
       only j z g t =
@@ -157,7 +157,7 @@ module _ (names : List (List ℕ)) (roles : List Role) (es : List Entry) (ins de
   pub line-defined : (i : ℕ) (e : Entry) → i < length es → e ≡ get_or es i e → list_all is_signal (definition_number e.statement) ≡ true
   line-defined i e h f =
       let all : list_all (λ (x : Entry). list_all is_signal (definition_number x.statement)) es ≡ true =
-          all-flat_map is_signal (λ (x : Entry). definition_number x.statement) es (ap (list_all is_signal) (sym d.definitions) ∙ definitions-defined) in
+      all-flat_map is_signal (λ (x : Entry). definition_number x.statement) es (ap (list_all is_signal) (sym d.definitions) ∙ definitions-defined) in
       ap (λ (x : Entry). list_all is_signal (definition_number x.statement)) f ∙ all_at (λ (x : Entry). list_all is_signal (definition_number x.statement)) es i e all h
 
   pub line-seen : (i : ℕ) (e : Entry) → i < length es → e ≡ get_or es i e → are_below (length names) e.statement ≡ true
@@ -236,8 +236,8 @@ module _ (names : List (List ℕ)) (apart : AreDistinct names) where
   fold-names (n ∷ ns) ms h k =
       let q = both_true (nat_lt n (length names)) (list_all (λ i. nat_lt i (length names)) ns) k in
       let step : map (name_at names) (with_number ms n) ≡ with_name (map (name_at names) ms) (name_at names n) =
-          map-if (list_any (nat_eq n) ms) ms n
-          ∙ ap (λ (b : Bool). if b then map (name_at names) ms else map (name_at names) ms ++ name_at names n ∷ []) (any-number n ms (below n q.0) h) in
+      map-if (list_any (nat_eq n) ms) ms n
+      ∙ ap (λ (b : Bool). if b then map (name_at names) ms else map (name_at names) ms ++ name_at names n ∷ []) (any-number n ms (below n q.0) h) in
       fold-names ns (with_number ms n) (all_if (λ i. nat_lt i (length names)) (list_any (nat_eq n) ms) ms n h q.0) q.1
       ∙ ap (λ l. fold with_name l (map (name_at names) ns)) step
 
@@ -278,7 +278,7 @@ pub equation-pushed : (names signals : List (List ℕ)) (s : Numbered) (n i : �
     → new ≡ old ++ equation signals (spelled names s)
 equation-pushed names signals s n i kind pins items ids e old new f g h k l m =
     let mapped : ids ≡ map (id_of signals) (map (name_at names) pins.items) =
-        k ∙ ap (map (λ j. id_of signals (name_at names j))) g ∙ sym (mapped_twice (id_of signals) (name_at names) pins.items) in
+    k ∙ ap (map (λ j. id_of signals (name_at names j))) g ∙ sym (mapped_twice (id_of signals) (name_at names) pins.items) in
     m ∙ ap (λ x. old ++ x ∷ []) l ∙ (λ j. old ++ record { id = h j; kind = kind; pins = mapped j } ∷ []) ∙ ap (λ t. old ++ equation signals (spelled names t)) (sym f)
 
 -- the pins of a definition are signals where it reads signals

@@ -50,10 +50,10 @@ kept-order : (xs before : List (List ℕ)) → AreDistinct (before ++ xs) → fo
 kept-order [] before apart = sym (append-nil before)
 kept-order (x ∷ xs) before apart =
     let new : list_any (bytes_eq x) before ≡ false = false_if _ (λ (t : list_any (bytes_eq x) before ≡ true).
-        let p = any-got x before t in
-        let w = slice_get_within before p.0 x p.1 in
-        let same : p.0 ≡ length before + 0 = apart p.0 (length before + 0) x (get_front before (x ∷ xs) p.0 x p.1) (get_back before (x ∷ xs) 0 x refl) in
-        omega arith) in
+    let p = any-got x before t in
+    let w = slice_get_within before p.0 x p.1 in
+    let same : p.0 ≡ length before + 0 = apart p.0 (length before + 0) x (get_front before (x ∷ xs) p.0 x p.1) (get_back before (x ∷ xs) 0 x refl) in
+    omega arith) in
     let step : with_name before x ≡ before ++ x ∷ [] = ap (λ (b : Bool). if b then before else before ++ x ∷ []) new in
     ap (λ l. fold with_name l xs) step
     ∙ kept-order xs (before ++ x ∷ []) (subst AreDistinct (sym (append_assoc before (x ∷ []) xs)) apart)
@@ -150,7 +150,7 @@ module _ (reading : Names) where
       → ((n : ℕ) → noted_at n s ≡ record { line = n; statement = s } ∷ []) → ReadsAs reading line s
   reads-as line s plain it short fine free something =
       let says = says-it reading line (ap (λ l. list_all (is_short reading) (tokens l)) (plain-code line plain) ∙ short) (Some s) it.1 in
-      record { plain = plain; says = says; own = own_fault-gate reading line s it.0 says ∙ fine; free = free; something = something; }
+      record { plain = plain; says = says; own = own_fault-gate reading line s it.0 says ∙ fine; free = free; something = something }
 
   none-reserved : (xs : List (List ℕ)) → AllByRecursion (λ x. IsTrue (is_free reading x)) xs → (s : Statement) → names_of s ≡ xs → has_reserved_name reading s ≡ false
   none-reserved xs h s e = by reading h

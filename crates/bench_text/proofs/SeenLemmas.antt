@@ -121,10 +121,10 @@ entries-kept old new kept (e ∷ es) h =
     (λ i. record { line = e.line; statement = statement-kept old new kept e.statement p.0 i } ∷ entries-kept old new kept es p.1 i)
 
 pub keeps-all : (d : Draft) → Keeps d d
-keeps-all d = record { said = refl; lines = refl; names = λ n x e. e; }
+keeps-all d = record { said = refl; lines = refl; names = λ n x e. e }
 
 pub keeps-more : (a b c : Draft) → Keeps a b → Keeps b c → Keeps a c
-keeps-more a b c h k = record { said = k.said ∙ h.said; lines = k.lines ∙ h.lines; names = λ n x e. k.names n x (h.names n x e); }
+keeps-more a b c h k = record { said = k.said ∙ h.said; lines = k.lines ∙ h.lines; names = λ n x e. k.names n x (h.names n x e) }
 
 -- the numbers of names
 pub numbers-kept : (old new : List (List ℕ)) → AreKept old new → (ns : List ℕ) (xs : List (List ℕ)) → AreNumbers old ns xs → AreNumbers new ns xs

@@ -160,7 +160,7 @@ pub whole-none : (reading : Names) (all : List Said) → whole_fault reading all
 unfolding whole_fault
 whole-none reading all h =
     let p = four (nat_lt (most_signals reading) (length (signals_of (statements_of all)))) (length (inputs_of (statements_of all)) == 0) (length (outputs_of (statements_of all)) == 0)
-        (refused 0 TooMany) (refused 0 NoInput) (refused 0 NoOutput) (λ (s : Said). refused s.line Undefined) (find (λ (s : Said). not (reads_from (signals_of (statements_of all)) s.statement)) all) h in
+    (refused 0 TooMany) (refused 0 NoInput) (refused 0 NoOutput) (λ (s : Said). refused s.line Undefined) (find (λ (s : Said). not (reads_from (signals_of (statements_of all)) s.statement)) all) h in
     (few_signals _ _ p.0, positive _ p.1, positive _ p.2, find-none (λ (s : Said). reads_from (signals_of (statements_of all)) s.statement) all p.3)
 
 pub most-most : (reading : Names) → most_signals reading ≤ 8000000

@@ -1,8 +1,9 @@
 //! The lines read so far.
 
-ghost use Rattle.std.specs.Prelude.{◌≡◌, ◌<◌, ◌^◌, ◌+◌, [], ◌∷◌, ◌++◌, true, false, length, map, IfOk, Some, slice_get};
+ghost use Rattle.std.specs.Prelude.{◌≡◌, ◌<◌, ◌^◌, ◌+◌, [], ◌∷◌, ◌++◌, true, false, length, map, IfOk, Some, slice_get, nat_lt};
 ghost use Rattle.std.specs.List.{list_any, list_all};
 ghost use Rattle.std.specs.Str.{bytes_eq};
+ghost use Rattle.bench_text.specs.declared.numbered.Numbered.TheVariants.{Input, Output, Definition};
 ghost use Rattle.bench_text.specs.Stated.{names, stated};
 ghost use Rattle.bench_text.specs.Refusals.{has_unknown_gate, defines_one_of, fault};
 ghost use Rattle.bench_text.specs.Texts.{said};
@@ -18,6 +19,7 @@ use crate::refusal::{BenchKind, LineFault, Names};
 use crate::sights::Sights;
 use crate::statement::Statement;
 use indexmap::IndexSet;
+use netlist::Kind;
 use smallvec::SmallVec;
 use std::alloc::{AllocError, Global};
 
@@ -339,8 +341,3 @@ impl<'a> Draft<'a> {
         Ok(draft.push(numbered)?)
     }
 }
-
-ghost use Rattle.std.specs.Prelude.{nat_lt};
-ghost use Rattle.bench_text.specs.declared.numbered.Numbered.TheVariants.{Input, Output, Definition};
-
-use netlist::Kind;

@@ -48,11 +48,7 @@ impl Draft<'_> {
     }
 
     /// The signals of pins.
-    fn pin_ids(
-        &self,
-        alloc: Global,
-        numbers: &[usize],
-    ) -> Result<SmallVec<SignalId, 4>, AllocError>
+    fn pin_ids(&self, alloc: Global, numbers: &[usize]) -> Result<SmallVec<SignalId, 4>, AllocError>
         requires seen { list_all (λ n. nat_lt n (length (seen self.now))) numbers.now ≡ true }
         requires defined { list_all (λ n. list_any (bytes_eq (name_at (seen self.now) n)) (signals_in self.now)) numbers.now ≡ true }
         requires few { length (signals_in self.now) ≤ 8000000 }

@@ -74,7 +74,7 @@ impl Draft<'_> {
     }
 }
 
-/// The netlist that a text stands for, or why it is refused.
+/// The netlist that a text stands for, or why it is refused. Linear in the bytes; each name is looked up once where it stands.
 pub fn read(alloc: Global, text: &[u8], reading: Names) -> Result<Netlist, BenchFault>
     requires { length (lines text.now) < 2 ^ 32 }
     ensures read { IsRead reading text.now result }

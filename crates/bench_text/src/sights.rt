@@ -22,13 +22,6 @@ impl<'a> Sights<'a> {
         }
     }
 
-    /// How many names were seen.
-    pub fn len(&self) -> usize
-        ensures { result ≡ length self.now.names.keys }
-    {
-        self.names.len()
-    }
-
     /// The number of a name, which is a new one at first sight.
     pub fn number(&mut self, name: &'a [u8]) -> Result<usize, AllocError>
         ensures number { IfOk result (IsNumber (names self.old.names.keys) (names self.new.names.keys) name.now) }

@@ -6,8 +6,8 @@ ghost use Rattle.bench_text.specs.Forms.{closed_name, port, pins, more_pins, def
 ghost use Rattle.bench_text.specs.Stated.{names, stated};
 
 use crate::keywords::{is_keyword, kind_of};
-use netlist::Kind;
 use crate::token::{Mark, closes, is_done, mark_at, word_at};
+use netlist::Kind;
 use smallvec::SmallVec;
 use std::alloc::{AllocError, Global};
 

@@ -1,10 +1,10 @@
 //! The netlists of the literature and tables of refusals, from a text to the answer.
 
+ghost use Rattle.std.specs.Prelude.{◌<◌, ◌^◌, length};
+
 use crate::{BenchFault, BenchKind, BenchRefusal, Names, read, write};
 use std::alloc::{AllocError, Global};
 use std::test::*;
-
-ghost use Rattle.std.specs.Prelude.{◌<◌, ◌^◌, length};
 
 /// What became of a text: its canonical text, or why it is refused.
 #[derive(Drop)]
@@ -59,9 +59,11 @@ fn is_read(alloc: Global, text: &[u8], reading: Names) -> bool
     matches!(answer(alloc, text, reading), Outcome::Text(_))
 }
 
-const C17: &[u8] = b"INPUT(1)\nINPUT(2)\nINPUT(3)\nINPUT(6)\nINPUT(7)\nOUTPUT(22)\nOUTPUT(23)\n10 = NAND(1, 3)\n11 = NAND(3, 6)\n16 = NAND(2, 11)\n19 = NAND(11, 7)\n22 = NAND(10, 16)\n23 = NAND(16, 19)\n";
+const C17: &[u8] =
+    b"INPUT(1)\nINPUT(2)\nINPUT(3)\nINPUT(6)\nINPUT(7)\nOUTPUT(22)\nOUTPUT(23)\n10 = NAND(1, 3)\n11 = NAND(3, 6)\n16 = NAND(2, 11)\n19 = NAND(11, 7)\n22 = NAND(10, 16)\n23 = NAND(16, 19)\n";
 
-const S27: &[u8] = b"INPUT(G0)\nINPUT(G1)\nINPUT(G2)\nINPUT(G3)\nOUTPUT(G17)\nG5 = DFF(G10)\nG6 = DFF(G11)\nG7 = DFF(G13)\nG14 = NOT(G0)\nG17 = NOT(G11)\nG8 = AND(G14, G6)\nG15 = OR(G12, G8)\nG16 = OR(G3, G8)\nG9 = NAND(G16, G15)\nG10 = NOR(G14, G11)\nG11 = NOR(G5, G9)\nG12 = NOR(G1, G7)\nG13 = NOR(G2, G12)\n";
+const S27: &[u8] =
+    b"INPUT(G0)\nINPUT(G1)\nINPUT(G2)\nINPUT(G3)\nOUTPUT(G17)\nG5 = DFF(G10)\nG6 = DFF(G11)\nG7 = DFF(G13)\nG14 = NOT(G0)\nG17 = NOT(G11)\nG8 = AND(G14, G6)\nG15 = OR(G12, G8)\nG16 = OR(G3, G8)\nG9 = NAND(G16, G15)\nG10 = NOR(G14, G11)\nG11 = NOR(G5, G9)\nG12 = NOR(G1, G7)\nG13 = NOR(G2, G12)\n";
 
 #[test]
 fn netlists_of_the_literature_are_written_as_they_were(rt: HostRuntime) {
@@ -156,65 +158,233 @@ fn loops(rt: HostRuntime) {
 #[test]
 fn bad_byte_at_the_first_a_middle_and_the_last_line(rt: HostRuntime) {
     let a = rt.alloc();
-    assert!(rt; design(a, b"y'\nINPUT(a)\nINPUT(b)\nOUTPUT(y)\n\ny = NAND(a, b)\n# gates\nz = NOT(y)\nw = DFF(z)\n", 1, BenchKind::BadByte));
-    assert!(rt; design(a, b"INPUT(a)\nINPUT(b)\nOUTPUT(y)\n\ny'\ny = NAND(a, b)\n# gates\nz = NOT(y)\nw = DFF(z)\n", 5, BenchKind::BadByte));
-    assert!(rt; design(a, b"INPUT(a)\nINPUT(b)\nOUTPUT(y)\n\ny = NAND(a, b)\n# gates\nz = NOT(y)\nw = DFF(z)\ny'\n", 9, BenchKind::BadByte));
+    assert!(rt;
+        design(
+            a,
+            b"y'\nINPUT(a)\nINPUT(b)\nOUTPUT(y)\n\ny = NAND(a, b)\n# gates\nz = NOT(y)\nw = DFF(z)\n",
+            1,
+            BenchKind::BadByte
+        )
+    );
+    assert!(rt;
+        design(
+            a,
+            b"INPUT(a)\nINPUT(b)\nOUTPUT(y)\n\ny'\ny = NAND(a, b)\n# gates\nz = NOT(y)\nw = DFF(z)\n",
+            5,
+            BenchKind::BadByte
+        )
+    );
+    assert!(rt;
+        design(
+            a,
+            b"INPUT(a)\nINPUT(b)\nOUTPUT(y)\n\ny = NAND(a, b)\n# gates\nz = NOT(y)\nw = DFF(z)\ny'\n",
+            9,
+            BenchKind::BadByte
+        )
+    );
 }
 
 #[test]
 fn bad_line_at_the_first_a_middle_and_the_last_line(rt: HostRuntime) {
     let a = rt.alloc();
-    assert!(rt; design(a, b"q = AND(a\nINPUT(a)\nINPUT(b)\nOUTPUT(y)\n\ny = NAND(a, b)\n# gates\nz = NOT(y)\nw = DFF(z)\n", 1, BenchKind::BadLine));
-    assert!(rt; design(a, b"INPUT(a)\nINPUT(b)\nOUTPUT(y)\n\nq = AND(a\ny = NAND(a, b)\n# gates\nz = NOT(y)\nw = DFF(z)\n", 5, BenchKind::BadLine));
-    assert!(rt; design(a, b"INPUT(a)\nINPUT(b)\nOUTPUT(y)\n\ny = NAND(a, b)\n# gates\nz = NOT(y)\nw = DFF(z)\nq = AND(a\n", 9, BenchKind::BadLine));
+    assert!(rt;
+        design(
+            a,
+            b"q = AND(a\nINPUT(a)\nINPUT(b)\nOUTPUT(y)\n\ny = NAND(a, b)\n# gates\nz = NOT(y)\nw = DFF(z)\n",
+            1,
+            BenchKind::BadLine
+        )
+    );
+    assert!(rt;
+        design(
+            a,
+            b"INPUT(a)\nINPUT(b)\nOUTPUT(y)\n\nq = AND(a\ny = NAND(a, b)\n# gates\nz = NOT(y)\nw = DFF(z)\n",
+            5,
+            BenchKind::BadLine
+        )
+    );
+    assert!(rt;
+        design(
+            a,
+            b"INPUT(a)\nINPUT(b)\nOUTPUT(y)\n\ny = NAND(a, b)\n# gates\nz = NOT(y)\nw = DFF(z)\nq = AND(a\n",
+            9,
+            BenchKind::BadLine
+        )
+    );
 }
 
 #[test]
 fn unknown_gate_at_the_first_a_middle_and_the_last_line(rt: HostRuntime) {
     let a = rt.alloc();
-    assert!(rt; design(a, b"q = LATCH(a)\nINPUT(a)\nINPUT(b)\nOUTPUT(y)\n\ny = NAND(a, b)\n# gates\nz = NOT(y)\nw = DFF(z)\n", 1, BenchKind::UnknownGate));
-    assert!(rt; design(a, b"INPUT(a)\nINPUT(b)\nOUTPUT(y)\n\nq = LATCH(a)\ny = NAND(a, b)\n# gates\nz = NOT(y)\nw = DFF(z)\n", 5, BenchKind::UnknownGate));
-    assert!(rt; design(a, b"INPUT(a)\nINPUT(b)\nOUTPUT(y)\n\ny = NAND(a, b)\n# gates\nz = NOT(y)\nw = DFF(z)\nq = LATCH(a)\n", 9, BenchKind::UnknownGate));
+    assert!(rt;
+        design(
+            a,
+            b"q = LATCH(a)\nINPUT(a)\nINPUT(b)\nOUTPUT(y)\n\ny = NAND(a, b)\n# gates\nz = NOT(y)\nw = DFF(z)\n",
+            1,
+            BenchKind::UnknownGate
+        )
+    );
+    assert!(rt;
+        design(
+            a,
+            b"INPUT(a)\nINPUT(b)\nOUTPUT(y)\n\nq = LATCH(a)\ny = NAND(a, b)\n# gates\nz = NOT(y)\nw = DFF(z)\n",
+            5,
+            BenchKind::UnknownGate
+        )
+    );
+    assert!(rt;
+        design(
+            a,
+            b"INPUT(a)\nINPUT(b)\nOUTPUT(y)\n\ny = NAND(a, b)\n# gates\nz = NOT(y)\nw = DFF(z)\nq = LATCH(a)\n",
+            9,
+            BenchKind::UnknownGate
+        )
+    );
 }
 
 #[test]
 fn bad_pins_at_the_first_a_middle_and_the_last_line(rt: HostRuntime) {
     let a = rt.alloc();
-    assert!(rt; design(a, b"q = NOT(a, b)\nINPUT(a)\nINPUT(b)\nOUTPUT(y)\n\ny = NAND(a, b)\n# gates\nz = NOT(y)\nw = DFF(z)\n", 1, BenchKind::BadPins));
-    assert!(rt; design(a, b"INPUT(a)\nINPUT(b)\nOUTPUT(y)\n\nq = NOT(a, b)\ny = NAND(a, b)\n# gates\nz = NOT(y)\nw = DFF(z)\n", 5, BenchKind::BadPins));
-    assert!(rt; design(a, b"INPUT(a)\nINPUT(b)\nOUTPUT(y)\n\ny = NAND(a, b)\n# gates\nz = NOT(y)\nw = DFF(z)\nq = NOT(a, b)\n", 9, BenchKind::BadPins));
+    assert!(rt;
+        design(
+            a,
+            b"q = NOT(a, b)\nINPUT(a)\nINPUT(b)\nOUTPUT(y)\n\ny = NAND(a, b)\n# gates\nz = NOT(y)\nw = DFF(z)\n",
+            1,
+            BenchKind::BadPins
+        )
+    );
+    assert!(rt;
+        design(
+            a,
+            b"INPUT(a)\nINPUT(b)\nOUTPUT(y)\n\nq = NOT(a, b)\ny = NAND(a, b)\n# gates\nz = NOT(y)\nw = DFF(z)\n",
+            5,
+            BenchKind::BadPins
+        )
+    );
+    assert!(rt;
+        design(
+            a,
+            b"INPUT(a)\nINPUT(b)\nOUTPUT(y)\n\ny = NAND(a, b)\n# gates\nz = NOT(y)\nw = DFF(z)\nq = NOT(a, b)\n",
+            9,
+            BenchKind::BadPins
+        )
+    );
 }
 
 #[test]
 fn defined_twice_at_the_first_a_middle_and_the_last_line(rt: HostRuntime) {
     let a = rt.alloc();
-    assert!(rt; design(a, b"INPUT(a)\nINPUT(a)\nINPUT(b)\nOUTPUT(y)\n\ny = NAND(a, b)\n# gates\nz = NOT(y)\nw = DFF(z)\n", 2, BenchKind::DefinedTwice));
-    assert!(rt; design(a, b"INPUT(a)\nINPUT(b)\nOUTPUT(y)\n\na = NOT(b)\ny = NAND(a, b)\n# gates\nz = NOT(y)\nw = DFF(z)\n", 5, BenchKind::DefinedTwice));
-    assert!(rt; design(a, b"INPUT(a)\nINPUT(b)\nOUTPUT(y)\n\ny = NAND(a, b)\n# gates\nz = NOT(y)\nw = DFF(z)\nINPUT(w)\n", 9, BenchKind::DefinedTwice));
+    assert!(rt;
+        design(
+            a,
+            b"INPUT(a)\nINPUT(a)\nINPUT(b)\nOUTPUT(y)\n\ny = NAND(a, b)\n# gates\nz = NOT(y)\nw = DFF(z)\n",
+            2,
+            BenchKind::DefinedTwice
+        )
+    );
+    assert!(rt;
+        design(
+            a,
+            b"INPUT(a)\nINPUT(b)\nOUTPUT(y)\n\na = NOT(b)\ny = NAND(a, b)\n# gates\nz = NOT(y)\nw = DFF(z)\n",
+            5,
+            BenchKind::DefinedTwice
+        )
+    );
+    assert!(rt;
+        design(
+            a,
+            b"INPUT(a)\nINPUT(b)\nOUTPUT(y)\n\ny = NAND(a, b)\n# gates\nz = NOT(y)\nw = DFF(z)\nINPUT(w)\n",
+            9,
+            BenchKind::DefinedTwice
+        )
+    );
 }
 
 #[test]
 fn reserved_at_the_first_a_middle_and_the_last_line(rt: HostRuntime) {
     let a = rt.alloc();
-    assert!(rt; design(a, b"q = NOT(SC__a)\nINPUT(a)\nINPUT(b)\nOUTPUT(y)\n\ny = NAND(a, b)\n# gates\nz = NOT(y)\nw = DFF(z)\n", 1, BenchKind::Reserved));
-    assert!(rt; design(a, b"INPUT(a)\nINPUT(b)\nOUTPUT(y)\n\nq = NOT(SC__a)\ny = NAND(a, b)\n# gates\nz = NOT(y)\nw = DFF(z)\n", 5, BenchKind::Reserved));
-    assert!(rt; design(a, b"INPUT(a)\nINPUT(b)\nOUTPUT(y)\n\ny = NAND(a, b)\n# gates\nz = NOT(y)\nw = DFF(z)\nq = NOT(SC__a)\n", 9, BenchKind::Reserved));
+    assert!(rt;
+        design(
+            a,
+            b"q = NOT(SC__a)\nINPUT(a)\nINPUT(b)\nOUTPUT(y)\n\ny = NAND(a, b)\n# gates\nz = NOT(y)\nw = DFF(z)\n",
+            1,
+            BenchKind::Reserved
+        )
+    );
+    assert!(rt;
+        design(
+            a,
+            b"INPUT(a)\nINPUT(b)\nOUTPUT(y)\n\nq = NOT(SC__a)\ny = NAND(a, b)\n# gates\nz = NOT(y)\nw = DFF(z)\n",
+            5,
+            BenchKind::Reserved
+        )
+    );
+    assert!(rt;
+        design(
+            a,
+            b"INPUT(a)\nINPUT(b)\nOUTPUT(y)\n\ny = NAND(a, b)\n# gates\nz = NOT(y)\nw = DFF(z)\nq = NOT(SC__a)\n",
+            9,
+            BenchKind::Reserved
+        )
+    );
 }
 
 #[test]
 fn undefined_at_the_first_a_middle_and_the_last_line(rt: HostRuntime) {
     let a = rt.alloc();
-    assert!(rt; design(a, b"OUTPUT(n)\nINPUT(a)\nINPUT(b)\nOUTPUT(y)\n\ny = NAND(a, b)\n# gates\nz = NOT(y)\nw = DFF(z)", 1, BenchKind::Undefined));
-    assert!(rt; design(a, b"INPUT(a)\nINPUT(b)\nOUTPUT(y)\n\nv = AND(a, n)\ny = NAND(a, b)\n# gates\nz = NOT(y)\nw = DFF(z)\nOUTPUT(n)", 5, BenchKind::Undefined));
-    assert!(rt; design(a, b"INPUT(a)\nINPUT(b)\nOUTPUT(y)\n\ny = NAND(a, b)\n# gates\nz = NOT(y)\nw = DFF(z)\nOUTPUT(n)", 9, BenchKind::Undefined));
+    assert!(rt;
+        design(
+            a,
+            b"OUTPUT(n)\nINPUT(a)\nINPUT(b)\nOUTPUT(y)\n\ny = NAND(a, b)\n# gates\nz = NOT(y)\nw = DFF(z)",
+            1,
+            BenchKind::Undefined
+        )
+    );
+    assert!(rt;
+        design(
+            a,
+            b"INPUT(a)\nINPUT(b)\nOUTPUT(y)\n\nv = AND(a, n)\ny = NAND(a, b)\n# gates\nz = NOT(y)\nw = DFF(z)\nOUTPUT(n)",
+            5,
+            BenchKind::Undefined
+        )
+    );
+    assert!(rt;
+        design(
+            a,
+            b"INPUT(a)\nINPUT(b)\nOUTPUT(y)\n\ny = NAND(a, b)\n# gates\nz = NOT(y)\nw = DFF(z)\nOUTPUT(n)",
+            9,
+            BenchKind::Undefined
+        )
+    );
 }
 
 #[test]
 fn loop_at_the_first_a_middle_and_the_last_line(rt: HostRuntime) {
     let a = rt.alloc();
-    assert!(rt; design(a, b"v = NOT(v)\nINPUT(a)\nINPUT(b)\nOUTPUT(y)\n\ny = NAND(a, b)\n# gates\nz = NOT(y)\nw = DFF(z)", 1, BenchKind::Loop));
-    assert!(rt; design(a, b"INPUT(a)\nINPUT(b)\nOUTPUT(y)\n\nv = OR(u, a)\ny = NAND(a, b)\n# gates\nz = NOT(y)\nw = DFF(z)\nu = NOT(v)", 5, BenchKind::Loop));
-    assert!(rt; design(a, b"INPUT(a)\nINPUT(b)\nOUTPUT(y)\n\ny = NAND(a, b)\n# gates\nz = NOT(y)\nw = DFF(z)\nv = AND(v)", 9, BenchKind::Loop));
+    assert!(rt;
+        design(
+            a,
+            b"v = NOT(v)\nINPUT(a)\nINPUT(b)\nOUTPUT(y)\n\ny = NAND(a, b)\n# gates\nz = NOT(y)\nw = DFF(z)",
+            1,
+            BenchKind::Loop
+        )
+    );
+    assert!(rt;
+        design(
+            a,
+            b"INPUT(a)\nINPUT(b)\nOUTPUT(y)\n\nv = OR(u, a)\ny = NAND(a, b)\n# gates\nz = NOT(y)\nw = DFF(z)\nu = NOT(v)",
+            5,
+            BenchKind::Loop
+        )
+    );
+    assert!(rt;
+        design(
+            a,
+            b"INPUT(a)\nINPUT(b)\nOUTPUT(y)\n\ny = NAND(a, b)\n# gates\nz = NOT(y)\nw = DFF(z)\nv = AND(v)",
+            9,
+            BenchKind::Loop
+        )
+    );
 }
 
 #[test]
@@ -233,8 +403,22 @@ fn the_first_faulty_line_decides(rt: HostRuntime) {
     assert!(rt; design(a, b"INPUT(SC__a)\nOUTPUT(\"", 1, BenchKind::Reserved));
     // before and behind a fault of the whole text
     assert!(rt; design(a, b"x\nOUTPUT(y)\n", 1, BenchKind::BadLine));
-    assert!(rt; design(a, b"OUTPUT(y)\nINPUT(a)\ny = NOT(b)\nz = XNOR(a)", 4, BenchKind::BadPins));
-    assert!(rt; design(a, b"INPUT(a)\nOUTPUT(y)\ny = NOT(y)\ny", 4, BenchKind::BadLine));
+    assert!(rt;
+        design(
+            a,
+            b"OUTPUT(y)\nINPUT(a)\ny = NOT(b)\nz = XNOR(a)",
+            4,
+            BenchKind::BadPins
+        )
+    );
+    assert!(rt;
+        design(
+            a,
+            b"INPUT(a)\nOUTPUT(y)\ny = NOT(y)\ny",
+            4,
+            BenchKind::BadLine
+        )
+    );
 }
 
 #[test]
@@ -242,7 +426,14 @@ fn faults_of_the_whole_text_in_order(rt: HostRuntime) {
     let a = rt.alloc();
     assert!(rt; design(a, b"y = NOT(y)", 0, BenchKind::NoInput));
     assert!(rt; design(a, b"INPUT(a)\ny = NOT(n)\n", 0, BenchKind::NoOutput));
-    assert!(rt; design(a, b"INPUT(a)\nOUTPUT(y)\ny = NOT(y)\nz = NOT(n)", 4, BenchKind::Undefined));
+    assert!(rt;
+        design(
+            a,
+            b"INPUT(a)\nOUTPUT(y)\ny = NOT(y)\nz = NOT(n)",
+            4,
+            BenchKind::Undefined
+        )
+    );
 }
 
 /// `INPUT(aa..a)` with a name of so many bytes, and an output.

@@ -40,11 +40,7 @@ fn push_ports(
 }
 
 /// Writes the pins behind the first.
-fn push_further(
-    out: &mut Vec<u8>,
-    netlist: &Netlist,
-    pins: &[SignalId],
-) -> Result<(), AllocError>
+fn push_further(out: &mut Vec<u8>, netlist: &Netlist, pins: &[SignalId]) -> Result<(), AllocError>
     requires { AreSignals netlist.now pins.now }
     ensures { OnOk result (out.new.items ≡ out.old.items ++ further (map (name_at netlist.now.names) pins.now)) }
 {
