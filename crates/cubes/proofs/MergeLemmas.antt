@@ -1,12 +1,10 @@
 -- One more cube is merged; and what each merging is like.
-use Rattle.std.proofs.Common.{◌≡◌, ◌≢◌, ◌↔◌, ℕ, ◌+◌, ◌==◌, ◌<◌, ◌≤◌, Bool, true, false, not, cond, ◌⊎◌, List, [], ◌∷◌, ◌++◌, length, get_or, set, refl, sym, ◌∙◌, ap, subst, inl, inr, arith, length-append, length-set, eqb, below_more}
+use Rattle.std.proofs.Common.{◌≡◌, ◌≢◌, ◌↔◌, ℕ, ◌+◌, ◌==◌, ◌<◌, ◌≤◌, Bool, not, cond, ◌⊎◌, List, [], ◌∷◌, ◌++◌, length, get_or, set, refl, sym, ◌∙◌, ap, subst, inl, inr, arith, length-append, length-set}
 use Rattle.std.specs.List.{All, AllPairs, Contains}
 use Rattle.std.proofs.lemmas.Bool.{cases_lt, cases_eq, eq-eqb, ne_eqb, cond-true, cond-false}
 use Rattle.std.proofs.lemmas.List.{get_or_append_left, get_or-set_same, get_or-set_other, get_or_past, get_or_default}
 use Rattle.std.proofs.Math.Seq.{get_or-append_seam}
-use Rattle.netlist.specs.declared.kinds.Tri.TheVariants.{X}
-use Rattle.tri.specs.Tri.{known}
-use Rattle.cubes.specs.Cubes.{Cube, row, HasBit, Contradicts, HasBitsOf, HaveSameWidths}
+use Rattle.cubes.specs.Cubes.{Cube, HasBit, Contradicts, HasBitsOf, HaveSameWidths}
 use Rattle.cubes.specs.Merging.{cube_at, AreMergedBy, AreMerged, IsAdded, IsJoinedCube}
 use Rattle.cubes.proofs.RowLemmas.{joined_bits, joined_widths, same_widths, known_is_no_x}
 
@@ -49,11 +47,13 @@ begun_growth cube old place new e is =
       within = omega arith;
       only = λ q lt ne. omega arith;
       others = λ q lt ne. ap (λ (xs : List Cube). cube_at xs q) is ∙ get_or_append_left old (cube ∷ []) (record { inputs = []; cells = [] }) q lt;
-      bits = λ k b. ((λ h. inr (has_bit_along (cube_at new place) cube k b at h)),
-          (λ h. elim h [
-            | inl o ↦ absurd (past_has_none old place k b (omega arith) o)
-            | inr o ↦ has_bit_along cube (cube_at new place) k b (sym at) o
-          ]));
+      bits = λ k b. (
+        (λ h. inr (has_bit_along (cube_at new place) cube k b at h)),
+        (λ h. elim h [
+          | inl o ↦ absurd (past_has_none old place k b (omega arith) o)
+          | inr o ↦ has_bit_along cube (cube_at new place) k b (sym at) o
+        ]),
+      );
       widths = subst (λ (x : Cube). HaveSameWidths x cube) (sym at) (record { inputs = refl; cells = refl });
     }
 
@@ -113,14 +113,17 @@ unfolding with_place
 with_place_new place m p j e = cond-true (j == m) p (place j) (eq-eqb j m e)
 
 pub none_merged : (cubes : List Cube) → AreMerged cubes [] 0
-none_merged cubes = ((λ j. 0), record {
-  clear = λ j i l. absurd (omega arith);
-  least = λ j p l. absurd (omega arith);
-  placed = λ j l. absurd (omega arith);
-  used = λ p l. absurd (omega arith);
-  widths = λ j l. absurd (omega arith);
-  bits = λ p k b l. absurd (omega arith);
-})
+none_merged cubes = (
+  (λ j. 0),
+  record {
+    clear = λ j i l. absurd (omega arith);
+    least = λ j p l. absurd (omega arith);
+    placed = λ j l. absurd (omega arith);
+    used = λ p l. absurd (omega arith);
+    widths = λ j l. absurd (omega arith);
+    bits = λ p k b l. absurd (omega arith);
+  },
+)
 
 module _ (cubes old : List Cube) (m : ℕ) (place : ℕ → ℕ) (h : AreMergedBy place cubes old m) (less : m < length cubes) (same : AllPairs HaveSameWidths cubes) where
   pub widths_of_next : (p : ℕ) → p < length old → HaveSameWidths (cube_at old p) (cube_at cubes m)
@@ -209,12 +212,12 @@ module _ (cubes old : List Cube) (m : ℕ) (place : ℕ → ℕ) (h : AreMergedB
       | inr ne ↦
           let lt = g.only p l ne in
           let at = g.others p lt ne in (
-          λ bit. let s = (h.bits p k b lt).0 (has_bit_along (cube_at new p) (cube_at old p) k b at bit) in (s.0, omega (arith, s.1), later p s.0 s.1 s.2, s.3),
-          λ s. has_bit_along (cube_at old p) (cube_at new p) k b (sym at) ((h.bits p k b lt).1 (elim (below_cases s.0 m s.1) [
-            | inl less' ↦ (s.0, less', sym (before s.0 less') ∙ s.2, s.3)
-            | inr is ↦ absurd (ne (sym s.2 ∙ here s.0 is))
-          ])),
-        )
+            λ bit. let s = (h.bits p k b lt).0 (has_bit_along (cube_at new p) (cube_at old p) k b at bit) in (s.0, omega (arith, s.1), later p s.0 s.1 s.2, s.3),
+            λ s. has_bit_along (cube_at old p) (cube_at new p) k b (sym at) ((h.bits p k b lt).1 (elim (below_cases s.0 m s.1) [
+              | inl less' ↦ (s.0, less', sym (before s.0 less') ∙ s.2, s.3)
+              | inr is ↦ absurd (ne (sym s.2 ∙ here s.0 is))
+            ])),
+          )
     ]
 
     new_clear : (j i : ℕ) → j < m + 1 → i < j → next_place i ≡ next_place j → ¬ Contradicts (cube_at cubes i) (cube_at cubes j)
@@ -242,14 +245,17 @@ module _ (cubes old : List Cube) (m : ℕ) (place : ℕ → ℕ) (h : AreMergedB
     ]
 
     pub one_more_merged : AreMerged cubes new (m + 1)
-    one_more_merged = (next_place, record {
-      clear = new_clear;
-      least = new_least;
-      placed = new_placed;
-      used = new_used;
-      widths = new_widths;
-      bits = new_bits;
-    })
+    one_more_merged = (
+      next_place,
+      record {
+        clear = new_clear;
+        least = new_least;
+        placed = new_placed;
+        used = new_used;
+        widths = new_widths;
+        bits = new_bits;
+      },
+    )
 
 pub next_fits : (cubes old : List Cube) (m : ℕ) (cube : Cube) → AreMerged cubes old m → cube ≡ get_or cubes m cube → m < length cubes
     → AllPairs HaveSameWidths cubes → All (λ (r : Cube). HaveSameWidths r cube) old
@@ -269,9 +275,11 @@ module _ (cubes results : List Cube) (place : ℕ → ℕ) (h : AreMergedBy plac
   each_kept c at =
       let within = h.placed at.0 at.1 in
       let r : Cube = cube_at results (place at.0) in
-      let is : cube_at cubes at.0 ≡ c = get_or_default cubes at.0 (record { inputs = []; cells = [] }) c at.1 ∙ at.2 in
-      (r, (place at.0, within, get_or_default results (place at.0) r (record { inputs = []; cells = [] }) within),
-      λ k b bit. (h.bits (place at.0) k b within).1 (at.0, at.1, refl, has_bit_along c (cube_at cubes at.0) k b (sym is) bit))
+      let is : cube_at cubes at.0 ≡ c = get_or_default cubes at.0 (record { inputs = []; cells = [] }) c at.1 ∙ at.2 in (
+        r,
+        (place at.0, within, get_or_default results (place at.0) r (record { inputs = []; cells = [] }) within),
+        λ k b bit. (h.bits (place at.0) k b within).1 (at.0, at.1, refl, has_bit_along c (cube_at cubes at.0) k b (sym is) bit),
+      )
 
   pub all_apart : AllPairs Contradicts results
   all_apart p q d less within =
@@ -281,10 +289,12 @@ module _ (cubes results : List Cube) (place : ℕ → ℕ) (h : AreMergedBy plac
       let b = s.3.1 in
       let low : p < length results = omega arith in
       let first : HasBit (cube_at results p) k b = (h.bits p k b low).1 (s.0, omega (arith, s.1, u.1), s.2, s.3.2) in
-      let second : HasBit (cube_at results q) k (not b) = (h.bits q k (not b) within).1 (u.0, u.1, u.2, s.3.3) in
-      (k, b,
-      has_bit_along (cube_at results p) (get_or results p d) k b (get_or_default results p (record { inputs = []; cells = [] }) d low) first,
-      has_bit_along (cube_at results q) (get_or results q d) k (not b) (get_or_default results q (record { inputs = []; cells = [] }) d within) second)
+      let second : HasBit (cube_at results q) k (not b) = (h.bits q k (not b) within).1 (u.0, u.1, u.2, s.3.3) in (
+        k,
+        b,
+        has_bit_along (cube_at results p) (get_or results p d) k b (get_or_default results p (record { inputs = []; cells = [] }) d low) first,
+        has_bit_along (cube_at results q) (get_or results q d) k (not b) (get_or_default results q (record { inputs = []; cells = [] }) d within) second,
+      )
 
 at_end : (cubes results : List Cube) (m : ℕ) → AreMerged cubes results m → m ≡ length cubes → AreMerged cubes results (length cubes)
 at_end cubes results m h e = subst (λ n. AreMerged cubes results n) e h

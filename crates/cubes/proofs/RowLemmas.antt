@@ -1,17 +1,14 @@
 -- Cubes as rows of values: where two contradict each other, and what one has that another has joined.
-use Rattle.std.proofs.Common.{◌≡◌, ◌↔◌, ℕ, suc, zero, ◌+◌, ◌-◌, ◌<◌, ◌≤◌, Bool, true, false, not, cond, ◌&&◌, ◌||◌, ◌⊎◌, List, [], ◌∷◌, ◌++◌, length, get_or, refl, sym, ◌∙◌, ap, subst, inl, inr, arith, length-append}
+use Rattle.std.proofs.Common.{◌≡◌, ◌↔◌, ℕ, suc, zero, ◌+◌, ◌-◌, ◌<◌, ◌≤◌, Bool, true, false, not, ◌||◌, ◌⊎◌, List, [], ◌∷◌, ◌++◌, length, get_or, refl, sym, ◌∙◌, ap, subst, inl, inr, arith}
 use Rattle.std.specs.Bool.{IsTrue}
-use Rattle.std.specs.List.{list_any, zip}
-use Rattle.std.proofs.lemmas.Bool.{both_ways, or_cases, or_left, or_right, cases_lt, cond-false}
+use Rattle.std.proofs.lemmas.Bool.{or_cases, or_left, or_right, cases_lt}
 use Rattle.std.proofs.lemmas.List.{get_or_append_left, get_or-append_right, get_or_past}
 use Rattle.netlist.specs.declared.kinds.Tri.{Tri}
 use Rattle.netlist.specs.declared.kinds.Tri.TheVariants.{Zero, One, X}
-use Rattle.tri.specs.Tri.{known, is_x}
+use Rattle.tri.specs.Tri.{known}
+use Rattle.tri.proofs.Choices.{no, not_not}
 use Rattle.cubes.specs.Cubes.{Cube, row, HasBit, Contradicts, HaveSameWidths}
 use Rattle.cubes.specs.Merging.{is_opposite, are_opposed, join, IsJoined, IsJoinedCube}
-
-no : {P : Type 0} → false ≡ true → P
-no e = absurd (both_ways false refl e)
 
 -- ---- opposite bits
 
@@ -96,9 +93,12 @@ contradicts_iff c d w r is = (
         let o = opposed_from c.inputs d.inputs h in
         (o.place, o.bit, bit_left c.inputs c.cells o.place o.bit o.here, bit_left d.inputs d.cells o.place (not o.bit) o.there)
     | inr h ↦
-        let o = opposed_from c.cells d.cells h in
-        (length c.inputs + o.place, o.bit, bit_right c.inputs c.cells o.place o.bit o.here,
-        ap (λ n. get_or (d.inputs ++ d.cells) (n + o.place) X) w.inputs ∙ bit_right d.inputs d.cells o.place (not o.bit) o.there)
+        let o = opposed_from c.cells d.cells h in (
+          length c.inputs + o.place,
+          o.bit,
+          bit_right c.inputs c.cells o.place o.bit o.here,
+          ap (λ n. get_or (d.inputs ++ d.cells) (n + o.place) X) w.inputs ∙ bit_right d.inputs d.cells o.place (not o.bit) o.there,
+        )
   ],
   λ p. is ∙ row_opposed_cases c.inputs c.cells d.inputs d.cells w.inputs p.0 p.1 p.2 p.3,
 )
@@ -151,21 +151,16 @@ join_right One w true e h = refl
 join_right One w false e h = absurd (h refl)
 join_right X w b e h = e
 
-not_not : (b : Bool) → not (not b) ≡ b
-not_not true = refl
-not_not false = refl
-
 pub joined_bits : (c d r : Cube) → HaveSameWidths c d → IsJoinedCube c d r → ¬ Contradicts c d
     → (k : ℕ) (b : Bool) → HasBit r k b ↔ (HasBit c k b ⊎ HasBit d k b)
 joined_bits c d r w j clear k b =
-    let at : get_or (row r) k X ≡ join (get_or (row c) k X) (get_or (row d) k X) = joined_row_at c d r w j k in
-    (
-    λ e. join_gives (get_or (row c) k X) (get_or (row d) k X) b (sym at ∙ e),
-    λ e. at ∙ elim e [
-      | inl h ↦ join_left (get_or (row c) k X) (get_or (row d) k X) b h
-      | inr h ↦ join_right (get_or (row c) k X) (get_or (row d) k X) b h (λ o. clear (k, not b, o, h ∙ ap known (sym (not_not b))))
-    ],
-  )
+    let at : get_or (row r) k X ≡ join (get_or (row c) k X) (get_or (row d) k X) = joined_row_at c d r w j k in (
+      λ e. join_gives (get_or (row c) k X) (get_or (row d) k X) b (sym at ∙ e),
+      λ e. at ∙ elim e [
+        | inl h ↦ join_left (get_or (row c) k X) (get_or (row d) k X) b h
+        | inr h ↦ join_right (get_or (row c) k X) (get_or (row d) k X) b h (λ o. clear (k, not b, o, h ∙ ap known (sym (not_not b))))
+      ],
+    )
 
 pub joined_widths : (c d r : Cube) → IsJoinedCube c d r → HaveSameWidths r c
 joined_widths c d r j = record { inputs = j.inputs.size; cells = j.cells.size }

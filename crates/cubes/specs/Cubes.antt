@@ -1,5 +1,5 @@
 -- Patterns, and cubes: patterns some of whose bits are left open. (Bushnell and Agrawal, Essentials of Electronic Testing.)
-use Rattle.std.specs.Prelude.{ℕ, ◌≡◌, Bool, not, List, [], ◌++◌, length, slice_index_or}
+use Rattle.std.specs.Prelude.{ℕ, ◌≡◌, Bool, not, List, ◌++◌, length, slice_index_or}
 use Rattle.netlist.specs.declared.kinds.Tri.{Tri}
 use Rattle.netlist.specs.declared.kinds.Tri.TheVariants.{X}
 use Rattle.tri.specs.Tri.{known, AreAllowed}

@@ -1,5 +1,5 @@
 -- What the Xs of a cube are filled with.
-use Rattle.std.specs.Prelude.{ℕ, ◌%◌, ◌==◌, Bool, true, false, List, [], ◌∷◌}
+use Rattle.std.specs.Prelude.{◌%◌, ◌==◌, Bool, true, false, List, [], ◌∷◌}
 use Rattle.rand_core.specs.Stream.{Stream, next_u32}
 use Rattle.netlist.specs.declared.kinds.Tri.{Tri}
 use Rattle.netlist.specs.declared.kinds.Tri.TheVariants.{Zero, One, X}

@@ -1,9 +1,9 @@
 -- Cubes merged into fewer. (Static compaction: Goel and Rosales 1979.)
-use Rattle.std.specs.Prelude.{ℕ, ◌≡◌, ◌<◌, ◌≤◌, ◌+◌, ◌↔◌, ◌⊎◌, ◌++◌, Bool, not, List, [], ◌∷◌, length, slice_index_or, slice_set, cond, ◌&&◌, ◌||◌}
+use Rattle.std.specs.Prelude.{ℕ, ◌≡◌, ◌<◌, ◌≤◌, ◌↔◌, ◌++◌, Bool, List, [], ◌∷◌, length, slice_index_or, slice_set, cond, ◌&&◌, ◌||◌}
 use Rattle.std.specs.List.{list_any, zip}
 use Rattle.netlist.specs.declared.kinds.Tri.{Tri}
 use Rattle.netlist.specs.declared.kinds.Tri.TheVariants.{X}
-use Rattle.tri.specs.Tri.{known, is_zero, is_one, is_x}
+use Rattle.tri.specs.Tri.{is_zero, is_one, is_x}
 use Rattle.cubes.specs.Cubes.{Cube, HasBit, Contradicts, HaveSameWidths}
 
 abbrev pub cube_at : List Cube → ℕ → Cube

@@ -14,8 +14,8 @@ fn first_clear(results: &[Cube], cube: &Cube) -> Option<usize>
     ensures { MatchOption result
         ((p : ℕ) → p < length results.now → Contradicts (cube_at results.now p) cube.now)
         (λ place. (place < length results.now)
-            × (¬ Contradicts (cube_at results.now place) cube.now)
-            × ((p : ℕ) → p < place → Contradicts (cube_at results.now p) cube.now)) }
+        × (¬ Contradicts (cube_at results.now place) cube.now)
+        × ((p : ℕ) → p < place → Contradicts (cube_at results.now p) cube.now)) }
 {
     for (place, result) in results.iter().enumerate() {
         if !result.contradicts(cube) {

@@ -111,7 +111,8 @@ fn are_opposed(values: &[Tri], others: &[Tri]) -> bool
     ensures { result ≡ are_opposed values.now others.now }
 {
     values.iter().zip(others).any(|(v, w)| {
-        matches!(v, Tri::Zero) && matches!(w, Tri::One) || matches!(v, Tri::One) && matches!(w, Tri::Zero)
+        matches!(v, Tri::Zero) && matches!(w, Tri::One)
+            || matches!(v, Tri::One) && matches!(w, Tri::Zero)
     })
 }
 

@@ -9,7 +9,9 @@ use std::alloc::{AllocError, Global};
 use std::test::Fail;
 
 const ZERO: Tri = Tri::Zero;
+
 const ONE: Tri = Tri::One;
+
 const OPEN: Tri = Tri::X;
 
 /// A cube of two inputs and no cells.

@@ -1,5 +1,5 @@
 -- Every sample netlist meets all that is asked of a netlist.
-use Rattle.std.proofs.Common.{◌≡◌, ◌≢◌, ℕ, zero, suc, ◌+◌, ◌-◌, ◌*◌, ◌/◌, ◌%◌, ◌^◌, ◌<◌, ◌≤◌, ◌⊎◌, Bool, true, false, not, List, [], ◌∷◌, ◌++◌, map, length, get_or, refl, sym, ◌∙◌, ap, subst, inl, inr, arith, length-append, zero-add, cond, if◌then◌else◌, ◌==◌}
+use Rattle.std.proofs.Common.{◌≡◌, ◌≢◌, ℕ, zero, suc, ◌+◌, ◌-◌, ◌/◌, ◌%◌, ◌^◌, ◌<◌, ◌≤◌, Bool, true, false, List, [], ◌∷◌, ◌++◌, map, length, get_or, refl, sym, ◌∙◌, ap, subst, inl, inr, arith, length-append, zero-add, if◌then◌else◌, ◌==◌}
 use Rattle.std.proofs.lemmas.Bool.Decides.{nat_tests}
 use Rattle.std.specs.Bool.{IsTrue}
 use Rattle.std.specs.Fmt.{decimal}
@@ -8,21 +8,21 @@ use Rattle.std.specs.Str.Parse.{AllDigits}
 use Rattle.std.proofs.lemmas.Bool.{both_ways, cases_lt}
 use Rattle.std.proofs.lemmas.Fmt.{decimal_is_IsNumeral, decimal_injective, length-decimal-le}
 use Rattle.std.proofs.lemmas.List.{map-append, get_or-map, get_or_append_left, get_or-append_right}
-use Rattle.std.proofs.lemmas.List.Elements.{All-nil, All-cons, All-append, All-contains, Contains-append_cases}
+use Rattle.std.proofs.lemmas.List.Elements.{All-nil, All-cons, All-append, All-contains}
 use Rattle.std.proofs.lemmas.List.FromFn.{length-range_with_len, get_or-range_with_len, length-map-range_with_len}
 use Rattle.std.proofs.lemmas.Nat.{mod_below}
 use Rattle.std.proofs.lemmas.Str.Parse.{digit_from_value}
 use Rattle.rand_core.specs.Stream.{Stream}
 use Rattle.netlist.specs.declared.kinds.Kind.{Kind}
-use Rattle.netlist.specs.declared.kinds.Kind.TheVariants.{And, Nand, Or, Nor, Xor, Xnor, Not, Buff, Dff}
+use Rattle.netlist.specs.declared.kinds.Kind.TheVariants.{And, Nand, Or, Nor, Xor, Xnor, Not, Dff}
 use Rattle.netlist.specs.Gates.{allows_pins}
 use Rattle.netlist.specs.Names.{is_name_byte, IsName}
-use Rattle.netlist.specs.Netlist.{Definition, Netlist, is_gate, is_cell, gates, signals, Reads, IsLoop, IsOnLoop, IsAcyclic}
+use Rattle.netlist.specs.Netlist.{Definition, Netlist, is_gate, gates, signals, IsLoop}
 use Rattle.netlist.specs.declared.netlists.NetRefusal.{NetRefusal}
 use Rattle.netlist.specs.declared.netlists.NetRefusal.TheVariants.{TooMany, NoInput, NoOutput, Undefined, Loop, NoMemory}
-use Rattle.netlist.specs.Conditions.{IsCause, IsNumbered, IsRead, IsWellFormed, IsClosed, IsSized, IsSound}
+use Rattle.netlist.specs.Conditions.{IsCause, IsRead, IsWellFormed, IsClosed, IsSound}
 use Rattle.netlist.proofs.Lists.{contains_filter, All-from_contains}
-use Rattle.net_gen.specs.Samples.{word, rest, kind_of, is_inverter, drawn_pins, after_pins, drawn_gate, after_gate, drawn_gates, after_gates, drawn_cells, names_of, sample_of, sample}
+use Rattle.net_gen.specs.Samples.{word, rest, kind_of, is_inverter, drawn_pins, drawn_gate, after_gate, drawn_gates, after_gates, drawn_cells, names_of, sample_of, sample}
 use Rattle.net_gen.proofs.DrawLemmas.{range-append}
 
 -- ---- ids in a row

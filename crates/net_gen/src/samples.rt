@@ -13,6 +13,7 @@ use rand_pcg::Lcg64Xsh32;
 use std::alloc::{AllocError, Global};
 
 const INPUTS: u32 = 8;
+
 const OUTPUTS: u32 = 8;
 
 /// So many ids, from this one on.

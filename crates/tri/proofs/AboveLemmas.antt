@@ -1,7 +1,7 @@
 -- A label and bits that it is above: on lines, at gates, and in lists.
-use Rattle.std.proofs.Common.{◌≡◌, ℕ, ◌+◌, Bool, true, false, not, cond, ◌&&◌, ◌||◌, List, [], ◌∷◌, ◌++◌, map, Option, Some, None, refl, sym, ◌∙◌, ap, subst}
+use Rattle.std.proofs.Common.{◌≡◌, Bool, true, false, not, cond, ◌&&◌, ◌||◌, List, [], ◌∷◌, ◌++◌, map, Option, Some, None, refl, sym, ◌∙◌, ap, subst}
 use Rattle.std.specs.Bool.{beq}
-use Rattle.std.specs.List.{All, list_any}
+use Rattle.std.specs.List.{list_any}
 use Rattle.std.proofs.lemmas.Bool.{both_ways, or_parts, and_parts, and_from}
 use Rattle.netlist.specs.declared.kinds.Tri.{Tri}
 use Rattle.netlist.specs.declared.kinds.Tri.TheVariants.{Zero, One, X}
@@ -10,7 +10,7 @@ use Rattle.netlist.specs.declared.lines.Fault.{Fault}
 use Rattle.netlist.specs.Settled.{is_line, stuck}
 use Rattle.tri.specs.Tri.{known, allows, AreAllowed}
 use Rattle.tri.specs.Labels.{Label, is_known_as, are_known_and_equal, on_line, decided, label_of, IsAbove, AreAbove}
-use Rattle.tri.proofs.Choices.{no}
+use Rattle.tri.proofs.Choices.{no, known_allows_itself}
 
 -- ---- as a test
 
@@ -63,10 +63,6 @@ known_as_allows false Zero true e h = no h
 known_as_allows false Zero false e h = refl
 known_as_allows false One a e h = no e
 known_as_allows false X a e h = no e
-
-known_allows_itself : (v : Bool) → allows (known v) v ≡ true
-known_allows_itself true = refl
-known_allows_itself false = refl
 
 not_false : (b : Bool) → not b ≡ false → b ≡ true
 not_false true e = refl

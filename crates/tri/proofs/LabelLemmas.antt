@@ -1,10 +1,9 @@
 -- Labels are above the bits of each pattern that agrees with the decisions.
-use Rattle.std.proofs.Common.{◌≡◌, ℕ, ◌+◌, Bool, true, false, not, List, [], ◌∷◌, map, Option, Some, None, refl, sym, ◌∙◌, ap, subst, arith}
+use Rattle.std.proofs.Common.{◌≡◌, ℕ, ◌+◌, Bool, true, false, not, List, [], ◌∷◌, map, Some, None, refl, sym, ◌∙◌, ap, subst, arith}
 use Rattle.std.specs.List.{All, AllZip, Contains, list_any, flat_map}
 use Rattle.std.proofs.lemmas.Bool.{both_ways}
 use Rattle.std.proofs.lemmas.List.Elements.{All-nil, All-cons, All-head, All-tail, All-contains, Contains-append_left, Contains-append_right}
 use Rattle.std.proofs.lemmas.List.{get_or-map, length-map}
-use Rattle.netlist.specs.declared.kinds.Kind.{Kind}
 use Rattle.netlist.specs.declared.kinds.Tri.{Tri}
 use Rattle.netlist.specs.declared.kinds.Tri.TheVariants.{X}
 use Rattle.netlist.specs.declared.lines.Line.TheVariants.{Stem, Pin, Out}
@@ -136,8 +135,10 @@ module _ (f : Fault) (path : Decisions) (n : Netlist) (l : ℕ → Label) (a b :
         (λ (d : Definition) v. a d.id ≡ v) (λ (d : Definition) v. b d.id ≡ stuck (λ c. c) (Some f) (Stem d.id) v) (cells n) state
         (λ d v good faulty w. at_source d.id v w.0 good faulty w.1) p.1 q.1
         (All-from_contains (λ (d : Definition). Contains (signals n) d.id × (l d.id ≡ on_line f (Stem d.id) (source_label path d.id))) (cells n)
-        (λ d c. (defined_is_signal d (contains_filter is_cell n.definitions d c).0,
-        All-contains (λ (e : Definition). l e.id ≡ on_line f (Stem e.id) (source_label path e.id)) (cells n) d labelled c)))
+        (λ d c. (
+          defined_is_signal d (contains_filter is_cell n.definitions d c).0,
+          All-contains (λ (e : Definition). l e.id ≡ on_line f (Stem e.id) (source_label path e.id)) (cells n) d labelled c,
+        )))
 
     pub above_at : (x : ℕ) → Contains (signals n) x → IsAbove (l x) (a x) (b x)
     unfolding holds

@@ -1,6 +1,6 @@
 -- What no pattern tells, or none that agrees with decisions.
-use Rattle.std.proofs.Common.{◌≡◌, ◌≢◌, ℕ, zero, suc, Bool, true, false, List, [], ◌∷◌, Option, Some, None, refl, sym, ◌∙◌, ap, subst, ◌⊎◌, inl, inr}
-use Rattle.std.specs.List.{slice_get, list_any}
+use Rattle.std.proofs.Common.{◌≡◌, ◌≢◌, ℕ, zero, suc, Bool, true, false, List, [], ◌∷◌, Some, None, refl, ◌∙◌, ap, subst, inl, inr}
+use Rattle.std.specs.List.{slice_get}
 use Rattle.std.proofs.lemmas.List.Folds.{list_any_none}
 use Rattle.netlist.specs.declared.lines.Fault.{Fault}
 use Rattle.netlist.specs.declared.lines.Point.{Point}
@@ -11,7 +11,7 @@ use Rattle.netlist.specs.Settled.{Settles, bits, outs, next}
 use Rattle.netlist.proofs.Alike.{settles_once}
 use Rattle.netlist.proofs.Lists.{decides_beq}
 use Rattle.std.specs.Bool.{beq}
-use Rattle.tri.specs.Tri.{known, allows}
+use Rattle.tri.specs.Tri.{allows}
 use Rattle.tri.specs.Told.{observed, Tells, IsRedundant}
 use Rattle.tri.specs.Labels.{Label, Decisions, labels, AreLabels, IsClosedAt, IsContradicted, IsUnobserved, Obeys, AgreesWith}
 use Rattle.tri.proofs.AboveLemmas.{same_where_none_differs}

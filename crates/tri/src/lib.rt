@@ -7,4 +7,6 @@ mod laws;
 mod tests;
 
 pub use gates::gate;
-pub use laws::{closed_tells_nothing, labels_above_patterns, redundant_changes_nothing, three_values_above_bits};
+pub use laws::{
+    closed_tells_nothing, labels_above_patterns, redundant_changes_nothing, three_values_above_bits,
+};

@@ -7,5 +7,5 @@ abbrev pub invariant-loop-value : goal.invariant-loop-value
 invariant-loop-value g l = record {
   bits : l.bits.items ++ filled (drop l.value-index l.values) (g.R.Rng.stream l.rng) ≡ l.initial.bits.items ++ filled l.values (g.R.Rng.stream l.initial.rng);
   left : words_after (drop l.value-index l.values) (g.R.Rng.stream l.rng) ≡ words_after l.values (g.R.Rng.stream l.initial.rng);
-  room : vec_len l.bits + length (drop l.value-index l.values) ≤ vec_capacity l.bits
+  room : vec_len l.bits + length (drop l.value-index l.values) ≤ vec_capacity l.bits;
 }

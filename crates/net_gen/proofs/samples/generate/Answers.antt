@@ -2,7 +2,6 @@ use Rattle.netlist.specs.Conditions.{whole}
 use Rattle.net_gen.proofs.SoundLemmas.{sound_along, memory_alone}
 use Rattle.net_gen.proofs.samples.generate.Goals as goal
 
-
 pub new-requires-2 : goal.new-requires-2
 new-requires-2 c = (sound_along c.args.gates _ (whole c.in-Ok.parts) c.requires.least c.requires.most c.in-Ok.ensures).formed
 
