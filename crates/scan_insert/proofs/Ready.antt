@@ -201,3 +201,11 @@ pub output_below : (n : Netlist) → IsSound n → (output x : ℕ) (outputs : L
 output_below n sound output x outputs e l is =
     signal_below n sound.formed.numbered x
     (All-contains (Contains (signals n)) n.outputs x sound.closed.outputs (output, l, sym (is ∙ ap (λ (xs : List ℕ). get_or xs output x) e)))
+
+-- each signal of the original has a site
+pub sites_cover : (n : Netlist) (chains : List (List ℕ)) → IsSound n → AreChainsOf n chains → length (sites_of n chains) ≡ length (signals n)
+sites_cover n chains sound are = at chains (are_dealt n chains are)
+  where
+    at : (cs : List (List ℕ)) → AreDealt n cs → length (sites_of n cs) ≡ length (signals n)
+    at [] dealt = length-map (signals n) own_site
+    at (chain ∷ rest) dealt = sites_length n sound chain rest dealt
