@@ -30,6 +30,8 @@ def gate(rng, name, names):
     kind = rng.choices(KINDS, WEIGHTS)[0]
     if kind in ("NOT", "BUFF"):
         pins = 1
+    elif kind in ("XOR", "XNOR"):
+        pins = 2  # berkeley-abc reads no others
     else:
         pins = rng.choices([2, 3, 4, 6], [70, 18, 9, 3])[0]
     read = ", ".join(names[near(rng, len(names))] for _ in range(pins))
