@@ -14,6 +14,8 @@ mod readings;
 mod rows;
 mod rules;
 mod signals;
+#[cfg(test)]
+mod tests;
 
 pub use bits::Bits;
 pub use equations::{Definition, NoMemory, Parts};
