@@ -1,10 +1,11 @@
 //! The netlists of the literature and tables of refusals, from a text to the answer.
 
-ghost use Rattle.std.specs.Prelude.{◌<◌, ◌^◌, length};
-
 use crate::{BenchFault, BenchKind, BenchRefusal, Names, read, write};
 use std::alloc::{AllocError, Global};
 use std::test::*;
+
+/// No text of the tests has more bytes.
+const LONGEST: usize = 1_000_000;
 
 /// What became of a text: its canonical text, or why it is refused.
 #[derive(Drop)]
@@ -14,9 +15,10 @@ enum Outcome {
     NoMemory,
 }
 
-fn answer(alloc: Global, text: &[u8], reading: Names) -> Outcome
-    requires { length text.now < 2 ^ 32 }
-{
+fn answer(alloc: Global, text: &[u8], reading: Names) -> Outcome {
+    if text.len() > LONGEST {
+        return Outcome::NoMemory;
+    }
     match read(alloc, text, reading) {
         Ok(netlist) => match write(alloc, &netlist) {
             Ok(text) => Outcome::Text(text),
@@ -28,9 +30,7 @@ fn answer(alloc: Global, text: &[u8], reading: Names) -> Outcome
 }
 
 /// Whether the text as a design is written as this.
-fn gives(alloc: Global, text: &[u8], canonical: &[u8]) -> bool
-    requires { length text.now < 2 ^ 32 }
-{
+fn gives(alloc: Global, text: &[u8], canonical: &[u8]) -> bool {
     match answer(alloc, text, Names::Design) {
         Outcome::Text(written) => written.as_slice() == canonical,
         Outcome::Refused(_) | Outcome::NoMemory => false,
@@ -38,24 +38,18 @@ fn gives(alloc: Global, text: &[u8], canonical: &[u8]) -> bool
 }
 
 /// Whether the text is refused so.
-fn refuses(alloc: Global, text: &[u8], reading: Names, line: u32, kind: BenchKind) -> bool
-    requires { length text.now < 2 ^ 32 }
-{
+fn refuses(alloc: Global, text: &[u8], reading: Names, line: u32, kind: BenchKind) -> bool {
     match answer(alloc, text, reading) {
         Outcome::Refused(refusal) => refusal == BenchRefusal { line, kind },
         Outcome::Text(_) | Outcome::NoMemory => false,
     }
 }
 
-fn design(alloc: Global, text: &[u8], line: u32, kind: BenchKind) -> bool
-    requires { length text.now < 2 ^ 32 }
-{
+fn design(alloc: Global, text: &[u8], line: u32, kind: BenchKind) -> bool {
     refuses(alloc, text, Names::Design, line, kind)
 }
 
-fn is_read(alloc: Global, text: &[u8], reading: Names) -> bool
-    requires { length text.now < 2 ^ 32 }
-{
+fn is_read(alloc: Global, text: &[u8], reading: Names) -> bool {
     matches!(answer(alloc, text, reading), Outcome::Text(_))
 }
 
@@ -436,6 +430,28 @@ fn faults_of_the_whole_text_in_order(rt: HostRuntime) {
     );
 }
 
+/// Whether a text that was made is read.
+fn is_made(alloc: Global, text: Result<Vec<u8>, AllocError>, reading: Names) -> bool {
+    match text {
+        Ok(text) => is_read(alloc, &text, reading),
+        Err(_) => false,
+    }
+}
+
+/// Whether a text that was made is refused so.
+fn made_refuses(
+    alloc: Global,
+    text: Result<Vec<u8>, AllocError>,
+    reading: Names,
+    line: u32,
+    kind: BenchKind,
+) -> bool {
+    match text {
+        Ok(text) => refuses(alloc, &text, reading, line, kind),
+        Err(_) => false,
+    }
+}
+
 /// `INPUT(aa..a)` with a name of so many bytes, and an output.
 fn long_name(alloc: Global, length: usize) -> Result<Vec<u8>, AllocError> {
     let mut text = Vec::new(alloc);
@@ -450,15 +466,11 @@ fn long_name(alloc: Global, length: usize) -> Result<Vec<u8>, AllocError> {
 #[test]
 fn names_of_the_most_bytes(rt: HostRuntime) {
     let a = rt.alloc();
-    let text = long_name(a, 255).unwrap();
-    assert!(rt; is_read(a, &text, Names::Design));
-    let text = long_name(a, 256).unwrap();
-    assert!(rt; refuses(a, &text, Names::Design, 4, BenchKind::BadLine));
-    assert!(rt; is_read(a, &text, Names::Scanned));
-    let text = long_name(a, 261).unwrap();
-    assert!(rt; is_read(a, &text, Names::Scanned));
-    let text = long_name(a, 262).unwrap();
-    assert!(rt; refuses(a, &text, Names::Scanned, 4, BenchKind::BadLine));
+    assert!(rt; is_made(a, long_name(a, 255), Names::Design));
+    assert!(rt; made_refuses(a, long_name(a, 256), Names::Design, 4, BenchKind::BadLine));
+    assert!(rt; is_made(a, long_name(a, 256), Names::Scanned));
+    assert!(rt; is_made(a, long_name(a, 261), Names::Scanned));
+    assert!(rt; made_refuses(a, long_name(a, 262), Names::Scanned, 4, BenchKind::BadLine));
 }
 
 /// A gate whose word has so many bytes.
@@ -475,16 +487,20 @@ fn long_gate(alloc: Global, length: usize) -> Result<Vec<u8>, AllocError> {
 #[test]
 fn a_word_of_a_gate_that_is_too_long(rt: HostRuntime) {
     let a = rt.alloc();
-    let text = long_gate(a, 255).unwrap();
-    assert!(rt; design(a, &text, 1, BenchKind::UnknownGate));
-    let text = long_gate(a, 256).unwrap();
-    assert!(rt; design(a, &text, 1, BenchKind::BadLine));
+    assert!(rt;
+        made_refuses(
+            a,
+            long_gate(a, 255),
+            Names::Design,
+            1,
+            BenchKind::UnknownGate
+        )
+    );
+    assert!(rt; made_refuses(a, long_gate(a, 256), Names::Design, 1, BenchKind::BadLine));
 }
 
 /// An AND of so many pins.
-fn wide_gate(alloc: Global, pins: usize) -> Result<Vec<u8>, AllocError>
-    requires { 0 < pins }
-{
+fn wide_gate(alloc: Global, pins: usize) -> Result<Vec<u8>, AllocError> {
     let mut text = Vec::new(alloc);
     text.extend_from_slice(b"INPUT(a)\nOUTPUT(y)\ny = AND(a")?;
     for _ in 1..pins {
@@ -497,12 +513,9 @@ fn wide_gate(alloc: Global, pins: usize) -> Result<Vec<u8>, AllocError>
 #[test]
 fn gates_of_the_most_and_the_fewest_pins(rt: HostRuntime) {
     let a = rt.alloc();
-    let text = wide_gate(a, 1024).unwrap();
-    assert!(rt; is_read(a, &text, Names::Design));
-    let text = wide_gate(a, 1025).unwrap();
-    assert!(rt; design(a, &text, 3, BenchKind::BadPins));
-    let text = wide_gate(a, 1).unwrap();
-    assert!(rt; is_read(a, &text, Names::Design));
+    assert!(rt; is_made(a, wide_gate(a, 1024), Names::Design));
+    assert!(rt; made_refuses(a, wide_gate(a, 1025), Names::Design, 3, BenchKind::BadPins));
+    assert!(rt; is_made(a, wide_gate(a, 1), Names::Design));
     assert!(rt; design(a, b"INPUT(a)\nOUTPUT(y)\ny = AND()", 3, BenchKind::BadPins));
     assert!(rt; design(a, b"INPUT(a)\nOUTPUT(y)\ny = XOR(a)", 3, BenchKind::BadPins));
 }
