@@ -114,3 +114,17 @@ fn a_cell_may_read_itself(rt: HostRuntime) -> Result<(), Fail> {
     assert!(rt; ran.said("cells 1 chains 1\n", ""));
     Ok(())
 }
+
+#[test]
+fn more_than_a_million_signals_are_too_many(rt: HostRuntime) -> Result<(), Fail> {
+    let alloc = rt.alloc();
+    let mut text = String::new(alloc);
+    for number in 0..1_000_001u32 {
+        let line = format!(in alloc; "INPUT({number})\n")?;
+        text.push_str(line.as_str())?;
+    }
+    let ran = run(&rt, alloc, "atpg scan n o", ("n", text.as_str()))?;
+    assert_eq!(rt; ran.status, 3);
+    assert!(rt; ran.said("", "netlist line 0: TooMany\n"));
+    Ok(())
+}
