@@ -35,7 +35,3 @@ fault_at lines i k line v half l is odd =
       | inl e ↦ ap (slice_get (flat_map faults_of lines)) (e.0 ∙ ap (λ j. 2 * j) (sym half)) ∙ (h.0 ∙ ap (λ b. Some (record { line = line; value = b })) (sym (odd ∙ ap (λ r. nat_eq r 1) e.1)))
       | inr e ↦ ap (slice_get (flat_map faults_of lines)) (e.0 ∙ ap (λ j. 2 * j + 1) (sym half)) ∙ (h.1 ∙ ap (λ b. Some (record { line = line; value = b })) (sym (odd ∙ ap (λ r. nat_eq r 1) e.1)))
     ]
-
-pub none_from_none : (lines : List Line) → nat_eq (length lines) 0 ≡ nat_eq (length (flat_map faults_of lines)) 0
-none_from_none [] = refl
-none_from_none (l ∷ ls) = refl

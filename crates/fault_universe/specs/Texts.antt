@@ -1,5 +1,5 @@
 -- How faults are written: `stem x/0`, `pin z 3/1`, `out y/0`.
-use Rattle.std.specs.Prelude.{ℕ, ◌^◌, ◌<◌, length, Bool, true, false, List, [], ◌∷◌, ◌++◌, codes, decimal, slice_index_or}
+use Rattle.std.specs.Prelude.{ℕ, ◌≡◌, ◌≢◌, ◌^◌, ◌<◌, length, Option, None, Some, Bool, true, false, List, [], ◌∷◌, ◌++◌, codes, decimal, slice_index_or}
 use Rattle.netlist.specs.declared.lines.Line.{Line}
 use Rattle.netlist.specs.declared.lines.Line.TheVariants.{Stem, Pin, Out}
 use Rattle.netlist.specs.declared.lines.Fault.{Fault}
@@ -32,3 +32,8 @@ abbrev pub IsWritten : Netlist → Line → Type 0
 IsWritten n (Stem x) = x < length (signals n)
 IsWritten n (Pin z k) = (z < length (signals n)) × (k < 2 ^ 32)
 IsWritten n (Out y) = y < length (signals n)
+
+-- the line of this text, if there is one
+abbrev pub IsLineNamed : Netlist → List ℕ → Option Line → Type 0
+IsLineNamed n text None = (line : Line) → IsWritten n line → text ≢ line_text n line
+IsLineNamed n text (Some line) = IsWritten n line × (text ≡ line_text n line)

@@ -36,21 +36,12 @@ pub(crate) fn signal_count(netlist: &Netlist) -> u32
     (netlist.inputs().len() + netlist.definitions().len()) as u32
 }
 
-fn readers<'a>(netlist: &'a Netlist, x: SignalId) -> &'a [Line]
-    requires { x < length (signals netlist.now) }
-    ensures { result.now ≡ readers_of netlist.now x }
-{
-    let _ = netlist;
-    let _ = x;
-    &[]
-}
-
 /// The branches of a stem: its readers, where these are two or more.
-pub(crate) fn branches<'a>(netlist: &'a Netlist, x: SignalId) -> &'a [Line]
+pub(crate) fn branches(netlist: &Netlist, x: SignalId) -> &[Line]
     requires { x < length (signals netlist.now) }
     ensures { result.now ≡ branching (readers_of netlist.now x) }
 {
-    let readers = readers(netlist, x);
+    let readers = netlist.readers(x);
     if readers.len() >= 2 { readers } else { &[] }
 }
 
@@ -104,7 +95,7 @@ impl FaultSet {
     pub fn is_empty(&self) -> bool
         ensures { result ≡ (length self.now == 0) }
     {
-        self.lines.is_empty()
+        self.len() == 0
     }
 
     /// The fault at a place of the list.

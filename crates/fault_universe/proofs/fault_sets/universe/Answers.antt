@@ -13,5 +13,5 @@ pub invariant_of-result : goal.invariant_of-result
 invariant_of-result c =
     let h = length-faults (all_lines c.args.netlist.now) in
     let r = c.requires in
-    let e = ap length (c.in-Ok.ensures tt) in
+    let e = ap length c.in-Ok.ensures in
     omega arith
