@@ -8,3 +8,4 @@ pub mod NamedLines
 pub mod Numbers
 pub mod Readers
 pub mod Members
+pub mod Distinct

@@ -144,14 +144,16 @@ fault_is_member n l false c = Contains-flat_map faults_of (all_lines n) l (recor
 fault_is_member n l true c = Contains-flat_map faults_of (all_lines n) l (record { line = l; value = true }) c
     (Contains-tail (record { line = l; value = false }) (record { line = l; value = true }) (record { line = l; value = true } ∷ []) (Contains-head (record { line = l; value = true }) []))
 
+pub fault_line : (l : Line) (f : Fault) → Contains (faults_of l) f → f.line ≡ l
+fault_line l f c = elim (Contains-cases (record { line = l; value = false }) f (record { line = l; value = true } ∷ []) c) [
+  | inl e ↦ sym (ap (λ (g : Fault). g.line) e)
+  | inr r ↦ elim (Contains-cases (record { line = l; value = true }) f [] r) [ inl e ↦ sym (ap (λ (g : Fault). g.line) e) | inr none ↦ absurd (Contains-nil f none) ]
+]
+
 pub member_line : (n : Netlist) (f : Fault) → Contains (universe_of n) f → Contains (all_lines n) f.line
 member_line n f c =
     let m = flat_map-source faults_of (all_lines n) f c in
-    let is : m.0 ≡ f.line = elim (Contains-cases (record { line = m.0; value = false }) f (record { line = m.0; value = true } ∷ []) m.2) [
-      | inl e ↦ ap (λ (g : Fault). g.line) e
-      | inr r ↦ elim (Contains-cases (record { line = m.0; value = true }) f [] r) [ inl e ↦ ap (λ (g : Fault). g.line) e | inr none ↦ absurd (Contains-nil f none) ]
-    ] in
-    subst (Contains (all_lines n)) is m.1
+    subst (Contains (all_lines n)) (sym (fault_line m.0 f m.2)) m.1
 
 -- numbers that are zero or not
 not_zero : (m : ℕ) → not (eqb m 0) ≡ true → 0 < m

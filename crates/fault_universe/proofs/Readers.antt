@@ -19,10 +19,10 @@ pub record IsPinOf (n : Netlist) (z k x : ℕ) : Type 0 where
   pub pin : slice_get definition.pins k ≡ Some x
 
 -- a pin from place j on
-record IsPlaced (x z j : ℕ) (ys : List ℕ) (l : Line) : Type 0 where
-  place : ℕ
-  line : l ≡ Pin z (j + place)
-  pin : slice_get ys place ≡ Some x
+pub record IsPlaced (x z j : ℕ) (ys : List ℕ) (l : Line) : Type 0 where
+  pub place : ℕ
+  pub line : l ≡ Pin z (j + place)
+  pub pin : slice_get ys place ≡ Some x
 
 reading_first : (x z j y : ℕ) (ys : List ℕ) (l : Line) → y ≡ x → Pin z j ≡ l → IsPlaced x z j (y ∷ ys) l
 reading_first x z j y ys l same is =
@@ -42,7 +42,7 @@ reading_step x z j y ys l later true e c = elim (Contains-cases (Pin z j) l (pin
 ]
 reading_step x z j y ys l later false e c = reading_later x z j y ys l (later c)
 
-reading_pin : (x z j : ℕ) (ys : List ℕ) (l : Line) → Contains (pins_reading x z j ys) l → IsPlaced x z j ys l
+pub reading_pin : (x z j : ℕ) (ys : List ℕ) (l : Line) → Contains (pins_reading x z j ys) l → IsPlaced x z j ys l
 reading_pin x z j [] l c = absurd (Contains-nil l c)
 reading_pin x z j (y ∷ ys) l c = reading_step x z j y ys l (reading_pin x z (j + 1) ys l) (eqb y x) refl c
 
@@ -69,7 +69,7 @@ pin_reading x z j (y ∷ ys) (suc i) e =
         (inr (subst (λ k. Contains (pins_reading x z (j + 1) ys) (Pin z k)) next (pin_reading x z (j + 1) ys i e)))
 
 -- an output that reads x
-out_reading : (x : ℕ) (ys : List ℕ) (l : Line) → Contains (map (λ y. Out y) (filter (λ y. eqb y x) ys)) l → (l ≡ Out x) × Contains ys x
+pub out_reading : (x : ℕ) (ys : List ℕ) (l : Line) → Contains (map (λ y. Out y) (filter (λ y. eqb y x) ys)) l → (l ≡ Out x) × Contains ys x
 out_reading x [] l c = absurd (Contains-nil l c)
 out_reading x (y ∷ ys) l c =
     let here : (b : Bool) → eqb y x ≡ b → Contains (map (λ y. Out y) (cond b (y ∷ filter (λ y. eqb y x) ys) (filter (λ y. eqb y x) ys))) l → (l ≡ Out x) × Contains (y ∷ ys) x =
@@ -97,7 +97,7 @@ reading_out x (y ∷ ys) c =
 
 module _ (n : Netlist) (x : ℕ) where
 
-  reader_placed : (l : Line) → Contains (flat_map (λ (d : Definition). pins_reading x d.id 0 d.pins) n.definitions) l → (z : ℕ) × (k : ℕ) × (l ≡ Pin z k) × IsPinOf n z k x
+  pub reader_placed : (l : Line) → Contains (flat_map (λ (d : Definition). pins_reading x d.id 0 d.pins) n.definitions) l → (z : ℕ) × (k : ℕ) × (l ≡ Pin z k) × IsPinOf n z k x
   reader_placed l c =
       let m = flat_map-source (λ (d : Definition). pins_reading x d.id 0 d.pins) n.definitions l c in
       let p = reading_pin x m.0.id 0 m.0.pins l m.2 in
