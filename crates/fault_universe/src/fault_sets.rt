@@ -29,7 +29,7 @@ impl Model for FaultSet {
 }
 
 /// How many signals there are.
-pub(crate) fn signal_count(netlist: &Netlist) -> u32
+pub fn signal_count(netlist: &Netlist) -> u32
     ensures { result ≡ length (signals netlist.now) }
 {
     netlist.sound();
@@ -37,7 +37,7 @@ pub(crate) fn signal_count(netlist: &Netlist) -> u32
 }
 
 /// The branches of a stem: its readers, where these are two or more.
-pub(crate) fn branches(netlist: &Netlist, x: SignalId) -> &[Line]
+pub fn branches(netlist: &Netlist, x: SignalId) -> &[Line]
     requires { x < length (signals netlist.now) }
     ensures { result.now ≡ branching (readers_of netlist.now x) }
 {

@@ -1,0 +1,11 @@
+//! Classes of faults that no test tells apart, as far as single gates show.
+#![tactic(auto)]
+
+mod collapsing;
+mod gates;
+mod joining;
+mod merging;
+mod numbering;
+
+pub use collapsing::collapse;
+pub use numbering::Classes;
