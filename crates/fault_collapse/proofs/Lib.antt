@@ -5,3 +5,6 @@ pub mod Merged
 pub mod Stems
 pub mod Numbered
 pub mod Equivalent
+pub mod Agreement
+pub mod Controlled
+pub mod Behaviour

@@ -29,7 +29,7 @@ branch_at n x z k l = ap (λ b. cond b (Pin z k) (Stem x)) (le-leb 2 (length (re
 pub to_pin : (n : Netlist) (d : Definition) (k x : ℕ) → Contains n.definitions d → slice_get d.pins k ≡ Some x → IsPinOf n d.id k x
 to_pin n d k x c p = record { definition = d; member = c; id = refl; pin = p }
 
-only_one : (rs : List Line) (l : Line) → Contains rs l → length rs < 2 → rs ≡ l ∷ []
+pub only_one : (rs : List Line) (l : Line) → Contains rs l → length rs < 2 → rs ≡ l ∷ []
 only_one [] l c few = absurd (Contains-nil l c)
 only_one (m ∷ []) l c few = elim (Contains-cases m l [] c) [ inl e ↦ ap (λ y. y ∷ []) e | inr r ↦ absurd (Contains-nil l r) ]
 only_one (m ∷ k ∷ rs) l c few = absurd (omega arith)

@@ -4,8 +4,10 @@
 mod collapsing;
 mod gates;
 mod joining;
+mod laws;
 mod merging;
 mod numbering;
 
 pub use collapsing::collapse;
+pub use laws::equivalent_agree;
 pub use numbering::Classes;
