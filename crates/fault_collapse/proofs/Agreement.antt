@@ -12,8 +12,7 @@ use Rattle.netlist.specs.Conditions.{IsSound}
 use Rattle.netlist.specs.Gates.{gate_bit}
 use Rattle.netlist.specs.Laws.{HoldsEverywhere}
 use Rattle.netlist.specs.Settled.{Settles, bits, is_line, next, on_pins, outs, pins_of}
-use Rattle.netlist.proofs.Lists.{contains_filter, decides_beq, map_agree}
-use Rattle.fault_universe.proofs.Elements.{All-from_contains, Contains-head, Contains-tail}
+use Rattle.netlist.proofs.Lists.{All-from_contains, contains_filter, contains_head, contains_tail, decides_beq, map_agree}
 
 -- what a line makes of a value where a fault is elsewhere, and where it is there
 pub free : (f : Fault) (l : Line) (v : Bool) → is_line f.line l ≡ false → (bits (Some f)).line l v ≡ v
@@ -58,9 +57,9 @@ module _ (everywhere : HoldsEverywhere) (n : Netlist) (sound : IsSound n) (f g :
       All-cons (λ (y : X). hidden (key y) || beq (a (key y)) (b (key y)) ≡ true) x xs
       (agrees_from (key x)
       (λ seen.
-      let s = apart.stems (key x) (away x (Contains-head x xs)) seen in
+      let s = apart.stems (key x) (away x (contains_head x xs)) seen in
       h.0 ∙ (free f (Stem (key x)) v s.0 ∙ sym (k.0 ∙ free g (Stem (key x)) v s.1))))
-      (sources key xs vs (λ y c. away y (Contains-tail x y xs c)) h.1 k.1)
+      (sources key xs vs (λ y c. away y (contains_tail x y xs c)) h.1 k.1)
 
   -- the pins of a definition that is not z's
   pins_from : (x k : ℕ) (ys : List ℕ) → ((j : ℕ) → (is_line f.line (Pin x j) ≡ false) × (is_line g.line (Pin x j) ≡ false)) → ((y : ℕ) → Contains ys y → a y ≡ b y)
@@ -68,9 +67,9 @@ module _ (everywhere : HoldsEverywhere) (n : Netlist) (sound : IsSound n) (f g :
   pins_from x k [] away same = refl
   pins_from x k (y ∷ ys) away same =
       let head : (bits (Some f)).line (Pin x k) (a y) ≡ (bits (Some g)).line (Pin x k) (b y) =
-      free f (Pin x k) (a y) (away k).0 ∙ (same y (Contains-head y ys) ∙ sym (free g (Pin x k) (b y) (away k).1)) in
+      free f (Pin x k) (a y) (away k).0 ∙ (same y (contains_head y ys) ∙ sym (free g (Pin x k) (b y) (away k).1)) in
       ap (λ v. v ∷ on_pins (bits (Some f)) x (k + 1) (map a ys)) head
-      ∙ ap (λ vs. (bits (Some g)).line (Pin x k) (b y) ∷ vs) (pins_from x (k + 1) ys away (λ w c. same w (Contains-tail y w ys c)))
+      ∙ ap (λ vs. (bits (Some g)).line (Pin x k) (b y) ∷ vs) (pins_from x (k + 1) ys away (λ w c. same w (contains_tail y w ys c)))
 
   same_pins : (d : Definition) → Contains n.definitions d → d.id ≢ z → ((y : ℕ) → Contains d.pins y → hidden y || beq (a y) (b y) ≡ true)
       → pins_of (bits (Some f)) a d ≡ pins_of (bits (Some g)) b d
@@ -108,11 +107,11 @@ module _ (everywhere : HoldsEverywhere) (n : Netlist) (sound : IsSound n) (f g :
   cells_agree : (ds : List Definition) → ((d : Definition) → Contains ds d → Contains (cells n) d) → flat_map (pins_of (bits (Some f)) a) ds ≡ flat_map (pins_of (bits (Some g)) b) ds
   cells_agree [] within = refl
   cells_agree (d ∷ ds) within =
-      let cell = within d (Contains-head d ds) in
+      let cell = within d (contains_head d ds) in
       let defined = (contains_filter is_cell n.definitions d cell).0 in
       let read : All (Contains (signals n)) d.pins = All-contains (λ (e : Definition). All (Contains (signals n)) e.pins) n.definitions d sound.closed.pins defined in
       let pins = same_pins d defined (apart.cells d cell) (λ y m. signal_agrees y (All-contains (Contains (signals n)) d.pins y read m)) in
-      ap (λ vs. vs ++ flat_map (pins_of (bits (Some f)) a) ds) pins ∙ ap (λ vs. pins_of (bits (Some g)) b d ++ vs) (cells_agree ds (λ e c. within e (Contains-tail d e ds c)))
+      ap (λ vs. vs ++ flat_map (pins_of (bits (Some f)) a) ds) pins ∙ ap (λ vs. pins_of (bits (Some g)) b d ++ vs) (cells_agree ds (λ e c. within e (contains_tail d e ds c)))
 
   pub next_agree : next (bits (Some f)) n a ≡ next (bits (Some g)) n b
   next_agree = cells_agree (cells n) (λ d c. c)

@@ -17,10 +17,10 @@ use Rattle.netlist.specs.Gates.{allows_pins, gate_bit}
 use Rattle.netlist.specs.Laws.{HoldsEverywhere, SettlesOnce, SomeSettles}
 use Rattle.netlist.specs.Readers.{readers_of}
 use Rattle.netlist.specs.Settled.{Rule, Settles, bits, is_line, next, on_pins, outs, pins_of}
-use Rattle.netlist.proofs.Lists.{contains_filter, contains_map, decides_beq, filter_contains, map_agree}
+use Rattle.netlist.proofs.Lists.{All-from_contains, contains_cases, contains_filter, contains_head, contains_map, contains_nil, contains_tail, decides_beq, filter_contains, map_agree}
 use Rattle.netlist.proofs.Placed.{definition_below, same_definition}
 use Rattle.netlist.proofs.Settling.{above_inputs}
-use Rattle.fault_universe.proofs.Elements.{All-from_contains, contains_at, Contains-cases, Contains-head, Contains-nil, Contains-tail, slice_get_below}
+use Rattle.fault_universe.proofs.Elements.{contains_at, slice_get_below}
 use Rattle.fault_universe.proofs.Members.{read_signal}
 use Rattle.fault_universe.proofs.Names.{is_signal}
 use Rattle.fault_universe.proofs.Readers.{IsPinOf, output_reads, pin_reads}
@@ -55,9 +55,9 @@ pin_value rule a d k x e = let at : 0 + k ≡ k = omega arith in on_pin rule d.i
 
 -- what is driven there
 driven : {X : Type 0} (R : X → Bool → Type 0) (xs : List X) (vs : List Bool) (x : X) → AllZip R xs vs → Contains xs x → (v : Bool) × R x v
-driven R [] vs x h c = absurd (Contains-nil x c)
+driven R [] vs x h c = absurd (contains_nil x c)
 driven R (y ∷ ys) [] x h c = absurd h
-driven {X} R (y ∷ ys) (v ∷ vs) x h c = elim (Contains-cases y x ys c) [
+driven {X} R (y ∷ ys) (v ∷ vs) x h c = elim (contains_cases y x ys c) [
   | inl e ↦ (v, subst (λ (z : X). R z v) e h.0)
   | inr r ↦ driven R ys vs x h.1 r
 ]
@@ -177,7 +177,7 @@ module _ (n : Netlist) (sound : IsSound n) (f g : Fault) (j : IsJoined n f g) wh
     sole = only_one (readers_of n j.signal) (Pin j.gate.id j.place) (pin_reads n j.signal j.gate.id j.place pin_of) few
 
     sole_is : (l : Line) → Contains (readers_of n j.signal) l → Pin j.gate.id j.place ≡ l
-    sole_is l c = elim (Contains-cases (Pin j.gate.id j.place) l [] (subst (λ rs. Contains rs l) sole c)) [ inl e ↦ e | inr r ↦ absurd (Contains-nil l r) ]
+    sole_is l c = elim (contains_cases (Pin j.gate.id j.place) l [] (subst (λ rs. Contains rs l) sole c)) [ inl e ↦ e | inr r ↦ absurd (contains_nil l r) ]
 
     pub stem_apart : AreApart n f g j.gate.id (λ y. eqb y j.signal)
     stem_apart = record {
@@ -240,10 +240,10 @@ module _ (n : Netlist) (sound : IsSound n) (f : Fault) (a b : ℕ → Bool) (sam
   same_cells : (ds : List Definition) → ((d : Definition) → Contains ds d → Contains n.definitions d) → flat_map (pins_of (bits (Some f)) a) ds ≡ flat_map (pins_of (bits (Some f)) b) ds
   same_cells [] within = refl
   same_cells (d ∷ ds) within =
-      let read : All (Contains (signals n)) d.pins = All-contains (λ (e : Definition). All (Contains (signals n)) e.pins) n.definitions d sound.closed.pins (within d (Contains-head d ds)) in
+      let read : All (Contains (signals n)) d.pins = All-contains (λ (e : Definition). All (Contains (signals n)) e.pins) n.definitions d sound.closed.pins (within d (contains_head d ds)) in
       let values = map_agree a b d.pins (All-from_contains (λ x. a x ≡ b x) d.pins (λ x c. All-contains (λ y. a y ≡ b y) (signals n) x same (All-contains (Contains (signals n)) d.pins x read c))) in
       ap (λ vs. on_pins (bits (Some f)) d.id 0 vs ++ flat_map (pins_of (bits (Some f)) a) ds) values
-      ∙ ap (λ vs. pins_of (bits (Some f)) b d ++ vs) (same_cells ds (λ e c. within e (Contains-tail d e ds c)))
+      ∙ ap (λ vs. pins_of (bits (Some f)) b d ++ vs) (same_cells ds (λ e c. within e (contains_tail d e ds c)))
 
   pub same_agree : AgreeOn n f f a b
   same_agree = record {

@@ -13,9 +13,8 @@ use Rattle.fault_universe.specs.Universe.{all_lines, universe_of}
 use Rattle.fault_universe.proofs.Distinct.{distinct_faults, one_place}
 use Rattle.fault_universe.proofs.Elements.{contains_at, slice_get_below}
 use Rattle.fault_universe.proofs.Members.{fault_is_member, pin_line, read_signal, stem_is_line}
-use Rattle.fault_universe.proofs.Names.{signal_below}
 use Rattle.fault_universe.proofs.Readers.{IsPinOf}
-use Rattle.netlist.proofs.Placed.{definition_below}
+use Rattle.netlist.proofs.Placed.{definition_below, signal_below}
 use Rattle.fault_collapse.specs.Joined.{IsEquivalent, IsJoined, joined, reflexive, symmetric, transitive}
 use Rattle.fault_collapse.specs.Numbers.{Classes}
 use Rattle.fault_collapse.specs.Classes.{AreClasses, HasFirst}

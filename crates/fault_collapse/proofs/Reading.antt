@@ -8,8 +8,8 @@ use Rattle.netlist.specs.Netlist.{Definition, Netlist, signals}
 use Rattle.netlist.specs.Conditions.{IsSound}
 use Rattle.netlist.specs.Readers.{readers_of}
 use Rattle.netlist.proofs.Placed.{same_definition}
+use Rattle.netlist.proofs.Lists.{contains_cases, contains_head, contains_nil}
 use Rattle.fault_universe.specs.Universe.{all_lines}
-use Rattle.fault_universe.proofs.Elements.{Contains-head, Contains-cases, Contains-nil}
 use Rattle.fault_universe.proofs.Members.{line_pin}
 use Rattle.fault_universe.proofs.Readers.{IsPinOf, pin_reads, reader_cases}
 use Rattle.fault_collapse.specs.Joined.{line_at}
@@ -30,15 +30,15 @@ pub to_pin : (n : Netlist) (d : Definition) (k x : ℕ) → Contains n.definitio
 to_pin n d k x c p = record { definition = d; member = c; id = refl; pin = p }
 
 pub only_one : (rs : List Line) (l : Line) → Contains rs l → length rs < 2 → rs ≡ l ∷ []
-only_one [] l c few = absurd (Contains-nil l c)
-only_one (m ∷ []) l c few = elim (Contains-cases m l [] c) [ inl e ↦ ap (λ y. y ∷ []) e | inr r ↦ absurd (Contains-nil l r) ]
+only_one [] l c few = absurd (contains_nil l c)
+only_one (m ∷ []) l c few = elim (contains_cases m l [] c) [ inl e ↦ ap (λ y. y ∷ []) e | inr r ↦ absurd (contains_nil l r) ]
 only_one (m ∷ k ∷ rs) l c few = absurd (omega arith)
 
 module _ (n : Netlist) (sound : IsSound n) where
   -- a stem with one reader stands for the pin that reads it
   pub stem_read : (x z k : ℕ) → readers_of n x ≡ Pin z k ∷ [] → (d : Definition) × (d.id ≡ z) × IsReadBy n (Stem x) d
   stem_read x z k is =
-      let reads : Contains (readers_of n x) (Pin z k) = subst (λ rs. Contains rs (Pin z k)) (sym is) (Contains-head (Pin z k) []) in
+      let reads : Contains (readers_of n x) (Pin z k) = subst (λ rs. Contains rs (Pin z k)) (sym is) (contains_head (Pin z k) []) in
       let few : length (readers_of n x) < 2 = let size = ap length is in omega arith in
       elim (reader_cases n x (Pin z k) reads) [
         | inl p ↦

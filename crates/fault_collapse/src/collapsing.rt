@@ -5,7 +5,7 @@ ghost use Rattle.fault_collapse.specs.Classes.{AreClasses};
 ghost use Rattle.fault_collapse.specs.Merging.{AreMerged};
 
 use crate::joining::{alone, merge_all, stem_places};
-use crate::numbering::{number, Classes};
+use crate::classes::{number, Classes};
 use fault_universe::FaultSet;
 use netlist::{Netlist, NoMemory};
 use std::alloc::{AllocError, Global};

@@ -5,7 +5,7 @@ ghost use Rattle.fault_universe.specs.Universe.{all_lines, universe_of};
 ghost use Rattle.fault_collapse.specs.Merging.{AreMerged, AreStems};
 
 use crate::gates::output_fault;
-use crate::merging::merge;
+use crate::union_find::merge;
 use fault_universe::{branches, signal_count, FaultSet};
 use netlist::{Fault, Netlist, SignalId};
 use std::alloc::{AllocError, Global};

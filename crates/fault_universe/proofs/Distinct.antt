@@ -12,8 +12,9 @@ use Rattle.netlist.specs.Netlist.{Definition, Netlist, definition_of, signals}
 use Rattle.netlist.specs.Conditions.{IsSound}
 use Rattle.netlist.specs.Readers.{pins_reading, readers_of}
 use Rattle.netlist.proofs.Placed.{id_at, same_definition}
+use Rattle.netlist.proofs.Lists.{contains_cases, contains_head, contains_nil, contains_tail}
 use Rattle.fault_universe.specs.Universe.{all_lines, branching, faults_of, lines_of, universe_of}
-use Rattle.fault_universe.proofs.Elements.{contains_at, Contains-cases, Contains-head, Contains-nil, Contains-tail, flat_map-source}
+use Rattle.fault_universe.proofs.Elements.{contains_at, flat_map-source}
 use Rattle.fault_universe.proofs.Members.{at_pin, fault_line, in_branching}
 use Rattle.fault_universe.proofs.Readers.{IsPinOf, out_reading, reader_cases, reader_placed, reading_pin}
 
@@ -38,27 +39,27 @@ from_places (x ∷ xs) h =
 distinct_append : {X : Type 0} (xs ys : List X) → IsDistinct xs → IsDistinct ys → ((x : X) → Contains xs x → Contains ys x → ⊥) → IsDistinct (xs ++ ys)
 distinct_append [] ys d e apart = e
 distinct_append (x ∷ xs) ys d e apart =
-    ((λ c. elim (Contains-append_cases xs ys x c) [ inl l ↦ d.0 l | inr r ↦ apart x (Contains-head x xs) r ]),
-    distinct_append xs ys d.1 e (λ y c. apart y (Contains-tail x y xs c)))
+    ((λ c. elim (Contains-append_cases xs ys x c) [ inl l ↦ d.0 l | inr r ↦ apart x (contains_head x xs) r ]),
+    distinct_append xs ys d.1 e (λ y c. apart y (contains_tail x y xs c)))
 
 -- lists of which no two share an element
 distinct_flat_map : {X Y : Type 0} (f : X → List Y) (xs : List X) → IsDistinct xs → ((x : X) → Contains xs x → IsDistinct (f x))
     → ((x z : X) (y : Y) → Contains xs x → Contains xs z → Contains (f x) y → Contains (f z) y → x ≡ z) → IsDistinct (flat_map f xs)
 distinct_flat_map f [] d each apart = tt
 distinct_flat_map f (x ∷ xs) d each apart =
-    distinct_append (f x) (flat_map f xs) (each x (Contains-head x xs))
-        (distinct_flat_map f xs d.1 (λ z c. each z (Contains-tail x z xs c)) (λ w z y c e. apart w z y (Contains-tail x w xs c) (Contains-tail x z xs e)))
+    distinct_append (f x) (flat_map f xs) (each x (contains_head x xs))
+        (distinct_flat_map f xs d.1 (λ z c. each z (contains_tail x z xs c)) (λ w z y c e. apart w z y (contains_tail x w xs c) (contains_tail x z xs e)))
         (λ y here there.
         let m = flat_map-source f xs y there in
-        d.0 (subst (Contains xs) (sym (apart x m.0 y (Contains-head x xs) (Contains-tail x m.0 xs m.1) here m.2)) m.1))
+        d.0 (subst (Contains xs) (sym (apart x m.0 y (contains_head x xs) (contains_tail x m.0 xs m.1) here m.2)) m.1))
 
 -- the pins of one definition that read a signal
 pub later_pin : (x z j : ℕ) (ys : List ℕ) (k : ℕ) → Contains (pins_reading x z j ys) (Pin z k) → j ≤ k
-later_pin x z j [] k c = absurd (Contains-nil (Pin z k) c)
+later_pin x z j [] k c = absurd (contains_nil (Pin z k) c)
 later_pin x z j (y ∷ ys) k c =
     let here : (b : Bool) → Contains (cond b (Pin z j ∷ pins_reading x z (j + 1) ys) (pins_reading x z (j + 1) ys)) (Pin z k) → j ≤ k =
     elim [
-      | true ↦ λ c. elim (Contains-cases (Pin z j) (Pin z k) (pins_reading x z (j + 1) ys) c) [
+      | true ↦ λ c. elim (contains_cases (Pin z j) (Pin z k) (pins_reading x z (j + 1) ys) c) [
         | inl e ↦ let same : j ≡ k = cc in omega arith
         | inr r ↦ let l = later_pin x z (j + 1) ys k r in omega arith
       ]
@@ -146,12 +147,12 @@ module _ (n : Netlist) (sound : IsSound n) where
   ]
 
   one_source : (x y : ℕ) (l : Line) → Contains (lines_of n x) l → Contains (lines_of n y) l → x ≡ y
-  one_source x y l c e = elim (Contains-cases (Stem x) l (branching (readers_of n x)) c) [
-    | inl s ↦ elim (Contains-cases (Stem y) l (branching (readers_of n y)) e) [
+  one_source x y l c e = elim (contains_cases (Stem x) l (branching (readers_of n x)) c) [
+    | inl s ↦ elim (contains_cases (Stem y) l (branching (readers_of n y)) e) [
       | inl t ↦ let both : Stem x ≡ Stem y = s ∙ sym t in cc
       | inr r ↦ absurd (stem_is_no_reader y x (subst (Contains (readers_of n y)) (sym s) (in_branching (readers_of n y) l r).1))
     ]
-    | inr p ↦ elim (Contains-cases (Stem y) l (branching (readers_of n y)) e) [
+    | inr p ↦ elim (contains_cases (Stem y) l (branching (readers_of n y)) e) [
       | inl t ↦ absurd (stem_is_no_reader x y (subst (Contains (readers_of n x)) (sym t) (in_branching (readers_of n x) l p).1))
       | inr r ↦ one_read x y l (in_branching (readers_of n x) l p).1 (in_branching (readers_of n y) l r).1
     ]
@@ -164,8 +165,8 @@ module _ (n : Netlist) (sound : IsSound n) where
 
   pub distinct_faults : IsDistinct (universe_of n)
   distinct_faults = distinct_flat_map faults_of (all_lines n) distinct_lines
-      (λ l c. ((λ m. elim (Contains-cases (record { line = l; value = true }) (record { line = l; value = false }) [] m) [
+      (λ l c. ((λ m. elim (contains_cases (record { line = l; value = true }) (record { line = l; value = false }) [] m) [
         | inl e ↦ let values : true ≡ false = ap (λ (g : Fault). g.value) e in absurd (both_ways true values refl)
-        | inr r ↦ Contains-nil (record { line = l; value = false }) r
-      ]), ((λ m. Contains-nil (record { line = l; value = true }) m), tt)))
+        | inr r ↦ contains_nil (record { line = l; value = false }) r
+      ]), ((λ m. contains_nil (record { line = l; value = true }) m), tt)))
       (λ l m f c e p q. sym (fault_line l f p) ∙ fault_line m f q)

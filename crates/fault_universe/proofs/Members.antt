@@ -13,18 +13,19 @@ use Rattle.netlist.specs.Conditions.{IsSound}
 use Rattle.netlist.specs.Readers.{readers_of}
 use Rattle.netlist.specs.Settled.{is_line}
 use Rattle.netlist.proofs.Found.{defined}
-use Rattle.netlist.proofs.Placed.{definition_below}
+use Rattle.netlist.proofs.Placed.{definition_below, signal_below}
 use Rattle.netlist.proofs.WellFormed.{few_pins_of}
+use Rattle.netlist.proofs.Lists.{contains_cases, contains_head, contains_nil, contains_tail}
 use Rattle.fault_universe.specs.Universe.{all_lines, branching, faults_of, lines_of, universe_of}
 use Rattle.fault_universe.specs.Texts.{IsWritten}
-use Rattle.fault_universe.proofs.Elements.{contains_at, slice_get_below, Contains-head, Contains-tail, Contains-nil, Contains-cases, Contains-flat_map, flat_map-source}
-use Rattle.fault_universe.proofs.Names.{is_signal, signal_below}
+use Rattle.fault_universe.proofs.Elements.{contains_at, slice_get_below, Contains-flat_map, flat_map-source}
+use Rattle.fault_universe.proofs.Names.{is_signal}
 use Rattle.fault_universe.proofs.Readers.{IsPinOf, is_out, last_reads, pin_reads, reader_cases, same_line}
 
 -- branches
 branching_step : (rs : List Line) (l : Line) (b : Bool) → leb 2 (length rs) ≡ b → Contains (cond b rs []) l → (2 ≤ length rs) × Contains rs l
 branching_step rs l true e c = (leb-true 2 (length rs) e, c)
-branching_step rs l false e c = absurd (Contains-nil l c)
+branching_step rs l false e c = absurd (contains_nil l c)
 
 pub in_branching : (rs : List Line) (l : Line) → Contains (branching rs) l → (2 ≤ length rs) × Contains rs l
 in_branching rs l c = branching_step rs l (leb 2 (length rs)) refl c
@@ -48,8 +49,8 @@ some_branches rs l = some_step rs (leb 2 (length rs)) refl l
 
 find_step : {X : Type 0} (t : X → Bool) (x : X) (xs : List X) (d : X) → (find t xs ≡ Some d → Contains xs d × (t d ≡ true)) → (b : Bool) → t x ≡ b
     → cond b (Some x) (find t xs) ≡ Some d → Contains (x ∷ xs) d × (t d ≡ true)
-find_step t x xs d later true e f = let same : x ≡ d = cc in (subst (λ y. Contains (y ∷ xs) d) (sym same) (Contains-head d xs), sym (ap t same) ∙ e)
-find_step t x xs d later false e f = let m = later f in (Contains-tail x d xs m.0, m.1)
+find_step t x xs d later true e f = let same : x ≡ d = cc in (subst (λ y. Contains (y ∷ xs) d) (sym same) (contains_head d xs), sym (ap t same) ∙ e)
+find_step t x xs d later false e f = let m = later f in (contains_tail x d xs m.0, m.1)
 
 pub found : {X : Type 0} (t : X → Bool) (xs : List X) (d : X) → find t xs ≡ Some d → Contains xs d × (t d ≡ true)
 found t [] d e = absurd (cc)
@@ -88,15 +89,15 @@ module _ (n : Netlist) (sound : IsSound n) where
 
   -- lines
   pub stem_is_line : (x : ℕ) → x < length (signals n) → Contains (all_lines n) (Stem x)
-  stem_is_line x l = Contains-flat_map (lines_of n) (signals n) x (Stem x) (is_signal n sound.formed.numbered x l) (Contains-head (Stem x) (branching (readers_of n x)))
+  stem_is_line x l = Contains-flat_map (lines_of n) (signals n) x (Stem x) (is_signal n sound.formed.numbered x l) (contains_head (Stem x) (branching (readers_of n x)))
 
   pub branch_is_line : (x : ℕ) (l : Line) → Contains (signals n) x → Contains (branching (readers_of n x)) l → Contains (all_lines n) l
-  branch_is_line x l s c = Contains-flat_map (lines_of n) (signals n) x l s (Contains-tail (Stem x) l (branching (readers_of n x)) c)
+  branch_is_line x l s c = Contains-flat_map (lines_of n) (signals n) x l s (contains_tail (Stem x) l (branching (readers_of n x)) c)
 
   pub line_cases : (l : Line) → Contains (all_lines n) l → (x : ℕ) × Contains (signals n) x × ((Stem x ≡ l) ⊎ ((2 ≤ length (readers_of n x)) × Contains (readers_of n x) l))
   line_cases l c =
       let m = flat_map-source (lines_of n) (signals n) l c in
-      (m.0, m.1, elim (Contains-cases (Stem m.0) l (branching (readers_of n m.0)) m.2) [ inl e ↦ inl e | inr r ↦ inr (in_branching (readers_of n m.0) l r) ])
+      (m.0, m.1, elim (contains_cases (Stem m.0) l (branching (readers_of n m.0)) m.2) [ inl e ↦ inl e | inr r ↦ inr (in_branching (readers_of n m.0) l r) ])
 
   pub line_written : (l : Line) → Contains (all_lines n) l → IsWritten n l
   line_written l c =
@@ -140,14 +141,14 @@ module _ (n : Netlist) (sound : IsSound n) where
 
 -- faults
 pub fault_is_member : (n : Netlist) (l : Line) (v : Bool) → Contains (all_lines n) l → Contains (universe_of n) (record { line = l; value = v })
-fault_is_member n l false c = Contains-flat_map faults_of (all_lines n) l (record { line = l; value = false }) c (Contains-head (record { line = l; value = false }) (record { line = l; value = true } ∷ []))
+fault_is_member n l false c = Contains-flat_map faults_of (all_lines n) l (record { line = l; value = false }) c (contains_head (record { line = l; value = false }) (record { line = l; value = true } ∷ []))
 fault_is_member n l true c = Contains-flat_map faults_of (all_lines n) l (record { line = l; value = true }) c
-    (Contains-tail (record { line = l; value = false }) (record { line = l; value = true }) (record { line = l; value = true } ∷ []) (Contains-head (record { line = l; value = true }) []))
+    (contains_tail (record { line = l; value = false }) (record { line = l; value = true }) (record { line = l; value = true } ∷ []) (contains_head (record { line = l; value = true }) []))
 
 pub fault_line : (l : Line) (f : Fault) → Contains (faults_of l) f → f.line ≡ l
-fault_line l f c = elim (Contains-cases (record { line = l; value = false }) f (record { line = l; value = true } ∷ []) c) [
+fault_line l f c = elim (contains_cases (record { line = l; value = false }) f (record { line = l; value = true } ∷ []) c) [
   | inl e ↦ sym (ap (λ (g : Fault). g.line) e)
-  | inr r ↦ elim (Contains-cases (record { line = l; value = true }) f [] r) [ inl e ↦ sym (ap (λ (g : Fault). g.line) e) | inr none ↦ absurd (Contains-nil f none) ]
+  | inr r ↦ elim (contains_cases (record { line = l; value = true }) f [] r) [ inl e ↦ sym (ap (λ (g : Fault). g.line) e) | inr none ↦ absurd (contains_nil f none) ]
 ]
 
 pub member_line : (n : Netlist) (f : Fault) → Contains (universe_of n) f → Contains (all_lines n) f.line

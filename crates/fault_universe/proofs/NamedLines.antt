@@ -11,33 +11,33 @@ use Rattle.fault_universe.proofs.Names.{no_blank, no_such_name}
 use Rattle.fault_universe.proofs.Words.{byte_inside, same_parts}
 
 -- the line's text begins with the word of its kind
-record IsStemOf (n : Netlist) (name : List ℕ) (line : Line) : Type 0 where
+record IsStemText (n : Netlist) (name : List ℕ) (line : Line) : Type 0 where
   signal : ℕ
   line_is : line ≡ Stem signal
   name_is : name ≡ name_of n signal
 
-record IsOutOf (n : Netlist) (name : List ℕ) (line : Line) : Type 0 where
+record IsOutText (n : Netlist) (name : List ℕ) (line : Line) : Type 0 where
   signal : ℕ
   line_is : line ≡ Out signal
   name_is : name ≡ name_of n signal
 
-record IsPinOf (n : Netlist) (text : List ℕ) (line : Line) : Type 0 where
+record IsPinText (n : Netlist) (text : List ℕ) (line : Line) : Type 0 where
   signal : ℕ
   place : ℕ
   line_is : line ≡ Pin signal place
   text_is : text ≡ name_of n signal ++ 32 ∷ decimal place
 
-stem_of : (n : Netlist) (name : List ℕ) (line : Line) → codes "stem " ++ name ≡ line_text n line → IsStemOf n name line
+stem_of : (n : Netlist) (name : List ℕ) (line : Line) → codes "stem " ++ name ≡ line_text n line → IsStemText n name line
 stem_of n name (Stem x) e = record { signal = x; line_is = refl; name_is = append_cancel_left (codes "stem ") name (name_of n x) e }
 stem_of n name (Pin z k) e = let differ : ◌≡◌ {A = ℕ} 115 112 = ap (λ zs. get_or zs 0 0) e in absurd (omega arith)
 stem_of n name (Out y) e = let differ : ◌≡◌ {A = ℕ} 115 111 = ap (λ zs. get_or zs 0 0) e in absurd (omega arith)
 
-out_of : (n : Netlist) (name : List ℕ) (line : Line) → codes "out " ++ name ≡ line_text n line → IsOutOf n name line
+out_of : (n : Netlist) (name : List ℕ) (line : Line) → codes "out " ++ name ≡ line_text n line → IsOutText n name line
 out_of n name (Out y) e = record { signal = y; line_is = refl; name_is = append_cancel_left (codes "out ") name (name_of n y) e }
 out_of n name (Stem x) e = let differ : ◌≡◌ {A = ℕ} 111 115 = ap (λ zs. get_or zs 0 0) e in absurd (omega arith)
 out_of n name (Pin z k) e = let differ : ◌≡◌ {A = ℕ} 111 112 = ap (λ zs. get_or zs 0 0) e in absurd (omega arith)
 
-pin_of : (n : Netlist) (text : List ℕ) (line : Line) → codes "pin " ++ text ≡ line_text n line → IsPinOf n text line
+pin_of : (n : Netlist) (text : List ℕ) (line : Line) → codes "pin " ++ text ≡ line_text n line → IsPinText n text line
 pin_of n text (Pin z k) e = record { signal = z; place = k; line_is = refl; text_is = append_cancel_left (codes "pin ") text (name_of n z ++ 32 ∷ decimal k) e }
 pin_of n text (Stem x) e = let differ : ◌≡◌ {A = ℕ} 112 115 = ap (λ zs. get_or zs 0 0) e in absurd (omega arith)
 pin_of n text (Out y) e = let differ : ◌≡◌ {A = ℕ} 112 111 = ap (λ zs. get_or zs 0 0) e in absurd (omega arith)

@@ -8,16 +8,11 @@ use Rattle.std.proofs.lemmas.Option.{get_or_from_slice_get}
 use Rattle.netlist.specs.Netlist.{Definition, Netlist, signals}
 use Rattle.netlist.specs.Conditions.{IsNumbered, IsRead, IsSound}
 use Rattle.netlist.specs.Names.{IsName, is_name_byte}
+use Rattle.netlist.proofs.Placed.{signal_below}
 use Rattle.fault_universe.specs.Texts.{name_of}
 
 pub is_signal : (n : Netlist) → IsNumbered n → (x : ℕ) → x < length (signals n) → Contains (signals n) x
 is_signal n numbered x l = (x, l, get_or_default (signals n) x x 0 l ∙ numbered x l)
-
-pub signal_below : (n : Netlist) → IsNumbered n → (x : ℕ) → Contains (signals n) x → x < length (signals n)
-signal_below n numbered x c =
-    let e : x ≡ c.0 = sym c.2 ∙ (get_or_default (signals n) c.0 x 0 c.1 ∙ numbered c.0 c.1) in
-    let l : c.0 < length (signals n) = c.1 in
-    omega arith
 
 module _ (n : Netlist) (sound : IsSound n) where
   read_is_signal : (x : ℕ) → IsRead n x → Contains (signals n) x

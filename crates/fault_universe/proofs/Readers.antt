@@ -9,7 +9,8 @@ use Rattle.netlist.specs.declared.lines.Line.TheVariants.{Stem, Pin, Out}
 use Rattle.netlist.specs.Netlist.{Definition, Netlist}
 use Rattle.netlist.specs.Readers.{pins_reading, readers_of}
 use Rattle.netlist.specs.Settled.{is_line}
-use Rattle.fault_universe.proofs.Elements.{Contains-head, Contains-tail, Contains-nil, Contains-cases, Contains-flat_map, flat_map-source, contains_some}
+use Rattle.netlist.proofs.Lists.{contains_cases, contains_head, contains_nil, contains_tail}
+use Rattle.fault_universe.proofs.Elements.{Contains-flat_map, flat_map-source, contains_some}
 
 -- pin k of z reads x
 pub record IsPinOf (n : Netlist) (z k x : ℕ) : Type 0 where
@@ -36,21 +37,21 @@ reading_later x z j y ys l p =
 
 reading_step : (x z j y : ℕ) (ys : List ℕ) (l : Line) → ((c : Contains (pins_reading x z (j + 1) ys) l) → IsPlaced x z (j + 1) ys l)
     → (b : Bool) → eqb y x ≡ b → Contains (cond b (Pin z j ∷ pins_reading x z (j + 1) ys) (pins_reading x z (j + 1) ys)) l → IsPlaced x z j (y ∷ ys) l
-reading_step x z j y ys l later true e c = elim (Contains-cases (Pin z j) l (pins_reading x z (j + 1) ys) c) [
+reading_step x z j y ys l later true e c = elim (contains_cases (Pin z j) l (pins_reading x z (j + 1) ys) c) [
   | inl is ↦ reading_first x z j y ys l (eqb-true y x e) is
   | inr r ↦ reading_later x z j y ys l (later r)
 ]
 reading_step x z j y ys l later false e c = reading_later x z j y ys l (later c)
 
 pub reading_pin : (x z j : ℕ) (ys : List ℕ) (l : Line) → Contains (pins_reading x z j ys) l → IsPlaced x z j ys l
-reading_pin x z j [] l c = absurd (Contains-nil l c)
+reading_pin x z j [] l c = absurd (contains_nil l c)
 reading_pin x z j (y ∷ ys) l c = reading_step x z j y ys l (reading_pin x z (j + 1) ys l) (eqb y x) refl c
 
 pin_step : (x z j y : ℕ) (ys : List ℕ) (l : Line) → (b : Bool) → (y ≡ x → b ≡ true) → ((y ≡ x) × (Pin z j ≡ l)) ⊎ Contains (pins_reading x z (j + 1) ys) l
     → Contains (cond b (Pin z j ∷ pins_reading x z (j + 1) ys) (pins_reading x z (j + 1) ys)) l
 pin_step x z j y ys l true reads o = elim o [
-  | inl p ↦ subst (λ m. Contains (m ∷ pins_reading x z (j + 1) ys) l) (sym p.1) (Contains-head l (pins_reading x z (j + 1) ys))
-  | inr r ↦ Contains-tail (Pin z j) l (pins_reading x z (j + 1) ys) r
+  | inl p ↦ subst (λ m. Contains (m ∷ pins_reading x z (j + 1) ys) l) (sym p.1) (contains_head l (pins_reading x z (j + 1) ys))
+  | inr r ↦ contains_tail (Pin z j) l (pins_reading x z (j + 1) ys) r
 ]
 pin_step x z j y ys l false reads o = elim o [
   | inl p ↦ absurd (both_ways false refl (reads p.0))
@@ -70,25 +71,25 @@ pin_reading x z j (y ∷ ys) (suc i) e =
 
 -- an output that reads x
 pub out_reading : (x : ℕ) (ys : List ℕ) (l : Line) → Contains (map (λ y. Out y) (filter (λ y. eqb y x) ys)) l → (l ≡ Out x) × Contains ys x
-out_reading x [] l c = absurd (Contains-nil l c)
+out_reading x [] l c = absurd (contains_nil l c)
 out_reading x (y ∷ ys) l c =
     let here : (b : Bool) → eqb y x ≡ b → Contains (map (λ y. Out y) (cond b (y ∷ filter (λ y. eqb y x) ys) (filter (λ y. eqb y x) ys))) l → (l ≡ Out x) × Contains (y ∷ ys) x =
     elim [
-      | true ↦ λ e c. elim (Contains-cases (Out y) l (map (λ y. Out y) (filter (λ y. eqb y x) ys)) c) [
-        | inl is ↦ (sym is ∙ ap (λ w. Out w) (eqb-true y x e), subst (λ w. Contains (w ∷ ys) x) (sym (eqb-true y x e)) (Contains-head x ys))
-        | inr r ↦ let m = out_reading x ys l r in (m.0, Contains-tail y x ys m.1)
+      | true ↦ λ e c. elim (contains_cases (Out y) l (map (λ y. Out y) (filter (λ y. eqb y x) ys)) c) [
+        | inl is ↦ (sym is ∙ ap (λ w. Out w) (eqb-true y x e), subst (λ w. Contains (w ∷ ys) x) (sym (eqb-true y x e)) (contains_head x ys))
+        | inr r ↦ let m = out_reading x ys l r in (m.0, contains_tail y x ys m.1)
       ]
-      | false ↦ λ e c. let m = out_reading x ys l c in (m.0, Contains-tail y x ys m.1)
+      | false ↦ λ e c. let m = out_reading x ys l c in (m.0, contains_tail y x ys m.1)
     ] in
     here (eqb y x) refl c
 
 reading_out : (x : ℕ) (ys : List ℕ) → Contains ys x → Contains (map (λ y. Out y) (filter (λ y. eqb y x) ys)) (Out x)
-reading_out x [] c = absurd (Contains-nil x c)
+reading_out x [] c = absurd (contains_nil x c)
 reading_out x (y ∷ ys) c =
     let here : (b : Bool) → eqb y x ≡ b → Contains (map (λ y. Out y) (cond b (y ∷ filter (λ y. eqb y x) ys) (filter (λ y. eqb y x) ys))) (Out x) =
     elim [
-      | true ↦ λ e. subst (λ w. Contains (Out w ∷ map (λ y. Out y) (filter (λ y. eqb y x) ys)) (Out x)) (sym (eqb-true y x e)) (Contains-head (Out x) (map (λ y. Out y) (filter (λ y. eqb y x) ys)))
-      | false ↦ λ e. elim (Contains-cases y x ys c) [
+      | true ↦ λ e. subst (λ w. Contains (Out w ∷ map (λ y. Out y) (filter (λ y. eqb y x) ys)) (Out x)) (sym (eqb-true y x e)) (contains_head (Out x) (map (λ y. Out y) (filter (λ y. eqb y x) ys)))
+      | false ↦ λ e. elim (contains_cases y x ys c) [
         | inl is ↦ absurd (both_ways (eqb y x) e (eq-eqb y x is))
         | inr r ↦ reading_out x ys r
       ]

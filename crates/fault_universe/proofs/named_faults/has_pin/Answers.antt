@@ -2,8 +2,8 @@ use Rattle.std.proofs.Common.{◌≡◌, ◌<◌, Some, None, false, length, ref
 use Rattle.std.specs.List.{slice_get}
 use Rattle.std.proofs.lemmas.Bool.{both_ways}
 use Rattle.std.proofs.lemmas.Option.{slice_get_past, slice_get_read}
+use Rattle.netlist.proofs.Placed.{signal_below}
 use Rattle.fault_universe.proofs.Members.{branch_at_pin, no_pin, pin_at, read_signal}
-use Rattle.fault_universe.proofs.Names.{signal_below}
 use Rattle.fault_universe.proofs.named_faults.has_pin.Goals as goal
 
 pub branches-requires : goal.branches-requires

@@ -1,6 +1,6 @@
 use Rattle.std.proofs.Common.{◌≡◌, ◌≤◌, ℕ, length, vec_len}
 use Rattle.fault_collapse.specs.Merging.{AreNumbered, LeadsTo}
-use Rattle.fault_collapse.proofs.numbering.number.Given as goal
+use Rattle.fault_collapse.proofs.classes.number.Given as goal
 
 abbrev pub invariant-loop-i : goal.invariant-loop-i
 invariant-loop-i l = record {

@@ -1,6 +1,6 @@
 use Rattle.std.proofs.Common.{◌≡◌, ◌<◌, ◌≤◌, ◌∙◌, refl, get_or, length, length-set, ap, sym, arith}
 use Rattle.fault_collapse.proofs.Forests.{halved, halved_forest}
-use Rattle.fault_collapse.proofs.merging.first_member.Goals as goal
+use Rattle.fault_collapse.proofs.union_find.first_member.Goals as goal
 
 pub loop-parents-preserved : goal.loop-parents-preserved
 loop-parents-preserved c =

@@ -3,8 +3,8 @@ use Rattle.std.specs.List.{slice_get}
 use Rattle.std.proofs.lemmas.List.{get_or_default}
 use Rattle.fault_collapse.specs.Merging.{AreNumbered}
 use Rattle.fault_collapse.proofs.Numbered.{first_class, old_class}
-use Rattle.fault_collapse.proofs.numbering.number.Goals as goal
-use Rattle.fault_collapse.proofs.numbering.number.Goals.{then-parent-i+in_ok-push+in_ok-push-2, else-parent-i+in_ok-push-3}
+use Rattle.fault_collapse.proofs.classes.number.Goals as goal
+use Rattle.fault_collapse.proofs.classes.number.Goals.{then-parent-i+in_ok-push+in_ok-push-2, else-parent-i+in_ok-push-3}
 
 pub loop-i-preserved : goal.loop-i-preserved
 loop-i-preserved c =

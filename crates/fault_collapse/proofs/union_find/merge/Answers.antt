@@ -1,6 +1,6 @@
 use Rattle.std.proofs.Common.{◌≡◌, ◌^◌, ◌<◌, ◌≤◌, ◌∙◌, min, max, ap, length, sym, subst, arith}
 use Rattle.fault_collapse.proofs.Forests.{linked_classes}
-use Rattle.fault_collapse.proofs.merging.merge.Goals as goal
+use Rattle.fault_collapse.proofs.union_find.merge.Goals as goal
 
 pub returns-clause-merged : goal.returns-clause-merged
 returns-clause-merged c first h =
