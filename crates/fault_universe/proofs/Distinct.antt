@@ -88,14 +88,14 @@ distinct_outs x (y ∷ ys) d =
     here (eqb y x) refl
 
 module _ (n : Netlist) (sound : IsSound n) where
-  distinct_signals : IsDistinct (signals n)
+  pub distinct_signals : IsDistinct (signals n)
   distinct_signals = from_places (signals n)
       (λ i j d l m e.
       let p : get_or (signals n) i d ≡ i = get_or_default (signals n) i d 0 (omega arith) ∙ sound.formed.numbered i (omega arith) in
       let q : get_or (signals n) j d ≡ j = get_or_default (signals n) j d 0 m ∙ sound.formed.numbered j m in
       omega arith)
 
-  distinct_definitions : IsDistinct n.definitions
+  pub distinct_definitions : IsDistinct n.definitions
   distinct_definitions = from_places n.definitions
       (λ i j d l m e.
       let p = id_at n sound.formed.numbered i d (omega arith) in

@@ -9,3 +9,4 @@ pub mod Numbers
 pub mod Readers
 pub mod Members
 pub mod Distinct
+pub mod Sizes

@@ -17,7 +17,7 @@ use Rattle.netlist.proofs.Placed.{definition_below, signal_below}
 use Rattle.netlist.proofs.WellFormed.{few_pins_of}
 use Rattle.netlist.proofs.Lists.{contains_cases, contains_head, contains_nil, contains_tail}
 use Rattle.fault_universe.specs.Universe.{all_lines, branching, faults_of, lines_of, universe_of}
-use Rattle.fault_universe.specs.Texts.{IsWritten}
+use Rattle.fault_universe.specs.Texts.{signal_of, IsWritten}
 use Rattle.fault_universe.proofs.Elements.{contains_at, slice_get_below, Contains-flat_map, flat_map-source}
 use Rattle.fault_universe.proofs.Names.{is_signal}
 use Rattle.fault_universe.proofs.Readers.{IsPinOf, is_out, last_reads, pin_reads, reader_cases, same_line}
@@ -155,6 +155,14 @@ pub member_line : (n : Netlist) (f : Fault) → Contains (universe_of n) f → C
 member_line n f c =
     let m = flat_map-source faults_of (all_lines n) f c in
     subst (Contains (all_lines n)) (sym (fault_line m.0 f m.2)) m.1
+
+written_signal : (n : Netlist) (l : Line) → IsWritten n l → signal_of l < length (signals n)
+written_signal n (Stem x) w = w
+written_signal n (Pin z k) w = w.0
+written_signal n (Out y) w = w
+
+pub member_signal : (n : Netlist) → IsSound n → (i : ℕ) (f : Fault) → slice_get (universe_of n) i ≡ Some f → signal_of f.line < length (signals n)
+member_signal n sound i f e = written_signal n f.line (line_written n sound f.line (member_line n f (contains_at (universe_of n) i f e)))
 
 -- numbers that are zero or not
 not_zero : (m : ℕ) → not (eqb m 0) ≡ true → 0 < m
