@@ -6,7 +6,9 @@ ghost use Rattle.fault_collapse.specs.Classes.{AreClasses};
 
 use bench_text::{Names, read};
 use fault_collapse::{Classes, collapse};
-use fault_universe::{FaultSet, fault_named, faults_have_signals, few_faults, push_text, text_of, universe};
+use fault_universe::{
+    FaultSet, fault_named, faults_have_signals, few_faults, push_text, text_of, universe,
+};
 use netlist::Netlist;
 use std::alloc::Global;
 use std::process::Abort;
@@ -101,7 +103,12 @@ fn faults_of(alloc: Global, netlist: &Netlist) -> Result<FaultSet, Fail>
 }
 
 /// The faults with their classes, one a line.
-fn listed(alloc: Global, netlist: &Netlist, faults: &FaultSet, classes: &Classes) -> Result<Vec<u8>, Fail>
+fn listed(
+    alloc: Global,
+    netlist: &Netlist,
+    faults: &FaultSet,
+    classes: &Classes,
+) -> Result<Vec<u8>, Fail>
     requires faults { faults.now ≡ universe_of netlist.now }
     requires classes { AreClasses netlist.now classes.now }
 {
@@ -156,7 +163,10 @@ stem x/1 class 5
 stem y/0 class 7
 stem y/1 class 5
 ";
-    assert_eq!(rt; list_of(&rt, rt.alloc(), RECONVERGENT)?.as_slice(), expected.as_slice());
+    assert_eq!(rt;
+        list_of(&rt, rt.alloc(), RECONVERGENT)?.as_slice(),
+        expected.as_slice()
+    );
     Ok(())
 }
 
@@ -182,7 +192,10 @@ stem y/1 class 12
 stem z/0 class 7
 stem z/1 class 6
 ";
-    assert_eq!(rt; list_of(&rt, rt.alloc(), ODD)?.as_slice(), expected.as_slice());
+    assert_eq!(rt;
+        list_of(&rt, rt.alloc(), ODD)?.as_slice(),
+        expected.as_slice()
+    );
     Ok(())
 }
 
@@ -194,9 +207,12 @@ fn each_text_names_its_fault(rt: HostRuntime) -> Result<(), Fail> {
         faults_have_signals();
         let faults = faults_of(rt.alloc(), &netlist)?;
         for i in 0..faults.len() {
-            let fault = faults.fault(i);
-            let name = text_of(rt.alloc(), &netlist, fault)?;
-            assert_eq!(rt; fault_named(&netlist, &name), Some(fault), "fault {i}");
+            let name = text_of(rt.alloc(), &netlist, faults.fault(i))?;
+            assert_eq!(rt;
+                fault_named(&netlist, &name),
+                Some(faults.fault(i)),
+                "fault {i}"
+            );
         }
     }
     Ok(())
@@ -206,9 +222,37 @@ fn each_text_names_its_fault(rt: HostRuntime) -> Result<(), Fail> {
 fn near_misses_name_no_fault(rt: HostRuntime) -> Result<(), Fail> {
     let netlist = design(&rt, rt.alloc(), RECONVERGENT)?;
     for text in [
-        "", "/0", "stem", "stem /0", "stem a", "stem a/", "stem a/2", "stem a/00", "stem a/0/0", "stem a /0", " stem a/0", "stem  a/0",
-        "Stem a/0", "stem c/0", "stem A/0", "pin x/0", "pin x /0", "pin x 00/0", "pin x +0/0", "pin x 0/0 ", "pin x 0 /0", "pin x 1/0",
-        "pin x 2/0", "pin x 4294967296/0", "pin a 0/0", "pin c 0/0", "out y/0", "out a/0", "out c/0", "out x/1", "branch x 0/0",
+        "",
+        "/0",
+        "stem",
+        "stem /0",
+        "stem a",
+        "stem a/",
+        "stem a/2",
+        "stem a/00",
+        "stem a/0/0",
+        "stem a /0",
+        " stem a/0",
+        "stem  a/0",
+        "Stem a/0",
+        "stem c/0",
+        "stem A/0",
+        "pin x/0",
+        "pin x /0",
+        "pin x 00/0",
+        "pin x +0/0",
+        "pin x 0/0 ",
+        "pin x 0 /0",
+        "pin x 1/0",
+        "pin x 2/0",
+        "pin x 4294967296/0",
+        "pin a 0/0",
+        "pin c 0/0",
+        "out y/0",
+        "out a/0",
+        "out c/0",
+        "out x/1",
+        "branch x 0/0",
     ] {
         assert_eq!(rt; fault_named(&netlist, text.as_bytes()), None, "{text}");
     }
@@ -223,7 +267,11 @@ fn representatives_are_first_members(rt: HostRuntime) -> Result<(), Fail> {
     assert_eq!(rt; classes.count(), 8);
     for (class, text) in [(2, "pin x 0/0"), (5, "pin y 0/1"), (7, "stem y/0")] {
         assert!(rt; class < classes.count());
-        assert_eq!(rt; fault_named(&netlist, text.as_bytes()), Some(classes.representative(class)), "class {class}");
+        assert_eq!(rt;
+            fault_named(&netlist, text.as_bytes()),
+            Some(classes.representative(class)),
+            "class {class}"
+        );
     }
     Ok(())
 }

@@ -1,8 +1,8 @@
 -- Joined faults behave alike, and so do equivalent ones.
-use Rattle.std.proofs.Common.{◌≡◌, ◌≢◌, ℕ, suc, zero, ◌+◌, ◌<◌, ◌≤◌, ◌⊎◌, ◌&&◌, Bool, true, false, not, cond, eqb, List, [], ◌∷◌, ◌++◌, map, length, get_or, refl, sym, ◌∙◌, ap, subst, Option, None, Some, inl, inr, arith, length-append}
+use Rattle.std.proofs.Common.{◌≡◌, ◌≢◌, ℕ, suc, zero, ◌+◌, ◌<◌, ◌≤◌, ◌⊎◌, ◌&&◌, Bool, true, false, not, eqb, List, [], ◌∷◌, ◌++◌, map, length, refl, sym, ◌∙◌, ap, subst, Some, inl, inr, arith, length-append}
 use Rattle.std.specs.Bool.{beq}
 use Rattle.std.specs.List.{All, AllZip, Contains, flat_map, slice_get}
-use Rattle.std.proofs.lemmas.Bool.{both_ways, cases_Bool, cases_eq, cases_lt, eq-eqb, eqb-true, ne_eqb}
+use Rattle.std.proofs.lemmas.Bool.{both_ways, cases_Bool, cases_lt, eq-eqb, eqb-true, ne_eqb}
 use Rattle.std.proofs.lemmas.List.{get_or_append_left, get_or_default, length-map}
 use Rattle.std.proofs.lemmas.Option.{slice_get-get_or}
 use Rattle.std.proofs.lemmas.List.Elements.{All-contains, Contains-append_cases}
@@ -11,7 +11,7 @@ use Rattle.netlist.specs.declared.kinds.Kind.TheVariants.{And, Nand, Or, Nor, Xo
 use Rattle.netlist.specs.declared.lines.Line.{Line}
 use Rattle.netlist.specs.declared.lines.Line.TheVariants.{Stem, Pin, Out}
 use Rattle.netlist.specs.declared.lines.Fault.{Fault}
-use Rattle.netlist.specs.Netlist.{Definition, Netlist, is_cell, is_flip_flop, is_gate, cells, gates, signals, IsLoop}
+use Rattle.netlist.specs.Netlist.{Definition, Netlist, is_cell, is_flip_flop, is_gate, cells, gates, signals}
 use Rattle.netlist.specs.Conditions.{IsSound}
 use Rattle.netlist.specs.Gates.{allows_pins, gate_bit}
 use Rattle.netlist.specs.Laws.{HoldsEverywhere, SettlesOnce, SomeSettles}
@@ -20,7 +20,7 @@ use Rattle.netlist.specs.Settled.{Rule, Settles, bits, is_line, next, on_pins, o
 use Rattle.netlist.proofs.Lists.{All-from_contains, contains_cases, contains_filter, contains_head, contains_map, contains_nil, contains_tail, decides_beq, filter_contains, map_agree}
 use Rattle.netlist.proofs.Placed.{definition_below, same_definition}
 use Rattle.netlist.proofs.Settling.{above_inputs}
-use Rattle.fault_universe.proofs.Elements.{contains_at, slice_get_below}
+use Rattle.fault_universe.proofs.Elements.{contains_at}
 use Rattle.fault_universe.proofs.Members.{read_signal}
 use Rattle.fault_universe.proofs.Names.{is_signal}
 use Rattle.fault_universe.proofs.Readers.{IsPinOf, output_reads, pin_reads}
@@ -123,10 +123,11 @@ module _ (n : Netlist) (sound : IsSound n) (f g : Fault) (j : IsJoined n f g) wh
 
   -- a gate reads no pin of its own
   not_own : j.signal ≢ j.gate.id
-  not_own same = sound.acyclic j.gate.id
-      ((λ y. eqb y j.gate.id),
-      (λ y e. (j.gate.id, (j.gate, the_gate, sym (eqb-true y j.gate.id e), subst (Contains j.gate.pins) same (contains_at j.gate.pins j.place j.signal j.pin)), eq-eqb j.gate.id j.gate.id refl)),
-      eq-eqb j.gate.id j.gate.id refl)
+  not_own same = sound.acyclic j.gate.id (
+    (λ y. eqb y j.gate.id),
+    (λ y e. (j.gate.id, (j.gate, the_gate, sym (eqb-true y j.gate.id e), subst (Contains j.gate.pins) same (contains_at j.gate.pins j.place j.signal j.pin)), eq-eqb j.gate.id j.gate.id refl)),
+    eq-eqb j.gate.id j.gate.id refl,
+  )
 
   away_inputs : (y : ℕ) → Contains n.inputs y → y ≢ j.gate.id
   away_inputs y c e =
@@ -260,8 +261,8 @@ module _ (everywhere : HoldsEverywhere) (once : SettlesOnce Bool) (some : SomeSe
   equivalent_agree f g (symmetric x y e) a b p q = let h = equivalent_agree g f e b a q p in record { outs = sym h.outs; next = sym h.next }
   equivalent_agree f h (transitive x g y d e) a b p q =
       let m = some false (bits (Some g)) n inputs state sound.formed.numbered sound.closed sound.acyclic
-          (zip_length (λ x v. a x ≡ (bits (Some f)).line (Stem x) v) n.inputs inputs p.0)
-          (zip_length (λ (c : Definition) v. a c.id ≡ (bits (Some f)).line (Stem c.id) v) (cells n) state p.1) in
+      (zip_length (λ x v. a x ≡ (bits (Some f)).line (Stem x) v) n.inputs inputs p.0)
+      (zip_length (λ (c : Definition) v. a c.id ≡ (bits (Some f)).line (Stem c.id) v) (cells n) state p.1) in
       let one = equivalent_agree f g d a m.0 p m.1 in
       let two = equivalent_agree g h e m.0 b m.1 q in
       record { outs = one.outs ∙ two.outs; next = one.next ∙ two.next }

@@ -1,10 +1,9 @@
 -- Classes that are merged and numbered are those of the least equivalence.
-use Rattle.std.proofs.Common.{◌≡◌, ◌↔◌, ℕ, ◌+◌, ◌<◌, ◌≤◌, ◌⊎◌, List, length, get_or, refl, sym, ◌∙◌, ap, subst, Some, Result, Ok, Err, IfOk, inl, inr, arith}
-use Rattle.std.specs.List.{All, Contains, slice_get}
+use Rattle.std.proofs.Common.{◌≡◌, ℕ, ◌<◌, List, length, get_or, refl, sym, ◌∙◌, ap, subst, Some, Result, Ok, Err, IfOk, inl, inr, arith}
+use Rattle.std.specs.List.{Contains, slice_get}
 use Rattle.std.proofs.lemmas.Bool.{cases_lt, cases_order}
 use Rattle.std.proofs.lemmas.List.Elements.{All-from_get_or}
 use Rattle.std.proofs.lemmas.Option.{slice_get-get_or}
-use Rattle.netlist.specs.declared.lines.Line.{Line}
 use Rattle.netlist.specs.declared.lines.Fault.{Fault}
 use Rattle.netlist.specs.Netlist.{Netlist}
 use Rattle.netlist.specs.Conditions.{IsSound}
@@ -17,8 +16,8 @@ use Rattle.fault_universe.proofs.Readers.{IsPinOf}
 use Rattle.netlist.proofs.Placed.{definition_below, signal_below}
 use Rattle.fault_collapse.specs.Joined.{IsEquivalent, IsJoined, joined, reflexive, symmetric, transitive}
 use Rattle.fault_collapse.specs.Numbers.{Classes}
-use Rattle.fault_collapse.specs.Classes.{AreClasses, HasFirst}
-use Rattle.fault_collapse.specs.Merging.{AreMerged, AreNumbered, IsForest, LeadsTo}
+use Rattle.fault_collapse.specs.Classes.{AreClasses}
+use Rattle.fault_collapse.specs.Merging.{AreMerged, AreNumbered, LeadsTo}
 use Rattle.fault_collapse.proofs.Reading.{branch_at, stem_at, to_pin}
 
 module _ (n : Netlist) (sound : IsSound n) where
@@ -84,11 +83,12 @@ module _ (n : Netlist) (sound : IsSound n) where
       classes_made = record {
         size = h.size;
         within = All-from_get_or (λ class. class < length c.representatives) c.numbers 0 (λ i l. let size = h.size in h.within i (omega arith));
-        equivalent = λ i j f g p q.
-            ((λ e. one_class f g i j p q (first_of_number i j (slice_get_below (universe_of n) i f p) (slice_get_below (universe_of n) j g q) e)),
-            (λ e.
-            let same = same_first f g e i j p q in
-            h.kept i (slice_get_below (universe_of n) i f p) ∙ (ap (λ k. get_or c.numbers k 0) same ∙ sym (h.kept j (slice_get_below (universe_of n) j g q)))));
+        equivalent = λ i j f g p q. (
+          (λ e. one_class f g i j p q (first_of_number i j (slice_get_below (universe_of n) i f p) (slice_get_below (universe_of n) j g q) e)),
+          (λ e.
+              let same = same_first f g e i j p q in
+              h.kept i (slice_get_below (universe_of n) i f p) ∙ (ap (λ k. get_or c.numbers k 0) same ∙ sym (h.kept j (slice_get_below (universe_of n) j g q)))),
+        );
         first = λ class l.
             let w = h.found class l in
             record {

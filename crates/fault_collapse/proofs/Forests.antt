@@ -1,5 +1,5 @@
 -- Trees in which each member names an earlier one, as they are written.
-use Rattle.std.proofs.Common.{◌≡◌, ◌≢◌, ℕ, ◌+◌, ◌<◌, ◌≤◌, ◌⊎◌, Bool, true, false, cond, eqb, min, max, List, length, set, get_or, refl, sym, ◌∙◌, ap, subst, inl, inr, arith, length-set}
+use Rattle.std.proofs.Common.{◌≡◌, ℕ, ◌<◌, ◌≤◌, cond, eqb, min, max, List, length, set, get_or, sym, ◌∙◌, ap, subst, inl, inr, arith, length-set}
 use Rattle.std.proofs.lemmas.Bool.{cases_eq, cases_lt, eq-eqb, ne_eqb}
 use Rattle.std.proofs.lemmas.List.{get_or-set_other, get_or-set_same}
 use Rattle.fault_collapse.specs.Merging.{IsForest, LeadsTo, merged}
@@ -104,8 +104,8 @@ module _ (p : List ℕ) (first : ℕ → ℕ) (h : LeadsTo p first) (one other :
       let between : min (first one) (first other) ≤ max (first one) (first other) = omega arith in
       let inside : max (first one) (first other) < length p = omega arith in
       subst (λ x. LeadsTo (set p x low) (merged first (min (first one) (first other)) (max (first one) (first other)))) (sym m)
-          (subst (λ x. LeadsTo (set p (max (first one) (first other)) x) (merged first (min (first one) (first other)) (max (first one) (first other)))) (sym l)
-          (linked first (min (first one) (first other)) (max (first one) (first other)) between p forest inside h first_least first_greatest))
+      (subst (λ x. LeadsTo (set p (max (first one) (first other)) x) (merged first (min (first one) (first other)) (max (first one) (first other)))) (sym l)
+      (linked first (min (first one) (first other)) (max (first one) (first other)) between p forest inside h first_least first_greatest))
 
   -- both members have the lesser of the two first members
   pub merged_one : merged first (min (first one) (first other)) (max (first one) (first other)) one ≡ min (first one) (first other)

@@ -1,5 +1,5 @@
 -- A fault at a pin, and the fault at the gate's output.
-use Rattle.std.proofs.Common.{◌≡◌, ℕ, ◌<◌, ◌≤◌, Bool, List, length, refl, sym, ◌∙◌, ap, subst, Option, None, Some, arith}
+use Rattle.std.proofs.Common.{◌≡◌, ℕ, ◌<◌, ◌≤◌, Bool, length, sym, ◌∙◌, ap, Option, None, Some, arith}
 use Rattle.std.specs.List.{Contains}
 use Rattle.netlist.specs.declared.kinds.Kind.{Kind}
 use Rattle.netlist.specs.declared.lines.Line.{Line}
@@ -38,7 +38,12 @@ module _ (n : Netlist) (sound : IsSound n) (f : Fault) (d e : Definition) (z : �
 
   pub joins : (w : Bool) → made ≡ Some w → IsJoined n f (stem_fault z w)
   joins w some = record {
-    gate = d; place = reads.place; signal = reads.signal; member = reads.member; pin = reads.pin; input = reads.input;
+    gate = d;
+    place = reads.place;
+    signal = reads.signal;
+    member = reads.member;
+    pin = reads.pin;
+    input = reads.input;
     output = ap (λ x. Stem x) (sym id);
     values = sym made_by ∙ some;
   }

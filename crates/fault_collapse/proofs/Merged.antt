@@ -1,5 +1,5 @@
 -- One more fault's class merged.
-use Rattle.std.proofs.Common.{◌≡◌, ℕ, ◌+◌, ◌<◌, ◌≤◌, ◌⊎◌, min, max, List, length, get_or, refl, sym, ◌∙◌, ap, subst, Some, inl, inr, arith}
+use Rattle.std.proofs.Common.{◌≡◌, ℕ, ◌+◌, ◌<◌, ◌≤◌, ◌⊎◌, min, max, List, length, get_or, sym, ◌∙◌, ap, subst, Some, inl, inr, arith}
 use Rattle.std.specs.List.{slice_get}
 use Rattle.std.proofs.lemmas.Bool.{cases_eq, cases_lt}
 use Rattle.std.proofs.lemmas.Option.{slice_get-get_or}
@@ -25,7 +25,11 @@ more_cases a i l = elim (cases_lt a i) [ inl m ↦ inl m | inr m ↦ inr (omega 
 module _ (n : Netlist) (sound : IsSound n) (old : List ℕ) (i : ℕ) (f : Fault) (at : slice_get (universe_of n) i ≡ Some f) (h : AreMerged n old i) where
   pub not_joined : ((g : Fault) → IsJoined n f g → ⊥) → AreMerged n old (i + 1)
   not_joined none = record {
-    size = h.size; forest = h.forest; first = h.first; leads = h.leads; sound = h.sound;
+    size = h.size;
+    forest = h.forest;
+    first = h.first;
+    leads = h.leads;
+    sound = h.sound;
     complete = λ a b p q l e d j. elim (more_cases a i l) [
       | inl less ↦ h.complete a b p q less e d j
       | inr same ↦
@@ -46,8 +50,7 @@ module _ (n : Netlist) (sound : IsSound n) (old : List ℕ) (i : ℕ) (f : Fault
     firsts_equivalent : IsEquivalent n first_of_one.0 first_of_other.0
     firsts_equivalent =
         transitive first_of_one.0 f first_of_other.0 (h.sound i f first_of_one.0 at first_of_one.1)
-            (transitive f g first_of_other.0 (joined f g joins) (symmetric first_of_other.0 g (h.sound j g first_of_other.0 place first_of_other.1)))
-
+        (transitive f g first_of_other.0 (joined f g joins) (symmetric first_of_other.0 g (h.sound j g first_of_other.0 place first_of_other.1)))
 
     sound_here : (k : ℕ) (p q : Fault) → slice_get (universe_of n) k ≡ Some p → h.first k ≡ max (h.first i) (h.first j)
         → slice_get (universe_of n) (min (h.first i) (h.first j)) ≡ Some q → IsEquivalent n q p
@@ -68,7 +71,7 @@ module _ (n : Netlist) (sound : IsSound n) (old : List ℕ) (i : ℕ) (f : Fault
           let same : first_of_other.0 ≡ q = cc in
           let there : slice_get (universe_of n) (h.first k) ≡ Some first_of_one.0 = ap (slice_get (universe_of n)) high ∙ first_of_one.1 in
           subst (λ (r : Fault). IsEquivalent n r p) same
-              (transitive first_of_other.0 first_of_one.0 p (symmetric first_of_one.0 first_of_other.0 firsts_equivalent) (h.sound k p first_of_one.0 e there))
+          (transitive first_of_other.0 first_of_one.0 p (symmetric first_of_one.0 first_of_other.0 firsts_equivalent) (h.sound k p first_of_one.0 e there))
     ]
 
     pub now_joined : (new : List ℕ) → length new ≡ length old → IsForest new
@@ -76,7 +79,8 @@ module _ (n : Netlist) (sound : IsSound n) (old : List ℕ) (i : ℕ) (f : Fault
     now_joined new size forest leads =
         let between : min (h.first i) (h.first j) ≤ max (h.first i) (h.first j) = omega arith in
         record {
-          size = size ∙ h.size; forest = forest;
+          size = size ∙ h.size;
+          forest = forest;
           first = merged h.first (min (h.first i) (h.first j)) (max (h.first i) (h.first j));
           leads = leads;
           sound = λ k p q e d. elim (cases_eq (h.first k) (max (h.first i) (h.first j))) [

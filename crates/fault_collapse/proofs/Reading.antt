@@ -1,10 +1,10 @@
 -- Which definition reads a line.
-use Rattle.std.proofs.Common.{◌≡◌, ◌≢◌, ℕ, ◌+◌, ◌<◌, ◌≤◌, ◌⊎◌, Bool, true, false, cond, leb, List, [], ◌∷◌, length, get_or, refl, sym, ◌∙◌, ap, subst, Option, None, Some, MatchOption, inl, inr, arith}
+use Rattle.std.proofs.Common.{◌≡◌, ◌≢◌, ℕ, ◌<◌, ◌≤◌, Bool, true, false, cond, leb, List, [], ◌∷◌, length, refl, sym, ◌∙◌, ap, subst, Option, None, Some, MatchOption, inl, inr, arith}
 use Rattle.std.specs.List.{Contains, slice_get}
 use Rattle.std.proofs.lemmas.Bool.{le-leb, leb-true, cases_lt}
 use Rattle.netlist.specs.declared.lines.Line.{Line}
 use Rattle.netlist.specs.declared.lines.Line.TheVariants.{Stem, Pin, Out}
-use Rattle.netlist.specs.Netlist.{Definition, Netlist, signals}
+use Rattle.netlist.specs.Netlist.{Definition, Netlist}
 use Rattle.netlist.specs.Conditions.{IsSound}
 use Rattle.netlist.specs.Readers.{readers_of}
 use Rattle.netlist.proofs.Placed.{same_definition}

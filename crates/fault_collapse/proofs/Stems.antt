@@ -1,5 +1,5 @@
 -- Where stems and their faults stand.
-use Rattle.std.proofs.Common.{◌≡◌, ℕ, ◌+◌, ◌*◌, ◌<◌, ◌≤◌, Bool, true, false, take, List, [], ◌∷◌, ◌++◌, length, get_or, refl, sym, ◌∙◌, ap, inl, inr, Some, arith}
+use Rattle.std.proofs.Common.{◌≡◌, ℕ, ◌+◌, ◌*◌, ◌<◌, Bool, true, false, take, List, [], ◌∷◌, ◌++◌, length, get_or, sym, ◌∙◌, ap, inl, inr, Some, arith}
 use Rattle.std.specs.List.{flat_map, slice_get}
 use mir.Val.{bool_byte}
 use Rattle.std.proofs.Math.Seq.{get_or-append_seam}
@@ -14,7 +14,7 @@ use Rattle.netlist.specs.declared.lines.Fault.{Fault}
 use Rattle.netlist.specs.Netlist.{Netlist, signals}
 use Rattle.netlist.specs.Conditions.{IsSound}
 use Rattle.netlist.proofs.Placed.{definition_below}
-use Rattle.fault_universe.specs.Universe.{all_lines, faults_of, lines_of, universe_of}
+use Rattle.fault_universe.specs.Universe.{all_lines, faults_of, lines_of}
 use Rattle.fault_universe.proofs.FaultLists.{pair_at}
 use Rattle.fault_collapse.specs.Joined.{IsJoined}
 use Rattle.fault_collapse.specs.Merging.{stem_fault, AreStems}

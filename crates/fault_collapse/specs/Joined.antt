@@ -1,7 +1,7 @@
 -- Faults that one gate makes equal, and the least equivalence that holds them.
 -- (Structural equivalence of stuck-at faults: McCluskey and Clegg, Fault equivalence in combinational logic networks, 1971;
 -- Bushnell and Agrawal, Essentials of Electronic Testing, 2000, chapter 4.)
-use Rattle.std.specs.Prelude.{ℕ, ◌≡◌, Bool, true, false, not, if◌then◌else◌, nat_le, List, length, Option, Some, None}
+use Rattle.std.specs.Prelude.{ℕ, ◌≡◌, Bool, true, false, not, if◌then◌else◌, nat_le, length, Option, Some, None}
 use Rattle.std.specs.List.{Contains, slice_get}
 use Rattle.netlist.specs.declared.kinds.Kind.{Kind}
 use Rattle.netlist.specs.declared.kinds.Kind.TheVariants.{And, Nand, Or, Nor, Xor, Xnor, Not, Buff, Dff}

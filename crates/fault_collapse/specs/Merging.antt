@@ -1,5 +1,5 @@
 -- Classes as they are merged and numbered (private to this crate).
-use Rattle.std.specs.Prelude.{ℕ, Bool, ◌≡◌, ◌==◌, ◌<◌, ◌≤◌, ◌+◌, ◌*◌, if◌then◌else◌, List, length, slice_index, Some}
+use Rattle.std.specs.Prelude.{ℕ, Bool, ◌≡◌, ◌==◌, ◌<◌, ◌≤◌, if◌then◌else◌, List, length, slice_index, Some}
 use Rattle.std.specs.List.{Contains, slice_get}
 use Rattle.netlist.specs.declared.lines.Line.{Line}
 use Rattle.netlist.specs.declared.lines.Line.TheVariants.{Stem}

@@ -51,7 +51,11 @@ impl Classes {
 }
 
 /// Numbers the classes in the order of their first members.
-pub(crate) fn number(alloc: Global, parents: &[u32], faults: &FaultSet) -> Result<Classes, AllocError>
+pub(crate) fn number(
+    alloc: Global,
+    parents: &[u32],
+    faults: &FaultSet,
+) -> Result<Classes, AllocError>
     requires size { length parents.now ≡ length faults.now }
     requires forest { IsForest parents.now }
     ensures { IfOk result (λ c. (first : ℕ → ℕ) → LeadsTo parents.now first → AreNumbered faults.now first c.numbers c.representatives (length faults.now)) }

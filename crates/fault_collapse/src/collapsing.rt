@@ -4,14 +4,18 @@ ghost use Rattle.fault_universe.specs.Universe.{universe_of};
 ghost use Rattle.fault_collapse.specs.Classes.{AreClasses};
 ghost use Rattle.fault_collapse.specs.Merging.{AreMerged};
 
+use crate::classes::{Classes, number};
 use crate::joining::{alone, merge_all, stem_places};
-use crate::classes::{number, Classes};
 use fault_universe::FaultSet;
 use netlist::{Netlist, NoMemory};
 use std::alloc::{AllocError, Global};
 
 /// The members by the class of which each is, in trees.
-fn merged_faults(alloc: Global, netlist: &Netlist, faults: &FaultSet) -> Result<Vec<u32>, AllocError>
+fn merged_faults(
+    alloc: Global,
+    netlist: &Netlist,
+    faults: &FaultSet,
+) -> Result<Vec<u32>, AllocError>
     requires universe { faults.now ≡ universe_of netlist.now }
     ensures { IfOk result (λ v. AreMerged netlist.now v.items (length (universe_of netlist.now))) }
 {

@@ -6,7 +6,7 @@ ghost use Rattle.fault_collapse.specs.Merging.{AreMerged, AreStems};
 
 use crate::gates::output_fault;
 use crate::union_find::merge;
-use fault_universe::{branches, signal_count, FaultSet};
+use fault_universe::{FaultSet, branches, signal_count};
 use netlist::{Fault, Netlist, SignalId};
 use std::alloc::{AllocError, Global};
 

@@ -1,5 +1,5 @@
 -- No line and no fault stands twice.
-use Rattle.std.proofs.Common.{◌≡◌, ◌≢◌, ℕ, suc, zero, ◌+◌, ◌<◌, ◌≤◌, ◌⊎◌, Bool, true, false, cond, eqb, leb, List, [], ◌∷◌, ◌++◌, map, length, get_or, refl, sym, ◌∙◌, ap, subst, Some, inl, inr, arith}
+use Rattle.std.proofs.Common.{◌≡◌, ◌≢◌, ℕ, suc, zero, ◌+◌, ◌<◌, ◌≤◌, Bool, true, false, cond, eqb, leb, List, [], ◌∷◌, ◌++◌, map, length, get_or, refl, sym, ◌∙◌, ap, subst, Some, inl, inr, arith}
 use Rattle.std.specs.List.{Contains, filter, flat_map, slice_get}
 use Rattle.std.proofs.lemmas.Bool.{both_ways, eqb-true}
 use Rattle.std.proofs.lemmas.List.Elements.{Contains-append_cases}
@@ -32,15 +32,17 @@ one_place (y ∷ ys) (suc i) (suc j) x d e f = ap suc (one_place ys i j x d.1 e 
 
 pub from_places : {X : Type 0} (xs : List X) → ((i j : ℕ) (d : X) → i < j → j < length xs → get_or xs i d ≢ get_or xs j d) → IsDistinct xs
 from_places [] h = tt
-from_places (x ∷ xs) h =
-    ((λ c. let l : c.0 < length xs = c.1 in h zero (suc c.0) x (omega arith) (omega arith) (sym c.2)),
-    from_places xs (λ i j d l m. h (suc i) (suc j) d (omega arith) (omega arith)))
+from_places (x ∷ xs) h = (
+  (λ c. let l : c.0 < length xs = c.1 in h zero (suc c.0) x (omega arith) (omega arith) (sym c.2)),
+  from_places xs (λ i j d l m. h (suc i) (suc j) d (omega arith) (omega arith)),
+)
 
 distinct_append : {X : Type 0} (xs ys : List X) → IsDistinct xs → IsDistinct ys → ((x : X) → Contains xs x → Contains ys x → ⊥) → IsDistinct (xs ++ ys)
 distinct_append [] ys d e apart = e
-distinct_append (x ∷ xs) ys d e apart =
-    ((λ c. elim (Contains-append_cases xs ys x c) [ inl l ↦ d.0 l | inr r ↦ apart x (contains_head x xs) r ]),
-    distinct_append xs ys d.1 e (λ y c. apart y (contains_tail x y xs c)))
+distinct_append (x ∷ xs) ys d e apart = (
+  (λ c. elim (Contains-append_cases xs ys x c) [ inl l ↦ d.0 l | inr r ↦ apart x (contains_head x xs) r ]),
+  distinct_append xs ys d.1 e (λ y c. apart y (contains_tail x y xs c)),
+)
 
 -- lists of which no two share an element
 distinct_flat_map : {X Y : Type 0} (f : X → List Y) (xs : List X) → IsDistinct xs → ((x : X) → Contains xs x → IsDistinct (f x))
@@ -48,10 +50,10 @@ distinct_flat_map : {X Y : Type 0} (f : X → List Y) (xs : List X) → IsDistin
 distinct_flat_map f [] d each apart = tt
 distinct_flat_map f (x ∷ xs) d each apart =
     distinct_append (f x) (flat_map f xs) (each x (contains_head x xs))
-        (distinct_flat_map f xs d.1 (λ z c. each z (contains_tail x z xs c)) (λ w z y c e. apart w z y (contains_tail x w xs c) (contains_tail x z xs e)))
-        (λ y here there.
-        let m = flat_map-source f xs y there in
-        d.0 (subst (Contains xs) (sym (apart x m.0 y (contains_head x xs) (contains_tail x m.0 xs m.1) here m.2)) m.1))
+    (distinct_flat_map f xs d.1 (λ z c. each z (contains_tail x z xs c)) (λ w z y c e. apart w z y (contains_tail x w xs c) (contains_tail x z xs e)))
+    (λ y here there.
+    let m = flat_map-source f xs y there in
+    d.0 (subst (Contains xs) (sym (apart x m.0 y (contains_head x xs) (contains_tail x m.0 xs m.1) here m.2)) m.1))
 
 -- the pins of one definition that read a signal
 pub later_pin : (x z j : ℕ) (ys : List ℕ) (k : ℕ) → Contains (pins_reading x z j ys) (Pin z k) → j ≤ k
@@ -165,8 +167,11 @@ module _ (n : Netlist) (sound : IsSound n) where
 
   pub distinct_faults : IsDistinct (universe_of n)
   distinct_faults = distinct_flat_map faults_of (all_lines n) distinct_lines
-      (λ l c. ((λ m. elim (contains_cases (record { line = l; value = true }) (record { line = l; value = false }) [] m) [
-        | inl e ↦ let values : true ≡ false = ap (λ (g : Fault). g.value) e in absurd (both_ways true values refl)
-        | inr r ↦ contains_nil (record { line = l; value = false }) r
-      ]), ((λ m. contains_nil (record { line = l; value = true }) m), tt)))
+      (λ l c. (
+        (λ m. elim (contains_cases (record { line = l; value = true }) (record { line = l; value = false }) [] m) [
+          | inl e ↦ let values : true ≡ false = ap (λ (g : Fault). g.value) e in absurd (both_ways true values refl)
+          | inr r ↦ contains_nil (record { line = l; value = false }) r
+        ]),
+        ((λ m. contains_nil (record { line = l; value = true }) m), tt),
+      ))
       (λ l m f c e p q. sym (fault_line l f p) ∙ fault_line m f q)

@@ -1,5 +1,5 @@
 -- Lines and faults are told by their texts.
-use Rattle.std.proofs.Common.{◌≡◌, ◌≢◌, ℕ, ◌+◌, ◌<◌, Bool, true, false, List, [], ◌∷◌, ◌++◌, length, get_or, refl, sym, ◌∙◌, ap, subst, codes, decimal, arith, length-append}
+use Rattle.std.proofs.Common.{◌≡◌, ◌≢◌, ℕ, ◌+◌, Bool, true, false, List, ◌++◌, length, get_or, refl, sym, ◌∙◌, ap, subst, codes, decimal, arith, length-append}
 use Rattle.std.specs.List.{All, Contains}
 use Rattle.std.proofs.lemmas.Fmt.{decimal_injective}
 use Rattle.std.proofs.lemmas.List.{append_cancel_left, append_cancel_right, get_or-append-add}
@@ -23,7 +23,7 @@ module _ (n : Netlist) (sound : IsSound n) where
   same_line (Pin z k) (Stem y) p q e = let differ : ◌≡◌ {A = ℕ} 112 115 = ap (λ zs. get_or zs 0 0) e in absurd (omega arith)
   same_line (Pin z j) (Pin w k) p q e =
       let parts = same_parts 32 (name_of n z) (name_of n w) (decimal j) (decimal k) (no_blank n sound z p.0) (no_blank n sound w q.0)
-          (append_cancel_left (codes "pin ") (name_of n z ++ (codes " " ++ decimal j)) (name_of n w ++ (codes " " ++ decimal k)) e) in
+      (append_cancel_left (codes "pin ") (name_of n z ++ (codes " " ++ decimal j)) (name_of n w ++ (codes " " ++ decimal k)) e) in
       let signal : z ≡ w = same_name n sound z w p.0 q.0 parts.0 in
       let place : j ≡ k = decimal_injective j k (omega (arith, p.1)) (omega (arith, q.1)) parts.1 in
       ap (λ y. Pin y j) signal ∙ ap (λ i. Pin w i) place

@@ -1,6 +1,6 @@
 -- Which lines a netlist has, and which faults.
-use Rattle.std.proofs.Common.{◌≡◌, ◌≢◌, ◌↔◌, ℕ, suc, zero, ◌+◌, ◌-◌, ◌<◌, ◌≤◌, ◌⊎◌, Bool, true, false, cond, not, leb, eqb, List, [], ◌∷◌, ◌++◌, length, get_or, refl, sym, ◌∙◌, ap, subst, Option, None, Some, inl, inr, arith}
-use Rattle.std.specs.List.{All, Contains, find, flat_map, slice_get}
+use Rattle.std.proofs.Common.{◌≡◌, ℕ, suc, zero, ◌-◌, ◌<◌, ◌≤◌, ◌⊎◌, Bool, true, false, cond, not, leb, eqb, List, [], ◌∷◌, length, get_or, refl, sym, ◌∙◌, ap, subst, Option, None, Some, inl, inr, arith}
+use Rattle.std.specs.List.{All, Contains, find, slice_get}
 use Rattle.std.specs.Option.{option_map_or}
 use Rattle.std.proofs.lemmas.Bool.{both_ways, eqb-true, le-leb, leb-true, ne_eqb}
 use Rattle.std.proofs.lemmas.Option.{get_or_from_slice_get, slice_get-get_or}
@@ -173,15 +173,16 @@ module _ (n : Netlist) (sound : IsSound n) where
   -- the last branch of a stem tells whether its output is one
   pub last_branch : (y : ℕ) (rs : List Line) (last : Line) (b : Bool) → y < length (signals n) → rs ≡ branching (readers_of n y) → Some last ≡ slice_get rs (length rs - 1) → b ≡ is_line last (Out y)
       → (b ≡ true → Contains (all_lines n) (Out y)) × (Contains (all_lines n) (Out y) → b ≡ true)
-  last_branch y rs last b l is at t =
-      ((λ e.
-      let same : last ≡ Out y = same_line last (Out y) (sym t ∙ e) in
-      branch_is_line n sound y (Out y) (is_signal n sound.formed.numbered y l) (subst (λ qs. Contains qs (Out y)) is (subst (Contains rs) same (contains_at rs (length rs - 1) last (sym at))))),
-      (λ c.
-      let m = line_out n sound y c in
-      let whole : rs ≡ readers_of n y = is ∙ many_branches (readers_of n y) m.1 in
-      let out : get_or rs (length rs - 1) last ≡ Out y = ap (λ qs. get_or qs (length qs - 1) last) whole ∙ last_reads n y m.0 last in
-      t ∙ is_out y last (sym (get_or_from_slice_get rs (length rs - 1) last last (sym at)) ∙ out)))
+  last_branch y rs last b l is at t = (
+    (λ e.
+        let same : last ≡ Out y = same_line last (Out y) (sym t ∙ e) in
+        branch_is_line n sound y (Out y) (is_signal n sound.formed.numbered y l) (subst (λ qs. Contains qs (Out y)) is (subst (Contains rs) same (contains_at rs (length rs - 1) last (sym at))))),
+    (λ c.
+        let m = line_out n sound y c in
+        let whole : rs ≡ readers_of n y = is ∙ many_branches (readers_of n y) m.1 in
+        let out : get_or rs (length rs - 1) last ≡ Out y = ap (λ qs. get_or qs (length qs - 1) last) whole ∙ last_reads n y m.0 last in
+        t ∙ is_out y last (sym (get_or_from_slice_get rs (length rs - 1) last last (sym at)) ∙ out)),
+  )
 
   pub no_last_branch : (y : ℕ) (rs : List Line) → rs ≡ branching (readers_of n y) → None ≡ slice_get rs (length rs - 1) → Contains (all_lines n) (Out y) → ⊥
   no_last_branch y rs is at c =
@@ -196,18 +197,19 @@ module _ (n : Netlist) (sound : IsSound n) where
   module _ (z k : ℕ) (pins : List ℕ) (are : pins ≡ option_map_or (λ (d : Definition). d.pins) (definition_of n z) []) where
     pub branch_at_pin : (x : ℕ) (rs : List Line) (b : Bool) → slice_get pins k ≡ Some x → rs ≡ branching (readers_of n x) → b ≡ eqb (length rs) 0
         → (not b ≡ true → Contains (all_lines n) (Pin z k)) × (Contains (all_lines n) (Pin z k) → not b ≡ true)
-    branch_at_pin x rs b e is t =
-        ((λ some.
-        let low : 0 < length rs = not_zero (length rs) (ap not (sym t) ∙ some) in
-        pin_line n sound z k x (pin_at n z k x pins are e) (some_branches (readers_of n x) (subst (λ qs. 0 < length qs) is low))),
-        (λ c.
-        let m = line_pin n sound z k c in
-        let there : slice_get pins k ≡ Some m.0 = at_pin n sound z k m.0 pins are m.1 in
-        let same : m.0 ≡ x = cc in
-        let many : 2 ≤ length (readers_of n x) = subst (λ y. 2 ≤ length (readers_of n y)) same m.2 in
-        let whole : rs ≡ readers_of n x = is ∙ many_branches (readers_of n x) many in
-        let size : length rs ≡ length (readers_of n x) = ap length whole in
-        ap not t ∙ ap not (ne_eqb (length rs) 0 (omega arith))))
+    branch_at_pin x rs b e is t = (
+      (λ some.
+          let low : 0 < length rs = not_zero (length rs) (ap not (sym t) ∙ some) in
+          pin_line n sound z k x (pin_at n z k x pins are e) (some_branches (readers_of n x) (subst (λ qs. 0 < length qs) is low))),
+      (λ c.
+          let m = line_pin n sound z k c in
+          let there : slice_get pins k ≡ Some m.0 = at_pin n sound z k m.0 pins are m.1 in
+          let same : m.0 ≡ x = cc in
+          let many : 2 ≤ length (readers_of n x) = subst (λ y. 2 ≤ length (readers_of n y)) same m.2 in
+          let whole : rs ≡ readers_of n x = is ∙ many_branches (readers_of n x) many in
+          let size : length rs ≡ length (readers_of n x) = ap length whole in
+          ap not t ∙ ap not (ne_eqb (length rs) 0 (omega arith))),
+    )
 
     pub no_pin : slice_get pins k ≡ None → Contains (all_lines n) (Pin z k) → ⊥
     no_pin e c =

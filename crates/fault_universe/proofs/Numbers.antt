@@ -1,5 +1,5 @@
 -- Numbers and their texts.
-use Rattle.std.proofs.Common.{◌≡◌, ◌≢◌, ℕ, ◌^◌, ◌<◌, Bool, false, List, Result, Ok, Err, refl, sym, ◌∙◌, ap, subst, nat_eq, decimal, arith}
+use Rattle.std.proofs.Common.{◌≡◌, ◌≢◌, ℕ, ◌^◌, ◌<◌, Bool, false, List, Result, Ok, sym, ◌∙◌, ap, subst, nat_eq, decimal, arith}
 use Rattle.std.specs.Cmp.Lexicographic.{other_text, pointwise}
 use Rattle.std.specs.Str.{IsUtf8}
 use Rattle.std.specs.Str.Parse.{ParsesUnsigned}

@@ -1,5 +1,5 @@
 -- Which lines read a signal.
-use Rattle.std.proofs.Common.{◌≡◌, ℕ, suc, zero, ◌+◌, ◌<◌, ◌⊎◌, Bool, true, false, cond, List, [], ◌∷◌, ◌++◌, ◌-◌, map, length, length-append, get_or, eqb, refl, sym, ◌∙◌, ap, subst, Option, Some, inl, inr, arith}
+use Rattle.std.proofs.Common.{◌≡◌, ℕ, suc, zero, ◌+◌, ◌<◌, ◌⊎◌, Bool, true, false, cond, List, [], ◌∷◌, ◌++◌, ◌-◌, map, length, length-append, get_or, eqb, refl, sym, ◌∙◌, ap, subst, Some, inl, inr, arith}
 use Rattle.std.specs.List.{Contains, filter, flat_map, slice_get}
 use Rattle.std.proofs.lemmas.Bool.{and_parts, both_ways, eqb-true, eq-eqb}
 use Rattle.std.proofs.lemmas.List.{get_or-append-add}
@@ -67,7 +67,7 @@ pin_reading x z j (y ∷ ys) zero e =
 pin_reading x z j (y ∷ ys) (suc i) e =
     let next : j + 1 + i ≡ j + suc i = omega arith in
     pin_step x z j y ys (Pin z (j + suc i)) (eqb y x) (eq-eqb y x)
-        (inr (subst (λ k. Contains (pins_reading x z (j + 1) ys) (Pin z k)) next (pin_reading x z (j + 1) ys i e)))
+    (inr (subst (λ k. Contains (pins_reading x z (j + 1) ys) (Pin z k)) next (pin_reading x z (j + 1) ys i e)))
 
 -- an output that reads x
 pub out_reading : (x : ℕ) (ys : List ℕ) (l : Line) → Contains (map (λ y. Out y) (filter (λ y. eqb y x) ys)) l → (l ≡ Out x) × Contains ys x
@@ -97,7 +97,6 @@ reading_out x (y ∷ ys) c =
     here (eqb y x) refl
 
 module _ (n : Netlist) (x : ℕ) where
-
   pub reader_placed : (l : Line) → Contains (flat_map (λ (d : Definition). pins_reading x d.id 0 d.pins) n.definitions) l → (z : ℕ) × (k : ℕ) × (l ≡ Pin z k) × IsPinOf n z k x
   reader_placed l c =
       let m = flat_map-source (λ (d : Definition). pins_reading x d.id 0 d.pins) n.definitions l c in

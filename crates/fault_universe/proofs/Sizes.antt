@@ -1,6 +1,6 @@
 -- How many faults there can be.
-use Rattle.std.proofs.Common.{◌≡◌, ℕ, suc, zero, ◌+◌, ◌*◌, ◌<◌, ◌≤◌, ◌⊎◌, Bool, true, false, cond, eqb, leb, List, [], ◌∷◌, ◌++◌, map, length, refl, sym, ◌∙◌, ap, subst, inl, inr, arith, length-append}
-use Rattle.std.specs.List.{All, Contains, filter, flat_map}
+use Rattle.std.proofs.Common.{◌≡◌, ℕ, ◌+◌, ◌*◌, ◌≤◌, Bool, true, false, cond, eqb, leb, List, [], ◌∷◌, ◌++◌, map, length, refl, sym, ◌∙◌, ap, subst, arith, length-append}
+use Rattle.std.specs.List.{Contains, filter, flat_map}
 use Rattle.std.proofs.lemmas.Bool.{eqb-true, ne_eqb}
 use Rattle.std.proofs.lemmas.List.{length-map}
 use Rattle.netlist.specs.declared.lines.Line.{Line}
@@ -8,10 +8,10 @@ use Rattle.netlist.specs.declared.lines.Line.TheVariants.{Pin, Out}
 use Rattle.netlist.specs.Netlist.{Definition, Netlist, signals}
 use Rattle.netlist.specs.Conditions.{IsSound}
 use Rattle.netlist.specs.Readers.{pins_reading, readers_of}
-use Rattle.netlist.proofs.Lists.{contains_cases, contains_head, contains_nil, contains_tail}
+use Rattle.netlist.proofs.Lists.{contains_head, contains_tail}
 use Rattle.netlist.proofs.WellFormed.{few_pins_of}
-use Rattle.fault_universe.specs.Universe.{all_lines, branching, lines_of, universe_of}
-use Rattle.fault_universe.proofs.Distinct.{distinct_definitions, distinct_signals, from_places, IsDistinct}
+use Rattle.fault_universe.specs.Universe.{all_lines, lines_of, universe_of}
+use Rattle.fault_universe.proofs.Distinct.{distinct_signals, from_places, IsDistinct}
 use Rattle.fault_universe.proofs.FaultLists.{length-faults}
 
 -- a sum over a list
@@ -81,8 +81,8 @@ definitions_once : (xs : List ℕ) → IsDistinct xs → (ds : List Definition) 
 definitions_once xs d [] few = let h = total-same 0 xs in omega arith
 definitions_once xs d (e ∷ ds) few =
     let split = total-le (λ x. length (pins_reading x e.id 0 e.pins ++ flat_map (λ (d : Definition). pins_reading x d.id 0 d.pins) ds))
-        (λ x. length (pins_reading x e.id 0 e.pins) + length (flat_map (λ (d : Definition). pins_reading x d.id 0 d.pins) ds)) xs
-        (λ x. omega (arith, length-append (pins_reading x e.id 0 e.pins) (flat_map (λ (d : Definition). pins_reading x d.id 0 d.pins) ds))) in
+    (λ x. length (pins_reading x e.id 0 e.pins) + length (flat_map (λ (d : Definition). pins_reading x d.id 0 d.pins) ds)) xs
+    (λ x. omega (arith, length-append (pins_reading x e.id 0 e.pins) (flat_map (λ (d : Definition). pins_reading x d.id 0 d.pins) ds))) in
     let sum = total-add (λ x. length (pins_reading x e.id 0 e.pins)) (λ x. length (flat_map (λ (d : Definition). pins_reading x d.id 0 d.pins) ds)) xs in
     let here = pins_once xs d e.id 0 e.pins in
     let most = few e (contains_head e ds) in

@@ -23,7 +23,7 @@ pub no_suffix : (xs s : List ℕ) → pointwise nat_eq (drop (length xs - length
 no_suffix xs s other r e =
     let size : length (r ++ s) - length s ≡ length r = omega (arith, length-append r s) in
     other_text (drop (length xs - length s) xs) s (sym other)
-        (ap (λ ys. drop (length ys - length s) ys) e ∙ (ap (λ k. drop k (r ++ s)) size ∙ drop-append_seam r s))
+    (ap (λ ys. drop (length ys - length s) ys) e ∙ (ap (λ k. drop k (r ++ s)) size ∙ drop-append_seam r s))
 
 pub parts_at : (xs : List ℕ) (i c : ℕ) → i < length xs → get_or xs i 0 ≡ c → xs ≡ take i xs ++ c ∷ drop (i + 1) xs
 parts_at xs i c l e =

@@ -1,5 +1,5 @@
 -- How faults are written: `stem x/0`, `pin z 3/1`, `out y/0`.
-use Rattle.std.specs.Prelude.{ℕ, ◌≡◌, ◌≢◌, ◌^◌, ◌<◌, length, Option, None, Some, Bool, true, false, List, [], ◌∷◌, ◌++◌, codes, decimal, slice_index_or}
+use Rattle.std.specs.Prelude.{ℕ, ◌≡◌, ◌≢◌, ◌^◌, ◌<◌, length, Option, None, Some, Bool, true, false, List, [], ◌++◌, codes, decimal, slice_index_or}
 use Rattle.netlist.specs.declared.lines.Line.{Line}
 use Rattle.netlist.specs.declared.lines.Line.TheVariants.{Stem, Pin, Out}
 use Rattle.netlist.specs.declared.lines.Fault.{Fault}

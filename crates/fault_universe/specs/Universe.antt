@@ -1,6 +1,6 @@
 -- The lines of a netlist and its single stuck-at faults.
 -- (Stems, branches and stuck-at faults: Bushnell and Agrawal, Essentials of Electronic Testing, 2000, chapter 4.)
-use Rattle.std.specs.Prelude.{ℕ, ◌+◌, ◌≤◌, Bool, true, false, if◌then◌else◌, nat_le, List, [], ◌∷◌, length}
+use Rattle.std.specs.Prelude.{ℕ, true, false, if◌then◌else◌, nat_le, List, [], ◌∷◌, length}
 use Rattle.std.specs.List.{flat_map}
 use Rattle.netlist.specs.declared.lines.Line.{Line}
 use Rattle.netlist.specs.declared.lines.Line.TheVariants.{Stem}

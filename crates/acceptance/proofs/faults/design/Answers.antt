@@ -3,4 +3,4 @@ use Rattle.bench_text.proofs.TextLemmas.{lines-length}
 use Rattle.acceptance.proofs.faults.design.Goals as goal
 
 pub read-requires : goal.read-requires
-read-requires c = let h = lines-length c.args.text.now in omega arith
+read-requires g c = let h = lines-length c.args.text.now in omega arith

@@ -1,5 +1,4 @@
-use Rattle.std.proofs.Common.{◌≡◌, ◌<◌, ◌≤◌, ◌+◌, ◌∙◌, ap, sym, subst, get_or, length, vec_len, arith}
-use Rattle.std.specs.List.{slice_get}
+use Rattle.std.proofs.Common.{◌≡◌, ◌+◌, ◌∙◌, ap, sym, subst, get_or, length, vec_len, arith}
 use Rattle.std.proofs.lemmas.List.{get_or_default}
 use Rattle.fault_collapse.specs.Merging.{AreNumbered}
 use Rattle.fault_collapse.proofs.Numbered.{first_class, old_class}
@@ -21,7 +20,7 @@ loop-i-preserved c =
             few = omega arith;
             numbered = λ first leads. first_class c.args.faults.now c.args.parents.now first c.requires.forest leads
                 c.loop-i.numbers.items c.loop-i.representatives.items c.loop-i.i (h.numbered first leads) (omega arith)
-                c.if-parent-i.numbers.items c.if-parent-i.representatives.items _ _ w.if-parent-i.true w.fault-line.ensures (omega arith) numbers reps
+                c.if-parent-i.numbers.items c.if-parent-i.representatives.items _ _ w.if-parent-i.true w.fault-line.ensures (omega arith) numbers reps;
           }
       | else-parent-i+in_ok-push-3 w ↦
           let numbers = ap (λ v. v.items) w.numbers-is ∙ w.in_ok-push-3.ensures.items in
@@ -37,7 +36,7 @@ loop-i-preserved c =
                 (old_class c.args.faults.now c.args.parents.now first c.requires.forest leads
                 c.loop-i.numbers.items c.loop-i.representatives.items c.loop-i.i (h.numbered first leads) (omega arith)
                 c.if-parent-i.numbers.items _ (let low = c.requires.forest c.loop-i.i (omega arith) in omega arith)
-                (w.index.ensures ∙ get_or_default c.loop-i.numbers.items (get_or c.args.parents.now c.loop-i.i 0) w.index.result.now 0 (let low = c.requires.forest c.loop-i.i (omega arith) in omega arith)) numbers)
+                (w.index.ensures ∙ get_or_default c.loop-i.numbers.items (get_or c.args.parents.now c.loop-i.i 0) w.index.result.now 0 (let low = c.requires.forest c.loop-i.i (omega arith) in omega arith)) numbers);
           }
     ]
 

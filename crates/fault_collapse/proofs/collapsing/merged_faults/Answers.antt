@@ -1,4 +1,4 @@
-use Rattle.std.proofs.Common.{◌≡◌, ◌<◌, ◌∙◌, ◌^◌, ap, get_or, length, subst, sym, arith}
+use Rattle.std.proofs.Common.{◌≡◌, ◌∙◌, ap, length, subst, sym, arith}
 use Rattle.fault_universe.specs.Universe.{all_lines, universe_of}
 use Rattle.fault_universe.proofs.FaultLists.{length-faults}
 use Rattle.fault_collapse.specs.Merging.{AreMerged}

@@ -1,6 +1,3 @@
-use Rattle.std.proofs.Common.{◌≡◌, ◌∙◌, ap, length, subst, sym}
-use Rattle.fault_universe.specs.Universe.{universe_of}
-use Rattle.fault_collapse.specs.Merging.{AreNumbered, LeadsTo}
 use Rattle.fault_collapse.proofs.Equivalent.{all_classes_made}
 use Rattle.fault_collapse.proofs.collapsing.numbered.Goals as goal
 

@@ -1,11 +1,10 @@
-use Rattle.std.proofs.Common.{◌≡◌, ◌<◌, length, subst, sym}
+use Rattle.std.proofs.Common.{subst, sym}
 use Rattle.std.specs.List.{Contains}
-use Rattle.netlist.specs.Netlist.{Definition, signals}
 use Rattle.fault_universe.specs.Universe.{all_lines}
 use Rattle.fault_universe.specs.Texts.{IsWritten}
 use Rattle.fault_universe.proofs.Members.{line_written}
 use Rattle.fault_collapse.specs.Merging.{IsReadBy}
-use Rattle.fault_collapse.proofs.Reading.{out_unread, pin_read, stem_read_cases}
+use Rattle.fault_collapse.proofs.Reading.{pin_read, stem_read_cases}
 use Rattle.fault_collapse.proofs.gates.reader_of.Goals as goal
 
 pub sole_reader-requires : goal.sole_reader-requires

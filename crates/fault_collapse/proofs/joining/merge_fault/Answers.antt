@@ -1,4 +1,4 @@
-use Rattle.std.proofs.Common.{◌≡◌, ◌∙◌, ◌+◌, ◌*◌, ◌<◌, Some, ap, get_or, length, arith}
+use Rattle.std.proofs.Common.{◌≡◌, ◌∙◌, ◌+◌, ◌*◌, Some, ap, get_or, arith}
 use Rattle.std.specs.List.{slice_get}
 use Rattle.netlist.specs.declared.lines.Line.TheVariants.{Stem}
 use Rattle.fault_universe.proofs.Elements.{contains_at, slice_get_below}
@@ -42,8 +42,8 @@ returns-in-Some c =
     ap (λ x. slice_get (all_lines n) (get_or c.args.stems.now x 0)) c.index.ensures ∙ c.requires.stems c.in-Some.output.0 below in
     let fault = stem_fault_at (all_lines n) (get_or c.args.stems.now c.index.result 0) c.in-Some.output.0 c.from.result c.in-Some.output.1 stem c.from.ensures in
     now_joined n c.sound.ensures c.args.parents.now c.args.i c.args.fault.now c.requires.member c.requires.before
-        (stem_fault c.in-Some.output.0 c.in-Some.output.1) (2 * get_or c.args.stems.now c.index.result 0 + c.from.result) fault c.in-Some.ensures.0 c.in-Some.ensures.1
-        c.merge.new.parents (omega arith) c.merge.ensures.forest (c.merge.ensures.merged c.requires.before.first c.requires.before.leads)
+    (stem_fault c.in-Some.output.0 c.in-Some.output.1) (2 * get_or c.args.stems.now c.index.result 0 + c.from.result) fault c.in-Some.ensures.0 c.in-Some.ensures.1
+    c.merge.new.parents (omega arith) c.merge.ensures.forest (c.merge.ensures.merged c.requires.before.first c.requires.before.leads)
 
 pub returns-in_default : goal.returns-in_default
 returns-in_default c = not_joined c.args.netlist.now c.sound.ensures c.args.parents.now c.args.i c.args.fault.now c.requires.member c.requires.before c.in_default.ensures

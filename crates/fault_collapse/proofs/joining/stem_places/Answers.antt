@@ -1,4 +1,4 @@
-use Rattle.std.proofs.Common.{◌≡◌, ◌∙◌, ◌<◌, ◌+◌, ◌++◌, ap, take, length, length-append, arith}
+use Rattle.std.proofs.Common.{◌∙◌, ◌<◌, ap, take, length, length-append, arith}
 use Rattle.std.specs.List.{flat_map}
 use Rattle.netlist.specs.Netlist.{signals}
 use Rattle.fault_universe.specs.Universe.{lines_of}
@@ -30,7 +30,7 @@ loop-x-preserved c =
     let i = c.loop-x.invariant in
     let e = ap length c.branches.ensures in
     let more = ap length (one_more n c.sound.ensures.formed.numbered (lines_of n) c.loop-x.x within)
-        ∙ length-append (flat_map (lines_of n) (take c.loop-x.x (signals n))) (lines_of n c.loop-x.x) in
+    ∙ length-append (flat_map (lines_of n) (take c.loop-x.x (signals n))) (lines_of n c.loop-x.x) in
     record {
       size = omega (arith, c.in_ok-push.ensures.len);
       next = omega arith;

@@ -1,4 +1,4 @@
-use Rattle.std.proofs.Common.{◌≡◌, ◌<◌, ◌≤◌, ◌∙◌, refl, get_or, length, length-set, ap, sym, arith}
+use Rattle.std.proofs.Common.{◌≤◌, ◌∙◌, refl, get_or, length-set, arith}
 use Rattle.fault_collapse.proofs.Forests.{halved, halved_forest}
 use Rattle.fault_collapse.proofs.union_find.first_member.Goals as goal
 

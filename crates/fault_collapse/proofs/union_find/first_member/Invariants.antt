@@ -7,7 +7,7 @@ invariant-loop-parents l = record {
   forest : IsForest l.parents;
   within : l.at < length l.parents;
   same : (first : ℕ → ℕ) → LeadsTo l.fn.parents first → LeadsTo l.parents first;
-  first : (first : ℕ → ℕ) → LeadsTo l.fn.parents first → first l.at ≡ first l.fn.member
+  first : (first : ℕ → ℕ) → LeadsTo l.fn.parents first → first l.at ≡ first l.fn.member;
 }
 
 abbrev pub decreases-loop-parents : goal.decreases-loop-parents

@@ -1,7 +1,6 @@
-use Rattle.std.proofs.Common.{◌≡◌, ◌<◌, take, length}
+use Rattle.std.proofs.Common.{◌≡◌, take, length}
 use Rattle.std.specs.List.{flat_map}
 use Rattle.netlist.specs.Netlist.{signals}
-use Rattle.netlist.specs.Conditions.{IsSound}
 use Rattle.fault_universe.specs.Universe.{lines_of}
 use Rattle.fault_universe.proofs.fault_sets.line_count.Given as goal
 

@@ -1,8 +1,6 @@
-use Rattle.std.proofs.Common.{◌≡◌, ◌∙◌, ◌++◌, ◌∷◌, [], ◌+◌, ◌<◌, ap, sym, take, length, append_assoc, arith}
-use Rattle.std.specs.List.{flat_map}
+use Rattle.std.proofs.Common.{◌<◌, length, arith}
 use Rattle.netlist.specs.Netlist.{signals}
-use Rattle.fault_universe.specs.Universe.{lines_of}
-use Rattle.fault_universe.proofs.LineLists.{one_more, added}
+use Rattle.fault_universe.proofs.LineLists.{added}
 use Rattle.fault_universe.proofs.fault_sets.lines.Goals as goal
 
 pub loop-x-preserved : goal.loop-x-preserved

@@ -8,6 +8,7 @@ returns-in-Some c =
     last_branch c.args.netlist.now c.sound.ensures c.args.y c.branches.result.now c.in-Some.reader.now c.is.result c.requires c.branches.ensures c.in-Some.ensures.value c.is.ensures
 
 pub returns-in-None : goal.returns-in-None
-returns-in-None c =
-    ((λ e. absurd (both_ways false refl e)),
-    (λ m. absurd (no_last_branch c.args.netlist.now c.sound.ensures c.args.y c.branches.result.now c.branches.ensures c.in-None.ensures.value m)))
+returns-in-None c = (
+  (λ e. absurd (both_ways false refl e)),
+  (λ m. absurd (no_last_branch c.args.netlist.now c.sound.ensures c.args.y c.branches.result.now c.branches.ensures c.in-None.ensures.value m)),
+)

@@ -1,4 +1,4 @@
-use Rattle.std.proofs.Common.{Ok, Err, sym, ◌∙◌, ◌≡◌, ap, arith}
+use Rattle.std.proofs.Common.{Ok, ◌∙◌, ◌≡◌}
 use Rattle.fault_universe.proofs.Numbers.{decimal_is_text, decimal_parses, other_decimal}
 use Rattle.fault_universe.proofs.named_faults.number.Goals as goal
 

@@ -1,8 +1,6 @@
-use Rattle.std.proofs.Common.{◌≡◌, ◌∙◌, ◌<◌, ap, sym, below_more, get_or, length, arith}
+use Rattle.std.proofs.Common.{◌∙◌, ◌<◌, sym, below_more, length, arith}
 use Rattle.std.specs.Cmp.Lexicographic.{other_text}
 use Rattle.std.proofs.lemmas.List.{get_or_default}
-use Rattle.netlist.specs.Netlist.{signals}
-use Rattle.fault_universe.specs.Texts.{name_of}
 use Rattle.fault_universe.proofs.Names.{name_count, name_found}
 use Rattle.fault_universe.proofs.named_faults.signal_named.Goals as goal
 

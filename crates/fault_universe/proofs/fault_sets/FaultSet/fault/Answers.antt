@@ -1,4 +1,4 @@
-use Rattle.std.proofs.Common.{◌≡◌, ◌<◌, ◌/◌, ◌∙◌, ap, sym, refl, length, arith}
+use Rattle.std.proofs.Common.{◌<◌, ◌/◌, ◌∙◌, ap, sym, refl, length, arith}
 use Rattle.std.specs.List.{slice_get}
 use Rattle.fault_universe.proofs.FaultLists.{length-faults, fault_at}
 use Rattle.fault_universe.proofs.fault_sets.FaultSet.fault.Goals as goal

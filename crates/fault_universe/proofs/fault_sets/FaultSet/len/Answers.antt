@@ -1,4 +1,4 @@
-use Rattle.std.proofs.Common.{◌∙◌, ap, sym, refl, length, arith}
+use Rattle.std.proofs.Common.{ap, length, arith}
 use Rattle.fault_universe.proofs.FaultLists.{length-faults}
 use Rattle.fault_universe.proofs.fault_sets.FaultSet.len.Goals as goal
 
