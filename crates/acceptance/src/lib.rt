@@ -1,6 +1,8 @@
-//! Tests that cross crates: the whole program over files in memory. Nothing stands on this crate.
+//! Tests that cross crates: the whole program over files in memory, and chains of crates over known netlists. Nothing stands on this crate.
 #![tactic(auto)]
 
+#[cfg(test)]
+mod faults;
 #[cfg(test)]
 mod netlists;
 #[cfg(test)]

@@ -1,0 +1,10 @@
+pub mod Forests
+pub mod Reading
+pub mod JoinedFaults
+pub mod Merged
+pub mod Stems
+pub mod Numbered
+pub mod Equivalent
+pub mod Agreement
+pub mod Controlled
+pub mod Behaviour

@@ -1,0 +1,14 @@
+-- Laws of classes, each the contract of a function of its name.
+use Rattle.std.specs.Prelude.{ℕ, ◌≡◌, Bool, List, Some}
+use Rattle.netlist.specs.declared.lines.Fault.{Fault}
+use Rattle.netlist.specs.Netlist.{Netlist}
+use Rattle.netlist.specs.Conditions.{IsSound}
+use Rattle.netlist.specs.Settled.{Settles, bits, outs, next}
+use Rattle.fault_collapse.specs.Joined.{IsEquivalent}
+
+-- For every pattern, equivalent faults give the same outputs and the same next state.
+abbrev pub EquivalentAgree : Type 0
+EquivalentAgree =
+    (n : Netlist) (f g : Fault) (inputs state : List Bool) (a b : ℕ → Bool) → IsSound n → IsEquivalent n f g
+    → Settles (bits (Some f)) n inputs state a → Settles (bits (Some g)) n inputs state b
+    → (outs (bits (Some f)) n a ≡ outs (bits (Some g)) n b) × (next (bits (Some f)) n a ≡ next (bits (Some g)) n b)

@@ -1,0 +1,56 @@
+-- Classes as they are merged and numbered (private to this crate).
+use Rattle.std.specs.Prelude.{ℕ, Bool, ◌≡◌, ◌==◌, ◌<◌, ◌≤◌, if◌then◌else◌, List, length, slice_index, Some}
+use Rattle.std.specs.List.{Contains, slice_get}
+use Rattle.netlist.specs.declared.lines.Line.{Line}
+use Rattle.netlist.specs.declared.lines.Line.TheVariants.{Stem}
+use Rattle.netlist.specs.declared.lines.Fault.{Fault}
+use Rattle.netlist.specs.Netlist.{Definition, Netlist}
+use Rattle.fault_universe.specs.Universe.{universe_of}
+use Rattle.fault_collapse.specs.Joined.{IsEquivalent, IsJoined, line_at}
+
+-- Trees in which each member names an earlier one (Galler and Fisher, An improved equivalence algorithm, 1964).
+abbrev pub IsForest : List ℕ → Type 0
+IsForest parents = (k : ℕ) → k < length parents → slice_index parents k ≤ k
+
+-- from each member one comes to the first of its class
+pub record LeadsTo (parents : List ℕ) (first : ℕ → ℕ) : Type 0 where
+  pub kept : (k : ℕ) → k < length parents → first (slice_index parents k) ≡ first k
+  pub root : (k : ℕ) → k < length parents → slice_index parents k ≡ k → first k ≡ k
+  pub low : (k : ℕ) → first k ≤ k
+  pub once : (k : ℕ) → first (first k) ≡ first k
+
+-- the first members once the classes of two first members are one
+abbrev pub merged : (ℕ → ℕ) → ℕ → ℕ → ℕ → ℕ
+merged first low high k = if first k == high then low else first k
+
+abbrev pub stem_fault : ℕ → Bool → Fault
+stem_fault z value = record { line = Stem z; value = value }
+
+-- a pin of the definition stands for the line
+pub record IsReadBy (n : Netlist) (line : Line) (d : Definition) : Type 0 where
+  pub member : Contains n.definitions d
+  pub place : ℕ
+  pub signal : ℕ
+  pub pin : slice_get d.pins place ≡ Some signal
+  pub input : line ≡ line_at n signal d.id place
+
+-- The classes hold no more than the least equivalence does, and all joined pairs of which one fault is among the first m.
+pub record AreMerged (n : Netlist) (parents : List ℕ) (m : ℕ) : Type 0 where
+  pub size : length parents ≡ length (universe_of n)
+  pub forest : IsForest parents
+  pub first : ℕ → ℕ
+  pub leads : LeadsTo parents first
+  pub sound : (i : ℕ) (f g : Fault) → slice_get (universe_of n) i ≡ Some f → slice_get (universe_of n) (first i) ≡ Some g → IsEquivalent n g f
+  pub complete : (i j : ℕ) (f g : Fault) → i < m → slice_get (universe_of n) i ≡ Some f → slice_get (universe_of n) j ≡ Some g → IsJoined n f g → first i ≡ first j
+
+-- the place of each stem among the lines
+abbrev pub AreStems : List Line → List ℕ → ℕ → Type 0
+AreStems lines places m = (x : ℕ) → x < m → slice_get lines (slice_index places x) ≡ Some (Stem x)
+
+-- Of the first m faults each has the number of the first member of its class, and these are numbered in order.
+pub record AreNumbered (faults : List Fault) (first : ℕ → ℕ) (numbers : List ℕ) (representatives : List Fault) (m : ℕ) : Type 0 where
+  pub size : length numbers ≡ m
+  pub within : (i : ℕ) → i < m → slice_index numbers i < length representatives
+  pub kept : (i : ℕ) → i < m → slice_index numbers i ≡ slice_index numbers (first i)
+  pub rising : (r j : ℕ) → r < m → first r ≡ r → j < r → slice_index numbers j < slice_index numbers r
+  pub found : (class : ℕ) → class < length representatives → (r : ℕ) × (r < m) × (first r ≡ r) × (slice_index numbers r ≡ class) × (slice_get faults r ≡ slice_get representatives class)

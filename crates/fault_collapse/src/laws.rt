@@ -1,0 +1,13 @@
+//! Laws of classes: functions that do nothing, whose contracts are the laws.
+ghost use Rattle.fault_collapse.specs.Laws.{EquivalentAgree};
+
+use netlist::{holds_everywhere, settles_once, some_settles};
+
+/// Equivalent faults give the same outputs and the same next state for every pattern.
+pub fn equivalent_agree()
+    ensures { EquivalentAgree }
+{
+    holds_everywhere();
+    settles_once::<bool>();
+    some_settles::<bool>();
+}

@@ -1,0 +1,13 @@
+//! Classes of faults that no test tells apart, as far as single gates show.
+#![tactic(auto)]
+
+mod classes;
+mod collapsing;
+mod gates;
+mod joining;
+mod laws;
+mod union_find;
+
+pub use classes::Classes;
+pub use collapsing::collapse;
+pub use laws::equivalent_agree;

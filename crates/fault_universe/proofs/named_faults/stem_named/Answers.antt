@@ -1,0 +1,5 @@
+use Rattle.fault_universe.proofs.NamedLines.{no_stem}
+use Rattle.fault_universe.proofs.named_faults.stem_named.Goals as goal
+
+pub returns-in-None : goal.returns-in-None
+returns-in-None c = no_stem c.args.netlist.now c.sound.ensures c.args.name.now c.in-None.ensures

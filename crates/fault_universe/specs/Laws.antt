@@ -1,0 +1,22 @@
+-- Laws of the list of faults, each the contract of a function of its name.
+use Rattle.std.specs.Prelude.{ℕ, ◌≡◌, ◌<◌, ◌≤◌, ◌*◌, Some, length}
+use Rattle.std.specs.List.{slice_get}
+use Rattle.netlist.specs.declared.lines.Fault.{Fault}
+use Rattle.netlist.specs.Netlist.{Netlist, signals}
+use Rattle.netlist.specs.Conditions.{IsSound}
+use Rattle.fault_universe.specs.Universe.{universe_of}
+use Rattle.fault_universe.specs.Texts.{fault_text, signal_of}
+
+-- two places of the list whose faults are written alike are one
+abbrev pub TextsDiffer : Type 0
+TextsDiffer =
+    (n : Netlist) (i j : ℕ) (f g : Fault) → IsSound n → slice_get (universe_of n) i ≡ Some f → slice_get (universe_of n) j ≡ Some g
+    → fault_text n f ≡ fault_text n g → i ≡ j
+
+-- A stem for each signal, a branch for each of 1,024 pins of each definition and for an output, each at 0 and at 1.
+abbrev pub FewFaults : Type 0
+FewFaults = (n : Netlist) → IsSound n → length (universe_of n) ≤ 2052 * length (signals n)
+
+-- each fault of the list has a signal of the netlist, by which it is named
+abbrev pub FaultsHaveSignals : Type 0
+FaultsHaveSignals = (n : Netlist) (i : ℕ) (f : Fault) → IsSound n → slice_get (universe_of n) i ≡ Some f → signal_of f.line < length (signals n)

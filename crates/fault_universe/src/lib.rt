@@ -1,0 +1,12 @@
+//! The single stuck-at faults of a netlist: their list, and their texts.
+#![tactic(auto)]
+
+mod fault_sets;
+mod fault_texts;
+mod laws;
+mod named_faults;
+
+pub use fault_sets::{FaultSet, branches, signal_count, universe};
+pub use fault_texts::{push_text, text_of};
+pub use laws::{faults_have_signals, few_faults, texts_differ};
+pub use named_faults::fault_named;

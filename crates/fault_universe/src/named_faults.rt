@@ -1,0 +1,180 @@
+//! Faults by their texts.
+ghost use Rattle.std.specs.Prelude.{◌≡◌, ◌≢◌, ◌^◌, ◌<◌, ◌↔◌, ◌++◌, ◌∷◌, ℕ, Bool, List, IfSome, IsTrue, MatchOption, Some, codes, decimal, length, slice_get};
+ghost use Rattle.std.specs.List.{All, Contains};
+ghost use Rattle.netlist.specs.declared.lines.Line.TheVariants.{Pin, Out};
+ghost use Rattle.netlist.specs.Netlist.{signals};
+ghost use Rattle.fault_universe.specs.Universe.{all_lines, universe_of};
+ghost use Rattle.fault_universe.specs.Texts.{fault_text, signal_of, value_text, IsLineNamed};
+
+use crate::fault_sets::{branches, signal_count};
+use itoa::Buffer;
+use netlist::{Fault, Line, Netlist, SignalId};
+
+/// The signal of a name.
+fn signal_named(netlist: &Netlist, name: &[u8]) -> Option<SignalId>
+    ensures { MatchOption result (¬ Contains netlist.now.names name.now) (λ x. (x < length (signals netlist.now)) × (slice_get netlist.now.names x ≡ Some name.now)) }
+{
+    netlist.sound();
+    for x in 0..signal_count(netlist) {
+        if netlist.name(SignalId(x)) == name {
+            return Some(SignalId(x));
+        }
+    }
+    None
+}
+
+/// The number that is written so.
+fn number(digits: &[u8]) -> Option<u32>
+    ensures within { IfSome result (λ k. k < 2 ^ 32) }
+    ensures cases { MatchOption result ((k : ℕ) → k < 2 ^ 32 → digits.now ≢ decimal k) (λ k. digits.now ≡ decimal k) }
+{
+    let Ok(text) = std::str::from_utf8(digits) else {
+        return None;
+    };
+    let Ok(number) = text.parse::<u32>() else {
+        return None;
+    };
+    if Buffer::new().format(number).as_bytes() == digits {
+        Some(number)
+    } else {
+        None
+    }
+}
+
+/// What stands before the first blank, and behind it.
+fn split_at_blank(text: &[u8]) -> Option<(&[u8], &[u8])>
+    ensures { MatchOption result (All (λ b. b ≢ 32) text.now) (λ p. All (λ b. b ≢ 32) p.0.now × (text.now ≡ p.0.now ++ 32 ∷ p.1.now)) }
+{
+    for (i, byte) in text.iter().enumerate() {
+        if *byte == b' ' {
+            return Some((&text[..i], &text[i + 1..]));
+        }
+    }
+    None
+}
+
+/// The stem that is written so, behind `stem `.
+fn stem_named(netlist: &Netlist, name: &[u8]) -> Option<Line>
+    ensures { IsLineNamed netlist.now (codes "stem " ++ name.now) result }
+{
+    netlist.sound();
+    match signal_named(netlist, name) {
+        Some(x) => Some(Line::Stem(x)),
+        None => None,
+    }
+}
+
+/// The output that is written so, behind `out `.
+fn out_named(netlist: &Netlist, name: &[u8]) -> Option<Line>
+    ensures { IsLineNamed netlist.now (codes "out " ++ name.now) result }
+{
+    netlist.sound();
+    match signal_named(netlist, name) {
+        Some(y) => Some(Line::Out(y)),
+        None => None,
+    }
+}
+
+/// The pin that is written so, behind `pin `.
+fn pin_named(netlist: &Netlist, text: &[u8]) -> Option<Line>
+    ensures { IsLineNamed netlist.now (codes "pin " ++ text.now) result }
+{
+    netlist.sound();
+    let Some(parts) = split_at_blank(text) else {
+        return None;
+    };
+    let Some(z) = signal_named(netlist, parts.0) else {
+        return None;
+    };
+    match number(parts.1) {
+        Some(k) => Some(Line::Pin(z, k)),
+        None => None,
+    }
+}
+
+/// The line that is written so, whether or not the netlist has it.
+fn line_named(netlist: &Netlist, text: &[u8]) -> Option<Line>
+    ensures { IsLineNamed netlist.now text.now result }
+{
+    if let Some(name) = text.strip_prefix(b"stem ") {
+        return stem_named(netlist, name);
+    }
+    if let Some(name) = text.strip_prefix(b"out ") {
+        return out_named(netlist, name);
+    }
+    if let Some(pin) = text.strip_prefix(b"pin ") {
+        return pin_named(netlist, pin);
+    }
+    None
+}
+
+/// A line's text and the value that it is stuck at.
+fn split_value(text: &[u8]) -> Option<(&[u8], bool)>
+    ensures { MatchOption result ((line : List ℕ) (value : Bool) → text.now ≢ line ++ value_text value) (λ p. text.now ≡ p.0.now ++ value_text p.1) }
+{
+    if let Some(line) = text.strip_suffix(b"/0") {
+        return Some((line, false));
+    }
+    if let Some(line) = text.strip_suffix(b"/1") {
+        return Some((line, true));
+    }
+    None
+}
+
+/// Whether the netlist has a branch at this pin.
+fn has_pin(netlist: &Netlist, z: SignalId, k: u32) -> bool
+    requires { z < length (signals netlist.now) }
+    ensures { IsTrue result ↔ Contains (all_lines netlist.now) (Pin z k) }
+{
+    netlist.sound();
+    match netlist.pins(z).get(k as usize) {
+        Some(x) => !branches(netlist, *x).is_empty(),
+        None => false,
+    }
+}
+
+/// Whether the netlist has a branch at this output.
+fn has_out(netlist: &Netlist, y: SignalId) -> bool
+    requires { y < length (signals netlist.now) }
+    ensures { IsTrue result ↔ Contains (all_lines netlist.now) (Out y) }
+{
+    netlist.sound();
+    match branches(netlist, y).last() {
+        Some(reader) => reader.is(&Line::Out(y)),
+        None => false,
+    }
+}
+
+/// Whether the netlist has the line.
+fn has_line(netlist: &Netlist, line: &Line) -> bool
+    requires { signal_of line.now < length (signals netlist.now) }
+    ensures { IsTrue result ↔ Contains (all_lines netlist.now) line.now }
+{
+    netlist.sound();
+    match line {
+        Line::Stem(_) => true,
+        Line::Pin(z, k) => has_pin(netlist, *z, *k),
+        Line::Out(y) => has_out(netlist, *y),
+    }
+}
+
+/// The fault of the netlist that is written so. It takes no memory.
+pub fn fault_named(netlist: &Netlist, bytes: &[u8]) -> Option<Fault>
+    ensures { MatchOption result (All (λ fault. fault_text netlist.now fault ≢ bytes.now) (universe_of netlist.now)) (λ fault. Contains (universe_of netlist.now) fault × (fault_text netlist.now fault ≡ bytes.now)) }
+{
+    netlist.sound();
+    let Some(parts) = split_value(bytes) else {
+        return None;
+    };
+    let Some(line) = line_named(netlist, parts.0) else {
+        return None;
+    };
+    if has_line(netlist, &line) {
+        Some(Fault {
+            line,
+            value: parts.1,
+        })
+    } else {
+        None
+    }
+}
