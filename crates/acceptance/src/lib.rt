@@ -4,6 +4,8 @@
 #[cfg(test)]
 mod faults;
 #[cfg(test)]
+mod insertion;
+#[cfg(test)]
 mod netlists;
 #[cfg(test)]
 mod outside_faults;
