@@ -1,20 +1,17 @@
 """Runs a command and tells its time and its peak memory."""
 import os
 import subprocess
-import time
 
 
 def measure(command):
-    """Seconds of wall clock, peak resident MB and the status of one run of the command."""
-    began = time.monotonic()
+    """Seconds of processor (of one thread: stable where the machine has other work), peak resident MB."""
     child = subprocess.Popen(command, stdout=subprocess.DEVNULL, stderr=subprocess.PIPE)
     said = child.stderr.read()
     _, status, usage = os.wait4(child.pid, 0)
-    seconds = time.monotonic() - began
     child.returncode = os.waitstatus_to_exitcode(status)
     if child.returncode != 0:
         raise SystemExit(f"{command} ended with {child.returncode}: {said.decode(errors='replace')}")
-    return seconds, usage.ru_maxrss / 1024
+    return usage.ru_utime + usage.ru_stime, usage.ru_maxrss / 1024
 
 
 def best_of(command, runs=3):
