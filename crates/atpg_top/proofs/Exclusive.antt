@@ -1,5 +1,5 @@
 -- The rows of the commands exclude each other.
-use Rattle.std.proofs.Common.{◌≡◌, ◌⊎◌, inl, inr, ◌<◌, ◌≤◌, ℕ, List, length, Option, Some, None, Ok, Err, refl, sym, ◌∙◌, ap, subst, arith}
+use Rattle.std.proofs.Common.{◌≡◌, ◌⊎◌, inl, inr, ◌<◌, ◌≤◌, ℕ, List, length, Some, None, Ok, Err, refl, sym, ◌∙◌, ap, subst, arith}
 use Rattle.std.proofs.lemmas.Option.{none-some}
 use Rattle.std.specs.Option.{unwrap_or}
 use Rattle.std.specs.Prelude.{⊤}
@@ -9,18 +9,17 @@ use Rattle.outside.specs.Causes.{Rose}
 use Rattle.outside.specs.Shelf.{Files}
 use Rattle.outside.specs.Told.{OnTold}
 use Rattle.bench_text.specs.Forms.{Statement, Nothing, Input, Output, Definition}
-use Rattle.bench_text.specs.Said.{Said, statements_of}
-use Rattle.bench_text.specs.Whole.{notes, refusal}
+use Rattle.bench_text.specs.Said.{statements_of}
+use Rattle.bench_text.specs.Whole.{notes}
 use Rattle.bench_text.specs.Netlists.{netlist_of}
-use Rattle.bench_text.specs.Reading.{IsRead, IsRefused, IsFirstOnLoop, DefinesOnLoop}
-use Rattle.bench_text.specs.declared.refusal.Names.{Names}
+use Rattle.bench_text.specs.Reading.{IsRead, IsRefused, DefinesOnLoop}
 use Rattle.bench_text.specs.declared.refusal.Names.TheVariants.{Design}
 use Rattle.bench_text.specs.declared.refusal.BenchRefusal.{BenchRefusal}
 use Rattle.bench_text.specs.declared.refusal.BenchFault.TheVariants as fault
 use Rattle.words.specs.CommandLine.{CommandLine, command_line, scan, faults}
 use Rattle.atpg_top.specs.World.{World, IsLonger, Reads, most_bytes}
 use Rattle.atpg_top.specs.Lines.{code_of}
-use Rattle.atpg_top.specs.Laws.{IsCall, IsOrFails, netlist_file}
+use Rattle.atpg_top.specs.Laws.{IsOrFails, netlist_file}
 use Rattle.atpg_top.specs.Rows.{AskedRow, HoldsDesign, NoDesign, RequestRow, TopRow}
 use Rattle.atpg_top.specs.declared.status.Status.{Status}
 use Rattle.atpg_top.specs.declared.status.Status.TheVariants as status
@@ -50,10 +49,13 @@ Ends net a b s = NoDesign net a.files a.shelf_faults b.files b.shelf_faults s
 
 ends : (line : CommandLine) (a b : World) (s : Status) → RequestRow line a b s → Ends (netlist_file line) a b s
 ends (scan net to chains) a b status.Done w = (w.0, w.3)
-ends (scan net to chains) a b (status.WriteFault name) w = ((w.0, w.3), elim w.5 [
-      | inl shelf ↦ inl shelf.1
-      | inr out ↦ inr out.1.1
-    ])
+ends (scan net to chains) a b (status.WriteFault name) w = (
+  (w.0, w.3),
+  elim w.5 [
+    | inl shelf ↦ inl shelf.1
+    | inr out ↦ inr out.1.1
+  ],
+)
 ends (scan net to chains) a b (status.BadWords text) w = w.0
 ends (scan net to chains) a b (status.Netlist found) w = w.0
 ends (scan net to chains) a b (status.ReadFault name) w = w.0
@@ -147,9 +149,9 @@ module _ (files : Files) (net : Text) (a b : World) (told : a.files ≡ Some fil
           → (s : Status) → Ends net a b s → (code_of s ≡ 0) ⊎ (code_of s ≡ 9)
       nothing_else n ok no_shelf no_out status.Done w = inl refl
       nothing_else n ok no_shelf no_out (status.WriteFault name) w = elim w.1 [
-            | inl shelf ↦ absurd (no_shelf shelf)
-            | inr out ↦ absurd (no_out out)
-          ]
+        | inl shelf ↦ absurd (no_shelf shelf)
+        | inr out ↦ absurd (no_out out)
+      ]
       nothing_else n ok no_shelf no_out (status.BadWords text) w = absurd w
       nothing_else n ok no_shelf no_out (status.Netlist found) w =
           absurd (read_once bytes n found ok (subst (λ t. IsRead Design t (Err (fault.Refused found))) (same_bytes w.0.0 w.0.1) w.0.2))
