@@ -256,13 +256,27 @@ fn the_first_cause_is_answered(rt: HostRuntime) -> Result<(), Fail> {
     Ok(())
 }
 
+/// The last digit.
+fn digit(number: u32) -> u8 {
+    b'0' + (number % 10) as u8
+}
+
 /// Parts of inputs alone, named 0000000, 0000001 and so on.
 fn many_inputs(alloc: Global, count: u32) -> Result<Parts, AllocError> {
     let mut names = NameTable::new(alloc);
     names.reserve(count as usize, 7 * count as usize)?;
     let mut inputs = Vec::with_capacity(alloc, count as usize)?;
     for place in 0..count {
-        names.push(format!(in alloc; "{place:07}")?.as_bytes())?;
+        let name = [
+            digit(place / 1_000_000),
+            digit(place / 100_000),
+            digit(place / 10_000),
+            digit(place / 1_000),
+            digit(place / 100),
+            digit(place / 10),
+            digit(place),
+        ];
+        names.push(&name)?;
         inputs.push(SignalId(place))?;
     }
     Ok(Parts {
