@@ -72,6 +72,7 @@ impl<'a> Draft<'a> {
     }
 
     /// The number of a name.
+    #[inline(always)]
     fn number(self, name: &'a [u8]) -> Result<(Draft<'a>, usize), AllocError>
         ensures keeps { IfOk result (λ p. Keeps self.entry p.0) }
         ensures number { IfOk result (λ p. slice_get (seen p.0) p.1 ≡ Some name.now) }
@@ -319,6 +320,7 @@ impl<'a> Draft<'a> {
     }
 
     /// Adds a line, unless it is faulty.
+    #[inline(always)]
     pub fn add_line(
         self,
         alloc: Global,
