@@ -1,7 +1,7 @@
 -- A line on its own.
 use denote.Ref.{Bor}
-use Rattle.std.proofs.Common.{◌≡◌, ◌≤◌, ℕ, suc, Bool, true, false, not, cond, List, [], ◌∷◌, length, take, drop, refl, sym, ap, ◌∙◌, arith, ⊎_elim, take_all}
-use Rattle.std.specs.Prelude.{Option, Some, None, position, option_map, nat_lt, nat_le, ◌==◌, ◌&&◌, if◌then◌else◌}
+use Rattle.std.proofs.Common.{◌≡◌, ◌≤◌, ℕ, suc, Bool, true, false, not, cond, List, [], ◌∷◌, length, take, drop, refl, sym, ap, ◌∙◌, arith, ⊎_elim}
+use Rattle.std.specs.Prelude.{Option, Some, None, option_map, nat_lt, nat_le, ◌==◌, ◌&&◌, if◌then◌else◌}
 use Rattle.smallvec.specs.SmallVec.{SmallVec}
 use Rattle.std.proofs.lemmas.Bool.Decides.{nat_tests}
 use Rattle.std.specs.List.{list_all, list_any, prefix_len, AllByRecursion}
@@ -17,9 +17,9 @@ use Rattle.bench_text.specs.Refusals.{longest, is_short, names_of, says, own_fau
 use Rattle.bench_text.specs.declared.statement.Statement.{Statement as Borrowed}
 use Rattle.bench_text.specs.declared.statement.Statement.TheVariants as borrowed
 use Rattle.netlist.specs.declared.kinds.Kind.{Kind}
-use Rattle.bench_text.specs.Stated.{names, stated}
-use Rattle.bench_text.proofs.Lists.{list_any-names, list_all-names, both_true}
-use Rattle.bench_text.proofs.Runs.{either, prefix_len-le, drop-run_yes, take-run_yes, drop-run_no, take-run_no}
+use Rattle.bench_text.specs.Stated.{stated}
+use Rattle.bench_text.proofs.Lists.{list_any-names, both_true}
+use Rattle.bench_text.proofs.Runs.{either, drop-run_yes, take-run_yes, drop-run_no, take-run_no}
 
 some_place : (b : Bool) (n i : ℕ) → cond b (Some n) None ≡ Some i → n ≡ i
 some_place true n i e = cc
