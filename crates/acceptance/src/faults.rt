@@ -9,6 +9,7 @@ use fault_collapse::collapse;
 use fault_universe::{fault_named, faults_have_signals, few_faults, push_text, text_of, universe};
 use netlist::{Fault, Netlist, NoMemory};
 use std::alloc::Global;
+use std::process::Abort;
 use std::test::Fail;
 
 /// Netlists and their lists.
@@ -39,12 +40,17 @@ fn list_of(alloc: Global, netlist: &Netlist) -> Result<Vec<u8>, Fail>
     Ok(list)
 }
 
+/// Whether the faults of a text's netlist have this list.
+fn has_list(rt: &impl Abort, alloc: Global, net: &str, list: &str) -> Result<bool, Fail> {
+    let netlist = design(rt, alloc, net.as_bytes())?;
+    let found = list_of(alloc, &netlist)?;
+    Ok(found.as_slice() == list.as_bytes())
+}
+
 #[test]
 fn netlists_have_their_lists(rt: HostRuntime) -> Result<(), Fail> {
     for (net, list) in LISTS {
-        let netlist = design(&rt, rt.alloc(), net.as_bytes())?;
-        let found = list_of(rt.alloc(), &netlist)?;
-        assert!(rt; found.as_slice() == list.as_bytes(), "{net}");
+        assert!(rt; has_list(&rt, rt.alloc(), net, list)?, "{net}");
     }
     Ok(())
 }
@@ -74,13 +80,17 @@ fn unnamed<'a>(
     Ok(None)
 }
 
+/// Whether each text of a list names its fault of a text's netlist.
+fn all_are_named(rt: &impl Abort, alloc: Global, net: &str, list: &str) -> Result<bool, Fail> {
+    let netlist = design(rt, alloc, net.as_bytes())?;
+    let unnamed = unnamed(alloc, &netlist, list)?;
+    Ok(unnamed.is_none())
+}
+
 #[test]
 fn each_text_names_its_fault(rt: HostRuntime) -> Result<(), Fail> {
     for (net, list) in LISTS {
-        let netlist = design(&rt, rt.alloc(), net.as_bytes())?;
-        if let Some(line) = unnamed(rt.alloc(), &netlist, list)? {
-            panic!(rt; "{line}");
-        }
+        assert!(rt; all_are_named(&rt, rt.alloc(), net, list)?, "{net}");
     }
     Ok(())
 }
@@ -151,7 +161,10 @@ fn representatives_are_first_members(rt: HostRuntime) -> Result<(), Fail> {
     let netlist = design(&rt, rt.alloc(), RECONVERGENT.as_bytes())?;
     for (class, text) in FIRST_MEMBERS {
         let member = first_member(rt.alloc(), &netlist, *class)?;
-        assert!(rt; member.is_some() && member == fault_named(&netlist, text.as_bytes()), "{text}");
+        assert!(rt;
+            member.is_some() && member == fault_named(&netlist, text.as_bytes()),
+            "{text}"
+        );
     }
     Ok(())
 }

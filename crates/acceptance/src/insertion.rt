@@ -192,26 +192,50 @@ fn core_of(alloc: Global, netlist: &Netlist) -> Result<Core, NoMemory> {
     Core::of(alloc, netlist.copy(alloc)?).map_err(|_| NoMemory)
 }
 
-/// Compares both sides of the laws on s27, with no fault and with each line stuck at each bit.
-fn compare_s27(rt: &impl Abort, alloc: Global, shift: Shift) -> Result<(), Fail> {
-    let netlist = design(rt, alloc, S27.as_bytes())?;
-    assert!(rt; 0 < shift.chains);
-    let scanned = scanned_with(alloc, &netlist, shift.chains)?;
-    let lines = lines(alloc, &netlist)?;
-    assert_eq!(rt; lines.len(), 39);
-    let pair = Pair {
-        design: core_of(alloc, &netlist)?,
+/// The design and its scanned netlist.
+fn pair_of(
+    alloc: Global,
+    netlist: &Netlist,
+    scanned: &Scanned,
+    shift: Shift,
+) -> Result<Pair, NoMemory> {
+    Ok(Pair {
+        design: core_of(alloc, netlist)?,
         scanned: core_of(alloc, scanned.netlist())?,
         shift,
-    };
-    compare(rt, alloc, &pair, None, None)?;
-    for line in &lines {
-        let Some(site) = site(&netlist, &scanned, line) else {
-            panic!(rt; "no site of {line:?}");
+    })
+}
+
+/// Compares both sides of the laws with each of these lines stuck at each bit.
+fn compare_lines(
+    rt: &impl Abort,
+    alloc: Global,
+    netlist: &Netlist,
+    scanned: &Scanned,
+    pair: &Pair,
+    lines: &[Line],
+) -> Result<(), Fail>
+    requires { length scanned.now.sites ≡ length (signals netlist.now) }
+{
+    assert!(rt; lines.len() == 39);
+    for line in lines {
+        let Some(site) = site(netlist, scanned, line) else {
+            panic!(rt; "a line has no site");
         };
-        compare_at(rt, alloc, &pair, line, &site)?;
+        compare_at(rt, alloc, pair, line, &site)?;
     }
     Ok(())
+}
+
+/// Compares both sides of the laws on s27, with no fault and with each of its 39 lines stuck at each bit.
+fn compare_s27(rt: &impl Abort, alloc: Global, shift: Shift) -> Result<(), Fail> {
+    assert!(rt; 0 < shift.chains);
+    let netlist = design(rt, alloc, S27.as_bytes())?;
+    let scanned = scanned_with(alloc, &netlist, shift.chains)?;
+    let pair = pair_of(alloc, &netlist, &scanned, shift)?;
+    let lines = lines(alloc, &netlist)?;
+    compare(rt, alloc, &pair, None, None)?;
+    compare_lines(rt, alloc, &netlist, &scanned, &pair, &lines)
 }
 
 #[test]

@@ -244,14 +244,21 @@ atpg --help
 atpg
 ";
 
+/// Whether the words of a line end with 2, are complained of, and change nothing.
+fn are_refused<R: Threads + Wait + Sync>(
+    rt: &R,
+    alloc: Global,
+    line: &str,
+) -> Result<bool, AllocError> {
+    let ran = run(rt, alloc, line, S27, NOTHING)?;
+    let said = ran.out.bytes().is_empty() && !ran.err.bytes().is_empty();
+    Ok(ran.status == 2 && said && ran.shelf.file_count() == 1)
+}
+
 #[test]
 fn other_words_end_with_2(rt: HostRuntime) -> Result<(), Fail> {
     for line in BAD_WORDS.lines() {
-        let ran = run(&rt, rt.alloc(), line, S27, NOTHING)?;
-        assert_eq!(rt; ran.status, 2, "{line}");
-        assert!(rt; ran.out.bytes().is_empty(), "{line}");
-        assert!(rt; !ran.err.bytes().is_empty(), "{line}");
-        assert_eq!(rt; ran.shelf.file_count(), 1, "{line}");
+        assert!(rt; are_refused(&rt, rt.alloc(), line)?, "{line}");
     }
     Ok(())
 }
