@@ -55,42 +55,33 @@ fn netlists_have_their_lists(rt: HostRuntime) -> Result<(), Fail> {
     Ok(())
 }
 
-/// Whether a text names a fault that has this text.
-fn names_its_fault(alloc: Global, netlist: &Netlist, text: &str) -> Result<bool, NoMemory> {
+/// Whether the text of each fault of a design names it.
+fn names_each(alloc: Global, netlist: &Netlist) -> Result<bool, NoMemory>
+    requires { IsDesign netlist.now }
+{
+    netlist.sound();
+    few_faults();
     faults_have_signals();
-    let Some(fault) = fault_named(netlist, text.as_bytes()) else {
-        return Ok(false);
-    };
-    let name = text_of(alloc, netlist, fault)?;
-    Ok(name.as_slice() == text.as_bytes())
-}
-
-/// The first line of a list whose text names no fault with this text.
-fn unnamed<'a>(
-    alloc: Global,
-    netlist: &Netlist,
-    list: &'a str,
-) -> Result<Option<&'a str>, NoMemory> {
-    for line in list.lines().skip(1) {
-        let text = line.split(" class ").next().unwrap_or(line);
-        if !names_its_fault(alloc, netlist, text)? {
-            return Ok(Some(line));
+    let faults = universe(alloc, netlist)?;
+    for i in 0..faults.len() {
+        let name = text_of(alloc, netlist, faults.fault(i))?;
+        if fault_named(netlist, &name) != Some(faults.fault(i)) {
+            return Ok(false);
         }
     }
-    Ok(None)
+    Ok(true)
 }
 
-/// Whether each text of a list names its fault of a text's netlist.
-fn all_are_named(rt: &impl Abort, alloc: Global, net: &str, list: &str) -> Result<bool, Fail> {
+/// Whether the text of each fault of a text's netlist names it.
+fn all_are_named(rt: &impl Abort, alloc: Global, net: &str) -> Result<bool, Fail> {
     let netlist = design(rt, alloc, net.as_bytes())?;
-    let unnamed = unnamed(alloc, &netlist, list)?;
-    Ok(unnamed.is_none())
+    Ok(names_each(alloc, &netlist)?)
 }
 
 #[test]
 fn each_text_names_its_fault(rt: HostRuntime) -> Result<(), Fail> {
-    for (net, list) in LISTS {
-        assert!(rt; all_are_named(&rt, rt.alloc(), net, list)?, "{net}");
+    for (net, _) in LISTS {
+        assert!(rt; all_are_named(&rt, rt.alloc(), net)?, "{net}");
     }
     Ok(())
 }
