@@ -1,6 +1,26 @@
-"""Runs a command and tells its time and its peak memory."""
+"""What the benches share: the proved build, the made netlists, and the time and peak memory of a command."""
 import os
 import subprocess
+import sys
+
+HERE = os.path.dirname(os.path.abspath(__file__))
+MADE = os.path.join(HERE, "made")
+PROGRAM = os.path.join(HERE, "..", "crates", "atpg_main", "out", "atpg_main")
+
+
+def proved_build():
+    """The program as it was proved and built."""
+    if not os.path.exists(PROGRAM):
+        sys.exit("no proved build: (cd crates/atpg_main && rt run -- --help)")
+    return PROGRAM
+
+
+def made_netlist(signals):
+    """The made netlist of so many signals, from bench/make_netlists.py."""
+    netlist = os.path.join(MADE, f"signals_{signals}.bench")
+    if not os.path.exists(netlist):
+        subprocess.run([sys.executable, os.path.join(HERE, "make_netlists.py"), str(signals)], check=True)
+    return netlist
 
 
 def measure(command):

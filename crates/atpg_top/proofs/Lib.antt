@@ -2,3 +2,4 @@ pub mod Outsides
 pub mod ScanOff
 pub mod Exclusive
 pub mod Cells
+pub mod Zipped

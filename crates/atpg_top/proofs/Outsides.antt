@@ -1,5 +1,5 @@
 -- What a failed write shows of a shelf and a sink.
-use Rattle.std.proofs.Common.{◌≡◌, ℕ, List, Option, Result, Err, subst, take}
+use Rattle.std.proofs.Common.{◌≡◌, ℕ, List, Option, Err, subst, take}
 use Rattle.outside.specs.Causes.{Rose, HasWriteCause}
 use Rattle.outside.specs.Shelf.{Files, Holds, Writes}
 use Rattle.outside.specs.Told.{Both}

@@ -1,5 +1,5 @@
 -- With scan off the scanned netlist behaves as the original: the law of insertion, without a fault and with the enable at 0.
-use Rattle.std.proofs.Common.{◌≡◌, ℕ, ◌<◌, ◌≤◌, Bool, true, false, List, [], ◌∷◌, ◌++◌, map, length, take, min, None, refl, sym, ◌∙◌, ap, subst, arith}
+use Rattle.std.proofs.Common.{◌≡◌, ℕ, ◌<◌, ◌≤◌, false, List, [], ◌∷◌, length, take, min, None, refl, sym, ◌∙◌, ap, arith}
 use Rattle.std.proofs.lemmas.Option.{none-some}
 use Rattle.std.proofs.lemmas.List.{take_at, length-map}
 use Rattle.netlist.specs.Netlist.{Netlist, cells}
@@ -7,7 +7,7 @@ use Rattle.netlist.specs.Conditions.{IsSound}
 use Rattle.netlist.specs.Settled.{bits, outs}
 use Rattle.chain_stitch.specs.Chains.{chains_of, pieces, lengths_of}
 use Rattle.scan_insert.specs.Laws.{ScanBehaves, last_bits}
-use Rattle.scan_insert.specs.Scanned.{cell_ids, scanned_of}
+use Rattle.scan_insert.specs.Scanned.{cell_ids}
 use Rattle.atpg_top.specs.Scans.{BehavesWithScanOff, stitched}
 
 none : (count : ℕ) → count ≡ 0 → pieces (lengths_of 0 count) [] ≡ []

@@ -8,7 +8,7 @@ use Rattle.bench_text.specs.Reading.{IsRead}
 use Rattle.bench_text.specs.declared.refusal.Names.TheVariants.{Design}
 use Rattle.bench_text.specs.declared.refusal.BenchRefusal.{BenchRefusal}
 use Rattle.bench_text.specs.declared.refusal.BenchFault.TheVariants as fault
-use Rattle.words.specs.CommandLine.{CommandLine, command_line, scan}
+use Rattle.words.specs.CommandLine.{CommandLine, command_line, scan, faults}
 use Rattle.atpg_top.specs.World.{World, most_bytes}
 use Rattle.atpg_top.specs.Lines.{code_of}
 use Rattle.atpg_top.specs.Rows.{TopRow}
@@ -17,6 +17,7 @@ use Rattle.atpg_top.specs.declared.status.Status.{Status}
 -- the netlist's file of a command
 abbrev pub netlist_file : CommandLine → Text
 netlist_file (scan net to chains) = net
+netlist_file (faults net) = net
 
 -- the status is this, or a read failed, or memory was refused
 abbrev pub IsOrFails : ℕ → World → World → Status → Type 0

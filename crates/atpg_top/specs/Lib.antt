@@ -1,5 +1,6 @@
 pub mod World
 pub mod Lines
 pub mod Scans
+pub mod FaultLists
 pub mod Rows
 pub mod Laws

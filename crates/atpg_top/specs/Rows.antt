@@ -8,13 +8,14 @@ use Rattle.netlist.specs.Designs.{IsDesign}
 use Rattle.bench_text.specs.Reading.{IsRead}
 use Rattle.bench_text.specs.declared.refusal.Names.TheVariants.{Design}
 use Rattle.bench_text.specs.declared.refusal.BenchFault.TheVariants as fault
-use Rattle.words.specs.CommandLine.{CommandLine, command_line, scan}
+use Rattle.words.specs.CommandLine.{CommandLine, command_line, scan, faults}
 use Rattle.words.specs.declared.WordsRefusal.{WordsRefusal}
 use Rattle.words.specs.declared.WordsRefusal.TheVariants as words
 use Rattle.clap.specs.Words.{Text}
 use Rattle.atpg_top.specs.World.{IsLonger, IsUntouched, Reads, World}
 use Rattle.atpg_top.specs.Lines.{IsLine}
 use Rattle.atpg_top.specs.Scans.{IsScanProduct}
+use Rattle.atpg_top.specs.FaultLists.{IsFaultList}
 use Rattle.atpg_top.specs.declared.status.Status.{Status}
 use Rattle.atpg_top.specs.declared.status.Status.TheVariants as status
 
@@ -35,19 +36,25 @@ abbrev pub NetlistRow : Text → Option Files → ℕ → Option Files → ℕ �
 NetlistRow net a f b g (Ok n) = HoldsDesign a net n × IsDesign n × (b ≡ a) × (g ≡ f)
 NetlistRow net a f b g (Err s) = NoDesign net a f b g s
 
+-- the output has gained the text
+abbrev pub Prints : List ℕ → World → World → Type 0
+Prints text a b = Both a.taken b.taken (λ old new. new ≡ old ++ text)
+
+-- the output failed, and has gained a prefix of the text
+abbrev pub FailsToPrint : Text → List ℕ → World → World → Type 0
+FailsToPrint name text a b =
+    (name ≡ codes "-") × Rose a.out_faults b.out_faults × Both a.taken b.taken (λ old new. (k : ℕ) × (new ≡ old ++ take k text))
+
 -- the file has the text, and the output has gained the line
 abbrev pub DidScan : Text → List ℕ → List ℕ → World → World → Type 0
-DidScan to text line a b =
-    Both a.files b.files (λ old new. Holds old to text new)
-    × Both a.taken b.taken (λ old new. new ≡ old ++ line)
+DidScan to text line a b = Both a.files b.files (λ old new. Holds old to text new) × Prints line a b
 
 -- the write failed, and the name holds a prefix of the text; or the output failed, and the file is whole
 abbrev pub FailsToWrite : Text → Text → List ℕ → List ℕ → World → World → Type 0
 FailsToWrite name to text line a b =
     ((name ≡ to) × Rose a.shelf_faults b.shelf_faults × (b.taken ≡ a.taken)
     × Both a.files b.files (λ old new. (k : ℕ) × Holds old to (take k text) new))
-    ⊎ ((name ≡ codes "-") × Rose a.out_faults b.out_faults × Both a.files b.files (λ old new. Holds old to text new)
-    × Both a.taken b.taken (λ old new. (k : ℕ) × (new ≡ old ++ take k line)))
+    ⊎ (Both a.files b.files (λ old new. Holds old to text new) × FailsToPrint name line a b)
 
 abbrev pub ScanRow : Text → Text → ℕ → World → World → Status → Type 0
 ScanRow net to chains a b status.Done =
@@ -57,8 +64,18 @@ ScanRow net to chains a b (status.WriteFault name) =
 ScanRow net to chains a b status.Memory = ⊤
 ScanRow net to chains a b s = NoDesign net a.files a.shelf_faults b.files b.shelf_faults s × (b.taken ≡ a.taken)
 
+-- no file is changed
+abbrev pub FaultsRow : Text → World → World → Status → Type 0
+FaultsRow net a b status.Done =
+    (n : Netlist) × (text : List ℕ) × HoldsDesign a.files net n × IsFaultList n text × (b.files ≡ a.files) × Prints text a b
+FaultsRow net a b (status.WriteFault name) =
+    (n : Netlist) × (text : List ℕ) × HoldsDesign a.files net n × IsFaultList n text × (b.files ≡ a.files) × FailsToPrint name.now text a b
+FaultsRow net a b status.Memory = ⊤
+FaultsRow net a b s = NoDesign net a.files a.shelf_faults b.files b.shelf_faults s × (b.taken ≡ a.taken)
+
 abbrev pub RequestRow : CommandLine → World → World → Status → Type 0
 RequestRow (scan net to chains) a b s = ScanRow net to chains a b s
+RequestRow (faults net) a b s = FaultsRow net a b s
 
 -- what becomes of words that are no command line
 abbrev pub DeclineRow : WordsRefusal → Status → Type 0

@@ -10,12 +10,15 @@ ghost use Rattle.atpg_top.specs.Rows.{DeclineRow, ErrRow, RequestRow, TopRow};
 ghost use Rattle.atpg_top.specs.Lines.{code_of};
 ghost use Rattle.atpg_top.specs.declared.status.Status.{Status};
 
+mod fault_list;
 mod laws;
+mod listing;
 mod netlist_file;
 mod scanning;
 mod status;
 
 pub use laws::{missing_exactly, nothing_else, refused_exactly, too_long_exactly};
+use listing::faults;
 use outside::{Gate, Shelf, Sink, WriteRefusal};
 use scanning::scan;
 use status::{Status, message};
@@ -42,6 +45,7 @@ fn perform<'a, S: Shelf, T: Sink>(
             out: to,
             chains,
         } => scan(alloc, shelf, out, net, to, *chains),
+        Request::Faults { net } => faults(alloc, shelf, out, net),
     }
 }
 

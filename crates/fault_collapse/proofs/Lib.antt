@@ -8,3 +8,4 @@ pub mod Equivalent
 pub mod Agreement
 pub mod Controlled
 pub mod Behaviour
+pub mod Once

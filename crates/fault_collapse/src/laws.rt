@@ -1,5 +1,5 @@
 //! Laws of classes: functions that do nothing, whose contracts are the laws.
-ghost use Rattle.fault_collapse.specs.Laws.{EquivalentAgree};
+ghost use Rattle.fault_collapse.specs.Laws.{ClassesOnce, EquivalentAgree};
 
 use netlist::{holds_everywhere, settles_once, some_settles};
 
@@ -11,3 +11,8 @@ pub fn equivalent_agree()
     settles_once::<bool>();
     some_settles::<bool>();
 }
+
+/// A netlist's faults have one list of classes.
+pub fn classes_once()
+    ensures { ClassesOnce }
+{}

@@ -10,4 +10,4 @@ mod union_find;
 
 pub use classes::Classes;
 pub use collapsing::collapse;
-pub use laws::equivalent_agree;
+pub use laws::{classes_once, equivalent_agree};

@@ -41,6 +41,7 @@ fn push_line(text: &mut Vec<u8>, netlist: &Netlist, line: &Line) -> Result<(), A
 }
 
 /// Adds a fault's text to a text, so that one buffer serves for many.
+/// Where memory is refused, a part of it may have been added.
 pub fn push_text(text: &mut Vec<u8>, netlist: &Netlist, fault: Fault) -> Result<(), AllocError>
     requires { signal_of fault.line < length (signals netlist.now) }
     ensures { OnOk result (text.new.items ≡ text.old.items ++ fault_text netlist.now fault) }

@@ -5,7 +5,7 @@ mod texts;
 ghost use Rattle.std.specs.Prelude.{◌<◌, length, IfSome};
 ghost use Rattle.netlist.specs.Netlist.{signals};
 
-use crate::{Core, Fault, Kind, Line, NameTable, NetRefusal, Netlist, SignalId, Values};
+use crate::{Core, Fault, Kind, Line, NameTable, NetRefusal, Netlist, Parts, SignalId, Values};
 use conditions::are_well_formed;
 use std::alloc::{AllocError, Global};
 use std::process::Abort;
@@ -219,7 +219,6 @@ fn readers_in_c17(rt: HostRuntime) -> Result<(), Fail> {
     assert_readers(&rt, &netlist, "22", &[Line::Out(SignalId(9))])
 }
 
-/// Too many signals are left out: 8,000,001 of them with their names take more memory than a test should.
 #[test]
 fn the_first_cause_is_answered(rt: HostRuntime) -> Result<(), Fail> {
     let undefined = |z| NetRefusal::Undefined(SignalId(z));
@@ -254,6 +253,46 @@ fn the_first_cause_is_answered(rt: HostRuntime) -> Result<(), Fail> {
             "{text}"
         );
     }
+    Ok(())
+}
+
+/// The last digit.
+fn digit(number: u32) -> u8 {
+    b'0' + (number % 10) as u8
+}
+
+/// Parts of inputs alone, named 0000000, 0000001 and so on.
+fn many_inputs(alloc: Global, count: u32) -> Result<Parts, AllocError> {
+    let mut names = NameTable::new(alloc);
+    names.reserve(count as usize, 7 * count as usize)?;
+    let mut inputs = Vec::with_capacity(alloc, count as usize)?;
+    for place in 0..count {
+        let name = [
+            digit(place / 1_000_000),
+            digit(place / 100_000),
+            digit(place / 10_000),
+            digit(place / 1_000),
+            digit(place / 100),
+            digit(place / 10),
+            digit(place),
+        ];
+        names.push(&name)?;
+        inputs.push(SignalId(place))?;
+    }
+    Ok(Parts {
+        names,
+        inputs,
+        outputs: Vec::new(alloc),
+        definitions: Vec::new(alloc),
+    })
+}
+
+#[test]
+fn too_many_signals_are_refused(rt: HostRuntime) -> Result<(), Fail> {
+    let parts = many_inputs(rt.alloc(), 8_000_001)?;
+    assert!(rt; are_well_formed(rt.alloc(), &parts)?);
+    let refusal = Netlist::new(rt.alloc(), parts).err();
+    assert_eq!(rt; refusal, Some(NetRefusal::TooMany));
     Ok(())
 }
 

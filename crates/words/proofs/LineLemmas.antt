@@ -9,7 +9,7 @@ use Rattle.clap.specs.Faults.{fault_of}
 use Rattle.clap.specs.declared.error.Error.{Error}
 use Rattle.clap.specs.declared.error.kind.ErrorKind.{ErrorKind}
 use Rattle.clap.specs.declared.error.kind.ErrorKind.TheVariants.{OutOfMemory}
-use Rattle.words.specs.CommandLine.{CommandLine, command_line, line_by, line_where_taken, scan_of}
+use Rattle.words.specs.CommandLine.{CommandLine, command_line, faults_of, line_by, line_where_taken, scan_of}
 use Rattle.words.specs.Refusals.{IsCause, IsMadeOf}
 use Rattle.words.specs.Table.{command_table}
 use Rattle.words.specs.declared.WordsRefusal.{WordsRefusal}
@@ -51,10 +51,14 @@ pub is_scan : (rows : List Row) → scan_of rows ≡ line_by (codes "scan") rows
 unfolding line_by
 is_scan rows = refl
 
+pub is_faults : (rows : List Row) → faults_of rows ≡ line_by (codes "faults") rows
+unfolding line_by
+is_faults rows = refl
+
 passed : (name word : Text) (a b : Option CommandLine) → (name ≡ word → ⊥) → b ≡ (if bytes_eq name word then a else b)
 passed name word a b differs =
     sym (cond-false (bytes_eq name word) a b (false_from_ne_true _ (λ h. differs ((bytes_eq-Decides name word).0 h))))
 
-pub is_none : (name : Text) (rows : List Row) → (name ≡ codes "scan" → ⊥) → None ≡ line_by name rows
+pub is_none : (name : Text) (rows : List Row) → (name ≡ codes "scan" → ⊥) → (name ≡ codes "faults" → ⊥) → None ≡ line_by name rows
 unfolding line_by
-is_none name rows not_scan = passed name _ (scan_of rows) _ not_scan
+is_none name rows not_scan not_faults = passed name _ (faults_of rows) _ not_faults ∙ passed name _ (scan_of rows) _ not_scan

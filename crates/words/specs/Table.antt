@@ -28,6 +28,10 @@ abbrev pub scan_command : Shape
 scan_command = command (codes "scan")
     (required (codes "NET") ∷ required (codes "OUT") ∷ number_option (codes "chains") 1 most_chains ∷ [])
 
+-- faults NET
+abbrev pub faults_command : Shape
+faults_command = command (codes "faults") (required (codes "NET") ∷ [])
+
 -- the program, before its commands: it has a version and needs a command, and `help` is none
 abbrev pub program : App
 program = record {
@@ -42,5 +46,5 @@ program = record {
 unfoldable pub command_table : App
 command_table = record {
   top = record program.top { is_leaf = false };
-  subs = scan_command ∷ [];
+  subs = scan_command ∷ faults_command ∷ [];
 }

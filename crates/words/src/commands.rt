@@ -2,7 +2,7 @@
 ghost use Rattle.std.specs.Prelude.{◌≡◌, ◌≤◌, IfOk, false};
 ghost use Rattle.clap.specs.Words.{app_of, rule_of, shape_of, with_rule, with_subcommand};
 ghost use Rattle.clap.specs.declared.builder.command.Command.TheViews.{out-Command as fields_of};
-ghost use Rattle.words.specs.Table.{command_table, number_option, program, required, scan_command};
+ghost use Rattle.words.specs.Table.{command_table, faults_command, number_option, program, required, scan_command};
 
 use clap::builder::ValueParser;
 use clap::{Arg, Command};
@@ -69,6 +69,17 @@ fn scan<'a>(alloc: Global) -> Result<Command<'a>, AllocError>
     with_argument(command, chains)
 }
 
+fn faults<'a>(alloc: Global) -> Result<Command<'a>, AllocError>
+    ensures shape { IfOk result (λ c. shape_of c ≡ faults_command) }
+    ensures local { IfOk result (λ c. (fields_of c).has_globals ≡ false) }
+{
+    let net = required(alloc, "NET", "The netlist, a .bench file");
+    let command = Command::new(alloc, "faults").about(
+        "Lists the faults of a netlist and their classes",
+    );
+    with_argument(command, net)
+}
+
 // The program's own words, before its commands.
 fn program<'a>(alloc: Global) -> Command<'a>
     ensures { app_of result ≡ program }
@@ -82,6 +93,7 @@ fn program<'a>(alloc: Global) -> Command<'a>
 pub(crate) fn table<'a>(alloc: Global) -> Result<Command<'a>, AllocError>
     ensures { IfOk result (λ c. app_of c ≡ command_table) }
 {
-    let table = with_command(program(alloc), scan(alloc)?)?;
+    let with_scan = with_command(program(alloc), scan(alloc)?)?;
+    let table = with_command(with_scan, faults(alloc)?)?;
     Ok(table)
 }

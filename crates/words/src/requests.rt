@@ -1,7 +1,7 @@
 //! The request that a command and its values make.
 ghost use Rattle.std.specs.Prelude.{◌≡◌, IfSome, option_and_then, option_map};
 ghost use Rattle.clap.specs.Words.{found_of, rows_of, subcommand_rows_of};
-ghost use Rattle.words.specs.CommandLine.{IsInRange, line_by, line_of, scan_of};
+ghost use Rattle.words.specs.CommandLine.{IsInRange, faults_of, line_by, line_of, scan_of};
 
 use crate::commands::MOST_CHAINS;
 use crate::values::{number_or, text};
@@ -17,6 +17,10 @@ pub enum Request<'a> {
         out: &'a str,
         chains: u32,
     },
+    /// Print the list of faults of the netlist of the file `net`, each with its class.
+    Faults {
+        net: &'a str,
+    },
 }
 
 fn scan<'a>(found: &ArgMatches<'a>) -> Option<Request<'a>>
@@ -31,6 +35,14 @@ fn scan<'a>(found: &ArgMatches<'a>) -> Option<Request<'a>>
         out,
         chains: chains as u32,
     })
+}
+
+fn faults<'a>(found: &ArgMatches<'a>) -> Option<Request<'a>>
+    ensures line { option_map line_of result ≡ faults_of (rows_of (found_of found.now)) }
+    ensures in_range { IfSome result IsInRange }
+{
+    let net = text(found, "NET")?;
+    Some(Request::Faults { net })
 }
 
 // The command that was used, by its name, and what was found of its arguments.
@@ -50,6 +62,7 @@ pub(crate) fn request_of<'a>(found: &ArgMatches<'a>) -> Option<Request<'a>>
     let (name, found) = command(found)?;
     match name {
         "scan" => scan(found),
+        "faults" => faults(found),
         _ => None,
     }
 }

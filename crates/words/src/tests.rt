@@ -17,6 +17,11 @@ atpg scan --chains=2 -- --help --chains|scan --help --chains 2
 atpg scan scan scan|scan scan scan 1
 atpg scan - o|scan - o 1
 atpg scan  o|scan  o 1
+atpg faults s27.bench|faults s27.bench
+atpg faults scan|faults scan
+atpg faults faults|faults faults
+atpg scan faults o|scan faults o 1
+atpg faults -- --chains|faults --chains
 ";
 
 // Lines that are none of the table.
@@ -46,6 +51,12 @@ atpg scan n o --chain 3
 atpg scan n o -c 3
 atpg scan n o --workers 3
 atpg --chains 3 scan n o
+atpg faults
+atpg faults n o
+atpg faults n --chains 1
+atpg fault n
+atpg faults -n
+atpg faults --help
 atpg --help
 atpg scan --help
 atpg scan n o -h
@@ -68,6 +79,7 @@ fn answer_to(alloc: Global, line: &str) -> Result<Result<String, String>, AllocE
         Ok(Request::Scan { net, out, chains }) => {
             Ok(format!(in alloc; "scan {net} {out} {chains}")?)
         }
+        Ok(Request::Faults { net }) => Ok(format!(in alloc; "faults {net}")?),
         Err(WordsRefusal::BadWords(text)) => Err(text),
         Err(WordsRefusal::NoMemory) => return Err(AllocError),
     })
@@ -112,6 +124,10 @@ fn says_what_is_wrong_in_the_words_of_clap(rt: HostRuntime) -> Result<(), Fail> 
             "error: invalid value '257' for '--chains <chains>': 257 is not in 1..=256\n\nFor more information, try '--help'.\n",
         ),
         ("atpg scan n o --chains 01", BAD_NUMBER),
+        (
+            "atpg faults",
+            "error: the following required arguments were not provided:\n  <NET>\n\nUsage: atpg faults <NET>\n\nFor more information, try '--help'.\n",
+        ),
         ("atpg --version", "atpg 0.1\n"),
     ];
     for (line, expected) in texts {

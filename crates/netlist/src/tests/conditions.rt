@@ -141,10 +141,25 @@ fn is_repeated(names: &NameTable, place: usize) -> bool
     false
 }
 
-/// Whether no two names are the same.
+/// Whether each name comes before the next in the order of bytes, so that no two are the same.
+fn are_rising(names: &NameTable) -> bool
+    ensures { IsTrue result → AllPairs (λ x y. x ≢ y) names.now }
+{
+    for place in 1..names.len() {
+        if names.get(place - 1).cmp(names.get(place)).is_ge() {
+            return false;
+        }
+    }
+    true
+}
+
+/// Whether no two names are the same: at once where they rise, else pair by pair.
 fn are_distinct_names(names: &NameTable) -> bool
     ensures { IsTrue result → AllPairs (λ x y. x ≢ y) names.now }
 {
+    if are_rising(names) {
+        return true;
+    }
     for place in 0..names.len() {
         if is_repeated(names, place) {
             return false;

@@ -1,4 +1,4 @@
-use Rattle.std.proofs.Common.{◌≤◌, ◌<◌, Ok, length, ap, subst, arith}
+use Rattle.std.proofs.Common.{Ok, length, ap, subst, arith}
 use Rattle.bench_text.specs.Reading.{IsRead}
 use Rattle.bench_text.specs.declared.refusal.Names.TheVariants.{Design}
 use Rattle.bench_text.proofs.TextLemmas.{lines-length}

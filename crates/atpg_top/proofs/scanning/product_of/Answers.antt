@@ -1,4 +1,4 @@
-use Rattle.std.proofs.Common.{◌≡◌, ◌≤◌, ◌<◌, ℕ, List, ap, ◌∙◌, length, refl, arith}
+use Rattle.std.proofs.Common.{◌≡◌, ℕ, List, ap, ◌∙◌, length, refl, arith}
 use Rattle.bench_text.specs.Canonical.{canonical}
 use Rattle.chain_stitch.specs.Chains.{chains_of}
 use Rattle.scan_insert.specs.Scanned.{Insertion, scanned_of}

@@ -1,0 +1,34 @@
+//! `faults`: the list of faults of a file's netlist, printed.
+ghost use Rattle.atpg_top.specs.World.{world};
+ghost use Rattle.atpg_top.specs.Rows.{FaultsRow};
+
+use crate::fault_list::fault_list;
+use crate::netlist_file::netlist_of;
+use crate::status::Status;
+use outside::{Shelf, Sink, WriteRefusal};
+use std::alloc::Global;
+
+/// Prints the faults of the netlist of `net`, each with the number of its class.
+pub fn faults<'a, S: Shelf, T: Sink>(
+    alloc: Global,
+    shelf: &mut S,
+    out: &mut T,
+    net: &'a str,
+) -> Status<'a>
+    ensures { FaultsRow net.entry.now
+        (world (S.files shelf.old) (S.faults shelf.old) (T.taken out.old) (T.faults out.old))
+        (world (S.files shelf.new) (S.faults shelf.new) (T.taken out.new) (T.faults out.new)) result }
+{
+    let netlist = match netlist_of(alloc, shelf, net) {
+        Ok(netlist) => netlist,
+        Err(status) => return status,
+    };
+    let Ok(text) = fault_list(alloc, &netlist) else {
+        return Status::Memory;
+    };
+    match out.put(text.as_slice()) {
+        Ok(()) => Status::Done,
+        Err(WriteRefusal::Failed) => Status::WriteFault { name: "-" },
+        Err(WriteRefusal::NoMemory) => Status::Memory,
+    }
+}
