@@ -1,4 +1,4 @@
-// The lists of faults with their classes, worked out from the definition of lines and classes.
+// The lists of faults with their classes, as bench/fault_list.py works them out from the definitions, apart from the crates.
 
 /// The list of c17, whose counts are published.
 pub const C17_FAULTS: &str = "\

@@ -1,12 +1,13 @@
-// The list of faults: how many, in which order, in which classes, and which text names which.
+// `faults`: how many there are, in which order, in which classes, all that ends it early, and which text names which fault.
 ghost use Rattle.netlist.specs.Designs.{IsDesign};
 
 use crate::fault_lists::{
     C17_FAULTS, ODD_READERS_FAULTS, PARITIES_FAULTS, RECONVERGENT_FAULTS, S27_FAULTS,
 };
 use crate::netlists::{C17, ODD_READERS, PARITIES, RECONVERGENT, S27, design};
+use crate::run::{NOTHING, OUTPUT_FAILS, READ_FAILS, Row, assert_rows, differs_in};
 use fault_collapse::collapse;
-use fault_universe::{fault_named, faults_have_signals, few_faults, push_text, text_of, universe};
+use fault_universe::{fault_named, faults_have_signals, few_faults, text_of, universe};
 use netlist::{Fault, Netlist, NoMemory};
 use std::alloc::Global;
 use std::process::Abort;
@@ -21,38 +22,71 @@ const LISTS: &[(&str, &str)] = &[
     (ODD_READERS, ODD_READERS_FAULTS),
 ];
 
-/// The list of a design's faults.
-fn list_of(alloc: Global, netlist: &Netlist) -> Result<Vec<u8>, Fail>
-    requires { IsDesign netlist.now }
-{
-    netlist.sound();
-    few_faults();
-    faults_have_signals();
-    let faults = universe(alloc, netlist)?;
-    let classes = collapse(alloc, netlist, &faults)?;
-    let counts = format!(in alloc; "faults {} classes {}\n", faults.len(), classes.count())?;
-    let mut list = counts.into_bytes();
-    for i in 0..faults.len() {
-        push_text(&mut list, netlist, faults.fault(i))?;
-        let class = format!(in alloc; " class {}\n", classes.class_of(i))?;
-        list.extend_from_slice(class.as_bytes())?;
+/// The output has all of the list, and no file is changed.
+fn lists<'a>(net: &'a str, list: &'a str) -> Row<'a> {
+    Row {
+        words: "atpg faults n",
+        net,
+        failing: NOTHING,
+        status: 0,
+        out: list,
+        err: "",
+        written: None,
     }
-    Ok(list)
-}
-
-/// Whether the faults of a text's netlist have this list.
-fn has_list(rt: &impl Abort, alloc: Global, net: &str, list: &str) -> Result<bool, Fail> {
-    let netlist = design(rt, alloc, net.as_bytes())?;
-    let found = list_of(alloc, &netlist)?;
-    Ok(found.as_slice() == list.as_bytes())
 }
 
 #[test]
 fn netlists_have_their_lists(rt: HostRuntime) -> Result<(), Fail> {
     for (net, list) in LISTS {
-        assert!(rt; has_list(&rt, rt.alloc(), net, list)?, "{net}");
+        let differs = differs_in(&rt, rt.alloc(), &lists(net, list))?;
+        assert!(rt; differs.is_none(), "{net}");
     }
     Ok(())
+}
+
+/// All that ends `faults` early.
+const ROWS: &[Row<'static>] = &[
+    Row {
+        words: "atpg faults x.bench",
+        net: S27,
+        failing: NOTHING,
+        status: 7,
+        out: "",
+        err: "no such file: x.bench\n",
+        written: None,
+    },
+    Row {
+        words: "atpg faults n",
+        net: "INPUT(a)\nOUTPUT(y)\ny = AND(a, y)\n",
+        failing: NOTHING,
+        status: 3,
+        out: "",
+        err: "netlist line 3: Loop\n",
+        written: None,
+    },
+    Row {
+        words: "atpg faults n",
+        net: S27,
+        failing: READ_FAILS,
+        status: 5,
+        out: "",
+        err: "read failed: n\n",
+        written: None,
+    },
+    Row {
+        words: "atpg faults n",
+        net: S27,
+        failing: OUTPUT_FAILS,
+        status: 6,
+        out: "fault",
+        err: "write failed: -\n",
+        written: None,
+    },
+];
+
+#[test]
+fn faults_ends_as_its_rows_say(rt: HostRuntime) -> Result<(), Fail> {
+    assert_rows(&rt, rt.alloc(), ROWS)
 }
 
 /// Whether the text of each fault of a design names it.

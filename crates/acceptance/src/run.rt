@@ -2,7 +2,9 @@
 use atpg_top::top;
 use outside::{FailingCall, MemoryShelf, MemorySink, OpenGate};
 use std::alloc::{AllocError, Global};
+use std::process::Abort;
 use std::sync::Wait;
+use std::test::Fail;
 use std::thread::Threads;
 
 /// The calls that fail, of the shelf and of the two outputs.
@@ -18,6 +20,18 @@ pub const NOTHING: Failing = Failing {
     shelf: &[],
     out: &[],
     err: &[],
+};
+
+/// The first call of the shelf is the read.
+pub const READ_FAILS: Failing = Failing {
+    shelf: &[FailingCall { number: 1, kept: 0 }],
+    ..NOTHING
+};
+
+/// The output gains five bytes.
+pub const OUTPUT_FAILS: Failing = Failing {
+    out: &[FailingCall { number: 1, kept: 5 }],
+    ..NOTHING
 };
 
 /// A run over one file, `n`, and all that it says and leaves: `n` as it was, and `o` where that is written.
@@ -110,4 +124,19 @@ pub fn differs_in<R: Threads + Wait + Sync>(
 ) -> Result<Option<&'static str>, AllocError> {
     let ran = run(rt, alloc, row.words, row.net, row.failing)?;
     Ok(ran.differs_in(row))
+}
+
+/// Runs each row, and stops at one that isn't as it says.
+pub fn assert_rows<R: Threads + Wait + Sync + Abort>(
+    rt: &R,
+    alloc: Global,
+    rows: &[Row<'static>],
+) -> Result<(), Fail> {
+    for row in rows {
+        let words = row.words;
+        if let Some(part) = differs_in(rt, alloc, row)? {
+            panic!(rt; "{words}: {part}");
+        }
+    }
+    Ok(())
 }

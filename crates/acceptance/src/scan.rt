@@ -2,17 +2,12 @@
 use crate::netlists::{
     C17, NO_CELLS, S27, S27_ONE_CHAIN, S27_THREE_CHAINS, SELF_READER, SELF_READER_SCANNED,
 };
-use crate::run::{Failing, NOTHING, Row, differs_in, run};
+use crate::run::{Failing, NOTHING, OUTPUT_FAILS, READ_FAILS, Row, assert_rows, differs_in, run};
 use outside::FailingCall;
 use std::alloc::{AllocError, Global};
 use std::sync::Wait;
 use std::test::Fail;
 use std::thread::Threads;
-
-const READ_FAILS: Failing = Failing {
-    shelf: &[FailingCall { number: 1, kept: 0 }],
-    ..NOTHING
-};
 
 /// The second call of the shelf is the write. It leaves eleven bytes.
 const WRITE_FAILS: Failing = Failing {
@@ -20,11 +15,6 @@ const WRITE_FAILS: Failing = Failing {
         number: 2,
         kept: 11,
     }],
-    ..NOTHING
-};
-
-const OUTPUT_FAILS: Failing = Failing {
-    out: &[FailingCall { number: 1, kept: 5 }],
     ..NOTHING
 };
 
@@ -151,14 +141,8 @@ const ROWS: &[Row<'static>] = &[
 ];
 
 #[test]
-fn each_row_is_as_it_says(rt: HostRuntime) -> Result<(), Fail> {
-    for row in ROWS {
-        let words = row.words;
-        if let Some(part) = differs_in(&rt, rt.alloc(), row)? {
-            panic!(rt; "{words}: {part}");
-        }
-    }
-    Ok(())
+fn scan_ends_as_its_rows_say(rt: HostRuntime) -> Result<(), Fail> {
+    assert_rows(&rt, rt.alloc(), ROWS)
 }
 
 /// Netlists that are refused, and what is said of them.
@@ -239,6 +223,8 @@ atpg scan n o --chains 01
 atpg scan n o --chains 1 --chains 2
 atpg scan n
 atpg stitch n o
+atpg faults
+atpg faults n o
 atpg run n p
 atpg --help
 atpg
