@@ -1,6 +1,6 @@
 -- What is written in canonical lines is read again.
-use Rattle.std.proofs.Common.{◌≡◌, ◌<◌, ℕ, Bool, true, false, not, List, [], ◌∷◌, ◌++◌, length, take, refl, sym, ap, ◌∙◌, append_assoc, arith, take_all, lit<, ⊎_elim}
-use Rattle.std.specs.Prelude.{Some, option_map, ◌&&◌, ◌==◌, codes}
+use Rattle.std.proofs.Common.{◌≡◌, ◌<◌, ℕ, true, false, not, List, [], ◌∷◌, ◌++◌, length, take, refl, sym, ap, ◌∙◌, append_assoc, arith, take_all, lit<, ⊎_elim}
+use Rattle.std.specs.Prelude.{Some, option_map, ◌==◌, codes}
 use Rattle.std.specs.List.{prefix_len, list_all, AllByRecursion}
 use Rattle.netlist.specs.declared.kinds.Kind.{Kind}
 use Rattle.netlist.specs.declared.kinds.Kind.TheVariants.{And, Nand, Or, Nor, Xor, Xnor, Not, Buff, Dff}

@@ -1,10 +1,10 @@
 -- The statements so far, with numbers in place of names.
-use Rattle.std.proofs.Common.{◌≡◌, ◌≢◌, ◌<◌, ◌≤◌, ◌+◌, ◌⊎◌, inl, inr, ℕ, zero, suc, Bool, true, false, List, [], ◌∷◌, ◌++◌, length, set, get_or, refl, sym, ap, ◌∙◌, map, append_assoc, append-nil, arith, length-append}
-use Rattle.std.specs.Prelude.{Option, Some, None, slice_get, unwrap_or, nat_lt, nat_eq, fold, ◌&&◌, ◌||◌, if◌then◌else◌}
-use Rattle.std.specs.List.{list_any, list_all, flat_map}
+use Rattle.std.proofs.Common.{◌≡◌, ◌≢◌, ◌<◌, ◌⊎◌, inl, inr, ℕ, zero, suc, Bool, true, false, List, [], ◌∷◌, ◌++◌, length, set, get_or, refl, sym, ap, ◌∙◌, map, append-nil, arith}
+use Rattle.std.specs.Prelude.{Some, slice_get, nat_lt, fold, ◌||◌}
+use Rattle.std.specs.List.{list_any, list_all}
 use Rattle.std.specs.Str.{bytes_eq}
-use Rattle.std.proofs.lemmas.List.{length-map, map-append, length-set}
-use Rattle.std.proofs.lemmas.Option.{slice_get-map, slice_get-get_or, slice_get_within, slice_get_read}
+use Rattle.std.proofs.lemmas.List.{map-append, length-set}
+use Rattle.std.proofs.lemmas.Option.{slice_get-get_or, slice_get_within, slice_get_read}
 use Rattle.std.proofs.lemmas.Bool.{false≢true}
 use Rattle.std.proofs.lemmas.Bool.Decides.{nat_tests}
 use Rattle.smallvec.specs.SmallVec.{SmallVec}
@@ -14,13 +14,13 @@ use Rattle.bench_text.specs.declared.numbered.Role.TheVariants as role
 use Rattle.bench_text.specs.declared.numbered.Numbered.{Numbered}
 use Rattle.bench_text.specs.declared.numbered.Numbered.TheVariants.{Input, Output, Definition}
 use Rattle.bench_text.specs.declared.numbered.Entry.{Entry}
-use Rattle.bench_text.specs.Said.{Said, statements_of}
+use Rattle.bench_text.specs.Said.{statements_of}
 use Rattle.bench_text.specs.Texts.{input, output, defined, inputs_of, definitions_of, signals_of}
 use Rattle.bench_text.specs.Whole.{outputs_of}
-use Rattle.bench_text.specs.Sights.{AreDistinct, name_at, with_name, IsNumber}
-use Rattle.bench_text.specs.Numbered.{spelled, spelled_entry, input_number, definition_number, output_number, input_numbers, definition_numbers, output_numbers, numbers, are_below, with_number, IsDraft}
-use Rattle.bench_text.proofs.Lists.{both_true, list_any-append, list_any-map, all_append, flat_map-push, got_push, get_front, none-any, some-any, some_same, same_name, name_same, or_right, or_left, false_if}
-use Rattle.bench_text.proofs.RoleLemmas.{roles-seen, places-seen, roles-defined, places-defined, roles-other, places-other}
+use Rattle.bench_text.specs.Sights.{name_at}
+use Rattle.bench_text.specs.Numbered.{spelled, spelled_entry, input_number, definition_number, output_number, input_numbers, definition_numbers, output_numbers, are_below, with_number, IsDraft}
+use Rattle.bench_text.proofs.Lists.{list_any-append, list_any-map, all_append, flat_map-push, none-any, some-any, some_same, same_name, name_same, or_right, or_left, false_if}
+use Rattle.bench_text.proofs.RoleLemmas.{roles-defined, places-defined, roles-other, places-other}
 
 -- a name that has a number
 pub at_name : (names : List (List ℕ)) (n : ℕ) → n < length names → slice_get names n ≡ Some (name_at names n)

@@ -1,5 +1,5 @@
 -- The least kind of refusal that applies to a line.
-use Rattle.std.proofs.Common.{◌≡◌, ℕ, Bool, true, false, cond, List, [], refl, sym, ap, ◌∙◌}
+use Rattle.std.proofs.Common.{◌≡◌, ℕ, Bool, true, false, cond, List, refl, sym, ap, ◌∙◌}
 use Rattle.std.specs.Prelude.{Option, Some, None, Err, unwrap_or}
 use Rattle.bench_text.specs.declared.draft.Draft.{Draft}
 use Rattle.bench_text.specs.declared.refusal.Names.{Names}

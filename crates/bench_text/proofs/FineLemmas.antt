@@ -1,8 +1,7 @@
 -- A line that is not refused: its names are names, and its gate is known and has a right number of pins.
-use Rattle.std.proofs.Common.{◌≡◌, ◌<◌, ◌≤◌, ◌+◌, ℕ, zero, suc, Bool, true, false, not, cond, List, [], ◌∷◌, ◌++◌, length, take, get_or, refl, sym, ap, ◌∙◌, map, subst, arith, ⊎_elim}
-use Rattle.std.specs.Prelude.{Option, Some, None, option_map, nat_le, is_none, unwrap_or, ◌&&◌, ◌||◌, ◌==◌, if◌then◌else◌, codes, IsTrue}
-use Rattle.std.specs.List.{list_all, list_any, All, AllByRecursion}
-use Rattle.std.proofs.lemmas.Bool.{false≢true}
+use Rattle.std.proofs.Common.{◌≡◌, ◌≤◌, ◌+◌, ℕ, Bool, true, false, not, cond, List, [], ◌∷◌, ◌++◌, length, refl, sym, ap, ◌∙◌, map, subst, arith, ⊎_elim}
+use Rattle.std.specs.Prelude.{Option, Some, None, option_map, nat_le, is_none, unwrap_or, ◌&&◌, ◌==◌, if◌then◌else◌, codes, IsTrue}
+use Rattle.std.specs.List.{list_all, AllByRecursion}
 use Rattle.std.proofs.lemmas.Bool.Decides.{nat_tests}
 use Rattle.netlist.specs.declared.kinds.Kind.{Kind}
 use Rattle.netlist.specs.Gates.{allows_pins}
@@ -12,12 +11,12 @@ use Rattle.bench_text.specs.declared.refusal.Names.TheVariants.{Design, Scanned}
 use Rattle.bench_text.specs.declared.refusal.BenchKind.{BenchKind}
 use Rattle.bench_text.specs.declared.refusal.BenchKind.TheVariants.{BadByte, BadLine, UnknownGate, BadPins, DefinedTwice, Reserved}
 use Rattle.bench_text.specs.declared.refusal.BenchRefusal.{BenchRefusal}
-use Rattle.bench_text.specs.Bytes.{code, is_blank, is_allowed}
-use Rattle.bench_text.specs.Tokens.{Token, Word, Open, Close, Comma, Equals, mark, is_word_byte, tokens}
+use Rattle.bench_text.specs.Bytes.{code, is_allowed}
+use Rattle.bench_text.specs.Tokens.{Token, Word, Open, Close, Comma, Equals, is_word_byte, tokens}
 use Rattle.bench_text.specs.Keywords.{is_keyword, kind_of}
-use Rattle.bench_text.specs.Forms.{Statement, Nothing, Input, Output, Definition, closed_name, port, pins, more_pins, definition, statement}
-use Rattle.bench_text.specs.Refusals.{names_of, longest, is_short, says, applies, fault, gate_fault, holds, has_unknown_gate, has_bad_pins, defines_one_of, has_reserved_name}
-use Rattle.bench_text.specs.Said.{Said, noted, statements_of}
+use Rattle.bench_text.specs.Forms.{Statement, Nothing, Input, Output, Definition, closed_name, pins, more_pins, definition, statement}
+use Rattle.bench_text.specs.Refusals.{names_of, longest, is_short, says, fault, gate_fault, holds, has_unknown_gate, has_bad_pins}
+use Rattle.bench_text.specs.Said.{noted, statements_of}
 use Rattle.bench_text.specs.Texts.{said, signals_of, at_line, first_fault}
 use Rattle.bench_text.proofs.Plain.{is_plain, IsRun, IsNamed}
 use Rattle.bench_text.proofs.Lists.{both_true, index-all}

@@ -1,12 +1,11 @@
 -- The netlist that statements stand for is well formed.
-use Rattle.std.proofs.Common.{◌≡◌, ◌≢◌, ◌<◌, ◌≤◌, ◌+◌, ◌-◌, ◌⊎◌, inl, inr, ℕ, zero, suc, Bool, true, false, not, cond, List, [], ◌∷◌, ◌++◌, length, get_or, refl, sym, ap, ◌∙◌, map, subst, arith, length-append, ⊎_elim}
-use Rattle.std.specs.Prelude.{Option, Some, None, slice_get, slice_index, fold, ◌&&◌, ◌||◌, if◌then◌else◌, IsTrue}
-use Rattle.std.specs.List.{list_all, list_any, flat_map, position_or_len, All, AllPairs, AllByRecursion, Contains, filter}
+use Rattle.std.proofs.Common.{◌≡◌, ◌≢◌, ◌<◌, ◌≤◌, ◌+◌, ◌⊎◌, inl, inr, ℕ, zero, suc, Bool, true, false, cond, List, [], ◌∷◌, ◌++◌, length, get_or, refl, sym, ap, ◌∙◌, map, subst, arith}
+use Rattle.std.specs.Prelude.{Some, None, slice_get, fold, ◌||◌, if◌then◌else◌, IsTrue}
+use Rattle.std.specs.List.{list_all, list_any, flat_map, All, AllByRecursion, Contains}
 use Rattle.std.specs.Str.{bytes_eq}
 use Rattle.std.proofs.lemmas.List.{length-map, map-append}
 use Rattle.std.proofs.lemmas.Option.{slice_get_within, slice_get-get_or, get_or_from_slice_get}
 use Rattle.std.proofs.lemmas.Bool.{false≢true}
-use Rattle.netlist.specs.declared.kinds.Kind.{Kind}
 use Rattle.netlist.specs.Gates.{allows_pins}
 use Rattle.netlist.specs.Names.{IsName}
 use Rattle.netlist.specs.Netlist.{Netlist, Definition as Equation, signals}
@@ -14,12 +13,11 @@ use Rattle.netlist.specs.Conditions.{IsWellFormed, IsRead}
 use Rattle.bench_text.specs.declared.refusal.BenchKind.{BenchKind}
 use Rattle.bench_text.specs.declared.refusal.BenchKind.TheVariants.{BadPins}
 use Rattle.bench_text.specs.Forms.{Statement, Nothing, Input, Output, Definition}
-use Rattle.bench_text.specs.Refusals.{gate_fault}
 use Rattle.bench_text.specs.Texts.{inputs_of, definitions_of, signals_of, output}
 use Rattle.bench_text.specs.Sights.{AreDistinct, with_name, distinct}
 use Rattle.bench_text.specs.Whole.{outputs_of, reads, reads_from}
 use Rattle.bench_text.specs.Netlists.{id_of, equation, netlist_of}
-use Rattle.bench_text.proofs.Lists.{both_true, or_false, all_append, same_name, name_same, some_same, got_append, got_push, get_front, get_back, got_map, get_map, only_place, same_or_not, index-all, false_if, some-any}
+use Rattle.bench_text.proofs.Lists.{both_true, all_append, same_name, name_same, some_same, got_push, get_back, got_map, get_map, only_place, index-all, some-any}
 use Rattle.bench_text.proofs.Runs.{either}
 use Rattle.bench_text.proofs.FineLemmas.{IsFine}
 

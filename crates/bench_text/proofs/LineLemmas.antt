@@ -1,13 +1,13 @@
 -- A line on its own.
 use denote.Ref.{Bor}
-use Rattle.std.proofs.Common.{◌≡◌, ◌≤◌, ℕ, suc, Bool, true, false, not, cond, List, [], ◌∷◌, length, take, refl, sym, ap, ◌∙◌, arith, ⊎_elim, take_all}
-use Rattle.std.specs.Prelude.{Option, Some, None, position, option_map, nat_lt, nat_le, ◌==◌, ◌&&◌, if◌then◌else◌}
+use Rattle.std.proofs.Common.{◌≡◌, ◌≤◌, ℕ, suc, Bool, true, false, not, cond, List, [], ◌∷◌, length, take, drop, refl, sym, ap, ◌∙◌, arith, ⊎_elim}
+use Rattle.std.specs.Prelude.{Option, Some, None, option_map, nat_lt, nat_le, ◌==◌, ◌&&◌, if◌then◌else◌}
 use Rattle.smallvec.specs.SmallVec.{SmallVec}
 use Rattle.std.proofs.lemmas.Bool.Decides.{nat_tests}
-use Rattle.std.specs.List.{list_all, list_any, AllByRecursion}
+use Rattle.std.specs.List.{list_all, list_any, prefix_len, AllByRecursion}
 use Rattle.bench_text.specs.declared.refusal.Names.{Names}
 use Rattle.bench_text.specs.declared.refusal.BenchKind.TheVariants.{BadByte, BadLine, BadPins}
-use Rattle.bench_text.specs.Bytes.{code, is_allowed, is_blank}
+use Rattle.bench_text.specs.Bytes.{code, is_allowed, is_blank, is_code}
 use Rattle.bench_text.specs.Tokens.{Token, Word, Open, Close, Comma, Equals, mark, begins_in_word, add, tokens}
 use Rattle.bench_text.proofs.TokenLemmas.{not_word}
 use Rattle.netlist.specs.Gates.{allows_pins}
@@ -17,9 +17,9 @@ use Rattle.bench_text.specs.Refusals.{longest, is_short, names_of, says, own_fau
 use Rattle.bench_text.specs.declared.statement.Statement.{Statement as Borrowed}
 use Rattle.bench_text.specs.declared.statement.Statement.TheVariants as borrowed
 use Rattle.netlist.specs.declared.kinds.Kind.{Kind}
-use Rattle.bench_text.specs.Stated.{names, stated}
-use Rattle.bench_text.proofs.Lists.{list_any-names, list_all-names}
-use Rattle.bench_text.proofs.Runs.{either, prefix_len-le}
+use Rattle.bench_text.specs.Stated.{stated}
+use Rattle.bench_text.proofs.Lists.{list_any-names, both_true}
+use Rattle.bench_text.proofs.Runs.{either, drop-run_yes, take-run_yes, drop-run_no, take-run_no}
 
 some_place : (b : Bool) (n i : ℕ) → cond b (Some n) None ≡ Some i → n ≡ i
 some_place true n i e = cc
@@ -31,15 +31,69 @@ no_place n m e = ⊎_elim
     (λ (h : nat_lt n m ≡ false). grind (arith, nat_tests))
     (either (nat_lt n m))
 
--- the comment is cut off where it starts
-pub code-some : (line : List ℕ) (i : ℕ) → Some i ≡ position (λ b. b == 35) line → take i line ≡ code line
-code-some line i e = ap (λ n. take n line) (sym (some_place _ _ _ (sym e)))
+code-more : (b : ℕ) (bs : List ℕ) → not (b == 35) ≡ true → code (b ∷ bs) ≡ b ∷ code bs
+code-more b bs h = take-run_yes (λ x. not (x == 35)) b bs h
 
-pub code-none : (line : List ℕ) → None ≡ position (λ b. b == 35) line → line ≡ code line
-code-none line e = sym (take_all _ line (no_place _ _ (sym e)))
+code-stop : (b : ℕ) (bs : List ℕ) → not (b == 35) ≡ false → code (b ∷ bs) ≡ []
+code-stop b bs h = take-run_no (λ x. not (x == 35)) b bs h
 
-pub start-within : (line : List ℕ) (i : ℕ) → Some i ≡ position (λ b. b == 35) line → i ≤ length line
-start-within line i e = let k = some_place _ _ _ (sym e) in omega (arith, k, prefix_len-le (λ b. not (b == 35)) line)
+-- the run of code at the front is the line without its comment
+abbrev IsCut : List ℕ → Type 0
+IsCut bs = (take (prefix_len is_code bs) bs ≡ code bs) × (list_all is_allowed (code bs) ≡ true)
+
+cut-more : (b : ℕ) (bs : List ℕ) → is_code b ≡ true → IsCut bs → IsCut (b ∷ bs)
+cut-more b bs t h =
+    let q = both_true (is_allowed b) (not (b == 35)) t in
+    let e = code-more b bs q.1 in
+    (take-run_yes is_code b bs t ∙ ap (λ l. b ∷ l) h.0 ∙ sym e, ap (list_all is_allowed) e ∙ rw (q.0, h.1) refl)
+
+-- it is, where the line ends behind it
+pub cut-end : (bs : List ℕ) → drop (prefix_len is_code bs) bs ≡ [] → IsCut bs
+cut-end [] e = (refl, refl)
+cut-end (b ∷ bs) e = ⊎_elim
+    (λ (t : is_code b ≡ true). cut-more b bs t (cut-end bs (sym (drop-run_yes is_code b bs t) ∙ e)))
+    (λ (f : is_code b ≡ false). let k : b ∷ bs ≡ [] = sym (drop-run_no is_code b bs f) ∙ e in cc)
+    (either (is_code b))
+
+is_hash : (c : ℕ) → c ≡ 35 → not (c == 35) ≡ false
+is_hash c h = rw h refl
+
+no_hash : (c : ℕ) → (c ≡ 35 → ⊥) → (c == 35) ≡ false
+no_hash c h = grind (arith, nat_tests)
+
+-- and where a comment does
+pub cut-comment : (bs : List ℕ) (c : ℕ) (rest : List ℕ) → drop (prefix_len is_code bs) bs ≡ c ∷ rest → c ≡ 35 → IsCut bs
+cut-comment [] c rest e h = cc
+cut-comment (b ∷ bs) c rest e h = ⊎_elim
+    (λ (t : is_code b ≡ true). cut-more b bs t (cut-comment bs c rest (sym (drop-run_yes is_code b bs t) ∙ e) h))
+    (λ (f : is_code b ≡ false).
+    let k : b ∷ bs ≡ c ∷ rest = sym (drop-run_no is_code b bs f) ∙ e in
+    let s : b ≡ c = cc in
+    let none = code-stop b bs (is_hash b (s ∙ h)) in
+    (take-run_no is_code b bs f ∙ sym none, ap (list_all is_allowed) none))
+    (either (is_code b))
+
+-- the same of what was cut off there
+pub cut-is : (line c : List ℕ) (n : ℕ) → c ≡ take n line → n ≡ prefix_len is_code line → IsCut line → (c ≡ code line) × (list_all is_allowed (code line) ≡ true)
+cut-is line c n e f h = (e ∙ ap (λ k. take k line) f ∙ h.0, h.1)
+
+not_left : (a b : Bool) → (a && not b) ≡ false → b ≡ false → a ≡ false
+not_left true b h k = cc
+not_left false b h k = refl
+
+-- any other byte behind it is one that may not stand there
+pub cut-fault : (bs : List ℕ) (c : ℕ) (rest : List ℕ) → drop (prefix_len is_code bs) bs ≡ c ∷ rest → (c ≡ 35 → ⊥) → list_all is_allowed (code bs) ≡ false
+cut-fault [] c rest e h = cc
+cut-fault (b ∷ bs) c rest e h = ⊎_elim
+    (λ (t : is_code b ≡ true).
+    let q = both_true (is_allowed b) (not (b == 35)) t in
+    ap (list_all is_allowed) (code-more b bs q.1) ∙ rw (q.0) (cut-fault bs c rest (sym (drop-run_yes is_code b bs t) ∙ e) h))
+    (λ (f : is_code b ≡ false).
+    let k : b ∷ bs ≡ c ∷ rest = sym (drop-run_no is_code b bs f) ∙ e in
+    let s : b ≡ c = cc in
+    let no : (b == 35) ≡ false = ap (λ x. x == 35) s ∙ no_hash c h in
+    ap (list_all is_allowed) (code-more b bs (ap not no)) ∙ rw (not_left (is_allowed b) (b == 35) f no) refl)
+    (either (is_code b))
 
 other_way : (b : Bool) → cond (not b) (Some BadPins) None ≡ cond b None (Some BadPins)
 other_way true = refl
@@ -70,10 +124,7 @@ module _ (reading : Names) (line : List ℕ) where
   own_fault-gate (Definition z None pins) h e = rw (h, e) refl
   own_fault-gate (Definition z (Some kind) pins) h e = rw (h, e) (other_way (allows_pins kind (length pins)))
 
--- what the test of the bytes and the reader of forms said, in the line's words
-pub allowed : (line bytes : List ℕ) (r b : Bool) → bytes ≡ code line → r ≡ list_all is_allowed bytes → r ≡ b → list_all is_allowed (code line) ≡ b
-allowed line bytes r b e f g = ap (list_all is_allowed) (sym e) ∙ sym f ∙ g
-
+-- what the reader of forms said, in the line's words
 pub stands_for : (line bytes : List ℕ) (o p : Option Borrowed) → bytes ≡ code line → option_map stated o ≡ statement (tokens bytes) → o ≡ p → statement (tokens (code line)) ≡ option_map stated p
 stands_for line bytes o p e f g = ap (λ l. statement (tokens l)) (sym e) ∙ sym f ∙ ap (option_map stated) g
 

@@ -1,6 +1,6 @@
 -- A text, read line by line.
-use Rattle.std.proofs.Common.{◌≡◌, ◌<◌, ◌≤◌, ◌+◌, ℕ, Bool, true, false, List, [], ◌∷◌, ◌++◌, length, refl, sym, ap, ◌∙◌, map, append_assoc, append-nil, arith, length-append}
-use Rattle.std.specs.Prelude.{Option, Some, None, Err, ◌==◌}
+use Rattle.std.proofs.Common.{◌≡◌, ◌≤◌, ◌+◌, ℕ, Bool, true, List, [], ◌∷◌, ◌++◌, length, refl, sym, ap, ◌∙◌, map, append_assoc, append-nil, arith, length-append}
+use Rattle.std.specs.Prelude.{Some, None, Err, ◌==◌}
 use Rattle.std.proofs.lemmas.Bool.Decides.{nat_tests}
 use Rattle.std.proofs.lemmas.List.{nil_from_length, length-map}
 use Rattle.bench_text.specs.declared.draft.Draft.{Draft}
@@ -11,8 +11,8 @@ use Rattle.bench_text.specs.declared.refusal.BenchKind.{BenchKind}
 use Rattle.bench_text.specs.Bytes.{lines}
 use Rattle.bench_text.specs.Forms.{Statement, Nothing, Input, Output, Definition}
 use Rattle.bench_text.specs.Refusals.{fault}
-use Rattle.bench_text.specs.Said.{Said, noted_at, noted, statements_of}
-use Rattle.bench_text.specs.Texts.{said, statements, input, defined, inputs_of, definitions_of, signals_of, at_line, first_fault}
+use Rattle.bench_text.specs.Said.{noted_at, noted, statements_of}
+use Rattle.bench_text.specs.Texts.{said, statements, inputs_of, definitions_of, signals_of, at_line, first_fault}
 use Rattle.bench_text.specs.LineRead.{IsFault, put_at}
 use Rattle.bench_text.specs.LinesRead.{AreLinesRead, IsPartRead}
 use Rattle.bench_text.specs.Drafted.{said_in, signals_in}

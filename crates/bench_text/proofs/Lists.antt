@@ -1,10 +1,9 @@
 -- Tests over lists, and their elements by place.
 use denote.Ref.{Bor}
-use Rattle.std.proofs.Common.{◌≡◌, ◌≢◌, ◌<◌, ◌≤◌, ◌+◌, ◌⊎◌, inl, inr, ℕ, zero, suc, Bool, true, false, List, [], ◌∷◌, ◌++◌, length, set, refl, sym, ap, ◌∙◌, map, append_assoc, append-nil, arith, length-append}
-use Rattle.std.specs.Prelude.{Option, Some, None, slice_get, nat_eq, ◌&&◌, ◌||◌, ◌==◌}
+use Rattle.std.proofs.Common.{◌≡◌, ◌≢◌, ◌+◌, ◌⊎◌, inl, inr, ℕ, zero, suc, Bool, true, false, List, [], ◌∷◌, ◌++◌, length, set, refl, sym, ap, ◌∙◌, map, append_assoc, append-nil, arith}
+use Rattle.std.specs.Prelude.{Option, Some, slice_get, ◌&&◌, ◌||◌}
 use Rattle.std.specs.List.{list_any, list_all, flat_map, position_or_len, All, AllByRecursion}
 use Rattle.std.specs.Str.{bytes_eq}
-use Rattle.std.proofs.lemmas.Bool.Decides.{nat_tests}
 use Rattle.std.proofs.lemmas.Slice.Eq.{bytes_eq-Decides}
 use Rattle.bench_text.specs.Stated.{names}
 

@@ -1,7 +1,7 @@
 -- The line of a loop.
-use Rattle.std.proofs.Common.{◌≡◌, ◌≢◌, ◌<◌, ◌≤◌, ◌+◌, ◌-◌, ◌⊎◌, inl, inr, ℕ, zero, suc, Bool, true, false, cond, List, [], ◌∷◌, ◌++◌, length, get_or, refl, sym, ap, ◌∙◌, map, subst, append_assoc, arith, length-append, ⊎_elim}
-use Rattle.std.specs.Prelude.{Option, Some, None, option_map, find, slice_get, nat_eq, IsTrue}
-use Rattle.std.specs.List.{flat_map, AllByRecursion, Contains, filter}
+use Rattle.std.proofs.Common.{◌≡◌, ◌≢◌, ◌<◌, ◌≤◌, ◌+◌, ◌-◌, ◌⊎◌, inl, inr, ℕ, zero, suc, Bool, true, false, cond, List, [], ◌∷◌, ◌++◌, length, get_or, refl, sym, ap, ◌∙◌, map, subst, arith, length-append}
+use Rattle.std.specs.Prelude.{Option, Some, None, option_map, find, slice_get, nat_eq}
+use Rattle.std.specs.List.{AllByRecursion, filter}
 use Rattle.std.proofs.lemmas.List.{length-map, map-append}
 use Rattle.std.proofs.lemmas.List.Concat.{flat_map-append}
 use Rattle.std.proofs.lemmas.Option.{slice_get-get_or, slice_get_within}
@@ -9,7 +9,7 @@ use Rattle.std.proofs.lemmas.Bool.{false≢true}
 use Rattle.std.proofs.lemmas.Bool.Decides.{nat_tests}
 use Rattle.smallvec.specs.SmallVec.{SmallVec}
 use Rattle.netlist.specs.declared.kinds.Kind.{Kind}
-use Rattle.netlist.specs.Netlist.{Netlist, Definition as Equation, is_gate, gates, signals, Reads, IsLoop, IsOnLoop}
+use Rattle.netlist.specs.Netlist.{is_gate, gates, IsOnLoop}
 use Rattle.bench_text.specs.declared.numbered.Role.{Role}
 use Rattle.bench_text.specs.declared.numbered.Role.TheVariants as role
 use Rattle.bench_text.specs.declared.numbered.Numbered.{Numbered}
@@ -22,7 +22,7 @@ use Rattle.bench_text.specs.Sights.{AreDistinct, name_at}
 use Rattle.bench_text.specs.Numbered.{spelled, spelled_entry, definition_number, definition_numbers, defines_number, IsDraft}
 use Rattle.bench_text.specs.Netlists.{id_of, netlist_of}
 use Rattle.bench_text.specs.Reading.{DefinesOnLoop, IsFirstOnLoop, IsDefinedAt}
-use Rattle.bench_text.proofs.Lists.{some_same, get_front, get_back, got_append}
+use Rattle.bench_text.proofs.Lists.{get_front, get_back, got_append}
 use Rattle.bench_text.proofs.Runs.{either}
 use Rattle.bench_text.proofs.DraftLemmas.{signals-spelled}
 use Rattle.bench_text.proofs.PartLemmas.{id-place}

@@ -1,10 +1,9 @@
 -- Names as signals.
-use Rattle.std.proofs.Common.{◌≡◌, ◌≢◌, ◌<◌, ◌≤◌, ◌+◌, ◌⊎◌, inl, inr, ℕ, zero, suc, Bool, true, false, List, [], ◌∷◌, ◌++◌, length, get_or, take, refl, sym, ap, ◌∙◌, map, append_assoc, append-nil, take_all, arith, length-append}
-use Rattle.std.specs.Prelude.{Option, Some, None, slice_get, nat_lt, nat_eq, fold, ◌&&◌, ◌||◌, if◌then◌else◌}
+use Rattle.std.proofs.Common.{◌≡◌, ◌≢◌, ◌<◌, ◌≤◌, ◌+◌, ◌⊎◌, inl, inr, ℕ, Bool, true, false, List, [], ◌∷◌, ◌++◌, length, get_or, take, refl, sym, ap, ◌∙◌, map, append_assoc, take_all, arith}
+use Rattle.std.specs.Prelude.{Some, slice_get, nat_lt, nat_eq, fold, ◌||◌, if◌then◌else◌}
 use Rattle.std.specs.List.{list_any, list_all, flat_map, position_or_len}
 use Rattle.std.specs.Str.{bytes_eq}
 use Rattle.std.proofs.lemmas.List.{length-map, map-append, map_push, take_more}
-use Rattle.std.proofs.lemmas.List.Concat.{flat_map-append}
 use Rattle.std.proofs.lemmas.Option.{slice_get_within}
 use Rattle.std.proofs.lemmas.Bool.{false≢true}
 use Rattle.std.proofs.lemmas.Bool.Decides.{nat_tests}
@@ -18,14 +17,14 @@ use Rattle.bench_text.specs.declared.numbered.Numbered.TheVariants.{Input, Outpu
 use Rattle.bench_text.specs.declared.numbered.Entry.{Entry}
 use Rattle.bench_text.specs.Forms.{Statement}
 use Rattle.bench_text.specs.Said.{Said, statements_of}
-use Rattle.bench_text.specs.Texts.{inputs_of, definitions_of, signals_of}
+use Rattle.bench_text.specs.Texts.{inputs_of, signals_of}
 use Rattle.bench_text.specs.Sights.{AreDistinct, name_at, with_name, distinct}
-use Rattle.bench_text.specs.Numbered.{spelled, spelled_entry, input_numbers, definition_numbers, output_number, output_numbers, definition_number, numbers, are_below, with_number, IsDraft}
-use Rattle.bench_text.specs.Whole.{outputs_of, reads, reads_from}
-use Rattle.bench_text.specs.Netlists.{id_of, equation, netlist_of}
-use Rattle.bench_text.proofs.Lists.{both_true, flat_map-push, list_any-map, list_all-map, all_append, all-got, all-flat_map, flat_map-all, false_if, same_name, name_same, some_same, got_append, get_front, get_back, got_map, get_map, only_place, same_or_not}
+use Rattle.bench_text.specs.Numbered.{spelled, spelled_entry, output_number, output_numbers, definition_number, are_below, with_number, IsDraft}
+use Rattle.bench_text.specs.Whole.{outputs_of, reads_from}
+use Rattle.bench_text.specs.Netlists.{id_of, equation}
+use Rattle.bench_text.proofs.Lists.{both_true, flat_map-push, list_all-map, all_append, all-got, all-flat_map, flat_map-all, false_if, same_name, name_same, some_same, got_append, get_front, get_back, got_map, get_map, only_place, same_or_not}
 use Rattle.bench_text.proofs.Walks.{all_at}
-use Rattle.bench_text.proofs.DraftLemmas.{at_name, signals-spelled, inputs-spelled, definitions-spelled, outputs-spelled, seen_role, defines-read, defines-input, defines-definition, role_at}
+use Rattle.bench_text.proofs.DraftLemmas.{at_name, signals-spelled, inputs-spelled, outputs-spelled, seen_role, defines-read, defines-input, defines-definition, role_at}
 
 -- the place of a name among the signals
 abbrev place : ℕ → Role → ℕ

@@ -1,47 +1,27 @@
 -- Lines that are read as statements, one by one, are read so as a text.
-use Rattle.std.proofs.Common.{◌≡◌, ◌≢◌, ◌<◌, ◌≤◌, ◌+◌, ◌⊎◌, inl, inr, ℕ, zero, suc, Bool, true, false, not, cond, List, [], ◌∷◌, ◌++◌, length, get_or, refl, sym, ap, ◌∙◌, map, subst, append_assoc, append-nil, arith, ⊎_elim}
-use Rattle.std.specs.Prelude.{Option, Some, None, slice_get, find, nat_lt, nat_le, ◌==◌, ◌&&◌, ◌||◌, codes, IsTrue, unwrap_or, if◌then◌else◌, option_map}
-use Rattle.std.specs.List.{list_all, list_any, flat_map, All, AllPairs, AllByRecursion, Contains}
+use Rattle.std.proofs.Common.{◌≡◌, ◌<◌, ◌≤◌, ◌+◌, ℕ, suc, Bool, true, false, not, List, [], ◌∷◌, ◌++◌, length, refl, sym, ap, ◌∙◌, map, subst, append_assoc, arith}
+use Rattle.std.specs.Prelude.{Some, None, slice_get, find, ◌==◌, ◌||◌, IsTrue, option_map}
+use Rattle.std.specs.List.{list_all, list_any, flat_map, All, AllByRecursion}
 use Rattle.std.specs.Str.{bytes_eq}
-use Rattle.std.proofs.lemmas.List.{length-map, map-append}
-use Rattle.std.proofs.lemmas.List.Concat.{flat_map-append}
-use Rattle.std.proofs.lemmas.Option.{slice_get_within, slice_get-get_or, get_or_from_slice_get}
-use Rattle.std.proofs.lemmas.Bool.{false≢true}
+use Rattle.std.proofs.lemmas.List.{map-append}
+use Rattle.std.proofs.lemmas.Option.{slice_get_within}
 use Rattle.std.proofs.lemmas.Bool.Decides.{nat_tests}
-use Rattle.netlist.specs.declared.kinds.Kind.{Kind}
-use Rattle.netlist.specs.declared.kinds.Kind.TheVariants.{And, Nand, Or, Nor, Xor, Xnor, Not, Buff, Dff}
-use Rattle.netlist.specs.Gates.{allows_pins}
 use Rattle.netlist.specs.Names.{is_name_byte, IsName}
-use Rattle.netlist.specs.Netlist.{Netlist, Definition as Equation, signals}
-use Rattle.netlist.specs.Conditions.{IsSound, IsRead}
 use Rattle.bench_text.specs.declared.refusal.Names.{Names}
-use Rattle.bench_text.specs.declared.refusal.Names.TheVariants.{Design, Scanned}
-use Rattle.bench_text.specs.declared.refusal.BenchKind.TheVariants.{TooMany, NoInput, NoOutput, Undefined}
-use Rattle.bench_text.specs.Bytes.{code, lines, is_allowed}
-use Rattle.bench_text.specs.Tokens.{Token, Word, Open, Close, Comma, Equals, is_word_byte, tokens}
-use Rattle.bench_text.specs.Keywords.{word}
-use Rattle.bench_text.specs.Forms.{Statement, Nothing, Input, Output, Definition, statement}
-use Rattle.bench_text.specs.Refusals.{longest, is_short, says, own_fault, gate_fault, fault, has_reserved_name, defines_one_of, names_of}
+use Rattle.bench_text.specs.declared.refusal.BenchKind.TheVariants.{Undefined}
+use Rattle.bench_text.specs.Tokens.{is_word_byte}
+use Rattle.bench_text.specs.Forms.{Statement, Nothing, Input, Output, Definition}
+use Rattle.bench_text.specs.Refusals.{says, own_fault, has_reserved_name, defines_one_of}
 use Rattle.bench_text.specs.Said.{Said, noted_at, noted, statements_of}
-use Rattle.bench_text.specs.Texts.{said, statements, input, defined, output, inputs_of, definitions_of, signals_of, first_fault}
-use Rattle.bench_text.specs.Sights.{AreDistinct, name_at, with_name, distinct}
-use Rattle.bench_text.specs.Whole.{outputs_of, reads_from, most_signals, refused, whole_fault, or_else, refusal, notes}
-use Rattle.bench_text.specs.Netlists.{id_of, equation, netlist_of}
-use Rattle.bench_text.specs.Reading.{netlist_in}
-use Rattle.bench_text.specs.Canonical.{port_line, further, pin_list, definition_line, equation_line, canonical_lines, canonical}
-use Rattle.bench_text.specs.Laws.{is_free, Fits, CanonicalTextIsRead}
-use Rattle.bench_text.specs.Written.{IsWritable}
-use Rattle.bench_text.proofs.Plain.{is_plain, IsRun, Says}
-use Rattle.bench_text.proofs.Lists.{both_true, or_false, list_any-append, list_all-map, all_append, flat_map-push, got_push, get_front, get_last, get_back, got_map, get_map, some-any, some_same, name_same, same_or_not, false_if, index-all}
-use Rattle.bench_text.proofs.Runs.{either}
-use Rattle.bench_text.proofs.LineLemmas.{says-it, own_fault-gate, le_true}
+use Rattle.bench_text.specs.Texts.{said, input, defined, inputs_of, definitions_of, signals_of, first_fault}
+use Rattle.bench_text.specs.Sights.{AreDistinct}
+use Rattle.bench_text.specs.Whole.{outputs_of, reads_from, most_signals, refused, whole_fault}
+use Rattle.bench_text.proofs.Plain.{is_plain, IsRun}
+use Rattle.bench_text.proofs.Lists.{both_true, list_any-append, flat_map-push, get_front, get_back, false_if}
 use Rattle.bench_text.proofs.FaultLemmas.{fault-none, said-says}
 use Rattle.bench_text.proofs.LinesReadLemmas.{first_fault-fine, first_fault-none}
-use Rattle.bench_text.proofs.DraftLemmas.{at_name}
 use Rattle.bench_text.proofs.WholeLemmas.{lt_false}
-use Rattle.bench_text.proofs.FormedLemmas.{any-got, contains-got, got-contains, got-all, id-at}
-use Rattle.bench_text.proofs.WriteLemmas.{signal-below, definition-writable, outputs-writable}
-use Rattle.bench_text.proofs.CanonicalLemmas.{tokens-front, tokens-blank, tokens-comma, tokens-equals, tokens-open, tokens-last, no_word, regroup, port-tokens, gate-name, input-name, output-name, plain-code, plain-port, plain-definition, input-says, output-says, definition-says, ended-again}
+use Rattle.bench_text.proofs.FormedLemmas.{any-got}
 
 -- lists, element by element
 pub all-index : {A : Type 0} (P : A → Type 0) (xs : List A) → All P xs → AllByRecursion P xs

@@ -1,6 +1,6 @@
 -- What the reading of a text answers.
-use Rattle.std.proofs.Common.{◌≡◌, ◌<◌, ◌≤◌, ◌⊎◌, inl, inr, ℕ, Bool, true, false, List, [], ◌∷◌, ◌++◌, length, refl, sym, ap, ◌∙◌, map, subst, arith, length-append}
-use Rattle.std.specs.Prelude.{Option, Some, None, Ok, Err, fold, if◌then◌else◌, unwrap_or}
+use Rattle.std.proofs.Common.{◌≡◌, ◌<◌, ◌≤◌, ℕ, Bool, true, false, List, [], ◌∷◌, ◌++◌, length, refl, sym, ap, ◌∙◌, map, subst, arith, length-append}
+use Rattle.std.specs.Prelude.{Option, Some, None, Ok, Err, fold, if◌then◌else◌}
 use Rattle.std.specs.List.{list_all, list_any, AllByRecursion, Contains}
 use Rattle.std.specs.Str.{bytes_eq}
 use Rattle.std.proofs.lemmas.List.{length-map}
@@ -10,21 +10,20 @@ use Rattle.netlist.specs.declared.netlists.NetRefusal.TheVariants as net
 use Rattle.netlist.specs.Netlist.{Netlist, signals, IsOnLoop}
 use Rattle.netlist.specs.Conditions.{whole, IsWellFormed, IsSound, IsCause, IsRead as IsNeeded}
 use Rattle.bench_text.specs.declared.refusal.Names.{Names}
-use Rattle.bench_text.specs.declared.refusal.BenchKind.TheVariants.{Loop}
 use Rattle.bench_text.specs.declared.refusal.BenchRefusal.{BenchRefusal}
 use Rattle.bench_text.specs.declared.refusal.BenchFault.{BenchFault}
 use Rattle.bench_text.specs.declared.refusal.BenchFault.TheVariants.{NoMemory, Refused}
 use Rattle.bench_text.specs.declared.draft.Draft.{Draft}
 use Rattle.bench_text.specs.Bytes.{lines}
 use Rattle.bench_text.specs.Forms.{Statement}
-use Rattle.bench_text.specs.Said.{Said, noted, statements_of}
-use Rattle.bench_text.specs.Texts.{said, statements, inputs_of, signals_of, first_fault}
+use Rattle.bench_text.specs.Said.{Said, statements_of}
+use Rattle.bench_text.specs.Texts.{statements, inputs_of, signals_of, first_fault}
 use Rattle.bench_text.specs.Sights.{AreDistinct, with_name, distinct}
-use Rattle.bench_text.specs.Whole.{outputs_of, reads_from, most_signals, whole_fault, or_else, notes, refusal}
+use Rattle.bench_text.specs.Whole.{outputs_of, reads_from, whole_fault, or_else, notes, refusal}
 use Rattle.bench_text.specs.LinesRead.{AreLinesRead}
 use Rattle.bench_text.specs.Netlists.{id_of, netlist_of}
 use Rattle.bench_text.specs.Drafted.{said_in, signals_in}
-use Rattle.bench_text.specs.Reading.{netlist_in, IsFirstOnLoop, IsLeft, IsLoopFault, IsRefused, IsRead}
+use Rattle.bench_text.specs.Reading.{IsFirstOnLoop, IsLeft, IsLoopFault, IsRefused, IsRead}
 use Rattle.bench_text.proofs.Lists.{list_all-map}
 use Rattle.bench_text.proofs.WholeLemmas.{whole-none, most-most}
 use Rattle.bench_text.proofs.PartLemmas.{signals-distinct}

@@ -1,5 +1,5 @@
 -- The roles of names, as names are seen and defined.
-use Rattle.std.proofs.Common.{◌≡◌, ◌≢◌, ◌⊎◌, inl, inr, ℕ, zero, suc, List, [], ◌∷◌, ◌++◌, length, set, refl, sym, ap, ◌∙◌, ⊎_elim}
+use Rattle.std.proofs.Common.{◌≡◌, ◌≢◌, ◌⊎◌, inl, inr, ℕ, List, [], ◌∷◌, ◌++◌, length, set, sym, ap, ◌∙◌}
 use Rattle.std.specs.Prelude.{Some, slice_get}
 use Rattle.bench_text.specs.declared.numbered.Role.{Role}
 use Rattle.bench_text.specs.declared.numbered.Role.TheVariants.{Read}

@@ -1,6 +1,6 @@
 -- The canonical text of a netlist is read again as that netlist.
-use Rattle.std.proofs.Common.{◌≡◌, ◌≢◌, ◌<◌, ◌≤◌, ◌+◌, ◌⊎◌, inl, inr, ℕ, Bool, true, false, not, cond, List, [], ◌∷◌, ◌++◌, length, get_or, refl, sym, ap, ◌∙◌, map, subst, append_assoc, append-nil, arith, ⊎_elim}
-use Rattle.std.specs.Prelude.{Option, Some, None, slice_get, fold, nat_lt, nat_le, ◌&&◌, ◌||◌, codes, IsTrue, if◌then◌else◌}
+use Rattle.std.proofs.Common.{◌≡◌, ◌≢◌, ◌<◌, ◌≤◌, ◌+◌, ◌⊎◌, inl, inr, ℕ, Bool, true, false, not, List, [], ◌∷◌, ◌++◌, length, get_or, refl, sym, ap, ◌∙◌, map, subst, append_assoc, append-nil, arith, ⊎_elim}
+use Rattle.std.specs.Prelude.{Some, None, slice_get, fold, nat_lt, nat_le, ◌&&◌, codes, IsTrue, if◌then◌else◌}
 use Rattle.std.specs.List.{list_all, list_any, flat_map, All, AllPairs, AllByRecursion, Contains}
 use Rattle.std.specs.Str.{bytes_eq}
 use Rattle.std.proofs.lemmas.List.{length-map, map-append}
@@ -16,23 +16,22 @@ use Rattle.netlist.specs.Conditions.{IsSound, IsRead}
 use Rattle.bench_text.specs.declared.refusal.Names.{Names}
 use Rattle.bench_text.specs.declared.refusal.Names.TheVariants.{Design, Scanned}
 use Rattle.bench_text.specs.declared.refusal.BenchKind.TheVariants.{BadPins}
-use Rattle.bench_text.specs.Bytes.{code, lines}
-use Rattle.bench_text.specs.Tokens.{Token, Word, Open, Close, Comma, Equals, tokens}
+use Rattle.bench_text.specs.Bytes.{lines}
+use Rattle.bench_text.specs.Tokens.{Word, Comma, Equals, tokens}
 use Rattle.bench_text.specs.Keywords.{word}
-use Rattle.bench_text.specs.Forms.{Statement, Nothing, Input, Output, Definition, statement}
+use Rattle.bench_text.specs.Forms.{Statement, Input, Output, Definition}
 use Rattle.netlist.specs.Designs.{is_reserved}
 use Rattle.bench_text.specs.Refusals.{longest, is_short, gate_fault, has_reserved_name, names_of}
 use Rattle.bench_text.specs.Said.{Said, noted_at, noted, statements_of}
 use Rattle.bench_text.specs.Texts.{said, statements, input, defined, output, inputs_of, definitions_of, signals_of, first_fault}
 use Rattle.bench_text.specs.Sights.{AreDistinct, name_at, with_name, distinct}
-use Rattle.bench_text.specs.Whole.{outputs_of, reads_from, most_signals, whole_fault, or_else, refusal, notes}
+use Rattle.bench_text.specs.Whole.{outputs_of, reads_from, whole_fault, or_else, refusal, notes}
 use Rattle.bench_text.specs.Netlists.{id_of, equation, netlist_of}
 use Rattle.bench_text.specs.Reading.{netlist_in}
 use Rattle.bench_text.specs.Canonical.{port_line, further, pin_list, definition_line, equation_line, canonical_lines, canonical}
-use Rattle.bench_text.specs.Laws.{is_free, Fits, CanonicalTextIsRead}
-use Rattle.bench_text.specs.Written.{IsWritable}
+use Rattle.bench_text.specs.Laws.{is_free, Fits}
 use Rattle.bench_text.proofs.Plain.{is_plain, IsRun, Says}
-use Rattle.bench_text.proofs.Lists.{list_all-map, all_append, index-all, get_front, get_back, get_map, got_map, some-any, some_same, name_same, false_if, same_or_not}
+use Rattle.bench_text.proofs.Lists.{list_all-map, all_append, index-all, get_front, get_back, got_map, some-any, some_same, name_same, false_if}
 use Rattle.bench_text.proofs.LineLemmas.{says-it, own_fault-gate, le_true}
 use Rattle.bench_text.proofs.DraftLemmas.{at_name}
 use Rattle.bench_text.proofs.FormedLemmas.{any-got, contains-got, got-contains, got-all, id-at}

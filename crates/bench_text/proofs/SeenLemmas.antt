@@ -1,7 +1,7 @@
 -- A name more, and what stays.
 use denote.Ref.{Bor}
-use Rattle.std.proofs.Common.{◌≡◌, ◌≢◌, ◌<◌, ◌≤◌, ◌+◌, ◌⊎◌, inl, inr, ℕ, zero, suc, Bool, true, false, List, [], ◌∷◌, ◌++◌, length, take, get_or, refl, sym, ap, ◌∙◌, map, append-nil, arith, length-append, ⊎_elim}
-use Rattle.std.specs.Prelude.{Option, Some, None, slice_get, unwrap_or, nat_lt, nat_eq, ◌&&◌, if◌then◌else◌}
+use Rattle.std.proofs.Common.{◌≡◌, ◌<◌, ◌≤◌, ◌+◌, ◌⊎◌, inl, inr, ℕ, Bool, true, false, List, [], ◌∷◌, ◌++◌, length, take, get_or, refl, sym, ap, ◌∙◌, map, arith, length-append, ⊎_elim}
+use Rattle.std.specs.Prelude.{Some, slice_get, unwrap_or, nat_lt, nat_eq, if◌then◌else◌}
 use Rattle.std.specs.List.{list_any, list_all}
 use Rattle.std.specs.Str.{bytes_eq}
 use Rattle.std.proofs.lemmas.List.{map-append, map_push, take_more}
@@ -18,9 +18,9 @@ use Rattle.bench_text.specs.Stated.{names}
 use Rattle.bench_text.specs.Forms as forms
 use Rattle.netlist.specs.declared.kinds.Kind.{Kind}
 use Rattle.smallvec.specs.SmallVec.{SmallVec}
-use Rattle.bench_text.specs.Sights.{AreDistinct, name_at, with_name, IsNumber}
+use Rattle.bench_text.specs.Sights.{AreDistinct, name_at, IsNumber}
 use Rattle.bench_text.specs.Numbered.{spelled, spelled_entry, numbers, are_below, with_role, IsDraft}
-use Rattle.bench_text.specs.Drafted.{seen, said_in, Keeps, AreNumbers}
+use Rattle.bench_text.specs.Drafted.{Keeps, AreNumbers}
 use Rattle.bench_text.proofs.Lists.{both_true, got_push, get_front, some-any, name_same}
 use Rattle.bench_text.proofs.Runs.{either}
 use Rattle.bench_text.proofs.DraftLemmas.{at_name}

@@ -1,6 +1,6 @@
 -- Names in the order of first sight.
 use denote.Ref.{Bor}
-use Rattle.std.proofs.Common.{◌≡◌, ℕ, zero, suc, Bool, true, false, List, [], ◌∷◌, ◌++◌, refl, sym, ap, ◌∙◌, map}
+use Rattle.std.proofs.Common.{◌≡◌, ℕ, zero, suc, Bool, true, false, List, [], ◌∷◌, ◌++◌, refl, sym, ap, ◌∙◌}
 use Rattle.std.specs.Prelude.{Some, slice_get, option_map, if◌then◌else◌}
 use Rattle.std.specs.List.{list_any, IsDistinct, AllByRecursion}
 use Rattle.std.specs.Str.{bytes_eq}
@@ -8,7 +8,7 @@ use Rattle.std.proofs.lemmas.List.{map_push}
 use Rattle.std.proofs.lemmas.Option.{slice_get-map}
 use Rattle.std.proofs.lemmas.Map.Keys.{IsDistinct-head, IsDistinct-tail}
 use Rattle.bench_text.specs.Stated.{names}
-use Rattle.bench_text.specs.Sights.{AreDistinct, with_name, IsNumber}
+use Rattle.bench_text.specs.Sights.{AreDistinct, IsNumber}
 use Rattle.bench_text.proofs.Lists.{list_any-names, same_name, name_same}
 
 abbrev same : Bor (List ℕ) → Bor (List ℕ) → Bool

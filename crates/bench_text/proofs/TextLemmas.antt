@@ -1,10 +1,13 @@
 -- The lines of a text.
 use Rattle.std.proofs.Common.{◌≡◌, ◌<◌, ◌≤◌, ◌+◌, ℕ, suc, Bool, true, false, not, cond, List, [], ◌∷◌, length, take, drop, refl, sym, ap, ◌∙◌, arith, ⊎_elim, take_all, drop-drop}
-use Rattle.std.specs.Prelude.{Some, None, nat_lt, position, ◌==◌}
+use Rattle.std.specs.Prelude.{Option, Some, None, nat_lt, position, ◌==◌}
 use Rattle.std.specs.List.{prefix_len, onto_first}
 use Rattle.std.proofs.lemmas.Bool.Decides.{nat_tests}
 use Rattle.std.proofs.lemmas.List.{at_drop_all}
+use Rattle.std.proofs.lemmas.List.Sums.{position_or_len_is}
+use Rattle.memchr.specs.Find.{IsFirstByte, is_byte}
 use Rattle.bench_text.specs.Bytes.{lines}
+use Rattle.bench_text.proofs.Lists.{false_if}
 use Rattle.bench_text.proofs.Runs.{either}
 use Rattle.bench_text.proofs.LineLemmas.{no_place}
 
@@ -68,6 +71,19 @@ all_at bs a c e k f g =
     let whole : a ≡ bs = f ∙ take_all (length bs) bs (omega arith) in
     let nothing : c ≡ [] = g ∙ at_drop_all (λ l. l) bs (length bs) (omega arith) in
     lines-last bs (no_place _ _ (sym e)) k ∙ (λ j. sym whole j ∷ sym (ap lines nothing ∙ lines-none) j)
+
+-- what the search for a byte finds is its first place
+found : (n m k : ℕ) → n ≡ k → k < m → Some k ≡ cond (nat_lt n m) (Some n) None
+found n m k e h = let t : nat_lt n m ≡ true = grind (arith, nat_tests) in rw t (ap (λ i. Some i) (sym e))
+
+missed : (n m : ℕ) → n ≡ m → None ≡ cond (nat_lt n m) (Some n) None
+missed n m e = let f : nat_lt n m ≡ false = grind (arith, nat_tests) in rw f refl
+
+pub first-place : (bs : List ℕ) (r : Option ℕ) → IsFirstByte (is_byte 10) bs r → r ≡ position (λ b. b == 10) bs
+first-place bs None h =
+    missed _ _ (position_or_len_is (λ b. b == 10) bs (length bs) 0 (omega arith) (λ k l. false_if _ (h k (omega arith) l)) (λ l. absurd (omega (arith, l))))
+first-place bs (Some k) h =
+    found _ _ k (position_or_len_is (λ b. b == 10) bs k 0 (omega (arith, h.0.high)) (λ j l. false_if _ (h.0.before j (omega arith) l)) (λ _. h.1)) h.0.high
 
 -- a text has no more lines than bytes
 onto-length : (b : ℕ) (ls : List (List ℕ)) → length (onto_first b ls) ≤ 1 + length ls

@@ -8,17 +8,15 @@ use Rattle.std.proofs.lemmas.List.{length-map}
 use Rattle.bench_text.specs.declared.refusal.Names.{Names}
 use Rattle.bench_text.specs.declared.refusal.Names.TheVariants.{Design, Scanned}
 use Rattle.bench_text.specs.declared.refusal.BenchKind.TheVariants.{TooMany, NoInput, NoOutput, Undefined}
-use Rattle.bench_text.specs.declared.refusal.BenchRefusal.{BenchRefusal}
 use Rattle.bench_text.specs.declared.numbered.Role.{Role}
 use Rattle.bench_text.specs.declared.numbered.Entry.{Entry}
 use Rattle.bench_text.specs.declared.numbered.Numbered.{Numbered}
 use Rattle.bench_text.specs.declared.numbered.Numbered.TheVariants.{Definition}
 use Rattle.netlist.specs.declared.kinds.Kind.{Kind}
 use Rattle.smallvec.specs.SmallVec.{SmallVec}
-use Rattle.bench_text.specs.Forms.{Statement}
 use Rattle.bench_text.specs.Said.{Said, statements_of}
-use Rattle.bench_text.specs.Texts.{inputs_of, definitions_of, signals_of}
-use Rattle.bench_text.specs.Sights.{name_at, distinct, with_name}
+use Rattle.bench_text.specs.Texts.{inputs_of, signals_of}
+use Rattle.bench_text.specs.Sights.{name_at}
 use Rattle.bench_text.specs.Numbered.{spelled, spelled_entry, input_numbers, output_numbers, with_number, IsDraft}
 use Rattle.bench_text.specs.Whole.{outputs_of, reads_from, most_signals, refused, whole_fault}
 use Rattle.bench_text.proofs.Lists.{list_all-map}

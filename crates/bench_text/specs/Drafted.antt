@@ -1,6 +1,5 @@
 -- What the lines read so far say.
-use Rattle.std.specs.Prelude.{ℕ, ◌≡◌, Bool, true, List, map, length, nat_lt, Option, Some, None, slice_get}
-use Rattle.std.specs.List.{list_all}
+use Rattle.std.specs.Prelude.{ℕ, ◌≡◌, Bool, true, List, map, length, Option, Some, None, slice_get}
 use Rattle.bench_text.specs.declared.draft.Draft.{Draft}
 use Rattle.bench_text.specs.declared.numbered.Numbered.{Numbered}
 use Rattle.bench_text.specs.Stated.{names}

@@ -1,6 +1,6 @@
 //! The lines read so far.
 
-ghost use Rattle.std.specs.Prelude.{◌≡◌, ◌<◌, ◌^◌, ◌+◌, [], ◌∷◌, ◌++◌, true, false, length, map, IfOk, Some, slice_get, nat_lt};
+ghost use Rattle.std.specs.Prelude.{◌≡◌, ◌<◌, ◌^◌, ◌+◌, [], ◌∷◌, ◌++◌, true, false, length, map, IfOk, OnOk, vec_len, vec_capacity, Some, slice_get, nat_lt};
 ghost use Rattle.std.specs.List.{list_any, list_all};
 ghost use Rattle.std.specs.Str.{bytes_eq};
 ghost use Rattle.bench_text.specs.declared.numbered.Numbered.TheVariants.{Input, Output, Definition};
@@ -36,14 +36,14 @@ pub struct Draft<'a> {
     ghost sound: { IsDraft (names sights.names.keys) roles.items entries.items inputs.items definitions.items outputs.keys },
 }
 
-/// The roles with that of a name, which is a new one where it has the next number.
-fn with_role(mut roles: Vec<Role>, number: usize) -> Result<Vec<Role>, AllocError>
-    ensures { IfOk result (λ r. r.items ≡ with_role roles.items number) }
+/// Gives a name that has the next number its role, which is none so far.
+fn see(roles: &mut Vec<Role>, number: usize)
+    requires { vec_len roles.old < vec_capacity roles.old }
+    ensures { roles.new.items ≡ with_role roles.old.items number }
 {
     if number == roles.len() {
-        roles.push(Role::Read)?;
+        roles.push_reserved(Role::Read);
     }
-    Ok(roles)
 }
 
 impl<'a> Draft<'a> {
@@ -72,93 +72,67 @@ impl<'a> Draft<'a> {
     }
 
     /// The number of a name.
-    fn number(self, name: &'a [u8]) -> Result<(Draft<'a>, usize), AllocError>
-        ensures keeps { IfOk result (λ p. Keeps self.entry p.0) }
-        ensures number { IfOk result (λ p. slice_get (seen p.0) p.1 ≡ Some name.now) }
+    fn number(&mut self, name: &'a [u8]) -> Result<usize, AllocError>
+        ensures keeps { OnOk result (Keeps self.old self.new) }
+        ensures number { IfOk result (λ n. slice_get (seen self.new) n ≡ Some name.now) }
     {
-        let Draft {
-            mut sights,
-            roles,
-            entries,
-            inputs,
-            definitions,
-            outputs,
-            lines,
-        } = self;
-        let number = sights.number(name)?;
-        let roles = with_role(roles, number)?;
-        let draft = Draft {
-            sights,
-            roles,
-            entries,
-            inputs,
-            definitions,
-            outputs,
-            lines,
-        };
-        Ok((draft, number))
+        self.roles.reserve(1)?;
+        let number = self.sights.number(name)?;
+        see(&mut self.roles, number);
+        Ok(number)
     }
 
     /// The numbers of a gate's pins.
     fn number_all(
-        self,
+        &mut self,
         alloc: Global,
         pins: &[&'a [u8]],
-    ) -> Result<(Draft<'a>, SmallVec<usize, 4>), AllocError>
-        ensures keeps { IfOk result (λ p. Keeps self.entry p.0) }
-        ensures numbers { IfOk result (λ p. AreNumbers (seen p.0) p.1.items (names pins.now)) }
+    ) -> Result<SmallVec<usize, 4>, AllocError>
+        ensures keeps { OnOk result (Keeps self.old self.new) }
+        ensures numbers { IfOk result (λ ns. AreNumbers (seen self.new) ns.items (names pins.now)) }
     {
-        let mut draft = self;
         let mut numbers = SmallVec::new(alloc);
         for pin in pins {
-            let (next, number) = draft.number(pin)?;
-            draft = next;
+            let number = self.number(pin)?;
             numbers.push(number)?;
         }
-        Ok((draft, numbers))
+        Ok(numbers)
     }
 
     /// A definition by numbers.
     fn numbered_definition(
-        self,
+        &mut self,
         alloc: Global,
         name: &'a [u8],
         kind: Kind,
         pins: &[&'a [u8]],
-    ) -> Result<(Draft<'a>, Numbered), AllocError>
-        ensures keeps { IfOk result (λ p. Keeps self.entry p.0) }
-        ensures same { IfOk result (λ p. spelled (seen p.0) p.1 ≡ forms.Definition name.now (Some kind) (names pins.now)) }
-        ensures seen { IfOk result (λ p. are_below (length (seen p.0)) p.1 ≡ true) }
+    ) -> Result<Numbered, AllocError>
+        ensures keeps { OnOk result (Keeps self.old self.new) }
+        ensures same { IfOk result (λ s. spelled (seen self.new) s ≡ forms.Definition name.now (Some kind) (names pins.now)) }
+        ensures seen { IfOk result (λ s. are_below (length (seen self.new)) s ≡ true) }
     {
-        let (draft, number) = self.number(name)?;
-        let (draft, pins) = draft.number_all(alloc, pins)?;
-        Ok((draft, Numbered::Definition(number, kind, pins)))
+        let number = self.number(name)?;
+        let pins = self.number_all(alloc, pins)?;
+        Ok(Numbered::Definition(number, kind, pins))
     }
 
     /// A statement by numbers. `None`: it says nothing.
     fn numbered(
-        self,
+        &mut self,
         alloc: Global,
         statement: &Statement<'a>,
-    ) -> Result<(Draft<'a>, Option<Numbered>), AllocError>
+    ) -> Result<Option<Numbered>, AllocError>
         requires { has_unknown_gate (stated statement.now) ≡ false }
-        ensures keeps { IfOk result (λ p. Keeps self.entry p.0) }
-        ensures same { IfOk result (λ p. spelled_if_any (seen p.0) p.1 ≡ stated statement.now) }
-        ensures seen { IfOk result (λ p. are_seen p.0 p.1 ≡ true) }
+        ensures keeps { OnOk result (Keeps self.old self.new) }
+        ensures same { IfOk result (λ s. spelled_if_any (seen self.new) s ≡ stated statement.now) }
+        ensures seen { IfOk result (λ s. are_seen self.new s ≡ true) }
     {
         match statement {
-            Statement::Nothing => Ok((self, None)),
-            Statement::Input(x) => {
-                let (draft, number) = self.number(x)?;
-                Ok((draft, Some(Numbered::Input(number))))
-            }
-            Statement::Output(x) => {
-                let (draft, number) = self.number(x)?;
-                Ok((draft, Some(Numbered::Output(number))))
-            }
+            Statement::Nothing => Ok(None),
+            Statement::Input(x) => Ok(Some(Numbered::Input(self.number(x)?))),
+            Statement::Output(x) => Ok(Some(Numbered::Output(self.number(x)?))),
             Statement::Definition(z, Some(kind), pins) => {
-                let (draft, definition) = self.numbered_definition(alloc, z, *kind, pins)?;
-                Ok((draft, Some(definition)))
+                Ok(Some(self.numbered_definition(alloc, z, *kind, pins)?))
             }
             Statement::Definition(_, None, _) => unreachable!(),
         }
@@ -319,6 +293,7 @@ impl<'a> Draft<'a> {
     }
 
     /// Adds a line, unless it is faulty.
+    #[inline(always)]
     pub fn add_line(
         self,
         alloc: Global,
@@ -331,7 +306,8 @@ impl<'a> Draft<'a> {
         ensures fault { IsFault (fault reading (signals_in self.entry) line.now) result }
     {
         let statement = read_line(alloc, reading, line)?;
-        let (draft, numbered) = self.numbered(alloc, &statement)?;
+        let mut draft = self;
+        let numbered = draft.numbered(alloc, &statement)?;
         if draft.defines_again(&numbered) {
             return Err(LineFault::Refused(BenchKind::DefinedTwice));
         }

@@ -7,6 +7,7 @@ ghost use Rattle.bench_text.specs.LinesRead.{AreLinesRead};
 
 use crate::draft::Draft;
 use crate::refusal::{BenchFault, BenchRefusal, LineFault, Names};
+use memchr::memchr;
 use std::alloc::Global;
 
 impl LineFault {
@@ -24,7 +25,7 @@ impl LineFault {
 fn line_end(bytes: &[u8]) -> Option<usize>
     ensures { result ≡ position (λ b. b == 10) bytes.now }
 {
-    bytes.iter().position(|b| *b == b'\n')
+    memchr(b'\n', bytes)
 }
 
 /// The first line, and the bytes after it.

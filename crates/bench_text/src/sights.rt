@@ -1,6 +1,6 @@
 //! Names, numbered in the order of first sight.
 
-ghost use Rattle.std.specs.Prelude.{◌≡◌, ◌<◌, [], length, IfOk, OnOk, slice_get, Some};
+ghost use Rattle.std.specs.Prelude.{◌≡◌, ◌<◌, [], length, IfOk, OnOk, OnErr, slice_get, Some};
 ghost use Rattle.bench_text.specs.Stated.{names};
 ghost use Rattle.bench_text.specs.Sights.{AreDistinct, IsNumber};
 
@@ -25,6 +25,7 @@ impl<'a> Sights<'a> {
     /// The number of a name, which is a new one at first sight.
     pub fn number(&mut self, name: &'a [u8]) -> Result<usize, AllocError>
         ensures number { IfOk result (IsNumber (names self.old.names.keys) (names self.new.names.keys) name.now) }
+        ensures same { OnErr result (self.new.names.keys ≡ self.old.names.keys) }
         ensures distinct { OnOk result (AreDistinct (names self.new.names.keys)) }
     {
         let (number, _) = self.names.insert_full(name)?;

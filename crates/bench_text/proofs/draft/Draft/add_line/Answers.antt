@@ -14,17 +14,17 @@ numbered-requires c = let read = c.in_ok-statement.ensures in known-gate _ _ _ r
 pub returns-then-defines_again-clause-fault : goal.returns-then-defines_again-clause-fault
 returns-then-defines_again-clause-fault c =
     let read = c.in_ok-statement.ensures in
-    let again = tested _ _ _ _ _ _ (signals-kept c.args.self _ c.in_ok-draft.ensures.keeps) c.in_ok-draft.ensures.same c.defines_again.ensures c.if-defines_again.true in
+    let again = tested _ _ _ _ _ _ (signals-kept c.args.self _ c.in_ok-numbered.ensures.keeps) c.in_ok-numbered.ensures.same c.defines_again.ensures c.if-defines_again.true in
     fault-twice _ _ _ _ read.1 read.0 again
 
 pub returns-then-reserves-clause-fault : goal.returns-then-reserves-clause-fault
 returns-then-reserves-clause-fault c =
     let read = c.in_ok-statement.ensures in
-    let first = tested _ _ _ _ _ _ (signals-kept c.args.self _ c.in_ok-draft.ensures.keeps) c.in_ok-draft.ensures.same c.defines_again.ensures c.if-defines_again.false in
+    let first = tested _ _ _ _ _ _ (signals-kept c.args.self _ c.in_ok-numbered.ensures.keeps) c.in_ok-numbered.ensures.same c.defines_again.ensures c.if-defines_again.false in
     fault-reserved _ _ _ _ read.1 read.0 first (sym c.reserves.ensures ∙ c.if-reserves.true)
 
 pub returns-clause-fault : goal.returns-clause-fault
 returns-clause-fault c =
     let read = c.in_ok-statement.ensures in
-    let first = tested _ _ _ _ _ _ (signals-kept c.args.self _ c.in_ok-draft.ensures.keeps) c.in_ok-draft.ensures.same c.defines_again.ensures c.if-defines_again.false in
+    let first = tested _ _ _ _ _ _ (signals-kept c.args.self _ c.in_ok-numbered.ensures.keeps) c.in_ok-numbered.ensures.same c.defines_again.ensures c.if-defines_again.false in
     fault-none _ _ _ _ read.1 read.0 first (sym c.reserves.ensures ∙ c.if-reserves.false)

@@ -5,6 +5,6 @@ use Rattle.bench_text.proofs.draft.Draft.number_all.Given as goal
 
 abbrev pub invariant-loop-pin : goal.invariant-loop-pin
 invariant-loop-pin l = record {
-  keeps : Keeps l.fn.self l.draft;
-  numbers : AreNumbers (seen l.draft) l.numbers.items (names (take l.pin-index l.pins));
+  keeps : Keeps l.fn.self l.self;
+  numbers : AreNumbers (seen l.self) l.numbers.items (names (take l.pin-index l.pins));
 }

@@ -1,4 +1,4 @@
-use Rattle.std.proofs.Common.{Bor, List, ℕ, arith, sym, ap, ◌∙◌}
+use Rattle.std.proofs.Common.{Bor, List, ℕ, arith, sym, ap}
 use Rattle.std.specs.Prelude.{unwrap_or, [], length}
 use Rattle.std.proofs.lemmas.List.{length-map}
 use Rattle.bench_text.specs.Sights.{name_at}
