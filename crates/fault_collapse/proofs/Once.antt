@@ -119,7 +119,7 @@ module _ (n : Netlist) where
         let count = same_count in
         let k : class < length d.representatives = omega arith in
         let here : slice_get (universe_of n) (p.first class l).place ≡ Some (get_or d.representatives class blank) =
-            ap (slice_get (universe_of n)) (same_place class l k) ∙ first_at d q class k in
+        ap (slice_get (universe_of n)) (same_place class l k) ∙ first_at d q class k in
         sym (get_or_from_slice_get (universe_of n) (p.first class l).place _ blank (first_at c p class l)) ∙ get_or_from_slice_get (universe_of n) (p.first class l).place _ blank here
 
     pub same_classes : c ≡ d
