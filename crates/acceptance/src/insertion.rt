@@ -1,80 +1,46 @@
-// Scan insertion: both sides of its laws, computed on s27 with a fault on each line; names of sites and pins.
+// Scan insertion: both sides of its laws, computed on s27 with a fault on each line; sites of lines, and names of pins.
 ghost use Rattle.std.specs.Prelude.{◌≡◌, ◌<◌, ◌≤◌, IfOk, length};
 ghost use Rattle.netlist.specs.Designs.{IsDesign};
 ghost use Rattle.netlist.specs.Netlist.{signals};
-ghost use Rattle.scan_insert.specs.Scanned.{AreChainsOf, line_signal};
+ghost use Rattle.scan_insert.specs.Scanned.{line_signal};
 
-use bench_text::{BenchFault, Names, read, write};
-use chain_stitch::{Chains, stitch};
+use crate::netlists::{BOTH, S27, design};
+use chain_stitch::stitch;
+use fault_universe::signal_count;
 use netlist::{Core, Fault, Line, Netlist, NoMemory, SignalId, Values};
 use scan_insert::{Scanned, insert, pin_name};
 use std::alloc::{AllocError, Global};
 use std::process::Abort;
 use std::test::Fail;
 
-const S27: &[u8] = b"\
-INPUT(G0)
-INPUT(G1)
-INPUT(G2)
-INPUT(G3)
-OUTPUT(G17)
-G5 = DFF(G10)
-G6 = DFF(G11)
-G7 = DFF(G13)
-G14 = NOT(G0)
-G17 = NOT(G11)
-G8 = AND(G14, G6)
-G15 = OR(G12, G8)
-G16 = OR(G3, G8)
-G9 = NAND(G16, G15)
-G10 = NOR(G14, G11)
-G11 = NOR(G5, G9)
-G12 = NOR(G1, G7)
-G13 = NOR(G2, G12)
-";
-
-/// A signal that is both an input and an output, beside a cell.
-const BOTH: &[u8] = b"\
-INPUT(a)
-OUTPUT(a)
-OUTPUT(q)
-q = DFF(a)
-";
-
-const NO_CELLS: &[u8] = b"\
-INPUT(a)
-OUTPUT(y)
-y = NOT(a)
-";
-
-/// Where the chains of s27 begin and end among its cells, one chain and two.
-const CHAINS: [&[(usize, usize)]; 2] = [&[(0, 2)], &[(0, 1), (2, 2)]];
-
-/// How many signals a netlist has.
-fn signal_count(netlist: &Netlist) -> usize
-    ensures { result ≡ length (signals netlist.now) }
-{
-    netlist.inputs().len() + netlist.definitions().len()
+/// What a shift does to the three cells of s27. A bit is one of the scan inputs 0 and 1 or of the cells 2, 3 and 4.
+#[derive(Clone, Copy)]
+struct Shift {
+    chains: u32,
+    /// The bit that each cell takes.
+    taken: &'static [usize],
+    /// The bit that each scan output shows.
+    shown: &'static [usize],
 }
 
-/// The design of a text.
-fn design(alloc: Global, text: &[u8]) -> Result<Netlist, BenchFault>
-    requires { length text.now < 100000 }
-    ensures { IfOk result IsDesign }
-{
-    let netlist = read(alloc, text, Names::Design)?;
-    Ok(netlist)
-}
+const ONE_CHAIN: Shift = Shift {
+    chains: 1,
+    taken: &[0, 2, 3],
+    shown: &[4],
+};
 
-/// The chains of a netlist.
-fn chains_of(alloc: Global, netlist: &Netlist, asked: u32) -> Result<Chains, NoMemory>
-    requires some { 0 < asked }
-    requires small { length (signals netlist.now) ≤ 1000000 }
-    ensures { IfOk result (λ chains. AreChainsOf netlist.now chains) }
-{
-    netlist.sound();
-    let chains = stitch(alloc, netlist.cells(), asked)?;
-    Ok(chains)
+const TWO_CHAINS: Shift = Shift {
+    chains: 2,
+    taken: &[0, 2, 1],
+    shown: &[3, 4],
+};
+
+/// s27, its scanned netlist, and what a shift does.
+#[derive(Drop)]
+struct Pair {
+    design: Core,
+    scanned: Core,
+    shift: Shift,
 }
 
 /// The scanned netlist with so many chains.
@@ -84,7 +50,7 @@ fn scanned_with(alloc: Global, netlist: &Netlist, asked: u32) -> Result<Scanned,
     ensures { IfOk result (λ s. length s.sites ≡ length (signals netlist.now)) }
 {
     netlist.sound();
-    let chains = chains_of(alloc, netlist, asked)?;
+    let chains = stitch(alloc, netlist.cells(), asked)?;
     let scanned = insert(alloc, netlist, &chains)?;
     Ok(scanned)
 }
@@ -98,28 +64,22 @@ fn signal_of(line: &Line) -> SignalId
     }
 }
 
-/// Where a fault is in the scanned netlist.
-fn site(scanned: &Scanned, count: usize, fault: &Fault) -> Option<Fault>
-    requires { count ≡ length scanned.now.sites }
+/// The line that stands for a line of the netlist.
+fn site(netlist: &Netlist, scanned: &Scanned, line: &Line) -> Option<Line>
+    requires { length scanned.now.sites ≡ length (signals netlist.now) }
 {
-    let signal = signal_of(&fault.line);
-    if signal.index() >= count {
+    if signal_of(line).index() >= signal_count(netlist) as usize {
         return None;
     }
-    Some(Fault {
-        line: scanned.site_of(fault.line),
-        value: fault.value,
-    })
+    Some(scanned.site_of(*line))
 }
 
 /// Each line of a netlist: stems, pins and outputs.
-fn lines(alloc: Global, netlist: &Netlist) -> Result<Vec<Line>, AllocError>
-    requires { length (signals netlist.now) ≤ 1000000 }
-{
+fn lines(alloc: Global, netlist: &Netlist) -> Result<Vec<Line>, AllocError> {
     netlist.sound();
     let mut lines = Vec::new(alloc);
     for x in 0..signal_count(netlist) {
-        lines.push(Line::Stem(SignalId(x as u32)))?;
+        lines.push(Line::Stem(SignalId(x)))?;
     }
     for definition in netlist.definitions() {
         for k in 0..definition.pins().len() {
@@ -132,257 +92,206 @@ fn lines(alloc: Global, netlist: &Netlist) -> Result<Vec<Line>, AllocError>
     Ok(lines)
 }
 
-/// The lowest bits of a number, as many as asked for.
-fn bits(alloc: Global, number: u32, count: u32) -> Result<Vec<bool>, AllocError> {
-    (0..count)
-        .map(|k| number.checked_shr(k).unwrap_or(0) % 2 == 1)
-        .collect(alloc)
-}
-
-/// The settled bits.
+/// The bits that settle where the first of these are driven onto the inputs.
 fn settled(
     rt: &impl Abort,
     alloc: Global,
     core: &Core,
-    inputs: &[bool],
+    driven: &[bool],
     state: &[bool],
-    fault: &Option<Fault>,
+    fault: Option<Fault>,
 ) -> Result<Values, NoMemory> {
-    assert!(rt; inputs.len() == core.netlist().inputs().len());
-    assert!(rt; state.len() == core.netlist().cells().len());
-    core.eval(alloc, inputs, state, *fault)
+    let count = core.netlist().inputs().len();
+    assert!(rt; count <= driven.len());
+    assert!(rt; core.netlist().cells().len() == state.len());
+    core.eval(alloc, &driven[..count], state, fault)
 }
 
-/// What the cells hold after a shift.
-fn shifted(
-    alloc: Global,
-    chains: &[(usize, usize)],
-    scan_inputs: &[bool],
-    state: &[bool],
-) -> Result<Vec<bool>, AllocError> {
-    let mut after = Vec::new(alloc);
-    for (place, bit) in state.iter().enumerate() {
-        let _ = bit;
-        after.push(taken(chains, scan_inputs, state, place))?;
+/// Whether these are the bits at these places.
+fn are_at(found: &[bool], bits: &[bool], places: &[usize]) -> bool {
+    if found.len() != places.len() {
+        return false;
     }
-    Ok(after)
-}
-
-/// What the cell at a place takes: the bit of its chain's scan input, or that of the cell before.
-fn taken(chains: &[(usize, usize)], scan_inputs: &[bool], state: &[bool], place: usize) -> bool {
-    for ((first, _), bit) in chains.iter().zip(scan_inputs) {
-        if *first == place {
-            return *bit;
+    for (bit, place) in found.iter().zip(places) {
+        if bits.get(*place) != Some(bit) {
+            return false;
         }
     }
-    let before = place.saturating_sub(1);
-    state.get(before).copied().unwrap_or(false)
+    true
 }
 
-/// The outputs of the design, and the last bit of each chain.
-fn shown(
+/// Whether both sides of the laws agree where the bits of a number are driven: four inputs, three cells and the enable.
+fn agree(
+    rt: &impl Abort,
     alloc: Global,
-    outputs: &[bool],
-    chains: &[(usize, usize)],
-    state: &[bool],
-) -> Result<Vec<bool>, AllocError> {
-    let mut bits = outputs.to_vec(alloc)?;
-    for (_, last) in chains {
-        bits.push(state.get(*last).copied().unwrap_or(false))?;
-    }
-    Ok(bits)
-}
-
-/// A design and its scanned netlist.
-#[derive(Drop)]
-struct Pair {
-    design: Core,
-    scanned: Core,
-}
-
-/// A fault of the design or none, and where it is in the scanned netlist.
-#[derive(Drop)]
-struct Place {
+    pair: &Pair,
     fault: Option<Fault>,
     site: Option<Fault>,
+    number: u32,
+) -> Result<bool, NoMemory> {
+    let (a, b, c, d) = (
+        number & 1 != 0,
+        number & 2 != 0,
+        number & 4 != 0,
+        number & 8 != 0,
+    );
+    let (p, q, r) = (number & 16 != 0, number & 32 != 0, number & 64 != 0);
+    let scan_on = number & 128 != 0;
+    let (s, t) = (a != p, b != q);
+    let driven = [a, b, c, d, scan_on, s, t];
+    let state = [p, q, r];
+    let of_design = settled(rt, alloc, &pair.design, &driven, &state, fault)?;
+    let of_scanned = settled(rt, alloc, &pair.scanned, &driven, &state, site)?;
+    let Some(shown) = of_scanned
+        .outputs
+        .strip_prefix(of_design.outputs.as_slice())
+    else {
+        return Ok(false);
+    };
+    let bits = [s, t, p, q, r];
+    let taken = if scan_on {
+        are_at(&of_scanned.cells, &bits, pair.shift.taken)
+    } else {
+        of_scanned.cells.as_slice() == of_design.cells.as_slice()
+    };
+    Ok(taken && are_at(shown, &bits, pair.shift.shown))
 }
 
-/// Compares both sides of the laws for one drive.
+/// Compares both sides of the laws for every input and state, scan off and on.
 fn compare(
     rt: &impl Abort,
     alloc: Global,
     pair: &Pair,
-    place: &Place,
-    chains: &[(usize, usize)],
-    drive: u32,
-    held: u32,
-    scan_on: bool,
+    fault: Option<Fault>,
+    site: Option<Fault>,
 ) -> Result<(), Fail> {
-    assert!(rt; chains.len() <= 3);
-    let inputs = bits(alloc, drive, 4)?;
-    let state = bits(alloc, held, 3)?;
-    let scan_inputs = bits(alloc, drive ^ held, chains.len() as u32)?;
-    let mut driven = bits(alloc, drive, 4)?;
-    driven.push(scan_on)?;
-    driven.extend_from_slice(&scan_inputs)?;
-    let of_design = settled(rt, alloc, &pair.design, &inputs, &state, &place.fault)?;
-    let of_scanned = settled(rt, alloc, &pair.scanned, &driven, &state, &place.site)?;
-    let outputs = shown(alloc, &of_design.outputs, chains, &state)?;
-    assert!(rt; of_scanned.outputs.as_slice() == outputs.as_slice());
-    if scan_on {
-        let after = shifted(alloc, chains, &scan_inputs, &state)?;
-        assert!(rt; of_scanned.cells.as_slice() == after.as_slice());
-    } else {
-        assert!(rt; of_scanned.cells.as_slice() == of_design.cells.as_slice());
+    for number in 0..256 {
+        assert!(rt; agree(rt, alloc, pair, fault, site, number)?, "{number}");
     }
     Ok(())
 }
 
-/// Compares both sides of the laws for every input and state, scan off and on.
-fn compare_all(
+/// Compares both sides of the laws with a line stuck at each bit.
+fn compare_at(
     rt: &impl Abort,
     alloc: Global,
     pair: &Pair,
-    place: &Place,
-    chains: &[(usize, usize)],
+    line: &Line,
+    site: &Line,
 ) -> Result<(), Fail> {
-    for drive in 0..16 {
-        for held in 0..8 {
-            compare(rt, alloc, pair, place, chains, drive, held, false)?;
-            compare(rt, alloc, pair, place, chains, drive, held, true)?;
-        }
+    for value in [false, true] {
+        let fault = Fault { line: *line, value };
+        let moved = Fault { line: *site, value };
+        compare(rt, alloc, pair, Some(fault), Some(moved))?;
     }
     Ok(())
 }
 
 /// The core of an equal netlist.
 fn core_of(alloc: Global, netlist: &Netlist) -> Result<Core, NoMemory> {
-    let copy = netlist.copy(alloc)?;
-    match Core::of(alloc, copy) {
-        Ok(core) => Ok(core),
-        Err((refusal, _)) => Err(refusal),
-    }
+    Core::of(alloc, netlist.copy(alloc)?).map_err(|_| NoMemory)
 }
 
-/// No fault, and each line stuck at each bit.
-fn places(alloc: Global, netlist: &Netlist, scanned: &Scanned) -> Result<Vec<Place>, AllocError>
-    requires small { length (signals netlist.now) ≤ 1000000 }
-    requires sites { length scanned.now.sites ≡ length (signals netlist.now) }
-{
-    let count = signal_count(netlist);
-    let mut places = Vec::new(alloc);
-    places.push(Place {
-        fault: None,
-        site: None,
-    })?;
-    for line in &lines(alloc, netlist)? {
-        for value in [false, true] {
-            let fault = Fault { line: *line, value };
-            let site = site(scanned, count, &fault);
-            places.push(Place {
-                fault: Some(fault),
-                site,
-            })?;
-        }
-    }
-    Ok(places)
+/// The design and its scanned netlist.
+fn pair_of(
+    alloc: Global,
+    netlist: &Netlist,
+    scanned: &Scanned,
+    shift: Shift,
+) -> Result<Pair, NoMemory> {
+    Ok(Pair {
+        design: core_of(alloc, netlist)?,
+        scanned: core_of(alloc, scanned.netlist())?,
+        shift,
+    })
 }
 
-/// Compares both sides of the laws at each place of a fault.
-fn compare_places(
+/// Compares both sides of the laws with each of these lines stuck at each bit.
+fn compare_lines(
     rt: &impl Abort,
     alloc: Global,
+    netlist: &Netlist,
+    scanned: &Scanned,
     pair: &Pair,
-    places: &[Place],
-    chains: &[(usize, usize)],
-) -> Result<(), Fail> {
-    for place in places {
-        assert!(rt; place.site.is_some() == place.fault.is_some());
-        compare_all(rt, alloc, pair, place, chains)?;
+    lines: &[Line],
+) -> Result<(), Fail>
+    requires { length scanned.now.sites ≡ length (signals netlist.now) }
+{
+    assert!(rt; lines.len() == 39);
+    for line in lines {
+        let Some(site) = site(netlist, scanned, line) else {
+            panic!(rt; "a line has no site");
+        };
+        compare_at(rt, alloc, pair, line, &site)?;
     }
     Ok(())
 }
 
-/// Compares both sides of the laws on s27 with so many chains.
-fn compare_s27(
-    rt: &impl Abort,
-    alloc: Global,
-    asked: u32,
-    chains: &[(usize, usize)],
-) -> Result<(), Fail>
-    requires { 0 < asked }
-{
-    let netlist = design(alloc, S27)?;
-    let scanned = scanned_with(alloc, &netlist, asked)?;
-    let places = places(alloc, &netlist, &scanned)?;
-    assert_eq!(rt; places.len(), 79);
-    let pair = Pair {
-        design: core_of(alloc, &netlist)?,
-        scanned: core_of(alloc, scanned.netlist())?,
-    };
-    compare_places(rt, alloc, &pair, &places, chains)
-}
-
-/// The name of a signal that there is.
-fn name_at(netlist: &Netlist, signal: SignalId) -> &[u8] {
-    if signal.index() < signal_count(netlist) {
-        netlist.name(signal)
-    } else {
-        b""
-    }
+/// Compares both sides of the laws on s27, with no fault and with each of its 39 lines stuck at each bit.
+fn compare_s27(rt: &impl Abort, alloc: Global, shift: Shift) -> Result<(), Fail> {
+    assert!(rt; 0 < shift.chains);
+    let netlist = design(rt, alloc, S27.as_bytes())?;
+    let scanned = scanned_with(alloc, &netlist, shift.chains)?;
+    let pair = pair_of(alloc, &netlist, &scanned, shift)?;
+    let lines = lines(alloc, &netlist)?;
+    compare(rt, alloc, &pair, None, None)?;
+    compare_lines(rt, alloc, &netlist, &scanned, &pair, &lines)
 }
 
 #[test]
-fn one_chain_behaves_as_the_design(rt: HostRuntime) -> Result<(), Fail> {
-    compare_s27(&rt, rt.alloc(), 1, CHAINS[0])
+fn chains_behave_as_the_design(rt: HostRuntime) -> Result<(), Fail> {
+    compare_s27(&rt, rt.alloc(), ONE_CHAIN)?;
+    compare_s27(&rt, rt.alloc(), TWO_CHAINS)
 }
 
-#[test]
-fn two_chains_behave_as_the_design(rt: HostRuntime) -> Result<(), Fail> {
-    compare_s27(&rt, rt.alloc(), 2, CHAINS[1])
-}
-
-/// Whether the line that stands for a line of a netlist is one of the signal with this name.
-fn stands_at(netlist: &Netlist, scanned: &Scanned, line: Line, name: &str) -> bool
-    requires { length scanned.now.sites ≡ length (signals netlist.now) }
-{
-    let fault = Fault { line, value: true };
-    match site(scanned, signal_count(netlist), &fault) {
-        Some(site) => {
-            let at = name_at(scanned.netlist(), signal_of(&site.line));
-            site.value && at == name.as_bytes()
-        }
-        None => false,
+/// Whether this line of s27 with one chain stands for a line of s27.
+fn has_site(rt: &impl Abort, alloc: Global, line: &Line, expected: &Line) -> Result<bool, Fail> {
+    let netlist = design(rt, alloc, S27.as_bytes())?;
+    let scanned = scanned_with(alloc, &netlist, 1)?;
+    match site(&netlist, &scanned, line) {
+        Some(site) => Ok(site.is(expected)),
+        None => Ok(false),
     }
 }
 
 #[test]
 fn only_a_cells_pin_moves(rt: HostRuntime) -> Result<(), Fail> {
-    let netlist = design(rt.alloc(), S27)?;
-    let scanned = scanned_with(rt.alloc(), &netlist, 1)?;
-    let g5 = SignalId(4);
-    let g14 = SignalId(7);
-    assert!(rt; stands_at(&netlist, &scanned, Line::Stem(g5), "G5"));
-    assert!(rt; stands_at(&netlist, &scanned, Line::Pin(g5, 0), "SC__a_G5"));
-    assert!(rt; stands_at(&netlist, &scanned, Line::Stem(g14), "G14"));
-    assert!(rt; stands_at(&netlist, &scanned, Line::Pin(g14, 0), "G14"));
-    assert!(rt; stands_at(&netlist, &scanned, Line::Out(SignalId(8)), "G17"));
+    // At G5, whose pin moves to `SC__a_G5`, at G14 and at G17.
+    for (line, expected) in [
+        (Line::Stem(SignalId(4)), Line::Stem(SignalId(11))),
+        (Line::Pin(SignalId(4), 0), Line::Pin(SignalId(7), 0)),
+        (Line::Stem(SignalId(7)), Line::Stem(SignalId(22))),
+        (Line::Pin(SignalId(7), 0), Line::Pin(SignalId(22), 0)),
+        (Line::Out(SignalId(8)), Line::Out(SignalId(23))),
+    ] {
+        assert!(rt; has_site(&rt, rt.alloc(), &line, &expected)?);
+    }
     Ok(())
+}
+
+/// Whether the pin of an output of a text's netlist has this name.
+fn has_pin_name(
+    rt: &impl Abort,
+    alloc: Global,
+    net: &str,
+    output: u32,
+    name: &str,
+) -> Result<bool, Fail> {
+    let netlist = design(rt, alloc, net.as_bytes())?;
+    if output as usize >= netlist.outputs().len() {
+        return Ok(false);
+    }
+    let found = pin_name(alloc, &netlist, output)?;
+    Ok(found.as_slice() == name.as_bytes())
 }
 
 #[test]
 fn an_output_that_is_an_input_has_a_pin_of_its_own(rt: HostRuntime) -> Result<(), Fail> {
-    let netlist = design(rt.alloc(), BOTH)?;
-    assert_eq!(rt; netlist.outputs().len(), 2);
-    assert!(rt; pin_name(rt.alloc(), &netlist, 0)?.as_slice() == b"SC__o_a".as_slice());
-    assert!(rt; pin_name(rt.alloc(), &netlist, 1)?.as_slice() == b"q".as_slice());
-    Ok(())
-}
-
-#[test]
-fn nothing_is_added_without_cells(rt: HostRuntime) -> Result<(), Fail> {
-    let netlist = design(rt.alloc(), NO_CELLS)?;
-    let scanned = scanned_with(rt.alloc(), &netlist, 3)?;
-    assert!(rt; write(rt.alloc(), scanned.netlist())?.as_slice() == NO_CELLS);
+    for (output, name) in [(0, "SC__o_a"), (1, "q")] {
+        assert!(rt;
+            has_pin_name(&rt, rt.alloc(), BOTH, output, name)?,
+            "{name}"
+        );
+    }
     Ok(())
 }

@@ -2,13 +2,13 @@
 #![tactic(auto)]
 
 #[cfg(test)]
+mod fault_lists;
+#[cfg(test)]
 mod faults;
 #[cfg(test)]
 mod insertion;
 #[cfg(test)]
 mod netlists;
-#[cfg(test)]
-mod outside_faults;
 #[cfg(test)]
 mod run;
 #[cfg(test)]

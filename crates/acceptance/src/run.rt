@@ -1,11 +1,52 @@
-// One run of the program over files in memory.
+// One run of the program over files in memory, and what it has to leave.
 use atpg_top::top;
 use outside::{FailingCall, MemoryShelf, MemorySink, OpenGate};
 use std::alloc::{AllocError, Global};
+use std::process::Abort;
 use std::sync::Wait;
+use std::test::Fail;
 use std::thread::Threads;
 
-// What a run leaves.
+/// The calls that fail, of the shelf and of the two outputs.
+#[derive(Clone, Copy)]
+pub struct Failing {
+    pub shelf: &'static [FailingCall],
+    pub out: &'static [FailingCall],
+    pub err: &'static [FailingCall],
+}
+
+/// No call fails.
+pub const NOTHING: Failing = Failing {
+    shelf: &[],
+    out: &[],
+    err: &[],
+};
+
+/// The first call of the shelf is the read.
+pub const READ_FAILS: Failing = Failing {
+    shelf: &[FailingCall { number: 1, kept: 0 }],
+    ..NOTHING
+};
+
+/// The output gains five bytes.
+pub const OUTPUT_FAILS: Failing = Failing {
+    out: &[FailingCall { number: 1, kept: 5 }],
+    ..NOTHING
+};
+
+/// A run over one file, `n`, and all that it says and leaves: `n` as it was, and `o` where that is written.
+#[derive(Clone, Copy)]
+pub struct Row<'a> {
+    pub words: &'a str,
+    pub net: &'a str,
+    pub failing: Failing,
+    pub status: u8,
+    pub out: &'a str,
+    pub err: &'a str,
+    pub written: Option<&'a str>,
+}
+
+/// What a run leaves.
 #[derive(Drop)]
 pub struct Ran {
     pub status: u8,
@@ -15,21 +56,36 @@ pub struct Ran {
 }
 
 impl Ran {
-    // Whether these went to the output and to the error output.
-    pub fn said(&self, out: &str, err: &str) -> bool {
-        self.out.bytes() == out.as_bytes() && self.err.bytes() == err.as_bytes()
+    /// What isn't as the row has it.
+    pub fn differs_in(&self, row: &Row) -> Option<&'static str> {
+        if self.status != row.status {
+            return Some("status");
+        }
+        if self.out.bytes() != row.out.as_bytes() {
+            return Some("output");
+        }
+        if self.err.bytes() != row.err.as_bytes() {
+            return Some("error output");
+        }
+        self.differs_in_files(row)
     }
 
-    // Whether a file has these bytes.
-    pub fn has(&self, name: &str, text: &str) -> bool {
-        match self.shelf.file(name) {
-            Some(bytes) => bytes == text.as_bytes(),
-            None => false,
+    /// Which file isn't as the row has it.
+    fn differs_in_files(&self, row: &Row) -> Option<&'static str> {
+        if self.shelf.file("n") != Some(row.net.as_bytes()) {
+            return Some("n");
         }
+        if self.shelf.file("o") != row.written.map(str::as_bytes) {
+            return Some("o");
+        }
+        if self.shelf.file_count() != 1 + row.written.iter().count() {
+            return Some("number of files");
+        }
+        None
     }
 }
 
-// The words of a line, a blank between two.
+/// The words of a line, a blank between two.
 fn words_of(alloc: Global, line: &str) -> Result<Vec<String>, AllocError> {
     let mut words = Vec::new(alloc);
     for word in line.split(' ') {
@@ -38,29 +94,20 @@ fn words_of(alloc: Global, line: &str) -> Result<Vec<String>, AllocError> {
     Ok(words)
 }
 
-// Runs the words of a line over one file, where these calls of the shelf and of the outputs fail.
-pub fn run_failing<R: Threads + Wait + Sync>(
+/// Runs the words of a line over the file `n`.
+pub fn run<R: Threads + Wait + Sync>(
     rt: &R,
     alloc: Global,
     line: &str,
-    file: (&str, &str),
-    shelf_failing: &[FailingCall],
-    out_failing: &[FailingCall],
-    err_failing: &[FailingCall],
+    net: &str,
+    failing: Failing,
 ) -> Result<Ran, AllocError> {
     let words = words_of(alloc, line)?;
-    let mut shelf = MemoryShelf::new(alloc, &[(file.0, file.1.as_bytes())], shelf_failing)?;
-    let mut out = MemorySink::new(alloc, out_failing)?;
-    let mut err = MemorySink::new(alloc, err_failing)?;
-    let status = top(
-        rt,
-        alloc,
-        words.as_slice(),
-        &mut shelf,
-        &mut out,
-        &mut err,
-        &OpenGate,
-    );
+    let mut shelf = MemoryShelf::new(alloc, &[("n", net.as_bytes())], failing.shelf)?;
+    let mut out = MemorySink::new(alloc, failing.out)?;
+    let mut err = MemorySink::new(alloc, failing.err)?;
+    let words = words.as_slice();
+    let status = top(rt, alloc, words, &mut shelf, &mut out, &mut err, &OpenGate);
     Ok(Ran {
         status,
         shelf,
@@ -69,12 +116,27 @@ pub fn run_failing<R: Threads + Wait + Sync>(
     })
 }
 
-// The same with nothing failing.
-pub fn run<R: Threads + Wait + Sync>(
+/// Runs a row, and answers what isn't as it has it.
+pub fn differs_in<R: Threads + Wait + Sync>(
     rt: &R,
     alloc: Global,
-    line: &str,
-    file: (&str, &str),
-) -> Result<Ran, AllocError> {
-    run_failing(rt, alloc, line, file, &[], &[], &[])
+    row: &Row,
+) -> Result<Option<&'static str>, AllocError> {
+    let ran = run(rt, alloc, row.words, row.net, row.failing)?;
+    Ok(ran.differs_in(row))
+}
+
+/// Runs each row, and stops at one that isn't as it says.
+pub fn assert_rows<R: Threads + Wait + Sync + Abort>(
+    rt: &R,
+    alloc: Global,
+    rows: &[Row<'static>],
+) -> Result<(), Fail> {
+    for row in rows {
+        let words = row.words;
+        if let Some(part) = differs_in(rt, alloc, row)? {
+            panic!(rt; "{words}: {part}");
+        }
+    }
+    Ok(())
 }

@@ -1,130 +1,250 @@
-// `scan` from bytes to bytes, and the words and netlists that are refused.
-use crate::netlists::{C17, S27, S27_SCANNED};
-use crate::run::run;
+// `scan` from bytes to bytes, and all that ends it early.
+use crate::netlists::{
+    C17, NO_CELLS, S27, S27_ONE_CHAIN, S27_THREE_CHAINS, SELF_READER, SELF_READER_SCANNED,
+};
+use crate::run::{Failing, NOTHING, OUTPUT_FAILS, READ_FAILS, Row, assert_rows, differs_in, run};
+use outside::FailingCall;
+use std::alloc::{AllocError, Global};
+use std::sync::Wait;
 use std::test::Fail;
+use std::thread::Threads;
 
-#[test]
-fn s27_is_scanned(rt: HostRuntime) -> Result<(), Fail> {
-    let ran = run(&rt, rt.alloc(), "atpg scan s27 o", ("s27", S27))?;
-    assert_eq!(rt; ran.status, 0);
-    assert!(rt; ran.said("cells 3 chains 1\n", ""));
-    assert!(rt; ran.has("o", S27_SCANNED));
-    assert!(rt; ran.has("s27", S27));
-    Ok(())
-}
+/// The second call of the shelf is the write. It leaves eleven bytes.
+const WRITE_FAILS: Failing = Failing {
+    shelf: &[FailingCall {
+        number: 2,
+        kept: 11,
+    }],
+    ..NOTHING
+};
 
-#[test]
-fn c17_has_no_cells(rt: HostRuntime) -> Result<(), Fail> {
-    let ran = run(&rt, rt.alloc(), "atpg scan c17 o", ("c17", C17))?;
-    assert_eq!(rt; ran.status, 0);
-    assert!(rt; ran.said("cells 0 chains 0\n", ""));
-    assert!(rt; ran.has("o", C17));
-    Ok(())
-}
+const ERROR_OUTPUT_FAILS: Failing = Failing {
+    err: &[FailingCall { number: 1, kept: 2 }],
+    ..NOTHING
+};
 
-#[test]
-fn more_chains_than_cells_are_as_many_as_cells(rt: HostRuntime) -> Result<(), Fail> {
-    let nine = run(&rt, rt.alloc(), "atpg scan s27 o --chains 9", ("s27", S27))?;
-    let three = run(&rt, rt.alloc(), "atpg scan s27 o --chains 3", ("s27", S27))?;
-    assert!(rt; nine.said("cells 3 chains 3\n", ""));
-    assert!(rt; three.said("cells 3 chains 3\n", ""));
-    let Some(text) = nine.shelf.file("o") else {
-        assert!(rt; false, "nothing was written");
-        return Ok(());
-    };
-    assert!(rt; three.shelf.file("o") == Some(text));
-    Ok(())
-}
-
-// Odd spellings, every line but the last ended by CR LF.
+/// Odd spellings, every line but the last ended by CR LF.
 const ODD: &str =
     "input(a)\r\nOutput(y)\r\nOUTPUT(y)\r\nOUTPUT(a)\r\ny\t=\tbuf( x )\r\nx = nand(a)";
 
 const ODD_WRITTEN: &str = "INPUT(a)\nOUTPUT(y)\nOUTPUT(a)\ny = BUFF(x)\nx = NAND(a)\n";
 
+const ROWS: &[Row<'static>] = &[
+    Row {
+        words: "atpg scan n o",
+        net: S27,
+        failing: NOTHING,
+        status: 0,
+        out: "cells 3 chains 1\n",
+        err: "",
+        written: Some(S27_ONE_CHAIN),
+    },
+    Row {
+        words: "atpg scan n o --chains 3",
+        net: S27,
+        failing: NOTHING,
+        status: 0,
+        out: "cells 3 chains 3\n",
+        err: "",
+        written: Some(S27_THREE_CHAINS),
+    },
+    Row {
+        words: "atpg scan n o --chains 9",
+        net: S27,
+        failing: NOTHING,
+        status: 0,
+        out: "cells 3 chains 3\n",
+        err: "",
+        written: Some(S27_THREE_CHAINS),
+    },
+    Row {
+        words: "atpg scan n o",
+        net: C17,
+        failing: NOTHING,
+        status: 0,
+        out: "cells 0 chains 0\n",
+        err: "",
+        written: Some(C17),
+    },
+    Row {
+        words: "atpg scan n o --chains 3",
+        net: NO_CELLS,
+        failing: NOTHING,
+        status: 0,
+        out: "cells 0 chains 0\n",
+        err: "",
+        written: Some(NO_CELLS),
+    },
+    Row {
+        words: "atpg scan n o",
+        net: SELF_READER,
+        failing: NOTHING,
+        status: 0,
+        out: "cells 1 chains 1\n",
+        err: "",
+        written: Some(SELF_READER_SCANNED),
+    },
+    Row {
+        words: "atpg scan n o",
+        net: ODD,
+        failing: NOTHING,
+        status: 0,
+        out: "cells 0 chains 0\n",
+        err: "",
+        written: Some(ODD_WRITTEN),
+    },
+    Row {
+        words: "atpg scan x.bench o",
+        net: S27,
+        failing: NOTHING,
+        status: 7,
+        out: "",
+        err: "no such file: x.bench\n",
+        written: None,
+    },
+    Row {
+        words: "atpg scan n o",
+        net: S27,
+        failing: READ_FAILS,
+        status: 5,
+        out: "",
+        err: "read failed: n\n",
+        written: None,
+    },
+    Row {
+        words: "atpg scan n o",
+        net: S27,
+        failing: WRITE_FAILS,
+        status: 6,
+        out: "",
+        err: "write failed: o\n",
+        written: Some("INPUT(G0)\nI"),
+    },
+    Row {
+        words: "atpg scan n o",
+        net: S27,
+        failing: OUTPUT_FAILS,
+        status: 6,
+        out: "cells",
+        err: "write failed: -\n",
+        written: Some(S27_ONE_CHAIN),
+    },
+    Row {
+        words: "atpg scan x.bench o",
+        net: S27,
+        failing: ERROR_OUTPUT_FAILS,
+        status: 7,
+        out: "",
+        err: "no",
+        written: None,
+    },
+];
+
 #[test]
-fn odd_spellings_are_written_in_one_way(rt: HostRuntime) -> Result<(), Fail> {
-    let ran = run(&rt, rt.alloc(), "atpg scan odd o", ("odd", ODD))?;
-    assert_eq!(rt; ran.status, 0);
-    assert!(rt; ran.has("o", ODD_WRITTEN));
-    Ok(())
+fn scan_ends_as_its_rows_say(rt: HostRuntime) -> Result<(), Fail> {
+    assert_rows(&rt, rt.alloc(), ROWS)
 }
 
-// Words that are no command line of the table.
-const BAD_WORDS: &str = "\
-atpg scan s27 o --chains 0
-atpg scan s27 o --chains 257
-atpg scan s27 o --chains 01
-atpg scan s27 o --chains 1 --chains 2
-atpg scan s27
-atpg stitch s27 o
-atpg run s27 p
-atpg --help
-atpg
-";
+/// Netlists that are refused, and what is said of them.
+const REFUSED: &[(&str, &str)] = &[
+    ("INPUT(\"a)\n", "netlist line 1: BadByte\n"),
+    ("INPUT(a)\nG1 = AND(G2\n", "netlist line 2: BadLine\n"),
+    ("z = FOO()\n", "netlist line 1: UnknownGate\n"),
+    ("z = XOR(a)\n", "netlist line 1: BadPins\n"),
+    (
+        "INPUT(a)\nOUTPUT(y)\ny = NOT(a)\ny = BUFF(a)\n",
+        "netlist line 4: DefinedTwice\n",
+    ),
+    ("INPUT(SC__x)\n", "netlist line 1: Reserved\n"),
+    ("", "netlist line 0: NoInput\n"),
+    ("INPUT(a)\n", "netlist line 0: NoOutput\n"),
+    ("INPUT(a)\nOUTPUT(y)\n", "netlist line 2: Undefined\n"),
+    (
+        "INPUT(a)\nINPUT(b)\nOUTPUT(y)\nx = AND(a, y)\ny = OR(x, b)\n",
+        "netlist line 4: Loop\n",
+    ),
+];
 
-#[test]
-fn other_words_end_with_2(rt: HostRuntime) -> Result<(), Fail> {
-    for line in BAD_WORDS.lines() {
-        let ran = run(&rt, rt.alloc(), line, ("s27", S27))?;
-        assert_eq!(rt; ran.status, 2, "{line}");
-        assert!(rt; ran.out.bytes().is_empty(), "{line}");
-        assert!(rt; !ran.err.bytes().is_empty(), "{line}");
-        assert_eq!(rt; ran.shelf.file_count(), 1, "{line}");
-    }
-    Ok(())
+/// What isn't as it has to be where `scan` ends before anything is written.
+fn differs_where_refused<'a, R: Threads + Wait + Sync>(
+    rt: &R,
+    alloc: Global,
+    net: &'a str,
+    status: u8,
+    said: &'a str,
+) -> Result<Option<&'static str>, AllocError> {
+    let row = Row {
+        words: "atpg scan n o",
+        net,
+        failing: NOTHING,
+        status,
+        out: "",
+        err: said,
+        written: None,
+    };
+    differs_in(rt, alloc, &row)
 }
-
-// A netlist, a slash for each end of a line, and what is said of it.
-const REFUSED: &str = "\
-INPUT(\"a)|netlist line 1: BadByte
-INPUT(a)/G1 = AND(G2|netlist line 2: BadLine
-z = FOO()|netlist line 1: UnknownGate
-z = XOR(a)|netlist line 1: BadPins
-INPUT(a)/OUTPUT(y)/y = NOT(a)/y = BUFF(a)|netlist line 4: DefinedTwice
-INPUT(SC__x)|netlist line 1: Reserved
-|netlist line 0: NoInput
-INPUT(a)|netlist line 0: NoOutput
-INPUT(a)/OUTPUT(y)|netlist line 2: Undefined
-INPUT(a)/INPUT(b)/OUTPUT(y)/x = AND(a, y)/y = OR(x, b)|netlist line 4: Loop
-";
 
 #[test]
 fn refused_netlists_end_with_3(rt: HostRuntime) -> Result<(), Fail> {
-    for row in REFUSED.lines() {
-        let Some((lines, said)) = row.split_once('|') else {
-            assert!(rt; false, "{row}");
-            return Ok(());
-        };
-        let text = lines.replace(rt.alloc(), "/", "\n")?;
-        let ran = run(&rt, rt.alloc(), "atpg scan n o", ("n", text.as_str()))?;
-        let line = format!(in rt.alloc(); "{said}\n")?;
-        assert_eq!(rt; ran.status, 3, "{row}");
-        assert!(rt; ran.said("", line.as_str()), "{row}");
-        assert_eq!(rt; ran.shelf.file_count(), 1, "{row}");
+    for (net, said) in REFUSED {
+        if let Some(part) = differs_where_refused(&rt, rt.alloc(), net, 3, said)? {
+            panic!(rt; "{said}: {part}");
+        }
     }
-    Ok(())
-}
-
-#[test]
-fn a_cell_may_read_itself(rt: HostRuntime) -> Result<(), Fail> {
-    let text = "INPUT(a)\nOUTPUT(q)\nq = DFF(q)\n";
-    let ran = run(&rt, rt.alloc(), "atpg scan n o", ("n", text))?;
-    assert_eq!(rt; ran.status, 0);
-    assert!(rt; ran.said("cells 1 chains 1\n", ""));
     Ok(())
 }
 
 #[test]
 fn more_than_a_million_signals_are_too_many(rt: HostRuntime) -> Result<(), Fail> {
-    let alloc = rt.alloc();
-    let mut text = String::new(alloc);
+    let mut net = String::new(rt.alloc());
     for number in 0..1_000_001u32 {
-        let line = format!(in alloc; "INPUT({number})\n")?;
-        text.push_str(line.as_str())?;
+        writeln!(net, "INPUT({number})")?;
     }
-    let ran = run(&rt, alloc, "atpg scan n o", ("n", text.as_str()))?;
-    assert_eq!(rt; ran.status, 3);
-    assert!(rt; ran.said("", "netlist line 0: TooMany\n"));
+    let said = "netlist line 0: TooMany\n";
+    let differs = differs_where_refused(&rt, rt.alloc(), &net, 3, said)?;
+    assert!(rt; differs.is_none());
+    Ok(())
+}
+
+#[test]
+fn a_netlist_that_is_too_long_ends_with_8(rt: HostRuntime) -> Result<(), Fail> {
+    let net = "#".repeat(rt.alloc(), 67_108_865)?;
+    let differs = differs_where_refused(&rt, rt.alloc(), &net, 8, "too long: n\n")?;
+    assert!(rt; differs.is_none());
+    Ok(())
+}
+
+/// Words that are no command line of the table.
+const BAD_WORDS: &str = "\
+atpg scan n o --chains 0
+atpg scan n o --chains 257
+atpg scan n o --chains 01
+atpg scan n o --chains 1 --chains 2
+atpg scan n
+atpg stitch n o
+atpg faults
+atpg faults n o
+atpg run n p
+atpg --help
+atpg
+";
+
+/// Whether the words of a line end with 2, are complained of, and change nothing.
+fn are_refused<R: Threads + Wait + Sync>(
+    rt: &R,
+    alloc: Global,
+    line: &str,
+) -> Result<bool, AllocError> {
+    let ran = run(rt, alloc, line, S27, NOTHING)?;
+    let said = ran.out.bytes().is_empty() && !ran.err.bytes().is_empty();
+    Ok(ran.status == 2 && said && ran.shelf.file_count() == 1)
+}
+
+#[test]
+fn other_words_end_with_2(rt: HostRuntime) -> Result<(), Fail> {
+    for line in BAD_WORDS.lines() {
+        assert!(rt; are_refused(&rt, rt.alloc(), line)?, "{line}");
+    }
     Ok(())
 }
