@@ -1,6 +1,6 @@
 use Rattle.std.proofs.Common.{ℕ, List, length, ap, ◌∙◌, arith}
 use Rattle.std.proofs.lemmas.List.{length-map}
-use Rattle.netlist.specs.Netlist.{Definition, Netlist, is_cell, cells}
+use Rattle.netlist.specs.Netlist.{Definition, is_cell, cells}
 use Rattle.netlist.proofs.Placed.{signals_length}
 use Rattle.netlist.proofs.Settling.{cells_distinct}
 use Rattle.chain_stitch.specs.Chains.{chains_of}
