@@ -2,22 +2,32 @@
 #![tactic(auto)]
 
 use atpg_top::top;
-use outside::{FolderShelf, OpenGate, OutSink};
-use std::env;
+use outside::{FolderShelf, OpenGate, OutSink, Sink};
 use std::process::ExitCode;
+use std::{env, io};
+
+/// The status and the line where the words can't be had: memory was refused, or one isn't UTF-8.
+fn refusal(error: &io::Error) -> (u8, &'static str) {
+    match error.kind() {
+        io::ErrorKind::OutOfMemory => (9, "out of memory\n"),
+        _ => (2, "error: a word is not UTF-8\n"),
+    }
+}
 
 fn main(rt: HostRuntime) -> ExitCode {
     let alloc = rt.alloc();
-    let Ok(given) = env::args(&rt) else {
-        return ExitCode::from(2);
-    };
-    let words: Vec<String> = match given.collect(alloc) {
+    let mut err = OutSink::new(rt.stderr());
+    let given = env::args(&rt).and_then(|given| Ok(given.collect(alloc)?));
+    let words: Vec<String> = match given {
         Ok(words) => words,
-        Err(_) => return ExitCode::from(9),
+        Err(error) => {
+            let (status, line) = refusal(&error);
+            let _ = err.put(line.as_bytes());
+            return ExitCode::from(status);
+        }
     };
     let mut shelf = FolderShelf::new(&rt);
     let mut out = OutSink::new(rt.stdout());
-    let mut err = OutSink::new(rt.stderr());
     ExitCode::from(top(
         &rt,
         alloc,
