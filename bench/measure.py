@@ -1,11 +1,14 @@
-"""What the benches share: the proved build, the made netlists, and the time and peak memory of a command."""
+"""What the benches share: the proved build, the made netlists, and the time, growth and peak memory of commands."""
 import os
+import statistics
 import subprocess
 import sys
 
 HERE = os.path.dirname(os.path.abspath(__file__))
 MADE = os.path.join(HERE, "made")
 PROGRAM = os.path.join(HERE, "..", "crates", "atpg_main", "out", "atpg_main")
+
+ROUNDS = 7
 
 
 def proved_build():
@@ -15,11 +18,12 @@ def proved_build():
     return PROGRAM
 
 
-def made_netlist(signals):
+def made_netlist(signals, scattered=False):
     """The made netlist of so many signals, from bench/make_netlists.py."""
-    netlist = os.path.join(MADE, f"signals_{signals}.bench")
+    netlist = os.path.join(MADE, f"{'scattered' if scattered else 'signals'}_{signals}.bench")
     if not os.path.exists(netlist):
-        subprocess.run([sys.executable, os.path.join(HERE, "make_netlists.py"), str(signals)], check=True)
+        make = [sys.executable, os.path.join(HERE, "make_netlists.py"), str(signals)]
+        subprocess.run(make + ["--scattered"] * scattered, check=True, stdout=subprocess.DEVNULL)
     return netlist
 
 
@@ -37,3 +41,38 @@ def measure(command):
 def best_of(command, runs=3):
     """The least time of some runs, with its peak memory."""
     return min(measure(command) for _ in range(runs))
+
+
+class Timed:
+    """The times of one command: for each round the mean of its runs in that round."""
+
+    def __init__(self, command):
+        self.command = command
+        self.means = []
+        self.memory = 0.0
+
+    def run(self, times):
+        runs = [measure(self.command) for _ in range(times)]
+        self.means.append(statistics.fmean(seconds for seconds, _ in runs))
+        self.memory = max(self.memory, *(memory for _, memory in runs))
+
+    def seconds(self):
+        return statistics.median(self.means)
+
+    def times(self, other):
+        """How often as long as the other it took, round by round: the least, the median and the greatest."""
+        ratios = sorted(mine / its for mine, its in zip(self.means, other.means))
+        return ratios[0], statistics.median(ratios), ratios[-1]
+
+
+def in_rounds(commands_and_times, rounds=ROUNDS):
+    """Runs each command so many times in each round.
+
+    A virtual machine is faster and slower for seconds at a time. A command of 2 s that is run once and one of 0.2 s that is run ten times
+    meet the same of it in a round, so that their ratio is fair; the least of ten short runs beside the least of a few long ones is not.
+    """
+    timed = [Timed(command) for command, _ in commands_and_times]
+    for _ in range(rounds):
+        for each, (_, times) in zip(timed, commands_and_times):
+            each.run(times)
+    return timed
