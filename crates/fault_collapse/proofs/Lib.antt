@@ -3,6 +3,7 @@ pub mod Reading
 pub mod JoinedFaults
 pub mod Merged
 pub mod Stems
+pub mod DriverTables
 pub mod Numbered
 pub mod Equivalent
 pub mod Agreement

@@ -5,7 +5,8 @@ use Rattle.netlist.specs.declared.lines.Line.{Line}
 use Rattle.netlist.specs.declared.lines.Line.TheVariants.{Stem}
 use Rattle.netlist.specs.declared.lines.Fault.{Fault}
 use Rattle.netlist.specs.Netlist.{Definition, Netlist}
-use Rattle.fault_universe.specs.Universe.{universe_of}
+use Rattle.fault_universe.specs.Universe.{all_lines, universe_of}
+use Rattle.fault_collapse.specs.declared.drivers.Driver.{Driver}
 use Rattle.fault_collapse.specs.Joined.{IsEquivalent, IsJoined, line_at}
 
 -- Trees in which each member names an earlier one (Galler and Fisher, An improved equivalence algorithm, 1964).
@@ -43,9 +44,15 @@ pub record AreMerged (n : Netlist) (parents : List ℕ) (m : ℕ) : Type 0 where
   pub sound : (i : ℕ) (f g : Fault) → slice_get (universe_of n) i ≡ Some f → slice_get (universe_of n) (first i) ≡ Some g → IsEquivalent n g f
   pub complete : (i j : ℕ) (f g : Fault) → i < m → slice_get (universe_of n) i ≡ Some f → slice_get (universe_of n) j ≡ Some g → IsJoined n f g → first i ≡ first j
 
--- the place of each stem among the lines
-abbrev pub AreStems : List Line → List ℕ → ℕ → Type 0
-AreStems lines places m = (x : ℕ) → x < m → slice_get lines (slice_index places x) ≡ Some (Stem x)
+-- what drives a signal: its definition's kind, and the place of its stem among the lines
+pub record IsDriver (n : Netlist) (d : Definition) (driver : Driver) : Type 0 where
+  pub kind : driver.kind ≡ d.kind
+  pub stem : slice_get (all_lines n) driver.stem ≡ Some (Stem d.id)
+
+-- one for each definition, in order
+pub record AreDrivers (n : Netlist) (drivers : List Driver) : Type 0 where
+  pub size : length drivers ≡ length n.definitions
+  pub each : (k : ℕ) (d : Definition) (driver : Driver) → slice_get n.definitions k ≡ Some d → slice_get drivers k ≡ Some driver → IsDriver n d driver
 
 -- Of the first m faults each has the number of the first member of its class, and these are numbered in order.
 pub record AreNumbered (faults : List Fault) (first : ℕ → ℕ) (numbers : List ℕ) (representatives : List Fault) (m : ℕ) : Type 0 where

@@ -5,7 +5,8 @@ ghost use Rattle.fault_collapse.specs.Classes.{AreClasses};
 ghost use Rattle.fault_collapse.specs.Merging.{AreMerged};
 
 use crate::classes::{Classes, number};
-use crate::joining::{alone, merge_all, stem_places};
+use crate::drivers::drivers;
+use crate::joining::{alone, merge_all};
 use fault_universe::FaultSet;
 use netlist::{Netlist, NoMemory};
 use std::alloc::{AllocError, Global};
@@ -20,9 +21,9 @@ fn merged_faults(
     ensures { IfOk result (λ v. AreMerged netlist.now v.items (length (universe_of netlist.now))) }
 {
     let count = faults.len();
-    let stems = stem_places(alloc, netlist)?;
+    let drivers = drivers(alloc, netlist)?;
     let mut parents = alone(alloc, count)?;
-    merge_all(&mut parents, netlist, &stems, faults);
+    merge_all(&mut parents, netlist, &drivers, faults);
     Ok(parents)
 }
 

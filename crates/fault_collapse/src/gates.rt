@@ -3,13 +3,12 @@ ghost use Rattle.std.specs.Prelude.{◌≡◌, ◌≢◌, ◌<◌, ◌∷◌, []
 ghost use Rattle.std.specs.List.{Contains};
 ghost use Rattle.netlist.specs.Netlist.{Definition as Equation, signals};
 ghost use Rattle.netlist.specs.declared.lines.Line.TheVariants.{Pin};
-ghost use Rattle.netlist.specs.declared.lines.Fault.{Fault as StuckLine};
 ghost use Rattle.netlist.specs.Readers.{readers_of};
 ghost use Rattle.fault_universe.specs.Universe.{all_lines};
-ghost use Rattle.fault_collapse.specs.Joined.{output_value, IsJoined};
-ghost use Rattle.fault_collapse.specs.Merging.{stem_fault, IsReadBy};
+ghost use Rattle.fault_collapse.specs.Joined.{output_value};
+ghost use Rattle.fault_collapse.specs.Merging.{IsReadBy};
 
-use netlist::{Fault, Kind, Line, Netlist, SignalId};
+use netlist::{Kind, Line, Netlist, SignalId};
 
 /// What the output of a gate is stuck at where one of its pins is stuck at a value, if the two faults can't be told apart.
 pub(crate) fn output_value(kind: Kind, value: bool) -> Option<bool>
@@ -51,20 +50,5 @@ pub(crate) fn reader_of(netlist: &Netlist, line: &Line) -> Option<SignalId>
         Line::Stem(x) => sole_reader(netlist, *x),
         Line::Pin(z, _) => Some(*z),
         Line::Out(_) => None,
-    }
-}
-
-/// The fault at a gate's output that a fault at one of its pins makes: the output's signal and value.
-pub(crate) fn output_fault(netlist: &Netlist, fault: &Fault) -> Option<(SignalId, bool)>
-    requires { Contains (all_lines netlist.now) fault.now.line }
-    ensures { MatchOption result ((g : StuckLine) → IsJoined netlist.now fault.now g → ⊥) (λ p. IsJoined netlist.now fault.now (stem_fault p.0 p.1) × ((g : StuckLine) → IsJoined netlist.now fault.now g → g ≡ stem_fault p.0 p.1)) }
-{
-    netlist.sound();
-    let Some(z) = reader_of(netlist, &fault.line) else {
-        return None;
-    };
-    match output_value(netlist.definition(z).kind(), fault.value) {
-        Some(value) => Some((z, value)),
-        None => None,
     }
 }

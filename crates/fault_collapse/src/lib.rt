@@ -3,6 +3,7 @@
 
 mod classes;
 mod collapsing;
+mod drivers;
 mod gates;
 mod joining;
 mod laws;

@@ -5,8 +5,8 @@ use Rattle.fault_collapse.specs.Merging.{AreMerged}
 use Rattle.fault_collapse.proofs.Equivalent.{unmerged}
 use Rattle.fault_collapse.proofs.collapsing.merged_faults.Goals as goal
 
-pub stem_places-requires : goal.stem_places-requires
-stem_places-requires c =
+pub drivers-requires : goal.drivers-requires
+drivers-requires c =
     let h = length-faults (all_lines c.args.netlist.now) in
     let e = c.len-count.ensures ∙ ap length c.requires.universe in
     omega arith
