@@ -49,19 +49,20 @@ fn see(roles: &mut Vec<Role>, number: usize)
 impl<'a> Draft<'a> {
     ghost use Rattle.bench_text.specs.Drafted.{seen, said_in, signals_in, are_seen, Keeps, AreNumbers};
 
-    pub fn new(alloc: Global) -> Self
-        ensures nothing { said_in result ≡ [] }
-        ensures lines { result.lines ≡ 0 }
+    /// No lines, and room for so many names.
+    pub fn with_room(alloc: Global, names: usize) -> Result<Self, AllocError>
+        ensures nothing { IfOk result (λ d. said_in d ≡ []) }
+        ensures lines { IfOk result (λ d. d.lines ≡ 0) }
     {
-        Draft {
-            sights: Sights::new(alloc),
-            roles: Vec::new(alloc),
-            entries: Vec::new(alloc),
+        Ok(Draft {
+            sights: Sights::with_room(alloc, names)?,
+            roles: Vec::with_capacity(alloc, names)?,
+            entries: Vec::with_capacity(alloc, names)?,
             inputs: Vec::new(alloc),
-            definitions: Vec::new(alloc),
+            definitions: Vec::with_capacity(alloc, names)?,
             outputs: IndexSet::new(alloc),
             lines: 0,
-        }
+        })
     }
 
     /// How many lines were read.

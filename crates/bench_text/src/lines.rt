@@ -7,7 +7,7 @@ ghost use Rattle.bench_text.specs.LinesRead.{AreLinesRead};
 
 use crate::draft::Draft;
 use crate::refusal::{BenchFault, BenchRefusal, LineFault, Names};
-use memchr::memchr;
+use memchr::{memchr, memchr_iter};
 use std::alloc::Global;
 
 impl LineFault {
@@ -43,6 +43,13 @@ fn first_line(bytes: &[u8]) -> (&[u8], &[u8])
     }
 }
 
+impl Names {
+    /// For how many names room is made: one a line, and no more than there may be signals.
+    fn names_expected(self, text: &[u8]) -> usize {
+        memchr_iter(b'\n', text).count().min(self.most_signals())
+    }
+}
+
 /// Reads line by line, up to the first faulty one.
 pub fn read_lines<'a>(
     alloc: Global,
@@ -52,7 +59,10 @@ pub fn read_lines<'a>(
     requires { length (lines text.now) < 2 ^ 32 }
     ensures { AreLinesRead reading text.now result }
 {
-    let mut draft = Draft::new(alloc);
+    let Ok(empty) = Draft::with_room(alloc, reading.names_expected(text)) else {
+        return Err(BenchFault::NoMemory);
+    };
+    let mut draft = empty;
     let mut rest = text;
     'lines: while !rest.is_empty() {
         let (line, after) = first_line(rest);

@@ -14,12 +14,13 @@ pub struct Sights<'a> {
 }
 
 impl<'a> Sights<'a> {
-    pub fn new(alloc: Global) -> Sights<'a>
-        ensures { result.names.keys ≡ [] }
+    /// No names, and room for so many.
+    pub fn with_room(alloc: Global, names: usize) -> Result<Sights<'a>, AllocError>
+        ensures { IfOk result (λ s. s.names.keys ≡ []) }
     {
-        Sights {
-            names: IndexSet::new(alloc),
-        }
+        Ok(Sights {
+            names: IndexSet::with_capacity(alloc, names)?,
+        })
     }
 
     /// The number of a name, which is a new one at first sight.

@@ -16,7 +16,7 @@ use crate::refusal::{BenchKind, BenchRefusal, Names};
 
 impl Names {
     /// How many signals a text may have.
-    fn most_signals(self) -> usize
+    pub fn most_signals(self) -> usize
         ensures { result ≡ most_signals self }
     {
         match self {
