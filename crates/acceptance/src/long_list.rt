@@ -1,5 +1,5 @@
 // `faults` on a chain of inverters, whose list goes out in more than one piece.
-use crate::run::{Failing, NOTHING, Row, run};
+use crate::run::{Failing, NOTHING, run};
 use outside::FailingCall;
 use std::alloc::Global;
 use std::test::Fail;
@@ -43,18 +43,12 @@ fn list(alloc: Global) -> Result<String, Fail> {
 fn a_long_list_goes_out_whole(rt: HostRuntime) -> Result<(), Fail> {
     let net = chain(rt.alloc())?;
     let list = list(rt.alloc())?;
-    let row = Row {
-        words: "atpg faults n",
-        net: &net,
-        failing: NOTHING,
-        status: 0,
-        out: &list,
-        err: "",
-        written: None,
-    };
-    let ran = run(&rt, rt.alloc(), row.words, row.net, row.failing)?;
-    assert_eq!(rt; ran.differs_in(&row), None);
+    let ran = run(&rt, rt.alloc(), "atpg faults n", &net, NOTHING)?;
+    assert_eq!(rt; ran.status, 0);
+    assert!(rt; ran.err.bytes().is_empty());
+    assert!(rt; ran.out.bytes() == list.as_bytes());
     assert_eq!(rt; ran.out.calls(), 3);
+    assert!(rt; ran.shelf.file("n") == Some(net.as_bytes()));
     Ok(())
 }
 
