@@ -8,6 +8,8 @@ mod faults;
 #[cfg(test)]
 mod insertion;
 #[cfg(test)]
+mod long_list;
+#[cfg(test)]
 mod netlists;
 #[cfg(test)]
 mod run;

@@ -3,3 +3,4 @@ pub mod ScanOff
 pub mod Exclusive
 pub mod Cells
 pub mod Zipped
+pub mod Pieces

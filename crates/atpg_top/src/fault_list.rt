@@ -1,20 +1,27 @@
 //! The list of faults as text: how many faults and classes there are, then each fault with the number of its class.
+//! It goes out in pieces, so that it never stands in memory as a whole.
 ghost use Rattle.std.specs.Prelude.{◌≡◌, ◌<◌, ◌++◌, IfOk, OnOk, length};
 ghost use Rattle.netlist.specs.Designs.{IsDesign};
 ghost use Rattle.netlist.specs.Netlist.{signals};
 ghost use Rattle.fault_universe.specs.Universe.{universe_of};
 ghost use Rattle.fault_universe.specs.Texts.{signal_of};
 ghost use Rattle.fault_collapse.specs.Classes.{AreClasses};
-ghost use Rattle.atpg_top.specs.FaultLists.{IsFaultList, counts_line, fault_line, fault_lines};
+ghost use Rattle.atpg_top.specs.FaultLists.{counts_line, fault_line, fault_lines};
+ghost use Rattle.atpg_top.specs.Pieces.{PutsFaultList, PutsPiece, PutsText};
 
 use fault_collapse::{Classes, collapse};
 use fault_universe::{FaultSet, faults_have_signals, few_faults, push_text, universe};
 use itoa::Buffer;
 use netlist::{Fault, Netlist, NoMemory};
+use outside::{Sink, WriteRefusal};
 use std::alloc::{AllocError, Global};
 
-/// About how many bytes the line of a fault has. Room is reserved by it once.
-const LINE_BYTES: usize = 32;
+/// The least bytes of a piece but the last.
+const PIECE_BYTES: usize = 65_536;
+
+/// Room for a line beside a piece. A design's names have at most 255 bytes, so each of its lines fits,
+/// and no memory is asked for once a piece is out.
+const LINE_BYTES: usize = 512;
 
 /// Adds the line that counts faults and classes.
 fn push_counts(text: &mut Vec<u8>, faults: u32, classes: u32) -> Result<(), AllocError>
@@ -45,23 +52,53 @@ fn push_fault(
     Ok(())
 }
 
-/// Adds a line for each fault.
-fn push_faults(
+/// Puts the piece on the output and clears it, once it is long enough.
+fn put_piece<T: Sink>(out: &mut T, piece: &mut Vec<u8>) -> Result<(), WriteRefusal>
+    ensures { PutsPiece (T.taken out.old) (T.faults out.old) (T.taken out.new) (T.faults out.new) piece.old.items piece.new.items result }
+{
+    if piece.len() < PIECE_BYTES {
+        return Ok(());
+    }
+    out.put(piece.as_slice())?;
+    piece.clear();
+    Ok(())
+}
+
+/// Adds the line of a fault to the piece, which goes out once it is long enough.
+fn put_fault<T: Sink>(
+    out: &mut T,
+    piece: &mut Vec<u8>,
+    netlist: &Netlist,
+    fault: Fault,
+    class: u32,
+) -> Result<(), WriteRefusal>
+    requires { signal_of fault.line < length (signals netlist.now) }
+    ensures { PutsPiece (T.taken out.old) (T.faults out.old) (T.taken out.new) (T.faults out.new)
+        (piece.old.items ++ fault_line netlist.now fault class) piece.new.items result }
+{
+    push_fault(piece, netlist, fault, class).map_err(|_| WriteRefusal::NoMemory)?;
+    put_piece(out, piece)
+}
+
+/// Puts the text and a line for each fault on the output, in pieces. The last may be empty: then it adds nothing.
+fn put_faults<T: Sink>(
+    out: &mut T,
     text: &mut Vec<u8>,
     netlist: &Netlist,
     faults: &FaultSet,
     classes: &Classes,
-) -> Result<(), AllocError>
+) -> Result<(), WriteRefusal>
     requires universe { faults.now ≡ universe_of netlist.now }
     requires size { length classes.now.numbers ≡ length (universe_of netlist.now) }
-    ensures { OnOk result (text.new.items ≡ text.old.items ++ fault_lines netlist.now (universe_of netlist.now) classes.now.numbers) }
+    ensures { PutsText (T.taken out.old) (T.faults out.old) (T.taken out.new) (T.faults out.new)
+        (text.old.items ++ fault_lines netlist.now (universe_of netlist.now) classes.now.numbers) result }
 {
     netlist.sound();
     faults_have_signals();
     for i in 0..faults.len() {
-        push_fault(text, netlist, faults.fault(i), classes.class_of(i))?;
+        put_fault(out, text, netlist, faults.fault(i), classes.class_of(i))?;
     }
-    Ok(())
+    out.put(text.as_slice())
 }
 
 /// The faults of a design.
@@ -74,29 +111,27 @@ fn faults_of(alloc: Global, netlist: &Netlist) -> Result<FaultSet, NoMemory>
     universe(alloc, netlist)
 }
 
-/// The text, by faults and their classes.
-fn listed(
-    alloc: Global,
-    netlist: &Netlist,
-    faults: &FaultSet,
-    classes: &Classes,
-) -> Result<Vec<u8>, AllocError>
-    requires universe { faults.now ≡ universe_of netlist.now }
-    requires classes { AreClasses netlist.now classes.now }
-    ensures { IfOk result (λ text. IsFaultList netlist.now text.items) }
+/// Room for a piece, and in it the line that counts faults and classes.
+fn begun(alloc: Global, faults: u32, classes: u32) -> Result<Vec<u8>, AllocError>
+    ensures { IfOk result (λ text. text.items ≡ counts_line faults classes) }
 {
-    let mut text = Vec::with_capacity(alloc, (faults.len() as usize + 1) * LINE_BYTES)?;
-    push_counts(&mut text, faults.len(), classes.count())?;
-    push_faults(&mut text, netlist, faults, classes)?;
+    let mut text = Vec::with_capacity(alloc, PIECE_BYTES + LINE_BYTES)?;
+    push_counts(&mut text, faults, classes)?;
     Ok(text)
 }
 
-/// The list of a design's faults, as `faults` prints it.
-pub fn fault_list(alloc: Global, netlist: &Netlist) -> Result<Vec<u8>, NoMemory>
+/// Puts the list of a design's faults on the output, in pieces through one buffer.
+/// After want of memory a part of it may stand there.
+pub fn put_fault_list<T: Sink>(
+    alloc: Global,
+    out: &mut T,
+    netlist: &Netlist,
+) -> Result<(), WriteRefusal>
     requires { IsDesign netlist.now }
-    ensures { IfOk result (λ text. IsFaultList netlist.now text.items) }
+    ensures { PutsFaultList netlist.now (T.taken out.old) (T.faults out.old) (T.taken out.new) (T.faults out.new) result }
 {
-    let faults = faults_of(alloc, netlist)?;
-    let classes = collapse(alloc, netlist, &faults)?;
-    listed(alloc, netlist, &faults, &classes).map_err(|_| NoMemory)
+    let faults = faults_of(alloc, netlist).map_err(|_| WriteRefusal::NoMemory)?;
+    let classes = collapse(alloc, netlist, &faults).map_err(|_| WriteRefusal::NoMemory)?;
+    let mut text = begun(alloc, faults.len(), classes.count()).map_err(|_| WriteRefusal::NoMemory)?;
+    put_faults(out, &mut text, netlist, &faults, &classes)
 }

@@ -2,7 +2,7 @@
 ghost use Rattle.atpg_top.specs.World.{world};
 ghost use Rattle.atpg_top.specs.Rows.{FaultsRow};
 
-use crate::fault_list::fault_list;
+use crate::fault_list::put_fault_list;
 use crate::netlist_file::netlist_of;
 use crate::status::Status;
 use outside::{Shelf, Sink, WriteRefusal};
@@ -23,10 +23,7 @@ pub fn faults<'a, S: Shelf, T: Sink>(
         Ok(netlist) => netlist,
         Err(status) => return status,
     };
-    let Ok(text) = fault_list(alloc, &netlist) else {
-        return Status::Memory;
-    };
-    match out.put(text.as_slice()) {
+    match put_fault_list(alloc, out, &netlist) {
         Ok(()) => Status::Done,
         Err(WriteRefusal::Failed) => Status::WriteFault { name: "-" },
         Err(WriteRefusal::NoMemory) => Status::Memory,

@@ -1,9 +1,0 @@
-use Rattle.std.proofs.Common.{◌≡◌, ◌++◌, take}
-use Rattle.std.specs.List.{flat_map, zip}
-use Rattle.fault_universe.specs.Universe.{universe_of}
-use Rattle.atpg_top.specs.FaultLists.{fault_line}
-use Rattle.atpg_top.proofs.fault_list.push_faults.Given as goal
-
-abbrev pub invariant-loop-i : goal.invariant-loop-i
-invariant-loop-i l =
-    l.text.items ≡ l.fn.text.items ++ flat_map (λ p. fault_line l.fn.netlist p.0 p.1) (take l.i (zip (universe_of l.fn.netlist) l.fn.classes.numbers))
