@@ -8,7 +8,7 @@ HERE = os.path.dirname(os.path.abspath(__file__))
 MADE = os.path.join(HERE, "made")
 PROGRAM = os.path.join(HERE, "..", "crates", "atpg_main", "out", "atpg_main")
 
-ROUNDS = 7
+ROUNDS = 21  # of our own commands; those beside a slow peer have fewer
 
 
 def proved_build():
