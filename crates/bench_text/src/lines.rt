@@ -1,9 +1,10 @@
 //! A text line by line.
 
-ghost use Rattle.std.specs.Prelude.{◌≡◌, ◌==◌, ◌<◌, ◌^◌, ◌∷◌, position, length};
+ghost use Rattle.std.specs.Prelude.{◌≡◌, ◌==◌, ◌<◌, ◌≤◌, ◌^◌, ◌∷◌, position, length};
 ghost use Rattle.bench_text.specs.Bytes.{lines};
 ghost use Rattle.bench_text.specs.LineRead.{put_at};
 ghost use Rattle.bench_text.specs.LinesRead.{AreLinesRead};
+ghost use Rattle.bench_text.specs.Whole.{most_signals};
 
 use crate::draft::Draft;
 use crate::refusal::{BenchFault, BenchRefusal, LineFault, Names};
@@ -45,7 +46,9 @@ fn first_line(bytes: &[u8]) -> (&[u8], &[u8])
 
 impl Names {
     /// For how many names room is made: one a line, and no more than there may be signals.
-    fn names_expected(self, text: &[u8]) -> usize {
+    fn names_expected(self, text: &[u8]) -> usize
+        ensures { result ≤ most_signals self }
+    {
         memchr_iter(b'\n', text).count().min(self.most_signals())
     }
 }
