@@ -59,7 +59,7 @@ class Timed:
     def seconds(self):
         return statistics.median(self.means)
 
-    def times(self, other):
+    def ratios_to(self, other):
         """How often as long as the other it took, round by round: the least, the median and the greatest."""
         ratios = sorted(mine / its for mine, its in zip(self.means, other.means))
         return ratios[0], statistics.median(ratios), ratios[-1]
@@ -69,7 +69,7 @@ def in_rounds(commands_and_times, rounds=ROUNDS):
     """Runs each command so many times in each round.
 
     A virtual machine is faster and slower for seconds at a time. A command of 2 s that is run once and one of 0.2 s that is run ten times
-    meet the same of it in a round, so that their ratio is fair; the least of ten short runs beside the least of a few long ones is not.
+    meet the same of it in a round; the least of many short runs beside the least of a few long ones favours the short ones.
     """
     timed = [Timed(command) for command, _ in commands_and_times]
     for _ in range(rounds):
