@@ -9,7 +9,6 @@ use Rattle.std.proofs.lemmas.Option.{slice_get-get_or}
 use Rattle.netlist.specs.declared.lines.Line.{Line}
 use Rattle.netlist.specs.declared.lines.Line.TheVariants.{Stem}
 use Rattle.netlist.specs.declared.lines.Fault.{Fault}
-use Rattle.netlist.specs.declared.lines.Fault.{Fault}
 use Rattle.netlist.specs.Netlist.{Definition, Netlist, signals}
 use Rattle.netlist.specs.Conditions.{IsNumbered}
 use Rattle.netlist.specs.Readers.{readers_of}
