@@ -2,7 +2,7 @@
 ghost use Rattle.std.specs.Prelude.{◌≡◌, ◌<◌, ◌≤◌, IfOk, length};
 ghost use Rattle.netlist.specs.Designs.{IsDesign};
 ghost use Rattle.netlist.specs.Netlist.{signals};
-ghost use Rattle.scan_insert.specs.Scanned.{line_signal};
+ghost use Rattle.netlist.specs.Lines.{signal_of as named_signal};
 
 use crate::netlists::{BOTH, S27, design};
 use chain_stitch::stitch;
@@ -57,7 +57,7 @@ fn scanned_with(alloc: Global, netlist: &Netlist, asked: u32) -> Result<Scanned,
 
 /// The signal of a line.
 fn signal_of(line: &Line) -> SignalId
-    ensures { result ≡ line_signal line.now }
+    ensures { result ≡ named_signal line.now }
 {
     match line {
         Line::Stem(x) | Line::Pin(x, _) | Line::Out(x) => *x,

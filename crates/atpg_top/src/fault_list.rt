@@ -4,7 +4,7 @@ ghost use Rattle.std.specs.Prelude.{◌≡◌, ◌<◌, ◌++◌, IfOk, OnOk, le
 ghost use Rattle.netlist.specs.Designs.{IsDesign};
 ghost use Rattle.netlist.specs.Netlist.{signals};
 ghost use Rattle.fault_universe.specs.Universe.{universe_of};
-ghost use Rattle.fault_universe.specs.Texts.{signal_of};
+ghost use Rattle.netlist.specs.Lines.{signal_of};
 ghost use Rattle.fault_collapse.specs.Classes.{AreClasses};
 ghost use Rattle.atpg_top.specs.FaultLists.{counts_line, fault_line, fault_lines};
 ghost use Rattle.atpg_top.specs.Pieces.{PutsFaultList, PutsPiece, PutsText};

@@ -3,7 +3,7 @@ use Rattle.std.proofs.Common.{◌≡◌, List, [], ◌∷◌, refl, sym, subst}
 use Rattle.rand_core.specs.Stream.{Stream, next_u32}
 use Rattle.netlist.specs.declared.kinds.Tri.{Tri}
 use Rattle.netlist.specs.declared.kinds.Tri.TheVariants.{Zero, One, X}
-use Rattle.tri.specs.Tri.{AreAllowed}
+use Rattle.netlist.specs.ThreeValues.{AreAllowed}
 use Rattle.cubes.specs.Cubes.{Cube, Pattern, AgreesWith}
 use Rattle.cubes.specs.Filling.{filled}
 

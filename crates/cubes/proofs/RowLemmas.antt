@@ -5,7 +5,7 @@ use Rattle.std.proofs.lemmas.Bool.{or_cases, or_left, or_right, cases_lt}
 use Rattle.std.proofs.lemmas.List.{get_or_append_left, get_or-append_right, get_or_past}
 use Rattle.netlist.specs.declared.kinds.Tri.{Tri}
 use Rattle.netlist.specs.declared.kinds.Tri.TheVariants.{Zero, One, X}
-use Rattle.tri.specs.Tri.{known}
+use Rattle.netlist.specs.ThreeValues.{known}
 use Rattle.tri.proofs.Choices.{no, not_not}
 use Rattle.cubes.specs.Cubes.{Cube, row, HasBit, Contradicts, HaveSameWidths}
 use Rattle.cubes.specs.Merging.{is_opposite, are_opposed, join, IsJoined, IsJoinedCube}

@@ -2,7 +2,7 @@
 use Rattle.std.specs.Prelude.{ℕ, ◌≡◌, Bool, not, List, ◌++◌, length, slice_index_or}
 use Rattle.netlist.specs.declared.kinds.Tri.{Tri}
 use Rattle.netlist.specs.declared.kinds.Tri.TheVariants.{X}
-use Rattle.tri.specs.Tri.{known, AreAllowed}
+use Rattle.netlist.specs.ThreeValues.{known, AreAllowed}
 
 -- a bit for each input and for each cell
 pub record Pattern : Type 0 where

@@ -3,7 +3,7 @@ use Rattle.std.specs.Prelude.{ℕ, ◌≡◌, ◌<◌, ◌≤◌, ◌↔◌, ◌
 use Rattle.std.specs.List.{list_any, zip}
 use Rattle.netlist.specs.declared.kinds.Tri.{Tri}
 use Rattle.netlist.specs.declared.kinds.Tri.TheVariants.{X}
-use Rattle.tri.specs.Tri.{is_zero, is_one, is_x}
+use Rattle.netlist.specs.ThreeValues.{is_zero, is_one, is_x}
 use Rattle.cubes.specs.Cubes.{Cube, HasBit, Contradicts, HaveSameWidths}
 
 abbrev pub cube_at : List Cube → ℕ → Cube

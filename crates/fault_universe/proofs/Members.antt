@@ -17,7 +17,8 @@ use Rattle.netlist.proofs.Placed.{definition_below, signal_below}
 use Rattle.netlist.proofs.WellFormed.{few_pins_of}
 use Rattle.netlist.proofs.Lists.{contains_cases, contains_head, contains_nil, contains_tail}
 use Rattle.fault_universe.specs.Universe.{all_lines, branching, faults_of, lines_of, universe_of}
-use Rattle.fault_universe.specs.Texts.{signal_of, IsWritten}
+use Rattle.fault_universe.specs.Texts.{IsWritten}
+use Rattle.netlist.specs.Lines.{signal_of}
 use Rattle.fault_universe.proofs.Elements.{contains_at, slice_get_below, Contains-flat_map, flat_map-source}
 use Rattle.fault_universe.proofs.Names.{is_signal}
 use Rattle.fault_universe.proofs.Readers.{IsPinOf, is_out, last_reads, pin_reads, reader_cases, same_line}

@@ -9,7 +9,7 @@ use Rattle.netlist.specs.Netlist.{Definition, Netlist, signals}
 use Rattle.netlist.specs.Conditions.{IsNumbered, IsRead, IsSound}
 use Rattle.netlist.specs.Names.{IsName, is_name_byte}
 use Rattle.netlist.proofs.Placed.{signal_below}
-use Rattle.fault_universe.specs.Texts.{name_of}
+use Rattle.netlist.specs.Netlist.{name_of}
 
 pub is_signal : (n : Netlist) → IsNumbered n → (x : ℕ) → x < length (signals n) → Contains (signals n) x
 is_signal n numbered x l = (x, l, get_or_default (signals n) x x 0 l ∙ numbered x l)

@@ -5,7 +5,8 @@ use Rattle.netlist.specs.declared.lines.Fault.{Fault}
 use Rattle.netlist.specs.Netlist.{Netlist, signals}
 use Rattle.netlist.specs.Conditions.{IsSound}
 use Rattle.fault_universe.specs.Universe.{universe_of}
-use Rattle.fault_universe.specs.Texts.{fault_text, signal_of}
+use Rattle.fault_universe.specs.Texts.{fault_text}
+use Rattle.netlist.specs.Lines.{signal_of}
 
 -- two places of the list whose faults are written alike are one
 abbrev pub TextsDiffer : Type 0

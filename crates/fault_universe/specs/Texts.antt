@@ -1,18 +1,9 @@
 -- How faults are written: `stem x/0`, `pin z 3/1`, `out y/0`.
-use Rattle.std.specs.Prelude.{ℕ, ◌≡◌, ◌≢◌, ◌^◌, ◌<◌, length, Option, None, Some, Bool, true, false, List, [], ◌++◌, codes, decimal, slice_index_or}
+use Rattle.std.specs.Prelude.{ℕ, ◌≡◌, ◌≢◌, ◌^◌, ◌<◌, length, Option, None, Some, Bool, true, false, List, [], ◌++◌, codes, decimal}
 use Rattle.netlist.specs.declared.lines.Line.{Line}
 use Rattle.netlist.specs.declared.lines.Line.TheVariants.{Stem, Pin, Out}
 use Rattle.netlist.specs.declared.lines.Fault.{Fault}
-use Rattle.netlist.specs.Netlist.{Netlist, signals}
-
-abbrev pub name_of : Netlist → ℕ → List ℕ
-name_of n x = slice_index_or n.names x []
-
--- the signal that a line is named by
-abbrev pub signal_of : Line → ℕ
-signal_of (Stem x) = x
-signal_of (Pin z k) = z
-signal_of (Out y) = y
+use Rattle.netlist.specs.Netlist.{Netlist, signals, name_of}
 
 -- pins are numbered from 0
 abbrev pub line_text : Netlist → Line → List ℕ

@@ -1,7 +1,9 @@
 //! Faults as text.
 ghost use Rattle.std.specs.Prelude.{◌≡◌, ◌<◌, ◌++◌, IfOk, OnOk, length};
 ghost use Rattle.netlist.specs.Netlist.{signals};
-ghost use Rattle.fault_universe.specs.Texts.{fault_text, line_text, name_of, signal_of, value_text};
+ghost use Rattle.fault_universe.specs.Texts.{fault_text, line_text, value_text};
+ghost use Rattle.netlist.specs.Netlist.{name_of};
+ghost use Rattle.netlist.specs.Lines.{signal_of};
 
 use itoa::Buffer;
 use netlist::{Fault, Line, Netlist, NoMemory, SignalId};

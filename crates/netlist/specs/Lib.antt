@@ -1,4 +1,8 @@
 pub mod Netlist
+pub mod Lines
+pub mod ThreeValues
+pub mod Holds
+pub mod Detection
 pub mod Gates
 pub mod Names
 pub mod Settled

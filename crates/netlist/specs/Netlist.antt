@@ -1,6 +1,6 @@
 -- Netlists as equations over signals, with names beside. A signal is a number: inputs and then definitions are 0, 1, 2 and so on.
 -- (The .bench form of Brglez, Bryan and Kozminski, Combinational profiles of sequential benchmark circuits, 1989.)
-use Rattle.std.specs.Prelude.{ℕ, ◌≡◌, ◌==◌, ◌≤◌, Bool, true, false, not, List, ◌++◌, map, length, IsTrue, Option, find}
+use Rattle.std.specs.Prelude.{ℕ, ◌≡◌, ◌==◌, ◌≤◌, Bool, true, false, not, List, [], ◌++◌, map, length, slice_index_or, IsTrue, Option, find}
 use Rattle.std.specs.List.{All, Contains, filter}
 use Rattle.std.specs.Option.{option_map}
 use Rattle.netlist.specs.declared.kinds.Kind.{Kind}
@@ -38,6 +38,12 @@ gates n = filter is_gate n.definitions
 -- every signal has a place: inputs, then definitions
 abbrev pub signals : Netlist → List ℕ
 signals n = n.inputs ++ map (λ (d : Definition). d.id) n.definitions
+
+abbrev pub signal_count : Netlist → ℕ
+signal_count n = length (signals n)
+
+abbrev pub name_of : Netlist → ℕ → List ℕ
+name_of n x = slice_index_or n.names x []
 
 -- what defines a signal; nothing for an input
 abbrev pub definition_of : Netlist → ℕ → Option Definition

@@ -4,6 +4,7 @@
 mod bits;
 mod equations;
 mod evaluation;
+mod holds;
 mod kinds;
 mod laws;
 mod lines;
@@ -20,6 +21,7 @@ mod tests;
 pub use bits::Bits;
 pub use equations::{Definition, NoMemory, Parts};
 pub use evaluation::{Core, Values};
+pub use holds::Holds;
 pub use kinds::{Kind, Tri};
 pub use laws::{holds_everywhere, settle_alike, settles_once, some_settles};
 pub use lines::{Fault, Line, Point};

@@ -17,7 +17,7 @@ use Rattle.netlist.specs.Gates.{gate_bit, conjunction}
 use Rattle.netlist.proofs.Lists.{all_left, all_right, all_flat_map, all_filter, All-from_contains, contains_head, contains_tail, contains_filter, map_agree, map_map, decides_beq}
 use Rattle.netlist.proofs.WellFormed.{one_pin}
 use Rattle.scan_insert.specs.Scan.{Naming, define, scan_cell, scan_definition, show_last, scanned}
-use Rattle.scan_insert.specs.Lines.{IsFaultOf}
+use Rattle.netlist.specs.Lines.{IsFaultOf}
 use Rattle.scan_insert.specs.Origins.{Origin, Original, Enable, EnableNot, ScanIn, ScanOut, Captured, Shifted, Chosen, Held, IsNaming, named_fault}
 use Rattle.netlist.proofs.Alike.{settles_once}
 use Rattle.scan_insert.proofs.Equations.{held_cell, cells_scanned}

@@ -13,7 +13,7 @@ use Rattle.netlist.proofs.Lists.{filter_contains, contains_filter}
 use Rattle.netlist.proofs.Placed.{same_definition, signal_from, definition_below}
 use Rattle.netlist.proofs.WellFormed.{one_pin}
 use Rattle.scan_insert.specs.Scan.{Naming}
-use Rattle.scan_insert.specs.Lines.{IsLineOf, IsFaultOf}
+use Rattle.netlist.specs.Lines.{IsLineOf, IsFaultOf}
 use Rattle.scan_insert.specs.Origins.{Origin, Original, Captured, IsNaming, named_line, named_fault}
 
 -- the value on a line, a bit

@@ -14,7 +14,7 @@ use Rattle.netlist.proofs.Lists.{contains_filter, contains_map, map_map}
 use Rattle.netlist.proofs.Settling.{cells_distinct}
 use Rattle.chain_stitch.specs.Chains.{cells_of}
 use Rattle.chain_stitch.proofs.Dealing.{stitched_cells, stitched_count, stitched_filled}
-use Rattle.scan_insert.specs.Lines.{IsFaultOf}
+use Rattle.netlist.specs.Lines.{IsFaultOf}
 use Rattle.scan_insert.specs.Names.{numbers_from}
 use Rattle.scan_insert.specs.Scan.{scanned}
 use Rattle.scan_insert.specs.Origins.{IsNaming, IsChained, named_line, named_fault}

@@ -9,7 +9,8 @@ use Rattle.netlist.specs.Conditions.{IsNumbered}
 use Rattle.netlist.proofs.Lists.{All-from_contains}
 use Rattle.netlist.proofs.Placed.{definition_below}
 use Rattle.chain_stitch.specs.Chains.{cells_of}
-use Rattle.scan_insert.specs.Names.{numbers_from, name_of}
+use Rattle.scan_insert.specs.Names.{numbers_from}
+use Rattle.netlist.specs.Netlist.{name_of}
 use Rattle.scan_insert.specs.Scan.{show_last}
 use Rattle.scan_insert.specs.Scanned.{befores, last_of}
 use Rattle.scan_insert.proofs.Numbers.{then_one}

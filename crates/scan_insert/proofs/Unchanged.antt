@@ -10,7 +10,7 @@ use Rattle.netlist.specs.Netlist.{Netlist, signals}
 use Rattle.netlist.specs.Conditions.{IsSound}
 use Rattle.netlist.proofs.Placed.{signal_below}
 use Rattle.scan_insert.specs.declared.sites.Site.{Site}
-use Rattle.scan_insert.specs.Lines.{IsLineOf, IsFaultOf}
+use Rattle.netlist.specs.Lines.{IsLineOf, IsFaultOf}
 use Rattle.scan_insert.specs.Scanned.{own_site, sites_of, site, scanned_of, line_at, fault_at}
 use Rattle.scan_insert.specs.Laws.{NothingAdded}
 use Rattle.scan_insert.proofs.Concrete.{are_dealt, no_chain}

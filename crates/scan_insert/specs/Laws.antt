@@ -4,7 +4,7 @@ use Rattle.netlist.specs.declared.lines.Fault.{Fault}
 use Rattle.netlist.specs.Netlist.{Netlist, cells}
 use Rattle.netlist.specs.Conditions.{IsSound}
 use Rattle.netlist.specs.Settled.{Settles, bits, outs, next}
-use Rattle.scan_insert.specs.Lines.{IsFaultOf}
+use Rattle.netlist.specs.Lines.{IsFaultOf}
 use Rattle.netlist.specs.Designs.{IsDesign}
 use Rattle.scan_insert.specs.Scanned.{AreChainsOf, sites_of, scanned_of, fault_at}
 

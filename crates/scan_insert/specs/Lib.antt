@@ -1,5 +1,4 @@
 pub mod Scan
-pub mod Lines
 pub mod Names
 pub mod Scanned
 pub mod Laws

@@ -1,15 +1,12 @@
 -- The names of the scanned netlist's signals.
-use Rattle.std.specs.Prelude.{ℕ, ◌+◌, ◌==◌, cond, suc, zero, List, [], ◌∷◌, ◌++◌, map, slice_index, slice_index_or, codes, decimal}
+use Rattle.std.specs.Prelude.{ℕ, ◌+◌, ◌==◌, cond, suc, zero, List, [], ◌∷◌, ◌++◌, map, slice_index, codes, decimal}
 use Rattle.std.specs.List.{flat_map, list_any}
-use Rattle.netlist.specs.Netlist.{Definition, Netlist, is_cell}
+use Rattle.netlist.specs.Netlist.{Definition, Netlist, is_cell, name_of}
 
 -- so many numbers from one on
 abbrev pub numbers_from : ℕ → ℕ → List ℕ
 numbers_from first zero = []
 numbers_from first (suc count) = first ∷ numbers_from (first + 1) count
-
-abbrev pub name_of : Netlist → ℕ → List ℕ
-name_of n x = slice_index_or n.names x []
 
 -- a definition's names: a cell has four more
 abbrev pub definition_names : Netlist → Definition → List (List ℕ)

@@ -99,9 +99,3 @@ line_at sites (Out x) = Out (site sites x).stem
 abbrev pub fault_at : List Site → Option Fault → Option Fault
 fault_at sites None = None
 fault_at sites (Some f) = Some (record { line = line_at sites f.line; value = f.value })
-
--- the signal that a line is of
-abbrev pub line_signal : Line → ℕ
-line_signal (Stem x) = x
-line_signal (Pin z k) = z
-line_signal (Out x) = x

@@ -3,7 +3,8 @@ ghost use Rattle.std.specs.Prelude.{◌≡◌, ◌<◌, ◌≤◌, [], length, I
 ghost use Rattle.netlist.specs.Conditions.{IsSound, whole};
 ghost use Rattle.netlist.specs.Designs.{IsDesign};
 ghost use Rattle.netlist.specs.Netlist.{signals};
-ghost use Rattle.scan_insert.specs.Scanned.{AreChainsOf, insertion_of, line_at, line_signal};
+ghost use Rattle.scan_insert.specs.Scanned.{AreChainsOf, insertion_of, line_at};
+ghost use Rattle.netlist.specs.Lines.{signal_of};
 
 use crate::parts::scanned_parts;
 use crate::sites::{Site, moved_sites, own_sites};
@@ -36,7 +37,7 @@ impl Scanned {
 
     /// The line that stands for a line of the original. It takes no memory.
     pub fn site_of(&self, line: Line) -> Line
-        requires { line_signal line < length self.now.sites }
+        requires { signal_of line < length self.now.sites }
         ensures { result ≡ line_at self.now.sites line }
     {
         match line {

@@ -3,7 +3,8 @@ ghost use Rattle.std.specs.Prelude.{◌≡◌, ◌++◌, ◌∷◌, [], ◌<◌,
 ghost use Rattle.std.specs.List.{All, flat_map};
 ghost use Rattle.netlist.specs.Netlist.{Definition as Equation, signals};
 ghost use Rattle.netlist.specs.Conditions.{IsSound};
-ghost use Rattle.scan_insert.specs.Names.{name_of, definition_names, names_of, numbers_from};
+ghost use Rattle.scan_insert.specs.Names.{definition_names, names_of, numbers_from};
+ghost use Rattle.netlist.specs.Netlist.{name_of};
 
 use itoa::Buffer;
 use netlist::{Definition, NameTable, Netlist, SignalId};

@@ -8,7 +8,7 @@ use Rattle.netlist.specs.declared.kinds.Tri.TheVariants.{Zero, One, X}
 use Rattle.netlist.specs.declared.lines.Line.{Line}
 use Rattle.netlist.specs.declared.lines.Fault.{Fault}
 use Rattle.netlist.specs.Settled.{is_line, stuck}
-use Rattle.tri.specs.Tri.{known, allows, AreAllowed}
+use Rattle.netlist.specs.ThreeValues.{known, allows, AreAllowed}
 use Rattle.tri.specs.Labels.{Label, is_known_as, are_known_and_equal, on_line, decided, label_of, IsAbove, AreAbove}
 use Rattle.tri.proofs.Choices.{no, known_allows_itself}
 

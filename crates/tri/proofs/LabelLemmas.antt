@@ -14,9 +14,9 @@ use Rattle.netlist.specs.Gates.{gate_bit}
 use Rattle.netlist.specs.Settled.{Settles, stuck, on_pins, pins_of, bits, outs, next}
 use Rattle.netlist.proofs.Acyclic.{everywhere}
 use Rattle.netlist.proofs.Lists.{All-from_contains, contains_filter}
-use Rattle.tri.specs.Tri.{known, allows}
+use Rattle.netlist.specs.ThreeValues.{known, allows}
 use Rattle.tri.specs.Gates.{gate_tri}
-use Rattle.tri.specs.Labels.{Label, Decisions, on_line, label_of, labels, source_label, AreLabels, Obeys, IsAbove, AreAbove}
+use Rattle.tri.specs.Labels.{Label, Decisions, on_line, label_of, labels, source_label, AreLabels, Follows, IsAbove, AreAbove}
 use Rattle.tri.proofs.Choices.{gate_allows}
 use Rattle.tri.proofs.AboveLemmas.{is_above, IsAbove-from, is_above-from, on_line_above, label_of_above, goods_allowed, faults_allowed, same_where_none_differs, AreAbove-append}
 
@@ -69,7 +69,7 @@ module _ (f : Fault) (path : Decisions) (n : Netlist) (l : ℕ → Label) (a b :
       (above_next ds (All-tail (λ (e : Definition). All (λ x. IsAbove (l x) (a x) (b x)) e.pins) d ds h))
 
   module _ (inputs state : List Bool) (closed : IsClosed n) (acyclic : IsAcyclic n) (r : AreLabels f path n l)
-      (p : Settles (bits None) n inputs state a) (q : Settles (bits (Some f)) n inputs state b) (obeys : Obeys path n a) where
+      (p : Settles (bits None) n inputs state a) (q : Settles (bits (Some f)) n inputs state b) (obeys : Follows path n a) where
     holds : ℕ → Bool
     holds x = is_above (l x) (a x) (b x)
 

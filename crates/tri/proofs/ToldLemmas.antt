@@ -11,9 +11,10 @@ use Rattle.netlist.specs.Settled.{Settles, bits, outs, next}
 use Rattle.netlist.proofs.Alike.{settles_once}
 use Rattle.netlist.proofs.Lists.{decides_beq}
 use Rattle.std.specs.Bool.{beq}
-use Rattle.tri.specs.Tri.{allows}
-use Rattle.tri.specs.Told.{observed, Tells, IsRedundant}
-use Rattle.tri.specs.Labels.{Label, Decisions, labels, AreLabels, IsClosedAt, IsContradicted, IsUnobserved, Obeys, AgreesWith}
+use Rattle.netlist.specs.ThreeValues.{allows}
+use Rattle.netlist.specs.Holds.{Holds, Obeys}
+use Rattle.netlist.specs.Detection.{observed, Detects, IsRedundant}
+use Rattle.tri.specs.Labels.{Label, Decisions, labels, AreLabels, IsClosedAt, IsContradicted, IsUnobserved, Follows, AgreesWith}
 use Rattle.tri.proofs.AboveLemmas.{same_where_none_differs}
 use Rattle.tri.proofs.LabelLemmas.{other_bit, above_at, outs_above, next_above}
 
@@ -31,12 +32,13 @@ same_bits [] (y ∷ ys) h = absurd (h zero (λ e. cc))
 same_bits (x ∷ xs) [] h = absurd (h zero (λ e. cc))
 same_bits (x ∷ xs) (y ∷ ys) h = ap (λ z. z ∷ xs) (same_bit x y (h zero)) ∙ ap (λ zs. y ∷ zs) (same_bits xs ys (λ k. h (suc k)))
 
-pub redundant_changes_nothing : (f : Fault) (n : Netlist) (inputs state : List Bool) (good faulty : ℕ → Bool) → IsRedundant n f
+pub redundant_changes_nothing : (n : Netlist) (holds : Holds) (f : Fault) (inputs state : List Bool) (good faulty : ℕ → Bool)
+    → IsRedundant n holds f → Obeys holds inputs
     → Settles (bits None) n inputs state good → Settles (bits (Some f)) n inputs state faulty
     → (outs (bits None) n good ≡ outs (bits (Some f)) n faulty) × (next (bits None) n good ≡ next (bits (Some f)) n faulty)
-redundant_changes_nothing f n inputs state good faulty r p q =
+redundant_changes_nothing n holds f inputs state good faulty r held p q =
     let told : (point : Point) → observed (bits None) n good point ≢ observed (bits (Some f)) n faulty point → ⊥ =
-    λ point d. r inputs state point (record { good = good; faulty = faulty; good_settles = p; faulty_settles = q; differs = d }) in (
+    λ point d. r inputs state point held (record { good = good; faulty = faulty; good_settles = p; faulty_settles = q; differs = d }) in (
       same_bits (outs (bits None) n good) (outs (bits (Some f)) n faulty) (λ k. told (Output k)),
       same_bits (next (bits None) n good) (next (bits (Some f)) n faulty) (λ k. told (Cell k)),
     )
@@ -51,7 +53,7 @@ same_observed f n good faulty p q (Cell k) = ap (λ xs. slice_get xs k) q
 
 module _ (f : Fault) (path : Decisions) (n : Netlist) (l : ℕ → Label) (inputs state : List Bool) (closed : IsClosed n) (acyclic : IsAcyclic n)
     (r : AreLabels f path n l) (good faulty : ℕ → Bool)
-    (p : Settles (bits None) n inputs state good) (q : Settles (bits (Some f)) n inputs state faulty) (obeys : Obeys path n good) where
+    (p : Settles (bits None) n inputs state good) (q : Settles (bits (Some f)) n inputs state faulty) (obeys : Follows path n good) where
   not_contradicted : IsContradicted path n l → ⊥
   not_contradicted w =
       let above = above_at f path n l good faulty inputs state closed acyclic r p q obeys w.0 w.1 in
@@ -73,7 +75,7 @@ module _ (f : Fault) (path : Decisions) (n : Netlist) (l : ℕ → Label) (input
 
 pub closed_tells_nothing : (f : Fault) (path : Decisions) (n : Netlist) (l : ℕ → Label) (inputs state : List Bool) (point : Point)
     → IsClosed n → IsAcyclic n → AreLabels f path n l → IsClosedAt f path n l → AgreesWith path n inputs state
-    → ¬ Tells n f inputs state point
+    → ¬ Detects n f inputs state point
 closed_tells_nothing f path n l inputs state point closed acyclic r c w t =
     let once = settles_once beq decides_beq (bits None) n inputs state t.good w.good closed acyclic t.good_settles w.settles in
     t.differs (closed_same f path n l inputs state closed acyclic r t.good t.faulty t.good_settles t.faulty_settles

@@ -8,7 +8,7 @@ use Rattle.netlist.specs.declared.lines.Line.{Line}
 use Rattle.netlist.specs.declared.lines.Fault.{Fault}
 use Rattle.netlist.specs.Netlist.{Definition, Netlist, cells, signals}
 use Rattle.netlist.specs.Settled.{Rule, Settles, is_line, bits, outs, next}
-use Rattle.tri.specs.Tri.{known, is_zero, is_one, allows}
+use Rattle.netlist.specs.ThreeValues.{known, is_zero, is_one, allows}
 use Rattle.tri.specs.Gates.{gate_tri}
 
 pub record Label : Type 0 where
@@ -84,14 +84,14 @@ IsClosedAt f path n l = IsContradicted path n l ⊎ IsUnobserved f path n l
 -- ---- labels and patterns
 
 -- each decided signal has its bit
-abbrev pub Obeys : Decisions → Netlist → (ℕ → Bool) → Type 0
-Obeys path n good = (x : ℕ) (b : Bool) → Contains (signals n) x → path x ≡ Some b → good x ≡ b
+abbrev pub Follows : Decisions → Netlist → (ℕ → Bool) → Type 0
+Follows path n good = (x : ℕ) (b : Bool) → Contains (signals n) x → path x ≡ Some b → good x ≡ b
 
 -- a pattern under which each decided signal has its bit, without the fault
 pub record AgreesWith (path : Decisions) (n : Netlist) (inputs state : List Bool) : Type 0 where
   pub good : ℕ → Bool
   pub settles : Settles (bits None) n inputs state good
-  pub obeys : Obeys path n good
+  pub obeys : Follows path n good
 
 -- the label allows bit a without the fault and bit b with it
 pub record IsAbove (l : Label) (a b : Bool) : Type 0 where

@@ -7,10 +7,11 @@ use Rattle.netlist.specs.declared.lines.Point.{Point}
 use Rattle.netlist.specs.Conditions.{IsClosed}
 use Rattle.netlist.specs.Netlist.{Netlist, signals, IsAcyclic}
 use Rattle.netlist.specs.Settled.{Settles, bits, outs, next}
-use Rattle.tri.specs.Tri.{allows, AreAllowed}
+use Rattle.netlist.specs.ThreeValues.{allows, AreAllowed}
 use Rattle.tri.specs.Settled.{tris}
-use Rattle.tri.specs.Told.{Tells, IsRedundant}
-use Rattle.tri.specs.Labels.{Label, Decisions, labels, AreLabels, IsClosedAt, Obeys, AgreesWith, IsAbove, AreAbove}
+use Rattle.netlist.specs.Holds.{Holds, Obeys}
+use Rattle.netlist.specs.Detection.{Detects, IsRedundant}
+use Rattle.tri.specs.Labels.{Label, Decisions, labels, AreLabels, IsClosedAt, Follows, AgreesWith, IsAbove, AreAbove}
 
 -- Settled three values allow the settled bits of each choice for the Xs that are driven, everywhere.
 abbrev pub ThreeValuesAboveBits : Type 0
@@ -28,7 +29,7 @@ abbrev pub LabelsAbovePatterns : Type 0
 LabelsAbovePatterns =
     (f : Fault) (path : Decisions) (n : Netlist) (l : ℕ → Label) (inputs state : List Bool) (good faulty : ℕ → Bool)
     → IsClosed n → IsAcyclic n → AreLabels f path n l
-    → Settles (bits None) n inputs state good → Settles (bits (Some f)) n inputs state faulty → Obeys path n good
+    → Settles (bits None) n inputs state good → Settles (bits (Some f)) n inputs state faulty → Follows path n good
     → All (λ x. IsAbove (l x) (good x) (faulty x)) (signals n)
     × AreAbove (outs (labels f path) n l) (outs (bits None) n good) (outs (bits (Some f)) n faulty)
     × AreAbove (next (labels f path) n l) (next (bits None) n good) (next (bits (Some f)) n faulty)
@@ -38,12 +39,12 @@ abbrev pub ClosedTellsNothing : Type 0
 ClosedTellsNothing =
     (f : Fault) (path : Decisions) (n : Netlist) (l : ℕ → Label) (inputs state : List Bool) (point : Point)
     → IsClosed n → IsAcyclic n → AreLabels f path n l → IsClosedAt f path n l → AgreesWith path n inputs state
-    → ¬ Tells n f inputs state point
+    → ¬ Detects n f inputs state point
 
--- A redundant fault changes nothing that is observed, under any pattern.
+-- A redundant fault changes nothing that is observed, under any pattern that obeys the held inputs.
 abbrev pub RedundantChangesNothing : Type 0
 RedundantChangesNothing =
-    (f : Fault) (n : Netlist) (inputs state : List Bool) (good faulty : ℕ → Bool)
-    → IsRedundant n f
+    (n : Netlist) (holds : Holds) (f : Fault) (inputs state : List Bool) (good faulty : ℕ → Bool)
+    → IsRedundant n holds f → Obeys holds inputs
     → Settles (bits None) n inputs state good → Settles (bits (Some f)) n inputs state faulty
     → (outs (bits None) n good ≡ outs (bits (Some f)) n faulty) × (next (bits None) n good ≡ next (bits (Some f)) n faulty)

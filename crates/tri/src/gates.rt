@@ -1,6 +1,6 @@
 //! Gates over three values.
 ghost use Rattle.std.specs.Prelude.{◌≡◌, ◌↔◌, Bool};
-ghost use Rattle.tri.specs.Tri.{known, complement};
+ghost use Rattle.netlist.specs.ThreeValues.{known, complement};
 ghost use Rattle.tri.specs.Gates.{conjunction_tri, disjunction_tri, parity_tri, only_tri, gate_tri, IsForced};
 
 use netlist::{Kind, Tri};

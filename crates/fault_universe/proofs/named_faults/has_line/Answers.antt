@@ -2,7 +2,7 @@ use Rattle.std.proofs.Common.{◌<◌, length, refl, sym, subst}
 use Rattle.std.specs.List.{Contains}
 use Rattle.netlist.specs.Netlist.{signals}
 use Rattle.fault_universe.specs.Universe.{all_lines}
-use Rattle.fault_universe.specs.Texts.{signal_of}
+use Rattle.netlist.specs.Lines.{signal_of}
 use Rattle.fault_universe.proofs.Members.{stem_is_line}
 use Rattle.fault_universe.proofs.named_faults.has_line.Goals as goal
 

@@ -1,5 +1,5 @@
 use Rattle.std.proofs.Common.{◌≢◌, ◌<◌, ℕ}
-use Rattle.fault_universe.specs.Texts.{name_of}
+use Rattle.netlist.specs.Netlist.{name_of}
 use Rattle.fault_universe.proofs.named_faults.signal_named.Given as goal
 
 abbrev pub invariant-loop-x : goal.invariant-loop-x
