@@ -1,5 +1,5 @@
 -- Induction along the gates of an acyclic netlist, and what follows from it.
-use Rattle.std.proofs.Common.{◌≡◌, ℕ, Bool, true, false, not, ◌&&◌, List, map, sym, ◌∙◌, ap, inl, inr, eqb}
+use Rattle.std.proofs.Common.{◌≡◌, ℕ, Bool, true, false, not, ◌&&◌, map, sym, ◌∙◌, ap, inl, inr, eqb}
 use Rattle.std.specs.List.{All, Contains, list_any}
 use Rattle.std.proofs.lemmas.Bool.{both_ways, and_parts, and_from, eqb-true, eq-eqb, not_from_false, not-true, cases_Bool}
 use Rattle.std.proofs.lemmas.List.Elements.{All-contains, Contains-append_cases}

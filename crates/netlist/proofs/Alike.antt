@@ -1,10 +1,9 @@
 -- Settled assignments of two rules that keep a relation, and of one rule.
-use Rattle.std.proofs.Common.{◌≡◌, ℕ, suc, ◌+◌, Bool, true, List, [], ◌∷◌, ◌++◌, map, length, refl, sym, ◌∙◌, ap, subst}
+use Rattle.std.proofs.Common.{◌≡◌, ℕ, suc, ◌+◌, Bool, true, List, [], ◌∷◌, ◌++◌, map, length, refl, ◌∙◌, ap}
 use Rattle.std.specs.Bool.{Decides}
 use Rattle.std.specs.List.{All, AllZip, Contains, flat_map}
 use Rattle.std.proofs.lemmas.List.{length-map}
 use Rattle.std.proofs.lemmas.List.Elements.{All-nil, All-cons, All-head, All-tail, All-contains}
-use Rattle.netlist.specs.declared.lines.Line.{Line}
 use Rattle.netlist.specs.declared.lines.Line.TheVariants.{Stem, Pin, Out}
 use Rattle.netlist.specs.Netlist.{Definition, Netlist, is_cell, cells, gates, signals, IsAcyclic}
 use Rattle.netlist.specs.Conditions.{IsClosed}
@@ -12,7 +11,6 @@ use Rattle.netlist.specs.Settled.{Rule, Settles, on_pins, pins_of, outs, next}
 use Rattle.netlist.specs.Laws.{Keeps}
 use Rattle.netlist.proofs.Acyclic.{everywhere}
 use Rattle.netlist.proofs.Lists.{All-from_contains, contains_filter}
-use Rattle.netlist.proofs.Placed.{gate_defined}
 
 pub length-on_pins : {V : Type 0} (rule : Rule V) (z k : ℕ) (vs : List V) → length (on_pins rule z k vs) ≡ length vs
 length-on_pins rule z k [] = refl

@@ -2,13 +2,14 @@
 use Rattle.std.proofs.Common.{◌≡◌, ℕ, ◌+◌, ◌-◌, ◌<◌, ◌≤◌, cond, List, [], ◌∷◌, ◌++◌, length, get_or, set, take, refl, sym, ◌∙◌, ap, subst, inl, inr, arith, eqb, append_assoc}
 use Rattle.std.specs.List.{Contains}
 use Rattle.std.proofs.lemmas.Bool.{cases_eq, eq-eqb, ne_eqb}
-use Rattle.std.proofs.lemmas.List.{length-set, length_push, get_or-set_same, get_or-set_other, take_more}
+use Rattle.std.proofs.lemmas.List.{length-set, get_or-set_same, get_or-set_other, take_more}
 use Rattle.netlist.specs.declared.lines.Line.{Line}
 use Rattle.netlist.specs.declared.lines.Line.TheVariants.{Stem, Pin, Out}
 use Rattle.netlist.specs.declared.order.Placing.{Placing}
 use Rattle.netlist.specs.Placed.{zeros, IsPlaced}
-use Rattle.netlist.specs.Sorting.{unvisited, pins_among, IsCounted, HasRoom, RanksGrow, Counts}
-use Rattle.netlist.proofs.Placed.{zeros_set, placed_more, unplaced_gate}
+use Rattle.netlist.specs.Sorting.{unvisited, pins_among, IsCounted, HasRoom, Places, RanksGrow, Counts}
+use Rattle.netlist.proofs.Placed.{unplaced_gate}
+use Rattle.netlist.proofs.OneMore.{rank_here, rank_there, order_longer, same_size, same_count, was_unplaced, room_placed, placed_with}
 use Rattle.netlist.proofs.Waiting.{none_unvisited}
 
 grow_none : (p : Placing) → RanksGrow p p
@@ -135,37 +136,19 @@ counts_down p q z k room within none many order ranks counts =
 
 -- the last pin of a gate, which is placed
 pub counts_last : (p q : Placing) (z k : ℕ) → HasRoom p → z < length p.ranks.items → get_or p.ranks.items z 0 ≡ 0 → get_or p.counts.items z 0 ≤ 1
-    → q.order.items ≡ p.order.items ++ z ∷ [] → q.ranks.items ≡ set p.ranks.items z (length p.order.items + 2) → q.counts.items ≡ p.counts.items
-    → Counts (Pin z k ∷ []) p q
-counts_last p q z k room within none few order ranks counts =
-    let r : ℕ = length p.order.items + 2 in
-    let here : get_or q.ranks.items z 0 ≡ r = ap (λ (xs : List ℕ). get_or xs z 0) ranks ∙ get_or-set_same p.ranks.items z r 0 within in
-    let there : (y : ℕ) → (y ≡ z → ⊥) → get_or q.ranks.items y 0 ≡ get_or p.ranks.items y 0 =
-    λ y differs. ap (λ (xs : List ℕ). get_or xs y 0) ranks ∙ get_or-set_other p.ranks.items z y r 0 differs in
-    let at : (y : ℕ) → y ≡ z → (get_or q.ranks.items y 0 ≡ r) × (get_or p.ranks.items y 0 ≡ 0) =
-    λ y same. (ap (λ i. get_or q.ranks.items i 0) same ∙ here, ap (λ i. get_or p.ranks.items i 0) same ∙ none) in
-    let longer : length q.order.items ≡ length p.order.items + 1 = ap (λ (xs : List ℕ). length xs) order ∙ length_push p.order.items z in
-    let size : length q.ranks.items ≡ length p.ranks.items = ap (λ (xs : List ℕ). length xs) ranks ∙ length-set p.ranks.items z r in
-    let count : (y : ℕ) → get_or q.counts.items y 0 ≡ get_or p.counts.items y 0 = λ y. ap (λ (xs : List ℕ). get_or xs y 0) counts in
-    -- a gate that isn't placed now wasn't before, and is another one
-    let old : (y : ℕ) → get_or q.ranks.items y 0 ≡ 0 → (y ≡ z → ⊥) × (get_or p.ranks.items y 0 ≡ 0) =
-    λ y e. let differs : y ≡ z → ⊥ = λ s. let w = (at y s).0 in omega arith in (differs, sym (there y differs) ∙ e) in
+    → Places z p q → Counts (Pin z k ∷ []) p q
+counts_last p q z k room within none few places =
+    let longer = order_longer p q z within none places in
+    let count = same_count p q z within none places in
     record {
-      room =
-          let a = room.left in
-          let b = room.small in
-          let c = room.counts in
-          let d : length q.counts.items ≡ length p.counts.items = ap (λ (xs : List ℕ). length xs) counts in
-          let e : zeros q.ranks.items ≡ zeros (set p.ranks.items z r) = ap zeros ranks in
-          let f = zeros_set p.ranks.items z r within none (omega arith) in
-          record { counts = omega arith; left = omega arith; small = omega arith };
+      room = room_placed p q z within none places room;
       grow = record {
-        size = size;
+        size = same_size p q z within none places;
         order = omega arith;
-        stay = λ y l. there y (λ s. let w = (at y s).1 in omega arith);
+        stay = λ y l. rank_there p q z within none places y (λ s. let w : get_or p.ranks.items y 0 ≡ get_or p.ranks.items z 0 = ap (λ i. get_or p.ranks.items i 0) s in omega arith);
         new = λ y e. elim (cases_eq y z) [
-          | inl same ↦ inr (let w = (at y same).0 in omega arith)
-          | inr differs ↦ inl (there y differs ∙ e)
+          | inl same ↦ inr (let w : get_or q.ranks.items y 0 ≡ get_or q.ranks.items z 0 = ap (λ i. get_or q.ranks.items i 0) same in let r = rank_here p q z within none places in omega arith)
+          | inr differs ↦ inl (rank_there p q z within none places y differs ∙ e)
         ];
       };
       counted = λ n v rest numbered h.
@@ -178,23 +161,20 @@ counts_last p q z k room within none few order ranks counts =
           let one : cond {A = ℕ} (eqb z d.id) 1 0 ≡ 1 = ap (λ b. cond {A = ℕ} b 1 0) (eq-eqb z d.id (sym id)) in
           let all : unvisited v d.pins ≡ 0 = omega arith in
           let ready : (x : ℕ) → Contains d.pins x → 0 < get_or p.ranks.items x 0 = λ x c. h.visited_placed x (none_unvisited v d.pins all x c) in
-          let more : IsPlaced n (p.order.items ++ d.id ∷ []) (set p.ranks.items d.id r) = placed_more n numbered p.order.items p.ranks.items d h.placed w.1 still ready in
-          let base : IsPlaced n (p.order.items ++ z ∷ []) (set p.ranks.items z r) = subst (λ i. IsPlaced n (p.order.items ++ i ∷ []) (set p.ranks.items i r)) id more in
           record {
-            placed = subst (λ (o : List ℕ). IsPlaced n o q.ranks.items) (sym order)
-                (subst (λ (s : List ℕ). IsPlaced n (p.order.items ++ z ∷ []) s) (sym ranks) base);
+            placed = placed_with p q z within none places n numbered h.placed d w.1 id ready;
             visited_placed = λ x s.
                 let before = h.visited_placed x s in
-                let differs : x ≡ z → ⊥ = λ t. let u = (at x t).1 in omega arith in
-                let new = there x differs in
+                let differs : x ≡ z → ⊥ = λ t. let u : get_or p.ranks.items x 0 ≡ get_or p.ranks.items z 0 = ap (λ i. get_or p.ranks.items i 0) t in omega arith in
+                let new = rank_there p q z within none places x differs in
                 omega arith;
             counted = λ e g f.
-                let o = old e.id f in
+                let o = was_unplaced p q z within none places e.id f in
                 let differs = o.0 in
                 let before : get_or p.counts.items e.id 0 ≡ unvisited v e.pins + (cond {A = ℕ} (eqb z e.id) 1 0 + pins_among e.id rest) = h.counted e g o.1 in
                 let zero' : cond {A = ℕ} (eqb z e.id) 1 0 ≡ 0 = ap (λ b. cond {A = ℕ} b 1 0) (ne_eqb z e.id (λ s. differs (sym s))) in
                 let now = count e.id in
                 omega arith;
-            waits = λ e g f. let o = old e.id f in let before = h.waits e g o.1 in let now = count e.id in omega arith;
+            waits = λ e g f. let o = was_unplaced p q z within none places e.id f in let before = h.waits e g o.1 in let now = count e.id in omega arith;
           };
     }

@@ -1,7 +1,7 @@
 -- The definition of a signal.
-use Rattle.std.proofs.Common.{◌≡◌, ℕ, ◌+◌, ◌<◌, ◌≤◌, Bool, true, false, cond, take, List, [], ◌∷◌, ◌++◌, map, length, get_or, refl, sym, ◌∙◌, ap, Option, None, Some, inl, inr, arith, eqb}
-use Rattle.std.specs.List.{All, Contains, filter, find}
-use Rattle.std.proofs.lemmas.Bool.{both_ways, eqb-true, eq-eqb, ne_eqb, cases_Bool}
+use Rattle.std.proofs.Common.{◌≡◌, ℕ, ◌<◌, ◌≤◌, Bool, true, false, cond, List, [], ◌∷◌, length, refl, sym, ◌∙◌, ap, Option, None, Some, inl, inr, arith, eqb}
+use Rattle.std.specs.List.{All, Contains, find}
+use Rattle.std.proofs.lemmas.Bool.{both_ways, eqb-true, eq-eqb, ne_eqb}
 use Rattle.std.proofs.lemmas.List.Elements.{All-head, All-tail}
 use Rattle.netlist.specs.Netlist.{Definition, Netlist, definition_of}
 use Rattle.netlist.specs.Conditions.{IsNumbered}

@@ -3,7 +3,9 @@ pub mod Acyclic
 pub mod Placed
 pub mod Waiting
 pub mod ReaderRows
+pub mod OneMore
 pub mod Counting
+pub mod Ties
 pub mod Sorting
 pub mod Settling
 pub mod Found

@@ -1,6 +1,6 @@
 -- The values at output pins and at cells' pins, one after the other.
 use Rattle.std.proofs.Common.{◌≡◌, ℕ, ◌+◌, ◌<◌, ◌≤◌, take, List, [], ◌∷◌, ◌++◌, map, length, get_or, refl, sym, ◌∙◌, ap, subst, arith}
-use Rattle.std.specs.List.{All, Contains, flat_map}
+use Rattle.std.specs.List.{Contains, flat_map}
 use Rattle.std.proofs.lemmas.Grind.{take_at_read, flat_map-append}
 use Rattle.std.proofs.lemmas.List.{get_or_default, get_or-map, length-map, append-nil, map-append}
 use Rattle.std.proofs.lemmas.List.Elements.{All-contains, Contains-get_or}

@@ -1,9 +1,9 @@
 -- On a netlist with an order of its gates some assignment settles: drive the sources, then evaluate gate by gate.
-use Rattle.std.proofs.Common.{◌≡◌, ℕ, suc, zero, ◌+◌, ◌<◌, ◌≤◌, ◌≢◌, List, [], ◌∷◌, map, length, get_or, set, replicate, refl, sym, ◌∙◌, ap, subst, arith}
-use Rattle.std.specs.List.{All, AllPairs, AllZip}
+use Rattle.std.proofs.Common.{◌≡◌, ℕ, suc, zero, ◌+◌, ◌<◌, ◌≤◌, ◌≢◌, List, map, length, get_or, set, replicate, refl, subst, arith}
+use Rattle.std.specs.List.{All, AllPairs}
 use Rattle.std.proofs.lemmas.List.{length-replicate, length-map, get_or_default}
 use Rattle.netlist.specs.declared.lines.Line.TheVariants.{Stem}
-use Rattle.netlist.specs.Netlist.{Definition, Netlist, cells, gates, signals, IsAcyclic}
+use Rattle.netlist.specs.Netlist.{Definition, Netlist, cells, IsAcyclic}
 use Rattle.netlist.specs.Conditions.{IsClosed, IsNumbered}
 use Rattle.netlist.specs.Placed.{IsOrder}
 use Rattle.netlist.specs.Settled.{Rule, Settles, pins_of}

@@ -1,22 +1,18 @@
 -- Visits keep what a sorting in the making is, and it is sorted where all that is placed is visited.
-use Rattle.std.proofs.Common.{◌≡◌, ℕ, ◌+◌, ◌<◌, ◌≤◌, ◌⊎◌, Bool, true, false, List, [], ◌++◌, map, length, get_or, refl, sym, ◌∙◌, ap, subst, inl, inr, arith, eqb, ltb, leb, length-append, Some, slice_get}
+use Rattle.std.proofs.Common.{◌≡◌, ℕ, ◌+◌, ◌<◌, ◌≤◌, ◌⊎◌, Bool, true, false, List, [], ◌++◌, map, length, get_or, refl, sym, ◌∙◌, ap, subst, inl, inr, arith, eqb, ltb, length-append, Some, slice_get}
 use Rattle.std.specs.List.{Contains}
-use Rattle.std.proofs.lemmas.Bool.{both_ways, cases_Bool, cases_eq, cases_lt, eq-eqb, eqb-true, lt-ltb, le-ltb, ltb-true, ltb-false, leb-true, and_from, and_parts, and_cases, and_left, or_cases, or_left, or_right}
+use Rattle.std.proofs.lemmas.Bool.{cases_Bool, cases_eq, cases_lt, eq-eqb, eqb-true, lt-ltb, le-ltb, ltb-true, ltb-false, and_from, and_parts, and_cases, and_left, or_cases, or_left, or_right}
 use Rattle.std.proofs.lemmas.List.{length-map, get_or_past, get_or-map, get_or-append-add, append-nil}
-use Rattle.std.proofs.lemmas.List.Elements.{All-contains}
 use Rattle.std.proofs.lemmas.Option.{get_or_from_slice_get, slice_get_within}
-use Rattle.netlist.specs.declared.kinds.Kind.{Kind}
-use Rattle.netlist.specs.declared.kinds.Kind.TheVariants.{And, Nand, Or, Nor, Xor, Xnor, Not, Buff, Dff}
 use Rattle.netlist.specs.declared.lines.Line.{Line}
 use Rattle.netlist.specs.declared.order.Placing.{Placing}
-use Rattle.netlist.specs.Netlist.{Definition, Netlist, gates, signals}
-use Rattle.netlist.specs.Gates.{allows_pins}
-use Rattle.netlist.specs.Conditions.{IsNumbered, IsClosed}
+use Rattle.netlist.specs.Netlist.{Definition, Netlist, signals}
+use Rattle.netlist.specs.Conditions.{IsNumbered}
 use Rattle.netlist.specs.Placed.{zeros, IsPlaced, IsSorted, start_ranks}
 use Rattle.netlist.specs.Readers.{readers_of}
-use Rattle.netlist.specs.Sorting.{unvisited, pins_among, nothing, also, placed_below, sources_below, start_counts, IsCounted, HasRoom, Counts}
+use Rattle.netlist.specs.Sorting.{unvisited, pins_among, also, placed_below, sources_below, start_counts, IsCounted, IsStarted, HasRoom, Counts}
 use Rattle.netlist.proofs.Placed.{zeros-le, definition_below, gate_defined, id_at, ranked_at, start_placed, signals_length}
-use Rattle.netlist.proofs.Waiting.{unvisited_also, some_unvisited, unvisited_agree, unvisited_nothing, pins_of_readers}
+use Rattle.netlist.proofs.Waiting.{unvisited_also, some_unvisited, unvisited_agree, pins_of_readers}
 
 -- what is visited may be said in another way
 pub visited_agree : (n : Netlist) (v w : ℕ → Bool) (lines : List Line) (p : Placing) → ((y : ℕ) → v y ≡ w y) → IsCounted n v lines p → IsCounted n w lines p
@@ -240,18 +236,6 @@ start_counts_size n =
     let d = signals_length n in
     omega arith
 
--- each kind has a pin
-some_pins : (kind : Kind) (count : ℕ) → allows_pins kind count ≡ true → 0 < count
-some_pins And count e = leb-true 1 count (and_parts (leb 1 count) (leb count 1024) e).0
-some_pins Nand count e = leb-true 1 count (and_parts (leb 1 count) (leb count 1024) e).0
-some_pins Or count e = leb-true 1 count (and_parts (leb 1 count) (leb count 1024) e).0
-some_pins Nor count e = leb-true 1 count (and_parts (leb 1 count) (leb count 1024) e).0
-some_pins Xor count e = let two = leb-true 2 count (and_parts (leb 2 count) (leb count 1024) e).0 in omega arith
-some_pins Xnor count e = let two = leb-true 2 count (and_parts (leb 2 count) (leb count 1024) e).0 in omega arith
-some_pins Not count e = let one = eqb-true count 1 e in omega arith
-some_pins Buff count e = let one = eqb-true count 1 e in omega arith
-some_pins Dff count e = let one = eqb-true count 1 e in omega arith
-
 module _ (n : Netlist) (p : Placing) (order : p.order.items ≡ []) (ranks : p.ranks.items ≡ start_ranks n) (counts : p.counts.items ≡ start_counts n) where
   pub start_room : IsNumbered n → length (signals n) ≤ 8000000 → HasRoom p
   start_room numbered small =
@@ -263,21 +247,12 @@ module _ (n : Netlist) (p : Placing) (order : p.order.items ≡ []) (ranks : p.r
       let e : zeros p.ranks.items ≤ length p.ranks.items = zeros-le p.ranks.items in
       record { counts = omega arith; left = omega arith; small = omega arith }
 
-  pub start_counted : IsNumbered n → IsClosed n → IsCounted n nothing [] p
-  start_counted numbered closed =
-      let count : (d : Definition) → Contains (gates n) d → get_or p.counts.items d.id 0 ≡ length d.pins =
-      λ d g. ap (λ (xs : List ℕ). get_or xs d.id 0) counts ∙ start_count n numbered d (gate_defined n numbered d g) in
-      record {
-        placed = subst (λ (o : List ℕ). IsPlaced n o p.ranks.items) (sym order) (subst (λ (r : List ℕ). IsPlaced n [] r) (sym ranks) (start_placed n numbered));
-        visited_placed = λ x s. absurd (both_ways false refl s);
-        counted = λ d g e. let a = count d g in let b = unvisited_nothing d.pins in omega arith;
-        waits = λ d g e.
-            let a = count d g in
-            let allowed : allows_pins d.kind (length d.pins) ≡ true =
-            All-contains (λ (f : Definition). allows_pins f.kind (length f.pins) ≡ true) n.definitions d closed.allowed (gate_defined n numbered d g) in
-            let some = some_pins d.kind (length d.pins) allowed in
-            omega arith;
-      }
+  pub started : IsNumbered n → IsStarted n 0 p
+  started numbered = record {
+    placed = subst (λ (o : List ℕ). IsPlaced n o p.ranks.items) (sym order) (subst (λ (r : List ℕ). IsPlaced n [] r) (sym ranks) (start_placed n numbered));
+    counted = λ d g e. ap (λ (xs : List ℕ). get_or xs d.id 0) counts ∙ start_count n numbered d (gate_defined n numbered d g);
+    waits = λ d g l e. absurd (omega arith);
+  }
 
 -- the signal of a gate in the order
 pub gate_below : (n : Netlist) → IsNumbered n → (order ranks : List ℕ) → IsPlaced n order ranks → (c x : ℕ) → slice_get order c ≡ Some x

@@ -1,9 +1,9 @@
 -- What the conditions on parts show of the names that nothing defines, and of the numbers of pins.
-use Rattle.std.proofs.Common.{◌≡◌, ℕ, ◌<◌, ◌≤◌, Bool, true, false, ◌&&◌, List, length, refl, inl, inr, arith, eqb, leb}
+use Rattle.std.proofs.Common.{◌≡◌, ℕ, ◌<◌, ◌≤◌, true, false, ◌&&◌, length, refl, inl, inr, arith, eqb, leb}
 use Rattle.std.proofs.lemmas.Bool.{and_parts, both_ways, leb-true, eqb-true}
 use Rattle.std.specs.List.{All, Contains}
 use Rattle.netlist.specs.declared.kinds.Kind.{Kind}
-use Rattle.netlist.specs.declared.kinds.Kind.TheVariants.{And, Nand, Or, Nor, Xor, Xnor, Not, Buff, Dff}
+use Rattle.netlist.specs.declared.kinds.Kind.TheVariants.{And, Nand, Or, Nor, Xor, Xnor, Not, Buff, Dff, Const0, Const1}
 use Rattle.netlist.specs.Gates.{allows_pins}
 use Rattle.netlist.specs.Netlist.{Definition, Netlist, cells, is_cell, is_flip_flop, signals}
 use Rattle.netlist.specs.Conditions.{IsWellFormed, IsClosed, IsRead, IsUndefined}
@@ -46,6 +46,9 @@ between low count e = leb-true count 1024 (and_parts (leb low count) (leb count 
 single : (count : ℕ) → eqb count 1 ≡ true → count ≤ 1024
 single count e = let one = eqb-true count 1 e in omega arith
 
+none : (count : ℕ) → eqb count 0 ≡ true → count ≤ 1024
+none count e = let zero' = eqb-true count 0 e in omega arith
+
 pub few_pins : (kind : Kind) (count : ℕ) → allows_pins kind count ≡ true → count ≤ 1024
 few_pins And count e = between 1 count e
 few_pins Nand count e = between 1 count e
@@ -56,6 +59,8 @@ few_pins Xnor count e = between 2 count e
 few_pins Not count e = single count e
 few_pins Buff count e = single count e
 few_pins Dff count e = single count e
+few_pins Const0 count e = none count e
+few_pins Const1 count e = none count e
 
 flip_flop_pin : (kind : Kind) (count : ℕ) → is_flip_flop kind ≡ true → allows_pins kind count ≡ true → count ≡ 1
 flip_flop_pin And count f e = absurd (both_ways false refl f)
@@ -67,6 +72,8 @@ flip_flop_pin Xnor count f e = absurd (both_ways false refl f)
 flip_flop_pin Not count f e = absurd (both_ways false refl f)
 flip_flop_pin Buff count f e = absurd (both_ways false refl f)
 flip_flop_pin Dff count f e = eqb-true count 1 e
+flip_flop_pin Const0 count f e = absurd (both_ways false refl f)
+flip_flop_pin Const1 count f e = absurd (both_ways false refl f)
 
 -- each cell has one pin
 pub one_pin : (n : Netlist) → IsClosed n → All (λ (d : Definition). length d.pins ≡ 1) (cells n)

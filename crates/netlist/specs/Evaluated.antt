@@ -1,5 +1,5 @@
 -- What an evaluation answers.
-use Rattle.std.specs.Prelude.{ℕ, ◌≡◌, Bool, false, List, length, Option}
+use Rattle.std.specs.Prelude.{◌≡◌, Bool, false, List, length, Option}
 use Rattle.netlist.specs.declared.lines.Fault.{Fault}
 use Rattle.netlist.specs.Netlist.{Netlist, signals}
 use Rattle.netlist.specs.Settled.{Settles, bits, outs, next}

@@ -1,7 +1,7 @@
 -- What a gate gives, from the bits on its pins, and how many pins it may have.
 use Rattle.std.specs.Prelude.{ℕ, ◌≡◌, Bool, true, false, not, ◌&&◌, ◌||◌, ◌==◌, nat_le, cond, List, [], ◌∷◌}
 use Rattle.netlist.specs.declared.kinds.Kind.{Kind}
-use Rattle.netlist.specs.declared.kinds.Kind.TheVariants.{And, Nand, Or, Nor, Xor, Xnor, Not, Buff, Dff}
+use Rattle.netlist.specs.declared.kinds.Kind.TheVariants.{And, Nand, Or, Nor, Xor, Xnor, Not, Buff, Dff, Const0, Const1}
 
 abbrev pub conjunction : List Bool → Bool
 conjunction [] = true
@@ -30,8 +30,10 @@ gate_bit Xnor bits = not (parity bits)
 gate_bit Not bits = not (only bits)
 gate_bit Buff bits = only bits
 gate_bit Dff bits = only bits
+gate_bit Const0 bits = false
+gate_bit Const1 bits = true
 
--- NOT, BUFF and DFF have one pin, XOR and XNOR two or more, the others one or more; none has over 1,024
+-- CONST0 and CONST1 have no pin, NOT, BUFF and DFF one, XOR and XNOR two or more, the others one or more; none has over 1,024
 abbrev pub allows_pins : Kind → ℕ → Bool
 allows_pins And count = nat_le 1 count && nat_le count 1024
 allows_pins Nand count = nat_le 1 count && nat_le count 1024
@@ -42,6 +44,8 @@ allows_pins Xnor count = nat_le 2 count && nat_le count 1024
 allows_pins Not count = count == 1
 allows_pins Buff count = count == 1
 allows_pins Dff count = count == 1
+allows_pins Const0 count = count == 0
+allows_pins Const1 count = count == 0
 
 -- what some bits are together
 pub record AreTogether (bits : List Bool) (all some odd first : Bool) : Type 0 where

@@ -1,8 +1,7 @@
 -- Netlists as equations over signals, with names beside. A signal is a number: inputs and then definitions are 0, 1, 2 and so on.
 -- (The .bench form of Brglez, Bryan and Kozminski, Combinational profiles of sequential benchmark circuits, 1989.)
-use Rattle.std.specs.Prelude.{ℕ, ◌≡◌, ◌==◌, ◌≤◌, Bool, true, false, not, List, [], ◌++◌, map, length, slice_index_or, IsTrue, Option, find}
-use Rattle.std.specs.List.{All, Contains, filter}
-use Rattle.std.specs.Option.{option_map}
+use Rattle.std.specs.Prelude.{ℕ, ◌≡◌, ◌==◌, Bool, true, false, not, List, [], ◌++◌, map, length, slice_index_or, IsTrue, Option, find}
+use Rattle.std.specs.List.{Contains, filter}
 use Rattle.netlist.specs.declared.kinds.Kind.{Kind}
 use Rattle.netlist.specs.declared.kinds.Kind.TheVariants.{Dff}
 

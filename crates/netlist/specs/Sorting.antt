@@ -1,6 +1,6 @@
 -- How the order of evaluation is built with one look at each pin (private to this crate): once a signal is placed it is visited,
 -- and then each pin that reads it no longer waits. A gate is placed as soon as none of its pins waits.
-use Rattle.std.specs.Prelude.{ℕ, IsTrue, Bool, false, map, ◌++◌, ◌≡◌, ◌+◌, ◌<◌, ◌≤◌, ◌==◌, ◌&&◌, ◌||◌, ◌⊎◌, nat_lt, if◌then◌else◌, List, [], ◌∷◌, length, slice_index}
+use Rattle.std.specs.Prelude.{ℕ, IsTrue, Bool, false, map, ◌++◌, ◌≡◌, ◌+◌, ◌<◌, ◌≤◌, ◌==◌, ◌&&◌, ◌||◌, ◌⊎◌, nat_lt, if◌then◌else◌, List, [], ◌∷◌, length, slice_index, slice_set}
 use Rattle.std.specs.List.{All, Contains}
 use Rattle.netlist.specs.declared.lines.Line.{Line}
 use Rattle.netlist.specs.declared.lines.Line.TheVariants.{Stem, Pin, Out}
@@ -48,6 +48,12 @@ pub record IsCounted (n : Netlist) (visited : ℕ → Bool) (lines : List Line) 
       → slice_index p.counts.items d.id ≡ unvisited visited d.pins + pins_among d.id lines
   pub waits : (d : Definition) → Contains (gates n) d → slice_index p.ranks.items d.id ≡ 0 → 0 < slice_index p.counts.items d.id
 
+-- Nothing is visited, and no gate below m without pins waits.
+pub record IsStarted (n : Netlist) (m : ℕ) (p : Placing) : Type 0 where
+  pub placed : IsPlaced n p.order.items p.ranks.items
+  pub counted : (d : Definition) → Contains (gates n) d → slice_index p.ranks.items d.id ≡ 0 → slice_index p.counts.items d.id ≡ length d.pins
+  pub waits : (d : Definition) → Contains (gates n) d → d.id < m → slice_index p.ranks.items d.id ≡ 0 → 0 < slice_index p.counts.items d.id
+
 -- there are as many counts as ranks, and room in the order for each signal without a rank
 pub record HasRoom (p : Placing) : Type 0 where
   pub counts : length p.counts.items ≡ length p.ranks.items
@@ -60,6 +66,24 @@ pub record RanksGrow (p q : Placing) : Type 0 where
   pub order : length p.order.items ≤ length q.order.items
   pub stay : (y : ℕ) → 0 < slice_index p.ranks.items y → slice_index q.ranks.items y ≡ slice_index p.ranks.items y
   pub new : (y : ℕ) → slice_index p.ranks.items y ≡ 0 → (slice_index q.ranks.items y ≡ 0) ⊎ (length p.order.items + 2 ≤ slice_index q.ranks.items y)
+
+-- z is placed behind the others
+pub record Places (z : ℕ) (p q : Placing) : Type 0 where
+  pub order : q.order.items ≡ p.order.items ++ z ∷ []
+  pub ranks : q.ranks.items ≡ slice_set p.ranks.items z (length p.order.items + 2)
+  pub counts : q.counts.items ≡ p.counts.items
+
+-- z is placed, if it is a gate without pins
+pub record PlacesTie (z : ℕ) (p q : Placing) : Type 0 where
+  pub room : HasRoom q
+  pub size : length q.ranks.items ≡ length p.ranks.items
+  pub started : (n : Netlist) → IsNumbered n → IsStarted n z p → IsStarted n (z + 1) q
+
+-- the gates without pins are placed
+pub record PlacesTies (p q : Placing) : Type 0 where
+  pub room : HasRoom q
+  pub size : length q.ranks.items ≡ length p.ranks.items
+  pub counted : (n : Netlist) → IsNumbered n → IsStarted n 0 p → IsCounted n nothing [] q
 
 -- the pins on these lines no longer wait
 pub record Counts (lines : List Line) (p q : Placing) : Type 0 where

@@ -82,6 +82,8 @@ impl Logic for Bits {
             Kind::Xnor => !pins.odd,
             Kind::Not => !pins.first,
             Kind::Buff | Kind::Dff => pins.first,
+            Kind::Const0 => false,
+            Kind::Const1 => true,
         }
     }
 }

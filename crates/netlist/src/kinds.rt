@@ -15,6 +15,10 @@ pub enum Kind {
     Not,
     Buff,
     Dff,
+    /// A tie cell: a gate without pins that gives 0.
+    Const0,
+    /// A tie cell that gives 1.
+    Const1,
 }
 
 impl Kind {
@@ -30,6 +34,7 @@ impl Kind {
         ensures { result ≡ allows_pins self pins }
     {
         match self {
+            Kind::Const0 | Kind::Const1 => pins == 0,
             Kind::Not | Kind::Buff | Kind::Dff => pins == 1,
             Kind::Xor | Kind::Xnor => 2 <= pins && pins <= 1024,
             Kind::And | Kind::Nand | Kind::Or | Kind::Nor => 1 <= pins && pins <= 1024,

@@ -15,8 +15,6 @@ mod readings;
 mod rows;
 mod rules;
 mod signals;
-#[cfg(test)]
-mod tests;
 
 pub use bits::Bits;
 pub use equations::{Definition, NoMemory, Parts};

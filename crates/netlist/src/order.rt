@@ -4,7 +4,7 @@ ghost use Rattle.std.specs.List.{All};
 ghost use Rattle.netlist.specs.Netlist.{Definition as Equation, signals};
 ghost use Rattle.netlist.specs.Conditions.{IsClosed, IsNumbered, whole};
 ghost use Rattle.netlist.specs.Placed.{IsSorted, HasRanks, start_ranks};
-ghost use Rattle.netlist.specs.Sorting.{AreBelow, AreReaders, Counts, HasRoom, IsCounted, IsPinBelow, VisitsSources, nothing, start_counts};
+ghost use Rattle.netlist.specs.Sorting.{AreBelow, AreReaders, Counts, HasRoom, IsPinBelow, IsStarted, Places, PlacesTie, PlacesTies, VisitsSources, start_counts};
 
 use crate::equations::Parts;
 use crate::lines::Line;
@@ -65,13 +65,49 @@ impl Placing {
         requires closed { IsClosed (whole parts.now) }
         requires small { length (signals (whole parts.now)) ≤ 8000000 }
         ensures room { IfOk result HasRoom }
-        ensures counted { IfOk result (IsCounted (whole parts.now) nothing []) }
+        ensures started { IfOk result (IsStarted (whole parts.now) 0) }
     {
         Ok(Placing {
             order: Vec::with_capacity(alloc, parts.definitions.len())?,
             ranks: start_ranks(alloc, parts)?,
             counts: start_counts(alloc, parts)?,
         })
+    }
+
+    /// Places a gate behind the others.
+    fn place(&mut self, gate: SignalId) -> Result<(), AllocError>
+        requires room { HasRoom self.old }
+        requires within { gate < length self.old.ranks.items }
+        requires unplaced { slice_index self.old.ranks.items gate ≡ 0 }
+        ensures { OnOk result (Places gate self.old self.new) }
+    {
+        let rank = self.order.len() as u32 + 2;
+        self.order.push(gate)?;
+        self.ranks[gate.index()] = rank;
+        Ok(())
+    }
+
+    /// Places the signal if it is a gate without pins.
+    fn place_tie(&mut self, signal: SignalId) -> Result<(), AllocError>
+        requires room { HasRoom self.old }
+        requires within { signal < length self.old.ranks.items }
+        ensures { OnOk result (PlacesTie signal self.old self.new) }
+    {
+        if self.ranks[signal.index()] == 0 && self.counts[signal.index()] == 0 {
+            self.place(signal)?;
+        }
+        Ok(())
+    }
+
+    /// Places the gates without pins, which wait for nothing.
+    fn place_ties(&mut self) -> Result<(), AllocError>
+        requires { HasRoom self.old }
+        ensures { OnOk result (PlacesTies self.old self.new) }
+    {
+        for signal in 0..self.ranks.len() {
+            self.place_tie(SignalId(signal as u32))?;
+        }
+        Ok(())
     }
 
     /// One pin of the gate no longer waits; after the last one the gate is placed.
@@ -88,9 +124,7 @@ impl Placing {
             self.counts[place] -= 1;
             return Ok(());
         }
-        let rank = self.order.len() as u32 + 2;
-        self.order.push(gate)?;
-        self.ranks[place] = rank;
+        self.place(gate)?;
         Ok(())
     }
 
@@ -139,6 +173,7 @@ pub(crate) fn sort(alloc: Global, parts: &Parts, table: &ReaderTable) -> Result<
     ensures { IfOk result (λ s. IsSorted (whole parts.now) s.order.items s.ranks.items) }
 {
     let mut placing = Placing::start(alloc, parts)?;
+    placing.place_ties()?;
     placing.visit_sources(table)?;
     let mut cursor = 0;
     while let Some(gate) = placing.gate_at(cursor) {

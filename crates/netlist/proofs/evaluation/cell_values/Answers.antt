@@ -1,4 +1,4 @@
-use Rattle.std.proofs.Common.{[], take, ap, sym, ◌∙◌, length, arith}
+use Rattle.std.proofs.Common.{[], ap, sym, ◌∙◌, length, arith}
 use Rattle.std.specs.List.{flat_map}
 use Rattle.std.proofs.lemmas.List.{get_or_default, take_all, length-map}
 use Rattle.netlist.specs.declared.kinds.Kind.TheVariants.{Dff}
@@ -24,6 +24,12 @@ pub definition-requires-clause-within : goal.definition-requires-clause-within
 definition-requires-clause-within g c =
     (cell_within c.args.netlist.now c.requires.sound c.cells-cell-items.result.now c.loop-cell.cell-index c.cell-item.result no_gate
     c.cells-cell-items.ensures c.loop-cell-test.true c.cell-item.is).1
+
+pub bounds-pins-0 : goal.bounds-pins-0
+bounds-pins-0 g c =
+    let one = the_pin c.args.netlist.now c.requires.sound c.cells-cell-items.result.now c.loop-cell.cell-index c.cell-item.result c.definition.result.now c.pins.result.now
+    c.cells-cell-items.ensures c.loop-cell-test.true c.cell-item.is c.definition.ensures.member c.definition.ensures.same c.pins.ensures in
+    omega arith
 
 pub bounds-values-index : goal.bounds-values-index
 bounds-values-index g c =

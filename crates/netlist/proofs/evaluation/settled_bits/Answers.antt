@@ -1,4 +1,4 @@
-use Rattle.std.proofs.Common.{false, List, Bool, ap, sym, ◌∙◌}
+use Rattle.std.proofs.Common.{false, List, Bool, ap, ◌∙◌}
 use Rattle.netlist.specs.Netlist.{Netlist}
 use Rattle.netlist.specs.Settled.{bits, outs, next}
 use Rattle.netlist.specs.Settling.{at}

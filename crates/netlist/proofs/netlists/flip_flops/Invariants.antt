@@ -1,4 +1,4 @@
-use Rattle.std.proofs.Common.{◌≡◌, ℕ, take, map}
+use Rattle.std.proofs.Common.{◌≡◌, take, map}
 use Rattle.std.specs.List.{filter}
 use Rattle.netlist.specs.Netlist.{Definition, is_cell}
 use Rattle.netlist.proofs.netlists.flip_flops.Given as goal

@@ -13,13 +13,14 @@ use Rattle.netlist.proofs.order.sort.Goals as goal
 pub visit_sources-requires-clause-below : goal.visit_sources-requires-clause-below
 visit_sources-requires-clause-below c =
     let n = whole c.args.parts.now in
-    subst (λ m. AreBelow m c.args.table.now) (sym c.in_ok-placing.ensures.counted.placed.size) (are_below n c.requires.numbered c.args.table.now c.requires.readers)
+    subst (λ m. AreBelow m c.args.table.now) (sym (c.in_ok-place_ties.ensures.size ∙ c.in_ok-placing.ensures.started.placed.size)) (are_below n c.requires.numbered c.args.table.now c.requires.readers)
 
 pub loop-gate-init : goal.loop-gate-init
 loop-gate-init c = record {
   room = c.in_ok-visit_sources.ensures.room;
   within = omega arith;
-  counted = c.in_ok-visit_sources.ensures.counted (whole c.args.parts.now) c.requires.numbered c.requires.readers c.in_ok-placing.ensures.counted;
+  counted = c.in_ok-visit_sources.ensures.counted (whole c.args.parts.now) c.requires.numbered c.requires.readers
+      (c.in_ok-place_ties.ensures.counted (whole c.args.parts.now) c.requires.numbered c.in_ok-placing.ensures.started);
 }
 
 pub readers-requires : goal.readers-requires

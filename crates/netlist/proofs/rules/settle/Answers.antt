@@ -1,4 +1,4 @@
-use Rattle.std.proofs.Common.{refl, ◌+◌, ◌<◌, map, ap, sym, ◌∙◌, length, set, subst}
+use Rattle.std.proofs.Common.{refl, ◌+◌, ◌<◌, ap, sym, ◌∙◌, length, set, subst}
 use Rattle.std.proofs.lemmas.List.{get_or_default}
 use Rattle.netlist.proofs.Settling.{settle_more, settled}
 use Rattle.netlist.specs.declared.lines.Line.TheVariants.{Stem}

@@ -1,4 +1,4 @@
-use Rattle.std.proofs.Common.{◌<◌, ap, length, arith}
+use Rattle.std.proofs.Common.{ap, length, arith}
 use Rattle.netlist.specs.Netlist.{Netlist, signals}
 use Rattle.netlist.specs.Conditions.{whole}
 use Rattle.netlist.proofs.Placed.{signal_from}

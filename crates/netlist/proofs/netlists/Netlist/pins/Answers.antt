@@ -1,4 +1,4 @@
-use Rattle.std.proofs.Common.{◌<◌, [], ap, sym, ◌∙◌, length, arith}
+use Rattle.std.proofs.Common.{[], ap, sym, ◌∙◌, arith}
 use Rattle.std.specs.Option.{option_map_or}
 use Rattle.netlist.specs.Conditions.{whole}
 use Rattle.netlist.specs.Netlist.{Netlist, Definition as Equation, definition_of}

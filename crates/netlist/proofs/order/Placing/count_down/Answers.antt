@@ -1,16 +1,13 @@
-use Rattle.std.proofs.Common.{◌≡◌, ℕ, ◌+◌, ◌-◌, ◌<◌, List, ◌∙◌, ap, sym, length, get_or, set, refl, arith}
-use Rattle.std.proofs.lemmas.List.{get_or_default}
+use Rattle.std.proofs.Common.{◌-◌, ◌<◌, ◌∙◌, ap, sym, length, set, refl, arith}
+use Rattle.netlist.proofs.Lists.{get_or_read}
 use Rattle.netlist.proofs.Counting.{counts_placed, counts_down, counts_last}
 use Rattle.netlist.proofs.order.Placing.count_down.Goals as goal
-
-read_at : (xs : List ℕ) (i z v : ℕ) → i ≡ z → z < length xs → v ≡ get_or xs i v → get_or xs z 0 ≡ v
-read_at xs i z v at l e = sym (e ∙ (ap (λ k. get_or xs k v) at ∙ get_or_default xs z v 0 l))
 
 pub returns-then-index-ne0 : goal.returns-then-index-ne0
 returns-then-index-ne0 c k =
     let p = c.args.self.now in
     let z = c.args.gate in
-    let rank = read_at p.ranks.items c.index-place.result z c.index.result.now c.index-place.ensures c.requires.within c.index.ensures in
+    let rank = get_or_read p.ranks.items c.index-place.result z c.index.result.now c.index-place.ensures c.requires.within c.index.ensures in
     counts_placed p z k c.requires.room (let differs = c.if-index-ne0.true in omega arith)
 
 pub returns-then-index-gt1 : goal.returns-then-index-gt1
@@ -19,11 +16,17 @@ returns-then-index-gt1 c k =
     let z = c.args.gate in
     let size = c.requires.room.counts in
     let within : z < length p.counts.items = let l = c.requires.within in omega arith in
-    let rank = read_at p.ranks.items c.index-place.result z c.index.result.now c.index-place.ensures c.requires.within c.index.ensures in
-    let count = read_at p.counts.items c.index-place.result z c.index-2.result.now c.index-place.ensures within c.index-2.ensures in
-    let again = read_at p.counts.items c.index-place.result z c.index_mut.result.now c.index-place.ensures within c.index_mut.ensures.value in
+    let rank = get_or_read p.ranks.items c.index-place.result z c.index.result.now c.index-place.ensures c.requires.within c.index.ensures in
+    let count = get_or_read p.counts.items c.index-place.result z c.index-2.result.now c.index-place.ensures within c.index-2.ensures in
+    let again = get_or_read p.counts.items c.index-place.result z c.index_mut.result.now c.index-place.ensures within c.index_mut.ensures.value in
     counts_down p _ z k c.requires.room c.requires.within (rank ∙ c.if-index-ne0.false) (let many = c.if-index-gt1.true in omega arith) refl refl
     (ap (λ i. set p.counts.items i (c.index_mut.result.now - 1)) c.index-place.ensures ∙ ap (λ m. set p.counts.items z (m - 1)) (sym again))
+
+pub place-requires-clause-unplaced : goal.place-requires-clause-unplaced
+place-requires-clause-unplaced c =
+    let p = c.args.self.now in
+    let z = c.args.gate in
+    get_or_read p.ranks.items c.index-place.result z c.index.result.now c.index-place.ensures c.requires.within c.index.ensures ∙ c.if-index-ne0.false
 
 pub returns : goal.returns
 returns c k =
@@ -31,7 +34,6 @@ returns c k =
     let z = c.args.gate in
     let size = c.requires.room.counts in
     let within : z < length p.counts.items = let l = c.requires.within in omega arith in
-    let rank = read_at p.ranks.items c.index-place.result z c.index.result.now c.index-place.ensures c.requires.within c.index.ensures in
-    let count = read_at p.counts.items c.index-place.result z c.index-2.result.now c.index-place.ensures within c.index-2.ensures in
-    counts_last p _ z k c.requires.room c.requires.within (rank ∙ c.if-index-ne0.false) (let few = c.if-index-gt1.false in omega arith) c.in_ok-push.ensures.items
-    (ap (λ i. set p.ranks.items i (c.len.result + 2)) c.index-place.ensures ∙ ap (λ m. set p.ranks.items z (m + 2)) (c.len.ensures ∙ p.order.ok.0)) refl
+    let rank = get_or_read p.ranks.items c.index-place.result z c.index.result.now c.index-place.ensures c.requires.within c.index.ensures in
+    let count = get_or_read p.counts.items c.index-place.result z c.index-2.result.now c.index-place.ensures within c.index-2.ensures in
+    counts_last p _ z k c.requires.room c.requires.within (rank ∙ c.if-index-ne0.false) (let few = c.if-index-gt1.false in omega arith) c.in_ok-place.ensures
