@@ -54,7 +54,7 @@ fn push_fault(
 
 /// Puts the piece on the output and clears it, once it is long enough.
 fn put_piece<T: Sink>(out: &mut T, piece: &mut Vec<u8>) -> Result<(), WriteRefusal>
-    ensures { PutsPiece (T.taken out.old) (T.faults out.old) (T.taken out.new) (T.faults out.new) piece.old.items piece.new.items result }
+    ensures { PutsPiece (T.taken out.old) (T.failures out.old) (T.taken out.new) (T.failures out.new) piece.old.items piece.new.items result }
 {
     if piece.len() < PIECE_BYTES {
         return Ok(());
@@ -73,7 +73,7 @@ fn put_fault<T: Sink>(
     class: u32,
 ) -> Result<(), WriteRefusal>
     requires { signal_of fault.line < length (signals netlist.now) }
-    ensures { PutsPiece (T.taken out.old) (T.faults out.old) (T.taken out.new) (T.faults out.new)
+    ensures { PutsPiece (T.taken out.old) (T.failures out.old) (T.taken out.new) (T.failures out.new)
         (piece.old.items ++ fault_line netlist.now fault class) piece.new.items result }
 {
     push_fault(piece, netlist, fault, class).map_err(|_| WriteRefusal::NoMemory)?;
@@ -90,7 +90,7 @@ fn put_faults<T: Sink>(
 ) -> Result<(), WriteRefusal>
     requires universe { faults.now ≡ universe_of netlist.now }
     requires size { length classes.now.numbers ≡ length (universe_of netlist.now) }
-    ensures { PutsText (T.taken out.old) (T.faults out.old) (T.taken out.new) (T.faults out.new)
+    ensures { PutsText (T.taken out.old) (T.failures out.old) (T.taken out.new) (T.failures out.new)
         (text.old.items ++ fault_lines netlist.now (universe_of netlist.now) classes.now.numbers) result }
 {
     netlist.sound();
@@ -128,7 +128,7 @@ pub fn put_fault_list<T: Sink>(
     netlist: &Netlist,
 ) -> Result<(), WriteRefusal>
     requires { IsDesign netlist.now }
-    ensures { PutsFaultList netlist.now (T.taken out.old) (T.faults out.old) (T.taken out.new) (T.faults out.new) result }
+    ensures { PutsFaultList netlist.now (T.taken out.old) (T.failures out.old) (T.taken out.new) (T.failures out.new) result }
 {
     let faults = faults_of(alloc, netlist).map_err(|_| WriteRefusal::NoMemory)?;
     let classes = collapse(alloc, netlist, &faults).map_err(|_| WriteRefusal::NoMemory)?;

@@ -36,8 +36,8 @@ fn perform<'a, S: Shelf, T: Sink>(
 ) -> Status<'a>
     requires { IsInRange request.now }
     ensures { RequestRow (line_of request.now)
-        (world (S.files shelf.old) (S.faults shelf.old) (T.taken out.old) (T.faults out.old))
-        (world (S.files shelf.new) (S.faults shelf.new) (T.taken out.new) (T.faults out.new)) result }
+        (world (S.files shelf.old) (S.failures shelf.old) (T.taken out.old) (T.failures out.old))
+        (world (S.files shelf.new) (S.failures shelf.new) (T.taken out.new) (T.failures out.new)) result }
 {
     match request {
         Request::Scan {
@@ -64,7 +64,7 @@ fn decline(refusal: &WordsRefusal) -> Status<'_>
 /// Says how the call ends. Want of memory alone changes the status.
 fn tell<'a, E: Sink>(alloc: Global, err: &mut E, status: Status<'a>) -> Status<'a>
     ensures same { (result ≡ status.entry) ⊎ (result ≡ Status.Memory) }
-    ensures told { ErrRow result (E.taken err.old) (E.faults err.old) (E.taken err.new) (E.faults err.new) }
+    ensures told { ErrRow result (E.taken err.old) (E.failures err.old) (E.taken err.new) (E.failures err.new) }
 {
     let Ok(text) = message(alloc, &status) else {
         return Status::Memory;
@@ -88,9 +88,9 @@ pub fn top<R: Threads + Wait + Sync, S: Shelf, T: Sink, E: Sink, G: Gate + Sync>
 ) -> u8
     ensures { (s : Status) × (result ≡ code_of s)
         × TopRow (map string_bytes words.now)
-        (world (S.files shelf.old) (S.faults shelf.old) (T.taken out.old) (T.faults out.old))
-        (world (S.files shelf.new) (S.faults shelf.new) (T.taken out.new) (T.faults out.new)) s
-        × ErrRow s (E.taken err.old) (E.faults err.old) (E.taken err.new) (E.faults err.new) }
+        (world (S.files shelf.old) (S.failures shelf.old) (T.taken out.old) (T.failures out.old))
+        (world (S.files shelf.new) (S.failures shelf.new) (T.taken out.new) (T.failures out.new)) s
+        × ErrRow s (E.taken err.old) (E.failures err.old) (E.taken err.new) (E.failures err.new) }
 {
     let parsed = parse(alloc, words);
     let status = match &parsed {

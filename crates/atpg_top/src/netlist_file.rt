@@ -17,7 +17,7 @@ pub fn netlist_of<'a, S: Shelf>(
     shelf: &mut S,
     net: &'a str,
 ) -> Result<Netlist, Status<'a>>
-    ensures { NetlistRow net.entry.now (S.files shelf.old) (S.faults shelf.old) (S.files shelf.new) (S.faults shelf.new) result }
+    ensures { NetlistRow net.entry.now (S.files shelf.old) (S.failures shelf.old) (S.files shelf.new) (S.failures shelf.new) result }
 {
     let bytes = match shelf.read(alloc, net, MOST_BYTES) {
         Ok(bytes) => bytes,

@@ -61,8 +61,8 @@ pub fn scan<'a, S: Shelf, T: Sink>(
 ) -> Status<'a>
     requires { 1 ≤ chains }
     ensures { ScanRow net.entry.now to.entry.now chains
-        (world (S.files shelf.old) (S.faults shelf.old) (T.taken out.old) (T.faults out.old))
-        (world (S.files shelf.new) (S.faults shelf.new) (T.taken out.new) (T.faults out.new)) result }
+        (world (S.files shelf.old) (S.failures shelf.old) (T.taken out.old) (T.failures out.old))
+        (world (S.files shelf.new) (S.failures shelf.new) (T.taken out.new) (T.failures out.new)) result }
 {
     let netlist = match netlist_of(alloc, shelf, net) {
         Ok(netlist) => netlist,

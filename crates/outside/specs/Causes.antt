@@ -1,13 +1,17 @@
 -- When a failure may be answered.
-use Rattle.std.specs.Prelude.{◌≡◌, ◌≤◌, ◌+◌, ◌-◌, ◌^◌, ℕ, min, Result, Err}
+use Rattle.std.specs.Prelude.{◌≡◌, ◌+◌, ◌-◌, ◌^◌, ℕ, min, Result, Err}
 use Rattle.outside.specs.declared.refusal.ReadRefusal.{ReadRefusal}
 use Rattle.outside.specs.declared.refusal.ReadRefusal.TheVariants.{Failed as ReadFailed}
 use Rattle.outside.specs.declared.refusal.WriteRefusal.{WriteRefusal}
 use Rattle.outside.specs.declared.refusal.WriteRefusal.TheVariants.{Failed as WriteFailed}
 
--- the count of faults rose, or stands at the last value of a `u64`; it didn't fall
+-- the last value of a count, a `u64`, at which it stands
+abbrev pub last_count : ℕ
+last_count = 2 ^ 64 - 1
+
+-- the count of failures rose by one, or stands at its last value
 abbrev pub Rose : ℕ → ℕ → Type 0
-Rose before now = (before ≤ now) × (min (before + 1) (2 ^ 64 - 1) ≤ now)
+Rose before now = now ≡ min (before + 1) last_count
 
 -- the count rises where a read failed, and nowhere else
 abbrev pub HasReadCause : {T : Type 0} → ℕ → ℕ → Result T ReadRefusal → Type 0

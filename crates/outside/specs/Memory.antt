@@ -13,17 +13,17 @@ use Rattle.outside.specs.declared.refusal.WriteRefusal.TheVariants as write
 pub record ShelfInMemory : Type 0 where
   pub files : FileMap
   pub plan : Plan
-  pub faults : ℕ
+  pub failures : ℕ
 
 abbrev pub shelf_code : Coded ShelfInMemory
 shelf_code =
-    code_by (FileMap × (Plan × ℕ)) (coded× file_map_code (coded× plan_code coded_ℕ)) (λ s. (s.files, (s.plan, s.faults))) (λ p. record { files = p.0; plan = p.1.0; faults = p.1.1 }) (λ _. refl)
+    code_by (FileMap × (Plan × ℕ)) (coded× file_map_code (coded× plan_code coded_ℕ)) (λ s. (s.files, (s.plan, s.failures))) (λ p. record { files = p.0; plan = p.1.0; failures = p.1.1 }) (λ _. refl)
 
 -- the bytes taken, the calls that are to fail, and how many have failed
 pub record SinkInMemory : Type 0 where
   pub bytes : List ℕ
   pub plan : Plan
-  pub faults : ℕ
+  pub failures : ℕ
 
 -- the files of these names and bytes, put one after another: of two with one name the last stays
 abbrev pub files_of : List (Bor (List ℕ) × Bor (List ℕ)) → FileMap

@@ -4,4 +4,4 @@ use Rattle.std.specs.Prelude.{ℕ, List, Option}
 -- the bytes that the writer holds, where it tells them
 pub record OutState : Type 0 where
   pub taken : Option (List ℕ)
-  pub faults : ℕ
+  pub failures : ℕ

@@ -1,6 +1,7 @@
 -- Which calls of a shelf or a sink in memory are to fail.
-use Rattle.std.specs.Prelude.{◌==◌, ◌+◌, ◌-◌, ◌^◌, ℕ, List, Option, min, find, refl}
+use Rattle.std.specs.Prelude.{◌==◌, ◌+◌, ℕ, List, Option, min, find, refl}
 use Rattle.std.specs.Coded.{Coded, code_by, coded×, coded_ℕ, coded_list}
+use Rattle.outside.specs.Causes.{last_count}
 use Rattle.outside.specs.declared.failing.FailingCall.{FailingCall}
 
 -- the calls that are to fail, and how many calls have been made
@@ -21,9 +22,9 @@ plan_code =
 abbrev pub begun : List FailingCall → Plan
 begun failing = record { failing = failing; made = 0 }
 
--- the number of the next call, which stands at the last value of a `u64`
+-- the number of the next call, which stands at a count's last value
 abbrev pub next_number : Plan → ℕ
-next_number plan = min (plan.made + 1) (2 ^ 64 - 1)
+next_number plan = min (plan.made + 1) last_count
 
 abbrev pub after_call : Plan → Plan
 after_call plan = record plan { made = next_number plan }

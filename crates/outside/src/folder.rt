@@ -17,7 +17,7 @@ use std::rt::Files;
 #[derive(Drop)]
 pub struct FolderShelf<'a, R: Files> {
     rt: &'a R,
-    faults: u64,
+    failures: u64,
 }
 
 impl<'a, R: Files> Model for FolderShelf<'a, R> {
@@ -25,7 +25,7 @@ impl<'a, R: Files> Model for FolderShelf<'a, R> {
 
     ghost Value = { ℕ };
 
-    ghost view = { λ a. a.faults };
+    ghost view = { λ a. a.failures };
 }
 
 impl<'a, R: Files> FolderShelf<'a, R> {
@@ -33,21 +33,21 @@ impl<'a, R: Files> FolderShelf<'a, R> {
     pub fn new(rt: &'a R) -> FolderShelf<'a, R>
         ensures { result ≡ 0 }
     {
-        FolderShelf { rt, faults: 0 }
+        FolderShelf { rt, failures: 0 }
     }
 
     /// How many reads and writes have failed.
-    pub fn faults(&self) -> u64
+    pub fn failures(&self) -> u64
         ensures { result ≡ self.now }
     {
-        self.faults
+        self.failures
     }
 }
 
 impl<R: Files> Shelf for FolderShelf<'_, R> {
     ghost files = { λ _. None };
 
-    ghost faults = { λ shelf. shelf };
+    ghost failures = { λ shelf. shelf };
 
     fn read(&mut self, alloc: Global, name: &str, max: u64) -> Result<Vec<u8>, ReadRefusal> {
         let answer = match fs::open(self.rt, name) {
@@ -56,7 +56,7 @@ impl<R: Files> Shelf for FolderShelf<'_, R> {
             Err(_) => Err(ReadRefusal::Failed),
         };
         if let Err(ReadRefusal::Failed) = answer {
-            self.faults = self.faults.saturating_add(1);
+            self.failures = self.failures.saturating_add(1);
         }
         answer
     }
@@ -75,7 +75,7 @@ impl<R: Files> Shelf for FolderShelf<'_, R> {
         if done {
             return Ok(());
         }
-        self.faults = self.faults.saturating_add(1);
+        self.failures = self.failures.saturating_add(1);
         Err(WriteRefusal::Failed)
     }
 }

@@ -5,9 +5,10 @@
 //! - [`Sink`]: where bytes go, as the standard output.
 //! - [`Gate`]: where a worker passes between its steps. A test holds workers there.
 //!
-//! Each shelf and sink has a count of faults. It rises where a read or a write fails and nowhere
-//! else, so that no caller can make up a failure: what answers `Failed` shows a count that rose.
-//! Some tell their content too, and then a contract names the bytes.
+//! Each shelf and sink has a count of failures. It rises by one where a read or a write fails and
+//! nowhere else, so that no caller can make up a failure, try a failed call again or keep one to
+//! itself: what answers `Failed` shows a count that rose, and all else one that stands. Some tell
+//! their content too, and then a contract names the bytes.
 //!
 //! | | files | bytes | content |
 //! |---|---|---|---|
@@ -28,8 +29,6 @@ mod sink;
 mod stored;
 mod stream;
 mod sure;
-#[cfg(test)]
-mod tests;
 
 pub use failing::FailingCall;
 pub use folder::FolderShelf;

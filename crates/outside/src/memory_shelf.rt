@@ -17,7 +17,7 @@ use std::marker::Model;
 pub struct MemoryShelf {
     files: StoredFiles,
     calls: FailingCalls,
-    faults: u64,
+    failures: u64,
 }
 
 impl Model for MemoryShelf {
@@ -27,7 +27,7 @@ impl Model for MemoryShelf {
 
     ghost coded = { shelf_code };
 
-    ghost view = { λ a. record { files = a.files; plan = a.calls; faults = a.faults } };
+    ghost view = { λ a. record { files = a.files; plan = a.calls; failures = a.failures } };
 }
 
 impl MemoryShelf {
@@ -41,12 +41,12 @@ impl MemoryShelf {
         files: &[(&str, &[u8])],
         failing: &[FailingCall],
     ) -> Result<MemoryShelf, AllocError>
-        ensures { IfOk result (λ shelf. shelf ≡ record { files = files_of files.now; plan = begun failing.now; faults = 0 }) }
+        ensures { IfOk result (λ shelf. shelf ≡ record { files = files_of files.now; plan = begun failing.now; failures = 0 }) }
     {
         Ok(MemoryShelf {
             files: StoredFiles::with_files(alloc, files)?,
             calls: FailingCalls::new(alloc, failing)?,
-            faults: 0,
+            failures: 0,
         })
     }
 
@@ -72,10 +72,10 @@ impl MemoryShelf {
     }
 
     /// How many of them have failed.
-    pub fn faults(&self) -> u64
-        ensures { result ≡ self.now.faults }
+    pub fn failures(&self) -> u64
+        ensures { result ≡ self.now.failures }
     {
-        self.faults
+        self.failures
     }
 }
 
@@ -84,20 +84,20 @@ impl Shelf for MemoryShelf {
 
     ghost files = { λ shelf. Some (map.get shelf.files) };
 
-    ghost faults = { λ shelf. shelf.faults };
+    ghost failures = { λ shelf. shelf.failures };
 
     fn read(&mut self, alloc: Global, name: &str, max: u64) -> Result<Vec<u8>, ReadRefusal>
         ensures told { Tells (map.get self.old.files name.now) max result }
         ensures within { IsWithin max result }
         ensures kept { self.new.files ≡ self.old.files }
-        ensures cause { HasReadCause self.old.faults self.new.faults result }
+        ensures cause { HasReadCause self.old.failures self.new.failures result }
 
         // It fails at the calls of the plan, and at no other.
         ensures planned { (result ≡ Err ReadRefusal.Failed) ↔ IsSome (next_failure self.old.plan) }
         ensures counted { self.new.plan ≡ after_call self.old.plan }
     {
         if self.calls.next_call().is_some() {
-            self.faults = self.faults.saturating_add(1);
+            self.failures = self.failures.saturating_add(1);
             return Err(ReadRefusal::Failed);
         }
         self.files.read(alloc, name, max)
@@ -105,7 +105,7 @@ impl Shelf for MemoryShelf {
 
     fn write(&mut self, alloc: Global, name: &str, bytes: &[u8]) -> Result<(), WriteRefusal>
         ensures told { WritesFile (map.get self.old.files) (map.get self.new.files) name.now bytes.now result }
-        ensures cause { HasWriteCause self.old.faults self.new.faults result }
+        ensures cause { HasWriteCause self.old.failures self.new.failures result }
 
         // It fails at the calls of the plan, and at no other, and leaves what the plan says.
         ensures planned { WritesAsPlanned (next_failure self.old.plan) self.old.files self.new.files name.now bytes.now result }
@@ -117,7 +117,7 @@ impl Shelf for MemoryShelf {
                 if self.files.put(alloc, name, part).is_err() {
                     return Err(WriteRefusal::NoMemory);
                 }
-                self.faults = self.faults.saturating_add(1);
+                self.failures = self.failures.saturating_add(1);
                 Err(WriteRefusal::Failed)
             }
             None => match self.files.put(alloc, name, bytes) {

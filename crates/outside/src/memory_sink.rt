@@ -1,5 +1,5 @@
 //! Bytes in memory whose taking fails at given calls.
-ghost use Rattle.std.specs.Prelude.{◌≡◌, [], Some, IfOk};
+ghost use Rattle.std.specs.Prelude.{◌≡◌, [], Some, IfOk, true};
 ghost use Rattle.outside.specs.Causes.{HasWriteCause};
 ghost use Rattle.outside.specs.Memory.{PutsAsPlanned};
 ghost use Rattle.outside.specs.Plan.{after_call, begun, next_failure};
@@ -15,7 +15,7 @@ use std::marker::Model;
 pub struct MemorySink {
     bytes: Vec<u8>,
     calls: FailingCalls,
-    faults: u64,
+    failures: u64,
 }
 
 impl Model for MemorySink {
@@ -23,18 +23,18 @@ impl Model for MemorySink {
 
     ghost Value = { SinkInMemory };
 
-    ghost view = { λ a. record { bytes = a.bytes.items; plan = a.calls; faults = a.faults } };
+    ghost view = { λ a. record { bytes = a.bytes.items; plan = a.calls; failures = a.failures } };
 }
 
 impl MemorySink {
     /// A sink that has taken nothing. The calls in `failing` fail.
     pub fn new(alloc: Global, failing: &[FailingCall]) -> Result<MemorySink, AllocError>
-        ensures { IfOk result (λ sink. sink ≡ record { bytes = []; plan = begun failing.now; faults = 0 }) }
+        ensures { IfOk result (λ sink. sink ≡ record { bytes = []; plan = begun failing.now; failures = 0 }) }
     {
         Ok(MemorySink {
             bytes: Vec::new(alloc),
             calls: FailingCalls::new(alloc, failing)?,
-            faults: 0,
+            failures: 0,
         })
     }
 
@@ -53,21 +53,23 @@ impl MemorySink {
     }
 
     /// How many of these calls have failed.
-    pub fn faults(&self) -> u64
-        ensures { result ≡ self.now.faults }
+    pub fn failures(&self) -> u64
+        ensures { result ≡ self.now.failures }
     {
-        self.faults
+        self.failures
     }
 }
 
 impl Sink for MemorySink {
     ghost taken = { λ sink. Some sink.bytes };
 
-    ghost faults = { λ sink. sink.faults };
+    ghost failures = { λ sink. sink.failures };
+
+    ghost takes_memory = { true };
 
     fn put(&mut self, bytes: &[u8]) -> Result<(), WriteRefusal>
         ensures told { Gains self.old.bytes self.new.bytes bytes.now result }
-        ensures cause { HasWriteCause self.old.faults self.new.faults result }
+        ensures cause { HasWriteCause self.old.failures self.new.failures result }
 
         // It fails at the calls of the plan, and at no other, and keeps what the plan says.
         ensures planned { PutsAsPlanned (next_failure self.old.plan) self.old.bytes self.new.bytes bytes.now result }
@@ -79,7 +81,7 @@ impl Sink for MemorySink {
                 if self.bytes.extend_from_slice(part).is_err() {
                     return Err(WriteRefusal::NoMemory);
                 }
-                self.faults = self.faults.saturating_add(1);
+                self.failures = self.failures.saturating_add(1);
                 Err(WriteRefusal::Failed)
             }
             None => match self.bytes.extend_from_slice(bytes) {

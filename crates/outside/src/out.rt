@@ -1,5 +1,5 @@
 //! A writer of the system, as the standard output.
-ghost use Rattle.std.specs.Prelude.{◌≡◌, ◌≢◌, Err};
+ghost use Rattle.std.specs.Prelude.{◌≡◌, ◌≢◌, Err, false};
 ghost use Rattle.outside.specs.Causes.{HasWriteCause};
 ghost use Rattle.outside.specs.Sink.{Puts};
 
@@ -15,7 +15,7 @@ use std::marker::Model;
 #[derive(Drop)]
 pub struct OutSink<W: Write> {
     writer: W,
-    faults: u64,
+    failures: u64,
 }
 
 impl<W: Write> Model for OutSink<W> {
@@ -23,33 +23,38 @@ impl<W: Write> Model for OutSink<W> {
 
     ghost Value = { OutState };
 
-    ghost view = { λ a. record { taken = W.contents a.writer; faults = a.faults } };
+    ghost view = { λ a. record { taken = W.contents a.writer; failures = a.failures } };
 }
 
 impl<W: Write> OutSink<W> {
     /// A sink that has not failed yet.
     pub fn new(writer: W) -> OutSink<W>
-        ensures { result ≡ record { taken = W.contents writer; faults = 0 } }
+        ensures { result ≡ record { taken = W.contents writer; failures = 0 } }
     {
-        OutSink { writer, faults: 0 }
+        OutSink {
+            writer,
+            failures: 0,
+        }
     }
 
     /// How many times taking bytes has failed.
-    pub fn faults(&self) -> u64
-        ensures { result ≡ self.now.faults }
+    pub fn failures(&self) -> u64
+        ensures { result ≡ self.now.failures }
     {
-        self.faults
+        self.failures
     }
 }
 
 impl<W: Write> Sink for OutSink<W> {
     ghost taken = { λ sink. sink.taken };
 
-    ghost faults = { λ sink. sink.faults };
+    ghost failures = { λ sink. sink.failures };
+
+    ghost takes_memory = { false };
 
     fn put(&mut self, bytes: &[u8]) -> Result<(), WriteRefusal>
         ensures told { Puts self.old.taken self.new.taken bytes.now result }
-        ensures cause { HasWriteCause self.old.faults self.new.faults result }
+        ensures cause { HasWriteCause self.old.failures self.new.failures result }
 
         // It takes no memory.
         ensures unrefused { result ≢ Err WriteRefusal.NoMemory }
@@ -57,7 +62,7 @@ impl<W: Write> Sink for OutSink<W> {
         if write_whole(&mut self.writer, bytes) {
             return Ok(());
         }
-        self.faults = self.faults.saturating_add(1);
+        self.failures = self.failures.saturating_add(1);
         Err(WriteRefusal::Failed)
     }
 }

@@ -1,5 +1,5 @@
 //! Files and bytes in memory whose reads and writes never fail.
-ghost use Rattle.std.specs.Prelude.{◌≡◌, [], Some, IfOk};
+ghost use Rattle.std.specs.Prelude.{◌≡◌, [], Some, IfOk, true};
 ghost use Rattle.std.specs.Option.{option_copied};
 
 use crate::stored::StoredFiles;
@@ -57,7 +57,7 @@ impl Shelf for SureShelf {
 
     ghost files = { λ shelf. Some (map.get shelf) };
 
-    ghost faults = { λ _. 0 };
+    ghost failures = { λ _. 0 };
 
     fn read(&mut self, alloc: Global, name: &str, max: u64) -> Result<Vec<u8>, ReadRefusal> {
         self.files.read(alloc, name, max)
@@ -106,7 +106,9 @@ impl SureSink {
 impl Sink for SureSink {
     ghost taken = { λ sink. Some sink };
 
-    ghost faults = { λ _. 0 };
+    ghost failures = { λ _. 0 };
+
+    ghost takes_memory = { true };
 
     fn put(&mut self, bytes: &[u8]) -> Result<(), WriteRefusal> {
         match self.bytes.extend_from_slice(bytes) {

@@ -8,5 +8,5 @@ use Rattle.atpg_top.proofs.fault_list.put_faults.Given as goal
 abbrev pub invariant-loop-i : goal.invariant-loop-i
 invariant-loop-i g l = record {
   told : Waits (g.T.Sink.taken l.fn.out) (g.T.Sink.taken l.out) (l.fn.text.items ++ flat_map (λ p. fault_line l.fn.netlist p.0 p.1) (take l.i (zip (universe_of l.fn.netlist) l.fn.classes.numbers))) l.text.items;
-  cause : g.T.Sink.faults l.out ≡ g.T.Sink.faults l.fn.out;
+  cause : g.T.Sink.failures l.out ≡ g.T.Sink.failures l.fn.out;
 }

@@ -1,0 +1,4 @@
+pub mod ReadLemmas
+pub mod WriteLemmas
+pub mod PutLemmas
+pub mod Exclusive

@@ -1,0 +1,9 @@
+pub mod World
+pub mod Pieces
+pub mod Fetched
+pub mod Written
+pub mod Names
+pub mod Due
+pub mod Rows
+pub mod Laws
+pub mod inner

@@ -1,0 +1,24 @@
+//! What all commands do alike: they read files in order, work, write files in order, and show a
+//! text.
+//!
+//! A command says which names it reads and writes and what is due of the texts that it has read;
+//! how it can end, and what it then leaves, is one table for all commands (`CommandRow`).
+#![tactic(auto)]
+
+mod command;
+mod ending;
+mod laws;
+mod names;
+mod pieces;
+mod product;
+mod reading;
+mod writing;
+
+pub use command::{Work, run_command};
+pub use ending::{Ending, Finding, WriteFailure};
+pub use laws::{failed_exactly, missing_exactly, nothing_else, refused_exactly, too_long_exactly};
+pub use names::FileName;
+pub use pieces::put_pieces;
+pub use product::{Product, Stop};
+pub use reading::read_in_order;
+pub use writing::write_in_order;
