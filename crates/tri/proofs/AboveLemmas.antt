@@ -9,7 +9,8 @@ use Rattle.netlist.specs.declared.lines.Line.{Line}
 use Rattle.netlist.specs.declared.lines.Fault.{Fault}
 use Rattle.netlist.specs.Settled.{is_line, stuck}
 use Rattle.netlist.specs.ThreeValues.{known, allows, AreAllowed}
-use Rattle.tri.specs.Labels.{Label, is_known_as, are_known_and_equal, on_line, decided, label_of, IsAbove, AreAbove}
+use Rattle.tri.specs.declared.labels.Label.{Label}
+use Rattle.tri.specs.Labels.{is_known_as, are_known_and_equal, on_line, good_of, label_of, IsAbove, AreAbove}
 use Rattle.tri.proofs.Choices.{no, known_allows_itself}
 
 -- ---- as a test
@@ -64,11 +65,11 @@ known_as_allows false Zero false e h = refl
 known_as_allows false One a e h = no e
 known_as_allows false X a e h = no e
 
-not_false : (b : Bool) → not b ≡ false → b ≡ true
+pub not_false : (b : Bool) → not b ≡ false → b ≡ true
 not_false true e = refl
 not_false false e = absurd (both_ways false refl (sym e))
 
-pub on_line_above : (f : Fault) (line : Line) (l : Label) (a b : Bool) → IsAbove l a b → IsAbove (on_line f line l) a (stuck (λ c. c) (Some f) line b)
+pub on_line_above : (f : Fault) (line : Line) (l : Label) (a b : Bool) → IsAbove l a b → IsAbove (on_line (Some f) line l) a (stuck (λ c. c) (Some f) line b)
 on_line_above f line l a b h =
     let step : (c : Bool) → IsAbove (cond c (record { own = l.own; good = l.good; faulty = known f.value; may_differ = not (is_known_as f.value l.good) }) l) a (cond c f.value b) =
     elim [
@@ -89,18 +90,18 @@ equal_allow Zero w a b e h k = known_as_allows false Zero a refl h ∙ sym (know
 equal_allow One w a b e h k = known_as_allows true One a refl h ∙ sym (known_as_allows true w b e k)
 equal_allow X w a b e h k = no e
 
-decided_allows : (o : Option Bool) (own : Tri) (a : Bool) → allows own a ≡ true → ((c : Bool) → o ≡ Some c → a ≡ c) → allows (decided o own) a ≡ true
-decided_allows None own a h k = h
-decided_allows (Some c) own a h k = subst (λ x. allows (known c) x ≡ true) (sym (k c refl)) (known_allows_itself c)
+good_of_allows : (o : Option Bool) (own : Tri) (a : Bool) → allows own a ≡ true → ((c : Bool) → o ≡ Some c → a ≡ c) → allows (good_of o own) a ≡ true
+good_of_allows None own a h k = h
+good_of_allows (Some c) own a h k = subst (λ x. allows (known c) x ≡ true) (sym (k c refl)) (known_allows_itself c)
 
 pub label_of_above : (o : Option Bool) (own faulty : Tri) (differs a b : Bool) → allows own a ≡ true → ((c : Bool) → o ≡ Some c → a ≡ c)
     → allows faulty b ≡ true → (differs ≡ false → a ≡ b) → IsAbove (label_of o own faulty differs) a b
 label_of_above o own faulty true a b h k m same =
-    let g = decided_allows o own a h k in
-    record { own = h; good = g; faulty = m; same = λ e. equal_allow (decided o own) faulty a b (not_false (are_known_and_equal (decided o own) faulty) e) g m }
+    let g = good_of_allows o own a h k in
+    record { own = h; good = g; faulty = m; same = λ e. equal_allow (good_of o own) faulty a b (not_false (are_known_and_equal (good_of o own) faulty) e) g m }
 label_of_above o own faulty false a b h k m same =
-    let g = decided_allows o own a h k in
-    record { own = h; good = g; faulty = subst (λ x. allows (decided o own) x ≡ true) (same refl) g; same = λ e. same refl }
+    let g = good_of_allows o own a h k in
+    record { own = h; good = g; faulty = subst (λ x. allows (good_of o own) x ≡ true) (same refl) g; same = λ e. same refl }
 
 -- ---- in lists
 

@@ -2,4 +2,8 @@ pub mod Choices
 pub mod AboveBits
 pub mod AboveLemmas
 pub mod LabelLemmas
-pub mod ToldLemmas
+pub mod ClosedLemmas
+pub mod PathLemmas
+pub mod TriAlike
+pub mod KnownBits
+pub mod MoreKnown

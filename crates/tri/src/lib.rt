@@ -2,11 +2,18 @@
 #![tactic(auto)]
 
 mod gates;
+mod labelling;
+mod labels;
 mod laws;
-#[cfg(test)]
-mod tests;
+mod together;
+mod tris;
 
 pub use gates::gate;
+pub use labelling::{Labelling, label_all};
+pub use labels::{Label, gate_label, is_known_as, label_of, on_line};
 pub use laws::{
-    closed_tells_nothing, labels_above_patterns, redundant_changes_nothing, three_values_above_bits,
+    closed_detects_nothing, known_values, labels_above_patterns, more_decisions_more_known,
+    redundant_changes_nothing, three_values_above_bits, three_values_alike,
 };
+pub use together::known;
+pub use tris::Tris;

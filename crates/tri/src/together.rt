@@ -1,0 +1,132 @@
+//! What three values are together, from which each kind of gate takes its value: gathered in one pass, without a copy of the values.
+ghost use Rattle.std.specs.Prelude.{◌≡◌, List, [], ◌∷◌};
+ghost use Rattle.netlist.specs.declared.kinds.Tri.{Tri as Value};
+ghost use Rattle.tri.specs.Gates.{gate_tri, conjunction_tri, disjunction_tri, parity_tri};
+ghost use Rattle.netlist.specs.ThreeValues.{known, complement};
+
+use netlist::{Kind, Tri};
+
+/// Whether some are 0, 1 or X, whether an odd number of them is 1, and the first.
+#[derive(Clone, Copy)]
+pub(crate) struct Together {
+    zero: bool,
+    one: bool,
+    unknown: bool,
+    odd: bool,
+    first: Tri,
+}
+
+/// The value of a bit that is known.
+pub fn known(bit: bool) -> Tri
+    ensures { result ≡ known bit }
+{
+    if bit { Tri::One } else { Tri::Zero }
+}
+
+/// 0 for 1 and 1 for 0; X stays.
+fn complement(value: Tri) -> Tri
+    ensures { result ≡ complement value }
+{
+    match value {
+        Tri::Zero => Tri::One,
+        Tri::One => Tri::Zero,
+        Tri::X => Tri::X,
+    }
+}
+
+impl Together {
+    ghost use Rattle.tri.specs.Gathered.{AreTogether};
+
+    pub(crate) fn none() -> Together
+        ensures { AreTogether [] result }
+    {
+        Together {
+            zero: false,
+            one: false,
+            unknown: false,
+            odd: false,
+            first: Tri::Zero,
+        }
+    }
+
+    /// With one value more, at the front.
+    pub(crate) fn with(self, value: Tri) -> Together
+        ensures { (values : List Value) → AreTogether values self → AreTogether (value ∷ values) result }
+    {
+        match value {
+            Tri::Zero => Together {
+                zero: true,
+                one: self.one,
+                unknown: self.unknown,
+                odd: self.odd,
+                first: Tri::Zero,
+            },
+            Tri::One => Together {
+                zero: self.zero,
+                one: true,
+                unknown: self.unknown,
+                odd: !self.odd,
+                first: Tri::One,
+            },
+            Tri::X => Together {
+                zero: self.zero,
+                one: self.one,
+                unknown: true,
+                odd: self.odd,
+                first: Tri::X,
+            },
+        }
+    }
+
+    fn conjunction(self) -> Tri
+        ensures { (values : List Value) → AreTogether values self → result ≡ conjunction_tri values }
+    {
+        if self.zero {
+            Tri::Zero
+        } else if self.unknown {
+            Tri::X
+        } else {
+            Tri::One
+        }
+    }
+
+    fn disjunction(self) -> Tri
+        ensures { (values : List Value) → AreTogether values self → result ≡ disjunction_tri values }
+    {
+        if self.one {
+            Tri::One
+        } else if self.unknown {
+            Tri::X
+        } else {
+            Tri::Zero
+        }
+    }
+
+    fn parity(self) -> Tri
+        ensures { (values : List Value) → AreTogether values self → result ≡ parity_tri values }
+    {
+        if self.unknown {
+            Tri::X
+        } else {
+            known(self.odd)
+        }
+    }
+
+    /// What a gate makes of them.
+    pub(crate) fn through(self, kind: Kind) -> Tri
+        ensures { (values : List Value) → AreTogether values self → result ≡ gate_tri kind values }
+    {
+        match kind {
+            Kind::And => self.conjunction(),
+            Kind::Nand => complement(self.conjunction()),
+            Kind::Or => self.disjunction(),
+            Kind::Nor => complement(self.disjunction()),
+            Kind::Xor => self.parity(),
+            Kind::Xnor => complement(self.parity()),
+            Kind::Not => complement(self.first),
+            Kind::Buff | Kind::Dff => self.first,
+            Kind::Const0 => Tri::Zero,
+            Kind::Const1 => Tri::One,
+        }
+    }
+}
