@@ -1,5 +1,5 @@
 -- Where all that is driven is known, three values are the bits.
-use Rattle.std.proofs.Common.{◌≡◌, ℕ, Bool, true, false, cond, List, [], ◌∷◌, map, Option, Some, None, refl, sym, ◌∙◌, ap, subst}
+use Rattle.std.proofs.Common.{◌≡◌, ℕ, Bool, true, false, cond, List, [], ◌∷◌, map, Option, Some, None, refl, ◌∙◌, ap}
 use Rattle.std.specs.List.{All, AllZip}
 use Rattle.netlist.specs.declared.kinds.Kind.{Kind}
 use Rattle.netlist.specs.declared.kinds.Tri.{Tri}
@@ -13,7 +13,7 @@ use Rattle.netlist.specs.Settled.{Settles, is_line, stuck, bits, outs, next}
 use Rattle.netlist.specs.Laws.{Keeps}
 use Rattle.netlist.proofs.Alike.{signals_alike, outs_alike, next_alike}
 use Rattle.netlist.proofs.Lists.{All-from_contains}
-use Rattle.netlist.specs.ThreeValues.{known, AreAllowed, is_zero, is_one}
+use Rattle.netlist.specs.ThreeValues.{known, AreAllowed}
 use Rattle.tri.specs.Gates.{gate_tri}
 use Rattle.tri.specs.Labels.{is_known_as}
 use Rattle.tri.specs.Settled.{tris}
@@ -72,7 +72,6 @@ keeps_known g n = record {
       ∙ (ap (λ v. knows v (gate_bit d.kind bs)) (gate_known d.kind bs) ∙ knows_known (gate_bit d.kind bs));
 }
 
-
 pub known_values : (f : Option Fault) (n : Netlist) (inputs state : List Bool) (t : ℕ → Tri) (a : ℕ → Bool) → IsClosed n → IsAcyclic n
     → Settles (tris f) n (map known inputs) (map known state) t → Settles (bits f) n inputs state a
     → All (λ x. t x ≡ known (a x)) (signals n)
@@ -83,7 +82,7 @@ known_values f n inputs state t a closed acyclic p q =
     let i = all_known inputs in
     let s = all_known state in (
       All-from_contains (λ x. t x ≡ known (a x)) (signals n)
-      (λ x c. knows_same (t x) (a x) (signals_alike knows (tris f) (bits f) n keeps closed acyclic (map known inputs) (map known state) inputs state t a i s p q x c)),
+          (λ x c. knows_same (t x) (a x) (signals_alike knows (tris f) (bits f) n keeps closed acyclic (map known inputs) (map known state) inputs state t a i s p q x c)),
       all_same _ _ (outs_alike knows (tris f) (bits f) n keeps closed acyclic (map known inputs) (map known state) inputs state t a i s p q),
       all_same _ _ (next_alike knows (tris f) (bits f) n keeps closed acyclic (map known inputs) (map known state) inputs state t a i s p q),
     )

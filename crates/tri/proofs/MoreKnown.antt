@@ -93,7 +93,7 @@ on_line_grows : (f : Option Fault) (line : Line) (l m : Label) → Grows l m →
 on_line_grows None line l m h = h
 on_line_grows (Some f) line l m h =
     let step : (c : Bool) → Grows (cond c (record { own = l.own; good = l.good; faulty = known f.value; may_differ = not (is_known_as f.value l.good) }) l)
-        (cond c (record { own = m.own; good = m.good; faulty = known f.value; may_differ = not (is_known_as f.value m.good) }) m) =
+    (cond c (record { own = m.own; good = m.good; faulty = known f.value; may_differ = not (is_known_as f.value m.good) }) m) =
     elim [
       | true ↦ record {
         allows = record {

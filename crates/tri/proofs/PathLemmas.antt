@@ -1,9 +1,9 @@
 -- The labels of a path are alike whoever works them out, and so is what they tell.
-use Rattle.std.proofs.Common.{◌≡◌, ℕ, Bool, true, false, not, ◌&&◌, List, [], ◌∷◌, map, Option, Some, refl, sym, ◌∙◌, ap, subst, inl, inr}
+use Rattle.std.proofs.Common.{◌≡◌, ℕ, Bool, true, false, ◌&&◌, List, [], ◌∷◌, Option, Some, refl, sym, ◌∙◌, ap, subst, inl, inr}
 use Rattle.std.specs.Bool.{Decides, beq}
 use Rattle.std.specs.List.{All, Contains, flat_map}
 use Rattle.std.proofs.lemmas.Bool.{and_parts, and_from}
-use Rattle.std.proofs.lemmas.List.Elements.{All-nil, All-cons, All-head, All-tail, All-contains}
+use Rattle.std.proofs.lemmas.List.Elements.{All-head, All-tail, All-contains}
 use Rattle.netlist.specs.declared.kinds.Tri.{Tri}
 use Rattle.netlist.specs.declared.kinds.Tri.TheVariants.{Zero, One, X}
 use Rattle.netlist.specs.declared.lines.Fault.{Fault}
@@ -14,7 +14,7 @@ use Rattle.netlist.specs.Settled.{Rule, on_pins, pins_of, outs, next}
 use Rattle.netlist.proofs.Alike.{settles_once}
 use Rattle.netlist.proofs.Lists.{decides_beq, map_agree, All-from_contains, contains_filter}
 use Rattle.tri.specs.declared.labels.Label.{Label}
-use Rattle.tri.specs.Labels.{Decisions, labels, input_labels, cell_labels, AreLabels, IsContradicted, IsUnobserved, IsClosedAt}
+use Rattle.tri.specs.Labels.{Decisions, labels, input_labels, cell_labels, AreLabels, IsContradicted, IsClosedAt}
 use Rattle.netlist.specs.Holds.{Holds}
 use Rattle.tri.specs.Paths.{Path, decisions, IsClosedPath, IsUnknown}
 

@@ -1,12 +1,10 @@
 -- Three values against three values of which no fewer are known.
-use Rattle.std.proofs.Common.{◌≡◌, Bool, true, false, cond, List, [], ◌∷◌, Option, Some, None, refl, sym, subst}
-use Rattle.std.specs.List.{AllZip}
+use Rattle.std.proofs.Common.{◌≡◌, Bool, true, false, cond, List, [], ◌∷◌, Option, Some, None, refl, subst}
 use Rattle.netlist.specs.declared.kinds.Kind.{Kind}
 use Rattle.netlist.specs.declared.kinds.Tri.{Tri}
 use Rattle.netlist.specs.declared.kinds.Tri.TheVariants.{Zero, One, X}
 use Rattle.netlist.specs.declared.lines.Line.{Line}
 use Rattle.netlist.specs.declared.lines.Fault.{Fault}
-use Rattle.netlist.specs.Gates.{gate_bit}
 use Rattle.netlist.specs.Netlist.{Netlist}
 use Rattle.netlist.specs.Settled.{is_line, stuck}
 use Rattle.netlist.specs.Laws.{Keeps}

@@ -1,7 +1,6 @@
 -- Decisions one after the other, and what the labels under them tell of the path.
-use Rattle.std.specs.Prelude.{ℕ, ◌≡◌, ◌==◌, ◌&&◌, ◌||◌, Bool, false, List, [], ◌∷◌, Option, Some, None, take, slice_get, IsTrue, IsFalse, if◌then◌else◌}
+use Rattle.std.specs.Prelude.{ℕ, ◌≡◌, ◌==◌, ◌&&◌, ◌||◌, Bool, List, [], ◌∷◌, Some, None, take, slice_get, IsTrue, IsFalse, if◌then◌else◌}
 use Rattle.std.specs.List.{All, Contains}
-use Rattle.netlist.specs.declared.kinds.Tri.{Tri}
 use Rattle.netlist.specs.declared.kinds.Tri.TheVariants.{X}
 use Rattle.netlist.specs.declared.lines.Fault.{Fault}
 use Rattle.netlist.specs.declared.lines.Point.{Point}

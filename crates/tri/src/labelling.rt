@@ -29,11 +29,7 @@ fn held_value(hold: Option<bool>) -> Tri
 
 impl Labelling {
     /// Without a decision.
-    pub fn new(
-        alloc: Global,
-        core: &Core,
-        fault: Option<Fault>,
-    ) -> Result<Labelling, AllocError>
+    pub fn new(alloc: Global, core: &Core, fault: Option<Fault>) -> Result<Labelling, AllocError>
         ensures { IfOk result (λ b. IsUndecided core.now fault b) }
     {
         let count = core.netlist().inputs().len() + core.netlist().definitions().len();
