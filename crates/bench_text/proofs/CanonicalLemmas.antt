@@ -3,7 +3,7 @@ use Rattle.std.proofs.Common.{◌≡◌, ◌<◌, ℕ, true, false, not, List, [
 use Rattle.std.specs.Prelude.{Some, option_map, ◌==◌, codes}
 use Rattle.std.specs.List.{prefix_len, list_all, AllByRecursion}
 use Rattle.netlist.specs.declared.kinds.Kind.{Kind}
-use Rattle.netlist.specs.declared.kinds.Kind.TheVariants.{And, Nand, Or, Nor, Xor, Xnor, Not, Buff, Dff}
+use Rattle.netlist.specs.declared.kinds.Kind.TheVariants.{And, Nand, Or, Nor, Xor, Xnor, Not, Buff, Dff, Const0, Const1}
 use Rattle.bench_text.specs.Bytes.{code, is_allowed}
 use Rattle.bench_text.specs.Tokens.{Word, Open, Close, Comma, Equals, is_word_byte, begins_in_word, tokens}
 use Rattle.bench_text.specs.Keywords.{kind_of}
@@ -87,6 +87,8 @@ kind-again Xnor = refl
 kind-again Not = refl
 kind-again Buff = refl
 kind-again Dff = refl
+kind-again Const0 = refl
+kind-again Const1 = refl
 
 pub gate-name : (kind : Kind) → IsRun (word kind)
 gate-name And = record { some = lit< tt; word = refl; plain = refl }
@@ -98,6 +100,8 @@ gate-name Xnor = record { some = lit< tt; word = refl; plain = refl }
 gate-name Not = record { some = lit< tt; word = refl; plain = refl }
 gate-name Buff = record { some = lit< tt; word = refl; plain = refl }
 gate-name Dff = record { some = lit< tt; word = refl; plain = refl }
+gate-name Const0 = record { some = lit< tt; word = refl; plain = refl }
+gate-name Const1 = record { some = lit< tt; word = refl; plain = refl }
 
 pub regroup : (a b c d e f : List ℕ) → ((((a ++ b) ++ c) ++ d) ++ e) ++ f ≡ a ++ (b ++ (c ++ (d ++ (e ++ f))))
 regroup a b c d e f = simp append_assoc

@@ -8,7 +8,7 @@ use Rattle.std.proofs.lemmas.Bool.Decides.{nat_tests}
 use Rattle.std.proofs.lemmas.List.Concat.{flat_map-append}
 use Rattle.std.proofs.lemmas.Option.{slice_get_within, slice_get-get_or, get_or_from_slice_get}
 use Rattle.netlist.specs.declared.kinds.Kind.{Kind}
-use Rattle.netlist.specs.declared.kinds.Kind.TheVariants.{And, Nand, Or, Nor, Xor, Xnor, Not, Buff, Dff}
+use Rattle.netlist.specs.declared.kinds.Kind.TheVariants.{And, Nand, Or, Nor, Xor, Xnor, Not, Buff, Dff, Const0, Const1}
 use Rattle.netlist.specs.Gates.{allows_pins}
 use Rattle.netlist.specs.Names.{IsName}
 use Rattle.netlist.specs.Netlist.{Netlist, Definition as Equation, signals}
@@ -115,6 +115,8 @@ module _ (reading : Names) where
       by Design Not = omega arith
       by Design Buff = omega arith
       by Design Dff = omega arith
+      by Design Const0 = omega arith
+      by Design Const1 = omega arith
       by Scanned And = omega arith
       by Scanned Nand = omega arith
       by Scanned Or = omega arith
@@ -124,6 +126,8 @@ module _ (reading : Names) where
       by Scanned Not = omega arith
       by Scanned Buff = omega arith
       by Scanned Dff = omega arith
+      by Scanned Const0 = omega arith
+      by Scanned Const1 = omega arith
 
   short-keyword : (k : List ℕ) → length k ≤ 6 → IsShort k
   short-keyword k h = by reading

@@ -13,8 +13,6 @@ mod reader;
 mod refusal;
 mod sights;
 mod statement;
-#[cfg(test)]
-mod tests;
 mod token;
 mod whole;
 mod writer;

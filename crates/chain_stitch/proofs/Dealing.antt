@@ -8,7 +8,7 @@ use Rattle.std.proofs.lemmas.Bool.Decides.{nat_tests}
 use Rattle.std.proofs.lemmas.List.{length-replicate, get_or-replicate, take-replicate, get_or_append_left, get_or-append_right, get_or-take, get_or-drop, take_all, get_or_default}
 use Rattle.std.proofs.lemmas.Option.{slice_get-get_or, get_or_from_slice_get}
 use Rattle.chain_stitch.specs.Chains.{pieces, lengths_of, chains_of, cells_of, longest_of, IsAt}
-use Rattle.chain_stitch.specs.Places.{start_of, length_of, IsPlaced, AreDealt}
+use Rattle.chain_stitch.specs.inner.Places.{start_of, length_of, IsPlaced, AreDealt}
 use Rattle.chain_stitch.proofs.Pieces.{total, greatest, length-pieces, get-pieces, cells_of-pieces, longest_of-pieces}
 
 -- so many of one length more, and then so many of the length

@@ -4,7 +4,7 @@ use Rattle.std.proofs.Math.ListN.{set}
 use Rattle.std.specs.List.{AllPairs}
 use borrow.Author.Count.{below_more}
 use Rattle.std.proofs.lemmas.List.{length-set, get_or-set_same, get_or-set_other}
-use Rattle.chain_stitch.specs.Places.{HasPlaces}
+use Rattle.chain_stitch.specs.inner.Places.{HasPlaces}
 
 pub places_more : (least : ℕ) (places cells : List ℕ) (k cell : ℕ) → HasPlaces least places cells k
     → AllPairs (λ x y. x ≢ y) cells → k < length cells → get_or cells k 0 ≡ cell → least ≤ cell → cell - least < length places

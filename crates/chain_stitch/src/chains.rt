@@ -2,7 +2,7 @@
 ghost use Rattle.std.specs.Prelude.{◌≡◌, ◌≢◌, ◌+◌, ◌^◌, ◌<◌, ◌≤◌, length, slice_get, IfOk, Some};
 ghost use Rattle.std.specs.List.{AllPairs, Contains};
 ghost use Rattle.chain_stitch.specs.Chains.{chains_of, cells_of, longest_of, IsAt};
-ghost use Rattle.chain_stitch.specs.Places.{start_of, length_of, IsPlaced};
+ghost use Rattle.chain_stitch.specs.inner.Places.{start_of, length_of, IsPlaced};
 
 use crate::place_table::{PlaceTable, place_table};
 use netlist::{NoMemory, SignalId};
@@ -24,7 +24,7 @@ impl Model for Chains {
     ghost Value = { List (List ℕ) };
 
     ghost use Rattle.chain_stitch.specs.Chains.{chains_of};
-    ghost use Rattle.chain_stitch.specs.Places.{AreDealt};
+    ghost use Rattle.chain_stitch.specs.inner.Places.{AreDealt};
 
     ghost view = { λ a. chains_of a.cells.items a.count };
 

@@ -5,6 +5,3 @@ mod chains;
 mod place_table;
 
 pub use chains::{Chains, stitch};
-
-#[cfg(test)]
-mod tests;

@@ -1,7 +1,7 @@
 //! The place of each cell among the cells, to be found in constant time.
 ghost use Rattle.std.specs.Prelude.{◌≡◌, ◌≢◌, ◌^◌, ◌<◌, ◌≤◌, length, IfOk};
 ghost use Rattle.std.specs.List.{All, AllPairs};
-ghost use Rattle.chain_stitch.specs.Places.{HasPlaces};
+ghost use Rattle.chain_stitch.specs.inner.Places.{HasPlaces};
 
 use netlist::SignalId;
 use std::alloc::{AllocError, Global};

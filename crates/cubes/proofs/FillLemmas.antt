@@ -1,10 +1,14 @@
--- A fill agrees with its cube.
-use Rattle.std.proofs.Common.{◌≡◌, List, [], ◌∷◌, refl, sym, subst}
+-- A fill agrees with its cube, and keeps its widths and held bits.
+use Rattle.std.proofs.Common.{◌≡◌, ℕ, zero, suc, Bool, true, false, not, List, [], ◌∷◌, refl, sym, ◌∙◌, ap, subst, Some}
+use Rattle.std.specs.List.{slice_get}
+use Rattle.std.proofs.lemmas.Slice.Zip.{AllZip-long}
 use Rattle.rand_core.specs.Stream.{Stream, next_u32}
 use Rattle.netlist.specs.declared.kinds.Tri.{Tri}
 use Rattle.netlist.specs.declared.kinds.Tri.TheVariants.{Zero, One, X}
-use Rattle.netlist.specs.ThreeValues.{AreAllowed}
-use Rattle.cubes.specs.Cubes.{Cube, Pattern, AgreesWith}
+use Rattle.netlist.specs.ThreeValues.{known, allows, AreAllowed}
+use Rattle.netlist.specs.Netlist.{Netlist}
+use Rattle.netlist.specs.Holds.{Holds}
+use Rattle.cubes.specs.Cubes.{Cube, Pattern, AgreesWith, IsCubeOf, IsPatternOf}
 use Rattle.cubes.specs.Filling.{filled}
 
 pub filled_allowed : (vs : List Tri) (words : Stream) → AreAllowed vs (filled vs words)
@@ -17,4 +21,27 @@ pub fill_agrees : (c : Cube) (p : Pattern) (words later : Stream) → p.inputs �
 fill_agrees c p words later e h = record {
   inputs = subst (λ bits. AreAllowed c.inputs bits) (sym e) (filled_allowed c.inputs words);
   cells = subst (λ bits. AreAllowed c.cells bits) (sym h) (filled_allowed c.cells later);
+}
+
+-- a known value allows its bit alone
+allows_only : (v : Tri) (b c : Bool) → v ≡ known b → allows v c ≡ true → c ≡ b
+allows_only v b c e h = of_known b c (subst (λ w. allows w c ≡ true) e h)
+  where
+    of_known : (b c : Bool) → allows (known b) c ≡ true → c ≡ b
+    of_known true true h = refl
+    of_known true false h = h
+    of_known false true h = sym h
+    of_known false false h = refl
+
+bit_allowed : (vs : List Tri) (bits : List Bool) → AreAllowed vs bits → (k : ℕ) (b : Bool) → slice_get vs k ≡ Some (known b) → slice_get bits k ≡ Some b
+bit_allowed [] bits h k b e = absurd (cc)
+bit_allowed (v ∷ vs) [] h k b e = absurd h
+bit_allowed (v ∷ vs) (c ∷ bits) h zero b e = let is : v ≡ known b = cc in ap Some (allows_only v b c is h.0)
+bit_allowed (v ∷ vs) (c ∷ bits) h (suc k) b e = bit_allowed vs bits h.1 k b e
+
+pub fill_fits : (n : Netlist) (holds : Holds) (c : Cube) (p : Pattern) → AgreesWith p c → IsCubeOf n holds c → IsPatternOf n holds p
+fill_fits n holds c p agrees fits = record {
+  inputs = AllZip-long _ c.inputs p.inputs agrees.inputs ∙ fits.inputs;
+  cells = AllZip-long _ c.cells p.cells agrees.cells ∙ fits.cells;
+  obeys = λ k b at. bit_allowed c.inputs p.inputs agrees.inputs k b (fits.held k b at);
 }

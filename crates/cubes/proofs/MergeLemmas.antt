@@ -1,12 +1,18 @@
 -- One more cube is merged; and what each merging is like.
-use Rattle.std.proofs.Common.{◌≡◌, ◌≢◌, ◌↔◌, ℕ, ◌+◌, ◌==◌, ◌<◌, ◌≤◌, Bool, not, cond, ◌⊎◌, List, [], ◌∷◌, ◌++◌, length, get_or, set, refl, sym, ◌∙◌, ap, subst, inl, inr, arith, length-append, length-set}
+use Rattle.std.proofs.Common.{◌≡◌, ◌≢◌, ◌↔◌, ℕ, ◌+◌, ◌==◌, ◌<◌, ◌≤◌, Bool, not, cond, ◌⊎◌, List, [], ◌∷◌, ◌++◌, length, get_or, set, refl, sym, ◌∙◌, ap, subst, inl, inr, arith, length-append, length-set, Some}
 use Rattle.std.specs.List.{All, AllPairs, Contains}
 use Rattle.std.proofs.lemmas.Bool.{cases_lt, cases_eq, eq-eqb, ne_eqb, cond-true, cond-false}
 use Rattle.std.proofs.lemmas.List.{get_or_append_left, get_or-set_same, get_or-set_other, get_or_past, get_or_default}
 use Rattle.std.proofs.Math.Seq.{get_or-append_seam}
-use Rattle.cubes.specs.Cubes.{Cube, HasBit, Contradicts, HasBitsOf, HaveSameWidths}
-use Rattle.cubes.specs.Merging.{cube_at, AreMergedBy, AreMerged, IsAdded, IsJoinedCube}
-use Rattle.cubes.proofs.RowLemmas.{joined_bits, joined_widths, same_widths, known_is_no_x}
+use Rattle.std.proofs.lemmas.Option.{get_or_from_slice_get, slice_get-get_or, slice_get_within}
+use Rattle.netlist.specs.declared.kinds.Tri.TheVariants.{X}
+use Rattle.netlist.specs.Netlist.{Netlist}
+use Rattle.netlist.specs.Holds.{Holds}
+use Rattle.netlist.specs.ThreeValues.{known}
+use Rattle.cubes.specs.Cubes.{Cube, HasBit, Contradicts, HasBitsOf, HaveSameWidths, IsCubeOf}
+use Rattle.cubes.specs.Merging.{cube_at, AreMergedBy, AreMerged}
+use Rattle.cubes.specs.inner.Joining.{IsAdded, IsJoinedCube}
+use Rattle.cubes.proofs.RowLemmas.{bit_left, joined_bits, joined_widths, same_widths, known_is_no_x, row_left}
 
 -- What an addition does to the results, whether it joins one or begins one: a place past the end holds no bit.
 pub record Growth (cube : Cube) (place : ℕ) (old new : List Cube) : Type 0 where
@@ -268,6 +274,15 @@ pub merged_more : (cubes old new : List Cube) (m : ℕ) (cube : Cube) → AreMer
 merged_more cubes old new m cube h read less same a =
     one_more_merged cubes old m h.0 h.1 less same new (subst (λ (x : Cube). IsAdded x old new) (at_blank cubes m cube read less) a)
 
+pub one_more : (cube : Cube) (old new : List Cube) → IsAdded cube old new → length new ≤ length old + 1
+one_more cube old new a = elim (cases_lt a.place (length old)) [
+  | inl l ↦ let j = a.joined l in let size : length new ≡ length old = ap length j.2 ∙ length-set old a.place j.0 in omega arith
+  | inr l ↦
+      let within = a.within in
+      let size : length new ≡ length old + 1 = ap length (a.begun (omega arith)) ∙ length-append old (cube ∷ []) in
+      omega arith
+]
+
 -- ---- what each merging is like
 
 module _ (cubes results : List Cube) (place : ℕ → ℕ) (h : AreMergedBy place cubes results (length cubes)) where
@@ -296,6 +311,31 @@ module _ (cubes results : List Cube) (place : ℕ → ℕ) (h : AreMergedBy plac
         has_bit_along (cube_at results q) (get_or results q d) k (not b) (get_or_default results q (record { inputs = []; cells = [] }) d within) second,
       )
 
+  -- merged cubes of a netlist are cubes of it
+  module _ (n : Netlist) (holds : Holds) (fit : All (IsCubeOf n holds) cubes) where
+    fits_at : (p : ℕ) → p < length results → IsCubeOf n holds (cube_at results p)
+    fits_at p l =
+        let u = h.used p l in
+        let c : IsCubeOf n holds (cube_at cubes u.0) = fit u.0 (record { inputs = []; cells = [] }) u.1 in
+        let w : HaveSameWidths (cube_at results (place u.0)) (cube_at cubes u.0) = h.widths u.0 u.1 in
+        let same : HaveSameWidths (cube_at results p) (cube_at cubes u.0) = subst (λ q. HaveSameWidths (cube_at results q) (cube_at cubes u.0)) u.2 w in
+        record {
+          inputs = same.inputs ∙ c.inputs;
+          cells = same.cells ∙ c.cells;
+          held = λ k b at.
+              let bit = c.held k b at in
+              let has : HasBit (cube_at cubes u.0) k b = bit_left (cube_at cubes u.0).inputs (cube_at cubes u.0).cells k b (get_or_from_slice_get (cube_at cubes u.0).inputs k (known b) X bit) in
+              let there : HasBit (cube_at results p) k b = (h.bits p k b l).1 (u.0, u.1, u.2, has) in
+              let here : k < length (cube_at cubes u.0).inputs = slice_get_within (cube_at cubes u.0).inputs k (known b) bit in
+              let wide = same.inputs in
+              let within : k < length (cube_at results p).inputs = omega arith in
+              slice_get-get_or (cube_at results p).inputs k X within
+              ∙ ap Some (sym (row_left (cube_at results p).inputs (cube_at results p).cells k within) ∙ there);
+        }
+
+    pub all_fit : All (IsCubeOf n holds) results
+    all_fit p d l = subst (IsCubeOf n holds) (get_or_default results p (record { inputs = []; cells = [] }) d l) (fits_at p l)
+
 at_end : (cubes results : List Cube) (m : ℕ) → AreMerged cubes results m → m ≡ length cubes → AreMerged cubes results (length cubes)
 at_end cubes results m h e = subst (λ n. AreMerged cubes results n) e h
 
@@ -305,3 +345,7 @@ kept_at_end cubes results m h e = let w = at_end cubes results m h e in each_kep
 
 pub apart_at_end : (cubes results : List Cube) (m : ℕ) → AreMerged cubes results m → m ≡ length cubes → AllPairs Contradicts results
 apart_at_end cubes results m h e = let w = at_end cubes results m h e in all_apart cubes results w.0 w.1
+
+pub fit_at_end : (cubes results : List Cube) (m : ℕ) → AreMerged cubes results m → m ≡ length cubes
+    → (n : Netlist) (holds : Holds) → All (IsCubeOf n holds) cubes → All (IsCubeOf n holds) results
+fit_at_end cubes results m h e = let w = at_end cubes results m h e in all_fit cubes results w.0 w.1

@@ -1,14 +1,20 @@
 -- Cubes as rows of values: where two contradict each other, and what one has that another has joined.
 use Rattle.std.proofs.Common.{◌≡◌, ◌↔◌, ℕ, suc, zero, ◌+◌, ◌-◌, ◌<◌, ◌≤◌, Bool, true, false, not, ◌||◌, ◌⊎◌, List, [], ◌∷◌, ◌++◌, length, get_or, refl, sym, ◌∙◌, ap, subst, inl, inr, arith}
 use Rattle.std.specs.Bool.{IsTrue}
-use Rattle.std.proofs.lemmas.Bool.{or_cases, or_left, or_right, cases_lt}
+use Rattle.std.proofs.lemmas.Bool.{both_ways, or_cases, or_left, or_right, cases_lt}
 use Rattle.std.proofs.lemmas.List.{get_or_append_left, get_or-append_right, get_or_past}
 use Rattle.netlist.specs.declared.kinds.Tri.{Tri}
 use Rattle.netlist.specs.declared.kinds.Tri.TheVariants.{Zero, One, X}
 use Rattle.netlist.specs.ThreeValues.{known}
-use Rattle.tri.proofs.Choices.{no, not_not}
 use Rattle.cubes.specs.Cubes.{Cube, row, HasBit, Contradicts, HaveSameWidths}
-use Rattle.cubes.specs.Merging.{is_opposite, are_opposed, join, IsJoined, IsJoinedCube}
+use Rattle.cubes.specs.inner.Joining.{is_opposite, are_opposed, join, IsJoined, IsJoinedCube}
+
+no : {P : Type 0} → false ≡ true → P
+no e = absurd (both_ways false refl e)
+
+not_not : (b : Bool) → not (not b) ≡ b
+not_not true = refl
+not_not false = refl
 
 -- ---- opposite bits
 
@@ -55,7 +61,7 @@ opposed_at (v ∷ vs) (w ∷ ws) (suc k) b e h = or_right (is_opposite v w) (are
 -- ---- rows
 
 module _ (xs ys : List Tri) where
-  row_left : (k : ℕ) → k < length xs → get_or (xs ++ ys) k X ≡ get_or xs k X
+  pub row_left : (k : ℕ) → k < length xs → get_or (xs ++ ys) k X ≡ get_or xs k X
   row_left k l = get_or_append_left xs ys X k l
 
   row_right : (k : ℕ) → length xs ≤ k → get_or (xs ++ ys) k X ≡ get_or ys (k - length xs) X

@@ -1,8 +1,11 @@
 -- Patterns, and cubes: patterns some of whose bits are left open. (Bushnell and Agrawal, Essentials of Electronic Testing.)
-use Rattle.std.specs.Prelude.{ℕ, ◌≡◌, Bool, not, List, ◌++◌, length, slice_index_or}
+use Rattle.std.specs.Prelude.{ℕ, ◌≡◌, Bool, not, List, ◌++◌, length, slice_index_or, Some}
+use Rattle.std.specs.List.{slice_get}
 use Rattle.netlist.specs.declared.kinds.Tri.{Tri}
 use Rattle.netlist.specs.declared.kinds.Tri.TheVariants.{X}
 use Rattle.netlist.specs.ThreeValues.{known, AreAllowed}
+use Rattle.netlist.specs.Netlist.{Netlist, cells}
+use Rattle.netlist.specs.Holds.{Holds, Obeys}
 
 -- a bit for each input and for each cell
 pub record Pattern : Type 0 where
@@ -37,3 +40,15 @@ pub record HaveSameWidths (c d : Cube) : Type 0 where
 pub record AgreesWith (p : Pattern) (c : Cube) : Type 0 where
   pub inputs : AreAllowed c.inputs p.inputs
   pub cells : AreAllowed c.cells p.cells
+
+-- a bit for each input and each cell of the netlist, and each held input has its bit
+pub record IsPatternOf (n : Netlist) (holds : Holds) (p : Pattern) : Type 0 where
+  pub inputs : length p.inputs ≡ length n.inputs
+  pub cells : length p.cells ≡ length (cells n)
+  pub obeys : Obeys holds p.inputs
+
+-- the same of a cube: a held input isn't left open
+pub record IsCubeOf (n : Netlist) (holds : Holds) (c : Cube) : Type 0 where
+  pub inputs : length c.inputs ≡ length n.inputs
+  pub cells : length c.cells ≡ length (cells n)
+  pub held : (k : ℕ) (b : Bool) → slice_get holds k ≡ Some (Some b) → slice_get c.inputs k ≡ Some (known b)

@@ -1,3 +1,4 @@
 pub mod Cubes
 pub mod Merging
 pub mod Filling
+pub mod inner

@@ -1,6 +1,8 @@
 //! Cubes filled to patterns.
 ghost use Rattle.std.specs.Prelude.{◌≡◌, ◌+◌, ◌≤◌, ◌++◌, length, IfOk, OnOk, OnErr, vec_len, vec_capacity};
-ghost use Rattle.cubes.specs.Cubes.{AgreesWith};
+ghost use Rattle.netlist.specs.Netlist.{Netlist};
+ghost use Rattle.netlist.specs.Holds.{Holds};
+ghost use Rattle.cubes.specs.Cubes.{AgreesWith, IsCubeOf, IsPatternOf};
 ghost use Rattle.cubes.specs.Filling.{filled, words_after};
 
 use crate::patterns::{Cube, Pattern};
@@ -30,6 +32,7 @@ pub fn fill<R: Rng>(alloc: Global, cube: &Cube, rng: &mut R) -> Result<Pattern, 
     ensures cells { IfOk result (λ p. p.cells ≡ filled cube.now.cells (words_after cube.now.inputs (R.stream rng.old))) }
     ensures left { OnOk result (R.stream rng.new ≡ words_after cube.now.cells (words_after cube.now.inputs (R.stream rng.old))) }
     ensures agrees { IfOk result (λ p. AgreesWith p cube.now) }
+    ensures fits { IfOk result (λ p. (n : Netlist) (holds : Holds) → IsCubeOf n holds cube.now → IsPatternOf n holds p) }
     ensures refused { OnErr result (R.stream rng.new ≡ R.stream rng.old) }
 {
     let Ok(mut inputs) = Vec::with_capacity(alloc, cube.inputs().len()) else {

@@ -4,8 +4,6 @@
 mod filling;
 mod merging;
 mod patterns;
-#[cfg(test)]
-mod tests;
 
 pub use filling::fill;
 pub use merging::merge;

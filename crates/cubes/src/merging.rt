@@ -1,8 +1,11 @@
 //! Cubes merged into fewer.
-ghost use Rattle.std.specs.Prelude.{◌≡◌, ◌<◌, ℕ, length, IfOk, OnOk, MatchOption};
+ghost use Rattle.std.specs.Prelude.{◌≡◌, ◌<◌, ◌≤◌, ℕ, length, IfOk, OnOk, MatchOption};
 ghost use Rattle.std.specs.List.{All, AllPairs, Contains};
-ghost use Rattle.cubes.specs.Cubes.{Cube as Values, Contradicts, HaveSameWidths, HasBitsOf};
-ghost use Rattle.cubes.specs.Merging.{cube_at, AreMerged, IsAdded};
+ghost use Rattle.netlist.specs.Netlist.{Netlist};
+ghost use Rattle.netlist.specs.Holds.{Holds};
+ghost use Rattle.cubes.specs.Cubes.{Cube as Values, Contradicts, HaveSameWidths, HasBitsOf, IsCubeOf};
+ghost use Rattle.cubes.specs.Merging.{cube_at, AreMerged};
+ghost use Rattle.cubes.specs.inner.Joining.{IsAdded};
 
 use crate::patterns::Cube;
 use netlist::NoMemory;
@@ -41,6 +44,8 @@ fn add(alloc: Global, results: &mut Vec<Cube>, cube: &Cube) -> Result<(), AllocE
 pub fn merge(alloc: Global, cubes: &[Cube]) -> Result<Vec<Cube>, NoMemory>
     requires { AllPairs HaveSameWidths cubes.now }
     ensures merged { IfOk result (λ results. AreMerged cubes.now results.items (length cubes.now)) }
+    ensures few { IfOk result (λ results. length results.items ≤ length cubes.now) }
+    ensures fit { IfOk result (λ results. (n : Netlist) (holds : Holds) → All (IsCubeOf n holds) cubes.now → All (IsCubeOf n holds) results.items) }
 
     // Hence each cube's bits are in one result, and any two results contradict each other.
     ensures kept { IfOk result (λ results. (c : Values) → Contains cubes.now c → (r : Values) × Contains results.items r × HasBitsOf r c) }

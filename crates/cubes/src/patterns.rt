@@ -1,6 +1,6 @@
 //! Patterns and cubes.
 ghost use Rattle.std.specs.Prelude.{◌≡◌, ◌↔◌, IsTrue, IfOk, length};
-ghost use Rattle.cubes.specs.Merging.{are_opposed, IsJoined};
+ghost use Rattle.cubes.specs.inner.Joining.{are_opposed, IsJoined};
 
 use netlist::Tri;
 use std::alloc::{AllocError, Global};
@@ -58,7 +58,7 @@ impl Model for Cube {
 
 impl Cube {
     ghost use Rattle.cubes.specs.Cubes.{Contradicts, HaveSameWidths};
-    ghost use Rattle.cubes.specs.Merging.{IsJoinedCube};
+    ghost use Rattle.cubes.specs.inner.Joining.{IsJoinedCube};
 
     pub fn new(inputs: Vec<Tri>, cells: Vec<Tri>) -> Cube
         ensures { result ≡ record { inputs = inputs.items; cells = cells.items } }

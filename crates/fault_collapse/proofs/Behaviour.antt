@@ -7,7 +7,7 @@ use Rattle.std.proofs.lemmas.List.{get_or_append_left, get_or_default, length-ma
 use Rattle.std.proofs.lemmas.Option.{slice_get-get_or}
 use Rattle.std.proofs.lemmas.List.Elements.{All-contains, Contains-append_cases}
 use Rattle.netlist.specs.declared.kinds.Kind.{Kind}
-use Rattle.netlist.specs.declared.kinds.Kind.TheVariants.{And, Nand, Or, Nor, Xor, Xnor, Not, Buff, Dff}
+use Rattle.netlist.specs.declared.kinds.Kind.TheVariants.{And, Nand, Or, Nor, Xor, Xnor, Not, Buff, Dff, Const0, Const1}
 use Rattle.netlist.specs.declared.lines.Line.{Line}
 use Rattle.netlist.specs.declared.lines.Line.TheVariants.{Stem, Pin, Out}
 use Rattle.netlist.specs.declared.lines.Fault.{Fault}
@@ -107,6 +107,8 @@ gate_joins Xnor v w e c = both_ways false refl c
 gate_joins Not v w e c = both_ways false refl c
 gate_joins Buff v w e c = both_ways false refl c
 gate_joins Dff v w e c = absurd (cc)
+gate_joins Const0 v w e c = both_ways false refl c
+gate_joins Const1 v w e c = both_ways false refl c
 
 module _ (n : Netlist) (sound : IsSound n) (f g : Fault) (j : IsJoined n f g) where
   pin_of : IsPinOf n j.gate.id j.place j.signal

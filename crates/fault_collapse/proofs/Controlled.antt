@@ -3,7 +3,7 @@ use Rattle.std.proofs.Common.{◌≡◌, ℕ, suc, zero, ◌&&◌, ◌||◌, Boo
 use Rattle.std.specs.List.{slice_get}
 use Rattle.std.proofs.lemmas.Bool.{eqb-true}
 use Rattle.netlist.specs.declared.kinds.Kind.{Kind}
-use Rattle.netlist.specs.declared.kinds.Kind.TheVariants.{And, Nand, Or, Nor, Xor, Xnor, Not, Buff, Dff}
+use Rattle.netlist.specs.declared.kinds.Kind.TheVariants.{And, Nand, Or, Nor, Xor, Xnor, Not, Buff, Dff, Const0, Const1}
 use Rattle.netlist.specs.Gates.{allows_pins, conjunction, disjunction, gate_bit, only}
 use Rattle.fault_collapse.specs.Joined.{output_value}
 
@@ -45,3 +45,5 @@ controlled Buff v w vs k e l p = let is : v ≡ w = cc in alone vs k v (eqb-true
 controlled Xor v w vs k e l p = absurd (cc)
 controlled Xnor v w vs k e l p = absurd (cc)
 controlled Dff v w vs k e l p = absurd (cc)
+controlled Const0 v w vs k e l p = absurd (cc)
+controlled Const1 v w vs k e l p = absurd (cc)

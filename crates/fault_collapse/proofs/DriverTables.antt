@@ -11,7 +11,7 @@ use Rattle.netlist.proofs.Placed.{id_at, signals_length}
 use Rattle.fault_universe.specs.Universe.{all_lines}
 use Rattle.fault_universe.proofs.Elements.{slice_get_below}
 use Rattle.fault_collapse.specs.declared.drivers.Driver.{Driver}
-use Rattle.fault_collapse.specs.Merging.{AreDrivers, IsDriver}
+use Rattle.fault_collapse.specs.inner.Merging.{AreDrivers, IsDriver}
 use Rattle.fault_collapse.proofs.Stems.{lines_before, next_stem}
 
 -- what the first drivers are

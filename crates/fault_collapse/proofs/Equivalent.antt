@@ -17,7 +17,7 @@ use Rattle.netlist.proofs.Placed.{definition_below, signal_below}
 use Rattle.fault_collapse.specs.Joined.{IsEquivalent, IsJoined, joined, reflexive, symmetric, transitive}
 use Rattle.fault_collapse.specs.Numbers.{Classes}
 use Rattle.fault_collapse.specs.Classes.{AreClasses}
-use Rattle.fault_collapse.specs.Merging.{AreMerged, AreNumbered, LeadsTo}
+use Rattle.fault_collapse.specs.inner.Merging.{AreMerged, AreNumbered, LeadsTo}
 use Rattle.fault_collapse.proofs.Reading.{branch_at, stem_at, to_pin}
 
 module _ (n : Netlist) (sound : IsSound n) where

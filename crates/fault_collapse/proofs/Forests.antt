@@ -2,7 +2,7 @@
 use Rattle.std.proofs.Common.{◌≡◌, ℕ, ◌<◌, ◌≤◌, cond, eqb, min, max, List, length, set, get_or, sym, ◌∙◌, ap, subst, inl, inr, arith, length-set}
 use Rattle.std.proofs.lemmas.Bool.{cases_eq, cases_lt, eq-eqb, ne_eqb}
 use Rattle.std.proofs.lemmas.List.{get_or-set_other, get_or-set_same}
-use Rattle.fault_collapse.specs.Merging.{IsForest, LeadsTo, merged}
+use Rattle.fault_collapse.specs.inner.Merging.{IsForest, LeadsTo, merged}
 
 -- what stands at a place after a write
 at_set : (P : ℕ → Type 0) (p : List ℕ) (i v k : ℕ) → i < length p → (k ≡ i → P v) → ((k ≡ i → ⊥) → P (get_or p k 0)) → P (get_or (set p i v) k 0)

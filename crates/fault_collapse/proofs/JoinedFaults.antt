@@ -7,7 +7,7 @@ use Rattle.netlist.specs.Netlist.{Definition, Netlist}
 use Rattle.netlist.specs.Conditions.{IsSound}
 use Rattle.fault_collapse.specs.declared.drivers.Driver.{Driver}
 use Rattle.fault_collapse.specs.Joined.{output_value, IsJoined}
-use Rattle.fault_collapse.specs.Merging.{stem_fault, IsDriver, IsReadBy}
+use Rattle.fault_collapse.specs.inner.Merging.{stem_fault, IsDriver, IsReadBy}
 use Rattle.fault_collapse.proofs.Reading.{one_reader}
 
 read_by : (n : Netlist) (f g : Fault) (j : IsJoined n f g) → IsReadBy n f.line j.gate

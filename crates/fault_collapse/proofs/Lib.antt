@@ -10,3 +10,4 @@ pub mod Agreement
 pub mod Controlled
 pub mod Behaviour
 pub mod Once
+pub mod Detected

@@ -10,7 +10,7 @@ use Rattle.fault_universe.specs.Universe.{universe_of}
 use Rattle.fault_universe.proofs.Distinct.{distinct_faults, one_place}
 use Rattle.fault_universe.proofs.Elements.{slice_get_below}
 use Rattle.fault_collapse.specs.Joined.{IsEquivalent, IsJoined, joined, symmetric, transitive}
-use Rattle.fault_collapse.specs.Merging.{AreMerged, IsForest, LeadsTo, merged}
+use Rattle.fault_collapse.specs.inner.Merging.{AreMerged, IsForest, LeadsTo, merged}
 use Rattle.fault_collapse.proofs.Forests.{merged_here, merged_one, merged_other, merged_there}
 
 -- a fault at an earlier place

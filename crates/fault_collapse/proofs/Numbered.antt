@@ -6,7 +6,7 @@ use Rattle.std.proofs.lemmas.Bool.{cases_lt}
 use Rattle.std.proofs.lemmas.List.{get_or_append_left}
 use Rattle.std.proofs.lemmas.Option.{slice_get-get_or}
 use Rattle.netlist.specs.declared.lines.Fault.{Fault}
-use Rattle.fault_collapse.specs.Merging.{AreNumbered, IsForest, LeadsTo}
+use Rattle.fault_collapse.specs.inner.Merging.{AreNumbered, IsForest, LeadsTo}
 
 -- a list with one more element
 read_old : (xs ys : List ℕ) (v k : ℕ) → ys ≡ xs ++ v ∷ [] → k < length xs → get_or ys k 0 ≡ get_or xs k 0

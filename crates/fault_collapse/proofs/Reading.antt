@@ -13,7 +13,7 @@ use Rattle.fault_universe.specs.Universe.{all_lines}
 use Rattle.fault_universe.proofs.Members.{line_pin}
 use Rattle.fault_universe.proofs.Readers.{IsPinOf, pin_reads, reader_cases}
 use Rattle.fault_collapse.specs.Joined.{line_at}
-use Rattle.fault_collapse.specs.Merging.{IsReadBy}
+use Rattle.fault_collapse.specs.inner.Merging.{IsReadBy}
 
 few_step : (n : Netlist) (x z k : ℕ) (b : Bool) → leb 2 (length (readers_of n x)) ≡ b → length (readers_of n x) < 2 → cond b (Pin z k) (Stem x) ≡ Stem x
 few_step n x z k true e l = let h : 2 ≤ length (readers_of n x) = leb-true 2 (length (readers_of n x)) e in absurd (omega arith)

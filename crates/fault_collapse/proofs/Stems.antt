@@ -16,7 +16,7 @@ use Rattle.netlist.proofs.Placed.{signals_length}
 use Rattle.fault_universe.specs.Universe.{all_lines, branching, faults_of, lines_of}
 use Rattle.fault_universe.proofs.LineLists.{one_more, room}
 use Rattle.fault_universe.proofs.FaultLists.{pair_at}
-use Rattle.fault_collapse.specs.Merging.{stem_fault}
+use Rattle.fault_collapse.specs.inner.Merging.{stem_fault}
 
 -- the fault of a stem
 pub stem_fault_at : (lines : List Line) (place z b : ℕ) (w : Bool) → slice_get lines place ≡ Some (Stem z) → b ≡ bool_byte w

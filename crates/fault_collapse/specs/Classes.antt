@@ -7,10 +7,14 @@ use Rattle.fault_universe.specs.Universe.{universe_of}
 use Rattle.fault_collapse.specs.Joined.{IsEquivalent}
 use Rattle.fault_collapse.specs.Numbers.{Classes}
 
+-- the fault is the representative of the class
+abbrev pub Represents : Classes → ℕ → Fault → Type 0
+Represents c class f = slice_get c.representatives class ≡ Some f
+
 -- the class has a first member: it is the representative, and all faults before it are of lower classes
 pub record HasFirst (n : Netlist) (c : Classes) (class : ℕ) : Type 0 where
   pub place : ℕ
-  pub representative : (f : Fault) → slice_get c.representatives class ≡ Some f → slice_get (universe_of n) place ≡ Some f
+  pub representative : (f : Fault) → Represents c class f → slice_get (universe_of n) place ≡ Some f
   pub member : slice_index c.numbers place ≡ class
   pub earlier : (j : ℕ) → j < place → slice_index c.numbers j < class
 

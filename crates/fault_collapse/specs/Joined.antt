@@ -4,7 +4,7 @@
 use Rattle.std.specs.Prelude.{ℕ, ◌≡◌, Bool, true, false, not, if◌then◌else◌, nat_le, length, Option, Some, None}
 use Rattle.std.specs.List.{Contains, slice_get}
 use Rattle.netlist.specs.declared.kinds.Kind.{Kind}
-use Rattle.netlist.specs.declared.kinds.Kind.TheVariants.{And, Nand, Or, Nor, Xor, Xnor, Not, Buff, Dff}
+use Rattle.netlist.specs.declared.kinds.Kind.TheVariants.{And, Nand, Or, Nor, Xor, Xnor, Not, Buff, Dff, Const0, Const1}
 use Rattle.netlist.specs.declared.lines.Line.{Line}
 use Rattle.netlist.specs.declared.lines.Line.TheVariants.{Stem, Pin}
 use Rattle.netlist.specs.declared.lines.Fault.{Fault}
@@ -22,6 +22,8 @@ output_value Buff v = Some v
 output_value Xor v = None
 output_value Xnor v = None
 output_value Dff v = None
+output_value Const0 v = None
+output_value Const1 v = None
 
 -- the line at pin k of z, which reads x: a branch, or the stem x itself where nothing else reads x
 abbrev pub line_at : Netlist → ℕ → ℕ → ℕ → Line

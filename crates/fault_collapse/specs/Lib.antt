@@ -1,5 +1,5 @@
 pub mod Joined
 pub mod Numbers
 pub mod Classes
-pub mod Merging
 pub mod Laws
+pub mod inner

@@ -1,6 +1,6 @@
 //! Classes by number.
-ghost use Rattle.std.specs.Prelude.{◌≡◌, ◌^◌, ◌<◌, ℕ, IfOk, Some, length, slice_get, slice_index};
-ghost use Rattle.fault_collapse.specs.Merging.{AreNumbered, IsForest, LeadsTo};
+ghost use Rattle.std.specs.Prelude.{◌≡◌, ◌^◌, ◌<◌, ℕ, IfOk, length, slice_index};
+ghost use Rattle.fault_collapse.specs.inner.Merging.{AreNumbered, IsForest, LeadsTo};
 
 use fault_universe::FaultSet;
 use netlist::Fault;
@@ -26,6 +26,8 @@ impl Model for Classes {
 }
 
 impl Classes {
+    ghost use Rattle.fault_collapse.specs.Classes.{Represents};
+
     /// How many classes there are.
     pub fn count(&self) -> u32
         ensures { result ≡ length self.now.representatives }
@@ -44,9 +46,16 @@ impl Classes {
     /// The first member of a class.
     pub fn representative(&self, class: u32) -> Fault
         requires { class < length self.now.representatives }
-        ensures { slice_get self.now.representatives class ≡ Some result }
+        ensures { Represents self.now class result }
     {
         self.representatives[class as usize]
+    }
+
+    /// The first member of each class.
+    pub fn representatives(&self) -> &[Fault]
+        ensures { result.now ≡ self.now.representatives }
+    {
+        &self.representatives
     }
 }
 

@@ -2,7 +2,7 @@
 ghost use Rattle.std.specs.Prelude.{◌≡◌, ◌^◌, ◌≤◌, IfOk, length};
 ghost use Rattle.fault_universe.specs.Universe.{universe_of};
 ghost use Rattle.fault_collapse.specs.Classes.{AreClasses};
-ghost use Rattle.fault_collapse.specs.Merging.{AreMerged};
+ghost use Rattle.fault_collapse.specs.inner.Merging.{AreMerged};
 
 use crate::classes::{Classes, number};
 use crate::drivers::drivers;

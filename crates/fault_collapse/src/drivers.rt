@@ -3,7 +3,7 @@ ghost use Rattle.std.specs.Prelude.{◌≡◌, ◌^◌, ◌<◌, IfOk, MatchOpti
 ghost use Rattle.std.specs.List.{Contains, flat_map};
 ghost use Rattle.netlist.specs.Netlist.{Definition as Equation, signals};
 ghost use Rattle.fault_universe.specs.Universe.{all_lines, lines_of};
-ghost use Rattle.fault_collapse.specs.Merging.{AreDrivers, IsDriver, IsReadBy};
+ghost use Rattle.fault_collapse.specs.inner.Merging.{AreDrivers, IsDriver, IsReadBy};
 
 use crate::gates::reader_of;
 use fault_universe::branches;

@@ -6,7 +6,7 @@ ghost use Rattle.netlist.specs.declared.lines.Line.TheVariants.{Pin};
 ghost use Rattle.netlist.specs.Readers.{readers_of};
 ghost use Rattle.fault_universe.specs.Universe.{all_lines};
 ghost use Rattle.fault_collapse.specs.Joined.{output_value};
-ghost use Rattle.fault_collapse.specs.Merging.{IsReadBy};
+ghost use Rattle.fault_collapse.specs.inner.Merging.{IsReadBy};
 
 use netlist::{Kind, Line, Netlist, SignalId};
 

@@ -2,7 +2,7 @@
 ghost use Rattle.std.specs.Prelude.{◌≡◌, ◌+◌, ◌*◌, ◌^◌, ◌<◌, ◌≤◌, ℕ, IfOk, Some, length, slice_get, slice_index, vec_len};
 ghost use Rattle.netlist.specs.Netlist.{Definition as Equation};
 ghost use Rattle.fault_universe.specs.Universe.{all_lines, universe_of};
-ghost use Rattle.fault_collapse.specs.Merging.{AreDrivers, AreMerged, IsDriver, IsReadBy};
+ghost use Rattle.fault_collapse.specs.inner.Merging.{AreDrivers, AreMerged, IsDriver, IsReadBy};
 
 use crate::drivers::{Driver, reading_driver};
 use crate::gates::output_value;

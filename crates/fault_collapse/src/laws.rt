@@ -1,5 +1,5 @@
 //! Laws of classes: functions that do nothing, whose contracts are the laws.
-ghost use Rattle.fault_collapse.specs.Laws.{ClassesOnce, EquivalentAgree};
+ghost use Rattle.fault_collapse.specs.Laws.{ClassesOnce, DetectedAlike, EquivalentAgree};
 
 use netlist::{holds_everywhere, settles_once, some_settles};
 
@@ -9,6 +9,14 @@ pub fn equivalent_agree()
 {
     holds_everywhere();
     settles_once::<bool>();
+    some_settles::<bool>();
+}
+
+/// Equivalent faults are detected by the same patterns at the same points.
+pub fn detected_alike()
+    ensures { DetectedAlike }
+{
+    equivalent_agree();
     some_settles::<bool>();
 }
 

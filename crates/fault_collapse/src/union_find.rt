@@ -1,6 +1,6 @@
 //! Disjoint classes that are merged, as trees in which each member names an earlier one.
 ghost use Rattle.std.specs.Prelude.{◌≡◌, ◌^◌, ◌<◌, ◌≤◌, ℕ, length, min, max};
-ghost use Rattle.fault_collapse.specs.Merging.{IsForest, LeadsTo, merged};
+ghost use Rattle.fault_collapse.specs.inner.Merging.{IsForest, LeadsTo, merged};
 
 /// The first member of a class. The way there is halved for later calls: m calls over n members take O(n + m log n) steps,
 /// in whatever order the classes are merged (Tarjan and van Leeuwen, Worst-case analysis of set union algorithms, 1984).

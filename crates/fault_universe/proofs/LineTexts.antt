@@ -9,7 +9,8 @@ use Rattle.netlist.specs.declared.lines.Fault.{Fault}
 use Rattle.netlist.specs.Netlist.{Netlist}
 use Rattle.netlist.specs.Conditions.{IsSound}
 use Rattle.netlist.proofs.Lists.{All-from_contains}
-use Rattle.fault_universe.specs.Texts.{fault_text, line_text, value_text, IsWritten}
+use Rattle.fault_universe.specs.Texts.{fault_text, line_text, value_text}
+use Rattle.fault_universe.specs.inner.Written.{IsWritten}
 use Rattle.netlist.specs.Netlist.{name_of}
 use Rattle.fault_universe.specs.Universe.{all_lines, universe_of}
 use Rattle.fault_universe.proofs.Members.{line_written, member_line}

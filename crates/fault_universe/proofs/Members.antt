@@ -17,8 +17,8 @@ use Rattle.netlist.proofs.Placed.{definition_below, signal_below}
 use Rattle.netlist.proofs.WellFormed.{few_pins_of}
 use Rattle.netlist.proofs.Lists.{contains_cases, contains_head, contains_nil, contains_tail}
 use Rattle.fault_universe.specs.Universe.{all_lines, branching, faults_of, lines_of, universe_of}
-use Rattle.fault_universe.specs.Texts.{IsWritten}
-use Rattle.netlist.specs.Lines.{signal_of}
+use Rattle.fault_universe.specs.inner.Written.{IsWritten}
+use Rattle.netlist.specs.Lines.{signal_of, IsLineOf}
 use Rattle.fault_universe.proofs.Elements.{contains_at, slice_get_below, Contains-flat_map, flat_map-source}
 use Rattle.fault_universe.proofs.Names.{is_signal}
 use Rattle.fault_universe.proofs.Readers.{IsPinOf, is_out, last_reads, pin_reads, reader_cases, same_line}
@@ -108,6 +108,19 @@ module _ (n : Netlist) (sound : IsSound n) where
         | inr r ↦ elim (reader_cases n m.0 l r.1) [
           | inl p ↦ let few = pin_number p.0 p.1 m.0 p.3 in subst (IsWritten n) (sym p.2) (pin_signal p.0 p.1 m.0 p.3, omega arith)
           | inr o ↦ subst (IsWritten n) (sym o.0) (signal_below n sound.formed.numbered m.0 m.1)
+        ]
+      ]
+
+  pub line_of : (l : Line) → Contains (all_lines n) l → IsLineOf n l
+  line_of l c =
+      let m = line_cases l c in
+      elim m.2 [
+        | inl e ↦ subst (IsLineOf n) e m.1
+        | inr r ↦ elim (reader_cases n m.0 l r.1) [
+          | inl p ↦
+              let at : IsPinOf n p.0 p.1 m.0 = p.3 in
+              subst (IsLineOf n) (sym p.2) (at.definition, at.member, at.id, slice_get_below at.definition.pins p.1 m.0 at.pin)
+          | inr o ↦ subst (IsLineOf n) (sym o.0) o.1
         ]
       ]
 

@@ -6,7 +6,8 @@ use Rattle.netlist.specs.declared.lines.Line.{Line}
 use Rattle.netlist.specs.declared.lines.Line.TheVariants.{Stem, Pin, Out}
 use Rattle.netlist.specs.Netlist.{Netlist, signals}
 use Rattle.netlist.specs.Conditions.{IsSound}
-use Rattle.fault_universe.specs.Texts.{line_text, IsWritten}
+use Rattle.fault_universe.specs.Texts.{line_text}
+use Rattle.fault_universe.specs.inner.Written.{IsWritten}
 use Rattle.netlist.specs.Netlist.{name_of}
 use Rattle.fault_universe.proofs.Names.{no_blank, no_such_name}
 use Rattle.fault_universe.proofs.Words.{byte_inside, same_parts}

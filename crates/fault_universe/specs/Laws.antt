@@ -1,12 +1,12 @@
 -- Laws of the list of faults, each the contract of a function of its name.
 use Rattle.std.specs.Prelude.{ℕ, ◌≡◌, ◌<◌, ◌≤◌, ◌*◌, Some, length}
-use Rattle.std.specs.List.{slice_get}
+use Rattle.std.specs.List.{slice_get, Contains}
 use Rattle.netlist.specs.declared.lines.Fault.{Fault}
 use Rattle.netlist.specs.Netlist.{Netlist, signals}
 use Rattle.netlist.specs.Conditions.{IsSound}
 use Rattle.fault_universe.specs.Universe.{universe_of}
 use Rattle.fault_universe.specs.Texts.{fault_text}
-use Rattle.netlist.specs.Lines.{signal_of}
+use Rattle.netlist.specs.Lines.{signal_of, IsLineOf}
 
 -- two places of the list whose faults are written alike are one
 abbrev pub TextsDiffer : Type 0
@@ -14,10 +14,17 @@ TextsDiffer =
     (n : Netlist) (i j : ℕ) (f g : Fault) → IsSound n → slice_get (universe_of n) i ≡ Some f → slice_get (universe_of n) j ≡ Some g
     → fault_text n f ≡ fault_text n g → i ≡ j
 
--- A stem for each signal, a branch for each of 1,024 pins of each definition and for an output, each at 0 and at 1.
+-- at most so many for each signal: its stem, a branch for each of the 1,024 pins of a definition, and two for an output, each at 0 and at 1
+abbrev pub faults_a_signal : ℕ
+faults_a_signal = 2052
+
 abbrev pub FewFaults : Type 0
-FewFaults = (n : Netlist) → IsSound n → length (universe_of n) ≤ 2052 * length (signals n)
+FewFaults = (n : Netlist) → IsSound n → length (universe_of n) ≤ faults_a_signal * length (signals n)
 
 -- each fault of the list has a signal of the netlist, by which it is named
 abbrev pub FaultsHaveSignals : Type 0
 FaultsHaveSignals = (n : Netlist) (i : ℕ) (f : Fault) → IsSound n → slice_get (universe_of n) i ≡ Some f → signal_of f.line < length (signals n)
+
+-- each fault of the list stands on a line of the netlist
+abbrev pub FaultsHaveLines : Type 0
+FaultsHaveLines = (n : Netlist) (f : Fault) → IsSound n → Contains (universe_of n) f → IsLineOf n f.line

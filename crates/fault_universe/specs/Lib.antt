@@ -1,3 +1,4 @@
 pub mod Universe
 pub mod Texts
 pub mod Laws
+pub mod inner

@@ -1,6 +1,6 @@
 -- The lines of a netlist and its single stuck-at faults.
 -- (Stems, branches and stuck-at faults: Bushnell and Agrawal, Essentials of Electronic Testing, 2000, chapter 4.)
-use Rattle.std.specs.Prelude.{ℕ, true, false, if◌then◌else◌, nat_le, List, [], ◌∷◌, length}
+use Rattle.std.specs.Prelude.{ℕ, ◌^◌, true, false, if◌then◌else◌, nat_le, List, [], ◌∷◌, length}
 use Rattle.std.specs.List.{flat_map}
 use Rattle.netlist.specs.declared.lines.Line.{Line}
 use Rattle.netlist.specs.declared.lines.Line.TheVariants.{Stem}
@@ -26,3 +26,7 @@ faults_of line = record { line = line; value = false } ∷ record { line = line;
 
 abbrev pub universe_of : Netlist → List Fault
 universe_of n = flat_map faults_of (all_lines n)
+
+-- lists with fewer faults than this are made: a place among them is a number of 32 bits
+abbrev pub fault_limit : ℕ
+fault_limit = 2 ^ 31

@@ -2,7 +2,7 @@
 ghost use Rattle.std.specs.Prelude.{◌≡◌, ◌^◌, ◌<◌, ◌==◌, IfOk, Some, length, slice_get};
 ghost use Rattle.netlist.specs.Netlist.{signals};
 ghost use Rattle.netlist.specs.Readers.{readers_of};
-ghost use Rattle.fault_universe.specs.Universe.{all_lines, branching, universe_of};
+ghost use Rattle.fault_universe.specs.Universe.{all_lines, branching, fault_limit, universe_of};
 
 use netlist::{Fault, Line, Netlist, NoMemory, SignalId};
 use std::alloc::{AllocError, Global};
@@ -74,7 +74,7 @@ fn lines(alloc: Global, netlist: &Netlist) -> Result<Vec<Line>, AllocError>
 
 /// All single stuck-at faults of a netlist.
 pub fn universe(alloc: Global, netlist: &Netlist) -> Result<FaultSet, NoMemory>
-    requires { length (universe_of netlist.now) < 2 ^ 31 }
+    requires { length (universe_of netlist.now) < fault_limit }
     ensures { IfOk result (λ faults. faults ≡ universe_of netlist.now) }
 {
     match lines(alloc, netlist) {

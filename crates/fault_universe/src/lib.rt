@@ -8,5 +8,5 @@ mod named_faults;
 
 pub use fault_sets::{FaultSet, branches, signal_count, universe};
 pub use fault_texts::{push_text, text_of};
-pub use laws::{faults_have_signals, few_faults, texts_differ};
+pub use laws::{faults_have_lines, faults_have_signals, few_faults, texts_differ};
 pub use named_faults::fault_named;

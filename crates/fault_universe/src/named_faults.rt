@@ -4,7 +4,8 @@ ghost use Rattle.std.specs.List.{All, Contains};
 ghost use Rattle.netlist.specs.declared.lines.Line.TheVariants.{Pin, Out};
 ghost use Rattle.netlist.specs.Netlist.{signals};
 ghost use Rattle.fault_universe.specs.Universe.{all_lines, universe_of};
-ghost use Rattle.fault_universe.specs.Texts.{fault_text, value_text, IsLineNamed};
+ghost use Rattle.fault_universe.specs.Texts.{fault_text, value_text};
+ghost use Rattle.fault_universe.specs.inner.Written.{IsLineNamed};
 ghost use Rattle.netlist.specs.Lines.{signal_of};
 
 use crate::fault_sets::{branches, signal_count};

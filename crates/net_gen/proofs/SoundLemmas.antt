@@ -1,4 +1,4 @@
--- Every sample netlist meets all that is asked of a netlist.
+-- Every sample netlist meets all that is asked of a netlist, and of a design.
 use Rattle.std.proofs.Common.{◌≡◌, ◌≢◌, ℕ, zero, suc, ◌+◌, ◌-◌, ◌/◌, ◌%◌, ◌^◌, ◌<◌, ◌≤◌, Bool, true, false, List, [], ◌∷◌, ◌++◌, map, length, get_or, refl, sym, ◌∙◌, ap, subst, inl, inr, arith, length-append, zero-add, if◌then◌else◌, ◌==◌}
 use Rattle.std.proofs.lemmas.Bool.Decides.{nat_tests}
 use Rattle.std.specs.Bool.{IsTrue}
@@ -21,6 +21,7 @@ use Rattle.netlist.specs.Netlist.{Definition, Netlist, is_gate, gates, signals, 
 use Rattle.netlist.specs.declared.netlists.NetRefusal.{NetRefusal}
 use Rattle.netlist.specs.declared.netlists.NetRefusal.TheVariants.{TooMany, NoInput, NoOutput, Undefined, Loop, NoMemory}
 use Rattle.netlist.specs.Conditions.{IsCause, IsRead, IsWellFormed, IsClosed, IsSound}
+use Rattle.netlist.specs.Designs.{is_reserved, IsDesign}
 use Rattle.netlist.proofs.Lists.{contains_filter, All-from_contains}
 use Rattle.net_gen.specs.Samples.{word, rest, kind_of, is_inverter, drawn_pins, drawn_gate, after_gate, drawn_gates, after_gates, drawn_cells, names_of, sample_of, sample}
 use Rattle.net_gen.proofs.DrawLemmas.{range-append}
@@ -142,6 +143,18 @@ all_named letter count h small k d l =
     let at = name_at letter count k d l in
     let low = at.0 in
     subst IsName (sym at.1) (numbered_name letter k h (omega arith))
+
+short_names : (letter count : ℕ) → count < 2 ^ 64 → All (λ name. length name ≤ 255) (names_of letter count)
+short_names letter count small k d l =
+    let at = name_at letter count k d l in
+    let low = at.0 in
+    let size : length (decimal k) ≤ 20 = length-decimal-le 20 k (omega arith) (omega arith) (omega arith) in
+    subst (λ (name : List ℕ). length name ≤ 255) (sym at.1) (omega arith)
+
+unreserved_names : (letter count : ℕ) → ((digits : List ℕ) → is_reserved (letter ∷ digits) ≡ false) → All (λ name. is_reserved name ≡ false) (names_of letter count)
+unreserved_names letter count h k d l =
+    let at = name_at letter count k d l in
+    subst (λ (name : List ℕ). is_reserved name ≡ false) (sym at.1) (h (decimal k))
 
 names_distinct : (letter count : ℕ) → count < 2 ^ 64 → AllPairs (λ x y. x ≢ y) (names_of letter count)
 names_distinct letter count small i j d less l e =
@@ -290,8 +303,22 @@ module _ (c g : ℕ) (words : Stream) (least : 16 ≤ g) (most : g ≤ 20000) (f
         acyclic = λ z on. no_member on.0 on.1 (z + 1) z (omega arith) on.2;
       }
 
+  pub design : IsDesign (sample_of c g words)
+  design =
+      let size = many_signals in
+      record {
+        small = omega arith;
+        short = All-append (λ name. length name ≤ 255) (names_of 105 8) (names_of 113 c ++ names_of 103 g) (short_names 105 8 (omega arith))
+            (All-append (λ name. length name ≤ 255) (names_of 113 c) (names_of 103 g) (short_names 113 c (omega arith)) (short_names 103 g (omega arith)));
+        unreserved = All-append (λ name. is_reserved name ≡ false) (names_of 105 8) (names_of 113 c ++ names_of 103 g) (unreserved_names 105 8 (λ ds. refl))
+            (All-append (λ name. is_reserved name ≡ false) (names_of 113 c) (names_of 103 g) (unreserved_names 113 c (λ ds. refl)) (unreserved_names 103 g (λ ds. refl)));
+      }
+
 pub sample_sound : (g : ℕ) (words : Stream) → 16 ≤ g → g ≤ 20000 → IsSound (sample g words)
 sample_sound g words least most = sound (g / 8) g words least most (omega arith)
+
+pub sample_design : (g : ℕ) (words : Stream) → 16 ≤ g → g ≤ 20000 → IsDesign (sample g words)
+sample_design g words least most = design (g / 8) g words least most (omega arith)
 
 -- ---- why it may be refused
 

@@ -6,8 +6,15 @@ use Rattle.rand_core.specs.Steps.{stream_of, steps_u32}
 use Rattle.rand_pcg.specs.Lcg.{started, increment_of}
 use Rattle.rand_pcg.specs.Pcg.{multiplier_64, pcg32}
 use Rattle.netlist.specs.declared.kinds.Kind.{Kind}
-use Rattle.netlist.specs.declared.kinds.Kind.TheVariants.{And, Nand, Or, Nor, Xor, Xnor, Not, Buff, Dff}
+use Rattle.netlist.specs.declared.kinds.Kind.TheVariants.{And, Nand, Or, Nor, Xor, Xnor, Not, Buff, Dff, Const0, Const1}
 use Rattle.netlist.specs.Netlist.{Definition, Netlist}
+
+-- how many gates a sample may have
+abbrev pub fewest_gates : ℕ
+fewest_gates = 16
+
+abbrev pub most_gates : ℕ
+most_gates = 20000
 
 -- the next word, and the words behind it
 abbrev pub word : Stream → ℕ
@@ -31,6 +38,8 @@ is_inverter Xor = false
 is_inverter Xnor = false
 is_inverter Buff = false
 is_inverter Dff = false
+is_inverter Const0 = false
+is_inverter Const1 = false
 
 -- the pins of a gate among the signals 0 to id - 1: one of a NOT, two of any other
 abbrev pub drawn_pins : Kind → ℕ → Stream → List ℕ

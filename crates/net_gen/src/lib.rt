@@ -4,7 +4,5 @@
 mod draws;
 mod names;
 mod samples;
-#[cfg(test)]
-mod tests;
 
-pub use samples::{generate, samples_are_sound};
+pub use samples::{generate, samples_are_designs, samples_are_sound};

@@ -2,8 +2,8 @@
 ghost use Rattle.std.specs.Prelude.{◌≡◌, ◌+◌, ◌^◌, ◌<◌, ◌≤◌, IfOk};
 ghost use Rattle.std.specs.List.{range_with_len};
 ghost use Rattle.netlist.specs.Conditions.{whole};
-ghost use Rattle.net_gen.specs.Samples.{sample, words_of};
-ghost use Rattle.net_gen.specs.Laws.{SamplesAreSound};
+ghost use Rattle.net_gen.specs.Samples.{fewest_gates, most_gates, sample, words_of};
+ghost use Rattle.net_gen.specs.Laws.{SamplesAreDesigns, SamplesAreSound};
 
 use crate::draws::{draw_cells, draw_gates};
 use crate::names::all_names;
@@ -30,8 +30,8 @@ fn ids(alloc: Global, first: u32, count: u32) -> Result<Vec<SignalId>, AllocErro
 
 /// The parts of a sample netlist.
 fn draw_parts<R: Rng>(alloc: Global, gates: u32, rng: &mut R) -> Result<Parts, AllocError>
-    requires least { 16 ≤ gates }
-    requires most { gates ≤ 20000 }
+    requires least { fewest_gates ≤ gates }
+    requires most { gates ≤ most_gates }
     ensures { IfOk result (λ parts. whole parts ≡ sample gates (R.stream rng.old)) }
 {
     let cells = gates / 8;
@@ -49,8 +49,8 @@ fn draw_parts<R: Rng>(alloc: Global, gates: u32, rng: &mut R) -> Result<Parts, A
 
 /// The sample netlist of a seed, with so many gates and an eighth as many cells.
 pub fn generate(alloc: Global, seed: u64, gates: u32) -> Result<Netlist, NoMemory>
-    requires least { 16 ≤ gates }
-    requires most { gates ≤ 20000 }
+    requires least { fewest_gates ≤ gates }
+    requires most { gates ≤ most_gates }
     ensures { IfOk result (λ netlist. netlist ≡ sample gates (words_of seed)) }
 {
     let Ok(parts) = draw_parts(alloc, gates, &mut Lcg64Xsh32::new(seed, 54)) else {
@@ -69,4 +69,9 @@ pub fn generate(alloc: Global, seed: u64, gates: u32) -> Result<Netlist, NoMemor
 /// Every sample netlist meets all that is asked of a netlist.
 pub fn samples_are_sound()
     ensures { SamplesAreSound }
+{}
+
+/// Every sample netlist may be scanned.
+pub fn samples_are_designs()
+    ensures { SamplesAreDesigns }
 {}

@@ -1,5 +1,5 @@
 use Rattle.std.proofs.Common.{◌≡◌, vec_len}
-use Rattle.chain_stitch.specs.Places.{HasPlaces}
+use Rattle.chain_stitch.specs.inner.Places.{HasPlaces}
 use Rattle.chain_stitch.proofs.place_table.place_table.Given as goal
 
 abbrev pub invariant-loop-k : goal.invariant-loop-k

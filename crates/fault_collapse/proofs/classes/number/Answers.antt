@@ -1,6 +1,6 @@
 use Rattle.std.proofs.Common.{◌≡◌, ◌+◌, ◌∙◌, ap, sym, subst, get_or, length, vec_len, arith}
 use Rattle.std.proofs.lemmas.List.{get_or_default}
-use Rattle.fault_collapse.specs.Merging.{AreNumbered}
+use Rattle.fault_collapse.specs.inner.Merging.{AreNumbered}
 use Rattle.fault_collapse.proofs.Numbered.{first_class, old_class}
 use Rattle.fault_collapse.proofs.classes.number.Goals as goal
 use Rattle.fault_collapse.proofs.classes.number.Goals.{then-parent-i+in_ok-push+in_ok-push-2, else-parent-i+in_ok-push-3}

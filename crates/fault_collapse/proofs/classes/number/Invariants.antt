@@ -1,5 +1,5 @@
 use Rattle.std.proofs.Common.{◌≡◌, ◌≤◌, ℕ, vec_len}
-use Rattle.fault_collapse.specs.Merging.{AreNumbered, LeadsTo}
+use Rattle.fault_collapse.specs.inner.Merging.{AreNumbered, LeadsTo}
 use Rattle.fault_collapse.proofs.classes.number.Given as goal
 
 abbrev pub invariant-loop-i : goal.invariant-loop-i

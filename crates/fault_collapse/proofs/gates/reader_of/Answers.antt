@@ -1,9 +1,9 @@
 use Rattle.std.proofs.Common.{subst, sym}
 use Rattle.std.specs.List.{Contains}
 use Rattle.fault_universe.specs.Universe.{all_lines}
-use Rattle.fault_universe.specs.Texts.{IsWritten}
+use Rattle.fault_universe.specs.inner.Written.{IsWritten}
 use Rattle.fault_universe.proofs.Members.{line_written}
-use Rattle.fault_collapse.specs.Merging.{IsReadBy}
+use Rattle.fault_collapse.specs.inner.Merging.{IsReadBy}
 use Rattle.fault_collapse.proofs.Reading.{pin_read, stem_read_cases}
 use Rattle.fault_collapse.proofs.gates.reader_of.Goals as goal
 

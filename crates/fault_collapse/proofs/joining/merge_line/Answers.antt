@@ -2,7 +2,7 @@ use Rattle.std.proofs.Common.{◌≡◌, ◌+◌, ◌*◌, ◌∙◌, ap, length
 use Rattle.std.specs.List.{slice_get}
 use Rattle.fault_universe.specs.Universe.{all_lines}
 use Rattle.fault_universe.proofs.FaultLists.{length-faults}
-use Rattle.fault_collapse.specs.Merging.{AreMerged, IsReadBy}
+use Rattle.fault_collapse.specs.inner.Merging.{AreMerged, IsReadBy}
 use Rattle.fault_collapse.proofs.JoinedFaults.{none_reads}
 use Rattle.fault_collapse.proofs.Merged.{not_joined}
 use Rattle.fault_collapse.proofs.Stems.{one_line}

@@ -1,5 +1,5 @@
 use Rattle.std.proofs.Common.{◌≡◌, ◌<◌, ℕ, length}
-use Rattle.fault_collapse.specs.Merging.{IsForest, LeadsTo}
+use Rattle.fault_collapse.specs.inner.Merging.{IsForest, LeadsTo}
 use Rattle.fault_collapse.proofs.union_find.first_member.Given as goal
 
 abbrev pub invariant-loop-parents : goal.invariant-loop-parents

@@ -1,7 +1,7 @@
 use Rattle.std.proofs.Common.{◌≡◌, ◌∙◌, ℕ, Some, ap}
 use Rattle.std.specs.List.{slice_get}
 use Rattle.netlist.specs.declared.lines.Fault.{Fault}
-use Rattle.fault_universe.specs.Texts.{IsWritten}
+use Rattle.fault_universe.specs.inner.Written.{IsWritten}
 use Rattle.fault_universe.specs.Universe.{universe_of}
 use Rattle.fault_universe.proofs.Distinct.{distinct_faults, one_place}
 use Rattle.fault_universe.proofs.Elements.{contains_at}

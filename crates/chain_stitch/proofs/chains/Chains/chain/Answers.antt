@@ -1,6 +1,6 @@
 use Rattle.std.proofs.Common.{ℕ, List, ◌<◌, ◌≤◌, ◌≡◌, ◌-◌, ◌+◌, length, take, drop, slice_get, Some, sym, ◌∙◌, ap, arith}
 use Rattle.chain_stitch.specs.Chains.{chains_of}
-use Rattle.chain_stitch.specs.Places.{start_of, length_of}
+use Rattle.chain_stitch.specs.inner.Places.{start_of, length_of}
 use Rattle.chain_stitch.proofs.Dealing.{length-chains, get-chains}
 use Rattle.chain_stitch.proofs.chains.Chains.chain.Goals as goal
 

@@ -3,7 +3,7 @@ use Rattle.std.specs.List.{Contains}
 use Rattle.std.proofs.lemmas.List.{get_or_read}
 use Rattle.chain_stitch.specs.declared.chains.Chains.TheInside.{Inside}
 use Rattle.chain_stitch.specs.Chains.{chains_of, cells_of, IsAt}
-use Rattle.chain_stitch.specs.Places.{AreDealt, IsPlaced}
+use Rattle.chain_stitch.specs.inner.Places.{AreDealt, IsPlaced}
 use Rattle.chain_stitch.proofs.Dealing.{IsFound, found, is_at}
 use Rattle.chain_stitch.proofs.chains.Chains.place.Goals as goal
 

@@ -1,0 +1,344 @@
+#!/usr/bin/env python3
+"""Works out what the rows of crates/calls and crates/cases have to print, by a plain program apart from the crates, and compares.
+
+A row that this program doesn't know (a refusal, a line of an error output) is worked out by hand; how many there are is printed.
+
+    bench/check_cases.py
+"""
+import itertools
+import os
+import subprocess
+import sys
+
+sys.path.insert(0, os.path.dirname(os.path.abspath(__file__)))
+from fault_list import fault_list, netlist_of, readers_of
+
+ROOT = os.path.dirname(os.path.dirname(os.path.abspath(__file__)))
+WORDS = {"BUF": "BUFF"}
+
+
+def shown(text):
+    """The lines in which a text is shown."""
+    lines = text.split("\n")
+    escaped = ["|" + "".join(escape(ord(c)) for c in line) for line in lines]
+    return escaped[:-1] + ([escaped[-1] + "\\"] if lines[-1] else [])
+
+
+def escape(byte):
+    if byte == 92:
+        return "\\\\"
+    return chr(byte) if 32 <= byte <= 126 else f"\\x{byte:02x}"
+
+
+def unescape(line):
+    """The bytes that a line stands for."""
+    out, k = "", 0
+    while k < len(line):
+        if line[k] != "\\":
+            out, k = out + line[k], k + 1
+        elif line[k + 1 : k + 2] == "x":
+            out, k = out + chr(int(line[k + 2 : k + 4], 16)), k + 4
+        elif line[k + 1 : k + 2] == "\\":
+            out, k = out + "\\", k + 2
+        else:
+            return out
+    return out + "\n"
+
+
+def checksum(text):
+    total = 0x811C9DC5
+    for byte in text.encode("latin-1"):
+        total = ((total ^ byte) * 0x01000193) & 0xFFFFFFFF
+    return total
+
+
+def gate(kind, bits):
+    if kind in ("CONST0", "CONST1"):
+        return kind == "CONST1"
+    if kind in ("AND", "NAND"):
+        value = all(bits)
+    elif kind in ("OR", "NOR"):
+        value = any(bits)
+    elif kind in ("XOR", "XNOR"):
+        value = sum(bits) % 2 == 1
+    else:
+        value = bits[0]
+    return not value if kind in ("NAND", "NOR", "XNOR", "NOT") else value
+
+
+def forced(kind, values):
+    """What every choice of bits for the Xs gives."""
+    choices = itertools.product(*["01" if v == "X" else v for v in values])
+    given = {gate(kind, [c == "1" for c in choice]) for choice in choices}
+    return "X" if len(given) == 2 else digits(given)
+
+
+class Netlist:
+    def __init__(self, text):
+        self.inputs, self.outputs, self.definitions = netlist_of(text)
+        self.defined = {name: (kind, pins) for name, kind, pins in self.definitions}
+        self.cells = [name for name, kind, _ in self.definitions if kind == "DFF"]
+        self.signals = self.inputs + [name for name, _, _ in self.definitions]
+
+    def settled(self, inputs, state, fault=None):
+        """Signals, outputs and next state, with a line stuck or none."""
+        line, value = fault.rsplit("/", 1) if fault else (None, "0")
+        stuck = value == "1"
+        driven = dict(zip(self.inputs, inputs)) | dict(zip(self.cells, state))
+        bits = {}
+
+        def stem(name):
+            if name not in bits:
+                kind, pins = self.defined.get(name, (None, []))
+                value = driven[name] if name in driven else gate(kind, [pin(name, k) for k in range(len(pins))])
+                bits[name] = stuck if line == f"stem {name}" else value
+            return bits[name]
+
+        def pin(name, place):
+            value = stem(self.defined[name][1][place])
+            return stuck if line == f"pin {name} {place}" else value
+
+        outputs = [stuck if line == f"out {name}" else stem(name) for name in self.outputs]
+        return [stem(x) for x in self.signals], outputs, [pin(name, 0) for name in self.cells]
+
+    def canonical(self):
+        lines = [f"INPUT({x})" for x in self.inputs] + [f"OUTPUT({y})" for y in self.outputs]
+        lines += [f"{name} = {WORDS.get(kind, kind)}({', '.join(pins)})" for name, kind, pins in self.definitions]
+        return "".join(line + "\n" for line in lines)
+
+    def chains(self, asked):
+        count = min(asked, len(self.cells))
+        chains, start = [], 0
+        for chain in range(count):
+            end = start + len(self.cells) // count + (chain < len(self.cells) % count)
+            chains.append(self.cells[start:end])
+            start = end
+        return chains
+
+    def scanned(self, asked):
+        """The text with scan cells in chains (docs/SCAN_AND_STIL.md)."""
+        chains = self.chains(asked)
+        if not chains:
+            return self.canonical()
+        before = {}
+        for place, chain in enumerate(chains):
+            last = f"SC__si{place}"
+            for cell in chain:
+                before[cell] = last
+                last = f"SC__s_{cell}"
+        inputs = self.inputs + ["SC__se"] + [f"SC__si{k}" for k in range(len(chains))]
+        outputs = self.outputs + [f"SC__so{k}" for k in range(len(chains))]
+        lines = [f"INPUT({x})" for x in inputs] + [f"OUTPUT({y})" for y in outputs] + ["SC__nse = NOT(SC__se)"]
+        for name, kind, pins in self.definitions:
+            if kind == "DFF":
+                lines += [
+                    f"SC__a_{name} = AND({pins[0]}, SC__nse)",
+                    f"SC__b_{name} = AND({before[name]}, SC__se)",
+                    f"SC__d_{name} = OR(SC__a_{name}, SC__b_{name})",
+                    f"SC__s_{name} = DFF(SC__d_{name})",
+                    f"{name} = BUFF(SC__s_{name})",
+                ]
+            else:
+                lines.append(f"{name} = {WORDS.get(kind, kind)}({', '.join(pins)})")
+        lines += [f"SC__so{k} = BUFF(SC__s_{chain[-1]})" for k, chain in enumerate(chains)]
+        return "".join(line + "\n" for line in lines)
+
+    def site(self, line):
+        word, name, *place = line.split(" ")
+        return f"pin SC__a_{name} 0" if word == "pin" and name in self.cells else line
+
+    def pin_name(self, place):
+        name = self.outputs[place]
+        return f"SC__o_{name}" if name in self.inputs else name
+
+
+def digits(bits):
+    return "".join("1" if bit else "0" for bit in bits)
+
+
+def bits_of(text):
+    return [c == "1" for c in text if c in "01"]
+
+
+def numbered(count, number):
+    return [number >> k & 1 == 1 for k in range(count)]
+
+
+def observed(netlist, text):
+    """A checksum of outputs and next states over all inputs and states, with no fault and with each of the list."""
+    for fault in [None] + [line.split(" class")[0] for line in list(fault_list(text))[1:]]:
+        seen = ""
+        for state in range(2 ** len(netlist.cells)):
+            for number in range(2 ** len(netlist.inputs)):
+                _, outputs, cells = netlist.settled(numbered(len(netlist.inputs), number), numbered(len(netlist.cells), state), fault)
+                seen += digits(outputs) + digits(cells) + "\n"
+        yield f"{fault or 'no fault'} {checksum(seen)}"
+
+
+def filled(state, stream, cube):
+    """A cube filled by the words of PCG (O'Neill 2014, XSH RR 64/32), and the next word."""
+    most = 2**64 - 1
+    increment = (stream << 1 | 1) & most
+    at = ((increment + state) * 6364136223846793005 + increment) & most
+
+    def word():
+        nonlocal at
+        old, at = at, (at * 6364136223846793005 + increment) & most
+        mixed, turn = (((old >> 18) ^ old) >> 27) & 0xFFFFFFFF, old >> 59
+        return (mixed >> turn | mixed << (-turn & 31)) & 0xFFFFFFFF
+
+    pattern = "".join(c if c in "01/" else str(word() & 1) for c in cube)
+    return f"{pattern} next word {word()}"
+
+
+def sample(seed, gates):
+    command = [sys.executable, f"{ROOT}/bench/sample_netlist.py", seed, gates]
+    return subprocess.run(command, capture_output=True, text=True, check=True).stdout
+
+
+def with_no_netlist(verb, rest):
+    words = rest.split(" ")
+    if verb == "gate":
+        return ["".join(forced(words[0], values) for values in words[1:] or [""])]
+    if verb == "fill":
+        return [filled(int(words[0]), int(words[1]), words[2])]
+    text = sample(words[0], words[1])
+    return shown(text) if verb == "generate" else [str(checksum(text))]
+
+
+def spread(prefix, names):
+    return [" ".join([prefix, *names])]
+
+
+def on_netlist(verb, text, rest):
+    """What a call says of a netlist; None where this program doesn't know."""
+    netlist = Netlist(text)
+    if verb == "signals":
+        return spread("inputs", netlist.inputs) + spread("outputs", netlist.outputs) + spread("cells", netlist.cells)
+    if verb == "readers":
+        return readers_of(netlist.outputs, netlist.definitions).get(rest, [])
+    if verb == "definition":
+        kind, pins = netlist.defined.get(rest, ("input", []))
+        return [" ".join([WORDS.get(kind, kind), *pins])]
+    if verb == "eval":
+        inputs, state, *fault = rest.split(" ", 2)
+        signals, outputs, cells = netlist.settled(bits_of(inputs), bits_of(state), *fault)
+        return [f"signals {digits(signals)}", f"outputs {digits(outputs)}", f"next {digits(cells)}"]
+    if verb == "observed":
+        return list(observed(netlist, text))
+    if verb == "chains":
+        return [line for chain in netlist.chains(int(rest)) for line in spread("chain", chain)]
+    if verb == "insert":
+        return shown(netlist.scanned(int(rest)))
+    if verb == "site":
+        return [netlist.site(rest.split(" ", 1)[1])]
+    if verb == "pin-name":
+        return [netlist.pin_name(int(rest))]
+    faults = [line.rsplit(" class ", 1) for line in list(fault_list(text))[1:]]
+    if verb == "fault":
+        return [rest if rest in [fault for fault, _ in faults] else "no fault"]
+    if verb == "first-member":
+        return [next(fault for fault, number in faults if number == rest)]
+    return None
+
+
+def texts_and_rows(path):
+    """The texts that an input tells, and its other lines."""
+    texts, rows, name = {}, [], None
+    with open(path, encoding="latin-1") as file:
+        for line in file.read().split("\n"):
+            verb, _, rest = line.partition(" ")
+            if line.startswith("|"):
+                texts[name].append(unescape(line[1:]))
+            elif verb == "text":
+                name = rest
+                texts[name] = []
+            elif verb == "repeat":
+                count, what = rest.split(" ", 1)
+                texts[name].append(what * int(count))
+            elif verb == "numbered":
+                first, last, form = rest.split(" ", 2)
+                numbers = range(int(first), int(last))
+                texts[name] += [form.replace("@", str(max(k - 1, 0))).replace("%", str(k)) + "\n" for k in numbers]
+            elif line and not line.startswith("#"):
+                rows.append(line)
+    return {name: "".join(parts) for name, parts in texts.items()}, rows
+
+
+def answers(path, heads):
+    """The lines behind each head, in order."""
+    rows, current = [], None
+    with open(path, encoding="latin-1") as file:
+        for line in file.read().split("\n"):
+            if heads and line == heads[0]:
+                current = []
+                rows.append(current)
+                heads = heads[1:]
+            elif current is not None:
+                current.append(line)
+    return rows
+
+
+def differs(row, wanted, given):
+    if wanted == given:
+        return 0
+    print(f"{row}\n  worked out: {wanted}\n  stored:     {given}")
+    return 1
+
+
+def check_calls():
+    texts, rows = texts_and_rows(f"{ROOT}/crates/calls/stdin")
+    stored = answers(f"{ROOT}/crates/calls/stdout", rows)
+    wrong, known = int(len(stored) != len(rows)), 0
+    for row, given in zip(rows, stored):
+        verb, _, rest = row.partition(" ")
+        name, _, more = rest.partition(" ")
+        given = [line for line in given if line]
+        if verb in ("gate", "fill", "generate", "generate-sum"):
+            wanted = with_no_netlist(verb, rest)
+        elif verb in ("read", "read-scanned"):
+            wanted = None if given[0].startswith("line ") else shown(Netlist(texts[name]).canonical())
+        else:
+            wanted = on_netlist(verb, texts[name], more)
+        if wanted is not None:
+            known += 1
+            wrong += differs(row, wanted, given)
+    print(f"calls: {known} of {len(rows)} rows worked out, {wrong} differ")
+    return wrong
+
+
+def check_cases():
+    texts, rows = texts_and_rows(f"{ROOT}/crates/cases/stdin")
+    heads = [row for row in rows if row.startswith(("case ", "run "))]
+    stored = dict(zip(range(len(heads)), answers(f"{ROOT}/crates/cases/stdout", heads)))
+    wrong, known, place, files = 0, 0, -1, {}
+    for row in rows:
+        verb, _, rest = row.partition(" ")
+        if verb == "case":
+            place, files = place + 1, {}
+        elif verb == "file":
+            name, text = rest.split(" ")
+            files[name] = texts[text]
+        elif verb == "run":
+            place += 1
+            given = [line for line in stored[place] if line]
+            if given[0] != "status 0" or len(given) < 3 or given[1] != "out":
+                continue
+            known += 1
+            words = rest.split(" ")
+            if words[1] == "faults":
+                wanted = shown("".join(line + "\n" for line in fault_list(files[words[2]])))
+                wrong += differs(row, wanted, given[2 : 2 + len(wanted)])
+            else:
+                asked = int(words[5]) if len(words) > 5 else 1
+                netlist = Netlist(files[words[2]])
+                said = f"|cells {len(netlist.cells)} chains {len(netlist.chains(asked))}"
+                wanted = ["status 0", "out", said, f"file {words[2]} as before", f"file {words[3]}"]
+                wanted += shown(netlist.scanned(asked)) + ["files 2"]
+                wrong += differs(row, wanted, given)
+    print(f"cases: {known} runs at status 0 worked out, {wrong} differ")
+    return wrong
+
+
+if __name__ == "__main__":
+    sys.exit(1 if check_calls() + check_cases() else 0)
