@@ -2,7 +2,7 @@
 use Rattle.std.proofs.Common.{◌≡◌, ℕ, suc, zero, ◌-◌, ◌<◌, ◌≤◌, Some, take, drop, List, [], ◌∷◌, ◌++◌, length, get_or, refl, sym, ◌∙◌, ap, arith, length-append}
 use Rattle.std.specs.List.{slice_get}
 use Rattle.std.proofs.lemmas.List.{take-append-le, drop-append-le, length-drop, take_all, drop_at}
-use Rattle.netlist.specs.Rows.{rows, AreEnds}
+use Rattle.netlist.specs.inner.Rows.{rows, AreEnds}
 
 pub rows_count : {X : Type 0} (start : ℕ) (items : List X) (ends : List ℕ) → length (rows start items ends) ≡ length ends
 rows_count start items [] = refl

@@ -6,8 +6,8 @@ use Rattle.std.proofs.lemmas.List.{length-set, get_or-set_same, get_or-set_other
 use Rattle.netlist.specs.declared.lines.Line.{Line}
 use Rattle.netlist.specs.declared.lines.Line.TheVariants.{Stem, Pin, Out}
 use Rattle.netlist.specs.declared.order.Placing.{Placing}
-use Rattle.netlist.specs.Placed.{zeros, IsPlaced}
-use Rattle.netlist.specs.Sorting.{unvisited, pins_among, IsCounted, HasRoom, Places, RanksGrow, Counts}
+use Rattle.netlist.specs.inner.Placed.{zeros, IsPlaced}
+use Rattle.netlist.specs.inner.Sorting.{unvisited, pins_among, IsCounted, HasRoom, Places, RanksGrow, Counts}
 use Rattle.netlist.proofs.Placed.{unplaced_gate}
 use Rattle.netlist.proofs.OneMore.{rank_here, rank_there, order_longer, same_size, same_count, was_unplaced, room_placed, placed_with}
 use Rattle.netlist.proofs.Waiting.{none_unvisited}

@@ -1,6 +1,7 @@
 pub mod Lists
 pub mod Acyclic
 pub mod Placed
+pub mod Orders
 pub mod Waiting
 pub mod ReaderRows
 pub mod OneMore

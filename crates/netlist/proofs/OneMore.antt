@@ -5,8 +5,8 @@ use Rattle.std.proofs.lemmas.List.{length-set, length_push, get_or-set_same, get
 use Rattle.netlist.specs.declared.order.Placing.{Placing}
 use Rattle.netlist.specs.Netlist.{Definition, Netlist, gates}
 use Rattle.netlist.specs.Conditions.{IsNumbered}
-use Rattle.netlist.specs.Placed.{zeros, IsPlaced}
-use Rattle.netlist.specs.Sorting.{HasRoom, Places}
+use Rattle.netlist.specs.inner.Placed.{zeros, IsPlaced}
+use Rattle.netlist.specs.inner.Sorting.{HasRoom, Places}
 use Rattle.netlist.proofs.Placed.{zeros_set, placed_more}
 
 module _ (p q : Placing) (z : ℕ) (within : z < length p.ranks.items) (none : get_or p.ranks.items z 0 ≡ 0) (places : Places z p q) where

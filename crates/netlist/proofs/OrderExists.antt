@@ -5,8 +5,10 @@ use Rattle.std.proofs.lemmas.Bool.{cases_lt, ltb-true, ltb-false}
 use Rattle.std.proofs.lemmas.List.Elements.{All-contains}
 use Rattle.netlist.specs.Netlist.{Definition, Netlist, gates, IsAcyclic}
 use Rattle.netlist.specs.Conditions.{IsNumbered, IsClosed}
-use Rattle.netlist.specs.Placed.{zeros, IsPlaced, IsSeen, IsSorted, IsOrder, start_ranks}
+use Rattle.netlist.specs.inner.Placed.{zeros, IsPlaced, IsSeen, IsSorted, start_ranks}
+use Rattle.netlist.specs.Orders.{IsOrder}
 use Rattle.netlist.proofs.Lists.{all_or_fails, contains_nil, contains_head, contains_tail, contains_cases}
+use Rattle.netlist.proofs.Orders.{order_of}
 use Rattle.netlist.proofs.Placed.{zeros_set, definition_below, gate_defined, placed_more, on_loop, start_placed}
 
 -- all pins have a rank, or one has none
@@ -66,15 +68,11 @@ module _ (n : Netlist) (numbered : IsNumbered n) (closed : IsClosed n) where
 
   -- where there is no loop, every gate is placed
   sorted_order : IsAcyclic n → (order ranks : List ℕ) → IsSorted n order ranks → IsOrder n order
-  sorted_order acyclic order ranks h = record {
-    ranks = ranks;
-    placed = h.placed;
-    all = λ d g. elim (cases_lt 0 (get_or ranks d.id 0)) [
-      | inl ranked ↦ ranked
-      | inr none ↦ absurd (acyclic d.id (on_loop n numbered order ranks closed h d.id
-          (subst (λ m. d.id < m) (sym h.placed.size) (definition_below n numbered d (gate_defined n numbered d g))) (omega arith)))
-    ];
-  }
+  sorted_order acyclic order ranks h = order_of n numbered order ranks h.placed (λ d g. elim (cases_lt 0 (get_or ranks d.id 0)) [
+    | inl ranked ↦ ranked
+    | inr none ↦ absurd (acyclic d.id (on_loop n numbered order ranks closed h d.id
+        (subst (λ m. d.id < m) (sym h.placed.size) (definition_below n numbered d (gate_defined n numbered d g))) (omega arith)))
+  ])
 
   pub order_exists : IsAcyclic n → (order : List ℕ) × IsOrder n order
   order_exists acyclic =

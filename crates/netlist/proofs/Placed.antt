@@ -6,7 +6,7 @@ use Rattle.std.proofs.lemmas.List.{length-set, get_or-set_same, get_or-set_other
 use Rattle.std.proofs.lemmas.List.Elements.{All-contains, All-append, All-map, Contains-append_cases, Contains-append_left, Contains-push}
 use Rattle.netlist.specs.Netlist.{Definition, Netlist, is_cell, is_gate, cells, gates, signals, IsLoop, IsOnLoop, IsAcyclic}
 use Rattle.netlist.specs.Conditions.{IsClosed, IsNumbered}
-use Rattle.netlist.specs.Placed.{zeros, IsPlaced, IsSorted, start_ranks}
+use Rattle.netlist.specs.inner.Placed.{zeros, IsPlaced, IsSorted, start_ranks}
 use Rattle.netlist.proofs.Lists.{contains_filter, filter_contains, contains_map}
 
 zeros_cons : (y : ℕ) (ys : List ℕ) → zeros (y ∷ ys) ≡ cond {A = ℕ} (eqb y 0) 1 0 + zeros ys

@@ -8,7 +8,8 @@ use Rattle.netlist.specs.declared.lines.Line.TheVariants.{Pin, Out}
 use Rattle.netlist.specs.Netlist.{Definition, Netlist, signals}
 use Rattle.netlist.specs.Conditions.{IsNumbered}
 use Rattle.netlist.specs.Readers.{pins_reading, readers_of}
-use Rattle.netlist.specs.Sorting.{IsPinBelow, AreBelow, AreReaders}
+use Rattle.netlist.specs.inner.Sorting.{AreBelow, AreReaders}
+use Rattle.netlist.specs.Lines.{IsPinBelow}
 use Rattle.netlist.proofs.Lists.{contains_head, contains_tail}
 use Rattle.netlist.proofs.Placed.{definition_below}
 

@@ -5,14 +5,15 @@ use Rattle.std.proofs.lemmas.Bool.{cases_eq}
 use Rattle.std.proofs.lemmas.List.{length-set, get_or-set_same, get_or-set_other, get_or_default, get_or-map, get_or_append_left, length-map, length-append, map-append, length_push, length-take-le}
 use Rattle.std.proofs.lemmas.Grind.{take_at_read}
 use Rattle.std.proofs.lemmas.List.Elements.{All-contains, All-map, Contains-get_or}
-use Rattle.netlist.specs.Netlist.{Definition, Netlist, is_cell, cells, gates, signals, IsAcyclic}
+use Rattle.netlist.specs.Netlist.{Definition, Netlist, is_cell, cells, gates, signals}
 use Rattle.netlist.specs.Conditions.{IsClosed, IsNumbered}
 use Rattle.netlist.specs.declared.lines.Line.TheVariants.{Stem, Pin}
-use Rattle.netlist.specs.Settled.{Rule, Settles, on_pins, pins_of}
-use Rattle.netlist.specs.Settling.{at, SettlesUpTo, AllSettleUpTo, IsDriven, AreRead}
-use Rattle.netlist.specs.Placed.{IsSorted, IsOrder}
+use Rattle.netlist.specs.Settled.{Rule, Settles, on_pins, pins_of, at, AreRead}
+use Rattle.netlist.specs.inner.Settling.{SettlesUpTo, AllSettleUpTo, IsDriven}
+use Rattle.netlist.specs.Orders.{IsOrder}
 use Rattle.netlist.proofs.Lists.{contains_head, contains_tail, map_agree, contains_filter, All-from_contains}
-use Rattle.netlist.proofs.Placed.{same_definition, definition_below, signal_below, gate_defined, on_loop, id_at}
+use Rattle.netlist.proofs.Placed.{same_definition, definition_below, signal_below, gate_defined, id_at}
+use Rattle.netlist.proofs.Orders.{definition_high, place_in, same_place, other_input, other_cell, other_pin}
 
 -- where the relation changes only at elements that are not in the list
 pub zip_kept : {X Y : Type 0} (R Q : X → Y → Type 0) (xs : List X) (ys : List Y) → ((x : X) (y : Y) → Contains xs x → R x y → Q x y) → AllZip R xs ys → AllZip Q xs ys
@@ -27,7 +28,7 @@ module _ (n : Netlist) (numbered : IsNumbered n) (order : List ℕ) (ordered : I
       → (get_or order k 0 - length n.inputs < length n.definitions) × Contains (gates n) (get_or n.definitions (get_or order k 0 - length n.inputs) e)
       × ((get_or n.definitions (get_or order k 0 - length n.inputs) e).id ≡ get_or order k 0) × (length n.inputs ≤ get_or order k 0)
   gate_at k e l =
-      let w = ordered.placed.gates k l in
+      let w = ordered.members k 0 l in
       let g = w.0 in
       let c = gate_defined n numbered g w.1 in
       let low : c.0 < length n.definitions = c.1 in
@@ -39,42 +40,32 @@ module _ (n : Netlist) (numbered : IsNumbered n) (order : List ℕ) (ordered : I
 
   module _ {V : Type 0} (rule : Rule V) (inputs state values : List V) (m : ℕ) (d : V) (h : SettlesUpTo rule n order inputs state values m d) (inside : m < length order)
       (g : Definition) (gate : Contains (gates n) g) (here : g.id ≡ get_or order m 0) (v : V) (is : v ≡ rule.line (Stem g.id) (rule.gate g (pins_of rule (at values d) g))) where
-    rank : ℕ → ℕ
-    rank x = get_or ordered.ranks x 0
-
-    rank_here : rank g.id ≡ m + 2
-    unfolding rank
-    rank_here = ap rank here ∙ ordered.placed.ranked m inside
-
-    kept : (x : ℕ) → rank x < m + 2 → at (set values g.id v) d x ≡ at values d x
-    unfolding rank
-    kept x l = get_or-set_other values g.id x v d (λ e. let a : rank x ≡ rank g.id = ap rank e in let b = rank_here in omega arith)
+    kept : (x : ℕ) → x ≢ get_or order m 0 → at (set values g.id v) d x ≡ at values d x
+    kept x differs = get_or-set_other values g.id x v d (λ e. differs (e ∙ here))
 
     below : g.id < length values
     below = subst (λ k. g.id < k) (sym h.size) (definition_below n numbered g (gate_defined n numbered g gate))
 
-    kept_pins : (f : Definition) → Contains (gates n) f → rank f.id ≤ m + 2 → map (at (set values g.id v) d) f.pins ≡ map (at values d) f.pins
-    unfolding rank
-    kept_pins f c l = map_agree (at (set values g.id v) d) (at values d) f.pins
+    kept_pins : (f : Definition) (k : ℕ) → Contains (gates n) f → f.id ≡ get_or order k 0 → k ≤ m → map (at (set values g.id v) d) f.pins ≡ map (at values d) f.pins
+    kept_pins f k c e l = map_agree (at (set values g.id v) d) (at values d) f.pins
         (All-from_contains (λ x. at (set values g.id v) d x ≡ at values d x) f.pins
-        (λ x p. let r = (ordered.placed.above f c (ordered.all f c) x p).1 in kept x (omega arith)))
+        (λ x p. kept x (other_pin n numbered order ordered f k m x c e l inside p)))
 
     pub settle_more : SettlesUpTo rule n order inputs state (set values g.id v) (m + 1) d
-    unfolding rank
     settle_more = record {
       size = length-set values g.id v ∙ h.size;
       inputs_driven = zip_kept (λ x w. at values d x ≡ rule.line (Stem x) w) (λ x w. at (set values g.id v) d x ≡ rule.line (Stem x) w) n.inputs inputs
-          (λ x w c e. let r = ordered.placed.inputs x c in kept x (omega arith) ∙ e) h.inputs_driven;
+          (λ x w c e. kept x (other_input n numbered order ordered x m c inside) ∙ e) h.inputs_driven;
       cells_driven = zip_kept (λ (c : Definition) w. at values d c.id ≡ rule.line (Stem c.id) w) (λ (c : Definition) w. at (set values g.id v) d c.id ≡ rule.line (Stem c.id) w) (cells n) state
-          (λ f w c e. let r = ordered.placed.cells f c in kept f.id (omega arith) ∙ e) h.cells_driven;
+          (λ f w c e. kept f.id (other_cell n numbered order ordered f m c inside) ∙ e) h.cells_driven;
       done = λ k l f c e. elim (cases_eq k m) [
         | inl last ↦
             let same : f ≡ g = same_definition n numbered f g (gate_defined n numbered f c) (gate_defined n numbered g gate) (e ∙ (ap (λ j. get_or order j 0) last ∙ sym here)) in
             subst (λ (q : Definition). at (set values g.id v) d q.id ≡ rule.line (Stem q.id) (rule.gate q (pins_of rule (at (set values g.id v) d) q))) (sym same)
-            (get_or-set_same values g.id v d below ∙ (is ∙ ap (λ vs. rule.line (Stem g.id) (rule.gate g (on_pins rule g.id 0 vs))) (sym (kept_pins g gate (let b = rank_here in omega arith)))))
+            (get_or-set_same values g.id v d below ∙ (is ∙ ap (λ vs. rule.line (Stem g.id) (rule.gate g (on_pins rule g.id 0 vs))) (sym (kept_pins g m gate here (omega arith)))))
         | inr old ↦
-            let r : rank f.id ≡ k + 2 = ap rank e ∙ ordered.placed.ranked k (omega arith) in
-            kept f.id (omega arith) ∙ (h.done k (omega arith) f c e ∙ ap (λ vs. rule.line (Stem f.id) (rule.gate f (on_pins rule f.id 0 vs))) (sym (kept_pins f c (omega arith))))
+            kept f.id (λ s. old (same_place n numbered order ordered k m (omega arith) inside (sym e ∙ s)))
+            ∙ (h.done k (omega arith) f c e ∙ ap (λ vs. rule.line (Stem f.id) (rule.gate f (on_pins rule f.id 0 vs))) (sym (kept_pins f k c e (omega arith))))
       ];
     }
 
@@ -84,20 +75,8 @@ module _ (n : Netlist) (numbered : IsNumbered n) (order : List ℕ) (ordered : I
     h.inputs_driven,
     h.cells_driven,
     All-from_contains (λ (g : Definition). at values d g.id ≡ rule.line (Stem g.id) (rule.gate g (pins_of rule (at values d) g))) (gates n)
-        (λ g c. let w = ordered.placed.listed g c (ordered.all g c) in
-        h.done w.0 (let l : w.0 < length order = w.1 in omega arith) g c (sym w.2 ∙ get_or_default order w.0 g.id 0 w.1)),
+        (λ g c. let w = place_in n numbered order ordered g c in h.done w.0 (let l : w.0 < length order = w.1 in omega arith) g c (sym w.2)),
   )
-
-pub order_from : (n : Netlist) (order ranks : List ℕ) → IsNumbered n → IsClosed n → IsAcyclic n → IsSorted n order ranks → IsOrder n order
-order_from n order ranks numbered closed acyclic h = record {
-  ranks = ranks;
-  placed = h.placed;
-  all = λ d c. elim (cases_eq (get_or ranks d.id 0) 0) [
-    | inl none ↦ absurd (acyclic d.id (on_loop n numbered order ranks closed h d.id
-        (subst (λ k. d.id < k) (sym h.placed.size) (definition_below n numbered d (gate_defined n numbered d c))) none))
-    | inr some ↦ omega arith
-  ];
-}
 
 pub drive_more : {V : Type 0} (rule : Rule V) (ids : List ℕ) (driven old new : List V) (m i : ℕ) (v w : V) → IsDriven rule ids driven old new m
     → m < length ids → m < length driven → i < length new → i ≡ get_or ids m 0
@@ -192,7 +171,7 @@ module _ (n : Netlist) (numbered : IsNumbered n) where
       omega arith
 
   pub above_inputs : (d : Definition) → Contains n.definitions d → length n.inputs ≤ d.id
-  above_inputs d c = let at : d.id ≡ length n.inputs + c.0 = sym (ap (λ (e : Definition). e.id) c.2) ∙ id_at n numbered c.0 d c.1 in omega arith
+  above_inputs d c = definition_high n numbered d c
 
   pub pins_within : (closed : IsClosed n) (d : Definition) → Contains n.definitions d → (pins : List ℕ) (m : ℕ) → pins ≡ d.pins → m ≡ length (signals n) → All (λ x. x < m) pins
   pins_within closed d member pins m e s k x l =

@@ -5,9 +5,9 @@ use Rattle.std.proofs.lemmas.List.{length-replicate, length-map, get_or_default}
 use Rattle.netlist.specs.declared.lines.Line.TheVariants.{Stem}
 use Rattle.netlist.specs.Netlist.{Definition, Netlist, cells, IsAcyclic}
 use Rattle.netlist.specs.Conditions.{IsClosed, IsNumbered}
-use Rattle.netlist.specs.Placed.{IsOrder}
-use Rattle.netlist.specs.Settled.{Rule, Settles, pins_of}
-use Rattle.netlist.specs.Settling.{at, SettlesUpTo, IsDriven}
+use Rattle.netlist.specs.Orders.{IsOrder}
+use Rattle.netlist.specs.Settled.{Rule, Settles, pins_of, at}
+use Rattle.netlist.specs.inner.Settling.{SettlesUpTo, IsDriven}
 use Rattle.netlist.proofs.OrderExists.{order_exists}
 use Rattle.netlist.proofs.Settling.{drive_more, driven, settle_more, settled, cells_below, cells_distinct, inputs_below, inputs_distinct}
 use Rattle.netlist.proofs.Placed.{signals_length}
@@ -38,7 +38,7 @@ module _ (n : Netlist) (numbered : IsNumbered n) (order : List ℕ) (ordered : I
   settle_first rule inputs state start blank h zero l = (start, h)
   settle_first rule inputs state start blank h (suc m) l =
       let w = settle_first rule inputs state start blank h m (omega arith) in
-      let p = ordered.placed.gates m (omega arith) in
+      let p = ordered.members m 0 (omega arith) in
       let g = p.0 in
       let v = rule.line (Stem g.id) (rule.gate g (pins_of rule (at w.0 blank) g)) in
       let next : m + 1 ≡ suc m = omega arith in (

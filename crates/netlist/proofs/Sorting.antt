@@ -6,11 +6,11 @@ use Rattle.std.proofs.lemmas.List.{length-map, get_or_past, get_or-map, get_or-a
 use Rattle.std.proofs.lemmas.Option.{get_or_from_slice_get, slice_get_within}
 use Rattle.netlist.specs.declared.lines.Line.{Line}
 use Rattle.netlist.specs.declared.order.Placing.{Placing}
-use Rattle.netlist.specs.Netlist.{Definition, Netlist, signals}
+use Rattle.netlist.specs.Netlist.{Definition, Netlist, signals, also}
 use Rattle.netlist.specs.Conditions.{IsNumbered}
-use Rattle.netlist.specs.Placed.{zeros, IsPlaced, IsSorted, start_ranks}
+use Rattle.netlist.specs.inner.Placed.{zeros, IsPlaced, IsSorted, start_ranks}
 use Rattle.netlist.specs.Readers.{readers_of}
-use Rattle.netlist.specs.Sorting.{unvisited, pins_among, also, placed_below, sources_below, start_counts, IsCounted, IsStarted, HasRoom, Counts}
+use Rattle.netlist.specs.inner.Sorting.{unvisited, pins_among, placed_below, sources_below, start_counts, IsCounted, IsStarted, HasRoom, Counts}
 use Rattle.netlist.proofs.Placed.{zeros-le, definition_below, gate_defined, id_at, ranked_at, start_placed, signals_length}
 use Rattle.netlist.proofs.Waiting.{unvisited_also, some_unvisited, unvisited_agree, pins_of_readers}
 

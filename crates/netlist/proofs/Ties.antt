@@ -4,7 +4,7 @@ use Rattle.std.proofs.lemmas.Bool.{both_ways, cases_eq}
 use Rattle.netlist.specs.declared.order.Placing.{Placing}
 use Rattle.netlist.specs.Netlist.{Netlist}
 use Rattle.netlist.specs.Conditions.{IsNumbered}
-use Rattle.netlist.specs.Sorting.{nothing, HasRoom, IsCounted, IsStarted, Places, PlacesTie}
+use Rattle.netlist.specs.inner.Sorting.{nothing, HasRoom, IsCounted, IsStarted, Places, PlacesTie}
 use Rattle.netlist.proofs.Placed.{definition_below, gate_defined, unplaced_gate}
 use Rattle.netlist.proofs.Waiting.{unvisited_nothing}
 use Rattle.netlist.proofs.OneMore.{same_size, same_count, was_unplaced, room_placed, placed_with}

@@ -8,12 +8,8 @@ pub mod Names
 pub mod Settled
 pub mod Conditions
 pub mod Designs
-pub mod Kept
-pub mod Placed
 pub mod Readers
-pub mod Sorting
-pub mod Settling
+pub mod Orders
 pub mod Evaluated
 pub mod Laws
-pub mod Rows
-pub mod Readings
+pub mod inner

@@ -21,3 +21,9 @@ abbrev pub signal_of : Line → ℕ
 signal_of (Stem x) = x
 signal_of (Pin z k) = z
 signal_of (Out y) = y
+
+-- the signal of a pin is below m
+abbrev pub IsPinBelow : ℕ → Line → Type 0
+IsPinBelow m (Pin z k) = z < m
+IsPinBelow m (Stem z) = Unit {0}
+IsPinBelow m (Out z) = Unit {0}

@@ -1,6 +1,6 @@
 -- Netlists as equations over signals, with names beside. A signal is a number: inputs and then definitions are 0, 1, 2 and so on.
 -- (The .bench form of Brglez, Bryan and Kozminski, Combinational profiles of sequential benchmark circuits, 1989.)
-use Rattle.std.specs.Prelude.{ℕ, ◌≡◌, ◌==◌, Bool, true, false, not, List, [], ◌++◌, map, length, slice_index_or, IsTrue, Option, find}
+use Rattle.std.specs.Prelude.{ℕ, ◌≡◌, ◌==◌, ◌||◌, Bool, true, false, not, List, [], ◌++◌, map, length, slice_index_or, IsTrue, Option, find}
 use Rattle.std.specs.List.{Contains, filter}
 use Rattle.netlist.specs.declared.kinds.Kind.{Kind}
 use Rattle.netlist.specs.declared.kinds.Kind.TheVariants.{Dff}
@@ -51,6 +51,13 @@ definition_of n x = find (λ (d : Definition). d.id == x) n.definitions
 -- the gate that defines z has x at a pin
 abbrev pub Reads : Netlist → ℕ → ℕ → Type 0
 Reads n z x = (d : Definition) × Contains (gates n) d × (d.id ≡ z) × Contains d.pins x
+
+abbrev pub IsGateAt : Netlist → ℕ → Type 0
+IsGateAt n x = (g : Definition) × Contains (gates n) g × (g.id ≡ x)
+
+-- a set of signals, and x beside
+abbrev pub also : (ℕ → Bool) → ℕ → ℕ → Bool
+also set x y = set y || (y == x)
 
 -- a set of gates each of which reads a gate of the set
 abbrev pub IsLoop : Netlist → (ℕ → Bool) → Type 0

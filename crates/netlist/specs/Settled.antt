@@ -1,5 +1,5 @@
 -- Settled values: one equation for each signal. Bits, three values, 64 patterns in a word and the labels of a search are instances.
-use Rattle.std.specs.Prelude.{ℕ, ◌≡◌, ◌+◌, ◌==◌, ◌&&◌, Bool, false, cond, List, [], ◌∷◌, map, Option, Some, None}
+use Rattle.std.specs.Prelude.{ℕ, ◌≡◌, ◌+◌, ◌==◌, ◌&&◌, Bool, false, cond, List, [], ◌∷◌, map, length, slice_index_or, Option, Some, None}
 use Rattle.std.specs.List.{All, AllZip, flat_map}
 use Rattle.netlist.specs.declared.kinds.Kind.{Kind}
 use Rattle.netlist.specs.declared.lines.Line.{Line}
@@ -18,6 +18,15 @@ pub record Rule (V : Type 0) : Type 0 where
 abbrev pub on_pins : {V : Type 0} → Rule V → ℕ → ℕ → List V → List V
 on_pins rule z k [] = []
 on_pins rule z k (v ∷ vs) = rule.line (Pin z k) v ∷ on_pins rule z (k + 1) vs
+
+-- values by the number of the signal
+abbrev pub at : {V : Type 0} → List V → V → ℕ → V
+at values d x = slice_index_or values x d
+
+-- the values on the first pins of z, which read these signals
+pub record AreRead {V : Type 0} (rule : Rule V) (z : ℕ) (values : List V) (ids : List ℕ) (pins : List V) : Type 0 where
+  pub count : length pins ≡ length ids
+  pub each : (d : V) → pins ≡ on_pins rule z 0 (map (at values d) ids)
 
 -- the values on the pins of a definition
 abbrev pub pins_of : {V : Type 0} → Rule V → (ℕ → V) → Definition → List V

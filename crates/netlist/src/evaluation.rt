@@ -1,17 +1,17 @@
-//! Netlists with an order of evaluation, and the bits that settle on them.
-ghost use Rattle.std.specs.Prelude.{◌≡◌, ◌≤◌, ◌<◌, List, length, map, MatchResult, IfOk};
-ghost use Rattle.netlist.specs.Netlist.{Definition as Equation, cells, signals};
-ghost use Rattle.netlist.specs.Conditions.{IsSound};
-ghost use Rattle.netlist.specs.Placed.{IsOrder};
-ghost use Rattle.netlist.specs.Settled.{Settles, bits, outs, next};
-ghost use Rattle.netlist.specs.Settling.{at};
+//! Netlists with an order of evaluation, and the values that settle on them.
+ghost use Rattle.std.specs.Prelude.{◌≡◌, length, MatchResult, IfOk, OnOk};
+ghost use Rattle.netlist.specs.Netlist.{cells, signals};
+ghost use Rattle.netlist.specs.Orders.{IsOrder, IsSchedule};
+ghost use Rattle.netlist.specs.Settled.{Settles, at, outs, next};
 ghost use Rattle.netlist.specs.Evaluated.{AreSettledBits};
 
 use crate::bits::Bits;
 use crate::equations::NoMemory;
-use crate::lines::{Fault, Line};
+use crate::lines::Fault;
 use crate::netlists::Netlist;
-use crate::rules::{Logic, settle};
+use crate::observing::{next_into, outs_into};
+use crate::rules::{Logic, settle, settle_into};
+use crate::schedules::{Schedule, places_of};
 use crate::signals::SignalId;
 use std::alloc::{AllocError, Global};
 use std::marker::Model;
@@ -20,18 +20,19 @@ use std::marker::Model;
 #[derive(Drop)]
 pub struct Core {
     netlist: Netlist,
-    gates: Vec<SignalId>,
+    order: Vec<SignalId>,
+    places: Vec<u32>,
 }
 
 impl Model for Core {
     ghost use Rattle.netlist.specs.Netlist.{Netlist};
-    ghost use Rattle.netlist.specs.Placed.{IsOrder};
+    ghost use Rattle.netlist.specs.Orders.{IsSchedule};
 
     ghost Value = { Netlist };
 
     ghost view = { λ c. c.netlist };
 
-    ghost invariant = { λ c. IsOrder c.netlist c.gates.items };
+    ghost invariant = { λ c. IsSchedule c.netlist c.order.items c.places.items };
 }
 
 /// The settled bits of a netlist: of each signal, of each output pin and of each cell's pin, in their orders.
@@ -42,52 +43,22 @@ pub struct Values {
     pub cells: Vec<bool>,
 }
 
-/// The values at the output pins.
-fn output_values<L: Logic>(
-    alloc: Global,
-    logic: &L,
-    netlist: &Netlist,
-    values: &[L::Value],
-) -> Result<Vec<L::Value>, AllocError>
-    requires sound { IsSound netlist.now }
-    requires size { length values.now ≡ length (signals netlist.now) }
-    ensures { IfOk result (λ v. (d : L.Value) → v.items ≡ outs (L.rule logic.now) netlist.now (at values.now d)) }
-{
-    let mut found = Vec::with_capacity(alloc, netlist.outputs().len())?;
-    for x in netlist.outputs() {
-        found.push(logic.line(&Line::Out(*x), values[x.index()]))?;
-    }
-    Ok(found)
-}
-
-/// The values at the cells' pins.
-fn cell_values<L: Logic>(
-    alloc: Global,
-    logic: &L,
-    netlist: &Netlist,
-    values: &[L::Value],
-) -> Result<Vec<L::Value>, AllocError>
-    requires sound { IsSound netlist.now }
-    requires size { length values.now ≡ length (signals netlist.now) }
-    ensures { IfOk result (λ v. (d : L.Value) → v.items ≡ next (L.rule logic.now) netlist.now (at values.now d)) }
-{
-    let mut found = Vec::with_capacity(alloc, netlist.cells().len())?;
-    for cell in netlist.cells() {
-        let pin = netlist.definition(*cell).pins()[0];
-        found.push(logic.line(&Line::Pin(*cell, 0), values[pin.index()]))?;
-    }
-    Ok(found)
-}
-
 impl Core {
-    /// Finds an order. Where memory is refused the netlist comes back.
+    /// Where memory is refused the netlist comes back.
     pub fn of(alloc: Global, netlist: Netlist) -> Result<Core, (NoMemory, Netlist)>
         ensures { MatchResult result (λ c. c ≡ netlist) (λ e. e.1 ≡ netlist) }
     {
-        match netlist.order(alloc) {
-            Ok(gates) => Ok(Core { netlist, gates }),
-            Err(_) => Err((NoMemory, netlist)),
-        }
+        let Ok(order) = Vec::from_slice(alloc, netlist.order()) else {
+            return Err((NoMemory, netlist));
+        };
+        let Ok(places) = places_of(alloc, &netlist, &order) else {
+            return Err((NoMemory, netlist));
+        };
+        Ok(Core {
+            netlist,
+            order,
+            places,
+        })
     }
 
     pub fn netlist(&self) -> &Netlist
@@ -100,7 +71,17 @@ impl Core {
     pub fn order(&self) -> &[SignalId]
         ensures { IsOrder self.now result.now }
     {
-        &self.gates
+        &self.order
+    }
+
+    /// The order and the place of each signal in it, for those who need both of one order.
+    pub fn schedule(&self) -> Schedule<'_>
+        ensures { IsSchedule self.now result.order.now result.places.now }
+    {
+        Schedule {
+            order: &self.order,
+            places: &self.places,
+        }
     }
 
     /// The values that settle by any rule, for what is driven onto the inputs and the cells.
@@ -117,7 +98,63 @@ impl Core {
         ensures size { IfOk result (λ v. length v.items ≡ length (signals self.now)) }
     {
         self.netlist.sound();
-        settle(alloc, logic, &self.netlist, &self.gates, inputs, state)
+        settle(alloc, logic, &self.netlist, &self.order, inputs, state)
+    }
+
+    /// The values that settle, in a buffer that has a value for each signal already; `pins` is room for a gate's pins.
+    /// With room in `pins` for the most pins of any gate no memory is asked for.
+    pub fn settle_into<L: Logic>(
+        &self,
+        logic: &L,
+        inputs: &[L::Value],
+        state: &[L::Value],
+        values: &mut Vec<L::Value>,
+        pins: &mut Vec<L::Value>,
+    ) -> Result<(), AllocError>
+        requires inputs { length inputs.now ≡ length self.now.inputs }
+        requires state { length state.now ≡ length (cells self.now) }
+        requires size { length values.old.items ≡ length (signals self.now) }
+        ensures settled { OnOk result ((d : L.Value) → Settles (L.rule logic.now) self.now inputs.now state.now (at values.new.items d)) }
+        ensures size { length values.new.items ≡ length (signals self.now) }
+    {
+        self.netlist.sound();
+        settle_into(
+            logic,
+            &self.netlist,
+            &self.order,
+            inputs,
+            state,
+            values,
+            pins,
+        )
+    }
+
+    /// The values at the output pins, in a buffer that is used again.
+    pub fn outs_into<L: Logic>(
+        &self,
+        logic: &L,
+        values: &[L::Value],
+        found: &mut Vec<L::Value>,
+    ) -> Result<(), AllocError>
+        requires { length values.now ≡ length (signals self.now) }
+        ensures { OnOk result ((d : L.Value) → found.new.items ≡ outs (L.rule logic.now) self.now (at values.now d)) }
+    {
+        self.netlist.sound();
+        outs_into(logic, &self.netlist, values, found)
+    }
+
+    /// The values at the cells' pins, in a buffer that is used again.
+    pub fn next_into<L: Logic>(
+        &self,
+        logic: &L,
+        values: &[L::Value],
+        found: &mut Vec<L::Value>,
+    ) -> Result<(), AllocError>
+        requires { length values.now ≡ length (signals self.now) }
+        ensures { OnOk result ((d : L.Value) → found.new.items ≡ next (L.rule logic.now) self.now (at values.now d)) }
+    {
+        self.netlist.sound();
+        next_into(logic, &self.netlist, values, found)
     }
 
     /// The settled bits with a line stuck, or with none.
@@ -148,10 +185,11 @@ fn settled_bits(
     requires state { length state.now ≡ length (cells core.now) }
     ensures { IfOk result (λ v. AreSettledBits core.now rule.now.fault inputs.now state.now v.signals.items v.outputs.items v.cells.items) }
 {
-    core.netlist().sound();
     let signals = core.settle(alloc, rule, inputs, state)?;
-    let outputs = output_values(alloc, rule, core.netlist(), &signals)?;
-    let cells = cell_values(alloc, rule, core.netlist(), &signals)?;
+    let mut outputs = Vec::with_capacity(alloc, core.netlist().outputs().len())?;
+    core.outs_into(rule, &signals, &mut outputs)?;
+    let mut cells = Vec::with_capacity(alloc, core.netlist().cells().len())?;
+    core.next_into(rule, &signals, &mut cells)?;
     Ok(Values {
         signals,
         outputs,

@@ -10,10 +10,12 @@ mod laws;
 mod lines;
 mod name_table;
 mod netlists;
+mod observing;
 mod order;
 mod readings;
 mod rows;
 mod rules;
+mod schedules;
 mod signals;
 
 pub use bits::Bits;
@@ -26,4 +28,5 @@ pub use lines::{Fault, Line, Point};
 pub use name_table::NameTable;
 pub use netlists::{NetRefusal, Netlist};
 pub use rules::Logic;
+pub use schedules::Schedule;
 pub use signals::SignalId;

@@ -14,7 +14,7 @@ pub struct NameTable {
 
 impl Model for NameTable {
     ghost use Rattle.std.specs.Prelude.{ℕ, List};
-    ghost use Rattle.netlist.specs.Rows.{rows, AreEnds};
+    ghost use Rattle.netlist.specs.inner.Rows.{rows, AreEnds};
 
     ghost Value = { List (List ℕ) };
 

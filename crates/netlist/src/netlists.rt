@@ -3,15 +3,15 @@ ghost use Rattle.std.specs.Prelude.{◌≡◌, ◌<◌, ◌≤◌, ℕ, List, le
 ghost use Rattle.std.specs.List.{Contains, filter};
 ghost use Rattle.std.specs.Option.{option_map, option_map_or};
 ghost use Rattle.netlist.specs.Netlist.{Definition as Equation, cells, is_cell, signals, definition_of};
-ghost use Rattle.netlist.specs.Placed.{IsOrder};
+ghost use Rattle.netlist.specs.Orders.{IsOrder};
 ghost use Rattle.netlist.specs.Readers.{readers_of};
-ghost use Rattle.netlist.specs.Sorting.{AreReaders};
+ghost use Rattle.netlist.specs.inner.Sorting.{AreReaders};
 ghost use Rattle.netlist.specs.Conditions.{IsWellFormed, IsSound, IsCause, whole};
 
 use crate::equations::{Definition, NoMemory, Parts};
 use crate::kinds::Kind;
 use crate::lines::Line;
-use crate::order::{first_left, sort};
+use crate::order::{Sorting, first_left, sort};
 use crate::readings::ReaderTable;
 use crate::signals::SignalId;
 use std::alloc::{AllocError, Global};
@@ -40,18 +40,19 @@ pub struct Netlist {
     parts: Parts,
     flip_flops: Vec<SignalId>,
     table: ReaderTable,
+    order: Vec<SignalId>,
 }
 
 impl Model for Netlist {
     ghost use Rattle.netlist.specs.Netlist.{Netlist};
     ghost use Rattle.netlist.specs.Conditions.{whole};
-    ghost use Rattle.netlist.specs.Kept.{IsKept};
+    ghost use Rattle.netlist.specs.inner.Kept.{IsKept};
 
     ghost Value = { Netlist };
 
     ghost view = { λ n. whole n.parts };
 
-    ghost invariant = { λ n. IsKept (whole n.parts) n.flip_flops.items n.table };
+    ghost invariant = { λ n. IsKept (whole n.parts) n.flip_flops.items n.table n.order.items };
 }
 
 /// The cells, by their signals.
@@ -68,9 +69,15 @@ fn flip_flops(alloc: Global, parts: &Parts) -> Result<Vec<SignalId>, AllocError>
 }
 
 /// The netlist of parts that are sound.
-fn finish(alloc: Global, parts: Parts, table: ReaderTable) -> Result<Netlist, AllocError>
+fn finish(
+    alloc: Global,
+    parts: Parts,
+    table: ReaderTable,
+    order: Vec<SignalId>,
+) -> Result<Netlist, AllocError>
     requires sound { IsSound (whole parts) }
     requires readers { AreReaders (whole parts) table }
+    requires ordered { IsOrder (whole parts) order.items }
     ensures { IfOk result (λ n. n ≡ whole parts) }
 {
     let flip_flops = flip_flops(alloc, &parts)?;
@@ -78,16 +85,8 @@ fn finish(alloc: Global, parts: Parts, table: ReaderTable) -> Result<Netlist, Al
         parts,
         flip_flops,
         table,
+        order,
     })
-}
-
-/// The netlist of a copy of parts that are sound.
-fn copy_of(alloc: Global, parts: &Parts) -> Result<Netlist, AllocError>
-    requires { IsSound (whole parts.now) }
-    ensures { IfOk result (λ n. n ≡ whole parts.now) }
-{
-    let table = ReaderTable::of_parts(alloc, parts)?;
-    finish(alloc, parts.copy(alloc)?, table)
 }
 
 impl Netlist {
@@ -116,24 +115,37 @@ impl Netlist {
         let Ok(sorting) = sort(alloc, &parts, &table) else {
             return Err(NetRefusal::NoMemory);
         };
-        match first_left(&sorting.ranks) {
+        let Sorting { order, ranks } = sorting;
+        match first_left(&ranks) {
             Some(z) => Err(NetRefusal::Loop(SignalId(z))),
-            None => finish(alloc, parts, table).map_err(|_| NetRefusal::NoMemory),
+            None => finish(alloc, parts, table, order).map_err(|_| NetRefusal::NoMemory),
         }
+    }
+
+    /// An equal netlist, or the want of memory as it came.
+    fn copied(&self, alloc: Global) -> Result<Netlist, AllocError>
+        ensures { IfOk result (λ n. n ≡ self.now) }
+    {
+        Ok(Netlist {
+            parts: self.parts.copy(alloc)?,
+            flip_flops: self.flip_flops.clone()?,
+            table: self.table.copy(alloc)?,
+            order: self.order.clone()?,
+        })
     }
 
     /// An equal netlist.
     pub fn copy(&self, alloc: Global) -> Result<Netlist, NoMemory>
         ensures { IfOk result (λ n. n ≡ self.now) }
     {
-        copy_of(alloc, &self.parts).map_err(|_| NoMemory)
+        self.copied(alloc).map_err(|_| NoMemory)
     }
 
     /// The gates, each after the gates that it reads.
-    pub(crate) fn order(&self, alloc: Global) -> Result<Vec<SignalId>, AllocError>
-        ensures { IfOk result (λ v. IsOrder self.now v.items) }
+    pub(crate) fn order(&self) -> &[SignalId]
+        ensures { IsOrder self.now result.now }
     {
-        Ok(sort(alloc, &self.parts, &self.table)?.order)
+        &self.order
     }
 
     /// What every netlist is.

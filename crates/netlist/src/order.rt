@@ -3,8 +3,9 @@ ghost use Rattle.std.specs.Prelude.{◌≡◌, ◌<◌, ◌≤◌, ℕ, [], ◌�
 ghost use Rattle.std.specs.List.{All};
 ghost use Rattle.netlist.specs.Netlist.{Definition as Equation, signals};
 ghost use Rattle.netlist.specs.Conditions.{IsClosed, IsNumbered, whole};
-ghost use Rattle.netlist.specs.Placed.{IsSorted, HasRanks, start_ranks};
-ghost use Rattle.netlist.specs.Sorting.{AreBelow, AreReaders, Counts, HasRoom, IsPinBelow, IsStarted, Places, PlacesTie, PlacesTies, VisitsSources, start_counts};
+ghost use Rattle.netlist.specs.inner.Placed.{IsSorted, HasRanks, start_ranks};
+ghost use Rattle.netlist.specs.inner.Sorting.{AreBelow, AreReaders, Counts, HasRoom, IsStarted, Places, PlacesTie, PlacesTies, VisitsSources, start_counts};
+ghost use Rattle.netlist.specs.Lines.{IsPinBelow};
 
 use crate::equations::Parts;
 use crate::lines::Line;

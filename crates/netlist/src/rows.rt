@@ -1,6 +1,6 @@
 //! Lists that stand one behind the other in one buffer, by the place where each ends.
 ghost use Rattle.std.specs.Prelude.{◌≡◌, ◌<◌, ◌∷◌, length, slice_get, slice_index, Some};
-ghost use Rattle.netlist.specs.Rows.{rows, AreEnds};
+ghost use Rattle.netlist.specs.inner.Rows.{rows, AreEnds};
 
 /// Where the list at a place begins.
 fn start_of(ends: &[usize], place: usize) -> usize

@@ -1,11 +1,11 @@
 //! The one evaluator, for any rule by which values settle.
 ghost use Rattle.std.specs.Prelude.{◌≡◌, ◌≢◌, ◌<◌, ◌≤◌, ℕ, List, length, map, IfOk, OnOk};
 ghost use Rattle.std.specs.List.{All, AllPairs};
-ghost use Rattle.netlist.specs.Netlist.{Definition as Equation, Netlist as Equations, cells, signals};
+ghost use Rattle.netlist.specs.Netlist.{Definition as Equation, Netlist as Equations, cells, signals, IsGateAt};
 ghost use Rattle.netlist.specs.Conditions.{IsSound};
-ghost use Rattle.netlist.specs.Placed.{IsOrder};
-ghost use Rattle.netlist.specs.Settled.{Settles};
-ghost use Rattle.netlist.specs.Settling.{at, IsDriven, AreRead, AllSettleUpTo, IsGateAt, IsEvaluated};
+ghost use Rattle.netlist.specs.Orders.{IsOrder};
+ghost use Rattle.netlist.specs.Settled.{Settles, at, AreRead};
+ghost use Rattle.netlist.specs.inner.Settling.{IsDriven, AllSettleUpTo, IsEvaluated};
 
 use crate::equations::Definition;
 use crate::lines::Line;
@@ -77,26 +77,6 @@ fn blanks<L: Logic>(alloc: Global, logic: &L, count: usize) -> Result<Vec<L::Val
     Ok(values)
 }
 
-/// The values before any gate is evaluated.
-fn start_values<L: Logic>(
-    alloc: Global,
-    logic: &L,
-    netlist: &Netlist,
-    inputs: &[L::Value],
-    state: &[L::Value],
-) -> Result<Vec<L::Value>, AllocError>
-    requires sound { IsSound netlist.now }
-    requires inputs { length inputs.now ≡ length netlist.now.inputs }
-    requires state { length state.now ≡ length (cells netlist.now) }
-    ensures { IfOk result (λ v. (order : List ℕ) → AllSettleUpTo (L.rule logic.now) netlist.now order inputs.now state.now v.items 0) }
-{
-    let count = netlist.inputs().len() + netlist.definitions().len();
-    let mut values = blanks(alloc, logic, count)?;
-    drive(logic, netlist.inputs(), inputs, &mut values);
-    drive(logic, netlist.cells(), state, &mut values);
-    Ok(values)
-}
-
 /// Gives a gate its value.
 fn evaluate<L: Logic>(
     logic: &L,
@@ -108,12 +88,56 @@ fn evaluate<L: Logic>(
     requires sound { IsSound netlist.now }
     requires gate { IsGateAt netlist.now id }
     requires size { length values.old.items ≡ length (signals netlist.now) }
-    ensures { OnOk result (IsEvaluated (L.rule logic.now) netlist.now id values.old.items values.new.items) }
+    ensures made { OnOk result (IsEvaluated (L.rule logic.now) netlist.now id values.old.items values.new.items) }
+    ensures size { length values.new.items ≡ length values.old.items }
 {
     let definition = netlist.definition(id);
     read_pins(logic, id, definition.pins(), values, pins)?;
     let made = logic.gate(definition, pins);
     values[id.index()] = logic.line(&Line::Stem(id), made);
+    Ok(())
+}
+
+/// Puts what is driven onto inputs and cells.
+fn drive_sources<L: Logic>(
+    logic: &L,
+    netlist: &Netlist,
+    inputs: &[L::Value],
+    state: &[L::Value],
+    values: &mut Vec<L::Value>,
+)
+    requires sound { IsSound netlist.now }
+    requires inputs { length inputs.now ≡ length netlist.now.inputs }
+    requires state { length state.now ≡ length (cells netlist.now) }
+    requires size { length values.old.items ≡ length (signals netlist.now) }
+    ensures { (order : List ℕ) → AllSettleUpTo (L.rule logic.now) netlist.now order inputs.now state.now values.new.items 0 }
+{
+    drive(logic, netlist.inputs(), inputs, values);
+    drive(logic, netlist.cells(), state, values);
+}
+
+/// The values that settle, in a buffer that has a value for each signal already; `pins` is room for a gate's pins.
+pub(crate) fn settle_into<L: Logic>(
+    logic: &L,
+    netlist: &Netlist,
+    order: &[SignalId],
+    inputs: &[L::Value],
+    state: &[L::Value],
+    values: &mut Vec<L::Value>,
+    pins: &mut Vec<L::Value>,
+) -> Result<(), AllocError>
+    requires sound { IsSound netlist.now }
+    requires ordered { IsOrder netlist.now order.now }
+    requires inputs { length inputs.now ≡ length netlist.now.inputs }
+    requires state { length state.now ≡ length (cells netlist.now) }
+    requires size { length values.old.items ≡ length (signals netlist.now) }
+    ensures settled { OnOk result ((d : L.Value) → Settles (L.rule logic.now) netlist.now inputs.now state.now (at values.new.items d)) }
+    ensures size { length values.new.items ≡ length (signals netlist.now) }
+{
+    drive_sources(logic, netlist, inputs, state, values);
+    for id in order {
+        evaluate(logic, netlist, *id, values, pins)?;
+    }
     Ok(())
 }
 
@@ -133,10 +157,9 @@ pub(crate) fn settle<L: Logic>(
     ensures settled { IfOk result (λ v. (d : L.Value) → Settles (L.rule logic.now) netlist.now inputs.now state.now (at v.items d)) }
     ensures size { IfOk result (λ v. length v.items ≡ length (signals netlist.now)) }
 {
-    let mut values = start_values(alloc, logic, netlist, inputs, state)?;
+    let count = netlist.inputs().len() + netlist.definitions().len();
+    let mut values = blanks(alloc, logic, count)?;
     let mut pins = Vec::new(alloc);
-    for id in order {
-        evaluate(logic, netlist, *id, &mut values, &mut pins)?;
-    }
+    settle_into(logic, netlist, order, inputs, state, &mut values, &mut pins)?;
     Ok(values)
 }

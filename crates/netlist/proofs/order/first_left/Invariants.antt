@@ -1,4 +1,4 @@
-use Rattle.netlist.specs.Placed.{HasRanks}
+use Rattle.netlist.specs.inner.Placed.{HasRanks}
 use Rattle.netlist.proofs.order.first_left.Given as goal
 
 abbrev pub invariant-loop-z : goal.invariant-loop-z

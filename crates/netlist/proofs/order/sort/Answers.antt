@@ -5,7 +5,7 @@ use Rattle.netlist.specs.declared.lines.Line.{Line}
 use Rattle.netlist.specs.Netlist.{signals}
 use Rattle.netlist.specs.Conditions.{whole}
 use Rattle.netlist.specs.Readers.{readers_of}
-use Rattle.netlist.specs.Sorting.{AreBelow, Counts}
+use Rattle.netlist.specs.inner.Sorting.{AreBelow, Counts}
 use Rattle.netlist.proofs.ReaderRows.{are_below, row_below, row_is}
 use Rattle.netlist.proofs.Sorting.{gate_below, gate_visited, all_visited}
 use Rattle.netlist.proofs.order.sort.Goals as goal

@@ -1,7 +1,7 @@
 use Rattle.std.proofs.Common.{[], ◌+◌, ◌-◌, ◌≤◌, length}
 use Rattle.netlist.specs.Netlist.{signals}
 use Rattle.netlist.specs.Conditions.{whole}
-use Rattle.netlist.specs.Sorting.{HasRoom, IsCounted, placed_below}
+use Rattle.netlist.specs.inner.Sorting.{HasRoom, IsCounted, placed_below}
 use Rattle.netlist.proofs.order.sort.Given as goal
 
 abbrev pub invariant-loop-gate : goal.invariant-loop-gate

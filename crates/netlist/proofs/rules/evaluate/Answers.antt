@@ -42,8 +42,8 @@ index_mut-requires g c =
     let z = c.requires.size in
     omega arith
 
-pub returns : goal.returns
-returns g c =
+pub returns-clause-made : goal.returns-clause-made
+returns-clause-made g c =
     let n = c.args.netlist.now in
     record {
       size = length-set c.args.values.now.items c.index.result c.line.result;

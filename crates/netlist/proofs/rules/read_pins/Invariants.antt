@@ -1,5 +1,5 @@
 use Rattle.std.proofs.Common.{take}
-use Rattle.netlist.specs.Settling.{AreRead}
+use Rattle.netlist.specs.Settled.{AreRead}
 use Rattle.netlist.proofs.rules.read_pins.Given as goal
 
 abbrev pub invariant-loop-k : goal.invariant-loop-k

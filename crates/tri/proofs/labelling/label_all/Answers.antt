@@ -2,8 +2,7 @@ use Rattle.std.proofs.Common.{◌≡◌, ℕ, List, None, map, length, get_or, a
 use Rattle.netlist.specs.declared.kinds.Tri.TheVariants.{X}
 use Rattle.netlist.specs.Netlist.{Definition, Netlist, cells}
 use Rattle.netlist.specs.Conditions.{IsSound}
-use Rattle.netlist.specs.Settled.{Settles}
-use Rattle.netlist.specs.Settling.{at}
+use Rattle.netlist.specs.Settled.{Settles, at}
 use Rattle.netlist.proofs.Lists.{map_map}
 use Rattle.tri.specs.declared.labels.Label.{Label}
 use Rattle.tri.specs.Labels.{labels, source_label, held_value, input_labels, cell_labels}

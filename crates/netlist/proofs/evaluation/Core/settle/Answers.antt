@@ -1,7 +1,6 @@
 use Rattle.std.proofs.Common.{subst, IfOk}
 use Rattle.netlist.specs.Netlist.{Netlist}
-use Rattle.netlist.specs.Settled.{Settles}
-use Rattle.netlist.specs.Settling.{at}
+use Rattle.netlist.specs.Settled.{Settles, at}
 use Rattle.netlist.proofs.evaluation.Core.settle.Goals as goal
 
 pub returns-clause-settled : goal.returns-clause-settled

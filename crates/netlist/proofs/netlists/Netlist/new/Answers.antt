@@ -2,8 +2,9 @@ use Rattle.std.proofs.Common.{◌≡◌, ◌+◌, ◌<◌, ◌≤◌, ℕ, List,
 use Rattle.std.proofs.lemmas.Bool.{eqb-false}
 use Rattle.netlist.specs.Netlist.{Netlist, signals}
 use Rattle.netlist.specs.Conditions.{whole, IsSized, IsUndefined}
-use Rattle.netlist.specs.Placed.{HasRanks}
-use Rattle.netlist.proofs.Placed.{acyclic, no_loop, on_loop, signals_length}
+use Rattle.netlist.specs.inner.Placed.{HasRanks}
+use Rattle.netlist.proofs.Placed.{acyclic, no_loop, on_loop, signals_length, definition_below, gate_defined}
+use Rattle.netlist.proofs.Orders.{order_of}
 use Rattle.netlist.proofs.WellFormed.{closed_of, none_undefined, first_undefined, none_before}
 use Rattle.netlist.proofs.netlists.Netlist.new.Goals as goal
 
@@ -55,6 +56,16 @@ finish-requires-clause-sound c =
       acyclic = acyclic n c.requires.numbered c.in-Ok-sort.sorting.order.items c.in-Ok-sort.sorting.ranks.items sorted.placed
           (subst (λ (r : List ℕ). HasRanks r (length r)) c.deref.ensures.value c.in-None.ensures);
     }
+
+pub finish-requires-clause-ordered : goal.finish-requires-clause-ordered
+finish-requires-clause-ordered c =
+    let n = whole c.args.parts in
+    let order = c.in-Ok-sort.sorting.order.items in
+    let ranks = c.in-Ok-sort.sorting.ranks.items in
+    let placed = c.in-Ok-sort.ensures.placed in
+    let all : HasRanks ranks (length ranks) = subst (λ (r : List ℕ). HasRanks r (length r)) c.deref.ensures.value c.in-None.ensures in
+    order_of n c.requires.numbered order ranks placed
+    (λ d g. all d.id (subst (λ m. d.id < m) (sym placed.size) (definition_below n c.requires.numbered d (gate_defined n c.requires.numbered d g))))
 
 pub returns-in-Some : goal.returns-in-Some
 returns-in-Some c =

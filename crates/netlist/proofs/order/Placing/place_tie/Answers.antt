@@ -1,5 +1,5 @@
 use Rattle.std.proofs.Common.{◌≡◌, ◌<◌, ◌∙◌, length, get_or, arith}
-use Rattle.netlist.proofs.Lists.{get_or_read}
+use Rattle.netlist.proofs.Lists.{read_at}
 use Rattle.netlist.proofs.Ties.{tie_placed}
 use Rattle.netlist.proofs.order.Placing.place_tie.Goals as goal
 
@@ -10,7 +10,7 @@ returns-in_ok-place c =
     let size = c.requires.room.counts in
     let within : z < length p.counts.items = let l = c.requires.within in omega arith in
     let rank : get_or p.ranks.items z 0 ≡ 0 =
-    get_or_read p.ranks.items c.index.result z c.index-2.result.now c.index.ensures c.requires.within c.index-2.ensures ∙ c.if-index-eq0.true in
+    read_at p.ranks.items c.index.result z c.index-2.result.now c.index.ensures c.requires.within c.index-2.ensures ∙ c.if-index-eq0.true in
     let count : get_or p.counts.items z 0 ≡ 0 =
-    get_or_read p.counts.items c.index-then-index-eq0.result z c.index-then-index-eq0-2.result.now c.index-then-index-eq0.ensures within c.index-then-index-eq0-2.ensures ∙ c.if-index-eq0-2.true in
+    read_at p.counts.items c.index-then-index-eq0.result z c.index-then-index-eq0-2.result.now c.index-then-index-eq0.ensures within c.index-then-index-eq0-2.ensures ∙ c.if-index-eq0-2.true in
     tie_placed p c.place.new.self z c.requires.room c.requires.within rank count c.in_ok-place.ensures

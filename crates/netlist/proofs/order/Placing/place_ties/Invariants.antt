@@ -1,7 +1,7 @@
 use Rattle.std.proofs.Common.{◌≡◌, length}
 use Rattle.netlist.specs.Netlist.{Netlist}
 use Rattle.netlist.specs.Conditions.{IsNumbered}
-use Rattle.netlist.specs.Sorting.{HasRoom, IsStarted}
+use Rattle.netlist.specs.inner.Sorting.{HasRoom, IsStarted}
 use Rattle.netlist.proofs.order.Placing.place_ties.Given as goal
 
 abbrev pub invariant-loop-signal : goal.invariant-loop-signal

@@ -1,7 +1,7 @@
 use Rattle.std.proofs.Common.{[], ◌∷◌, sym, subst}
 use Rattle.netlist.specs.declared.lines.Line.{Line}
 use Rattle.netlist.specs.declared.order.Placing.{Placing}
-use Rattle.netlist.specs.Sorting.{Counts}
+use Rattle.netlist.specs.inner.Sorting.{Counts}
 use Rattle.netlist.proofs.Counting.{counts_line, counts_other}
 use Rattle.netlist.proofs.order.Placing.visit.Goals as goal
 use Rattle.netlist.proofs.order.Placing.visit.Goals.{in-Pin+in_ok-count_down, in_default}

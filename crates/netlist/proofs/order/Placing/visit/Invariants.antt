@@ -1,5 +1,5 @@
 use Rattle.std.proofs.Common.{take}
-use Rattle.netlist.specs.Sorting.{Counts}
+use Rattle.netlist.specs.inner.Sorting.{Counts}
 use Rattle.netlist.proofs.order.Placing.visit.Given as goal
 
 abbrev pub invariant-loop-line : goal.invariant-loop-line

@@ -2,7 +2,7 @@ use Rattle.std.proofs.Common.{◌≡◌, ◌<◌, ◌+◌, [], List, length, get
 use Rattle.std.proofs.lemmas.List.{get_or_default}
 use Rattle.netlist.specs.declared.lines.Line.{Line}
 use Rattle.netlist.specs.declared.order.Placing.{Placing}
-use Rattle.netlist.specs.Sorting.{Counts, HasRoom, IsCounted, sources_below}
+use Rattle.netlist.specs.inner.Sorting.{Counts, HasRoom, IsCounted, sources_below}
 use Rattle.netlist.proofs.ReaderRows.{row_is}
 use Rattle.netlist.proofs.Sorting.{source_visited, source_passed, all_sources}
 use Rattle.netlist.proofs.order.Placing.visit_sources.Goals as goal

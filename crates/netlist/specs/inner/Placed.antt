@@ -1,5 +1,5 @@
 -- An order in which each gate comes after the gates that it reads, as it is built (private to this crate).
-use Rattle.std.specs.Prelude.{ℕ, map, ◌++◌, ◌≡◌, ◌+◌, ◌<◌, ◌≤◌, ◌==◌, ◌⊎◌, if◌then◌else◌, List, [], ◌∷◌, length, slice_index}
+use Rattle.std.specs.Prelude.{ℕ, map, ◌++◌, ◌≡◌, ◌≢◌, ◌+◌, ◌<◌, ◌≤◌, ◌==◌, ◌⊎◌, if◌then◌else◌, List, [], ◌∷◌, length, slice_index}
 use Rattle.std.specs.List.{Contains}
 use Rattle.netlist.specs.Netlist.{Definition, Netlist, is_cell, cells, gates, signals}
 
@@ -33,12 +33,12 @@ pub record IsSorted (n : Netlist) (order ranks : List ℕ) : Type 0 where
 abbrev pub start_ranks : Netlist → List ℕ
 start_ranks n = map (λ _. 1) n.inputs ++ map (λ (d : Definition). if is_cell d then 1 else 0) n.definitions
 
--- each gate stands in the order, after the gates that it reads
-pub record IsOrder (n : Netlist) (order : List ℕ) : Type 0 where
-  pub ranks : List ℕ
-  pub placed : IsPlaced n order ranks
-  pub all : (d : Definition) → Contains (gates n) d → 0 < slice_index ranks d.id
-
 -- the first m signals are placed
 abbrev pub HasRanks : List ℕ → ℕ → Type 0
 HasRanks ranks m = (x : ℕ) → x < m → 0 < slice_index ranks x
+
+-- the first m gates of the order have their places, and every other signal the place behind the last
+pub record ArePlacesUpTo (order places : List ℕ) (count m : ℕ) : Type 0 where
+  pub size : length places ≡ count
+  pub here : (k : ℕ) → k < m → slice_index places (slice_index order k) ≡ k
+  pub others : (x : ℕ) → x < count → ((k : ℕ) → k < m → x ≢ slice_index order k) → slice_index places x ≡ length order

@@ -3,13 +3,12 @@ use Rattle.std.specs.List.{flat_map}
 use Rattle.std.proofs.lemmas.List.{get_or_default, take_all, length-map}
 use Rattle.netlist.specs.declared.kinds.Kind.TheVariants.{Dff}
 use Rattle.netlist.specs.Netlist.{Definition as Equation, cells}
-use Rattle.netlist.specs.Settled.{pins_of}
-use Rattle.netlist.specs.Settling.{at}
+use Rattle.netlist.specs.Settled.{at, pins_of}
 use Rattle.netlist.proofs.Observed.{cell_at, the_cell, cell_within, the_pin, first_pin_below, next_more}
-use Rattle.netlist.proofs.evaluation.cell_values.Goals as goal
+use Rattle.netlist.proofs.observing.next_into.Goals as goal
 
 pub loop-cell-init : goal.loop-cell-init
-loop-cell-init g c d = c.in_ok-found.ensures.items
+loop-cell-init g c d = c.clear.ensures.items
 
 -- any definition: the lemma asks for a default
 no_gate : Equation

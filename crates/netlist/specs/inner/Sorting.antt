@@ -1,13 +1,14 @@
 -- How the order of evaluation is built with one look at each pin (private to this crate): once a signal is placed it is visited,
 -- and then each pin that reads it no longer waits. A gate is placed as soon as none of its pins waits.
-use Rattle.std.specs.Prelude.{ℕ, IsTrue, Bool, false, map, ◌++◌, ◌≡◌, ◌+◌, ◌<◌, ◌≤◌, ◌==◌, ◌&&◌, ◌||◌, ◌⊎◌, nat_lt, if◌then◌else◌, List, [], ◌∷◌, length, slice_index, slice_set}
+use Rattle.std.specs.Prelude.{ℕ, IsTrue, Bool, false, map, ◌++◌, ◌≡◌, ◌+◌, ◌<◌, ◌≤◌, ◌==◌, ◌&&◌, ◌⊎◌, nat_lt, if◌then◌else◌, List, [], ◌∷◌, length, slice_index, slice_set}
 use Rattle.std.specs.List.{All, Contains}
 use Rattle.netlist.specs.declared.lines.Line.{Line}
 use Rattle.netlist.specs.declared.lines.Line.TheVariants.{Stem, Pin, Out}
 use Rattle.netlist.specs.declared.order.Placing.{Placing}
+use Rattle.netlist.specs.Lines.{IsPinBelow}
 use Rattle.netlist.specs.Netlist.{Definition, Netlist, gates, signals}
 use Rattle.netlist.specs.Conditions.{IsNumbered}
-use Rattle.netlist.specs.Placed.{IsPlaced, zeros}
+use Rattle.netlist.specs.inner.Placed.{IsPlaced, zeros}
 use Rattle.netlist.specs.Readers.{readers_of}
 
 -- how many of these pins read a signal that is not visited
@@ -22,12 +23,9 @@ pins_among z (Pin y k ∷ lines) = (if y == z then 1 else 0) + pins_among z line
 pins_among z (Stem y ∷ lines) = pins_among z lines
 pins_among z (Out y ∷ lines) = pins_among z lines
 
--- What is visited: nothing, one signal more, what has a rank below r (below 2: the inputs and cells), the inputs and cells before x.
+-- What is visited: nothing, what has a rank below r (below 2: the inputs and cells), the inputs and cells before x.
 abbrev pub nothing : ℕ → Bool
 nothing y = false
-
-abbrev pub also : (ℕ → Bool) → ℕ → ℕ → Bool
-also visited x y = visited y || (y == x)
 
 abbrev pub placed_below : List ℕ → ℕ → ℕ → Bool
 placed_below ranks r y = nat_lt 0 (slice_index ranks y) && nat_lt (slice_index ranks y) r
@@ -91,12 +89,6 @@ pub record Counts (lines : List Line) (p q : Placing) : Type 0 where
   pub grow : RanksGrow p q
   pub counted : (n : Netlist) (visited : ℕ → Bool) (rest : List Line) → IsNumbered n
       → IsCounted n visited (lines ++ rest) p → IsCounted n visited rest q
-
--- the signal of a pin is below m
-abbrev pub IsPinBelow : ℕ → Line → Type 0
-IsPinBelow m (Pin z k) = z < m
-IsPinBelow m (Stem z) = Unit {0}
-IsPinBelow m (Out z) = Unit {0}
 
 -- as a table of readers is for m signals
 pub record AreBelow (m : ℕ) (table : List (List Line)) : Type 0 where

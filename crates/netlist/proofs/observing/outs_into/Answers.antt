@@ -1,12 +1,12 @@
 use Rattle.std.proofs.Common.{map, take, ap, sym, ◌∙◌, length, arith}
 use Rattle.std.proofs.lemmas.List.{get_or_default, take_all}
 use Rattle.netlist.specs.declared.lines.Line.TheVariants.{Out}
-use Rattle.netlist.specs.Settling.{at}
+use Rattle.netlist.specs.Settled.{at}
 use Rattle.netlist.proofs.Observed.{output_below, output_more}
-use Rattle.netlist.proofs.evaluation.output_values.Goals as goal
+use Rattle.netlist.proofs.observing.outs_into.Goals as goal
 
 pub loop-x-init : goal.loop-x-init
-loop-x-init g c d = c.in_ok-found.ensures.items
+loop-x-init g c d = c.clear.ensures.items
 
 pub bounds-values-index : goal.bounds-values-index
 bounds-values-index g c =

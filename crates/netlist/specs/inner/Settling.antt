@@ -1,13 +1,9 @@
 -- How far values have settled, as the gates are evaluated in order (private to this crate).
-use Rattle.std.specs.Prelude.{ℕ, ◌≡◌, ◌≢◌, ◌<◌, List, length, map, slice_index, slice_index_or, slice_set}
+use Rattle.std.specs.Prelude.{ℕ, ◌≡◌, ◌≢◌, ◌<◌, List, length, slice_index, slice_set}
 use Rattle.std.specs.List.{AllZip, Contains}
 use Rattle.netlist.specs.declared.lines.Line.TheVariants.{Stem}
 use Rattle.netlist.specs.Netlist.{Definition, Netlist, cells, gates, signals}
-use Rattle.netlist.specs.Settled.{Rule, on_pins, pins_of}
-
--- values by the number of the signal
-abbrev pub at : {V : Type 0} → List V → V → ℕ → V
-at values d x = slice_index_or values x d
+use Rattle.netlist.specs.Settled.{Rule, at, pins_of}
 
 pub record SettlesUpTo {V : Type 0} (rule : Rule V) (n : Netlist) (order : List ℕ) (inputs state values : List V) (m : ℕ) (d : V) : Type 0 where
   pub size : length values ≡ length (signals n)
@@ -22,17 +18,9 @@ pub record IsDriven {V : Type 0} (rule : Rule V) (ids : List ℕ) (driven old ne
   pub here : (k : ℕ) (d : V) → k < m → at new d (slice_index ids k) ≡ rule.line (Stem (slice_index ids k)) (at driven d k)
   pub others : (x : ℕ) (d : V) → ((k : ℕ) → k < m → x ≢ slice_index ids k) → at new d x ≡ at old d x
 
--- the values on the first pins of z, which read these signals
-pub record AreRead {V : Type 0} (rule : Rule V) (z : ℕ) (values : List V) (ids : List ℕ) (pins : List V) : Type 0 where
-  pub count : length pins ≡ length ids
-  pub each : (d : V) → pins ≡ on_pins rule z 0 (map (at values d) ids)
-
 pub record AllSettleUpTo {V : Type 0} (rule : Rule V) (n : Netlist) (order : List ℕ) (inputs state values : List V) (m : ℕ) : Type 0 where
   pub size : length values ≡ length (signals n)
   pub each : (d : V) → SettlesUpTo rule n order inputs state values m d
-
-abbrev pub IsGateAt : Netlist → ℕ → Type 0
-IsGateAt n x = (g : Definition) × Contains (gates n) g × (g.id ≡ x)
 
 -- the gate of this signal has its value, and nothing else changed
 pub record IsEvaluated {V : Type 0} (rule : Rule V) (n : Netlist) (x : ℕ) (old new : List V) : Type 0 where

@@ -1,7 +1,7 @@
 use Rattle.std.proofs.Common.{◌≡◌, map, take}
 use Rattle.netlist.specs.declared.lines.Line.TheVariants.{Out}
-use Rattle.netlist.specs.Settling.{at}
-use Rattle.netlist.proofs.evaluation.output_values.Given as goal
+use Rattle.netlist.specs.Settled.{at}
+use Rattle.netlist.proofs.observing.outs_into.Given as goal
 
 abbrev pub invariant-loop-x : goal.invariant-loop-x
 invariant-loop-x g l =
