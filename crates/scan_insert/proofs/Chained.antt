@@ -10,7 +10,7 @@ use Rattle.chain_stitch.specs.Chains.{cells_of}
 use Rattle.scan_insert.specs.declared.sites.Site.{Site}
 use Rattle.scan_insert.specs.Names.{numbers_from}
 use Rattle.scan_insert.specs.Scanned.{own_site, sites_from, site, befores, beside, last_of}
-use Rattle.scan_insert.specs.Laws.{shifted, last_bits}
+use Rattle.scan_insert.specs.Laws.{shifted, last_values}
 
 -- a gate's pins are where its stem is
 pub gate_site : (sites : List Site) (next : ℕ) (ds : List Definition) (d : Definition)
@@ -143,7 +143,7 @@ zip_map f (x ∷ xs) (v ∷ vs) h =
     cc
 
 -- one chain's shift
-shift_chain : (b : ℕ → Bool) (held : ℕ → ℕ) (input : ℕ) (chain : List ℕ) (v : Bool) (state : List Bool)
+shift_chain : {V : Type 0} (b : ℕ → V) (held : ℕ → ℕ) (input : ℕ) (chain : List ℕ) (v : V) (state : List V)
     → 0 < length chain → b input ≡ v → map (λ q. b (held q)) chain ≡ take (length chain) state
     → map b (take (length chain) (input ∷ map held chain)) ≡ take (length chain) (v ∷ state)
 shift_chain b held input [] v state l e h = absurd (omega arith)
@@ -154,7 +154,7 @@ shift_chain b held input (q ∷ qs) v state l e h =
     sym (take-map b m (map held (q ∷ qs))) ∙ (ap (take m) all ∙ take-take m (suc m) state (omega arith)) in
     cc
 
-pub shift_is : (b : ℕ → Bool) (held : ℕ → ℕ) (input : ℕ) (chains : List (List ℕ)) (vs state : List Bool)
+pub shift_is : {V : Type 0} (b : ℕ → V) (held : ℕ → ℕ) (input : ℕ) (chains : List (List ℕ)) (vs state : List V)
     → All (λ (chain : List ℕ). 0 < length chain) chains
     → AllZip (λ x v. b x ≡ v) (numbers_from input (length chains)) vs → AllZip (λ q v. b (held q) ≡ v) (cells_of chains) state
     → map b (befores held input chains) ≡ shifted chains vs state
@@ -167,19 +167,19 @@ shift_is b held input (chain ∷ chains) (v ∷ vs) state filled h k =
     map-append b (take (length chain) (input ∷ map held chain)) (befores held (input + 1) chains)
     ∙ (ap (λ r. r ++ map b (befores held (input + 1) chains)) here ∙ ap (λ r. take (length chain) (v ∷ state) ++ r) rest)
 
-pub lasts_are : (b : ℕ → Bool) (held : ℕ → ℕ) (chains : List (List ℕ)) (state : List Bool)
+pub lasts_are : {V : Type 0} (blank : V) (b : ℕ → V) (held : ℕ → ℕ) (chains : List (List ℕ)) (state : List V)
     → All (λ (chain : List ℕ). 0 < length chain) chains → AllZip (λ q v. b (held q) ≡ v) (cells_of chains) state
-    → map (λ (chain : List ℕ). b (held (last_of chain))) chains ≡ last_bits chains state
-lasts_are b held [] state filled k = refl
-lasts_are b held (chain ∷ chains) state filled k =
+    → map (λ (chain : List ℕ). b (held (last_of chain))) chains ≡ last_values blank chains state
+lasts_are blank b held [] state filled k = refl
+lasts_are blank b held (chain ∷ chains) state filled k =
     let parts = zip_parts (λ q w. b (held q) ≡ w) chain (cells_of chains) state k in
     let some : 0 < length chain = All-head (λ (c : List ℕ). 0 < length c) chain chains filled in
     let within : length chain - 1 < length (chain ++ cells_of chains) = omega (arith, length-append chain (cells_of chains)) in
-    let whole : b (held (get_or (chain ++ cells_of chains) (length chain - 1) 0)) ≡ get_or state (length chain - 1) false =
-    zip_at (λ q w. b (held q) ≡ w) (chain ++ cells_of chains) state (length chain - 1) 0 false k within in
-    let here : b (held (last_of chain)) ≡ get_or state (length chain - 1) false =
+    let whole : b (held (get_or (chain ++ cells_of chains) (length chain - 1) 0)) ≡ get_or state (length chain - 1) blank =
+    zip_at (λ q w. b (held q) ≡ w) (chain ++ cells_of chains) state (length chain - 1) 0 blank k within in
+    let here : b (held (last_of chain)) ≡ get_or state (length chain - 1) blank =
     ap (λ q. b (held q)) (sym (get_or_append_left chain (cells_of chains) 0 (length chain - 1) (omega arith))) ∙ whole in
-    let rest = lasts_are b held chains (drop (length chain) state) (All-tail (λ (c : List ℕ). 0 < length c) chain chains filled) parts.1 in
+    let rest = lasts_are blank b held chains (drop (length chain) state) (All-tail (λ (c : List ℕ). 0 < length c) chain chains filled) parts.1 in
     cc
 
 -- the last of some is one of them

@@ -8,17 +8,13 @@ use Rattle.netlist.specs.declared.lines.Line.TheVariants.{Stem, Pin, Out}
 use Rattle.netlist.specs.declared.lines.Fault.{Fault}
 use Rattle.netlist.specs.Netlist.{Definition, Netlist, is_cell, is_gate, cells, gates, signals}
 use Rattle.netlist.specs.Conditions.{IsNumbered, IsClosed}
-use Rattle.netlist.specs.Settled.{is_line, stuck, bits, on_pins}
+use Rattle.netlist.specs.Settled.{Table, is_line, stuck, with_fault, on_pins}
 use Rattle.netlist.proofs.Lists.{filter_contains, contains_filter}
 use Rattle.netlist.proofs.Placed.{same_definition, signal_from, definition_below}
 use Rattle.netlist.proofs.WellFormed.{one_pin}
 use Rattle.scan_insert.specs.Scan.{Naming}
 use Rattle.netlist.specs.Lines.{IsLineOf, IsFaultOf}
 use Rattle.scan_insert.specs.Origins.{Origin, Original, Captured, IsNaming, named_line, named_fault}
-
--- the value on a line, a bit
-abbrev pub stuck_bit : Option Fault → Line → Bool → Bool
-stuck_bit f = stuck (λ b. b) f
 
 abbrev pub signal : Line → ℕ
 signal (Stem x) = x
@@ -167,19 +163,19 @@ module _ (s : Naming) (n : Netlist) (naming : IsNaming s n) (numbered : IsNumber
             ∙ sym (apart (Pin z j) (Pin d.id 0) (λ q. never_both d w.0 c w.1 (sym (w.2 ∙ q))))
       ]
 
-  pub clean : (f : Option Fault) (m : Line) (v : Bool) → IsFaultOf n f → IsClean m → stuck_bit (named_fault s f) m v ≡ v
+  pub clean : {V : Type 0} (known : Bool → V) (f : Option Fault) (m : Line) (v : V) → IsFaultOf n f → IsClean m → stuck known (named_fault s f) m v ≡ v
   unfolding IsClean
-  clean None m v h c = refl
-  clean (Some g) m v h c = ap (λ t. cond t g.value v) (c g.line (h g refl))
+  clean known None m v h c = refl
+  clean known (Some g) m v h c = ap (λ t. cond t (known g.value) v) (c g.line (h g refl))
 
-  pub matches : (f : Option Fault) (m m' : Line) (v : Bool) → IsFaultOf n f → ((l : Line) → IsLineOf n l → is_line (named_line s l) m ≡ is_line l m')
-      → stuck_bit (named_fault s f) m v ≡ stuck_bit f m' v
-  matches None m m' v h same = refl
-  matches (Some g) m m' v h same = ap (λ t. cond t g.value v) (same g.line (h g refl))
+  pub matches : {V : Type 0} (known : Bool → V) (f : Option Fault) (m m' : Line) (v : V) → IsFaultOf n f
+      → ((l : Line) → IsLineOf n l → is_line (named_line s l) m ≡ is_line l m') → stuck known (named_fault s f) m v ≡ stuck known f m' v
+  matches known None m m' v h same = refl
+  matches known (Some g) m m' v h same = ap (λ t. cond t (known g.value) v) (same g.line (h g refl))
 
-  pub gate_pins : (f : Option Fault) → IsFaultOf n f → (d : Definition) → Contains (gates n) d → (k : ℕ) (bs : List Bool)
-      → on_pins (bits (named_fault s f)) (s.stem d.id) k bs ≡ on_pins (bits f) d.id k bs
-  gate_pins f h d c k [] = refl
-  gate_pins f h d c k (v ∷ vs) =
-      ap (λ x. x ∷ on_pins (bits (named_fault s f)) (s.stem d.id) (k + 1) vs) (matches f (Pin (s.stem d.id) k) (Pin d.id k) v h (on_gate d k c))
-      ∙ ap (λ r. stuck_bit f (Pin d.id k) v ∷ r) (gate_pins f h d c (k + 1) vs)
+  pub gate_pins : {V : Type 0} (table : Table V) (f : Option Fault) → IsFaultOf n f → (d : Definition) → Contains (gates n) d → (k : ℕ) (vs : List V)
+      → on_pins (with_fault table (named_fault s f)) (s.stem d.id) k vs ≡ on_pins (with_fault table f) d.id k vs
+  gate_pins table f h d c k [] = refl
+  gate_pins table f h d c k (v ∷ vs) =
+      ap (λ x. x ∷ on_pins (with_fault table (named_fault s f)) (s.stem d.id) (k + 1) vs) (matches table.known f (Pin (s.stem d.id) k) (Pin d.id k) v h (on_gate d k c))
+      ∙ ap (λ r. stuck table.known f (Pin d.id k) v ∷ r) (gate_pins table f h d c (k + 1) vs)

@@ -1,5 +1,6 @@
 -- The naming that insertion makes, for the chains of a netlist.
-use Rattle.std.proofs.Common.{◌≡◌, ◌≢◌, ℕ, ◌+◌, ◌<◌, ◌≤◌, Bool, cond, List, [], ◌∷◌, ◌++◌, map, length, Option, Some, None, refl, sym, ◌∙◌, ap, subst, inl, inr, arith}
+use Rattle.std.proofs.Common.{◌≡◌, ◌≢◌, ℕ, ◌+◌, ◌<◌, ◌≤◌, Bool, true, false, ◌&&◌, ◌||◌, cond, List, [], ◌∷◌, ◌++◌, map, length, Option, Some, None, refl, sym, ◌∙◌, ap, subst, inl, inr, arith}
+use Rattle.std.specs.Bool.{Decides, beq}
 use Rattle.std.specs.List.{All, AllPairs, AllZip, Contains}
 use Rattle.std.proofs.lemmas.Bool.{not-true}
 use Rattle.std.proofs.lemmas.List.{length-map}
@@ -9,8 +10,8 @@ use Rattle.netlist.specs.declared.lines.Line.TheVariants.{Stem, Pin, Out}
 use Rattle.netlist.specs.declared.lines.Fault.{Fault}
 use Rattle.netlist.specs.Netlist.{Definition, Netlist, is_cell, is_gate, cells, gates, IsAcyclic}
 use Rattle.netlist.specs.Conditions.{IsNumbered, IsSound}
-use Rattle.netlist.specs.Settled.{Settles, bits, outs, next}
-use Rattle.netlist.proofs.Lists.{contains_filter, contains_map, map_map}
+use Rattle.netlist.specs.Settled.{Table, Settles, bit_table, with_fault, outs, next}
+use Rattle.netlist.proofs.Lists.{contains_filter, contains_map, map_map, decides_beq}
 use Rattle.netlist.proofs.Settling.{cells_distinct}
 use Rattle.chain_stitch.specs.Chains.{cells_of}
 use Rattle.chain_stitch.proofs.Dealing.{stitched_cells, stitched_count, stitched_filled}
@@ -19,7 +20,7 @@ use Rattle.scan_insert.specs.Names.{numbers_from}
 use Rattle.scan_insert.specs.Scan.{scanned}
 use Rattle.scan_insert.specs.Origins.{IsNaming, IsChained, named_line, named_fault}
 use Rattle.scan_insert.specs.Scanned.{cell_ids, AreChainsOf, sites_of, befores, last_of, first_scan_out, naming_of, scanned_of, line_at, fault_at}
-use Rattle.scan_insert.specs.Laws.{shifted, last_bits, ScanBehaves}
+use Rattle.scan_insert.specs.Laws.{shifted, last_values, Multiplexes, BitsMultiplex, ScanBehavesBy, ScanBehaves}
 use Rattle.scan_insert.proofs.Behaves.{AsOriginal, behaves}
 use Rattle.scan_insert.proofs.Loopless.{map_contains, scanned_acyclic}
 use Rattle.scan_insert.proofs.Numbers.{length-numbers_from}
@@ -52,16 +53,16 @@ pub no_chain : (n : Netlist) (chains : List (List ℕ)) → AreDealt n chains �
 no_chain n [] dealt e = refl
 no_chain n (chain ∷ rest) dealt e = let few = dealt.few in absurd (omega arith)
 
-same_line : (n : Netlist) (chains : List (List ℕ)) (l : Line) → line_at (sites_of n chains) l ≡ named_line (naming_of n chains) l
+pub same_line : (n : Netlist) (chains : List (List ℕ)) (l : Line) → line_at (sites_of n chains) l ≡ named_line (naming_of n chains) l
 same_line n chains (Stem x) = refl
 same_line n chains (Pin z k) = refl
 same_line n chains (Out x) = refl
 
-same_fault : (n : Netlist) (chains : List (List ℕ)) (f : Option Fault) → fault_at (sites_of n chains) f ≡ named_fault (naming_of n chains) f
+pub same_fault : (n : Netlist) (chains : List (List ℕ)) (f : Option Fault) → fault_at (sites_of n chains) f ≡ named_fault (naming_of n chains) f
 same_fault n chains None = refl
 same_fault n chains (Some f) = ap (λ l. Some (record { line = l; value = f.value })) (same_line n chains f.line)
 
-zip_ids : (R : ℕ → Bool → Type 0) (ds : List Definition) (vs : List Bool) → AllZip (λ (d : Definition) v. R d.id v) ds vs → AllZip R (map (λ (d : Definition). d.id) ds) vs
+zip_ids : {V : Type 0} (R : ℕ → V → Type 0) (ds : List Definition) (vs : List V) → AllZip (λ (d : Definition) v. R d.id v) ds vs → AllZip R (map (λ (d : Definition). d.id) ds) vs
 zip_ids R [] [] h = tt
 zip_ids R [] (v ∷ vs) h = absurd h
 zip_ids R (d ∷ ds) [] h = absurd h
@@ -121,25 +122,26 @@ module _ (n : Netlist) (sound : IsSound n) (chain : List ℕ) (rest : List (List
   distinct : AllPairs (λ x y. x ≢ y) (cells_of (chain ∷ rest))
   distinct = cells_distinct n sound.formed.numbered (cells_of (chain ∷ rest)) dealt.all
 
-  module _ (f : Option Fault) (inputs state scan_inputs : List Bool) (e : Bool) (a b : ℕ → Bool) (valid : IsFaultOf n f)
-      (p : Settles (bits f) n inputs state a)
-      (q : Settles (bits (fault_at (sites_of n (chain ∷ rest)) f)) (scanned_of n (chain ∷ rest)) (inputs ++ e ∷ scan_inputs) state b) where
-    shown : AsOriginal (naming_of n (chain ∷ rest)) n f state scan_inputs e a b
-    shown = behaves (naming_of n (chain ∷ rest)) n is_naming sound.formed.numbered sound.closed sound.acyclic f inputs state scan_inputs e a b valid p
-        (subst (λ (g : Option Fault). Settles (bits g) (scanned (naming_of n (chain ∷ rest)) n) (inputs ++ e ∷ scan_inputs) state b) (same_fault n (chain ∷ rest) f) q)
+  module _ {V : Type 0} (same : V → V → Bool) (decides : (x y : V) → Decides (same x y) (x ≡ y)) (table : Table V) (multiplexes : Multiplexes table) (blank : V)
+      (f : Option Fault) (inputs state scan_inputs : List V) (e : Bool) (a b : ℕ → V) (valid : IsFaultOf n f)
+      (p : Settles (with_fault table f) n inputs state a)
+      (q : Settles (with_fault table (fault_at (sites_of n (chain ∷ rest)) f)) (scanned_of n (chain ∷ rest)) (inputs ++ table.known e ∷ scan_inputs) state b) where
+    shown : AsOriginal table (naming_of n (chain ∷ rest)) n f state scan_inputs e a b
+    shown = behaves same decides table multiplexes (naming_of n (chain ∷ rest)) n is_naming sound.formed.numbered sound.closed sound.acyclic f inputs state scan_inputs e a b valid p
+        (subst (λ (g : Option Fault). Settles (with_fault table g) (scanned (naming_of n (chain ∷ rest)) n) (inputs ++ table.known e ∷ scan_inputs) state b) (same_fault n (chain ∷ rest) f) q)
 
     cells_hold : AllZip (λ x v. b ((naming_of n (chain ∷ rest)).held x) ≡ v) (cells_of (chain ∷ rest)) state
     cells_hold = subst (λ (xs : List ℕ). AllZip (λ x v. b ((naming_of n (chain ∷ rest)).held x) ≡ v) xs state) (sym dealt.all)
         (zip_ids (λ x v. b ((naming_of n (chain ∷ rest)).held x) ≡ v) (cells n) state shown.cells_hold)
 
-    shows_last : map (λ (r : ℕ × ℕ). b r.1) (naming_of n (chain ∷ rest)).scan_out ≡ last_bits (chain ∷ rest) state
+    shows_last : map (λ (r : ℕ × ℕ). b r.1) (naming_of n (chain ∷ rest)).scan_out ≡ last_values blank (chain ∷ rest) state
     shows_last =
         let ids = numbers_from (first_scan_out n (length (chain ∷ rest))) (length (chain ∷ rest)) in
         let lasts = map (λ (x : List ℕ). (naming_of n (chain ∷ rest)).held (last_of x)) (chain ∷ rest) in
         sym (map_map (λ (r : ℕ × ℕ). r.1) b (naming_of n (chain ∷ rest)).scan_out)
         ∙ (ap (map b) (seconds ids lasts (length-numbers_from (first_scan_out n (length (chain ∷ rest))) (length (chain ∷ rest)) ∙ sym lasts_length))
         ∙ (map_map (λ (x : List ℕ). (naming_of n (chain ∷ rest)).held (last_of x)) b (chain ∷ rest)
-        ∙ lasts_are b (naming_of n (chain ∷ rest)).held (chain ∷ rest) state dealt.filled cells_hold))
+        ∙ lasts_are blank b (naming_of n (chain ∷ rest)).held (chain ∷ rest) state dealt.filled cells_hold))
 
     shifts : map (λ (d : Definition). b ((naming_of n (chain ∷ rest)).before d.id)) (cells n) ≡ shifted (chain ∷ rest) scan_inputs state
     shifts =
@@ -150,22 +152,48 @@ module _ (n : Netlist) (sound : IsSound n) (chain : List ℕ) (rest : List (List
         ∙ (ap (map b) (map-beside (cells_of (chain ∷ rest)) feeds distinct befores_length)
         ∙ shift_is b (naming_of n (chain ∷ rest)).held (length n.inputs + 1) (chain ∷ rest) scan_inputs state dealt.filled shown.scan_inputs_have cells_hold)))
 
-    pub law : (outs (bits (fault_at (sites_of n (chain ∷ rest)) f)) (scanned_of n (chain ∷ rest)) b ≡ outs (bits f) n a ++ last_bits (chain ∷ rest) state)
-        × (next (bits (fault_at (sites_of n (chain ∷ rest)) f)) (scanned_of n (chain ∷ rest)) b ≡ cond e (shifted (chain ∷ rest) scan_inputs state) (next (bits f) n a))
+    pub law : (outs (with_fault table (fault_at (sites_of n (chain ∷ rest)) f)) (scanned_of n (chain ∷ rest)) b
+        ≡ outs (with_fault table f) n a ++ last_values blank (chain ∷ rest) state)
+        × (next (with_fault table (fault_at (sites_of n (chain ∷ rest)) f)) (scanned_of n (chain ∷ rest)) b
+        ≡ cond e (shifted (chain ∷ rest) scan_inputs state) (next (with_fault table f) n a))
     law = (
-      ap (λ (g : Option Fault). outs (bits g) (scanned (naming_of n (chain ∷ rest)) n) b) (same_fault n (chain ∷ rest) f)
-          ∙ (shown.outputs ∙ ap (λ r. outs (bits f) n a ++ r) shows_last),
-      ap (λ (g : Option Fault). next (bits g) (scanned (naming_of n (chain ∷ rest)) n) b) (same_fault n (chain ∷ rest) f)
-          ∙ (shown.cells_next ∙ ap (λ r. cond e r (next (bits f) n a)) shifts),
+      ap (λ (g : Option Fault). outs (with_fault table g) (scanned (naming_of n (chain ∷ rest)) n) b) (same_fault n (chain ∷ rest) f)
+          ∙ (shown.outputs ∙ ap (λ r. outs (with_fault table f) n a ++ r) shows_last),
+      ap (λ (g : Option Fault). next (with_fault table g) (scanned (naming_of n (chain ∷ rest)) n) b) (same_fault n (chain ∷ rest) f)
+          ∙ (shown.cells_next ∙ ap (λ r. cond e r (next (with_fault table f) n a)) shifts),
     )
 
-pub behaves_dealt : ScanBehaves
-behaves_dealt n chains f inputs state scan_inputs e a b sound are some valid p q =
+pub behaves_by : {V : Type 0} → ScanBehavesBy V
+behaves_by {V} same decides table multiplexes blank n chains f inputs state scan_inputs e a b sound are some valid p q =
     let dealt = are_dealt n chains are in
     let w = some_chain n chains dealt some in
     let P : List (List ℕ) → Type 0 = λ cs.
-    AreDealt n cs → Settles (bits (fault_at (sites_of n cs) f)) (scanned_of n cs) (inputs ++ e ∷ scan_inputs) state b
-    → (outs (bits (fault_at (sites_of n cs) f)) (scanned_of n cs) b ≡ outs (bits f) n a ++ last_bits cs state)
-    × (next (bits (fault_at (sites_of n cs) f)) (scanned_of n cs) b ≡ cond e (shifted cs scan_inputs state) (next (bits f) n a)) in
-    let at : P (w.0 ∷ w.1) = λ d r. law n sound w.0 w.1 d f inputs state scan_inputs e a b valid p r in
+    AreDealt n cs → Settles (with_fault table (fault_at (sites_of n cs) f)) (scanned_of n cs) (inputs ++ table.known e ∷ scan_inputs) state b
+    → (outs (with_fault table (fault_at (sites_of n cs) f)) (scanned_of n cs) b ≡ outs (with_fault table f) n a ++ last_values blank cs state)
+    × (next (with_fault table (fault_at (sites_of n cs) f)) (scanned_of n cs) b ≡ cond e (shifted cs scan_inputs state) (next (with_fault table f) n a)) in
+    let at : P (w.0 ∷ w.1) = λ d r. law n sound w.0 w.1 d same decides table multiplexes blank f inputs state scan_inputs e a b valid p r in
     subst P (sym w.2) at dealt q
+
+-- ---- bits
+
+only_and : (b : Bool) → (b && (true && true)) ≡ b
+only_and true = refl
+only_and false = refl
+
+and_none : (b : Bool) → (b && (false && true)) ≡ false
+and_none true = refl
+and_none false = refl
+
+or_none : (b : Bool) → (b || (false || false)) ≡ b
+or_none true = refl
+or_none false = refl
+
+none_or : (b : Bool) → (false || (b || false)) ≡ b
+none_or true = refl
+none_or false = refl
+
+pub bits_multiplex : BitsMultiplex
+bits_multiplex = record { buff = λ v. refl; inverts = λ b. refl; and_one = only_and; and_zero = and_none; or_zero = or_none; zero_or = none_or }
+
+pub behaves_dealt : ScanBehaves
+behaves_dealt = behaves_by beq decides_beq bit_table bits_multiplex false

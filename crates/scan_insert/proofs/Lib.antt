@@ -12,3 +12,5 @@ pub mod SignalNames
 pub mod Soundness
 pub mod Making
 pub mod Ready
+pub mod ByNames
+pub mod TesterNames

@@ -81,7 +81,7 @@ module _ (n : Netlist) (sound : IsSound n) (chain : List ℕ) (rest : List (List
       ] in
       step (is_cell d) e
 
-  befores_are : map (λ (d : Definition). (naming_of n (chain ∷ rest)).before d.id) (cells n) ≡ befores (held_at (sites_of n (chain ∷ rest))) (length n.inputs + 1) (chain ∷ rest)
+  pub befores_are : map (λ (d : Definition). (naming_of n (chain ∷ rest)).before d.id) (cells n) ≡ befores (held_at (sites_of n (chain ∷ rest))) (length n.inputs + 1) (chain ∷ rest)
   befores_are =
       let s : Naming = naming_of n (chain ∷ rest) in
       let feeds = befores s.held (length n.inputs + 1) (chain ∷ rest) in

@@ -61,7 +61,7 @@ names_of_origins n chains =
     ∙ sym (append_assoc (input_names ++ codes "SC__se" ∷ in_names) (codes "SC__nse" ∷ made_names) out_names))))))
 
 -- what stands for something: a signal that there is, a chain's number
-abbrev IsValid : Netlist → Origin → Type 0
+abbrev pub IsValid : Netlist → Origin → Type 0
 IsValid n (Original x) = x < length n.names
 IsValid n Enable = Unit {0}
 IsValid n EnableNot = Unit {0}

@@ -29,7 +29,7 @@ use Rattle.scan_insert.proofs.Placing.{scanned_numbers, out_numbers}
 use Rattle.scan_insert.proofs.SignalNames.{origin_name, names_of_origins, name_in_form, name_injective, valid_origin}
 use Rattle.scan_insert.proofs.Concrete.{AreDealt, are_dealt, gates_pins, is_numbered, ins_length, outs_length, is_naming, is_chained, is_acyclic}
 
-pairs_append : {X : Type 0} (R : X → X → Type 0) (xs ys : List X) → AllPairs R xs → AllPairs R ys
+pub pairs_append : {X : Type 0} (R : X → X → Type 0) (xs ys : List X) → AllPairs R xs → AllPairs R ys
     → ((x y : X) → Contains xs x → Contains ys y → R x y) → AllPairs R (xs ++ ys)
 pairs_append R [] ys p q h = q
 pairs_append R (x ∷ xs) ys p q h =
@@ -37,7 +37,7 @@ pairs_append R (x ∷ xs) ys p q h =
     (All-append (R x) xs ys (λ k d l. p 0 (suc k) d (omega arith) (omega arith)) (All-from_contains (R x) ys (λ y c. h x y (contains_head x xs) c)))
     (pairs_append R xs ys (λ i j d a b. p (suc i) (suc j) d (omega arith) (omega arith)) q (λ y z c e. h y z (contains_tail x y xs c) e))
 
-pairs_map : {X : Type 0} (f : X → ℕ) (xs : List X) (d : X) → AllPairs (λ x y. x ≢ y) xs → ((x y : X) → Contains xs x → Contains xs y → f x ≡ f y → x ≡ y) → AllPairs (λ x y. x ≢ y) (map f xs)
+pub pairs_map : {X Y : Type 0} (f : X → Y) (xs : List X) (d : X) → AllPairs (λ x y. x ≢ y) xs → ((x y : X) → Contains xs x → Contains xs y → f x ≡ f y → x ≡ y) → AllPairs (λ x y. x ≢ y) (map f xs)
 pairs_map f xs d p inj i j e l m =
     let size : length (map f xs) ≡ length xs = length-map xs f in
     let w : i < length xs = omega arith in
@@ -229,7 +229,7 @@ module _ (n : Netlist) (sound : IsSound n) (chain : List ℕ) (rest : List (List
   few_cells = filter_le is_cell n.definitions
 
   module _ (design : IsDesign n) where
-    few_chains : length (chain ∷ rest) ≤ 1000000
+    pub few_chains : length (chain ∷ rest) ≤ 1000000
     few_chains = omega (arith, dealt.few, few_cells, signals_length n, design.small)
 
     names_in_form : All IsName (names_of n (length (chain ∷ rest)))

@@ -17,7 +17,7 @@ use Rattle.scan_insert.proofs.Concrete.{are_dealt, no_chain}
 use Rattle.scan_insert.proofs.Loopless.{defined_signal}
 
 module _ (n : Netlist) (sound : IsSound n) where
-  own : (x : ℕ) → Contains (signals n) x → site (sites_of n []) x ≡ own_site x
+  pub own : (x : ℕ) → Contains (signals n) x → site (sites_of n []) x ≡ own_site x
   own x c =
       let l = signal_below n sound.formed.numbered x c in
       get_or-map own_site (signals n) x 0 (own_site 0) l ∙ ap own_site (sound.formed.numbered x l)

@@ -2,5 +2,6 @@ pub mod Scan
 pub mod Names
 pub mod Scanned
 pub mod Laws
+pub mod Named
 pub mod Origins
 pub mod Made
