@@ -17,7 +17,7 @@ use Rattle.netlist.proofs.WellFormed.{one_pin}
 use Rattle.scan_insert.specs.Scan.{Naming, define, scan_cell, scan_definition, show_last, scanned}
 use Rattle.netlist.specs.Lines.{IsFaultOf}
 use Rattle.scan_insert.specs.Laws.{Multiplexes}
-use Rattle.scan_insert.specs.Origins.{Origin, Original, Enable, EnableNot, ScanIn, ScanOut, Captured, Shifted, Chosen, Held, IsNaming, named_fault}
+use Rattle.scan_insert.proofs.Namings.{Origin, Original, Enable, EnableNot, ScanIn, ScanOut, Captured, Shifted, Chosen, Held, IsNaming, named_fault}
 use Rattle.netlist.proofs.Alike.{settles_once}
 use Rattle.scan_insert.proofs.Equations.{held_cell, cells_scanned}
 use Rattle.scan_insert.proofs.Clean.{defined, IsClean, new_clean, captured_stem_clean, second_pin_clean, buffer_clean, on_stem, on_out, on_cell, clean, matches, gate_pins}

@@ -1,22 +1,21 @@
 -- The scanned netlist by the names of its signals.
-use Rattle.std.proofs.Common.{◌≡◌, ℕ, suc, zero, ◌+◌, ◌<◌, Bool, true, false, cond, List, [], ◌∷◌, ◌++◌, map, length, get_or, take, drop, codes, decimal, refl, sym, ◌∙◌, ap, subst, arith, length-append}
+use Rattle.std.proofs.Common.{◌≡◌, ℕ, suc, zero, ◌+◌, ◌<◌, Bool, true, false, cond, List, [], ◌∷◌, ◌++◌, map, length, get_or, take, drop, codes, decimal, refl, sym, ◌∙◌, ap, subst, arith}
 use Rattle.std.specs.List.{All, Contains, filter, flat_map, zip}
 use Rattle.std.proofs.lemmas.List.{length-map, get_or-map, map-append, take-map}
 use Rattle.std.proofs.lemmas.List.Elements.{All-head, All-tail, All-contains, Contains-append_left, Contains-append_right}
-use Rattle.netlist.specs.declared.kinds.Kind.{Kind}
 use Rattle.netlist.specs.declared.kinds.Kind.TheVariants.{And, Or, Not, Buff, Dff}
-use Rattle.netlist.specs.Netlist.{Definition, Netlist, is_cell, is_gate, cells, gates, name_of, signals}
+use Rattle.netlist.specs.Netlist.{Definition, Netlist, is_cell, is_gate, cells, name_of, signals}
 use Rattle.netlist.specs.Conditions.{IsSound}
 use Rattle.netlist.proofs.Lists.{All-from_contains, contains_head, contains_tail, contains_filter, filter_contains, contains_map, map_agree, map_map}
 use Rattle.chain_stitch.specs.Chains.{cells_of}
 use Rattle.scan_insert.specs.declared.sites.Site.{Site}
 use Rattle.scan_insert.specs.Names.{names_of, numbers_from}
 use Rattle.scan_insert.specs.Scan.{Naming, define, scan_cell, scan_definition, show_last, scanned}
-use Rattle.scan_insert.specs.Scanned.{AreChainsOf, befores, last_of, first_scan_out, naming_of, own_site, site, sites_of, scanned_of}
-use Rattle.scan_insert.specs.Origins.{Origin, Original, Enable, EnableNot, ScanIn, ScanOut, Captured, Shifted, Chosen, Held}
-use Rattle.scan_insert.specs.Named.{Equation, equation, named, names_before, cell_equations, scan_equations, show_equations, HasScanNames, ScannedByNames, HasSiteNames, SitesHaveNames}
-use Rattle.scan_insert.proofs.Chained.{contains_last, contains_cells_of}
-use Rattle.scan_insert.proofs.Concrete.{AreDealt, are_dealt, some_chain, no_chain, gates_pins, is_numbered, ins_length, outs_length}
+use Rattle.scan_insert.specs.Scanned.{befores, last_of, first_scan_out, naming_of, scanned_of}
+use Rattle.scan_insert.proofs.Namings.{Origin, Original, Enable, EnableNot, ScanIn, ScanOut, Captured, Shifted, Chosen, Held}
+use Rattle.scan_insert.specs.Named.{equation, named, names_before, cell_equations, scan_equations, show_equations, HasScanNames, ScannedByNames, HasSiteNames, SitesHaveNames}
+use Rattle.scan_insert.proofs.Chained.{contains_last}
+use Rattle.scan_insert.proofs.Concrete.{AreDealt, are_dealt, some_chain, gates_pins, is_numbered, ins_length, outs_length}
 use Rattle.scan_insert.proofs.Loopless.{defined_signal}
 use Rattle.scan_insert.proofs.Numbers.{get_or-numbers_from}
 use Rattle.scan_insert.proofs.Origins.{cell_origins, origins, number, stands, number_at}

@@ -14,7 +14,7 @@ use Rattle.netlist.proofs.Placed.{same_definition, signal_from, definition_below
 use Rattle.netlist.proofs.WellFormed.{one_pin}
 use Rattle.scan_insert.specs.Scan.{Naming}
 use Rattle.netlist.specs.Lines.{IsLineOf, IsFaultOf}
-use Rattle.scan_insert.specs.Origins.{Origin, Original, Captured, IsNaming, named_line, named_fault}
+use Rattle.scan_insert.proofs.Namings.{Origin, Original, Captured, IsNaming, named_line, named_fault}
 
 abbrev pub signal : Line → ℕ
 signal (Stem x) = x

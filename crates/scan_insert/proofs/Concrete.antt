@@ -18,7 +18,7 @@ use Rattle.chain_stitch.proofs.Dealing.{stitched_cells, stitched_count, stitched
 use Rattle.netlist.specs.Lines.{IsFaultOf}
 use Rattle.scan_insert.specs.Names.{numbers_from}
 use Rattle.scan_insert.specs.Scan.{scanned}
-use Rattle.scan_insert.specs.Origins.{IsNaming, IsChained, named_line, named_fault}
+use Rattle.scan_insert.proofs.Namings.{IsNaming, IsChained, named_line, named_fault}
 use Rattle.scan_insert.specs.Scanned.{cell_ids, AreChainsOf, sites_of, befores, last_of, first_scan_out, naming_of, scanned_of, line_at, fault_at}
 use Rattle.scan_insert.specs.Laws.{shifted, last_values, Multiplexes, BitsMultiplex, ScanBehavesBy, ScanBehaves}
 use Rattle.scan_insert.proofs.Behaves.{AsOriginal, behaves}

@@ -1,3 +1,4 @@
+pub mod Namings
 pub mod Equations
 pub mod Clean
 pub mod Behaves

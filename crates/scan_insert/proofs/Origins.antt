@@ -8,7 +8,7 @@ use Rattle.netlist.specs.Conditions.{IsNumbered}
 use Rattle.netlist.proofs.Lists.{contains_head, contains_tail, contains_cases, contains_nil, contains_filter, contains_map, map_map}
 use Rattle.scan_insert.specs.Names.{numbers_from}
 use Rattle.scan_insert.specs.Scan.{Naming, define, scan_cell, scan_definition, show_last, scanned}
-use Rattle.scan_insert.specs.Origins.{Origin, Original, Enable, EnableNot, ScanIn, ScanOut, Captured, Shifted, Chosen, Held, IsNaming}
+use Rattle.scan_insert.proofs.Namings.{Origin, Original, Enable, EnableNot, ScanIn, ScanOut, Captured, Shifted, Chosen, Held, IsNaming}
 use Rattle.scan_insert.proofs.Numbers.{map-numbers_from, numbers_contain}
 use Rattle.scan_insert.proofs.Loopless.{map_contains}
 

@@ -16,7 +16,7 @@ use Rattle.scan_insert.specs.declared.sites.Site.{Site}
 use Rattle.scan_insert.specs.Names.{numbers_from, names_of}
 use Rattle.scan_insert.specs.Scan.{Naming, define, scan_cell, scan_definition, show_last, scanned}
 use Rattle.scan_insert.specs.Scanned.{AreChainsOf, cell_ids, own_site, sites_from, first_definition, first_scan_out, sites_of, befores, last_of, naming_of, scanned_of}
-use Rattle.scan_insert.specs.Made.{IsReady, held_at, naming_at, scan_definitions, stem_at}
+use Rattle.scan_insert.specs.inner.Made.{IsReady, held_at, naming_at, scan_definitions, stem_at}
 use Rattle.scan_insert.proofs.Concrete.{AreDealt, are_dealt}
 use Rattle.scan_insert.proofs.Placing.{length-sites_from, out_numbers}
 use Rattle.scan_insert.proofs.Chained.{length-befores, map-beside}

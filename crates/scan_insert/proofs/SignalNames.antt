@@ -12,7 +12,7 @@ use Rattle.netlist.proofs.Lists.{contains_cases, contains_map, map_map}
 use Rattle.netlist.specs.Designs.{is_reserved, IsDesign}
 use Rattle.scan_insert.specs.Names.{numbers_from, definition_names, names_of}
 use Rattle.netlist.specs.Netlist.{name_of}
-use Rattle.scan_insert.specs.Origins.{Origin, Original, Enable, EnableNot, ScanIn, ScanOut, Captured, Shifted, Chosen, Held}
+use Rattle.scan_insert.proofs.Namings.{Origin, Original, Enable, EnableNot, ScanIn, ScanOut, Captured, Shifted, Chosen, Held}
 use Rattle.scan_insert.proofs.Loopless.{contains_flat_map, only_one, defined_signal}
 use Rattle.scan_insert.proofs.Numbers.{contains_numbers}
 use Rattle.scan_insert.proofs.Origins.{cell_origins, definition_origins, origins}

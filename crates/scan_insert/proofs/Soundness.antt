@@ -18,7 +18,7 @@ use Rattle.netlist.proofs.WellFormed.{one_pin}
 use Rattle.netlist.specs.Designs.{IsDesign}
 use Rattle.scan_insert.specs.Names.{names_of}
 use Rattle.scan_insert.specs.Scan.{Naming, scanned}
-use Rattle.scan_insert.specs.Origins.{Origin, Original, Enable, EnableNot, ScanOut, Captured, Shifted, Chosen, Held}
+use Rattle.scan_insert.proofs.Namings.{Origin, Original, Enable, EnableNot, ScanOut, Captured, Shifted, Chosen, Held}
 use Rattle.scan_insert.specs.Scanned.{first_scan_out, naming_of, scanned_of}
 use Rattle.scan_insert.specs.Laws.{ScannedIsSound}
 use Rattle.scan_insert.proofs.Equations.{held_cell, cells_scanned}

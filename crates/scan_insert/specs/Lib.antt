@@ -3,5 +3,4 @@ pub mod Names
 pub mod Scanned
 pub mod Laws
 pub mod Named
-pub mod Origins
-pub mod Made
+pub mod inner

@@ -3,7 +3,7 @@ ghost use Rattle.std.specs.Prelude.{◌≡◌, ◌++◌, ◌∷◌, [], ◌+◌,
 ghost use Rattle.std.specs.List.{All};
 ghost use Rattle.netlist.specs.Gates.{allows_pins};
 ghost use Rattle.scan_insert.specs.Scan.{define, scan_cell};
-ghost use Rattle.scan_insert.specs.Made.{stem_at, naming_at};
+ghost use Rattle.scan_insert.specs.inner.Made.{stem_at, naming_at};
 
 use crate::sites::{Site, after};
 use netlist::{Definition, Kind, SignalId};

@@ -7,7 +7,7 @@ ghost use Rattle.netlist.specs.declared.kinds.Kind.TheVariants.{Not};
 ghost use Rattle.scan_insert.specs.Names.{names_of, numbers_from};
 ghost use Rattle.scan_insert.specs.Scan.{define, show_last};
 ghost use Rattle.scan_insert.specs.Scanned.{befores, first_scan_out, last_of, scanned_of, sites_of};
-ghost use Rattle.scan_insert.specs.Made.{IsReady, held_at, scan_definitions, stem_at};
+ghost use Rattle.scan_insert.specs.inner.Made.{IsReady, held_at, scan_definitions, stem_at};
 
 use crate::cells::{Enables, define, moved_gate, push_scan_cell};
 use crate::shift_paths::{befores, push_scan_outputs};

@@ -6,7 +6,7 @@ ghost use Rattle.chain_stitch.specs.Chains.{cells_of};
 ghost use Rattle.scan_insert.specs.Names.{numbers_from};
 ghost use Rattle.scan_insert.specs.Scan.{show_last};
 ghost use Rattle.scan_insert.specs.Scanned.{befores, last_of};
-ghost use Rattle.scan_insert.specs.Made.{held_at};
+ghost use Rattle.scan_insert.specs.inner.Made.{held_at};
 
 use crate::cells::define;
 use crate::sites::{Site, after};

@@ -1,5 +1,5 @@
 use Rattle.std.proofs.Common.{◌≡◌, map, take}
-use Rattle.scan_insert.specs.Made.{stem_at}
+use Rattle.scan_insert.specs.inner.Made.{stem_at}
 use Rattle.scan_insert.proofs.cells.stems.Given as goal
 
 abbrev pub invariant-loop-x : goal.invariant-loop-x

@@ -1,7 +1,7 @@
 use Rattle.std.proofs.Common.{◌≡◌, ◌++◌, ◌+◌, drop, length}
 use Rattle.std.specs.List.{filter}
 use Rattle.netlist.specs.Netlist.{is_cell}
-use Rattle.scan_insert.specs.Made.{scan_definitions}
+use Rattle.scan_insert.specs.inner.Made.{scan_definitions}
 use Rattle.scan_insert.proofs.parts.push_definitions.Given as goal
 
 abbrev pub invariant-loop-definition : goal.invariant-loop-definition

@@ -1,5 +1,5 @@
 use Rattle.std.proofs.Common.{◌∙◌}
-use Rattle.scan_insert.specs.Made.{held_at}
+use Rattle.scan_insert.specs.inner.Made.{held_at}
 use Rattle.scan_insert.proofs.Ready.{befores_count}
 use Rattle.scan_insert.proofs.parts.scanned_definitions.Goals as goal
 

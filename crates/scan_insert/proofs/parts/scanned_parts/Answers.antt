@@ -6,7 +6,7 @@ use Rattle.netlist.specs.Netlist.{Definition, cells}
 use Rattle.scan_insert.specs.Names.{names_of, numbers_from}
 use Rattle.scan_insert.specs.Scan.{define, show_last}
 use Rattle.scan_insert.specs.Scanned.{befores, first_scan_out, last_of}
-use Rattle.scan_insert.specs.Made.{held_at, scan_definitions, stem_at}
+use Rattle.scan_insert.specs.inner.Made.{held_at, scan_definitions, stem_at}
 use Rattle.scan_insert.proofs.Ready.{outputs_within, parts_of, ready_few}
 use Rattle.scan_insert.proofs.parts.scanned_parts.Goals as goal
 

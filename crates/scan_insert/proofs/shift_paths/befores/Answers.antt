@@ -1,5 +1,5 @@
 use Rattle.std.proofs.Common.{◌<◌, length}
-use Rattle.scan_insert.specs.Made.{held_at}
+use Rattle.scan_insert.specs.inner.Made.{held_at}
 use Rattle.scan_insert.specs.Scanned.{befores}
 use Rattle.scan_insert.proofs.Making.{befores_step, cells_of_chain}
 use Rattle.scan_insert.proofs.shift_paths.befores.Goals as goal

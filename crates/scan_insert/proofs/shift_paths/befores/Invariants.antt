@@ -1,6 +1,6 @@
 use Rattle.std.proofs.Common.{◌≡◌, ◌++◌, ◌+◌, drop}
 use Rattle.scan_insert.specs.Scanned.{befores}
-use Rattle.scan_insert.specs.Made.{held_at}
+use Rattle.scan_insert.specs.inner.Made.{held_at}
 use Rattle.scan_insert.proofs.shift_paths.befores.Given as goal
 
 abbrev pub invariant-loop-c : goal.invariant-loop-c

@@ -1,5 +1,5 @@
 use Rattle.std.proofs.Common.{◌∙◌}
-use Rattle.scan_insert.specs.Made.{held_at}
+use Rattle.scan_insert.specs.inner.Made.{held_at}
 use Rattle.scan_insert.proofs.Making.{before_step, next_before}
 use Rattle.scan_insert.proofs.shift_paths.push_befores.Goals as goal
 

@@ -1,5 +1,5 @@
 use Rattle.std.proofs.Common.{◌≡◌, ◌++◌, ◌∷◌, map, take, get_or}
-use Rattle.scan_insert.specs.Made.{held_at}
+use Rattle.scan_insert.specs.inner.Made.{held_at}
 use Rattle.scan_insert.proofs.shift_paths.push_befores.Given as goal
 
 abbrev pub invariant-loop-cell : goal.invariant-loop-cell

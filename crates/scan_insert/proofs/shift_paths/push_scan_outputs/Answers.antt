@@ -4,7 +4,7 @@ use Rattle.netlist.specs.declared.kinds.Kind.TheVariants.{Buff}
 use Rattle.scan_insert.specs.Names.{numbers_from}
 use Rattle.scan_insert.specs.Scan.{define, show_last}
 use Rattle.scan_insert.specs.Scanned.{last_of}
-use Rattle.scan_insert.specs.Made.{held_at}
+use Rattle.scan_insert.specs.inner.Made.{held_at}
 use Rattle.scan_insert.proofs.Making.{shown_step, cells_of_chain, filled_chain}
 use Rattle.scan_insert.proofs.shift_paths.push_scan_outputs.Goals as goal
 

@@ -3,7 +3,7 @@ use Rattle.std.specs.List.{zip}
 use Rattle.scan_insert.specs.Names.{numbers_from}
 use Rattle.scan_insert.specs.Scan.{show_last}
 use Rattle.scan_insert.specs.Scanned.{last_of}
-use Rattle.scan_insert.specs.Made.{held_at}
+use Rattle.scan_insert.specs.inner.Made.{held_at}
 use Rattle.scan_insert.proofs.shift_paths.push_scan_outputs.Given as goal
 
 abbrev pub invariant-loop-c : goal.invariant-loop-c

@@ -1,4 +1,4 @@
--- What the signals of the scanned netlist stand for (private to this crate).
+-- What the signals of the scanned netlist stand for.
 use Rattle.std.specs.Prelude.{ℕ, ◌≡◌, ◌⊎◌, Option, Some, None}
 use Rattle.std.specs.List.{Contains}
 use Rattle.netlist.specs.declared.lines.Line.{Line}

@@ -1,4 +1,4 @@
--- Parts of the scanned netlist as they are made (private to this crate).
+-- Parts of the scanned netlist as they are made.
 use Rattle.std.specs.Prelude.{ℕ, ◌≡◌, ◌+◌, ◌<◌, ◌≤◌, cond, List, [], ◌∷◌, ◌++◌, map, drop, length, slice_index}
 use Rattle.std.specs.List.{All}
 use Rattle.netlist.specs.Netlist.{Definition, Netlist, is_cell, signals}
