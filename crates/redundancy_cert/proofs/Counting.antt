@@ -1,0 +1,16 @@
+-- One node more is counted.
+use Rattle.std.proofs.Common.{◌≡◌, ◌+◌, List, [], ◌∷◌, ◌++◌, arith}
+use Rattle.redundancy_cert.specs.declared.nodes.Node.{Node}
+use Rattle.redundancy_cert.specs.declared.checking.Counts.{Counts}
+use Rattle.redundancy_cert.specs.Trees.{closed_count, open_count}
+use Rattle.redundancy_cert.specs.Fits.{AreCounts}
+use Rattle.redundancy_cert.proofs.Redundant.{closed_count-append, open_count-append}
+
+pub counted : (nodes : List Node) (node : Node) (old new : Counts) → AreCounts nodes old
+    → new.closed ≡ old.closed + closed_count (node ∷ []) → new.left_open ≡ old.left_open + open_count (node ∷ []) → AreCounts (nodes ++ node ∷ []) new
+counted nodes node old new w a b =
+    let e = closed_count-append nodes (node ∷ []) in
+    let g = open_count-append nodes (node ∷ []) in
+    let h = w.closed in
+    let k = w.left_open in
+    record { closed = omega arith; left_open = omega arith }

@@ -1,0 +1,5 @@
+pub mod Redundant
+pub mod WalkLemmas
+pub mod PassLemmas
+pub mod Counting
+pub mod StackLemmas

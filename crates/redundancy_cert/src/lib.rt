@@ -1,0 +1,17 @@
+//! Trees of decisions that show a fault redundant, their independent check, and what a search has to answer.
+#![tactic(auto)]
+
+mod checking;
+mod engine;
+mod laws;
+mod nodes;
+mod passes;
+mod points;
+mod stacks;
+mod steps;
+
+pub use checking::{Counts, TreeFault, check_tree};
+pub use engine::{Engine, Found};
+pub use laws::closed_tree_is_redundant;
+pub use nodes::{Node, Tree};
+pub use stacks::{Other, Side, Turn, end_side, whole_tree};
