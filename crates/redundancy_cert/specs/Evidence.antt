@@ -1,23 +1,19 @@
 -- What a search answers: each answer is its own evidence.
-use Rattle.std.specs.Prelude.{ℕ, ◌≡◌, ◌≤◌, Bool, Some, length, slice_get}
+use Rattle.std.specs.Prelude.{ℕ, ◌≡◌, ◌≤◌}
 use Rattle.netlist.specs.declared.lines.Fault.{Fault}
 use Rattle.netlist.specs.declared.lines.Point.{Point}
-use Rattle.netlist.specs.Netlist.{Netlist, cells}
+use Rattle.netlist.specs.Netlist.{Netlist}
 use Rattle.netlist.specs.Holds.{Holds}
-use Rattle.netlist.specs.ThreeValues.{known}
 use Rattle.netlist.specs.Detection.{Detects}
-use Rattle.cubes.specs.Cubes.{Cube, Pattern, AgreesWith}
+use Rattle.cubes.specs.Cubes.{Cube, Pattern, AgreesWith, IsCubeOf}
 use Rattle.redundancy_cert.specs.declared.engine.Found.{Found}
 use Rattle.redundancy_cert.specs.declared.engine.Found.TheVariants.{Test, Closed as Complete, Partial}
 use Rattle.redundancy_cert.specs.Trees.{closed_count, open_count}
 use Rattle.redundancy_cert.specs.Fits.{Fits}
 
--- the cube has a value for each input, that of the bit where it is held, and for each cell, and every pattern that agrees with it detects
--- the fault at the point
+-- a cube of the netlist that has the bits of the held inputs, and every pattern that agrees with it detects the fault at the point
 pub record IsTestCube (f : Fault) (n : Netlist) (holds : Holds) (cube : Cube) (point : Point) : Type 0 where
-  pub inputs : length cube.inputs ≡ length n.inputs
-  pub cells : length cube.cells ≡ length (cells n)
-  pub held : (k : ℕ) (b : Bool) → slice_get holds k ≡ Some (Some b) → slice_get cube.inputs k ≡ Some (known b)
+  pub is_cube : IsCubeOf n holds cube
   pub detects : (p : Pattern) → AgreesWith p cube → Detects n f p.inputs p.cells point
 
 -- a test; or a fitting tree without Open, of at most so many Closed; or one with an Open, of exactly so many
