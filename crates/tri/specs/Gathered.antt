@@ -1,4 +1,4 @@
--- What three values are together, from which each kind of gate takes its value (private to this crate).
+-- What three values are together, from which each kind of gate takes its value.
 use Rattle.std.specs.Prelude.{◌≡◌, List, map}
 use Rattle.std.specs.List.{list_any}
 use Rattle.netlist.specs.declared.kinds.Tri.{Tri}

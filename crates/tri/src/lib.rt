@@ -15,5 +15,5 @@ pub use laws::{
     closed_detects_nothing, known_values, labels_above_patterns, more_decisions_more_known,
     redundant_changes_nothing, three_values_above_bits, three_values_alike,
 };
-pub use together::known;
+pub use together::{Together, known};
 pub use tris::Tris;

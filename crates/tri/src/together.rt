@@ -8,7 +8,7 @@ use netlist::{Kind, Tri};
 
 /// Whether some are 0, 1 or X, whether an odd number of them is 1, and the first.
 #[derive(Clone, Copy)]
-pub(crate) struct Together {
+pub struct Together {
     zero: bool,
     one: bool,
     unknown: bool,
@@ -37,7 +37,7 @@ fn complement(value: Tri) -> Tri
 impl Together {
     ghost use Rattle.tri.specs.Gathered.{AreTogether};
 
-    pub(crate) fn none() -> Together
+    pub fn none() -> Together
         ensures { AreTogether [] result }
     {
         Together {
@@ -50,7 +50,7 @@ impl Together {
     }
 
     /// With one value more, at the front.
-    pub(crate) fn with(self, value: Tri) -> Together
+    pub fn with(self, value: Tri) -> Together
         ensures { (values : List Value) → AreTogether values self → AreTogether (value ∷ values) result }
     {
         match value {
@@ -113,7 +113,7 @@ impl Together {
     }
 
     /// What a gate makes of them.
-    pub(crate) fn through(self, kind: Kind) -> Tri
+    pub fn through(self, kind: Kind) -> Tri
         ensures { (values : List Value) → AreTogether values self → result ≡ gate_tri kind values }
     {
         match kind {
