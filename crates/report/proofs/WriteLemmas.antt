@@ -1,0 +1,59 @@
+-- Texts as they are written, a part at a time.
+use Rattle.std.proofs.Common.{◌≡◌, ℕ, zero, suc, ◌+◌, ◌<◌, List, [], ◌∷◌, ◌++◌, length, take, Some, refl, sym, ◌∙◌, ap, arith, append_assoc, add-one, codes}
+use Rattle.std.proofs.lemmas.List.{append-nil}
+use Rattle.std.specs.List.{flat_map, slice_get}
+use Rattle.std.proofs.lemmas.Grind.{flat_map-append}
+use Rattle.report.specs.Reports.{Hold}
+use Rattle.report.specs.Texts.{count_line, counts_text, head}
+
+next_take : {X : Type 0} (xs : List X) (k : ℕ) (x : X) → slice_get xs k ≡ Some x → take (suc k) xs ≡ take k xs ++ x ∷ []
+next_take [] k x e = cc
+next_take (y ∷ ys) zero x e = let same : y ≡ x = cc in ap (λ z. z ∷ []) same
+next_take (y ∷ ys) (suc k) x e = ap (λ zs. y ∷ zs) (next_take ys k x e)
+
+-- one more of a list is written
+pub next_written : {X : Type 0} (f : X → List ℕ) (xs : List X) (k : ℕ) (x : X) (old out new : List ℕ)
+    → slice_get xs k ≡ Some x → out ≡ old ++ flat_map f (take k xs) → new ≡ out ++ f x → new ≡ old ++ flat_map f (take (k + 1) xs)
+next_written f xs k x old out new e o n =
+    let one : k + 1 ≡ suc k = add-one k in
+    n ∙ (ap (λ t. t ++ f x) o ∙ (append_assoc old (flat_map f (take k xs)) (f x)
+    ∙ ap (λ t. old ++ t) (ap (λ t. flat_map f (take k xs) ++ t) (sym (append-nil (f x)))
+    ∙ (sym (flat_map-append f (take k xs) (x ∷ [])) ∙ ap (flat_map f) (sym (next_take xs k x e) ∙ ap (λ i. take i xs) (sym one))))))
+
+counts_none : (ws : List (List ℕ)) → counts_text ws [] ≡ []
+counts_none [] = refl
+counts_none (w ∷ ws) = refl
+
+next_count : (ws : List (List ℕ)) (cs : List ℕ) (k : ℕ) (w : List ℕ) (c : ℕ) → slice_get ws k ≡ Some w → slice_get cs k ≡ Some c
+    → counts_text ws (take (suc k) cs) ≡ counts_text ws (take k cs) ++ count_line w c
+next_count [] cs k w c p q = cc
+next_count (v ∷ ws) [] k w c p q = cc
+next_count (v ∷ ws) (d ∷ cs) zero w c p q =
+    let e : v ≡ w = cc in
+    let f : d ≡ c = cc in
+    ap (λ t. count_line v d ++ t) (counts_none ws) ∙ append-nil (count_line v d) ∙ (ap (λ t. count_line t d) e ∙ ap (λ t. count_line w t) f)
+next_count (v ∷ ws) (d ∷ cs) (suc k) w c p q =
+    ap (λ t. count_line v d ++ t) (next_count ws cs k w c p q) ∙ sym (append_assoc (count_line v d) (counts_text ws (take k cs)) (count_line w c))
+
+pub next_counts_written : (ws : List (List ℕ)) (cs : List ℕ) (k : ℕ) (w : List ℕ) (c : ℕ) (old out new : List ℕ)
+    → slice_get ws k ≡ Some w → slice_get cs k ≡ Some c → out ≡ old ++ counts_text ws (take k cs) → new ≡ out ++ count_line w c
+    → new ≡ old ++ counts_text ws (take (k + 1) cs)
+next_counts_written ws cs k w c old out new p q o n =
+    let one : k + 1 ≡ suc k = add-one k in
+    n ∙ (ap (λ t. t ++ count_line w c) o ∙ (append_assoc old (counts_text ws (take k cs)) (count_line w c)
+    ∙ ap (λ t. old ++ t) (sym (next_count ws cs k w c p q) ∙ ap (λ i. counts_text ws (take i cs)) (sym one))))
+
+pub first_head : (hs : List Hold) → length hs ≡ 0 → head hs ≡ codes "atpg report 1\n"
+first_head [] e = refl
+first_head (h ∷ hs) e = absurd (omega arith)
+
+pub second_head : (hs : List Hold) → 0 < length hs → head hs ≡ codes "atpg report 2\n"
+second_head [] l = absurd (omega arith)
+second_head (h ∷ hs) l = refl
+
+-- six parts written one behind the other
+pub six_parts : (old a b c d e f x y z u v w : List ℕ) → x ≡ old ++ a → y ≡ x ++ b → z ≡ y ++ c → u ≡ z ++ d → v ≡ u ++ e → w ≡ v ++ f
+    → w ≡ old ++ (a ++ (b ++ (c ++ (d ++ (e ++ f)))))
+six_parts old a b c d e f x y z u v w p q r s t k =
+    let whole : w ≡ (((((old ++ a) ++ b) ++ c) ++ d) ++ e) ++ f = cc in
+    whole ∙ simp append_assoc

@@ -1,0 +1,75 @@
+-- Reports: what is said of each fault, and the numbers above it.
+use Rattle.std.specs.Prelude.{ℕ, ◌≡◌, ◌<◌, ◌^◌, ◌/◌, ◌++◌, Bool, List, [], codes, decimal, length, IsTrue}
+use Rattle.std.specs.List.{All}
+use Rattle.netlist.specs.Names.{is_name_byte}
+use Rattle.fault_universe.specs.Texts.{value_text}
+use Rattle.report.specs.declared.outcomes.Outcome.{Outcome}
+use Rattle.report.specs.declared.outcomes.Outcome.TheVariants.{Detected, Redundant, Aborted}
+
+-- A line of a fault: its text, what came of it, and where it is detected the name of the pin.
+pub record Line : Type 0 where
+  pub fault : List ℕ
+  pub outcome : Outcome
+  pub pin : List ℕ
+
+-- an input that is held, and its bit
+pub record Hold : Type 0 where
+  pub name : List ℕ
+  pub bit : Bool
+
+-- Fourteen counts, two shares in hundredths of a percent, the inputs that are held, and a line for each fault.
+pub record Report : Type 0 where
+  pub counts : List ℕ
+  pub coverage : ℕ
+  pub efficiency : ℕ
+  pub holds : List Hold
+  pub lines : List Line
+
+abbrev pub count_of_counts : ℕ
+count_of_counts = 14
+
+-- a name of .bench's bytes, however long
+pub record IsWord (name : List ℕ) : Type 0 where
+  pub some : 0 < length name
+  pub bytes : All (λ b. IsTrue (is_name_byte b)) name
+
+-- `stem x/0`, `out y/1`: the word of a kind of line, a name and a value
+pub record IsNamedFault (kind text : List ℕ) : Type 0 where
+  pub name : List ℕ
+  pub value : Bool
+  pub word : IsWord name
+  pub text_is : text ≡ kind ++ (name ++ value_text value)
+
+-- `pin z 3/1`
+pub record IsPinFault (text : List ℕ) : Type 0 where
+  pub name : List ℕ
+  pub place : ℕ
+  pub value : Bool
+  pub word : IsWord name
+  pub small : place < 2 ^ 64
+  pub text_is : text ≡ codes "pin " ++ (name ++ (codes " " ++ (decimal place ++ value_text value)))
+
+-- the text of a fault on some line of some netlist
+pub data IsFaultText : List ℕ → Type 0 where
+  at_stem : (text : List ℕ) → IsNamedFault (codes "stem ") text → IsFaultText text
+  at_output : (text : List ℕ) → IsNamedFault (codes "out ") text → IsFaultText text
+  at_pin : (text : List ℕ) → IsPinFault text → IsFaultText text
+
+-- a pin is named exactly where the fault is detected
+abbrev pub IsOutcome : Outcome → List ℕ → Type 0
+IsOutcome (Detected pattern cycle) pin = (pattern < 2 ^ 64) × (cycle < 2 ^ 64) × IsWord pin
+IsOutcome Redundant pin = pin ≡ []
+IsOutcome Aborted pin = pin ≡ []
+
+pub record IsLine (l : Line) : Type 0 where
+  pub fault : IsFaultText l.fault
+  pub outcome : IsOutcome l.outcome l.pin
+
+-- what every report is
+pub record IsReport (r : Report) : Type 0 where
+  pub size : length r.counts ≡ count_of_counts
+  pub small : All (λ k. k < 2 ^ 64) r.counts
+  pub coverage : r.coverage / 100 < 2 ^ 64
+  pub efficiency : r.efficiency / 100 < 2 ^ 64
+  pub holds : All (λ (h : Hold). IsWord h.name) r.holds
+  pub lines : All IsLine r.lines

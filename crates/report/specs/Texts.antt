@@ -1,0 +1,53 @@
+-- Reports as texts, which stand for them byte for byte.
+use Rattle.std.specs.Prelude.{ℕ, ◌/◌, ◌%◌, if◌then◌else◌, List, [], ◌∷◌, ◌++◌, codes, decimal}
+use Rattle.std.specs.List.{flat_map, zip}
+use Rattle.report.specs.declared.outcomes.Outcome.{Outcome}
+use Rattle.report.specs.declared.outcomes.Outcome.TheVariants.{Detected, Redundant, Aborted}
+use Rattle.report.specs.Reports.{Line, Hold, Report}
+
+-- the words of the counts, in order
+abbrev pub count_words : List (List ℕ)
+count_words = codes "inputs " ∷ codes "outputs " ∷ codes "gates " ∷ codes "cells " ∷ codes "chains " ∷ codes "faults " ∷ codes "classes "
+    ∷ codes "patterns " ∷ codes "cycles " ∷ codes "limit " ∷ codes "detected " ∷ codes "redundant " ∷ codes "aborted " ∷ codes "untested " ∷ []
+
+-- `inputs 5`
+abbrev pub count_line : List ℕ → ℕ → List ℕ
+count_line word count = word ++ (decimal count ++ codes "\n")
+
+-- `83.05`
+abbrev pub hundredths : ℕ → List ℕ
+hundredths n = decimal (n / 100) ++ (codes "." ++ (decimal (n / 10 % 10) ++ decimal (n % 10)))
+
+-- `coverage 83.05`
+abbrev pub share_line : List ℕ → ℕ → List ℕ
+share_line word share = word ++ (hundredths share ++ codes "\n")
+
+-- `hold a 1`
+abbrev pub hold_line : Hold → List ℕ
+hold_line h = codes "hold " ++ (h.name ++ (if h.bit then codes " 1\n" else codes " 0\n"))
+
+abbrev pub outcome_text : Outcome → List ℕ → List ℕ
+outcome_text (Detected pattern cycle) pin = codes " detected " ++ (decimal pattern ++ (codes " " ++ (decimal cycle ++ (codes " " ++ pin))))
+outcome_text Redundant pin = codes " redundant"
+outcome_text Aborted pin = codes " aborted"
+
+-- `stem a/0 detected 1 1 y`
+abbrev pub fault_line : Line → List ℕ
+fault_line l = l.fault ++ (outcome_text l.outcome l.pin ++ codes "\n")
+
+-- The second version is written exactly where an input is held.
+abbrev pub head : List Hold → List ℕ
+head [] = codes "atpg report 1\n"
+head (h ∷ hs) = codes "atpg report 2\n"
+
+abbrev pub counts_text : List (List ℕ) → List ℕ → List ℕ
+counts_text words counts = flat_map (λ p. count_line p.0 p.1) (zip words counts)
+
+abbrev pub report_text : Report → List ℕ
+report_text r =
+    head r.holds
+    ++ (counts_text count_words r.counts
+    ++ (share_line (codes "coverage ") r.coverage
+    ++ (share_line (codes "efficiency ") r.efficiency
+    ++ (flat_map hold_line r.holds
+    ++ flat_map fault_line r.lines))))

@@ -1,0 +1,86 @@
+//! Reports.
+ghost use Rattle.std.specs.Prelude.{◌≡◌, ◌<◌, length, slice_index};
+ghost use Rattle.report.specs.Reports.{IsReport};
+
+use crate::fault_lines::FaultLines;
+use crate::hold_lines::HoldLines;
+use std::marker::Model;
+
+/// Fourteen counts (inputs, outputs, gates without cells, cells, chains, faults, classes, patterns, cycles, limit, detected, redundant,
+/// aborted, untested), coverage and efficiency in hundredths of a percent, the inputs that are held, and a line for each fault.
+#[derive(Drop)]
+pub struct Report {
+    counts: Vec<u64>,
+    coverage: u128,
+    efficiency: u128,
+    holds: HoldLines,
+    lines: FaultLines,
+}
+
+impl Model for Report {
+    ghost use Rattle.report.specs.Reports.{Report, IsReport};
+
+    ghost Value = { Report };
+
+    ghost view = { λ r. record { counts = r.counts.items; coverage = r.coverage; efficiency = r.efficiency; holds = r.holds; lines = r.lines } };
+
+    ghost invariant = { λ r. IsReport (record { counts = r.counts.items; coverage = r.coverage; efficiency = r.efficiency; holds = r.holds; lines = r.lines }) };
+}
+
+impl Report {
+    pub fn new(
+        counts: Vec<u64>,
+        coverage: u128,
+        efficiency: u128,
+        holds: HoldLines,
+        lines: FaultLines,
+    ) -> Report
+        requires { IsReport (record { counts = counts.items; coverage = coverage; efficiency = efficiency; holds = holds; lines = lines }) }
+        ensures { result ≡ record { counts = counts.items; coverage = coverage; efficiency = efficiency; holds = holds; lines = lines } }
+    {
+        Report {
+            counts,
+            coverage,
+            efficiency,
+            holds,
+            lines,
+        }
+    }
+
+    /// What every report is.
+    pub fn sound(&self)
+        ensures { IsReport self.now }
+    {
+        let _ = &self.counts;
+    }
+
+    pub fn counts(&self) -> &[u64]
+        ensures { result.now ≡ self.now.counts }
+    {
+        &self.counts
+    }
+
+    pub fn coverage(&self) -> u128
+        ensures { result ≡ self.now.coverage }
+    {
+        self.coverage
+    }
+
+    pub fn efficiency(&self) -> u128
+        ensures { result ≡ self.now.efficiency }
+    {
+        self.efficiency
+    }
+
+    pub fn holds(&self) -> &HoldLines
+        ensures { result.now ≡ self.now.holds }
+    {
+        &self.holds
+    }
+
+    pub fn lines(&self) -> &FaultLines
+        ensures { result.now ≡ self.now.lines }
+    {
+        &self.lines
+    }
+}

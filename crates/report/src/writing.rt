@@ -1,0 +1,187 @@
+//! Reports as text.
+ghost use Rattle.std.specs.Prelude.{◌≡◌, ◌<◌, ◌≤◌, ◌^◌, ◌/◌, ◌++◌, length, decimal, IfOk, OnOk, slice_get, Some};
+ghost use Rattle.std.specs.List.{flat_map};
+ghost use Rattle.report.specs.Reports.{count_of_counts};
+ghost use Rattle.report.specs.Texts.{count_line, count_words, counts_text, hundredths, share_line, hold_line, outcome_text, fault_line, head, report_text};
+
+use crate::fault_lines::FaultLines;
+use crate::hold_lines::HoldLines;
+use crate::outcomes::Outcome;
+use crate::reports::Report;
+use itoa::Buffer;
+use netlist::NoMemory;
+use std::alloc::{AllocError, Global};
+
+fn push(out: &mut Vec<u8>, text: &[u8]) -> Result<(), AllocError>
+    ensures { OnOk result (out.new.items ≡ out.old.items ++ text.now) }
+{
+    out.extend_from_slice(text)
+}
+
+fn push_number(out: &mut Vec<u8>, number: u64) -> Result<(), AllocError>
+    ensures { OnOk result (out.new.items ≡ out.old.items ++ decimal number) }
+{
+    out.extend_from_slice(Buffer::new().format(number).as_bytes())
+}
+
+/// `inputs 5`
+fn push_count(out: &mut Vec<u8>, word: &[u8], count: u64) -> Result<(), AllocError>
+    ensures { OnOk result (out.new.items ≡ out.old.items ++ count_line word.now count) }
+{
+    out.extend_from_slice(word)?;
+    push_number(out, count)?;
+    out.extend_from_slice(b"\n")
+}
+
+/// `83.05`
+fn push_hundredths(out: &mut Vec<u8>, share: u128) -> Result<(), AllocError>
+    requires { share / 100 < 2 ^ 64 }
+    ensures { OnOk result (out.new.items ≡ out.old.items ++ hundredths share) }
+{
+    push_number(out, (share / 100) as u64)?;
+    out.extend_from_slice(b".")?;
+    push_number(out, (share / 10 % 10) as u64)?;
+    push_number(out, (share % 10) as u64)
+}
+
+/// `coverage 83.05`
+fn push_share(out: &mut Vec<u8>, word: &[u8], share: u128) -> Result<(), AllocError>
+    requires { share / 100 < 2 ^ 64 }
+    ensures { OnOk result (out.new.items ≡ out.old.items ++ share_line word.now share) }
+{
+    out.extend_from_slice(word)?;
+    push_hundredths(out, share)?;
+    out.extend_from_slice(b"\n")
+}
+
+/// `hold a 1`
+fn push_hold(out: &mut Vec<u8>, name: &[u8], bit: bool) -> Result<(), AllocError>
+    ensures { OnOk result (out.new.items ≡ out.old.items ++ hold_line (record { name = name.now; bit = bit })) }
+{
+    out.extend_from_slice(b"hold ")?;
+    out.extend_from_slice(name)?;
+    if bit {
+        out.extend_from_slice(b" 1\n")
+    } else {
+        out.extend_from_slice(b" 0\n")
+    }
+}
+
+fn push_holds(out: &mut Vec<u8>, holds: &HoldLines) -> Result<(), AllocError>
+    ensures { OnOk result (out.new.items ≡ out.old.items ++ flat_map hold_line holds.now) }
+{
+    for k in 0..holds.len() {
+        let line = holds.get(k);
+        push_hold(out, line.name, line.bit)?;
+    }
+    Ok(())
+}
+
+fn push_outcome(out: &mut Vec<u8>, outcome: Outcome, pin: &[u8]) -> Result<(), AllocError>
+    ensures { OnOk result (out.new.items ≡ out.old.items ++ outcome_text outcome pin.now) }
+{
+    match outcome {
+        Outcome::Detected(pattern, cycle) => {
+            out.extend_from_slice(b" detected ")?;
+            push_number(out, pattern)?;
+            out.extend_from_slice(b" ")?;
+            push_number(out, cycle)?;
+            out.extend_from_slice(b" ")?;
+            out.extend_from_slice(pin)
+        }
+        Outcome::Redundant => out.extend_from_slice(b" redundant"),
+        Outcome::Aborted => out.extend_from_slice(b" aborted"),
+    }
+}
+
+/// `stem a/0 detected 1 1 y`
+fn push_fault(
+    out: &mut Vec<u8>,
+    fault: &[u8],
+    outcome: Outcome,
+    pin: &[u8],
+) -> Result<(), AllocError>
+    ensures { OnOk result (out.new.items ≡ out.old.items ++ fault_line (record { fault = fault.now; outcome = outcome; pin = pin.now })) }
+{
+    out.extend_from_slice(fault)?;
+    push_outcome(out, outcome, pin)?;
+    out.extend_from_slice(b"\n")
+}
+
+fn push_faults(out: &mut Vec<u8>, lines: &FaultLines) -> Result<(), AllocError>
+    ensures { OnOk result (out.new.items ≡ out.old.items ++ flat_map fault_line lines.now) }
+{
+    for k in 0..lines.len() {
+        let line = lines.get(k);
+        push_fault(out, line.fault, line.outcome, line.pin)?;
+    }
+    Ok(())
+}
+
+/// The word of a count, by its place.
+fn count_word(place: usize) -> &'static [u8]
+    requires { place < count_of_counts }
+    ensures { slice_get count_words place ≡ Some result.now }
+{
+    match place {
+        0 => b"inputs ",
+        1 => b"outputs ",
+        2 => b"gates ",
+        3 => b"cells ",
+        4 => b"chains ",
+        5 => b"faults ",
+        6 => b"classes ",
+        7 => b"patterns ",
+        8 => b"cycles ",
+        9 => b"limit ",
+        10 => b"detected ",
+        11 => b"redundant ",
+        12 => b"aborted ",
+        13 => b"untested ",
+        _ => unreachable!(),
+    }
+}
+
+fn push_counts(out: &mut Vec<u8>, counts: &[u64]) -> Result<(), AllocError>
+    requires { length counts.now ≡ count_of_counts }
+    ensures { OnOk result (out.new.items ≡ out.old.items ++ counts_text count_words counts.now) }
+{
+    for (k, count) in counts.iter().enumerate() {
+        push_count(out, count_word(k), *count)?;
+    }
+    Ok(())
+}
+
+fn push_head(out: &mut Vec<u8>, holds: &HoldLines) -> Result<(), AllocError>
+    ensures { OnOk result (out.new.items ≡ out.old.items ++ head holds.now) }
+{
+    if holds.len() == 0 {
+        push(out, b"atpg report 1\n")
+    } else {
+        push(out, b"atpg report 2\n")
+    }
+}
+
+fn push_report(out: &mut Vec<u8>, report: &Report) -> Result<(), AllocError>
+    ensures { OnOk result (out.new.items ≡ out.old.items ++ report_text report.now) }
+{
+    report.sound();
+    push_head(out, report.holds())?;
+    push_counts(out, report.counts())?;
+    push_share(out, b"coverage ", report.coverage())?;
+    push_share(out, b"efficiency ", report.efficiency())?;
+    push_holds(out, report.holds())?;
+    push_faults(out, report.lines())?;
+    Ok(())
+}
+
+/// The text of a report.
+pub fn write_report(alloc: Global, report: &Report) -> Result<Vec<u8>, NoMemory>
+    ensures { IfOk result (λ text. text.items ≡ report_text report.now) }
+{
+    let mut out = Vec::new(alloc);
+    match push_report(&mut out, report) {
+        Ok(()) => Ok(out),
+        Err(_) => Err(NoMemory),
+    }
+}
