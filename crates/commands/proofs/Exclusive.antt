@@ -11,7 +11,7 @@ use Rattle.commands.specs.Fetched.{AreRead, IsReached, IsLonger, Fetched, Whole,
 use Rattle.commands.specs.Names.{name_of}
 use Rattle.commands.specs.Due.{Due, Refuse, Deliver}
 use Rattle.commands.specs.Rows.{CommandRow}
-use Rattle.commands.specs.Laws.{IsExclusive, IsMissing, IsTooLong, IsRefused, IsEnded, OrFails, IsCall, MissingExactly, TooLongExactly, RefusedExactly, NothingElse}
+use Rattle.commands.specs.Laws.{IsExclusive, IsMissing, IsTooLong, IsRefused, IsEnded, OrFails, IsCall, FailedExactly, MissingExactly, TooLongExactly, RefusedExactly, NothingElse}
 use Rattle.commands.specs.declared.ending.Finding.{Finding}
 use Rattle.commands.specs.declared.ending.WriteFailure.TheVariants as failure
 use Rattle.commands.specs.declared.ending.Ending.{Ending}
@@ -151,3 +151,19 @@ module _ {R : Type 0} (due : List Text → Due R → Type 0) where
   pub nothing_else : NothingElse due
   nothing_else reads writes files a b e texts made shown finding call all exclusive work no_shelf no_out =
       ended_by due (fetch files reads) a b exclusive texts all made shown finding work no_shelf no_out e (shown_by reads writes files a b e call)
+
+  pub failed_exactly : FailedExactly due
+  failed_exactly reads writes a b (ending.Ended finding) w some = absurd (some w.3.2)
+  failed_exactly reads writes a b (ending.WriteFailed (failure.File n)) w some = w.4.2
+  failed_exactly reads writes a b (ending.WriteFailed failure.Output) w some = w.4.2
+  failed_exactly reads writes a b (ending.Refused r) w some = absurd (some w.1.1)
+  failed_exactly reads writes a b (ending.ReadFailed n) w some = w.2
+  failed_exactly reads writes a b (ending.Missing n) w some = absurd (some w.2.1)
+  failed_exactly reads writes a b (ending.TooLong n) w some = absurd (some w.2.1)
+  failed_exactly reads writes a b ending.Memory w some = elim w [
+    | inl before ↦ absurd (some before.1)
+    | inr stopped ↦ elim stopped.4 [
+      | inl files ↦ absurd (some files.2)
+      | inr output ↦ absurd (some output.2)
+    ]
+  ]

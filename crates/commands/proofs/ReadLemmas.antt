@@ -12,7 +12,8 @@ use Rattle.outside.specs.Told.{OnTold}
 use Rattle.commands.specs.World.{Text}
 use Rattle.commands.specs.Fetched.{AreRead, IsReached, Fetched, Whole, Missing, TooLong, fetch, fetched_at, with_first, most_bytes}
 use Rattle.commands.specs.Names.{name_of, names_of, texts_of}
-use Rattle.commands.specs.inner.Steps.{NoFile, NoFiles}
+use Rattle.commands.specs.Reads.{NoFiles}
+use Rattle.commands.specs.inner.Steps.{NoFile}
 use Rattle.commands.specs.declared.names.FileName.{FileName}
 use Rattle.commands.specs.declared.ending.Ending.{Ending}
 use Rattle.commands.specs.declared.ending.Ending.TheVariants as ending

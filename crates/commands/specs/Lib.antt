@@ -4,6 +4,8 @@ pub mod Fetched
 pub mod Written
 pub mod Names
 pub mod Due
+pub mod Reads
+pub mod Worked
 pub mod Rows
 pub mod Laws
 pub mod inner

@@ -5,7 +5,7 @@ ghost use Rattle.commands.specs.World.{Text, world};
 ghost use Rattle.commands.specs.Names.{names_of, texts_of};
 ghost use Rattle.commands.specs.Fetched.{most_bytes};
 ghost use Rattle.commands.specs.Due.{Due};
-ghost use Rattle.commands.specs.inner.Steps.{IsWorked};
+ghost use Rattle.commands.specs.Worked.{IsWorked};
 ghost use Rattle.commands.specs.Rows.{CommandRow};
 
 use crate::ending::{Ending, WriteFailure};
@@ -21,6 +21,9 @@ pub trait Work {
     /// Why texts are refused.
     type Refusal;
 
+    /// What it rests on, as that a number of the command line is in its range.
+    ghost can_work: { Self → Type 0 };
+
     /// How many files it reads.
     ghost reads: { Self → ℕ };
 
@@ -33,6 +36,7 @@ pub trait Work {
     /// What is to be written and shown, or why not. The texts are handed over, so that they need
     /// not stand beside what is made of them.
     fn work(&self, alloc: Global, texts: Vec<Vec<u8>>) -> Result<Product, Stop<Self::Refusal>>
+        requires can { can_work self.now }
         requires count { length texts.items ≡ reads self.now }
         requires within { All (λ text. length text ≤ most_bytes) (texts_of texts.items) }
         ensures { IsWorked (due self.now (texts_of texts.items)) (writes self.now) result };
@@ -47,6 +51,7 @@ pub fn run_command<'a, S: Shelf, T: Sink, W: Work>(
     writes: &[FileName<'a>],
     work: &W,
 ) -> Ending<'a, W::Refusal>
+    requires can { W.can_work work.now }
     requires reads { length reads.now ≡ W.reads work.now }
     requires writes { length writes.now ≡ W.writes work.now }
     ensures { CommandRow (names_of reads.now) (names_of writes.now) (W.due work.now)

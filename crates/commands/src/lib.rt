@@ -21,4 +21,3 @@ pub use names::FileName;
 pub use pieces::put_pieces;
 pub use product::{Product, Stop};
 pub use reading::read_in_order;
-pub use writing::write_in_order;

@@ -1,6 +1,7 @@
 //! Several files, read in order.
 ghost use Rattle.commands.specs.Names.{name_of, names_of};
-ghost use Rattle.commands.specs.inner.Steps.{FileRow, ReadRow};
+ghost use Rattle.commands.specs.Reads.{ReadRow};
+ghost use Rattle.commands.specs.inner.Steps.{FileRow};
 
 use crate::ending::Ending;
 use crate::names::FileName;

@@ -28,7 +28,7 @@ fn write_file<'a, S: Shelf, R>(
 }
 
 /// Writes each text under its name, in order, up to the first write that fails.
-pub fn write_in_order<'a, S: Shelf, R>(
+pub(crate) fn write_in_order<'a, S: Shelf, R>(
     alloc: Global,
     shelf: &mut S,
     names: &[FileName<'a>],

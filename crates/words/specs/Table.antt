@@ -8,13 +8,14 @@ use Rattle.clap.specs.declared.builder.value_parser.ValueParser.TheVariants.{Uns
 abbrev pub required : Text → Rule
 required id = record (new_rule id) { required = true }
 
+-- `--name text` or `--name=text`
+abbrev pub text_option : Text → Rule
+text_option name = record (new_rule name) { long = Some name }
+
 -- `--name number` or `--name=number`, from low to high. `clap` takes a plus and zeros in front
 -- of a number, so what its rule takes is read once more, by `number_in`
 abbrev pub number_option : Text → ℕ → ℕ → Rule
-number_option name low high = record (new_rule name) {
-  long = Some name;
-  parser = Some (Unsigned low high);
-}
+number_option name low high = record (text_option name) { parser = Some (Unsigned low high) }
 
 -- a command, by its name and its arguments
 abbrev pub command : Text → List Rule → Shape

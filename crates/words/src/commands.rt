@@ -2,7 +2,7 @@
 ghost use Rattle.std.specs.Prelude.{◌≡◌, ◌≤◌, IfOk, false};
 ghost use Rattle.clap.specs.Words.{app_of, rule_of, shape_of, with_rule, with_subcommand};
 ghost use Rattle.clap.specs.declared.builder.command.Command.TheViews.{out-Command as fields_of};
-ghost use Rattle.words.specs.Table.{command_table, faults_command, number_option, program, required, scan_command};
+ghost use Rattle.words.specs.Table.{command_table, faults_command, number_option, program, required, scan_command, text_option};
 
 use clap::builder::ValueParser;
 use clap::{Arg, Command};
@@ -19,15 +19,20 @@ fn required<'a>(alloc: Global, id: &'a str, help: &'a str) -> Arg<'a>
     Arg::new(alloc, id).required(true).help(help)
 }
 
+// `--name text`.
+fn text_option<'a>(alloc: Global, name: &'a str, help: &'a str) -> Arg<'a>
+    ensures rule { rule_of result ≡ text_option name.entry.now }
+    ensures local { result.global ≡ false }
+{
+    Arg::new(alloc, name).long(name).help(help)
+}
+
 // `--name number`, from `low` to `high`.
 fn number_option<'a>(alloc: Global, name: &'a str, low: u64, high: u64, help: &'a str) -> Arg<'a>
     ensures rule { rule_of result ≡ number_option name.entry.now low high }
     ensures local { result.global ≡ false }
 {
-    Arg::new(alloc, name)
-        .long(name)
-        .value_parser(ValueParser::unsigned(low, high))
-        .help(help)
+    text_option(alloc, name, help).value_parser(ValueParser::unsigned(low, high))
 }
 
 // The command with one more argument.
@@ -80,20 +85,22 @@ fn faults<'a>(alloc: Global) -> Result<Command<'a>, AllocError>
     with_argument(command, net)
 }
 
-// The program's own words, before its commands.
-fn program<'a>(alloc: Global) -> Command<'a>
-    ensures { app_of result ≡ program }
+// The program's own words, before its commands. Its texts call it by this name, however it is
+// started.
+fn program<'a>(alloc: Global) -> Result<Command<'a>, AllocError>
+    ensures { IfOk result (λ c. app_of c ≡ program) }
 {
     Command::new(alloc, "atpg")
         .version("0.1")
         .disable_help_subcommand(true)
         .subcommand_required(true)
+        .bin_name("atpg")
 }
 
 pub(crate) fn table<'a>(alloc: Global) -> Result<Command<'a>, AllocError>
     ensures { IfOk result (λ c. app_of c ≡ command_table) }
 {
-    let with_scan = with_command(program(alloc), scan(alloc)?)?;
+    let with_scan = with_command(program(alloc)?, scan(alloc)?)?;
     let table = with_command(with_scan, faults(alloc)?)?;
     Ok(table)
 }

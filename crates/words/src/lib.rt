@@ -15,8 +15,6 @@ ghost use Rattle.words.specs.Refusals.{IsCause, IsMadeOf};
 
 mod commands;
 mod requests;
-#[cfg(test)]
-mod tests;
 mod values;
 
 use clap::error::ErrorKind;
@@ -30,7 +28,7 @@ use std::alloc::Global;
 #[derive(Debug, Drop)]
 pub enum WordsRefusal {
     /// They are no command line of the table. The text is for the user, its last line ended: what
-    /// is wrong, or the help or version that was asked for.
+    /// is wrong and how to get help, or the help or version that was asked for.
     BadWords(String),
     NoMemory,
 }

@@ -1,18 +1,14 @@
 -- What the steps of a command answer: one read, the reads, the writes, the work.
-use Rattle.std.specs.Prelude.{◌≡◌, ◌≤◌, ⊤, ℕ, List, Option, Some, None, Result, Ok, Err, Vec, length, take}
+use Rattle.std.specs.Prelude.{◌≡◌, ◌≤◌, ℕ, List, Option, Some, None, Result, Ok, Err, Vec, length, take}
 use Rattle.std.specs.List.{zip}
 use Rattle.std.specs.declared.alloc.Global.{Global}
 use Rattle.outside.specs.Causes.{Rose}
 use Rattle.outside.specs.Shelf.{Files, Holds, SameFiles}
 use Rattle.outside.specs.Told.{Both, OnTold}
 use Rattle.commands.specs.World.{Text}
-use Rattle.commands.specs.Fetched.{AreRead, IsReached, IsLonger, most_bytes}
+use Rattle.commands.specs.Fetched.{IsLonger, most_bytes}
 use Rattle.commands.specs.Written.{AreFirstWritten, AreWrittenUpTo, LeavesFiles}
-use Rattle.commands.specs.Names.{name_of, texts_of}
-use Rattle.commands.specs.Due.{Due, Refuse, Deliver}
-use Rattle.commands.specs.declared.product.Product.{Product}
-use Rattle.commands.specs.declared.product.Stop.{Stop}
-use Rattle.commands.specs.declared.product.Stop.TheVariants as stop
+use Rattle.commands.specs.Names.{name_of}
 use Rattle.commands.specs.declared.ending.WriteFailure.TheVariants as failure
 use Rattle.commands.specs.declared.ending.Ending.{Ending}
 use Rattle.commands.specs.declared.ending.Ending.TheVariants as ending
@@ -29,19 +25,6 @@ NoFile name a f g _ = ⊥
 abbrev pub FileRow : {R : Type 0} → Text → Option Files → ℕ → Option Files → ℕ → Result (Vec ℕ Global) (Ending R) → Type 0
 FileRow name a f b g (Ok bytes) = OnTold a (λ c. c name ≡ Some bytes.items) × (length bytes.items ≤ most_bytes) × (b ≡ a) × (g ≡ f)
 FileRow name a f b g (Err e) = NoFile name a f g e × (b ≡ a)
-
--- why the files aren't read: the first that is refused
-abbrev pub NoFiles : {R : Type 0} → List Text → Option Files → ℕ → ℕ → Ending R → Type 0
-NoFiles names a f g (ending.ReadFailed n) = IsReached a names (name_of n) × Rose f g
-NoFiles names a f g (ending.Missing n) = IsReached a names (name_of n) × OnTold a (λ c. c (name_of n) ≡ None) × (g ≡ f)
-NoFiles names a f g (ending.TooLong n) = IsReached a names (name_of n) × OnTold a (λ c. IsLonger (c (name_of n))) × (g ≡ f)
-NoFiles names a f g ending.Memory = g ≡ f
-NoFiles names a f g _ = ⊥
-
--- the texts of all files, or why there are none; no file is changed
-abbrev pub ReadRow : {R : Type 0} → List Text → Option Files → ℕ → Option Files → ℕ → Result (Vec (Vec ℕ Global) Global) (Ending R) → Type 0
-ReadRow names a f b g (Ok texts) = AreRead a names (texts_of texts.items) × (b ≡ a) × (g ≡ f)
-ReadRow names a f b g (Err e) = NoFiles names a f g e × (b ≡ a)
 
 -- why a file isn't written, and what then stands
 abbrev pub NotWritten : {R : Type 0} → Text → Text → Option Files → ℕ → Option Files → ℕ → Ending R → Type 0
@@ -64,9 +47,3 @@ StopsWriting names texts a f b g _ = ⊥
 abbrev pub WriteRow : {R : Type 0} → List Text → List Text → Option Files → ℕ → Option Files → ℕ → Result Unit (Ending R) → Type 0
 WriteRow names texts a f b g (Ok _) = LeavesFiles (zip names texts) a b × (g ≡ f)
 WriteRow names texts a f b g (Err e) = StopsWriting names texts a f b g e
-
--- what the work answers is due
-abbrev pub IsWorked : {R : Type 0} → (Due R → Type 0) → ℕ → Result Product (Stop R) → Type 0
-IsWorked due count (Ok p) = due (Deliver (texts_of p.texts.items) p.shown.items p.finding) × (length p.texts.items ≡ count)
-IsWorked due count (Err (stop.Refused r)) = due (Refuse r)
-IsWorked due count (Err stop.NoMemory) = ⊤
