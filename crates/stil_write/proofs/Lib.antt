@@ -1,0 +1,7 @@
+mod RowLemmas
+mod LoopLemmas
+mod PieceLemmas
+mod FormLemmas
+mod ItemLemmas
+mod DistinctLemmas
+mod ShiftLemmas

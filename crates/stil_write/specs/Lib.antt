@@ -1,0 +1,6 @@
+pub mod StilFiles
+pub mod Pieces
+pub mod Texts
+pub mod Sample
+pub mod Parts
+pub mod inner

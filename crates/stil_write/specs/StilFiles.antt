@@ -1,0 +1,130 @@
+-- A STIL file of the project's profile as a value. (IEEE 1450-1999: Signals, ScanStructures, Procedures, Pattern.)
+use Rattle.std.specs.Prelude.{ℕ, ◌≡◌, ◌≢◌, ◌≤◌, ◌+◌, ◌&&◌, ◌||◌, ◌==◌, not, nat_le, Bool, zero, suc, List, [], ◌∷◌, ◌++◌, codes, decimal, length, map, IsTrue, slice_index_or, replicate}
+use Rattle.std.specs.List.{All, AllZip, AllPairs}
+use Rattle.stil_write.specs.declared.items.ItemKind.{ItemKind}
+use Rattle.stil_write.specs.declared.items.ItemKind.TheVariants as kind
+use Rattle.stil_write.specs.declared.forms.Values.{Values}
+use Rattle.stil_write.specs.declared.forms.Values.TheVariants as values
+use Rattle.stil_write.specs.declared.forms.Form.{Form}
+
+abbrev pub Text : Type 0
+Text = List ℕ
+
+pub data Item : Type 0 where
+  -- a word for each scan input, and one for each scan output: the chains shift once a character
+  Call : List Text → Item
+  -- one cycle: a word for the inputs, for each scan input, for the clock where there is one, for the outputs, and for each scan output
+  Vector : List Text → Item
+
+abbrev pub item_of : ItemKind → List Text → Item
+item_of kind.Call words = Call words
+item_of kind.Vector words = Vector words
+
+abbrev pub kind_of : Item → ItemKind
+kind_of (Call words) = kind.Call
+kind_of (Vector words) = kind.Vector
+
+abbrev pub words_of : Item → List Text
+words_of (Call words) = words
+words_of (Vector words) = words
+
+-- the item at a place
+abbrev pub item_at : List Item → ℕ → Item
+item_at items i = slice_index_or items i (Vector [])
+
+pub record StilFile : Type 0 where
+  -- inputs but scan inputs and the clock; outputs but scan outputs
+  pub pi : List Text
+  pub po : List Text
+  -- the names of each chain's cells, from scan in to scan out
+  pub chains : List (List Text)
+  -- what the inputs have while the chains shift
+  pub shift_word : Text
+  pub items : List Item
+
+-- `SC__si0` and so on, so many
+abbrev pub numbered : Text → ℕ → List Text
+numbered stem zero = []
+numbered stem (suc n) = numbered stem n ++ (stem ++ decimal n) ∷ []
+
+abbrev pub scan_inputs : StilFile → List Text
+scan_inputs f = numbered (codes "SC__si") (length f.chains)
+
+abbrev pub scan_outputs : StilFile → List Text
+scan_outputs f = numbered (codes "SC__so") (length f.chains)
+
+-- one thing where there is a chain
+abbrev pub where_chained : {X : Type 0} → ℕ → X → List X
+where_chained zero x = []
+where_chained (suc n) x = x ∷ []
+
+abbrev pub clock : StilFile → List Text
+clock f = where_chained (length f.chains) (codes "SC__ck")
+
+-- all signals, in the order in which they are declared
+abbrev pub signals : StilFile → List Text
+signals f = f.pi ++ (scan_inputs f ++ (clock f ++ (f.po ++ scan_outputs f)))
+
+-- ---- words of items
+
+-- 0 and 1; for the clock 0, and P for a pulse; H, L, and X for what is not compared
+abbrev pub is_value : Values → ℕ → Bool
+is_value values.Bits b = b == 48 || b == 49
+is_value values.Pulses b = b == 48 || b == 80
+is_value values.Strobes b = b == 72 || b == 76 || b == 88
+
+abbrev pub IsWord : Form → Text → Type 0
+IsWord form word = (length word ≡ form.size) × All (λ b. IsTrue (is_value form.values b)) word
+
+-- the forms of a call's words, each as long as the call shifts
+abbrev pub call_forms : ℕ → ℕ → List Form
+call_forms chains size = replicate chains (record { values = values.Bits; size = size }) ++ replicate chains (record { values = values.Strobes; size = size })
+
+abbrev pub vector_forms : StilFile → List Form
+vector_forms f =
+    record { values = values.Bits; size = length f.pi } ∷ (replicate (length f.chains) (record { values = values.Bits; size = 1 })
+    ++ (where_chained (length f.chains) (record { values = values.Pulses; size = 1 })
+    ++ (record { values = values.Strobes; size = length f.po } ∷ replicate (length f.chains) (record { values = values.Strobes; size = 1 }))))
+
+-- a call shifts at least once, and stands only where there is a chain
+abbrev pub IsCall : ℕ → List Text → Type 0
+IsCall chains words = (size : ℕ) × (1 ≤ size) × (1 ≤ chains) × AllZip IsWord (call_forms chains size) words
+
+-- by the number of chains and the forms of a vector's words
+abbrev pub IsItemBy : ℕ → List Form → Item → Type 0
+IsItemBy chains vectors (Call words) = IsCall chains words
+IsItemBy chains vectors (Vector words) = AllZip IsWord vectors words
+
+abbrev pub IsItem : StilFile → Item → Type 0
+IsItem f item = IsItemBy (length f.chains) (vector_forms f) item
+
+-- ---- names
+
+-- visible ASCII but the two quotes
+abbrev pub is_name_byte : ℕ → Bool
+is_name_byte b = nat_le 33 b && nat_le b 126 && not (b == 34 || b == 39)
+
+pub record IsName (name : Text) : Type 0 where
+  pub some : 1 ≤ length name
+  pub short : length name ≤ 261
+  pub bytes : All (λ b. IsTrue (is_name_byte b)) name
+
+-- a value for each input, and without chains none
+abbrev pub shift_size : ℕ → ℕ → ℕ
+shift_size zero inputs = 0
+shift_size (suc n) inputs = inputs
+
+-- what the inputs have while the chains shift
+abbrev pub IsShiftWord : StilFile → Type 0
+IsShiftWord f = IsWord (record { values = values.Bits; size = shift_size (length f.chains) (length f.pi) }) f.shift_word
+
+-- what every file is
+pub record IsStilFile (f : StilFile) : Type 0 where
+  pub inputs : 1 ≤ length f.pi
+  pub outputs : 1 ≤ length f.po
+  pub cells : All (λ chain. 1 ≤ length chain) f.chains
+  pub names : All IsName (signals f)
+  pub cell_names : All (All IsName) f.chains
+  pub distinct : AllPairs (λ x y. x ≢ y) (signals f)
+  pub shift : IsShiftWord f
+  pub items : All (IsItem f) f.items

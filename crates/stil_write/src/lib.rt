@@ -1,0 +1,19 @@
+//! STIL files of the project's profile: the value and its text.
+#![tactic(auto)]
+
+mod checking;
+mod forms;
+mod items;
+mod laws;
+mod parts;
+mod pieces;
+mod rows;
+mod signals;
+mod texts;
+mod writer;
+
+pub use items::{ItemKind, Items};
+pub use parts::{StilFile, StilParts};
+pub use signals::{assigned, called, numbered};
+pub use texts::Texts;
+pub use writer::write_stil;
