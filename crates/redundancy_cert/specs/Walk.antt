@@ -3,7 +3,7 @@ use Rattle.std.specs.Prelude.{ℕ, ◌≡◌, ◌<◌, ◌⊎◌, ◌||◌, Bool
 use Rattle.std.specs.List.{All, list_any}
 use Rattle.netlist.specs.declared.kinds.Tri.TheVariants.{X}
 use Rattle.netlist.specs.Settled.{outs, next}
-use Rattle.netlist.specs.Settling.{at}
+use Rattle.netlist.specs.Settled.{at}
 use Rattle.netlist.specs.Holds.{Holds}
 use Rattle.netlist.specs.ThreeValues.{known}
 use Rattle.tri.specs.Labels.{labels}

@@ -3,7 +3,7 @@ ghost use Rattle.std.specs.Prelude.{◌≡◌, length, IfOk};
 ghost use Rattle.netlist.specs.Netlist.{signals};
 ghost use Rattle.netlist.specs.Conditions.{IsSound};
 ghost use Rattle.netlist.specs.Settled.{outs, next};
-ghost use Rattle.netlist.specs.Settling.{at};
+ghost use Rattle.netlist.specs.Settled.{at};
 
 use netlist::{Line, Logic, Netlist};
 use std::alloc::{AllocError, Global};

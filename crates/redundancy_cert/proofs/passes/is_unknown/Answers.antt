@@ -2,7 +2,7 @@ use Rattle.std.proofs.Common.{◌≡◌, ◌<◌, length, ap, sym, ◌∙◌, su
 use Rattle.std.proofs.lemmas.List.{get_or_default}
 use Rattle.netlist.proofs.Placed.{signal_below}
 use Rattle.netlist.specs.Conditions.{IsSound}
-use Rattle.netlist.specs.Settling.{at}
+use Rattle.netlist.specs.Settled.{at}
 use Rattle.tri.specs.declared.labels.Label.{Label}
 use Rattle.redundancy_cert.specs.Walk.{no_label, label_at}
 use Rattle.redundancy_cert.proofs.PassLemmas.{unknown_from, known_from}

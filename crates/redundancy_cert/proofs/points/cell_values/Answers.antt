@@ -4,7 +4,7 @@ use Rattle.std.proofs.lemmas.List.{get_or_default, take_all, length-map}
 use Rattle.netlist.specs.declared.kinds.Kind.TheVariants.{Dff}
 use Rattle.netlist.specs.Netlist.{Definition as Equation, cells}
 use Rattle.netlist.specs.Settled.{pins_of}
-use Rattle.netlist.specs.Settling.{at}
+use Rattle.netlist.specs.Settled.{at}
 use Rattle.netlist.proofs.Observed.{cell_at, the_cell, cell_within, the_pin, first_pin_below, next_more}
 use Rattle.redundancy_cert.proofs.points.cell_values.Goals as goal
 

@@ -2,7 +2,7 @@ use Rattle.std.proofs.Common.{◌≡◌, take}
 use Rattle.std.specs.List.{flat_map}
 use Rattle.netlist.specs.Netlist.{cells}
 use Rattle.netlist.specs.Settled.{pins_of}
-use Rattle.netlist.specs.Settling.{at}
+use Rattle.netlist.specs.Settled.{at}
 use Rattle.redundancy_cert.proofs.points.cell_values.Given as goal
 
 abbrev pub invariant-loop-cell : goal.invariant-loop-cell

@@ -1,7 +1,7 @@
 use Rattle.std.proofs.Common.{map, take, ap, sym, ◌∙◌, length, arith}
 use Rattle.std.proofs.lemmas.List.{get_or_default, take_all}
 use Rattle.netlist.specs.declared.lines.Line.TheVariants.{Out}
-use Rattle.netlist.specs.Settling.{at}
+use Rattle.netlist.specs.Settled.{at}
 use Rattle.netlist.proofs.Observed.{output_below, output_more}
 use Rattle.redundancy_cert.proofs.points.output_values.Goals as goal
 
