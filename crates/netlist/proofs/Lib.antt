@@ -9,6 +9,7 @@ pub mod Counting
 pub mod Ties
 pub mod Sorting
 pub mod Settling
+pub mod Sticking
 pub mod Found
 pub mod WellFormed
 pub mod Alike

@@ -1,15 +1,22 @@
 -- What the conditions on parts show of the names that nothing defines, and of the numbers of pins.
 use Rattle.std.proofs.Common.{◌≡◌, ℕ, ◌<◌, ◌≤◌, true, false, ◌&&◌, length, refl, inl, inr, arith, eqb, leb}
-use Rattle.std.proofs.lemmas.Bool.{and_parts, both_ways, leb-true, eqb-true}
+use Rattle.std.proofs.lemmas.Bool.{and_parts, both_ways, cases_lt, leb-true, eqb-true}
 use Rattle.std.specs.List.{All, Contains}
 use Rattle.netlist.specs.declared.kinds.Kind.{Kind}
 use Rattle.netlist.specs.declared.kinds.Kind.TheVariants.{And, Nand, Or, Nor, Xor, Xnor, Not, Buff, Dff, Const0, Const1}
 use Rattle.netlist.specs.Gates.{allows_pins}
 use Rattle.netlist.specs.Netlist.{Definition, Netlist, cells, is_cell, is_flip_flop, signals}
-use Rattle.netlist.specs.Conditions.{IsWellFormed, IsClosed, IsRead, IsUndefined}
+use Rattle.netlist.specs.Conditions.{IsWellFormed, IsClosed, IsRead, IsSound, IsUndefined}
 use Rattle.netlist.proofs.Lists.{All-from_contains, contains_filter}
 use Rattle.std.proofs.lemmas.List.Elements.{All-contains}
 use Rattle.netlist.proofs.Placed.{signal_below, signal_from}
+
+-- what is read is defined
+pub read_is_signal : (n : Netlist) → IsClosed n → (x : ℕ) → IsRead n x → Contains (signals n) x
+read_is_signal n closed x read = elim read [
+  | inl pin ↦ All-contains (Contains (signals n)) pin.0.pins x (All-contains (λ (d : Definition). All (Contains (signals n)) d.pins) n.definitions pin.0 closed.pins pin.1) pin.2
+  | inr out ↦ All-contains (Contains (signals n)) n.outputs x closed.outputs out
+]
 
 module _ (n : Netlist) (formed : IsWellFormed n) where
   -- where no name is left over, all that is read is defined
@@ -39,6 +46,18 @@ module _ (n : Netlist) (formed : IsWellFormed n) where
 
   pub none_before : (y : ℕ) → y < length (signals n) → ¬ IsUndefined n y
   none_before y l u = u.1 (signal_from n formed.numbered y l)
+
+-- there is a name for each signal, and no other
+pub names_counted : (n : Netlist) → IsSound n → length n.names ≡ length (signals n)
+names_counted n sound = elim (cases_lt (length n.names) (length (signals n))) [
+  | inl few ↦ let named = sound.formed.named (length n.names) (signal_from n sound.formed.numbered (length n.names) few) in absurd (omega arith)
+  | inr enough ↦ elim (cases_lt (length (signals n)) (length n.names)) [
+    | inl more ↦
+        let undefined = first_undefined n sound.formed more in
+        absurd (undefined.1 (read_is_signal n sound.closed (length (signals n)) undefined.0))
+    | inr same ↦ omega arith
+  ]
+]
 
 between : (low count : ℕ) → (leb low count && leb count 1024) ≡ true → count ≤ 1024
 between low count e = leb-true count 1024 (and_parts (leb low count) (leb count 1024) e).1

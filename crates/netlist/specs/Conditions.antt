@@ -36,8 +36,12 @@ pub record IsClosed (n : Netlist) : Type 0 where
   pub outputs : All (Contains (signals n)) n.outputs
   pub allowed : All (λ (d : Definition). IsTrue (allows_pins d.kind (length d.pins))) n.definitions
 
+-- the most signals of any netlist
+abbrev pub most_signals : ℕ
+most_signals = 8000000
+
 pub record IsSized (n : Netlist) : Type 0 where
-  pub small : length (signals n) ≤ 8000000
+  pub small : length (signals n) ≤ most_signals
   pub input : 0 < length n.inputs
   pub output : 0 < length n.outputs
 
@@ -54,9 +58,9 @@ pub record IsSound (n : Netlist) : Type 0 where
 
 -- the first cause in this order
 abbrev pub IsCause : Netlist → NetRefusal → Type 0
-IsCause n TooMany = 8000000 < length (signals n)
-IsCause n NoInput = (length (signals n) ≤ 8000000) × (length n.inputs ≡ 0)
-IsCause n NoOutput = (length (signals n) ≤ 8000000) × (0 < length n.inputs) × (length n.outputs ≡ 0)
+IsCause n TooMany = most_signals < length (signals n)
+IsCause n NoInput = (length (signals n) ≤ most_signals) × (length n.inputs ≡ 0)
+IsCause n NoOutput = (length (signals n) ≤ most_signals) × (0 < length n.inputs) × (length n.outputs ≡ 0)
 IsCause n (Undefined z) = IsSized n × IsUndefined n z × ((y : ℕ) → y < z → ¬ IsUndefined n y)
 IsCause n (Loop z) = IsSized n × ((y : ℕ) → ¬ IsUndefined n y) × IsOnLoop n z × ((y : ℕ) → y < z → ¬ IsOnLoop n y)
 IsCause n NoMemory = ⊤

@@ -33,14 +33,17 @@ gate_bit Dff bits = only bits
 gate_bit Const0 bits = false
 gate_bit Const1 bits = true
 
--- CONST0 and CONST1 have no pin, NOT, BUFF and DFF one, XOR and XNOR two or more, the others one or more; none has over 1,024
+abbrev pub most_pins : ℕ
+most_pins = 1024
+
+-- CONST0 and CONST1 have no pin, NOT, BUFF and DFF one, XOR and XNOR two or more, the others one or more; none has over the most
 abbrev pub allows_pins : Kind → ℕ → Bool
-allows_pins And count = nat_le 1 count && nat_le count 1024
-allows_pins Nand count = nat_le 1 count && nat_le count 1024
-allows_pins Or count = nat_le 1 count && nat_le count 1024
-allows_pins Nor count = nat_le 1 count && nat_le count 1024
-allows_pins Xor count = nat_le 2 count && nat_le count 1024
-allows_pins Xnor count = nat_le 2 count && nat_le count 1024
+allows_pins And count = nat_le 1 count && nat_le count most_pins
+allows_pins Nand count = nat_le 1 count && nat_le count most_pins
+allows_pins Or count = nat_le 1 count && nat_le count most_pins
+allows_pins Nor count = nat_le 1 count && nat_le count most_pins
+allows_pins Xor count = nat_le 2 count && nat_le count most_pins
+allows_pins Xnor count = nat_le 2 count && nat_le count most_pins
 allows_pins Not count = count == 1
 allows_pins Buff count = count == 1
 allows_pins Dff count = count == 1

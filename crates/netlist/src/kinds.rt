@@ -3,6 +3,9 @@ ghost use Rattle.std.specs.Prelude.{◌≡◌};
 ghost use Rattle.netlist.specs.Netlist.{is_flip_flop};
 ghost use Rattle.netlist.specs.Gates.{allows_pins};
 
+/// The most pins of any gate.
+pub const MOST_PINS: usize = 1024;
+
 /// What a definition computes.
 #[derive(Clone, Copy, Debug, PartialEq, Eq)]
 pub enum Kind {
@@ -36,8 +39,8 @@ impl Kind {
         match self {
             Kind::Const0 | Kind::Const1 => pins == 0,
             Kind::Not | Kind::Buff | Kind::Dff => pins == 1,
-            Kind::Xor | Kind::Xnor => 2 <= pins && pins <= 1024,
-            Kind::And | Kind::Nand | Kind::Or | Kind::Nor => 1 <= pins && pins <= 1024,
+            Kind::Xor | Kind::Xnor => 2 <= pins && pins <= MOST_PINS,
+            Kind::And | Kind::Nand | Kind::Or | Kind::Nor => 1 <= pins && pins <= MOST_PINS,
         }
     }
 }

@@ -18,7 +18,7 @@ use std::alloc::{AllocError, Global};
 use std::marker::Model;
 
 /// The most signals of any netlist.
-const MOST_SIGNALS: usize = 8_000_000;
+pub const MOST_SIGNALS: usize = 8_000_000;
 
 /// Why parts are refused: the first cause in this order, with the least signal.
 #[derive(Clone, Copy, Debug, PartialEq, Eq)]

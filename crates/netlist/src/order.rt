@@ -1,8 +1,9 @@
 //! An order of evaluation: each gate after the gates that it reads (Kahn, Topological sorting of large networks, 1962).
 ghost use Rattle.std.specs.Prelude.{◌≡◌, ◌<◌, ◌≤◌, ℕ, [], ◌∷◌, length, IfOk, OnOk, MatchOption, slice_get, slice_index};
 ghost use Rattle.std.specs.List.{All};
+ghost use Rattle.netlist.specs.Gates.{most_pins};
 ghost use Rattle.netlist.specs.Netlist.{Definition as Equation, signals};
-ghost use Rattle.netlist.specs.Conditions.{IsClosed, IsNumbered, whole};
+ghost use Rattle.netlist.specs.Conditions.{IsClosed, IsNumbered, whole, most_signals};
 ghost use Rattle.netlist.specs.inner.Placed.{IsSorted, HasRanks, start_ranks};
 ghost use Rattle.netlist.specs.inner.Sorting.{AreBelow, AreReaders, Counts, HasRoom, IsStarted, Places, PlacesTie, PlacesTies, VisitsSources, start_counts};
 ghost use Rattle.netlist.specs.Lines.{IsPinBelow};
@@ -48,7 +49,7 @@ fn start_ranks(alloc: Global, parts: &Parts) -> Result<Vec<u32>, AllocError>
 
 /// The counts of pins.
 fn start_counts(alloc: Global, parts: &Parts) -> Result<Vec<u32>, AllocError>
-    requires { All (λ (d : Equation). length d.pins ≤ 1024) (whole parts.now).definitions }
+    requires { All (λ (d : Equation). length d.pins ≤ most_pins) (whole parts.now).definitions }
     ensures { IfOk result (λ counts. counts.items ≡ start_counts (whole parts.now)) }
 {
     parts
@@ -64,7 +65,7 @@ impl Placing {
     fn start(alloc: Global, parts: &Parts) -> Result<Placing, AllocError>
         requires numbered { IsNumbered (whole parts.now) }
         requires closed { IsClosed (whole parts.now) }
-        requires small { length (signals (whole parts.now)) ≤ 8000000 }
+        requires small { length (signals (whole parts.now)) ≤ most_signals }
         ensures room { IfOk result HasRoom }
         ensures started { IfOk result (IsStarted (whole parts.now) 0) }
     {
@@ -169,7 +170,7 @@ impl Placing {
 pub(crate) fn sort(alloc: Global, parts: &Parts, table: &ReaderTable) -> Result<Sorting, AllocError>
     requires numbered { IsNumbered (whole parts.now) }
     requires closed { IsClosed (whole parts.now) }
-    requires small { length (signals (whole parts.now)) ≤ 8000000 }
+    requires small { length (signals (whole parts.now)) ≤ most_signals }
     requires readers { AreReaders (whole parts.now) table.now }
     ensures { IfOk result (λ s. IsSorted (whole parts.now) s.order.items s.ranks.items) }
 {
@@ -191,7 +192,7 @@ pub(crate) fn sort(alloc: Global, parts: &Parts, table: &ReaderTable) -> Result<
 
 /// The first signal that is not placed.
 pub(crate) fn first_left(ranks: &[u32]) -> Option<u32>
-    requires { length ranks.now ≤ 8000000 }
+    requires { length ranks.now ≤ most_signals }
     ensures { MatchOption result (HasRanks ranks.now (length ranks.now)) (λ z. (z < length ranks.now) × (slice_index ranks.now z ≡ 0) × HasRanks ranks.now z) }
 {
     for (z, rank) in ranks.iter().enumerate() {

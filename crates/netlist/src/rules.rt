@@ -1,6 +1,7 @@
 //! The one evaluator, for any rule by which values settle.
 ghost use Rattle.std.specs.Prelude.{◌≡◌, ◌≢◌, ◌<◌, ◌≤◌, ℕ, List, length, map, IfOk, OnOk};
 ghost use Rattle.std.specs.List.{All, AllPairs};
+ghost use Rattle.netlist.specs.Gates.{most_pins};
 ghost use Rattle.netlist.specs.Netlist.{Definition as Equation, Netlist as Equations, cells, signals, IsGateAt};
 ghost use Rattle.netlist.specs.Conditions.{IsSound};
 ghost use Rattle.netlist.specs.Orders.{IsOrder};
@@ -30,7 +31,7 @@ pub trait Logic {
 
     /// What a gate makes of the values on its pins.
     fn gate(&self, definition: &Definition, pins: &[Self::Value]) -> Self::Value
-        requires { length pins.now ≤ 1024 }
+        requires { length pins.now ≤ most_pins }
         ensures { result ≡ (rule self.now).gate definition.now pins.now };
 }
 
@@ -55,7 +56,7 @@ fn read_pins<L: Logic>(
     pins: &mut Vec<L::Value>,
 ) -> Result<(), AllocError>
     requires below { All (λ x. x < length values.now) ids.now }
-    requires few { length ids.now ≤ 1024 }
+    requires few { length ids.now ≤ most_pins }
     ensures { OnOk result (AreRead (L.rule logic.now) id values.now ids.now pins.new.items) }
 {
     pins.clear();

@@ -7,7 +7,7 @@ use Rattle.netlist.specs.declared.lines.Line.TheVariants.{Stem, Pin, Out}
 use Rattle.netlist.specs.declared.order.Placing.{Placing}
 use Rattle.netlist.specs.Lines.{IsPinBelow}
 use Rattle.netlist.specs.Netlist.{Definition, Netlist, gates, signals}
-use Rattle.netlist.specs.Conditions.{IsNumbered}
+use Rattle.netlist.specs.Conditions.{IsNumbered, most_signals}
 use Rattle.netlist.specs.inner.Placed.{IsPlaced, zeros}
 use Rattle.netlist.specs.Readers.{readers_of}
 
@@ -56,7 +56,7 @@ pub record IsStarted (n : Netlist) (m : ℕ) (p : Placing) : Type 0 where
 pub record HasRoom (p : Placing) : Type 0 where
   pub counts : length p.counts.items ≡ length p.ranks.items
   pub left : length p.order.items + zeros p.ranks.items ≤ length p.ranks.items
-  pub small : length p.ranks.items ≤ 8000000
+  pub small : length p.ranks.items ≤ most_signals
 
 -- ranks stay, and new ones are above those that there were
 pub record RanksGrow (p q : Placing) : Type 0 where
