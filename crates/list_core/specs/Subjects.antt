@@ -1,0 +1,40 @@
+-- What a list of faults is about, and what is said of it.
+use Rattle.std.specs.Prelude.{ℕ, ◌≡◌, List, length, Some}
+use Rattle.std.specs.List.{slice_get}
+use Rattle.netlist.specs.declared.lines.Fault.{Fault}
+use Rattle.netlist.specs.declared.lines.Point.{Point}
+use Rattle.netlist.specs.Netlist.{Netlist}
+use Rattle.netlist.specs.Holds.{Holds}
+use Rattle.netlist.specs.Detection.{Detects}
+use Rattle.fault_collapse.specs.Numbers.{Classes}
+use Rattle.cubes.specs.Cubes.{Pattern}
+use Rattle.redundancy_cert.specs.declared.nodes.Node.{Node}
+use Rattle.redundancy_cert.specs.Fits.{Fits}
+
+-- a netlist, the classes of its faults, how many closed ends a search may make, and the inputs that are held
+pub record Subject : Type 0 where
+  pub netlist : Netlist
+  pub classes : Classes
+  pub limit : ℕ
+  pub holds : Holds
+
+abbrev pub class_count : Subject → ℕ
+class_count j = length j.classes.representatives
+
+-- the fault is the class's representative
+abbrev pub Represents : Subject → ℕ → Fault → Type 0
+Represents j class fault = slice_get j.classes.representatives class ≡ Some fault
+
+-- the pattern at this place detects the class's representative at the point
+pub record DetectsClass (j : Subject) (patterns : List Pattern) (class place : ℕ) (point : Point) : Type 0 where
+  pub fault : Fault
+  pub represents : Represents j class fault
+  pub pattern : Pattern
+  pub at : slice_get patterns place ≡ Some pattern
+  pub detects : Detects j.netlist fault pattern.inputs pattern.cells point
+
+-- the tree fits the class's representative
+pub record FitsClass (j : Subject) (class : ℕ) (nodes : List Node) : Type 0 where
+  pub fault : Fault
+  pub represents : Represents j class fault
+  pub fits : Fits fault j.netlist j.holds nodes

@@ -1,0 +1,61 @@
+-- What is known of a class of faults. (Fault coverage: detected, redundant, and aborted faults: Bushnell and Agrawal,
+-- Essentials of Electronic Testing.)
+use Rattle.std.specs.Prelude.{ℕ, ◌≡◌, ◌≤◌, ⊤, Bool, true, false, List, slice_index_or}
+use Rattle.cubes.specs.Cubes.{Pattern}
+use Rattle.redundancy_cert.specs.Trees.{closed_count, open_count}
+use Rattle.list_core.specs.declared.verdicts.Verdict.{Verdict}
+use Rattle.list_core.specs.declared.verdicts.Verdict.TheVariants.{Open, Detected, Redundant, Aborted}
+use Rattle.list_core.specs.Subjects.{Subject, DetectsClass, FitsClass}
+
+-- The verdict is true of the class: a pattern tells it; or a fitting tree leaves nothing open;
+-- or one leaves an end open and has as many closed ends as the limit.
+abbrev pub VerdictHolds : Subject → List Pattern → ℕ → Verdict → Type 0
+VerdictHolds j patterns class Open = ⊤
+VerdictHolds j patterns class (Detected place point) = DetectsClass j patterns class place point
+VerdictHolds j patterns class (Redundant tree) = FitsClass j class tree × (open_count tree ≡ 0)
+VerdictHolds j patterns class (Aborted tree) = FitsClass j class tree × (closed_count tree ≡ j.limit) × (1 ≤ open_count tree)
+
+abbrev pub verdict_at : List Verdict → ℕ → Verdict
+verdict_at verdicts class = slice_index_or verdicts class Open
+
+-- every class is Open or has a verdict that holds
+abbrev pub AllHold : Subject → List Pattern → List Verdict → Type 0
+AllHold j patterns verdicts = (class : ℕ) → VerdictHolds j patterns class (verdict_at verdicts class)
+
+abbrev pub is_open : Verdict → Bool
+is_open Open = true
+is_open (Detected place point) = false
+is_open (Redundant tree) = false
+is_open (Aborted tree) = false
+
+-- a pattern that tells the class makes it Detected
+abbrev pub is_undetected : Verdict → Bool
+is_undetected Open = true
+is_undetected (Detected place point) = false
+is_undetected (Redundant tree) = false
+is_undetected (Aborted tree) = true
+
+-- 1 for a verdict of the kind
+abbrev pub open_one : Verdict → ℕ
+open_one Open = 1
+open_one (Detected place point) = 0
+open_one (Redundant tree) = 0
+open_one (Aborted tree) = 0
+
+abbrev pub detected_one : Verdict → ℕ
+detected_one Open = 0
+detected_one (Detected place point) = 1
+detected_one (Redundant tree) = 0
+detected_one (Aborted tree) = 0
+
+abbrev pub redundant_one : Verdict → ℕ
+redundant_one Open = 0
+redundant_one (Detected place point) = 0
+redundant_one (Redundant tree) = 1
+redundant_one (Aborted tree) = 0
+
+abbrev pub aborted_one : Verdict → ℕ
+aborted_one Open = 0
+aborted_one (Detected place point) = 0
+aborted_one (Redundant tree) = 0
+aborted_one (Aborted tree) = 1

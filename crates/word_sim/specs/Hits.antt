@@ -1,0 +1,43 @@
+-- Patterns that are published together, and what patterns detect. (Fault dropping by the last detecting pattern, as static compaction
+-- in reverse order wants it: Bushnell and Agrawal, Essentials of Electronic Testing.)
+use Rattle.std.specs.Prelude.{ℕ, ◌≡◌, ◌<◌, ⊤, List, Option, Some, None}
+use Rattle.std.specs.List.{slice_get}
+use Rattle.netlist.specs.declared.lines.Fault.{Fault}
+use Rattle.netlist.specs.declared.lines.Point.{Point}
+use Rattle.netlist.specs.declared.lines.Point.TheVariants.{Output, Cell}
+use Rattle.netlist.specs.Netlist.{Netlist}
+use Rattle.netlist.specs.Detection.{Detects}
+use Rattle.cubes.specs.Cubes.{Pattern}
+use Rattle.word_sim.specs.declared.batches.Hit.{Hit}
+
+-- patterns, and hits that name places among them
+pub record Batch : Type 0 where
+  pub patterns : List Pattern
+  pub hits : List Hit
+
+-- the pattern at this place of the list detects the fault at the point
+pub record IsDetectedAt (n : Netlist) (patterns : List Pattern) (f : Fault) (place : ℕ) (point : Point) : Type 0 where
+  pub pattern : Pattern
+  pub at : slice_get patterns place ≡ Some pattern
+  pub detects : Detects n f pattern.inputs pattern.cells point
+
+-- observed points in order: outputs, then cells
+abbrev pub IsBefore : Point → Point → Type 0
+IsBefore (Output j) (Output k) = j < k
+IsBefore (Output j) (Cell k) = ⊤
+IsBefore (Cell j) (Output k) = ⊥
+IsBefore (Cell j) (Cell k) = j < k
+
+-- the last pattern of the list that detects the fault, and the first point at which it does
+pub record IsLastDetected (n : Netlist) (patterns : List Pattern) (f : Fault) (place : ℕ) (point : Point) : Type 0 where
+  pub here : IsDetectedAt n patterns f place point
+  pub last : (later : ℕ) (p : Point) → place < later → ¬ IsDetectedAt n patterns f later p
+  pub first : (p : Point) → IsBefore p point → ¬ IsDetectedAt n patterns f place p
+
+abbrev pub IsNeverDetected : Netlist → List Pattern → Fault → Type 0
+IsNeverDetected n patterns f = (place : ℕ) (p : Point) → ¬ IsDetectedAt n patterns f place p
+
+-- where it is last detected, if at all
+abbrev pub LastDetected : Netlist → List Pattern → Fault → Option (ℕ × Point) → Type 0
+LastDetected n patterns f None = IsNeverDetected n patterns f
+LastDetected n patterns f (Some p) = IsLastDetected n patterns f p.0 p.1
