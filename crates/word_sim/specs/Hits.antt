@@ -1,6 +1,6 @@
 -- Patterns that are published together, and what patterns detect. (Fault dropping by the last detecting pattern, as static compaction
 -- in reverse order wants it: Bushnell and Agrawal, Essentials of Electronic Testing.)
-use Rattle.std.specs.Prelude.{ℕ, ◌≡◌, ◌<◌, ⊤, List, Option, Some, None}
+use Rattle.std.specs.Prelude.{ℕ, ◌≡◌, ◌<◌, ◌⊎◌, ⊤, List, [], ◌∷◌, Option, Some, None}
 use Rattle.std.specs.List.{slice_get}
 use Rattle.netlist.specs.declared.lines.Fault.{Fault}
 use Rattle.netlist.specs.declared.lines.Point.{Point}
@@ -41,3 +41,11 @@ IsNeverDetected n patterns f = (place : ℕ) (p : Point) → ¬ IsDetectedAt n p
 abbrev pub LastDetected : Netlist → List Pattern → Fault → Option (ℕ × Point) → Type 0
 LastDetected n patterns f None = IsNeverDetected n patterns f
 LastDetected n patterns f (Some p) = IsLastDetected n patterns f p.0 p.1
+
+-- For each given fault, a class with its representative, one hit where some pattern detects it, by the last such pattern and its first point;
+-- and no other, in the order given.
+abbrev pub AreHits : Netlist → List Pattern → List (ℕ × Fault) → List Hit → Type 0
+AreHits n patterns [] hits = hits ≡ []
+AreHits n patterns (given ∷ others) hits =
+    (IsNeverDetected n patterns given.1 × AreHits n patterns others hits)
+    ⊎ ((h : Hit) × (rest : List Hit) × (hits ≡ h ∷ rest) × (h.class ≡ given.0) × IsLastDetected n patterns given.1 h.pattern h.point × AreHits n patterns others rest)
