@@ -1,0 +1,14 @@
+pub mod Steps
+pub mod Sources
+pub mod Bits
+pub mod Levels
+pub mod Placing
+pub mod Sites
+pub mod Fans
+pub mod Definitions
+pub mod Changes
+pub mod Running
+pub mod Stuck
+pub mod DrivenValues
+pub mod WordBits
+pub mod Standing

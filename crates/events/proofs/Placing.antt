@@ -1,0 +1,200 @@
+-- Places of gates, and the gates that read a signal.
+use Rattle.std.proofs.Common.{◌≡◌, ℕ, ◌+◌, ◌<◌, ◌||◌, Bool, true, false, cond, List, [], ◌∷◌, map, length, get_or, set, take, refl, sym, ◌∙◌, ap, subst, inl, inr, eqb, arith}
+use Rattle.std.specs.List.{All, Contains, list_any, flat_map, filter}
+use Rattle.std.proofs.lemmas.Bool.{cases_eq, cases_Bool, both_ways, eqb-true, eq-eqb, ne_eqb, or_left, or_right, or_cases}
+use Rattle.std.proofs.lemmas.List.{length-set, get_or-set_same, get_or-set_other, get_or_default}
+use Rattle.std.proofs.lemmas.List.Folds.{list_any-append, list_any_more}
+use Rattle.std.proofs.lemmas.List.Elements.{All-contains}
+use Rattle.netlist.specs.declared.lines.Line.{Line}
+use Rattle.netlist.specs.declared.lines.Line.TheVariants.{Pin, Out}
+use Rattle.netlist.specs.Netlist.{Definition, Netlist, gates, signals}
+use Rattle.netlist.specs.Conditions.{IsClosed, IsNumbered}
+use Rattle.netlist.specs.Placed.{IsOrder}
+use Rattle.netlist.specs.Readers.{readers_of, pins_reading}
+use Rattle.netlist.proofs.Lists.{contains_cases, contains_nil, contains_head, contains_tail}
+use Rattle.netlist.proofs.Placed.{same_definition, gate_defined, definition_below, signal_below}
+use Rattle.events.specs.Agendas.{marked}
+use Rattle.events.specs.inner.Placing.{ArePlaces, ArePlacesUpTo, is_pin_at, Calls}
+
+module _ (n : Netlist) (numbered : IsNumbered n) (order places : List ℕ) (ordered : IsOrder n order) (h : ArePlaces n order places) where
+  place : ℕ → ℕ
+  place x = get_or places x 0
+
+  -- a gate has the place where it stands
+  pub place_of : (d : Definition) → Contains (gates n) d → (get_or places d.id 0 < length order) × (get_or order (get_or places d.id 0) 0 ≡ d.id)
+  place_of d c =
+      let w = ordered.placed.listed d c (ordered.all d c) in
+      let l : w.0 < length order = w.1 in
+      let is : get_or order w.0 0 ≡ d.id = get_or_default order w.0 0 d.id l ∙ w.2 in
+      let at : get_or places d.id 0 ≡ w.0 = ap (λ x. get_or places x 0) (sym is) ∙ h.here w.0 l in
+      (omega arith, ap (λ k. get_or order k 0) at ∙ is)
+
+  -- what stands at a place is a gate
+  pub gate_at_place : (d : Definition) → Contains n.definitions d → get_or places d.id 0 < length order → Contains (gates n) d
+  gate_at_place d c l =
+      let is : get_or order (get_or places d.id 0) 0 ≡ d.id = h.there d.id (definition_below n numbered d c) l in
+      let w = ordered.placed.gates (get_or places d.id 0) l in
+      let same : d ≡ w.0 = same_definition n numbered d w.0 c (gate_defined n numbered w.0 w.1) (sym (w.2 ∙ is)) in
+      subst (λ (f : Definition). Contains (gates n) f) (sym same) w.1
+
+  -- the rank of what stands at a place
+  rank_at : (x : ℕ) → x < length (signals n) → get_or places x 0 < length order → get_or ordered.ranks x 0 ≡ get_or places x 0 + 2
+  rank_at x l p = ap (λ y. get_or ordered.ranks y 0) (sym (h.there x l p)) ∙ ordered.placed.ranked (get_or places x 0) p
+
+  -- a gate stands behind what it reads
+  pub reads_above : IsClosed n → (d : Definition) (x : ℕ) → Contains (gates n) d → Contains d.pins x → get_or places x 0 < length order → get_or places x 0 < get_or places d.id 0
+  reads_above closed d x c r p =
+      let defined = gate_defined n numbered d c in
+      let pins : All (Contains (signals n)) d.pins = All-contains (λ (e : Definition). All (Contains (signals n)) e.pins) n.definitions d closed.pins defined in
+      let below = signal_below n numbered x (All-contains (Contains (signals n)) d.pins x pins r) in
+      let one = rank_at x below p in
+      let two = rank_at d.id (definition_below n numbered d defined) (place_of d c).0 in
+      let l = (ordered.placed.above d c (ordered.all d c) x r).1 in
+      omega arith
+
+module _ (places : List ℕ) (q x : ℕ) where
+  test : Line → Bool
+  test line = is_pin_at places q line
+
+  pins_any : (z k : ℕ) (ys : List ℕ) → get_or places z 0 ≡ q → Contains ys x → list_any (is_pin_at places q) (pins_reading x z k ys) ≡ true
+  pins_any z k [] e c = absurd (contains_nil x c)
+  pins_any z k (y ∷ ys) e c = elim (cases_Bool (eqb y x)) [
+    | inl same ↦ ap (λ b. list_any (is_pin_at places q) (cond b (Pin z k ∷ pins_reading x z (k + 1) ys) (pins_reading x z (k + 1) ys))) same
+        ∙ ap (λ b. b || list_any (is_pin_at places q) (pins_reading x z (k + 1) ys)) (eq-eqb (get_or places z 0) q e)
+    | inr differs ↦ ap (λ b. list_any (is_pin_at places q) (cond b (Pin z k ∷ pins_reading x z (k + 1) ys) (pins_reading x z (k + 1) ys))) differs
+        ∙ pins_any z (k + 1) ys e (elim (contains_cases y x ys c) [
+          | inl is ↦ absurd (both_ways (eqb y x) differs (eq-eqb y x is))
+          | inr r ↦ r
+        ])
+  ]
+
+  any_pins : (z k : ℕ) (ys : List ℕ) → list_any (is_pin_at places q) (pins_reading x z k ys) ≡ true → Contains ys x × (get_or places z 0 ≡ q)
+  any_pins z k [] h = absurd (both_ways false refl h)
+  any_pins z k (y ∷ ys) h = elim (cases_Bool (eqb y x)) [
+    | inl same ↦
+        let is : y ≡ x = eqb-true y x same in
+        let f : (eqb (get_or places z 0) q || list_any (is_pin_at places q) (pins_reading x z (k + 1) ys)) ≡ true =
+        sym (ap (λ b. list_any (is_pin_at places q) (cond b (Pin z k ∷ pins_reading x z (k + 1) ys) (pins_reading x z (k + 1) ys))) same) ∙ h in
+        elim (or_cases (eqb (get_or places z 0) q) (list_any (is_pin_at places q) (pins_reading x z (k + 1) ys)) f) [
+          | inl here ↦ (subst (λ v. Contains (v ∷ ys) x) (sym is) (contains_head x ys), eqb-true (get_or places z 0) q here)
+          | inr later ↦ let m = any_pins z (k + 1) ys later in (contains_tail y x ys m.0, m.1)
+        ]
+    | inr differs ↦
+        let m = any_pins z (k + 1) ys (sym (ap (λ b. list_any (is_pin_at places q) (cond b (Pin z k ∷ pins_reading x z (k + 1) ys) (pins_reading x z (k + 1) ys))) differs) ∙ h) in
+        (contains_tail y x ys m.0, m.1)
+  ]
+
+  abbrev lines : Definition → List Line
+  lines d = pins_reading x d.id 0 d.pins
+
+  flat_any : (ds : List Definition) (d : Definition) → Contains ds d → get_or places d.id 0 ≡ q → Contains d.pins x → list_any (is_pin_at places q) (flat_map lines ds) ≡ true
+  flat_any [] d c e r = absurd (contains_nil d c)
+  flat_any (f ∷ ds) d c e r =
+      list_any-append (is_pin_at places q) (lines f) (flat_map lines ds)
+      ∙ elim (contains_cases f d ds c) [
+        | inl same ↦ or_left (list_any (is_pin_at places q) (lines f)) (list_any (is_pin_at places q) (flat_map lines ds))
+            (subst (λ (g : Definition). list_any (is_pin_at places q) (lines g) ≡ true) (sym same) (pins_any d.id 0 d.pins e r))
+        | inr later ↦ or_right (list_any (is_pin_at places q) (lines f)) (list_any (is_pin_at places q) (flat_map lines ds)) (flat_any ds d later e r)
+      ]
+
+  any_flat : (ds : List Definition) → list_any (is_pin_at places q) (flat_map lines ds) ≡ true → (d : Definition) × Contains ds d × (get_or places d.id 0 ≡ q) × Contains d.pins x
+  any_flat [] h = absurd (both_ways false refl h)
+  any_flat (f ∷ ds) h =
+      elim (or_cases (list_any (is_pin_at places q) (lines f)) (list_any (is_pin_at places q) (flat_map lines ds)) (sym (list_any-append (is_pin_at places q) (lines f) (flat_map lines ds)) ∙ h)) [
+        | inl here ↦ let m = any_pins f.id 0 f.pins here in (f, contains_head f ds, m.1, m.0)
+        | inr later ↦ let m = any_flat ds later in (m.0, contains_tail f m.0 ds m.1, m.2, m.3)
+      ]
+
+  no_outs : (ys : List ℕ) → list_any (is_pin_at places q) (map (λ (y : ℕ). Out y) ys) ≡ false
+  no_outs [] = refl
+  no_outs (y ∷ ys) = no_outs ys
+
+  -- the gates and cells that read a signal are told by its readers, and no others
+  pub read_called : (n : Netlist) (d : Definition) → Contains n.definitions d → get_or places d.id 0 ≡ q → Contains d.pins x → list_any (is_pin_at places q) (readers_of n x) ≡ true
+  read_called n d c e r =
+      let outs = map (λ (y : ℕ). Out y) (filter (λ y. eqb y x) n.outputs) in
+      list_any-append (is_pin_at places q) (flat_map lines n.definitions) outs
+      ∙ or_left (list_any (is_pin_at places q) (flat_map lines n.definitions)) (list_any (is_pin_at places q) outs) (flat_any n.definitions d c e r)
+
+  pub called_reads : (n : Netlist) → list_any (is_pin_at places q) (readers_of n x) ≡ true → (d : Definition) × Contains n.definitions d × (get_or places d.id 0 ≡ q) × Contains d.pins x
+  called_reads n h =
+      let outs = map (λ (y : ℕ). Out y) (filter (λ y. eqb y x) n.outputs) in
+      elim (or_cases (list_any (is_pin_at places q) (flat_map lines n.definitions)) (list_any (is_pin_at places q) outs)
+      (sym (list_any-append (is_pin_at places q) (flat_map lines n.definitions) outs) ∙ h)) [
+        | inl here ↦ any_flat n.definitions here
+        | inr none ↦ absurd (both_ways (list_any (is_pin_at places q) outs) (no_outs (filter (λ y. eqb y x) n.outputs)) none)
+      ]
+
+no_more : (b : Bool) → b ≡ (b || false)
+no_more true = refl
+no_more false = refl
+
+-- one more mark
+pub marked_set : (marks : List Bool) (p q : ℕ) → p < length marks → marked (set marks p true) q ≡ (marked marks q || eqb p q)
+marked_set marks p q l = elim (cases_eq p q) [
+  | inl e ↦ ap (λ k. get_or (set marks p true) k false) (sym e) ∙ (get_or-set_same marks p true false l ∙ sym (or_right (marked marks q) (eqb p q) (eq-eqb p q e)))
+  | inr ne ↦ get_or-set_other marks p q true false (λ e. ne (sym e)) ∙ (no_more (marked marks q) ∙ ap (λ b. marked marks q || b) (sym (ne_eqb p q ne)))
+]
+
+-- a line that is no pin of a gate calls nothing
+pub calls_none : (places : List ℕ) (line : Line) (marks : List Bool) → ((q : ℕ) → q < length marks → is_pin_at places q line ≡ false) → Calls (line ∷ []) places marks marks
+calls_none places line marks none = record {
+  size = refl;
+  each = λ q l. no_more (marked marks q) ∙ ap (λ b. marked marks q || b) (sym (ap (λ b. b || false) (none q l)));
+}
+
+pub calls_pin : (places : List ℕ) (z j p : ℕ) (marks : List Bool) → p ≡ get_or places z 0 → p < length marks → Calls (Pin z j ∷ []) places marks (set marks p true)
+calls_pin places z j p marks e l = record {
+  size = length-set marks p true;
+  each = λ q m. marked_set marks p q l ∙ ap (λ b. marked marks q || b) (ap (λ k. eqb k q) e ∙ no_more (eqb (get_or places z 0) q));
+}
+
+or_assoc : (a b c : Bool) → ((a || b) || c) ≡ (a || (b || c))
+or_assoc true b c = refl
+or_assoc false b c = refl
+
+-- one line more
+pub calls_more : (lines : List Line) (k : ℕ) (line : Line) (places : List ℕ) (first old new : List Bool) → k < length lines → line ≡ get_or lines k line
+    → Calls (take k lines) places first old → Calls (line ∷ []) places old new → Calls (take (k + 1) lines) places first new
+calls_more lines k line places first old new l is a b = record {
+  size = b.size ∙ a.size;
+  each = λ q m.
+      let one : is_pin_at places q (get_or lines k line) ≡ is_pin_at places q line = ap (is_pin_at places q) (sym is) in
+      b.each q (subst (λ s. q < s) (sym a.size) m)
+      ∙ (ap (λ v. v || (is_pin_at places q line || false)) (a.each q m)
+      ∙ (or_assoc (marked first q) (list_any (is_pin_at places q) (take k lines)) (is_pin_at places q line || false)
+      ∙ ap (λ v. marked first q || v) (ap (λ v. list_any (is_pin_at places q) (take k lines) || v) (sym (no_more (is_pin_at places q line)) ∙ sym one)
+      ∙ sym (list_any_more (is_pin_at places q) lines k line l))));
+}
+
+pub calls_nothing : (places : List ℕ) (marks : List Bool) → Calls [] places marks marks
+calls_nothing places marks = record { size = refl; each = λ q l. no_more (marked marks q) }
+
+-- one gate more has its place
+pub place_more : (n : Netlist) (order places : List ℕ) → IsOrder n order → (count k i : ℕ) → ArePlacesUpTo order places count k → k < length order → i ≡ get_or order k 0 → i < count
+    → ArePlacesUpTo order (set places i k) count (k + 1)
+place_more n order places ordered count k i h l is low =
+    let in' : i < length places = subst (λ m. i < m) (sym h.size) low in
+    record {
+      size = length-set places i k ∙ h.size;
+      here = λ j m. elim (cases_eq j k) [
+        | inl last ↦ ap (λ y. get_or (set places i k) (get_or order y 0) 0) last ∙ (ap (λ y. get_or (set places i k) y 0) (sym is) ∙ (get_or-set_same places i k 0 in' ∙ sym last))
+        | inr old ↦
+            let one : get_or ordered.ranks (get_or order j 0) 0 ≡ j + 2 = ordered.placed.ranked j (omega arith) in
+            let two : get_or ordered.ranks (get_or order k 0) 0 ≡ k + 2 = ordered.placed.ranked k l in
+            get_or-set_other places i (get_or order j 0) k 0
+            (λ e. let s : get_or ordered.ranks (get_or order j 0) 0 ≡ get_or ordered.ranks (get_or order k 0) 0 = ap (λ y. get_or ordered.ranks y 0) (e ∙ is) in old (omega arith))
+            ∙ h.here j (omega arith)
+      ];
+      others = λ x m. elim (cases_eq x i) [
+        | inl same ↦
+            let at_k : get_or (set places i k) x 0 ≡ k = ap (λ y. get_or (set places i k) y 0) same ∙ get_or-set_same places i k 0 in' in
+            inr (omega arith, ap (λ y. get_or order y 0) at_k ∙ (sym is ∙ sym same))
+        | inr differs ↦
+            let was : get_or (set places i k) x 0 ≡ get_or places x 0 = get_or-set_other places i x k 0 differs in
+            elim (h.others x m) [
+              | inl none ↦ inl (was ∙ none)
+              | inr some ↦ let s = some.0 in inr (omega arith, ap (λ y. get_or order y 0) was ∙ some.1)
+            ]
+      ];
+    }

@@ -1,0 +1,6 @@
+use Rattle.std.proofs.Common.{◌≡◌, drop}
+use Rattle.events.specs.Words.{odd_of}
+use Rattle.events.proofs.words.odd_of.Given as goal
+
+abbrev pub invariant-loop-k : goal.invariant-loop-k
+invariant-loop-k g l = l.odd ≡ odd_of (drop l.k (g.P.Pins.words l.pins))

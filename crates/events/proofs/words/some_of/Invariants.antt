@@ -1,0 +1,6 @@
+use Rattle.std.proofs.Common.{◌≡◌, drop}
+use Rattle.events.specs.Words.{some_of}
+use Rattle.events.proofs.words.some_of.Given as goal
+
+abbrev pub invariant-loop-k : goal.invariant-loop-k
+invariant-loop-k g l = l.some ≡ some_of (drop l.k (g.P.Pins.words l.pins))
