@@ -1,15 +1,15 @@
 -- Other values driven onto inputs and cells.
-use Rattle.std.proofs.Common.{◌≡◌, ℕ, ◌+◌, ◌<◌, ◌≤◌, ◌≢◌, ◌⊎◌, ◌||◌, Bool, true, false, List, [], map, length, get_or, set, refl, sym, ◌∙◌, ap, subst, inl, inr, arith}
-use Rattle.std.specs.List.{AllZip, Contains, list_any}
+use Rattle.std.proofs.Common.{◌≡◌, ℕ, ◌+◌, ◌<◌, ◌≢◌, Bool, true, false, List, map, length, get_or, set, refl, sym, ◌∙◌, ap, subst, inl, inr, arith}
+use Rattle.std.specs.List.{Contains, list_any}
 use Rattle.std.proofs.lemmas.Bool.{cases_eq, cases_lt, both_ways, or_left, or_right}
-use Rattle.std.proofs.lemmas.List.{length-set, get_or-set_same, get_or-set_other, get_or_past, get_or_default, set-get_or, get_or-map, length-map}
+use Rattle.std.proofs.lemmas.List.{get_or-set_same, get_or-set_other, get_or_past, set-get_or, get_or-map, length-map}
 use Rattle.std.proofs.lemmas.List.Elements.{All-contains, Contains-get_or}
 use Rattle.netlist.specs.declared.lines.Line.TheVariants.{Stem}
 use Rattle.netlist.specs.Conditions.{IsSound}
 use Rattle.netlist.specs.Netlist.{Definition, Netlist, cells, gates, signals}
 use Rattle.netlist.specs.Readers.{readers_of}
-use Rattle.netlist.specs.Settled.{Rule, Settles, on_pins, pins_of}
-use Rattle.netlist.specs.Settling.{at, IsDriven}
+use Rattle.netlist.specs.Settled.{Rule, on_pins, pins_of, at}
+use Rattle.netlist.specs.inner.Settling.{IsDriven}
 use Rattle.netlist.proofs.Lists.{map_agree, All-from_contains}
 use Rattle.netlist.proofs.Placed.{gate_defined, signals_length}
 use Rattle.netlist.proofs.Settling.{zip_kept, drive_more, driven}
@@ -19,7 +19,8 @@ use Rattle.events.specs.Standing.{SettlesFor}
 use Rattle.events.specs.inner.Driving.{AreCalled, StayMarked, Puts, AreDriven}
 use Rattle.events.specs.inner.Placing.{AreTables, Calls, is_pin_at, waiting}
 use Rattle.events.specs.inner.Running.{Resettles}
-use Rattle.events.proofs.Placing.{place_of, read_called}
+use Rattle.netlist.proofs.Orders.{place_of}
+use Rattle.events.proofs.Placing.{read_called}
 use Rattle.events.proofs.Steps.{input_no_gate, cell_no_gate}
 
 pub stay_same : (marks : List Bool) → StayMarked marks marks
@@ -97,7 +98,7 @@ module _ {V : Type 0} (rule : Rule V) (n : Netlist) (sound : IsSound n) (order p
   -- a signal whose reader isn't marked has the value that it had
   unchanged : (g : Definition) (x : ℕ) (d : V) → Contains (gates n) g → Contains g.pins x → waiting m2 places g.id ≡ false → at v2 d x ≡ at v0 d x
   unchanged g x d c r f =
-      let low = (place_of n sound.formed.numbered order places tables.ordered tables.placed g c).0 in
+      let low = (place_of n sound.formed.numbered order tables.ordered places tables.placed g c).0 in
       let any = read_called places (get_or places g.id 0) x n g (gate_defined n sound.formed.numbered g c) refl r in
       let s = a.stay.size in
       let t = b.stay.size in

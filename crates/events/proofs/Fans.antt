@@ -1,14 +1,14 @@
 -- The places of the gates that read a signal, and these marked.
-use Rattle.std.proofs.Common.{◌≡◌, ℕ, zero, suc, ◌+◌, ◌<◌, ◌≤◌, ◌||◌, Bool, true, false, cond, Some, List, [], ◌∷◌, ◌++◌, length, get_or, set, take, refl, sym, ◌∙◌, ap, subst, inl, inr, eqb, ltb, arith}
-use Rattle.std.specs.List.{All, list_any, slice_get}
-use Rattle.std.proofs.lemmas.Bool.{cases_eq, cases_Bool, cases_lt, both_ways, eqb-true, eq-eqb, ne_eqb, lt-ltb, ltb-true}
-use Rattle.std.proofs.lemmas.List.{length-set, length_push, get_or-map, get_or_append_left, get_or_push, take_more, append_assoc}
+use Rattle.std.proofs.Common.{◌≡◌, ℕ, zero, suc, ◌+◌, ◌<◌, ◌||◌, Bool, true, false, cond, List, [], ◌∷◌, ◌++◌, length, get_or, set, take, refl, sym, ◌∙◌, ap, subst, inl, inr, eqb, ltb, arith}
+use Rattle.std.specs.List.{All, list_any}
+use Rattle.std.proofs.lemmas.Bool.{cases_eq, cases_Bool, both_ways, ne_eqb, lt-ltb, ltb-true}
+use Rattle.std.proofs.lemmas.List.{length-set, length_push, get_or_append_left, get_or_push, take_more, append_assoc}
 use Rattle.std.proofs.lemmas.List.Folds.{list_any_more}
 use Rattle.netlist.specs.declared.lines.Line.{Line}
 use Rattle.netlist.specs.declared.lines.Line.TheVariants.{Stem, Pin, Out}
 use Rattle.netlist.specs.Netlist.{Netlist, signals}
 use Rattle.netlist.specs.Readers.{readers_of}
-use Rattle.netlist.specs.Rows.{rows, AreEnds}
+use Rattle.netlist.specs.inner.Rows.{rows}
 use Rattle.netlist.proofs.BufferRows.{rows_count, pushed_rows, pushed_ends}
 use Rattle.events.specs.Agendas.{marked}
 use Rattle.events.specs.inner.Placing.{is_pin_at, called, AreFans, AreFansUpTo, Calls, Marks}

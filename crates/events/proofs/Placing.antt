@@ -1,56 +1,28 @@
 -- Places of gates, and the gates that read a signal.
-use Rattle.std.proofs.Common.{◌≡◌, ℕ, ◌+◌, ◌<◌, ◌||◌, Bool, true, false, cond, List, [], ◌∷◌, map, length, get_or, set, take, refl, sym, ◌∙◌, ap, subst, inl, inr, eqb, arith}
-use Rattle.std.specs.List.{All, Contains, list_any, flat_map, filter}
+use Rattle.std.proofs.Common.{◌≡◌, ℕ, ◌+◌, ◌<◌, ◌||◌, Bool, true, false, cond, List, [], ◌∷◌, map, length, get_or, set, take, refl, sym, ◌∙◌, ap, subst, inl, inr, eqb}
+use Rattle.std.specs.List.{Contains, list_any, flat_map, filter}
 use Rattle.std.proofs.lemmas.Bool.{cases_eq, cases_Bool, both_ways, eqb-true, eq-eqb, ne_eqb, or_left, or_right, or_cases}
-use Rattle.std.proofs.lemmas.List.{length-set, get_or-set_same, get_or-set_other, get_or_default}
+use Rattle.std.proofs.lemmas.List.{length-set, get_or-set_same, get_or-set_other}
 use Rattle.std.proofs.lemmas.List.Folds.{list_any-append, list_any_more}
-use Rattle.std.proofs.lemmas.List.Elements.{All-contains}
 use Rattle.netlist.specs.declared.lines.Line.{Line}
 use Rattle.netlist.specs.declared.lines.Line.TheVariants.{Pin, Out}
-use Rattle.netlist.specs.Netlist.{Definition, Netlist, gates, signals}
-use Rattle.netlist.specs.Conditions.{IsClosed, IsNumbered}
-use Rattle.netlist.specs.Placed.{IsOrder}
+use Rattle.netlist.specs.Netlist.{Definition, Netlist, gates}
+use Rattle.netlist.specs.Conditions.{IsNumbered}
+use Rattle.netlist.specs.Orders.{IsOrder, ArePlaces}
 use Rattle.netlist.specs.Readers.{readers_of, pins_reading}
 use Rattle.netlist.proofs.Lists.{contains_cases, contains_nil, contains_head, contains_tail}
-use Rattle.netlist.proofs.Placed.{same_definition, gate_defined, definition_below, signal_below}
+use Rattle.netlist.proofs.Placed.{same_definition, gate_defined, definition_below}
+use Rattle.netlist.proofs.Orders.{gate_placed}
 use Rattle.events.specs.Agendas.{marked}
-use Rattle.events.specs.inner.Placing.{ArePlaces, ArePlacesUpTo, is_pin_at, Calls}
+use Rattle.events.specs.inner.Placing.{is_pin_at, Calls}
 
-module _ (n : Netlist) (numbered : IsNumbered n) (order places : List ℕ) (ordered : IsOrder n order) (h : ArePlaces n order places) where
-  place : ℕ → ℕ
-  place x = get_or places x 0
-
-  -- a gate has the place where it stands
-  pub place_of : (d : Definition) → Contains (gates n) d → (get_or places d.id 0 < length order) × (get_or order (get_or places d.id 0) 0 ≡ d.id)
-  place_of d c =
-      let w = ordered.placed.listed d c (ordered.all d c) in
-      let l : w.0 < length order = w.1 in
-      let is : get_or order w.0 0 ≡ d.id = get_or_default order w.0 0 d.id l ∙ w.2 in
-      let at : get_or places d.id 0 ≡ w.0 = ap (λ x. get_or places x 0) (sym is) ∙ h.here w.0 l in
-      (omega arith, ap (λ k. get_or order k 0) at ∙ is)
-
-  -- what stands at a place is a gate
-  pub gate_at_place : (d : Definition) → Contains n.definitions d → get_or places d.id 0 < length order → Contains (gates n) d
-  gate_at_place d c l =
-      let is : get_or order (get_or places d.id 0) 0 ≡ d.id = h.there d.id (definition_below n numbered d c) l in
-      let w = ordered.placed.gates (get_or places d.id 0) l in
-      let same : d ≡ w.0 = same_definition n numbered d w.0 c (gate_defined n numbered w.0 w.1) (sym (w.2 ∙ is)) in
-      subst (λ (f : Definition). Contains (gates n) f) (sym same) w.1
-
-  -- the rank of what stands at a place
-  rank_at : (x : ℕ) → x < length (signals n) → get_or places x 0 < length order → get_or ordered.ranks x 0 ≡ get_or places x 0 + 2
-  rank_at x l p = ap (λ y. get_or ordered.ranks y 0) (sym (h.there x l p)) ∙ ordered.placed.ranked (get_or places x 0) p
-
-  -- a gate stands behind what it reads
-  pub reads_above : IsClosed n → (d : Definition) (x : ℕ) → Contains (gates n) d → Contains d.pins x → get_or places x 0 < length order → get_or places x 0 < get_or places d.id 0
-  reads_above closed d x c r p =
-      let defined = gate_defined n numbered d c in
-      let pins : All (Contains (signals n)) d.pins = All-contains (λ (e : Definition). All (Contains (signals n)) e.pins) n.definitions d closed.pins defined in
-      let below = signal_below n numbered x (All-contains (Contains (signals n)) d.pins x pins r) in
-      let one = rank_at x below p in
-      let two = rank_at d.id (definition_below n numbered d defined) (place_of d c).0 in
-      let l = (ordered.placed.above d c (ordered.all d c) x r).1 in
-      omega arith
+-- what stands at a place is a gate
+pub gate_at_place : (n : Netlist) → IsNumbered n → (order places : List ℕ) → IsOrder n order → ArePlaces n order places → (d : Definition) → Contains n.definitions d → get_or places d.id 0 < length order
+    → Contains (gates n) d
+gate_at_place n numbered order places ordered h d c l =
+    let w = gate_placed n numbered order ordered places h d.id (definition_below n numbered d c) l in
+    let same : d ≡ w.0 = same_definition n numbered d w.0 c (gate_defined n numbered w.0 w.1) (sym w.2) in
+    subst (λ (f : Definition). Contains (gates n) f) (sym same) w.1
 
 module _ (places : List ℕ) (q x : ℕ) where
   test : Line → Bool
@@ -169,32 +141,3 @@ calls_more lines k line places first old new l is a b = record {
 
 pub calls_nothing : (places : List ℕ) (marks : List Bool) → Calls [] places marks marks
 calls_nothing places marks = record { size = refl; each = λ q l. no_more (marked marks q) }
-
--- one gate more has its place
-pub place_more : (n : Netlist) (order places : List ℕ) → IsOrder n order → (count k i : ℕ) → ArePlacesUpTo order places count k → k < length order → i ≡ get_or order k 0 → i < count
-    → ArePlacesUpTo order (set places i k) count (k + 1)
-place_more n order places ordered count k i h l is low =
-    let in' : i < length places = subst (λ m. i < m) (sym h.size) low in
-    record {
-      size = length-set places i k ∙ h.size;
-      here = λ j m. elim (cases_eq j k) [
-        | inl last ↦ ap (λ y. get_or (set places i k) (get_or order y 0) 0) last ∙ (ap (λ y. get_or (set places i k) y 0) (sym is) ∙ (get_or-set_same places i k 0 in' ∙ sym last))
-        | inr old ↦
-            let one : get_or ordered.ranks (get_or order j 0) 0 ≡ j + 2 = ordered.placed.ranked j (omega arith) in
-            let two : get_or ordered.ranks (get_or order k 0) 0 ≡ k + 2 = ordered.placed.ranked k l in
-            get_or-set_other places i (get_or order j 0) k 0
-            (λ e. let s : get_or ordered.ranks (get_or order j 0) 0 ≡ get_or ordered.ranks (get_or order k 0) 0 = ap (λ y. get_or ordered.ranks y 0) (e ∙ is) in old (omega arith))
-            ∙ h.here j (omega arith)
-      ];
-      others = λ x m. elim (cases_eq x i) [
-        | inl same ↦
-            let at_k : get_or (set places i k) x 0 ≡ k = ap (λ y. get_or (set places i k) y 0) same ∙ get_or-set_same places i k 0 in' in
-            inr (omega arith, ap (λ y. get_or order y 0) at_k ∙ (sym is ∙ sym same))
-        | inr differs ↦
-            let was : get_or (set places i k) x 0 ≡ get_or places x 0 = get_or-set_other places i x k 0 differs in
-            elim (h.others x m) [
-              | inl none ↦ inl (was ∙ none)
-              | inr some ↦ let s = some.0 in inr (omega arith, ap (λ y. get_or order y 0) was ∙ some.1)
-            ]
-      ];
-    }

@@ -5,24 +5,23 @@ use Rattle.std.proofs.lemmas.Bool.{cases_eq, cases_lt, both_ways, or_parts, or_f
 use Rattle.std.proofs.lemmas.List.{append-nil, length-set, get_or-set_same, get_or-set_other, get_or_past}
 use Rattle.std.proofs.lemmas.List.Elements.{Contains-push_cases}
 use Rattle.netlist.specs.declared.lines.Line.TheVariants.{Stem}
-use Rattle.netlist.specs.Netlist.{Definition, Netlist, is_cell, cells, gates, signals}
+use Rattle.netlist.specs.Netlist.{Definition, Netlist, is_cell, cells, gates, signals, also}
 use Rattle.netlist.specs.Conditions.{IsSound}
-use Rattle.netlist.specs.Placed.{IsOrder}
+use Rattle.netlist.specs.Orders.{IsOrder, ArePlaces}
 use Rattle.netlist.specs.Readers.{readers_of}
-use Rattle.netlist.specs.Settled.{Rule}
-use Rattle.netlist.specs.Settling.{at}
+use Rattle.netlist.specs.Settled.{Rule, at}
 use Rattle.netlist.proofs.Lists.{contains_nil, contains_cases, contains_filter}
 use Rattle.netlist.proofs.Placed.{gate_defined, definition_below, input_below}
 use Rattle.netlist.proofs.Settling.{zip_kept}
 use Rattle.events.specs.declared.trails.Change.{Change}
 use Rattle.events.specs.Agendas.{marked, IsFirst, AreClear}
-use Rattle.events.specs.inner.Placing.{ArePlaces, waiting, is_pin_at, Calls}
+use Rattle.events.specs.inner.Placing.{waiting, is_pin_at, Calls}
 use Rattle.events.specs.inner.Running.{IsMade, StaysSame, Turns, Takes, AreUnderway, Resettles, PutsSource}
 use Rattle.events.specs.Trails.{AreChanges}
-use Rattle.netlist.specs.Sorting.{also}
 use Rattle.events.proofs.Sources.{source_step_settles}
 use Rattle.events.proofs.Steps.{step_settles, none_waits}
-use Rattle.events.proofs.Placing.{place_of, gate_at_place, reads_above, read_called, called_reads, marked_set}
+use Rattle.netlist.proofs.Orders.{place_of, place_there, reads_above}
+use Rattle.events.proofs.Placing.{gate_at_place, read_called, called_reads, marked_set}
 use Rattle.events.proofs.Changes.{none_changed, one_changed, both_changes}
 
 -- at the start
@@ -69,10 +68,10 @@ module _ {V : Type 0} (rule : Rule V) (n : Netlist) (sound : IsSound n) (order p
   p_low = let l = first.within in let s = so_far.size in omega arith
 
   gate : (g : Definition) × Contains (gates n) g × (g.id ≡ id)
-  gate = let w = ordered.placed.gates p p_low in (w.0, w.1, w.2 ∙ sym here)
+  gate = let w = ordered.members p 0 p_low in (w.0, w.1, w.2 ∙ sym here)
 
   id_place : get_or places id 0 ≡ p
-  id_place = ap (λ x. get_or places x 0) here ∙ h.here p p_low
+  id_place = ap (λ x. get_or places x 0) here ∙ h.gates p p_low
 
   id_low : id < length (signals n)
   id_low = subst (λ x. x < length (signals n)) gate.2 (definition_below n sound.formed.numbered gate.0 (gate_defined n sound.formed.numbered gate.0 gate.1))
@@ -83,7 +82,7 @@ module _ {V : Type 0} (rule : Rule V) (n : Netlist) (sound : IsSound n) (order p
   -- a signal but this one that doesn't wait once the mark is taken out didn't wait before
   kept : (x : ℕ) → x < length (signals n) → x ≢ id → marked (set before p false) (get_or places x 0) ≡ false → marked before (get_or places x 0) ≡ false
   kept x l ne f =
-      let other : get_or places x 0 ≢ p = λ e. ne (sym (h.there x l (subst (λ k. k < length order) (sym e) p_low)) ∙ (ap (λ k. get_or order k 0) e ∙ sym here)) in
+      let other : get_or places x 0 ≢ p = λ e. ne (sym (place_there n sound.formed.numbered order ordered places h x l (subst (λ k. k < length order) (sym e) p_low)) ∙ (ap (λ k. get_or order k 0) e ∙ sym here)) in
       sym (unmarked_other before p (get_or places x 0) other) ∙ f
 
   -- what is marked once the mark is taken out comes later
@@ -140,7 +139,7 @@ module _ {V : Type 0} (rule : Rule V) (n : Netlist) (sound : IsSound n) (order p
                 let is = gate_at_place n sound.formed.numbered order places ordered h w.0 w.1 (omega arith) in
                 let i = id_place in
                 let p_in = p_low in
-                let above = reads_above n sound.formed.numbered order places ordered h sound.closed w.0 id is w.3 (omega arith) in
+                let above = reads_above n sound.formed.numbered order ordered places h sound.closed w.0 id is w.3 (omega arith) in
                 omega arith
           ]
         ];
@@ -150,7 +149,7 @@ module _ {V : Type 0} (rule : Rule V) (n : Netlist) (sound : IsSound n) (order p
               others = λ x ne. ap (λ vs. at vs d x) t.values ∙ get_or-set_other values id x v d (λ e. ne (e ∙ sym gate.2));
               waiting = λ x l ne f. kept x l (λ e. ne (e ∙ sym gate.2)) (called_kept t.calls (get_or places x 0) f);
               readers = λ e c r f.
-                  let l = (place_of n sound.formed.numbered order places ordered h e c).0 in
+                  let l = (place_of n sound.formed.numbered order ordered places h e c).0 in
                   absurd (both_ways (marked after (get_or places e.id 0)) f
                   (t.calls.each (get_or places e.id 0) (omega arith)
                   ∙ or_right (marked (set before p false) (get_or places e.id 0)) (list_any (is_pin_at places (get_or places e.id 0)) (readers_of n id))
@@ -184,7 +183,7 @@ module _ {V : Type 0} (rule : Rule V) (n : Netlist) (sound : IsSound n) (order p
     (old new : List V) (marks after : List Bool) (trail trail' : List (Change V)) (id : ℕ) (v : V)
     (low : id < length (signals n)) (size : length old ≡ length (signals n)) (marks_size : length marks ≡ length order) (behind : get_or places id 0 ≡ length order) where
   no_gate : (d : Definition) → Contains (gates n) d → d.id ≢ id
-  no_gate d c e = let l = (place_of n sound.formed.numbered order places ordered h d c).0 in let s : get_or places d.id 0 ≡ get_or places id 0 = ap (λ x. get_or places x 0) e in omega arith
+  no_gate d c e = let l = (place_of n sound.formed.numbered order ordered places h d c).0 in let s : get_or places d.id 0 ≡ get_or places id 0 = ap (λ x. get_or places x 0) e in omega arith
 
   apart : (y : ℕ) → y ≢ id → marked marks (get_or places y 0) ≡ false → also (waiting marks places) id y ≡ false
   apart y ne f = or_from (marked marks (get_or places y 0)) (eqb y id) f (ne_eqb y id ne)
@@ -223,7 +222,7 @@ module _ {V : Type 0} (rule : Rule V) (n : Netlist) (sound : IsSound n) (order p
                 | inr past ↦ get_or_past marks (get_or places y 0) false past
               ]);
               readers = λ e c r f.
-                  let l = (place_of n sound.formed.numbered order places ordered h e c).0 in
+                  let l = (place_of n sound.formed.numbered order ordered places h e c).0 in
                   absurd (both_ways (marked after (get_or places e.id 0)) f
                   (t.calls.each (get_or places e.id 0) (omega arith)
                   ∙ or_right (marked marks (get_or places e.id 0)) (list_any (is_pin_at places (get_or places e.id 0)) (readers_of n id))

@@ -1,16 +1,16 @@
 -- The signal whose equation a pin enters.
-use Rattle.std.proofs.Common.{◌≡◌, ℕ, ◌<◌, ◌≤◌, List, length, get_or, refl, sym, ap, ◌∙◌, subst, inl, eqb, arith}
+use Rattle.std.proofs.Common.{◌≡◌, ℕ, ◌<◌, ◌≤◌, List, length, get_or, refl, sym, subst, inl, arith}
 use Rattle.std.proofs.lemmas.Bool.{eq-eqb}
 use Rattle.netlist.specs.declared.lines.Line.{Line}
 use Rattle.netlist.specs.declared.lines.Line.TheVariants.{Stem, Pin}
 use Rattle.netlist.specs.Conditions.{IsNumbered}
 use Rattle.netlist.specs.Lines.{IsLineOf}
 use Rattle.netlist.specs.Netlist.{Netlist, signals}
-use Rattle.netlist.specs.Placed.{IsOrder}
+use Rattle.netlist.specs.Orders.{IsOrder, ArePlaces}
 use Rattle.netlist.proofs.Placed.{definition_below, signal_below}
-use Rattle.events.specs.inner.Placing.{ArePlaces}
 use Rattle.events.specs.Stuck.{IsObservedOnly, IsSite}
-use Rattle.events.proofs.Placing.{place_of, gate_at_place}
+use Rattle.netlist.proofs.Orders.{place_of}
+use Rattle.events.proofs.Placing.{gate_at_place}
 
 pub stem_within : (n : Netlist) → IsNumbered n → (line : Line) (x : ℕ) → line ≡ Stem x → IsLineOf n line → x < length (signals n)
 stem_within n numbered line x e h = signal_below n numbered x (subst (IsLineOf n) e h)
@@ -29,5 +29,5 @@ module _ (n : Netlist) (numbered : IsNumbered n) (line : Line) (z k : ℕ) (is :
     pub pin_observed : length order ≤ get_or places z 0 → IsObservedOnly n line
     pin_observed high =
         subst (IsObservedOnly n) (sym is)
-        (λ g. let l : get_or places z 0 < length order = subst (λ x. get_or places x 0 < length order) g.2 (place_of n numbered order places ordered placed g.0 g.1).0 in
+        (λ g. let l : get_or places z 0 < length order = subst (λ x. get_or places x 0 < length order) g.2 (place_of n numbered order ordered places placed g.0 g.1).0 in
         let e : length order ≤ get_or places z 0 = high in absurd (omega arith))

@@ -1,25 +1,23 @@
 -- What a touch and then all that it reaches make of values, and a line stuck.
-use Rattle.std.proofs.Common.{◌≡◌, ℕ, ◌+◌, ◌-◌, ◌<◌, ◌≤◌, ◌⊎◌, ◌++◌, Bool, true, false, cond, List, length, get_or, take, drop, Some, None, Option, refl, sym, ◌∙◌, ap, subst, inl, inr, eqb, arith}
-use Rattle.std.specs.List.{All, Contains}
+use Rattle.std.proofs.Common.{◌≡◌, ℕ, ◌+◌, ◌-◌, ◌<◌, ◌≤◌, ◌⊎◌, ◌++◌, Bool, true, false, cond, List, length, get_or, take, drop, Some, None, refl, sym, ◌∙◌, ap, subst, inl, inr, eqb}
+use Rattle.std.specs.List.{All}
 use Rattle.std.proofs.lemmas.Bool.{both_ways, eqb-true, eq-eqb, or_parts, false_from_ne_true}
-use Rattle.std.proofs.lemmas.List.Elements.{All-append, All-take, All-drop, Contains-get_or}
+use Rattle.std.proofs.lemmas.List.Elements.{All-append, All-take, Contains-get_or}
 use Rattle.netlist.specs.declared.lines.Line.{Line}
 use Rattle.netlist.specs.declared.lines.Line.TheVariants.{Stem, Pin, Out}
 use Rattle.netlist.specs.declared.lines.Fault.{Fault}
-use Rattle.netlist.specs.Netlist.{Definition, Netlist, cells, signals}
+use Rattle.netlist.specs.Netlist.{Definition, Netlist, cells, signals, IsGateAt, also}
 use Rattle.netlist.specs.Conditions.{IsNumbered}
-use Rattle.netlist.specs.Settled.{Rule, Settles, Table, with_fault, is_line}
-use Rattle.netlist.specs.Settling.{at, IsGateAt}
-use Rattle.netlist.specs.Sorting.{also}
+use Rattle.netlist.specs.Settled.{Rule, Settles, Table, with_fault, is_line, at}
 use Rattle.netlist.proofs.Settling.{zip_kept}
 use Rattle.events.specs.declared.trails.Change.{Change}
 use Rattle.events.specs.Agendas.{marked, AreClear}
-use Rattle.events.specs.inner.Placing.{AreTables, waiting}
+use Rattle.events.specs.inner.Placing.{waiting}
 use Rattle.events.specs.inner.Running.{AreReady, PutsSource, Resettles}
-use Rattle.events.specs.Standing.{Standing, standing, Moves, SettlesAnew, SettlesOver}
+use Rattle.events.specs.Standing.{standing, Moves, SettlesAnew, SettlesOver}
 use Rattle.events.specs.Stuck.{is_at, IsSite, IsObservedOnly}
 use Rattle.events.specs.Trails.{AreChanges, undone}
-use Rattle.events.specs.Waiting.{IsDrivenTo, AgreeAt}
+use Rattle.events.specs.Waiting.{IsDrivenTo}
 use Rattle.events.proofs.Steps.{rule_changes, none_waits, more_wait, input_no_gate, cell_no_gate}
 use Rattle.events.proofs.Sources.{stuck_changes, observed_only}
 use Rattle.events.proofs.Running.{put_then_settled}

@@ -3,8 +3,7 @@ use Rattle.std.specs.Prelude.{ℕ, ◌≡◌, ◌==◌, ◌+◌, ◌-◌, ◌<�
 use Rattle.std.specs.List.{All}
 use Rattle.netlist.specs.declared.lines.Line.TheVariants.{Stem}
 use Rattle.netlist.specs.Netlist.{Netlist, signals}
-use Rattle.netlist.specs.Settled.{Rule, Settles}
-use Rattle.netlist.specs.Settling.{at}
+use Rattle.netlist.specs.Settled.{Rule, Settles, at}
 use Rattle.events.specs.declared.trails.Change.{Change}
 use Rattle.events.specs.Trails.{AreChanges}
 use Rattle.events.specs.Waiting.{SettlesBut, IsDrivenTo}

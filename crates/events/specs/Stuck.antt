@@ -2,8 +2,7 @@
 use Rattle.std.specs.Prelude.{ℕ, ◌≡◌, ◌==◌, ◌⊎◌, ⊤, Bool, false, IsTrue}
 use Rattle.netlist.specs.declared.lines.Line.{Line}
 use Rattle.netlist.specs.declared.lines.Line.TheVariants.{Stem, Pin, Out}
-use Rattle.netlist.specs.Netlist.{Netlist}
-use Rattle.netlist.specs.Settling.{IsGateAt}
+use Rattle.netlist.specs.Netlist.{Netlist, IsGateAt}
 
 -- the line is the stem of the signal, or a pin of what defines it
 abbrev pub is_at : Line → ℕ → Bool

@@ -2,7 +2,7 @@
 use Rattle.std.specs.Prelude.{ℕ, ◌<◌, ◌==◌, Bool, false, List, [], ◌∷◌, map, Option, Some, None, bit_and, bit_or, bit_xor, if◌then◌else◌}
 use Rattle.std.specs.Int.{bit_at}
 use Rattle.netlist.specs.declared.kinds.Kind.{Kind}
-use Rattle.netlist.specs.declared.kinds.Kind.TheVariants.{And, Nand, Or, Nor, Xor, Xnor, Not, Buff, Dff}
+use Rattle.netlist.specs.declared.kinds.Kind.TheVariants.{And, Nand, Or, Nor, Xor, Xnor, Not, Buff, Dff, Const0, Const1}
 use Rattle.netlist.specs.declared.lines.Fault.{Fault}
 use Rattle.netlist.specs.Netlist.{Netlist}
 use Rattle.netlist.specs.Settled.{Rule, Settles, Table, with_fault, bits}
@@ -38,6 +38,8 @@ gate_word Xnor words = bit_xor (odd_of words) ones
 gate_word Not words = bit_xor (only_of words) ones
 gate_word Buff words = only_of words
 gate_word Dff words = only_of words
+gate_word Const0 words = 0
+gate_word Const1 words = ones
 
 abbrev pub word_table : Table ℕ
 word_table = record { known = λ b. if b then ones else 0; gate = gate_word }

@@ -1,7 +1,7 @@
 //! Rules whose values can be told apart, and that evaluate a gate in one pass over its pins.
 ghost use Rattle.std.specs.Prelude.{◌≡◌, ◌↔◌, ◌<◌, ◌≤◌, length, IsTrue};
 ghost use Rattle.std.specs.List.{All};
-ghost use Rattle.netlist.specs.Settling.{at};
+ghost use Rattle.netlist.specs.Settled.{at};
 ghost use Rattle.events.specs.Waiting.{given};
 
 use netlist::{Kind, Logic, SignalId};

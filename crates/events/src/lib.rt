@@ -16,6 +16,8 @@ mod words;
 pub use agendas::Agenda;
 pub use comparing::Comparing;
 pub use evaluator::Events;
-pub use laws::{none_waits, observed_only, rule_changes, source_step_settles, step_settles, stuck_changes};
+pub use laws::{
+    none_waits, observed_only, rule_changes, source_step_settles, step_settles, stuck_changes,
+};
 pub use trails::Change;
 pub use words::{Words, words_settle_as_bits};

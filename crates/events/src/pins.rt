@@ -1,8 +1,7 @@
 //! The words on the pins of a gate, by place: as they are given, read from the values of all signals, or read where a line is stuck.
 ghost use Rattle.std.specs.Prelude.{◌≡◌, ◌<◌, ◌≤◌, ℕ, List, length, map, slice_index};
 ghost use Rattle.std.specs.List.{All};
-ghost use Rattle.netlist.specs.Settled.{on_pins};
-ghost use Rattle.netlist.specs.Settling.{at};
+ghost use Rattle.netlist.specs.Settled.{on_pins, at};
 ghost use Rattle.events.specs.Words.{words};
 
 use crate::words::Words;

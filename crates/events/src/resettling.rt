@@ -1,9 +1,8 @@
 //! The one evaluator by events, for any rule by which values settle.
 ghost use Rattle.std.specs.Prelude.{◌≡◌, ◌+◌, ◌<◌, ◌≤◌, [], length, slice_index, slice_index_or, vec_capacity};
 ghost use Rattle.std.specs.List.{All};
-ghost use Rattle.netlist.specs.Netlist.{signals};
+ghost use Rattle.netlist.specs.Netlist.{signals, IsGateAt};
 ghost use Rattle.netlist.specs.Conditions.{IsSound};
-ghost use Rattle.netlist.specs.Settling.{IsGateAt};
 ghost use Rattle.events.specs.Agendas.{AreClear};
 ghost use Rattle.events.specs.inner.Placing.{AreTables, Marks};
 ghost use Rattle.events.specs.inner.Running.{IsMade, Takes, Resettles, PutsSource};

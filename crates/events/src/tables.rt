@@ -2,10 +2,9 @@
 ghost use Rattle.std.specs.Prelude.{◌≡◌, ◌++◌, ◌<◌, ◌≤◌, ◌∷◌, [], IfOk, OnOk, Some, length, slice_get, slice_index, slice_index_or};
 ghost use Rattle.std.specs.List.{All};
 ghost use Rattle.netlist.specs.Netlist.{signals};
-ghost use Rattle.netlist.specs.Placed.{IsOrder};
-ghost use Rattle.netlist.specs.Rows.{rows, AreEnds};
-ghost use Rattle.netlist.specs.Sorting.{IsPinBelow};
-ghost use Rattle.events.specs.inner.Placing.{ArePlaces, AreFans, AreTables, called};
+ghost use Rattle.netlist.specs.inner.Rows.{AreEnds, rows};
+ghost use Rattle.netlist.specs.Lines.{IsPinBelow};
+ghost use Rattle.events.specs.inner.Placing.{AreFans, AreTables, called};
 
 use netlist::{Core, Line, Netlist, SignalId};
 use std::alloc::{AllocError, Global};
@@ -20,7 +19,7 @@ pub(crate) struct Fans {
 
 impl Model for Fans {
     ghost use Rattle.std.specs.Prelude.{ℕ, List};
-    ghost use Rattle.netlist.specs.Rows.{rows, AreEnds};
+    ghost use Rattle.netlist.specs.inner.Rows.{AreEnds, rows};
 
     ghost Value = { List (List ℕ) };
 
@@ -35,27 +34,6 @@ pub(crate) struct Tables {
     pub order: Vec<SignalId>,
     pub places: Vec<u32>,
     pub fans: Fans,
-}
-
-/// The place of each signal. An input or a cell has the place behind the last.
-fn places_of(
-    alloc: Global,
-    netlist: &Netlist,
-    order: &[SignalId],
-) -> Result<Vec<u32>, AllocError>
-    requires { IsOrder netlist.now order.now }
-    ensures { IfOk result (λ v. ArePlaces netlist.now order.now v.items) }
-{
-    netlist.sound();
-    let count = netlist.inputs().len() + netlist.definitions().len();
-    let mut places = Vec::with_capacity(alloc, count)?;
-    for _done in 0..count {
-        places.push(order.len() as u32)?;
-    }
-    for k in 0..order.len() {
-        places[order[k].index()] = k as u32;
-    }
-    Ok(places)
 }
 
 /// Adds the place of the gate that has this pin.
@@ -153,8 +131,9 @@ impl Tables {
     pub(crate) fn of(alloc: Global, core: &Core) -> Result<Tables, AllocError>
         ensures { IfOk result (λ t. AreTables core.now t.order.items t.places.items t.fans) }
     {
-        let order = Vec::from_slice(alloc, core.order())?;
-        let places = places_of(alloc, core.netlist(), &order)?;
+        let schedule = core.schedule();
+        let order = Vec::from_slice(alloc, schedule.order)?;
+        let places = Vec::from_slice(alloc, schedule.places)?;
         let fans = fans_of(alloc, core.netlist(), &places, order.len())?;
         Ok(Tables {
             order,

@@ -1,8 +1,7 @@
 //! Words of 64 patterns as a rule, where one line may be stuck. (Parallel-pattern simulation: Waicukauski and others, 1985.)
 ghost use Rattle.std.specs.Prelude.{◌≡◌, ◌↔◌, ◌<◌, ◌≤◌, IsTrue, length, map};
 ghost use Rattle.std.specs.List.{All};
-ghost use Rattle.netlist.specs.Settling.{at};
-ghost use Rattle.netlist.specs.Settled.{on_pins};
+ghost use Rattle.netlist.specs.Settled.{at, on_pins};
 ghost use Rattle.events.specs.Words.{all_of, some_of, odd_of, only_of, gate_word, is_stuck_at, words, WordsSettleAsBits};
 
 use crate::comparing::Comparing;
@@ -69,6 +68,8 @@ fn word_of<P: Pins>(kind: Kind, pins: &P) -> u64
         Kind::Xnor => odd_of(pins) ^ u64::MAX,
         Kind::Not => only_of(pins) ^ u64::MAX,
         Kind::Buff | Kind::Dff => only_of(pins),
+        Kind::Const0 => 0,
+        Kind::Const1 => u64::MAX,
     }
 }
 

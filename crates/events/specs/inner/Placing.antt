@@ -1,20 +1,13 @@
--- Places in the order of evaluation, and the gates that a change calls.
-use Rattle.std.specs.Prelude.{ℕ, ◌≡◌, ◌<◌, ◌≤◌, ◌==◌, ◌||◌, ◌⊎◌, nat_lt, cond, Bool, false, List, [], ◌∷◌, length, slice_index, slice_index_or}
+-- The gates that a change calls, by their places in the order of evaluation.
+use Rattle.std.specs.Prelude.{ℕ, ◌≡◌, ◌<◌, ◌==◌, ◌||◌, nat_lt, cond, Bool, false, List, [], ◌∷◌, length, slice_index, slice_index_or}
 use Rattle.std.specs.List.{list_any}
 use Rattle.netlist.specs.declared.lines.Line.{Line}
 use Rattle.netlist.specs.declared.lines.Line.TheVariants.{Stem, Pin, Out}
 use Rattle.netlist.specs.Netlist.{Netlist, signals}
-use Rattle.netlist.specs.Placed.{IsOrder}
+use Rattle.netlist.specs.Orders.{IsOrder, ArePlaces}
 use Rattle.netlist.specs.Readers.{readers_of}
-use Rattle.netlist.specs.Rows.{rows, AreEnds}
+use Rattle.netlist.specs.inner.Rows.{AreEnds, rows}
 use Rattle.events.specs.Agendas.{marked}
-
--- The place of each signal in an order of evaluation. An input or a cell has the place behind the last.
-pub record ArePlaces (n : Netlist) (order places : List ℕ) : Type 0 where
-  pub size : length places ≡ length (signals n)
-  pub here : (k : ℕ) → k < length order → slice_index places (slice_index order k) ≡ k
-  pub bounded : (x : ℕ) → x < length (signals n) → slice_index places x ≤ length order
-  pub there : (x : ℕ) → x < length (signals n) → slice_index places x < length order → slice_index order (slice_index places x) ≡ x
 
 -- a signal waits where its place is marked
 abbrev pub waiting : List Bool → List ℕ → ℕ → Bool
@@ -53,12 +46,6 @@ pub record AreTables (n : Netlist) (order places : List ℕ) (fans : List (List 
   pub ordered : IsOrder n order
   pub placed : ArePlaces n order places
   pub fanned : AreFans n places (length order) fans
-
--- the first m gates have their places, and every other signal the place behind the last
-pub record ArePlacesUpTo (order places : List ℕ) (count m : ℕ) : Type 0 where
-  pub size : length places ≡ count
-  pub here : (k : ℕ) → k < m → slice_index places (slice_index order k) ≡ k
-  pub others : (x : ℕ) → x < count → (slice_index places x ≡ length order) ⊎ ((slice_index places x < m) × (slice_index order (slice_index places x) ≡ x))
 
 -- the lists of the first m signals stand one behind the other
 pub record AreFansUpTo (n : Netlist) (places : List ℕ) (bound : ℕ) (items ends : List ℕ) (m : ℕ) : Type 0 where

@@ -1,15 +1,13 @@
 -- How values settle anew, gate by gate.
 use Rattle.std.specs.Prelude.{ℕ, ◌+◌, ◌≡◌, ◌≢◌, ◌<◌, ◌≤◌, ◌⊎◌, Bool, List, [], ◌∷◌, ◌++◌, length, slice_index, slice_set, IsTrue}
 use Rattle.std.specs.List.{All, Contains}
-use Rattle.netlist.specs.Netlist.{Definition, Netlist, gates, signals}
+use Rattle.netlist.specs.Netlist.{Definition, Netlist, gates, signals, also}
 use Rattle.netlist.specs.Readers.{readers_of}
-use Rattle.netlist.specs.Settled.{Rule, Settles}
-use Rattle.netlist.specs.Settling.{at}
+use Rattle.netlist.specs.Settled.{Rule, Settles, at}
 use Rattle.events.specs.declared.trails.Change.{Change}
 use Rattle.events.specs.Agendas.{marked, AreClear}
 use Rattle.events.specs.inner.Placing.{waiting, Calls, AreTables}
 use Rattle.events.specs.Trails.{AreChanges}
-use Rattle.netlist.specs.Sorting.{also}
 use Rattle.events.specs.Waiting.{SettlesBut, IsDrivenTo, given}
 
 -- the value is what the gate of this signal makes

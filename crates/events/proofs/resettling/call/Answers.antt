@@ -1,4 +1,4 @@
-use Rattle.std.proofs.Common.{◌<◌, length, get_or, sym, subst, refl}
+use Rattle.std.proofs.Common.{◌<◌, get_or, sym, subst, refl}
 use Rattle.events.proofs.Fans.{marks_nothing, marks_more}
 use Rattle.events.proofs.resettling.call.Goals as goal
 

@@ -1,6 +1,6 @@
-use Rattle.std.proofs.Common.{◌≡◌, ◌≤◌, ◌<◌, ℕ, List, ap, sym, subst, ◌∙◌, length}
+use Rattle.std.proofs.Common.{◌≡◌, ◌≤◌, ◌<◌, ap, sym, subst, ◌∙◌, length}
 use Rattle.netlist.specs.Netlist.{Definition, signals}
-use Rattle.netlist.specs.Settling.{at}
+use Rattle.netlist.specs.Settled.{at}
 use Rattle.netlist.proofs.Placed.{definition_below, gate_defined, same_definition}
 use Rattle.netlist.proofs.Settling.{above_inputs, pins_within}
 use Rattle.events.specs.Waiting.{given}

@@ -2,7 +2,7 @@ use Rattle.std.proofs.Common.{◌≡◌, ◌<◌, Bool, List, false, ap, sym, su
 use Rattle.std.proofs.lemmas.List.{get_or_read}
 use Rattle.netlist.specs.Netlist.{signals}
 use Rattle.netlist.proofs.Placed.{definition_below, gate_defined}
-use Rattle.netlist.specs.Settling.{at}
+use Rattle.netlist.specs.Settled.{at}
 use Rattle.events.specs.Agendas.{IsFirst, AreClear}
 use Rattle.events.specs.Waiting.{given}
 use Rattle.events.specs.inner.Running.{Takes}
@@ -22,7 +22,7 @@ made-value-requires-clause-gate g c =
     let s = c.loop-place.invariant.0.size in
     let i = first.within in
     let l : c.in-Some.place < length order = omega arith in
-    let w = c.requires.tables.ordered.placed.gates c.in-Some.place l in
+    let w = c.requires.tables.ordered.members c.in-Some.place 0 l in
     (w.0, w.1, w.2 ∙ sym (get_or_read order c.in-Some.place c.index-id.result.now l c.index-id.ensures 0))
 
 pub take_value-requires-clause-within : goal.take_value-requires-clause-within
@@ -34,7 +34,7 @@ take_value-requires-clause-within g c =
     let s = c.loop-place.invariant.0.size in
     let i = first.within in
     let l : c.in-Some.place < length order = omega arith in
-    let w = c.requires.tables.ordered.placed.gates c.in-Some.place l in
+    let w = c.requires.tables.ordered.members c.in-Some.place 0 l in
     let numbered = c.sound.ensures.formed.numbered in
     subst (λ x. x < length (signals n)) (w.2 ∙ sym (get_or_read order c.in-Some.place c.index-id.result.now l c.index-id.ensures 0))
     (definition_below n numbered w.0 (gate_defined n numbered w.0 w.1))

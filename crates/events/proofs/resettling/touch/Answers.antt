@@ -1,5 +1,6 @@
 use Rattle.std.proofs.Common.{◌≡◌, ◌∙◌, ap, subst, true, set, get_or, length, arith}
 use Rattle.netlist.specs.declared.lines.Line.TheVariants.{Stem}
+use Rattle.netlist.proofs.Orders.{place_bounded}
 use Rattle.events.specs.inner.Running.{PutsSource}
 use Rattle.events.proofs.Running.{gate_marked, source_takes}
 use Rattle.events.proofs.resettling.touch.Goals as goal
@@ -25,7 +26,7 @@ returns-clause-puts g c =
     let here = c.place-place.ensures in
     let count = c.len.ensures in
     let size = t.order.ok.0 in
-    let most = c.requires.tables.placed.bounded c.args.id c.requires.within in
+    let most = place_bounded n c.sound.ensures.formed.numbered t.order.items c.requires.tables.ordered t.places.items c.requires.tables.placed c.args.id c.requires.within in
     let behind : get_or t.places.items c.args.id 0 ≡ length t.order.items = omega arith in
     subst (λ v. PutsSource rule n t.places.items c.args.id v c.args.values.now.items c.take_value.new.values.items c.args.agenda.now c.take_value.new.agenda c.args.trail.now.items c.take_value.new.trail.items)
     c.line-value.ensures

@@ -1,9 +1,9 @@
-use Rattle.std.proofs.Common.{◌≡◌, ◌<◌, ◌++◌, List, ℕ, sym, ap, ◌∙◌, subst, length, map, refl, arith}
+use Rattle.std.proofs.Common.{◌<◌, ◌++◌, List, sym, ap, ◌∙◌, subst, length, map, refl, arith}
 use Rattle.std.specs.List.{All}
 use Rattle.netlist.specs.declared.lines.Line.{Line}
 use Rattle.netlist.specs.Netlist.{signals}
 use Rattle.netlist.specs.Readers.{readers_of}
-use Rattle.netlist.specs.Sorting.{IsPinBelow}
+use Rattle.netlist.specs.Lines.{IsPinBelow}
 use Rattle.netlist.proofs.ReaderRows.{are_below, row_below}
 use Rattle.netlist.proofs.ReaderTables.{table_count, readers_at}
 use Rattle.events.specs.inner.Placing.{called}

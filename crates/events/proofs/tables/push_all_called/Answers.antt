@@ -1,7 +1,3 @@
-use Rattle.std.proofs.Common.{◌≡◌, ◌+◌, ◌++◌, ◌∷◌, [], List, ℕ, take, get_or, append_assoc, sym, ap, ◌∙◌}
-use Rattle.std.proofs.lemmas.List.{take_more}
-use Rattle.netlist.specs.declared.lines.Line.{Line}
-use Rattle.events.specs.inner.Placing.{called}
 use Rattle.events.proofs.Fans.{called_more}
 use Rattle.events.proofs.tables.push_all_called.Goals as goal
 

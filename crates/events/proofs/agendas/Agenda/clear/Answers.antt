@@ -1,4 +1,4 @@
-use Rattle.std.proofs.Common.{◌≡◌, ℕ, ap, sym, ◌∙◌, length, replicate}
+use Rattle.std.proofs.Common.{ap, sym, ◌∙◌, length, replicate}
 use Rattle.events.proofs.Levels.{bits_length, levels_none, clear_is, zeros_at}
 use Rattle.events.proofs.agendas.Agenda.clear.Goals as goal
 

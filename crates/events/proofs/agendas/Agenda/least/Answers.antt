@@ -1,7 +1,7 @@
-use Rattle.std.proofs.Common.{◌≡◌, ◌<◌, ◌∙◌, ℕ, Bool, List, ap, sym, subst, length, false, set, get_or}
+use Rattle.std.proofs.Common.{◌≡◌, ◌<◌, ℕ, Bool, List, sym, subst, length, get_or}
 use Rattle.events.specs.Agendas.{IsFirst, AreClear}
 use Rattle.events.specs.inner.Bitmaps.{IsFirstWord, IsLeastIn}
-use Rattle.events.proofs.Levels.{first_is, clear_is, taken_marks, up_some, some_within}
+use Rattle.events.proofs.Levels.{first_is, clear_is, up_some, some_within}
 use Rattle.events.proofs.agendas.Agenda.least.Goals as goal
 
 pub least_in-word-requires-clause-within : goal.least_in-word-requires-clause-within
@@ -34,4 +34,3 @@ returns c =
     (subst (λ (xs : List ℕ). IsLeastIn xs c.in-Some.first c.least_in-high.result) c.deref-2.ensures.value c.least_in-high.ensures)
     (subst (λ (xs : List ℕ). IsLeastIn xs c.least_in-high.result c.least_in-word.result) c.deref-3.ensures.value c.least_in-word.ensures)
     (subst (λ (xs : List ℕ). IsLeastIn xs c.least_in-word.result c.least_in.result) c.deref-4.ensures.value c.least_in.ensures))
-

@@ -1,5 +1,7 @@
-use Rattle.std.proofs.Common.{◌+◌, ◌-◌, ◌∙◌, ap, sym, subst, length, vec_capacity}
+use Rattle.std.proofs.Common.{◌+◌, ◌-◌, ◌≤◌, ◌∙◌, sym, subst, length, vec_capacity, arith}
+use Rattle.netlist.specs.Conditions.{IsSound}
 use Rattle.netlist.specs.Netlist.{Netlist, signals}
+use Rattle.netlist.proofs.Orders.{gates_few}
 use Rattle.events.specs.inner.Running.{AreReady}
 use Rattle.events.specs.Standing.{Standing, standing, Moves, SettlesAnew}
 use Rattle.events.proofs.Standing.{changed, still_ready, settles_anew, moved}
@@ -42,3 +44,15 @@ returns-clause-settles g c =
     c.touch.ensures.puts c.resettle.ensures.resettles in
     subst (λ (s : Standing g.row.V.Denot). SettlesAnew rule s.netlist c.args.id c.args.driven s.values c.resettle.new.values.items) c.self.view_is
     (subst (λ (m : Netlist). SettlesAnew rule m c.args.id c.args.driven i.values.items c.resettle.new.values.items) c.netlist-netlist.ensures h)
+
+pub resettle-requires-clause-room : goal.resettle-requires-clause-room
+resettle-requires-clause-room g c =
+    let n = c.self.inside.core.now in
+    let sound : IsSound n = subst IsSound c.netlist-netlist.ensures c.sound.ensures in
+    let few = gates_few n sound.formed.numbered c.self.inside.tables.order.items c.self.invariant.tables.ordered in
+    let room : length c.self.inside.trail.items ≤ vec_capacity c.self.inside.trail - (length (signals n) + 1) =
+    subst (λ (s : Standing g.row.V.Denot). length s.trail ≤ s.room) (sym c.self.view_is) c.requires.room in
+    let held = c.self.invariant.room in
+    let pushed = c.touch.ensures.pushed in
+    let same = c.touch.ensures.room in
+    omega arith

@@ -1,5 +1,7 @@
-use Rattle.std.proofs.Common.{◌≡◌, ◌<◌, List, ap, sym, subst, refl, ◌∙◌, length, map}
+use Rattle.std.proofs.Common.{◌≡◌, ap, sym, subst, refl, ◌∙◌, length, arith}
+use Rattle.netlist.specs.Conditions.{IsSound}
 use Rattle.netlist.specs.Netlist.{Netlist, cells, signals}
+use Rattle.netlist.proofs.Orders.{gates_few}
 use Rattle.netlist.proofs.Settling.{cells_below, cells_distinct}
 use Rattle.events.specs.Standing.{Standing, SettlesFor}
 use Rattle.events.specs.inner.Placing.{AreTables}
@@ -28,3 +30,13 @@ returns-clause-settles g c =
     c.drive_onto.ensures c.drive_onto-2.ensures c.resettle.new.values.items c.clear.new.self.items c.resettle.new.trail.items c.resettle.ensures.resettles in
     subst (λ (m : Netlist). SettlesFor rule m c.args.inputs.now c.args.state.now c.args.self.now.values c.resettle.new.values.items) same
     (subst (λ (s : Standing g.row.V.Denot). SettlesFor rule n c.args.inputs.now c.args.state.now s.values c.resettle.new.values.items) c.self.view_is h)
+
+pub resettle-requires-clause-room : goal.resettle-requires-clause-room
+resettle-requires-clause-room g c =
+    let n = c.self.inside.core.now in
+    let sound : IsSound n = subst IsSound c.netlist-netlist.ensures c.sound.ensures in
+    let few = gates_few n sound.formed.numbered c.self.inside.tables.order.items c.self.invariant.tables.ordered in
+    let held = c.self.invariant.room in
+    let none = ap length c.clear.ensures.items in
+    let same = c.clear.ensures.capacity in
+    omega arith

@@ -1,10 +1,10 @@
-use Rattle.std.proofs.Common.{◌≡◌, ◌<◌, ap, sym, subst, ◌∙◌, length, get_or, arith}
-use Rattle.netlist.specs.Conditions.{IsNumbered, IsSound}
+use Rattle.std.proofs.Common.{◌<◌, sym, subst, length, arith}
+use Rattle.netlist.specs.Conditions.{IsSound}
 use Rattle.netlist.specs.Lines.{IsLineOf}
-use Rattle.netlist.specs.Netlist.{Netlist, signals}
+use Rattle.netlist.specs.Netlist.{signals}
 use Rattle.events.specs.Standing.{Standing}
 use Rattle.events.specs.Stuck.{IsObservedOnly, IsSite}
-use Rattle.events.proofs.Sites.{stem_within, pin_within, pin_site, pin_observed}
+use Rattle.events.proofs.Sites.{pin_within, pin_site, pin_observed}
 use Rattle.events.proofs.evaluator.Events.site.Goals as goal
 
 pub place-requires : goal.place-requires

@@ -1,6 +1,6 @@
 use Rattle.std.proofs.Common.{map, sym, ◌∙◌}
 use Rattle.std.proofs.lemmas.List.{length-map}
-use Rattle.netlist.specs.Settling.{at}
+use Rattle.netlist.specs.Settled.{at}
 use Rattle.events.specs.Words.{words}
 use Rattle.events.proofs.Stuck.{length-on_pins}
 use Rattle.events.proofs.pins.StuckPins.count.Goals as goal

@@ -1,5 +1,5 @@
 use Rattle.std.proofs.Common.{◌≡◌, ◌<◌, List, ℕ, [], length, get_or, sym, ap, ◌∙◌, subst}
-use Rattle.netlist.specs.Rows.{rows}
+use Rattle.netlist.specs.inner.Rows.{rows}
 use Rattle.netlist.proofs.BufferRows.{rows_count}
 use Rattle.events.proofs.tables.Fans.row.Goals as goal
 

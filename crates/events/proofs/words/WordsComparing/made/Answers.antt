@@ -1,6 +1,5 @@
-use Rattle.std.proofs.Common.{◌≡◌, ◌∙◌, ap, sym}
+use Rattle.std.proofs.Common.{◌∙◌, sym}
 use Rattle.events.proofs.Stuck.{read_any, free_made}
-use Rattle.events.specs.Words.{words}
 use Rattle.events.proofs.words.WordsComparing.made.Goals as goal
 
 pub returns-then-is_stuck_at : goal.returns-then-is_stuck_at
