@@ -1,5 +1,6 @@
 //! Agendas: the places at which something waits, the least of which comes next.
 ghost use Rattle.std.specs.Prelude.{◌≡◌, ◌<◌, ◌≤◌, ◌↔◌, true, false, length, slice_set, IsTrue, MatchOption, IfOk};
+ghost use Rattle.netlist.specs.Conditions.{most_signals};
 ghost use Rattle.events.specs.Agendas.{IsFirst, AreClear};
 
 use crate::bitmaps::{first_word, least_in, no_words, put, sum_up, take_out};
@@ -29,7 +30,7 @@ impl Model for Agenda {
 impl Agenda {
     /// An agenda without a place. Only this call takes memory.
     pub fn new(alloc: Global, bound: usize) -> Result<Agenda, AllocError>
-        requires { bound ≤ 8000000 }
+        requires { bound ≤ most_signals }
         ensures size { IfOk result (λ a. length a ≡ bound) }
         ensures clear { IfOk result AreClear }
     {

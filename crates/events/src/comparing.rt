@@ -1,6 +1,7 @@
 //! Rules whose values can be told apart, and that evaluate a gate in one pass over its pins.
 ghost use Rattle.std.specs.Prelude.{◌≡◌, ◌↔◌, ◌<◌, ◌≤◌, length, IsTrue};
 ghost use Rattle.std.specs.List.{All};
+ghost use Rattle.netlist.specs.Gates.{most_pins};
 ghost use Rattle.netlist.specs.Settled.{at};
 ghost use Rattle.events.specs.Waiting.{given};
 
@@ -21,6 +22,6 @@ pub trait Comparing: Logic {
         values: &[Self::Value],
     ) -> Self::Value
         requires below { All (λ x. x < length values.now) pins.now }
-        requires few { length pins.now ≤ 1024 }
+        requires few { length pins.now ≤ most_pins }
         ensures { (d : Self.Value) → result ≡ given (Self.rule self.now) (at values.now d) (record { id = id; kind = kind; pins = pins.now }) };
 }

@@ -1,6 +1,7 @@
 //! The words on the pins of a gate, by place: as they are given, read from the values of all signals, or read where a line is stuck.
 ghost use Rattle.std.specs.Prelude.{◌≡◌, ◌<◌, ◌≤◌, ℕ, List, length, map, slice_index};
 ghost use Rattle.std.specs.List.{All};
+ghost use Rattle.netlist.specs.Gates.{most_pins};
 ghost use Rattle.netlist.specs.Settled.{on_pins, at};
 ghost use Rattle.events.specs.Words.{words};
 
@@ -41,7 +42,7 @@ pub(crate) struct Stuck<'a> {
     pub pins: &'a [SignalId],
     pub values: &'a [u64],
     ghost below: { All (λ x. x < length values.now) pins.now },
-    ghost few: { length pins.now ≤ 1024 },
+    ghost few: { length pins.now ≤ most_pins },
 }
 
 impl Pins for Given<'_> {

@@ -1,6 +1,7 @@
 //! Words of 64 patterns as a rule, where one line may be stuck. (Parallel-pattern simulation: Waicukauski and others, 1985.)
 ghost use Rattle.std.specs.Prelude.{◌≡◌, ◌↔◌, ◌<◌, ◌≤◌, IsTrue, length, map};
 ghost use Rattle.std.specs.List.{All};
+ghost use Rattle.netlist.specs.Gates.{most_pins};
 ghost use Rattle.netlist.specs.Settled.{at, on_pins};
 ghost use Rattle.events.specs.Words.{all_of, some_of, odd_of, only_of, gate_word, is_stuck_at, words, WordsSettleAsBits};
 
@@ -93,7 +94,7 @@ impl Words {
     #[inline(never)]
     fn made_stuck(&self, id: SignalId, kind: Kind, pins: &[SignalId], values: &[u64]) -> u64
         requires below { All (λ x. x < length values.now) pins.now }
-        requires few { length pins.now ≤ 1024 }
+        requires few { length pins.now ≤ most_pins }
         ensures { result ≡ (words self.now.fault).line (Line.Stem id) (gate_word kind (on_pins (words self.now.fault) id 0 (map (at values.now 0) pins.now))) }
     {
         let word = word_of(
