@@ -13,10 +13,10 @@ use Rattle.bench_text.specs.declared.refusal.BenchFault.{BenchFault}
 use Rattle.bench_text.specs.Bytes.{code, lines}
 use Rattle.bench_text.specs.Tokens.{Token, Word, Open, Close, Comma, Equals, tokens}
 use Rattle.bench_text.specs.Forms.{Statement, Nothing, Input, Output, Definition}
-use Rattle.bench_text.specs.Refusals.{names_of, is_short, says, fault, holds, has_reserved_name}
+use Rattle.bench_text.specs.Refusals.{names_of, is_short, says, line_refusal, holds, has_reserved_name}
 use Rattle.bench_text.specs.Said.{statements_of}
-use Rattle.bench_text.specs.Texts.{said, statements, inputs_of, definitions_of, signals_of, first_fault}
-use Rattle.bench_text.specs.Whole.{whole_fault, or_else, notes, refusal}
+use Rattle.bench_text.specs.Texts.{statement_on, statements, inputs_of, definitions_of, signals_of, first_refusal}
+use Rattle.bench_text.specs.Whole.{whole_refusal, or_else, notes, refusal}
 use Rattle.bench_text.specs.Netlists.{id_of, netlist_of}
 use Rattle.bench_text.specs.Reading.{netlist_in, IsRead, IsReadAs}
 use Rattle.bench_text.proofs.Lists.{both_true, or_false, index-all}
@@ -56,24 +56,24 @@ not_last false false false false true f h = cc
 not_last false false false false false true h = cc
 not_last false false false false false false h = refl
 
-module _ (before : List (List ℕ)) (line : List ℕ) (fine : fault Design before line ≡ None) where
+module _ (before : List (List ℕ)) (line : List ℕ) (fine : line_refusal Design before line ≡ None) where
   none_reserved : holds (has_reserved_name Design) (says Design line) ≡ false
-  unfolding fault
+  unfolding line_refusal
   none_reserved = not_last _ _ _ _ _ _ fine
 
-  line-free : HasFreeNames (said Design line)
+  line-free : HasFreeNames (statement_on Design line)
   line-free =
       let s = reads-it Design before line fine in
       let it = says-that Design before line fine in
       let short = statement-named (λ w. length w ≤ 255) (tokens (code line)) s.0 s.2 (short-words (tokens (code line)) s.1) in
       subst (λ (o : Option Statement). HasFreeNames (unwrap_or o Nothing)) (sym it) (free-names (names_of s.0) short (ap (holds (has_reserved_name Design)) (sym it) ∙ none_reserved))
 
-lines-free : (earlier : List Statement) (ls : List (List ℕ)) → first_fault Design earlier ls ≡ None → AllByRecursion HasFreeNames (map (said Design) ls)
-unfolding first_fault
+lines-free : (earlier : List Statement) (ls : List (List ℕ)) → first_refusal Design earlier ls ≡ None → AllByRecursion HasFreeNames (map (statement_on Design) ls)
+unfolding first_refusal
 lines-free earlier [] h = tt
 lines-free earlier (line ∷ ls) h =
-    let p = at_line-none (length earlier + 1) (fault Design (signals_of earlier) line) (first_fault Design (earlier ++ said Design line ∷ []) ls) h in
-    (line-free (signals_of earlier) line p.0, lines-free (earlier ++ said Design line ∷ []) ls p.1)
+    let p = at_line-none (length earlier + 1) (line_refusal Design (signals_of earlier) line) (first_refusal Design (earlier ++ statement_on Design line ∷ []) ls) h in
+    (line-free (signals_of earlier) line p.0, lines-free (earlier ++ statement_on Design line ∷ []) ls p.1)
 
 -- the names of the signals are names of the statements
 inputs-free : (ss : List Statement) → AllByRecursion HasFreeNames ss → AllByRecursion IsFree (inputs_of ss)
@@ -105,7 +105,7 @@ neither (Some r) b h = cc
 
 design-in : (text : List ℕ) → refusal Design text ≡ None → IsDesign (netlist_in Design text)
 design-in text h =
-    let p = neither (first_fault Design [] (lines text)) (whole_fault Design (notes Design text)) h in
+    let p = neither (first_refusal Design [] (lines text)) (whole_refusal Design (notes Design text)) h in
     let all = notes Design text in
     let ss = statements_of all in
     let fine : AllByRecursion IsFine ss = noted-all IsFine 1 (statements Design text) (lines-fine Design [] (lines text) p.0) in

@@ -18,7 +18,7 @@ use Rattle.bench_text.specs.Said.{statements_of}
 use Rattle.bench_text.specs.Texts.{input, output, defined, inputs_of, definitions_of, signals_of}
 use Rattle.bench_text.specs.Whole.{outputs_of}
 use Rattle.bench_text.specs.Sights.{name_at}
-use Rattle.bench_text.specs.Numbered.{spelled, spelled_entry, input_number, definition_number, output_number, input_numbers, definition_numbers, output_numbers, are_below, with_number, IsDraft}
+use Rattle.bench_text.specs.inner.Numbered.{spelling_of, spelling_of_entry, input_number, definition_number, output_number, input_numbers, definition_numbers, output_numbers, are_below, with_number, IsDraft}
 use Rattle.bench_text.proofs.Lists.{list_any-append, list_any-map, all_append, flat_map-push, none-any, some-any, some_same, same_name, name_same, or_right, or_left, false_if}
 use Rattle.bench_text.proofs.RoleLemmas.{roles-defined, places-defined, roles-other, places-other}
 
@@ -29,35 +29,35 @@ at_name (x ∷ names) zero h = refl
 at_name (x ∷ names) (suc n) h = at_name names n (omega arith)
 
 -- the signals that numbered statements define
-input-spelled : (names : List (List ℕ)) (s : Numbered) → input (spelled names s) ≡ map (name_at names) (input_number s)
+input-spelled : (names : List (List ℕ)) (s : Numbered) → input (spelling_of names s) ≡ map (name_at names) (input_number s)
 input-spelled names (Input n) = refl
 input-spelled names (Output n) = refl
 input-spelled names (Definition n kind pins) = refl
 
-defined-spelled : (names : List (List ℕ)) (s : Numbered) → defined (spelled names s) ≡ map (name_at names) (definition_number s)
+defined-spelled : (names : List (List ℕ)) (s : Numbered) → defined (spelling_of names s) ≡ map (name_at names) (definition_number s)
 defined-spelled names (Input n) = refl
 defined-spelled names (Output n) = refl
 defined-spelled names (Definition n kind pins) = refl
 
-pub inputs-spelled : (names : List (List ℕ)) (es : List Entry) → inputs_of (statements_of (map (spelled_entry names) es)) ≡ map (name_at names) (input_numbers es)
+pub inputs-spelled : (names : List (List ℕ)) (es : List Entry) → inputs_of (statements_of (map (spelling_of_entry names) es)) ≡ map (name_at names) (input_numbers es)
 inputs-spelled names [] = refl
 inputs-spelled names (e ∷ es) = (λ i. input-spelled names e.statement i ++ inputs-spelled names es i) ∙ sym (map-append (name_at names) (input_number e.statement) (input_numbers es))
 
-pub definitions-spelled : (names : List (List ℕ)) (es : List Entry) → definitions_of (statements_of (map (spelled_entry names) es)) ≡ map (name_at names) (definition_numbers es)
+pub definitions-spelled : (names : List (List ℕ)) (es : List Entry) → definitions_of (statements_of (map (spelling_of_entry names) es)) ≡ map (name_at names) (definition_numbers es)
 definitions-spelled names [] = refl
 definitions-spelled names (e ∷ es) = (λ i. defined-spelled names e.statement i ++ definitions-spelled names es i) ∙ sym (map-append (name_at names) (definition_number e.statement) (definition_numbers es))
 
-output-spelled : (names : List (List ℕ)) (s : Numbered) → output (spelled names s) ≡ map (name_at names) (output_number s)
+output-spelled : (names : List (List ℕ)) (s : Numbered) → output (spelling_of names s) ≡ map (name_at names) (output_number s)
 output-spelled names (Input n) = refl
 output-spelled names (Output n) = refl
 output-spelled names (Definition n kind pins) = refl
 
-pub outputs-spelled : (names : List (List ℕ)) (es : List Entry) → outputs_of (statements_of (map (spelled_entry names) es)) ≡ map (name_at names) (output_numbers es)
+pub outputs-spelled : (names : List (List ℕ)) (es : List Entry) → outputs_of (statements_of (map (spelling_of_entry names) es)) ≡ map (name_at names) (output_numbers es)
 outputs-spelled names [] = refl
 outputs-spelled names (e ∷ es) = (λ i. output-spelled names e.statement i ++ outputs-spelled names es i) ∙ sym (map-append (name_at names) (output_number e.statement) (output_numbers es))
 
 module _ (names : List (List ℕ)) (roles : List Role) (es : List Entry) (ins defs outs : List ℕ) (d : IsDraft names roles es ins defs outs) where
-  pub signals-spelled : signals_of (statements_of (map (spelled_entry names) es)) ≡ map (name_at names) ins ++ map (name_at names) defs
+  pub signals-spelled : signals_of (statements_of (map (spelling_of_entry names) es)) ≡ map (name_at names) ins ++ map (name_at names) defs
   signals-spelled =
       (λ i. inputs-spelled names es i ++ definitions-spelled names es i)
       ∙ (λ i. map (name_at names) (sym d.inputs i) ++ map (name_at names) (sym d.definitions i))
@@ -76,7 +76,7 @@ module _ (names : List (List ℕ)) (roles : List Role) (es : List Entry) (ins de
   -- whether a line defines the name of a number
   module _ (n : ℕ) where
     abbrev defines : Bool
-    defines = list_any (bytes_eq (name_at names n)) (signals_of (statements_of (map (spelled_entry names) es)))
+    defines = list_any (bytes_eq (name_at names n)) (signals_of (statements_of (map (spelling_of_entry names) es)))
 
     split : defines ≡ (list_any (λ m. bytes_eq (name_at names n) (name_at names m)) ins || list_any (λ m. bytes_eq (name_at names n) (name_at names m)) defs)
     split =
@@ -152,13 +152,18 @@ module _ (names : List (List ℕ)) (roles : List Role) (es : List Entry) (ins de
   defines-other n r e (inl p) = defines-input n p.0 (e ∙ ap Some p.1)
   defines-other n r e (inr p) = defines-definition n p.0 (e ∙ ap Some p.1)
 
+-- one more entry, by its names
+pub notes-pushed : (names : List (List ℕ)) (es es' : List Entry) (e : Entry) → es' ≡ es ++ e ∷ []
+    → map (spelling_of_entry names) es' ≡ map (spelling_of_entry names) es ++ spelling_of_entry names e ∷ []
+notes-pushed names es es' e h = ap (map (spelling_of_entry names)) h ∙ map-append (spelling_of_entry names) es (e ∷ [])
+
 -- the same in the words of the code
 pub input-pushed : (names : List (List ℕ)) (roles : List Role) (es es' : List Entry) (ins ins' defs outs : List ℕ) → IsDraft names roles es ins defs outs → (line n k : ℕ) → n < length names
-    → list_any (bytes_eq (name_at names n)) (signals_of (statements_of (map (spelled_entry names) es))) ≡ false
+    → list_any (bytes_eq (name_at names n)) (signals_of (statements_of (map (spelling_of_entry names) es))) ≡ false
     → k ≡ length ins → es' ≡ es ++ record { line = line; statement = Input n } ∷ [] → ins' ≡ ins ++ n ∷ [] → IsDraft names (set roles n (role.Input k)) es' ins' defs outs
 input-pushed names roles es es' ins ins' defs outs d line n k seen free e f g = rw (e, f, g) (draft-input names roles es ins defs outs d line n seen free)
 
 pub definition-pushed : (names : List (List ℕ)) (roles : List Role) (es es' : List Entry) (ins defs defs' outs : List ℕ) → IsDraft names roles es ins defs outs → (line n k : ℕ) (kind : Kind) (pins : SmallVec ℕ) → n < length names
-    → list_any (bytes_eq (name_at names n)) (signals_of (statements_of (map (spelled_entry names) es))) ≡ false → list_all (λ m. nat_lt m (length names)) pins.items ≡ true
+    → list_any (bytes_eq (name_at names n)) (signals_of (statements_of (map (spelling_of_entry names) es))) ≡ false → list_all (λ m. nat_lt m (length names)) pins.items ≡ true
     → k ≡ length defs → es' ≡ es ++ record { line = line; statement = Definition n kind pins } ∷ [] → defs' ≡ defs ++ n ∷ [] → IsDraft names (set roles n (role.Definition k)) es' ins defs' outs
 definition-pushed names roles es es' ins defs defs' outs d line n k kind pins seen free h e f g = rw (e, f, g) (draft-definition names roles es ins defs outs d line n seen free kind pins h)

@@ -15,9 +15,10 @@ use Rattle.bench_text.specs.Bytes.{code, is_allowed}
 use Rattle.bench_text.specs.Tokens.{Token, Word, Open, Close, Comma, Equals, is_word_byte, tokens}
 use Rattle.bench_text.specs.Keywords.{is_keyword, kind_of}
 use Rattle.bench_text.specs.Forms.{Statement, Nothing, Input, Output, Definition, closed_name, pins, more_pins, definition, statement}
-use Rattle.bench_text.specs.Refusals.{names_of, longest, is_short, says, fault, gate_fault, holds, has_unknown_gate, has_bad_pins}
-use Rattle.bench_text.specs.Said.{noted, statements_of}
-use Rattle.bench_text.specs.Texts.{said, signals_of, at_line, first_fault}
+use Rattle.bench_text.specs.Refusals.{names_of, longest, is_short, says, line_refusal, holds, has_unknown_gate, has_bad_pins}
+use Rattle.bench_text.specs.inner.OneLine.{gate_refusal}
+use Rattle.bench_text.specs.Said.{notes_from, statements_of}
+use Rattle.bench_text.specs.Texts.{statement_on, signals_of, at_line, first_refusal}
 use Rattle.bench_text.proofs.Plain.{is_plain, IsRun, IsNamed}
 use Rattle.bench_text.proofs.Lists.{both_true, index-all}
 use Rattle.bench_text.proofs.Runs.{either, take-run_yes, take-run_no}
@@ -25,7 +26,7 @@ use Rattle.bench_text.proofs.NameLemmas.{tokens-named}
 
 pub record IsFine (s : Statement) : Type 0 where
   pub names : AllByRecursion IsName (names_of s)
-  pub gate : gate_fault s ≡ None
+  pub gate : gate_refusal s ≡ None
 
 -- the bytes of names
 run-byte : (b : ℕ) → is_word_byte b ≡ true → is_plain b ≡ true → is_name_byte b ≡ true
@@ -188,7 +189,7 @@ not_false : (b : Bool) → not b ≡ false → b ≡ true
 not_false true h = refl
 not_false false h = cc
 
-gate-fine : (s : Statement) → has_unknown_gate s ≡ false → has_bad_pins s ≡ false → gate_fault s ≡ None
+gate-fine : (s : Statement) → has_unknown_gate s ≡ false → has_bad_pins s ≡ false → gate_refusal s ≡ None
 gate-fine Nothing h k = refl
 gate-fine (Input x) h k = refl
 gate-fine (Output x) h k = refl
@@ -200,9 +201,9 @@ said-some true None h = cc
 said-some true (Some s) h = (s, refl, refl)
 said-some false o h = cc
 
-module _ (reading : Names) (before : List (List ℕ)) (line : List ℕ) (fine : fault reading before line ≡ None) where
+module _ (reading : Names) (before : List (List ℕ)) (line : List ℕ) (fine : line_refusal reading before line ≡ None) where
   none_of_six : (list_all is_allowed (code line) ≡ true) × (is_none (says reading line) ≡ false) × (holds has_unknown_gate (says reading line) ≡ false) × (holds has_bad_pins (says reading line) ≡ false)
-  unfolding fault
+  unfolding line_refusal
   none_of_six = let p = six _ _ _ _ _ _ fine in (not_false _ p.0, p.1, p.2, p.3)
 
   pub reads-it : (s : Statement) × (list_all (is_short reading) (tokens (code line)) ≡ true) × (statement (tokens (code line)) ≡ Some s)
@@ -213,31 +214,31 @@ module _ (reading : Names) (before : List (List ℕ)) (line : List ℕ) (fine : 
   unfolding says
   says-that = ap (λ (b : Bool). if b then statement (tokens (code line)) else None) reads-it.1 ∙ reads-it.2
 
-  pub said-fine : IsFine (said reading line)
+  pub said-fine : IsFine (statement_on reading line)
   said-fine =
       let s = reads-it in
       let plain = all_both is_allowed (λ b. not (b == 35)) (code line) none_of_six.0 (no_hash line) in
       let words = named-words reading (tokens (code line)) (tokens-named (code line) plain) s.1 in
-      let it : said reading line ≡ s.0 = ap (λ o. unwrap_or o Nothing) says-that in
+      let it : statement_on reading line ≡ s.0 = ap (λ o. unwrap_or o Nothing) says-that in
       subst IsFine (sym it) (record {
         names = statement-named IsName (tokens (code line)) s.0 s.2 words;
         gate = gate-fine s.0 (ap (holds has_unknown_gate) (sym says-that) ∙ none_of_six.2) (ap (holds has_bad_pins) (sym says-that) ∙ none_of_six.3);
       })
 
--- no line is faulty
+-- no line is refused
 pub at_line-none : (n : ℕ) (o : Option BenchKind) (later : Option BenchRefusal) → at_line n o later ≡ None → (o ≡ None) × (later ≡ None)
 at_line-none n None later h = (refl, h)
 at_line-none n (Some k) later h = cc
 
-pub lines-fine : (reading : Names) (earlier : List Statement) (ls : List (List ℕ)) → first_fault reading earlier ls ≡ None → AllByRecursion IsFine (map (said reading) ls)
-unfolding first_fault
+pub lines-fine : (reading : Names) (earlier : List Statement) (ls : List (List ℕ)) → first_refusal reading earlier ls ≡ None → AllByRecursion IsFine (map (statement_on reading) ls)
+unfolding first_refusal
 lines-fine reading earlier [] h = tt
 lines-fine reading earlier (line ∷ ls) h =
-    let p = at_line-none (length earlier + 1) (fault reading (signals_of earlier) line) (first_fault reading (earlier ++ said reading line ∷ []) ls) h in
-    (said-fine reading (signals_of earlier) line p.0, lines-fine reading (earlier ++ said reading line ∷ []) ls p.1)
+    let p = at_line-none (length earlier + 1) (line_refusal reading (signals_of earlier) line) (first_refusal reading (earlier ++ statement_on reading line ∷ []) ls) h in
+    (said-fine reading (signals_of earlier) line p.0, lines-fine reading (earlier ++ statement_on reading line ∷ []) ls p.1)
 
 -- what holds of each line's statement
-pub noted-all : (P : Statement → Type 0) (n : ℕ) (ss : List Statement) → AllByRecursion P ss → AllByRecursion P (statements_of (noted n ss))
+pub noted-all : (P : Statement → Type 0) (n : ℕ) (ss : List Statement) → AllByRecursion P ss → AllByRecursion P (statements_of (notes_from n ss))
 noted-all P n [] h = tt
 noted-all P n (Nothing ∷ ss) h = noted-all P (n + 1) ss h.1
 noted-all P n (Input x ∷ ss) h = (h.0, noted-all P (n + 1) ss h.1)

@@ -14,7 +14,8 @@ use Rattle.bench_text.specs.declared.refusal.BenchKind.{BenchKind}
 use Rattle.bench_text.specs.declared.refusal.BenchKind.TheVariants.{BadPins}
 use Rattle.bench_text.specs.Forms.{Statement, Nothing, Input, Output, Definition}
 use Rattle.bench_text.specs.Texts.{inputs_of, definitions_of, signals_of, output}
-use Rattle.bench_text.specs.Sights.{AreDistinct, with_name, distinct}
+use Rattle.bench_text.specs.Sights.{with_name, distinct}
+use Rattle.bench_text.specs.inner.NewNames.{AreDistinct}
 use Rattle.bench_text.specs.Whole.{outputs_of, reads, reads_from}
 use Rattle.bench_text.specs.Netlists.{id_of, equation, netlist_of}
 use Rattle.bench_text.proofs.Lists.{both_true, all_append, same_name, name_same, some_same, got_push, get_back, got_map, get_map, only_place, index-all, some-any}

@@ -3,7 +3,7 @@ pub mod Lists
 pub mod Walks
 pub mod SightLemmas
 pub mod RoleLemmas
-pub mod FaultLemmas
+pub mod RefusalLemmas
 pub mod DraftLemmas
 pub mod SeenLemmas
 pub mod TokenLemmas

@@ -13,11 +13,12 @@ use Rattle.bench_text.proofs.TokenLemmas.{not_word}
 use Rattle.netlist.specs.Gates.{allows_pins}
 use Rattle.bench_text.specs.Forms.{Statement, Nothing, Input, Output, Definition, statement}
 use Rattle.netlist.specs.Designs.{is_reserved}
-use Rattle.bench_text.specs.Refusals.{longest, is_short, names_of, says, own_fault, gate_fault}
+use Rattle.bench_text.specs.Refusals.{longest, is_short, names_of, says}
+use Rattle.bench_text.specs.inner.OneLine.{own_refusal, gate_refusal}
 use Rattle.bench_text.specs.declared.statement.Statement.{Statement as Borrowed}
 use Rattle.bench_text.specs.declared.statement.Statement.TheVariants as borrowed
 use Rattle.netlist.specs.declared.kinds.Kind.{Kind}
-use Rattle.bench_text.specs.Stated.{stated}
+use Rattle.bench_text.specs.inner.Stated.{statement_of}
 use Rattle.bench_text.proofs.Lists.{list_any-names, both_true}
 use Rattle.bench_text.proofs.Runs.{either, drop-run_yes, take-run_yes, drop-run_no, take-run_no}
 
@@ -82,12 +83,12 @@ not_left true b h k = cc
 not_left false b h k = refl
 
 -- any other byte behind it is one that may not stand there
-pub cut-fault : (bs : List ℕ) (c : ℕ) (rest : List ℕ) → drop (prefix_len is_code bs) bs ≡ c ∷ rest → (c ≡ 35 → ⊥) → list_all is_allowed (code bs) ≡ false
-cut-fault [] c rest e h = cc
-cut-fault (b ∷ bs) c rest e h = ⊎_elim
+pub cut-refusal : (bs : List ℕ) (c : ℕ) (rest : List ℕ) → drop (prefix_len is_code bs) bs ≡ c ∷ rest → (c ≡ 35 → ⊥) → list_all is_allowed (code bs) ≡ false
+cut-refusal [] c rest e h = cc
+cut-refusal (b ∷ bs) c rest e h = ⊎_elim
     (λ (t : is_code b ≡ true).
     let q = both_true (is_allowed b) (not (b == 35)) t in
-    ap (list_all is_allowed) (code-more b bs q.1) ∙ rw (q.0) (cut-fault bs c rest (sym (drop-run_yes is_code b bs t) ∙ e) h))
+    ap (list_all is_allowed) (code-more b bs q.1) ∙ rw (q.0) (cut-refusal bs c rest (sym (drop-run_yes is_code b bs t) ∙ e) h))
     (λ (f : is_code b ≡ false).
     let k : b ∷ bs ≡ c ∷ rest = sym (drop-run_no is_code b bs f) ∙ e in
     let s : b ≡ c = cc in
@@ -108,25 +109,25 @@ module _ (reading : Names) (line : List ℕ) where
   unfolding says
   says-it t o e = ap (λ (b : Bool). if b then statement (tokens (code line)) else None) t ∙ e
 
-  pub own_fault-byte : list_all is_allowed (code line) ≡ false → own_fault reading line ≡ Some BadByte
-  unfolding own_fault
-  own_fault-byte h = rw h refl
+  pub own_refusal-byte : list_all is_allowed (code line) ≡ false → own_refusal reading line ≡ Some BadByte
+  unfolding own_refusal
+  own_refusal-byte h = rw h refl
 
-  pub own_fault-form : list_all is_allowed (code line) ≡ true → says reading line ≡ None → own_fault reading line ≡ Some BadLine
-  unfolding own_fault
-  own_fault-form h e = rw (h, e) refl
+  pub own_refusal-form : list_all is_allowed (code line) ≡ true → says reading line ≡ None → own_refusal reading line ≡ Some BadLine
+  unfolding own_refusal
+  own_refusal-form h e = rw (h, e) refl
 
-  pub own_fault-gate : (s : Statement) → list_all is_allowed (code line) ≡ true → says reading line ≡ Some s → own_fault reading line ≡ gate_fault s
-  unfolding own_fault
-  own_fault-gate Nothing h e = rw (h, e) refl
-  own_fault-gate (Input x) h e = rw (h, e) refl
-  own_fault-gate (Output x) h e = rw (h, e) refl
-  own_fault-gate (Definition z None pins) h e = rw (h, e) refl
-  own_fault-gate (Definition z (Some kind) pins) h e = rw (h, e) (other_way (allows_pins kind (length pins)))
+  pub own_refusal-gate : (s : Statement) → list_all is_allowed (code line) ≡ true → says reading line ≡ Some s → own_refusal reading line ≡ gate_refusal s
+  unfolding own_refusal
+  own_refusal-gate Nothing h e = rw (h, e) refl
+  own_refusal-gate (Input x) h e = rw (h, e) refl
+  own_refusal-gate (Output x) h e = rw (h, e) refl
+  own_refusal-gate (Definition z None pins) h e = rw (h, e) refl
+  own_refusal-gate (Definition z (Some kind) pins) h e = rw (h, e) (other_way (allows_pins kind (length pins)))
 
 -- what the reader of forms said, in the line's words
-pub stands_for : (line bytes : List ℕ) (o p : Option Borrowed) → bytes ≡ code line → option_map stated o ≡ statement (tokens bytes) → o ≡ p → statement (tokens (code line)) ≡ option_map stated p
-stands_for line bytes o p e f g = ap (λ l. statement (tokens l)) (sym e) ∙ sym f ∙ ap (option_map stated) g
+pub stands_for : (line bytes : List ℕ) (o p : Option Borrowed) → bytes ≡ code line → option_map statement_of o ≡ statement (tokens bytes) → o ≡ p → statement (tokens (code line)) ≡ option_map statement_of p
+stands_for line bytes o p e f g = ap (λ l. statement (tokens l)) (sym e) ∙ sym f ∙ ap (option_map statement_of) g
 
 pub le_true : (m n : ℕ) → m ≤ n → nat_le m n ≡ true
 le_true m n h = grind (arith, nat_tests)
@@ -188,6 +189,6 @@ pub short_line : (reading : Names) (bs : List ℕ) → length bs ≤ longest rea
 short_line reading bs h = short_all reading (length bs) (tokens bs) h (words-within bs)
 
 pub reserved-definition : (said : Borrowed) (z : Bor (List ℕ)) (gate : Option Kind) (pins : SmallVec (Bor (List ℕ))) (items : List (Bor (List ℕ))) (r : Bool) →
-    said ≡ borrowed.Definition z gate pins → r ≡ list_any (λ x. is_reserved x.now) items → items ≡ pins.items → is_reserved z.now ≡ false → r ≡ list_any is_reserved (names_of (stated said))
+    said ≡ borrowed.Definition z gate pins → r ≡ list_any (λ x. is_reserved x.now) items → items ≡ pins.items → is_reserved z.now ≡ false → r ≡ list_any is_reserved (names_of (statement_of said))
 reserved-definition said z gate pins items r i e d h =
     rw i (rw h (e ∙ ap (list_any (λ (x : Bor (List ℕ)). is_reserved x.now)) d ∙ list_any-names is_reserved pins.items))

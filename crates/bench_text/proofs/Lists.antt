@@ -5,7 +5,7 @@ use Rattle.std.specs.Prelude.{Option, Some, slice_get, ◌&&◌, ◌||◌}
 use Rattle.std.specs.List.{list_any, list_all, flat_map, position_or_len, All, AllByRecursion}
 use Rattle.std.specs.Str.{bytes_eq}
 use Rattle.std.proofs.lemmas.Slice.Eq.{bytes_eq-Decides}
-use Rattle.bench_text.specs.Stated.{names}
+use Rattle.bench_text.specs.inner.Stated.{names}
 
 pub both_true : (a b : Bool) → (a && b) ≡ true → (a ≡ true) × (b ≡ true)
 both_true true b h = (refl, h)

@@ -18,10 +18,12 @@ use Rattle.bench_text.specs.declared.numbered.Entry.{Entry}
 use Rattle.bench_text.specs.Forms.{Statement, Nothing, Input, Output, Definition}
 use Rattle.bench_text.specs.Said.{Said, statements_of}
 use Rattle.bench_text.specs.Texts.{defined, inputs_of, definitions_of, signals_of}
-use Rattle.bench_text.specs.Sights.{AreDistinct, name_at}
-use Rattle.bench_text.specs.Numbered.{spelled, spelled_entry, definition_number, definition_numbers, defines_number, IsDraft}
+use Rattle.bench_text.specs.Sights.{name_at}
+use Rattle.bench_text.specs.inner.NewNames.{AreDistinct}
+use Rattle.bench_text.specs.inner.Numbered.{spelling_of, spelling_of_entry, definition_number, definition_numbers, defines_number, IsDraft}
 use Rattle.bench_text.specs.Netlists.{id_of, netlist_of}
-use Rattle.bench_text.specs.Reading.{DefinesOnLoop, IsFirstOnLoop, IsDefinedAt}
+use Rattle.bench_text.specs.Reading.{DefinesOnLoop, IsFirstOnLoop}
+use Rattle.bench_text.specs.inner.Loops.{IsDefinedAt}
 use Rattle.bench_text.proofs.Lists.{get_front, get_back, got_append}
 use Rattle.bench_text.proofs.Runs.{either}
 use Rattle.bench_text.proofs.DraftLemmas.{signals-spelled}
@@ -100,7 +102,7 @@ none-option (Some e) h = cc
 
 module _ (names : List (List ℕ)) (roles : List Role) (es : List Entry) (ins defs outs : List ℕ) (d : IsDraft names roles es ins defs outs) where
   abbrev all : List Said
-  all = map (spelled_entry names) es
+  all = map (spelling_of_entry names) es
 
   pub place-below : (count z : ℕ) → count ≡ length ins → length ins ≤ z → z < length (signals_of (statements_of all)) → z - count < length defs
   place-below count z e h k =
@@ -121,15 +123,15 @@ module _ (names : List (List ℕ)) (roles : List Role) (es : List Entry) (ins de
         let unread : role.Definition (z - count) ≢ role.Read = λ (x : role.Definition (z - count) ≡ role.Read). cc in
         let i = id-place names roles es ins defs outs d number (role.Definition (z - count)) (d.definition (z - count) number number-at) unread in
         record {
-          before = map (spelled_entry names) r.before;
-          note = spelled_entry names o.0;
-          after = map (spelled_entry names) r.after;
+          before = map (spelling_of_entry names) r.before;
+          note = spelling_of_entry names o.0;
+          after = map (spelling_of_entry names) r.after;
           z = name_at names number;
           gate = Some s.kind;
           pins = map (name_at names) s.pins.items;
-          split = ap (map (spelled_entry names)) r.split ∙ map-append (spelled_entry names) r.before (o.0 ∷ r.after);
+          split = ap (map (spelling_of_entry names)) r.split ∙ map-append (spelling_of_entry names) r.before (o.0 ∷ r.after);
           here = o.2;
-          defines = ap (spelled names) s.is;
+          defines = ap (spelling_of names) s.is;
           signal_is = omega (arith, i, e, h);
         }
 

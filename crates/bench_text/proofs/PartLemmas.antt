@@ -18,8 +18,9 @@ use Rattle.bench_text.specs.declared.numbered.Entry.{Entry}
 use Rattle.bench_text.specs.Forms.{Statement}
 use Rattle.bench_text.specs.Said.{Said, statements_of}
 use Rattle.bench_text.specs.Texts.{inputs_of, signals_of}
-use Rattle.bench_text.specs.Sights.{AreDistinct, name_at, with_name, distinct}
-use Rattle.bench_text.specs.Numbered.{spelled, spelled_entry, output_number, output_numbers, definition_number, are_below, with_number, IsDraft}
+use Rattle.bench_text.specs.Sights.{name_at, with_name, distinct}
+use Rattle.bench_text.specs.inner.NewNames.{AreDistinct}
+use Rattle.bench_text.specs.inner.Numbered.{spelling_of, spelling_of_entry, output_number, output_numbers, definition_number, are_below, with_number, IsDraft}
 use Rattle.bench_text.specs.Whole.{outputs_of, reads_from}
 use Rattle.bench_text.specs.Netlists.{id_of, equation}
 use Rattle.bench_text.proofs.Lists.{both_true, flat_map-push, list_all-map, all_append, all-got, all-flat_map, flat_map-all, false_if, same_name, name_same, some_same, got_append, get_front, get_back, got_map, get_map, only_place, same_or_not}
@@ -50,14 +51,14 @@ output_seen names (Input n) h = refl
 output_seen names (Output n) h = h
 output_seen names (Definition n kind pins) h = refl
 
-output_read : (names signals : List (List ℕ)) (s : Numbered) → reads_from signals (spelled names s) ≡ true → list_all (λ n. list_any (bytes_eq (name_at names n)) signals) (output_number s) ≡ true
+output_read : (names signals : List (List ℕ)) (s : Numbered) → reads_from signals (spelling_of names s) ≡ true → list_all (λ n. list_any (bytes_eq (name_at names n)) signals) (output_number s) ≡ true
 output_read names signals (Input n) h = refl
 output_read names signals (Output n) h = h
 output_read names signals (Definition n kind pins) h = refl
 
 module _ (names : List (List ℕ)) (roles : List Role) (es : List Entry) (ins defs outs : List ℕ) (d : IsDraft names roles es ins defs outs) where
   abbrev pub signals : List (List ℕ)
-  signals = signals_of (statements_of (map (spelled_entry names) es))
+  signals = signals_of (statements_of (map (spelling_of_entry names) es))
 
   pub signals-map : signals ≡ map (name_at names) (ins ++ defs)
   signals-map = signals-spelled names roles es ins defs outs d ∙ sym (map-append (name_at names) ins defs)
@@ -162,12 +163,12 @@ module _ (names : List (List ℕ)) (roles : List Role) (es : List Entry) (ins de
   pub line-seen : (i : ℕ) (e : Entry) → i < length es → e ≡ get_or es i e → are_below (length names) e.statement ≡ true
   line-seen i e h f = ap (λ (x : Entry). are_below (length names) x.statement) f ∙ all_at (λ (x : Entry). are_below (length names) x.statement) es i e d.below h
 
-  module _ (known : list_all (λ (s : Said). reads_from signals s.statement) (map (spelled_entry names) es) ≡ true) where
-    lines-read : list_all (λ (x : Entry). reads_from signals (spelled names x.statement)) es ≡ true
-    lines-read = sym (list_all-map (λ (s : Said). reads_from signals s.statement) (spelled_entry names) es) ∙ known
+  module _ (known : list_all (λ (s : Said). reads_from signals s.statement) (map (spelling_of_entry names) es) ≡ true) where
+    lines-read : list_all (λ (x : Entry). reads_from signals (spelling_of names x.statement)) es ≡ true
+    lines-read = sym (list_all-map (λ (s : Said). reads_from signals s.statement) (spelling_of_entry names) es) ∙ known
 
-    pub line-read : (i : ℕ) (e : Entry) → i < length es → e ≡ get_or es i e → reads_from signals (spelled names e.statement) ≡ true
-    line-read i e h f = ap (λ (x : Entry). reads_from signals (spelled names x.statement)) f ∙ all_at (λ (x : Entry). reads_from signals (spelled names x.statement)) es i e lines-read h
+    pub line-read : (i : ℕ) (e : Entry) → i < length es → e ≡ get_or es i e → reads_from signals (spelling_of names e.statement) ≡ true
+    line-read i e h f = ap (λ (x : Entry). reads_from signals (spelling_of names x.statement)) f ∙ all_at (λ (x : Entry). reads_from signals (spelling_of names x.statement)) es i e lines-read h
 
     outputs-all : (p : ℕ → Bool) → list_all (λ (x : Entry). list_all p (output_number x.statement)) es ≡ true → list_all p outs ≡ true
     outputs-all p h = ap (list_all p) d.outputs ∙ all_fold p (output_numbers es) [] refl (flat_map-all p (λ (x : Entry). output_number x.statement) es h)
@@ -246,7 +247,7 @@ mapped_twice g f (x ∷ xs) = ap (λ l. g (f x) ∷ l) (mapped_twice g f xs)
 
 module _ (names : List (List ℕ)) (roles : List Role) (es : List Entry) (ins defs outs : List ℕ) (d : IsDraft names roles es ins defs outs) where
   abbrev ss : List Statement
-  ss = statements_of (map (spelled_entry names) es)
+  ss = statements_of (map (spelling_of_entry names) es)
 
   abbrev id : ℕ → ℕ
   id n = id_of (signals_of ss) (name_at names n)
@@ -266,26 +267,26 @@ module _ (names : List (List ℕ)) (roles : List Role) (es : List Entry) (ins de
   pub table-of : (table first : List (List ℕ)) (ks ls : List ℕ) → ks ≡ ins → ls ≡ defs → first ≡ [] ++ map (name_at names) ks → table ≡ first ++ map (name_at names) ls → table ≡ signals_of ss
   table-of table first ks ls e f a b = b ∙ (λ i. (a ∙ ap (map (name_at names)) e) i ++ map (name_at names) (f i)) ∙ sym (signals-spelled names roles es ins defs outs d)
 
-  pub equations-of : flat_map (λ (e : Entry). equation (signals_of ss) (spelled names e.statement)) es ≡ flat_map (equation (signals_of ss)) ss
+  pub equations-of : flat_map (λ (e : Entry). equation (signals_of ss) (spelling_of names e.statement)) es ≡ flat_map (equation (signals_of ss)) ss
   equations-of =
-      sym (flat_map-map (λ (s : Said). equation (signals_of ss) s.statement) (spelled_entry names) es)
-      ∙ sym (flat_map-map (equation (signals_of ss)) (λ (s : Said). s.statement) (map (spelled_entry names) es))
+      sym (flat_map-map (λ (s : Said). equation (signals_of ss) s.statement) (spelling_of_entry names) es)
+      ∙ sym (flat_map-map (equation (signals_of ss)) (λ (s : Said). s.statement) (map (spelling_of_entry names) es))
 
 -- an equation, in the code's words
 pub equation-pushed : (names signals : List (List ℕ)) (s : Numbered) (n i : ℕ) (kind : Kind) (pins : SmallVec ℕ) (items ids : List ℕ) (e : Equation) (old new : List Equation) → s ≡ Definition n kind pins
     → items ≡ pins.items → i ≡ id_of signals (name_at names n) → ids ≡ map (λ m. id_of signals (name_at names m)) items → e ≡ record { id = i; kind = kind; pins = ids } → new ≡ old ++ e ∷ []
-    → new ≡ old ++ equation signals (spelled names s)
+    → new ≡ old ++ equation signals (spelling_of names s)
 equation-pushed names signals s n i kind pins items ids e old new f g h k l m =
     let mapped : ids ≡ map (id_of signals) (map (name_at names) pins.items) =
     k ∙ ap (map (λ j. id_of signals (name_at names j))) g ∙ sym (mapped_twice (id_of signals) (name_at names) pins.items) in
-    m ∙ ap (λ x. old ++ x ∷ []) l ∙ (λ j. old ++ record { id = h j; kind = kind; pins = mapped j } ∷ []) ∙ ap (λ t. old ++ equation signals (spelled names t)) (sym f)
+    m ∙ ap (λ x. old ++ x ∷ []) l ∙ (λ j. old ++ record { id = h j; kind = kind; pins = mapped j } ∷ []) ∙ ap (λ t. old ++ equation signals (spelling_of names t)) (sym f)
 
 -- the pins of a definition are signals where it reads signals
-pub pins-defined : (names signals : List (List ℕ)) (s : Numbered) (n : ℕ) (kind : Kind) (pins : SmallVec ℕ) (items : List ℕ) → s ≡ Definition n kind pins → items ≡ pins.items → reads_from signals (spelled names s) ≡ true
+pub pins-defined : (names signals : List (List ℕ)) (s : Numbered) (n : ℕ) (kind : Kind) (pins : SmallVec ℕ) (items : List ℕ) → s ≡ Definition n kind pins → items ≡ pins.items → reads_from signals (spelling_of names s) ≡ true
     → list_all (λ m. list_any (bytes_eq (name_at names m)) signals) items ≡ true
 pins-defined names signals s n kind pins items e f h =
     ap (list_all (λ m. list_any (bytes_eq (name_at names m)) signals)) f ∙ sym (list_all-map (λ x. list_any (bytes_eq x) signals) (name_at names) pins.items)
-    ∙ ap (λ t. reads_from signals (spelled names t)) (sym e) ∙ h
+    ∙ ap (λ t. reads_from signals (spelling_of names t)) (sym e) ∙ h
 
 pub walked : {A B : Type 0} (f : A → List B) (xs : List A) (i : ℕ) (ys : List B) → length xs ≤ i → ys ≡ flat_map f (take i xs) → ys ≡ flat_map f xs
 walked f xs i ys h e = e ∙ ap (flat_map f) (take_all i xs h)

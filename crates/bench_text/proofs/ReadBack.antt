@@ -11,15 +11,16 @@ use Rattle.bench_text.specs.declared.refusal.Names.{Names}
 use Rattle.bench_text.specs.declared.refusal.BenchKind.TheVariants.{Undefined}
 use Rattle.bench_text.specs.Tokens.{is_word_byte}
 use Rattle.bench_text.specs.Forms.{Statement, Nothing, Input, Output, Definition}
-use Rattle.bench_text.specs.Refusals.{says, own_fault, has_reserved_name, defines_one_of}
-use Rattle.bench_text.specs.Said.{Said, noted_at, noted, statements_of}
-use Rattle.bench_text.specs.Texts.{said, input, defined, inputs_of, definitions_of, signals_of, first_fault}
-use Rattle.bench_text.specs.Sights.{AreDistinct}
-use Rattle.bench_text.specs.Whole.{outputs_of, reads_from, most_signals, refused, whole_fault}
+use Rattle.bench_text.specs.Refusals.{says, has_reserved_name, defines_one_of}
+use Rattle.bench_text.specs.inner.OneLine.{own_refusal}
+use Rattle.bench_text.specs.Said.{Said, note_at, notes_from, statements_of}
+use Rattle.bench_text.specs.Texts.{statement_on, input, defined, inputs_of, definitions_of, signals_of, first_refusal}
+use Rattle.bench_text.specs.inner.NewNames.{AreDistinct}
+use Rattle.bench_text.specs.Whole.{outputs_of, reads_from, most_signals, refusal_at, whole_refusal}
 use Rattle.bench_text.proofs.Plain.{is_plain, IsRun}
 use Rattle.bench_text.proofs.Lists.{both_true, list_any-append, flat_map-push, get_front, get_back, false_if}
-use Rattle.bench_text.proofs.FaultLemmas.{fault-none, said-says}
-use Rattle.bench_text.proofs.LinesReadLemmas.{first_fault-fine, first_fault-none}
+use Rattle.bench_text.proofs.RefusalLemmas.{refusal-none, said-says}
+use Rattle.bench_text.proofs.LinesReadLemmas.{first_refusal-fine, first_refusal-none}
 use Rattle.bench_text.proofs.WholeLemmas.{lt_false}
 use Rattle.bench_text.proofs.FormedLemmas.{any-got}
 
@@ -87,9 +88,9 @@ each-append R (x ∷ xs) (y ∷ ys) zs ws h k = (h.0, each-append R xs ys zs ws 
 pub record ReadsAs (reading : Names) (line : List ℕ) (s : Statement) : Type 0 where
   pub plain : list_all is_plain line ≡ true
   pub says : says reading line ≡ Some s
-  pub own : own_fault reading line ≡ None
+  pub own : own_refusal reading line ≡ None
   pub free : has_reserved_name reading s ≡ false
-  pub something : (n : ℕ) → noted_at n s ≡ record { line = n; statement = s } ∷ []
+  pub something : (n : ℕ) → note_at n s ≡ record { line = n; statement = s } ∷ []
 
 pub all-plain : (reading : Names) (ls : List (List ℕ)) (ss : List Statement) → Each (ReadsAs reading) ls ss → AllByRecursion (λ l. list_all is_plain l ≡ true) ls
 all-plain reading [] [] h = tt
@@ -97,18 +98,18 @@ all-plain reading [] (s ∷ ss) h = absurd h
 all-plain reading (l ∷ ls) [] h = absurd h
 all-plain reading (l ∷ ls) (s ∷ ss) h = (h.0.plain, all-plain reading ls ss h.1)
 
-pub all-said : (reading : Names) (ls : List (List ℕ)) (ss : List Statement) → Each (ReadsAs reading) ls ss → map (said reading) ls ≡ ss
+pub all-said : (reading : Names) (ls : List (List ℕ)) (ss : List Statement) → Each (ReadsAs reading) ls ss → map (statement_on reading) ls ≡ ss
 all-said reading [] [] h = refl
 all-said reading [] (s ∷ ss) h = absurd h
 all-said reading (l ∷ ls) [] h = absurd h
 all-said reading (l ∷ ls) (s ∷ ss) h = (λ i. said-says reading [] l s h.0.says i ∷ all-said reading ls ss h.1 i)
 
-pub all-noted : (reading : Names) (n : ℕ) (ls : List (List ℕ)) (ss : List Statement) → Each (ReadsAs reading) ls ss → statements_of (noted n ss) ≡ ss
+pub all-noted : (reading : Names) (n : ℕ) (ls : List (List ℕ)) (ss : List Statement) → Each (ReadsAs reading) ls ss → statements_of (notes_from n ss) ≡ ss
 all-noted reading n [] [] h = refl
 all-noted reading n [] (s ∷ ss) h = absurd h
 all-noted reading n (l ∷ ls) [] h = absurd h
 all-noted reading n (l ∷ ls) (s ∷ ss) h =
-    map-append (λ (x : Said). x.statement) (noted_at n s) (noted (n + 1) ss)
+    map-append (λ (x : Said). x.statement) (note_at n s) (notes_from (n + 1) ss)
     ∙ (λ i. statements_of (h.0.something n i) ++ all-noted reading (n + 1) ls ss h.1 i)
 
 -- no statement defines a name that an earlier one defines
@@ -116,14 +117,14 @@ abbrev pub AllFresh : List Statement → List Statement → Type 0
 AllFresh earlier [] = Unit {0}
 AllFresh earlier (s ∷ ss) = (defines_one_of (signals_of earlier) s ≡ false) × AllFresh (earlier ++ s ∷ []) ss
 
-pub no-fault : (reading : Names) (earlier : List Statement) (ls : List (List ℕ)) (ss : List Statement) → Each (ReadsAs reading) ls ss → AllFresh earlier ss → first_fault reading earlier ls ≡ None
-no-fault reading earlier [] [] h k = first_fault-none reading earlier
-no-fault reading earlier [] (s ∷ ss) h k = absurd h
-no-fault reading earlier (l ∷ ls) [] h k = absurd h
-no-fault reading earlier (l ∷ ls) (s ∷ ss) h k =
-    first_fault-fine reading earlier l ls (fault-none reading (signals_of earlier) l s h.0.own h.0.says k.0 h.0.free)
-    ∙ ap (λ x. first_fault reading (earlier ++ x ∷ []) ls) (said-says reading [] l s h.0.says)
-    ∙ no-fault reading (earlier ++ s ∷ []) ls ss h.1 k.1
+pub no-refusal : (reading : Names) (earlier : List Statement) (ls : List (List ℕ)) (ss : List Statement) → Each (ReadsAs reading) ls ss → AllFresh earlier ss → first_refusal reading earlier ls ≡ None
+no-refusal reading earlier [] [] h k = first_refusal-none reading earlier
+no-refusal reading earlier [] (s ∷ ss) h k = absurd h
+no-refusal reading earlier (l ∷ ls) [] h k = absurd h
+no-refusal reading earlier (l ∷ ls) (s ∷ ss) h k =
+    first_refusal-fine reading earlier l ls (refusal-none reading (signals_of earlier) l s h.0.own h.0.says k.0 h.0.free)
+    ∙ ap (λ x. first_refusal reading (earlier ++ x ∷ []) ls) (said-says reading [] l s h.0.says)
+    ∙ no-refusal reading (earlier ++ s ∷ []) ls ss h.1 k.1
 
 -- names in the order in which they are defined
 abbrev pub defines : Statement → List (List ℕ)
@@ -191,8 +192,8 @@ pub zero_false : (n : ℕ) → 0 < n → (n == 0) ≡ false
 zero_false n h = grind (arith, nat_tests)
 
 pub whole-fine : (reading : Names) (all : List Said) → length (signals_of (statements_of all)) ≤ most_signals reading → 0 < length (inputs_of (statements_of all)) → 0 < length (outputs_of (statements_of all))
-    → list_all (λ (s : Said). reads_from (signals_of (statements_of all)) s.statement) all ≡ true → whole_fault reading all ≡ None
-unfolding whole_fault
+    → list_all (λ (s : Said). reads_from (signals_of (statements_of all)) s.statement) all ≡ true → whole_refusal reading all ≡ None
+unfolding whole_refusal
 whole-fine reading all a b c e =
     rw (lt_false (most_signals reading) (length (signals_of (statements_of all))) a, zero_false (length (inputs_of (statements_of all))) b, zero_false (length (outputs_of (statements_of all))) c)
-    (ap (option_map (λ (s : Said). refused s.line Undefined)) (all-found (λ (s : Said). reads_from (signals_of (statements_of all)) s.statement) all e))
+    (ap (option_map (λ (s : Said). refusal_at s.line Undefined)) (all-found (λ (s : Said). reads_from (signals_of (statements_of all)) s.statement) all e))

@@ -17,13 +17,15 @@ use Rattle.bench_text.specs.declared.draft.Draft.{Draft}
 use Rattle.bench_text.specs.Bytes.{lines}
 use Rattle.bench_text.specs.Forms.{Statement}
 use Rattle.bench_text.specs.Said.{Said, statements_of}
-use Rattle.bench_text.specs.Texts.{statements, inputs_of, signals_of, first_fault}
-use Rattle.bench_text.specs.Sights.{AreDistinct, with_name, distinct}
-use Rattle.bench_text.specs.Whole.{outputs_of, reads_from, whole_fault, or_else, notes, refusal}
-use Rattle.bench_text.specs.LinesRead.{AreLinesRead}
+use Rattle.bench_text.specs.Texts.{statements, inputs_of, signals_of, first_refusal}
+use Rattle.bench_text.specs.Sights.{with_name, distinct}
+use Rattle.bench_text.specs.inner.NewNames.{AreDistinct}
+use Rattle.bench_text.specs.Whole.{outputs_of, reads_from, whole_refusal, or_else, notes, refusal}
+use Rattle.bench_text.specs.inner.LinesRead.{AreLinesRead}
 use Rattle.bench_text.specs.Netlists.{id_of, netlist_of}
-use Rattle.bench_text.specs.Drafted.{said_in, signals_in}
-use Rattle.bench_text.specs.Reading.{IsFirstOnLoop, IsLeft, IsLoopFault, IsRefused, IsRead}
+use Rattle.bench_text.specs.inner.Drafted.{notes_in, signals_in}
+use Rattle.bench_text.specs.Reading.{IsFirstOnLoop, IsRefused, IsRead}
+use Rattle.bench_text.specs.inner.Loops.{IsLeft, IsLoopRefusal}
 use Rattle.bench_text.proofs.Lists.{list_all-map}
 use Rattle.bench_text.proofs.WholeLemmas.{whole-none, most-most}
 use Rattle.bench_text.proofs.PartLemmas.{signals-distinct}
@@ -44,22 +46,22 @@ pub distinct-some : (xs : List (List ℕ)) → 0 < length xs → 0 < length (dis
 distinct-some [] h = h
 distinct-some (x ∷ xs) h = omega (arith, fold-length xs (x ∷ []))
 
--- a faulty line
+-- a refused line
 pub line-refused : (reading : Names) (text : List ℕ) (f : BenchFault) → AreLinesRead reading text (Err f) → IsRead reading text (Err f)
 line-refused reading text NoMemory h = tt
 line-refused reading text (Refused r) h =
-    subst (λ o. IsRefused o (notes reading text) r) (sym (ap (λ o. or_else o (whole_fault reading (notes reading text))) h)) refl
+    subst (λ o. IsRefused o (notes reading text) r) (sym (ap (λ o. or_else o (whole_refusal reading (notes reading text))) h)) refl
 
-module _ (reading : Names) (text : List ℕ) (d : Draft) (said : said_in d ≡ notes reading text) (lines-read : first_fault reading [] (lines text) ≡ None) where
-  refusal-is : refusal reading text ≡ whole_fault reading (said_in d)
-  refusal-is = ap (λ o. or_else o (whole_fault reading (notes reading text))) lines-read ∙ ap (whole_fault reading) (sym said)
+module _ (reading : Names) (text : List ℕ) (d : Draft) (said : notes_in d ≡ notes reading text) (lines-read : first_refusal reading [] (lines text) ≡ None) where
+  refusal-is : refusal reading text ≡ whole_refusal reading (notes_in d)
+  refusal-is = ap (λ o. or_else o (whole_refusal reading (notes reading text))) lines-read ∙ ap (whole_refusal reading) (sym said)
 
-  pub whole-refused : (r : BenchRefusal) (o : Option BenchRefusal) → o ≡ whole_fault reading (said_in d) → o ≡ Some r → IsRead reading text (Err (Refused r))
+  pub whole-refused : (r : BenchRefusal) (o : Option BenchRefusal) → o ≡ whole_refusal reading (notes_in d) → o ≡ Some r → IsRead reading text (Err (Refused r))
   whole-refused r o e f = subst (λ p. IsRefused p (notes reading text) r) (sym (refusal-is ∙ sym e ∙ f)) refl
 
-  module _ (fine : whole_fault reading (said_in d) ≡ None) where
+  module _ (fine : whole_refusal reading (notes_in d) ≡ None) where
     abbrev all : List Said
-    all = said_in d
+    all = notes_in d
 
     abbrev ss : List Statement
     ss = statements_of all
@@ -116,7 +118,7 @@ module _ (reading : Names) (text : List ℕ) (d : Draft) (said : said_in d ≡ n
           let place = on-loop-place ss apart all-fine z on in
           (on, (λ (y : ℕ) (k : y < z) (o : IsOnLoop (netlist_of ss) y). h.3 y k (subst (λ n. IsOnLoop n y) (sym made) o)), place.0, place.1)
 
-    pub loop-refused : (f : BenchFault) → IsLoopFault all f → IsRead reading text (Err f)
+    pub loop-refused : (f : BenchFault) → IsLoopRefusal all f → IsRead reading text (Err f)
     loop-refused NoMemory h = tt
     loop-refused (Refused r) h =
         subst (λ o. IsRefused o (notes reading text) r) (sym none-refused) (h.0, subst (λ l. IsFirstOnLoop l r.line) said h.1)

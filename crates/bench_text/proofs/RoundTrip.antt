@@ -21,24 +21,26 @@ use Rattle.bench_text.specs.Tokens.{Word, Comma, Equals, tokens}
 use Rattle.bench_text.specs.Keywords.{word}
 use Rattle.bench_text.specs.Forms.{Statement, Input, Output, Definition}
 use Rattle.netlist.specs.Designs.{is_reserved}
-use Rattle.bench_text.specs.Refusals.{longest, is_short, gate_fault, has_reserved_name, names_of}
-use Rattle.bench_text.specs.Said.{Said, noted_at, noted, statements_of}
-use Rattle.bench_text.specs.Texts.{said, statements, input, defined, output, inputs_of, definitions_of, signals_of, first_fault}
-use Rattle.bench_text.specs.Sights.{AreDistinct, name_at, with_name, distinct}
-use Rattle.bench_text.specs.Whole.{outputs_of, reads_from, whole_fault, or_else, refusal, notes}
+use Rattle.bench_text.specs.Refusals.{longest, is_short, has_reserved_name, names_of}
+use Rattle.bench_text.specs.inner.OneLine.{gate_refusal}
+use Rattle.bench_text.specs.Said.{Said, note_at, notes_from, statements_of}
+use Rattle.bench_text.specs.Texts.{statement_on, statements, input, defined, output, inputs_of, definitions_of, signals_of, first_refusal}
+use Rattle.bench_text.specs.Sights.{name_at, with_name, distinct}
+use Rattle.bench_text.specs.inner.NewNames.{AreDistinct}
+use Rattle.bench_text.specs.Whole.{outputs_of, reads_from, whole_refusal, or_else, refusal, notes}
 use Rattle.bench_text.specs.Netlists.{id_of, equation, netlist_of}
 use Rattle.bench_text.specs.Reading.{netlist_in}
 use Rattle.bench_text.specs.Canonical.{port_line, further, pin_list, definition_line, equation_line, canonical_lines, canonical}
 use Rattle.bench_text.specs.Laws.{is_free, Fits}
 use Rattle.bench_text.proofs.Plain.{is_plain, IsRun, Says}
 use Rattle.bench_text.proofs.Lists.{list_all-map, all_append, index-all, get_front, get_back, got_map, some-any, some_same, name_same, false_if}
-use Rattle.bench_text.proofs.LineLemmas.{says-it, own_fault-gate, le_true}
+use Rattle.bench_text.proofs.LineLemmas.{says-it, own_refusal-gate, le_true}
 use Rattle.bench_text.proofs.DraftLemmas.{at_name}
 use Rattle.bench_text.proofs.FormedLemmas.{any-got, contains-got, got-contains, got-all, id-at}
 use Rattle.bench_text.proofs.Runs.{either}
 use Rattle.bench_text.proofs.WriteLemmas.{signal-below, definition-writable, outputs-writable}
 use Rattle.bench_text.proofs.CanonicalLemmas.{tokens-front, tokens-blank, tokens-comma, tokens-equals, tokens-open, tokens-last, no_word, regroup, port-tokens, gate-name, input-name, output-name, plain-code, plain-port, plain-definition, input-says, output-says, definition-says, ended-again}
-use Rattle.bench_text.proofs.ReadBack.{all-index, all-true, all-so, all-mapped, map-same, map-twice, flat-one, flat-none, same-list, Each, each-mapped, each-append, ReadsAs, all-plain, all-said, all-noted, all-fresh, no-fault, defines, order, name-run, whole-fine}
+use Rattle.bench_text.proofs.ReadBack.{all-index, all-true, all-so, all-mapped, map-same, map-twice, flat-one, flat-none, same-list, Each, each-mapped, each-append, ReadsAs, all-plain, all-said, all-noted, all-fresh, no-refusal, defines, order, name-run, whole-fine}
 
 not_true : (b : Bool) → not b ≡ true → b ≡ false
 not_true true h = cc
@@ -149,11 +151,11 @@ module _ (reading : Names) where
       ap (list_all (is_short reading)) (port-tokens keyword x k h) ∙ (λ i. short-word keyword (short-keyword keyword n) i && (short-word x s i && true))
 
   -- a line without a comment is read as what it says
-  reads-as : (line : List ℕ) (s : Statement) → list_all is_plain line ≡ true → Says line s → list_all (is_short reading) (tokens line) ≡ true → gate_fault s ≡ None → has_reserved_name reading s ≡ false
-      → ((n : ℕ) → noted_at n s ≡ record { line = n; statement = s } ∷ []) → ReadsAs reading line s
+  reads-as : (line : List ℕ) (s : Statement) → list_all is_plain line ≡ true → Says line s → list_all (is_short reading) (tokens line) ≡ true → gate_refusal s ≡ None → has_reserved_name reading s ≡ false
+      → ((n : ℕ) → note_at n s ≡ record { line = n; statement = s } ∷ []) → ReadsAs reading line s
   reads-as line s plain it short fine free something =
       let says = says-it reading line (ap (λ l. list_all (is_short reading) (tokens l)) (plain-code line plain) ∙ short) (Some s) it.1 in
-      record { plain = plain; says = says; own = own_fault-gate reading line s it.0 says ∙ fine; free = free; something = something }
+      record { plain = plain; says = says; own = own_refusal-gate reading line s it.0 says ∙ fine; free = free; something = something }
 
   none-reserved : (xs : List (List ℕ)) → AllByRecursion (λ x. IsTrue (is_free reading x)) xs → (s : Statement) → names_of s ≡ xs → has_reserved_name reading s ≡ false
   none-reserved xs h s e = by reading h
@@ -306,7 +308,7 @@ module _ (reading : Names) (n : Netlist) (s : IsSound n) (f : Fits reading n) wh
       let runs = all-mapped IsRun name d.pins (all-so IsBelow (λ x. IsRun (name x)) run d.pins e.pins) in
       let shorts = all-mapped (λ (y : List ℕ). length y ≤ longest reading) name d.pins (all-so IsBelow (λ x. length (name x) ≤ longest reading) short d.pins e.pins) in
       let frees = all-mapped (λ (y : List ℕ). IsTrue (is_free reading y)) name d.pins (all-so IsBelow (λ x. IsTrue (is_free reading (name x))) free d.pins e.pins) in
-      let fine : gate_fault (equation_statement d) ≡ None = ap (λ (b : Bool). if b then None else Some BadPins) (ap (allows_pins d.kind) (length-map d.pins name) ∙ e.allowed) in
+      let fine : gate_refusal (equation_statement d) ≡ None = ap (λ (b : Bool). if b then None else Some BadPins) (ap (allows_pins d.kind) (length-map d.pins name) ∙ e.allowed) in
       reads-as reading (equation_line n.names d) (equation_statement d) (plain-definition (name d.id) d.kind (map name d.pins) (run d.id e.id) runs)
       (definition-says (name d.id) d.kind (map name d.pins) (run d.id e.id) runs) (short-definition reading (name d.id) d.kind (map name d.pins) (run d.id e.id) (short d.id e.id) runs shorts)
       fine (none-reserved reading (name d.id ∷ map name d.pins) (free d.id e.id, frees) (equation_statement d) refl) (λ k. refl)
@@ -323,10 +325,10 @@ module _ (reading : Names) (n : Netlist) (s : IsSound n) (f : Fits reading n) wh
   lines-are = ended-again (canonical_lines n) (all-plain reading (canonical_lines n) ss each)
 
   statements-are : statements reading (canonical n) ≡ ss
-  statements-are = ap (map (said reading)) lines-are ∙ all-said reading (canonical_lines n) ss each
+  statements-are = ap (map (statement_on reading)) lines-are ∙ all-said reading (canonical_lines n) ss each
 
   notes-are : statements_of (notes reading (canonical n)) ≡ ss
-  notes-are = ap (λ l. statements_of (noted 1 l)) statements-are ∙ all-noted reading 1 (canonical_lines n) ss each
+  notes-are = ap (λ l. statements_of (notes_from 1 l)) statements-are ∙ all-noted reading 1 (canonical_lines n) ss each
 
   -- the parts of the statements
   three : {C : Type 0} (g : Statement → List C) → flat_map g ss ≡ flat_map g ins ++ flat_map g outs ++ flat_map g defs
@@ -386,8 +388,8 @@ module _ (reading : Names) (n : Netlist) (s : IsSound n) (f : Fits reading n) wh
       (λ i. record { names = signals-are i; inputs = put_in i; outputs = put_out i; definitions = equations-are i })
 
   -- and nothing is wrong with the text
-  lines-fine : first_fault reading [] (lines (canonical n)) ≡ None
-  lines-fine = ap (first_fault reading []) lines-are ∙ no-fault reading [] (canonical_lines n) ss each (all-fresh [] ss (subst AreDistinct (sym order-is) apart))
+  lines-fine : first_refusal reading [] (lines (canonical n)) ≡ None
+  lines-fine = ap (first_refusal reading []) lines-are ∙ no-refusal reading [] (canonical_lines n) ss each (all-fresh [] ss (subst AreDistinct (sym order-is) apart))
 
   output-known : (x : ℕ) → IsBelow x → reads_from n.names (Output (name x)) ≡ true
   output-known x h = rw (known x h) refl
@@ -404,7 +406,7 @@ module _ (reading : Names) (n : Netlist) (s : IsSound n) (f : Fits reading n) wh
       (all-true (reads_from n.names) outs (all-mapped (λ t. reads_from n.names t ≡ true) (λ x. Output (name x)) n.outputs (all-so IsBelow (λ x. reads_from n.names (Output (name x)) ≡ true) output-known n.outputs outputs-below))))
       (all-true (reads_from n.names) defs (all-mapped (λ t. reads_from n.names t ≡ true) equation_statement n.definitions (all-so IsEquation (λ d. reads_from n.names (equation_statement d) ≡ true) equation-known n.definitions equations-below)))
 
-  whole-is-fine : whole_fault reading (notes reading (canonical n)) ≡ None
+  whole-is-fine : whole_refusal reading (notes reading (canonical n)) ≡ None
   whole-is-fine =
       let all = notes reading (canonical n) in
       let sig : signals_of (statements_of all) ≡ n.names = ap signals_of notes-are ∙ signals-are in
@@ -418,4 +420,4 @@ module _ (reading : Names) (n : Netlist) (s : IsSound n) (f : Fits reading n) wh
       (sym (list_all-map (reads_from (signals_of (statements_of all))) (λ (x : Said). x.statement) all) ∙ (λ i. list_all (reads_from (sig i)) (notes-are i)) ∙ all-known)
 
   pub read-again : (refusal reading (canonical n) ≡ None) × (netlist_in reading (canonical n) ≡ n)
-  read-again = (ap (λ o. or_else o (whole_fault reading (notes reading (canonical n)))) lines-fine ∙ whole-is-fine, ap netlist_of notes-are ∙ netlist-is)
+  read-again = (ap (λ o. or_else o (whole_refusal reading (notes reading (canonical n)))) lines-fine ∙ whole-is-fine, ap netlist_of notes-are ∙ netlist-is)

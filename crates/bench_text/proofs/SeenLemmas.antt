@@ -14,13 +14,14 @@ use Rattle.bench_text.specs.declared.numbered.Role.TheVariants as role
 use Rattle.bench_text.specs.declared.numbered.Numbered.{Numbered}
 use Rattle.bench_text.specs.declared.numbered.Numbered.TheVariants.{Input, Output, Definition}
 use Rattle.bench_text.specs.declared.numbered.Entry.{Entry}
-use Rattle.bench_text.specs.Stated.{names}
+use Rattle.bench_text.specs.inner.Stated.{names}
 use Rattle.bench_text.specs.Forms as forms
 use Rattle.netlist.specs.declared.kinds.Kind.{Kind}
 use Rattle.smallvec.specs.SmallVec.{SmallVec}
-use Rattle.bench_text.specs.Sights.{AreDistinct, name_at, IsNumber}
-use Rattle.bench_text.specs.Numbered.{spelled, spelled_entry, numbers, are_below, with_role, IsDraft}
-use Rattle.bench_text.specs.Drafted.{Keeps, AreNumbers}
+use Rattle.bench_text.specs.Sights.{name_at}
+use Rattle.bench_text.specs.inner.NewNames.{AreDistinct, IsNumber}
+use Rattle.bench_text.specs.inner.Numbered.{spelling_of, spelling_of_entry, numbers, are_below, with_role, IsDraft}
+use Rattle.bench_text.specs.inner.Drafted.{Keeps, AreNumbers}
 use Rattle.bench_text.proofs.Lists.{both_true, got_push, get_front, some-any, name_same}
 use Rattle.bench_text.proofs.Runs.{either}
 use Rattle.bench_text.proofs.DraftLemmas.{at_name}
@@ -97,7 +98,7 @@ draft-seen old new x n roles roles' es ins defs outs d h apart e = ⊎_elim
     }))
     (either (list_any (bytes_eq x) old))
 
--- what was spelled stays so
+-- what was spelling_of stays so
 name-kept : (old new : List (List ℕ)) → AreKept old new → (n : ℕ) → nat_lt n (length old) ≡ true → name_at new n ≡ name_at old n
 name-kept old new kept n h = ap (λ o. unwrap_or o []) (kept n (name_at old n) (at_name old n (grind (arith, nat_tests))))
 
@@ -107,14 +108,14 @@ names-kept old new kept (n ∷ ns) h =
     let p = both_true (nat_lt n (length old)) (list_all (λ i. nat_lt i (length old)) ns) h in
     (λ i. name-kept old new kept n p.0 i ∷ names-kept old new kept ns p.1 i)
 
-statement-kept : (old new : List (List ℕ)) → AreKept old new → (s : Numbered) → are_below (length old) s ≡ true → spelled new s ≡ spelled old s
+statement-kept : (old new : List (List ℕ)) → AreKept old new → (s : Numbered) → are_below (length old) s ≡ true → spelling_of new s ≡ spelling_of old s
 statement-kept old new kept (Input n) h = rw (name-kept old new kept n (both_true _ _ h).0) refl
 statement-kept old new kept (Output n) h = rw (name-kept old new kept n (both_true _ _ h).0) refl
 statement-kept old new kept (Definition n kind pins) h =
     let p = both_true (nat_lt n (length old)) (list_all (λ i. nat_lt i (length old)) pins.items) h in
     rw (name-kept old new kept n p.0, names-kept old new kept pins.items p.1) refl
 
-pub entries-kept : (old new : List (List ℕ)) → AreKept old new → (es : List Entry) → list_all (λ (e : Entry). are_below (length old) e.statement) es ≡ true → map (spelled_entry new) es ≡ map (spelled_entry old) es
+pub entries-kept : (old new : List (List ℕ)) → AreKept old new → (es : List Entry) → list_all (λ (e : Entry). are_below (length old) e.statement) es ≡ true → map (spelling_of_entry new) es ≡ map (spelling_of_entry old) es
 entries-kept old new kept [] h = refl
 entries-kept old new kept (e ∷ es) h =
     let p = both_true (are_below (length old) e.statement) (list_all (λ (x : Entry). are_below (length old) x.statement) es) h in
@@ -159,7 +160,7 @@ numbers-spell names (n ∷ ns) (x ∷ xs) e =
 
 -- a definition whose names have numbers
 pub definition-spelled : (names : List (List ℕ)) (n : ℕ) (kind : Kind) (pins : SmallVec ℕ) (z : List ℕ) (xs : List (List ℕ)) → slice_get names n ≡ Some z → AreNumbers names pins.items xs
-    → (spelled names (Definition n kind pins) ≡ forms.Definition z (Some kind) xs) × (are_below (length names) (Definition n kind pins) ≡ true)
+    → (spelling_of names (Definition n kind pins) ≡ forms.Definition z (Some kind) xs) × (are_below (length names) (Definition n kind pins) ≡ true)
 definition-spelled names n kind pins z xs h k =
     let p = numbers-spell names pins.items xs k in
     ((λ i. forms.Definition (unwrap_or (h i) []) (Some kind) (p.0 i)), rw (below-get names n z h, p.1) refl)

@@ -7,8 +7,8 @@ use Rattle.std.specs.Str.{bytes_eq}
 use Rattle.std.proofs.lemmas.List.{map_push}
 use Rattle.std.proofs.lemmas.Option.{slice_get-map}
 use Rattle.std.proofs.lemmas.Map.Keys.{IsDistinct-head, IsDistinct-tail}
-use Rattle.bench_text.specs.Stated.{names}
-use Rattle.bench_text.specs.Sights.{AreDistinct, IsNumber}
+use Rattle.bench_text.specs.inner.Stated.{names}
+use Rattle.bench_text.specs.inner.NewNames.{AreDistinct, IsNumber}
 use Rattle.bench_text.proofs.Lists.{list_any-names, same_name, name_same}
 
 abbrev same : Bor (List ℕ) → Bor (List ℕ) → Bool

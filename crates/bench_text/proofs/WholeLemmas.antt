@@ -17,8 +17,8 @@ use Rattle.smallvec.specs.SmallVec.{SmallVec}
 use Rattle.bench_text.specs.Said.{Said, statements_of}
 use Rattle.bench_text.specs.Texts.{inputs_of, signals_of}
 use Rattle.bench_text.specs.Sights.{name_at}
-use Rattle.bench_text.specs.Numbered.{spelled, spelled_entry, input_numbers, output_numbers, with_number, IsDraft}
-use Rattle.bench_text.specs.Whole.{outputs_of, reads_from, most_signals, refused, whole_fault}
+use Rattle.bench_text.specs.inner.Numbered.{spelling_of, spelling_of_entry, input_numbers, output_numbers, with_number, IsDraft}
+use Rattle.bench_text.specs.Whole.{outputs_of, reads_from, most_signals, refusal_at, whole_refusal}
 use Rattle.bench_text.proofs.Lists.{list_all-map}
 use Rattle.bench_text.proofs.Runs.{either}
 use Rattle.bench_text.proofs.Walks.{find-map, find-here, find-ends}
@@ -56,7 +56,7 @@ distinct-some (x ∷ xs) h = omega arith
 
 module _ (names : List (List ℕ)) (roles : List Role) (es : List Entry) (ins defs outs : List ℕ) (d : IsDraft names roles es ins defs outs) where
   abbrev all : List Said
-  all = map (spelled_entry names) es
+  all = map (spelling_of_entry names) es
 
   pub signal_count : (a b : ℕ) → a ≡ length ins → b ≡ length defs → a + b ≡ length (signals_of (statements_of all))
   signal_count a b e f =
@@ -69,60 +69,60 @@ module _ (names : List (List ℕ)) (roles : List Role) (es : List Entry) (ins de
   output_count = omega (arith, ap length (outputs-spelled names es), length-map (output_numbers es) (name_at names))
 
   module _ (reading : Names) where
-    pub whole-too_many : (n : ℕ) → n ≡ length (signals_of (statements_of all)) → most_signals reading < n → whole_fault reading all ≡ Some (refused 0 TooMany)
-    unfolding whole_fault
+    pub whole-too_many : (n : ℕ) → n ≡ length (signals_of (statements_of all)) → most_signals reading < n → whole_refusal reading all ≡ Some (refusal_at 0 TooMany)
+    unfolding whole_refusal
     whole-too_many n e h = rw (lt_true (most_signals reading) (length (signals_of (statements_of all))) (omega (arith, e, h))) refl
 
     module _ (n : ℕ) (e : n ≡ length (signals_of (statements_of all))) (few : n ≤ most_signals reading) where
       small : nat_lt (most_signals reading) (length (signals_of (statements_of all))) ≡ false
       small = lt_false (most_signals reading) (length (signals_of (statements_of all))) (omega (arith, e, few))
 
-      pub whole-no_input : length ins ≡ 0 → whole_fault reading all ≡ Some (refused 0 NoInput)
-      unfolding whole_fault
+      pub whole-no_input : length ins ≡ 0 → whole_refusal reading all ≡ Some (refusal_at 0 NoInput)
+      unfolding whole_refusal
       whole-no_input h = rw (small, zero_true (length (inputs_of (statements_of all))) (input_count ∙ h)) refl
 
       module _ (some : 0 < length ins) where
         has_input : (length (inputs_of (statements_of all)) == 0) ≡ false
         has_input = zero_false (length (inputs_of (statements_of all))) (omega (arith, input_count, some))
 
-        pub whole-no_output : length outs ≡ 0 → whole_fault reading all ≡ Some (refused 0 NoOutput)
-        unfolding whole_fault
+        pub whole-no_output : length outs ≡ 0 → whole_refusal reading all ≡ Some (refusal_at 0 NoOutput)
+        unfolding whole_refusal
         whole-no_output h = rw (small, has_input, zero_true (length (outputs_of (statements_of all))) (output_count ∙ distinct-none (output_numbers es) (sym (ap length d.outputs) ∙ h))) refl
 
         pub whole-undefined : 0 < length outs → (o : Option ℕ) → o ≡ option_map (λ (s : Said). s.line) (find (λ (s : Said). not (reads_from (signals_of (statements_of all)) s.statement)) all)
-            → whole_fault reading all ≡ option_map (λ k. refused k Undefined) o
-        unfolding whole_fault
+            → whole_refusal reading all ≡ option_map (λ k. refusal_at k Undefined) o
+        unfolding whole_refusal
         whole-undefined h o g =
             let has_output = zero_false (length (outputs_of (statements_of all))) (let m = distinct-some (output_numbers es) (omega (arith, ap length d.outputs, h)) in omega (arith, output_count, m)) in
-            rw (small, has_input, has_output) (again (find (λ (s : Said). not (reads_from (signals_of (statements_of all)) s.statement)) all) ∙ ap (option_map (λ k. refused k Undefined)) (sym g))
+            rw (small, has_input, has_output) (again (find (λ (s : Said). not (reads_from (signals_of (statements_of all)) s.statement)) all) ∙ ap (option_map (λ k. refusal_at k Undefined)) (sym g))
           where
-            again : (p : Option Said) → option_map (λ (s : Said). refused s.line Undefined) p ≡ option_map (λ k. refused k Undefined) (option_map (λ (s : Said). s.line) p)
+            again : (p : Option Said) → option_map (λ (s : Said). refusal_at s.line Undefined) p ≡ option_map (λ k. refusal_at k Undefined) (option_map (λ (s : Said). s.line) p)
             again None = refl
             again (Some s) = refl
 
 -- a definition's pins, in the code's words
 pub reads-definition : (names signals : List (List ℕ)) (s : Numbered) (n : ℕ) (kind : Kind) (pins : SmallVec ℕ) (items : List ℕ) (r : Bool) → s ≡ Definition n kind pins
-    → r ≡ list_all (λ m. list_any (bytes_eq (name_at names m)) signals) items → items ≡ pins.items → r ≡ reads_from signals (spelled names s)
+    → r ≡ list_all (λ m. list_any (bytes_eq (name_at names m)) signals) items → items ≡ pins.items → r ≡ reads_from signals (spelling_of names s)
 reads-definition names signals s n kind pins items r e f g =
     f ∙ ap (list_all (λ m. list_any (bytes_eq (name_at names m)) signals)) g ∙ sym (list_all-map (λ x. list_any (bytes_eq x) signals) (name_at names) pins.items)
-    ∙ ap (λ t. reads_from signals (spelled names t)) (sym e)
+    ∙ ap (λ t. reads_from signals (spelling_of names t)) (sym e)
 
 module _ (names signals : List (List ℕ)) (es : List Entry) where
   abbrev reads_unknown : Entry → Bool
-  reads_unknown e = not (reads_from signals (spelled names e.statement))
+  reads_unknown e = not (reads_from signals (spelling_of names e.statement))
 
   abbrev first_line : Option ℕ
-  first_line = option_map (λ (s : Said). s.line) (find (λ (s : Said). not (reads_from signals s.statement)) (map (spelled_entry names) es))
+  first_line = option_map (λ (s : Said). s.line) (find (λ (s : Said). not (reads_from signals s.statement)) (map (spelling_of_entry names) es))
 
   to_line : first_line ≡ option_map (λ (e : Entry). e.line) (find reads_unknown es)
-  to_line = ap (option_map (λ (s : Said). s.line)) (find-map (λ (s : Said). not (reads_from signals s.statement)) (spelled_entry names) es) ∙ again (find reads_unknown es)
+  to_line = ap (option_map (λ (s : Said). s.line)) (find-map (λ (s : Said). not (reads_from signals s.statement)) (spelling_of_entry names) es) ∙ again (find reads_unknown es)
     where
-      again : (o : Option Entry) → option_map (λ (s : Said). s.line) (option_map (spelled_entry names) o) ≡ option_map (λ (e : Entry). e.line) o
+      again : (o : Option Entry) → option_map (λ (s : Said). s.line) (option_map (spelling_of_entry names) o) ≡ option_map (λ (e : Entry). e.line) o
       again None = refl
       again (Some e) = refl
 
   pub undefined-here : (ys : List Entry) (i : ℕ) (d : Entry) → ys ≡ es → i < length es → d ≡ get_or ys i d → find reads_unknown (drop i es) ≡ find reads_unknown es
-      → reads_from signals (spelled names d.statement) ≡ false → Some d.line ≡ first_line
+      → reads_from signals (spelling_of names d.statement) ≡ false → Some d.line ≡ first_line
   undefined-here ys i d e h f g t =
       let at : d ≡ get_or es i d = f ∙ ap (λ l. get_or l i d) e in
       let unknown : reads_unknown (get_or es i d) ≡ true = ap reads_unknown (sym at) ∙ (rw t refl) in
@@ -152,13 +152,13 @@ few_signals m n h = grind (arith, nat_tests)
 positive : (n : ℕ) → (n == 0) ≡ false → 0 < n
 positive n h = grind (arith, nat_tests)
 
-pub whole-none : (reading : Names) (all : List Said) → whole_fault reading all ≡ None
+pub whole-none : (reading : Names) (all : List Said) → whole_refusal reading all ≡ None
     → (length (signals_of (statements_of all)) ≤ most_signals reading) × (0 < length (inputs_of (statements_of all))) × (0 < length (outputs_of (statements_of all)))
     × (list_all (λ (s : Said). reads_from (signals_of (statements_of all)) s.statement) all ≡ true)
-unfolding whole_fault
+unfolding whole_refusal
 whole-none reading all h =
     let p = four (nat_lt (most_signals reading) (length (signals_of (statements_of all)))) (length (inputs_of (statements_of all)) == 0) (length (outputs_of (statements_of all)) == 0)
-    (refused 0 TooMany) (refused 0 NoInput) (refused 0 NoOutput) (λ (s : Said). refused s.line Undefined) (find (λ (s : Said). not (reads_from (signals_of (statements_of all)) s.statement)) all) h in
+    (refusal_at 0 TooMany) (refusal_at 0 NoInput) (refusal_at 0 NoOutput) (λ (s : Said). refusal_at s.line Undefined) (find (λ (s : Said). not (reads_from (signals_of (statements_of all)) s.statement)) all) h in
     (few_signals _ _ p.0, positive _ p.1, positive _ p.2, find-none (λ (s : Said). reads_from (signals_of (statements_of all)) s.statement) all p.3)
 
 pub most-most : (reading : Names) → most_signals reading ≤ 8000000

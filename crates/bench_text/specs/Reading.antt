@@ -37,35 +37,7 @@ pub record IsFirstOnLoop (all : List Said) (line : ℕ) : Type 0 where
   pub on_loop : DefinesOnLoop (statements_of all) note.statement
   pub first : AllByRecursion (λ (s : Said). ¬ DefinesOnLoop (statements_of all) s.statement) before
 
--- The definition of a signal stands on this line.
-pub record IsDefinedAt (all : List Said) (signal line : ℕ) : Type 0 where
-  pub before : List Said
-  pub note : Said
-  pub after : List Said
-  pub z : List ℕ
-  pub gate : Option Kind
-  pub pins : List (List ℕ)
-  pub split : all ≡ before ++ note ∷ after
-  pub here : note.line ≡ line
-  pub defines : note.statement ≡ Definition z gate pins
-  pub signal_is : id_of (signals_of (statements_of all)) z ≡ signal
-
--- Why a netlist is refused, where the text is fine but for loops.
-abbrev pub IsLeft : List Said → NetRefusal → Type 0
-IsLeft all net.NoMemory = ⊤
-IsLeft all (net.Loop z) = IsOnLoop (netlist_of (statements_of all)) z × ((y : ℕ) → y < z → ¬ IsOnLoop (netlist_of (statements_of all)) y)
-    × (length (inputs_of (statements_of all)) ≤ z) × (z < length (signals_of (statements_of all)))
-IsLeft all net.TooMany = ⊥
-IsLeft all net.NoInput = ⊥
-IsLeft all net.NoOutput = ⊥
-IsLeft all (net.Undefined z) = ⊥
-
--- A text is refused for a loop alone.
-abbrev pub IsLoopFault : List Said → BenchFault → Type 0
-IsLoopFault all NoMemory = ⊤
-IsLoopFault all (Refused r) = (r.kind ≡ Loop) × IsFirstOnLoop all r.line
-
--- A text is refused for its first faulty line, else for what is wrong with it as a whole, and for a loop last.
+-- A text is refused for its first refused line, else for what is wrong with it as a whole, and for a loop last.
 abbrev pub IsRefused : Option BenchRefusal → List Said → BenchRefusal → Type 0
 IsRefused (Some first) all r = r ≡ first
 IsRefused None all r = (r.kind ≡ Loop) × IsFirstOnLoop all r.line

@@ -7,16 +7,16 @@ pub record Said : Type 0 where
   pub statement : Statement
 
 -- a statement of line n, if it is one
-abbrev pub noted_at : ℕ → Statement → List Said
-noted_at n Nothing = []
-noted_at n (Input x) = record { line = n; statement = Input x } ∷ []
-noted_at n (Output x) = record { line = n; statement = Output x } ∷ []
-noted_at n (Definition z gate pins) = record { line = n; statement = Definition z gate pins } ∷ []
+abbrev pub note_at : ℕ → Statement → List Said
+note_at n Nothing = []
+note_at n (Input x) = record { line = n; statement = Input x } ∷ []
+note_at n (Output x) = record { line = n; statement = Output x } ∷ []
+note_at n (Definition z gate pins) = record { line = n; statement = Definition z gate pins } ∷ []
 
 -- the statements of the lines from n on
-abbrev pub noted : ℕ → List Statement → List Said
-noted n [] = []
-noted n (s ∷ ss) = noted_at n s ++ noted (n + 1) ss
+abbrev pub notes_from : ℕ → List Statement → List Said
+notes_from n [] = []
+notes_from n (s ∷ ss) = note_at n s ++ notes_from (n + 1) ss
 
 abbrev pub statements_of : List Said → List Statement
 statements_of notes = map (λ (s : Said). s.statement) notes

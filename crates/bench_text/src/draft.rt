@@ -4,18 +4,18 @@ ghost use Rattle.std.specs.Prelude.{◌≡◌, ◌<◌, ◌^◌, ◌+◌, [], �
 ghost use Rattle.std.specs.List.{list_any, list_all};
 ghost use Rattle.std.specs.Str.{bytes_eq};
 ghost use Rattle.bench_text.specs.declared.numbered.Numbered.TheVariants.{Input, Output, Definition};
-ghost use Rattle.bench_text.specs.Stated.{names, stated};
-ghost use Rattle.bench_text.specs.Refusals.{has_unknown_gate, defines_one_of, fault};
-ghost use Rattle.bench_text.specs.Texts.{said};
-ghost use Rattle.bench_text.specs.Said.{noted_at};
-ghost use Rattle.bench_text.specs.LineRead.{IsFault};
+ghost use Rattle.bench_text.specs.inner.Stated.{names, statement_of};
+ghost use Rattle.bench_text.specs.Refusals.{has_unknown_gate, defines_one_of, line_refusal};
+ghost use Rattle.bench_text.specs.Texts.{statement_on};
+ghost use Rattle.bench_text.specs.Said.{note_at};
+ghost use Rattle.bench_text.specs.inner.LineRead.{IsRefusal};
 ghost use Rattle.bench_text.specs.Sights.{name_at};
-ghost use Rattle.bench_text.specs.Numbered.{IsDraft, are_below, spelled, spelled_if_any, with_role};
+ghost use Rattle.bench_text.specs.inner.Numbered.{IsDraft, are_below, spelling_of, spelling_if_any, with_role};
 ghost use Rattle.bench_text.specs.Forms as forms;
 
 use crate::line::read_line;
 use crate::numbered::{Entry, Numbered, Role};
-use crate::refusal::{BenchKind, LineFault, Names};
+use crate::refusal::{BenchKind, LineRefusal, Names};
 use crate::sights::Sights;
 use crate::statement::Statement;
 use indexmap::IndexSet;
@@ -47,11 +47,11 @@ fn see(roles: &mut Vec<Role>, number: usize)
 }
 
 impl<'a> Draft<'a> {
-    ghost use Rattle.bench_text.specs.Drafted.{seen, said_in, signals_in, are_seen, Keeps, AreNumbers};
+    ghost use Rattle.bench_text.specs.inner.Drafted.{names_seen, notes_in, signals_in, are_seen, Keeps, AreNumbers};
 
     /// No lines, and room for so many names.
     pub fn with_room(alloc: Global, names: usize) -> Result<Self, AllocError>
-        ensures nothing { IfOk result (λ d. said_in d ≡ []) }
+        ensures nothing { IfOk result (λ d. notes_in d ≡ []) }
         ensures lines { IfOk result (λ d. d.lines ≡ 0) }
     {
         Ok(Draft {
@@ -75,7 +75,7 @@ impl<'a> Draft<'a> {
     /// The number of a name.
     fn number(&mut self, name: &'a [u8]) -> Result<usize, AllocError>
         ensures keeps { OnOk result (Keeps self.old self.new) }
-        ensures number { IfOk result (λ n. slice_get (seen self.new) n ≡ Some name.now) }
+        ensures number { IfOk result (λ n. slice_get (names_seen self.new) n ≡ Some name.now) }
     {
         self.roles.reserve(1)?;
         let number = self.sights.number(name)?;
@@ -90,7 +90,7 @@ impl<'a> Draft<'a> {
         pins: &[&'a [u8]],
     ) -> Result<SmallVec<usize, 4>, AllocError>
         ensures keeps { OnOk result (Keeps self.old self.new) }
-        ensures numbers { IfOk result (λ ns. AreNumbers (seen self.new) ns.items (names pins.now)) }
+        ensures numbers { IfOk result (λ ns. AreNumbers (names_seen self.new) ns.items (names pins.now)) }
     {
         let mut numbers = SmallVec::new(alloc);
         for pin in pins {
@@ -109,8 +109,8 @@ impl<'a> Draft<'a> {
         pins: &[&'a [u8]],
     ) -> Result<Numbered, AllocError>
         ensures keeps { OnOk result (Keeps self.old self.new) }
-        ensures same { IfOk result (λ s. spelled (seen self.new) s ≡ forms.Definition name.now (Some kind) (names pins.now)) }
-        ensures seen { IfOk result (λ s. are_below (length (seen self.new)) s ≡ true) }
+        ensures same { IfOk result (λ s. spelling_of (names_seen self.new) s ≡ forms.Definition name.now (Some kind) (names pins.now)) }
+        ensures seen { IfOk result (λ s. are_below (length (names_seen self.new)) s ≡ true) }
     {
         let number = self.number(name)?;
         let pins = self.number_all(alloc, pins)?;
@@ -123,9 +123,9 @@ impl<'a> Draft<'a> {
         alloc: Global,
         statement: &Statement<'a>,
     ) -> Result<Option<Numbered>, AllocError>
-        requires { has_unknown_gate (stated statement.now) ≡ false }
+        requires { has_unknown_gate (statement_of statement.now) ≡ false }
         ensures keeps { OnOk result (Keeps self.old self.new) }
-        ensures same { IfOk result (λ s. spelled_if_any (seen self.new) s ≡ stated statement.now) }
+        ensures same { IfOk result (λ s. spelling_if_any (names_seen self.new) s ≡ statement_of statement.now) }
         ensures seen { IfOk result (λ s. are_seen self.new s ≡ true) }
     {
         match statement {
@@ -141,8 +141,8 @@ impl<'a> Draft<'a> {
 
     /// Whether a line defines the name of this number.
     pub fn defines(&self, number: usize) -> bool
-        requires { number < length (seen self.now) }
-        ensures { result ≡ list_any (bytes_eq (name_at (seen self.now) number)) (signals_in self.now) }
+        requires { number < length (names_seen self.now) }
+        ensures { result ≡ list_any (bytes_eq (name_at (names_seen self.now) number)) (signals_in self.now) }
     {
         match self.roles[number] {
             Role::Read => false,
@@ -153,7 +153,7 @@ impl<'a> Draft<'a> {
     /// Whether the statement's INPUT or definition has a name that a line defines.
     fn defines_again(&self, statement: &Option<Numbered>) -> bool
         requires { are_seen self.now statement.now ≡ true }
-        ensures { result ≡ defines_one_of (signals_in self.now) (spelled_if_any (seen self.now) statement.now) }
+        ensures { result ≡ defines_one_of (signals_in self.now) (spelling_if_any (names_seen self.now) statement.now) }
     {
         match statement {
             Some(Numbered::Input(number)) => self.defines(*number),
@@ -164,10 +164,10 @@ impl<'a> Draft<'a> {
 
     /// Adds an input.
     fn push_input(self, number: usize) -> Result<Draft<'a>, AllocError>
-        requires seen { number < length (seen self) }
-        requires first { list_any (bytes_eq (name_at (seen self) number)) (signals_in self) ≡ false }
+        requires seen { number < length (names_seen self) }
+        requires first { list_any (bytes_eq (name_at (names_seen self) number)) (signals_in self) ≡ false }
         requires lines { self.lines + 1 < 2 ^ 32 }
-        ensures said { IfOk result (λ d. said_in d ≡ said_in self.entry ++ noted_at (self.entry.lines + 1) (spelled (seen self.entry) (Input number))) }
+        ensures said { IfOk result (λ d. notes_in d ≡ notes_in self.entry ++ note_at (self.entry.lines + 1) (spelling_of (names_seen self.entry) (Input number))) }
         ensures lines { IfOk result (λ d. d.lines ≡ self.entry.lines + 1) }
     {
         let Draft {
@@ -199,9 +199,9 @@ impl<'a> Draft<'a> {
 
     /// Adds an output.
     fn push_output(self, number: usize) -> Result<Draft<'a>, AllocError>
-        requires seen { number < length (seen self) }
+        requires seen { number < length (names_seen self) }
         requires lines { self.lines + 1 < 2 ^ 32 }
-        ensures said { IfOk result (λ d. said_in d ≡ said_in self.entry ++ noted_at (self.entry.lines + 1) (spelled (seen self.entry) (Output number))) }
+        ensures said { IfOk result (λ d. notes_in d ≡ notes_in self.entry ++ note_at (self.entry.lines + 1) (spelling_of (names_seen self.entry) (Output number))) }
         ensures lines { IfOk result (λ d. d.lines ≡ self.entry.lines + 1) }
     {
         let Draft {
@@ -237,11 +237,11 @@ impl<'a> Draft<'a> {
         kind: Kind,
         pins: SmallVec<usize, 4>,
     ) -> Result<Draft<'a>, AllocError>
-        requires seen { number < length (seen self) }
-        requires pins { list_all (λ n. nat_lt n (length (seen self))) pins.items ≡ true }
-        requires first { list_any (bytes_eq (name_at (seen self) number)) (signals_in self) ≡ false }
+        requires seen { number < length (names_seen self) }
+        requires pins { list_all (λ n. nat_lt n (length (names_seen self))) pins.items ≡ true }
+        requires first { list_any (bytes_eq (name_at (names_seen self) number)) (signals_in self) ≡ false }
         requires lines { self.lines + 1 < 2 ^ 32 }
-        ensures said { IfOk result (λ d. said_in d ≡ said_in self.entry ++ noted_at (self.entry.lines + 1) (spelled (seen self.entry) (Definition number kind pins))) }
+        ensures said { IfOk result (λ d. notes_in d ≡ notes_in self.entry ++ note_at (self.entry.lines + 1) (spelling_of (names_seen self.entry) (Definition number kind pins))) }
         ensures lines { IfOk result (λ d. d.lines ≡ self.entry.lines + 1) }
     {
         let Draft {
@@ -274,9 +274,9 @@ impl<'a> Draft<'a> {
     /// Adds a line's statement, or a line that says nothing.
     fn push(self, statement: Option<Numbered>) -> Result<Draft<'a>, AllocError>
         requires seen { are_seen self statement ≡ true }
-        requires first { defines_one_of (signals_in self) (spelled_if_any (seen self) statement) ≡ false }
+        requires first { defines_one_of (signals_in self) (spelling_if_any (names_seen self) statement) ≡ false }
         requires lines { self.lines + 1 < 2 ^ 32 }
-        ensures said { IfOk result (λ d. said_in d ≡ said_in self.entry ++ noted_at (self.entry.lines + 1) (spelled_if_any (seen self.entry) statement)) }
+        ensures said { IfOk result (λ d. notes_in d ≡ notes_in self.entry ++ note_at (self.entry.lines + 1) (spelling_if_any (names_seen self.entry) statement)) }
         ensures lines { IfOk result (λ d. d.lines ≡ self.entry.lines + 1) }
     {
         match statement {
@@ -293,27 +293,27 @@ impl<'a> Draft<'a> {
         }
     }
 
-    /// Adds a line, unless it is faulty.
+    /// Adds a line, unless it is refused.
     #[inline(always)]
     pub fn add_line(
         self,
         alloc: Global,
         reading: Names,
         line: &'a [u8],
-    ) -> Result<Draft<'a>, LineFault>
+    ) -> Result<Draft<'a>, LineRefusal>
         requires { self.lines + 1 < 2 ^ 32 }
-        ensures said { IfOk result (λ d. said_in d ≡ said_in self.entry ++ noted_at (self.entry.lines + 1) (said reading line.now)) }
+        ensures said { IfOk result (λ d. notes_in d ≡ notes_in self.entry ++ note_at (self.entry.lines + 1) (statement_on reading line.now)) }
         ensures lines { IfOk result (λ d. d.lines ≡ self.entry.lines + 1) }
-        ensures fault { IsFault (fault reading (signals_in self.entry) line.now) result }
+        ensures refusal { IsRefusal (line_refusal reading (signals_in self.entry) line.now) result }
     {
         let statement = read_line(alloc, reading, line)?;
         let mut draft = self;
         let numbered = draft.numbered(alloc, &statement)?;
         if draft.defines_again(&numbered) {
-            return Err(LineFault::Refused(BenchKind::DefinedTwice));
+            return Err(LineRefusal::Refused(BenchKind::DefinedTwice));
         }
         if reading.reserves(&statement) {
-            return Err(LineFault::Refused(BenchKind::Reserved));
+            return Err(LineRefusal::Refused(BenchKind::Reserved));
         }
         Ok(draft.push(numbered)?)
     }

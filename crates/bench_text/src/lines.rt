@@ -2,23 +2,23 @@
 
 ghost use Rattle.std.specs.Prelude.{◌≡◌, ◌==◌, ◌<◌, ◌≤◌, ◌^◌, ◌∷◌, position, length};
 ghost use Rattle.bench_text.specs.Bytes.{lines};
-ghost use Rattle.bench_text.specs.LineRead.{put_at};
-ghost use Rattle.bench_text.specs.LinesRead.{AreLinesRead};
+ghost use Rattle.bench_text.specs.inner.LineRead.{put_at};
+ghost use Rattle.bench_text.specs.inner.LinesRead.{AreLinesRead};
 ghost use Rattle.bench_text.specs.Whole.{most_signals};
 
 use crate::draft::Draft;
-use crate::refusal::{BenchFault, BenchRefusal, LineFault, Names};
+use crate::refusal::{BenchFault, BenchRefusal, LineRefusal, Names};
 use memchr::{memchr, memchr_iter};
 use std::alloc::Global;
 
-impl LineFault {
-    /// The fault of this line of a text.
+impl LineRefusal {
+    /// The refusal of this line of a text.
     fn at(self, line: u32) -> BenchFault
         ensures { result ≡ put_at line self }
     {
         match self {
-            LineFault::NoMemory => BenchFault::NoMemory,
-            LineFault::Refused(kind) => BenchFault::Refused(BenchRefusal { line, kind }),
+            LineRefusal::NoMemory => BenchFault::NoMemory,
+            LineRefusal::Refused(kind) => BenchFault::Refused(BenchRefusal { line, kind }),
         }
     }
 }
@@ -53,7 +53,7 @@ impl Names {
     }
 }
 
-/// Reads line by line, up to the first faulty one.
+/// Reads line by line, up to the first refused one.
 pub fn read_lines<'a>(
     alloc: Global,
     reading: Names,
@@ -72,7 +72,7 @@ pub fn read_lines<'a>(
         let number = draft.lines() + 1;
         draft = match draft.add_line(alloc, reading, line) {
             Ok(longer) => longer,
-            Err(fault) => return Err(fault.at(number)),
+            Err(refusal) => return Err(refusal.at(number)),
         };
         rest = after;
     }

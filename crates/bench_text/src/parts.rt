@@ -3,14 +3,14 @@
 ghost use Rattle.std.specs.Prelude.{◌≡◌, ◌<◌, ◌≤◌, ◌++◌, true, map, length, nat_lt, IfOk, OnOk};
 ghost use Rattle.std.specs.List.{list_any, list_all, flat_map};
 ghost use Rattle.std.specs.Str.{bytes_eq};
-ghost use Rattle.netlist.specs.Conditions.{whole};
+ghost use Rattle.netlist.specs.Conditions.{most_signals, whole};
 ghost use Rattle.bench_text.specs.Said.{Said, statements_of};
 ghost use Rattle.bench_text.specs.Texts.{inputs_of};
 ghost use Rattle.bench_text.specs.Sights.{name_at, distinct};
-ghost use Rattle.bench_text.specs.Numbered.{are_below, definition_number, spelled};
+ghost use Rattle.bench_text.specs.inner.Numbered.{are_below, definition_number, spelling_of};
 ghost use Rattle.bench_text.specs.Whole.{outputs_of, reads_from};
 ghost use Rattle.bench_text.specs.Netlists.{id_of, equation, netlist_of};
-ghost use Rattle.bench_text.specs.Drafted.{seen, said_in, signals_in};
+ghost use Rattle.bench_text.specs.inner.Drafted.{names_seen, notes_in, signals_in};
 
 use crate::draft::Draft;
 use crate::numbered::{Numbered, Role};
@@ -21,10 +21,10 @@ use std::alloc::{AllocError, Global};
 impl Draft<'_> {
     /// The signal of a name.
     fn id(&self, number: usize) -> SignalId
-        requires seen { number < length (seen self.now) }
-        requires defined { list_any (bytes_eq (name_at (seen self.now) number)) (signals_in self.now) ≡ true }
-        requires few { length (signals_in self.now) ≤ 8000000 }
-        ensures { result ≡ id_of (signals_in self.now) (name_at (seen self.now) number) }
+        requires seen { number < length (names_seen self.now) }
+        requires defined { list_any (bytes_eq (name_at (names_seen self.now) number)) (signals_in self.now) ≡ true }
+        requires few { length (signals_in self.now) ≤ most_signals }
+        ensures { result ≡ id_of (signals_in self.now) (name_at (names_seen self.now) number) }
     {
         match self.roles[number] {
             Role::Input(place) => SignalId(place as u32),
@@ -35,10 +35,10 @@ impl Draft<'_> {
 
     /// The signals of inputs or outputs.
     fn ids(&self, alloc: Global, numbers: &[usize]) -> Result<Vec<SignalId>, AllocError>
-        requires seen { list_all (λ n. nat_lt n (length (seen self.now))) numbers.now ≡ true }
-        requires defined { list_all (λ n. list_any (bytes_eq (name_at (seen self.now) n)) (signals_in self.now)) numbers.now ≡ true }
-        requires few { length (signals_in self.now) ≤ 8000000 }
-        ensures { IfOk result (λ v. v.items ≡ map (λ n. id_of (signals_in self.now) (name_at (seen self.now) n)) numbers.now) }
+        requires seen { list_all (λ n. nat_lt n (length (names_seen self.now))) numbers.now ≡ true }
+        requires defined { list_all (λ n. list_any (bytes_eq (name_at (names_seen self.now) n)) (signals_in self.now)) numbers.now ≡ true }
+        requires few { length (signals_in self.now) ≤ most_signals }
+        ensures { IfOk result (λ v. v.items ≡ map (λ n. id_of (signals_in self.now) (name_at (names_seen self.now) n)) numbers.now) }
     {
         let mut ids = Vec::with_capacity(alloc, numbers.len())?;
         for number in numbers {
@@ -49,10 +49,10 @@ impl Draft<'_> {
 
     /// The signals of pins.
     fn pin_ids(&self, alloc: Global, numbers: &[usize]) -> Result<SmallVec<SignalId, 4>, AllocError>
-        requires seen { list_all (λ n. nat_lt n (length (seen self.now))) numbers.now ≡ true }
-        requires defined { list_all (λ n. list_any (bytes_eq (name_at (seen self.now) n)) (signals_in self.now)) numbers.now ≡ true }
-        requires few { length (signals_in self.now) ≤ 8000000 }
-        ensures { IfOk result (λ v. v.items ≡ map (λ n. id_of (signals_in self.now) (name_at (seen self.now) n)) numbers.now) }
+        requires seen { list_all (λ n. nat_lt n (length (names_seen self.now))) numbers.now ≡ true }
+        requires defined { list_all (λ n. list_any (bytes_eq (name_at (names_seen self.now) n)) (signals_in self.now)) numbers.now ≡ true }
+        requires few { length (signals_in self.now) ≤ most_signals }
+        ensures { IfOk result (λ v. v.items ≡ map (λ n. id_of (signals_in self.now) (name_at (names_seen self.now) n)) numbers.now) }
     {
         let mut ids = SmallVec::new(alloc);
         ids.reserve(numbers.len())?;
@@ -69,11 +69,11 @@ impl Draft<'_> {
         equations: &mut Vec<Definition>,
         statement: &Numbered,
     ) -> Result<(), AllocError>
-        requires seen { are_below (length (seen self.now)) statement.now ≡ true }
-        requires reads { reads_from (signals_in self.now) (spelled (seen self.now) statement.now) ≡ true }
-        requires defined { list_all (λ n. list_any (bytes_eq (name_at (seen self.now) n)) (signals_in self.now)) (definition_number statement.now) ≡ true }
-        requires few { length (signals_in self.now) ≤ 8000000 }
-        ensures { OnOk result (equations.new.items ≡ equations.old.items ++ equation (signals_in self.now) (spelled (seen self.now) statement.now)) }
+        requires seen { are_below (length (names_seen self.now)) statement.now ≡ true }
+        requires reads { reads_from (signals_in self.now) (spelling_of (names_seen self.now) statement.now) ≡ true }
+        requires defined { list_all (λ n. list_any (bytes_eq (name_at (names_seen self.now) n)) (signals_in self.now)) (definition_number statement.now) ≡ true }
+        requires few { length (signals_in self.now) ≤ most_signals }
+        ensures { OnOk result (equations.new.items ≡ equations.old.items ++ equation (signals_in self.now) (spelling_of (names_seen self.now) statement.now)) }
     {
         match statement {
             Numbered::Definition(number, kind, pins) => {
@@ -88,9 +88,9 @@ impl Draft<'_> {
 
     /// The definitions, in file order.
     fn equations(&self, alloc: Global) -> Result<Vec<Definition>, AllocError>
-        requires reads { list_all (λ (s : Said). reads_from (signals_in self.now) s.statement) (said_in self.now) ≡ true }
-        requires few { length (signals_in self.now) ≤ 8000000 }
-        ensures { IfOk result (λ v. v.items ≡ flat_map (equation (signals_in self.now)) (statements_of (said_in self.now))) }
+        requires reads { list_all (λ (s : Said). reads_from (signals_in self.now) s.statement) (notes_in self.now) ≡ true }
+        requires few { length (signals_in self.now) ≤ most_signals }
+        ensures { IfOk result (λ v. v.items ≡ flat_map (equation (signals_in self.now)) (statements_of (notes_in self.now))) }
     {
         let mut equations = Vec::with_capacity(alloc, self.definitions.len())?;
         for entry in &self.entries {
@@ -101,8 +101,8 @@ impl Draft<'_> {
 
     /// Adds names.
     fn push_names(&self, names: &mut NameTable, numbers: &[usize]) -> Result<(), AllocError>
-        requires { list_all (λ n. nat_lt n (length (seen self.now))) numbers.now ≡ true }
-        ensures { OnOk result (names.new ≡ names.old ++ map (name_at (seen self.now)) numbers.now) }
+        requires { list_all (λ n. nat_lt n (length (names_seen self.now))) numbers.now ≡ true }
+        ensures { OnOk result (names.new ≡ names.old ++ map (name_at (names_seen self.now)) numbers.now) }
     {
         for number in numbers {
             names.push(self.sights.name(*number))?;
@@ -122,26 +122,26 @@ impl Draft<'_> {
     }
 
     fn input_ids(&self, alloc: Global) -> Result<Vec<SignalId>, AllocError>
-        requires few { length (signals_in self.now) ≤ 8000000 }
-        ensures { IfOk result (λ v. v.items ≡ map (id_of (signals_in self.now)) (inputs_of (statements_of (said_in self.now)))) }
+        requires few { length (signals_in self.now) ≤ most_signals }
+        ensures { IfOk result (λ v. v.items ≡ map (id_of (signals_in self.now)) (inputs_of (statements_of (notes_in self.now)))) }
     {
         self.ids(alloc, &self.inputs)
     }
 
     /// The outputs, in the order of their first lines.
     fn output_ids(&self, alloc: Global) -> Result<Vec<SignalId>, AllocError>
-        requires reads { list_all (λ (s : Said). reads_from (signals_in self.now) s.statement) (said_in self.now) ≡ true }
-        requires few { length (signals_in self.now) ≤ 8000000 }
-        ensures { IfOk result (λ v. v.items ≡ map (id_of (signals_in self.now)) (distinct (outputs_of (statements_of (said_in self.now))))) }
+        requires reads { list_all (λ (s : Said). reads_from (signals_in self.now) s.statement) (notes_in self.now) ≡ true }
+        requires few { length (signals_in self.now) ≤ most_signals }
+        ensures { IfOk result (λ v. v.items ≡ map (id_of (signals_in self.now)) (distinct (outputs_of (statements_of (notes_in self.now))))) }
     {
         self.ids(alloc, self.outputs.as_slice())
     }
 
     /// The parts of the netlist, where each name that is read is defined.
     pub fn parts(&self, alloc: Global) -> Result<Parts, AllocError>
-        requires reads { list_all (λ (s : Said). reads_from (signals_in self.now) s.statement) (said_in self.now) ≡ true }
-        requires few { length (signals_in self.now) ≤ 8000000 }
-        ensures { IfOk result (λ p. whole p ≡ netlist_of (statements_of (said_in self.now))) }
+        requires reads { list_all (λ (s : Said). reads_from (signals_in self.now) s.statement) (notes_in self.now) ≡ true }
+        requires few { length (signals_in self.now) ≤ most_signals }
+        ensures { IfOk result (λ p. whole p ≡ netlist_of (statements_of (notes_in self.now))) }
     {
         Ok(Parts {
             names: self.names(alloc)?,

@@ -4,9 +4,10 @@ ghost use Rattle.std.specs.Prelude.{◌≡◌, ◌<◌, ◌≤◌, ◌^◌, leng
 ghost use Rattle.std.specs.Option.{option_map};
 ghost use Rattle.bench_text.specs.Bytes.{lines};
 ghost use Rattle.bench_text.specs.declared.numbered.Entry.{Entry};
-ghost use Rattle.bench_text.specs.Numbered.{defines_number};
-ghost use Rattle.bench_text.specs.Reading.{IsRead, IsReadAs, IsDefinedAt, IsLeft, IsLoopFault};
-ghost use Rattle.bench_text.specs.Drafted.{said_in, signals_in};
+ghost use Rattle.bench_text.specs.inner.Numbered.{defines_number};
+ghost use Rattle.bench_text.specs.Reading.{IsRead, IsReadAs};
+ghost use Rattle.bench_text.specs.inner.Loops.{IsDefinedAt, IsLeft, IsLoopRefusal};
+ghost use Rattle.bench_text.specs.inner.Drafted.{notes_in, signals_in};
 
 use crate::draft::Draft;
 use crate::lines::read_lines;
@@ -44,7 +45,7 @@ impl Draft<'_> {
     fn line_of(&self, signal: SignalId) -> u32
         requires defined { length self.now.inputs.items ≤ signal }
         requires within { signal < length (signals_in self.now) }
-        ensures { IsDefinedAt (said_in self.now) signal result }
+        ensures { IsDefinedAt (notes_in self.now) signal result }
     {
         let number = self.definitions[signal.index() - self.inputs.len()];
         match self.defining_line(number) {
@@ -56,9 +57,9 @@ impl Draft<'_> {
 
 impl Draft<'_> {
     /// What the refusal of the netlist is for the text. Only a loop is left, or want of memory.
-    fn fault_of(&self, refusal: &NetRefusal) -> BenchFault
-        requires { IsLeft (said_in self.now) refusal.now }
-        ensures { IsLoopFault (said_in self.now) result }
+    fn refusal_of(&self, refusal: &NetRefusal) -> BenchFault
+        requires { IsLeft (notes_in self.now) refusal.now }
+        ensures { IsLoopRefusal (notes_in self.now) result }
     {
         match refusal {
             NetRefusal::Loop(signal) => BenchFault::Refused(BenchRefusal {
@@ -82,9 +83,9 @@ pub fn read(alloc: Global, text: &[u8], reading: Names) -> Result<Netlist, Bench
 {
     let draft = match read_lines(alloc, reading, text) {
         Ok(draft) => draft,
-        Err(fault) => return Err(fault),
+        Err(refusal) => return Err(refusal),
     };
-    if let Some(refusal) = draft.whole_fault(reading) {
+    if let Some(refusal) = draft.whole_refusal(reading) {
         return Err(BenchFault::Refused(refusal));
     }
     let Ok(parts) = draft.parts(alloc) else {
@@ -95,6 +96,6 @@ pub fn read(alloc: Global, text: &[u8], reading: Names) -> Result<Netlist, Bench
             netlist.sound();
             Ok(netlist)
         }
-        Err(refusal) => Err(draft.fault_of(&refusal)),
+        Err(refusal) => Err(draft.refusal_of(&refusal)),
     }
 }

@@ -1,8 +1,8 @@
 //! Names, numbered in the order of first sight.
 
 ghost use Rattle.std.specs.Prelude.{◌≡◌, ◌<◌, [], length, IfOk, OnOk, OnErr, slice_get, Some};
-ghost use Rattle.bench_text.specs.Stated.{names};
-ghost use Rattle.bench_text.specs.Sights.{AreDistinct, IsNumber};
+ghost use Rattle.bench_text.specs.inner.Stated.{names};
+ghost use Rattle.bench_text.specs.inner.NewNames.{AreDistinct, IsNumber};
 
 use indexmap::IndexSet;
 use std::alloc::{AllocError, Global};

@@ -3,7 +3,7 @@
 ghost use Rattle.std.specs.Prelude.{◌≡◌, ℕ, ◌+◌, ◌<◌, ◌≤◌, List, [], ◌∷◌, length, map, option_map, IfOk};
 ghost use Rattle.bench_text.specs.Tokens.{tokens};
 ghost use Rattle.bench_text.specs.Forms.{closed_name, port, pins, more_pins, definition, statement};
-ghost use Rattle.bench_text.specs.Stated.{names, stated};
+ghost use Rattle.bench_text.specs.inner.Stated.{names, statement_of};
 
 use crate::keywords::{is_keyword, kind_of};
 use crate::token::{Mark, closes, is_done, mark_at, word_at};
@@ -36,7 +36,7 @@ fn closed_name(bytes: &[u8]) -> Option<&[u8]>
 
 /// `INPUT ( x )` or `OUTPUT ( x )`, behind its `(`.
 fn port<'a>(keyword: &[u8], bytes: &'a [u8]) -> Option<Statement<'a>>
-    ensures { option_map stated result ≡ port keyword.now (tokens bytes.now) }
+    ensures { option_map statement_of result ≡ port keyword.now (tokens bytes.now) }
 {
     let name = closed_name(bytes)?;
     if is_keyword(keyword, b"INPUT") {
@@ -79,7 +79,7 @@ fn definition<'a>(
     name: &'a [u8],
     bytes: &'a [u8],
 ) -> Result<Option<Statement<'a>>, AllocError>
-    ensures { IfOk result (λ o. option_map stated o ≡ definition name.now (tokens bytes.now)) }
+    ensures { IfOk result (λ o. option_map statement_of o ≡ definition name.now (tokens bytes.now)) }
 {
     let Some((gate, bytes)) = word_at(bytes) else {
         return Ok(None);
@@ -98,7 +98,7 @@ pub fn read_statement<'a>(
     alloc: Global,
     bytes: &'a [u8],
 ) -> Result<Option<Statement<'a>>, AllocError>
-    ensures { IfOk result (λ o. option_map stated o ≡ statement (tokens bytes.now)) }
+    ensures { IfOk result (λ o. option_map statement_of o ≡ statement (tokens bytes.now)) }
 {
     let Some((word, rest)) = word_at(bytes) else {
         if !is_done(bytes) {

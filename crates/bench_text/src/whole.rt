@@ -6,9 +6,9 @@ ghost use Rattle.std.specs.List.{list_any, list_all};
 ghost use Rattle.std.specs.Str.{bytes_eq};
 ghost use Rattle.bench_text.specs.Said.{Said};
 ghost use Rattle.bench_text.specs.Sights.{name_at};
-ghost use Rattle.bench_text.specs.Numbered.{are_below, spelled};
-ghost use Rattle.bench_text.specs.Whole.{reads_from, most_signals, refused, whole_fault};
-ghost use Rattle.bench_text.specs.Drafted.{seen, said_in, signals_in};
+ghost use Rattle.bench_text.specs.inner.Numbered.{are_below, spelling_of};
+ghost use Rattle.bench_text.specs.Whole.{reads_from, most_signals, refusal_at, whole_refusal};
+ghost use Rattle.bench_text.specs.inner.Drafted.{names_seen, notes_in, signals_in};
 
 use crate::draft::Draft;
 use crate::numbered::Numbered;
@@ -29,7 +29,7 @@ impl Names {
 impl BenchRefusal {
     /// What is wrong with a text as a whole.
     fn of_text(kind: BenchKind) -> BenchRefusal
-        ensures { result ≡ refused 0 kind }
+        ensures { result ≡ refusal_at 0 kind }
     {
         BenchRefusal { line: 0, kind }
     }
@@ -38,8 +38,8 @@ impl BenchRefusal {
 impl Draft<'_> {
     /// Whether lines define all these names.
     fn defines_all(&self, numbers: &[usize]) -> bool
-        requires { list_all (λ n. nat_lt n (length (seen self.now))) numbers.now ≡ true }
-        ensures { result ≡ list_all (λ n. list_any (bytes_eq (name_at (seen self.now) n)) (signals_in self.now)) numbers.now }
+        requires { list_all (λ n. nat_lt n (length (names_seen self.now))) numbers.now ≡ true }
+        ensures { result ≡ list_all (λ n. list_any (bytes_eq (name_at (names_seen self.now) n)) (signals_in self.now)) numbers.now }
     {
         for number in numbers {
             if !self.defines(*number) {
@@ -51,8 +51,8 @@ impl Draft<'_> {
 
     /// Whether a line reads only names that lines define.
     fn reads_defined(&self, statement: &Numbered) -> bool
-        requires { are_below (length (seen self.now)) statement.now ≡ true }
-        ensures { result ≡ reads_from (signals_in self.now) (spelled (seen self.now) statement.now) }
+        requires { are_below (length (names_seen self.now)) statement.now ≡ true }
+        ensures { result ≡ reads_from (signals_in self.now) (spelling_of (names_seen self.now) statement.now) }
     {
         match statement {
             Numbered::Input(_) => true,
@@ -63,7 +63,7 @@ impl Draft<'_> {
 
     /// The first line that reads a name that no line defines.
     fn first_undefined(&self) -> Option<u32>
-        ensures { result ≡ option_map (λ (s : Said). s.line) (find (λ (s : Said). not (reads_from (signals_in self.now) s.statement)) (said_in self.now)) }
+        ensures { result ≡ option_map (λ (s : Said). s.line) (find (λ (s : Said). not (reads_from (signals_in self.now) s.statement)) (notes_in self.now)) }
     {
         for entry in &self.entries {
             if !self.reads_defined(&entry.statement) {
@@ -74,8 +74,8 @@ impl Draft<'_> {
     }
 
     /// What is wrong with the text as a whole, but for loops.
-    pub fn whole_fault(&self, reading: Names) -> Option<BenchRefusal>
-        ensures { result ≡ whole_fault reading (said_in self.now) }
+    pub fn whole_refusal(&self, reading: Names) -> Option<BenchRefusal>
+        ensures { result ≡ whole_refusal reading (notes_in self.now) }
     {
         if self.signal_count() > reading.most_signals() {
             return Some(BenchRefusal::of_text(BenchKind::TooMany));

@@ -5,7 +5,7 @@ ghost use Rattle.std.specs.List.{All};
 ghost use Rattle.netlist.specs.Netlist.{Definition as Equation, signals};
 ghost use Rattle.bench_text.specs.Sights.{name_at};
 ghost use Rattle.bench_text.specs.Canonical.{further, pin_list, port_line, definition_line, equation_line, ended, canonical};
-ghost use Rattle.bench_text.specs.Written.{AreSignals, IsWritable};
+ghost use Rattle.bench_text.specs.inner.Written.{AreSignals, IsWritable};
 
 use crate::keywords::word_of;
 use netlist::{Definition, Netlist, NoMemory, SignalId};

@@ -1,9 +1,10 @@
 -- Laws of the list of faults, each the contract of a function of its name.
-use Rattle.std.specs.Prelude.{ℕ, ◌≡◌, ◌<◌, ◌≤◌, ◌*◌, Some, length}
+use Rattle.std.specs.Prelude.{ℕ, ◌≡◌, ◌<◌, ◌≤◌, ◌+◌, ◌*◌, Some, length}
 use Rattle.std.specs.List.{slice_get, Contains}
 use Rattle.netlist.specs.declared.lines.Fault.{Fault}
 use Rattle.netlist.specs.Netlist.{Netlist, signals}
 use Rattle.netlist.specs.Conditions.{IsSound}
+use Rattle.netlist.specs.Gates.{most_pins}
 use Rattle.fault_universe.specs.Universe.{universe_of}
 use Rattle.fault_universe.specs.Texts.{fault_text}
 use Rattle.netlist.specs.Lines.{signal_of, IsLineOf}
@@ -14,9 +15,9 @@ TextsDiffer =
     (n : Netlist) (i j : ℕ) (f g : Fault) → IsSound n → slice_get (universe_of n) i ≡ Some f → slice_get (universe_of n) j ≡ Some g
     → fault_text n f ≡ fault_text n g → i ≡ j
 
--- at most so many for each signal: its stem, a branch for each of the 1,024 pins of a definition, and two for an output, each at 0 and at 1
+-- at most so many for each signal: its stem, a branch for each pin of its definition, and one for an output, each at 0 and at 1
 abbrev pub faults_a_signal : ℕ
-faults_a_signal = 2052
+faults_a_signal = 2 * (most_pins + 2)
 
 abbrev pub FewFaults : Type 0
 FewFaults = (n : Netlist) → IsSound n → length (universe_of n) ≤ faults_a_signal * length (signals n)

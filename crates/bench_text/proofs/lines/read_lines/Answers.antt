@@ -1,5 +1,5 @@
 use Rattle.std.proofs.Common.{arith}
-use Rattle.bench_text.proofs.LinesReadLemmas.{is_zero, room, part-start, part-more, part-done, fault-here}
+use Rattle.bench_text.proofs.LinesReadLemmas.{is_zero, room, part-start, part-more, part-done, refusal-here}
 use Rattle.bench_text.proofs.lines.read_lines.Goals as goal
 
 pub lines-init : goal.lines-init
@@ -13,10 +13,10 @@ add_line-requires c = omega (arith, room _ _ _ _ _ c.lines.draft c.lines.invaria
 
 pub returns-in-Err : goal.returns-in-Err
 returns-in-Err c =
-    rw c.at.ensures (fault-here _ _ _ _ _ c.lines.draft c.lines.invariant c.first_line.ensures.line c.in-Err.fault _ c.lines-number.ensures c.in-Err.ensures.fault)
+    rw c.at.ensures (refusal-here _ _ _ _ _ c.lines.draft c.lines.invariant c.first_line.ensures.line c.in-Err.refusal _ c.lines-number.ensures c.in-Err.ensures.refusal)
 
 pub lines-preserved : goal.lines-preserved
-lines-preserved c = part-more _ _ _ _ _ c.lines.draft c.lines.invariant c.first_line.ensures.line c.in-Ok-add_line.longer c.in-Ok-add_line.ensures.said c.in-Ok-add_line.ensures.lines c.in-Ok-add_line.ensures.fault
+lines-preserved c = part-more _ _ _ _ _ c.lines.draft c.lines.invariant c.first_line.ensures.line c.in-Ok-add_line.longer c.in-Ok-add_line.ensures.said c.in-Ok-add_line.ensures.lines c.in-Ok-add_line.ensures.refusal
 
 pub returns : goal.returns
 returns c = part-done _ _ _ c.lines.draft (is_zero _ _ c.is_empty.ensures c.lines-test.false) c.lines.invariant

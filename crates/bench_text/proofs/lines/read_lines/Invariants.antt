@@ -1,5 +1,5 @@
 use Rattle.std.proofs.Common.{length}
-use Rattle.bench_text.specs.LinesRead.{IsPartRead}
+use Rattle.bench_text.specs.inner.LinesRead.{IsPartRead}
 use Rattle.bench_text.proofs.lines.read_lines.Given as goal
 
 abbrev pub invariant-lines : goal.invariant-lines

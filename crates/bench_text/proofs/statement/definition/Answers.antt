@@ -3,7 +3,7 @@ use Rattle.std.specs.Prelude.{option_map}
 use Rattle.smallvec.specs.SmallVec.{SmallVec}
 use Rattle.bench_text.specs.Keywords.{kind_of}
 use Rattle.bench_text.specs.Forms.{Definition}
-use Rattle.bench_text.specs.Stated.{names}
+use Rattle.bench_text.specs.inner.Stated.{names}
 use Rattle.bench_text.proofs.FormLemmas.{definition-no_word, definition-fails, definition-goes_on}
 use Rattle.bench_text.proofs.statement.definition.Goals as goal
 

@@ -1,6 +1,6 @@
 use Rattle.std.proofs.Common.{◌≡◌, ◌∷◌, ◌++◌, [], sym, ap, ◌∙◌}
 use Rattle.std.proofs.lemmas.List.{map_push}
-use Rattle.bench_text.specs.Stated.{names}
+use Rattle.bench_text.specs.inner.Stated.{names}
 use Rattle.bench_text.proofs.FormLemmas.{pins-no_word, pins-none, pins-start, pins-fail, pins-fail_word, pins-end, pins-step}
 use Rattle.bench_text.proofs.statement.pins.Goals as goal
 

@@ -1,8 +1,8 @@
 use Rattle.std.proofs.Common.{arith, refl, ◌∙◌}
 use Rattle.bench_text.specs.declared.numbered.Entry.{Entry}
-use Rattle.bench_text.specs.Numbered.{spelled}
+use Rattle.bench_text.specs.inner.Numbered.{spelling_of}
 use Rattle.bench_text.specs.Netlists.{equation}
-use Rattle.bench_text.specs.Drafted.{seen, signals_in}
+use Rattle.bench_text.specs.inner.Drafted.{names_seen, signals_in}
 use Rattle.bench_text.proofs.PartLemmas.{item-of, line-read, line-defined, flat-more, walked, equations-of}
 use Rattle.bench_text.proofs.draft.Draft.equations.Goals as goal
 
@@ -21,12 +21,12 @@ push_equation-requires-clause-defined c =
 pub loop-entry-preserved : goal.loop-entry-preserved
 loop-entry-preserved c =
     let s = c.args.self.now in
-    flat-more (λ (e : Entry). equation (signals_in s) (spelled (seen s) e.statement)) s.entries.items _ c.entry-item.result _ _ _
+    flat-more (λ (e : Entry). equation (signals_in s) (spelling_of (names_seen s) e.statement)) s.entries.items _ c.entry-item.result _ _ _
     (omega (arith, c.loop-entry-test.true, c.deref-entry-items.ensures.len, s.entries.ok.0)) (item-of s.entries.items _ _ _ c.deref-entry-items.ensures.value c.entry-item.is)
     c.loop-entry.invariant refl c.in_ok-push_equation.ensures
 
 pub returns : goal.returns
 returns c =
     let s = c.args.self.now in
-    walked (λ (e : Entry). equation (signals_in s) (spelled (seen s) e.statement)) s.entries.items _ _ (omega (arith, c.loop-entry-test.false, c.deref-entry-items.ensures.len, s.entries.ok.0)) c.loop-entry.invariant
+    walked (λ (e : Entry). equation (signals_in s) (spelling_of (names_seen s) e.statement)) s.entries.items _ _ (omega (arith, c.loop-entry-test.false, c.deref-entry-items.ensures.len, s.entries.ok.0)) c.loop-entry.invariant
     ∙ equations-of _ _ _ _ _ _ s.sound

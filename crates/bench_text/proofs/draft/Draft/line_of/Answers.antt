@@ -1,6 +1,6 @@
 use Rattle.std.proofs.Common.{◌≡◌, length, arith, subst}
-use Rattle.bench_text.specs.Drafted.{said_in}
-use Rattle.bench_text.specs.Reading.{IsDefinedAt}
+use Rattle.bench_text.specs.inner.Drafted.{notes_in}
+use Rattle.bench_text.specs.inner.Loops.{IsDefinedAt}
 use Rattle.bench_text.proofs.LoopLemmas.{place-below, never-missing, defined-at}
 use Rattle.bench_text.proofs.draft.Draft.line_of.Goals as goal
 
@@ -21,5 +21,5 @@ pub returns : goal.returns
 returns c =
     let s = c.args.self.now in
     let count : c.len.result ≡ length s.inputs.items = omega (arith, c.len.ensures, s.inputs.ok.0) in
-    subst (λ z. IsDefinedAt (said_in s) z c.in-Some.line) c.index.ensures
+    subst (λ z. IsDefinedAt (notes_in s) z c.in-Some.line) c.index.ensures
     (defined-at _ _ _ _ _ _ s.sound c.len.result c.index.result c.index-number.result.now count (omega (arith, c.index.ensures, c.requires.defined)) (omega (arith, c.index.ensures, c.requires.within)) c.index-number.ensures c.in-Some.line c.in-Some.ensures)

@@ -1,5 +1,5 @@
 use Rattle.std.proofs.Common.{refl, ap, ◌∙◌}
-use Rattle.bench_text.specs.Numbered.{with_role}
+use Rattle.bench_text.specs.inner.Numbered.{with_role}
 use Rattle.bench_text.proofs.SeenLemmas.{draft-seen, number-keeps, entries-kept}
 use Rattle.bench_text.proofs.draft.Draft.number.Goals as goal
 

@@ -4,19 +4,19 @@ use Rattle.std.specs.List.{list_all, list_any}
 use Rattle.std.specs.Str.{bytes_eq}
 use Rattle.bench_text.specs.Sights.{name_at}
 use Rattle.bench_text.specs.Netlists.{id_of}
-use Rattle.bench_text.specs.Drafted.{seen, signals_in}
+use Rattle.bench_text.specs.inner.Drafted.{names_seen, signals_in}
 use Rattle.bench_text.proofs.PartLemmas.{outputs-seen, outputs-defined, put_out}
 use Rattle.bench_text.proofs.draft.Draft.output_ids.Goals as goal
 
 pub ids-requires-clause-seen : goal.ids-requires-clause-seen
-ids-requires-clause-seen c = let s = c.args.self.now in ap (list_all (λ n. nat_lt n (length (seen s)))) c.as_slice.ensures.keys ∙ outputs-seen _ _ _ _ _ _ s.sound c.requires.reads
+ids-requires-clause-seen c = let s = c.args.self.now in ap (list_all (λ n. nat_lt n (length (names_seen s)))) c.as_slice.ensures.keys ∙ outputs-seen _ _ _ _ _ _ s.sound c.requires.reads
 
 pub ids-requires-clause-defined : goal.ids-requires-clause-defined
 ids-requires-clause-defined c =
     let s = c.args.self.now in
-    ap (list_all (λ n. list_any (bytes_eq (name_at (seen s) n)) (signals_in s))) c.as_slice.ensures.keys ∙ outputs-defined _ _ _ _ _ _ s.sound c.requires.reads
+    ap (list_all (λ n. list_any (bytes_eq (name_at (names_seen s) n)) (signals_in s))) c.as_slice.ensures.keys ∙ outputs-defined _ _ _ _ _ _ s.sound c.requires.reads
 
 pub returns : goal.returns
 returns c =
     let s = c.args.self.now in
-    subst (λ l. IfOk c.ids.result (λ v. v.items ≡ l)) (ap (map (λ n. id_of (signals_in s) (name_at (seen s) n))) c.as_slice.ensures.keys ∙ put_out _ _ _ _ _ _ s.sound) c.ids.ensures
+    subst (λ l. IfOk c.ids.result (λ v. v.items ≡ l)) (ap (map (λ n. id_of (signals_in s) (name_at (names_seen s) n))) c.as_slice.ensures.keys ∙ put_out _ _ _ _ _ _ s.sound) c.ids.ensures

@@ -1,7 +1,7 @@
 use Rattle.std.proofs.Common.{◌≡◌, ◌++◌, map, take}
 use Rattle.bench_text.specs.Sights.{name_at}
-use Rattle.bench_text.specs.Drafted.{seen}
+use Rattle.bench_text.specs.inner.Drafted.{names_seen}
 use Rattle.bench_text.proofs.draft.Draft.push_names.Given as goal
 
 abbrev pub invariant-loop-number : goal.invariant-loop-number
-invariant-loop-number l = l.names ≡ l.fn.names ++ map (name_at (seen l.self)) (take l.number-index l.numbers)
+invariant-loop-number l = l.names ≡ l.fn.names ++ map (name_at (names_seen l.self)) (take l.number-index l.numbers)

@@ -1,7 +1,7 @@
 use Rattle.std.proofs.Common.{sym, ap, ◌∙◌, arith}
 use Rattle.std.specs.Prelude.{Some}
 use Rattle.bench_text.proofs.WholeLemmas.{whole-too_many, whole-no_input, whole-no_output, whole-undefined}
-use Rattle.bench_text.proofs.draft.Draft.whole_fault.Goals as goal
+use Rattle.bench_text.proofs.draft.Draft.whole_refusal.Goals as goal
 
 pub returns-then-signal_count-most_signals : goal.returns-then-signal_count-most_signals
 returns-then-signal_count-most_signals c =

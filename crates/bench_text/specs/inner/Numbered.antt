@@ -8,20 +8,21 @@ use Rattle.bench_text.specs.declared.numbered.Numbered.TheVariants as numbered
 use Rattle.bench_text.specs.declared.numbered.Entry.{Entry}
 use Rattle.bench_text.specs.Forms.{Statement, Nothing, Input, Output, Definition}
 use Rattle.bench_text.specs.Said.{Said}
-use Rattle.bench_text.specs.Sights.{AreDistinct, name_at}
+use Rattle.bench_text.specs.Sights.{name_at}
+use Rattle.bench_text.specs.inner.NewNames.{AreDistinct}
 
 -- what a numbered statement says
-abbrev pub spelled : List (List ℕ) → Numbered → Statement
-spelled names (numbered.Input n) = Input (name_at names n)
-spelled names (numbered.Output n) = Output (name_at names n)
-spelled names (numbered.Definition n kind pins) = Definition (name_at names n) (Some kind) (map (name_at names) pins.items)
+abbrev pub spelling_of : List (List ℕ) → Numbered → Statement
+spelling_of names (numbered.Input n) = Input (name_at names n)
+spelling_of names (numbered.Output n) = Output (name_at names n)
+spelling_of names (numbered.Definition n kind pins) = Definition (name_at names n) (Some kind) (map (name_at names) pins.items)
 
-abbrev pub spelled_if_any : List (List ℕ) → Option Numbered → Statement
-spelled_if_any names None = Nothing
-spelled_if_any names (Some s) = spelled names s
+abbrev pub spelling_if_any : List (List ℕ) → Option Numbered → Statement
+spelling_if_any names None = Nothing
+spelling_if_any names (Some s) = spelling_of names s
 
-abbrev pub spelled_entry : List (List ℕ) → Entry → Said
-spelled_entry names e = record { line = e.line; statement = spelled names e.statement }
+abbrev pub spelling_of_entry : List (List ℕ) → Entry → Said
+spelling_of_entry names e = record { line = e.line; statement = spelling_of names e.statement }
 
 abbrev pub input_number : Numbered → List ℕ
 input_number (numbered.Input n) = n ∷ []

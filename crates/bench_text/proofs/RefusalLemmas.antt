@@ -5,14 +5,15 @@ use Rattle.bench_text.specs.declared.draft.Draft.{Draft}
 use Rattle.bench_text.specs.declared.refusal.Names.{Names}
 use Rattle.bench_text.specs.declared.refusal.BenchKind.{BenchKind}
 use Rattle.bench_text.specs.declared.refusal.BenchKind.TheVariants.{BadByte, BadLine, UnknownGate, BadPins, DefinedTwice, Reserved}
-use Rattle.bench_text.specs.declared.refusal.LineFault.{LineFault}
-use Rattle.bench_text.specs.declared.refusal.LineFault.TheVariants.{NoMemory, Refused}
-use Rattle.bench_text.specs.Refusals.{says, fault, own_fault, defines_one_of, has_reserved_name, has_unknown_gate, holds}
-use Rattle.bench_text.specs.LineRead.{IsLine, IsFault}
+use Rattle.bench_text.specs.declared.refusal.LineRefusal.{LineRefusal}
+use Rattle.bench_text.specs.declared.refusal.LineRefusal.TheVariants.{NoMemory, Refused}
+use Rattle.bench_text.specs.Refusals.{says, line_refusal, defines_one_of, has_reserved_name, has_unknown_gate, holds}
+use Rattle.bench_text.specs.inner.OneLine.{own_refusal}
+use Rattle.bench_text.specs.inner.LineRead.{IsLine, IsRefusal}
 use Rattle.bench_text.specs.Forms.{Statement, Nothing}
-use Rattle.bench_text.specs.Texts.{said, signals_of}
+use Rattle.bench_text.specs.Texts.{statement_on, signals_of}
 use Rattle.bench_text.specs.Said.{statements_of}
-use Rattle.bench_text.specs.Drafted.{signals_in, Keeps}
+use Rattle.bench_text.specs.inner.Drafted.{signals_in, Keeps}
 use Rattle.bench_text.proofs.Lists.{false_if}
 
 -- the first four kinds, and what comes after them
@@ -34,33 +35,33 @@ one_of_four false false false true rest k h = h
 one_of_four false false false false rest k h = cc
 
 module _ (reading : Names) (before : List (List ℕ)) (line : List ℕ) where
-  pub fault-own : (k : BenchKind) → own_fault reading line ≡ Some k → fault reading before line ≡ Some k
-  unfolding own_fault fault
-  fault-own k h = one_of_four _ _ _ _ _ k h
+  pub refusal-own : (k : BenchKind) → own_refusal reading line ≡ Some k → line_refusal reading before line ≡ Some k
+  unfolding own_refusal line_refusal
+  refusal-own k h = one_of_four _ _ _ _ _ k h
 
-  module _ (s : Statement) (fine : own_fault reading line ≡ None) (e : says reading line ≡ Some s) where
-    pub fault-twice : defines_one_of before s ≡ true → fault reading before line ≡ Some DefinedTwice
-    unfolding own_fault fault
-    fault-twice h = none_of_four _ _ _ _ _ fine ∙ (rw (e, h) refl)
+  module _ (s : Statement) (fine : own_refusal reading line ≡ None) (e : says reading line ≡ Some s) where
+    pub refusal-twice : defines_one_of before s ≡ true → line_refusal reading before line ≡ Some DefinedTwice
+    unfolding own_refusal line_refusal
+    refusal-twice h = none_of_four _ _ _ _ _ fine ∙ (rw (e, h) refl)
 
-    pub fault-reserved : defines_one_of before s ≡ false → has_reserved_name reading s ≡ true → fault reading before line ≡ Some Reserved
-    unfolding own_fault fault
-    fault-reserved h k = none_of_four _ _ _ _ _ fine ∙ (rw (e, h, k) refl)
+    pub refusal-reserved : defines_one_of before s ≡ false → has_reserved_name reading s ≡ true → line_refusal reading before line ≡ Some Reserved
+    unfolding own_refusal line_refusal
+    refusal-reserved h k = none_of_four _ _ _ _ _ fine ∙ (rw (e, h, k) refl)
 
-    pub fault-none : defines_one_of before s ≡ false → has_reserved_name reading s ≡ false → fault reading before line ≡ None
-    unfolding own_fault fault
-    fault-none h k = none_of_four _ _ _ _ _ fine ∙ (rw (e, h, k) refl)
+    pub refusal-none : defines_one_of before s ≡ false → has_reserved_name reading s ≡ false → line_refusal reading before line ≡ None
+    unfolding own_refusal line_refusal
+    refusal-none h k = none_of_four _ _ _ _ _ fine ∙ (rw (e, h, k) refl)
 
-  pub said-says : (s : Statement) → says reading line ≡ Some s → said reading line ≡ s
+  pub said-says : (s : Statement) → says reading line ≡ Some s → statement_on reading line ≡ s
   said-says s e = ap (λ o. unwrap_or o Nothing) e
 
-  pub line_err : (e : LineFault) → IsLine reading line (Err e) → IsFault {A = Draft} (fault reading before line) (Err e)
+  pub line_err : (e : LineRefusal) → IsLine reading line (Err e) → IsRefusal {A = Draft} (line_refusal reading before line) (Err e)
   line_err NoMemory h = tt
-  line_err (Refused k) h = fault-own k h
+  line_err (Refused k) h = refusal-own k h
 
 -- a line that is fine on its own has a known gate
-pub known-gate : (reading : Names) (line : List ℕ) (s : Statement) → own_fault reading line ≡ None → says reading line ≡ Some s → has_unknown_gate s ≡ false
-unfolding own_fault
+pub known-gate : (reading : Names) (line : List ℕ) (s : Statement) → own_refusal reading line ≡ None → says reading line ≡ Some s → has_unknown_gate s ≡ false
+unfolding own_refusal
 known-gate reading line s h e = false_if _ (λ (t : has_unknown_gate s ≡ true). let k : has_unknown_gate_of (says reading line) ≡ true = ap has_unknown_gate_of e ∙ t in unknown _ _ _ _ k h)
   where
     has_unknown_gate_of : Option Statement → Bool
