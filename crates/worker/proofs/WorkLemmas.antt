@@ -1,0 +1,146 @@
+-- Cubes, patterns and hits of a batch.
+use Rattle.std.proofs.Common.{zero, suc, ◌≡◌, ◌≢◌, ◌⊎◌, inl, inr, ℕ, ◌+◌, ◌<◌, ◌≤◌, List, [], ◌∷◌, length, get_or, refl, sym, ap, ◌∙◌, subst, arith}
+use Rattle.std.specs.List.{All, AllPairs}
+use Rattle.std.proofs.lemmas.List.Elements.{All-cons, All-head, All-tail}
+use Rattle.std.proofs.lemmas.List.Kept.{AllPairs-cons}
+use Rattle.netlist.specs.declared.lines.Fault.{Fault}
+use Rattle.netlist.specs.declared.lines.Point.{Point}
+use Rattle.netlist.specs.Netlist.{Netlist}
+use Rattle.netlist.specs.Holds.{Holds}
+use Rattle.netlist.specs.Detection.{Detects}
+use Rattle.cubes.specs.Cubes.{Pattern, Cube, HaveSameWidths, AgreesWith, IsCubeOf, IsPatternOf}
+use Rattle.word_sim.specs.declared.batches.Hit.{Hit}
+use Rattle.word_sim.specs.Hits.{AreHits}
+use Rattle.redundancy_cert.specs.declared.nodes.Node.{Node}
+use Rattle.redundancy_cert.specs.declared.engine.Found.{Found}
+use Rattle.redundancy_cert.specs.declared.engine.Found.TheVariants.{Test, Closed, Partial}
+use Rattle.redundancy_cert.specs.Fits.{Fits}
+use Rattle.redundancy_cert.specs.Evidence.{HasEvidence, IsTestCube}
+use Rattle.list_core.specs.States.{MaySettle}
+use Rattle.list_core.specs.Subjects.{Subject, Represents}
+use Rattle.list_core.specs.Batches.{IsTrueHit, IsTrueBatch}
+
+-- cubes of one netlist have the same widths
+pub same_widths : (n : Netlist) (holds : Holds) (cubes : List Cube) → All (IsCubeOf n holds) cubes → AllPairs HaveSameWidths cubes
+same_widths n holds cubes all i j d a b =
+    let x = all i d (omega arith) in
+    let y = all j d b in
+    record { inputs = x.inputs ∙ sym y.inputs; cells = x.cells ∙ sym y.cells }
+
+-- ---- hits of the classes that were left
+
+none_of : {X : Type 0} (P : X → Type 0) → All P []
+none_of P k d lt = absurd (omega (arith, lt))
+
+pairs_head : {X : Type 0} (R : X → X → Type 0) (x : X) (xs : List X) → AllPairs R (x ∷ xs) → All (R x) xs
+pairs_head R x xs pairs k d lt = pairs 0 (suc k) d (omega arith) (omega (arith, lt))
+
+pairs_tail : {X : Type 0} (R : X → X → Type 0) (x : X) (xs : List X) → AllPairs R (x ∷ xs) → AllPairs R xs
+pairs_tail R x xs pairs i k d a b = pairs (suc i) (suc k) d (omega (arith, a)) (omega (arith, b))
+
+hits_true : (j : Subject) (ps : List Pattern) (given : List (ℕ × Fault)) (hits : List Hit) → All (λ (p : ℕ × Fault). Represents j p.0 p.1) given
+    → AreHits j.netlist ps given hits → All (IsTrueHit j ps) hits
+hits_true j ps [] hits reps none = subst (All (IsTrueHit j ps)) (sym none) (none_of (IsTrueHit j ps))
+hits_true j ps (g ∷ gs) hits reps (inl w) = hits_true j ps gs hits (All-tail (λ (p : ℕ × Fault). Represents j p.0 p.1) g gs reps) w.1
+hits_true j ps (g ∷ gs) hits reps (inr (h, rest, is, class, last, more)) =
+    let rep : Represents j g.0 g.1 = All-head (λ (p : ℕ × Fault). Represents j p.0 p.1) g gs reps in
+    let here : IsTrueHit j ps h = record {
+      fault = g.1;
+      represents = (let P : ℕ → Type 0 = λ c. Represents j c g.1 in subst P (sym class) rep);
+      pattern = last.here.pattern;
+      at = last.here.at;
+      detects = last.here.detects;
+    } in
+    subst (All (IsTrueHit j ps)) (sym is) (All-cons (IsTrueHit j ps) h rest here (hits_true j ps gs rest (All-tail (λ (p : ℕ × Fault). Represents j p.0 p.1) g gs reps) more))
+
+-- hits name classes that were given
+hits_above : (n : Netlist) (ps : List Pattern) (bound : ℕ) (given : List (ℕ × Fault)) (hits : List Hit) → All (λ (p : ℕ × Fault). bound < p.0) given
+    → AreHits n ps given hits → All (λ (h : Hit). bound < h.class) hits
+hits_above n ps bound [] hits above none = subst (All (λ (h : Hit). bound < h.class)) (sym none) (none_of (λ (h : Hit). bound < h.class))
+hits_above n ps bound (g ∷ gs) hits above (inl w) = hits_above n ps bound gs hits (All-tail (λ (p : ℕ × Fault). bound < p.0) g gs above) w.1
+hits_above n ps bound (g ∷ gs) hits above (inr (h, rest, is, class, last, more)) =
+    let low : bound < g.0 = All-head (λ (p : ℕ × Fault). bound < p.0) g gs above in
+    let here : bound < h.class = omega (arith, low, class) in
+    subst (All (λ (x : Hit). bound < x.class)) (sym is)
+    (All-cons (λ (x : Hit). bound < x.class) h rest here (hits_above n ps bound gs rest (All-tail (λ (p : ℕ × Fault). bound < p.0) g gs above) more))
+
+hits_once : (n : Netlist) (ps : List Pattern) (given : List (ℕ × Fault)) (hits : List Hit) → AllPairs (λ (p q : ℕ × Fault). p.0 < q.0) given
+    → AreHits n ps given hits → AllPairs (λ (g h : Hit). g.class ≢ h.class) hits
+hits_once n ps [] hits rising none =
+    subst (AllPairs (λ (g h : Hit). g.class ≢ h.class)) (sym none) (λ i k d a b. absurd (omega (arith, b)))
+hits_once n ps (g ∷ gs) hits rising (inl w) = hits_once n ps gs hits (pairs_tail (λ (p q : ℕ × Fault). p.0 < q.0) g gs rising) w.1
+hits_once n ps (g ∷ gs) hits rising (inr (h, rest, is, class, last, more)) =
+    let above = hits_above n ps g.0 gs rest (pairs_head (λ (p q : ℕ × Fault). p.0 < q.0) g gs rising) more in
+    let apart : All (λ (x : Hit). h.class ≢ x.class) rest = (λ k d lt e. let up = above k d lt in absurd (omega (arith, up, e, class))) in
+    subst (AllPairs (λ (x y : Hit). x.class ≢ y.class)) (sym is)
+    (AllPairs-cons (λ (x y : Hit). x.class ≢ y.class) h rest apart (hits_once n ps gs rest (pairs_tail (λ (p q : ℕ × Fault). p.0 < q.0) g gs rising) more))
+
+-- the netlist and the held inputs at hand are those of the list
+pub true_batch : (j : Subject) (n : Netlist) (holds : Holds) (ps : List Pattern) (left : List (ℕ × Fault)) (hits : List Hit)
+    → n ≡ j.netlist → holds ≡ j.holds → All (IsPatternOf n holds) ps
+    → All (λ (p : ℕ × Fault). Represents j p.0 p.1) left → AllPairs (λ (p q : ℕ × Fault). p.0 < q.0) left
+    → AreHits n ps left hits → IsTrueBatch j (record { patterns = ps; hits = hits })
+true_batch j n holds ps left hits e f are reps rising h =
+    let same : AreHits j.netlist ps left hits = (let P : Netlist → Type 0 = λ m. AreHits m ps left hits in subst P e h) in
+    record {
+      patterns = (
+          let P : Netlist → Type 0 = λ m. All (IsPatternOf m j.holds) ps in
+          let Q : Holds → Type 0 = λ k. All (IsPatternOf n k) ps in
+          subst P e (subst Q f are)
+          );
+      hits = hits_true j ps left hits reps same;
+      once = hits_once j.netlist ps left hits rising same;
+    }
+
+-- ---- what a search found may settle the claim
+
+fits_for : (j : Subject) (f g : Fault) (n : Netlist) (holds : Holds) (t : List Node) → f ≡ g → n ≡ j.netlist → holds ≡ j.holds → Fits f n holds t → Fits g j.netlist j.holds t
+fits_for j f g n holds t ef en eh fits =
+    let P : Holds → Type 0 = λ k. Fits g j.netlist k t in
+    let Q : Netlist → Type 0 = λ m. Fits g m holds t in
+    let R : Fault → Type 0 = λ h. Fits h n holds t in
+    subst P eh (subst Q en (subst R ef fits))
+
+pub closed_settles : (j : Subject) (f g : Fault) (n : Netlist) (holds : Holds) (limit : ℕ) (found : Found) (t : List Node) → HasEvidence f n holds limit found → found ≡ Closed t
+    → f ≡ g → n ≡ j.netlist → holds ≡ j.holds → MaySettle j g t
+closed_settles j f g n holds limit found t h e ef en eh =
+    let ev = (let P : Found → Type 0 = λ x. HasEvidence f n holds limit x in subst P e h) in
+    record { fits = fits_for j f g n holds t ef en eh ev.0; closed = λ some. absurd (omega (arith, some, ev.1)) }
+
+pub partial_settles : (j : Subject) (f g : Fault) (n : Netlist) (holds : Holds) (limit : ℕ) (found : Found) (t : List Node) → HasEvidence f n holds limit found → found ≡ Partial t
+    → f ≡ g → n ≡ j.netlist → holds ≡ j.holds → limit ≡ j.limit → MaySettle j g t
+partial_settles j f g n holds limit found t h e ef en eh el =
+    let ev = (let P : Found → Type 0 = λ x. HasEvidence f n holds limit x in subst P e h) in
+    record { fits = fits_for j f g n holds t ef en eh ev.0; closed = λ some. ev.1 ∙ el }
+
+pub test_is_cube : (f : Fault) (n : Netlist) (holds : Holds) (limit : ℕ) (found : Found) (c : Cube) (o : Point) → HasEvidence f n holds limit found → found ≡ Test c o → IsCubeOf n holds c
+test_is_cube f n holds limit found c o h e =
+    let ev = (let P : Found → Type 0 = λ x. HasEvidence f n holds limit x in subst P e h) in ev.is_cube
+
+-- ---- one pattern with one hit
+
+only : {A : Type 0} (P : A → Type 0) (x : A) → P x → All P (x ∷ [])
+only P x h zero d lt = h
+only P x h (suc k) d lt = absurd (omega (arith, lt))
+
+pub single_true : (j : Subject) (n : Netlist) (holds : Holds) (f : Fault) (c : Cube) (p : Pattern) (o : Point) (class : ℕ) → n ≡ j.netlist → holds ≡ j.holds → Represents j class f
+    → IsTestCube f n holds c o → AgreesWith p c → IsPatternOf n holds p
+    → IsTrueBatch j (record { patterns = p ∷ []; hits = record { class = class; pattern = 0; point = o } ∷ [] })
+single_true j n holds f c p o class en eh rep test agrees is =
+    let w : IsPatternOf j.netlist j.holds p = (
+    let P : Netlist → Type 0 = λ m. IsPatternOf m j.holds p in
+    let Q : Holds → Type 0 = λ k. IsPatternOf n k p in
+    subst P en (subst Q eh is)
+    ) in
+    let h : Hit = record { class = class; pattern = 0; point = o } in
+    record {
+      patterns = only (IsPatternOf j.netlist j.holds) p w;
+      hits = only (IsTrueHit j (p ∷ [])) h (record {
+        fault = f;
+        represents = rep;
+        pattern = p;
+        at = refl;
+        detects = (let P : Netlist → Type 0 = λ m. Detects m f p.inputs p.cells o in subst P en (test.detects p agrees));
+      });
+      once = λ i k d less lt. absurd (omega (arith, less, lt));
+    }

@@ -1,0 +1,125 @@
+//! What the caller works once the workers have ended.
+ghost use Rattle.std.specs.Prelude.{[], ◌∷◌, ◌≡◌, ℕ, ◌+◌, ◌<◌, ◌≤◌, ◌^◌, false, length, IfOk, OnOk};
+ghost use Rattle.redundancy_cert.specs.Evidence.{IsTestCube};
+ghost use Rattle.list_core.specs.Subjects.{class_count};
+ghost use Rattle.list_core.specs.Batches.{IsTrueBatch};
+ghost use Rattle.list_core.specs.Verdicts.{verdict_at, is_open};
+ghost use Rattle.list_core.specs.States.{IsTrueList};
+ghost use Rattle.netlist.specs.Holds.{AreHoldsOf};
+ghost use Rattle.worker.specs.Working.{NoneOpen};
+
+use crate::adding::add;
+use cubes::{Cube, fill};
+use list_core::{About, Claim, FaultList};
+use netlist::{Core, Holds, NoMemory, Point};
+use rand_core::Rng;
+use rand_pcg::Lcg64Xsh32;
+use redundancy_cert::{Engine, Found};
+use std::alloc::Global;
+use word_sim::{Batch, Hit};
+
+/// The cube, filled, with its hit of the claim's class.
+fn single<J: About, N: Rng>(
+    alloc: Global,
+    core: &Core,
+    claim: &Claim<J>,
+    cube: &Cube,
+    point: Point,
+    rng: &mut N,
+    holds: &Holds,
+) -> Result<Batch, NoMemory>
+    requires core { core.now ≡ J.subject.netlist }
+    requires held { (holds.now ≡ J.subject.holds) × AreHoldsOf core.now holds.now }
+    requires test { IsTestCube claim.now.fault core.now holds.now cube.now point }
+    ensures true_batch { IfOk result (IsTrueBatch J.subject) }
+    ensures one { IfOk result (λ b. length b.patterns ≡ 1) }
+    ensures hits { IfOk result (λ b. b.hits ≡ record { class = claim.now.class; pattern = 0; point = point } ∷ []) }
+{
+    let _ = core;
+    let _ = holds;
+    let pattern = fill(alloc, cube, rng)?;
+    let mut patterns = Vec::new(alloc);
+    add(&mut patterns, pattern)?;
+    let mut hits = Vec::new(alloc);
+    add(
+        &mut hits,
+        Hit {
+            class: claim.class(),
+            pattern: 0,
+            point,
+        },
+    )?;
+    Ok(Batch::new(patterns, hits))
+}
+
+/// Works the class, where it is Open.
+fn work_one<J: About, E: Engine, N: Rng>(
+    alloc: Global,
+    list: &mut FaultList<J>,
+    worker: u32,
+    class: u32,
+    core: &Core,
+    engine: &E,
+    rng: &mut N,
+    holds: &Holds,
+) -> Result<(), NoMemory>
+    requires core { core.now ≡ J.subject.netlist }
+    requires limit { 1 ≤ J.subject.limit }
+    requires held { (holds.now ≡ J.subject.holds) × AreHoldsOf core.now holds.now }
+    requires class { class < class_count J.subject }
+    requires claims { list.old.claims < class_count J.subject }
+    requires few { length list.old.patterns + 1 < 2 ^ 32 }
+    ensures closed { OnOk result (is_open (verdict_at list.new.verdicts class) ≡ false) }
+    ensures stays { OnOk result ((c : ℕ) → is_open (verdict_at list.old.verdicts c) ≡ false → is_open (verdict_at list.new.verdicts c) ≡ false) }
+    ensures claims { OnOk result (list.new.claims ≤ list.old.claims + 1) }
+    ensures few { OnOk result (length list.new.patterns ≤ length list.old.patterns + 1) }
+{
+    list.true_list();
+    let Some(claim) = list.claim(worker, class) else {
+        return Ok(());
+    };
+    match engine.search(alloc, core, claim.fault(), claim.limit(), holds)? {
+        Found::Test(cube, point) => {
+            let batch = single(alloc, core, &claim, &cube, point, rng, holds)?;
+            list.reserve(1, 2)?;
+            list.publish(worker, batch);
+        }
+        Found::Closed(tree) => {
+            let _ = list.settle(claim, tree);
+        }
+        Found::Partial(tree) => {
+            let _ = list.settle(claim, tree);
+        }
+    }
+    Ok(())
+}
+
+/// Works every class that is still Open.
+pub fn work_rest<J: About, E: Engine>(
+    alloc: Global,
+    list: FaultList<J>,
+    worker: u32,
+    core: &Core,
+    engine: &E,
+    seed: u64,
+    holds: &Holds,
+) -> Result<FaultList<J>, NoMemory>
+    requires core { core.now ≡ J.subject.netlist }
+    requires limit { 1 ≤ J.subject.limit }
+    requires held { (holds.now ≡ J.subject.holds) × AreHoldsOf core.now holds.now }
+    requires claims { list.claims ≡ 0 }
+    requires few { length list.patterns ≤ class_count J.subject }
+    ensures closed { IfOk result (λ l. NoneOpen l.verdicts) }
+    ensures true_list { IfOk result (λ l. IsTrueList J.subject l) }
+{
+    let mut list = list;
+    let mut rng = Lcg64Xsh32::new(seed, worker as u64);
+    list.true_list();
+    for class in 0..list.count() {
+        work_one(
+            alloc, &mut list, worker, class, core, engine, &mut rng, holds,
+        )?;
+    }
+    list.true_list();
+    Ok(list)
+}

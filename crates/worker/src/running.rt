@@ -1,0 +1,227 @@
+//! Workers beside each other.
+ghost use Rattle.std.specs.Prelude.{◌≡◌, ◌<◌, ◌≤◌, [], length, IfOk, vec_len};
+ghost use Rattle.std.specs.List.{All};
+ghost use Rattle.list_core.specs.Subjects.{class_count};
+ghost use Rattle.list_core.specs.States.{IsTrueList};
+ghost use Rattle.shared_list.specs.Tally.{Tally};
+ghost use Rattle.netlist.specs.Holds.{AreHoldsOf};
+ghost use Rattle.worker.specs.Working.{NoneOpen};
+
+use crate::adding::add;
+use crate::rest::work_rest;
+use crate::simulating::HitSimulator;
+use crate::working::work;
+use list_core::{About, FaultList};
+use netlist::{Core, Holds, NoMemory};
+use outside::Gate;
+use redundancy_cert::Engine;
+use shared_list::{Share, Shared};
+use std::alloc::Global;
+use std::marker::{Brand, Model};
+use std::sync::Wait;
+use std::sync::ledger::{Blank, Ledger};
+use std::thread;
+use std::thread::Threads;
+
+/// A worker's share, and whether memory was refused to it.
+#[derive(Drop)]
+struct Job<T: Ledger, S: Ledger, P: Ledger, U: Ledger> {
+    share: Share<T, S, P, U>,
+    refused: bool,
+}
+
+impl<T: Ledger, S: Ledger, P: Ledger, U: Ledger> Model for Job<T, S, P, U> {
+    ghost use Rattle.shared_list.specs.Tally.{Tally};
+
+    ghost Value = { Tally };
+
+    ghost view = { λ j. j.share };
+}
+
+fn work_in<
+    J: About,
+    T: Ledger,
+    S: Ledger,
+    P: Ledger,
+    U: Ledger,
+    E: Engine,
+    H: HitSimulator,
+    G: Gate,
+    R: Wait,
+>(
+    rt: &R,
+    alloc: Global,
+    shared: &Shared<J, T, S, P, U>,
+    job: &mut Job<T, S, P, U>,
+    core: &Core,
+    engine: &E,
+    simulator: &H,
+    gate: &G,
+    seed: u64,
+    holds: &Holds,
+)
+    requires table { job.old.table ≡ shared.now.word.shared.table_id }
+    requires core { core.now ≡ J.subject.netlist }
+    requires limit { 1 ≤ J.subject.limit }
+    requires held { (holds.now ≡ J.subject.holds) × AreHoldsOf core.now holds.now }
+{
+    job.refused = work(
+        rt,
+        alloc,
+        shared,
+        &mut job.share,
+        core,
+        engine,
+        simulator,
+        gate,
+        seed,
+        holds,
+    )
+    .is_err();
+}
+
+/// A job for each share.
+fn jobs_of<T: Ledger, S: Ledger, P: Ledger, U: Ledger>(
+    alloc: Global,
+    shares: Vec<Share<T, S, P, U>>,
+) -> Result<Vec<Job<T, S, P, U>>, NoMemory>
+    ensures jobs { IfOk result (λ v. v.items ≡ shares.items) }
+    ensures len { IfOk result (λ v. vec_len v ≡ vec_len shares) }
+{
+    let mut jobs = Vec::new(alloc);
+    for share in shares {
+        add(
+            &mut jobs,
+            Job {
+                share,
+                refused: false,
+            },
+        )?;
+    }
+    Ok(jobs)
+}
+
+/// The shares back, and whether memory was refused to a worker.
+fn collected<T: Ledger, S: Ledger, P: Ledger, U: Ledger>(
+    alloc: Global,
+    jobs: Vec<Job<T, S, P, U>>,
+) -> Result<(Vec<Share<T, S, P, U>>, bool), NoMemory>
+    ensures { IfOk result (λ r. vec_len r.0 ≡ vec_len jobs) }
+{
+    let mut shares = Vec::new(alloc);
+    let mut refused = false;
+    for job in jobs {
+        let Job {
+            share,
+            refused: this,
+        } = job;
+        refused = refused || this;
+        add(&mut shares, share)?;
+    }
+    Ok((shares, refused))
+}
+
+fn run_named<
+    J: About + Send + Sync,
+    T: Ledger + Send + Sync,
+    S: Ledger + Send + Sync,
+    P: Ledger + Send + Sync,
+    U: Ledger + Send + Sync,
+    E: Engine + Sync,
+    H: HitSimulator + Sync,
+    G: Gate + Sync,
+    R: Threads + Wait + Sync,
+>(
+    rt: &R,
+    alloc: Global,
+    list: FaultList<J>,
+    core: &Core,
+    engine: &E,
+    simulator: &H,
+    gate: &G,
+    workers: u32,
+    seed: u64,
+    holds: &Holds,
+    takes: Blank,
+    settles: Blank,
+    publishes: Blank,
+    unspent: Blank,
+) -> Result<FaultList<J>, NoMemory>
+    requires core { core.now ≡ J.subject.netlist }
+    requires limit { 1 ≤ J.subject.limit }
+    requires held { (holds.now ≡ J.subject.holds) × AreHoldsOf core.now holds.now }
+    requires empty { list.journal ≡ [] }
+    requires workers { (0 < workers) × (workers ≤ 64) }
+    requires takes { (takes.name ≡ T.name) × (takes.parts ≡ T.parts) × (T.parts ≡ workers) }
+    requires settles { (settles.name ≡ S.name) × (settles.parts ≡ S.parts) × (S.parts ≡ workers) }
+    requires publishes { (publishes.name ≡ P.name) × (publishes.parts ≡ P.parts) × (P.parts ≡ workers) }
+    requires unspent { (unspent.name ≡ U.name) × (unspent.parts ≡ U.parts) × (U.parts ≡ workers) }
+    ensures closed { IfOk result (λ l. NoneOpen l.verdicts) }
+    ensures true_list { IfOk result (λ l. IsTrueList J.subject l) }
+{
+    let (shared, shares) = Shared::<J, T, S, P, U>::new(
+        alloc, list, workers, takes, settles, publishes, unspent,
+    )?;
+    let mut jobs = jobs_of(alloc, shares)?;
+    let behind = &shared;
+    let step = move |_i: usize, job: &mut Job<T, S, P, U>|
+        requires { (job.now.table ≡ behind.now.word.shared.table_id) × (core.now ≡ J.subject.netlist) × (1 ≤ J.subject.limit) × (holds.now ≡ J.subject.holds) × AreHoldsOf core.now holds.now }
+    {
+        work_in(
+            rt, alloc, behind, job, core, engine, simulator, gate, seed, holds,
+        )
+    };
+    thread::for_each_mut(rt, jobs.as_mut_slice(), workers as usize, &step);
+    let (back, refused) = collected(alloc, jobs)?;
+    let (list, _) = shared.into_list(back);
+    if refused {
+        return Err(NoMemory);
+    }
+    work_rest(alloc, list, workers, core, engine, seed, holds)
+}
+
+/// Runs the workers beside each other, and works the rest. No class is Open in the answer.
+pub fn run_all<
+    J: About + Send + Sync,
+    E: Engine + Sync,
+    H: HitSimulator + Sync,
+    G: Gate + Sync,
+    R: Threads + Wait + Sync,
+>(
+    rt: &R,
+    alloc: Global,
+    list: FaultList<J>,
+    core: &Core,
+    engine: &E,
+    simulator: &H,
+    gate: &G,
+    workers: u32,
+    seed: u64,
+    holds: &Holds,
+) -> Result<FaultList<J>, NoMemory>
+    requires core { core.now ≡ J.subject.netlist }
+    requires limit { 1 ≤ J.subject.limit }
+    requires held { (holds.now ≡ J.subject.holds) × AreHoldsOf core.now holds.now }
+    requires empty { list.journal ≡ [] }
+    requires workers { (0 < workers) × (workers ≤ 64) }
+    ensures closed { IfOk result (λ l. NoneOpen l.verdicts) }
+    ensures true_list { IfOk result (λ l. IsTrueList J.subject l) }
+{
+    let parts = workers as u64;
+    run_named::<J, Brand, Brand, Brand, Brand, E, H, G, R>(
+        rt,
+        alloc,
+        list,
+        core,
+        engine,
+        simulator,
+        gate,
+        workers,
+        seed,
+        holds,
+        Blank::new(parts),
+        Blank::new(parts),
+        Blank::new(parts),
+        Blank::new(parts),
+    )
+}

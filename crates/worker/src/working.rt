@@ -1,0 +1,82 @@
+//! What a worker does.
+ghost use Rattle.std.specs.Prelude.{◌≡◌, ◌≤◌, ◌<◌, true, IfOk, OnOk, vec_len};
+ghost use Rattle.std.specs.List.{All};
+ghost use Rattle.netlist.specs.Holds.{AreHoldsOf};
+ghost use Rattle.cubes.specs.Cubes.{IsCubeOf};
+
+use crate::adding::add;
+use crate::publishing::publish_cubes;
+use crate::simulating::HitSimulator;
+use cubes::Cube;
+use list_core::About;
+use netlist::{Core, Holds, NoMemory};
+use outside::{Gate, Stage};
+use rand_core::Rng;
+use rand_pcg::Lcg64Xsh32;
+use redundancy_cert::{Engine, Found};
+use shared_list::{Drawn, Share, Shared};
+use std::alloc::Global;
+use std::sync::Wait;
+use std::sync::ledger::Ledger;
+
+/// Searches claim after claim, until there is none.
+pub fn work<
+    J: About,
+    T: Ledger,
+    S: Ledger,
+    P: Ledger,
+    U: Ledger,
+    E: Engine,
+    H: HitSimulator,
+    G: Gate,
+    R: Wait,
+>(
+    rt: &R,
+    alloc: Global,
+    shared: &Shared<J, T, S, P, U>,
+    share: &mut Share<T, S, P, U>,
+    core: &Core,
+    engine: &E,
+    simulator: &H,
+    gate: &G,
+    seed: u64,
+    holds: &Holds,
+) -> Result<(), NoMemory>
+    requires table { share.old.table ≡ shared.now.word.shared.table_id }
+    requires core { core.now ≡ J.subject.netlist }
+    requires limit { 1 ≤ J.subject.limit }
+    requires held { (holds.now ≡ J.subject.holds) × AreHoldsOf core.now holds.now }
+    ensures table { share.new.table ≡ share.old.table }
+    ensures ended { OnOk result (share.new.ended ≡ true) }
+{
+    let mut rng = Lcg64Xsh32::new(seed, share.worker() as u64);
+    let mut cubes = Vec::new(alloc);
+    for _ in rt.forever() {
+        let claim = match shared.take(rt, share) {
+            Drawn::Claim(claim) => claim,
+            Drawn::Gone(_) => continue,
+            Drawn::None => break,
+        };
+        gate.at(share.worker(), Stage::Claimed);
+        match engine.search(alloc, core, claim.fault(), claim.limit(), holds)? {
+            Found::Test(cube, _) => {
+                add(&mut cubes, cube)?;
+                if cubes.len() == 64 {
+                    publish_cubes(
+                        rt, alloc, shared, share, core, simulator, gate, &mut rng, &cubes, holds,
+                    )?;
+                    cubes = Vec::new(alloc);
+                }
+            }
+            Found::Closed(tree) => {
+                let _ = shared.settle(rt, share, claim, tree);
+            }
+            Found::Partial(tree) => {
+                let _ = shared.settle(rt, share, claim, tree);
+            }
+        }
+    }
+    publish_cubes(
+        rt, alloc, shared, share, core, simulator, gate, &mut rng, &cubes, holds,
+    )
+}
