@@ -1,0 +1,16 @@
+-- What the labels on the pins of a gate are together (private to this crate).
+use Rattle.std.specs.Prelude.{◌≡◌, false, List, map}
+use Rattle.std.specs.List.{list_any}
+use Rattle.netlist.specs.declared.kinds.Tri.TheVariants.{X}
+use Rattle.tri.specs.declared.labels.Label.{Label}
+use Rattle.tri.specs.Gathered.{AreTogether}
+use Rattle.label_events.specs.declared.rule.OnPins.{OnPins}
+
+pub record AreOnPins (pins : List Label) (t : OnPins) : Type 0 where
+  pub good : AreTogether (map (λ (l : Label). l.good) pins) t.good
+  pub faulty : AreTogether (map (λ (l : Label). l.faulty) pins) t.faulty
+  pub may_differ : t.may_differ ≡ list_any (λ (l : Label). l.may_differ) pins
+
+-- a label of no meaning
+abbrev pub no_label : Label
+no_label = record { own = X; good = X; faulty = X; may_differ = false }
