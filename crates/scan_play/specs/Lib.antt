@@ -1,0 +1,9 @@
+pub mod Cycles
+pub mod Bursts
+pub mod Runs
+pub mod Passing
+pub mod Shifts
+pub mod Vectors
+pub mod Playing
+pub mod Laws
+pub mod inner

@@ -1,0 +1,4 @@
+-- What the contracts of private functions cite.
+pub mod Unmet
+pub mod Steps
+pub mod Applied

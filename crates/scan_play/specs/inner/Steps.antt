@@ -1,0 +1,23 @@
+-- How far the player has come.
+use Rattle.std.specs.Prelude.{ℕ, ◌≡◌, ◌+◌, List, ◌++◌, length, Option, MatchOption, Some}
+use Rattle.netlist.specs.declared.kinds.Tri.{Tri}
+use Rattle.netlist.specs.declared.lines.Fault.{Fault}
+use Rattle.netlist.specs.Netlist.{Netlist, cells}
+use Rattle.tri.specs.Settled.{tri_table}
+use Rattle.scan_play.specs.declared.played.Played.{Played}
+use Rattle.scan_play.specs.Cycles.{Cycle}
+use Rattle.scan_play.specs.Runs.{Ticks, Runs}
+use Rattle.scan_play.specs.inner.Unmet.{unmet_in, unmet}
+
+-- a cycle of this number was played: what is unmet in it, and what the cells hold after it
+pub record IsStep (f : Option Fault) (n : Netlist) (state after : List Tri) (cycle : Cycle) (number : ℕ) (found : Option Played) : Type 0 where
+  pub size : length after ≡ length (cells n)
+  pub outcome : (shown next : List Tri) → Ticks tri_table f n state cycle shown next → (unmet_in number 0 cycle.strobe shown ≡ found) × (next ≡ after)
+
+-- These cycles were played, whatever comes behind them: a strobe of one is unmet, or all are met and the run goes on from what the cells then hold.
+pub record PlaysOn (f : Option Fault) (n : Netlist) (cycles : List Cycle) (first : ℕ) (state after : List Tri) (found : Option Played) : Type 0 where
+  pub size : length after ≡ length (cells n)
+  pub outcome : (rest : List Cycle) (shown : List (List Tri)) → Runs tri_table f n state (cycles ++ rest) shown
+      → MatchOption found
+      ((later : List (List Tri)) × Runs tri_table f n after rest later × (unmet first (cycles ++ rest) shown ≡ unmet (first + length cycles) rest later))
+      (λ p. unmet first (cycles ++ rest) shown ≡ Some p)

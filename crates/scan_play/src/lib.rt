@@ -1,0 +1,21 @@
+//! The tester: the vectors of a test, a player of vectors in three values, and the laws that join them to patterns.
+#![tactic(auto)]
+
+mod applying;
+mod cycles;
+mod flushing;
+mod laws;
+mod loading;
+mod played;
+mod playing;
+mod strobes;
+
+pub use applying::vectors_of;
+pub use cycles::{Burst, Cycle, Vectors};
+pub use laws::{
+    detected_fails, good_passes, no_sequence_detects_redundant, play_tells_the_truth, runs_once,
+    some_run, strobes_known, three_values_above_runs, undetected_passes, vectors_counted,
+    vectors_decide, vectors_fit, vectors_obey,
+};
+pub use played::Played;
+pub use playing::play;

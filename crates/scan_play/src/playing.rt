@@ -1,0 +1,164 @@
+//! The player: vectors on a netlist in three values, from all cells X.
+ghost use Rattle.std.specs.Prelude.{◌≡◌, ◌+◌, ◌^◌, ◌<◌, length, replicate, IfOk};
+ghost use Rattle.std.specs.List.{All};
+ghost use Rattle.netlist.specs.Netlist.{cells, signals};
+ghost use Rattle.netlist.specs.declared.kinds.Tri.TheVariants.{X};
+ghost use Rattle.scan_play.specs.Cycles.{IsCycleOf};
+ghost use Rattle.scan_play.specs.Bursts.{cycle_of, cycles_of, all_cycles};
+ghost use Rattle.scan_play.specs.inner.Steps.{IsStep, PlaysOn};
+ghost use Rattle.scan_play.specs.Playing.{PlaysAs};
+
+use crate::cycles::{Burst, Vectors};
+use crate::played::Played;
+use crate::strobes::unmet_in;
+use netlist::{Core, Fault, NoMemory, Tri};
+use std::alloc::{AllocError, Global};
+use tri::Tris;
+
+/// What the cells hold, and room for what a cycle drives, strobes and shows, and for the values of all signals and of a gate's pins.
+#[derive(Drop)]
+struct Bench {
+    state: Vec<Tri>,
+    drive: Vec<Tri>,
+    strobe: Vec<Tri>,
+    shown: Vec<Tri>,
+    values: Vec<Tri>,
+    pins: Vec<Tri>,
+}
+
+/// Plays one cycle.
+fn play_cycle(
+    core: &Core,
+    rule: &Tris,
+    burst: &Burst,
+    t: usize,
+    number: u64,
+    bench: &mut Bench,
+) -> Result<Option<Played>, AllocError>
+    requires within { t < burst.now.count }
+    requires fits { IsCycleOf core.now (cycle_of burst.now t) }
+    requires size { length bench.old.state.items ≡ length (cells core.now) }
+    requires room { length bench.old.values.items ≡ length (signals core.now) }
+    ensures room { IfOk result (λ _. length bench.new.values.items ≡ length (signals core.now)) }
+    ensures played { IfOk result (λ found. IsStep rule.now.fault core.now bench.old.state.items bench.new.state.items (cycle_of burst.now t) number found) }
+{
+    core.netlist().sound();
+    burst.read_drive(t, &mut bench.drive)?;
+    burst.read_strobe(t, &mut bench.strobe)?;
+    core.settle_into(
+        rule,
+        &bench.drive,
+        &bench.state,
+        &mut bench.values,
+        &mut bench.pins,
+    )?;
+    core.outs_into(rule, &bench.values, &mut bench.shown)?;
+    let found = unmet_in(number, &bench.strobe, &bench.shown);
+    if burst.pulse {
+        core.next_into(rule, &bench.values, &mut bench.state)?;
+    }
+    Ok(found)
+}
+
+/// Plays the cycles of a burst, up to the first with an unmet strobe.
+fn play_burst(
+    core: &Core,
+    rule: &Tris,
+    burst: &Burst,
+    first: u64,
+    bench: &mut Bench,
+) -> Result<Option<Played>, AllocError>
+    requires fits { All (IsCycleOf core.now) (cycles_of burst.now) }
+    requires size { length bench.old.state.items ≡ length (cells core.now) }
+    requires room { length bench.old.values.items ≡ length (signals core.now) }
+    requires few { first + burst.now.count < 2 ^ 64 }
+    ensures room { IfOk result (λ _. length bench.new.values.items ≡ length (signals core.now)) }
+    ensures played { IfOk result (λ found. PlaysOn rule.now.fault core.now (cycles_of burst.now) first bench.old.state.items bench.new.state.items found) }
+{
+    for t in 0..burst.count {
+        match play_cycle(core, rule, burst, t, first + t as u64, bench)? {
+            Some(played) => return Ok(Some(played)),
+            None => {}
+        }
+    }
+    Ok(None)
+}
+
+/// Plays bursts, up to the first cycle with an unmet strobe.
+fn play_bursts(
+    core: &Core,
+    rule: &Tris,
+    bursts: &[Burst],
+    bench: &mut Bench,
+) -> Result<Option<Played>, AllocError>
+    requires fits { All (IsCycleOf core.now) (all_cycles bursts.now) }
+    requires size { length bench.old.state.items ≡ length (cells core.now) }
+    requires room { length bench.old.values.items ≡ length (signals core.now) }
+    requires few { length (all_cycles bursts.now) < 2 ^ 64 }
+    ensures { IfOk result (λ found. PlaysOn rule.now.fault core.now (all_cycles bursts.now) 0 bench.old.state.items bench.new.state.items found) }
+{
+    let mut first: u64 = 0;
+    for burst in bursts {
+        match play_burst(core, rule, burst, first, bench)? {
+            Some(played) => return Ok(Some(played)),
+            None => {}
+        }
+        first += burst.count as u64;
+    }
+    Ok(None)
+}
+
+/// So many values of which nothing is known.
+fn unknowns(alloc: Global, count: usize) -> Result<Vec<Tri>, AllocError>
+    ensures { IfOk result (λ v. v.items ≡ replicate count X) }
+{
+    let mut values = Vec::with_capacity(alloc, count)?;
+    for _done in 0..count {
+        values.push(Tri::X)?;
+    }
+    Ok(values)
+}
+
+/// Plays vectors on a netlist, with a line stuck or with none.
+fn play_from_unknown(
+    alloc: Global,
+    core: &Core,
+    rule: &Tris,
+    vectors: &Vectors,
+) -> Result<Played, AllocError>
+    requires fits { All (IsCycleOf core.now) vectors.now }
+    requires few { length vectors.now < 2 ^ 64 }
+    ensures { IfOk result (λ played. PlaysAs core.now rule.now.fault vectors.now played) }
+{
+    core.netlist().sound();
+    let netlist = core.netlist();
+    let state = unknowns(alloc, netlist.cells().len())?;
+    let signals = netlist.inputs().len() + netlist.definitions().len();
+    let values = unknowns(alloc, signals)?;
+    let mut bench = Bench {
+        state,
+        drive: Vec::new(alloc),
+        strobe: Vec::new(alloc),
+        shown: Vec::new(alloc),
+        values,
+        pins: Vec::new(alloc),
+    };
+    match play_bursts(core, rule, vectors.bursts(), &mut bench)? {
+        None => Ok(Played::Passes),
+        Some(played) => Ok(played),
+    }
+}
+
+/// Plays vectors on a netlist, with a line stuck or with none: the first strobe that isn't known and equal decides.
+pub fn play(
+    alloc: Global,
+    core: &Core,
+    fault: Option<Fault>,
+    vectors: &Vectors,
+) -> Result<Played, NoMemory>
+    requires fits { All (IsCycleOf core.now) vectors.now }
+    requires few { length vectors.now < 2 ^ 64 }
+    ensures { IfOk result (λ played. PlaysAs core.now fault vectors.now played) }
+{
+    play_from_unknown(alloc, core, &Tris { fault }, vectors).map_err(|_| NoMemory)
+}
