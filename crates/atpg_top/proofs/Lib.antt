@@ -1,6 +1,8 @@
-pub mod Outsides
 pub mod ScanOff
 pub mod Exclusive
 pub mod Cells
 pub mod Zipped
-pub mod Pieces
+pub mod FirstOnLoop
+pub mod Endings
+pub mod Saying
+pub mod Delivering

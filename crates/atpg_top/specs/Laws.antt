@@ -1,27 +1,24 @@
--- The rows of `top` exclude each other, so that "only where" in each is "exactly where": by what the files hold, the status is one of few.
-use Rattle.std.specs.Prelude.{◌≡◌, ◌⊎◌, ◌≤◌, ◌<◌, ℕ, List, Some, None, Ok, Err, length}
-use Rattle.clap.specs.Words.{Text}
+-- The statuses exclude each other, so that "only where" in each row is "exactly where": by what the files hold, the status is one of few.
+use Rattle.std.specs.Prelude.{◌≡◌, List, Some}
 use Rattle.outside.specs.Causes.{Rose}
 use Rattle.outside.specs.Shelf.{Files}
-use Rattle.netlist.specs.Netlist.{Netlist}
-use Rattle.bench_text.specs.Reading.{IsRead}
-use Rattle.bench_text.specs.declared.refusal.Names.TheVariants.{Design}
-use Rattle.bench_text.specs.declared.refusal.BenchRefusal.{BenchRefusal}
-use Rattle.bench_text.specs.declared.refusal.BenchFault.TheVariants as fault
-use Rattle.words.specs.CommandLine.{CommandLine, command_line, scan, faults}
-use Rattle.atpg_top.specs.World.{World, most_bytes}
-use Rattle.atpg_top.specs.Lines.{code_of}
+use Rattle.words.specs.CommandLine.{CommandLine, command_line}
+use Rattle.commands.specs.World.{NoneFailed, Text, World}
+use Rattle.commands.specs.Fetched.{Whole, Missing, TooLong, fetch}
+use Rattle.commands.specs.Due.{Refuse, Deliver}
+use Rattle.commands.specs.Laws.{IsEnded, IsExclusive, IsFailure, IsMissing, IsRefused, IsTooLong, OrFails}
+use Rattle.commands.specs.declared.ending.Finding.{Finding}
+use Rattle.commands.specs.declared.ending.Ending.{Ending}
+use Rattle.atpg_top.specs.Commands.{due, reads}
 use Rattle.atpg_top.specs.Rows.{TopRow}
+use Rattle.atpg_top.specs.declared.refusal.Refusal.{Refusal}
 use Rattle.atpg_top.specs.declared.status.Status.{Status}
+use Rattle.atpg_top.specs.declared.status.Status.TheVariants as status
 
--- the netlist's file of a command
-abbrev pub netlist_file : CommandLine → Text
-netlist_file (scan net to chains) = net
-netlist_file (faults net) = net
-
--- the status is this, or a read failed, or memory was refused
-abbrev pub IsOrFails : ℕ → World → World → Status → Type 0
-IsOrFails code a b s = (code_of s ≡ code) ⊎ ((code_of s ≡ 5) × Rose a.shelf_faults b.shelf_faults) ⊎ (code_of s ≡ 9)
+-- the command ended so
+abbrev pub EndedSo : (Ending Refusal → Type 0) → Status → Type 0
+EndedSo P (status.Command e) = P e
+EndedSo P (status.BadWords text) = ⊥
 
 -- a call with a command line over files that are told
 pub record IsCall (words : List Text) (line : CommandLine) (files : Files) (a b : World) (s : Status) : Type 0 where
@@ -29,28 +26,38 @@ pub record IsCall (words : List Text) (line : CommandLine) (files : Files) (a b 
   pub told : a.files ≡ Some files
   pub row : TopRow words a b s
 
+-- what is due of the same texts is alike: the same refusal, or the same finding
+abbrev pub EachExclusive : Type 0
+EachExclusive = (line : CommandLine) → IsExclusive (due line)
+
+-- the first file that can't be had isn't there: status 7 with its name
 abbrev pub MissingExactly : Type 0
 MissingExactly =
-    (words : List Text) (line : CommandLine) (files : Files) (a b : World) (s : Status) → IsCall words line files a b s
-    → files (netlist_file line) ≡ None
-    → IsOrFails 7 a b s
+    (words : List Text) (line : CommandLine) (files : Files) (a b : World) (s : Status) (name : Text) → IsCall words line files a b s
+    → fetch files (reads line) ≡ Missing name → EndedSo (OrFails (IsMissing name) a b) s
 
+-- the first file that can't be had is too long: status 8 with its name
 abbrev pub TooLongExactly : Type 0
 TooLongExactly =
-    (words : List Text) (line : CommandLine) (files : Files) (a b : World) (s : Status) (bytes : List ℕ) → IsCall words line files a b s
-    → files (netlist_file line) ≡ Some bytes → most_bytes < length bytes
-    → IsOrFails 8 a b s
+    (words : List Text) (line : CommandLine) (files : Files) (a b : World) (s : Status) (name : Text) → IsCall words line files a b s
+    → fetch files (reads line) ≡ TooLong name → EndedSo (OrFails (IsTooLong name) a b) s
 
+-- the texts are refused: the refusal's status
 abbrev pub RefusedExactly : Type 0
 RefusedExactly =
-    (words : List Text) (line : CommandLine) (files : Files) (a b : World) (s : Status) (bytes : List ℕ) (refusal : BenchRefusal) → IsCall words line files a b s
-    → files (netlist_file line) ≡ Some bytes → length bytes ≤ most_bytes → IsRead Design bytes (Err (fault.Refused refusal))
-    → IsOrFails 3 a b s
+    (words : List Text) (line : CommandLine) (files : Files) (a b : World) (s : Status) (texts : List Text) (r : Refusal) → IsCall words line files a b s
+    → fetch files (reads line) ≡ Whole texts → due line texts (Refuse r) → EndedSo (OrFails (IsRefused r) a b) s
 
--- Words of the table, a netlist that is there, short enough and not refused, and no count that rose: the command did its work, or memory was refused.
+-- A call of the shelf or the output failed: status 5 or 6, which says whose.
+abbrev pub FailedExactly : Type 0
+FailedExactly =
+    (words : List Text) (line : CommandLine) (a b : World) (s : Status) → command_line words ≡ Some line → TopRow words a b s
+    → ¬ NoneFailed a b → EndedSo (IsFailure a b) s
+
+-- Nothing is in the way, and no count rose: the command did its work, or memory was refused.
 abbrev pub NothingElse : Type 0
 NothingElse =
-    (words : List Text) (line : CommandLine) (files : Files) (a b : World) (s : Status) (bytes : List ℕ) (n : Netlist) → IsCall words line files a b s
-    → files (netlist_file line) ≡ Some bytes → length bytes ≤ most_bytes → IsRead Design bytes (Ok n)
-    → ¬ Rose a.shelf_faults b.shelf_faults → ¬ Rose a.out_faults b.out_faults
-    → (code_of s ≡ 0) ⊎ (code_of s ≡ 9)
+    (words : List Text) (line : CommandLine) (files : Files) (a b : World) (s : Status) (texts made : List Text) (shown : Text) (finding : Finding)
+    → IsCall words line files a b s
+    → fetch files (reads line) ≡ Whole texts → due line texts (Deliver made shown finding)
+    → ¬ Rose a.shelf_failures b.shelf_failures → ¬ Rose a.out_failures b.out_failures → EndedSo (OrFails (IsEnded finding) a b) s

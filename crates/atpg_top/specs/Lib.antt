@@ -1,7 +1,8 @@
-pub mod World
+pub mod Steps
 pub mod Lines
 pub mod Scans
 pub mod FaultLists
-pub mod Pieces
+pub mod Commands
 pub mod Rows
 pub mod Laws
+pub mod inner

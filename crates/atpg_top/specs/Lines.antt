@@ -1,23 +1,43 @@
 -- The numbers of the statuses and their lines on the error output.
-use Rattle.std.specs.Prelude.{◌≡◌, ◌++◌, ⊤, ℕ, List, [], codes, decimal}
-use Rattle.clap.specs.Words.{Text}
+use Rattle.std.specs.Prelude.{◌++◌, ℕ, List, [], codes, decimal}
 use Rattle.bench_text.specs.declared.refusal.BenchKind.{BenchKind}
 use Rattle.bench_text.specs.declared.refusal.BenchKind.TheVariants.{BadByte, BadLine, UnknownGate, BadPins, DefinedTwice, Reserved, TooMany, NoInput, NoOutput, Undefined, Loop}
 use Rattle.bench_text.specs.declared.refusal.BenchRefusal.{BenchRefusal}
+use Rattle.commands.specs.World.{Text}
+use Rattle.commands.specs.Names.{name_of}
+use Rattle.commands.specs.declared.ending.Finding.TheVariants.{Fine, Differs}
+use Rattle.commands.specs.declared.ending.WriteFailure.{WriteFailure}
+use Rattle.commands.specs.declared.ending.WriteFailure.TheVariants.{File, Output}
+use Rattle.commands.specs.declared.ending.Ending.{Ending}
+use Rattle.commands.specs.declared.ending.Ending.TheVariants.{Ended, Refused, ReadFailed, WriteFailed, Missing, TooLong, Memory}
+use Rattle.atpg_top.specs.declared.refusal.Refusal.{Refusal}
+use Rattle.atpg_top.specs.declared.refusal.Refusal.TheVariants.{Netlist, NoSuchFault, NotStil, NotCertificate, NotReport, StilDoesNotFit}
 use Rattle.atpg_top.specs.declared.status.Status.{Status}
-use Rattle.atpg_top.specs.declared.status.Status.TheVariants.{Done, BadWords, Netlist, ReadFault, WriteFault, Missing, TooLong, Memory}
+use Rattle.atpg_top.specs.declared.status.Status.TheVariants.{BadWords, Command}
+
+abbrev pub refusal_code : Refusal → ℕ
+refusal_code (Netlist refusal) = 3
+refusal_code NoSuchFault = 2
+refusal_code NotStil = 4
+refusal_code NotCertificate = 4
+refusal_code NotReport = 4
+refusal_code StilDoesNotFit = 4
+
+abbrev pub ending_code : Ending Refusal → ℕ
+ending_code (Ended Fine) = 0
+ending_code (Ended Differs) = 1
+ending_code (Refused refusal) = refusal_code refusal
+ending_code (ReadFailed name) = 5
+ending_code (WriteFailed failure) = 6
+ending_code (Missing name) = 7
+ending_code (TooLong name) = 8
+ending_code Memory = 9
 
 abbrev pub code_of : Status → ℕ
-code_of Done = 0
 code_of (BadWords text) = 2
-code_of (Netlist refusal) = 3
-code_of (ReadFault name) = 5
-code_of (WriteFault name) = 6
-code_of (Missing name) = 7
-code_of (TooLong name) = 8
-code_of Memory = 9
+code_of (Command ending) = ending_code ending
 
-abbrev pub kind_name : BenchKind → List ℕ
+abbrev pub kind_name : BenchKind → Text
 kind_name BadByte = codes "BadByte"
 kind_name BadLine = codes "BadLine"
 kind_name UnknownGate = codes "UnknownGate"
@@ -30,16 +50,33 @@ kind_name NoOutput = codes "NoOutput"
 kind_name Undefined = codes "Undefined"
 kind_name Loop = codes "Loop"
 
-abbrev pub refusal_line : BenchRefusal → List ℕ
-refusal_line refusal = codes "netlist line " ++ decimal refusal.line ++ codes ": " ++ kind_name refusal.kind ++ codes "\n"
+-- `netlist line 4: Loop`
+abbrev pub netlist_line : BenchRefusal → Text
+netlist_line refusal = codes "netlist line " ++ (decimal refusal.line ++ (codes ": " ++ (kind_name refusal.kind ++ codes "\n")))
 
--- the line of a status on the error output; that of bad words is free
-abbrev pub IsLine : Status → Text → Type 0
-IsLine Done text = text ≡ []
-IsLine (BadWords shown) text = ⊤
-IsLine (Netlist refusal) text = text ≡ refusal_line refusal
-IsLine (ReadFault name) text = text ≡ codes "read failed: " ++ name.now ++ codes "\n"
-IsLine (WriteFault name) text = text ≡ codes "write failed: " ++ name.now ++ codes "\n"
-IsLine (Missing name) text = text ≡ codes "no such file: " ++ name.now ++ codes "\n"
-IsLine (TooLong name) text = text ≡ codes "too long: " ++ name.now ++ codes "\n"
-IsLine Memory text = text ≡ codes "out of memory\n"
+abbrev pub refusal_line : Refusal → Text
+refusal_line (Netlist refusal) = netlist_line refusal
+refusal_line NoSuchFault = codes "no such fault\n"
+refusal_line NotStil = codes "not a stil file\n"
+refusal_line NotCertificate = codes "not a certificate\n"
+refusal_line NotReport = codes "not a report\n"
+refusal_line StilDoesNotFit = codes "stil does not fit\n"
+
+abbrev pub failure_line : WriteFailure → Text
+failure_line (File name) = codes "write failed: " ++ (name_of name ++ codes "\n")
+failure_line Output = codes "write failed: -\n"
+
+-- the line of an ending; one that did its work has none
+abbrev pub ending_line : Ending Refusal → Text
+ending_line (Ended finding) = []
+ending_line (Refused refusal) = refusal_line refusal
+ending_line (ReadFailed name) = codes "read failed: " ++ (name_of name ++ codes "\n")
+ending_line (WriteFailed failure) = failure_line failure
+ending_line (Missing name) = codes "no such file: " ++ (name_of name ++ codes "\n")
+ending_line (TooLong name) = codes "too long: " ++ (name_of name ++ codes "\n")
+ending_line Memory = codes "out of memory\n"
+
+-- the line of a status; that of bad words is the parser's text
+abbrev pub line_of : Status → Text
+line_of (BadWords text) = text.now
+line_of (Command ending) = ending_line ending

@@ -7,7 +7,8 @@ ghost use Rattle.fault_universe.specs.Universe.{universe_of};
 ghost use Rattle.netlist.specs.Lines.{signal_of};
 ghost use Rattle.fault_collapse.specs.Classes.{AreClasses};
 ghost use Rattle.atpg_top.specs.FaultLists.{counts_line, fault_line, fault_lines};
-ghost use Rattle.atpg_top.specs.Pieces.{PutsFaultList, PutsPiece, PutsText};
+ghost use Rattle.commands.specs.Pieces.{PutsText};
+ghost use Rattle.atpg_top.specs.inner.Pieces.{PutsFaultList, PutsPiece};
 
 use fault_collapse::{Classes, collapse};
 use fault_universe::{FaultSet, faults_have_signals, few_faults, push_text, universe};

@@ -1,27 +1,39 @@
-//! All that the program does, as one call: the words to a request, the reads, the work, the writes, the output.
-//! Each status has its cause in the contract of `top`, and says what then stands.
+//! All that the program does, as one call: the words to a request, the reads, the work, the writes,
+//! the output.
+//!
+//! Each status has its cause in the contract of `top`, and says what then stands. What a command
+//! line reads, writes and owes is one table (`specs/Commands.antt`); how it can end is the table of
+//! `commands`, the same for all.
 #![tactic(auto)]
 
-ghost use Rattle.std.specs.Prelude.{◌≡◌, ◌⊎◌, map};
+ghost use Rattle.std.specs.Prelude.{◌≡◌, map};
 ghost use Rattle.std.specs.String.{string_bytes};
 ghost use Rattle.words.specs.CommandLine.{IsInRange, line_of};
-ghost use Rattle.atpg_top.specs.World.{world};
-ghost use Rattle.atpg_top.specs.Rows.{DeclineRow, ErrRow, RequestRow, TopRow};
+ghost use Rattle.commands.specs.World.{world};
+ghost use Rattle.atpg_top.specs.Rows.{DeclineRow, ErrRow, LineRow, TopRow};
 ghost use Rattle.atpg_top.specs.Lines.{code_of};
 ghost use Rattle.atpg_top.specs.declared.status.Status.{Status};
 
+mod design;
 mod fault_list;
 mod laws;
+mod lines;
 mod listing;
-mod netlist_file;
+mod refusal;
 mod scanning;
 mod status;
 
-pub use laws::{missing_exactly, nothing_else, refused_exactly, too_long_exactly};
+use commands::{Ending, FileName, run_command};
+pub use laws::{
+    each_exclusive, failed_exactly, missing_exactly, nothing_else, refused_exactly,
+    too_long_exactly,
+};
+use lines::tell;
 use listing::faults;
-use outside::{Gate, Shelf, Sink, WriteRefusal};
-use scanning::scan;
-use status::{Status, message};
+use outside::{Gate, Shelf, Sink};
+use refusal::Refusal;
+use scanning::Scan;
+use status::Status;
 use std::alloc::Global;
 use std::sync::Wait;
 use std::thread::Threads;
@@ -33,9 +45,9 @@ fn perform<'a, S: Shelf, T: Sink>(
     shelf: &mut S,
     out: &mut T,
     request: &Request<'a>,
-) -> Status<'a>
+) -> Ending<'a, Refusal>
     requires { IsInRange request.now }
-    ensures { RequestRow (line_of request.now)
+    ensures { LineRow (line_of request.now)
         (world (S.files shelf.old) (S.failures shelf.old) (T.taken out.old) (T.failures out.old))
         (world (S.files shelf.new) (S.failures shelf.new) (T.taken out.new) (T.failures out.new)) result }
 {
@@ -44,12 +56,20 @@ fn perform<'a, S: Shelf, T: Sink>(
             net,
             out: to,
             chains,
-        } => scan(alloc, shelf, out, net, to, *chains),
-        Request::Faults { net } => faults(alloc, shelf, out, net),
+        } => {
+            let reads = [FileName::of(net)];
+            let writes = [FileName::of(to)];
+            let scan = Scan { chains: *chains };
+            run_command(alloc, shelf, out, &reads, &writes, &scan)
+        }
+        Request::Faults { net } => {
+            let reads = [FileName::of(net)];
+            faults(alloc, shelf, out, &reads)
+        }
     }
 }
 
-/// What becomes of words that are no command line.
+/// What becomes of words that are no request.
 fn decline(refusal: &WordsRefusal) -> Status<'_>
     ensures { DeclineRow refusal.entry.now result }
 {
@@ -57,26 +77,21 @@ fn decline(refusal: &WordsRefusal) -> Status<'_>
         WordsRefusal::BadWords(text) => Status::BadWords {
             text: text.as_str(),
         },
-        WordsRefusal::NoMemory => Status::Memory,
+        WordsRefusal::NoMemory => Status::Command(Ending::Memory),
     }
 }
 
-/// Says how the call ends. Want of memory alone changes the status.
-fn tell<'a, E: Sink>(alloc: Global, err: &mut E, status: Status<'a>) -> Status<'a>
-    ensures same { (result ≡ status.entry) ⊎ (result ≡ Status.Memory) }
-    ensures told { ErrRow result (E.taken err.old) (E.failures err.old) (E.taken err.new) (E.failures err.new) }
+/// Says how the call ends, and answers the status's number.
+fn end<E: Sink>(err: &mut E, status: &Status<'_>) -> u8
+    ensures code { result ≡ code_of status.now }
+    ensures told { ErrRow E.takes_memory status.now (E.taken err.old) (E.failures err.old) (E.taken err.new) (E.failures err.new) }
 {
-    let Ok(text) = message(alloc, &status) else {
-        return Status::Memory;
-    };
-    match err.put(text.as_bytes()) {
-        Ok(()) => status,
-        Err(WriteRefusal::Failed) => status,
-        Err(WriteRefusal::NoMemory) => Status::Memory,
-    }
+    tell(err, status);
+    status.code()
 }
 
-/// Does what the words ask for, the first word being the program's name, and answers the status that the program ends with.
+/// Does what the words ask for, the first word being the program's name, and answers the status
+/// that the program ends with. No line of the error output changes it.
 pub fn top<R: Threads + Wait + Sync, S: Shelf, T: Sink, E: Sink, G: Gate + Sync>(
     _rt: &R,
     alloc: Global,
@@ -90,12 +105,17 @@ pub fn top<R: Threads + Wait + Sync, S: Shelf, T: Sink, E: Sink, G: Gate + Sync>
         × TopRow (map string_bytes words.now)
         (world (S.files shelf.old) (S.failures shelf.old) (T.taken out.old) (T.failures out.old))
         (world (S.files shelf.new) (S.failures shelf.new) (T.taken out.new) (T.failures out.new)) s
-        × ErrRow s (E.taken err.old) (E.failures err.old) (E.taken err.new) (E.failures err.new) }
+        × ErrRow E.takes_memory s (E.taken err.old) (E.failures err.old) (E.taken err.new) (E.failures err.new) }
 {
     let parsed = parse(alloc, words);
-    let status = match &parsed {
-        Ok(request) => perform(alloc, shelf, out, request),
-        Err(refusal) => decline(refusal),
-    };
-    tell(alloc, err, status).code()
+    match &parsed {
+        Ok(request) => {
+            let ending = perform(alloc, shelf, out, request);
+            end(err, &Status::Command(ending))
+        }
+        Err(refusal) => {
+            let status = decline(refusal);
+            end(err, &status)
+        }
+    }
 }

@@ -1,31 +1,41 @@
-//! `faults`: the list of faults of a file's netlist, printed.
-ghost use Rattle.atpg_top.specs.World.{world};
-ghost use Rattle.atpg_top.specs.Rows.{FaultsRow};
+//! `faults`: the list of faults of a file's netlist, shown in pieces.
+ghost use Rattle.std.specs.Prelude.{◌≡◌, [], length};
+ghost use Rattle.commands.specs.World.{world};
+ghost use Rattle.commands.specs.Names.{names_of};
+ghost use Rattle.commands.specs.Rows.{CommandRow};
+ghost use Rattle.atpg_top.specs.Commands.{faults_due};
 
+use crate::design::design_of;
 use crate::fault_list::put_fault_list;
-use crate::netlist_file::netlist_of;
-use crate::status::Status;
+use crate::refusal::Refusal;
+use commands::{Ending, FileName, Finding, Stop, WriteFailure, read_in_order};
 use outside::{Shelf, Sink, WriteRefusal};
 use std::alloc::Global;
 
-/// Prints the faults of the netlist of `net`, each with the number of its class.
+/// Shows the faults of the netlist of the one file, each with the number of its class.
 pub fn faults<'a, S: Shelf, T: Sink>(
     alloc: Global,
     shelf: &mut S,
     out: &mut T,
-    net: &'a str,
-) -> Status<'a>
-    ensures { FaultsRow net.entry.now
+    reads: &[FileName<'a>],
+) -> Ending<'a, Refusal>
+    requires { length reads.now ≡ 1 }
+    ensures { CommandRow (names_of reads.now) [] faults_due
         (world (S.files shelf.old) (S.failures shelf.old) (T.taken out.old) (T.failures out.old))
         (world (S.files shelf.new) (S.failures shelf.new) (T.taken out.new) (T.failures out.new)) result }
 {
-    let netlist = match netlist_of(alloc, shelf, net) {
+    let texts = match read_in_order(alloc, shelf, reads) {
+        Ok(texts) => texts,
+        Err(ending) => return ending,
+    };
+    let netlist = match design_of(alloc, texts) {
         Ok(netlist) => netlist,
-        Err(status) => return status,
+        Err(Stop::Refused(refusal)) => return Ending::Refused(refusal),
+        Err(Stop::NoMemory) => return Ending::Memory,
     };
     match put_fault_list(alloc, out, &netlist) {
-        Ok(()) => Status::Done,
-        Err(WriteRefusal::Failed) => Status::WriteFault { name: "-" },
-        Err(WriteRefusal::NoMemory) => Status::Memory,
+        Ok(()) => Ending::Ended(Finding::Fine),
+        Err(WriteRefusal::Failed) => Ending::WriteFailed(WriteFailure::Output),
+        Err(WriteRefusal::NoMemory) => Ending::Memory,
     }
 }

@@ -1,43 +1,47 @@
 //! `scan`: the scanned netlist of a file, written to another.
-ghost use Rattle.std.specs.Prelude.{◌≡◌, ◌≤◌, ◌++◌, IfOk, codes, decimal};
-ghost use Rattle.std.specs.String.{string_bytes};
+ghost use Rattle.std.specs.Prelude.{◌≡◌, ◌≤◌, ◌++◌, ◌∷◌, [], IfOk, codes, decimal, length};
 ghost use Rattle.netlist.specs.Designs.{IsDesign};
-ghost use Rattle.atpg_top.specs.World.{world};
-ghost use Rattle.atpg_top.specs.Rows.{ScanRow};
+ghost use Rattle.commands.specs.Names.{texts_of};
+ghost use Rattle.commands.specs.declared.ending.Finding.TheVariants.{Fine};
+ghost use Rattle.atpg_top.specs.Commands.{scan_due};
 ghost use Rattle.atpg_top.specs.Scans.{BehavesWithScanOff, IsScanProduct, scan_line};
 
-use crate::netlist_file::netlist_of;
-use crate::status::Status;
+use crate::design::design_of;
+use crate::refusal::Refusal;
 use bench_text::write;
 use chain_stitch::stitch;
+use commands::{Finding, Product, Stop, Work};
+use itoa::Buffer;
 use netlist::{Netlist, NoMemory};
-use outside::{Shelf, Sink, WriteRefusal};
 use scan_insert::insert;
 use scan_insert::laws::scan_behaves;
-use std::alloc::Global;
+use std::alloc::{AllocError, Global};
 
 /// What `scan` writes and prints.
 #[derive(Drop)]
-struct Product {
+struct ScanTexts {
     text: Vec<u8>,
-    line: String,
+    line: Vec<u8>,
 }
 
 /// The line that `scan` prints.
-fn count_line(alloc: Global, cells: usize, chains: u32) -> Result<String, NoMemory>
-    ensures { IfOk result (λ t. string_bytes t ≡ codes "cells " ++ (decimal cells ++ (codes " chains " ++ (decimal chains ++ codes "\n")))) }
+fn count_line(alloc: Global, cells: usize, chains: u32) -> Result<Vec<u8>, AllocError>
+    ensures { IfOk result (λ t. t.items ≡ codes "cells " ++ (decimal cells ++ (codes " chains " ++ (decimal chains ++ codes "\n")))) }
 {
-    match format!(in alloc; "cells {cells} chains {chains}\n") {
-        Ok(line) => Ok(line),
-        Err(_) => Err(NoMemory),
-    }
+    let mut line = Vec::new(alloc);
+    line.extend_from_slice(b"cells ")?;
+    line.extend_from_slice(Buffer::new().format(cells).as_bytes())?;
+    line.extend_from_slice(b" chains ")?;
+    line.extend_from_slice(Buffer::new().format(chains).as_bytes())?;
+    line.extend_from_slice(b"\n")?;
+    Ok(line)
 }
 
 /// What `scan` makes of a design and the number of chains that is asked for.
-fn product_of(alloc: Global, netlist: &Netlist, asked: u32) -> Result<Product, NoMemory>
+fn texts_of(alloc: Global, netlist: &Netlist, asked: u32) -> Result<ScanTexts, NoMemory>
     requires design { IsDesign netlist.now }
     requires some { 1 ≤ asked }
-    ensures { IfOk result (λ p. IsScanProduct netlist.now asked p.text.items (string_bytes p.line)) }
+    ensures { IfOk result (λ p. IsScanProduct netlist.now asked p.text.items p.line.items) }
 {
     netlist.sound();
     scan_behaves();
@@ -46,39 +50,56 @@ fn product_of(alloc: Global, netlist: &Netlist, asked: u32) -> Result<Product, N
     let text = write(alloc, scanned.netlist())?;
     let cells = netlist.cells().len();
     let count = chains.count();
-    let line = count_line(alloc, cells, count)?;
-    Ok(Product { text, line })
+    match count_line(alloc, cells, count) {
+        Ok(line) => Ok(ScanTexts { text, line }),
+        Err(_) => Err(NoMemory),
+    }
 }
 
-/// Writes the netlist of `net` with scan cells in at most `chains` chains to `to`, and prints how many cells and chains there are.
-pub fn scan<'a, S: Shelf, T: Sink>(
-    alloc: Global,
-    shelf: &mut S,
-    out: &mut T,
-    net: &'a str,
-    to: &'a str,
-    chains: u32,
-) -> Status<'a>
-    requires { 1 ≤ chains }
-    ensures { ScanRow net.entry.now to.entry.now chains
-        (world (S.files shelf.old) (S.failures shelf.old) (T.taken out.old) (T.failures out.old))
-        (world (S.files shelf.new) (S.failures shelf.new) (T.taken out.new) (T.failures out.new)) result }
+/// The product of these texts: one file, and the line.
+fn product_of(alloc: Global, texts: ScanTexts) -> Result<Product, AllocError>
+    ensures texts { IfOk result (λ p. texts_of p.texts.items ≡ texts.text.items ∷ []) }
+    ensures count { IfOk result (λ p. length p.texts.items ≡ 1) }
+    ensures shown { IfOk result (λ p. p.shown ≡ texts.line) }
+    ensures fine { IfOk result (λ p. p.finding ≡ Fine) }
 {
-    let netlist = match netlist_of(alloc, shelf, net) {
-        Ok(netlist) => netlist,
-        Err(status) => return status,
-    };
-    let Ok(product) = product_of(alloc, &netlist, chains) else {
-        return Status::Memory;
-    };
-    match shelf.write(alloc, to, product.text.as_slice()) {
-        Ok(()) => {}
-        Err(WriteRefusal::Failed) => return Status::WriteFault { name: to },
-        Err(WriteRefusal::NoMemory) => return Status::Memory,
-    }
-    match out.put(product.line.as_bytes()) {
-        Ok(()) => Status::Done,
-        Err(WriteRefusal::Failed) => Status::WriteFault { name: "-" },
-        Err(WriteRefusal::NoMemory) => Status::Memory,
+    let mut files = Vec::new(alloc);
+    files.push(texts.text)?;
+    Ok(Product {
+        texts: files,
+        shown: texts.line,
+        finding: Finding::Fine,
+    })
+}
+
+/// The work of `scan`, for at most so many chains.
+#[derive(Clone, Copy, Debug)]
+pub struct Scan {
+    pub chains: u32,
+}
+
+impl Work for Scan {
+    type Refusal = Refusal;
+
+    ghost can_work = { λ scan. 1 ≤ scan.chains };
+
+    ghost reads = { λ _. 1 };
+
+    ghost writes = { λ _. 1 };
+
+    ghost due = { λ scan. scan_due scan.chains };
+
+    fn work(&self, alloc: Global, texts: Vec<Vec<u8>>) -> Result<Product, Stop<Refusal>> {
+        let netlist = match design_of(alloc, texts) {
+            Ok(netlist) => netlist,
+            Err(stop) => return Err(stop),
+        };
+        let Ok(made) = texts_of(alloc, &netlist, self.chains) else {
+            return Err(Stop::NoMemory);
+        };
+        match product_of(alloc, made) {
+            Ok(product) => Ok(product),
+            Err(_) => Err(Stop::NoMemory),
+        }
     }
 }

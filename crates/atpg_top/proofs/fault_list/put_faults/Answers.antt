@@ -6,7 +6,7 @@ use Rattle.netlist.specs.Netlist.{Netlist}
 use Rattle.fault_universe.specs.Universe.{universe_of}
 use Rattle.atpg_top.specs.FaultLists.{fault_line}
 use Rattle.atpg_top.proofs.Zipped.{all_taken, one_more, then_others}
-use Rattle.atpg_top.proofs.Pieces.{last_put, line_failed, line_put}
+use Rattle.commands.proofs.PutLemmas.{last_put, line_put, line_refused}
 use Rattle.atpg_top.proofs.fault_list.put_faults.Goals as goal
 
 -- behind the first lines comes that of the next fault
@@ -25,7 +25,7 @@ returns-in_err-put_fault g c =
     let next = next_line n _ numbers start c.loop-i.i _ c.fault.result c.requires.size c.requires.universe c.fault.ensures c.class_of.ensures in
     let others = then_others (λ p. fault_line n p.0 p.1) (zip (universe_of n) numbers) (c.loop-i.i + 1) start in
     let p = err_from_is_err_and c.from_residual.result c.from_residual.ensures.1 in
-    rw (p.1, p.2) (line_failed _ _ _ _ _ _ _ _ _ _ _ _ _ c.loop-i.invariant.told c.loop-i.invariant.cause next others c.in_err-put_fault.ensures)
+    rw (p.1, p.2) (line_refused _ _ _ _ _ _ _ _ _ _ _ _ _ c.loop-i.invariant.told c.loop-i.invariant.cause next others c.in_err-put_fault.ensures)
 
 pub loop-i-preserved : goal.loop-i-preserved
 loop-i-preserved g c =

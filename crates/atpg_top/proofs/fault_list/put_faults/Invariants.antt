@@ -2,7 +2,7 @@ use Rattle.std.proofs.Common.{◌≡◌, ◌++◌, take}
 use Rattle.std.specs.List.{flat_map, zip}
 use Rattle.fault_universe.specs.Universe.{universe_of}
 use Rattle.atpg_top.specs.FaultLists.{fault_line}
-use Rattle.atpg_top.specs.Pieces.{Waits}
+use Rattle.commands.specs.Pieces.{Waits}
 use Rattle.atpg_top.proofs.fault_list.put_faults.Given as goal
 
 abbrev pub invariant-loop-i : goal.invariant-loop-i

@@ -1,7 +1,10 @@
-use Rattle.atpg_top.specs.Laws.{netlist_file}
-use Rattle.atpg_top.proofs.Exclusive.{ends_of, too_long}
+use Rattle.commands.proofs.Exclusive.{too_long_exactly as law}
+use Rattle.commands.specs.Laws.{OrFails, IsTooLong}
+use Rattle.atpg_top.specs.Commands.{due, reads, writes}
+use Rattle.atpg_top.proofs.Endings.{ended_so}
 use Rattle.atpg_top.proofs.laws.too_long_exactly.Goals as goal
 
 pub returns : goal.returns
-returns c words line files a b s bytes call held long =
-    too_long files (netlist_file line) a b call.told bytes held long s (ends_of words line a b s call.taken call.row)
+returns c words line files a b s name call first =
+    ended_so (OrFails (IsTooLong name) a b) words line a b s call.taken call.row
+    (λ e row. law (due line) (reads line) (writes line) files a b e name (record { told = call.told; row = row }) first)

@@ -1,0 +1,17 @@
+//! Why the texts that a command reads, or the fault that its words name, are refused.
+
+use bench_text::BenchRefusal;
+
+/// Why a command is refused, once its words are taken and its files are read.
+#[derive(Clone, Copy, Debug)]
+pub enum Refusal {
+    /// The netlist is outside its grammar, or none.
+    Netlist(BenchRefusal),
+    /// The netlist has no fault of the given text.
+    NoSuchFault,
+    NotStil,
+    NotCertificate,
+    NotReport,
+    /// The STIL file's signals are not those of the netlist.
+    StilDoesNotFit,
+}
