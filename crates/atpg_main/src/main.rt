@@ -10,7 +10,10 @@ use std::{env, io};
 fn refusal(error: &io::Error) -> (u8, &'static str) {
     match error.kind() {
         io::ErrorKind::OutOfMemory => (9, "out of memory\n"),
-        _ => (2, "error: a word is not UTF-8\n"),
+        _ => (
+            2,
+            "error: a word is not UTF-8\n\nFor more information, try '--help'.\n",
+        ),
     }
 }
 

@@ -1,9 +1,7 @@
 -- The status of a call of the program, and what it leaves.
-use Rattle.std.specs.Prelude.{◌≡◌, ◌⊎◌, ⊤, ℕ, Bool, IsTrue, List, Option, Some, None}
+use Rattle.std.specs.Prelude.{◌≡◌, ◌⊎◌, ℕ, Bool, IsTrue, List, Option, Some, None}
 use Rattle.outside.specs.Causes.{Rose}
 use Rattle.words.specs.CommandLine.{CommandLine, command_line}
-use Rattle.words.specs.declared.WordsRefusal.{WordsRefusal}
-use Rattle.words.specs.declared.WordsRefusal.TheVariants as words
 use Rattle.commands.specs.World.{Grows, GrowsInPart, IsAsBefore, Text, World}
 use Rattle.commands.specs.Rows.{CommandRow}
 use Rattle.commands.specs.declared.ending.Ending.{Ending}
@@ -27,12 +25,6 @@ WordsRow None a b _ = ⊥
 abbrev pub TopRow : List Text → World → World → Status → Type 0
 TopRow given a b (status.BadWords text) = (command_line given ≡ None) × IsAsBefore a b
 TopRow given a b (status.Command e) = WordsRow (command_line given) a b e
-
--- what becomes of words that are no request
-abbrev pub DeclineRow : WordsRefusal → Status → Type 0
-DeclineRow (words.BadWords text) (status.BadWords shown) = ⊤
-DeclineRow words.NoMemory (status.Command ending.Memory) = ⊤
-DeclineRow _ _ = ⊥
 
 -- A sink that may take memory or not has gained the line, or a prefix of it where it failed or was refused memory.
 abbrev pub IsSaid : Bool → Text → Option Text → ℕ → Option Text → ℕ → Type 0

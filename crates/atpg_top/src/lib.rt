@@ -10,7 +10,8 @@ ghost use Rattle.std.specs.Prelude.{◌≡◌, map};
 ghost use Rattle.std.specs.String.{string_bytes};
 ghost use Rattle.words.specs.CommandLine.{IsInRange, line_of};
 ghost use Rattle.commands.specs.World.{world};
-ghost use Rattle.atpg_top.specs.Rows.{DeclineRow, ErrRow, LineRow, TopRow};
+ghost use Rattle.atpg_top.specs.Rows.{ErrRow, LineRow, TopRow};
+ghost use Rattle.atpg_top.specs.inner.Declined.{DeclineRow};
 ghost use Rattle.atpg_top.specs.Lines.{code_of};
 ghost use Rattle.atpg_top.specs.declared.status.Status.{Status};
 

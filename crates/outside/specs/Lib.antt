@@ -5,5 +5,5 @@ pub mod Out
 pub mod Plan
 pub mod Shelf
 pub mod Sink
-pub mod Stream
+pub mod inner
 pub mod Told

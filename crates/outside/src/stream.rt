@@ -3,7 +3,7 @@ ghost use Rattle.std.specs.Prelude.{◌≢◌, Err, Some};
 ghost use Rattle.std.specs.Bool.{OnTrue};
 ghost use Rattle.std.specs.Io.KnownBytes.{Appends};
 ghost use Rattle.outside.specs.Shelf.{IsWithin, Tells};
-ghost use Rattle.outside.specs.Stream.{AppendsPart};
+ghost use Rattle.outside.specs.inner.Stream.{AppendsPart};
 ghost use Rattle.outside.specs.Told.{OnTold};
 
 use crate::ReadRefusal;

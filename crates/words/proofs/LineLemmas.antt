@@ -10,7 +10,8 @@ use Rattle.clap.specs.declared.error.Error.{Error}
 use Rattle.clap.specs.declared.error.kind.ErrorKind.{ErrorKind}
 use Rattle.clap.specs.declared.error.kind.ErrorKind.TheVariants.{OutOfMemory}
 use Rattle.words.specs.CommandLine.{CommandLine, command_line, faults_of, line_by, line_where_taken, scan_of}
-use Rattle.words.specs.Refusals.{IsCause, IsMadeOf}
+use Rattle.words.specs.Refusals.{IsCause}
+use Rattle.words.specs.inner.Errors.{IsMadeOf}
 use Rattle.words.specs.Table.{command_table}
 use Rattle.words.specs.declared.WordsRefusal.{WordsRefusal}
 use Rattle.words.specs.declared.WordsRefusal.TheVariants.{BadWords, NoMemory}

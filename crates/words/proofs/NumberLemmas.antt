@@ -4,7 +4,8 @@ use Rattle.std.proofs.lemmas.Bool.Decides.{nat_tests}
 use Rattle.std.proofs.lemmas.Str.Parse.{IsNumeralModel, numerals_by_value, tells_all_ascii_digits, parse_plain}
 use Rattle.std.specs.Str.{all_ascii_digits}
 use Rattle.std.specs.Str.Parse.{digits_value, ParsesUnsigned}
-use Rattle.words.specs.Numbers.{is_padded, number_in}
+use Rattle.words.specs.Numbers.{number_in}
+use Rattle.words.specs.inner.Padding.{is_padded}
 
 digits : IsNumeralModel (λ ds. all_ascii_digits ds ≡ true) (digits_value 10)
 digits = numerals_by_value _ tells_all_ascii_digits

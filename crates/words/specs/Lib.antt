@@ -2,3 +2,4 @@ pub mod Numbers
 pub mod Table
 pub mod CommandLine
 pub mod Refusals
+pub mod inner

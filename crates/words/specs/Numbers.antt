@@ -1,5 +1,5 @@
 -- Numbers as the command line writes them.
-use Rattle.std.specs.Prelude.{◌==◌, ◌&&◌, ◌||◌, ℕ, Bool, not, List, length, nat_le, nat_lt}
+use Rattle.std.specs.Prelude.{◌==◌, ◌&&◌, ℕ, Bool, not, List, length, nat_le, nat_lt}
 use Rattle.std.specs.Prelude.{Option, Some, None, if◌then◌else◌, slice_index}
 use Rattle.std.specs.Str.{all_ascii_digits}
 use Rattle.std.specs.Str.Parse.{digits_value}
@@ -7,10 +7,6 @@ use Rattle.std.specs.Str.Parse.{digits_value}
 -- a zero (48) in front of something else
 abbrev pub has_leading_zero : List ℕ → Bool
 has_leading_zero text = slice_index text 0 == 48 && not (length text == 1)
-
--- a plus (43) or a zero in front
-abbrev pub is_padded : List ℕ → Bool
-is_padded text = slice_index text 0 == 43 || has_leading_zero text
 
 -- decimal digits, at least one, with no zero in front; so with no sign
 abbrev pub is_plain_number : List ℕ → Bool

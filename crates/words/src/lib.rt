@@ -11,7 +11,8 @@ ghost use Rattle.clap.specs.Words.{FailsBy, kind_of, subcommand_of, subcommand_r
 ghost use Rattle.clap.specs.Faults.{fault_of};
 ghost use Rattle.words.specs.Table.{command_table};
 ghost use Rattle.words.specs.CommandLine.{IsInRange, command_line, line_of};
-ghost use Rattle.words.specs.Refusals.{IsCause, IsMadeOf};
+ghost use Rattle.words.specs.Refusals.{IsCause};
+ghost use Rattle.words.specs.inner.Errors.{IsMadeOf};
 
 mod commands;
 mod requests;

@@ -1,7 +1,8 @@
 //! The values of a command line, read from what `clap` found.
 ghost use Rattle.std.specs.Prelude.{◌≡◌, ◌≤◌, IfSome, option_map};
 ghost use Rattle.clap.specs.Words.{first_of, found_of, rows_of};
-ghost use Rattle.words.specs.Numbers.{is_padded, number_in};
+ghost use Rattle.words.specs.Numbers.{number_in};
+ghost use Rattle.words.specs.inner.Padding.{is_padded};
 ghost use Rattle.words.specs.CommandLine.{number_at};
 
 use clap::ArgMatches;

@@ -1,0 +1,13 @@
+-- Words that are no request.
+use Rattle.std.specs.Prelude.{⊤}
+use Rattle.words.specs.declared.WordsRefusal.{WordsRefusal}
+use Rattle.words.specs.declared.WordsRefusal.TheVariants as words
+use Rattle.commands.specs.declared.ending.Ending.TheVariants as ending
+use Rattle.atpg_top.specs.declared.status.Status.{Status}
+use Rattle.atpg_top.specs.declared.status.Status.TheVariants as status
+
+-- what becomes of words that are no request
+abbrev pub DeclineRow : WordsRefusal → Status → Type 0
+DeclineRow (words.BadWords text) (status.BadWords shown) = ⊤
+DeclineRow words.NoMemory (status.Command ending.Memory) = ⊤
+DeclineRow _ _ = ⊥
