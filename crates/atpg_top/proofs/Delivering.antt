@@ -1,5 +1,5 @@
 -- What is due of the texts that were read.
-use Rattle.std.proofs.Common.{◌≡◌, inl, ℕ, List, [], ◌∷◌, Ok, Err, refl, subst}
+use Rattle.std.proofs.Common.{◌≡◌, inl, ℕ, List, [], ◌∷◌, Ok, refl, subst}
 use Rattle.netlist.specs.Netlist.{Netlist}
 use Rattle.commands.specs.World.{Text, World}
 use Rattle.commands.specs.Due.{Due, Deliver}

@@ -1,5 +1,5 @@
 -- A call with a command line has the row of its command.
-use Rattle.std.proofs.Common.{◌≡◌, ◌∙◌, List, Option, Some, None, sym, subst}
+use Rattle.std.proofs.Common.{◌≡◌, ◌∙◌, List, Some, sym, subst}
 use Rattle.std.proofs.lemmas.Option.{none-some}
 use Rattle.words.specs.CommandLine.{CommandLine, command_line}
 use Rattle.commands.specs.World.{Text, World}

@@ -1,5 +1,5 @@
 -- What a command owes for the same texts is alike.
-use Rattle.std.proofs.Common.{◌≡◌, ◌∙◌, inl, inr, ℕ, List, [], ◌∷◌, Ok, Err, refl, sym, subst, ap}
+use Rattle.std.proofs.Common.{◌≡◌, ◌∙◌, inl, inr, ℕ, [], ◌∷◌, Ok, Err, refl, sym, subst, ap}
 use Rattle.std.specs.Prelude.{Result}
 use Rattle.netlist.specs.Netlist.{Netlist}
 use Rattle.bench_text.specs.declared.refusal.Names.{Names}

@@ -1,5 +1,5 @@
 -- The line of a status, as it is put in pieces.
-use Rattle.std.proofs.Common.{◌≡◌, ◌∙◌, ◌⊎◌, inl, inr, ℕ, Bool, List, [], ◌∷◌, ◌++◌, Option, Result, Ok, Err, refl, ap, sym, subst, append_assoc}
+use Rattle.std.proofs.Common.{◌≡◌, inl, inr, ℕ, Bool, List, [], ◌∷◌, ◌++◌, Option, Result, Ok, Err, refl, ap, sym, subst, append_assoc}
 use Rattle.std.specs.Prelude.{IsTrue}
 use denote.Ref.{Bor}
 use Rattle.outside.specs.declared.refusal.WriteRefusal.{WriteRefusal}

@@ -1,5 +1,5 @@
 -- The numbers of the statuses and their lines on the error output.
-use Rattle.std.specs.Prelude.{◌++◌, ℕ, List, [], codes, decimal}
+use Rattle.std.specs.Prelude.{◌++◌, ℕ, [], codes, decimal}
 use Rattle.bench_text.specs.declared.refusal.BenchKind.{BenchKind}
 use Rattle.bench_text.specs.declared.refusal.BenchKind.TheVariants.{BadByte, BadLine, UnknownGate, BadPins, DefinedTwice, Reserved, TooMany, NoInput, NoOutput, Undefined, Loop}
 use Rattle.bench_text.specs.declared.refusal.BenchRefusal.{BenchRefusal}

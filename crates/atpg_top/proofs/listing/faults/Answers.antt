@@ -19,7 +19,7 @@ returns-in-Err-Failed g c =
     let read = c.in-Ok.ensures in
     let texts = texts_of c.in-Ok.texts.items in
     let put = subst (λ (e : WriteRefusal). PutsFaultList c.in-Ok-design_of.netlist (g.T.Sink.taken c.args.out.now) (g.T.Sink.failures c.args.out.now) (g.T.Sink.taken c.put_fault_list.new.out) (g.T.Sink.failures c.put_fault_list.new.out) (Err e))
-        c.in-Err-Failed.field-0-is c.in-Err-Failed.ensures in
+    c.in-Err-Failed.field-0-is c.in-Err-Failed.ensures in
     let due = faults_deliver texts c.in-Ok-design_of.netlist put.0 c.in-Ok-design_of.ensures put.1 in
     ([], put.0, Fine, (texts, read.0, due), (read.1, put.2.0, (read.2, put.2.1)))
 
@@ -29,7 +29,7 @@ returns g c =
     let texts = texts_of c.in-Ok.texts.items in
     let refusal = c.in-Err-NoMemory-put_fault_list in
     let put = subst (λ (e : WriteRefusal). PutsFaultList c.in-Ok-design_of.netlist (g.T.Sink.taken c.args.out.now) (g.T.Sink.failures c.args.out.now) (g.T.Sink.taken c.put_fault_list.new.out) (g.T.Sink.failures c.put_fault_list.new.out) (Err e))
-        refusal.field-0-is refusal.ensures in
+    refusal.field-0-is refusal.ensures in
     elim put [
       | inl before ↦ inl ((read.1, before.0), (read.2, before.1))
       | inr list ↦ inr ([], list.0, Fine, (texts, read.0, faults_deliver texts c.in-Ok-design_of.netlist list.0 c.in-Ok-design_of.ensures list.1), inr (read.1, list.2.0, (read.2, list.2.1)))
