@@ -191,6 +191,21 @@ def filled(state, stream, cube):
     return f"{pattern} next word {word()}"
 
 
+def merged(cubes):
+    """Each cube joins the first result with which it has no bit against bit; else it is a new one."""
+    if len({(len(cube), cube.index("/")) for cube in cubes}) > 1:
+        return ["cubes of other widths"]
+    results = []
+    for cube in cubes:
+        for place, result in enumerate(results):
+            if not any({a, b} == {"0", "1"} for a, b in zip(result, cube)):
+                results[place] = "".join(b if a == "X" else a for a, b in zip(result, cube))
+                break
+        else:
+            results.append(cube)
+    return results
+
+
 def sample(seed, gates):
     command = [sys.executable, f"{ROOT}/bench/sample_netlist.py", seed, gates]
     return subprocess.run(command, capture_output=True, text=True, check=True).stdout
@@ -200,6 +215,8 @@ def with_no_netlist(verb, rest):
     words = rest.split(" ")
     if verb == "gate":
         return ["".join(forced(words[0], values) for values in words[1:] or [""])]
+    if verb == "merge":
+        return merged(words)
     if verb == "fill":
         return [filled(int(words[0]), int(words[1]), words[2])]
     text = sample(words[0], words[1])
@@ -294,7 +311,7 @@ def check_calls():
         verb, _, rest = row.partition(" ")
         name, _, more = rest.partition(" ")
         given = [line for line in given if line]
-        if verb in ("gate", "fill", "generate", "generate-sum"):
+        if verb in ("gate", "merge", "fill", "generate", "generate-sum"):
             wanted = with_no_netlist(verb, rest)
         elif verb in ("read", "read-scanned"):
             wanted = None if given[0].startswith("line ") else shown(Netlist(texts[name]).canonical())
