@@ -1,9 +1,6 @@
 -- What the reading of a text answers.
-use Rattle.std.specs.Prelude.{ℕ, ◌≡◌, ◌<◌, ◌≤◌, ⊤, length, List, ◌∷◌, ◌++◌, Option, Some, None, Result, Ok, Err}
+use Rattle.std.specs.Prelude.{ℕ, ◌≡◌, ⊤, List, ◌∷◌, ◌++◌, Option, Some, None, Result, Ok, Err}
 use Rattle.std.specs.List.{AllByRecursion}
-use Rattle.netlist.specs.declared.kinds.Kind.{Kind}
-use Rattle.netlist.specs.declared.netlists.NetRefusal.{NetRefusal}
-use Rattle.netlist.specs.declared.netlists.NetRefusal.TheVariants as net
 use Rattle.netlist.specs.Netlist.{Netlist, IsOnLoop, IsAcyclic}
 use Rattle.netlist.specs.Designs.{IsDesign}
 use Rattle.bench_text.specs.declared.refusal.Names.{Names}
@@ -14,7 +11,7 @@ use Rattle.bench_text.specs.declared.refusal.BenchFault.{BenchFault}
 use Rattle.bench_text.specs.declared.refusal.BenchFault.TheVariants.{NoMemory, Refused}
 use Rattle.bench_text.specs.Forms.{Statement, Definition}
 use Rattle.bench_text.specs.Said.{Said, statements_of}
-use Rattle.bench_text.specs.Texts.{inputs_of, signals_of}
+use Rattle.bench_text.specs.Texts.{signals_of}
 use Rattle.bench_text.specs.Whole.{notes, refusal}
 use Rattle.bench_text.specs.Netlists.{id_of, netlist_of}
 

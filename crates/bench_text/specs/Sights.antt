@@ -1,5 +1,5 @@
 -- Names in the order of first sight. The number of a name is its place.
-use Rattle.std.specs.Prelude.{ℕ, ◌≡◌, ◌∷◌, ◌++◌, [], fold, if◌then◌else◌, List, Some, slice_get, unwrap_or}
+use Rattle.std.specs.Prelude.{ℕ, ◌∷◌, ◌++◌, [], fold, if◌then◌else◌, List, slice_get, unwrap_or}
 use Rattle.std.specs.List.{list_any}
 use Rattle.std.specs.Str.{bytes_eq}
 

@@ -7,7 +7,7 @@ use Rattle.netlist.specs.Netlist.{IsOnLoop}
 use Rattle.bench_text.specs.declared.refusal.BenchKind.TheVariants.{Loop}
 use Rattle.bench_text.specs.declared.refusal.BenchFault.{BenchFault}
 use Rattle.bench_text.specs.declared.refusal.BenchFault.TheVariants.{NoMemory, Refused}
-use Rattle.bench_text.specs.Forms.{Statement, Definition}
+use Rattle.bench_text.specs.Forms.{Definition}
 use Rattle.bench_text.specs.Said.{Said, statements_of}
 use Rattle.bench_text.specs.Texts.{inputs_of, signals_of}
 use Rattle.bench_text.specs.Netlists.{id_of, netlist_of}
