@@ -1,0 +1,273 @@
+-- The kept patterns detect what all patterns did, each class at the new place of its last one.
+use Rattle.std.proofs.Common.{zero, suc, ◌≡◌, ◌⊎◌, inl, inr, ℕ, ◌+◌, ◌<◌, ◌≤◌, ◌==◌, ◌||◌, Bool, true, false, cond, List, [], ◌∷◌, length, get_or, Some, None, Option, refl, sym, ap, ◌∙◌, subst, arith}
+use Rattle.std.specs.List.{All, AllZip, Contains, slice_get}
+use Rattle.std.specs.Prelude.{IfSome}
+use Rattle.std.proofs.lemmas.List.Elements.{All-cons}
+use Rattle.std.proofs.lemmas.Slice.Zip.{AllZip-long}
+use Rattle.std.proofs.lemmas.List.{get_or_past}
+use Rattle.std.proofs.lemmas.Bool.Decides.{nat_tests}
+use Rattle.std.proofs.lemmas.Option.{slice_get_read, slice_get_within, slice_get-get_or}
+use Rattle.netlist.specs.declared.lines.Fault.{Fault}
+use Rattle.netlist.specs.declared.lines.Line.TheVariants.{Stem}
+use Rattle.netlist.specs.declared.lines.Point.{Point}
+use Rattle.netlist.specs.Netlist.{Netlist}
+use Rattle.cubes.specs.Cubes.{Pattern}
+use Rattle.word_sim.specs.Hits.{IsDetectedAt, IsLastDetected, IsNeverDetected, LastDetected}
+use Rattle.list_core.specs.declared.verdicts.Verdict.{Verdict}
+use Rattle.list_core.specs.declared.verdicts.Verdict.TheVariants.{Open, Detected, Redundant, Aborted}
+use Rattle.list_core.specs.Subjects.{Subject, Represents}
+use Rattle.list_core.specs.States.{State, IsTrueList}
+use Rattle.list_core.specs.Verdicts.{verdict_at, VerdictHolds}
+use Rattle.reverse_compact.specs.Kept.{AreLastDetected, IsNeeded, kept_from, new_place, marked_from}
+use Rattle.reverse_compact.specs.Finished.{IsFinished, AreFinished}
+use Rattle.reverse_compact.specs.inner.Marks.{is_last_at, last_at, new_verdict, ArePlaces, AreRenamed}
+use Rattle.reverse_compact.proofs.KeepLemmas.{kept_at, source, rises}
+
+no_fault : Fault
+no_fault = record { line = Stem 0; value = false }
+
+same_Some : {X : Type 0} (x y : X) → Some x ≡ Some y → x ≡ y
+same_Some x y e = cc
+
+-- ---- where a class is last detected
+
+last_of : (n : Netlist) (ps : List Pattern) (fs : List Fault) (ls : List (Option (ℕ × Point))) (c : ℕ) (f : Fault)
+    → AllZip (LastDetected n ps) fs ls → slice_get fs c ≡ Some f → LastDetected n ps f (last_at ls c)
+last_of n ps [] [] c f are e = cc
+last_of n ps [] (l ∷ ls) c f are e = elim are [ ]
+last_of n ps (g ∷ fs) [] c f are e = elim are [ ]
+last_of n ps (g ∷ fs) (l ∷ ls) zero f are e = (let P : Fault → Type 0 = λ h. LastDetected n ps h l in subst P (same_Some g f e) are.0)
+last_of n ps (g ∷ fs) (l ∷ ls) (suc c) f are e = last_of n ps fs ls c f are.1 e
+
+-- two last patterns of one fault are one
+same_last : (n : Netlist) (ps : List Pattern) (f : Fault) (a b : ℕ) (o p : Point) → IsLastDetected n ps f a o → IsLastDetected n ps f b p → a ≡ b
+same_last n ps f a b o p x y =
+    elim (three a b) [ inl lt ↦ absurd (x.last b p lt y.here) | inr r ↦ elim r [ inl e ↦ e | inr gt ↦ absurd (y.last a o gt x.here) ] ]
+  where
+    three : (i j : ℕ) → (i < j) ⊎ ((i ≡ j) ⊎ (j < i))
+    three i j = grind arith
+
+or_left : (a b : Bool) → a ≡ true → (a || b) ≡ true
+or_left true b e = refl
+or_left false b e = cc
+
+or_right : (a b : Bool) → b ≡ true → (a || b) ≡ true
+or_right true b e = refl
+or_right false b e = e
+
+or_cases : (a b : Bool) → (a || b) ≡ true → (a ≡ true) ⊎ (b ≡ true)
+or_cases true b e = inl refl
+or_cases false b e = inr e
+
+same_number : (a b : ℕ) → (a == b) ≡ true → a ≡ b
+same_number a b e = grind (arith, nat_tests)
+
+number_same : (a b : ℕ) → a ≡ b → (a == b) ≡ true
+number_same a b e = grind (arith, nat_tests)
+
+here_first : {X : Type 0} (x : X) (xs : List X) → Contains (x ∷ xs) x
+here_first x xs = (0, omega arith, refl)
+
+behind : {X : Type 0} (y : X) (xs : List X) (x : X) → Contains xs x → Contains (y ∷ xs) x
+behind y xs x c = (suc c.0, omega (arith, c.1), c.2)
+
+-- a marked place is needed
+marked_needed : (n : Netlist) (ps : List Pattern) (fs : List Fault) (ls : List (Option (ℕ × Point))) (k : ℕ)
+    → AllZip (LastDetected n ps) fs ls → is_last_at ls k ≡ true → IsNeeded n ps fs k
+marked_needed n ps [] [] k are e = cc
+marked_needed n ps [] (l ∷ ls) k are e = elim are [ ]
+marked_needed n ps (f ∷ fs) [] k are e = elim are [ ]
+marked_needed n ps (f ∷ fs) (None ∷ ls) k are e =
+    let rest = marked_needed n ps fs ls k are.1 e in (rest.0, behind f fs rest.0 rest.1, rest.2)
+marked_needed n ps (f ∷ fs) (Some l ∷ ls) k are e =
+    by_case (or_cases (l.0 == k) (is_last_at ls k) e) (λ there. marked_needed n ps fs ls k are.1 there)
+  where
+    by_case : ((l.0 == k) ≡ true) ⊎ (is_last_at ls k ≡ true) → (is_last_at ls k ≡ true → IsNeeded n ps fs k) → IsNeeded n ps (f ∷ fs) k
+    by_case (inl here) rest = (f, here_first f fs, (l.1, (let P : ℕ → Type 0 = λ i. IsLastDetected n ps f i l.1 in subst P (same_number l.0 k here) are.0)))
+    by_case (inr there) rest = (let r = rest there in (r.0, behind f fs r.0 r.1, r.2))
+
+-- the place where some class is last detected is marked
+some_marked : (ls : List (Option (ℕ × Point))) (c : ℕ) (l : ℕ × Point) → last_at ls c ≡ Some l → is_last_at ls l.0 ≡ true
+some_marked [] c l e = cc
+some_marked (None ∷ ls) zero l e = cc
+some_marked (Some m ∷ ls) zero l e =
+    let same : m ≡ l = same_Some m l e in
+    or_left (m.0 == l.0) (is_last_at ls l.0) (number_same m.0 l.0 (ap (λ (x : ℕ × Point). x.0) same))
+some_marked (None ∷ ls) (suc c) l e = some_marked ls c l e
+some_marked (Some m ∷ ls) (suc c) l e = or_right (m.0 == l.0) (is_last_at ls l.0) (some_marked ls c l e)
+
+-- a needed place is marked
+needed_marked : (n : Netlist) (ps : List Pattern) (fs : List Fault) (ls : List (Option (ℕ × Point))) (k : ℕ)
+    → AllZip (LastDetected n ps) fs ls → IsNeeded n ps fs k → is_last_at ls k ≡ true
+needed_marked n ps fs ls k are need =
+    let f = need.0 in
+    let c = need.1.0 in
+    let at : slice_get fs c ≡ Some f = slice_get_read fs (length fs) c f refl need.1.1 (sym need.1.2) in
+    by_last f c need.2.0 (last_at ls c) refl (last_of n ps fs ls c f are at) need.2.1
+  where
+    by_last : (f : Fault) (c : ℕ) (o : Point) (l : Option (ℕ × Point)) → last_at ls c ≡ l → LastDetected n ps f l → IsLastDetected n ps f k o → is_last_at ls k ≡ true
+    by_last f c o None is never last = absurd (never k o last.here)
+    by_last f c o (Some l) is other last =
+        let same : l.0 ≡ k = same_last n ps f l.0 k l.1 o other last in
+        (let P : ℕ → Type 0 = λ i. is_last_at ls i ≡ true in subst P same (some_marked ls c l is))
+
+-- ---- among the kept patterns
+
+module _ (n : Netlist) (ps : List Pattern) (fs : List Fault) (ls : List (Option (ℕ × Point))) (are : AllZip (LastDetected n ps) fs ls) where
+  -- what is detected among the kept patterns was detected at the place from which the pattern comes
+  earlier : (f : Fault) (q : ℕ) (o : Point) → IsDetectedAt n (kept_from (is_last_at ls) 0 ps) f q o
+      → (k : ℕ) × (is_last_at ls k ≡ true) × (new_place (is_last_at ls) k ≡ q) × IsDetectedAt n ps f k o
+  earlier f q o d =
+      let s = source (is_last_at ls) 0 ps q d.pattern d.at in
+      let w : 0 + s.place ≡ s.place = omega arith in
+      let mark : is_last_at ls s.place ≡ true = (let P : ℕ → Type 0 = λ i. is_last_at ls i ≡ true in subst P w s.mark) in
+      (s.place, mark, s.new, record { pattern = d.pattern; at = s.at; detects = d.detects })
+
+  -- and the other way, at a marked place
+  later : (f : Fault) (k : ℕ) (o : Point) → is_last_at ls k ≡ true → IsDetectedAt n ps f k o → IsDetectedAt n (kept_from (is_last_at ls) 0 ps) f (new_place (is_last_at ls) k) o
+  later f k o mark d =
+      let w : k ≡ 0 + k = omega arith in
+      let here : is_last_at ls (0 + k) ≡ true = (let P : ℕ → Type 0 = λ i. is_last_at ls i ≡ true in subst P w mark) in
+      record { pattern = d.pattern; at = kept_at (is_last_at ls) 0 ps k d.pattern d.at here; detects = d.detects }
+
+  never_kept : (f : Fault) → IsNeverDetected n ps f → IsNeverDetected n (kept_from (is_last_at ls) 0 ps) f
+  never_kept f never q o d = let e = earlier f q o d in never e.0 o e.3
+
+  last_kept : (f : Fault) (k : ℕ) (o : Point) → is_last_at ls k ≡ true → IsLastDetected n ps f k o
+      → IsLastDetected n (kept_from (is_last_at ls) 0 ps) f (new_place (is_last_at ls) k) o
+  last_kept f k o mark last = record {
+    here = later f k o mark last.here;
+    last = λ q p lt d. (
+        let e = earlier f q p d in
+        let up : k < e.0 = rises_back k e.0 (e.1) (omega (arith, lt, e.2)) in
+        last.last e.0 p up e.3
+        );
+    first = λ p before d. (
+        let e = earlier f (new_place (is_last_at ls) k) p d in
+        let same : e.0 ≡ k = one_place e.0 k e.1 mark e.2 in
+        last.first p before (let P : ℕ → Type 0 = λ i. IsDetectedAt n ps f i p in subst P same e.3)
+        );
+  }
+    where
+      three : (i j : ℕ) → (i < j) ⊎ ((i ≡ j) ⊎ (j < i))
+      three i j = grind arith
+
+      rises_back : (i j : ℕ) → is_last_at ls j ≡ true → new_place (is_last_at ls) i < new_place (is_last_at ls) j → i < j
+      rises_back i j mj lt = elim (three i j) [
+        | inl less ↦ less
+        | inr r ↦ elim r [
+          | inl e ↦ (let same : new_place (is_last_at ls) i ≡ new_place (is_last_at ls) j = ap (new_place (is_last_at ls)) e in absurd (omega (arith, lt, same)))
+          | inr more ↦ (let up = rises (is_last_at ls) j i more mj in absurd (omega (arith, lt, up)))
+        ]
+      ]
+
+      one_place : (i j : ℕ) → is_last_at ls i ≡ true → is_last_at ls j ≡ true → new_place (is_last_at ls) i ≡ new_place (is_last_at ls) j → i ≡ j
+      one_place i j mi mj e = elim (three i j) [
+        | inl less ↦ (let up = rises (is_last_at ls) i j less mi in absurd (omega (arith, e, up)))
+        | inr r ↦ elim r [
+          | inl same ↦ same
+          | inr more ↦ (let up = rises (is_last_at ls) j i more mj in absurd (omega (arith, e, up)))
+        ]
+      ]
+
+-- ---- verdicts
+
+-- where nothing detects a class's fault, its verdict speaks of no pattern
+verdict_stays : (j : Subject) (ps kept : List Pattern) (c : ℕ) (f : Fault) (v : Verdict) → Represents j c f → IsNeverDetected j.netlist ps f
+    → VerdictHolds j ps c v → VerdictHolds j kept c v
+verdict_stays j ps kept c f Open rep never held = tt
+verdict_stays j ps kept c f (Detected place point) rep never held =
+    let same : held.fault ≡ f = same_Some held.fault f (sym held.represents ∙ rep) in
+    let here : IsDetectedAt j.netlist ps held.fault place point = record { pattern = held.pattern; at = held.at; detects = held.detects } in
+    absurd (never place point (let P : Fault → Type 0 = λ g. IsDetectedAt j.netlist ps g place point in subst P same here))
+verdict_stays j ps kept c f (Redundant tree) rep never held = held
+verdict_stays j ps kept c f (Aborted tree) rep never held = held
+
+module _ (j : Subject) (ps : List Pattern) (ls : List (Option (ℕ × Point))) (are : AreLastDetected j.netlist ps j.classes.representatives ls) where
+  verdict_finished : (c : ℕ) (f : Fault) (l : Option (ℕ × Point)) (old : Verdict) → last_at ls c ≡ l → LastDetected j.netlist ps f l
+      → IsFinished j (kept_from (is_last_at ls) 0 ps) f old (new_verdict (is_last_at ls) l old)
+  verdict_finished c f None old is never = inr (refl, never_kept j.netlist ps j.classes.representatives ls are f never)
+  verdict_finished c f (Some l) old is last =
+      inl (new_place (is_last_at ls) l.0, l.1, refl, last_kept j.netlist ps j.classes.representatives ls are f l.0 l.1 (some_marked ls c l is) last)
+
+  verdict_holds : (c : ℕ) (f : Fault) (l : Option (ℕ × Point)) (old : Verdict) → last_at ls c ≡ l → LastDetected j.netlist ps f l → Represents j c f
+      → VerdictHolds j ps c old → VerdictHolds j (kept_from (is_last_at ls) 0 ps) c (new_verdict (is_last_at ls) l old)
+  verdict_holds c f None old is never rep held = verdict_stays j ps (kept_from (is_last_at ls) 0 ps) c f old rep never held
+  verdict_holds c f (Some l) old is last rep held =
+      let new = last_kept j.netlist ps j.classes.representatives ls are f l.0 l.1 (some_marked ls c l is) last in
+      record { fault = f; represents = rep; pattern = new.here.pattern; at = new.here.at; detects = new.here.detects }
+
+below_or : (a b : ℕ) → (a < b) ⊎ (b ≤ a)
+below_or a b = grind arith
+
+pub are_finished : (j : Subject) (s : State) (ls : List (Option (ℕ × Point))) (kept : List Pattern) (new : List Verdict)
+    → IsTrueList j s → AreLastDetected j.netlist s.patterns j.classes.representatives ls → AreRenamed (is_last_at ls) ls s.verdicts new
+    → kept ≡ kept_from (is_last_at ls) 0 s.patterns → AreFinished j s kept new
+are_finished j s ls kept new list are named is =
+    let P : List Pattern → Type 0 = λ ps. AreFinished j s ps new in
+    subst P (sym is) (record {
+      are_kept = record {
+        needed = is_last_at ls;
+        exactly = λ k. (
+          (λ m. marked_needed j.netlist s.patterns j.classes.representatives ls k are m),
+          (λ need. needed_marked j.netlist s.patterns j.classes.representatives ls k are need),
+        );
+        are = refl;
+      };
+      count = named.size;
+      each = λ c f rep. (
+          let within : c < length s.verdicts = omega (arith, slice_get_within j.classes.representatives c f rep, list.count) in
+          let Q : Verdict → Type 0 = λ v. IsFinished j (kept_from (is_last_at ls) 0 s.patterns) f (verdict_at s.verdicts c) v in
+          subst Q (sym (named.each c within))
+          (verdict_finished j s.patterns ls are c f (last_at ls c) (verdict_at s.verdicts c) refl (last_of j.netlist s.patterns j.classes.representatives ls c f are rep))
+          );
+      hold = λ c. at_class c (below_or c (length s.verdicts));
+    })
+  where
+    at_class : (c : ℕ) → (c < length s.verdicts) ⊎ (length s.verdicts ≤ c) → VerdictHolds j (kept_from (is_last_at ls) 0 s.patterns) c (verdict_at new c)
+    at_class c (inl within) =
+        let Q : Verdict → Type 0 = λ v. VerdictHolds j (kept_from (is_last_at ls) 0 s.patterns) c v in
+        let inside : c < length j.classes.representatives = omega (arith, within, list.count) in
+        let f = get_or j.classes.representatives c no_fault in
+        let rep : Represents j c f = slice_get-get_or j.classes.representatives c no_fault inside in
+        subst Q (sym (named.each c within))
+        (verdict_holds j s.patterns ls are c f (last_at ls c) (verdict_at s.verdicts c) refl (last_of j.netlist s.patterns j.classes.representatives ls c f are rep) rep (list.hold c))
+    at_class c (inr past) =
+        let Q : Verdict → Type 0 = λ v. VerdictHolds j (kept_from (is_last_at ls) 0 s.patterns) c v in
+        let outside : length new ≤ c = omega (arith, past, named.size) in
+        let none : verdict_at new c ≡ Open = get_or_past new c Open outside in
+        subst Q (sym none) tt
+
+-- each last place is one of the patterns
+pub last_within : (n : Netlist) (ps : List Pattern) (fs : List Fault) (ls : List (Option (ℕ × Point))) → AllZip (LastDetected n ps) fs ls
+    → All (λ (l : Option (ℕ × Point)). IfSome l (λ p. p.0 < length ps)) ls
+last_within n ps [] [] are = λ k d lt. absurd (omega (arith, lt))
+last_within n ps [] (l ∷ ls) are = elim are [ ]
+last_within n ps (f ∷ fs) [] are = elim are [ ]
+last_within n ps (f ∷ fs) (None ∷ ls) are =
+    All-cons (λ (l : Option (ℕ × Point)). IfSome l (λ p. p.0 < length ps)) None ls tt (last_within n ps fs ls are.1)
+last_within n ps (f ∷ fs) (Some l ∷ ls) are =
+    All-cons (λ (m : Option (ℕ × Point)). IfSome m (λ p. p.0 < length ps)) (Some l) ls
+    (slice_get_within ps l.0 are.0.here.pattern are.0.here.at) (last_within n ps fs ls are.1)
+
+pub same_count : (n : Netlist) (ps : List Pattern) (fs : List Fault) (ls : List (Option (ℕ × Point))) → AllZip (LastDetected n ps) fs ls → length ls ≡ length fs
+same_count n ps fs ls are = AllZip-long (LastDetected n ps) fs ls are
+
+same_from : (a b : ℕ → Bool) → ((k : ℕ) → a k ≡ b k) → (k count : ℕ) → marked_from a k count ≡ marked_from b k count
+same_from a b same k zero = refl
+same_from a b same k (suc count) = ap (λ m. cond m 1 0 + marked_from a (suc k) count) (same k) ∙ ap (λ i. cond (b k) 1 0 + i) (same_from a b same (suc k) count)
+
+same_kept : {X : Type 0} (a b : ℕ → Bool) → ((k : ℕ) → a k ≡ b k) → (k : ℕ) (xs : List X) → kept_from a k xs ≡ kept_from b k xs
+same_kept a b same k [] = refl
+same_kept a b same k (x ∷ xs) =
+    ap (λ m. cond m (x ∷ kept_from a (suc k) xs) (kept_from a (suc k) xs)) (same k) ∙ ap (λ ys. cond (b k) (x ∷ ys) ys) (same_kept a b same (suc k) xs)
+
+-- the same of marks in a list
+pub places_of_last : (ls : List (Option (ℕ × Point))) (marks : List Bool) (places : List ℕ) (size : ℕ) → ((k : ℕ) → get_or marks k false ≡ is_last_at ls k)
+    → size ≡ length places → ((k : ℕ) → k < size → get_or places k 0 ≡ new_place (λ i. get_or marks i false) k) → ArePlaces (is_last_at ls) places
+places_of_last ls marks places size same e each k lt = each k (omega (arith, lt, e)) ∙ same_from (λ i. get_or marks i false) (is_last_at ls) same 0 k
+
+pub kept_of_last : {X : Type 0} (ls : List (Option (ℕ × Point))) (marks : List Bool) (xs ys kept : List X) → ((k : ℕ) → get_or marks k false ≡ is_last_at ls k)
+    → xs ≡ ys → kept ≡ kept_from (λ i. get_or marks i false) 0 xs → kept ≡ kept_from (is_last_at ls) 0 ys
+kept_of_last ls marks xs ys kept same e is =
+    is ∙ (same_kept (λ i. get_or marks i false) (is_last_at ls) same 0 xs ∙ ap (kept_from (is_last_at ls) 0) e)
