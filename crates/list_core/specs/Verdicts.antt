@@ -7,7 +7,7 @@ use Rattle.list_core.specs.declared.verdicts.Verdict.{Verdict}
 use Rattle.list_core.specs.declared.verdicts.Verdict.TheVariants.{Open, Detected, Redundant, Aborted}
 use Rattle.list_core.specs.Subjects.{Subject, DetectsClass, FitsClass}
 
--- The verdict is true of the class: a pattern tells it; or a fitting tree leaves nothing open;
+-- The verdict is true of the class: a pattern detects it; or a fitting tree leaves nothing open;
 -- or one leaves an end open and has as many closed ends as the limit.
 abbrev pub VerdictHolds : Subject → List Pattern → ℕ → Verdict → Type 0
 VerdictHolds j patterns class Open = ⊤
@@ -28,7 +28,7 @@ is_open (Detected place point) = false
 is_open (Redundant tree) = false
 is_open (Aborted tree) = false
 
--- a pattern that tells the class makes it Detected
+-- a pattern that detects the class makes it Detected
 abbrev pub is_undetected : Verdict → Bool
 is_undetected Open = true
 is_undetected (Detected place point) = false
