@@ -1,0 +1,34 @@
+-- Certificates as texts, which stand for them byte for byte.
+use Rattle.std.specs.Prelude.{if◌then◌else◌, List, ◌++◌, codes, ℕ, ◌<◌}
+use Rattle.std.specs.List.{All, flat_map}
+use Rattle.netlist.specs.declared.lines.Fault.{Fault}
+use Rattle.netlist.specs.Netlist.{Netlist, name_of, signal_count}
+use Rattle.netlist.specs.Lines.{signal_of}
+use Rattle.fault_universe.specs.Texts.{fault_text}
+use Rattle.redundancy_cert.specs.declared.nodes.Node.{Node}
+use Rattle.redundancy_cert.specs.declared.nodes.Node.TheVariants.{Closed, Open, Split, Forced}
+
+-- `!`, `?`, `S x`, `F x 0`, each behind a blank
+abbrev pub node_text : Netlist → Node → List ℕ
+node_text n Closed = codes " !"
+node_text n Open = codes " ?"
+node_text n (Split x) = codes " S " ++ name_of n x
+node_text n (Forced x bit) = codes " F " ++ (name_of n x ++ (if bit then codes " 1" else codes " 0"))
+
+-- a fault, and the nodes of a tree in preorder
+abbrev pub tree_line : Netlist → Fault × List Node → List ℕ
+tree_line n p = fault_text n p.0 ++ (flat_map (node_text n) p.1 ++ codes "\n")
+
+abbrev pub certificate_text : Netlist → List (Fault × List Node) → List ℕ
+certificate_text n trees = codes "atpg certificate 1\n" ++ flat_map (tree_line n) trees
+
+-- its signal is one of the netlist
+abbrev pub HasSignal : Netlist → Node → Type 0
+HasSignal n Closed = Unit {0}
+HasSignal n Open = Unit {0}
+HasSignal n (Split x) = x < signal_count n
+HasSignal n (Forced x bit) = x < signal_count n
+
+pub record IsNamed (n : Netlist) (p : Fault × List Node) : Type 0 where
+  pub fault : signal_of p.0.line < signal_count n
+  pub nodes : All (HasSignal n) p.1
