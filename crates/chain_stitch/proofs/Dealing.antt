@@ -1,10 +1,9 @@
 -- The chains' lengths and where they begin.
-use Rattle.std.proofs.Common.{◌≡◌, ℕ, suc, zero, ◌+◌, ◌-◌, ◌*◌, ◌/◌, ◌%◌, ◌<◌, ◌≤◌, ◌++◌, ◌⊎◌, inl, inr, min, max, cond, ltb, List, [], ◌∷◌, length, take, drop, replicate, get_or, slice_get, Some, refl, add-one, sym, ◌∙◌, ap, subst, arith, length-append, length-drop, length-take}
+use Rattle.std.proofs.Common.{◌≡◌, ℕ, suc, zero, ◌+◌, ◌-◌, ◌*◌, ◌/◌, ◌%◌, ◌<◌, ◌≤◌, ◌++◌, inl, inr, min, cond, ltb, List, length, take, drop, replicate, get_or, slice_get, Some, add-one, sym, ◌∙◌, ap, subst, arith, length-append, length-drop, length-take}
 use Rattle.std.specs.List.{All, Contains}
-use Rattle.std.proofs.Math.Nat.{suc-mul, mul-suc, add-mul, zero-mul, zero-mod, mod-lt, div-add-mod', mul_comm}
+use Rattle.std.proofs.Math.Nat.{suc-mul, mul-suc, add-mul, zero-mul, zero-mod, div-add-mod', mul_comm}
 use Rattle.std.proofs.lemmas.Nat.{mul-le, div_below, mod_below, le-div}
 use Rattle.std.proofs.lemmas.Bool.{cases_lt, lt-ltb, le-ltb}
-use Rattle.std.proofs.lemmas.Bool.Decides.{nat_tests}
 use Rattle.std.proofs.lemmas.List.{length-replicate, get_or-replicate, take-replicate, get_or_append_left, get_or-append_right, get_or-take, get_or-drop, take_all, get_or_default}
 use Rattle.std.proofs.lemmas.Option.{slice_get-get_or, get_or_from_slice_get}
 use Rattle.chain_stitch.specs.Chains.{pieces, lengths_of, chains_of, cells_of, longest_of, IsAt}

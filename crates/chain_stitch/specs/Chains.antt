@@ -1,5 +1,5 @@
 -- Scan chains: the cells in order, in chains whose lengths differ by one at most, the longer ones first.
-use Rattle.std.specs.Prelude.{ℕ, ◌≡◌, ◌+◌, ◌-◌, ◌/◌, ◌%◌, ◌<◌, min, max, List, [], ◌∷◌, ◌++◌, length, take, drop, replicate, slice_get, slice_index, Some}
+use Rattle.std.specs.Prelude.{ℕ, ◌≡◌, ◌+◌, ◌-◌, ◌/◌, ◌%◌, min, max, List, [], ◌∷◌, ◌++◌, length, take, drop, replicate, slice_get, Some}
 use Rattle.std.specs.List.{flat_map}
 
 -- a list in pieces of these lengths

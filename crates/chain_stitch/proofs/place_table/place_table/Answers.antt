@@ -1,6 +1,5 @@
-use Rattle.std.proofs.Common.{ℕ, ◌≡◌, ◌≤◌, ◌<◌, ◌+◌, ◌-◌, List, length, arith, sym, ◌∙◌, ap, get_or, subst}
+use Rattle.std.proofs.Common.{◌≡◌, ◌<◌, ◌-◌, length, arith, sym, ◌∙◌, get_or}
 use Rattle.std.proofs.lemmas.List.{get_or_read}
-use Rattle.chain_stitch.specs.inner.Places.{HasPlaces}
 use Rattle.chain_stitch.proofs.Table.{places_more}
 use Rattle.chain_stitch.proofs.place_table.place_table.Goals as goal
 

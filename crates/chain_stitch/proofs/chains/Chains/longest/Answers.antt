@@ -1,4 +1,4 @@
-use Rattle.std.proofs.Common.{◌≡◌, ◌+◌, ◌/◌, ◌%◌, min, sym, ◌∙◌, ap, arith}
+use Rattle.std.proofs.Common.{◌+◌, ◌/◌, ◌%◌, min, sym, ◌∙◌, ap, arith}
 use Rattle.chain_stitch.specs.Chains.{longest_of}
 use Rattle.chain_stitch.proofs.Dealing.{longest_of-chains}
 use Rattle.chain_stitch.proofs.chains.Chains.longest.Goals as goal
