@@ -1,11 +1,9 @@
 pub mod FaultLists
 pub mod LineLists
-pub mod Words
 pub mod Elements
 pub mod Names
 pub mod LineTexts
 pub mod NamedLines
-pub mod Numbers
 pub mod Readers
 pub mod Members
 pub mod Distinct

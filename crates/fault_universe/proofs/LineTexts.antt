@@ -15,7 +15,7 @@ use Rattle.netlist.specs.Netlist.{name_of}
 use Rattle.fault_universe.specs.Universe.{all_lines, universe_of}
 use Rattle.fault_universe.proofs.Members.{line_written, member_line}
 use Rattle.fault_universe.proofs.Names.{no_blank, same_name}
-use Rattle.fault_universe.proofs.Words.{same_parts}
+use Rattle.plain_text.proofs.Parts.{same_parts}
 
 module _ (n : Netlist) (sound : IsSound n) where
   pub same_line : (l m : Line) → IsWritten n l → IsWritten n m → line_text n l ≡ line_text n m → l ≡ m

@@ -10,7 +10,7 @@ use Rattle.fault_universe.specs.Texts.{line_text}
 use Rattle.fault_universe.specs.inner.Written.{IsWritten}
 use Rattle.netlist.specs.Netlist.{name_of}
 use Rattle.fault_universe.proofs.Names.{no_blank, no_such_name}
-use Rattle.fault_universe.proofs.Words.{byte_inside, same_parts}
+use Rattle.plain_text.proofs.Parts.{byte_inside, same_parts}
 
 -- the line's text begins with the word of its kind
 record IsStemText (n : Netlist) (name : List ℕ) (line : Line) : Type 0 where

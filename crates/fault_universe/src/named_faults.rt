@@ -9,8 +9,8 @@ ghost use Rattle.fault_universe.specs.inner.Written.{IsLineNamed};
 ghost use Rattle.netlist.specs.Lines.{signal_of};
 
 use crate::fault_sets::{branches, signal_count};
-use itoa::Buffer;
 use netlist::{Fault, Line, Netlist, SignalId};
+use plain_text::split_at;
 
 /// The signal of a name.
 fn signal_named(netlist: &Netlist, name: &[u8]) -> Option<SignalId>
@@ -30,29 +30,14 @@ fn number(digits: &[u8]) -> Option<u32>
     ensures within { IfSome result (λ k. k < 2 ^ 32) }
     ensures cases { MatchOption result ((k : ℕ) → k < 2 ^ 32 → digits.now ≢ decimal k) (λ k. digits.now ≡ decimal k) }
 {
-    let Ok(text) = std::str::from_utf8(digits) else {
+    let Some(number) = plain_text::number(digits) else {
         return None;
     };
-    let Ok(number) = text.parse::<u32>() else {
-        return None;
-    };
-    if Buffer::new().format(number).as_bytes() == digits {
-        Some(number)
+    if number <= u32::MAX as u64 {
+        Some(number as u32)
     } else {
         None
     }
-}
-
-/// What stands before the first blank, and behind it.
-fn split_at_blank(text: &[u8]) -> Option<(&[u8], &[u8])>
-    ensures { MatchOption result (All (λ b. b ≢ 32) text.now) (λ p. All (λ b. b ≢ 32) p.0.now × (text.now ≡ p.0.now ++ 32 ∷ p.1.now)) }
-{
-    for (i, byte) in text.iter().enumerate() {
-        if *byte == b' ' {
-            return Some((&text[..i], &text[i + 1..]));
-        }
-    }
-    None
 }
 
 /// The stem that is written so, behind `stem `.
@@ -82,7 +67,7 @@ fn pin_named(netlist: &Netlist, text: &[u8]) -> Option<Line>
     ensures { IsLineNamed netlist.now (codes "pin " ++ text.now) result }
 {
     netlist.sound();
-    let Some(parts) = split_at_blank(text) else {
+    let Some(parts) = split_at(text, b' ') else {
         return None;
     };
     let Some(z) = signal_named(netlist, parts.0) else {

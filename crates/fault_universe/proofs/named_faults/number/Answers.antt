@@ -1,15 +1,11 @@
-use Rattle.std.proofs.Common.{Ok, ◌∙◌, ◌≡◌}
-use Rattle.fault_universe.proofs.Numbers.{decimal_is_text, decimal_parses, other_decimal}
+use Rattle.std.proofs.Common.{sym, ◌∙◌, arith}
+use Rattle.std.proofs.lemmas.Fmt.{decimal_injective}
 use Rattle.fault_universe.proofs.named_faults.number.Goals as goal
 
 pub returns-in_default-clause-cases : goal.returns-in_default-clause-cases
-returns-in_default-clause-cases c k l e = c.in_default.ensures.cases.0 (decimal_is_text k c.args.digits.now l e)
+returns-in_default-clause-cases c k l e = c.in_default.ensures.cases k (omega (arith, l)) e
 
-pub returns-in_default-parse-clause-cases : goal.returns-in_default-parse-clause-cases
-returns-in_default-parse-clause-cases c k l e = c.in_default-parse.not-Ok k (decimal_parses k c.in-Ok.text.now c.args.digits.now c.parse.result l e c.in-Ok.ensures.cases.0 c.parse.ensures.value.0)
-
-pub returns-else-eq-clause-cases : goal.returns-else-eq-clause-cases
-returns-else-eq-clause-cases c k l e =
-    let parsed : c.parse.result ≡ Ok k = decimal_parses k c.in-Ok.text.now c.args.digits.now c.parse.result l e c.in-Ok.ensures.cases.0 c.parse.ensures.value.0 in
-    let same : c.in-Ok-parse.number ≡ k = cc in
-    other_decimal k c.in-Ok-parse.number c.args.digits.now c.as_bytes.result.now c.eq.result e same (c.as_bytes.ensures.value ∙ c.format.ensures.text) c.eq.ensures c.if-eq.false
+pub returns-else-number-clause-cases : goal.returns-else-number-clause-cases
+returns-else-number-clause-cases c k l e =
+    let same = decimal_injective c.in-Some.number k c.in-Some.ensures.within (omega (arith, l)) (sym c.in-Some.ensures.cases ∙ e) in
+    absurd (omega (arith, same, l, c.if-number.false))

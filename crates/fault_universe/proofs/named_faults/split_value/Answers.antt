@@ -1,5 +1,5 @@
 use Rattle.std.proofs.Common.{codes}
-use Rattle.fault_universe.proofs.Words.{with_suffix, no_suffix}
+use Rattle.plain_text.proofs.Parts.{with_suffix, no_suffix}
 use Rattle.fault_universe.proofs.LineTexts.{no_value}
 use Rattle.fault_universe.proofs.named_faults.split_value.Goals as goal
 
