@@ -2,6 +2,6 @@ mod RowLemmas
 mod LoopLemmas
 mod PieceLemmas
 mod FormLemmas
-mod ItemLemmas
+pub mod ItemLemmas
 mod DistinctLemmas
 mod ShiftLemmas

@@ -1,0 +1,15 @@
+mod TokenLemmas
+mod ExpectLemmas
+mod WholeLemmas
+mod SignalLemmas
+mod AssignLemmas
+mod ItemLemmas
+mod WrittenLemmas
+mod PatternLemmas
+mod SkipLemmas
+mod OnceLemmas
+mod StepLemmas
+mod NameLemmas
+mod PassLemmas
+mod SpeltLemmas
+mod ReadLemmas

@@ -1,0 +1,20 @@
+use Rattle.std.proofs.Common.{ap, ◌∙◌, map, subst, sym, List}
+use Rattle.stil_write.specs.StilFiles.{Text}
+use Rattle.stil_write.specs.Pieces.{quoted}
+use Rattle.stil_write.specs.Texts.{assigned, called}
+use Rattle.stil_read.specs.Tokens.{tokens}
+use Rattle.stil_read.specs.inner.Items.{AreAllItems}
+use Rattle.stil_read.proofs.StepLemmas.{no_items_head}
+use Rattle.stil_read.proofs.pattern.pattern.Goals as goal
+
+pub returns-in_default-expect : goal.returns-in_default-expect
+returns-in_default-expect c = no_items_head c.args.chains _ _ c.in-Some.ensures c.in_default-expect.ensures.found
+
+pub returns : goal.returns
+returns c = record {
+  inner = tokens c.in-Some.inner.now;
+  behind = tokens c.in-Some-expect.behind.now;
+  skipped = c.in-Some.ensures;
+  head = c.in-Some-expect.ensures.found;
+  listed = ?;
+}

@@ -1,0 +1,13 @@
+-- Laws of reading.
+use Rattle.std.specs.Prelude.{◌≡◌}
+use Rattle.stil_write.specs.StilFiles.{StilFile, IsStilFile, Text}
+use Rattle.stil_write.specs.Texts.{stil_text}
+use Rattle.stil_read.specs.Reading.{StandsFor}
+
+-- bytes stand for one file at most
+abbrev pub AtMostOne : Type 0
+AtMostOne = (bytes : Text) (f g : StilFile) → StandsFor bytes f → StandsFor bytes g → f ≡ g
+
+-- a written text stands for its file
+abbrev pub WrittenStands : Type 0
+WrittenStands = (f : StilFile) → IsStilFile f → StandsFor (stil_text f) f

@@ -1,0 +1,12 @@
+//! Laws of reading: functions that do nothing, whose contracts are the laws.
+ghost use Rattle.stil_read.specs.Laws.{AtMostOne, WrittenStands};
+
+/// Bytes stand for one file at most.
+pub fn at_most_one()
+    ensures { AtMostOne }
+{}
+
+/// What was written is read as the same value.
+pub fn written_stands()
+    ensures { WrittenStands }
+{}

@@ -1,0 +1,19 @@
+//! Reads STIL files of the project's profile.
+#![tactic(auto)]
+
+mod assigned;
+mod bytes;
+mod chains;
+mod comment;
+mod expected;
+mod finding;
+mod items;
+mod laws;
+mod pattern;
+mod reader;
+mod signal_block;
+mod signals;
+mod skipping;
+mod token;
+
+pub use reader::{StilFault, read_stil};
