@@ -76,7 +76,7 @@ quoted_unquoted name h = (refl, unquoted-append name (34 ∷ []) h (refl, tt))
 further_unquoted : (names : List Text) → AreUnquoted names → IsUnquoted (flat_map (λ other. codes " + " ++ quoted other) names)
 further_unquoted [] h = tt
 further_unquoted (name ∷ names) h =
-    unquoted-append (codes " + " ++ quoted name) (flat_map (λ other. codes " + " ++ quoted other) names) (refl, refl, refl, quoted_unquoted name h.0) (further_unquoted names h.1)
+    unquoted-append (codes " + " ++ quoted name) (flat_map (λ other. codes " + " ++ quoted other) names) (refl, (refl, (refl, quoted_unquoted name h.0))) (further_unquoted names h.1)
 
 joined_unquoted : (names : List Text) → AreUnquoted names → IsUnquoted (joined (codes " + ") names)
 joined_unquoted [] h = tt
@@ -157,19 +157,19 @@ pass_group word group names f q u =
     (pass_both word (codes " = ") (expression names ++ codes ";\n") f.equals (pass_both word (expression names) (codes ";\n") (pass_expression word names f.key u) f.ends)))
 
 pub pi_quotable : IsQuotable (codes "SC__pi")
-pi_quotable = (refl, refl, refl, refl, refl, refl, tt)
+pi_quotable = (refl, (refl, (refl, (refl, (refl, (refl, tt))))))
 
 pub po_quotable : IsQuotable (codes "SC__po")
-po_quotable = (refl, refl, refl, refl, refl, refl, tt)
+po_quotable = (refl, (refl, (refl, (refl, (refl, (refl, tt))))))
 
 si_quotable : IsQuotable (codes "SC__si")
-si_quotable = (refl, refl, refl, refl, refl, refl, tt)
+si_quotable = (refl, (refl, (refl, (refl, (refl, (refl, tt))))))
 
 so_quotable : IsQuotable (codes "SC__so")
-so_quotable = (refl, refl, refl, refl, refl, refl, tt)
+so_quotable = (refl, (refl, (refl, (refl, (refl, (refl, tt))))))
 
 ck_quotable : IsQuotable (codes "SC__ck")
-ck_quotable = (refl, refl, refl, refl, refl, refl, tt)
+ck_quotable = (refl, (refl, (refl, (refl, (refl, (refl, tt))))))
 
 pub inputs_quotable : (n : ℕ) → AreQuotable (numbered (codes "SC__si") n)
 inputs_quotable n = numbered_quotable (codes "SC__si") n si_quotable
@@ -207,7 +207,7 @@ Finds word text = (rest : Text) → behind_first word (tokens (text ++ rest)) �
 pub pass_find : (word x y : Text) → Passes word x → Finds word y → Finds word (x ++ y)
 pass_find word x y p f rest = ap (λ t. behind_first word (tokens t)) (append_assoc x y rest) ∙ p (y ++ rest) ∙ f rest
 
-semicolon : (word : Text) (ts : List Token) → IsKey word → behind_first word (Spelled (59 ∷ []) ∷ ts) ≡ behind_first word ts
+pub semicolon : (word : Text) (ts : List Token) → IsKey word → behind_first word (Spelled (59 ∷ []) ∷ ts) ≡ behind_first word ts
 semicolon word ts k = pass_token word (Spelled (59 ∷ [])) ts (low_differs word (59 ∷ []) k (let l : 59 < 65 = omega arith in l))
 
 -- a number, and what follows behind a semicolon
@@ -219,7 +219,7 @@ find_behind_number word n text k f rest =
     ∙ semicolon word (tokens (text ++ rest)) k ∙ f rest
 
 chain_quotable : (k : ℕ) → IsQuotable (codes "chain" ++ decimal k)
-chain_quotable k = quotable-append (codes "chain") (decimal k) (refl, refl, refl, refl, refl, tt) (decimal_quotable k)
+chain_quotable k = quotable-append (codes "chain") (decimal k) (refl, (refl, (refl, (refl, (refl, tt))))) (decimal_quotable k)
 
 abbrev head_fixed : Type 0
 head_fixed = Passes cells_word (codes "  ScanChain ") × Passes cells_word (codes " {\n    ScanLength ") × Passes cells_word (codes "\n    ScanIn ") × Passes cells_word (codes ";\n    ScanOut ")

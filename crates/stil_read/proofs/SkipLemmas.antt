@@ -14,7 +14,7 @@ chosen : {X : Type 0} (b : Bool) (x y : X) → b ≡ true → (if b then x else 
 chosen true x y e = refl
 chosen false x y e = cc
 
-left_out : {X : Type 0} (b : Bool) (x y : X) → b ≡ false → (if b then x else y) ≡ y
+pub left_out : {X : Type 0} (b : Bool) (x y : X) → b ≡ false → (if b then x else y) ≡ y
 left_out true x y e = cc
 left_out false x y e = refl
 

@@ -1,5 +1,5 @@
 -- A written file is spelt as the reader looks for it.
-use Rattle.std.proofs.Common.{◌≡◌, ◌∙◌, ◌+◌, ◌≤◌, ◌<◌, ℕ, zero, suc, List, [], ◌∷◌, ◌++◌, ap, sym, refl, subst, append_assoc, append-nil, length, arith, map, replicate, length-append}
+use Rattle.std.proofs.Common.{◌≡◌, ◌∙◌, ◌+◌, ◌≤◌, ◌<◌, ℕ, zero, suc, List, [], ◌∷◌, ◌++◌, ap, sym, refl, subst, append_assoc, append-nil, length, arith, map, replicate, length-append, get_or}
 use Rattle.std.specs.Prelude.{codes, Some, ⊤, false}
 use Rattle.std.specs.List.{All, flat_map}
 use Rattle.std.specs.Str.{bytes_eq}
@@ -113,11 +113,20 @@ after_scan_inputs zero po rest q l = no_signal_lines scan_input_kind output_kind
 after_scan_inputs (suc m) po rest q l =
     no_signal_lines scan_input_kind input_kind (codes "SC__ck" ∷ []) (signal_lines output_kind po ++ rest) kinds_are_whole.inputs (clock_quotable (suc m)) (let k : 1 ≤ 1 = omega arith in k) scan_input
 
+close_no_name : (name : Text) → codes "}" ≡ quoted name → ⊥
+close_no_name name e = let h : 125 ≡ 34 = ap (λ (l : Text). get_or l 0 0) e in omega (arith, h)
+
+after_plain_outputs : (rest : Text) → NoSignal output_kind (tokens (codes "}\n" ++ rest))
+after_plain_outputs rest = no_name output_kind (codes "}") (tokens rest) (tokens (codes "}\n" ++ rest)) (close_tokens rest) close_no_name
+
+after_some_outputs : (names : List Text) (rest : Text) → AreQuotable names → 1 ≤ length names → NoSignal output_kind (tokens ((signal_lines (codes " Out { ScanOut; }\n") names ++ codes "}\n") ++ rest))
+after_some_outputs names rest q l =
+    subst (λ t. NoSignal output_kind (tokens t)) (sym (append_assoc (signal_lines (codes " Out { ScanOut; }\n") names) (codes "}\n") rest))
+    (no_signal_lines output_kind (codes " Out { ScanOut; }\n") names (codes "}\n" ++ rest) kinds_are_whole.scan_outputs q l output_scan)
+
 after_outputs : (n : ℕ) (rest : Text) → NoSignal output_kind (tokens ((scan_out_lines n ++ codes "}\n") ++ rest))
-after_outputs zero rest = no_name output_kind (codes "}") (tokens rest) (tokens (codes "}\n" ++ rest)) (close_tokens rest) (λ name e. (let k : ⊥ = cc in k))
-after_outputs (suc m) rest =
-    subst (λ t. NoSignal output_kind (tokens t)) (sym (append_assoc (scan_out_lines (suc m)) (codes "}\n") rest))
-    (no_signal_lines output_kind (codes " Out { ScanOut; }\n") (numbered (codes "SC__so") (suc m)) (codes "}\n" ++ rest) kinds_are_whole.scan_outputs (outputs_quotable (suc m)) (numbered_some (codes "SC__so") m) output_scan)
+after_outputs zero rest = after_plain_outputs rest
+after_outputs (suc m) rest = after_some_outputs (numbered (codes "SC__so") (suc m)) rest (outputs_quotable (suc m)) (numbered_some (codes "SC__so") m)
 
 head_whole : IsWhole head_text
 unfolding place_after class_of
@@ -125,7 +134,7 @@ head_whole = refl
 
 declared_written : (pi po : List Text) (n : ℕ) (rest : Text) → AreQuotable pi → AreQuotable po → 1 ≤ length po
     → AreDeclared (tokens (head_text ++ ((signal_lines input_kind pi ++ (scan_in_lines n ++ (clock_lines n ++ (signal_lines output_kind po ++ (scan_out_lines n ++ codes "}\n"))))) ++ rest)))
-      pi n po (tokens ((scan_out_lines n ++ codes "}\n") ++ rest))
+    pi n po (tokens ((scan_out_lines n ++ codes "}\n") ++ rest))
 declared_written pi po n rest p q l =
     let e = scan_out_lines n ++ codes "}\n" in
     let d = signal_lines output_kind po in
@@ -227,9 +236,11 @@ called_quotable : (n : ℕ) → AreQuotable (called n)
 called_quotable n = all_quotable-append (numbered (codes "SC__si") n) (numbered (codes "SC__so") n) (inputs_quotable n) (outputs_quotable n)
 
 assigned_quotable : (n : ℕ) → AreQuotable (assigned n)
-assigned_quotable n =
-    (pi_quotable, all_quotable-append (numbered (codes "SC__si") n) (where_chained n (codes "SC__ck") ++ (codes "SC__po" ∷ numbered (codes "SC__so") n)) (inputs_quotable n)
-    (all_quotable-append (where_chained n (codes "SC__ck")) (codes "SC__po" ∷ numbered (codes "SC__so") n) (clock_quotable n) (po_quotable, outputs_quotable n)))
+assigned_quotable n = (
+  pi_quotable,
+  all_quotable-append (numbered (codes "SC__si") n) (where_chained n (codes "SC__ck") ++ (codes "SC__po" ∷ numbered (codes "SC__so") n)) (inputs_quotable n)
+      (all_quotable-append (where_chained n (codes "SC__ck")) (codes "SC__po" ∷ numbered (codes "SC__so") n) (clock_quotable n) (po_quotable, outputs_quotable n)),
+)
 
 one_each : 1 ≤ 1
 one_each = omega arith
@@ -246,17 +257,19 @@ is_writable f (Vector words) p q h =
     let pulse : Form = record { values = values.Pulses; size = 1 } in
     let strobe : Form = record { values = values.Strobes; size = 1 } in
     let outputs : Form = record { values = values.Strobes; size = length f.po } in
-    assignable (assigned n) (vector_forms f) words (assigned_quotable n)
-    (p, sized-append (replicate n bit) (where_chained n pulse ++ (outputs ∷ replicate n strobe)) (sized_copies n bit one_each)
-    (sized-append (where_chained n pulse) (outputs ∷ replicate n strobe) (sized_chained n pulse one_each) (q, sized_copies n strobe one_each))) h
+    assignable (assigned n) (vector_forms f) words (assigned_quotable n) (
+      p,
+      sized-append (replicate n bit) (where_chained n pulse ++ (outputs ∷ replicate n strobe)) (sized_copies n bit one_each)
+          (sized-append (where_chained n pulse) (outputs ∷ replicate n strobe) (sized_chained n pulse one_each) (q, sized_copies n strobe one_each)),
+    ) h
 
 are_writable : (f : StilFile) (items : List Item) → 1 ≤ length f.pi → 1 ≤ length f.po → All (IsItem f) items → AreWritable (called (length f.chains)) (assigned (length f.chains)) items
 are_writable f [] p q h = tt
 are_writable f (item ∷ items) p q h = (is_writable f item p q (All-head (IsItem f) item items h), are_writable f items p q (All-tail (IsItem f) item items h))
 
 quoted_targets : (called assigned : List Text) (item : Item) → HasTargets called assigned item → HasTargets (map quoted called) (map quoted assigned) item
-quoted_targets called assigned (Call words) h = h ∙ sym (length-map quoted called)
-quoted_targets called assigned (Vector words) h = h ∙ sym (length-map quoted assigned)
+quoted_targets called assigned (Call words) h = h ∙ sym (length-map called quoted)
+quoted_targets called assigned (Vector words) h = h ∙ sym (length-map assigned quoted)
 
 close_only : tokens (codes "}\n") ≡ Spelled (codes "}") ∷ []
 unfolding tokens_from class_of
@@ -266,7 +279,7 @@ no_call : codes "}" ≡ codes "Call" → ⊥
 no_call e = cc
 
 no_vector : codes "}" ≡ codes "V" → ⊥
-no_vector e = cc
+no_vector e = let h : 125 ≡ 86 = ap (λ (l : Text). get_or l 0 0) e in omega (arith, h)
 
 no_item_left : (called assigned : List Text) → NoItem called assigned (tokens (codes "}\n"))
 no_item_left called assigned (Call words) rest h e =
@@ -451,6 +464,7 @@ chained_written pi po c cs word items h =
     let q = names_unquoted po (po_names f h) in
     let cells = cells_quotable (c ∷ cs) h.cell_names in
     let front = (scan_out_lines n ++ close) ++ (groups_text f ++ (timing_text f ++ codes "ScanStructures {\n")) in
+    let plain : 0 + n ≡ n = omega arith in
     let same : first ≡ front ++ (blocks ++ behind) = front_apart (scan_out_lines n ++ close) (groups_text f) (timing_text f) (codes "ScanStructures {\n") blocks close (burst_text ++ (procedures ++ pattern_text f)) in
     let passes : Passes cells_word front =
     pass_both cells_word (scan_out_lines n ++ close) (groups_text f ++ (timing_text f ++ codes "ScanStructures {\n"))
@@ -463,14 +477,14 @@ chained_written pi po c cs word items h =
       three = shift_rest n (length po) (close ++ (tail ++ pattern_text f));
       rest = tokens close;
       signals = declared_written pi po n rest (names_quotable pi (pi_names f h)) (names_quotable po (po_names f h)) h.outputs;
-      chains = chains_written cs 0 (tokens first) [] front behind c (refl, ap tokens same) passes cells.0 cells.1;
+      chains = subst (λ m. AreChains m (tokens first) (c ∷ cs) (tokens (chain_end ++ behind))) plain (chains_written cs 0 (tokens first) [] front behind c (refl, ap tokens same) passes cells.0 cells.1);
       shift = record {
         inner = tokens (codes "{ " ++ (assignments (assigned n) (shift_words f) ++ (close ++ (tail ++ pattern_text f))));
         skipped = behind_chains.chain behind ∙ behind_chains.close (burst_text ++ (procedures ++ pattern_text f)) ∙ behind_chains.burst (procedures ++ pattern_text f)
             ∙ ap (λ t. behind_first vector_word (tokens t)) (append_assoc procedures_head (item ++ tail) (pattern_text f)) ∙ behind_chains.procedures ((item ++ tail) ++ pattern_text f)
             ∙ behind_chains.vector (codes "{ " ++ (((assignments (assigned n) (shift_words f) ++ close) ++ tail) ++ pattern_text f))
             ∙ ap (λ t. Some (tokens (codes "{ " ++ t)))
-                (append_assoc (assignments (assigned n) (shift_words f) ++ close) tail (pattern_text f) ∙ append_assoc (assignments (assigned n) (shift_words f)) close (tail ++ pattern_text f));
+            (append_assoc (assignments (assigned n) (shift_words f) ++ close) tail (pattern_text f) ∙ append_assoc (assignments (assigned n) (shift_words f)) close (tail ++ pattern_text f));
         word_is = shift_word_tokens n (length po) word (close ++ (tail ++ pattern_text f)) (value_word (record { values = values.Bits; size = length pi }) word h.inputs h.shift) h.outputs;
       };
       pattern = pattern_written f (shift_rest n (length po) (close ++ (tail ++ pattern_text f))) h

@@ -1,7 +1,7 @@
-use Rattle.std.proofs.Common.{ap, ◌∙◌, map, subst, sym, List}
+use Rattle.std.proofs.Common.{ap, ◌∙◌, map, subst, List}
 use Rattle.stil_write.specs.StilFiles.{Text}
 use Rattle.stil_write.specs.Pieces.{quoted}
-use Rattle.stil_write.specs.Texts.{assigned, called}
+use Rattle.stil_write.specs.Texts.{called}
 use Rattle.stil_read.specs.Tokens.{tokens}
 use Rattle.stil_read.specs.inner.Items.{AreAllItems}
 use Rattle.stil_read.proofs.StepLemmas.{no_items_head}
@@ -16,5 +16,8 @@ returns c = record {
   behind = tokens c.in-Some-expect.behind.now;
   skipped = c.in-Some.ensures;
   head = c.in-Some-expect.ensures.found;
-  listed = ?;
+  listed = subst (λ (vectors : List Text). AreAllItems (map quoted (called c.args.chains)) vectors (tokens c.in-Some-expect.behind.now) c.in_ok-items.items (tokens c.in_ok-items.rest.now))
+      (c.in_ok-vectors-2.ensures ∙ ap (map quoted) c.in_ok-vectors.ensures)
+      (subst (λ (calls : List Text). AreAllItems calls c.in_ok-vectors-2.vectors (tokens c.in-Some-expect.behind.now) c.in_ok-items.items (tokens c.in_ok-items.rest.now))
+      (c.in_ok-calls-2.ensures ∙ ap (map quoted) c.in_ok-calls.ensures) c.in_ok-items.ensures);
 }
