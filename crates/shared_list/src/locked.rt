@@ -10,10 +10,10 @@ ghost use Rattle.shared_list.specs.Tally.{Tally, took, gave, spent};
 
 use crate::share::{Parts, Share};
 use list_core::{About, Claim, Entry, FaultList, Over, Settling};
-use word_sim::Batch;
 use netlist::NoMemory;
 use redundancy_cert::Tree;
 use std::sync::ledger::{Book, Ledger};
+use word_sim::Batch;
 
 /// The list, with a book for each kind of event and one for unspent claims.
 #[derive(Drop)]
@@ -37,11 +37,7 @@ impl<J: About, T: Ledger, S: Ledger, P: Ledger, U: Ledger> Locked<J, T, S, P, U>
     ghost use Rattle.list_core.specs.Outcomes.{MatchSettling};
 
     /// One hold: the class is entered.
-    pub fn enter(
-        &mut self,
-        share: &mut Share<T, S, P, U>,
-        class: u32,
-    ) -> Result<Claim<J>, Over<J>>
+    pub fn enter(&mut self, share: &mut Share<T, S, P, U>, class: u32) -> Result<Claim<J>, Over<J>>
         requires { class < class_count J.subject }
         ensures claim { IfOk result (λ c. (may_enter self.old.list class ≡ true) × (c.class ≡ class) × (c.worker ≡ share.old.worker) × (self.new.list ≡ entered self.old.list share.old.worker class) × (share.new ≡ took share.old)) }
         ensures over { IfErr result (λ o. (may_enter self.old.list class ≡ false) × (o.class ≡ class) × (o.entered ≡ true) × (self.new.list ≡ self.old.list) × (share.new ≡ share.old)) }

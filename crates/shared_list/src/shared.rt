@@ -11,12 +11,12 @@ use crate::draws::{Drawer, Word, another, open};
 use crate::locked::{Events, Locked};
 use crate::share::{Parts, Share};
 use list_core::{About, Claim, FaultList, Left, Over, Settling};
-use word_sim::Batch;
 use netlist::NoMemory;
 use redundancy_cert::Tree;
 use std::alloc::{AllocError, Global};
 use std::sync::ledger::{Blank, Ledger};
 use std::sync::{Mutex, Wait};
+use word_sim::Batch;
 
 /// What a take answers.
 #[derive(Drop)]
@@ -60,8 +60,9 @@ impl<J: About, T: Ledger, S: Ledger, P: Ledger, U: Ledger> Shared<J, T, S, P, U>
         ensures idle { IfOk result (λ r. r.1.items ≡ idle_from r.0.word.shared.table_id 0 workers) }
         ensures len { IfOk result (λ r. vec_len r.1 ≡ workers) }
     {
-        Shared::with_shares(alloc, list, workers, takes, settles, publishes, unspent)
-            .map_err(|_| NoMemory)
+        Shared::with_shares(alloc, list, workers, takes, settles, publishes, unspent).map_err(
+            |_| NoMemory,
+        )
     }
 
     fn with_shares(
