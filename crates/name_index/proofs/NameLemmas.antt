@@ -9,7 +9,7 @@ use Rattle.std.proofs.lemmas.List.Elements.{Contains-get_or}
 use Rattle.std.proofs.lemmas.List.Quantifiers.{position-Some}
 use Rattle.std.proofs.lemmas.Slice.Eq.{bytes_eq-Decides}
 use Rattle.netlist.proofs.Lists.{any_true, any_from}
-use Rattle.name_index.specs.Keys.{bytes_of}
+use Rattle.name_index.specs.inner.Keys.{bytes_of}
 
 bytes_at : (keys : List (Bor (List ℕ))) (j : ℕ) (k : Bor (List ℕ)) (d : List ℕ) → j < length keys → get_or (bytes_of keys) j d ≡ (get_or keys j k).now
 bytes_at keys j k d l = get_or-map (λ (key : Bor (List ℕ)). key.now) keys j k d l

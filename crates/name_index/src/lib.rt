@@ -3,7 +3,7 @@
 
 ghost use Rattle.std.specs.Prelude.{◌≡◌, ◌≢◌, ◌<◌, ℕ, IfOk, MatchOption};
 ghost use Rattle.netlist.specs.Netlist.{name_of, signal_count};
-ghost use Rattle.name_index.specs.Keys.{AreNames};
+ghost use Rattle.name_index.specs.inner.Keys.{AreNames};
 
 use indexmap::IndexSet;
 use netlist::{Netlist, NoMemory, SignalId};
@@ -19,7 +19,7 @@ pub struct NameIndex<'a> {
 
 impl<'a> Model for NameIndex<'a> {
     ghost use Rattle.netlist.specs.Netlist.{Netlist};
-    ghost use Rattle.name_index.specs.Keys.{AreNames};
+    ghost use Rattle.name_index.specs.inner.Keys.{AreNames};
 
     ghost Value = { Netlist };
 

@@ -1,5 +1,6 @@
 use Rattle.std.proofs.Common.{◌<◌, ◌+◌, ℕ, List, ap, ◌∙◌, length, get_or, arith}
 use Rattle.std.proofs.lemmas.List.{get_or_read}
+use Rattle.std.proofs.lemmas.Grind.{common_steps}
 use Rattle.netlist.specs.Netlist.{Definition}
 use Rattle.netlist.proofs.Placed.{signals_length}
 use Rattle.netlist.proofs.Orders.{gates_few, gate_below, place_more, all_placed}
@@ -31,6 +32,9 @@ index_mut-requires c =
     let b = ap (λ (xs : List Definition). length xs) c.definitions.ensures in
     let v = c.loop-k.places.ok.0 in
     omega arith
+
+pub loop-k-init : goal.loop-k-init
+loop-k-init c = grind (arith, common_steps)
 
 pub loop-k-preserved : goal.loop-k-preserved
 loop-k-preserved c =

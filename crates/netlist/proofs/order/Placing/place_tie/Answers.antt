@@ -1,4 +1,5 @@
 use Rattle.std.proofs.Common.{◌≡◌, ◌<◌, ◌∙◌, length, get_or, arith}
+use Rattle.std.proofs.lemmas.Grind.{common_steps}
 use Rattle.netlist.proofs.Lists.{read_at}
 use Rattle.netlist.proofs.Ties.{tie_placed}
 use Rattle.netlist.proofs.order.Placing.place_tie.Goals as goal
@@ -14,3 +15,6 @@ returns-in_ok-place c =
     let count : get_or p.counts.items z 0 ≡ 0 =
     read_at p.counts.items c.index-then-index-eq0.result z c.index-then-index-eq0-2.result.now c.index-then-index-eq0.ensures within c.index-then-index-eq0-2.ensures ∙ c.if-index-eq0-2.true in
     tie_placed p c.place.new.self z c.requires.room c.requires.within rank count c.in_ok-place.ensures
+
+pub returns-else-index-eq0 : goal.returns-else-index-eq0
+returns-else-index-eq0 c = grind (arith, common_steps)
