@@ -85,6 +85,18 @@ undone_ready {V} n order places fans marks values values' trail trail' capacity 
       room = subst (λ k. length (signals n) + 1 ≤ k) (sym room) h.room;
     }
 
+pub forgotten_ready : {V : Type 0} (n : Netlist) (order places : List ℕ) (fans : List (List ℕ)) (marks : List Bool) (values : List V) (trail trail' : List (Change V)) (capacity capacity' mark : ℕ)
+    → AreReady n order places fans marks values trail capacity → trail' ≡ take mark trail → capacity' ≡ capacity
+    → AreReady n order places fans marks values trail' capacity'
+forgotten_ready {V} n order places fans marks values trail trail' capacity capacity' mark h cut room = record {
+  tables = h.tables;
+  marks_size = h.marks_size;
+  clear = h.clear;
+  size = h.size;
+  within = subst (All (λ (c : Change V). c.signal < length values)) (sym cut) (All-take (λ (c : Change V). c.signal < length values) mark trail h.within);
+  room = subst (λ k. length (signals n) + 1 ≤ k) (sym room) h.room;
+}
+
 -- ---- a line stuck
 
 one_site : (line : Line) (x y : ℕ) → is_at line x ≡ true → is_at line y ≡ true → x ≡ y

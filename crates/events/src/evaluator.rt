@@ -178,6 +178,13 @@ impl<'a, V: Copy + Drop> Events<'a, V> {
         undo(&mut self.trail, mark, &mut self.values);
     }
 
+    /// Takes the changes from a mark on off the trail: they can't be taken back.
+    pub fn forget_from(&mut self, mark: usize)
+        ensures { self.new ≡ record self.old { trail = take mark self.old.trail } }
+    {
+        self.trail.truncate(mark);
+    }
+
     /// Empties the trail: the values as they stand can't be taken back.
     pub fn forget(&mut self)
         ensures { self.new ≡ record self.old { trail = [] } }

@@ -1,0 +1,12 @@
+pub mod Ranks
+pub mod Counts
+pub mod Free
+pub mod Noting
+pub mod Clashes
+pub mod Decisions
+pub mod Rows
+pub mod Assigning
+pub mod Undoing
+pub mod Sights
+pub mod StoreLemmas
+pub mod StateLemmas

@@ -1,0 +1,11 @@
+use Rattle.std.proofs.Common.{ℕ, take}
+use Rattle.std.specs.List.{flat_map}
+use Rattle.netlist.specs.Netlist.{cells}
+use Rattle.netlist.specs.Settled.{at, pins_of}
+use Rattle.tri.specs.Labels.{Decisions, labels}
+use Rattle.pair_sim.specs.inner.Levels.{blank}
+use Rattle.pair_sim.specs.inner.Points.{IsSight}
+use Rattle.pair_sim.proofs.points.sight_at_cells.Given as goal
+
+abbrev pub invariant-loop-k : goal.invariant-loop-k
+invariant-loop-k l = (path : Decisions) → IsSight (flat_map (pins_of (labels l.fault path) (at l.values blank)) (take l.k (cells l.netlist))) l.sight

@@ -1,0 +1,3 @@
+pub mod Sims
+pub mod Laws
+pub mod inner

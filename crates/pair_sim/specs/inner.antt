@@ -1,0 +1,5 @@
+-- What this crate's own proofs cite, and no public contract.
+pub mod Levels
+pub mod Points
+pub mod Steps
+pub mod Stored

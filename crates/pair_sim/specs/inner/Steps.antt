@@ -1,0 +1,47 @@
+-- What is done after the labels of a decision were worked out, and to take it back.
+use Rattle.std.specs.Prelude.{ℕ, ◌≡◌, ◌⊎◌, ◌++◌, Bool, false, true, List, map, take, drop, length, slice_set, Option, None}
+use Rattle.std.specs.List.{list_any}
+use Rattle.netlist.specs.declared.kinds.Tri.TheVariants.{X}
+use Rattle.netlist.specs.declared.lines.Fault.{Fault}
+use Rattle.tri.specs.declared.labels.Label.{Label}
+use Rattle.tri.specs.declared.labelling.Labelling.{Labelling}
+use Rattle.tri.specs.Labels.{labels, label_of}
+use Rattle.tri.specs.Labelling.{decided_in}
+use Rattle.events.specs.declared.trails.Change.{Change}
+use Rattle.events.specs.Standing.{Standing, Moves, SettlesAnew}
+use Rattle.events.specs.Trails.{undone}
+use Rattle.pair_sim.specs.inner.Levels.{clashes_at}
+
+-- the decided bit of a signal changed, and the labels settled anew
+pub record IsRelabelled (x : ℕ) (decision : Option Bool) (old new : Labelling) (s s' : Standing Label) : Type 0 where
+  pub moves : Moves s s'
+  pub settles : SettlesAnew (labels new.fault (decided_in new.decided.items)) s.netlist x (label_of decision X X false) s.values s'.values
+  pub row : new.decided.items ≡ slice_set old.decided.items x decision
+  pub fault : new.fault ≡ old.fault
+
+-- a decision is contradicted: the trail has nothing of the last one
+pub record IsForgotten (was : Bool) (row : List (Option Bool)) (mark : ℕ) (s s' : Standing Label) (names names' : List ℕ) : Type 0 where
+  pub is : s' ≡ record s { trail = take mark s.trail }
+  pub names_are : names' ≡ names
+  pub cause : (was ≡ true) ⊎ (list_any (clashes_at row s.values) (drop mark s.trail) ≡ true)
+
+-- none is: the signals whose labels changed are named
+pub record IsNamed (was : Bool) (row : List (Option Bool)) (mark : ℕ) (s s' : Standing Label) (names names' : List ℕ) : Type 0 where
+  pub is : s' ≡ s
+  pub names_are : names' ≡ names ++ map (λ (c : Change Label). c.signal) (drop mark s.trail)
+  pub possible : was ≡ false
+  pub none : list_any (clashes_at row s.values) (drop mark s.trail) ≡ false
+
+-- the trail is played back
+pub record IsPlayedBack (x mark : ℕ) (old new : Labelling) (s s' : Standing Label) (names names' : List ℕ) : Type 0 where
+  pub is : s' ≡ record s { values = undone (drop mark s.trail) s.values; trail = take mark s.trail }
+  pub row : new.decided.items ≡ slice_set old.decided.items x None
+  pub fault : new.fault ≡ old.fault
+  pub names_are : names' ≡ take mark names
+
+-- the labels settle anew, and what that put onto the trail is taken off
+pub record IsSettledBack (x mark : ℕ) (old new : Labelling) (s s' : Standing Label) (names names' : List ℕ) : Type 0 where
+  pub between : Standing Label
+  pub relabelled : IsRelabelled x None old new s between
+  pub is : s' ≡ record between { trail = take mark between.trail }
+  pub names_are : names' ≡ names

@@ -1,0 +1,13 @@
+//! Good and faulty values under a path of decisions.
+#![tactic(auto)]
+
+mod laws;
+mod levels;
+mod points;
+mod sims;
+mod states;
+mod steps;
+
+pub use laws::free_is_undecided;
+pub use sims::PairSim;
+pub use states::State;

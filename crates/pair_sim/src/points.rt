@@ -1,0 +1,126 @@
+//! What the labels at the observed points tell.
+ghost use Rattle.std.specs.Prelude.{◌≡◌, ◌<◌, ◌∷◌, ◌++◌, [], List, length, IsFalse, IsTrue, map, take};
+ghost use Rattle.std.specs.List.{flat_map};
+ghost use Rattle.netlist.specs.Conditions.{IsSound};
+ghost use Rattle.netlist.specs.Netlist.{signals};
+ghost use Rattle.netlist.specs.Settled.{at, outs, next};
+ghost use Rattle.tri.specs.declared.labels.Label.{Label as LabelOf};
+ghost use Rattle.tri.specs.Labels.{Decisions, labels};
+ghost use Rattle.tri.specs.Paths.{has_effect};
+ghost use Rattle.pair_sim.specs.inner.Levels.{blank};
+ghost use Rattle.pair_sim.specs.inner.Points.{IsSight, IsStateOf};
+
+use crate::states::State;
+use netlist::{Fault, Line, Netlist, Point, Tri};
+use tri::{Label, on_line};
+
+/// What points tell.
+#[derive(Clone, Copy)]
+pub(crate) enum Sight {
+    /// The first point whose two values are known and differ.
+    Effect(u32),
+    /// There is none, and some point may differ.
+    Differs,
+    /// No point may differ.
+    Same,
+}
+
+/// Whether both values are known and differ.
+fn has_effect(label: &Label) -> bool
+    ensures { result ≡ has_effect label.now }
+{
+    match label.good {
+        Tri::Zero => matches!(label.faulty, Tri::One),
+        Tri::One => matches!(label.faulty, Tri::Zero),
+        Tri::X => false,
+    }
+}
+
+/// One point more, which is number k.
+fn see(sight: Sight, k: u32, label: &Label) -> Sight
+    ensures { (labels : List LabelOf) → length labels ≡ k → IsSight labels sight → IsSight (labels ++ label.now ∷ []) result }
+{
+    match sight {
+        Sight::Effect(first) => Sight::Effect(first),
+        Sight::Differs => {
+            if has_effect(label) {
+                Sight::Effect(k)
+            } else {
+                Sight::Differs
+            }
+        }
+        Sight::Same => {
+            if has_effect(label) {
+                Sight::Effect(k)
+            } else if label.may_differ {
+                Sight::Differs
+            } else {
+                Sight::Same
+            }
+        }
+    }
+}
+
+/// What the outputs tell.
+pub(crate) fn sight_at_outputs(netlist: &Netlist, fault: &Option<Fault>, values: &[Label]) -> Sight
+    requires sound { IsSound netlist.now }
+    requires size { length values.now ≡ length (signals netlist.now) }
+    ensures { (path : Decisions) → IsSight (outs (labels fault.now path) netlist.now (at values.now blank)) result }
+{
+    let outputs = netlist.outputs();
+    let mut sight = Sight::Same;
+    for k in 0..outputs.len() {
+        let x = outputs[k];
+        let label = on_line(fault, &Line::Out(x), values[x.index()]);
+        sight = see(sight, k as u32, &label);
+    }
+    sight
+}
+
+/// What the cells' pins tell.
+pub(crate) fn sight_at_cells(netlist: &Netlist, fault: &Option<Fault>, values: &[Label]) -> Sight
+    requires sound { IsSound netlist.now }
+    requires size { length values.now ≡ length (signals netlist.now) }
+    ensures { (path : Decisions) → IsSight (next (labels fault.now path) netlist.now (at values.now blank)) result }
+{
+    let cells = netlist.cells();
+    let mut sight = Sight::Same;
+    for k in 0..cells.len() {
+        let cell = cells[k];
+        let pin = netlist.definition(cell).pins()[0];
+        let label = on_line(fault, &Line::Pin(cell, 0), values[pin.index()]);
+        sight = see(sight, k as u32, &label);
+    }
+    sight
+}
+
+/// Where a path stands.
+pub(crate) fn state_of(
+    netlist: &Netlist,
+    fault: &Option<Fault>,
+    values: &[Label],
+    contradicted: bool,
+) -> State
+    requires sound { IsSound netlist.now }
+    requires size { length values.now ≡ length (signals netlist.now) }
+    ensures { (path : Decisions) → IsStateOf contradicted
+        (outs (labels fault.now path) netlist.now (at values.now blank))
+        (next (labels fault.now path) netlist.now (at values.now blank)) result }
+{
+    if contradicted {
+        return State::Blocked;
+    }
+    match sight_at_outputs(netlist, fault, values) {
+        Sight::Effect(k) => State::Test(Point::Output(k)),
+        Sight::Differs => match sight_at_cells(netlist, fault, values) {
+            Sight::Effect(k) => State::Test(Point::Cell(k)),
+            Sight::Differs => State::Going,
+            Sight::Same => State::Going,
+        },
+        Sight::Same => match sight_at_cells(netlist, fault, values) {
+            Sight::Effect(k) => State::Test(Point::Cell(k)),
+            Sight::Differs => State::Going,
+            Sight::Same => State::Blocked,
+        },
+    }
+}
