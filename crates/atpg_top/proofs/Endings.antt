@@ -4,17 +4,17 @@ use Rattle.std.proofs.lemmas.Option.{none-some}
 use Rattle.words.specs.CommandLine.{CommandLine, command_line}
 use Rattle.commands.specs.World.{Text, World}
 use Rattle.commands.specs.declared.ending.Ending.{Ending}
-use Rattle.atpg_top.specs.Laws.{EndedSo}
+use Rattle.atpg_top.specs.Laws.{EndsBy}
 use Rattle.atpg_top.specs.Rows.{LineRow, TopRow, WordsRow}
 use Rattle.atpg_top.specs.declared.refusal.Refusal.{Refusal}
 use Rattle.atpg_top.specs.declared.status.Status.{Status}
 use Rattle.atpg_top.specs.declared.status.Status.TheVariants as status
 
 -- what holds of each ending with that row holds of the status
-pub ended_so : (P : Ending Refusal → Type 0) (words : List Text) (line : CommandLine) (a b : World) (s : Status) → command_line words ≡ Some line → TopRow words a b s
-    → ((e : Ending Refusal) → LineRow line a b e → P e) → EndedSo P s
-ended_so P words line a b (status.BadWords text) taken row each = absurd (none-some line (sym row.0 ∙ taken))
-ended_so P words line a b (status.Command e) taken row each = each e (subst (λ o. WordsRow o a b e) taken row)
+pub ends_by : (P : Ending Refusal → Type 0) (words : List Text) (line : CommandLine) (a b : World) (s : Status) → command_line words ≡ Some line → TopRow words a b s
+    → ((e : Ending Refusal) → LineRow line a b e → P e) → EndsBy P s
+ends_by P words line a b (status.BadWords text) taken row each = absurd (none-some line (sym row.0 ∙ taken))
+ends_by P words line a b (status.Command e) taken row each = each e (subst (λ o. WordsRow o a b e) taken row)
 
 -- a call that did what its words ask for
 pub row_of : (words : List Text) (line : CommandLine) (a b : World) (e : Ending Refusal) → command_line words ≡ Some line → LineRow line a b e → TopRow words a b (status.Command e)

@@ -5,7 +5,7 @@ use denote.Ref.{Bor}
 use Rattle.outside.specs.declared.refusal.WriteRefusal.{WriteRefusal}
 use Rattle.outside.specs.declared.refusal.WriteRefusal.TheVariants as write
 use Rattle.commands.specs.World.{Text}
-use Rattle.commands.specs.Pieces.{PutsText, joined}
+use Rattle.commands.specs.Pieces.{PutsText, join}
 use Rattle.atpg_top.specs.Rows.{IsSaid}
 
 pub said : (takes_memory : Bool) (line : Text) (a b : Option Text) (f g : ℕ) (r : Result Unit WriteRefusal) → PutsText a f b g line r → (r ≡ Err write.NoMemory → IsTrue takes_memory)
@@ -18,11 +18,11 @@ pub said_so : (takes_memory : Bool) (line other : Text) (a b : Option Text) (f g
 said_so takes_memory line other a b f g same h = subst (λ (t : Text). IsSaid takes_memory t a f b g) same h
 
 pub of_four : (ps : List (Bor Text)) (p q r s : Bor Text) (a b c d : Text) → ps ≡ p ∷ q ∷ r ∷ s ∷ [] → p.now ≡ a → q.now ≡ b → r.now ≡ c → s.now ≡ d
-    → joined ps ≡ a ++ (b ++ (c ++ (d ++ [])))
+    → join ps ≡ a ++ (b ++ (c ++ (d ++ [])))
 of_four ps p q r s a b c d is is-a is-b is-c is-d = rw (is, is-a, is-b, is-c, is-d) refl
 
 pub of_five : (ps : List (Bor Text)) (p q r s t : Bor Text) (a b c d e : Text) → ps ≡ p ∷ q ∷ r ∷ s ∷ t ∷ [] → p.now ≡ a → q.now ≡ b → r.now ≡ c → s.now ≡ d → t.now ≡ e
-    → joined ps ≡ a ++ (b ++ (c ++ (d ++ (e ++ []))))
+    → join ps ≡ a ++ (b ++ (c ++ (d ++ (e ++ []))))
 of_five ps p q r s t a b c d e is is-a is-b is-c is-d is-e = rw (is, is-a, is-b, is-c, is-d, is-e) refl
 
 -- a name in two parts, behind a text and in front of one

@@ -8,7 +8,7 @@ use Rattle.netlist.specs.Settled.{bits, outs}
 use Rattle.chain_stitch.specs.Chains.{chains_of, pieces, lengths_of}
 use Rattle.scan_insert.specs.Laws.{ScanBehaves, last_bits}
 use Rattle.scan_insert.specs.Scanned.{cell_ids}
-use Rattle.atpg_top.specs.Scans.{BehavesWithScanOff, stitched}
+use Rattle.atpg_top.specs.Scans.{BehavesWithScanOff, design_chains}
 
 none : (count : ℕ) → count ≡ 0 → pieces (lengths_of 0 count) [] ≡ []
 none count e = ap (λ c. pieces (lengths_of 0 c) []) e
@@ -21,7 +21,7 @@ chained : (ids : List ℕ) (asked : ℕ) (chain : List ℕ) (chains : List (List
 chained [] asked chain chains e = absurd (nil-cons (sym (none (min asked 0) (omega arith)) ∙ e))
 chained (x ∷ ids) asked chain chains e = omega arith
 
-pub behaves : ScanBehaves → (n : Netlist) (asked : ℕ) → IsSound n → 1 ≤ asked → (chains : List (List ℕ)) → stitched n asked ≡ chains → BehavesWithScanOff n chains
+pub behaves : ScanBehaves → (n : Netlist) (asked : ℕ) → IsSound n → 1 ≤ asked → (chains : List (List ℕ)) → design_chains n asked ≡ chains → BehavesWithScanOff n chains
 behaves law n asked sound some [] e = refl
 behaves law n asked sound some (chain ∷ chains) e = λ inputs state scan_inputs a b p q.
     let many : length (cell_ids n) ≡ length (cells n) = length-map (cells n) (λ d. d.id) in

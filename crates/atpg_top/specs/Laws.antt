@@ -4,7 +4,7 @@ use Rattle.outside.specs.Causes.{Rose}
 use Rattle.outside.specs.Shelf.{Files}
 use Rattle.words.specs.CommandLine.{CommandLine, command_line}
 use Rattle.commands.specs.World.{NoneFailed, Text, World}
-use Rattle.commands.specs.Fetched.{Whole, Missing, TooLong, fetch}
+use Rattle.commands.specs.Contents.{Whole, Missing, TooLong, contents_of}
 use Rattle.commands.specs.Due.{Refuse, Deliver}
 use Rattle.commands.specs.Laws.{IsEnded, IsExclusive, IsFailure, IsMissing, IsRefused, IsTooLong, OrFails}
 use Rattle.commands.specs.declared.ending.Finding.{Finding}
@@ -16,9 +16,9 @@ use Rattle.atpg_top.specs.declared.status.Status.{Status}
 use Rattle.atpg_top.specs.declared.status.Status.TheVariants as status
 
 -- the command ended so
-abbrev pub EndedSo : (Ending Refusal → Type 0) → Status → Type 0
-EndedSo P (status.Command e) = P e
-EndedSo P (status.BadWords text) = ⊥
+abbrev pub EndsBy : (Ending Refusal → Type 0) → Status → Type 0
+EndsBy P (status.Command e) = P e
+EndsBy P (status.BadWords text) = ⊥
 
 -- a call with a command line over files that are told
 pub record IsCall (words : List Text) (line : CommandLine) (files : Files) (a b : World) (s : Status) : Type 0 where
@@ -34,30 +34,30 @@ EachExclusive = (line : CommandLine) → IsExclusive (due line)
 abbrev pub MissingExactly : Type 0
 MissingExactly =
     (words : List Text) (line : CommandLine) (files : Files) (a b : World) (s : Status) (name : Text) → IsCall words line files a b s
-    → fetch files (reads line) ≡ Missing name → EndedSo (OrFails (IsMissing name) a b) s
+    → contents_of files (reads line) ≡ Missing name → EndsBy (OrFails (IsMissing name) a b) s
 
 -- the first file that can't be had is too long: status 8 with its name
 abbrev pub TooLongExactly : Type 0
 TooLongExactly =
     (words : List Text) (line : CommandLine) (files : Files) (a b : World) (s : Status) (name : Text) → IsCall words line files a b s
-    → fetch files (reads line) ≡ TooLong name → EndedSo (OrFails (IsTooLong name) a b) s
+    → contents_of files (reads line) ≡ TooLong name → EndsBy (OrFails (IsTooLong name) a b) s
 
 -- the texts are refused: the refusal's status
 abbrev pub RefusedExactly : Type 0
 RefusedExactly =
     (words : List Text) (line : CommandLine) (files : Files) (a b : World) (s : Status) (texts : List Text) (r : Refusal) → IsCall words line files a b s
-    → fetch files (reads line) ≡ Whole texts → due line texts (Refuse r) → EndedSo (OrFails (IsRefused r) a b) s
+    → contents_of files (reads line) ≡ Whole texts → due line texts (Refuse r) → EndsBy (OrFails (IsRefused r) a b) s
 
 -- A call of the shelf or the output failed: status 5 or 6, which says whose.
 abbrev pub FailedExactly : Type 0
 FailedExactly =
     (words : List Text) (line : CommandLine) (a b : World) (s : Status) → command_line words ≡ Some line → TopRow words a b s
-    → ¬ NoneFailed a b → EndedSo (IsFailure a b) s
+    → ¬ NoneFailed a b → EndsBy (IsFailure a b) s
 
 -- Nothing is in the way, and no count rose: the command did its work, or memory was refused.
 abbrev pub NothingElse : Type 0
 NothingElse =
     (words : List Text) (line : CommandLine) (files : Files) (a b : World) (s : Status) (texts made : List Text) (shown : Text) (finding : Finding)
     → IsCall words line files a b s
-    → fetch files (reads line) ≡ Whole texts → due line texts (Deliver made shown finding)
-    → ¬ Rose a.shelf_failures b.shelf_failures → ¬ Rose a.out_failures b.out_failures → EndedSo (OrFails (IsEnded finding) a b) s
+    → contents_of files (reads line) ≡ Whole texts → due line texts (Deliver made shown finding)
+    → ¬ Rose a.shelf_failures b.shelf_failures → ¬ Rose a.out_failures b.out_failures → EndsBy (OrFails (IsEnded finding) a b) s

@@ -7,8 +7,8 @@ use Rattle.scan_insert.specs.Scanned.{cell_ids, scanned_of}
 use Rattle.bench_text.specs.Canonical.{canonical}
 
 -- the chains of a design, at most so many as are asked for
-abbrev pub stitched : Netlist → ℕ → List (List ℕ)
-stitched n asked = chains_of (cell_ids n) asked
+abbrev pub design_chains : Netlist → ℕ → List (List ℕ)
+design_chains n asked = chains_of (cell_ids n) asked
 
 -- `cells 3 chains 1`
 abbrev pub scan_line : Netlist → List (List ℕ) → List ℕ
@@ -27,6 +27,6 @@ BehavesWithScanOff n (chain ∷ chains) =
 
 -- the text that is written and the line that is printed, and that the netlist of the text can be trusted
 pub record IsScanProduct (n : Netlist) (asked : ℕ) (text line : List ℕ) : Type 0 where
-  pub text_is : text ≡ canonical (scanned_of n (stitched n asked))
-  pub line_is : line ≡ scan_line n (stitched n asked)
-  pub behaves : BehavesWithScanOff n (stitched n asked)
+  pub text_is : text ≡ canonical (scanned_of n (design_chains n asked))
+  pub line_is : line ≡ scan_line n (design_chains n asked)
+  pub behaves : BehavesWithScanOff n (design_chains n asked)

@@ -1,7 +1,7 @@
 //! The design that a command reads.
 ghost use Rattle.std.specs.Prelude.{◌≡◌, ◌≤◌, length};
 ghost use Rattle.std.specs.List.{All};
-ghost use Rattle.commands.specs.Fetched.{most_bytes};
+ghost use Rattle.commands.specs.Contents.{most_bytes};
 ghost use Rattle.commands.specs.Names.{texts_of};
 ghost use Rattle.atpg_top.specs.inner.Designs.{ReadsDesign};
 

@@ -2,7 +2,7 @@
 //! told can't turn a status into another.
 ghost use Rattle.std.specs.Prelude.{◌≡◌, ◌++◌, codes};
 ghost use Rattle.commands.specs.Names.{name_of};
-ghost use Rattle.commands.specs.Pieces.{joined};
+ghost use Rattle.commands.specs.Pieces.{join};
 ghost use Rattle.atpg_top.specs.Lines.{failure_line, kind_name, netlist_line, refusal_line};
 ghost use Rattle.atpg_top.specs.Rows.{ErrRow, IsSaid};
 
@@ -15,7 +15,7 @@ use outside::Sink;
 
 /// Puts a line in these pieces, as far as the output takes it.
 fn say<E: Sink>(err: &mut E, pieces: &[&[u8]])
-    ensures { IsSaid E.takes_memory (joined pieces.now) (E.taken err.old) (E.failures err.old) (E.taken err.new) (E.failures err.new) }
+    ensures { IsSaid E.takes_memory (join pieces.now) (E.taken err.old) (E.failures err.old) (E.taken err.new) (E.failures err.new) }
 {
     let _ = put_pieces(err, pieces);
 }

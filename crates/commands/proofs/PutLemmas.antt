@@ -10,7 +10,7 @@ use Rattle.outside.specs.Sink.{Puts}
 use Rattle.outside.specs.declared.refusal.WriteRefusal.{WriteRefusal}
 use Rattle.outside.specs.declared.refusal.WriteRefusal.TheVariants as write
 use Rattle.commands.specs.World.{Text, Grows, GrowsInPart}
-use Rattle.commands.specs.Pieces.{IsPut, PutsText, Waits, joined}
+use Rattle.commands.specs.Pieces.{IsPut, PutsText, Waits, join}
 use Rattle.commands.proofs.ReadLemmas.{take_get}
 
 -- one more line waits
@@ -104,13 +104,13 @@ pieces_refused a b c f g h text piece now more all e w same is then p cause =
     line_refused a b c f g h text [] piece now more all e w same is then (one_put b c piece (Err e) p, cause)
 
 -- one more piece
-pub joined_more : (pieces : List (Bor Text)) (i : ℕ) (d : Bor Text) → i < length pieces → joined (take i pieces) ++ (get_or pieces i d).now ≡ joined (take (i + 1) pieces)
-joined_more pieces i d h =
+pub join_more : (pieces : List (Bor Text)) (i : ℕ) (d : Bor Text) → i < length pieces → join (take i pieces) ++ (get_or pieces i d).now ≡ join (take (i + 1) pieces)
+join_more pieces i d h =
     let piece = get_or pieces i d in
-    ap (λ t. joined (take i pieces) ++ t) (sym (append-nil piece.now))
+    ap (λ t. join (take i pieces) ++ t) (sym (append-nil piece.now))
     ∙ (sym (flat_map-append (λ (p : Bor Text). p.now) (take i pieces) (piece ∷ []))
-    ∙ ap joined (sym (take_get pieces i piece (slice_get-get_or pieces i d h))))
+    ∙ ap join (sym (take_get pieces i piece (slice_get-get_or pieces i d h))))
 
-pub joined_whole : (pieces : List (Bor Text)) (i : ℕ) → joined (take i pieces) ++ joined (drop i pieces) ≡ joined pieces
-joined_whole pieces i =
-    sym (flat_map-append (λ (p : Bor Text). p.now) (take i pieces) (drop i pieces)) ∙ ap joined (take-append-drop i pieces)
+pub join_whole : (pieces : List (Bor Text)) (i : ℕ) → join (take i pieces) ++ join (drop i pieces) ≡ join pieces
+join_whole pieces i =
+    sym (flat_map-append (λ (p : Bor Text). p.now) (take i pieces) (drop i pieces)) ∙ ap join (take-append-drop i pieces)

@@ -10,7 +10,7 @@ use Rattle.std.proofs.lemmas.Option.{slice_get-map, slice_get-get_or}
 use Rattle.outside.specs.Shelf.{Files}
 use Rattle.outside.specs.Told.{OnTold}
 use Rattle.commands.specs.World.{Text}
-use Rattle.commands.specs.Fetched.{AreRead, IsReached, Fetched, Whole, Missing, TooLong, fetch, fetched_at, with_first, most_bytes}
+use Rattle.commands.specs.Contents.{AreRead, IsReached, Contents, Whole, Missing, TooLong, contents_of, contents_at, with_first, most_bytes}
 use Rattle.commands.specs.Names.{name_of, names_of, texts_of}
 use Rattle.commands.specs.Reads.{NoFiles}
 use Rattle.commands.specs.inner.Steps.{NoFile}
@@ -34,7 +34,7 @@ name_here names i d h = slice_get-map _ names i ∙ ap (option_map name_of) (sli
 -- ---- reading
 
 -- the first text is that of the first file
-pub record Begins (name : Text) (file : Option Text) (rest : Fetched) (texts : List Text) : Type 0 where
+pub record Begins (name : Text) (file : Option Text) (rest : Contents) (texts : List Text) : Type 0 where
   pub bytes : Text
   pub others : List Text
   pub held : file ≡ Some bytes
@@ -45,7 +45,7 @@ pub record Begins (name : Text) (file : Option Text) (rest : Fetched) (texts : L
 same_texts : (a b : List Text) → Whole a ≡ Whole b → b ≡ a
 same_texts a b e = cc
 
-begins_if : (test : Bool) (name bytes : Text) (rest : Fetched) (texts : List Text) → nat_lt most_bytes (length bytes) ≡ test
+begins_if : (test : Bool) (name bytes : Text) (rest : Contents) (texts : List Text) → nat_lt most_bytes (length bytes) ≡ test
     → (if test then TooLong name else with_first bytes rest) ≡ Whole texts → Begins name (Some bytes) rest texts
 begins_if true name bytes rest texts t e = cc
 begins_if false name bytes (Missing other) texts t e = cc
@@ -53,39 +53,39 @@ begins_if false name bytes (TooLong other) texts t e = cc
 begins_if false name bytes (Whole others) texts t e =
     record { bytes = bytes; others = others; held = refl; few = t; rest_is = refl; texts_are = same_texts (bytes ∷ others) texts e }
 
-pub begins : (name : Text) (file : Option Text) (rest : Fetched) (texts : List Text) → fetched_at name file rest ≡ Whole texts → Begins name file rest texts
+pub begins : (name : Text) (file : Option Text) (rest : Contents) (texts : List Text) → contents_at name file rest ≡ Whole texts → Begins name file rest texts
 begins name None rest texts e = cc
 begins name (Some bytes) rest texts e = begins_if (nat_lt most_bytes (length bytes)) name bytes rest texts refl e
 
--- a file in front of files that are fetched or not
-pub fetched_first : (name : Text) (file : Option Text) (bytes : Text) (rest : Fetched) → file ≡ Some bytes → nat_lt most_bytes (length bytes) ≡ false
-    → fetched_at name file rest ≡ with_first bytes rest
-fetched_first name file bytes rest e few = rw (e, few) refl
+-- a file in front of others
+pub contents_first : (name : Text) (file : Option Text) (bytes : Text) (rest : Contents) → file ≡ Some bytes → nat_lt most_bytes (length bytes) ≡ false
+    → contents_at name file rest ≡ with_first bytes rest
+contents_first name file bytes rest e few = rw (e, few) refl
 
--- what is fetched of names of which the first are whole
-pub fetch_append : (c : Files) (names more : List Text) (texts : List Text) (end : Fetched) (name : Text) → fetch c names ≡ Whole texts
-    → fetch c more ≡ end → ((t : List Text) → end ≡ Whole t → fetch c (names ++ more) ≡ Whole (texts ++ t)) × (end ≡ Missing name → fetch c (names ++ more) ≡ Missing name)
-    × (end ≡ TooLong name → fetch c (names ++ more) ≡ TooLong name)
-fetch_append c [] more texts end name e f =
+-- the contents of names of which the first are whole
+pub contents_append : (c : Files) (names more : List Text) (texts : List Text) (end : Contents) (name : Text) → contents_of c names ≡ Whole texts
+    → contents_of c more ≡ end → ((t : List Text) → end ≡ Whole t → contents_of c (names ++ more) ≡ Whole (texts ++ t)) × (end ≡ Missing name → contents_of c (names ++ more) ≡ Missing name)
+    × (end ≡ TooLong name → contents_of c (names ++ more) ≡ TooLong name)
+contents_append c [] more texts end name e f =
     let none : texts ≡ [] = same_texts [] texts e in
     (λ t w. f ∙ w ∙ ap (λ l. Whole (l ++ t)) (sym none), λ m. f ∙ m, λ l. f ∙ l)
-fetch_append c (x ∷ xs) more texts end name e f =
-    let b = begins x (c x) (fetch c xs) texts e in
-    let rest = fetch_append c xs more b.others end name b.rest_is f in
-    let first = fetched_first x (c x) b.bytes (fetch c (xs ++ more)) b.held b.few in (
+contents_append c (x ∷ xs) more texts end name e f =
+    let b = begins x (c x) (contents_of c xs) texts e in
+    let rest = contents_append c xs more b.others end name b.rest_is f in
+    let first = contents_first x (c x) b.bytes (contents_of c (xs ++ more)) b.held b.few in (
       λ t w. first ∙ ap (with_first b.bytes) (rest.0 t w) ∙ ap (λ l. Whole (l ++ t)) (sym b.texts_are),
       λ m. first ∙ ap (with_first b.bytes) (rest.1 m),
       λ l. first ∙ ap (with_first b.bytes) (rest.2 l),
     )
 
-fetch_one : (c : Files) (name bytes : Text) → c name ≡ Some bytes → length bytes ≤ most_bytes → fetch c (name ∷ []) ≡ Whole (bytes ∷ [])
-fetch_one c name bytes held few = fetched_first name (c name) bytes (Whole []) held (le-ltb most_bytes (length bytes) few)
+contents_one : (c : Files) (name bytes : Text) → c name ≡ Some bytes → length bytes ≤ most_bytes → contents_of c (name ∷ []) ≡ Whole (bytes ∷ [])
+contents_one c name bytes held few = contents_first name (c name) bytes (Whole []) held (le-ltb most_bytes (length bytes) few)
 
-told_more : (files : Option Files) (names texts : List Text) (name bytes : Text) → OnTold files (λ c. fetch c names ≡ Whole texts)
-    → OnTold files (λ c. c name ≡ Some bytes) → length bytes ≤ most_bytes → OnTold files (λ c. fetch c (names ++ name ∷ []) ≡ Whole (texts ++ bytes ∷ []))
+told_more : (files : Option Files) (names texts : List Text) (name bytes : Text) → OnTold files (λ c. contents_of c names ≡ Whole texts)
+    → OnTold files (λ c. c name ≡ Some bytes) → length bytes ≤ most_bytes → OnTold files (λ c. contents_of c (names ++ name ∷ []) ≡ Whole (texts ++ bytes ∷ []))
 told_more None names texts name bytes before held few = tt
 told_more (Some c) names texts name bytes before held few =
-    (fetch_append c names (name ∷ []) texts (Whole (bytes ∷ [])) name before (fetch_one c name bytes held few)).0 (bytes ∷ []) refl
+    (contents_append c names (name ∷ []) texts (Whole (bytes ∷ [])) name before (contents_one c name bytes held few)).0 (bytes ∷ []) refl
 
 All-one : {X : Type 0} (P : X → Type 0) (x : X) → P x → All P (x ∷ [])
 All-one P x p = All-cons P x [] p (All-nil P)

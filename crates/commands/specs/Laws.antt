@@ -4,7 +4,7 @@ use Rattle.std.specs.Prelude.{◌≡◌, ⊤, List, Some}
 use Rattle.outside.specs.Causes.{Rose}
 use Rattle.outside.specs.Shelf.{Files}
 use Rattle.commands.specs.World.{NoneFailed, OutFailed, ShelfFailed, Text, World}
-use Rattle.commands.specs.Fetched.{Whole, Missing, TooLong, fetch}
+use Rattle.commands.specs.Contents.{Whole, Missing, TooLong, contents_of}
 use Rattle.commands.specs.Names.{name_of}
 use Rattle.commands.specs.Due.{Due, Refuse, Deliver}
 use Rattle.commands.specs.Rows.{CommandRow}
@@ -61,19 +61,19 @@ module _ {R : Type 0} (due : List Text → Due R → Type 0) where
   abbrev pub MissingExactly : Type 0
   MissingExactly =
       (reads writes : List Text) (files : Files) (a b : World) (e : Ending R) (name : Text) → IsCall reads writes due files a b e
-      → fetch files reads ≡ Missing name → OrFails (IsMissing name) a b e
+      → contents_of files reads ≡ Missing name → OrFails (IsMissing name) a b e
 
   -- the first file that can't be had is too long
   abbrev pub TooLongExactly : Type 0
   TooLongExactly =
       (reads writes : List Text) (files : Files) (a b : World) (e : Ending R) (name : Text) → IsCall reads writes due files a b e
-      → fetch files reads ≡ TooLong name → OrFails (IsTooLong name) a b e
+      → contents_of files reads ≡ TooLong name → OrFails (IsTooLong name) a b e
 
   -- the texts are refused
   abbrev pub RefusedExactly : Type 0
   RefusedExactly =
       (reads writes : List Text) (files : Files) (a b : World) (e : Ending R) (texts : List Text) (r : R) → IsCall reads writes due files a b e
-      → fetch files reads ≡ Whole texts → IsExclusive due → due texts (Refuse r) → OrFails (IsRefused r) a b e
+      → contents_of files reads ≡ Whole texts → IsExclusive due → due texts (Refuse r) → OrFails (IsRefused r) a b e
 
   -- a call of the shelf or the output failed: the command says whose
   abbrev pub FailedExactly : Type 0
@@ -85,5 +85,5 @@ module _ {R : Type 0} (due : List Text → Due R → Type 0) where
   NothingElse =
       (reads writes : List Text) (files : Files) (a b : World) (e : Ending R) (texts : List Text) (made : List Text) (shown : Text) (finding : Finding)
       → IsCall reads writes due files a b e
-      → fetch files reads ≡ Whole texts → IsExclusive due → due texts (Deliver made shown finding)
+      → contents_of files reads ≡ Whole texts → IsExclusive due → due texts (Deliver made shown finding)
       → ¬ Rose a.shelf_failures b.shelf_failures → ¬ Rose a.out_failures b.out_failures → OrFails (IsEnded finding) a b e

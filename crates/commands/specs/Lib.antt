@@ -1,6 +1,6 @@
 pub mod World
 pub mod Pieces
-pub mod Fetched
+pub mod Contents
 pub mod Written
 pub mod Names
 pub mod Due

@@ -8,8 +8,8 @@ use Rattle.outside.specs.declared.refusal.WriteRefusal.{WriteRefusal}
 use Rattle.commands.specs.World.{Text, Grows, GrowsInPart}
 
 -- the text that the pieces make
-abbrev pub joined : List (Bor Text) → Text
-joined pieces = flat_map (λ p. p.now) pieces
+abbrev pub join : List (Bor Text) → Text
+join pieces = flat_map (λ p. p.now) pieces
 
 -- the text is put, or a prefix of it where the sink failed or was refused memory
 abbrev pub IsPut : Option Text → Option Text → Text → Result Unit WriteRefusal → Type 0

@@ -5,7 +5,7 @@ use Rattle.outside.specs.Causes.{Rose}
 use Rattle.outside.specs.Shelf.{Files}
 use Rattle.outside.specs.Told.{OnTold}
 use Rattle.commands.specs.World.{Text}
-use Rattle.commands.specs.Fetched.{AreRead, IsReached, IsLonger}
+use Rattle.commands.specs.Contents.{AreRead, IsReached, IsLonger}
 use Rattle.commands.specs.Names.{name_of, texts_of}
 use Rattle.commands.specs.declared.ending.Ending.{Ending}
 use Rattle.commands.specs.declared.ending.Ending.TheVariants as ending

@@ -4,7 +4,7 @@ use Rattle.std.specs.Prelude.{◌≡◌, ◌⊎◌, List, None}
 use Rattle.std.specs.List.{zip}
 use Rattle.outside.specs.Told.{Both, OnTold}
 use Rattle.commands.specs.World.{Grows, GrowsInPart, IsAsBefore, IsUntouched, NoneFailed, OutFailed, ShelfFailed, Text, World}
-use Rattle.commands.specs.Fetched.{AreRead, IsReached, IsLonger}
+use Rattle.commands.specs.Contents.{AreRead, IsReached, IsLonger}
 use Rattle.commands.specs.Written.{AreFirstWritten, AreWrittenUpTo, LeavesFiles}
 use Rattle.commands.specs.Names.{name_of}
 use Rattle.commands.specs.Due.{Due, Refuse, Deliver}

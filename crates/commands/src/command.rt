@@ -3,7 +3,7 @@ ghost use Rattle.std.specs.Prelude.{◌≡◌, ◌≤◌, ℕ, List, length};
 ghost use Rattle.std.specs.List.{All};
 ghost use Rattle.commands.specs.World.{Text, world};
 ghost use Rattle.commands.specs.Names.{names_of, texts_of};
-ghost use Rattle.commands.specs.Fetched.{most_bytes};
+ghost use Rattle.commands.specs.Contents.{most_bytes};
 ghost use Rattle.commands.specs.Due.{Due};
 ghost use Rattle.commands.specs.Worked.{IsWorked};
 ghost use Rattle.commands.specs.Rows.{CommandRow};

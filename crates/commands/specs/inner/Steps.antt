@@ -6,7 +6,7 @@ use Rattle.outside.specs.Causes.{Rose}
 use Rattle.outside.specs.Shelf.{Files, Holds, SameFiles}
 use Rattle.outside.specs.Told.{Both, OnTold}
 use Rattle.commands.specs.World.{Text}
-use Rattle.commands.specs.Fetched.{IsLonger, most_bytes}
+use Rattle.commands.specs.Contents.{IsLonger, most_bytes}
 use Rattle.commands.specs.Written.{AreFirstWritten, AreWrittenUpTo, LeavesFiles}
 use Rattle.commands.specs.Names.{name_of}
 use Rattle.commands.specs.declared.ending.WriteFailure.TheVariants as failure

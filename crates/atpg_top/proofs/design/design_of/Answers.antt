@@ -4,7 +4,7 @@ use Rattle.std.specs.declared.alloc.Global.{Global}
 use Rattle.std.proofs.lemmas.List.Elements.{All-head}
 use Rattle.bench_text.proofs.TextLemmas.{lines-length}
 use Rattle.commands.specs.Names.{texts_of}
-use Rattle.commands.specs.Fetched.{most_bytes}
+use Rattle.commands.specs.Contents.{most_bytes}
 use Rattle.atpg_top.proofs.design.design_of.Goals as goal
 
 first_short : (vs : List (Vec ℕ Global)) (v d : Vec ℕ Global) → length vs ≡ 1 → v ≡ get_or vs 0 d → All (λ text. length text ≤ most_bytes) (texts_of vs) → length v.items ≤ most_bytes

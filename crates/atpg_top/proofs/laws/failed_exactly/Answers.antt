@@ -1,9 +1,9 @@
 use Rattle.commands.specs.Laws.{IsFailure}
 use Rattle.commands.proofs.Exclusive.{failed_exactly as law}
 use Rattle.atpg_top.specs.Commands.{due, reads, writes}
-use Rattle.atpg_top.proofs.Endings.{ended_so}
+use Rattle.atpg_top.proofs.Endings.{ends_by}
 use Rattle.atpg_top.proofs.laws.failed_exactly.Goals as goal
 
 pub returns : goal.returns
 returns c words line a b s taken row some =
-    ended_so (IsFailure a b) words line a b s taken row (λ e r. law (due line) (reads line) (writes line) a b e r some)
+    ends_by (IsFailure a b) words line a b s taken row (λ e r. law (due line) (reads line) (writes line) a b e r some)

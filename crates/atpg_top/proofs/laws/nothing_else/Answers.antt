@@ -1,11 +1,11 @@
 use Rattle.commands.proofs.Exclusive.{nothing_else as law}
 use Rattle.commands.specs.Laws.{OrFails, IsEnded}
 use Rattle.atpg_top.specs.Commands.{due, reads, writes}
-use Rattle.atpg_top.proofs.Endings.{ended_so}
+use Rattle.atpg_top.proofs.Endings.{ends_by}
 use Rattle.atpg_top.proofs.Exclusive.{each_exclusive}
 use Rattle.atpg_top.proofs.laws.nothing_else.Goals as goal
 
 pub returns : goal.returns
 returns c words line files a b s texts made shown finding call whole work no_shelf no_out =
-    ended_so (OrFails (IsEnded finding) a b) words line a b s call.taken call.row
+    ends_by (OrFails (IsEnded finding) a b) words line a b s call.taken call.row
     (λ e row. law (due line) (reads line) (writes line) files a b e texts made shown finding (record { told = call.told; row = row }) whole (each_exclusive line) work no_shelf no_out)

@@ -2,7 +2,7 @@ use Rattle.std.proofs.Common.{◌≡◌, ℕ, List, ap, ◌∙◌, length, refl,
 use Rattle.bench_text.specs.Canonical.{canonical}
 use Rattle.chain_stitch.specs.Chains.{chains_of}
 use Rattle.scan_insert.specs.Scanned.{Insertion, scanned_of}
-use Rattle.atpg_top.specs.Scans.{stitched}
+use Rattle.atpg_top.specs.Scans.{design_chains}
 use Rattle.netlist.proofs.Settling.{cells_distinct}
 use Rattle.atpg_top.proofs.Cells.{few_cells, cell_count, line_same}
 use Rattle.atpg_top.proofs.ScanOff.{behaves}
@@ -24,13 +24,13 @@ insert-requires-clause-chains c =
 pub returns-in-Ok : goal.returns-in-Ok
 returns-in-Ok c =
     let n = c.args.netlist.now in
-    let chains_are : c.in_ok-chains.chains ≡ stitched n c.args.asked =
+    let chains_are : c.in_ok-chains.chains ≡ design_chains n c.args.asked =
     c.in_ok-chains.ensures ∙ ap (λ (ids : List ℕ). chains_of ids c.args.asked) c.cells.ensures in
-    let scanned_is : c.in_ok-scanned.scanned.netlist ≡ scanned_of n (stitched n c.args.asked) =
+    let scanned_is : c.in_ok-scanned.scanned.netlist ≡ scanned_of n (design_chains n c.args.asked) =
     ap (λ (i : Insertion). i.netlist) c.in_ok-scanned.ensures ∙ ap (scanned_of n) chains_are in
     record {
       text_is = c.in_ok-text.ensures ∙ ap canonical (c.netlist.ensures ∙ scanned_is);
-      line_is = c.in-Ok.ensures ∙ line_same n (stitched n c.args.asked) (length c.cells-cells.result.now) c.count-count.result
+      line_is = c.in-Ok.ensures ∙ line_same n (design_chains n c.args.asked) (length c.cells-cells.result.now) c.count-count.result
           (cell_count n c.cells-cells.result.now c.cells-cells.ensures) (c.count-count.ensures ∙ ap length chains_are);
-      behaves = behaves c.scan_behaves.ensures n c.args.asked c.sound.ensures c.requires.some (stitched n c.args.asked) refl;
+      behaves = behaves c.scan_behaves.ensures n c.args.asked c.sound.ensures c.requires.some (design_chains n c.args.asked) refl;
     }

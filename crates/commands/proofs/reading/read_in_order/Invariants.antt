@@ -1,6 +1,6 @@
 use Rattle.std.proofs.Common.{◌≡◌, take}
 use Rattle.commands.specs.Names.{names_of, texts_of}
-use Rattle.commands.specs.Fetched.{AreRead}
+use Rattle.commands.specs.Contents.{AreRead}
 use Rattle.commands.proofs.reading.read_in_order.Given as goal
 
 abbrev pub invariant-loop-name : goal.invariant-loop-name
