@@ -1,4 +1,4 @@
-use Rattle.std.proofs.Common.{List, Option, Err, Vec, inr, ◌∙◌, subst}
+use Rattle.std.proofs.Common.{rules, List, Option, Err, Vec, inr, ◌∙◌, subst}
 use Rattle.std.specs.List.{zip}
 use Rattle.std.specs.declared.alloc.Global.{Global}
 use Rattle.outside.specs.Causes.{HasWriteCause}
@@ -36,3 +36,6 @@ returns g c =
       (texts_of c.in-Ok.texts.items, read.0, done.0),
       inr (written, shown, (wrote.1 ∙ read.2, out)),
     )
+
+pub returns-in-Ok-put : goal.returns-in-Ok-put
+returns-in-Ok-put g c = search rules
