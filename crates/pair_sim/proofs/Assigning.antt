@@ -1,9 +1,9 @@
 -- One decision more, and how it is taken back.
-use Rattle.std.proofs.Common.{◌≡◌, ◌≢◌, ◌≤◌, ◌<◌, ◌+◌, ℕ, Bool, true, false, List, [], ◌∷◌, ◌++◌, map, length, get_or, set, take, drop, reverse, Option, Some, None, refl, sym, ◌∙◌, ap, subst, inl, inr, eqb, arith}
+use Rattle.std.proofs.Common.{◌≡◌, ◌≢◌, ◌≤◌, ◌<◌, ◌+◌, ℕ, Bool, true, false, List, [], ◌∷◌, ◌++◌, map, length, get_or, set, take, drop, reverse, Option, Some, None, refl, sym, ◌∙◌, ap, subst, inl, inr, arith}
 use Rattle.std.specs.Bool.{MatchBool}
 use Rattle.std.specs.List.{Contains}
-use Rattle.std.proofs.lemmas.Bool.{cases_Bool, cases_eq}
-use Rattle.std.proofs.lemmas.List.{get_or-set_same, get_or-set_other, get_or_past, length-set, length-append, take_at, drop_at, take-take, length-take-le, map-append, append-nil, take-append-drop}
+use Rattle.std.proofs.lemmas.Bool.{cases_eq}
+use Rattle.std.proofs.lemmas.List.{get_or-set_same, get_or-set_other, length-set, length-append, take_at, drop_at, map-append, append-nil}
 use Rattle.netlist.specs.declared.kinds.Tri.TheVariants.{X}
 use Rattle.netlist.specs.declared.lines.Fault.{Fault}
 use Rattle.netlist.specs.declared.lines.Line.TheVariants.{Stem}
@@ -13,12 +13,12 @@ use Rattle.netlist.specs.Conditions.{IsSound}
 use Rattle.netlist.specs.Settled.{at}
 use Rattle.netlist.proofs.Placed.{signal_below, signal_from}
 use Rattle.tri.specs.declared.labels.Label.{Label}
-use Rattle.tri.specs.Labels.{Decisions, AreLabels, IsContradicted, labels, label_of, on_line, input_labels, cell_labels}
+use Rattle.tri.specs.Labels.{Decisions, IsContradicted, labels, label_of, on_line, input_labels, cell_labels}
 use Rattle.tri.specs.Labelling.{AreLabelled, decided_in}
 use Rattle.tri.specs.Paths.{Path, decisions, IsUnknown}
 use Rattle.tri.proofs.PathLemmas.{labels_once}
 use Rattle.events.specs.declared.trails.Change.{Change}
-use Rattle.events.specs.Trails.{AreChanges, undone}
+use Rattle.events.specs.Trails.{AreChanges}
 use Rattle.events.specs.Standing.{Standing, Moves, SettlesAnew}
 use Rattle.events.specs.Waiting.{IsDrivenTo}
 use Rattle.pair_sim.specs.declared.levels.Level.{Level}
@@ -26,7 +26,7 @@ use Rattle.pair_sim.specs.inner.Levels.{blank, path_of, clashes, is_contradicted
 use Rattle.pair_sim.proofs.Clashes.{same_elsewhere, decided_last, clash_contradicts, grows, still_contradicted, still_possible}
 use Rattle.pair_sim.proofs.Decisions.{source_is_driven, labels_change}
 use Rattle.pair_sim.proofs.Free.{free_undecided, own_if_undecided}
-use Rattle.pair_sim.proofs.Noting.{labelled_once, noted_first, noted_more}
+use Rattle.pair_sim.proofs.Noting.{noted_first, noted_more}
 use Rattle.pair_sim.proofs.Rows.{decided_set, decided_few, reverse_push}
 
 -- the labels of one path become those of another that differs at one signal

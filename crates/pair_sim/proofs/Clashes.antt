@@ -1,7 +1,7 @@
 -- Whether a decision is contradicted, by a test at each signal; and what one decision more does to it.
-use Rattle.std.proofs.Common.{◌≡◌, ◌≢◌, ◌<◌, ℕ, Bool, true, false, not, List, [], ◌∷◌, length, get_or, Option, Some, None, refl, sym, ◌∙◌, ap, subst, inl, inr, ◌⊎◌, cond, eqb}
-use Rattle.std.specs.List.{All, Contains}
-use Rattle.std.proofs.lemmas.Bool.{cases_eq, cases_Bool, eqb-true, eq-eqb, both_ways}
+use Rattle.std.proofs.Common.{◌≡◌, ◌≢◌, ℕ, Bool, true, false, not, List, ◌∷◌, Option, Some, None, refl, sym, ◌∙◌, ap, subst, inl, inr, ◌⊎◌, cond, eqb}
+use Rattle.std.specs.List.{Contains}
+use Rattle.std.proofs.lemmas.Bool.{cases_eq, eqb-true, eq-eqb, both_ways}
 use Rattle.std.proofs.lemmas.List.Elements.{All-contains}
 use Rattle.netlist.specs.declared.kinds.Tri.{Tri}
 use Rattle.netlist.specs.declared.kinds.Tri.TheVariants.{Zero, One, X}
@@ -13,7 +13,7 @@ use Rattle.netlist.specs.Settled.{at}
 use Rattle.netlist.specs.ThreeValues.{known}
 use Rattle.netlist.proofs.Lists.{all_or_fails}
 use Rattle.tri.specs.declared.labels.Label.{Label}
-use Rattle.tri.specs.Labels.{Decisions, is_known_as, AllowsLabel, AreLabels, IsContradicted}
+use Rattle.tri.specs.Labels.{Decisions, is_known_as, AllowsLabel, IsContradicted}
 use Rattle.tri.specs.Known.{allows_tri}
 use Rattle.tri.specs.Labelling.{AreLabelled}
 use Rattle.tri.specs.Paths.{Path, decisions}

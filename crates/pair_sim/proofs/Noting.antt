@@ -1,10 +1,9 @@
 -- The trail along a path, where each change makes a label known better.
-use Rattle.std.proofs.Common.{◌≡◌, ◌≢◌, ◌≤◌, ◌<◌, ◌+◌, ◌*◌, ℕ, zero, suc, Bool, true, false, List, [], ◌∷◌, ◌++◌, length, get_or, take, drop, Some, None, refl, sym, ◌∙◌, ap, subst, inl, inr, eqb, arith}
-use Rattle.std.specs.Bool.{MatchBool}
-use Rattle.std.specs.List.{All, Contains}
-use Rattle.std.proofs.lemmas.Bool.{cases_Bool, cases_eq, cases_lt}
-use Rattle.std.proofs.lemmas.List.{ext_get_or, get_or_past, length-take-le, length-take}
-use Rattle.std.proofs.lemmas.List.Elements.{All-contains, Contains-append_cases}
+use Rattle.std.proofs.Common.{◌≡◌, ◌≢◌, ◌≤◌, ◌<◌, ◌+◌, ◌*◌, ℕ, List, [], ◌∷◌, ◌++◌, length, take, Some, refl, sym, ◌∙◌, ap, subst, inl, inr, arith}
+use Rattle.std.specs.List.{Contains}
+use Rattle.std.proofs.lemmas.Bool.{cases_Bool, cases_lt}
+use Rattle.std.proofs.lemmas.List.{ext_get_or, get_or_past, length-take-le}
+use Rattle.std.proofs.lemmas.List.Elements.{Contains-append_cases}
 use Rattle.netlist.specs.declared.lines.Fault.{Fault}
 use Rattle.netlist.specs.Holds.{Holds}
 use Rattle.netlist.specs.Netlist.{Netlist, signals}
@@ -14,7 +13,7 @@ use Rattle.netlist.proofs.Placed.{signal_from}
 use Rattle.tri.specs.declared.labels.Label.{Label}
 use Rattle.tri.specs.Labels.{Decisions, AllowsLabel}
 use Rattle.tri.specs.Labelling.{AreLabelled}
-use Rattle.tri.specs.Paths.{Path, decisions}
+use Rattle.tri.specs.Paths.{decisions}
 use Rattle.tri.proofs.PathLemmas.{labels_once}
 use Rattle.events.specs.declared.trails.Change.{Change}
 use Rattle.events.specs.Trails.{AreChanges}

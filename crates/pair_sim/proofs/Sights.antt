@@ -1,5 +1,5 @@
 -- One observed point more.
-use Rattle.std.proofs.Common.{◌≡◌, ◌≢◌, ◌≤◌, ◌<◌, ◌+◌, ℕ, zero, suc, Bool, true, false, List, [], ◌∷◌, ◌++◌, length, map, take, refl, sym, ◌∙◌, ap, subst, eqb, arith, Some}
+use Rattle.std.proofs.Common.{◌≡◌, ◌≢◌, ◌≤◌, ◌<◌, ℕ, zero, suc, true, false, List, [], ◌∷◌, ◌++◌, length, map, take, refl, sym, ◌∙◌, subst, eqb, arith, Some}
 use Rattle.std.specs.Bool.{Decides}
 use Rattle.std.specs.List.{All, AllPairs, Contains, slice_get, flat_map}
 use Rattle.std.proofs.lemmas.List.{take-append-le, take_at, length-append, length-map, length-take-le}
@@ -17,8 +17,7 @@ use Rattle.netlist.proofs.WellFormed.{one_pin}
 use Rattle.netlist.specs.Settled.{Rule, pins_of}
 use Rattle.tri.specs.declared.labels.Label.{Label}
 use Rattle.tri.specs.Paths.{has_effect, HaveNoEffect, IsFirstEffect}
-use Rattle.pair_sim.specs.declared.points.Sight.{Sight}
-use Rattle.pair_sim.specs.declared.points.Sight.TheVariants.{Effect, Differs, Same}
+use Rattle.pair_sim.specs.declared.points.Sight.TheVariants.{Same}
 use Rattle.pair_sim.specs.inner.Points.{IsSight}
 
 get_front : {A : Type 0} (xs ys : List A) (k : ℕ) (v : A) → slice_get xs k ≡ Some v → (k < length xs) × (slice_get (xs ++ ys) k ≡ Some v)

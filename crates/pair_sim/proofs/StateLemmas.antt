@@ -1,5 +1,5 @@
 -- Where a path stands, and what its trail names.
-use Rattle.std.proofs.Common.{◌≡◌, ◌≢◌, ◌≤◌, ◌<◌, ◌+◌, ℕ, Bool, true, false, cond, List, [], ◌∷◌, map, length, get_or, reverse, Option, Some, None, refl, sym, ◌∙◌, ap, subst, inl, inr, eqb, arith}
+use Rattle.std.proofs.Common.{◌≡◌, ◌<◌, ℕ, Bool, false, cond, List, [], ◌∷◌, map, length, reverse, Option, Some, refl, sym, ◌∙◌, ap, subst, inl, inr, eqb, arith}
 use Rattle.std.specs.Bool.{MatchBool}
 use Rattle.std.specs.List.{All, Contains, count_by}
 use Rattle.std.proofs.lemmas.Bool.{cases_Bool, cases_lt, both_ways}
@@ -11,19 +11,18 @@ use Rattle.netlist.specs.Holds.{Holds}
 use Rattle.netlist.specs.Netlist.{Netlist, signals}
 use Rattle.netlist.specs.Conditions.{IsSound}
 use Rattle.netlist.specs.Settled.{at, outs, next}
-use Rattle.netlist.proofs.Lists.{contains_map, contains_cases, contains_head, contains_tail, contains_nil, All-from_contains}
+use Rattle.netlist.proofs.Lists.{contains_map, All-from_contains}
 use Rattle.netlist.proofs.Placed.{signal_from}
 use Rattle.tri.specs.declared.labels.Label.{Label}
-use Rattle.tri.specs.Labels.{labels, IsContradicted, IsUnobserved}
+use Rattle.tri.specs.Labels.{labels, IsContradicted}
 use Rattle.tri.specs.Labelling.{AreLabelled}
-use Rattle.tri.specs.Paths.{Path, decisions, IsFirstPoint}
-use Rattle.tri.proofs.PathLemmas.{contradicted_alike}
+use Rattle.tri.specs.Paths.{decisions}
 use Rattle.events.specs.declared.trails.Change.{Change}
 use Rattle.pair_sim.specs.declared.levels.Level.{Level}
 use Rattle.pair_sim.specs.declared.states.State.{State}
 use Rattle.pair_sim.specs.declared.states.State.TheVariants.{Test, Blocked, Going}
 use Rattle.pair_sim.specs.Sims.{sim, IsState, IsContradictedSim, AreChangedSignals}
-use Rattle.pair_sim.specs.inner.Levels.{blank, path_of, rank, times, is_contradicted, IsNoted, IsOnTop, GoBack, IsKept}
+use Rattle.pair_sim.specs.inner.Levels.{blank, path_of, rank, times, is_contradicted, IsNoted, GoBack, IsKept}
 use Rattle.pair_sim.specs.inner.Points.{IsStateOf, MayNot, SomeMay}
 use Rattle.pair_sim.proofs.Assigning.{last_flag, flag_true, flag_false}
 use Rattle.pair_sim.proofs.Counts.{stands, stands_not}

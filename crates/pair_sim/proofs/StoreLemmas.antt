@@ -1,5 +1,5 @@
 -- A simulation is stored as it should be after each step.
-use Rattle.std.proofs.Common.{◌≡◌, ◌≤◌, ◌<◌, ◌+◌, ◌*◌, ◌⊎◌, ℕ, Bool, true, false, List, [], ◌∷◌, ◌++◌, map, length, set, take, drop, reverse, Option, Some, None, refl, sym, ◌∙◌, ap, subst, inl, inr, arith}
+use Rattle.std.proofs.Common.{◌≡◌, ◌≤◌, ◌<◌, ◌+◌, ◌*◌, ℕ, Bool, true, false, List, [], ◌∷◌, ◌++◌, map, length, take, drop, reverse, Option, Some, None, refl, sym, ◌∙◌, ap, subst, inl, inr, arith}
 use Rattle.std.specs.Bool.{MatchBool}
 use Rattle.std.specs.List.{Contains, list_any}
 use Rattle.std.proofs.lemmas.Bool.{cases_Bool, both_ways}
@@ -17,10 +17,9 @@ use Rattle.tri.specs.Labels.{IsContradicted, labels, label_of}
 use Rattle.tri.specs.Labelling.{AreLabelled, decided_in}
 use Rattle.tri.specs.Paths.{decisions, IsUnknown}
 use Rattle.events.specs.declared.trails.Change.{Change}
-use Rattle.events.specs.Trails.{AreChanges}
 use Rattle.events.specs.Standing.{Standing, Moves, SettlesAnew}
 use Rattle.pair_sim.specs.declared.levels.Level.{Level}
-use Rattle.pair_sim.specs.inner.Levels.{blank, path_of, clashes, clashes_at, is_contradicted, decided_count, IsKept}
+use Rattle.pair_sim.specs.inner.Levels.{blank, path_of, clashes_at, is_contradicted, IsKept}
 use Rattle.pair_sim.specs.inner.Steps.{IsRelabelled, IsForgotten, IsNamed, IsPlayedBack, IsSettledBack}
 use Rattle.pair_sim.specs.inner.Stored.{IsStored}
 use Rattle.pair_sim.proofs.Counts.{length_once}

@@ -1,5 +1,5 @@
 -- The last decision is taken back.
-use Rattle.std.proofs.Common.{◌≡◌, ◌≢◌, ◌≤◌, ◌<◌, ◌+◌, ℕ, zero, suc, Bool, true, false, List, [], ◌∷◌, ◌++◌, map, length, get_or, set, take, drop, reverse, Option, Some, None, refl, sym, ◌∙◌, ap, subst, inl, inr, arith}
+use Rattle.std.proofs.Common.{◌≡◌, ◌<◌, ℕ, zero, suc, Bool, true, false, List, [], ◌∷◌, ◌++◌, map, length, get_or, set, take, drop, reverse, Option, Some, None, refl, sym, ◌∙◌, ap, subst, inl, inr, arith}
 use Rattle.std.proofs.lemmas.Bool.{cases_eq}
 use Rattle.std.proofs.lemmas.List.{get_or-set_same, get_or-set_other, length-set, length-append, take_at, append-nil, take-append-le}
 use Rattle.netlist.specs.declared.kinds.Tri.TheVariants.{X}
@@ -12,10 +12,10 @@ use Rattle.netlist.proofs.Placed.{signal_from}
 use Rattle.tri.specs.declared.labels.Label.{Label}
 use Rattle.tri.specs.Labels.{Decisions, labels, label_of}
 use Rattle.tri.specs.Labelling.{AreLabelled, decided_in}
-use Rattle.tri.specs.Paths.{Path, decisions}
+use Rattle.tri.specs.Paths.{decisions}
 use Rattle.events.specs.declared.trails.Change.{Change}
-use Rattle.events.specs.Trails.{AreChanges, undone}
-use Rattle.events.specs.Standing.{Standing, Moves, SettlesAnew}
+use Rattle.events.specs.Trails.{undone}
+use Rattle.events.specs.Standing.{Standing, SettlesAnew}
 use Rattle.pair_sim.specs.declared.levels.Level.{Level}
 use Rattle.pair_sim.specs.inner.Levels.{blank, path_of, decided_count, IsOnTop, GoBack, IsKept}
 use Rattle.pair_sim.proofs.Clashes.{same_elsewhere, decided_last}

@@ -2,7 +2,6 @@
 use Rattle.std.specs.Prelude.{◌≡◌, ◌⊎◌, Bool, true, false, List, IsTrue, IsFalse}
 use Rattle.std.specs.List.{All, Contains}
 use Rattle.tri.specs.declared.labels.Label.{Label}
-use Rattle.netlist.specs.declared.lines.Point.{Point}
 use Rattle.tri.specs.Paths.{HaveNoEffect, IsFirstEffect, IsFirstPoint}
 use Rattle.pair_sim.specs.declared.points.Sight.{Sight}
 use Rattle.pair_sim.specs.declared.points.Sight.TheVariants.{Effect, Differs, Same}

@@ -1,8 +1,7 @@
 -- What is done after the labels of a decision were worked out, and to take it back.
-use Rattle.std.specs.Prelude.{ℕ, ◌≡◌, ◌⊎◌, ◌++◌, Bool, false, true, List, map, take, drop, length, slice_set, Option, None}
+use Rattle.std.specs.Prelude.{ℕ, ◌≡◌, ◌⊎◌, ◌++◌, Bool, false, true, List, map, take, drop, slice_set, Option, None}
 use Rattle.std.specs.List.{list_any}
 use Rattle.netlist.specs.declared.kinds.Tri.TheVariants.{X}
-use Rattle.netlist.specs.declared.lines.Fault.{Fault}
 use Rattle.tri.specs.declared.labels.Label.{Label}
 use Rattle.tri.specs.declared.labelling.Labelling.{Labelling}
 use Rattle.tri.specs.Labels.{labels, label_of}

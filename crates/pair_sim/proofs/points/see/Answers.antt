@@ -1,4 +1,4 @@
-use Rattle.pair_sim.proofs.Sights.{effect_stays, effect_here, no_effect_more, same_more, differs_more, differs_here}
+use Rattle.pair_sim.proofs.Sights.{effect_stays, effect_here, no_effect_more, differs_more, differs_here}
 use Rattle.std.proofs.Common.{sym, ◌∙◌, subst}
 use Rattle.pair_sim.proofs.points.see.Goals as goal
 use Rattle.pair_sim.specs.inner.Points.{IsSight}

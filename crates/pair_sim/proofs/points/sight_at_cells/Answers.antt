@@ -1,13 +1,13 @@
-use Rattle.std.proofs.Common.{◌≡◌, ◌≤◌, ◌<◌, ℕ, map, take, ap, sym, ◌∙◌, length, subst, ◌++◌, ◌∷◌, [], arith, List, None, refl}
+use Rattle.std.proofs.Common.{◌≡◌, ℕ, take, ap, sym, ◌∙◌, length, subst, [], arith, List, refl}
 use Rattle.std.specs.List.{flat_map}
-use Rattle.std.proofs.lemmas.List.{get_or_default, take_all, length-take-le, length-map}
+use Rattle.std.proofs.lemmas.List.{get_or_default, take_all, length-map}
 use Rattle.netlist.specs.declared.kinds.Kind.TheVariants.{Dff}
 use Rattle.netlist.specs.declared.lines.Line.TheVariants.{Pin}
 use Rattle.netlist.specs.Netlist.{Definition, cells}
 use Rattle.netlist.specs.Settled.{at, pins_of}
 use Rattle.netlist.proofs.Observed.{cell_at, the_cell, cell_within, the_pin, first_pin_below, next_more}
 use Rattle.tri.specs.declared.labels.Label.{Label}
-use Rattle.tri.specs.Labels.{Decisions, labels, on_line}
+use Rattle.tri.specs.Labels.{labels, on_line}
 use Rattle.pair_sim.specs.inner.Levels.{blank}
 use Rattle.pair_sim.specs.inner.Points.{IsSight}
 use Rattle.pair_sim.proofs.Sights.{cells_few, length_next}

@@ -1,4 +1,4 @@
-use Rattle.std.proofs.Common.{ℕ, take}
+use Rattle.std.proofs.Common.{take}
 use Rattle.std.specs.List.{flat_map}
 use Rattle.netlist.specs.Netlist.{cells}
 use Rattle.netlist.specs.Settled.{at, pins_of}

@@ -1,13 +1,13 @@
-use Rattle.std.proofs.Common.{◌≡◌, ◌≤◌, ◌<◌, ◌^◌, ℕ, map, take, ap, sym, ◌∙◌, length, subst, ◌++◌, ◌∷◌, [], arith, List, None, refl}
+use Rattle.std.proofs.Common.{◌≡◌, ℕ, map, take, ap, sym, ◌∙◌, length, subst, ◌++◌, ◌∷◌, [], arith, List, None, refl}
 use Rattle.std.proofs.lemmas.List.{get_or_default, take_all, length-take-le, length-map}
 use Rattle.netlist.specs.declared.lines.Line.TheVariants.{Out}
 use Rattle.netlist.specs.Settled.{at}
 use Rattle.netlist.proofs.Observed.{output_below, output_more}
 use Rattle.tri.specs.declared.labels.Label.{Label}
-use Rattle.tri.specs.Labels.{Decisions, labels, on_line}
+use Rattle.tri.specs.Labels.{labels, on_line}
 use Rattle.pair_sim.specs.inner.Levels.{blank}
 use Rattle.pair_sim.specs.inner.Points.{IsSight}
-use Rattle.pair_sim.proofs.Sights.{outputs_few, nothing_seen}
+use Rattle.pair_sim.proofs.Sights.{outputs_few}
 use Rattle.pair_sim.proofs.points.sight_at_outputs.Goals as goal
 
 pub bounds-values-index : goal.bounds-values-index

@@ -1,4 +1,4 @@
-use Rattle.std.proofs.Common.{◌≡◌, ◌+◌, ◌*◌, ◌≤◌, ℕ, List, [], length, Some, Option, sym, ◌∙◌, ap, subst, vec_capacity, arith}
+use Rattle.std.proofs.Common.{◌≡◌, List, [], length, Some, Option, sym, ◌∙◌, ap, subst, vec_capacity, arith}
 use Rattle.netlist.specs.declared.lines.Fault.{Fault}
 use Rattle.netlist.specs.Netlist.{Netlist, signals}
 use Rattle.netlist.proofs.Placed.{signals_length}

@@ -1,11 +1,10 @@
-use Rattle.std.proofs.Common.{◌≡◌, ◌≤◌, ◌<◌, ◌∷◌, ℕ, List, true, false, not, length, reverse, vec_len, vec_capacity, sym, ◌∙◌, ap, subst, arith}
+use Rattle.std.proofs.Common.{List, not, reverse, vec_capacity, sym, ◌∙◌, ap, subst, arith}
 use Rattle.std.proofs.lemmas.Bool.{both_ways}
 use Rattle.netlist.specs.Conditions.{IsSound}
 use Rattle.tri.specs.Paths.{IsUnknown}
 use Rattle.pair_sim.specs.Sims.{Sim, IsFree}
 use Rattle.pair_sim.specs.declared.levels.Level.{Level}
 use Rattle.pair_sim.specs.inner.Levels.{path_of, is_contradicted}
-use Rattle.pair_sim.proofs.Assigning.{level_room}
 use Rattle.pair_sim.proofs.StoreLemmas.{trail_room, name_room, room_on_levels, stored_assigned}
 use Rattle.pair_sim.proofs.sims.PairSim.assign.Goals as goal
 

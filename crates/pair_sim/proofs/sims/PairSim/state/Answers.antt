@@ -1,4 +1,4 @@
-use Rattle.std.proofs.Common.{◌≡◌, sym, ◌∙◌, ap, subst, reverse, Some, List, Option}
+use Rattle.std.proofs.Common.{◌∙◌, ap, subst, reverse, Some, List, Option}
 use Rattle.netlist.specs.declared.lines.Fault.{Fault}
 use Rattle.netlist.specs.Netlist.{Netlist}
 use Rattle.netlist.specs.Settled.{at, outs, next}

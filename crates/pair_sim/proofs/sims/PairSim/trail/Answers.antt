@@ -1,4 +1,4 @@
-use Rattle.std.proofs.Common.{◌≡◌, ℕ, List, sym, ◌∙◌, subst}
+use Rattle.std.proofs.Common.{ℕ, List, sym, ◌∙◌, subst}
 use Rattle.netlist.specs.Conditions.{IsSound}
 use Rattle.pair_sim.specs.Sims.{Sim, IsContradictedSim, AreChangedSignals}
 use Rattle.pair_sim.proofs.StateLemmas.{names_changed}

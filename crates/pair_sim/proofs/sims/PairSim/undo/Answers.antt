@@ -1,4 +1,4 @@
-use Rattle.std.proofs.Common.{◌≡◌, ◌≤◌, sym, ◌∙◌, ap, subst, vec_capacity, List, ◌++◌, ◌∷◌, [], arith}
+use Rattle.std.proofs.Common.{◌∙◌, subst, vec_capacity, List, ◌++◌, ◌∷◌, [], arith}
 use Rattle.netlist.specs.Conditions.{IsSound}
 use Rattle.pair_sim.specs.declared.levels.Level.{Level}
 use Rattle.pair_sim.specs.inner.Stored.{IsStored}

@@ -1,0 +1,133 @@
+-- What a turn sees of both sides of a source.
+use Rattle.std.proofs.Common.{◌≡◌, ℕ, ◌+◌, Bool, true, false, not, cond, map, List, [], ◌∷◌, Some, eqb, refl, sym, ◌∙◌, ap, subst, arith}
+use Rattle.std.proofs.lemmas.Bool.{eqb-true}
+use Rattle.std.specs.Option.{is_none}
+use Rattle.std.specs.List.{All, Contains}
+use Rattle.std.proofs.lemmas.List.Elements.{All-head, All-tail, All-append, All-contains}
+use Rattle.netlist.specs.declared.kinds.Tri.TheVariants.{X}
+use Rattle.netlist.specs.declared.lines.Fault.{Fault}
+use Rattle.netlist.specs.Holds.{Holds}
+use Rattle.netlist.specs.declared.lines.Point.{Point}
+use Rattle.netlist.specs.Netlist.{Definition, Netlist, cells}
+use Rattle.netlist.specs.Conditions.{IsSound}
+use Rattle.netlist.proofs.Lists.{All-from_contains}
+use Rattle.tri.specs.Paths.{Path, decisions, IsClosedPath, IsUnknown, IsTestPath, IsGoingPath}
+use Rattle.redundancy_cert.specs.declared.nodes.Node.{Node}
+use Rattle.redundancy_cert.specs.declared.nodes.Node.TheVariants.{Closed, Split, Forced}
+use Rattle.redundancy_cert.specs.declared.stacks.Other.{Other}
+use Rattle.redundancy_cert.specs.declared.stacks.Other.TheVariants.{Untried}
+use Rattle.redundancy_cert.specs.declared.stacks.Side.{Side}
+use Rattle.redundancy_cert.specs.Trees.{open_count}
+use Rattle.redundancy_cert.specs.Fits.{NodeFits}
+use Rattle.redundancy_cert.specs.Stacks.{other_nodes, node_of, path_of_stack, StandsBelow, searched_open}
+use Rattle.redundancy_cert.proofs.StackLemmas.{closed_stands, open_stands, forced_stands, searched_stands}
+use Rattle.pair_sim.specs.Sims.{Sim, sim, assigned, HasGood}
+use Rattle.podem.specs.Sources.{all_sources, sources, undecided, PlaceInSources}
+use Rattle.podem.specs.Searching.{IsAt, IsChosen, IsKnownAt, MayEnter, MayClimb, IsTestAt, OnSources}
+use Rattle.podem.proofs.Turns.{going_open, only_sources, none_only, known_decided}
+use Rattle.podem.proofs.Ends.{not_going}
+use Rattle.podem.proofs.Owns.{source_signal, any_source, free_is_source}
+
+one_more_source : (n : Netlist) (holds : Holds) (x : ℕ) (b : Bool) (p : Path) → OnSources n holds p → Contains (sources n holds) x → OnSources n holds ((x, b) ∷ p)
+one_more_source n holds x b p h k y c e =
+    let step : (t : Bool) → eqb y x ≡ t → cond t (Some b) (decisions p y) ≡ Some c → Contains (sources n holds) y =
+    elim [
+      | true ↦ λ m q. subst (Contains (sources n holds)) (sym (eqb-true y x m)) k
+      | false ↦ λ m q. h y c q
+    ] in
+    step (eqb y x) refl e
+
+module _ (f : Fault) (n : Netlist) (holds : Holds) (sound : IsSound n) (s : Sim) (stack : List Side) (x : ℕ) (w : IsChosen f n holds s stack x) where
+  here : NodeFits f n holds (path_of_stack stack) (Split x)
+  here = (going_open f n holds sound (path_of_stack stack) w.going, w.free)
+
+  on_sources : OnSources n holds (path_of_stack stack)
+  on_sources = only_sources f n holds stack [] (none_only f n holds) w.is.around
+
+  pub test_there : (new : Sim) (b : Bool) (point : Point) → new ≡ assigned s x b → IsTestPath s.fault s.netlist s.holds ((x, b) ∷ s.path) point → IsTestAt f n holds new point
+  test_there new b point a t = record {
+    path = (x, b) ∷ path_of_stack stack;
+    at = a ∙ ap (λ (r : Sim). assigned r x b) w.is.at;
+    test = subst (λ (r : Sim). IsTestPath r.fault r.netlist r.holds ((x, b) ∷ r.path) point) w.is.at t;
+    only = one_more_source n holds x b (path_of_stack stack) on_sources w.source;
+  }
+
+  pub same_chosen : (new : Sim) → new ≡ s → IsChosen f n holds new stack x
+  same_chosen new e = subst (λ (r : Sim). IsChosen f n holds r stack x) (sym e) w
+
+  pub seen_closed : (b : Bool) → IsClosedPath s.fault s.netlist s.holds ((x, b) ∷ s.path) → IsClosedPath f n holds ((x, b) ∷ path_of_stack stack)
+  seen_closed b h = subst (λ (r : Sim). IsClosedPath r.fault r.netlist r.holds ((x, b) ∷ r.path)) w.is.at h
+
+  pub seen_going : (b : Bool) → IsGoingPath s.fault s.netlist s.holds ((x, b) ∷ s.path) → IsGoingPath f n holds ((x, b) ∷ path_of_stack stack)
+  seen_going b h = subst (λ (r : Sim). IsGoingPath r.fault r.netlist r.holds ((x, b) ∷ r.path)) w.is.at h
+
+  pub is_free : IsUnknown s.fault s.netlist s.holds s.path x
+  is_free = subst (λ (r : Sim). IsUnknown r.fault r.netlist r.holds r.path x) (sym w.is.at) w.free
+
+  -- one side is closed, and the other one is gone on with
+  pub enter_beside_closed : (b : Bool) (other : Other) → node_of x b other ≡ Split x → other_nodes other ≡ Closed ∷ [] → searched_open other ≡ 0
+      → IsClosedPath f n holds ((x, not b) ∷ path_of_stack stack) → IsGoingPath f n holds ((x, b) ∷ path_of_stack stack) → MayEnter f n holds s stack x b other
+  enter_beside_closed b other k e z shut going = record {
+    is = w.is;
+    source = w.source;
+    fits = here;
+    split = k;
+    stands = searched_stands (PlaceInSources f n holds) ((x, not b) ∷ path_of_stack stack) other x b (Closed ∷ []) k e
+        (closed_stands (PlaceInSources f n holds) ((x, not b) ∷ path_of_stack stack) shut);
+    searched = z;
+    going = going;
+  }
+
+  -- both sides may be gone on with
+  pub enter_beside_open : (b : Bool) → IsGoingPath f n holds ((x, not b) ∷ path_of_stack stack) → IsGoingPath f n holds ((x, b) ∷ path_of_stack stack)
+      → MayEnter f n holds s stack x b Untried
+  enter_beside_open b other going = record {
+    is = w.is;
+    source = w.source;
+    fits = here;
+    split = refl;
+    stands = open_stands (PlaceInSources f n holds) ((x, not b) ∷ path_of_stack stack) other;
+    searched = refl;
+    going = going;
+  }
+
+  -- both sides are closed
+  pub both_closed : (b : Bool) (done : List Node) → done ≡ Forced x b ∷ Closed ∷ [] → IsClosedPath f n holds ((x, b) ∷ path_of_stack stack)
+      → IsClosedPath f n holds ((x, not b) ∷ path_of_stack stack) → MayClimb f n holds s stack done
+  both_closed b done e this other = record {
+    is = w.is;
+    stands = subst (StandsBelow (PlaceInSources f n holds) (path_of_stack stack)) (sym e)
+        (forced_stands (PlaceInSources f n holds) (path_of_stack stack) x b (Closed ∷ []) ((here.0, here.1, other), w.source)
+        (closed_stands (PlaceInSources f n holds) ((x, b) ∷ path_of_stack stack) this));
+    closed = ap open_count e;
+  }
+
+-- where no source is X the search can't go on
+none_left : (path : Path) (ids : List ℕ) → All (λ x. is_none (decisions path x) ≡ false) ids → undecided path ids ≡ 0
+none_left path [] h = refl
+none_left path (x ∷ xs) h =
+    let e = All-head (λ y. is_none (decisions path y) ≡ false) x xs h in
+    let r = none_left path xs (All-tail (λ y. is_none (decisions path y) ≡ false) x xs h) in
+    zero_sum (is_none (decisions path x)) (undecided path xs) e r
+  where
+    zero_sum : (b : Bool) (k : ℕ) → b ≡ false → k ≡ 0 → cond b 1 0 + k ≡ 0
+    zero_sum true k p q = absurd cc
+    zero_sum false k p q = omega arith
+
+pub some_free : (f : Fault) (n : Netlist) (holds : Holds) → IsSound n → (s : Sim) (stack : List Side) → IsAt f n holds s stack → IsGoingPath f n holds (path_of_stack stack)
+    → All (IsKnownAt s) n.inputs → All (IsKnownAt s) (map (λ (d : Definition). d.id) (cells n)) → ⊥
+some_free f n holds sound s stack w going inputs states =
+    let path : Path = path_of_stack stack in
+    let all : All (IsKnownAt s) (all_sources n) = All-append (IsKnownAt s) n.inputs (map (λ (d : Definition). d.id) (cells n)) inputs states in
+    let decided : All (λ x. is_none (decisions path x) ≡ false) (sources n holds) =
+    All-from_contains (λ x. is_none (decisions path x) ≡ false) (sources n holds)
+    (λ x c. let k = All-contains (IsKnownAt s) (all_sources n) x all (any_source n holds x c) in
+    known_decided f n holds path x k.0 c (subst (λ (r : Sim). HasGood r x k.0) w.at k.1) k.2) in
+    not_going f n holds sound path (none_left path (sources n holds) decided) (only_sources f n holds stack [] (none_only f n holds) w.around) going
+
+pub chosen_from : (f : Fault) (n : Netlist) (holds : Holds) (s : Sim) (stack : List Side) (x : ℕ) → IsAt f n holds s stack → Contains (all_sources n) x → HasGood s x X
+    → Contains (sources n holds) x × IsUnknown f n holds (path_of_stack stack) x
+chosen_from f n holds s stack x w c h =
+    let g : HasGood (sim n f holds (path_of_stack stack)) x X = subst (λ (r : Sim). HasGood r x X) w.at h in
+    let free : IsUnknown f n holds (path_of_stack stack) x = record { label = g.label; are = g.are; signal = source_signal n x c; unknown = g.good } in
+    (free_is_source f n holds (path_of_stack stack) x c free, free)

@@ -1,0 +1,194 @@
+-- Where two known values at a point differ, every pattern with the decided bits tells the fault there.
+use Rattle.std.proofs.Common.{◌≡◌, ℕ, zero, suc, ◌<◌, ◌&&◌, ◌||◌, Bool, true, false, List, [], ◌∷◌, map, length, get_or, Option, Some, None, refl, sym, ◌∙◌, ap, subst, inl, inr, arith}
+use Rattle.std.specs.List.{All, AllZip, Contains, slice_get}
+use Rattle.std.proofs.lemmas.List.{length-map, length-append, get_or-map, get_or_append_left}
+use Rattle.std.proofs.lemmas.List.Elements.{All-nil, All-cons, All-contains, All-map, All-append}
+use Rattle.netlist.specs.declared.kinds.Tri.{Tri}
+use Rattle.netlist.specs.declared.kinds.Tri.TheVariants.{Zero, One, X}
+use Rattle.netlist.specs.declared.lines.Fault.{Fault}
+use Rattle.netlist.specs.Holds.{Holds, AreHoldsOf}
+use Rattle.netlist.specs.declared.lines.Point.{Point}
+use Rattle.netlist.specs.declared.lines.Point.TheVariants.{Output, Cell}
+use Rattle.netlist.specs.Netlist.{Definition, Netlist, cells}
+use Rattle.netlist.specs.Conditions.{IsSound}
+use Rattle.netlist.specs.Settled.{Settles, bits, outs, next}
+use Rattle.netlist.proofs.SomeSettled.{some_settled}
+use Rattle.tri.specs.declared.labels.Label.{Label}
+use Rattle.netlist.specs.ThreeValues.{known, is_zero, is_one, allows}
+use Rattle.tri.specs.Labels.{good_of, held_value, labels, Follows, IsAbove, AreAbove}
+use Rattle.netlist.specs.Detection.{Detects}
+use Rattle.tri.specs.Paths.{Path, decisions, IsFirstEffect, IsTestPath}
+use Rattle.tri.proofs.LabelLemmas.{outs_above, next_above}
+use Rattle.cubes.specs.Cubes.{Pattern, AgreesWith, IsPatternOf, IsCubeOf}
+use Rattle.cubes.proofs.FillLemmas.{fill_fits}
+use Rattle.redundancy_cert.specs.Evidence.{IsTestCube}
+use Rattle.podem.specs.Sources.{all_sources, sources, held, value_of, cube_of}
+use Rattle.podem.proofs.Owns.{source_cases, cell_behind, any_source}
+
+effect_differs : (v w : Tri) (g b : Bool) → (is_zero v && is_one w || is_one v && is_zero w) ≡ true → allows v g ≡ true → allows w b ≡ true → g ≡ b → ⊥
+effect_differs Zero Zero true true e h k s = cc
+effect_differs Zero Zero true false e h k s = cc
+effect_differs Zero Zero false true e h k s = cc
+effect_differs Zero Zero false false e h k s = cc
+effect_differs Zero One true true e h k s = cc
+effect_differs Zero One true false e h k s = cc
+effect_differs Zero One false true e h k s = cc
+effect_differs Zero One false false e h k s = cc
+effect_differs Zero X true true e h k s = cc
+effect_differs Zero X true false e h k s = cc
+effect_differs Zero X false true e h k s = cc
+effect_differs Zero X false false e h k s = cc
+effect_differs One Zero true true e h k s = cc
+effect_differs One Zero true false e h k s = cc
+effect_differs One Zero false true e h k s = cc
+effect_differs One Zero false false e h k s = cc
+effect_differs One One true true e h k s = cc
+effect_differs One One true false e h k s = cc
+effect_differs One One false true e h k s = cc
+effect_differs One One false false e h k s = cc
+effect_differs One X true true e h k s = cc
+effect_differs One X true false e h k s = cc
+effect_differs One X false true e h k s = cc
+effect_differs One X false false e h k s = cc
+effect_differs X Zero true true e h k s = cc
+effect_differs X Zero true false e h k s = cc
+effect_differs X Zero false true e h k s = cc
+effect_differs X Zero false false e h k s = cc
+effect_differs X One true true e h k s = cc
+effect_differs X One true false e h k s = cc
+effect_differs X One false true e h k s = cc
+effect_differs X One false false e h k s = cc
+effect_differs X X true true e h k s = cc
+effect_differs X X true false e h k s = cc
+effect_differs X X false true e h k s = cc
+effect_differs X X false false e h k s = cc
+
+above_place : (ls : List Label) (gs bs : List Bool) (k : ℕ) (m : Label) → AreAbove ls gs bs → slice_get ls k ≡ Some m
+    → (g : Bool) × (b : Bool) × (slice_get gs k ≡ Some g) × (slice_get bs k ≡ Some b) × IsAbove m g b
+above_place [] [] [] k m h e = absurd cc
+above_place [] [] (b ∷ bs) k m h e = absurd h
+above_place [] (g ∷ gs) bs k m h e = absurd h
+above_place (l ∷ ls) [] bs k m h e = absurd h
+above_place (l ∷ ls) (g ∷ gs) [] k m h e = absurd h
+above_place (l ∷ ls) (g ∷ gs) (b ∷ bs) zero m h e = let same : l ≡ m = cc in (g, b, refl, refl, subst (λ (x : Label). IsAbove x g b) same h.0)
+above_place (l ∷ ls) (g ∷ gs) (b ∷ bs) (suc k) m h e = above_place ls gs bs k m h.1 e
+
+differ_there : (ls : List Label) (gs bs : List Bool) (k : ℕ) → AreAbove ls gs bs → IsFirstEffect ls k → slice_get gs k ≡ slice_get bs k → ⊥
+differ_there ls gs bs k h t e =
+    let w = above_place ls gs bs k t.label h t.here in
+    let same : w.0 ≡ w.1 = cc in
+    effect_differs t.label.good t.label.faulty w.0 w.1 t.effect w.4.good w.4.faulty same
+
+-- each source has a bit that its value allows
+driven_allowed : {A : Type 0} (key : A → ℕ) (value : ℕ → Tri) (a : ℕ → Bool) (xs : List A) (bs : List Bool)
+    → AllZip (λ v b. allows v b ≡ true) (map (λ x. value (key x)) xs) bs → AllZip (λ x v. a (key x) ≡ v) xs bs → All (λ x. allows (value (key x)) (a (key x)) ≡ true) xs
+driven_allowed key value a [] bs h k = All-nil _
+driven_allowed key value a (x ∷ xs) [] h k = absurd h
+driven_allowed key value a (x ∷ xs) (b ∷ bs) h k =
+    All-cons (λ y. allows (value (key y)) (a (key y)) ≡ true) x xs (ap (allows (value (key x))) k.0 ∙ h.0) (driven_allowed key value a xs bs h.1 k.1)
+
+known_is : (b c : Bool) → allows (known b) c ≡ true → c ≡ b
+known_is true true h = refl
+known_is true false h = cc
+known_is false true h = cc
+known_is false false h = refl
+
+-- ---- the cube of a path
+
+get_there : {A : Type 0} (xs : List A) (k : ℕ) (v : A) → slice_get xs k ≡ Some v → (k < length xs) × ((d : A) → get_or xs k d ≡ v)
+get_there [] k v e = absurd cc
+get_there (x ∷ xs) zero v e = (omega arith, λ d. cc)
+get_there (x ∷ xs) (suc k) v e = let h = get_there xs k v e in (let l = h.0 in omega arith, h.1)
+
+there_get : {A : Type 0} (xs : List A) (k : ℕ) (d : A) → k < length xs → slice_get xs k ≡ Some (get_or xs k d)
+there_get [] k d l = absurd (omega arith)
+there_get (x ∷ xs) zero d l = refl
+there_get (x ∷ xs) (suc k) d l = there_get xs k d (omega arith)
+
+module _ (n : Netlist) (holds : Holds) (fit : AreHoldsOf n holds) (sound : IsSound n) (path : Path) (only : (x : ℕ) (b : Bool) → decisions path x ≡ Some b → Contains (sources n holds) x) where
+  input_at : (k : ℕ) → k < length n.inputs → get_or n.inputs k 0 ≡ k
+  input_at k l =
+      let m = length-append n.inputs (map (λ (d : Definition). d.id) n.definitions) in
+      sym (get_or_append_left n.inputs (map (λ (d : Definition). d.id) n.definitions) 0 k l) ∙ sound.formed.numbered k (omega arith)
+
+  -- a held input isn't decided
+  held_undecided : (k : ℕ) (b : Bool) → held holds k ≡ Some b → k < length n.inputs → decisions path k ≡ None
+  held_undecided k b h l = none (decisions path k) refl
+    where
+      none : (o : Option Bool) → decisions path k ≡ o → o ≡ None
+      none None e = refl
+      none (Some c) e = elim (source_cases n holds k (only k c e)) [
+        | inl input ↦ absurd (let z : Some b ≡ None = sym h ∙ input.1 in cc)
+        | inr cell ↦ absurd (let z = cell_behind n k sound.formed.numbered cell in omega arith)
+      ]
+
+  pub cube_is : IsCubeOf n holds (cube_of n holds path)
+  cube_is = record {
+    inputs = length-map n.inputs (value_of holds path);
+    cells = length-map (cells n) (λ (d : Definition). value_of holds path d.id);
+    held = λ k b at.
+        let w = get_there holds k (Some b) at in
+        let l : k < length n.inputs = (let z = w.0 in let e = fit in omega arith) in
+        let m : k < length (map (value_of holds path) n.inputs) = (let e = length-map n.inputs (value_of holds path) in omega arith) in
+        let value : value_of holds path k ≡ known b =
+        ap (λ o. good_of o (held_value (held holds k))) (held_undecided k b (w.1 None) l) ∙ ap held_value (w.1 None) in
+        there_get (map (value_of holds path) n.inputs) k X m
+        ∙ ap Some (get_or-map (value_of holds path) n.inputs k 0 X l ∙ (ap (value_of holds path) (input_at k l) ∙ value));
+  }
+
+module _ (f : Fault) (n : Netlist) (holds : Holds) (fit : AreHoldsOf n holds) (sound : IsSound n) (path : Path) (only : (x : ℕ) (b : Bool) → decisions path x ≡ Some b → Contains (sources n holds) x)
+    (p : Pattern) (agrees : AgreesWith p (cube_of n holds path)) where
+  pattern_is : IsPatternOf n holds p
+  pattern_is = fill_fits n holds (cube_of n holds path) p agrees (cube_is n holds fit sound path only)
+
+  follows : (a : ℕ → Bool) → Settles (bits None) n p.inputs p.cells a → Follows (decisions path) n a
+  follows a s x b signal e =
+      let P : ℕ → Type 0 = λ y. allows (value_of holds path y) (a y) ≡ true in
+      let inputs : All P n.inputs = driven_allowed (λ y. y) (value_of holds path) a n.inputs p.inputs agrees.inputs s.0 in
+      let states : All P (map (λ (d : Definition). d.id) (cells n)) =
+      All-map P (λ (d : Definition). d.id) (cells n) (driven_allowed (λ (d : Definition). d.id) (value_of holds path) a (cells n) p.cells agrees.cells s.1) in
+      let here : P x = All-contains P (all_sources n) x (All-append P n.inputs (map (λ (d : Definition). d.id) (cells n)) inputs states) (any_source n holds x (only x b e)) in
+      known_is b (a x) (subst (λ o. allows (good_of o (held_value (held holds x))) (a x) ≡ true) e here)
+
+  module _ (point : Point) (t : IsTestPath f n holds path point) where
+    good : (a : ℕ → Bool) × Settles (bits None) n p.inputs p.cells a
+    good = some_settled false (bits None) n p.inputs p.cells sound.formed.numbered sound.closed sound.acyclic pattern_is.inputs pattern_is.cells
+
+    faulty : (a : ℕ → Bool) × Settles (bits (Some f)) n p.inputs p.cells a
+    faulty = some_settled false (bits (Some f)) n p.inputs p.cells sound.formed.numbered sound.closed sound.acyclic pattern_is.inputs pattern_is.cells
+
+    outs_are : AreAbove (outs (labels (Some f) (decisions path)) n t.label) (outs (bits None) n good.0) (outs (bits (Some f)) n faulty.0)
+    outs_are = outs_above f (decisions path) n t.label good.0 faulty.0 holds p.inputs p.cells sound t.are good.1 faulty.1 pattern_is.obeys (follows good.0 good.1)
+
+    next_are : AreAbove (next (labels (Some f) (decisions path)) n t.label) (next (bits None) n good.0) (next (bits (Some f)) n faulty.0)
+    next_are = next_above f (decisions path) n t.label good.0 faulty.0 holds p.inputs p.cells sound t.are good.1 faulty.1 pattern_is.obeys (follows good.0 good.1)
+
+detected : (f : Fault) (n : Netlist) (holds : Holds) (fit : AreHoldsOf n holds) (sound : IsSound n) (path : Path) (only : (x : ℕ) (b : Bool) → decisions path x ≡ Some b → Contains (sources n holds) x)
+    (p : Pattern) (agrees : AgreesWith p (cube_of n holds path)) (point : Point) → IsTestPath f n holds path point → Detects n f p.inputs p.cells point
+detected f n holds fit sound path only p agrees (Output k) t =
+    let a = good f n holds fit sound path only p agrees (Output k) t in
+    let b = faulty f n holds fit sound path only p agrees (Output k) t in
+    record {
+      good = a.0;
+      faulty = b.0;
+      good_settles = a.1;
+      faulty_settles = b.1;
+      differs = differ_there (outs (labels (Some f) (decisions path)) n t.label) (outs (bits None) n a.0) (outs (bits (Some f)) n b.0) k (outs_are f n holds fit sound path only p agrees (Output k) t) t.first;
+    }
+detected f n holds fit sound path only p agrees (Cell k) t =
+    let a = good f n holds fit sound path only p agrees (Cell k) t in
+    let b = faulty f n holds fit sound path only p agrees (Cell k) t in
+    record {
+      good = a.0;
+      faulty = b.0;
+      good_settles = a.1;
+      faulty_settles = b.1;
+      differs = differ_there (next (labels (Some f) (decisions path)) n t.label) (next (bits None) n a.0) (next (bits (Some f)) n b.0) k (next_are f n holds fit sound path only p agrees (Cell k) t) t.first.1;
+    }
+
+pub test_cube : (f : Fault) (n : Netlist) (holds : Holds) → AreHoldsOf n holds → IsSound n → (path : Path) → ((x : ℕ) (b : Bool) → decisions path x ≡ Some b → Contains (sources n holds) x)
+    → (point : Point) → IsTestPath f n holds path point → IsTestCube f n holds (cube_of n holds path) point
+test_cube f n holds fit sound path only point t = record {
+  is_cube = cube_is n holds fit sound path only;
+  detects = λ p agrees. detected f n holds fit sound path only p agrees point t;
+}

@@ -1,0 +1,45 @@
+use Rattle.std.proofs.Common.{◌≡◌, Bool, true, false, not, refl, ap, subst}
+use Rattle.netlist.specs.Conditions.{IsSound}
+use Rattle.redundancy_cert.specs.declared.stacks.Other.TheVariants.{Searched}
+use Rattle.redundancy_cert.specs.Trees.{open_count}
+use Rattle.podem.proofs.Steps.{test_there, same_chosen, seen_closed, seen_going, enter_beside_closed, enter_beside_open}
+use Rattle.podem.proofs.searching.after_going.Goals as goal
+
+not_not : (b : Bool) → b ≡ not (not b)
+not_not true = refl
+not_not false = refl
+
+pub returns-in-Test : goal.returns-in-Test
+returns-in-Test c =
+    let n = c.args.core.now in
+    let holds = c.args.holds.now in
+    let sound : IsSound n = subst IsSound c.netlist.ensures c.sound.ensures in
+    test_there c.args.fault.now n holds sound c.args.labels.now c.args.stack.now.items c.args.signal c.requires.chosen
+    c.look.new.labels (not c.args.bit) c.in-Test.point c.in-Test.ensures.0 c.in-Test.ensures.1
+
+pub enter-requires : goal.enter-requires
+enter-requires c =
+    let f = c.args.fault.now in
+    let n = c.args.core.now in
+    let holds = c.args.holds.now in
+    let s = c.args.labels.now in
+    let s' = c.look.new.labels in
+    let stack = c.args.stack.now.items in
+    let x = c.args.signal in
+    let sound : IsSound n = subst IsSound c.netlist.ensures c.sound.ensures in
+    enter_beside_closed f n holds sound s' stack x (same_chosen f n holds sound s stack x c.requires.chosen s' c.in-Blocked.ensures.0) c.args.bit
+    (Searched c.in_ok-tree-in-Blocked.tree) refl c.in_ok-tree-in-Blocked.ensures (ap open_count c.in_ok-tree-in-Blocked.ensures)
+    (seen_closed f n holds sound s stack x c.requires.chosen (not c.args.bit) c.in-Blocked.ensures.1) c.requires.going
+
+pub enter-requires-in-Going : goal.enter-requires-in-Going
+enter-requires-in-Going c =
+    let f = c.args.fault.now in
+    let n = c.args.core.now in
+    let holds = c.args.holds.now in
+    let s = c.args.labels.now in
+    let s' = c.look.new.labels in
+    let stack = c.args.stack.now.items in
+    let x = c.args.signal in
+    let sound : IsSound n = subst IsSound c.netlist.ensures c.sound.ensures in
+    enter_beside_open f n holds sound s' stack x (same_chosen f n holds sound s stack x c.requires.chosen s' c.in-Going.ensures.0) c.args.bit
+    (seen_going f n holds sound s stack x c.requires.chosen (not c.args.bit) c.in-Going.ensures.1) c.requires.going

@@ -1,0 +1,52 @@
+//! The engine.
+ghost use Rattle.std.specs.Prelude.{◌≤◌, IfOk};
+ghost use Rattle.netlist.specs.Holds.{AreHoldsOf};
+ghost use Rattle.redundancy_cert.specs.Evidence.{HasEvidence};
+ghost use Rattle.podem.specs.Sources.{HasSourceEvidence};
+
+use crate::searching::search_from;
+use netlist::{Core, Fault, Holds, NoMemory};
+use pair_sim::PairSim;
+use redundancy_cert::{Engine, Found};
+use std::alloc::Global;
+
+/// A search that decides inputs and cells alone.
+#[derive(Clone, Copy, Debug)]
+pub struct Podem;
+
+impl Podem {
+    /// A test of the fault, a tree that shows it redundant, or a tree with as many Closed as the limit.
+    pub fn search_sources(
+        &self,
+        alloc: Global,
+        core: &Core,
+        fault: Fault,
+        limit: u32,
+        holds: &Holds,
+    ) -> Result<Found, NoMemory>
+        requires limit { 1 ≤ limit }
+        requires holds { AreHoldsOf core.now holds.now }
+        ensures evidence { IfOk result (HasEvidence fault core.now holds.now limit) }
+
+        // Only inputs that aren't held and cells are decided: no Partial for a limit of 2 to their number, and no Open where there is a test.
+        ensures sources { IfOk result (HasSourceEvidence fault core.now holds.now limit) }
+    {
+        let Ok(mut labels) = PairSim::new(alloc, core, fault, holds) else {
+            return Err(NoMemory);
+        };
+        search_from(alloc, core, &fault, holds, &mut labels, limit).map_err(|_| NoMemory)
+    }
+}
+
+impl Engine for Podem {
+    fn search(
+        &self,
+        alloc: Global,
+        core: &Core,
+        fault: Fault,
+        limit: u32,
+        holds: &Holds,
+    ) -> Result<Found, NoMemory> {
+        self.search_sources(alloc, core, fault, limit, holds)
+    }
+}

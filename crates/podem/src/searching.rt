@@ -1,0 +1,382 @@
+//! The search from the path without decisions.
+ghost use Rattle.std.specs.Prelude.{◌≡◌, ◌≤◌, ◌<◌, ◌+◌, ◌^◌, ℕ, [], ◌∷◌, length, IfOk, OnOk, MatchOption, map, if◌then◌else◌};
+ghost use Rattle.std.specs.List.{All, Contains};
+ghost use Rattle.netlist.specs.declared.kinds.Tri.TheVariants.{X};
+ghost use Rattle.netlist.specs.Netlist.{signals};
+ghost use Rattle.tri.specs.Paths.{IsUnknown, IsClosedPath, IsGoingPath};
+ghost use Rattle.pair_sim.specs.Sims.{sim, HasGood, IsFree};
+ghost use Rattle.redundancy_cert.specs.Trees.{closed_count};
+ghost use Rattle.redundancy_cert.specs.Stacks.{other_nodes, path_of_stack, closed_around};
+ghost use Rattle.redundancy_cert.specs.Evidence.{HasEvidence, IsTestCube};
+ghost use Rattle.netlist.specs.Holds.{AreHoldsOf};
+ghost use Rattle.podem.specs.Sources.{all_sources, sources, undecided, value_of, HasSourceEvidence};
+ghost use Rattle.podem.specs.Searching.{IsAt, IsSearching, IsSeen, IsKnownAt, MayEnter, MayClimb, IsWhole, IsTestAt, IsStepped, IsChosen, IsOfCase};
+
+use cubes::Cube;
+use netlist::{Core, Fault, Holds, Point, SignalId, Tri};
+use pair_sim::{PairSim, State};
+use redundancy_cert::{Found, Node, Other, Side, Tree, Turn, end_side, whole_tree};
+use std::alloc::{AllocError, Global};
+
+/// What comes of a turn.
+#[derive(Drop)]
+pub enum Step {
+    /// The simulation is at a test.
+    Found(Point),
+    /// The tree is whole.
+    Done(Vec<Node>),
+    /// The search goes on; whether there is one Closed more.
+    On(bool),
+}
+
+/// Looks at a side, and comes back unless it's a test.
+fn look(labels: &mut PairSim, signal: SignalId, bit: bool) -> State
+    requires { IsFree labels.old signal }
+    ensures { IsSeen labels.old signal bit result labels.new }
+{
+    labels.assign(signal, bit);
+    let state = labels.state();
+    match state {
+        State::Test(_) => {}
+        State::Blocked => labels.undo(),
+        State::Going => labels.undo(),
+    }
+    state
+}
+
+/// The first of these signals that is X.
+fn first_free(labels: &PairSim, ids: &[SignalId]) -> Option<SignalId>
+    requires { All (Contains (signals labels.now.netlist)) ids.now }
+    ensures { MatchOption result (All (IsKnownAt labels.now) ids.now) (λ x. Contains ids.now x × HasGood labels.now x X) }
+{
+    for id in ids {
+        if matches!(labels.good(*id), Tri::X) {
+            return Some(*id);
+        }
+    }
+    None
+}
+
+/// Puts a decision onto the stack, and goes there.
+fn enter(
+    core: &Core,
+    fault: &Fault,
+    holds: &Holds,
+    labels: &mut PairSim,
+    stack: &mut Vec<Side>,
+    signal: SignalId,
+    bit: bool,
+    other: Other,
+) -> Result<(), AllocError>
+    requires { MayEnter fault.now core.now holds.now labels.old stack.old.items signal bit other }
+    ensures searching { OnOk result (IsSearching fault.now core.now holds.now labels.new stack.new.items
+        (closed_around stack.old.items + closed_count (other_nodes other))) }
+    ensures fewer { OnOk result (undecided (path_of_stack stack.new.items) (sources core.now holds.now) < undecided (path_of_stack stack.old.items) (sources core.now holds.now)) }
+{
+    stack.push(Side { signal, bit, other })?;
+    labels.assign(signal, bit);
+    Ok(())
+}
+
+/// The search of the path's end is done with this tree: goes on at the last side that is untried, or gives the whole tree.
+fn climb(
+    core: &Core,
+    fault: &Fault,
+    holds: &Holds,
+    labels: &mut PairSim,
+    stack: &mut Vec<Side>,
+    mut done: Vec<Node>,
+) -> Result<Option<Vec<Node>>, AllocError>
+    requires { MayClimb fault.now core.now holds.now labels.old stack.old.items done.items }
+    ensures { IfOk result (λ tree. MatchOption tree
+        (IsSearching fault.now core.now holds.now labels.new stack.new.items (closed_around stack.old.items + closed_count done.items))
+        (λ nodes. IsWhole fault.now core.now holds.now nodes.items (closed_around stack.old.items + closed_count done.items))) }
+{
+    while stack.len() > 0 {
+        labels.undo();
+        match end_side(stack, done)? {
+            Turn::Climbed(nodes) => done = nodes,
+            Turn::Turned => {
+                let last = &stack[stack.len() - 1];
+                labels.assign(last.signal, last.bit);
+                return Ok(None);
+            }
+        }
+    }
+    Ok(Some(done))
+}
+
+/// A source that is X: while the search may go on there is one.
+fn choose(
+    core: &Core,
+    fault: &Fault,
+    holds: &Holds,
+    labels: &PairSim,
+    stack: &Vec<Side>,
+) -> SignalId
+    requires at { IsAt fault.now core.now holds.now labels.now stack.now.items }
+    requires going { IsGoingPath fault.now core.now holds.now (path_of_stack stack.now.items) }
+    ensures source { Contains (sources core.now holds.now) result }
+    ensures free { IsUnknown fault.now core.now holds.now (path_of_stack stack.now.items) result }
+{
+    let netlist = core.netlist();
+    netlist.sound();
+    match first_free(labels, netlist.inputs()) {
+        Some(signal) => signal,
+        None => match first_free(labels, netlist.cells()) {
+            Some(signal) => signal,
+            None => unreachable!(),
+        },
+    }
+}
+
+/// The tree of one Closed.
+fn closed_tree(alloc: Global) -> Result<Vec<Node>, AllocError>
+    ensures { IfOk result (λ v. v.items ≡ Node.Closed ∷ []) }
+{
+    let mut nodes = Vec::new(alloc);
+    nodes.push(Node::Closed)?;
+    Ok(nodes)
+}
+
+/// The tree of a Forced and one Closed.
+fn forced_tree(alloc: Global, signal: SignalId, bit: bool) -> Result<Vec<Node>, AllocError>
+    ensures { IfOk result (λ v. v.items ≡ Node.Forced signal bit ∷ Node.Closed ∷ []) }
+{
+    let mut nodes = Vec::new(alloc);
+    nodes.push(Node::Forced(signal, bit))?;
+    nodes.push(Node::Closed)?;
+    Ok(nodes)
+}
+
+/// A turn where the first side is closed.
+fn after_closed(
+    alloc: Global,
+    core: &Core,
+    fault: &Fault,
+    holds: &Holds,
+    labels: &mut PairSim,
+    stack: &mut Vec<Side>,
+    signal: SignalId,
+    bit: bool,
+) -> Result<Step, AllocError>
+    requires chosen { IsChosen fault.now core.now holds.now labels.old stack.old.items signal }
+    requires closed { IsClosedPath fault.now core.now holds.now ((signal, bit) ∷ path_of_stack stack.old.items) }
+    ensures { IfOk result (IsStepped fault.now core.now holds.now labels.new stack.old.items stack.new.items (closed_around stack.old.items)) }
+{
+    core.netlist().sound();
+    match look(labels, signal, !bit) {
+        State::Test(point) => Ok(Step::Found(point)),
+        State::Blocked => {
+            let done = forced_tree(alloc, signal, bit)?;
+            match climb(core, fault, holds, labels, stack, done)? {
+                Some(nodes) => Ok(Step::Done(nodes)),
+                None => Ok(Step::On(true)),
+            }
+        }
+        State::Going => {
+            let tree = closed_tree(alloc)?;
+            enter(
+                core,
+                fault,
+                holds,
+                labels,
+                stack,
+                signal,
+                !bit,
+                Other::Searched(tree),
+            )?;
+            Ok(Step::On(true))
+        }
+    }
+}
+
+/// A turn where the first side may be gone on with.
+fn after_going(
+    alloc: Global,
+    core: &Core,
+    fault: &Fault,
+    holds: &Holds,
+    labels: &mut PairSim,
+    stack: &mut Vec<Side>,
+    signal: SignalId,
+    bit: bool,
+) -> Result<Step, AllocError>
+    requires chosen { IsChosen fault.now core.now holds.now labels.old stack.old.items signal }
+    requires going { IsGoingPath fault.now core.now holds.now ((signal, bit) ∷ path_of_stack stack.old.items) }
+    ensures { IfOk result (IsStepped fault.now core.now holds.now labels.new stack.old.items stack.new.items (closed_around stack.old.items)) }
+{
+    core.netlist().sound();
+    match look(labels, signal, !bit) {
+        State::Test(point) => Ok(Step::Found(point)),
+        State::Blocked => {
+            let tree = closed_tree(alloc)?;
+            enter(
+                core,
+                fault,
+                holds,
+                labels,
+                stack,
+                signal,
+                bit,
+                Other::Searched(tree),
+            )?;
+            Ok(Step::On(true))
+        }
+        State::Going => {
+            enter(
+                core,
+                fault,
+                holds,
+                labels,
+                stack,
+                signal,
+                bit,
+                Other::Untried,
+            )?;
+            Ok(Step::On(false))
+        }
+    }
+}
+
+/// A turn of the search: both sides of a source that is X are looked at.
+fn take_turn(
+    alloc: Global,
+    core: &Core,
+    fault: &Fault,
+    holds: &Holds,
+    labels: &mut PairSim,
+    stack: &mut Vec<Side>,
+) -> Result<Step, AllocError>
+    requires at { IsAt fault.now core.now holds.now labels.old stack.old.items }
+    requires going { IsGoingPath fault.now core.now holds.now (path_of_stack stack.old.items) }
+    ensures { IfOk result (IsStepped fault.now core.now holds.now labels.new stack.old.items stack.new.items (closed_around stack.old.items)) }
+{
+    core.netlist().sound();
+    let signal = choose(core, fault, holds, labels, stack);
+    match look(labels, signal, false) {
+        State::Test(point) => Ok(Step::Found(point)),
+        State::Blocked => after_closed(alloc, core, fault, holds, labels, stack, signal, false),
+        State::Going => after_going(alloc, core, fault, holds, labels, stack, signal, false),
+    }
+}
+
+/// The values of sources without the fault.
+fn source_values(
+    alloc: Global,
+    core: &Core,
+    fault: &Fault,
+    holds: &Holds,
+    labels: &PairSim,
+    ids: &[SignalId],
+) -> Result<Vec<Tri>, AllocError>
+    requires case { IsOfCase fault.now core.now holds.now labels.now }
+    requires fit { AreHoldsOf core.now holds.now }
+    requires sources { All (Contains (all_sources core.now)) ids.now }
+    ensures { IfOk result (λ v. v.items ≡ map (value_of holds.now labels.now.path) ids.now) }
+{
+    core.netlist().sound();
+    let mut values = Vec::with_capacity(alloc, ids.len())?;
+    for id in ids {
+        values.push(labels.good(*id))?;
+    }
+    Ok(values)
+}
+
+/// The cube of a test.
+fn cube_there(
+    alloc: Global,
+    core: &Core,
+    fault: &Fault,
+    holds: &Holds,
+    labels: &PairSim,
+    point: &Point,
+) -> Result<Cube, AllocError>
+    requires test { IsTestAt fault.now core.now holds.now labels.now point.now }
+    requires fit { AreHoldsOf core.now holds.now }
+    ensures { IfOk result (λ c. IsTestCube fault.now core.now holds.now c point.now) }
+{
+    let netlist = core.netlist();
+    netlist.sound();
+    let inputs = source_values(alloc, core, fault, holds, labels, netlist.inputs())?;
+    let cells = source_values(alloc, core, fault, holds, labels, netlist.cells())?;
+    Ok(Cube::new(inputs, cells))
+}
+
+/// The tree of one Open.
+fn open_tree(alloc: Global) -> Result<Vec<Node>, AllocError>
+    ensures { IfOk result (λ v. v.items ≡ Node.Open ∷ []) }
+{
+    let mut nodes = Vec::new(alloc);
+    nodes.push(Node::Open)?;
+    Ok(nodes)
+}
+
+fn one_if(more: bool) -> u32
+    ensures { result ≡ (if more then 1 else 0) }
+{
+    if more { 1 } else { 0 }
+}
+
+/// The search from the path without decisions, where it may go on.
+fn search_on(
+    alloc: Global,
+    core: &Core,
+    fault: &Fault,
+    holds: &Holds,
+    labels: &mut PairSim,
+    limit: u32,
+) -> Result<Found, AllocError>
+    requires start { labels.old ≡ sim core.now fault.now holds.now [] }
+    requires fit { AreHoldsOf core.now holds.now }
+    requires going { IsGoingPath fault.now core.now holds.now [] }
+    ensures evidence { IfOk result (HasEvidence fault.now core.now holds.now limit) }
+    ensures sources { IfOk result (HasSourceEvidence fault.now core.now holds.now limit) }
+{
+    core.netlist().sound();
+    let mut stack = Vec::new(alloc);
+    let mut closed: u32 = 0;
+    while closed < limit {
+        match take_turn(alloc, core, fault, holds, labels, &mut stack)? {
+            Step::Found(point) => {
+                let cube = cube_there(alloc, core, fault, holds, labels, &point)?;
+                return Ok(Found::Test(cube, point));
+            }
+            Step::Done(nodes) => return Ok(Found::Closed(Tree::new(nodes))),
+            Step::On(more) => closed += one_if(more),
+        }
+    }
+    let open = open_tree(alloc)?;
+    let nodes = whole_tree(alloc, stack, open)?;
+    Ok(Found::Partial(Tree::new(nodes)))
+}
+
+/// The search from the path without decisions: a test, a tree without Open, or a tree with as many Closed as the limit.
+pub(crate) fn search_from(
+    alloc: Global,
+    core: &Core,
+    fault: &Fault,
+    holds: &Holds,
+    labels: &mut PairSim,
+    limit: u32,
+) -> Result<Found, AllocError>
+    requires start { labels.old ≡ sim core.now fault.now holds.now [] }
+    requires fit { AreHoldsOf core.now holds.now }
+    requires some { 1 ≤ limit }
+    ensures evidence { IfOk result (HasEvidence fault.now core.now holds.now limit) }
+
+    // On inputs and cells alone: no Partial for a limit of 2 to their number, and no Open where there is a test.
+    ensures sources { IfOk result (HasSourceEvidence fault.now core.now holds.now limit) }
+{
+    match labels.state() {
+        State::Test(point) => {
+            let cube = cube_there(alloc, core, fault, holds, labels, &point)?;
+            Ok(Found::Test(cube, point))
+        }
+        State::Blocked => {
+            let tree = closed_tree(alloc)?;
+            Ok(Found::Closed(Tree::new(tree)))
+        }
+        State::Going => search_on(alloc, core, fault, holds, labels, limit),
+    }
+}
