@@ -16,3 +16,5 @@ pub mod PlaySteps
 pub mod LoadLemmas
 pub mod BurstLemmas
 pub mod ApplyLemmas
+pub mod PlanMarks
+pub mod PlanLemmas

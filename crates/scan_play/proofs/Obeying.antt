@@ -1,6 +1,6 @@
 -- The vectors drive the held inputs with their bits.
-use Rattle.std.proofs.Common.{◌≡◌, ℕ, suc, zero, Bool, true, false, not, List, [], ◌∷◌, ◌++◌, map, length, replicate, Option, Some, None, slice_get, refl, ap, subst, sym}
-use Rattle.std.specs.List.{All, AllZip, zip}
+use Rattle.std.proofs.Common.{◌≡◌, ℕ, suc, zero, Bool, false, not, List, [], ◌∷◌, ◌++◌, map, length, replicate, Option, Some, slice_get, ap, subst, sym}
+use Rattle.std.specs.List.{All, zip}
 use Rattle.std.proofs.lemmas.List.Elements.{All-nil, All-cons, All-head, All-tail, All-append}
 use Rattle.netlist.specs.declared.kinds.Tri.{Tri}
 use Rattle.netlist.specs.declared.kinds.Tri.TheVariants.{X}
@@ -12,7 +12,7 @@ use Rattle.chain_stitch.specs.Chains.{cells_of, longest_of}
 use Rattle.scan_insert.specs.Names.{numbers_from}
 use Rattle.scan_play.specs.Cycles.{Cycle}
 use Rattle.scan_play.specs.Shifts.{by_chain, word_in, word_out, held_or_zero, idle_inputs, shift, load}
-use Rattle.scan_play.specs.Vectors.{Response, Responds, flush, capture, applied, vectors, AreVectors}
+use Rattle.scan_play.specs.Vectors.{Response, flush, capture, applied, AreVectors}
 
 idle_obeys : (holds : Holds) (others : List Bool) → Obeys holds (idle_inputs holds ++ others)
 idle_obeys [] others k b e = cc

@@ -1,5 +1,5 @@
 -- A redundant fault changes no run of the scanned netlist.
-use Rattle.std.proofs.Common.{◌≡◌, ℕ, suc, zero, Bool, false, cond, List, [], ◌∷◌, ◌++◌, map, length, Option, Some, None, refl, sym, ◌∙◌, ap, subst, arith}
+use Rattle.std.proofs.Common.{◌≡◌, ℕ, suc, zero, Bool, cond, List, [], ◌∷◌, ◌++◌, map, length, Option, Some, None, refl, sym, ◌∙◌, ap, subst, arith}
 use Rattle.netlist.specs.declared.lines.Fault.{Fault}
 use Rattle.std.specs.List.{All}
 use Rattle.netlist.specs.Netlist.{Netlist}
@@ -8,7 +8,7 @@ use Rattle.netlist.specs.Conditions.{IsSound}
 use Rattle.netlist.specs.Settled.{Settles, bit_table, bits}
 use Rattle.netlist.specs.Detection.{IsRedundant}
 use Rattle.tri.proofs.ClosedLemmas.{redundant_changes_nothing}
-use Rattle.netlist.specs.Lines.{IsLineOf, IsFaultOf}
+use Rattle.netlist.specs.Lines.{IsLineOf}
 use Rattle.scan_insert.specs.Scanned.{AreChainsOf, sites_of, scanned_of, naming_of, fault_at}
 use Rattle.scan_insert.specs.Laws.{shifted, last_values}
 use Rattle.scan_insert.proofs.Unchanged.{nothing}

@@ -1,5 +1,5 @@
 -- What the cells of chains hold while words are shifted in, for any kind of values.
-use Rattle.std.proofs.Common.{◌≡◌, ℕ, suc, zero, ◌-◌, ◌<◌, ◌≤◌, Bool, false, List, [], ◌∷◌, ◌++◌, map, length, get_or, take, drop, replicate, reverse, refl, sym, ◌∙◌, ap, subst, inl, inr, arith, length-append, length-take, length-drop, add-one}
+use Rattle.std.proofs.Common.{◌≡◌, ℕ, suc, zero, ◌-◌, ◌<◌, ◌≤◌, List, [], ◌∷◌, ◌++◌, map, length, get_or, take, drop, replicate, reverse, refl, sym, ◌∙◌, ap, subst, inl, inr, arith, length-append, length-take, length-drop, add-one}
 use Rattle.std.specs.List.{All, AllZip}
 use Rattle.std.proofs.lemmas.Bool.{cases_lt}
 use Rattle.std.proofs.lemmas.List.{append_assoc, reverse-append, length-reverse, length-replicate, take_more, take_at, take_all, take-append-le, take-take, drop_at, get_or-take, get_or_append_left, get_or-append_right, get_or-reverse, take-append-drop, reverse-reverse}

@@ -1,41 +1,28 @@
 -- What a test shows in three values, and what the player answers.
-use Rattle.std.proofs.Common.{◌≡◌, ◌≢◌, ℕ, suc, zero, ◌⊎◌, Bool, true, false, not, cond, List, [], ◌∷◌, ◌++◌, map, length, get_or, replicate, Option, Some, None, slice_get, refl, sym, ◌∙◌, ap, subst, inl, inr, arith}
+use Rattle.std.proofs.Common.{◌≡◌, ◌≢◌, ℕ, suc, zero, ◌⊎◌, Bool, true, false, not, List, [], ◌∷◌, map, length, get_or, replicate, Option, Some, None, slice_get, refl, sym, ◌∙◌, ap, subst, inl, inr, arith}
 use Rattle.std.specs.List.{AllZip, zip}
-use Rattle.std.proofs.lemmas.List.{length-map, map-append, map-id, nil_from_length}
-use Rattle.netlist.specs.declared.kinds.Kind.{Kind}
+use Rattle.std.proofs.lemmas.List.{length-map}
 use Rattle.netlist.specs.declared.kinds.Tri.{Tri}
-use Rattle.netlist.specs.declared.kinds.Tri.TheVariants.{Zero, One, X}
-use Rattle.netlist.specs.declared.lines.Line.{Line}
+use Rattle.netlist.specs.declared.kinds.Tri.TheVariants.{X}
 use Rattle.netlist.specs.declared.lines.Fault.{Fault}
-use Rattle.netlist.specs.Gates.{gate_bit}
-use Rattle.netlist.specs.Netlist.{Netlist, cells, IsAcyclic}
+use Rattle.netlist.specs.Netlist.{Netlist, cells}
 use Rattle.netlist.specs.Holds.{Holds}
-use Rattle.netlist.specs.Conditions.{IsClosed, IsNumbered, IsSound}
-use Rattle.netlist.specs.Settled.{Settles, is_line, stuck, bits, outs, next}
-use Rattle.netlist.specs.Laws.{Keeps}
-use Rattle.netlist.proofs.Alike.{outs_alike, next_alike}
-use Rattle.netlist.proofs.SomeSettled.{some_settled}
-use Rattle.netlist.specs.ThreeValues.{known, AreAllowed}
-use Rattle.tri.specs.Gates.{gate_tri}
-use Rattle.tri.specs.Labels.{is_known_as}
-use Rattle.tri.specs.Settled.{tri_table, tris}
-use Rattle.tri.proofs.Choices.{no, gate_exact}
+use Rattle.netlist.specs.Conditions.{IsSound}
+use Rattle.netlist.specs.Settled.{bits}
+use Rattle.netlist.specs.ThreeValues.{known}
+use Rattle.tri.specs.Settled.{tri_table}
 use Rattle.cubes.specs.Cubes.{Pattern}
 use Rattle.netlist.specs.Lines.{IsFaultOf}
 use Rattle.scan_insert.specs.Scanned.{AreChainsOf, sites_of, scanned_of, fault_at}
-use Rattle.scan_insert.proofs.Concrete.{are_dealt, is_numbered, is_acyclic}
-use Rattle.scan_insert.proofs.Soundness.{closed}
-use Rattle.scan_insert.proofs.Unchanged.{nothing}
 use Rattle.scan_play.specs.declared.played.Played.{Played}
 use Rattle.scan_play.specs.declared.played.Played.TheVariants.{Passes, Fails, Unknown}
 use Rattle.scan_play.specs.Cycles.{Cycle}
 use Rattle.scan_play.specs.Runs.{Runs}
 use Rattle.scan_play.specs.Passing.{strobe_at, shown_at}
-use Rattle.scan_play.specs.Vectors.{Response, Responds, applied, vectors, AreVectors}
+use Rattle.scan_play.specs.Vectors.{Response, Responds, AreVectors}
 use Rattle.scan_play.specs.Playing.{PlayRuns, PlaysAs}
 use Rattle.scan_play.specs.Laws.{PlayDecides}
-use Rattle.scan_play.proofs.Shifting.{zip_length}
-use Rattle.scan_play.proofs.Applied.{CaptureLaw, Answers, with_length, zip_known, vectors_met, length-next}
+use Rattle.scan_play.proofs.Applied.{Answers, zip_known, length-next}
 use Rattle.scan_play.proofs.Widths.{no_fault}
 use Rattle.scan_play.proofs.Bridge.{bridge}
 use Rattle.scan_play.proofs.Instances.{tris_above}

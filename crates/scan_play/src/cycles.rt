@@ -109,4 +109,21 @@ impl Burst {
         strobe.extend_from_slice(&self.outs[start..start + self.width])?;
         Ok(())
     }
+
+    /// A cycle of the burst.
+    pub fn cycle(&self, alloc: Global, t: usize) -> Result<Cycle, AllocError>
+        requires { t < self.now.count }
+        ensures { IfOk result (λ c. c ≡ cycle_of self.now t) }
+    {
+        let start = t * self.width;
+        let mut drive = Vec::from_slice(alloc, &self.drive)?;
+        drive.extend_from_slice(&self.ins[start..start + self.width])?;
+        let mut strobe = Vec::new(alloc);
+        self.read_strobe(t, &mut strobe)?;
+        Ok(Cycle {
+            drive,
+            strobe,
+            pulse: self.pulse,
+        })
+    }
 }

@@ -6,8 +6,10 @@ mod cycles;
 mod flushing;
 mod laws;
 mod loading;
+mod planning;
 mod played;
 mod playing;
+mod stepping;
 mod strobes;
 
 pub use applying::vectors_of;

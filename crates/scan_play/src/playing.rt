@@ -1,17 +1,20 @@
 //! The player: vectors on a netlist in three values, from all cells X.
-ghost use Rattle.std.specs.Prelude.{◌≡◌, ◌+◌, ◌^◌, ◌<◌, length, replicate, IfOk};
+ghost use Rattle.std.specs.Prelude.{◌≡◌, ◌+◌, ◌^◌, ◌<◌, ◌≤◌, ◌++◌, true, length, replicate, IfOk, OnOk};
 ghost use Rattle.std.specs.List.{All};
 ghost use Rattle.netlist.specs.Netlist.{cells, signals};
 ghost use Rattle.netlist.specs.declared.kinds.Tri.TheVariants.{X};
 ghost use Rattle.scan_play.specs.Cycles.{IsCycleOf};
 ghost use Rattle.scan_play.specs.Bursts.{cycle_of, cycles_of, all_cycles};
+ghost use Rattle.scan_play.specs.inner.Plans.{IsPlanned};
 ghost use Rattle.scan_play.specs.inner.Steps.{IsStep, PlaysOn};
 ghost use Rattle.scan_play.specs.Playing.{PlaysAs};
 
-use crate::cycles::{Burst, Vectors};
+use crate::cycles::{Burst, Vectors, push_known};
+use crate::planning::Plan;
 use crate::played::Played;
+use crate::stepping::{drive_sources, evaluate_all};
 use crate::strobes::unmet_in;
-use netlist::{Core, Fault, NoMemory, Tri};
+use netlist::{Core, Fault, NoMemory, SignalId, Tri};
 use std::alloc::{AllocError, Global};
 use tri::Tris;
 
@@ -60,8 +63,8 @@ fn play_cycle(
     Ok(found)
 }
 
-/// Plays the cycles of a burst, up to the first with an unmet strobe.
-fn play_burst(
+/// Plays the cycles of a burst, up to the first with an unmet strobe: each gate is evaluated in each cycle.
+fn play_cycles(
     core: &Core,
     rule: &Tris,
     burst: &Burst,
@@ -84,22 +87,149 @@ fn play_burst(
     Ok(None)
 }
 
+/// Plays one cycle by the steps of a plan.
+fn play_shift(
+    core: &Core,
+    rule: &Tris,
+    burst: &Burst,
+    t: usize,
+    number: u64,
+    steps: &[SignalId],
+    bench: &mut Bench,
+) -> Result<Option<Played>, AllocError>
+    requires within { t < burst.now.count }
+    requires fits { IsCycleOf core.now (cycle_of burst.now t) }
+    requires size { length bench.old.state.items ≡ length (cells core.now) }
+    requires planned { IsPlanned rule.now.fault core.now burst.now.drive.items burst.now.strobe.items steps.now bench.old.values.items }
+    ensures planned { IfOk result (λ _. IsPlanned rule.now.fault core.now burst.now.drive.items burst.now.strobe.items steps.now bench.new.values.items) }
+    ensures played { IfOk result (λ found. IsStep rule.now.fault core.now bench.old.state.items bench.new.state.items (cycle_of burst.now t) number found) }
+{
+    let netlist = core.netlist();
+    netlist.sound();
+    burst.read_drive(t, &mut bench.drive)?;
+    burst.read_strobe(t, &mut bench.strobe)?;
+    drive_sources(rule, netlist, &bench.drive, &bench.state, &mut bench.values);
+    evaluate_all(rule, netlist, steps, &mut bench.values, &mut bench.pins)?;
+    core.outs_into(rule, &bench.values, &mut bench.shown)?;
+    let found = unmet_in(number, &bench.strobe, &bench.shown);
+    if burst.pulse {
+        core.next_into(rule, &bench.values, &mut bench.state)?;
+    }
+    Ok(found)
+}
+
+/// Plays the cycles of a burst by the steps of a plan, up to the first with an unmet strobe.
+fn play_shifts(
+    core: &Core,
+    rule: &Tris,
+    burst: &Burst,
+    first: u64,
+    steps: &[SignalId],
+    bench: &mut Bench,
+) -> Result<Option<Played>, AllocError>
+    requires fits { All (IsCycleOf core.now) (cycles_of burst.now) }
+    requires size { length bench.old.state.items ≡ length (cells core.now) }
+    requires planned { IsPlanned rule.now.fault core.now burst.now.drive.items burst.now.strobe.items steps.now bench.old.values.items }
+    requires few { first + burst.now.count < 2 ^ 64 }
+    ensures room { IfOk result (λ _. length bench.new.values.items ≡ length (signals core.now)) }
+    ensures played { IfOk result (λ found. PlaysOn rule.now.fault core.now (cycles_of burst.now) first bench.old.state.items bench.new.state.items found) }
+{
+    for t in 0..burst.count {
+        match play_shift(core, rule, burst, t, first + t as u64, steps, bench)? {
+            Some(played) => return Ok(Some(played)),
+            None => {}
+        }
+    }
+    Ok(None)
+}
+
+/// Adds so many values of which nothing is known.
+fn push_unknowns(count: usize, values: &mut Vec<Tri>) -> Result<(), AllocError>
+    ensures { OnOk result (values.new.items ≡ values.old.items ++ replicate count X) }
+{
+    for _done in 0..count {
+        values.push(Tri::X)?;
+    }
+    Ok(())
+}
+
+/// Puts what stays through a burst into the values, and chooses the gates that its cycles have to evaluate. Answers whether these will do.
+fn plan_burst(
+    core: &Core,
+    rule: &Tris,
+    burst: &Burst,
+    idle: &[Tri],
+    plan: &mut Plan,
+    bench: &mut Bench,
+) -> Result<bool, AllocError>
+    requires narrow { length burst.now.drive.items ≤ length core.now.inputs }
+    requires idle { idle.now ≡ replicate (length (cells core.now)) X }
+    requires room { length bench.old.values.items ≡ length (signals core.now) }
+    ensures state { IfOk result (λ _. bench.new.state.items ≡ bench.old.state.items) }
+    ensures room { IfOk result (λ _. length bench.new.values.items ≡ length (signals core.now)) }
+    ensures planned { IfOk result (λ yes. yes ≡ true → IsPlanned rule.now.fault core.now burst.now.drive.items burst.now.strobe.items plan.new.steps.items bench.new.values.items) }
+{
+    bench.drive.clear();
+    push_known(&burst.drive, &mut bench.drive)?;
+    push_unknowns(
+        core.netlist().inputs().len() - burst.drive.len(),
+        &mut bench.drive,
+    )?;
+    core.settle_into(rule, &bench.drive, idle, &mut bench.values, &mut bench.pins)?;
+    let chosen = plan.choose_steps(core, &burst.strobe, &bench.values)?;
+    Ok(chosen)
+}
+
+/// From so many cycles on it pays to plan a burst.
+const LONG: usize = 4;
+
+/// Plays the cycles of a burst, up to the first with an unmet strobe.
+fn play_burst(
+    core: &Core,
+    rule: &Tris,
+    burst: &Burst,
+    first: u64,
+    idle: &[Tri],
+    plan: &mut Plan,
+    bench: &mut Bench,
+) -> Result<Option<Played>, AllocError>
+    requires fits { All (IsCycleOf core.now) (cycles_of burst.now) }
+    requires size { length bench.old.state.items ≡ length (cells core.now) }
+    requires room { length bench.old.values.items ≡ length (signals core.now) }
+    requires idle { idle.now ≡ replicate (length (cells core.now)) X }
+    requires few { first + burst.now.count < 2 ^ 64 }
+    ensures room { IfOk result (λ _. length bench.new.values.items ≡ length (signals core.now)) }
+    ensures played { IfOk result (λ found. PlaysOn rule.now.fault core.now (cycles_of burst.now) first bench.old.state.items bench.new.state.items found) }
+{
+    if burst.count < LONG {
+        return play_cycles(core, rule, burst, first, bench);
+    }
+    let planned = plan_burst(core, rule, burst, idle, plan, bench)?;
+    if planned {
+        return play_shifts(core, rule, burst, first, &plan.steps, bench);
+    }
+    play_cycles(core, rule, burst, first, bench)
+}
+
 /// Plays bursts, up to the first cycle with an unmet strobe.
 fn play_bursts(
     core: &Core,
     rule: &Tris,
     bursts: &[Burst],
+    idle: &[Tri],
+    plan: &mut Plan,
     bench: &mut Bench,
 ) -> Result<Option<Played>, AllocError>
     requires fits { All (IsCycleOf core.now) (all_cycles bursts.now) }
     requires size { length bench.old.state.items ≡ length (cells core.now) }
     requires room { length bench.old.values.items ≡ length (signals core.now) }
+    requires idle { idle.now ≡ replicate (length (cells core.now)) X }
     requires few { length (all_cycles bursts.now) < 2 ^ 64 }
     ensures { IfOk result (λ found. PlaysOn rule.now.fault core.now (all_cycles bursts.now) 0 bench.old.state.items bench.new.state.items found) }
 {
     let mut first: u64 = 0;
     for burst in bursts {
-        match play_burst(core, rule, burst, first, bench)? {
+        match play_burst(core, rule, burst, first, idle, plan, bench)? {
             Some(played) => return Ok(Some(played)),
             None => {}
         }
@@ -113,9 +243,7 @@ fn unknowns(alloc: Global, count: usize) -> Result<Vec<Tri>, AllocError>
     ensures { IfOk result (λ v. v.items ≡ replicate count X) }
 {
     let mut values = Vec::with_capacity(alloc, count)?;
-    for _done in 0..count {
-        values.push(Tri::X)?;
-    }
+    push_unknowns(count, &mut values)?;
     Ok(values)
 }
 
@@ -133,8 +261,10 @@ fn play_from_unknown(
     core.netlist().sound();
     let netlist = core.netlist();
     let state = unknowns(alloc, netlist.cells().len())?;
+    let idle = unknowns(alloc, netlist.cells().len())?;
     let signals = netlist.inputs().len() + netlist.definitions().len();
     let values = unknowns(alloc, signals)?;
+    let mut plan = Plan::new(alloc);
     let mut bench = Bench {
         state,
         drive: Vec::new(alloc),
@@ -143,7 +273,7 @@ fn play_from_unknown(
         values,
         pins: Vec::new(alloc),
     };
-    match play_bursts(core, rule, vectors.bursts(), &mut bench)? {
+    match play_bursts(core, rule, vectors.bursts(), &idle, &mut plan, &mut bench)? {
         None => Ok(Played::Passes),
         Some(played) => Ok(played),
     }

@@ -1,4 +1,4 @@
-use Rattle.std.proofs.Common.{◌++◌, ◌∷◌, [], false, true, refl, map, length, replicate, List, ℕ, ap, ◌∙◌}
+use Rattle.std.proofs.Common.{false, true, refl, map, length, replicate, List, ℕ, ap, ◌∙◌}
 use Rattle.netlist.specs.declared.kinds.Tri.TheVariants.{X}
 use Rattle.scan_play.specs.Shifts.{by_chain, column, word_in, word_out}
 use Rattle.scan_play.proofs.BurstLemmas.{enough, column_width, load_cycles}

@@ -1,30 +1,19 @@
-use Rattle.scan_play.proofs.PlaySteps.{cycle_fits, burst_more, burst_found, burst_done}
+use Rattle.std.proofs.Common.{List, IfOk, subst, arith}
+use Rattle.netlist.specs.declared.kinds.Tri.{Tri}
+use Rattle.scan_play.specs.Bursts.{cycles_of}
+use Rattle.scan_play.specs.inner.Steps.{PlaysOn}
+use Rattle.scan_play.proofs.PlanLemmas.{narrow}
 use Rattle.scan_play.proofs.playing.play_burst.Goals as goal
 
-pub play_cycle-requires-clause-fits : goal.play_cycle-requires-clause-fits
-play_cycle-requires-clause-fits c = cycle_fits c.args.core.now c.args.burst.now c.loop-t.t c.requires.fits c.loop-t-test.true
+pub plan_burst-requires-clause-narrow : goal.plan_burst-requires-clause-narrow
+plan_burst-requires-clause-narrow c = narrow c.args.core.now c.args.burst.now c.requires.fits (let f = c.if-burst-lt-LONG.false in omega arith)
 
-pub play_cycle-requires-clause-size : goal.play_cycle-requires-clause-size
-play_cycle-requires-clause-size c = c.loop-t.invariant.plays.size
-
-pub play_cycle-requires-clause-room : goal.play_cycle-requires-clause-room
-play_cycle-requires-clause-room c = c.loop-t.invariant.room
-
-pub returns-clause-room : goal.returns-clause-room
-returns-clause-room c = c.loop-t.invariant.room
+pub returns-then-planned-clause-played : goal.returns-then-planned-clause-played
+returns-then-planned-clause-played c =
+    subst (λ (s : List Tri). IfOk c.play_shifts.result (λ found. PlaysOn c.args.rule.now.fault c.args.core.now (cycles_of c.args.burst.now) c.args.first s c.play_shifts.new.bench.state.items found))
+    c.in_ok-planned.ensures.state c.play_shifts.ensures.played
 
 pub returns-clause-played : goal.returns-clause-played
 returns-clause-played c =
-    burst_done c.args.rule.now.fault c.args.core.now c.args.burst.now c.loop-t.t c.args.first c.args.bench.now.state.items c.loop-t.bench.state.items c.loop-t-test.false c.loop-t.invariant.plays
-
-pub returns-in-Some-clause-played : goal.returns-in-Some-clause-played
-returns-in-Some-clause-played c =
-    burst_found c.args.rule.now.fault c.args.core.now c.args.burst.now c.loop-t.t c.args.first c.args.bench.now.state.items c.loop-t.bench.state.items c.play_cycle.new.bench.state.items
-    c.in_ok-played.field-0 c.in-Some.played c.loop-t-test.true c.loop-t.invariant.plays c.in_ok-played.ensures.played c.in-Some.is
-
-pub loop-t-preserved : goal.loop-t-preserved
-loop-t-preserved c = record {
-  room = c.in_ok-played.ensures.room;
-  plays = burst_more c.args.rule.now.fault c.args.core.now c.args.burst.now c.loop-t.t c.args.first c.args.bench.now.state.items c.loop-t.bench.state.items c.play_cycle.new.bench.state.items
-      c.in_ok-played.field-0 c.loop-t-test.true c.loop-t.invariant.plays c.in_ok-played.ensures.played c.in-None.is;
-}
+    subst (λ (s : List Tri). IfOk c.play_cycles-2.result (λ found. PlaysOn c.args.rule.now.fault c.args.core.now (cycles_of c.args.burst.now) c.args.first s c.play_cycles-2.new.bench.state.items found))
+    c.in_ok-planned.ensures.state c.play_cycles-2.ensures.played

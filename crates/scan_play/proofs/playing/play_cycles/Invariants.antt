@@ -2,7 +2,7 @@ use Rattle.std.proofs.Common.{◌≡◌, length, take, None}
 use Rattle.netlist.specs.Netlist.{signals}
 use Rattle.scan_play.specs.Bursts.{cycles_of}
 use Rattle.scan_play.specs.inner.Steps.{PlaysOn}
-use Rattle.scan_play.proofs.playing.play_burst.Given as goal
+use Rattle.scan_play.proofs.playing.play_cycles.Given as goal
 
 -- no strobe was unmet so far
 abbrev pub invariant-loop-t : goal.invariant-loop-t
