@@ -11,6 +11,7 @@ import subprocess
 import sys
 
 sys.path.insert(0, os.path.dirname(os.path.abspath(__file__)))
+import check_trees
 from fault_list import fault_list, netlist_of, readers_of
 
 ROOT = os.path.dirname(os.path.dirname(os.path.abspath(__file__)))
@@ -251,12 +252,24 @@ def on_netlist(verb, text, rest):
         return [netlist.site(rest.split(" ", 1)[1])]
     if verb == "pin-name":
         return [netlist.pin_name(int(rest))]
+    if verb == "tree":
+        return [tree(netlist, *rest.split(" ", 1))]
     faults = [line.rsplit(" class ", 1) for line in list(fault_list(text))[1:]]
     if verb == "fault":
         return [rest if rest in [fault for fault, _ in faults] else "no fault"]
     if verb == "first-member":
         return [next(fault for fault, number in faults if number == rest)]
     return None
+
+
+def tree(netlist, held, rest):
+    """What the check of a tree answers; a closed tree is compared with all patterns besides."""
+    fault, _, nodes = rest.partition(": ")
+    held = {} if held == "-" else dict([held.split("=")])
+    said = check_trees.answer(netlist, gate, fault, nodes, held)
+    if said.startswith("closed") and said.endswith("open 0") and check_trees.is_detected(netlist, fault, held):
+        return "a closed tree of a fault that some pattern detects"
+    return said
 
 
 def texts_and_rows(path):
