@@ -1,0 +1,12 @@
+pub mod ObservedPoints
+pub mod WordDetection
+pub mod HighestBits
+pub mod PinLists
+pub mod PointTables
+pub mod PackedLemmas
+pub mod Found
+pub mod StuckPoints
+pub mod FaultFound
+pub mod HitLists
+pub mod LastFrom
+pub mod GoodLemmas

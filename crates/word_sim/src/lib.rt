@@ -2,5 +2,14 @@
 #![tactic(auto)]
 
 mod batches;
+mod detecting;
+mod fault_hits;
+mod last_detected;
+mod packing;
+mod points;
+mod words;
 
 pub use batches::{Batch, Hit};
+pub use fault_hits::hits;
+pub use last_detected::last_tells;
+pub use words::{Words, good64};

@@ -1,0 +1,70 @@
+-- Bits put into words one by one.
+use Rattle.std.proofs.Common.{◌≡◌, ℕ, ◌+◌, ◌*◌, ◌%◌, ◌^◌, ◌<◌, ◌≤◌, ◌≢◌, Bool, true, false, List, map, length, get_or, Some, ltb, refl, sym, ◌∙◌, ap, subst, inl, inr, eqb, arith, bit_or}
+use Rattle.std.specs.Int.{bit_at, w64}
+use Rattle.std.specs.List.{All, slice_get}
+use Rattle.std.proofs.lemmas.Bool.{cases_eq, cases_lt, eq-eqb, ne_eqb, lt-ltb, ltb-true, both_ways, false_from_ne_true}
+use Rattle.std.proofs.lemmas.List.{length-map, get_or-map, ext_get_or, get_or_default}
+use Rattle.std.proofs.lemmas.Nat.Bits.{bit_at_set_same, bit_at_set_other, bit_at-zero}
+use Rattle.std.proofs.lemmas.Option.{slice_get-get_or}
+use Rattle.cubes.specs.Cubes.{Pattern}
+use Rattle.events.specs.Words.{bit_of}
+use Rattle.word_sim.specs.declared.packing.Part.{Part}
+use Rattle.word_sim.proofs.WordDetection.{some_below}
+use Rattle.word_sim.specs.inner.Packed.{bits_in, IsColumn, ArePacked, IsUsed}
+
+pub set_same : (word j : ℕ) → j < 64 → bit_of j (bit_or word (1 * 2 ^ j % 2 ^ 64)) ≡ true
+set_same word j l = eq-eqb (bit_at (bit_or word (1 * 2 ^ j % 2 ^ 64)) j) 1 (bit_at_set_same w64 word j l)
+
+pub set_other : (word j i : ℕ) → j < 64 → i ≢ j → bit_of i (bit_or word (1 * 2 ^ j % 2 ^ 64)) ≡ bit_of i word
+set_other word j i l ne = ap (λ v. eqb v 1) (bit_at_set_other w64 word j l i ne)
+
+no_bit : (j : ℕ) → bit_of j 0 ≡ false
+no_bit j = ne_eqb (bit_at 0 j) 1 (λ o. let z = bit_at-zero j in omega arith)
+
+-- ---- a column
+
+pub no_column : (part : Part) (patterns : List Pattern) (k : ℕ) → IsColumn part patterns k 0 0
+no_column part patterns k = record { here = λ j p l e. absurd (omega arith); others = λ j l m. no_bit j }
+
+pub column_more : (part : Part) (patterns : List Pattern) (k m word word' : ℕ) (bit : Bool) (p : Pattern) → IsColumn part patterns k m word → m < 64 → slice_get patterns m ≡ Some p
+    → bit ≡ get_or (bits_in part p) k false → (bit_of m word ≡ false → bit_of m word' ≡ bit) → ((i : ℕ) → i ≢ m → bit_of i word' ≡ bit_of i word) → IsColumn part patterns k (m + 1) word'
+column_more part patterns k m word word' bit p h low at is same others = record {
+  here = λ j q l e. elim (cases_eq j m) [
+    | inl last ↦
+        let one : p ≡ q = some_same p q (sym at ∙ (ap (slice_get patterns) (sym last) ∙ e)) in
+        ap (λ i. bit_of i word') last ∙ (same (h.others m (omega arith) low) ∙ (is ∙ ap (λ (r : Pattern). get_or (bits_in part r) k false) one))
+    | inr old ↦ others j old ∙ h.here j q (omega arith) e
+  ];
+  others = λ j l l64. others j (λ e. omega arith) ∙ h.others j (omega arith) l64;
+} where
+  some_same : (a b : Pattern) → Some a ≡ Some b → a ≡ b
+  some_same a b e = cc
+
+-- ---- all columns
+
+pub packed_all : (part : Part) (patterns : List Pattern) (width m : ℕ) (words : List ℕ) → length patterns ≤ 64 → length words ≡ m → m ≡ width
+    → ((k : ℕ) → k < m → IsColumn part patterns k (length patterns) (get_or words k 0)) → ArePacked part patterns width words
+packed_all part patterns width m words few size e h = record {
+  size = size ∙ e;
+  each = λ j p at wide.
+      let inside = some_below patterns j p at in
+      let mapped = length-map words (bit_of j) in
+      ext_get_or false (map (bit_of j) words) (bits_in part p) (mapped ∙ (size ∙ (e ∙ sym wide)))
+      (λ k l. get_or-map (bit_of j) words k 0 false (omega arith) ∙ (h k (omega arith)).here j p inside at);
+}
+
+-- ---- the bits below a count
+
+pub none_used : IsUsed 0 0
+none_used j l = no_bit j ∙ sym (false_from_ne_true (ltb j 0) (λ h. let m = ltb-true j 0 h in omega arith))
+
+pub used_more : (m word word' : ℕ) → IsUsed m word → m < 64 → (bit_of m word ≡ false → bit_of m word' ≡ true) → ((i : ℕ) → i ≢ m → bit_of i word' ≡ bit_of i word) → IsUsed (m + 1) word'
+used_more m word word' h low same others j l = elim (cases_eq j m) [
+  | inl last ↦
+      ap (λ i. bit_of i word') last ∙ (same (h m low ∙ false_from_ne_true (ltb m m) (λ t. let s = ltb-true m m t in omega arith)) ∙ sym (lt-ltb j (m + 1) (omega arith)))
+  | inr other ↦ others j other ∙ (h j l ∙ elim (cases_lt j m) [
+    | inl below ↦ lt-ltb j m below ∙ sym (lt-ltb j (m + 1) (omega arith))
+    | inr above ↦
+        false_from_ne_true (ltb j m) (λ t. let s = ltb-true j m t in omega arith) ∙ sym (false_from_ne_true (ltb j (m + 1)) (λ t. let s = ltb-true j (m + 1) t in omega arith))
+  ])
+]

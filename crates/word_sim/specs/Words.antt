@@ -1,0 +1,17 @@
+-- What the words of up to 64 patterns say of each signal.
+use Rattle.std.specs.Prelude.{ℕ, ◌≡◌, ◌<◌, ◌≤◌, Bool, List, None, Some, length}
+use Rattle.std.specs.List.{slice_get}
+use Rattle.netlist.specs.Netlist.{Netlist, cells, signals}
+use Rattle.netlist.specs.Settled.{Settles, at, bits}
+use Rattle.cubes.specs.Cubes.{Pattern}
+use Rattle.events.specs.Words.{bit_of}
+
+-- a bit for each input and each cell of the netlist
+pub record HasWidthsOf (n : Netlist) (p : Pattern) : Type 0 where
+  pub inputs : length p.inputs ≡ length n.inputs
+  pub cells : length p.cells ≡ length (cells n)
+
+-- a word for each signal: bit j is the signal's settled bit under pattern j, without a fault
+pub record AreGoodWords (n : Netlist) (patterns : List Pattern) (words : List ℕ) : Type 0 where
+  pub size : length words ≡ length (signals n)
+  pub each : (j : ℕ) (p : Pattern) → slice_get patterns j ≡ Some p → Settles (bits None) n p.inputs p.cells (λ x. bit_of j (at words 0 x))

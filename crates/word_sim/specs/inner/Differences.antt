@@ -1,0 +1,37 @@
+-- Where words with a fault differ from those without, at observed points.
+use Rattle.std.specs.Prelude.{ℕ, ◌≡◌, ◌≢◌, ◌<◌, ◌≤◌, ◌⊎◌, ◌&&◌, ◌==◌, nat_lt, Bool, true, false, List, length, Option, Some, None, slice_index, bit_xor, bit_and}
+use Rattle.std.specs.List.{Contains, list_any}
+use Rattle.netlist.specs.Netlist.{Netlist}
+use Rattle.netlist.specs.declared.lines.Fault.{Fault}
+use Rattle.netlist.specs.declared.lines.Point.{Point}
+use Rattle.netlist.specs.declared.lines.Line.{Line}
+use Rattle.events.specs.declared.trails.Change.{Change}
+use Rattle.events.specs.Words.{bit_of, words}
+use Rattle.word_sim.specs.inner.Points.{points}
+
+-- the change shows at a point, under pattern j
+abbrev pub shows : List ℕ → ℕ → List ℕ → ℕ → Change ℕ → Bool
+shows first count values j c = nat_lt (slice_index first c.signal) count && bit_of j (bit_xor c.before (slice_index values c.signal))
+
+-- the first point at which one of these changes shows, or the count
+pub record IsFirstShown (first : List ℕ) (count : ℕ) (values : List ℕ) (j : ℕ) (changes : List (Change ℕ)) (c : ℕ) : Type 0 where
+  pub lower : (d : Change ℕ) → Contains changes d → shows first count values j d ≡ true → c ≤ slice_index first d.signal
+  pub some : (c ≡ count) ⊎ ((d : Change ℕ) × Contains changes d × (shows first count values j d ≡ true) × (slice_index first d.signal ≡ c))
+
+-- which patterns tell a point apart: bits of words
+pub record AreDifferences (count : ℕ) (differs : ℕ → ℕ → Bool) (used : ℕ) (found : Option (ℕ × ℕ)) : Type 0 where
+  pub none : found ≡ None → (j c : ℕ) → j < 64 → bit_of j used ≡ true → c < count → differs c j ≡ false
+  pub some : (j c : ℕ) → found ≡ Some (j, c) → (j < 64) × (bit_of j used ≡ true) × (c < count) × (differs c j ≡ true)
+      × ((d : ℕ) → d < c → differs d j ≡ false) × ((i d : ℕ) → j < i → i < 64 → bit_of i used ≡ true → d < count → differs d i ≡ false)
+
+-- the last pattern under which some change shows, and the first point at which one does
+pub record AreShown (first : List ℕ) (count : ℕ) (values : List ℕ) (used : ℕ) (changes : List (Change ℕ)) (found : Option (ℕ × ℕ)) : Type 0 where
+  pub none : found ≡ None → (j : ℕ) → j < 64 → bit_of j used ≡ true → list_any (shows first count values j) changes ≡ false
+  pub some : (j c : ℕ) → found ≡ Some (j, c) → (j < 64) × (bit_of j used ≡ true) × (list_any (shows first count values j) changes ≡ true) × IsFirstShown first count values j changes c
+      × ((i : ℕ) → j < i → i < 64 → bit_of i used ≡ true → list_any (shows first count values i) changes ≡ false)
+
+-- the last pattern under which a point that alone reads the stuck line has the other bit
+pub record IsSole (differ used number : ℕ) (found : Option (ℕ × ℕ)) : Type 0 where
+  pub none : found ≡ None → (j : ℕ) → j < 64 → bit_of j used ≡ true → bit_of j differ ≡ false
+  pub some : (j c : ℕ) → found ≡ Some (j, c) → (j < 64) × (bit_of j used ≡ true) × (c ≡ number) × (bit_of j differ ≡ true)
+      × ((i : ℕ) → j < i → i < 64 → bit_of i used ≡ true → bit_of i differ ≡ false)

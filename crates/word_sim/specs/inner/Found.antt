@@ -1,0 +1,42 @@
+-- The hit of a fault that was found, and faults found among some of the patterns.
+use Rattle.std.specs.Prelude.{ℕ, ◌≡◌, ◌+◌, ◌≤◌, ◌<◌, List, [], ◌∷◌, length, slice_index_or, Option, Some, None}
+use Rattle.std.specs.List.{slice_get}
+use Rattle.std.specs.Option.{option_map}
+use Rattle.netlist.specs.declared.lines.Fault.{Fault}
+use Rattle.netlist.specs.declared.lines.Point.{Point}
+use Rattle.netlist.specs.Netlist.{Netlist}
+use Rattle.cubes.specs.Cubes.{Pattern}
+use Rattle.word_sim.specs.declared.batches.Hit.{Hit}
+use Rattle.word_sim.specs.Hits.{IsDetectedAt, IsLastDetected, LastDetected}
+use Rattle.word_sim.specs.inner.Points.{point_of}
+
+abbrev pub hit_of : Netlist → ℕ → Option (ℕ × ℕ) → List Hit
+hit_of n class None = []
+hit_of n class (Some w) = record { class = class; pattern = w.0; point = point_of n w.1 } ∷ []
+
+-- where the fault is last detected from place m on, if at all
+abbrev pub IsFrom : Netlist → List Pattern → ℕ → Fault → Option (ℕ × Point) → Type 0
+IsFrom n patterns m f None = (place : ℕ) (p : Point) → m ≤ place → ¬ IsDetectedAt n patterns f place p
+IsFrom n patterns m f (Some w) = IsLastDetected n patterns f w.0 w.1
+
+-- the same of each of some faults
+pub record AreFrom (n : Netlist) (patterns : List Pattern) (m : ℕ) (faults : List Fault) (last : List (Option (ℕ × Point))) : Type 0 where
+  pub size : length last ≡ length faults
+  pub each : (k : ℕ) (f : Fault) → slice_get faults k ≡ Some f → IsFrom n patterns m f (slice_index_or last k None)
+
+-- where these patterns detect the fault last, by its place among all
+pub record IsMoved (n : Netlist) (part : List Pattern) (start : ℕ) (f : Fault) (last : Option (ℕ × Point)) : Type 0 where
+  pub found : Option (ℕ × Point)
+  pub detected : LastDetected n part f found
+  pub last_is : last ≡ option_map (λ (w : ℕ × Point). (start + w.0, w.1)) found
+
+-- what is known stays, or else it is where these patterns detect the fault last
+abbrev pub IsTold : Netlist → List Pattern → ℕ → Fault → Option (ℕ × Point) → Option (ℕ × Point) → Type 0
+IsTold n part start f None last = IsMoved n part start f last
+IsTold n part start f (Some w) last = last ≡ Some w
+
+-- for the first k faults from place m on, and for the others from place m' on
+pub record AreFromUpTo (n : Netlist) (patterns : List Pattern) (m m' : ℕ) (faults : List Fault) (last : List (Option (ℕ × Point))) (k : ℕ) : Type 0 where
+  pub size : length last ≡ length faults
+  pub before : (i : ℕ) (f : Fault) → i < k → slice_get faults i ≡ Some f → IsFrom n patterns m f (slice_index_or last i None)
+  pub after : (i : ℕ) (f : Fault) → k ≤ i → slice_get faults i ≡ Some f → IsFrom n patterns m' f (slice_index_or last i None)

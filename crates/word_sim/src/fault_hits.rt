@@ -1,0 +1,99 @@
+//! What up to 64 patterns detect of given faults.
+ghost use Rattle.std.specs.Prelude.{◌≡◌, ◌++◌, ◌≤◌, ◌<◌, ◌^◌, [], ℕ, List, length, IfOk, IfSome, OnOk};
+ghost use Rattle.std.specs.List.{All};
+ghost use Rattle.netlist.specs.Lines.{IsLineOf};
+ghost use Rattle.netlist.specs.Netlist.{Netlist as Equations};
+ghost use Rattle.netlist.specs.declared.lines.Fault.{Fault as FaultOf};
+ghost use Rattle.word_sim.specs.Hits.{AreHits};
+ghost use Rattle.word_sim.specs.Words.{HasWidthsOf};
+ghost use Rattle.word_sim.specs.inner.Found.{hit_of};
+ghost use Rattle.word_sim.specs.inner.Packed.{AreGoodFor};
+ghost use Rattle.word_sim.specs.inner.Points.{point_of};
+
+use crate::batches::Hit;
+use crate::detecting::last_of;
+use crate::packing::{Part, packed, used_bits};
+use crate::points::{Points, point_at};
+use cubes::Pattern;
+use events::{Events, Words};
+use netlist::{Core, Fault, Netlist, NoMemory};
+use std::alloc::{AllocError, Global};
+
+/// The words of patterns, settled without a fault.
+pub(crate) fn good_events<'a>(
+    alloc: Global,
+    core: &'a Core,
+    patterns: &[Pattern],
+) -> Result<Events<'a, u64>, AllocError>
+    requires few { length patterns.now ≤ 64 }
+    requires wide { All (HasWidthsOf core.now) patterns.now }
+    ensures netlist { IfOk result (λ e. e.netlist ≡ core.now) }
+    ensures good { IfOk result (λ e. AreGoodFor core.now patterns.now e.values) }
+    ensures trail { IfOk result (λ e. e.trail ≡ []) }
+{
+    let netlist = core.netlist();
+    let inputs = packed(alloc, Part::Inputs, patterns, netlist.inputs().len())?;
+    let state = packed(alloc, Part::Cells, patterns, netlist.cells().len())?;
+    let values = core.settle(alloc, &Words { fault: None }, &inputs, &state)?;
+    let events = Events::new(alloc, core, values, 0)?;
+    Ok(events)
+}
+
+/// Adds the hit of a fault that was found.
+fn push_hit(
+    netlist: &Netlist,
+    class: u32,
+    found: Option<(u32, usize)>,
+    hits: &mut Vec<Hit>,
+) -> Result<(), AllocError>
+    requires { IfSome found (λ w. (w.0 < 64) × (w.1 < 2 ^ 32)) }
+    ensures { OnOk result (hits.new.items ≡ hits.old.items ++ hit_of netlist.now class found) }
+{
+    if let Some((pattern, number)) = found {
+        let point = point_at(netlist, number);
+        hits.push(Hit {
+            class,
+            pattern,
+            point,
+        })?;
+    }
+    Ok(())
+}
+
+/// The hits, one fault after another.
+fn find_hits(
+    alloc: Global,
+    core: &Core,
+    patterns: &[Pattern],
+    faults: &[(u32, Fault)],
+) -> Result<Vec<Hit>, AllocError>
+    requires few { length patterns.now ≤ 64 }
+    requires wide { All (HasWidthsOf core.now) patterns.now }
+    requires lines { All (λ (g : ℕ × FaultOf). IsLineOf core.now g.1.line) faults.now }
+    ensures { IfOk result (λ v. AreHits core.now patterns.now faults.now v.items) }
+{
+    let mut events = good_events(alloc, core, patterns)?;
+    let points = Points::of(alloc, core)?;
+    let used = used_bits(patterns.len());
+    let mut hits = Vec::with_capacity(alloc, faults.len())?;
+    for given in faults {
+        let found = last_of(&mut events, &points, patterns, used, &given.1);
+        push_hit(core.netlist(), given.0, found, &mut hits)?;
+    }
+    Ok(hits)
+}
+
+/// For each given fault that some pattern detects, in the order given, the last such pattern and its first point.
+pub fn hits(
+    alloc: Global,
+    core: &Core,
+    patterns: &[Pattern],
+    faults: &[(u32, Fault)],
+) -> Result<Vec<Hit>, NoMemory>
+    requires few { length patterns.now ≤ 64 }
+    requires wide { All (HasWidthsOf core.now) patterns.now }
+    requires lines { All (λ (g : ℕ × FaultOf). IsLineOf core.now g.1.line) faults.now }
+    ensures { IfOk result (λ v. AreHits core.now patterns.now faults.now v.items) }
+{
+    find_hits(alloc, core, patterns, faults).map_err(|_| NoMemory)
+}
