@@ -1,5 +1,5 @@
 -- What is found of a fault by words: the last pattern that detects it, and the first point.
-use Rattle.std.proofs.Common.{◌≡◌, ℕ, Bool, ◌^◌, ◌<◌, ◌≤◌, List, [], ◌++◌, map, length, get_or, Option, Some, None, refl, sym, ◌∙◌, ap, subst, cond, arith, bit_xor}
+use Rattle.std.proofs.Common.{◌≡◌, ℕ, Bool, ◌^◌, ◌<◌, List, length, get_or, Option, Some, None, refl, sym, ◌∙◌, ap, subst, cond, arith, bit_xor}
 use Rattle.std.specs.Option.{option_map}
 use Rattle.std.specs.Prelude.{IfSome}
 use Rattle.std.proofs.lemmas.List.{get_or_default}
@@ -7,16 +7,15 @@ use Rattle.netlist.specs.declared.lines.Fault.{Fault}
 use Rattle.netlist.specs.declared.lines.Line.{Line}
 use Rattle.netlist.specs.Conditions.{IsSound}
 use Rattle.netlist.specs.Netlist.{Netlist, signals}
-use Rattle.netlist.specs.Settled.{Settles, at, bits}
+use Rattle.netlist.specs.Settled.{at}
 use Rattle.netlist.proofs.Placed.{signal_below}
 use Rattle.cubes.specs.Cubes.{Pattern}
 use Rattle.events.specs.declared.trails.Change.{Change}
-use Rattle.events.specs.Standing.{Standing, Moves, SettlesOver}
+use Rattle.events.specs.Standing.{SettlesOver}
 use Rattle.events.specs.Stuck.{IsObservedOnly}
 use Rattle.events.specs.Trails.{AreChanges}
-use Rattle.events.specs.Words.{bit_of, ones, words, word_table}
+use Rattle.events.specs.Words.{ones, words, word_table}
 use Rattle.events.proofs.Standing.{observed_settles}
-use Rattle.events.proofs.WordBits.{words_as_bits}
 use Rattle.word_sim.specs.Hits.{LastDetected}
 use Rattle.word_sim.specs.inner.Differences.{AreDifferences, AreShown, IsSole}
 use Rattle.word_sim.specs.inner.Packed.{AreGoodFor, IsUsed}

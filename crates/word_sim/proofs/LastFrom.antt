@@ -1,5 +1,5 @@
 -- Faults last detected among some of the patterns, and among all.
-use Rattle.std.proofs.Common.{◌≡◌, ℕ, zero, suc, ◌+◌, ◌-◌, ◌<◌, ◌≤◌, ◌≢◌, List, [], ◌∷◌, length, take, drop, get_or, set, replicate, Option, Some, None, refl, sym, ◌∙◌, ap, subst, inl, inr, arith}
+use Rattle.std.proofs.Common.{◌≡◌, ℕ, zero, suc, ◌+◌, ◌-◌, ◌<◌, ◌≤◌, List, [], ◌∷◌, length, take, drop, get_or, set, replicate, Option, Some, None, refl, sym, ◌∙◌, ap, subst, inl, inr, arith}
 use Rattle.std.specs.List.{AllZip, slice_get}
 use Rattle.std.specs.Option.{option_map}
 use Rattle.std.proofs.lemmas.Bool.{cases_lt, cases_eq}
@@ -10,7 +10,7 @@ use Rattle.netlist.specs.declared.lines.Point.{Point}
 use Rattle.netlist.specs.Netlist.{Netlist}
 use Rattle.netlist.proofs.Settling.{zip_from}
 use Rattle.cubes.specs.Cubes.{Pattern}
-use Rattle.word_sim.specs.Hits.{IsBefore, IsDetectedAt, IsLastDetected, LastDetected}
+use Rattle.word_sim.specs.Hits.{IsDetectedAt, LastDetected}
 use Rattle.word_sim.specs.inner.Found.{IsFrom, AreFrom, IsMoved, IsTold, AreFromUpTo}
 use Rattle.word_sim.proofs.WordDetection.{some_below}
 

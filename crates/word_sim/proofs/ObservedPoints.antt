@@ -1,22 +1,20 @@
 -- Observed points by number, and what stands at each.
-use Rattle.std.proofs.Common.{◌≡◌, ℕ, suc, zero, ◌+◌, ◌-◌, ◌<◌, ◌≤◌, ◌≢◌, ◌⊎◌, Bool, true, false, cond, ltb, List, [], ◌∷◌, ◌++◌, map, length, get_or, Option, Some, None, refl, sym, ◌∙◌, ap, subst, inl, inr, arith, length-append}
-use Rattle.std.specs.List.{All, AllPairs, Contains, flat_map, slice_get}
-use Rattle.std.proofs.lemmas.Bool.{cases_lt, cases_eq, lt-ltb, ltb-true, both_ways, eqb-true, and_parts, false_from_ne_true}
-use Rattle.std.proofs.lemmas.List.{get_or_append_left, get_or-append_right, get_or-map, get_or_default, length-map, map-append}
+use Rattle.std.proofs.Common.{◌≡◌, ℕ, suc, zero, ◌+◌, ◌-◌, ◌<◌, ◌≤◌, ◌⊎◌, Bool, false, cond, ltb, List, [], ◌∷◌, ◌++◌, map, length, get_or, Some, None, refl, sym, ◌∙◌, ap, subst, inl, inr, arith, length-append}
+use Rattle.std.specs.List.{All, Contains, flat_map, slice_get}
+use Rattle.std.proofs.lemmas.Bool.{cases_lt, lt-ltb, ltb-true, false_from_ne_true}
+use Rattle.std.proofs.lemmas.List.{get_or_append_left, get_or-append_right, get_or-map, length-map}
 use Rattle.std.proofs.lemmas.List.Elements.{All-contains, Contains-get_or}
 use Rattle.std.proofs.lemmas.Option.{slice_get-get_or}
 use Rattle.netlist.specs.declared.kinds.Kind.TheVariants.{Dff}
 use Rattle.netlist.specs.declared.lines.Line.{Line}
-use Rattle.netlist.specs.declared.lines.Line.TheVariants.{Stem, Pin, Out}
+use Rattle.netlist.specs.declared.lines.Line.TheVariants.{Pin, Out}
 use Rattle.netlist.specs.declared.lines.Point.{Point}
 use Rattle.netlist.specs.declared.lines.Point.TheVariants.{Output, Cell}
 use Rattle.netlist.specs.Conditions.{IsSound}
 use Rattle.netlist.specs.Detection.{observed}
 use Rattle.netlist.specs.Netlist.{Definition, Netlist, is_cell, cells, signals}
-use Rattle.netlist.specs.Settled.{Rule, on_pins, pins_of, outs, next, is_line}
-use Rattle.netlist.proofs.Lists.{contains_filter, contains_head, contains_tail, map_map}
-use Rattle.netlist.proofs.Placed.{signal_below, definition_below}
-use Rattle.netlist.proofs.Settling.{pins_within}
+use Rattle.netlist.specs.Settled.{Rule, on_pins, pins_of, outs}
+use Rattle.netlist.proofs.Lists.{contains_filter, contains_head, contains_tail}
 use Rattle.netlist.proofs.WellFormed.{one_pin}
 use Rattle.word_sim.specs.Hits.{IsBefore}
 use Rattle.word_sim.specs.inner.Points.{output_point, cell_point, points, watched, point_of}

@@ -1,11 +1,10 @@
 -- Bits put into words one by one.
-use Rattle.std.proofs.Common.{◌≡◌, ℕ, ◌+◌, ◌*◌, ◌%◌, ◌^◌, ◌<◌, ◌≤◌, ◌≢◌, Bool, true, false, List, map, length, get_or, Some, ltb, refl, sym, ◌∙◌, ap, subst, inl, inr, eqb, arith, bit_or}
+use Rattle.std.proofs.Common.{◌≡◌, ℕ, ◌+◌, ◌*◌, ◌%◌, ◌^◌, ◌<◌, ◌≤◌, ◌≢◌, Bool, true, false, List, map, length, get_or, Some, ltb, sym, ◌∙◌, ap, inl, inr, eqb, arith, bit_or}
 use Rattle.std.specs.Int.{bit_at, w64}
-use Rattle.std.specs.List.{All, slice_get}
-use Rattle.std.proofs.lemmas.Bool.{cases_eq, cases_lt, eq-eqb, ne_eqb, lt-ltb, ltb-true, both_ways, false_from_ne_true}
-use Rattle.std.proofs.lemmas.List.{length-map, get_or-map, ext_get_or, get_or_default}
+use Rattle.std.specs.List.{slice_get}
+use Rattle.std.proofs.lemmas.Bool.{cases_eq, cases_lt, eq-eqb, ne_eqb, lt-ltb, ltb-true, false_from_ne_true}
+use Rattle.std.proofs.lemmas.List.{length-map, get_or-map, ext_get_or}
 use Rattle.std.proofs.lemmas.Nat.Bits.{bit_at_set_same, bit_at_set_other, bit_at-zero}
-use Rattle.std.proofs.lemmas.Option.{slice_get-get_or}
 use Rattle.cubes.specs.Cubes.{Pattern}
 use Rattle.events.specs.Words.{bit_of}
 use Rattle.word_sim.specs.declared.packing.Part.{Part}

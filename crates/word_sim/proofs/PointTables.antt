@@ -1,9 +1,8 @@
 -- Tables of observed points, as they are filled.
-use Rattle.std.proofs.Common.{◌≡◌, ℕ, suc, Bool, true, false, cond, ◌+◌, ◌-◌, ◌<◌, ◌≤◌, ◌≢◌, ◌⊎◌, ◌++◌, ◌∷◌, [], List, map, length, get_or, set, take, replicate, refl, sym, ◌∙◌, ap, subst, inl, inr, eqb, arith}
-use Rattle.std.specs.List.{All, AllPairs, Contains, filter}
+use Rattle.std.proofs.Common.{◌≡◌, ℕ, suc, Bool, true, false, cond, ◌+◌, ◌-◌, ◌<◌, ◌≤◌, ◌∷◌, [], List, map, length, get_or, set, replicate, sym, ◌∙◌, ap, subst, inl, inr, eqb, arith}
+use Rattle.std.specs.List.{All, Contains, filter}
 use Rattle.std.proofs.lemmas.Bool.{cases_lt, cases_eq, ne_eqb, eqb-true}
-use Rattle.std.proofs.lemmas.Grind.{take_at_read}
-use Rattle.std.proofs.lemmas.List.{length-set, length-map, length-replicate, get_or-replicate, get_or-set_same, get_or-set_other, get_or-map, get_or_default, get_or_append_left, map-append, append_assoc}
+use Rattle.std.proofs.lemmas.List.{length-set, length-map, length-replicate, get_or-replicate, get_or-set_same, get_or-set_other, get_or-map, get_or_default}
 use Rattle.std.proofs.lemmas.List.Elements.{All-contains, Contains-get_or}
 use Rattle.std.proofs.lemmas.Map.Keys.{IsDistinct-from_apart}
 use Rattle.std.proofs.lemmas.Map.Steps.{length-le_from_distinct_below}
@@ -11,16 +10,16 @@ use Rattle.std.proofs.lemmas.Map.Views.{Contains-from_any}
 use Rattle.netlist.specs.declared.kinds.Kind.TheVariants.{Dff}
 use Rattle.netlist.specs.declared.lines.Line.{Line}
 use Rattle.netlist.specs.declared.lines.Line.TheVariants.{Pin, Out}
-use Rattle.netlist.specs.Conditions.{IsSound, most_signals}
+use Rattle.netlist.specs.Conditions.{IsSound}
 use Rattle.netlist.specs.Lines.{IsLineOf}
 use Rattle.netlist.specs.Netlist.{Definition, Netlist, is_cell, cells, signals, IsGateAt}
 use Rattle.netlist.proofs.Lists.{contains_filter}
 use Rattle.netlist.proofs.Orders.{cell_no_gate, input_low, definition_high}
 use Rattle.netlist.proofs.Placed.{definition_below, signal_below, signal_cases, signals_length, same_definition}
-use Rattle.netlist.proofs.Settling.{cells_distinct, inputs_below}
+use Rattle.netlist.proofs.Settling.{cells_distinct}
 use Rattle.netlist.proofs.WellFormed.{one_pin}
 use Rattle.events.specs.Stuck.{IsObservedOnly}
-use Rattle.word_sim.specs.inner.Points.{points, watched, IsFirstFrom, AreFirst, AreCellPoints, IsReadAt}
+use Rattle.word_sim.specs.inner.Points.{points, watched, AreFirst, AreCellPoints, IsReadAt}
 use Rattle.word_sim.proofs.ObservedPoints.{points_count, watched_count, output_in, cell_in, signal_in, signal_within, watched_in}
 
 -- no point is looked at

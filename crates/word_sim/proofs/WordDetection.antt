@@ -1,24 +1,22 @@
 -- Detection, told by words.
-use Rattle.std.proofs.Common.{◌≡◌, ℕ, zero, suc, ◌+◌, ◌<◌, ◌≤◌, ◌≢◌, ◌⊎◌, ◌&&◌, not, Bool, true, false, cond, ltb, List, [], ◌∷◌, map, length, get_or, Option, Some, None, refl, sym, ◌∙◌, ap, subst, inl, inr, arith}
-use Rattle.std.specs.Bool.{Decides, beq}
-use Rattle.std.specs.List.{Contains, slice_get}
+use Rattle.std.proofs.Common.{◌≡◌, ℕ, zero, suc, ◌<◌, ◌≤◌, ◌≢◌, not, Bool, true, false, cond, ltb, List, [], ◌∷◌, map, length, get_or, Option, Some, None, refl, sym, ◌∙◌, ap, subst, inl, inr, arith}
+use Rattle.std.specs.Bool.{beq}
+use Rattle.std.specs.List.{slice_get}
 use Rattle.std.proofs.lemmas.Bool.{both_ways, lt-ltb, ltb-true}
 use Rattle.std.specs.Option.{option_map}
 use Rattle.std.proofs.lemmas.Option.{slice_get-get_or}
 use Rattle.netlist.specs.declared.lines.Fault.{Fault}
-use Rattle.netlist.specs.declared.lines.Line.{Line}
-use Rattle.netlist.specs.declared.lines.Line.TheVariants.{Out}
 use Rattle.netlist.specs.declared.lines.Point.{Point}
 use Rattle.netlist.specs.Conditions.{IsSound}
 use Rattle.netlist.specs.Detection.{Detects, observed}
-use Rattle.netlist.specs.Netlist.{Netlist, signals}
-use Rattle.netlist.specs.Settled.{Settles, at, bits}
+use Rattle.netlist.specs.Netlist.{Netlist}
+use Rattle.netlist.specs.Settled.{Settles, bits}
 use Rattle.netlist.proofs.Alike.{settles_once}
 use Rattle.netlist.proofs.Lists.{decides_beq}
 use Rattle.cubes.specs.Cubes.{Pattern}
 use Rattle.events.specs.Words.{bit_of, words}
 use Rattle.events.proofs.WordBits.{words_as_bits, bit_line}
-use Rattle.word_sim.specs.Hits.{IsDetectedAt, IsBefore, IsLastDetected, IsNeverDetected, LastDetected}
+use Rattle.word_sim.specs.Hits.{IsDetectedAt, IsBefore, LastDetected}
 use Rattle.word_sim.specs.inner.Points.{points, point_of}
 use Rattle.word_sim.specs.inner.Differences.{AreDifferences}
 use Rattle.word_sim.proofs.ObservedPoints.{line_in, signal_in, observed_in, point_in, before_in, signal_within}

@@ -1,5 +1,5 @@
 -- What the words of up to 64 patterns say of each signal.
-use Rattle.std.specs.Prelude.{ℕ, ◌≡◌, ◌<◌, ◌≤◌, Bool, List, None, Some, length}
+use Rattle.std.specs.Prelude.{ℕ, ◌≡◌, List, None, Some, length}
 use Rattle.std.specs.List.{slice_get}
 use Rattle.netlist.specs.Netlist.{Netlist, cells, signals}
 use Rattle.netlist.specs.Settled.{Settles, at, bits}

@@ -1,13 +1,8 @@
 -- Where words with a fault differ from those without, at observed points.
-use Rattle.std.specs.Prelude.{ℕ, ◌≡◌, ◌≢◌, ◌<◌, ◌≤◌, ◌⊎◌, ◌&&◌, ◌==◌, nat_lt, Bool, true, false, List, length, Option, Some, None, slice_index, bit_xor, bit_and}
+use Rattle.std.specs.Prelude.{ℕ, ◌≡◌, ◌<◌, ◌≤◌, ◌⊎◌, ◌&&◌, nat_lt, Bool, true, false, List, Option, Some, None, slice_index, bit_xor}
 use Rattle.std.specs.List.{Contains, list_any}
-use Rattle.netlist.specs.Netlist.{Netlist}
-use Rattle.netlist.specs.declared.lines.Fault.{Fault}
-use Rattle.netlist.specs.declared.lines.Point.{Point}
-use Rattle.netlist.specs.declared.lines.Line.{Line}
 use Rattle.events.specs.declared.trails.Change.{Change}
-use Rattle.events.specs.Words.{bit_of, words}
-use Rattle.word_sim.specs.inner.Points.{points}
+use Rattle.events.specs.Words.{bit_of}
 
 -- the change shows at a point, under pattern j
 abbrev pub shows : List ℕ → ℕ → List ℕ → ℕ → Change ℕ → Bool

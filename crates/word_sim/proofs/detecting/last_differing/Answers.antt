@@ -1,4 +1,4 @@
-use Rattle.std.proofs.Common.{◌^◌, ◌<◌, ◌≤◌, bit_and, refl, arith}
+use Rattle.std.proofs.Common.{◌^◌, ◌<◌, bit_and, refl, arith}
 use Rattle.std.proofs.lemmas.Nat.{and_le_r}
 use Rattle.word_sim.proofs.Found.{none_differing, some_differing}
 use Rattle.word_sim.proofs.detecting.last_differing.Goals as goal

@@ -1,9 +1,8 @@
-use Rattle.std.proofs.Common.{◌≡◌, ◌<◌, ◌≤◌, ◌++◌, ◌∙◌, List, ℕ, ap, sym, subst, length, get_or, refl, bit_xor, arith}
+use Rattle.std.proofs.Common.{◌≡◌, ◌++◌, ◌∙◌, List, ℕ, ap, sym, subst, length, get_or, refl, bit_xor, arith}
 use Rattle.netlist.specs.Conditions.{IsSound}
 use Rattle.netlist.specs.Netlist.{Netlist, signals}
 use Rattle.netlist.specs.Settled.{at}
 use Rattle.events.specs.declared.trails.Change.{Change}
-use Rattle.events.specs.Standing.{IsStanding, Moves, SettlesOver}
 use Rattle.events.specs.Stuck.{IsObservedOnly}
 use Rattle.events.specs.Words.{word_table}
 use Rattle.word_sim.specs.inner.Differences.{IsSole}

@@ -1,4 +1,4 @@
-use Rattle.std.proofs.Common.{◌^◌, ◌<◌, ◌≤◌, bit_and, refl, arith}
+use Rattle.std.proofs.Common.{◌^◌, ◌<◌, bit_and, refl, arith}
 use Rattle.std.proofs.lemmas.Nat.{and_le_r}
 use Rattle.word_sim.proofs.Found.{none_shown, some_shown}
 use Rattle.word_sim.proofs.detecting.last_shown.Goals as goal

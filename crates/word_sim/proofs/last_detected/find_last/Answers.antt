@@ -1,4 +1,4 @@
-use Rattle.std.proofs.Common.{◌≡◌, ◌≤◌, arith}
+use Rattle.std.proofs.Common.{arith}
 use Rattle.word_sim.proofs.LastFrom.{all_told}
 use Rattle.word_sim.proofs.last_detected.find_last.Goals as goal
 

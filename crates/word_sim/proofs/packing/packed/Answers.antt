@@ -1,4 +1,4 @@
-use Rattle.std.proofs.Common.{◌≡◌, arith}
+use Rattle.std.proofs.Common.{arith}
 use Rattle.word_sim.proofs.PackedLemmas.{packed_all}
 use Rattle.word_sim.proofs.packing.packed.Goals as goal
 

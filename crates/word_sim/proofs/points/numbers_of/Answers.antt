@@ -1,6 +1,5 @@
-use Rattle.std.proofs.Common.{◌≡◌, ◌+◌, ◌<◌, ◌∙◌, List, ℕ, ap, sym, subst, length, get_or, set, arith}
-use Rattle.std.proofs.lemmas.List.{get_or_default, length-map}
-use Rattle.netlist.specs.Netlist.{Definition, cells, signals}
+use Rattle.std.proofs.Common.{◌≡◌, ◌+◌, ◌∙◌, List, ℕ, ap, sym, subst, length, get_or, set, arith}
+use Rattle.std.proofs.lemmas.List.{get_or_default}
 use Rattle.word_sim.specs.inner.Points.{AreCellPoints}
 use Rattle.word_sim.proofs.PointTables.{numbers_more, cell_inside}
 use Rattle.word_sim.proofs.points.numbers_of.Goals as goal

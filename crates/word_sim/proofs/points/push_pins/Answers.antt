@@ -1,5 +1,4 @@
-use Rattle.std.proofs.Common.{[], ap, sym, ◌∙◌, length, arith}
-use Rattle.std.proofs.lemmas.List.{take_all, length-map}
+use Rattle.std.proofs.Common.{[], arith}
 use Rattle.netlist.specs.declared.kinds.Kind.TheVariants.{Dff}
 use Rattle.netlist.specs.Netlist.{Definition as Equation, cells}
 use Rattle.netlist.proofs.Observed.{cell_at, the_cell, cell_within, the_pin}

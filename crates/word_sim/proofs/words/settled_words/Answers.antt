@@ -1,4 +1,4 @@
-use Rattle.std.proofs.Common.{◌≡◌, ◌∙◌, List, ℕ, None, ap, sym, subst, length}
+use Rattle.std.proofs.Common.{◌≡◌, ◌∙◌, List, ℕ, None, ap, subst, length}
 use Rattle.std.proofs.lemmas.List.{length-map}
 use Rattle.netlist.specs.Netlist.{Definition, Netlist, cells}
 use Rattle.netlist.specs.Settled.{Settles, at}

@@ -1,8 +1,6 @@
-use Rattle.std.proofs.Common.{◌≡◌, ◌+◌, ◌<◌, ◌∙◌, List, ℕ, ap, sym, subst, length, arith}
-use Rattle.netlist.specs.Conditions.{IsSound}
-use Rattle.netlist.specs.Netlist.{Definition, Netlist, signals}
+use Rattle.std.proofs.Common.{◌+◌, ◌∙◌, List, ℕ, ap, length, arith}
+use Rattle.netlist.specs.Netlist.{Definition}
 use Rattle.netlist.proofs.Placed.{signals_length}
-use Rattle.word_sim.specs.inner.Points.{points, watched}
 use Rattle.word_sim.proofs.ObservedPoints.{watched_count}
 use Rattle.word_sim.proofs.PointTables.{points_few, watched_inside}
 use Rattle.word_sim.proofs.points.Points.of.Goals as goal

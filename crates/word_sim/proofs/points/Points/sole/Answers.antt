@@ -1,7 +1,6 @@
-use Rattle.std.proofs.Common.{◌≡◌, ◌<◌, ◌≤◌, ◌∙◌, List, ℕ, ap, sym, subst, length, get_or, arith}
-use Rattle.netlist.specs.Netlist.{signals}
+use Rattle.std.proofs.Common.{◌≡◌, ◌∙◌, List, ℕ, ap, sym, subst, length, get_or, arith}
 use Rattle.std.proofs.lemmas.List.{get_or_default}
-use Rattle.word_sim.specs.inner.Points.{IsReadAt, points}
+use Rattle.word_sim.specs.inner.Points.{IsReadAt}
 use Rattle.word_sim.proofs.ObservedPoints.{watched_count}
 use Rattle.word_sim.proofs.PointTables.{output_inside, output_read, pin_inside, pin_read, pin_unread}
 use Rattle.word_sim.proofs.points.Points.sole.Goals as goal
