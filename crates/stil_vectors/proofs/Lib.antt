@@ -1,0 +1,6 @@
+mod CharLemmas
+mod CallLemmas
+mod VectorLemmas
+mod FitLemmas
+mod WidthLemmas
+mod TestLemmas

@@ -1,0 +1,11 @@
+use Rattle.std.proofs.Common.{◌≡◌, map, drop}
+use Rattle.std.specs.List.{flat_map}
+use Rattle.netlist.specs.declared.kinds.Tri.TheVariants.{X}
+use Rattle.scan_insert.specs.Names.{numbers_from}
+use Rattle.scan_play.specs.Shifts.{column}
+use Rattle.stil_write.specs.StilFiles.{item_at, words_of}
+use Rattle.stil_vectors.specs.FileVectors.{values_of}
+use Rattle.stil_vectors.proofs.calls.all_outs.Given as goal
+
+abbrev pub invariant-loop-t : goal.invariant-loop-t
+invariant-loop-t l = l.outs.items ≡ flat_map (column X (map values_of (drop l.chains (words_of (item_at l.items l.place))))) (numbers_from 0 l.t)

@@ -1,0 +1,63 @@
+-- What a STIL file does on a tester: each vector is one cycle, and a call is a cycle for each character of its words.
+use Rattle.std.specs.Prelude.{ℕ, zero, suc, ◌≡◌, ◌≤◌, ◌+◌, ◌==◌, Some, slice_get, Bool, true, false, if◌then◌else◌, List, [], ◌∷◌, ◌++◌, length, map, take, drop, replicate, slice_index, slice_index_or}
+use Rattle.std.specs.List.{flat_map}
+use Rattle.netlist.specs.declared.kinds.Tri.{Tri}
+use Rattle.netlist.specs.declared.kinds.Tri.TheVariants.{Zero, One, X}
+use Rattle.scan_insert.specs.Names.{numbers_from}
+use Rattle.scan_play.specs.Cycles.{Cycle}
+use Rattle.scan_play.specs.Shifts.{column}
+use Rattle.stil_write.specs.StilFiles.{Call, Item, StilFile, Text, Vector, clock}
+
+-- 0 and 1 drive
+abbrev pub bit_of : ℕ → Bool
+bit_of b = b == 49
+
+-- H and L strobe high and low, and X nothing
+abbrev pub value_of : ℕ → Tri
+value_of b = if b == 72 then One else (if b == 76 then Zero else X)
+
+abbrev pub bits_of : Text → List Bool
+bits_of word = map bit_of word
+
+abbrev pub values_of : Text → List Tri
+values_of word = map value_of word
+
+-- Cycle t of a call: the inputs have the word of a shift, and each scan input and scan output character t of its word.
+abbrev pub call_cycle : StilFile → List Text → ℕ → Cycle
+call_cycle f words t = record {
+  drive = bits_of f.shift_word ++ column false (map bits_of (take (length f.chains) words)) t;
+  strobe = replicate (length f.po) X ++ column X (map values_of (drop (length f.chains) words)) t;
+  pulse = true;
+}
+
+-- how often a call shifts
+abbrev pub call_size : List Text → ℕ
+call_size words = length (slice_index_or words 0 [])
+
+-- the words one behind the other
+abbrev pub together : List Text → Text
+together words = flat_map (λ word. word) words
+
+-- the clock has a pulse: P stands for one
+abbrev pub has_pulse : ℕ → List Text → Bool
+has_pulse zero words = false
+has_pulse (suc n) words = slice_index (slice_index_or words (suc (suc n)) []) 0 == 80
+
+abbrev pub vector_cycle : StilFile → List Text → Cycle
+vector_cycle f words = record {
+  drive = bits_of (together (take (length f.chains + 1) words));
+  strobe = values_of (together (drop (length f.chains + 1 + length (clock f)) words));
+  pulse = has_pulse (length f.chains) words;
+}
+
+abbrev pub cycles_of_item : StilFile → Item → List Cycle
+cycles_of_item f (Call words) = map (call_cycle f words) (numbers_from 0 (call_size words))
+cycles_of_item f (Vector words) = vector_cycle f words ∷ []
+
+abbrev pub vectors_in : StilFile → List Cycle
+vectors_in f = flat_map (cycles_of_item f) f.items
+
+-- where there are chains, there is a word for the clock
+abbrev pub IsPulsed : ℕ → List Text → Type 0
+IsPulsed zero words = Unit {0}
+IsPulsed (suc n) words = (word : Text) × (slice_get words (suc (suc n)) ≡ Some word) × (1 ≤ length word)

@@ -1,0 +1,17 @@
+-- Files and netlists that fit together.
+use Rattle.std.specs.Prelude.{ℕ, ◌≡◌, ◌+◌, ◌↔◌, List, [], ◌++◌, length, map}
+use Rattle.netlist.specs.Netlist.{Netlist, cells, name_of}
+use Rattle.scan_insert.specs.Names.{output_name}
+use Rattle.scan_play.specs.Cycles.{Cycle}
+use Rattle.stil_write.specs.StilFiles.{StilFile, scan_inputs, scan_outputs}
+
+-- The inputs and the scan inputs are the netlist's inputs, the outputs and the scan outputs the pins of its outputs, in order, and there are chains exactly where there are cells.
+pub record Fits (f : StilFile) (n : Netlist) : Type 0 where
+  pub inputs : f.pi ++ scan_inputs f ≡ map (name_of n) n.inputs
+  pub outputs : f.po ++ scan_outputs f ≡ map (output_name n) n.outputs
+  pub chains : (length f.chains ≡ 0) ↔ (length (cells n) ≡ 0)
+
+-- a bit for each input of the file, and a strobe for each output
+pub record IsCycleFor (f : StilFile) (c : Cycle) : Type 0 where
+  pub drive : length c.drive ≡ length f.pi + length f.chains
+  pub strobe : length c.strobe ≡ length f.po + length f.chains

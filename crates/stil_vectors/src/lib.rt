@@ -1,0 +1,12 @@
+//! What a STIL file does on a tester, and the file of a test.
+#![tactic(auto)]
+
+mod calls;
+mod characters;
+mod file_vectors;
+mod fitting;
+mod laws;
+
+pub use file_vectors::vectors;
+pub use fitting::fits;
+pub use laws::{fitting_cycles, test_vectors};
