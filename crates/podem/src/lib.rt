@@ -2,6 +2,7 @@
 #![tactic(auto)]
 
 mod engine;
+mod guides;
 mod searching;
 
 pub use engine::Podem;

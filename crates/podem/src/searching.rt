@@ -1,5 +1,5 @@
 //! The search from the path without decisions.
-ghost use Rattle.std.specs.Prelude.{◌≡◌, ◌≤◌, ◌<◌, ◌+◌, ◌^◌, ℕ, [], ◌∷◌, length, IfOk, OnOk, MatchOption, map, if◌then◌else◌};
+ghost use Rattle.std.specs.Prelude.{◌≡◌, ◌≤◌, ◌<◌, ◌+◌, ◌^◌, ℕ, [], ◌∷◌, length, IfOk, IfSome, OnOk, MatchOption, map, if◌then◌else◌};
 ghost use Rattle.std.specs.List.{All, Contains};
 ghost use Rattle.netlist.specs.declared.kinds.Tri.TheVariants.{X};
 ghost use Rattle.netlist.specs.Netlist.{signals};
@@ -12,6 +12,7 @@ ghost use Rattle.netlist.specs.Holds.{AreHoldsOf};
 ghost use Rattle.podem.specs.Sources.{all_sources, sources, undecided, value_of, HasSourceEvidence};
 ghost use Rattle.podem.specs.Searching.{IsAt, IsSearching, IsSeen, IsKnownAt, MayEnter, MayClimb, IsWhole, IsTestAt, IsStepped, IsChosen, IsOfCase};
 
+use crate::guides::{Aim, best_aim};
 use cubes::Cube;
 use netlist::{Core, Fault, Holds, Point, SignalId, Tri};
 use pair_sim::{PairSim, State};
@@ -107,7 +108,7 @@ fn climb(
 }
 
 /// A source that is X: while the search may go on there is one.
-fn choose(
+fn any_free(
     core: &Core,
     fault: &Fault,
     holds: &Holds,
@@ -126,6 +127,67 @@ fn choose(
         None => match first_free(labels, netlist.cells()) {
             Some(signal) => signal,
             None => unreachable!(),
+        },
+    }
+}
+
+/// This signal, if it is among these and is X.
+fn wanted_in(labels: &PairSim, ids: &[SignalId], wanted: SignalId) -> Option<SignalId>
+    requires { All (Contains (signals labels.now.netlist)) ids.now }
+    ensures { IfSome result (λ x. Contains ids.now x × HasGood labels.now x X) }
+{
+    for id in ids {
+        if id.index() == wanted.index() && matches!(labels.good(*id), Tri::X) {
+            return Some(*id);
+        }
+    }
+    None
+}
+
+/// This signal, if it is an input or a cell and is X.
+fn wanted_source(core: &Core, labels: &PairSim, wanted: SignalId) -> Option<SignalId>
+    requires { labels.now.netlist ≡ core.now }
+    ensures { IfSome result (λ x. Contains (all_sources core.now) x × HasGood labels.now x X) }
+{
+    match wanted_in(labels, core.netlist().inputs(), wanted) {
+        Some(signal) => Some(signal),
+        None => wanted_in(labels, core.netlist().cells(), wanted),
+    }
+}
+
+/// The source to which the objective leads back.
+fn guided(
+    core: &Core,
+    fault: &Fault,
+    holds: &Holds,
+    labels: &PairSim,
+    stack: &Vec<Side>,
+) -> Option<Aim>
+    requires at { IsAt fault.now core.now holds.now labels.now stack.now.items }
+    requires going { IsGoingPath fault.now core.now holds.now (path_of_stack stack.now.items) }
+    ensures { IfSome result (λ a. Contains (sources core.now holds.now) a.signal × IsUnknown fault.now core.now holds.now (path_of_stack stack.now.items) a.signal) }
+{
+    core.netlist().sound();
+    let aim = best_aim(core, fault, labels)?;
+    let signal = wanted_source(core, labels, aim.signal)?;
+    Some(Aim {
+        signal,
+        bit: aim.bit,
+    })
+}
+
+/// What to decide next.
+fn choose(core: &Core, fault: &Fault, holds: &Holds, labels: &PairSim, stack: &Vec<Side>) -> Aim
+    requires at { IsAt fault.now core.now holds.now labels.now stack.now.items }
+    requires going { IsGoingPath fault.now core.now holds.now (path_of_stack stack.now.items) }
+    ensures source { Contains (sources core.now holds.now) result.signal }
+    ensures free { IsUnknown fault.now core.now holds.now (path_of_stack stack.now.items) result.signal }
+{
+    match guided(core, fault, holds, labels, stack) {
+        Some(aim) => aim,
+        None => Aim {
+            signal: any_free(core, fault, holds, labels, stack),
+            bit: false,
         },
     }
 }
@@ -253,11 +315,15 @@ fn take_turn(
     ensures { IfOk result (IsStepped fault.now core.now holds.now labels.new stack.old.items stack.new.items (closed_around stack.old.items)) }
 {
     core.netlist().sound();
-    let signal = choose(core, fault, holds, labels, stack);
-    match look(labels, signal, false) {
+    let aim = choose(core, fault, holds, labels, stack);
+    match look(labels, aim.signal, aim.bit) {
         State::Test(point) => Ok(Step::Found(point)),
-        State::Blocked => after_closed(alloc, core, fault, holds, labels, stack, signal, false),
-        State::Going => after_going(alloc, core, fault, holds, labels, stack, signal, false),
+        State::Blocked => after_closed(
+            alloc, core, fault, holds, labels, stack, aim.signal, aim.bit,
+        ),
+        State::Going => after_going(
+            alloc, core, fault, holds, labels, stack, aim.signal, aim.bit,
+        ),
     }
 }
 

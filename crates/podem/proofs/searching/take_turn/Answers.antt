@@ -8,6 +8,6 @@ returns-in-Test c =
     let n = c.args.core.now in
     let holds = c.args.holds.now in
     let sound : IsSound n = subst IsSound c.netlist.ensures c.sound.ensures in
-    test_there c.args.fault.now n holds sound c.args.labels.now c.args.stack.now.items c.choose-signal.result
-    (record { is = c.requires.at; going = c.requires.going; source = c.choose-signal.ensures.source; free = c.choose-signal.ensures.free })
-    c.look.new.labels false c.in-Test.point c.in-Test.ensures.0 c.in-Test.ensures.1
+    test_there c.args.fault.now n holds sound c.args.labels.now c.args.stack.now.items c.choose-aim.result.signal
+    (record { is = c.requires.at; going = c.requires.going; source = c.choose-aim.ensures.source; free = c.choose-aim.ensures.free })
+    c.look.new.labels c.choose-aim.result.bit c.in-Test.point c.in-Test.ensures.0 c.in-Test.ensures.1

@@ -7,7 +7,7 @@ use Rattle.pair_sim.specs.Sims.{Sim}
 use Rattle.podem.proofs.Owns.{inputs_signals, cells_signals}
 use Rattle.podem.specs.Searching.{IsKnownAt}
 use Rattle.podem.proofs.Steps.{some_free, chosen_from}
-use Rattle.podem.proofs.searching.choose.Goals as goal
+use Rattle.podem.proofs.searching.any_free.Goals as goal
 
 pub first_free-requires : goal.first_free-requires
 first_free-requires c =

@@ -1,0 +1,19 @@
+use Rattle.std.proofs.Common.{◌≡◌, ◌∙◌, ap, subst, sym}
+use Rattle.netlist.specs.Conditions.{IsSound}
+use Rattle.pair_sim.specs.Sims.{Sim, IsNotBlocked}
+use Rattle.podem.proofs.Steps.{chosen_from}
+use Rattle.podem.proofs.Turns.{going_open}
+use Rattle.podem.proofs.searching.guided.Goals as goal
+
+pub best_aim-requires-clause-same : goal.best_aim-requires-clause-same
+best_aim-requires-clause-same c = ap (λ (r : Sim). r.netlist) c.requires.at.at
+
+pub best_aim-requires-clause-not_blocked : goal.best_aim-requires-clause-not_blocked
+best_aim-requires-clause-not_blocked c =
+    let sound : IsSound c.args.core.now = subst IsSound c.netlist.ensures c.sound.ensures in
+    subst (λ (r : Sim). IsNotBlocked r) (sym c.requires.at.at) (going_open c.args.fault.now c.args.core.now c.args.holds.now sound _ c.requires.going)
+
+pub returns : goal.returns
+returns c =
+    chosen_from c.args.fault.now c.args.core.now c.args.holds.now c.args.labels.now c.args.stack.now.items c.in_ok-signal.signal c.requires.at
+    c.in_ok-signal.ensures.0 c.in_ok-signal.ensures.1
