@@ -1,8 +1,9 @@
 -- What a list of faults is about, and what is said of it.
 use Rattle.std.specs.Prelude.{ℕ, ◌≡◌, List, length, Some}
-use Rattle.std.specs.List.{slice_get}
+use Rattle.std.specs.List.{All, slice_get}
 use Rattle.netlist.specs.declared.lines.Fault.{Fault}
 use Rattle.netlist.specs.declared.lines.Point.{Point}
+use Rattle.netlist.specs.Lines.{IsLineOf}
 use Rattle.netlist.specs.Netlist.{Netlist}
 use Rattle.netlist.specs.Holds.{Holds}
 use Rattle.netlist.specs.Detection.{Detects}
@@ -20,6 +21,10 @@ pub record Subject : Type 0 where
 
 abbrev pub class_count : Subject → ℕ
 class_count j = length j.classes.representatives
+
+-- each representative stands on a line of the netlist
+abbrev pub HaveLines : Subject → Type 0
+HaveLines j = All (λ (f : Fault). IsLineOf j.netlist f.line) j.classes.representatives
 
 -- the fault is the class's representative
 abbrev pub Represents : Subject → ℕ → Fault → Type 0

@@ -2,6 +2,8 @@
 #![tactic(auto)]
 
 mod compaction;
+mod finishing;
 mod keeping;
 
 pub use compaction::{Finished, compact};
+pub use finishing::finish;

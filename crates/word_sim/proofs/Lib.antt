@@ -10,3 +10,4 @@ pub mod FaultFound
 pub mod HitLists
 pub mod LastFrom
 pub mod GoodLemmas
+pub mod WidthLemmas

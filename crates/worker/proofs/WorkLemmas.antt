@@ -3,10 +3,12 @@ use Rattle.std.proofs.Common.{zero, suc, ◌≡◌, ◌≢◌, ◌⊎◌, inl, i
 use Rattle.std.specs.List.{All, AllPairs}
 use Rattle.std.proofs.lemmas.List.Elements.{All-cons, All-head, All-tail}
 use Rattle.std.proofs.lemmas.List.Kept.{AllPairs-cons}
+use Rattle.std.proofs.lemmas.Option.{get_or_from_slice_get, slice_get_within}
 use Rattle.netlist.specs.declared.lines.Fault.{Fault}
 use Rattle.netlist.specs.declared.lines.Point.{Point}
 use Rattle.netlist.specs.Netlist.{Netlist}
 use Rattle.netlist.specs.Holds.{Holds}
+use Rattle.netlist.specs.Lines.{IsLineOf}
 use Rattle.netlist.specs.Detection.{Detects}
 use Rattle.cubes.specs.Cubes.{Pattern, Cube, HaveSameWidths, AgreesWith, IsCubeOf, IsPatternOf}
 use Rattle.word_sim.specs.declared.batches.Hit.{Hit}
@@ -17,7 +19,7 @@ use Rattle.redundancy_cert.specs.declared.engine.Found.TheVariants.{Test, Closed
 use Rattle.redundancy_cert.specs.Fits.{Fits}
 use Rattle.redundancy_cert.specs.Evidence.{HasEvidence, IsTestCube}
 use Rattle.list_core.specs.States.{MaySettle}
-use Rattle.list_core.specs.Subjects.{Subject, Represents}
+use Rattle.list_core.specs.Subjects.{Subject, Represents, HaveLines}
 use Rattle.list_core.specs.Batches.{IsTrueHit, IsTrueBatch}
 
 -- cubes of one netlist have the same widths
@@ -26,6 +28,19 @@ same_widths n holds cubes all i j d a b =
     let x = all i d (omega arith) in
     let y = all j d b in
     record { inputs = x.inputs ∙ sym y.inputs; cells = x.cells ∙ sym y.cells }
+
+-- the faults of the classes that were left stand on lines
+pub lines_of_left : (j : Subject) (n : Netlist) (left : List (ℕ × Fault)) → n ≡ j.netlist → HaveLines j
+    → All (λ (p : ℕ × Fault). Represents j p.0 p.1) left → All (λ (p : ℕ × Fault). IsLineOf n p.1.line) left
+lines_of_left j n left e lines reps k d lt =
+    let faults : List Fault = j.classes.representatives in
+    let place : ℕ = (get_or left k d).0 in
+    let fault : Fault = (get_or left k d).1 in
+    let there = reps k d lt in
+    let P : Fault → Type 0 = λ f. IsLineOf j.netlist f.line in
+    let Q : Netlist → Type 0 = λ m. IsLineOf m fault.line in
+    let stands : P fault = subst P (get_or_from_slice_get faults place fault fault there) (lines place fault (slice_get_within faults place fault there)) in
+    subst Q (sym e) stands
 
 -- ---- hits of the classes that were left
 

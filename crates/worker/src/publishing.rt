@@ -3,9 +3,9 @@ ghost use Rattle.std.specs.Prelude.{◌≡◌, ◌≤◌, ℕ, length, IfOk, vec
 ghost use Rattle.std.specs.List.{All};
 ghost use Rattle.cubes.specs.Cubes.{IsCubeOf, IsPatternOf};
 ghost use Rattle.list_core.specs.Batches.{IsTrueBatch};
+ghost use Rattle.list_core.specs.Subjects.{HaveLines};
 
 use crate::adding::add;
-use crate::simulating::HitSimulator;
 use cubes::{Cube, Pattern, fill, merge};
 use list_core::{About, Left};
 use netlist::{Core, Holds, NoMemory};
@@ -15,7 +15,7 @@ use shared_list::{Share, Shared};
 use std::alloc::Global;
 use std::sync::Wait;
 use std::sync::ledger::Ledger;
-use word_sim::Batch;
+use word_sim::{Batch, hits};
 
 /// A pattern for each cube.
 fn fill_all<N: Rng>(
@@ -56,15 +56,15 @@ fn patterns_of<N: Rng>(
 }
 
 /// The patterns with what they hit of the classes that were left.
-fn batch_of<J: About, H: HitSimulator>(
+fn batch_of<J: About>(
     alloc: Global,
     core: &Core,
-    simulator: &H,
     patterns: Vec<Pattern>,
     left: &Left<J>,
     holds: &Holds,
 ) -> Result<Batch, NoMemory>
     requires core { core.now ≡ J.subject.netlist }
+    requires lines { HaveLines J.subject }
     requires held { holds.now ≡ J.subject.holds }
     requires few { vec_len patterns ≤ 64 }
     requires wide { All (IsPatternOf core.now holds.now) patterns.items }
@@ -72,7 +72,7 @@ fn batch_of<J: About, H: HitSimulator>(
     ensures true_batch { IfOk result (IsTrueBatch J.subject) }
 {
     let _ = holds;
-    let hits = simulator.hits(alloc, core, &patterns, left.classes())?;
+    let hits = hits(alloc, core, &patterns, left.classes())?;
     Ok(Batch::new(patterns, hits))
 }
 
@@ -83,7 +83,6 @@ pub(crate) fn publish_cubes<
     S: Ledger,
     P: Ledger,
     U: Ledger,
-    H: HitSimulator,
     G: Gate,
     N: Rng,
     R: Wait,
@@ -93,7 +92,6 @@ pub(crate) fn publish_cubes<
     shared: &Shared<J, T, S, P, U>,
     share: &mut Share<T, S, P, U>,
     core: &Core,
-    simulator: &H,
     gate: &G,
     rng: &mut N,
     cubes: &[Cube],
@@ -101,6 +99,7 @@ pub(crate) fn publish_cubes<
 ) -> Result<(), NoMemory>
     requires table { share.old.table ≡ shared.now.word.shared.table_id }
     requires core { core.now ≡ J.subject.netlist }
+    requires lines { HaveLines J.subject }
     requires held { holds.now ≡ J.subject.holds }
     requires wide { All (IsCubeOf core.now holds.now) cubes.now }
     requires few { length cubes.now ≤ 64 }
@@ -110,7 +109,7 @@ pub(crate) fn publish_cubes<
 {
     let patterns = patterns_of(alloc, core, cubes, rng, holds)?;
     let left = shared.undetected(rt, alloc)?;
-    let batch = batch_of(alloc, core, simulator, patterns, &left, holds)?;
+    let batch = batch_of(alloc, core, patterns, &left, holds)?;
     if let Err((NoMemory, _)) = shared.publish(rt, share, batch) {
         return Err(NoMemory);
     }

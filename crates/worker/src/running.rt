@@ -1,7 +1,7 @@
 //! Workers beside each other.
 ghost use Rattle.std.specs.Prelude.{◌≡◌, ◌<◌, ◌≤◌, [], length, IfOk, vec_len};
 ghost use Rattle.std.specs.List.{All};
-ghost use Rattle.list_core.specs.Subjects.{class_count};
+ghost use Rattle.list_core.specs.Subjects.{class_count, HaveLines};
 ghost use Rattle.list_core.specs.States.{IsTrueList};
 ghost use Rattle.shared_list.specs.Tally.{Tally};
 ghost use Rattle.netlist.specs.Holds.{AreHoldsOf};
@@ -9,7 +9,6 @@ ghost use Rattle.worker.specs.Working.{NoneOpen};
 
 use crate::adding::add;
 use crate::rest::work_rest;
-use crate::simulating::HitSimulator;
 use crate::working::work;
 use list_core::{About, FaultList};
 use netlist::{Core, Holds, NoMemory};
@@ -45,7 +44,6 @@ fn work_in<
     P: Ledger,
     U: Ledger,
     E: Engine,
-    H: HitSimulator,
     G: Gate,
     R: Wait,
 >(
@@ -55,13 +53,13 @@ fn work_in<
     job: &mut Job<T, S, P, U>,
     core: &Core,
     engine: &E,
-    simulator: &H,
     gate: &G,
     seed: u64,
     holds: &Holds,
 )
     requires table { job.old.table ≡ shared.now.word.shared.table_id }
     requires core { core.now ≡ J.subject.netlist }
+    requires lines { HaveLines J.subject }
     requires limit { 1 ≤ J.subject.limit }
     requires held { (holds.now ≡ J.subject.holds) × AreHoldsOf core.now holds.now }
 {
@@ -72,7 +70,6 @@ fn work_in<
         &mut job.share,
         core,
         engine,
-        simulator,
         gate,
         seed,
         holds,
@@ -128,7 +125,6 @@ fn run_named<
     P: Ledger + Send + Sync,
     U: Ledger + Send + Sync,
     E: Engine + Sync,
-    H: HitSimulator + Sync,
     G: Gate + Sync,
     R: Threads + Wait + Sync,
 >(
@@ -137,7 +133,6 @@ fn run_named<
     list: FaultList<J>,
     core: &Core,
     engine: &E,
-    simulator: &H,
     gate: &G,
     workers: u32,
     seed: u64,
@@ -148,6 +143,7 @@ fn run_named<
     unspent: Blank,
 ) -> Result<FaultList<J>, NoMemory>
     requires core { core.now ≡ J.subject.netlist }
+    requires lines { HaveLines J.subject }
     requires limit { 1 ≤ J.subject.limit }
     requires held { (holds.now ≡ J.subject.holds) × AreHoldsOf core.now holds.now }
     requires empty { list.journal ≡ [] }
@@ -165,10 +161,10 @@ fn run_named<
     let mut jobs = jobs_of(alloc, shares)?;
     let behind = &shared;
     let step = move |_i: usize, job: &mut Job<T, S, P, U>|
-        requires { (job.now.table ≡ behind.now.word.shared.table_id) × (core.now ≡ J.subject.netlist) × (1 ≤ J.subject.limit) × (holds.now ≡ J.subject.holds) × AreHoldsOf core.now holds.now }
+        requires { (job.now.table ≡ behind.now.word.shared.table_id) × (core.now ≡ J.subject.netlist) × HaveLines J.subject × (1 ≤ J.subject.limit) × (holds.now ≡ J.subject.holds) × AreHoldsOf core.now holds.now }
     {
         work_in(
-            rt, alloc, behind, job, core, engine, simulator, gate, seed, holds,
+            rt, alloc, behind, job, core, engine, gate, seed, holds,
         )
     };
     thread::for_each_mut(rt, jobs.as_mut_slice(), workers as usize, &step);
@@ -184,7 +180,6 @@ fn run_named<
 pub fn run_all<
     J: About + Send + Sync,
     E: Engine + Sync,
-    H: HitSimulator + Sync,
     G: Gate + Sync,
     R: Threads + Wait + Sync,
 >(
@@ -193,13 +188,13 @@ pub fn run_all<
     list: FaultList<J>,
     core: &Core,
     engine: &E,
-    simulator: &H,
     gate: &G,
     workers: u32,
     seed: u64,
     holds: &Holds,
 ) -> Result<FaultList<J>, NoMemory>
     requires core { core.now ≡ J.subject.netlist }
+    requires lines { HaveLines J.subject }
     requires limit { 1 ≤ J.subject.limit }
     requires held { (holds.now ≡ J.subject.holds) × AreHoldsOf core.now holds.now }
     requires empty { list.journal ≡ [] }
@@ -208,13 +203,12 @@ pub fn run_all<
     ensures true_list { IfOk result (λ l. IsTrueList J.subject l) }
 {
     let parts = workers as u64;
-    run_named::<J, Brand, Brand, Brand, Brand, E, H, G, R>(
+    run_named::<J, Brand, Brand, Brand, Brand, E, G, R>(
         rt,
         alloc,
         list,
         core,
         engine,
-        simulator,
         gate,
         workers,
         seed,

@@ -3,10 +3,10 @@ ghost use Rattle.std.specs.Prelude.{◌≡◌, ◌≤◌, ◌<◌, true, IfOk, O
 ghost use Rattle.std.specs.List.{All};
 ghost use Rattle.netlist.specs.Holds.{AreHoldsOf};
 ghost use Rattle.cubes.specs.Cubes.{IsCubeOf};
+ghost use Rattle.list_core.specs.Subjects.{HaveLines};
 
 use crate::adding::add;
 use crate::publishing::publish_cubes;
-use crate::simulating::HitSimulator;
 use cubes::Cube;
 use list_core::About;
 use netlist::{Core, Holds, NoMemory};
@@ -27,7 +27,6 @@ pub fn work<
     P: Ledger,
     U: Ledger,
     E: Engine,
-    H: HitSimulator,
     G: Gate,
     R: Wait,
 >(
@@ -37,13 +36,13 @@ pub fn work<
     share: &mut Share<T, S, P, U>,
     core: &Core,
     engine: &E,
-    simulator: &H,
     gate: &G,
     seed: u64,
     holds: &Holds,
 ) -> Result<(), NoMemory>
     requires table { share.old.table ≡ shared.now.word.shared.table_id }
     requires core { core.now ≡ J.subject.netlist }
+    requires lines { HaveLines J.subject }
     requires limit { 1 ≤ J.subject.limit }
     requires held { (holds.now ≡ J.subject.holds) × AreHoldsOf core.now holds.now }
     ensures table { share.new.table ≡ share.old.table }
@@ -63,7 +62,7 @@ pub fn work<
                 add(&mut cubes, cube)?;
                 if cubes.len() == 64 {
                     publish_cubes(
-                        rt, alloc, shared, share, core, simulator, gate, &mut rng, &cubes, holds,
+                        rt, alloc, shared, share, core, gate, &mut rng, &cubes, holds,
                     )?;
                     cubes = Vec::new(alloc);
                 }
@@ -77,6 +76,6 @@ pub fn work<
         }
     }
     publish_cubes(
-        rt, alloc, shared, share, core, simulator, gate, &mut rng, &cubes, holds,
+        rt, alloc, shared, share, core, gate, &mut rng, &cubes, holds,
     )
 }

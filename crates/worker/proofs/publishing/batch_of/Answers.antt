@@ -1,5 +1,14 @@
-use Rattle.worker.proofs.WorkLemmas.{true_batch}
+use Rattle.word_sim.proofs.WidthLemmas.{widths}
+use Rattle.worker.proofs.WorkLemmas.{true_batch, lines_of_left}
 use Rattle.worker.proofs.publishing.batch_of.Goals as goal
+
+pub hits-requires-clause-wide : goal.hits-requires-clause-wide
+hits-requires-clause-wide g c =
+    rw c.deref.ensures.value (widths c.args.core.now c.args.holds.now c.args.patterns.items c.requires.wide)
+
+pub hits-requires-clause-lines : goal.hits-requires-clause-lines
+hits-requires-clause-lines g c =
+    lines_of_left g.J.About.subject c.args.core.now c.classes.result.now c.requires.core c.requires.lines c.classes.ensures.represent
 
 pub returns-clause-true_batch : goal.returns-clause-true_batch
 returns-clause-true_batch g c =

@@ -1,0 +1,10 @@
+-- Patterns of a netlist have its widths.
+use Rattle.std.proofs.Common.{ℕ, ◌<◌, List, length}
+use Rattle.std.specs.List.{All}
+use Rattle.netlist.specs.Netlist.{Netlist}
+use Rattle.netlist.specs.Holds.{Holds}
+use Rattle.cubes.specs.Cubes.{Pattern, IsPatternOf}
+use Rattle.word_sim.specs.Words.{HasWidthsOf}
+
+pub widths : (n : Netlist) (holds : Holds) (patterns : List Pattern) → All (IsPatternOf n holds) patterns → All (HasWidthsOf n) patterns
+widths n holds patterns all k d lt = let p = all k d lt in record { inputs = p.inputs; cells = p.cells }
