@@ -1,7 +1,7 @@
 -- A batch of hits.
-use Rattle.std.proofs.Common.{zero, suc, ◌≡◌, ◌≢◌, ℕ, ◌+◌, ◌<◌, ◌≤◌, ◌^◌, Bool, true, false, ◌||◌, List, [], ◌∷◌, ◌++◌, length, map, set, drop, get_or, refl, sym, ap, ◌∙◌, subst, arith, sum_by}
+use Rattle.std.proofs.Common.{suc, ◌≡◌, ◌≢◌, ℕ, ◌+◌, ◌<◌, ◌≤◌, ◌^◌, Bool, true, false, ◌||◌, List, [], ◌∷◌, ◌++◌, length, map, set, drop, get_or, refl, sym, ap, ◌∙◌, arith, sum_by}
 use Rattle.std.specs.Prelude.{Option, Some, option_and_then, if◌then◌else◌, replicate}
-use Rattle.std.specs.List.{All, AllPairs, slice_get}
+use Rattle.std.specs.List.{All, AllPairs}
 use Rattle.std.proofs.lemmas.Bool.{lt-ltb, le-leb}
 use Rattle.std.proofs.Math.ListN.{get_or-map}
 use Rattle.std.proofs.lemmas.List.{length-map, length-replicate, get_or-set_other, map-set, length-set, length-append, drop_more, map_push, append_assoc}
@@ -21,7 +21,7 @@ use Rattle.list_core.specs.Subjects.{Subject, class_count, DetectsClass}
 use Rattle.word_sim.specs.Hits.{Batch}
 use Rattle.list_core.specs.Batches.{IsTrueHit, IsTrueBatch}
 use Rattle.list_core.specs.Verdicts.{verdict_at, open_one, VerdictHolds, AllHold, is_undetected}
-use Rattle.list_core.specs.Journal.{take_one, publish_one, is_taken, takes_class, Kind, kind_of, kind_at, can_be_hit, Replay, step, replay_from, replay}
+use Rattle.list_core.specs.Journal.{take_one, publish_one, is_taken, Kind, kind_of, kind_at, can_be_hit, Replay, step, replay_from, replay}
 use Rattle.list_core.specs.States.{State, IsTrueList, published, replayed, hit_one, entry_of, hit_verdicts, hit_entries, undetected_from, free_one, mark_at}
 use Rattle.list_core.proofs.ListLemmas.{frees-one_less, if_true, both, get_more, get_behind, is_taken-append, untaken-push}
 use Rattle.list_core.proofs.EventLemmas.{legal_more, hold_set, none_marked, all_free}

@@ -1,7 +1,7 @@
 -- What comes later: verdicts change only upwards, patterns and journal only grow; and no batch hits a redundant class.
-use Rattle.std.proofs.Common.{zero, suc, ◌≡◌, ℕ, ◌+◌, ◌<◌, ◌≤◌, Bool, true, false, List, [], ◌∷◌, ◌++◌, length, set, get_or, refl, sym, ap, ◌∙◌, subst, arith, ◌≢◌, ◌⊎◌, inl, inr}
-use Rattle.std.specs.Prelude.{Some, if◌then◌else◌}
-use Rattle.std.specs.List.{All, slice_get}
+use Rattle.std.proofs.Common.{◌≡◌, ℕ, ◌+◌, ◌<◌, Bool, true, false, List, [], ◌∷◌, ◌++◌, length, set, get_or, refl, sym, ap, ◌∙◌, subst, arith, inl, inr}
+use Rattle.std.specs.Prelude.{if◌then◌else◌}
+use Rattle.std.specs.List.{All}
 use Rattle.std.proofs.lemmas.List.{append_assoc, get_or-set_same, get_or-set_other}
 use Rattle.std.proofs.lemmas.Option.{same_Some, slice_get_within}
 use Rattle.netlist.specs.Conditions.{IsSound}
@@ -13,7 +13,6 @@ use Rattle.netlist.specs.Detection.{Detects}
 use Rattle.redundancy_cert.specs.declared.nodes.Node.{Node}
 use Rattle.redundancy_cert.proofs.Redundant.{redundant}
 use Rattle.word_sim.specs.declared.batches.Hit.{Hit as HitOf}
-use Rattle.list_core.specs.declared.verdicts.Entry.{Entry}
 use Rattle.list_core.specs.declared.verdicts.Entry.TheVariants.{Take, Settle as SettleEntry, Publish as PublishEntry}
 use Rattle.list_core.specs.declared.verdicts.Verdict.{Verdict}
 use Rattle.list_core.specs.declared.verdicts.Verdict.TheVariants.{Open, Detected, Redundant, Aborted}

@@ -1,5 +1,5 @@
 -- When a batch of patterns and hits is true.
-use Rattle.std.specs.Prelude.{ℕ, ◌≢◌, List}
+use Rattle.std.specs.Prelude.{◌≢◌, List}
 use Rattle.std.specs.List.{All, AllPairs}
 use Rattle.cubes.specs.Cubes.{Pattern, IsPatternOf}
 use Rattle.word_sim.specs.declared.batches.Hit.{Hit}

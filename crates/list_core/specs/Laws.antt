@@ -1,5 +1,5 @@
 -- The laws of the list, each the contract of a function of its name.
-use Rattle.std.specs.Prelude.{ℕ, ◌≡◌, ◌<◌, ◌++◌, ⊤, Bool, true, List, [], ◌∷◌}
+use Rattle.std.specs.Prelude.{ℕ, ◌≡◌, ◌<◌, ◌++◌, ⊤, true, List, [], ◌∷◌}
 use Rattle.std.specs.List.{All}
 use Rattle.netlist.specs.Conditions.{IsSound}
 use Rattle.netlist.specs.declared.lines.Fault.{Fault}

@@ -1,5 +1,5 @@
 -- Patterns of a netlist have its widths.
-use Rattle.std.proofs.Common.{ℕ, ◌<◌, List, length}
+use Rattle.std.proofs.Common.{List}
 use Rattle.std.specs.List.{All}
 use Rattle.netlist.specs.Netlist.{Netlist}
 use Rattle.netlist.specs.Holds.{Holds}

@@ -37,16 +37,7 @@ impl<T: Ledger, S: Ledger, P: Ledger, U: Ledger> Model for Job<T, S, P, U> {
     ghost view = { λ j. j.share };
 }
 
-fn work_in<
-    J: About,
-    T: Ledger,
-    S: Ledger,
-    P: Ledger,
-    U: Ledger,
-    E: Engine,
-    G: Gate,
-    R: Wait,
->(
+fn work_in<J: About, T: Ledger, S: Ledger, P: Ledger, U: Ledger, E: Engine, G: Gate, R: Wait>(
     rt: &R,
     alloc: Global,
     shared: &Shared<J, T, S, P, U>,
@@ -162,11 +153,7 @@ fn run_named<
     let behind = &shared;
     let step = move |_i: usize, job: &mut Job<T, S, P, U>|
         requires { (job.now.table ≡ behind.now.word.shared.table_id) × (core.now ≡ J.subject.netlist) × HaveLines J.subject × (1 ≤ J.subject.limit) × (holds.now ≡ J.subject.holds) × AreHoldsOf core.now holds.now }
-    {
-        work_in(
-            rt, alloc, behind, job, core, engine, gate, seed, holds,
-        )
-    };
+    { work_in(rt, alloc, behind, job, core, engine, gate, seed, holds) };
     thread::for_each_mut(rt, jobs.as_mut_slice(), workers as usize, &step);
     let (back, refused) = collected(alloc, jobs)?;
     let (list, _) = shared.into_list(back);
@@ -177,12 +164,7 @@ fn run_named<
 }
 
 /// Runs the workers beside each other, and works the rest. No class is Open in the answer.
-pub fn run_all<
-    J: About + Send + Sync,
-    E: Engine + Sync,
-    G: Gate + Sync,
-    R: Threads + Wait + Sync,
->(
+pub fn run_all<J: About + Send + Sync, E: Engine + Sync, G: Gate + Sync, R: Threads + Wait + Sync>(
     rt: &R,
     alloc: Global,
     list: FaultList<J>,

@@ -20,16 +20,7 @@ use std::sync::Wait;
 use std::sync::ledger::Ledger;
 
 /// Searches claim after claim, until there is none.
-pub fn work<
-    J: About,
-    T: Ledger,
-    S: Ledger,
-    P: Ledger,
-    U: Ledger,
-    E: Engine,
-    G: Gate,
-    R: Wait,
->(
+pub fn work<J: About, T: Ledger, S: Ledger, P: Ledger, U: Ledger, E: Engine, G: Gate, R: Wait>(
     rt: &R,
     alloc: Global,
     shared: &Shared<J, T, S, P, U>,

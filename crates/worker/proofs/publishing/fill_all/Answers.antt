@@ -1,4 +1,4 @@
-use Rattle.std.proofs.Common.{length, subst, sym, arith}
+use Rattle.std.proofs.Common.{subst, sym, arith}
 use Rattle.std.proofs.lemmas.List.Elements.{All-push}
 use Rattle.cubes.specs.Cubes.{Cube, IsCubeOf, IsPatternOf}
 use Rattle.worker.proofs.publishing.fill_all.Goals as goal
