@@ -1,11 +1,10 @@
 -- Words and their forms.
-use Rattle.std.proofs.Common.{◌≡◌, ℕ, zero, suc, ◌+◌, ◌<◌, ◌≤◌, Bool, true, false, List, [], ◌∷◌, ◌++◌, take, length, refl, sym, ap, ◌∙◌, subst, arith, get_or, replicate, length-append}
-use Rattle.std.specs.Prelude.{◌==◌, Some, slice_get, IsTrue, MatchBool}
-use Rattle.std.specs.List.{All, AllZip}
-use Rattle.std.proofs.lemmas.List.{take_all, length-replicate}
-use Rattle.std.proofs.lemmas.Slice.Zip.{all_zipped_more, AllZip-long}
+use Rattle.std.proofs.Common.{◌≡◌, ℕ, zero, suc, ◌+◌, ◌≤◌, Bool, true, false, List, [], ◌∷◌, ◌++◌, take, length, sym, ap, ◌∙◌, subst, arith}
+use Rattle.std.specs.Prelude.{◌==◌, Some, slice_get, MatchBool}
+use Rattle.std.specs.List.{AllZip}
+use Rattle.std.proofs.lemmas.List.{take_all}
+use Rattle.std.proofs.lemmas.Slice.Zip.{all_zipped_more}
 use Rattle.stil_write.specs.declared.forms.Form.{Form}
-use Rattle.stil_write.specs.declared.forms.Values.{Values}
 use Rattle.stil_write.specs.declared.forms.Values.TheVariants as values
 use Rattle.stil_write.specs.StilFiles.{IsCall, IsItem, IsItemBy, IsWord, Item, StilFile, Text, call_forms, vector_forms}
 use Rattle.stil_write.proofs.LoopLemmas.{take_at}

@@ -1,5 +1,5 @@
 -- Items in their buffers, and the words of a file's items.
-use Rattle.std.proofs.Common.{◌≡◌, ℕ, zero, suc, ◌+◌, ◌-◌, ◌<◌, ◌≤◌, List, [], ◌∷◌, ◌++◌, take, drop, length, refl, sym, ap, ◌∙◌, subst, arith, get_or, length-append, replicate}
+use Rattle.std.proofs.Common.{◌≡◌, ℕ, zero, suc, ◌+◌, ◌-◌, ◌<◌, ◌≤◌, List, [], ◌∷◌, ◌++◌, take, drop, length, refl, sym, ap, ◌∙◌, arith, get_or, length-append, replicate}
 use Rattle.std.specs.Prelude.{Some, slice_get, decimal, codes}
 use Rattle.std.specs.List.{All, AllZip}
 use Rattle.std.proofs.lemmas.List.{length-replicate, length-take, length-drop, get_or-take, get_or-drop}
@@ -14,7 +14,7 @@ use Rattle.stil_write.specs.StilFiles.{Call, IsItem, IsStilFile, IsWord, Item, S
 use Rattle.stil_write.specs.Pieces.{HasTargets}
 use Rattle.stil_write.specs.Texts.{assigned, called}
 use Rattle.stil_write.specs.inner.Listed.{AreListed, listed}
-use Rattle.stil_write.specs.inner.Rows.{AreEnds, rows}
+use Rattle.stil_write.specs.inner.Rows.{rows}
 use Rattle.stil_write.proofs.RowLemmas.{begins_before_end, end_within, pushed_ends, pushed_rows, row_at, rows_count}
 
 -- ---- in their buffers

@@ -1,12 +1,12 @@
 -- Lines that are written one by one.
-use Rattle.std.proofs.Common.{◌≡◌, ℕ, zero, suc, ◌+◌, ◌<◌, ◌≤◌, List, [], ◌∷◌, ◌++◌, take, length, refl, sym, ap, ◌∙◌, append_assoc, append-nil, arith, add-zero, get_or}
+use Rattle.std.proofs.Common.{◌≡◌, ℕ, suc, ◌+◌, ◌<◌, ◌≤◌, List, [], ◌∷◌, ◌++◌, take, length, sym, ap, ◌∙◌, append_assoc, append-nil, arith, add-zero}
 use Rattle.std.specs.Prelude.{Some, slice_get}
-use Rattle.std.specs.List.{flat_map, zip}
+use Rattle.std.specs.List.{flat_map}
 use Rattle.std.proofs.lemmas.List.{length-take, take_all}
 use Rattle.std.proofs.lemmas.List.Concat.{flat_map-append}
 use Rattle.std.proofs.lemmas.Option.{slice_get_within}
-use Rattle.stil_write.specs.StilFiles.{Text, Item}
-use Rattle.stil_write.specs.Pieces.{assignment, assignments, chain_block, chain_blocks, item_line, item_text, joined, quoted}
+use Rattle.stil_write.specs.StilFiles.{Text}
+use Rattle.stil_write.specs.Pieces.{assignment, assignments, chain_block, chain_blocks, joined, quoted}
 use Rattle.stil_write.proofs.LoopLemmas.{take_at}
 
 -- ---- quoted names with something between them

@@ -1,6 +1,4 @@
 -- The parts of a file as they lie in memory.
-use Rattle.std.specs.Prelude.{ℕ, List, [], ◌∷◌}
-use Rattle.stil_write.specs.declared.items.ItemKind.{ItemKind}
 use Rattle.stil_write.specs.declared.parts.StilParts.{StilParts}
 use Rattle.stil_write.specs.StilFiles.{StilFile}
 

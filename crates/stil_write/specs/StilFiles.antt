@@ -1,5 +1,5 @@
 -- A STIL file of the project's profile as a value. (IEEE 1450-1999: Signals, ScanStructures, Procedures, Pattern.)
-use Rattle.std.specs.Prelude.{ℕ, ◌≡◌, ◌≢◌, ◌≤◌, ◌+◌, ◌&&◌, ◌||◌, ◌==◌, not, nat_le, Bool, zero, suc, List, [], ◌∷◌, ◌++◌, codes, decimal, length, map, IsTrue, slice_index_or, replicate}
+use Rattle.std.specs.Prelude.{ℕ, ◌≡◌, ◌≢◌, ◌≤◌, ◌&&◌, ◌||◌, ◌==◌, not, nat_le, Bool, zero, suc, List, [], ◌∷◌, ◌++◌, codes, decimal, length, IsTrue, slice_index_or, replicate}
 use Rattle.std.specs.List.{All, AllZip, AllPairs}
 use Rattle.stil_write.specs.declared.items.ItemKind.{ItemKind}
 use Rattle.stil_write.specs.declared.items.ItemKind.TheVariants as kind

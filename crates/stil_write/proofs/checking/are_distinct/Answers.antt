@@ -1,5 +1,4 @@
-use Rattle.std.proofs.Common.{Bool, false, true, sym, ap, ◌∙◌}
-use Rattle.std.specs.Prelude.{not}
+use Rattle.std.proofs.Common.{sym, ◌∙◌}
 use Rattle.stil_write.proofs.DistinctLemmas.{not_false, not_true, once, twice}
 use Rattle.stil_write.proofs.checking.are_distinct.Goals as goal
 

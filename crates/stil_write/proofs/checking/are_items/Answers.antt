@@ -1,4 +1,4 @@
-use Rattle.std.proofs.Common.{[], arith, ap, ◌∙◌}
+use Rattle.std.proofs.Common.{[], arith, ◌∙◌}
 use Rattle.std.proofs.lemmas.Option.{slice_get-get_or}
 use Rattle.stil_write.specs.StilFiles.{IsItem, Vector, item_at}
 use Rattle.stil_write.specs.Parts.{file_of}

@@ -1,8 +1,6 @@
 use Rattle.std.proofs.Common.{arith, ◌∙◌, ◌≤◌, length}
 use Rattle.std.proofs.lemmas.Option.{slice_get-get_or}
 use Rattle.std.proofs.lemmas.Slice.Zip.{AllZip-long}
-use Rattle.stil_write.specs.declared.forms.Form.{Form}
-use Rattle.stil_write.specs.declared.forms.Values.TheVariants as values
 use Rattle.stil_write.specs.StilFiles.{IsWord, item_at, words_of}
 use Rattle.stil_write.proofs.FormLemmas.{no_form, zip_at, zip_end, zip_more}
 use Rattle.stil_write.proofs.forms.are_words.Goals as goal

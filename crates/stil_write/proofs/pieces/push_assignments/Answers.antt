@@ -1,4 +1,3 @@
-use Rattle.std.proofs.Common.{arith}
 use Rattle.stil_write.specs.StilFiles.{item_at, words_of}
 use Rattle.stil_write.proofs.PieceLemmas.{assignments_more}
 use Rattle.stil_write.proofs.pieces.push_assignments.Goals as goal

@@ -1,4 +1,4 @@
-use Rattle.std.proofs.Common.{ap, length, ◌∙◌, ◌++◌, ◌∷◌, [], replicate, List}
+use Rattle.std.proofs.Common.{ap, length, ◌∙◌, ◌++◌, ◌∷◌, [], replicate}
 use Rattle.stil_write.specs.StilFiles.{Text}
 use Rattle.stil_write.proofs.ShiftLemmas.{made}
 use Rattle.stil_write.proofs.writer.shift_words.Goals as goal

@@ -1,5 +1,5 @@
-use Rattle.std.proofs.Common.{◌∙◌, ap, length, ◌<◌, arith, sym, List, ℕ, get_or, ◌∷◌}
-use Rattle.std.proofs.Common.{◌≡◌, ◌-◌, ◌≤◌}
+use Rattle.std.proofs.Common.{◌∙◌, ap, length, arith, List, ℕ}
+use Rattle.std.proofs.Common.{◌≡◌}
 use Rattle.stil_write.proofs.ItemLemmas.{count_at, count_in, start, stop}
 use Rattle.stil_write.proofs.items.Items.word_count.Goals as goal
 
