@@ -1,11 +1,5 @@
 pub mod Redundant
-pub mod TallyLemmas
-pub mod MarkLemmas
-pub mod PointLemmas
-pub mod PassLemmas
-pub mod KeptLemmas
-pub mod Free
 pub mod WalkLemmas
-pub mod StepLemmas
+pub mod PassLemmas
 pub mod Counting
 pub mod StackLemmas
