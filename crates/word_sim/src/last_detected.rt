@@ -7,15 +7,15 @@ ghost use Rattle.netlist.specs.declared.lines.Fault.{Fault as FaultOf};
 ghost use Rattle.word_sim.specs.Hits.{LastDetected};
 ghost use Rattle.word_sim.specs.Words.{HasWidthsOf};
 ghost use Rattle.word_sim.specs.inner.Found.{AreFrom, IsTold};
-ghost use Rattle.word_sim.specs.inner.Packed.{AreGoodFor, IsUsed};
+ghost use Rattle.word_sim.specs.inner.Packed.{AreGoodFor, AreSettledWords, IsUsed};
 ghost use Rattle.word_sim.specs.inner.Points.{ArePoints, point_of};
 
 use crate::detecting::last_of;
 use crate::fault_hits::good_events;
-use crate::packing::used_bits;
+use crate::packing::{Part, packed, used_bits};
 use crate::points::{Points, point_at};
 use cubes::Pattern;
-use events::Events;
+use events::{Events, Words};
 use netlist::{Core, Fault, Netlist, NoMemory, Point};
 use std::alloc::{AllocError, Global};
 
@@ -57,10 +57,34 @@ fn told_by(
     moved(events.core().netlist(), found, start)
 }
 
+/// The words of other patterns in place of those before.
+fn next_patterns(
+    alloc: Global,
+    core: &Core,
+    events: &mut Events<'_, u64>,
+    patterns: &[Pattern],
+) -> Result<(), AllocError>
+    requires few { length patterns.now ≤ 64 }
+    requires wide { All (HasWidthsOf core.now) patterns.now }
+    requires netlist { events.old.netlist ≡ core.now }
+    requires settled { AreSettledWords core.now events.old.values }
+    ensures netlist { OnOk result (events.new.netlist ≡ core.now) }
+    ensures good { OnOk result (AreGoodFor core.now patterns.now events.new.values) }
+    ensures trail { OnOk result (events.new.trail ≡ []) }
+{
+    let netlist = core.netlist();
+    let inputs = packed(alloc, Part::Inputs, patterns, netlist.inputs().len())?;
+    let state = packed(alloc, Part::Cells, patterns, netlist.cells().len())?;
+    let rule = Words { fault: None };
+    events.drive(&rule, &inputs, &state);
+    Ok(())
+}
+
 /// Goes over the faults that no later pattern detects.
 fn tell_all(
     alloc: Global,
     core: &Core,
+    events: &mut Events<'_, u64>,
     points: &Points,
     patterns: &[Pattern],
     start: usize,
@@ -76,14 +100,18 @@ fn tell_all(
     requires end { end ≤ length patterns.now }
     requires few { end ≤ start + 64 }
     requires later { AreFrom core.now patterns.now end faults.now told.old.items }
-    ensures { OnOk result (AreFrom core.now patterns.now start faults.now told.new.items) }
+    requires netlist { events.old.netlist ≡ core.now }
+    requires settled { AreSettledWords core.now events.old.values }
+    ensures told { OnOk result (AreFrom core.now patterns.now start faults.now told.new.items) }
+    ensures netlist { OnOk result (events.new.netlist ≡ core.now) }
+    ensures settled { OnOk result (AreSettledWords core.now events.new.values) }
 {
     let part = &patterns[start..end];
-    let mut events = good_events(alloc, core, part)?;
+    next_patterns(alloc, core, events, part)?;
     let used = used_bits(part.len());
     for k in 0..faults.len() {
         let known = told[k];
-        told[k] = told_by(&mut events, points, part, used, start, &faults[k], known);
+        told[k] = told_by(events, points, part, used, start, &faults[k], known);
     }
     Ok(())
 }
@@ -112,12 +140,21 @@ fn find_last(
     ensures { IfOk result (λ v. AllZip (LastDetected core.now patterns.now) faults.now v.items) }
 {
     let points = Points::of(alloc, core)?;
+    let mut events = good_events(alloc, core, &[])?;
     let mut told = none_told(alloc, faults.len())?;
     let mut end = patterns.len();
     while end > 0 {
         let start = if end > 64 { end - 64 } else { 0 };
         tell_all(
-            alloc, core, &points, patterns, start, end, faults, &mut told,
+            alloc,
+            core,
+            &mut events,
+            &points,
+            patterns,
+            start,
+            end,
+            faults,
+            &mut told,
         )?;
         end = start;
     }

@@ -35,3 +35,9 @@ pub record AreGoodFor (n : Netlist) (patterns : List Pattern) (values : List ℕ
   pub inputs_are : (j : ℕ) (p : Pattern) → slice_get patterns j ≡ Some p → map (bit_of j) inputs ≡ p.inputs
   pub state_are : (j : ℕ) (p : Pattern) → slice_get patterns j ≡ Some p → map (bit_of j) state ≡ p.cells
   pub settles : (d : ℕ) → Settles (words None) n inputs state (at values d)
+
+-- words that settle without a fault, whatever is driven
+pub record AreSettledWords (n : Netlist) (values : List ℕ) : Type 0 where
+  pub inputs : List ℕ
+  pub state : List ℕ
+  pub settles : (d : ℕ) → Settles (words None) n inputs state (at values d)

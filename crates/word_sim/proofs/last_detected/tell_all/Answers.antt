@@ -4,6 +4,7 @@ use Rattle.std.proofs.lemmas.Option.{slice_get-get_or}
 use Rattle.netlist.specs.Netlist.{Netlist}
 use Rattle.events.specs.Standing.{Standing}
 use Rattle.word_sim.specs.inner.Found.{IsTold}
+use Rattle.word_sim.specs.inner.Packed.{AreSettledWords}
 use Rattle.word_sim.proofs.LastFrom.{one_up, all_up}
 use Rattle.word_sim.proofs.last_detected.tell_all.Goals as goal
 
@@ -17,7 +18,7 @@ loop-k-preserved c =
     let f = c.index-faults-k.result in
     let l = c.loop-k-test.true in
     let size = c.loop-k.invariant.0.size in
-    let same : c.loop-k.events.netlist ≡ c.args.core.now = ap (λ (e : Standing ℕ). e.netlist) c.loop-k.invariant.1 ∙ c.in_ok-events.ensures.netlist in
+    let same : c.loop-k.events.netlist ≡ c.args.core.now = ap (λ (e : Standing ℕ). e.netlist) c.loop-k.invariant.1 ∙ c.in_ok-next_patterns.ensures.netlist in
     let known : c.index-known.result.now ≡ get_or c.loop-k.told.items c.loop-k.k None =
     c.index-known.ensures ∙ get_or_default c.loop-k.told.items c.loop-k.k c.index-known.result.now None (omega arith) in (
       one_up n c.args.patterns.now (take (c.args.end - c.args.start) (drop c.args.start c.args.patterns.now)) c.args.start c.args.end c.requires.order refl c.args.faults.now c.loop-k.told.items c.loop-k.k
@@ -29,4 +30,9 @@ loop-k-preserved c =
 
 pub returns : goal.returns
 returns c =
-    all_up c.args.core.now c.args.patterns.now c.args.start c.args.end c.args.faults.now c.loop-k.told.items c.loop-k.k c.loop-k-test.false c.loop-k.invariant.0
+    record {
+      told = all_up c.args.core.now c.args.patterns.now c.args.start c.args.end c.args.faults.now c.loop-k.told.items c.loop-k.k c.loop-k-test.false c.loop-k.invariant.0;
+      netlist = ap (λ (e : Standing ℕ). e.netlist) c.loop-k.invariant.1 ∙ c.in_ok-next_patterns.ensures.netlist;
+      settled = subst (AreSettledWords c.args.core.now) (sym (ap (λ (e : Standing ℕ). e.values) c.loop-k.invariant.1))
+          (record { inputs = c.in_ok-next_patterns.ensures.good.inputs; state = c.in_ok-next_patterns.ensures.good.state; settles = c.in_ok-next_patterns.ensures.good.settles });
+    }
