@@ -252,6 +252,10 @@ def on_netlist(verb, text, rest):
         return [netlist.site(rest.split(" ", 1)[1])]
     if verb == "pin-name":
         return [netlist.pin_name(int(rest))]
+    if verb == "search":
+        return searched(netlist, *rest.split(" ", 2))
+    if verb in ("last", "hits"):
+        return [last_detected(netlist, *rest.split(": ", 1))]
     if verb == "tree":
         return [tree(netlist, *rest.split(" ", 1))]
     faults = [line.rsplit(" class ", 1) for line in list(fault_list(text))[1:]]
@@ -270,6 +274,30 @@ def tree(netlist, held, rest):
     if said.startswith("closed") and said.endswith("open 0") and check_trees.is_detected(netlist, fault, held):
         return "a closed tree of a fault that some pattern detects"
     return said
+
+
+def searched(netlist, held, limit, fault):
+    """A test or none, by all patterns; None where the limit might end the search before."""
+    held = {} if held == "-" else dict([held.split("=")])
+    sources = len(netlist.inputs) - len(held) + len(netlist.cells)
+    if check_trees.is_detected(netlist, fault, held):
+        found = "test"
+    else:
+        found = "closed"
+    return [found] if int(limit) >= 2**sources else None
+
+
+def last_detected(netlist, fault, texts):
+    """The last pattern that detects the fault, and the first point at which it does."""
+    for place, text in reversed(list(enumerate(texts.split(" ")))):
+        inputs, _, cells = text.partition("/")
+        patterns = bits_of(inputs), bits_of(cells)
+        good, bad = netlist.settled(*patterns), netlist.settled(*patterns, fault)
+        for word, one, other in (("output", good[1], bad[1]), ("cell", good[2], bad[2])):
+            differ = [k for k, (a, b) in enumerate(zip(one, other)) if a != b]
+            if differ:
+                return f"pattern {place} {word} {differ[0]}"
+    return "never"
 
 
 def texts_and_rows(path):

@@ -12,7 +12,7 @@ use redundancy_cert::{Counts, Node, Tree, TreeFault, check_tree};
 use std::alloc::{AllocError, Global};
 
 /// The first word of a text and the rest.
-fn cut(text: &str) -> (&str, &str) {
+pub fn cut(text: &str) -> (&str, &str) {
     text.split_once(' ').unwrap_or((text, ""))
 }
 
@@ -59,7 +59,7 @@ fn nodes_of(alloc: Global, netlist: &Netlist, text: &str) -> Result<Vec<Node>, A
 }
 
 /// `a=1` holds an input at a bit; any other text holds none.
-fn holds_of(alloc: Global, core: &Core, text: &str) -> Result<Holds, AllocError>
+pub fn holds_of(alloc: Global, core: &Core, text: &str) -> Result<Holds, AllocError>
     ensures { IfOk result (AreHoldsOf core.now) }
 {
     let Ok(mut holds) = Holds::none(alloc, core) else {

@@ -1,0 +1,118 @@
+//! Where faults are last detected.
+ghost use Rattle.std.specs.Prelude.{IfOk, IfSome};
+ghost use Rattle.std.specs.List.{All};
+ghost use Rattle.netlist.specs.Lines.{IsLineOf};
+ghost use Rattle.word_sim.specs.Words.{HasWidthsOf};
+
+use crate::names::push_number;
+use crate::nets::{bits, core_of};
+use crate::trees::cut;
+use cubes::Pattern;
+use fault_universe::{fault_named, faults_have_lines};
+use netlist::{Core, Fault, Netlist, Point};
+use std::alloc::{AllocError, Global};
+use word_sim::{hits, last_tells};
+
+/// The fault of a text, if the list of faults has it.
+fn listed(netlist: &Netlist, text: &str) -> Option<Fault>
+    ensures { IfSome result (λ f. IsLineOf netlist.now f.line) }
+{
+    netlist.sound();
+    faults_have_lines();
+    let fault = fault_named(netlist, text.as_bytes())?;
+    Some(fault)
+}
+
+/// The pattern of a text, `-` for no bits; nothing where it isn't as wide as the netlist.
+fn pattern_of(alloc: Global, core: &Core, text: &str) -> Result<Option<Pattern>, AllocError>
+    ensures { IfOk result (λ p. IfSome p (HasWidthsOf core.now)) }
+{
+    let (inputs, cells) = text.split_once('/').unwrap_or((text, ""));
+    let inputs = bits(alloc, inputs)?;
+    let cells = bits(alloc, cells)?;
+    if inputs.len() != core.netlist().inputs().len() {
+        return Ok(None);
+    }
+    if cells.len() != core.netlist().cells().len() {
+        return Ok(None);
+    }
+    Ok(Some(Pattern::new(inputs, cells)))
+}
+
+/// The patterns of a text, parted by blanks, up to the first one that isn't as wide as the netlist.
+fn patterns_of(alloc: Global, core: &Core, text: &str) -> Result<Vec<Pattern>, AllocError>
+    ensures { IfOk result (λ v. All (HasWidthsOf core.now) v.items) }
+{
+    let mut patterns = Vec::new(alloc);
+    let mut rest = text;
+    for _ in 0..text.len() {
+        let (word, more) = cut(rest);
+        let Some(pattern) = pattern_of(alloc, core, word)? else {
+            return Ok(patterns);
+        };
+        patterns.push(pattern)?;
+        rest = more;
+    }
+    Ok(patterns)
+}
+
+/// Adds where a fault is last detected.
+fn push_found(to: &mut Vec<u8>, found: Option<(u32, Point)>) -> Result<(), AllocError> {
+    let Some((pattern, point)) = found else {
+        return to.extend_from_slice(b"never\n");
+    };
+    to.extend_from_slice(b"pattern ")?;
+    push_number(to, pattern)?;
+    let (word, place): (&[u8], u32) = match point {
+        Point::Output(place) => (b" output ", place),
+        Point::Cell(place) => (b" cell ", place),
+    };
+    to.extend_from_slice(word)?;
+    push_number(to, place)?;
+    to.push(b'\n')?;
+    Ok(())
+}
+
+/// `last FAULT: PATTERNS`: the last pattern that detects the fault, and its first point.
+pub fn push_last(
+    to: &mut Vec<u8>,
+    alloc: Global,
+    netlist: &Netlist,
+    rest: &str,
+) -> Result<(), AllocError> {
+    let (fault, texts) = rest.split_once(": ").unwrap_or((rest, ""));
+    let core = core_of(alloc, netlist)?;
+    let Some(fault) = listed(core.netlist(), fault) else {
+        return to.extend_from_slice(b"no fault\n");
+    };
+    let patterns = patterns_of(alloc, &core, texts)?;
+    if patterns.len() > 1_000_000 {
+        return to.extend_from_slice(b"more than 1000000 patterns\n");
+    }
+    let Ok(last) = last_tells(alloc, &core, &[fault], &patterns) else {
+        return Err(AllocError);
+    };
+    push_found(to, last.first().copied().flatten())
+}
+
+/// `hits FAULT: PATTERNS`: the same of at most 64 patterns, as a batch is simulated.
+pub fn push_hits(
+    to: &mut Vec<u8>,
+    alloc: Global,
+    netlist: &Netlist,
+    rest: &str,
+) -> Result<(), AllocError> {
+    let (fault, texts) = rest.split_once(": ").unwrap_or((rest, ""));
+    let core = core_of(alloc, netlist)?;
+    let Some(fault) = listed(core.netlist(), fault) else {
+        return to.extend_from_slice(b"no fault\n");
+    };
+    let patterns = patterns_of(alloc, &core, texts)?;
+    if patterns.len() > 64 {
+        return to.extend_from_slice(b"more than 64 patterns\n");
+    }
+    let Ok(found) = hits(alloc, &core, &patterns, &[(0, fault)]) else {
+        return Err(AllocError);
+    };
+    push_found(to, found.first().map(|hit| (hit.pattern, hit.point)))
+}
