@@ -1,5 +1,5 @@
 //! Where faults are last detected.
-ghost use Rattle.std.specs.Prelude.{IfOk, IfSome};
+ghost use Rattle.std.specs.Prelude.{◌≤◌, IfOk, IfSome, length};
 ghost use Rattle.std.specs.List.{All};
 ghost use Rattle.netlist.specs.Lines.{IsLineOf};
 ghost use Rattle.word_sim.specs.Words.{HasWidthsOf};
@@ -73,34 +73,48 @@ fn push_found(to: &mut Vec<u8>, found: Option<(u32, Point)>) -> Result<(), Alloc
     Ok(())
 }
 
-/// `last FAULT: PATTERNS`: the last pattern that detects the fault, and its first point.
-pub fn push_last(
-    to: &mut Vec<u8>,
+/// What the simulation of one batch answers.
+fn in_batch(
     alloc: Global,
-    netlist: &Netlist,
-    rest: &str,
-) -> Result<(), AllocError> {
-    let (fault, texts) = rest.split_once(": ").unwrap_or((rest, ""));
-    let core = core_of(alloc, netlist)?;
-    let Some(fault) = listed(core.netlist(), fault) else {
-        return to.extend_from_slice(b"no fault\n");
-    };
-    let patterns = patterns_of(alloc, &core, texts)?;
-    if patterns.len() > 1_000_000 {
-        return to.extend_from_slice(b"more than 1000000 patterns\n");
+    core: &Core,
+    fault: Fault,
+    patterns: &[Pattern],
+) -> Result<Option<(u32, Point)>, AllocError>
+    requires few { length patterns.now ≤ 64 }
+    requires wide { All (HasWidthsOf core.now) patterns.now }
+    requires line { IsLineOf core.now fault.line }
+{
+    match hits(alloc, core, patterns, &[(0, fault)]) {
+        Ok(found) => Ok(found.first().map(|hit| (hit.pattern, hit.point))),
+        Err(_) => Err(AllocError),
     }
-    let Ok(last) = last_tells(alloc, &core, &[fault], &patterns) else {
-        return Err(AllocError);
-    };
-    push_found(to, last.first().copied().flatten())
 }
 
-/// `hits FAULT: PATTERNS`: the same of at most 64 patterns, as a batch is simulated.
-pub fn push_hits(
+/// What the simulation of all patterns answers.
+fn in_all(
+    alloc: Global,
+    core: &Core,
+    fault: Fault,
+    patterns: &[Pattern],
+) -> Result<Option<(u32, Point)>, AllocError>
+    requires few { length patterns.now ≤ 1000000 }
+    requires wide { All (HasWidthsOf core.now) patterns.now }
+    requires line { IsLineOf core.now fault.line }
+{
+    match last_tells(alloc, core, &[fault], patterns) {
+        Ok(last) => Ok(last.first().copied().flatten()),
+        Err(_) => Err(AllocError),
+    }
+}
+
+/// `last FAULT: PATTERNS`, `hits FAULT: PATTERNS`: the last pattern that detects the fault, and its first point, by all patterns or by
+/// one batch.
+pub fn push_detected(
     to: &mut Vec<u8>,
     alloc: Global,
     netlist: &Netlist,
     rest: &str,
+    is_batch: bool,
 ) -> Result<(), AllocError> {
     let (fault, texts) = rest.split_once(": ").unwrap_or((rest, ""));
     let core = core_of(alloc, netlist)?;
@@ -108,11 +122,11 @@ pub fn push_hits(
         return to.extend_from_slice(b"no fault\n");
     };
     let patterns = patterns_of(alloc, &core, texts)?;
-    if patterns.len() > 64 {
-        return to.extend_from_slice(b"more than 64 patterns\n");
+    if is_batch && patterns.len() <= 64 {
+        push_found(to, in_batch(alloc, &core, fault, &patterns)?)
+    } else if patterns.len() <= 1_000_000 {
+        push_found(to, in_all(alloc, &core, fault, &patterns)?)
+    } else {
+        to.extend_from_slice(b"more than 1000000 patterns\n")
     }
-    let Ok(found) = hits(alloc, &core, &patterns, &[(0, fault)]) else {
-        return Err(AllocError);
-    };
-    push_found(to, found.first().map(|hit| (hit.pattern, hit.point)))
 }
