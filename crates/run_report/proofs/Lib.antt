@@ -1,1 +1,2 @@
 pub mod CycleLemmas
+mod ListLemmas

@@ -1,6 +1,12 @@
-//! The report of a run: what becomes of verdicts, patterns and points on the tester.
+//! The report of a run: what becomes of verdicts, patterns and points on the tester, and the numbers that follow.
 #![tactic(auto)]
 
+mod heads;
+mod held;
+mod pins;
 mod strobes;
 
+pub use heads::{Tally, counts_of, share_of, tally_of};
+pub use held::hold_lines;
+pub use pins::pin_names;
 pub use strobes::{Strobe, strobe_of};
