@@ -3,6 +3,7 @@ use Rattle.std.proofs.Common.{◌≡◌, ◌≢◌, ℕ, ◌<◌, ◌≤◌, ◌
 use Rattle.std.specs.List.{All, AllZip, Contains, zip, slice_get}
 use Rattle.std.proofs.lemmas.Option.{get_or_from_slice_get, slice_get-get_or, slice_get-map, slice_get_within}
 use Rattle.std.proofs.lemmas.List.{ext_get_or, length-map}
+use Rattle.std.proofs.lemmas.List.Sums.{sum_by-cons}
 use Rattle.netlist.proofs.Lists.{All-from_contains, contains_head, contains_tail}
 use Rattle.netlist.specs.declared.lines.Fault.{Fault}
 use Rattle.netlist.specs.declared.lines.Point.{Point}
@@ -54,9 +55,9 @@ one_kind Aborted = refl
 all_kinds : (lines : List Line) → count_of detected_one lines + count_of redundant_one lines + count_of aborted_one lines ≡ length lines
 all_kinds [] = refl
 all_kinds (l ∷ ls) =
-    let d : count_of detected_one (l ∷ ls) ≡ detected_one l.outcome + count_of detected_one ls = refl in
-    let r : count_of redundant_one (l ∷ ls) ≡ redundant_one l.outcome + count_of redundant_one ls = refl in
-    let a : count_of aborted_one (l ∷ ls) ≡ aborted_one l.outcome + count_of aborted_one ls = refl in
+    let d = sum_by-cons (λ (m : Line). detected_one m.outcome) l ls in
+    let r = sum_by-cons (λ (m : Line). redundant_one m.outcome) l ls in
+    let a = sum_by-cons (λ (m : Line). aborted_one m.outcome) l ls in
     omega (arith, one_kind l.outcome, all_kinds ls, d, r, a)
 
 got : {A B : Type 0} (f : A → B) (xs : List A) (k : ℕ) (x : A) (d : B) → slice_get xs k ≡ Some x → get_or (map f xs) k d ≡ f x
