@@ -137,10 +137,11 @@ never_at n patterns f never = All-from_contains (λ (p : Pattern). (point : Poin
 comes_true : Laws → (t : Test) (cycles : List Cycle) → IsTested t cycles → (f representative : Fault) → IsLineOf t.netlist f.line → IsEquivalent t.netlist f representative
     → (o : Outcome) (pin : List ℕ) → IsTrueOf t f representative o pin → ComesTrue t.netlist t.holds t.chains t.limit t.trees cycles f o pin
 comes_true laws t cycles are f g line same (Detected place cycle) pin seen =
-    let here = seen.last.here in (
-      seen.output,
-      seen.pin_is,
-      laws.detected t.netlist t.holds t.chains t.patterns cycles f place here.pattern seen.point cycle seen.output are.sound are.dealt are.vectors line here.at here.detects seen.strobed,
+    let here = seen.last.here in
+    let at = seen.seen in (
+      at.0,
+      at.2,
+      laws.detected t.netlist t.holds t.chains t.patterns cycles f place here.pattern seen.point cycle at.0 are.sound are.dealt are.vectors line here.at here.detects at.1,
     )
 comes_true laws t cycles are f g line same Redundant pin said =
     let n = t.netlist in

@@ -1,2 +1,3 @@
 pub mod CycleLemmas
 mod ListLemmas
+mod SightLemmas

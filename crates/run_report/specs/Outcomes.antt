@@ -31,13 +31,15 @@ pub record Test : Type 0 where
   pub patterns : List Pattern
   pub trees : List (Fault × List Node)
 
--- The last pattern that detects the fault is at this place, and at its first point the tester sees it in this cycle at this pin.
+-- the tester sees a point of this pattern in this cycle at this pin
+abbrev pub IsSeenAt : Netlist → List (List ℕ) → ℕ → Point → ℕ → List ℕ → Type 0
+IsSeenAt n chains place point cycle pin = (output : ℕ) × IsStrobedAt n chains place point cycle output × (pin ≡ pin_name_of (scanned_of n chains) output)
+
+-- The last pattern that detects the fault is at this place, and its first point is seen in this cycle at this pin.
 pub record IsSeen (t : Test) (f : Fault) (place cycle : ℕ) (pin : List ℕ) : Type 0 where
   pub point : Point
-  pub output : ℕ
   pub last : IsLastDetected t.netlist t.patterns f place point
-  pub strobed : IsStrobedAt t.netlist t.chains place point cycle output
-  pub pin_is : pin ≡ pin_name_of (scanned_of t.netlist t.chains) output
+  pub seen : IsSeenAt t.netlist t.chains place point cycle pin
 
 -- the first of these trees that stands beside the fault
 abbrev pub IsFirstTree : List (Fault × List Node) → Fault → List Node → Type 0
