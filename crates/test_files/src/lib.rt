@@ -2,10 +2,8 @@
 #![tactic(auto)]
 
 mod files;
-mod found;
 mod leaves;
 mod lines;
-mod reporting;
 mod searching;
 
-pub use files::{Plan, TestFiles, test_files};
+pub use files::{Plan, TestFiles};

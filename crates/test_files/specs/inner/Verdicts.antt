@@ -1,5 +1,5 @@
 -- The verdicts of a finished list, class by class.
-use Rattle.std.specs.Prelude.{ℕ, ◌≡◌, ◌≤◌, List, [], ◌∷◌, ◌++◌, length}
+use Rattle.std.specs.Prelude.{ℕ, ◌≡◌, ◌≤◌, ⊤, List, [], ◌∷◌, ◌++◌, length}
 use Rattle.std.specs.List.{All}
 use Rattle.netlist.specs.declared.lines.Fault.{Fault}
 use Rattle.netlist.specs.Netlist.{Netlist}
@@ -14,6 +14,7 @@ use Rattle.word_sim.specs.Hits.{IsLastDetected, IsNeverDetected}
 use Rattle.list_core.specs.declared.verdicts.Verdict.{Verdict}
 use Rattle.list_core.specs.declared.verdicts.Verdict.TheVariants.{Open, Detected, Redundant, Aborted}
 use Rattle.list_core.specs.Verdicts.{verdict_at}
+use Rattle.run_report.specs.Strobes.{IsPointOf}
 
 -- Detected: by the last pattern that detects the fault, at its first point. Else no pattern does, and a tree fits the fault:
 -- one that leaves nothing open, or one that does, with as many closed ends as the limit.
@@ -41,3 +42,10 @@ abbrev pub leaves_of : List Fault → List Verdict → List (Fault × List Node)
 leaves_of [] verdicts = []
 leaves_of (f ∷ fs) [] = []
 leaves_of (f ∷ fs) (v ∷ vs) = leaf_at f v ++ leaves_of fs vs
+
+-- it isn't Open, and its point is one of the netlist
+abbrev pub IsInside : Netlist → Verdict → Type 0
+IsInside n Open = ⊥
+IsInside n (Detected place point) = IsPointOf n point
+IsInside n (Redundant tree) = ⊤
+IsInside n (Aborted tree) = ⊤
