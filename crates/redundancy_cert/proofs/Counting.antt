@@ -1,7 +1,7 @@
 -- One node more is counted.
 use Rattle.std.proofs.Common.{◌≡◌, ◌+◌, List, [], ◌∷◌, ◌++◌, arith}
 use Rattle.redundancy_cert.specs.declared.nodes.Node.{Node}
-use Rattle.redundancy_cert.specs.declared.checking.Counts.{Counts}
+use Rattle.redundancy_cert.specs.declared.counts.Counts.{Counts}
 use Rattle.redundancy_cert.specs.Trees.{closed_count, open_count}
 use Rattle.redundancy_cert.specs.Fits.{AreCounts}
 use Rattle.redundancy_cert.proofs.Redundant.{closed_count-append, open_count-append}
