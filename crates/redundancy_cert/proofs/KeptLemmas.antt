@@ -1,5 +1,6 @@
 -- What is kept beside the labels, after a decision or the fault has changed.
 use Rattle.std.proofs.Common.{◌≡◌, ◌≢◌, ℕ, ◌+◌, ◌<◌, ◌^◌, ◌&&◌, Bool, true, false, not, List, [], length, get_or, set, Option, None, refl, sym, ◌∙◌, ap, subst, inl, inr, eqb, eq-eqb, arith}
+use Rattle.std.specs.Cmp.Derive.{both_true}
 use Rattle.std.specs.List.{Contains}
 use Rattle.std.proofs.lemmas.Bool.{both_ways, cases_eq, cases_Bool}
 use Rattle.std.proofs.lemmas.List.{length-set, get_or-set_other, get_or_default}
@@ -23,7 +24,8 @@ use Rattle.tri.specs.Labelling.{decided_in, AreLabelled, IsUndecided}
 use Rattle.label_events.specs.Lines.{IsOff, IsInner, AreSameOff}
 use Rattle.label_events.proofs.Changing.{decision_changes, fault_changes, fault_changes_nothing}
 use Rattle.redundancy_cert.specs.inner.Tallies.{tally, count_pairs, shows, contradicts}
-use Rattle.redundancy_cert.specs.inner.Passing.{AreObserved, IsKept, IsResettled, no_label}
+use Rattle.redundancy_cert.specs.inner.Passing.{AreObserved, IsKept, IsResettled}
+use Rattle.label_events.specs.Gathered.{no_label}
 use Rattle.redundancy_cert.proofs.TallyLemmas.{count_left, count_le, count_zero}
 use Rattle.redundancy_cert.proofs.PointLemmas.{nothing_differs}
 
@@ -149,13 +151,9 @@ inner_signal n sound (Pin z k) x valid inner =
             let c : Contains (cells n) d = filter_contains is_cell n.definitions d valid.1 cell in
             let one : length d.pins ≡ 1 = All-contains (λ (e : Definition). length e.pins ≡ 1) (cells n) d (one_pin n sound.closed) c in
             let place : k ≡ 0 = (let l : k < length d.pins = valid.3 in omega arith) in
-            absurd (both_ways (eqb z d.id && eqb k 0) (inner.pins d c) (both_true (eqb z d.id) (eqb k 0) (eq-eqb z d.id (sym id)) (eq-eqb k 0 place)))
+            absurd (both_ways (eqb z d.id && eqb k 0) (inner.pins d c) (both_true (eq-eqb z d.id (sym id)) (eq-eqb k 0 place)))
         | inr gate ↦
             absurd (both_ways (eqb z z && eqb k k) ((inner.others z ne).1 d (filter_contains is_gate n.definitions d valid.1 (ap not gate)) id k)
-            (both_true (eqb z z) (eqb k k) (eq-eqb z z refl) (eq-eqb k k refl)))
+            (both_true (eq-eqb z z refl) (eq-eqb k k refl)))
       ]
     ]
-  where
-    both_true : (a b : Bool) → a ≡ true → b ≡ true → (a && b) ≡ true
-    both_true true b e h = h
-    both_true false b e h = absurd (both_ways false refl e)

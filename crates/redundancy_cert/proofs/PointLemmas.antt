@@ -1,7 +1,7 @@
 -- What the counts and the stuck line tell of the observed points.
 use Rattle.std.proofs.Common.{◌≡◌, ℕ, zero, suc, ◌+◌, ◌<◌, ◌&&◌, ◌||◌, Bool, true, false, not, cond, List, [], ◌∷◌, length, map, Some, None, get_or, refl, sym, ◌∙◌, ap, subst, inl, inr, arith}
 use Rattle.std.specs.List.{All, Contains, flat_map, list_any}
-use Rattle.std.proofs.lemmas.Bool.{both_ways, and_parts}
+use Rattle.std.proofs.lemmas.Bool.{both_ways, and_parts, not-true, true≢false}
 use Rattle.std.proofs.lemmas.List.Elements.{All-nil, All-append, All-map, All-contains, All-head, All-tail}
 use Rattle.netlist.specs.declared.kinds.Tri.TheVariants.{X}
 use Rattle.netlist.specs.declared.lines.Line.{Line}
@@ -21,11 +21,9 @@ use Rattle.tri.specs.Labels.{Decisions, is_known_as, on_line, labels, source_lab
 use Rattle.tri.proofs.LabelLemmas.{mapped_zip}
 use Rattle.label_events.specs.Lines.{IsInner, IsRead}
 use Rattle.redundancy_cert.specs.inner.Tallies.{count_pairs, shows}
-use Rattle.redundancy_cert.specs.inner.Passing.{AreObserved, no_label}
+use Rattle.redundancy_cert.specs.inner.Passing.{AreObserved}
+use Rattle.label_events.specs.Gathered.{no_label}
 use Rattle.redundancy_cert.proofs.TallyLemmas.{count_none, count_some}
-
-true_no_false : {P : Type 0} → true ≡ false → P
-true_no_false e = absurd (both_ways true e refl)
 
 -- ---- without a fault nothing differs
 
@@ -37,12 +35,8 @@ module _ (path : Decisions) (n : Netlist) (holds : Holds) (sound : IsSound n) (l
   unfolding is_same
   none_differs z k [] h = refl
   none_differs z k (x ∷ xs) h =
-      ap (λ b. b || list_any (λ (m : Label). m.may_differ) (on_pins (labels None path) z (k + 1) (map l xs))) (not_true (l x).may_differ (All-head (λ y. not (l y).may_differ ≡ true) x xs h))
+      ap (λ b. b || list_any (λ (m : Label). m.may_differ) (on_pins (labels None path) z (k + 1) (map l xs))) (not-true (l x).may_differ (All-head (λ y. not (l y).may_differ ≡ true) x xs h))
       ∙ none_differs z (k + 1) xs (All-tail (λ y. not (l y).may_differ ≡ true) x xs h)
-    where
-      not_true : (b : Bool) → not b ≡ true → b ≡ false
-      not_true true e = absurd (both_ways false refl e)
-      not_true false e = refl
 
   at_gate : (d : Definition) → Contains (gates n) d → All (λ x. is_same x ≡ true) d.pins → is_same d.id ≡ true
   unfolding is_same
@@ -54,13 +48,13 @@ module _ (path : Decisions) (n : Netlist) (holds : Holds) (sound : IsSound n) (l
       ap (λ (m : Label). not m.may_differ) is ∙ both_false (list_any (λ (m : Label). m.may_differ) pins) _ none
     where
       both_false : (a b : Bool) → a ≡ false → not (a && b) ≡ true
-      both_false true b e = true_no_false e
+      both_false true b e = absurd (true≢false e)
       both_false false b e = refl
 
   pub nothing_differs : (x : ℕ) → Contains (signals n) x → (l x).may_differ ≡ false
   unfolding is_same
   nothing_differs x c =
-      not_true (l x).may_differ
+      not-true (l x).may_differ
       (everywhere n is_same sound.closed
       (All-from_contains (λ y. is_same y ≡ true) n.inputs (λ y m.
       ap (λ (k : Label). not k.may_differ) (All-contains (λ z. l z ≡ source_label path z (held_value (get_or holds z None))) n.inputs y
@@ -69,10 +63,6 @@ module _ (path : Decisions) (n : Netlist) (holds : Holds) (sound : IsSound n) (l
       ap (λ (k : Label). not k.may_differ) (All-contains (λ (e : Definition). l e.id ≡ source_label path e.id X) (cells n) d
       (mapped_zip (λ (e : Definition) v. l e.id ≡ v) (λ (e : Definition). source_label path e.id X) (cells n) are.1) m)))
       at_gate sound.acyclic x c)
-    where
-      not_true : (b : Bool) → not b ≡ true → b ≡ false
-      not_true true e = absurd (both_ways false refl e)
-      not_true false e = refl
 
 -- ---- the label on the line of a point
 

@@ -1,9 +1,10 @@
 -- Counts of pairs, when one of them changes, and along a trail of changes.
 use Rattle.std.proofs.Common.{◌≡◌, ◌≢◌, ℕ, zero, suc, ◌+◌, ◌<◌, ◌≤◌, ◌^◌, Bool, true, false, List, [], ◌∷◌, length, get_or, set, drop, refl, sym, ◌∙◌, ap, subst, arith}
 use Rattle.std.specs.List.{All, AllPairs}
-use Rattle.std.proofs.lemmas.List.{drop_more, get_or-set_other, length-set, length-drop, get_or-drop, get_or_default}
+use Rattle.std.proofs.lemmas.List.{drop_more, get_or-set_other, length-drop, get_or-drop, get_or_default}
 use Rattle.events.specs.declared.trails.Change.{Change}
 use Rattle.events.specs.Trails.{undone}
+use Rattle.events.proofs.Changes.{length-undone}
 use Rattle.tri.specs.declared.labels.Label.{Label}
 use Rattle.redundancy_cert.specs.inner.Tallies.{tally, count_pairs}
 
@@ -73,10 +74,6 @@ undone_other [] values x e h = refl
 undone_other (c ∷ cs) values x e h =
     get_or-set_other (undone cs values) c.signal x c.before e (h zero c (omega arith))
     ∙ undone_other cs values x e (λ k d l. h (suc k) d (omega arith))
-
-pub length-undone : {V : Type 0} (cs : List (Change V)) (values : List V) → length (undone cs values) ≡ length values
-length-undone [] values = refl
-length-undone (c ∷ cs) values = length-set (undone cs values) c.signal c.before ∙ length-undone cs values
 
 module _ {A : Type 0} (test : A → Label → Bool) (xs : List A) (values : List Label) (changes : List (Change Label))
     (size : length xs ≡ length values) (within : All (λ (c : Change Label). c.signal < length values) changes)

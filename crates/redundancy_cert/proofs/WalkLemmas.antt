@@ -1,6 +1,7 @@
 -- The check goes over the nodes of a tree in the order of their places.
 use Rattle.std.proofs.Common.{◌≡◌, ℕ, suc, ◌+◌, ◌<◌, ◌≤◌, Bool, true, false, cond, List, [], ◌∷◌, ◌++◌, take, drop, length, get_or, set, Some, refl, sym, ◌∙◌, ap, subst, inl, inr, arith, length-append}
 use Rattle.std.specs.List.{All}
+use Rattle.std.proofs.lemmas.Bool.{cond-true, cond-false}
 use Rattle.std.proofs.lemmas.Option.{slice_get-get_or}
 use Rattle.std.proofs.lemmas.Grind.{take-set_at}
 use Rattle.std.proofs.lemmas.List.{append_assoc, take-append-drop, append-nil, take_all, drop_more}
@@ -52,20 +53,12 @@ pub waiting_onto-append : (p : Path) (ws : List Path) (ss : List Step) (s : Step
 waiting_onto-append p ws [] s = refl
 waiting_onto-append p ws (r ∷ ss) s = waiting_onto-append ((r.signal, r.bit) ∷ p) (cond r.waiting (((r.signal, true) ∷ p) ∷ ws) ws) ss s
 
-cond_false : {X : Type 0} (b : Bool) (x y : X) → b ≡ false → cond b x y ≡ y
-cond_false true x y e = absurd cc
-cond_false false x y e = refl
-
-cond_true : {X : Type 0} (b : Bool) (x y : X) → b ≡ true → cond b x y ≡ x
-cond_true true x y e = refl
-cond_true false x y e = absurd cc
-
 -- steps behind which nothing waits
 pub none_waits : (p : Path) (ws : List Path) (ss ts : List Step) → All (λ (s : Step). s.waiting ≡ false) ts → waiting_onto p ws (ss ++ ts) ≡ waiting_onto p ws ss
 none_waits p ws [] [] h = refl
 none_waits p ws [] (t ∷ ts) h =
     none_waits ((t.signal, t.bit) ∷ p) (cond t.waiting (((t.signal, true) ∷ p) ∷ ws) ws) [] ts (All-tail (λ (s : Step). s.waiting ≡ false) t ts h)
-    ∙ cond_false t.waiting (((t.signal, true) ∷ p) ∷ ws) ws (All-head (λ (s : Step). s.waiting ≡ false) t ts h)
+    ∙ cond-false t.waiting (((t.signal, true) ∷ p) ∷ ws) ws (All-head (λ (s : Step). s.waiting ≡ false) t ts h)
 none_waits p ws (s ∷ ss) ts h = none_waits ((s.signal, s.bit) ∷ p) (cond s.waiting (((s.signal, true) ∷ p) ∷ ws) ws) ss ts h
 
 split_at : (ss : List Step) (k : ℕ) (s : Step) → k < length ss → get_or ss k s ≡ s → ss ≡ (take k ss ++ s ∷ []) ++ drop (k + 1) ss
@@ -82,7 +75,7 @@ turned old new k s l is waits rest e =
     let a : new ≡ front ++ t ∷ [] = e ∙ take-set_at old k (k + 1) t refl l in
     let before : waiting_of old ≡ ((s.signal, true) ∷ path_of front) ∷ waiting_of front =
     ap waiting_of (split_at old k s l is) ∙ (none_waits [] [] (front ++ s ∷ []) (drop (k + 1) old) rest
-    ∙ (waiting_onto-append [] [] front s ∙ cond_true s.waiting (((s.signal, true) ∷ path_of front) ∷ waiting_of front) (waiting_of front) waits)) in
+    ∙ (waiting_onto-append [] [] front s ∙ cond-true s.waiting (((s.signal, true) ∷ path_of front) ∷ waiting_of front) (waiting_of front) waits)) in
     let now : path_of new ≡ (s.signal, true) ∷ path_of front = ap path_of a ∙ path_onto-append [] front t in
     let left : waiting_of new ≡ waiting_of front = ap waiting_of a ∙ waiting_onto-append [] [] front t in
     inr (before ∙ (ap (λ p. p ∷ waiting_of front) (sym now) ∙ ap (λ ws. path_of new ∷ ws) (sym left)))

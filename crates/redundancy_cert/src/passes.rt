@@ -6,11 +6,12 @@ ghost use Rattle.netlist.specs.declared.lines.Fault.{Fault as FaultOf};
 ghost use Rattle.netlist.specs.Holds.{AreHoldsOf};
 ghost use Rattle.netlist.specs.Lines.{IsLineOf, IsFaultOf};
 ghost use Rattle.netlist.specs.Netlist.{signals};
-ghost use Rattle.tri.specs.Labels.{held_value};
+ghost use Rattle.tri.specs.Labels.{held_value, source_label};
 ghost use Rattle.tri.specs.Labelling.{decided_in};
 ghost use Rattle.tri.specs.Paths.{Path, decisions, IsClosedPath, IsUnknown};
 ghost use Rattle.redundancy_cert.specs.inner.Tallies.{count_pairs, shows, contradicts};
-ghost use Rattle.redundancy_cert.specs.inner.Passing.{AreStanding, IsResettled, IsStart, no_label};
+ghost use Rattle.redundancy_cert.specs.inner.Passing.{AreStanding, IsResettled, IsStart};
+ghost use Rattle.label_events.specs.Gathered.{no_label};
 ghost use Rattle.netlist.specs.Settled.{at};
 ghost use Rattle.tri.specs.Labels.{IsUnobserved};
 ghost use Rattle.label_events.specs.Lines.{AreSameOff};
@@ -22,7 +23,7 @@ use label_events::{LabelRule, LinePlace, line_place};
 use netlist::{Core, Fault, Holds, Line, SignalId, Tri};
 use std::alloc::{AllocError, Global};
 use std::marker::Model;
-use tri::{Label, Labelling, is_known_as, known, label_all};
+use tri::{Label, Labelling, is_known_as, label_all};
 
 /// The labels of all signals as they stand.
 #[derive(Drop)]
@@ -45,17 +46,15 @@ impl<'a> Model for Pass<'a> {
         p.observed.items p.counts.differing p.counts.contradicted p.events.trail };
 }
 
-/// What is driven onto an input that is held, else X.
-fn own_value(count: usize, id: SignalId, holds: &Holds) -> Tri
+/// What is driven onto an input, of which there are so many, or onto a cell.
+fn driven_onto(labelling: &Labelling, count: usize, id: SignalId, holds: &Holds) -> Label
     requires { count ≡ length holds.now }
-    ensures { result ≡ held_value (slice_index_or holds.now id None) }
+    ensures { result ≡ source_label (decided_in labelling.now.decided.items) id (held_value (slice_index_or holds.now id None)) }
 {
-    if id.index() >= count {
-        return Tri::X;
-    }
-    match holds.held(id.0) {
-        None => Tri::X,
-        Some(bit) => known(bit),
+    if id.index() < count {
+        labelling.input(id, holds)
+    } else {
+        labelling.source(id, Tri::X)
     }
 }
 
@@ -82,8 +81,7 @@ fn resettle(
 {
     let netlist = events.core().netlist();
     netlist.sound();
-    let own = own_value(netlist.inputs().len(), id, holds);
-    let driven = labelling.source(id, own);
+    let driven = driven_onto(labelling, netlist.inputs().len(), id, holds);
     let rule = LabelRule { labelling };
     events.change(&rule, id, driven);
     let counts = recount(

@@ -19,9 +19,8 @@ returns-clause-settled c =
     let id = c.args.id in
     let sound : IsSound n = subst IsSound (c.netlist-netlist.ensures ∙ c.core.ensures) c.sound.ensures in
     let values : c.forget.new.self.values ≡ c.change.new.self.values = ap (λ (s : Standing Label). s.values) c.forget.ensures in
-    let own : c.source-driven.result ≡ source_label path id (held_value (get_or holds id None)) = c.source-driven.ensures ∙ ap (source_label path id) c.own_value-own.ensures in
-    let driven : IsDrivenTo (labels f path) n (input_labels path n holds) (cell_labels path n) id (on_line f (Stem id) c.source-driven.result) =
-    subst (λ (l : Label). IsDrivenTo (labels f path) n (input_labels path n holds) (cell_labels path n) id (on_line f (Stem id) l)) (sym own)
+    let driven : IsDrivenTo (labels f path) n (input_labels path n holds) (cell_labels path n) id (on_line f (Stem id) c.driven_onto-driven.result) =
+    subst (λ (l : Label). IsDrivenTo (labels f path) n (input_labels path n holds) (cell_labels path n) id (on_line f (Stem id) l)) (sym c.driven_onto-driven.ensures)
     (is_driven f path n holds sound c.requires.holds id) in
     record {
       size = ap length values ∙ c.change.ensures.moves.are_changes.size;
