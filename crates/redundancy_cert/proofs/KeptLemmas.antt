@@ -24,8 +24,7 @@ use Rattle.tri.specs.Labelling.{decided_in, AreLabelled, IsUndecided}
 use Rattle.label_events.specs.Lines.{IsOff, IsInner, AreSameOff}
 use Rattle.label_events.proofs.Changing.{decision_changes, fault_changes, fault_changes_nothing}
 use Rattle.redundancy_cert.specs.inner.Tallies.{tally, count_pairs, shows, contradicts}
-use Rattle.redundancy_cert.specs.inner.Passing.{AreObserved, IsKept, IsResettled}
-use Rattle.label_events.specs.Gathered.{no_label}
+use Rattle.redundancy_cert.specs.inner.Passing.{AreObserved, IsKept, IsResettled, no_label}
 use Rattle.redundancy_cert.proofs.TallyLemmas.{count_left, count_le, count_zero}
 use Rattle.redundancy_cert.proofs.PointLemmas.{nothing_differs}
 

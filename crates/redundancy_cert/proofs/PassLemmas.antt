@@ -20,8 +20,7 @@ use Rattle.events.specs.declared.trails.Change.{Change}
 use Rattle.label_events.specs.Lines.{IsInner, IsRead}
 use Rattle.label_events.proofs.Changing.{fault_changes_nothing, same_off_back}
 use Rattle.redundancy_cert.specs.inner.Tallies.{contradicts}
-use Rattle.redundancy_cert.specs.inner.Passing.{Labelled, AreStanding, IsKept}
-use Rattle.label_events.specs.Gathered.{no_label}
+use Rattle.redundancy_cert.specs.inner.Passing.{Labelled, AreStanding, IsKept, no_label}
 use Rattle.redundancy_cert.proofs.TallyLemmas.{count_some, count_none}
 use Rattle.redundancy_cert.proofs.PointLemmas.{nothing_differs, none_seen, some_seen, known_unseen, unknown_seen}
 

@@ -21,8 +21,7 @@ use Rattle.tri.specs.Labels.{Decisions, is_known_as, on_line, labels, source_lab
 use Rattle.tri.proofs.LabelLemmas.{mapped_zip}
 use Rattle.label_events.specs.Lines.{IsInner, IsRead}
 use Rattle.redundancy_cert.specs.inner.Tallies.{count_pairs, shows}
-use Rattle.redundancy_cert.specs.inner.Passing.{AreObserved}
-use Rattle.label_events.specs.Gathered.{no_label}
+use Rattle.redundancy_cert.specs.inner.Passing.{AreObserved, no_label}
 use Rattle.redundancy_cert.proofs.TallyLemmas.{count_none, count_some}
 
 -- ---- without a fault nothing differs

@@ -1,6 +1,7 @@
 -- The labels under a fault and decisions, as they stand while a tree is walked.
 use Rattle.std.specs.Prelude.{ℕ, ◌≡◌, ◌==◌, ◌⊎◌, Bool, false, List, [], length, Option, None, slice_index_or, IsTrue}
 use Rattle.std.specs.List.{All, Contains}
+use Rattle.netlist.specs.declared.kinds.Tri.TheVariants.{Zero}
 use Rattle.netlist.specs.declared.lines.Fault.{Fault}
 use Rattle.netlist.specs.Netlist.{Definition, Netlist, cells, signals}
 use Rattle.netlist.specs.Holds.{Holds, AreHoldsOf}
@@ -11,6 +12,10 @@ use Rattle.tri.specs.declared.labels.Label.{Label}
 use Rattle.tri.specs.Labels.{Decisions, labels, input_labels, cell_labels, AreLabels}
 use Rattle.tri.specs.Labelling.{decided_in}
 use Rattle.redundancy_cert.specs.inner.Tallies.{count_pairs, shows, contradicts}
+
+-- the label that a read past the end is said to give
+abbrev pub no_label : Label
+no_label = record { own = Zero; good = Zero; faulty = Zero; may_differ = false }
 
 -- what the labels are of, and the labels
 pub record Labelled : Type 0 where

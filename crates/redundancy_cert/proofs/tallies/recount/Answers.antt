@@ -1,6 +1,6 @@
 use Rattle.std.proofs.Common.{None, false}
 use Rattle.redundancy_cert.specs.inner.Tallies.{shows, contradicts}
-use Rattle.label_events.specs.Gathered.{no_label}
+use Rattle.redundancy_cert.specs.inner.Passing.{no_label}
 use Rattle.redundancy_cert.proofs.TallyLemmas.{enough, followed, few}
 use Rattle.std.proofs.Common.{drop}
 use Rattle.redundancy_cert.proofs.tallies.recount.Goals as goal

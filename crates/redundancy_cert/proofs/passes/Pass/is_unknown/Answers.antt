@@ -1,8 +1,7 @@
 use Rattle.std.proofs.Common.{ap, sym, ◌∙◌, subst}
 use Rattle.netlist.specs.Conditions.{IsSound}
 use Rattle.netlist.specs.Settled.{at}
-use Rattle.redundancy_cert.specs.inner.Passing.{Labelled, AreStanding}
-use Rattle.label_events.specs.Gathered.{no_label}
+use Rattle.redundancy_cert.specs.inner.Passing.{Labelled, AreStanding, no_label}
 use Rattle.redundancy_cert.proofs.PassLemmas.{unknown_from, known_from}
 use Rattle.redundancy_cert.proofs.passes.Pass.is_unknown.Goals as goal
 
