@@ -1,7 +1,6 @@
 //! How many nodes of a tree are Closed, and how many Open.
-ghost use Rattle.std.specs.Prelude.{◌≡◌, ◌<◌, ◌≤◌, ◌+◌, ◌^◌, List, [], ◌∷◌, ◌++◌};
-ghost use Rattle.redundancy_cert.specs.declared.nodes.Node.{Node};
-ghost use Rattle.redundancy_cert.specs.Fits.{AreCounts};
+ghost use Rattle.std.specs.Prelude.{◌≡◌, ◌<◌, ◌+◌, ◌^◌, [], ◌∷◌};
+ghost use Rattle.redundancy_cert.specs.Trees.{closed_count, open_count};
 
 use crate::nodes::Node;
 
@@ -16,9 +15,8 @@ pub struct Counts {
 pub(crate) fn count_node(counts: &mut Counts, node: &Node)
     requires closed { counts.old.closed < 2 ^ 63 }
     requires left_open { counts.old.left_open < 2 ^ 63 }
-    ensures counts { (nodes : List Node) → AreCounts nodes counts.old → AreCounts (nodes ++ node.now ∷ []) counts.new }
-    ensures closed { counts.new.closed ≤ counts.old.closed + 1 }
-    ensures left_open { counts.new.left_open ≤ counts.old.left_open + 1 }
+    ensures closed { counts.new.closed ≡ counts.old.closed + closed_count (node.now ∷ []) }
+    ensures left_open { counts.new.left_open ≡ counts.old.left_open + open_count (node.now ∷ []) }
 {
     match node {
         Node::Closed => counts.closed += 1,

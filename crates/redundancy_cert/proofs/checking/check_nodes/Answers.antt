@@ -6,6 +6,7 @@ use Rattle.redundancy_cert.specs.declared.nodes.Node.{Node}
 use Rattle.redundancy_cert.specs.declared.steps.Step.{Step}
 use Rattle.redundancy_cert.specs.Fits.{AreCounts, NodeFits}
 use Rattle.redundancy_cert.specs.inner.Walk.{IsAt, IsChecked, StandsFor, after, path_of, waiting_of}
+use Rattle.redundancy_cert.proofs.Counting.{counted, few_closed, few_open}
 use Rattle.redundancy_cert.proofs.WalkLemmas.{none_checked, all_checked, checked_more, first_bad, fits_alike}
 use Rattle.redundancy_cert.proofs.StepLemmas.{same_start, same_then}
 use Rattle.redundancy_cert.proofs.checking.check_nodes.Goals as goal
@@ -55,6 +56,8 @@ loop-i-preserved c =
     sym ((take_at_read nodes i again c.loop-i-test.true).1 ∙ ap (λ (x : Node). take i nodes ++ x ∷ []) (sym c.index-nodes-i-in-Ok-true.is)) in
     let a = c.count_node.ensures.closed in
     let b = c.count_node.ensures.left_open in
+    let one = few_closed again in
+    let other = few_open again in
     let d = c.loop-i.invariant.closed in
     let e = c.loop-i.invariant.left_open in
     record {
@@ -62,7 +65,7 @@ loop-i-preserved c =
       same = same_then c.args.pass.now c.loop-i.pass c.enter.new.pass c.loop-i.invariant.same c.in-Ok-true.ensures.same;
       checked = checked_more f n holds nodes i ss c.loop-i.invariant.checked node c.enter.new.path.items c.loop-i-test.true c.index-nodes-i.is
           (fits_alike f m n h holds (path_of ss) node c.loop-i.invariant.same.netlist c.loop-i.invariant.same.holds both.0) both.1;
-      counts = subst (λ (xs : List Node). AreCounts xs c.count_node.new.counts) more (c.count_node.ensures.counts (take i nodes) c.loop-i.invariant.counts);
+      counts = subst (λ (xs : List Node). AreCounts xs c.count_node.new.counts) more (counted (take i nodes) again c.loop-i.counts c.count_node.new.counts c.loop-i.invariant.counts a b);
       closed = omega arith;
       left_open = omega arith;
     }
