@@ -31,7 +31,8 @@ fn push_leaf(
 ) -> Result<(), AllocError>
     ensures { OnOk result (leaves.new.items ≡ leaves.old.items ++ (representative, tree) ∷ []) }
 {
-    leaves.push((representative, tree))
+    leaves.push((representative, tree))?;
+    Ok(())
 }
 
 fn leaves_within(
