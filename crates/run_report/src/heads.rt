@@ -1,6 +1,6 @@
 //! The numbers above the lines of a report.
 ghost use Rattle.std.specs.Prelude.{◌≡◌, ◌+◌, ◌-◌, ◌*◌, ◌<◌, ◌≤◌, ◌^◌, length, IfOk};
-ghost use Rattle.netlist.specs.Conditions.{IsSound};
+ghost use Rattle.std.specs.List.{All};
 ghost use Rattle.scan_insert.specs.Scanned.{AreChainsOf};
 ghost use Rattle.run_report.specs.Heads.{aborted_one, count_of, counts_of, cycle_count, detected_one, redundant_one, share_of};
 ghost use Rattle.run_report.specs.inner.Tallies.{AreTallied};
@@ -50,7 +50,7 @@ impl Tally {
 /// Counts lines by their kinds.
 pub fn tally_of(lines: &FaultLines) -> Tally
     ensures kinds { AreTallied lines.now result }
-    ensures fits { result.redundant + result.aborted < 2 ^ 64 }
+    ensures fits { result.detected + result.redundant + result.aborted < 2 ^ 64 }
 {
     let mut tally = Tally::none();
     for k in 0..lines.len() {
@@ -81,7 +81,8 @@ pub fn counts_of(
     lines: &FaultLines,
 ) -> Result<Vec<u64>, AllocError>
     requires chains { AreChainsOf netlist.now chains.now }
-    ensures { IfOk result (λ v. v.items ≡ counts_of netlist.now chains.now faults classes patterns limit lines.now) }
+    ensures counts { IfOk result (λ v. v.items ≡ counts_of netlist.now chains.now faults classes patterns limit lines.now) }
+    ensures small { IfOk result (λ v. All (λ k. k < 2 ^ 64) v.items) }
 {
     netlist.sound();
     let tally = tally_of(lines);

@@ -1,5 +1,6 @@
 //! What the tester sees of a point.
 ghost use Rattle.std.specs.Prelude.{◌≡◌, map};
+ghost use Rattle.std.specs.List.{Contains};
 ghost use Rattle.scan_insert.specs.Names.{output_name};
 ghost use Rattle.scan_insert.specs.Scanned.{AreChainsOf, scanned_of};
 ghost use Rattle.run_report.specs.Outcomes.{IsSeenAt};
@@ -27,7 +28,8 @@ pub fn sight_of<'a>(
     requires chains { AreChainsOf netlist.now chains.now }
     requires pins { pins.now ≡ map (output_name (scanned_of netlist.now chains.now)) (scanned_of netlist.now chains.now).outputs }
     requires point { IsPointOf netlist.now point }
-    ensures { IsSeenAt netlist.now chains.now place point result.cycle result.pin.now }
+    ensures seen { IsSeenAt netlist.now chains.now place point result.cycle result.pin.now }
+    ensures named { Contains pins.now result.pin.now }
 {
     netlist.sound();
     let strobe = strobe_of(netlist, chains, place, point);

@@ -1,5 +1,6 @@
 use Rattle.std.proofs.Common.{length, ap, arith}
 use Rattle.std.proofs.lemmas.List.{length-map}
+use Rattle.fault_universe.proofs.Elements.{contains_at}
 use Rattle.scan_insert.specs.Names.{output_name}
 use Rattle.scan_insert.specs.Scanned.{scanned_of}
 use Rattle.run_report.proofs.SightLemmas.{is_output, pin_at}
@@ -13,8 +14,11 @@ get-requires c =
     let within = is_output n c.sound.ensures chains c.requires.chains c.args.place c.args.point c.strobe_of-strobe.result.cycle c.strobe_of-strobe.result.output c.requires.point c.strobe_of-strobe.ensures in
     omega (arith, within, ap length c.requires.pins, length-map s.outputs (output_name s))
 
-pub returns : goal.returns
-returns c =
+pub returns-clause-named : goal.returns-clause-named
+returns-clause-named c = contains_at c.args.pins.now c.strobe_of-strobe.result.output c.get.result.now c.get.ensures
+
+pub returns-clause-seen : goal.returns-clause-seen
+returns-clause-seen c =
     let n = c.args.netlist.now in
     let chains = c.args.chains.now in
     let output = c.strobe_of-strobe.result.output in
