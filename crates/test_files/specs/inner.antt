@@ -1,3 +1,4 @@
 -- What the contracts of private functions cite.
 pub mod Verdicts
 pub mod Outcomes
+pub mod Reports

@@ -44,8 +44,10 @@ fn leaves_within(
     ensures { IfOk result (λ v. v.items ≡ leaves_of representatives.now verdicts.items) }
 {
     let mut leaves = Vec::new(alloc);
-    for (class, verdict) in verdicts.into_iter().enumerate() {
+    let mut class = 0usize;
+    for verdict in verdicts {
         add_leaf(&mut leaves, representatives[class], verdict)?;
+        class += 1;
     }
     Ok(leaves)
 }

@@ -4,6 +4,7 @@
 mod files;
 mod leaves;
 mod lines;
+mod reporting;
 mod searching;
 
 pub use files::{Plan, TestFiles};

@@ -2,16 +2,17 @@
 ghost use Rattle.std.specs.Prelude.{◌≡◌, ◌<◌, ⊤, IfOk, length, map, slice_index};
 ghost use Rattle.std.specs.List.{All};
 ghost use Rattle.netlist.specs.Netlist.{signals};
-ghost use Rattle.netlist.specs.Lines.{signal_of};
+ghost use Rattle.netlist.specs.Lines.{IsLineOf, signal_of};
 ghost use Rattle.scan_insert.specs.Names.{output_name};
 ghost use Rattle.scan_insert.specs.Scanned.{AreChainsOf, scanned_of};
 ghost use Rattle.fault_universe.specs.Universe.{universe_of};
+ghost use Rattle.report.specs.Reports.{IsOutcome, IsWord};
 ghost use Rattle.test_files.specs.inner.Outcomes.{AreLines, IsAdded, IsOutcomeOf};
 ghost use Rattle.test_files.specs.inner.Verdicts.{IsInside};
 
 use chain_stitch::Chains;
 use fault_collapse::Classes;
-use fault_universe::{FaultSet, faults_have_signals, push_text};
+use fault_universe::{FaultSet, faults_have_lines, faults_have_signals, push_text};
 use list_core::Verdict;
 use netlist::{Fault, NameTable, Netlist, NoMemory};
 use report::{FaultLines, Outcome};
@@ -33,8 +34,10 @@ fn said_of<'a>(
 ) -> Said<'a>
     requires chains { AreChainsOf netlist.now chains.now }
     requires pins { pins.now ≡ map (output_name (scanned_of netlist.now chains.now)) (scanned_of netlist.now chains.now).outputs }
+    requires words { All IsWord pins.now }
     requires verdict { IsInside netlist.now verdict.now }
-    ensures { IsOutcomeOf netlist.now chains.now verdict.now result.outcome result.pin.now }
+    ensures outcome { IsOutcomeOf netlist.now chains.now verdict.now result.outcome result.pin.now }
+    ensures sound { IsOutcome result.outcome result.pin.now }
 {
     match verdict {
         Verdict::Detected(place, point) => {
@@ -68,10 +71,13 @@ fn add_line(
 ) -> Result<FaultLines, AllocError>
     requires chains { AreChainsOf netlist.now chains.now }
     requires pins { pins.now ≡ map (output_name (scanned_of netlist.now chains.now)) (scanned_of netlist.now chains.now).outputs }
+    requires words { All IsWord pins.now }
     requires verdict { IsInside netlist.now verdict.now }
+    requires line { IsLineOf netlist.now fault.line }
     requires signal { signal_of fault.line < length (signals netlist.now) }
     ensures { IfOk result (IsAdded netlist.now chains.now fault verdict.now lines) }
 {
+    netlist.sound();
     text.clear();
     push_text(text, netlist, fault)?;
     let said = said_of(netlist, chains, pins, verdict);
@@ -89,6 +95,7 @@ fn lines_within(
 ) -> Result<FaultLines, AllocError>
     requires chains { AreChainsOf netlist.now chains.now }
     requires pins { pins.now ≡ map (output_name (scanned_of netlist.now chains.now)) (scanned_of netlist.now chains.now).outputs }
+    requires words { All IsWord pins.now }
     requires universe { faults.now ≡ universe_of netlist.now }
     requires size { length classes.now.numbers ≡ length (universe_of netlist.now) }
     requires within { All (λ class. class < length verdicts.now) classes.now.numbers }
@@ -97,6 +104,7 @@ fn lines_within(
 {
     netlist.sound();
     faults_have_signals();
+    faults_have_lines();
     let mut text = Vec::new(alloc);
     let mut lines = FaultLines::new(alloc);
     for i in 0..faults.len() {
@@ -126,6 +134,7 @@ pub(crate) fn lines_of(
 ) -> Result<FaultLines, NoMemory>
     requires chains { AreChainsOf netlist.now chains.now }
     requires pins { pins.now ≡ map (output_name (scanned_of netlist.now chains.now)) (scanned_of netlist.now chains.now).outputs }
+    requires words { All IsWord pins.now }
     requires universe { faults.now ≡ universe_of netlist.now }
     requires size { length classes.now.numbers ≡ length (universe_of netlist.now) }
     requires within { All (λ class. class < length verdicts.now) classes.now.numbers }
