@@ -1,6 +1,6 @@
 mod CharLemmas
 mod CallLemmas
 mod VectorLemmas
-mod FitLemmas
+pub mod FitLemmas
 mod WidthLemmas
 mod TestLemmas
