@@ -4,3 +4,4 @@ mod VectorLemmas
 pub mod FitLemmas
 mod WidthLemmas
 mod TestLemmas
+mod PlayLemmas
