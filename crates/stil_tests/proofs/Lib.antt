@@ -1,0 +1,7 @@
+mod NameLemmas
+mod FileLemmas
+mod WordLemmas
+mod AddLemmas
+mod BackLemmas
+mod OnceLemmas
+mod ReadLemmas
