@@ -23,6 +23,7 @@ use Rattle.scan_play.specs.Laws.{moved, GoodPasses, UndetectedPasses, DetectedFa
 use Rattle.stil_write.specs.StilFiles.{StilFile}
 use Rattle.stil_vectors.specs.FileVectors.{vectors_in}
 use Rattle.stil_vectors.specs.Laws.{TestVectors}
+use Rattle.stil_tests.specs.Tests.{IsFileOf}
 use Rattle.fault_universe.specs.Laws.{FaultsHaveLines}
 use Rattle.fault_universe.specs.Texts.{fault_text}
 use Rattle.fault_universe.specs.Universe.{universe_of}
@@ -39,7 +40,7 @@ use Rattle.report.specs.declared.outcomes.Outcome.TheVariants.{Detected, Redunda
 use Rattle.report.specs.Reports.{Line}
 use Rattle.run_report.specs.Outcomes.{Test, IsFirstTree, IsTrueOf, IsTrueAt, AreTrueLines}
 use Rattle.run_report.specs.Heads.{count_of, detected_one, redundant_one, aborted_one}
-use Rattle.good_files.specs.GoodFiles.{AreGoodFiles, Files, IsTestFile, test_of}
+use Rattle.good_files.specs.GoodFiles.{AreGoodFiles, Files, test_of}
 use Rattle.good_files.specs.RunTheorem.{ComesTrue, RunTheorem}
 use Rattle.good_files.specs.ScanOff.{design_chains}
 use Rattle.good_files.proofs.Chains.{behaves, dealt}
@@ -97,12 +98,12 @@ same_member xs k x y p q = let both : Some x ≡ Some y = sym p ∙ q in cc
 
 -- the vectors of the file are those of the patterns
 pub file_vectors : TestVectors → (n : Netlist) (holds : Holds) (chains : List (List ℕ)) (patterns : List Pattern) (file : StilFile)
-    → AreHoldsOf n holds → IsTestFile n holds chains patterns file → AreVectors n holds chains patterns (vectors_in file)
+    → AreHoldsOf n holds → IsFileOf n holds chains patterns file → AreVectors n holds chains patterns (vectors_in file)
 file_vectors law n holds chains patterns file held t = record {
   held = held;
-  responses = t.0;
-  respond = t.1;
-  are = ap vectors_in t.2 ∙ law n holds chains (zip patterns t.0);
+  responses = t.responses;
+  respond = t.respond;
+  are = ap vectors_in t.is ∙ law n holds chains (zip patterns t.responses);
 }
 
 -- the laws that are cited
@@ -169,7 +170,7 @@ truth laws n holds asked limit files sound design good =
     let t = test_of n holds asked limit good.patterns good.trees in
     let cycles = vectors_in good.file in
     let of_cells = dealt n asked good.some_chain in
-    let vectors = file_vectors laws.test n holds chains good.patterns good.file good.held good.test_file_is in
+    let vectors = file_vectors laws.test n holds chains good.patterns good.file good.held good.is_file_of in
     let scanned = laws.sound n chains sound design of_cells in
     record {
       file = good.file;

@@ -1,6 +1,6 @@
 -- The five files of a run, and when they are good, whoever made them.
-use Rattle.std.specs.Prelude.{ℕ, ◌≡◌, ◌≤◌, List, map, Ok, None}
-use Rattle.std.specs.List.{All, AllZip, zip}
+use Rattle.std.specs.Prelude.{ℕ, ◌≡◌, ◌≤◌, List, map, Ok}
+use Rattle.std.specs.List.{All}
 use Rattle.netlist.specs.declared.lines.Fault.{Fault}
 use Rattle.netlist.specs.Netlist.{Netlist}
 use Rattle.netlist.specs.Holds.{Holds, AreHoldsOf}
@@ -9,10 +9,9 @@ use Rattle.bench_text.specs.Canonical.{canonical}
 use Rattle.bench_text.specs.Reading.{IsRead}
 use Rattle.bench_text.specs.declared.refusal.Names.TheVariants.{Design}
 use Rattle.scan_insert.specs.Scanned.{scanned_of}
-use Rattle.scan_play.specs.Vectors.{Response, Responds}
 use Rattle.stil_write.specs.StilFiles.{StilFile}
 use Rattle.stil_read.specs.Reading.{StandsFor}
-use Rattle.stil_vectors.specs.TestFiles.{test_file}
+use Rattle.stil_tests.specs.Tests.{IsFileOf}
 use Rattle.fault_collapse.specs.Classes.{AreClasses}
 use Rattle.fault_collapse.specs.Numbers.{Classes}
 use Rattle.redundancy_cert.specs.declared.nodes.Node.{Node}
@@ -33,11 +32,6 @@ pub record Files : Type 0 where
   pub stil : Text
   pub certificate : Text
   pub report : Text
-
--- the file that applies these patterns, and strobes what the fault-free netlist answers
-abbrev pub IsTestFile : Netlist → Holds → List (List ℕ) → List Pattern → StilFile → Type 0
-IsTestFile n holds chains patterns file =
-    (responses : List Response) × AllZip (Responds n None) patterns responses × (file ≡ test_file n holds chains (zip patterns responses))
 
 -- the most closed ends that a search may be allowed
 abbrev pub most_limit : ℕ
@@ -68,7 +62,7 @@ pub record AreGoodFiles (n : Netlist) (holds : Holds) (asked limit : ℕ) (files
   pub held : AreHoldsOf n holds
   pub held_said : said.holds ≡ holds_named n holds
   pub obey : All (IsPatternOf n holds) patterns
-  pub test_file_is : IsTestFile n holds (design_chains n asked) patterns file
+  pub is_file_of : IsFileOf n holds (design_chains n asked) patterns file
   pub are_classes : AreClasses n classes
   pub lines : AreTrueLines (test_of n holds asked limit patterns trees) classes said.lines
   pub left : AreUndetected n patterns classes.representatives (map (λ (p : Fault × List Node). p.0) trees)

@@ -3,5 +3,4 @@ mod FileLemmas
 mod WordLemmas
 mod AddLemmas
 mod BackLemmas
-mod OnceLemmas
 mod ReadLemmas
