@@ -1,3 +1,5 @@
 mod LineLemmas
 mod LeafLemmas
 mod SearchLemmas
+mod ReportLemmas
+mod TruthLemmas

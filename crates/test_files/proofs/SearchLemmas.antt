@@ -1,8 +1,13 @@
 -- The verdicts of a finished list.
-use Rattle.std.proofs.Common.{◌≡◌, ℕ, zero, suc, ◌<◌, ◌≤◌, ◌⊎◌, inl, inr, Bool, cond, true, false, true≢false, List, [], ◌∷◌, length, Some, refl, sym, ◌∙◌, ap, subst, arith}
+use Rattle.std.proofs.Common.{◌≡◌, ℕ, zero, suc, ◌<◌, ◌≤◌, ◌⊎◌, inl, inr, Bool, cond, true, false, true≢false, List, [], ◌∷◌, length, get_or, Some, refl, sym, ◌∙◌, ap, subst, arith}
 use Rattle.std.specs.List.{All, slice_get}
 use Rattle.std.proofs.lemmas.List.Elements.{All-nil, All-cons, All-head, All-tail}
-use Rattle.std.proofs.lemmas.Option.{slice_get_within}
+use Rattle.std.proofs.lemmas.Bool.{cases_order}
+use Rattle.std.proofs.lemmas.Option.{slice_get-get_or, slice_get_within}
+use Rattle.netlist.specs.Netlist.{Netlist}
+use Rattle.fault_universe.specs.Universe.{universe_of}
+use Rattle.fault_collapse.specs.Classes.{AreClasses}
+use Rattle.fault_collapse.specs.Numbers.{Classes}
 use Rattle.netlist.specs.declared.lines.Fault.{Fault}
 use Rattle.netlist.specs.Detection.{Detects}
 use Rattle.cubes.specs.Cubes.{Pattern, IsPatternOf}
@@ -26,6 +31,12 @@ kept_all P marked k (x ∷ xs) h =
       | true ↦ All-cons P x (kept_from marked (suc k) xs) (All-head P x xs h) rest
       | false ↦ rest
     ]
+
+pub kept_few : {X : Type 0} (marked : ℕ → Bool) (k : ℕ) (xs : List X) → length (kept_from marked k xs) ≤ length xs
+kept_few marked k [] = omega arith
+kept_few marked k (x ∷ xs) =
+    let rest = kept_few marked (suc k) xs in
+    elim (marked k) as (λ (b : Bool). length (cond b (x ∷ kept_from marked (suc k) xs) (kept_from marked (suc k) xs)) ≤ suc (length xs)) [ true ↦ omega arith | false ↦ omega arith ]
 
 same_fault : (j : Subject) (class : ℕ) (f g : Fault) → Represents j class f → Represents j class g → f ≡ g
 same_fault j class f g p q = let both : Some f ≡ Some g = sym p ∙ q in cc
@@ -59,3 +70,35 @@ verdicts_of j s kept verdicts list shut done = record {
         held j kept class f represents stays.1 (verdict_at verdicts class) closed (done.hold class)
   ];
 }
+
+-- ---- few classes
+
+module _ (n : Netlist) (classes : Classes) (are : AreClasses n classes) where
+  -- classes are no more than the faults before the first member of the last
+  later : (k : ℕ) → (lt : k < length classes.representatives) → k ≤ (are.first k lt).place
+  later zero lt = omega arith
+  later (suc k) lt =
+      let before : k < length classes.representatives = omega arith in
+      let low = later k before in
+      let a = are.first k before in
+      let b = are.first (suc k) lt in
+      elim (cases_order a.place b.place) [
+        | inl same ↦ let e = sym a.member ∙ (ap (λ i. get_or classes.numbers i 0) same ∙ b.member) in absurd (omega arith)
+        | inr o ↦ elim o [
+          | inl lower ↦ omega arith
+          | inr higher ↦ let e = a.earlier b.place higher in let m = b.member in absurd (omega arith)
+        ]
+      ]
+
+  by_count : (blank : Fault) (k : ℕ) → length classes.representatives ≡ k → length classes.representatives ≤ length (universe_of n)
+  by_count blank zero e = omega arith
+  by_count blank (suc k) e =
+      let lt : k < length classes.representatives = omega arith in
+      let first = are.first k lt in
+      let g = get_or classes.representatives k blank in
+      let at = slice_get_within (universe_of n) first.place g (first.representative g (slice_get-get_or classes.representatives k blank lt)) in
+      let low = later k lt in
+      omega arith
+
+  pub few_classes : (blank : Fault) → length classes.representatives ≤ length (universe_of n)
+  few_classes blank = by_count blank (length classes.representatives) refl

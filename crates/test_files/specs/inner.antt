@@ -2,3 +2,4 @@
 pub mod Verdicts
 pub mod Outcomes
 pub mod Reports
+pub mod Subjects

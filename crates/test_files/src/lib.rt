@@ -6,5 +6,6 @@ mod leaves;
 mod lines;
 mod reporting;
 mod searching;
+mod subjects;
 
-pub use files::{Plan, TestFiles};
+pub use files::{Plan, TestFiles, test_files};

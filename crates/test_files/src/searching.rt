@@ -1,5 +1,6 @@
 //! The search, by workers, and the compaction of what they found.
-ghost use Rattle.std.specs.Prelude.{◌≡◌, ◌<◌, ◌≤◌, IfOk, length};
+ghost use Rattle.std.specs.Prelude.{◌≡◌, ◌<◌, ◌≤◌, ◌^◌, IfOk, length};
+ghost use Rattle.netlist.specs.Designs.{IsDesign};
 ghost use Rattle.netlist.specs.Holds.{AreHoldsOf};
 ghost use Rattle.fault_collapse.specs.Classes.{AreClasses};
 ghost use Rattle.list_core.specs.Subjects.{HaveLines, class_count};
@@ -41,7 +42,8 @@ fn search_named<
     requires holds { (holds.now ≡ J.subject.holds) × AreHoldsOf core.now holds.now }
     requires lines { HaveLines J.subject }
     requires workers { (0 < plan.workers) × (plan.workers ≤ 64) }
-    ensures { IfOk result (λ f. AreVerdicts core.now holds.now classes.now plan.limit f.patterns.items f.verdicts.items) }
+    ensures verdicts { IfOk result (λ f. AreVerdicts core.now holds.now classes.now plan.limit f.patterns.items f.verdicts.items) }
+    ensures few { IfOk result (λ f. length f.patterns.items < 2 ^ 32) }
 {
     let list = FaultList::<J>::new(alloc, core, classes, plan.limit, holds)?;
     let list = run_all(
@@ -56,4 +58,29 @@ fn search_named<
         holds,
     )?;
     finish(alloc, core, classes, list)
+}
+
+/// Verdicts for all classes, by so many workers, and the patterns that are kept.
+pub(crate) fn search<E: Engine + Sync, G: Gate + Sync, R: Threads + Wait + Sync>(
+    rt: &R,
+    alloc: Global,
+    core: &Core,
+    classes: &Classes,
+    plan: Plan,
+    engine: &E,
+    gate: &G,
+    holds: &Holds,
+) -> Result<Finished, NoMemory>
+    requires design { IsDesign core.now }
+    requires classes { AreClasses core.now classes.now }
+    requires limit { 1 ≤ plan.limit }
+    requires held { AreHoldsOf core.now holds.now }
+    requires workers { (0 < plan.workers) × (plan.workers ≤ 64) }
+    ensures verdicts { IfOk result (λ f. AreVerdicts core.now holds.now classes.now plan.limit f.patterns.items f.verdicts.items) }
+    ensures few { IfOk result (λ f. length f.patterns.items < 2 ^ 32) }
+{
+    core.netlist().sound();
+    few_faults();
+    faults_have_lines();
+    search_named::<Brand, E, G, R>(rt, alloc, core, classes, plan, engine, gate, holds)
 }
