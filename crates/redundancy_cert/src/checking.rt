@@ -77,6 +77,7 @@ fn check_nodes(
 }
 
 impl<'a> Checker<'a> {
+    /// The labels without a fault, and room that every tree uses.
     pub fn new(alloc: Global, core: &'a Core, holds: &'a Holds) -> Result<Checker<'a>, NoMemory>
         requires { AreHoldsOf core.now holds.now }
         ensures { IfOk result (λ c. (c.netlist ≡ core.now) × (c.holds ≡ holds.now)) }

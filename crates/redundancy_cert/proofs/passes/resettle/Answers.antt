@@ -1,11 +1,11 @@
-use Rattle.std.proofs.Common.{◌≡◌, List, length, None, get_or, ap, sym, ◌∙◌, subst}
+use Rattle.std.proofs.Common.{◌≡◌, List, length, ap, sym, ◌∙◌, subst}
 use Rattle.netlist.specs.declared.lines.Line.TheVariants.{Stem}
 use Rattle.netlist.specs.Conditions.{IsSound}
 use Rattle.netlist.specs.Settled.{at}
 use Rattle.events.specs.Standing.{Standing}
 use Rattle.events.specs.Waiting.{IsDrivenTo}
 use Rattle.tri.specs.declared.labels.Label.{Label}
-use Rattle.tri.specs.Labels.{labels, on_line, source_label, held_value, input_labels, cell_labels, AreLabels}
+use Rattle.tri.specs.Labels.{labels, on_line, input_labels, cell_labels, AreLabels}
 use Rattle.tri.specs.Labelling.{decided_in}
 use Rattle.label_events.proofs.Changing.{is_driven}
 use Rattle.redundancy_cert.proofs.passes.resettle.Goals as goal
