@@ -1,9 +1,9 @@
 -- The bytes of names, numbers and words.
-use Rattle.std.proofs.Common.{◌≡◌, ◌≢◌, ℕ, ◌+◌, ◌*◌, ◌/◌, ◌%◌, ◌^◌, ◌<◌, ◌≤◌, Bool, true, false, List, [], ◌∷◌, ◌++◌, refl, sym, ◌∙◌, ap, subst, nat_lt, nat_le, ◌&&◌, codes, decimal, arith}
+use Rattle.std.proofs.Common.{◌≡◌, ◌≢◌, ℕ, ◌+◌, ◌*◌, ◌/◌, ◌%◌, ◌^◌, ◌<◌, ◌≤◌, Bool, true, false, Option, None, Some, MatchOption, ◌↔◌, length, List, [], ◌∷◌, ◌++◌, refl, sym, ◌∙◌, ap, subst, nat_lt, nat_le, ◌&&◌, codes, decimal, arith}
 use Rattle.std.specs.List.{All, list_all}
-use Rattle.std.proofs.lemmas.Bool.{and_parts, leb-true, ltb-true}
+use Rattle.std.proofs.lemmas.Bool.{and_from, and_parts, false≢true, leb-true, ltb-true}
 use Rattle.std.proofs.lemmas.Fmt.{decimal_by_steps}
-use Rattle.std.proofs.lemmas.List.Elements.{All-append, All-cons, All-nil, All-weaker}
+use Rattle.std.proofs.lemmas.List.Elements.{All-append, All-cons, All-head, All-nil, All-tail, All-weaker}
 use Rattle.netlist.specs.Names.{is_name_byte}
 use Rattle.fault_universe.specs.Texts.{value_text}
 use Rattle.report.specs.Reports.{IsWord}
@@ -38,6 +38,29 @@ name_byte_above : (b : ℕ) → is_name_byte b ≡ true → 32 < b
 name_byte_above b h =
     let low = leb-true 33 b (and_parts (nat_le 33 b) (nat_le b 126) (and_parts (nat_le 33 b && nat_le b 126) _ h).0).0 in
     omega arith
+
+all_by_test : (test : ℕ → Bool) (xs : List ℕ) → list_all test xs ≡ true → All (λ b. test b ≡ true) xs
+all_by_test test [] e = All-nil (λ b. test b ≡ true)
+all_by_test test (x ∷ xs) e =
+    let parts = and_parts (test x) (list_all test xs) e in
+    All-cons (λ b. test b ≡ true) x xs parts.0 (all_by_test test xs parts.1)
+
+test_by_all : (test : ℕ → Bool) (xs : List ℕ) → All (λ b. test b ≡ true) xs → list_all test xs ≡ true
+test_by_all test [] h = refl
+test_by_all test (x ∷ xs) h =
+    and_from (test x) (list_all test xs) (All-head (λ b. test b ≡ true) x xs h) (test_by_all test xs (All-tail (λ b. test b ≡ true) x xs h))
+
+pub word_by_test : (text : List ℕ) (told : Bool) → 0 < length text → told ≡ list_all is_name_byte text → (told ≡ true) ↔ IsWord text
+word_by_test text told some e =
+    ((λ t. record { some = some; bytes = all_by_test is_name_byte text (sym e ∙ t) }), (λ w. e ∙ test_by_all is_name_byte text w.bytes))
+
+pub no_word_empty : (text : List ℕ) → length text ≡ 0 → (false ≡ true) ↔ IsWord text
+no_word_empty text none = ((λ t. absurd (false≢true t)), (λ w. let some = w.some in absurd (omega arith)))
+
+-- what follows from what an answer says
+pub option_weaker : {A : Type 0} (o : Option A) {P P' : Type 0} {Q Q' : A → Type 0} → (P → P') → ((x : A) → Q x → Q' x) → MatchOption o P Q → MatchOption o P' Q'
+option_weaker None f g h = f h
+option_weaker (Some x) f g h = g x h
 
 pub word_above : (name : List ℕ) → IsWord name → Above 32 name
 word_above name w = All-weaker (λ b. is_name_byte b ≡ true) (λ b. 32 < b) name_byte_above name w.bytes

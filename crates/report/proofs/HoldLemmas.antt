@@ -1,8 +1,7 @@
 -- Lines of held inputs.
-use Rattle.std.proofs.Common.{◌≡◌, ◌≢◌, ℕ, Bool, true, false, List, [], ◌∷◌, ◌++◌, get_or, refl, sym, ◌∙◌, ap, codes, append_assoc, arith}
+use Rattle.std.proofs.Common.{◌≡◌, ◌≢◌, ℕ, Bool, true, false, List, [], ◌∷◌, ◌++◌, ◌+◌, length, get_or, refl, sym, ◌∙◌, ap, subst, codes, append_assoc, arith, length-append}
 use Rattle.std.specs.List.{All}
-use Rattle.std.proofs.lemmas.List.{append_cancel_left}
-use Rattle.plain_text.proofs.Parts.{same_parts}
+use Rattle.std.proofs.lemmas.List.{append_cancel_left, append_cancel_right, get_or-append-add}
 use Rattle.report.specs.Reports.{Hold, IsWord}
 use Rattle.report.specs.Texts.{hold_line}
 use Rattle.report.specs.inner.Lines.{IsHold, bit_text, hold_words}
@@ -26,31 +25,29 @@ pub hold_lined : IsLined IsHold hold_words hold_line
 hold_lined = record { end = λ h. hold_end h.name h.bit; whole = λ h v. above_lacks 31 10 (hold_words h) (omega arith) (hold_above h.name h.bit v) }
 
 -- the parts of a held input's words
-bit_digit : Bool → List ℕ
-bit_digit false = codes "0"
-bit_digit true = codes "1"
+other_bits : (xs ys : List ℕ) → xs ++ codes " 0" ≡ ys ++ codes " 1" → ⊥
+other_bits xs ys e =
+    let size : length xs ≡ length ys = omega (arith, length-append xs (codes " 0"), length-append ys (codes " 1"), ap length e) in
+    let last : ◌≡◌ {A = ℕ} 48 49 =
+    sym (get_or-append-add xs (codes " 0") 1 0) ∙ (ap (λ zs. get_or zs (length xs + 1) 0) e
+    ∙ (ap (λ k. get_or (ys ++ codes " 1") (k + 1) 0) size ∙ get_or-append-add ys (codes " 1") 1 0)) in
+    absurd (omega arith)
 
-same_bit : (v w : Bool) → bit_digit v ≡ bit_digit w → v ≡ w
-unfolding bit_digit
-same_bit false false e = refl
-same_bit true true e = refl
-same_bit false true e = let differ : ◌≡◌ {A = ℕ} 48 49 = ap (λ xs. get_or xs 0 0) e in absurd (omega arith)
-same_bit true false e = let differ : ◌≡◌ {A = ℕ} 49 48 = ap (λ xs. get_or xs 0 0) e in absurd (omega arith)
+pub same_bits : (xs ys : List ℕ) (v w : Bool) → xs ++ bit_text v ≡ ys ++ bit_text w → (xs ≡ ys) × (v ≡ w)
+same_bits xs ys false false e = (append_cancel_right xs ys (codes " 0") e, refl)
+same_bits xs ys true true e = (append_cancel_right xs ys (codes " 1") e, refl)
+same_bits xs ys false true e = absurd (other_bits xs ys e)
+same_bits xs ys true false e = absurd (other_bits ys xs (sym e))
 
-bit_is : (v : Bool) → bit_text v ≡ 32 ∷ bit_digit v
-unfolding bit_digit
-bit_is false = refl
-bit_is true = refl
-
-pub bit_parts : (x y : List ℕ) (v w : Bool) → IsWord x → IsWord y → x ++ bit_text v ≡ y ++ bit_text w → (x ≡ y) × (v ≡ w)
-bit_parts x y v w p q e =
-    let parts = same_parts 32 x y (bit_digit v) (bit_digit w) (above_lacks 32 32 x (omega arith) (word_above x p)) (above_lacks 32 32 y (omega arith) (word_above y q))
-    (sym (ap (λ t. x ++ t) (bit_is v)) ∙ (e ∙ ap (λ t. y ++ t) (bit_is w))) in
-    (parts.0, same_bit v w parts.1)
+pub other_name : (line words name : List ℕ) (bit : Bool) → line ≡ codes "hold " ++ words → words ≡ name ++ bit_text bit → (IsWord name → ⊥)
+    → (h : Hold) → IsHold h → line ≢ hold_words h
+other_name line words name bit l is none h v e =
+    let same = append_cancel_left (codes "hold ") words (h.name ++ bit_text h.bit) (sym l ∙ e) in
+    none (subst IsWord (same_bits h.name name h.bit bit (sym same ∙ is)).0 v)
 
 hold_same : (h k : Hold) → IsHold h → IsHold k → hold_words h ≡ hold_words k → h ≡ k
 hold_same h k v w e =
-    let parts = bit_parts h.name k.name h.bit k.bit v w (append_cancel_left (codes "hold ") (h.name ++ bit_text h.bit) (k.name ++ bit_text k.bit) e) in
+    let parts = same_bits h.name k.name h.bit k.bit (append_cancel_left (codes "hold ") (h.name ++ bit_text h.bit) (k.name ++ bit_text k.bit) e) in
     ap (λ (t : List ℕ). record { name = t; bit = h.bit }) parts.0 ∙ ap (λ (b : Bool). record { name = k.name; bit = b }) parts.1
 
 pub hold_told : IsTold IsHold hold_line

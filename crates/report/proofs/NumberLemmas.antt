@@ -6,18 +6,18 @@ use Rattle.std.proofs.lemmas.List.{append-nil}
 use Rattle.std.proofs.lemmas.List.Elements.{All-head, All-nil, All-tail}
 use Rattle.plain_text.proofs.Parts.{byte_inside, same_parts}
 use Rattle.report.specs.Texts.{count_line, counts_text, hundredths, share_line}
-use Rattle.report.specs.inner.Lines.{Begins, NoneBegins, IsCount, IsShare}
+use Rattle.report.specs.inner.Lines.{Begins, NoneBegins, IsCount, IsShare, count_end, share_end}
 use Rattle.report.proofs.ByteLemmas.{Above, above_append, above_cons, above_lacks, above_less, number_above}
 use Rattle.report.proofs.LineLemmas.{IsLined, IsTold, behind_told, line_told}
 
 -- counts
-pub count_lined : IsLined IsCount decimal (λ k. decimal k ++ codes "\n")
+pub count_lined : IsLined IsCount decimal count_end
 count_lined = record { end = λ k. refl; whole = λ k v. above_lacks 47 10 (decimal k) (omega arith) (number_above k v) }
 
 pub count_told : (word : List ℕ) → IsTold IsCount (count_line word)
 count_told word =
-    behind_told IsCount word (λ k. decimal k ++ codes "\n")
-    (line_told IsCount decimal (λ k. decimal k ++ codes "\n") count_lined (λ x y v w e. decimal_injective x y v w e))
+    behind_told IsCount word count_end
+    (line_told IsCount decimal count_end count_lined (λ x y v w e. decimal_injective x y v w e))
 
 pub counts_told : (ws : List (List ℕ)) (cs ds r s : List ℕ) → length cs ≡ length ws → length ds ≡ length ws → All IsCount cs → All IsCount ds
     → counts_text ws cs ++ r ≡ counts_text ws ds ++ s → (cs ≡ ds) × (r ≡ s)
@@ -79,7 +79,7 @@ share_whole n v =
     (above_append 45 (decimal (n / 100)) (46 ∷ (48 + n / 10 % 10) ∷ (48 + n % 10) ∷ []) (above_less 47 45 (decimal (n / 100)) (omega arith) (number_above (n / 100) v))
     (above_cons 45 46 ((48 + n / 10 % 10) ∷ (48 + n % 10) ∷ []) (omega arith) (above_cons 45 (48 + n / 10 % 10) ((48 + n % 10) ∷ []) (omega arith) (above_cons 45 (48 + n % 10) [] (omega arith) (All-nil (λ b. 45 < b)))))))
 
-pub share_lined : IsLined IsShare hundredths (λ n. hundredths n ++ codes "\n")
+pub share_lined : IsLined IsShare hundredths share_end
 share_lined = record { end = λ n. refl; whole = share_whole }
 
 whole_lacks : (n : ℕ) → IsShare n → All (λ b. b ≢ 46) (decimal (n / 100))
@@ -121,4 +121,4 @@ share_same n m v w e =
 
 pub share_told : (word : List ℕ) → IsTold IsShare (share_line word)
 share_told word =
-    behind_told IsShare word (λ n. hundredths n ++ codes "\n") (line_told IsShare hundredths (λ n. hundredths n ++ codes "\n") share_lined share_same)
+    behind_told IsShare word share_end (line_told IsShare hundredths share_end share_lined share_same)

@@ -1,5 +1,5 @@
 -- What came of a fault, and the whole line.
-use Rattle.std.proofs.Common.{◌≡◌, ◌≢◌, ℕ, ◌+◌, ◌-◌, ◌^◌, ◌<◌, List, [], ◌∷◌, ◌++◌, length, take, get_or, refl, sym, ◌∙◌, ap, subst, codes, decimal, append_assoc, arith, length-append}
+use Rattle.std.proofs.Common.{◌≡◌, ◌≢◌, ℕ, ◌+◌, ◌-◌, ◌^◌, ◌<◌, ◌≤◌, List, [], ◌∷◌, ◌++◌, length, take, get_or, refl, sym, ◌∙◌, ap, subst, codes, decimal, append_assoc, arith, length-append}
 use Rattle.std.specs.List.{All}
 use Rattle.std.proofs.Math.Seq.{take-append_seam}
 use Rattle.std.proofs.lemmas.Fmt.{decimal_injective}
@@ -25,6 +25,27 @@ no_blank text none k rest l e = byte_inside 32 (decimal k) rest (subst (All (λ 
 pub number_parts : (text front after : List ℕ) → All (λ b. b ≢ 32) front → text ≡ front ++ 32 ∷ after → (k : ℕ) (rest : List ℕ) → k < 2 ^ 64
     → text ≡ decimal k ++ 32 ∷ rest → (front ≡ decimal k) × (after ≡ rest)
 number_parts text front after lacks is k rest l e = same_parts 32 front (decimal k) after rest lacks (number_lacks k l) (sym is ∙ e)
+
+-- two numbers and a pin
+module _ (text first after : List ℕ) (lacks : All (λ b. b ≢ 32) first) (is : text ≡ first ++ 32 ∷ after) where
+  pub no_second : All (λ b. b ≢ 32) after → (p k : ℕ) (pin : List ℕ) → p < 2 ^ 64 → k < 2 ^ 64 → IsWord pin → text ≢ decimal p ++ 32 ∷ (decimal k ++ 32 ∷ pin)
+  no_second none p k pin i j v e = no_blank after none k pin j (number_parts text first after lacks is p (decimal k ++ 32 ∷ pin) i e).1
+
+  module _ (second last : List ℕ) (lacking : All (λ b. b ≢ 32) second) (parts : after ≡ second ++ 32 ∷ last) where
+    place_parts : (p k : ℕ) (pin : List ℕ) → p < 2 ^ 64 → k < 2 ^ 64 → text ≡ decimal p ++ 32 ∷ (decimal k ++ 32 ∷ pin) → (first ≡ decimal p) × (second ≡ decimal k) × (last ≡ pin)
+    place_parts p k pin i j e =
+        let front = number_parts text first after lacks is p (decimal k ++ 32 ∷ pin) i e in
+        let others = number_parts after second last lacking parts k pin j front.1 in
+        (front.0, others.0, others.1)
+
+    pub other_pattern : ((k : ℕ) → k < 2 ^ 64 → first ≢ decimal k) → (p k : ℕ) (pin : List ℕ) → p < 2 ^ 64 → k < 2 ^ 64 → IsWord pin → text ≢ decimal p ++ 32 ∷ (decimal k ++ 32 ∷ pin)
+    other_pattern none p k pin i j v e = none p i (place_parts p k pin i j e).0
+
+    pub other_cycle : ((k : ℕ) → k < 2 ^ 64 → second ≢ decimal k) → (p k : ℕ) (pin : List ℕ) → p < 2 ^ 64 → k < 2 ^ 64 → IsWord pin → text ≢ decimal p ++ 32 ∷ (decimal k ++ 32 ∷ pin)
+    other_cycle none p k pin i j v e = none k j (place_parts p k pin i j e).1
+
+    pub other_pin : (IsWord last → ⊥) → (p k : ℕ) (pin : List ℕ) → p < 2 ^ 64 → k < 2 ^ 64 → IsWord pin → text ≢ decimal p ++ 32 ∷ (decimal k ++ 32 ∷ pin)
+    other_pin none p k pin i j v e = none (subst IsWord (sym (place_parts p k pin i j e).2) v)
 
 -- the parts of what came of a fault
 detected_same : (p q c d : ℕ) (x y : List ℕ) → p < 2 ^ 64 → q < 2 ^ 64 → c < 2 ^ 64 → d < 2 ^ 64
@@ -93,6 +114,11 @@ fault_taken line rest b =
     let taken : take (length line - length rest - 1) line ≡ f.fault =
         ap (λ k. take k line) size ∙ (ap (take (length f.fault)) f.line_is ∙ take-append_seam f.fault (32 ∷ rest)) in
     (subst IsFaultText (sym taken) f.is_fault, f.line_is ∙ ap (λ t. t ++ 32 ∷ rest) (sym taken))
+
+pub fault_room : (line rest : List ℕ) → FaultBegins line rest → length rest + 1 ≤ length line
+fault_room line rest b =
+    let f = fault_before line rest b in
+    omega (arith, ap length f.line_is, length-append f.fault (32 ∷ rest))
 
 words_begin : (line : List ℕ) (l : Line) → IsLine l → line ≡ fault_words l → FaultBegins line (outcome_behind l.outcome l.pin).text
 words_begin line l v e =

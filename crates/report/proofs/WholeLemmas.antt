@@ -17,6 +17,11 @@ version_told true true r s e = (refl, append_cancel_left (version_line true) r s
 version_told false true r s e = let differ : ◌≡◌ {A = ℕ} 49 50 = ap (λ xs. get_or xs 12 0) e in absurd (omega arith)
 version_told true false r s e = let differ : ◌≡◌ {A = ℕ} 50 49 = ap (λ xs. get_or xs 12 0) e in absurd (omega arith)
 
+pub no_version : (text : List ℕ) → ((r : List ℕ) → text ≢ version_line false ++ r) → ((r : List ℕ) → text ≢ version_line true ++ r)
+    → (held : Bool) (rest : List ℕ) → text ≢ version_line held ++ rest
+no_version text one two false rest e = one rest e
+no_version text one two true rest e = two rest e
+
 head_is : (hs : List Hold) → head hs ≡ version_line (some_held hs)
 head_is [] = refl
 head_is (h ∷ hs) = refl

@@ -44,12 +44,11 @@ fn behind_pin(text: &[u8]) -> Option<&[u8]>
     ensures { MatchOption result ((rest : List ℕ) → PinBegins text.now rest → ⊥) (λ rest. PinBegins text.now rest.now) }
 {
     let (name, after) = split_at(text, b' ')?;
-    let (placed, rest) = split_at(after, b' ')?;
-    if is_word(name) && is_placed(placed) {
-        Some(rest)
-    } else {
-        None
+    if !is_word(name) {
+        return None;
     }
+    let (placed, rest) = split_at(after, b' ')?;
+    if is_placed(placed) { Some(rest) } else { None }
 }
 
 /// What stands behind a fault.
@@ -74,10 +73,10 @@ fn place_in(text: &[u8]) -> Option<(u64, u64, &[u8])>
         ((pattern cycle : ℕ) (pin : List ℕ) → pattern < 2 ^ 64 → cycle < 2 ^ 64 → IsWord pin → text.now ≢ decimal pattern ++ 32 ∷ (decimal cycle ++ 32 ∷ pin))
         (λ p. (p.0 < 2 ^ 64) × (p.1 < 2 ^ 64) × IsWord p.2.now × (text.now ≡ decimal p.0 ++ 32 ∷ (decimal p.1 ++ 32 ∷ p.2.now))) }
 {
-    let (pattern, after) = split_at(text, b' ')?;
-    let (cycle, pin) = split_at(after, b' ')?;
-    let pattern = number(pattern)?;
-    let cycle = number(cycle)?;
+    let (first, after) = split_at(text, b' ')?;
+    let (second, pin) = split_at(after, b' ')?;
+    let pattern = number(first)?;
+    let cycle = number(second)?;
     if is_word(pin) {
         Some((pattern, cycle, pin))
     } else {

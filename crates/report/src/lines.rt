@@ -1,8 +1,8 @@
 //! The lines of a report, each at the front of a text.
-ghost use Rattle.std.specs.Prelude.{◌≡◌, ◌≢◌, ◌<◌, ◌+◌, ◌/◌, ◌^◌, ◌++◌, ◌∷◌, ℕ, Bool, List, MatchOption, decimal};
+ghost use Rattle.std.specs.Prelude.{◌≡◌, ◌≢◌, ◌<◌, ◌+◌, ◌/◌, ◌^◌, ◌++◌, ◌∷◌, [], ◌%◌, ℕ, Bool, List, MatchOption};
 ghost use Rattle.report.specs.Reports.{IsLine};
 ghost use Rattle.report.specs.Texts.{count_line, hundredths, share_line, hold_line, fault_line};
-ghost use Rattle.report.specs.inner.Lines.{Begins, NoneBegins, IsCount, IsShare, IsHold, hold_words, version_line};
+ghost use Rattle.report.specs.inner.Lines.{Begins, NoneBegins, IsCount, IsShare, IsHold, count_end, share_end, hold_words, version_line};
 ghost use Rattle.report.specs.Reports.{Hold};
 
 use crate::fault_lines::FaultLine;
@@ -24,19 +24,21 @@ pub(crate) fn version(text: &[u8]) -> Option<(bool, &[u8])>
     None
 }
 
-/// `inputs 5`
-fn count_in(word: &[u8], line: &[u8]) -> Option<u64>
-    ensures { MatchOption result ((count : ℕ) → IsCount count → line.now ≢ word.now ++ decimal count) (λ count. IsCount count × (line.now ≡ word.now ++ decimal count)) }
+/// A number up to the end of its line, and what stands behind.
+fn count_end(text: &[u8]) -> Option<(u64, &[u8])>
+    ensures { MatchOption result (NoneBegins IsCount count_end text.now) (λ p. Begins IsCount count_end text.now p.0 p.1.now) }
 {
-    number(behind(word, line)?)
+    let (digits, rest) = split_at(text, b'\n')?;
+    let count = number(digits)?;
+    Some((count, rest))
 }
 
-/// The count of this word, and what stands behind its line.
+/// The count behind this word, `inputs 5`, and what stands behind its line.
 pub(crate) fn count<'a>(word: &[u8], text: &'a [u8]) -> Option<(u64, &'a [u8])>
     ensures { MatchOption result (NoneBegins IsCount (count_line word.now) text.now) (λ p. Begins IsCount (count_line word.now) text.now p.0 p.1.now) }
 {
-    let (line, rest) = split_at(text, b'\n')?;
-    let count = count_in(word, line)?;
+    let after = behind(word, text)?;
+    let (count, rest) = count_end(after)?;
     Some((count, rest))
 }
 
@@ -68,25 +70,27 @@ fn two_digits(digits: &[u8]) -> Option<u8>
 fn hundredths_in(text: &[u8]) -> Option<u128>
     ensures { MatchOption result ((share : ℕ) → IsShare share → text.now ≢ hundredths share) (λ share. IsShare share × (text.now ≡ hundredths share)) }
 {
-    let (whole, digits) = split_at(text, b'.')?;
-    let whole = number(whole)?;
+    let (front, digits) = split_at(text, b'.')?;
+    let whole = number(front)?;
     let part = two_digits(digits)?;
     Some(u128::from(whole) * 100 + u128::from(part))
 }
 
-/// `coverage 83.05`
-fn share_in(word: &[u8], line: &[u8]) -> Option<u128>
-    ensures { MatchOption result ((share : ℕ) → IsShare share → line.now ≢ word.now ++ hundredths share) (λ share. IsShare share × (line.now ≡ word.now ++ hundredths share)) }
+/// A share up to the end of its line, and what stands behind.
+fn share_end(text: &[u8]) -> Option<(u128, &[u8])>
+    ensures { MatchOption result (NoneBegins IsShare share_end text.now) (λ p. Begins IsShare share_end text.now p.0 p.1.now) }
 {
-    hundredths_in(behind(word, line)?)
+    let (line, rest) = split_at(text, b'\n')?;
+    let share = hundredths_in(line)?;
+    Some((share, rest))
 }
 
-/// The share of this word, and what stands behind its line.
+/// The share behind this word, `coverage 83.05`, and what stands behind its line.
 pub(crate) fn share<'a>(word: &[u8], text: &'a [u8]) -> Option<(u128, &'a [u8])>
     ensures { MatchOption result (NoneBegins IsShare (share_line word.now) text.now) (λ p. Begins IsShare (share_line word.now) text.now p.0 p.1.now) }
 {
-    let (line, rest) = split_at(text, b'\n')?;
-    let share = share_in(word, line)?;
+    let after = behind(word, text)?;
+    let (share, rest) = share_end(after)?;
     Some((share, rest))
 }
 

@@ -1,6 +1,6 @@
 //! Pieces of a line.
 ghost use Rattle.std.specs.Prelude.{◌≡◌, ◌≢◌, ◌<◌, ◌+◌, ◌^◌, ◌++◌, ◌↔◌, ℕ, Bool, List, IsTrue, MatchOption};
-ghost use Rattle.std.specs.List.{All};
+ghost use Rattle.std.specs.List.{list_all};
 ghost use Rattle.netlist.specs.Names.{is_name_byte};
 ghost use Rattle.fault_universe.specs.Texts.{value_text};
 ghost use Rattle.report.specs.Reports.{IsWord};
@@ -34,16 +34,20 @@ fn is_name_byte(byte: u8) -> bool
             || byte == b'=')
 }
 
+fn are_name_bytes(text: &[u8]) -> bool
+    ensures { result ≡ list_all is_name_byte text.now }
+{
+    text.iter().all(|byte| is_name_byte(*byte))
+}
+
 /// Whether the text is a name, however long.
 pub(crate) fn is_word(text: &[u8]) -> bool
     ensures { IsTrue result ↔ IsWord text.now }
 {
-    for byte in text {
-        if !is_name_byte(*byte) {
-            return false;
-        }
+    if text.is_empty() {
+        return false;
     }
-    !text.is_empty()
+    are_name_bytes(text)
 }
 
 /// What stands before the value that a line is stuck at.

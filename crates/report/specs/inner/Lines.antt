@@ -3,7 +3,7 @@ use Rattle.std.specs.Prelude.{ℕ, ◌≡◌, ◌≢◌, ◌/◌, ◌^◌, ◌<�
 use Rattle.std.specs.List.{All}
 use Rattle.fault_universe.specs.Texts.{value_text}
 use Rattle.report.specs.Reports.{Hold, Line, IsWord, count_of_counts}
-use Rattle.report.specs.Texts.{outcome_text}
+use Rattle.report.specs.Texts.{hundredths, outcome_text}
 
 -- the text is what stands for this value, and then the rest
 abbrev pub Begins : {X : Type 0} → (X → Type 0) → (X → List ℕ) → List ℕ → X → List ℕ → Type 0
@@ -24,6 +24,13 @@ IsShare share = share / 100 < 2 ^ 64
 
 abbrev pub IsHold : Hold → Type 0
 IsHold h = IsWord h.name
+
+-- a count and a share up to the ends of their lines
+abbrev pub count_end : ℕ → List ℕ
+count_end count = decimal count ++ codes "\n"
+
+abbrev pub share_end : ℕ → List ℕ
+share_end share = hundredths share ++ codes "\n"
 
 -- lines without their ends
 abbrev pub bit_text : Bool → List ℕ
