@@ -1,8 +1,9 @@
 -- Lines: what stands for a value up to its end, behind a word, and one behind the other.
 use Rattle.std.proofs.Common.{◌≡◌, ◌≢◌, ℕ, List, [], ◌∷◌, ◌++◌, length, refl, sym, ◌∙◌, ap, subst, append_assoc, arith, length-append}
 use Rattle.std.specs.List.{All, flat_map}
-use Rattle.std.proofs.lemmas.List.{append_cancel_left}
-use Rattle.std.proofs.lemmas.List.Elements.{All-head, All-tail}
+use Rattle.std.proofs.lemmas.Grind.{flat_map-append}
+use Rattle.std.proofs.lemmas.List.{append-nil, append_cancel_left}
+use Rattle.std.proofs.lemmas.List.Elements.{All-head, All-push, All-tail}
 use Rattle.plain_text.proofs.Parts.{byte_inside, same_parts}
 use Rattle.report.specs.inner.Lines.{Begins, NoneBegins}
 
@@ -68,3 +69,14 @@ module _ {X : Type 0} (valid : X → Type 0) (line : X → List ℕ) (told : IsT
       (sym (append_assoc (line x) (flat_map line xs) r) ∙ (e ∙ append_assoc (line y) (flat_map line ys) s)) in
       let others = same_lines xs ys r s (All-tail valid x xs v) (All-tail valid y ys w) n m first.1 in
       (ap (λ z. z ∷ xs) first.0 ∙ ap (λ zs. y ∷ zs) others.0, others.1)
+
+-- one more line is read
+pub next_read : {X : Type 0} (line : X → List ℕ) (xs ys : List X) (x : X) (text rest after : List ℕ) → text ≡ flat_map line xs ++ rest → rest ≡ line x ++ after
+    → ys ≡ xs ++ x ∷ [] → text ≡ flat_map line ys ++ after
+next_read line xs ys x text rest after t e new =
+    t ∙ (ap (λ u. flat_map line xs ++ u) e ∙ (sym (append_assoc (flat_map line xs) (line x) after)
+    ∙ ap (λ u. u ++ after)
+    (ap (λ u. flat_map line xs ++ u) (sym (append-nil (line x))) ∙ (sym (flat_map-append line xs (x ∷ [])) ∙ ap (flat_map line) (sym new)))))
+
+pub next_valid : {X : Type 0} (valid : X → Type 0) (xs ys : List X) (x : X) → All valid xs → valid x → ys ≡ xs ++ x ∷ [] → All valid ys
+next_valid valid xs ys x v w new = subst (All valid) (sym new) (All-push valid xs x v w)

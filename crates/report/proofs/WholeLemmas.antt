@@ -1,6 +1,8 @@
 -- Whole texts of reports.
-use Rattle.std.proofs.Common.{◌≡◌, ◌≢◌, ℕ, Bool, true, false, List, [], ◌∷◌, ◌++◌, length, get_or, refl, sym, ◌∙◌, ap, codes, append_assoc, arith}
+use Rattle.std.proofs.Common.{◌≡◌, ◌≢◌, ℕ, Bool, true, false, not, List, [], ◌∷◌, ◌++◌, length, get_or, refl, sym, ◌∙◌, ap, codes, append_assoc, arith}
+use Rattle.std.specs.Bool.{beq}
 use Rattle.std.specs.List.{All, flat_map}
+use Rattle.std.proofs.lemmas.Bool.{false≢true}
 use Rattle.std.proofs.lemmas.List.{append-nil, append_cancel_left}
 use Rattle.std.proofs.lemmas.List.Elements.{All-head}
 use Rattle.report.specs.Reports.{Hold, IsFaultText, IsLine, IsReport, Line, Report, at_stem, at_output, at_pin}
@@ -40,6 +42,12 @@ no_hold_begins (l ∷ ls) v h rest w e =
 
 pub no_fault_begins : NoneBegins IsLine fault_line []
 no_fault_begins = nothing_begins IsLine fault_words fault_line fault_lined
+
+pub same_versions : (a b : Bool) → a ≡ b → not (beq a b) ≡ true → ⊥
+same_versions false false e t = false≢true t
+same_versions false true e t = false≢true e
+same_versions true false e t = false≢true (sym e)
+same_versions true true e t = false≢true t
 
 -- lines of faults, with what is left of them
 pub faults_told : (xs ys : List Line) (rest : List ℕ) → All IsLine xs → All IsLine ys → NoneBegins IsLine fault_line rest
@@ -97,3 +105,16 @@ same_report r s v w e =
     ∙ (ap (λ (k : ℕ). record { counts = s.counts; coverage = s.coverage; efficiency = k; holds = r.holds; lines = r.lines }) efficiency.0
     ∙ (ap (λ (hs : List Hold). record { counts = s.counts; coverage = s.coverage; efficiency = s.efficiency; holds = hs; lines = r.lines }) tables.0
     ∙ ap (λ (ls : List Line). record { counts = s.counts; coverage = s.coverage; efficiency = s.efficiency; holds = s.holds; lines = ls }) faults.0)))
+
+-- what was read part by part is a report with this text
+pub whole_found : (bytes a b c d : List ℕ) (held : Bool) (counts : List ℕ) (coverage efficiency : ℕ) (hs : List Hold) (ls : List Line)
+    → bytes ≡ version_line held ++ a → Begins AreCounts (counts_text count_words) a counts b → Begins IsShare (share_line (codes "coverage ")) b coverage c
+    → Begins IsShare (share_line (codes "efficiency ")) c efficiency d
+    → All IsHold hs × All IsLine ls × (held ≡ some_held hs) × (d ≡ flat_map hold_line hs ++ flat_map fault_line ls)
+    → IsReport (record { counts = counts; coverage = coverage; efficiency = efficiency; holds = hs; lines = ls })
+    × (bytes ≡ report_text (record { counts = counts; coverage = coverage; efficiency = efficiency; holds = hs; lines = ls }))
+whole_found bytes a b c d held counts coverage efficiency hs ls v p q r t =
+    (record { size = p.0.0; small = p.0.1; coverage = q.0; efficiency = r.0; holds = t.0; lines = t.1 },
+    v ∙ (ap (λ h. version_line h ++ a) t.2 ∙ (ap (λ u. u ++ a) (sym (head_is hs))
+    ∙ ap (λ u. head hs ++ u) (p.1 ∙ ap (λ u. counts_text count_words counts ++ u)
+    (q.1 ∙ ap (λ u. share_line (codes "coverage ") coverage ++ u) (r.1 ∙ ap (λ u. share_line (codes "efficiency ") efficiency ++ u) t.3))))))

@@ -65,6 +65,12 @@ fn fault_lines(alloc: Global, text: &[u8]) -> Result<Option<FaultLines>, AllocEr
     Ok(Some(lines))
 }
 
+fn has_lines(holds: &HoldLines) -> bool
+    ensures { result ≡ some_held holds.now }
+{
+    holds.len() > 0
+}
+
 /// The inputs that are held, of which there are some or none as the version says, and the lines of faults.
 fn tables(
     alloc: Global,
@@ -76,7 +82,7 @@ fn tables(
         (λ p. All IsHold p.0 × All IsLine p.1 × (held ≡ some_held p.0) × (text.now ≡ flat_map hold_line p.0 ++ flat_map fault_line p.1))) }
 {
     let (holds, rest) = holds(alloc, text)?;
-    if held != (holds.len() > 0) {
+    if held != has_lines(&holds) {
         return Ok(None);
     }
     let Some(lines) = fault_lines(alloc, rest)? else {

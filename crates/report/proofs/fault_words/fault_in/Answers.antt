@@ -1,4 +1,4 @@
-use Rattle.std.proofs.Common.{arith, refl}
+use Rattle.std.proofs.Common.{◌-◌, arith, length, refl, take}
 use Rattle.report.proofs.OutcomeLemmas.{fault_room, line_found, no_line, other_outcome}
 use Rattle.report.proofs.fault_words.fault_in.Goals as goal
 
@@ -16,4 +16,6 @@ pub slice_bounds-result-count : goal.slice_bounds-result-count
 slice_bounds-result-count c = omega (arith, fault_room c.args.line.now c.in_ok-rest.rest.now c.in_ok-rest.ensures)
 
 pub returns : goal.returns
-returns c = ?
+returns c =
+    line_found c.args.line.now c.in_ok-rest.rest.now c.in_ok-outcome.pin.now (take (length c.args.line.now - length c.in_ok-rest.rest.now - 1) c.args.line.now)
+    c.in_ok-outcome.outcome c.in_ok-rest.ensures refl c.in_ok-outcome.ensures.0 c.in_ok-outcome.ensures.1
