@@ -11,6 +11,7 @@ import subprocess
 import sys
 
 sys.path.insert(0, os.path.dirname(os.path.abspath(__file__)))
+import check_reports
 import check_trees
 from fault_list import fault_list, netlist_of, readers_of
 
@@ -344,6 +345,16 @@ def differs(row, wanted, given):
     return 1
 
 
+def reported(verb, text, change):
+    """What comes of reading a report, or one with a change."""
+    if verb == "report-with":
+        old, _, new = change.partition("|")
+        text = text.replace(unescape(old + "\\"), unescape(new + "\\"), 1)
+    if not check_reports.is_report(text):
+        return ["NotReport"]
+    return ["as given"] if verb == "report-with" else shown(text)
+
+
 def check_calls():
     texts, rows = texts_and_rows(f"{ROOT}/crates/calls/stdin")
     stored = answers(f"{ROOT}/crates/calls/stdout", rows)
@@ -356,6 +367,8 @@ def check_calls():
             wanted = with_no_netlist(verb, rest)
         elif verb in ("read", "read-scanned"):
             wanted = None if given[0].startswith("line ") else shown(Netlist(texts[name]).canonical())
+        elif verb in ("report", "report-with"):
+            wanted = reported(verb, texts[name], more)
         else:
             wanted = on_netlist(verb, texts[name], more)
         if wanted is not None:

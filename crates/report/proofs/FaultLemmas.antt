@@ -123,8 +123,11 @@ named_record kind fault rest n =
 pin_record : (fault rest : List ℕ) (n : IsPinFault fault) → PinBegins (n.name ++ 32 ∷ ((decimal n.place ++ value_text n.value) ++ 32 ∷ rest)) rest
 pin_record fault rest n =
     record {
-      name = n.name; placed = decimal n.place ++ value_text n.value; word = n.word;
-      is_placed = record { place = n.place; value = n.value; small = n.small; text_is = refl }; text_is = refl
+      name = n.name;
+      placed = decimal n.place ++ value_text n.value;
+      word = n.word;
+      is_placed = record { place = n.place; value = n.value; small = n.small; text_is = refl };
+      text_is = refl;
     }
 
 pub fault_begins : (fault line rest : List ℕ) → IsFaultText fault → line ≡ fault ++ 32 ∷ rest → FaultBegins line rest
@@ -145,7 +148,7 @@ named_before kind line text rest make b f =
     record {
       fault = kind ++ b.named;
       is_fault = make (kind ++ b.named) (record { name = b.is_named.name; value = b.is_named.value; word = b.is_named.word; text_is = ap (λ t. kind ++ t) b.is_named.text_is });
-      line_is = f ∙ (ap (λ t. kind ++ t) b.text_is ∙ sym (append_assoc kind b.named (32 ∷ rest)))
+      line_is = f ∙ (ap (λ t. kind ++ t) b.text_is ∙ sym (append_assoc kind b.named (32 ∷ rest)));
     }
 
 pin_before : (line text rest : List ℕ) → PinBegins text rest → line ≡ codes "pin " ++ text → IsBefore line rest
@@ -154,10 +157,14 @@ pin_before line text rest b f =
       fault = codes "pin " ++ (b.name ++ 32 ∷ b.placed);
       is_fault = at_pin (codes "pin " ++ (b.name ++ 32 ∷ b.placed))
           (record {
-            name = b.name; place = b.is_placed.place; value = b.is_placed.value; word = b.word; small = b.is_placed.small;
-            text_is = ap (λ t. codes "pin " ++ (b.name ++ 32 ∷ t)) b.is_placed.text_is
+            name = b.name;
+            place = b.is_placed.place;
+            value = b.is_placed.value;
+            word = b.word;
+            small = b.is_placed.small;
+            text_is = ap (λ t. codes "pin " ++ (b.name ++ 32 ∷ t)) b.is_placed.text_is;
           });
-      line_is = f ∙ (ap (λ t. codes "pin " ++ t) b.text_is ∙ ap (λ t. codes "pin " ++ t) (sym (append_assoc b.name (32 ∷ b.placed) (32 ∷ rest))))
+      line_is = f ∙ (ap (λ t. codes "pin " ++ t) b.text_is ∙ ap (λ t. codes "pin " ++ t) (sym (append_assoc b.name (32 ∷ b.placed) (32 ∷ rest))));
     }
 
 pub fault_before : (line rest : List ℕ) → FaultBegins line rest → IsBefore line rest

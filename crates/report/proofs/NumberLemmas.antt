@@ -102,11 +102,12 @@ module _ (text front digits : List ℕ) (lacks : All (λ b. b ≢ 46) front) (is
   share_found whole part small less w d =
       let high : (whole * 100 + part) / 100 ≡ whole = omega arith in
       let tens : (whole * 100 + part) / 10 % 10 ≡ part / 10 = omega arith in
-      let ones : (whole * 100 + part) % 10 ≡ part % 10 = omega arith in
-      (omega arith,
-      is ∙ (ap (λ t. t ++ 46 ∷ digits) (w ∙ ap decimal (sym high)) ∙ (ap (λ t. decimal ((whole * 100 + part) / 100) ++ 46 ∷ t)
-      (d ∙ (ap (λ t. (48 + t) ∷ (48 + part % 10) ∷ []) (sym tens) ∙ ap (λ t. (48 + (whole * 100 + part) / 10 % 10) ∷ (48 + t) ∷ []) (sym ones)))
-      ∙ sym (hundredths_is (whole * 100 + part)))))
+      let ones : (whole * 100 + part) % 10 ≡ part % 10 = omega arith in (
+        omega arith,
+        is ∙ (ap (λ t. t ++ 46 ∷ digits) (w ∙ ap decimal (sym high)) ∙ (ap (λ t. decimal ((whole * 100 + part) / 100) ++ 46 ∷ t)
+            (d ∙ (ap (λ t. (48 + t) ∷ (48 + part % 10) ∷ []) (sym tens) ∙ ap (λ t. (48 + (whole * 100 + part) / 10 % 10) ∷ (48 + t) ∷ []) (sym ones)))
+            ∙ sym (hundredths_is (whole * 100 + part)))),
+      )
 
 pub no_point : (text : List ℕ) → All (λ b. b ≢ 46) text → (n : ℕ) → IsShare n → text ≢ hundredths n
 no_point text none n v e = byte_inside 46 (decimal (n / 100)) ((48 + n / 10 % 10) ∷ (48 + n % 10) ∷ []) (subst (All (λ b. b ≢ 46)) (e ∙ hundredths_is n) none)

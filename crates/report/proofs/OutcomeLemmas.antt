@@ -112,7 +112,7 @@ fault_taken line rest b =
     let f = fault_before line rest b in
     let size : length line - length rest - 1 ≡ length f.fault = omega (arith, ap length f.line_is, length-append f.fault (32 ∷ rest)) in
     let taken : take (length line - length rest - 1) line ≡ f.fault =
-        ap (λ k. take k line) size ∙ (ap (take (length f.fault)) f.line_is ∙ take-append_seam f.fault (32 ∷ rest)) in
+    ap (λ k. take k line) size ∙ (ap (take (length f.fault)) f.line_is ∙ take-append_seam f.fault (32 ∷ rest)) in
     (subst IsFaultText (sym taken) f.is_fault, f.line_is ∙ ap (λ t. t ++ 32 ∷ rest) (sym taken))
 
 pub fault_room : (line rest : List ℕ) → FaultBegins line rest → length rest + 1 ≤ length line
@@ -154,7 +154,7 @@ pub fault_lined : IsLined IsLine fault_words fault_line
 fault_lined = record {
   end = λ l. sym (append_assoc l.fault (outcome_text l.outcome l.pin) (10 ∷ []));
   whole = λ l v. above_lacks 31 10 (fault_words l) (omega arith)
-      (above_append 31 l.fault (outcome_text l.outcome l.pin) (fault_above l.fault v.fault) (outcome_above l.outcome l.pin v.outcome))
+      (above_append 31 l.fault (outcome_text l.outcome l.pin) (fault_above l.fault v.fault) (outcome_above l.outcome l.pin v.outcome));
 }
 
 pub fault_told : IsTold IsLine fault_line

@@ -113,8 +113,9 @@ pub whole_found : (bytes a b c d : List ℕ) (held : Bool) (counts : List ℕ) (
     → All IsHold hs × All IsLine ls × (held ≡ some_held hs) × (d ≡ flat_map hold_line hs ++ flat_map fault_line ls)
     → IsReport (record { counts = counts; coverage = coverage; efficiency = efficiency; holds = hs; lines = ls })
     × (bytes ≡ report_text (record { counts = counts; coverage = coverage; efficiency = efficiency; holds = hs; lines = ls }))
-whole_found bytes a b c d held counts coverage efficiency hs ls v p q r t =
-    (record { size = p.0.0; small = p.0.1; coverage = q.0; efficiency = r.0; holds = t.0; lines = t.1 },
-    v ∙ (ap (λ h. version_line h ++ a) t.2 ∙ (ap (λ u. u ++ a) (sym (head_is hs))
-    ∙ ap (λ u. head hs ++ u) (p.1 ∙ ap (λ u. counts_text count_words counts ++ u)
-    (q.1 ∙ ap (λ u. share_line (codes "coverage ") coverage ++ u) (r.1 ∙ ap (λ u. share_line (codes "efficiency ") efficiency ++ u) t.3))))))
+whole_found bytes a b c d held counts coverage efficiency hs ls v p q r t = (
+  record { size = p.0.0; small = p.0.1; coverage = q.0; efficiency = r.0; holds = t.0; lines = t.1 },
+  v ∙ (ap (λ h. version_line h ++ a) t.2 ∙ (ap (λ u. u ++ a) (sym (head_is hs))
+      ∙ ap (λ u. head hs ++ u) (p.1 ∙ ap (λ u. counts_text count_words counts ++ u)
+      (q.1 ∙ ap (λ u. share_line (codes "coverage ") coverage ++ u) (r.1 ∙ ap (λ u. share_line (codes "efficiency ") efficiency ++ u) t.3))))),
+)

@@ -110,9 +110,7 @@ fn report(alloc: Global, bytes: &[u8]) -> Result<Option<Report>, AllocError>
     let Some((holds, lines)) = tables(alloc, held, behind_shares)? else {
         return Ok(None);
     };
-    Ok(Some(Report::new(
-        counts, coverage, efficiency, holds, lines,
-    )))
+    Ok(Some(Report::new(counts, coverage, efficiency, holds, lines)))
 }
 
 /// The report with this text; `NotReport` exactly where no report has it.

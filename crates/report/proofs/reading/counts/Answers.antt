@@ -23,5 +23,5 @@ loop-k-preserved c =
       read = next_count_read count_words found c.push.new.self.items c.count_word.result.now c.args.text.now c.loop-k.rest.now c.in-Some.after.now c.in-Some.number
           word c.loop-k.invariant.read c.in-Some.ensures.1 c.in_ok-push.ensures.items;
       size = omega (arith, ap length c.in_ok-push.ensures.items, length-append found (c.in-Some.number ∷ []), c.loop-k.invariant.size);
-      small = next_valid IsCount found c.push.new.self.items c.in-Some.number c.loop-k.invariant.small c.in-Some.ensures.0 c.in_ok-push.ensures.items
+      small = next_valid IsCount found c.push.new.self.items c.in-Some.number c.loop-k.invariant.small c.in-Some.ensures.0 c.in_ok-push.ensures.items;
     }

@@ -8,5 +8,5 @@ abbrev pub invariant-loop-k : goal.invariant-loop-k
 invariant-loop-k l = record {
   read : l.text ≡ counts_text count_words l.counts.items ++ l.rest;
   size : length l.counts.items ≡ l.k;
-  small : All IsCount l.counts.items
+  small : All IsCount l.counts.items;
 }

@@ -18,5 +18,5 @@ faults-preserved c = record {
       c.in-Some.after.now c.faults.invariant.read c.in-Some.ensures.1 c.in_ok-lines.ensures;
   valid = next_valid IsLine c.faults.lines c.in_ok-lines.lines
       (record { fault = c.in-Some.line.fault.now; outcome = c.in-Some.line.outcome; pin = c.in-Some.line.pin.now }) c.faults.invariant.valid
-      c.in-Some.ensures.0 c.in_ok-lines.ensures
+      c.in-Some.ensures.0 c.in_ok-lines.ensures;
 }

@@ -8,5 +8,5 @@ holds-preserved c = record {
   read = next_read hold_line c.holds.holds c.in_ok-holds.holds (record { name = c.in-Some.line.name.now; bit = c.in-Some.line.bit }) c.args.text.now c.holds.rest.now
       c.in-Some.after.now c.holds.invariant.read c.in-Some.ensures.1 c.in_ok-holds.ensures;
   valid = next_valid IsHold c.holds.holds c.in_ok-holds.holds (record { name = c.in-Some.line.name.now; bit = c.in-Some.line.bit }) c.holds.invariant.valid
-      c.in-Some.ensures.0 c.in_ok-holds.ensures
+      c.in-Some.ensures.0 c.in_ok-holds.ensures;
 }
