@@ -24,31 +24,24 @@ pub fn push_report(to: &mut Vec<u8>, alloc: Global, text: &[u8]) -> Result<(), A
     }
 }
 
-/// Where a part first stands in a text.
-fn place_of(text: &[u8], part: &[u8]) -> Option<usize> {
+/// What stands before the first such part of a text, and behind it.
+fn split_at_part<'a>(text: &'a [u8], part: &[u8]) -> Option<(&'a [u8], &'a [u8])> {
     for place in 0..text.len() {
-        if text[place..].starts_with(part) {
-            return Some(place);
+        if let Some(behind) = text[place..].strip_prefix(part) {
+            return Some((&text[..place], behind));
         }
     }
     None
 }
 
-/// A text with another part in the place of the first of a kind.
-fn with_part(
-    alloc: Global,
-    text: &[u8],
-    old: &[u8],
-    new: &[u8],
-) -> Result<Vec<u8>, AllocError> {
+/// A text with another part in the place of the first of a kind; nothing where it has none.
+fn with_part(alloc: Global, text: &[u8], old: &[u8], new: &[u8]) -> Result<Vec<u8>, AllocError> {
     let mut changed = Vec::new(alloc);
-    let Some(place) = place_of(text, old) else {
-        return Ok(changed);
-    };
-    let (front, behind) = text.split_at(place);
-    changed.extend_from_slice(front)?;
-    changed.extend_from_slice(new)?;
-    changed.extend_from_slice(behind.strip_prefix(old).unwrap_or(behind))?;
+    if let Some((front, behind)) = split_at_part(text, old) {
+        changed.extend_from_slice(front)?;
+        changed.extend_from_slice(new)?;
+        changed.extend_from_slice(behind)?;
+    }
     Ok(changed)
 }
 

@@ -1,6 +1,5 @@
 -- Lines of held inputs.
 use Rattle.std.proofs.Common.{◌≡◌, ◌≢◌, ℕ, Bool, true, false, List, [], ◌∷◌, ◌++◌, ◌+◌, length, get_or, refl, sym, ◌∙◌, ap, subst, codes, append_assoc, arith, length-append}
-use Rattle.std.specs.List.{All}
 use Rattle.std.proofs.lemmas.List.{append_cancel_left, append_cancel_right, get_or-append-add}
 use Rattle.report.specs.Reports.{Hold, IsWord}
 use Rattle.report.specs.Texts.{hold_line}

@@ -1,12 +1,12 @@
 -- Lines of counts and shares.
-use Rattle.std.proofs.Common.{◌≡◌, ◌≢◌, ℕ, zero, suc, ◌+◌, ◌*◌, ◌/◌, ◌%◌, ◌^◌, ◌<◌, List, [], ◌∷◌, ◌++◌, length, get_or, Some, refl, sym, ◌∙◌, ap, subst, codes, decimal, append_assoc, arith}
+use Rattle.std.proofs.Common.{◌≡◌, ◌≢◌, ℕ, ◌+◌, ◌*◌, ◌/◌, ◌%◌, ◌^◌, ◌<◌, List, [], ◌∷◌, ◌++◌, length, get_or, Some, refl, sym, ◌∙◌, ap, subst, codes, decimal, append_assoc, arith}
 use Rattle.std.specs.List.{All, slice_get}
 use Rattle.std.proofs.lemmas.Fmt.{decimal_digit, decimal_injective}
 use Rattle.std.proofs.lemmas.List.{append-nil}
 use Rattle.std.proofs.lemmas.List.Elements.{All-head, All-nil, All-tail}
 use Rattle.plain_text.proofs.Parts.{byte_inside, same_parts}
 use Rattle.report.specs.Texts.{count_line, counts_text, hundredths, share_line}
-use Rattle.report.specs.inner.Lines.{Begins, NoneBegins, IsCount, IsShare, count_end, share_end}
+use Rattle.report.specs.inner.Lines.{NoneBegins, IsCount, IsShare, count_end, share_end}
 use Rattle.report.proofs.ByteLemmas.{Above, above_append, above_cons, above_lacks, above_less, number_above}
 use Rattle.report.proofs.LineLemmas.{IsLined, IsTold, behind_told, line_told}
 

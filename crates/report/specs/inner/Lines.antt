@@ -1,7 +1,6 @@
 -- Texts that begin with a line, or with some lines.
-use Rattle.std.specs.Prelude.{ℕ, ◌≡◌, ◌≢◌, ◌/◌, ◌^◌, ◌<◌, ◌++◌, ◌∷◌, [], Bool, true, false, List, codes, decimal, length, if◌then◌else◌}
+use Rattle.std.specs.Prelude.{ℕ, ◌≡◌, ◌≢◌, ◌/◌, ◌^◌, ◌<◌, ◌++◌, ◌∷◌, [], Bool, true, false, List, codes, decimal, length}
 use Rattle.std.specs.List.{All}
-use Rattle.fault_universe.specs.Texts.{value_text}
 use Rattle.report.specs.Reports.{Hold, Line, IsWord, count_of_counts}
 use Rattle.report.specs.Texts.{hundredths, outcome_text}
 
