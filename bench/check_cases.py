@@ -11,8 +11,8 @@ import subprocess
 import sys
 
 sys.path.insert(0, os.path.dirname(os.path.abspath(__file__)))
-import check_reports
 import check_trees
+from check_reports import is_report
 from fault_list import fault_list, netlist_of, readers_of
 
 ROOT = os.path.dirname(os.path.dirname(os.path.abspath(__file__)))
@@ -350,7 +350,7 @@ def reported(verb, text, change):
     if verb == "report-with":
         old, _, new = change.partition("|")
         text = text.replace(unescape(old + "\\"), unescape(new + "\\"), 1)
-    if not check_reports.is_report(text):
+    if not is_report(text):
         return ["NotReport"]
     return ["as given"] if verb == "report-with" else shown(text)
 
@@ -365,10 +365,10 @@ def check_calls():
         given = [line for line in given if line]
         if verb in ("gate", "merge", "fill", "generate", "generate-sum"):
             wanted = with_no_netlist(verb, rest)
-        elif verb in ("read", "read-scanned"):
-            wanted = None if given[0].startswith("line ") else shown(Netlist(texts[name]).canonical())
         elif verb in ("report", "report-with"):
             wanted = reported(verb, texts[name], more)
+        elif verb in ("read", "read-scanned"):
+            wanted = None if given[0].startswith("line ") else shown(Netlist(texts[name]).canonical())
         else:
             wanted = on_netlist(verb, texts[name], more)
         if wanted is not None:
