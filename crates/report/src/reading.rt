@@ -20,13 +20,16 @@ pub enum ReportFault {
     NoMemory,
 }
 
-/// The fourteen counts, and what stands behind them.
+/// How many counts a report has.
+const COUNTS: usize = 14;
+
+/// The counts, and what stands behind them.
 fn counts<'a>(alloc: Global, text: &'a [u8]) -> Result<Option<(Vec<u64>, &'a [u8])>, AllocError>
     ensures { IfOk result (λ o. MatchOption o (NoneBegins AreCounts (counts_text count_words) text.now) (λ p. Begins AreCounts (counts_text count_words) text.now p.0.items p.1.now)) }
 {
     let mut counts = Vec::new(alloc);
     let mut rest = text;
-    for k in 0..14 {
+    for k in 0..COUNTS {
         let Some((number, after)) = count(count_word(k), rest) else {
             return Ok(None);
         };
