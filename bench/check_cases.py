@@ -12,6 +12,7 @@ import sys
 
 sys.path.insert(0, os.path.dirname(os.path.abspath(__file__)))
 import check_trees
+from check_reports import is_report
 from fault_list import fault_list, netlist_of, readers_of
 
 ROOT = os.path.dirname(os.path.dirname(os.path.abspath(__file__)))
@@ -344,6 +345,16 @@ def differs(row, wanted, given):
     return 1
 
 
+def reported(verb, text, change):
+    """What comes of reading a report, or one with a change."""
+    if verb == "report-with":
+        old, _, new = change.partition("|")
+        text = text.replace(unescape(old + "\\"), unescape(new + "\\"), 1)
+    if not is_report(text):
+        return ["NotReport"]
+    return ["as given"] if verb == "report-with" else shown(text)
+
+
 def check_calls():
     texts, rows = texts_and_rows(f"{ROOT}/crates/calls/stdin")
     stored = answers(f"{ROOT}/crates/calls/stdout", rows)
@@ -354,6 +365,8 @@ def check_calls():
         given = [line for line in given if line]
         if verb in ("gate", "merge", "fill", "generate", "generate-sum"):
             wanted = with_no_netlist(verb, rest)
+        elif verb in ("report", "report-with"):
+            wanted = reported(verb, texts[name], more)
         elif verb in ("read", "read-scanned"):
             wanted = None if given[0].startswith("line ") else shown(Netlist(texts[name]).canonical())
         else:
