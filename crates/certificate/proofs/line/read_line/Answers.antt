@@ -1,0 +1,13 @@
+use Rattle.std.proofs.Common.{subst}
+use Rattle.netlist.specs.Conditions.{IsSound}
+use Rattle.certificate.proofs.LineTexts.{no_fault_line, no_tree_line, refused_more}
+use Rattle.certificate.proofs.line.read_line.Goals as goal
+
+pub returns-in_default : goal.returns-in_default
+returns-in_default c = no_fault_line c.args.names.now (subst IsSound c.netlist.ensures c.sound.ensures) c.args.line.now c.in_default.ensures
+
+pub returns-in_err-tree : goal.returns-in_err-tree
+returns-in_err-tree c =
+    rw c.from_residual.ensures
+    (refused_more (no_tree_line c.args.names.now (subst IsSound c.netlist.ensures c.sound.ensures) c.args.line.now c.in-Some.fault.0 c.in-Some.fault.1.now c.in-Some.ensures)
+    c.in_err-tree.field-0.0 c.in_err-tree.ensures)
