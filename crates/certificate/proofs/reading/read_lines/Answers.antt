@@ -1,4 +1,5 @@
 use Rattle.std.proofs.Common.{subst}
+use Rattle.std.proofs.lemmas.Result.{err_from_is_err_and}
 use Rattle.netlist.specs.Conditions.{IsSound}
 use Rattle.certificate.specs.Certificates.{IsEvidence}
 use Rattle.certificate.proofs.LineTexts.{line_more, no_line, no_line_end, push_more, refused_more, some_left}
@@ -13,7 +14,8 @@ returns-in_default c =
 pub returns-in_err-pair : goal.returns-in_err-pair
 returns-in_err-pair c =
     let i = c.loop-rest.invariant in
-    rw c.from_residual.ensures
+    let p = err_from_is_err_and c.from_residual.result c.from_residual.ensures.1 in
+    rw (p.1, p.2)
     (refused_more (no_line c.args.names.now (subst IsSound c.netlist.ensures c.sound.ensures) c.args.lines.now c.loop-rest.trees.items c.loop-rest.rest.now i.are i.is
     c.in-Some.parts.0.now c.in-Some.parts.1.now c.in-Some.ensures.0 c.in-Some.ensures.1) c.in_err-pair.field-0.0 c.in_err-pair.ensures)
 
