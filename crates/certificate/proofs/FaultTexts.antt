@@ -1,5 +1,5 @@
 -- Faults at the beginning of a line.
-use Rattle.std.proofs.Common.{◌≡◌, ◌≢◌, ◌+◌, ◌<◌, ◌^◌, ℕ, Bool, true, false, List, [], ◌∷◌, ◌++◌, codes, decimal, length, refl, sym, ◌∙◌, ap, arith, append_assoc}
+use Rattle.std.proofs.Common.{◌≡◌, ◌≢◌, ◌+◌, ◌<◌, ℕ, Bool, true, false, List, ◌++◌, codes, decimal, refl, sym, ◌∙◌, ap, arith, append_assoc}
 use Rattle.std.specs.List.{All, Contains}
 use Rattle.std.proofs.lemmas.List.Elements.{All-append, All-cons, All-contains}
 use Rattle.netlist.specs.declared.lines.Line.{Line}
@@ -13,7 +13,7 @@ use Rattle.fault_universe.specs.inner.Written.{IsWritten}
 use Rattle.fault_universe.proofs.LineTexts.{same_fault}
 use Rattle.fault_universe.proofs.Members.{line_written, member_line}
 use Rattle.certificate.specs.inner.Parts.{IsFaultAt, NoFaultAt}
-use Rattle.certificate.specs.inner.Words.{IsCut, IsEnd, blanks, fault_blanks}
+use Rattle.certificate.specs.inner.Words.{IsCut, blanks, fault_blanks}
 use Rattle.certificate.proofs.VisibleBytes.{has_no, name_has_no, number_has_no}
 use Rattle.certificate.proofs.WordLemmas.{blanks_append, no_blanks, same_cut}
 

@@ -12,7 +12,7 @@ use Rattle.plain_text.proofs.Parts.{byte_inside, same_parts}
 use Rattle.redundancy_cert.specs.declared.nodes.Node.{Node}
 use Rattle.redundancy_cert.specs.declared.nodes.Node.TheVariants.{Closed, Open, Split, Forced}
 use Rattle.redundancy_cert.specs.Trees.{IsOneTree}
-use Rattle.certificate.specs.Certificates.{certificate_text, node_text, tree_line, HasSignal, IsCertificate, IsEvidence, IsRefused, NoCertificate}
+use Rattle.certificate.specs.Certificates.{node_text, tree_line, HasSignal, IsCertificate, IsEvidence, IsRefused, NoCertificate}
 use Rattle.certificate.specs.declared.reading.CertFault.{CertFault}
 use Rattle.certificate.specs.declared.reading.CertFault.TheVariants.{NotCertificate, NoMemory}
 use Rattle.certificate.specs.inner.Parts.{AreNodes, IsFaultAt, IsLineOf, IsNodeAt, NoFaultAt, NoNodeAt}

@@ -8,10 +8,10 @@ use Rattle.fault_universe.proofs.Names.{same_name}
 use Rattle.redundancy_cert.specs.declared.nodes.Node.{Node}
 use Rattle.redundancy_cert.specs.declared.nodes.Node.TheVariants.{Closed, Open, Split, Forced}
 use Rattle.certificate.specs.Certificates.{node_text, HasSignal}
-use Rattle.certificate.specs.inner.Parts.{IsNodeAt, NoNodeAt, bit_word}
-use Rattle.certificate.specs.inner.Words.{IsEnd, IsWord, blanks}
+use Rattle.certificate.specs.inner.Parts.{bit_word}
+use Rattle.certificate.specs.inner.Words.{IsEnd}
 use Rattle.certificate.proofs.VisibleBytes.{name_has_no}
-use Rattle.certificate.proofs.WordLemmas.{no_blanks, same_cut, same_word}
+use Rattle.certificate.proofs.WordLemmas.{no_blanks, same_cut}
 
 pub node_ends : (n : Netlist) (node : Node) (rest : List ℕ) → IsEnd (node_text n node ++ rest)
 node_ends n Closed rest = refl

@@ -1,5 +1,5 @@
 -- Nodes by the words that they are written in.
-use Rattle.std.proofs.Common.{◌≡◌, ◌≢◌, ◌<◌, ℕ, Bool, true, false, List, [], ◌∷◌, ◌++◌, codes, get_or, refl, sym, ◌∙◌, ap, arith, append_assoc}
+use Rattle.std.proofs.Common.{◌≡◌, ◌≢◌, ◌<◌, ℕ, Bool, true, false, List, [], ◌∷◌, ◌++◌, codes, get_or, refl, sym, ◌∙◌, ap, arith}
 use Rattle.std.specs.List.{All}
 use Rattle.std.proofs.lemmas.List.{append_cancel_left}
 use Rattle.netlist.specs.Conditions.{IsSound}
@@ -8,7 +8,7 @@ use Rattle.redundancy_cert.specs.declared.nodes.Node.{Node}
 use Rattle.redundancy_cert.specs.declared.nodes.Node.TheVariants.{Closed, Open, Split, Forced}
 use Rattle.certificate.specs.declared.node.Letter.{Letter}
 use Rattle.certificate.specs.declared.node.Letter.TheVariants as Letters
-use Rattle.certificate.specs.Certificates.{node_text, HasSignal}
+use Rattle.certificate.specs.Certificates.{node_text}
 use Rattle.certificate.specs.inner.Parts.{IsNodeAt, NoNodeAt, bit_word, letter_word}
 use Rattle.certificate.specs.inner.Words.{IsEnd, IsWord}
 use Rattle.certificate.proofs.NodeTexts.{forced_text, no_blank_name}

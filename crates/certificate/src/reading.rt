@@ -41,11 +41,7 @@ fn read_lines(
 }
 
 /// The trees whose certificate the bytes are, in the order of its lines; `NotCertificate` exactly where they are none.
-pub fn read_trees(
-    alloc: Global,
-    core: &Core,
-    bytes: &[u8],
-) -> Result<Vec<(Fault, Tree)>, CertFault>
+pub fn read_trees(alloc: Global, core: &Core, bytes: &[u8]) -> Result<Vec<(Fault, Tree)>, CertFault>
     ensures { MatchResult result (λ trees. IsCertificate core.now bytes.now trees.items) (IsRefused (NoCertificate core.now bytes.now)) }
 {
     let Some(lines) = bytes.strip_prefix(b"atpg certificate 1\n") else {

@@ -8,10 +8,11 @@ returns-in_default c = one_word c.args.line.now c.word-first.result.0.now c.word
 pub returns-in-Some-next_word : goal.returns-in-Some-next_word
 returns-in-Some-next_word c =
     let second = c.in-Some.ensures in
-    let third = c.in-Some-next_word.ensures in
-    ((c.word-first.result.0.now ++ 32 ∷ c.in-Some.second.0.now) ++ 32 ∷ c.in-Some-next_word.third.0.now,
-    cut_behind_three c.args.line.now c.word-first.result.0.now c.word-first.result.1.now c.word-first.ensures second.0 c.in-Some.second.0.now c.in-Some.second.1.now second.1 second.2
-    (sym c.is_pin.ensures ∙ c.if-is_pin.true) third.0 c.in-Some-next_word.third.0.now c.in-Some-next_word.third.1.now third.1 third.2)
+    let third = c.in-Some-next_word.ensures in (
+      (c.word-first.result.0.now ++ 32 ∷ c.in-Some.second.0.now) ++ 32 ∷ c.in-Some-next_word.third.0.now,
+      cut_behind_three c.args.line.now c.word-first.result.0.now c.word-first.result.1.now c.word-first.ensures second.0 c.in-Some.second.0.now c.in-Some.second.1.now second.1 second.2
+          (sym c.is_pin.ensures ∙ c.if-is_pin.true) third.0 c.in-Some-next_word.third.0.now c.in-Some-next_word.third.1.now third.1 third.2,
+    )
 
 pub returns-in-None : goal.returns-in-None
 returns-in-None c =
@@ -21,7 +22,8 @@ returns-in-None c =
 
 pub returns-else-is_pin : goal.returns-else-is_pin
 returns-else-is_pin c =
-    let second = c.in-Some.ensures in
-    (c.word-first.result.0.now ++ 32 ∷ c.in-Some.second.0.now,
-    cut_behind_two c.args.line.now c.word-first.result.0.now c.word-first.result.1.now c.word-first.ensures second.0 c.in-Some.second.0.now c.in-Some.second.1.now second.1 second.2
-    (sym c.is_pin.ensures ∙ c.if-is_pin.false))
+    let second = c.in-Some.ensures in (
+      c.word-first.result.0.now ++ 32 ∷ c.in-Some.second.0.now,
+      cut_behind_two c.args.line.now c.word-first.result.0.now c.word-first.result.1.now c.word-first.ensures second.0 c.in-Some.second.0.now c.in-Some.second.1.now second.1 second.2
+          (sym c.is_pin.ensures ∙ c.if-is_pin.false),
+    )

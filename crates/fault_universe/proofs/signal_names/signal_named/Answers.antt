@@ -1,4 +1,4 @@
-use Rattle.std.proofs.Common.{◌∙◌, ◌<◌, sym, below_more, length, arith}
+use Rattle.std.proofs.Common.{◌∙◌, sym, below_more, arith}
 use Rattle.std.specs.Cmp.Lexicographic.{other_text, same_text}
 use Rattle.fault_universe.proofs.Names.{name_found}
 use Rattle.fault_universe.proofs.signal_names.signal_named.Goals as goal
