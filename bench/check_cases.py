@@ -11,6 +11,7 @@ import subprocess
 import sys
 
 sys.path.insert(0, os.path.dirname(os.path.abspath(__file__)))
+import check_certificates
 import check_trees
 from check_reports import is_report
 from fault_list import fault_list, netlist_of, readers_of
@@ -301,6 +302,16 @@ def last_detected(netlist, fault, texts):
     return "never"
 
 
+def certificate(verb, text, read):
+    """What the reader of certificates answers."""
+    faults = [line.rsplit(" class ", 1)[0] for line in list(fault_list(text))[1:]]
+    lines = check_certificates.answer(set(Netlist(text).signals), faults, read)
+    if lines is None:
+        return ["NotCertificate"]
+    whole = "".join(lines)
+    return [f"trees {len(lines)}"] + (shown(whole) if verb == "certificate" else [f"sum {checksum(whole)}"])
+
+
 def texts_and_rows(path):
     """The texts that an input tells, and its other lines."""
     texts, rows, name = {}, [], None
@@ -369,6 +380,8 @@ def check_calls():
             wanted = reported(verb, texts[name], more)
         elif verb in ("read", "read-scanned"):
             wanted = None if given[0].startswith("line ") else shown(Netlist(texts[name]).canonical())
+        elif verb in ("certificate", "certificate-sum"):
+            wanted = certificate(verb, texts[name], texts[more])
         else:
             wanted = on_netlist(verb, texts[name], more)
         if wanted is not None:
