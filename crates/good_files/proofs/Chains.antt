@@ -1,5 +1,5 @@
 -- The chains of a design, and what the law of insertion says with scan off.
-use Rattle.std.proofs.Common.{◌≡◌, ℕ, ◌<◌, ◌≤◌, false, List, [], ◌∷◌, length, take, min, None, refl, sym, ◌∙◌, ap, arith}
+use Rattle.std.proofs.Common.{◌≡◌, ℕ, ◌<◌, ◌≤◌, false, List, [], ◌∷◌, length, take, min, None, refl, sym, ◌∙◌, ap, subst, arith}
 use Rattle.std.proofs.lemmas.Option.{none-some}
 use Rattle.std.proofs.lemmas.List.{take_at, length-map}
 use Rattle.netlist.specs.Netlist.{Netlist, cells}
@@ -21,14 +21,10 @@ chained : (ids : List ℕ) (asked : ℕ) (chain : List ℕ) (chains : List (List
 chained [] asked chain chains e = absurd (nil-cons (sym (none (min asked 0) (omega arith)) ∙ e))
 chained (x ∷ ids) asked chain chains e = omega arith
 
-pub behaves : ScanBehaves → (n : Netlist) (asked : ℕ) → IsSound n → 1 ≤ asked → (chains : List (List ℕ)) → design_chains n asked ≡ chains → BehavesWithScanOff n chains
-behaves law n asked sound some [] e = refl
-behaves law n asked sound some (chain ∷ chains) e = λ inputs state scan_inputs a b p q.
+pub behaves : ScanBehaves → (n : Netlist) (asked : ℕ) → IsSound n → AreChainsOf n (design_chains n asked) → (chains : List (List ℕ)) → design_chains n asked ≡ chains → BehavesWithScanOff n chains
+behaves law n asked sound dealt [] e = refl
+behaves law n asked sound dealt (chain ∷ chains) e = λ inputs state scan_inputs a b p q.
     let many : length (cell_ids n) ≡ length (cells n) = length-map (cells n) (λ d. d.id) in
     let cell : 0 < length (cells n) = (let c = chained (cell_ids n) asked chain chains e in omega arith) in
-    let w = law n (chain ∷ chains) None inputs state scan_inputs false a b sound (record { asked = asked; some = some; are = sym e }) cell (λ g none. absurd (none-some g none)) p q in
+    let w = law n (chain ∷ chains) None inputs state scan_inputs false a b sound (subst (AreChainsOf n) e dealt) cell (λ g none. absurd (none-some g none)) p q in
     (ap (take (length n.outputs)) (w.0) ∙ take_at (outs (bits None) n a) (last_bits (chain ∷ chains) state) (length n.outputs) (length-map n.outputs _), w.1)
-
--- the chains of a design are chains of its cells
-pub dealt : (n : Netlist) (asked : ℕ) → 1 ≤ asked → AreChainsOf n (design_chains n asked)
-dealt n asked some = record { asked = asked; some = some; are = refl }

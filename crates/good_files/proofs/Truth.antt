@@ -43,7 +43,7 @@ use Rattle.run_report.specs.Heads.{count_of, detected_one, redundant_one, aborte
 use Rattle.good_files.specs.GoodFiles.{AreGoodFiles, Files, test_of}
 use Rattle.good_files.specs.RunTheorem.{ComesTrue, RunTheorem}
 use Rattle.good_files.specs.ScanOff.{design_chains}
-use Rattle.good_files.proofs.Chains.{behaves, dealt}
+use Rattle.good_files.proofs.Chains.{behaves}
 
 -- ---- lines
 
@@ -169,7 +169,7 @@ truth laws n holds asked limit files sound design good =
     let chains = design_chains n asked in
     let t = test_of n holds asked limit good.patterns good.trees in
     let cycles = vectors_in good.file in
-    let of_cells = dealt n asked good.some_chain in
+    let of_cells = good.dealt in
     let vectors = file_vectors laws.test n holds chains good.patterns good.file good.held good.is_file_of in
     let scanned = laws.sound n chains sound design of_cells in
     record {
@@ -179,7 +179,7 @@ truth laws n holds asked limit files sound design good =
       stil_is = good.stil_is;
       report_is = good.report_is;
       certificate_is = good.certificate_is;
-      behaves = behaves laws.scan n asked sound good.some_chain chains refl;
+      behaves = behaves laws.scan n asked sound good.dealt chains refl;
       passes = laws.good n holds chains good.patterns cycles sound of_cells vectors;
       runs = λ f state is_fault size. laws.run false bit_table (moved n chains f) (scanned_of n chains) state cycles scanned.formed.numbered scanned.closed scanned.acyclic size
           (laws.fit n holds chains good.patterns cycles sound of_cells vectors);

@@ -8,7 +8,7 @@ use Rattle.cubes.specs.Cubes.{Pattern, IsPatternOf}
 use Rattle.bench_text.specs.Canonical.{canonical}
 use Rattle.bench_text.specs.Reading.{IsRead}
 use Rattle.bench_text.specs.declared.refusal.Names.TheVariants.{Design}
-use Rattle.scan_insert.specs.Scanned.{scanned_of}
+use Rattle.scan_insert.specs.Scanned.{AreChainsOf, scanned_of}
 use Rattle.stil_write.specs.StilFiles.{StilFile}
 use Rattle.stil_read.specs.Reading.{StandsFor}
 use Rattle.stil_tests.specs.Tests.{IsFileOf}
@@ -57,7 +57,7 @@ pub record AreGoodFiles (n : Netlist) (holds : Holds) (asked limit : ℕ) (files
   pub certificate_is : files.certificate ≡ certificate_text n trees
   pub report_is : files.report ≡ report_text said
   pub is_report : IsReport said
-  pub some_chain : 1 ≤ asked
+  pub dealt : AreChainsOf n (design_chains n asked)
   pub limit_is : (1 ≤ limit) × (limit ≤ most_limit)
   pub held : AreHoldsOf n holds
   pub held_said : said.holds ≡ holds_named n holds

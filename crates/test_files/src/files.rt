@@ -1,13 +1,17 @@
 //! From a design to its five files.
 ghost use Rattle.std.specs.Prelude.{◌≡◌, ◌<◌, ◌≤◌, ◌^◌, IfOk, length};
+ghost use Rattle.std.specs.List.{All};
 ghost use Rattle.netlist.specs.Designs.{IsDesign};
+ghost use Rattle.cubes.specs.Cubes.{IsPatternOf};
 ghost use Rattle.netlist.specs.Holds.{AreHoldsOf};
 ghost use Rattle.scan_insert.specs.Scanned.{AreChainsOf, scanned_of};
 ghost use Rattle.fault_universe.specs.Universe.{universe_of};
 ghost use Rattle.fault_collapse.specs.Classes.{AreClasses};
 ghost use Rattle.good_files.specs.GoodFiles.{most_limit};
+ghost use Rattle.good_files.specs.ScanOff.{design_chains};
 ghost use Rattle.test_files.specs.Runs.{IsRun};
 ghost use Rattle.test_files.specs.inner.Subjects.{IsSubjectOf};
+ghost use Rattle.test_files.specs.inner.Written.{IsTestText, IsWritten};
 ghost use Rattle.test_files.specs.inner.Verdicts.{AreVerdicts};
 ghost use Rattle.test_files.specs.inner.Reports.{IsSaid};
 
@@ -16,11 +20,12 @@ use crate::lines::lines_of;
 use crate::reporting::report_of;
 use crate::searching::search;
 use crate::subjects::{Subject, subject_of};
-use bench_text::{canonical_text_is_read, write};
+use crate::truth::written_is_run;
+use bench_text::write;
 use certificate::write_trees;
-use fault_collapse::detected_alike;
-use fault_universe::{faults_have_signals, texts_differ};
-use good_files::good_files_tell_the_truth;
+use chain_stitch::Chains;
+use cubes::Pattern;
+use fault_universe::faults_have_signals;
 use netlist::{Core, Holds, Netlist, NoMemory};
 use outside::Gate;
 use redundancy_cert::Engine;
@@ -31,7 +36,6 @@ use scan_insert::insert;
 use std::alloc::Global;
 use std::sync::Wait;
 use std::thread::Threads;
-use stil_read::laws::written_stands;
 use stil_tests::stil_of;
 use stil_write::write_stil;
 
@@ -54,6 +58,25 @@ pub struct TestFiles {
     pub certificate: Vec<u8>,
     pub report: Vec<u8>,
     pub said: Report,
+}
+
+/// The test of these patterns as text.
+fn stil_text(
+    alloc: Global,
+    core: &Core,
+    chains: &Chains,
+    patterns: &[Pattern],
+    holds: &Holds,
+) -> Result<Vec<u8>, NoMemory>
+    requires design { IsDesign core.now }
+    requires holds { AreHoldsOf core.now holds.now }
+    requires chains { AreChainsOf core.now chains.now }
+    requires patterns { All (IsPatternOf core.now holds.now) patterns.now }
+    ensures { IfOk result (λ text. IsTestText core.now holds.now chains.now patterns.now text.items) }
+{
+    let file = stil_of(alloc, core, chains, patterns, holds)?;
+    file.sound();
+    write_stil(alloc, &file).map_err(|_| NoMemory)
 }
 
 /// What the report says of these verdicts.
@@ -110,21 +133,15 @@ fn texts_of(
 ) -> Result<TestFiles, NoMemory>
     requires design { IsDesign core.now }
     requires some { 1 ≤ plan.chains }
-    requires limit { (1 ≤ plan.limit) × (plan.limit ≤ most_limit) }
     requires held { AreHoldsOf core.now holds.now }
     requires subject { IsSubjectOf core.now plan.chains subject.now }
     requires verdicts { AreVerdicts core.now holds.now subject.now.classes plan.limit found.patterns.items found.verdicts.items }
     requires few { length found.patterns.items < 2 ^ 32 }
-    ensures { IfOk result (IsRun core.now holds.now plan.chains plan.limit) }
+    ensures { IfOk result (IsWritten core.now holds.now (design_chains core.now plan.chains) subject.now.classes plan.limit found.patterns.items found.verdicts.items) }
 {
     let netlist = core.netlist();
     netlist.sound();
-    canonical_text_is_read();
-    written_stands();
-    detected_alike();
-    texts_differ();
     faults_have_signals();
-    good_files_tell_the_truth();
     let scanned = insert(alloc, netlist, &subject.chains)?;
     let said = said_of(
         alloc,
@@ -137,9 +154,7 @@ fn texts_of(
     )?;
     said.sound();
     let Finished { patterns, verdicts } = found;
-    let file = stil_of(alloc, core, &subject.chains, patterns.as_slice(), holds)?;
-    file.sound();
-    let stil = write_stil(alloc, &file).map_err(|_| NoMemory)?;
+    let stil = stil_text(alloc, core, &subject.chains, patterns.as_slice(), holds)?;
     let leaves = leaves_of(alloc, subject.classes.representatives(), verdicts)?;
     let certificate = write_trees(alloc, core, leaves.as_slice())?;
     let net = write(alloc, netlist)?;
@@ -184,5 +199,8 @@ pub fn test_files<R: Threads + Wait + Sync, E: Engine + Sync, G: Gate + Sync>(
         gate,
         holds,
     )?;
-    texts_of(alloc, core, plan, holds, &subject, found)
+    let files = texts_of(alloc, core, plan, holds, &subject, found)?;
+    core.netlist().sound();
+    written_is_run();
+    Ok(files)
 }

@@ -7,5 +7,6 @@ mod lines;
 mod reporting;
 mod searching;
 mod subjects;
+mod truth;
 
 pub use files::{Plan, TestFiles, test_files};
