@@ -3,3 +3,5 @@ mod LeafLemmas
 mod SearchLemmas
 mod ReportLemmas
 mod TruthLemmas
+mod RunLemmas
+mod PointLemmas
