@@ -15,13 +15,14 @@ use Rattle.netlist.specs.declared.lines.Point.TheVariants.{Output, Cell}
 use Rattle.netlist.specs.Netlist.{Definition, Netlist, cells, signal_count, signals}
 use Rattle.netlist.specs.Conditions.{IsSound}
 use Rattle.netlist.specs.Holds.{Holds}
-use Rattle.netlist.specs.Lines.{signal_of}
+use Rattle.netlist.specs.Lines.{IsLineOf, signal_of}
 use Rattle.netlist.specs.Settled.{bits, next, outs}
 use Rattle.netlist.specs.Detection.{Detects}
 use Rattle.cubes.specs.Cubes.{Pattern}
 use Rattle.scan_play.proofs.Applied.{length-next}
 use Rattle.bench_text.proofs.WriteLemmas.{signal-below}
-use Rattle.fault_universe.specs.Laws.{FaultsHaveSignals}
+use Rattle.fault_universe.specs.Laws.{FaultsHaveLines, FaultsHaveSignals}
+use Rattle.fault_universe.proofs.Elements.{contains_at}
 use Rattle.fault_universe.specs.Universe.{all_lines, faults_of, lines_of, universe_of}
 use Rattle.fault_universe.proofs.FaultLists.{length-faults}
 use Rattle.fault_collapse.specs.Classes.{AreClasses}
@@ -29,7 +30,7 @@ use Rattle.fault_collapse.specs.Numbers.{Classes}
 use Rattle.tri.specs.Paths.{Path}
 use Rattle.redundancy_cert.specs.declared.nodes.Node.{Node}
 use Rattle.redundancy_cert.specs.declared.nodes.Node.TheVariants as node
-use Rattle.redundancy_cert.specs.Trees.{Tree, ClosedEnd, OpenEnd, SplitOn, ForcedTo, places, preorder}
+use Rattle.redundancy_cert.specs.Trees.{Tree, ClosedEnd, OpenEnd, SplitOn, ForcedTo, Place, places, preorder}
 use Rattle.redundancy_cert.specs.Fits.{Fits, PlaceFits}
 use Rattle.certificate.specs.Certificates.{HasSignal, IsNamed}
 use Rattle.run_report.specs.Strobes.{IsPointOf}
@@ -108,7 +109,7 @@ tree_named n sound f holds path ClosedEnd fits = All-cons (HasSignal n) node.Clo
 tree_named n sound f holds path OpenEnd fits = All-cons (HasSignal n) node.Open [] tt (All-nil (HasSignal n))
 tree_named n sound f holds path (SplitOn x t u) fits =
     let P = PlaceFits f n holds in
-    let here = record { path = path; node = node.Split x } in
+    let here : Place = record { path = path; node = node.Split x } in
     let zero_side = places ((x, false) ∷ path) t in
     let one_side = places ((x, true) ∷ path) u in
     let head = All-head P here (zero_side ++ one_side) fits in
@@ -118,7 +119,7 @@ tree_named n sound f holds path (SplitOn x t u) fits =
     (tree_named n sound f holds ((x, true) ∷ path) u (all_right P zero_side one_side tail)))
 tree_named n sound f holds path (ForcedTo x b t) fits =
     let P = PlaceFits f n holds in
-    let here = record { path = path; node = node.Forced x b } in
+    let here : Place = record { path = path; node = node.Forced x b } in
     let side = places ((x, b) ∷ path) t in
     let head = All-head P here side fits in
     All-cons (HasSignal n) (node.Forced x b) (preorder t) (signal-below n sound.formed.numbered x head.1.signal)
@@ -152,3 +153,10 @@ all_named law n sound holds classes are limit patterns verdicts found =
     leaves_named n sound holds limit patterns classes.representatives verdicts found.count (λ class f at.
     let first = are.first class (slice_get_within classes.representatives class f at) in
     (law n first.place f sound (first.representative f at), found.each class f at))
+
+-- each representative stands on a line of the netlist
+pub have_lines : FaultsHaveLines → (n : Netlist) → IsSound n → (classes : Classes) → AreClasses n classes → All (λ (f : Fault). IsLineOf n f.line) classes.representatives
+have_lines law n sound classes are = All-from_contains (λ (f : Fault). IsLineOf n f.line) classes.representatives (λ f here.
+    let at = slice_get-get_or classes.representatives here.0 f here.1 ∙ ap (λ (g : Fault). Some g) here.2 in
+    let first = are.first here.0 here.1 in
+    law n f sound (contains_at (universe_of n) first.place f (first.representative f at)))

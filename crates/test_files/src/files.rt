@@ -115,7 +115,7 @@ fn said_of(
         &subject.chains,
         subject.faults.len(),
         subject.classes.count(),
-        found.patterns.len() as u32,
+        found.patterns.as_slice().len() as u32,
         limit,
         holds,
         lines,

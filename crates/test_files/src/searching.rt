@@ -1,6 +1,9 @@
 //! The search, by workers, and the compaction of what they found.
 ghost use Rattle.std.specs.Prelude.{◌≡◌, ◌<◌, ◌≤◌, ◌^◌, IfOk, length};
+ghost use Rattle.std.specs.List.{All};
+ghost use Rattle.netlist.specs.declared.lines.Fault.{Fault as FaultOf};
 ghost use Rattle.netlist.specs.Designs.{IsDesign};
+ghost use Rattle.netlist.specs.Lines.{IsLineOf};
 ghost use Rattle.netlist.specs.Holds.{AreHoldsOf};
 ghost use Rattle.fault_collapse.specs.Classes.{AreClasses};
 ghost use Rattle.list_core.specs.Subjects.{HaveLines, class_count};
@@ -37,7 +40,8 @@ fn search_named<
     holds: &Holds,
 ) -> Result<Finished, NoMemory>
     requires core { core.now ≡ J.subject.netlist }
-    requires classes { (classes.now ≡ J.subject.classes) × (class_count J.subject ≤ 2052000000) }
+    requires classes { classes.now ≡ J.subject.classes }
+    requires few { class_count J.subject ≤ 2052000000 }
     requires limit { (plan.limit ≡ J.subject.limit) × (1 ≤ plan.limit) }
     requires holds { (holds.now ≡ J.subject.holds) × AreHoldsOf core.now holds.now }
     requires lines { HaveLines J.subject }
@@ -60,6 +64,18 @@ fn search_named<
     finish(alloc, core, classes, list)
 }
 
+/// Classes are few, and each representative stands on a line of the netlist.
+fn represented(core: &Core, classes: &Classes)
+    requires design { IsDesign core.now }
+    requires classes { AreClasses core.now classes.now }
+    ensures few { length classes.now.representatives ≤ 2052000000 }
+    ensures lines { All (λ (f : FaultOf). IsLineOf core.now f.line) classes.now.representatives }
+{
+    core.netlist().sound();
+    few_faults();
+    faults_have_lines();
+}
+
 /// Verdicts for all classes, by so many workers, and the patterns that are kept.
 pub(crate) fn search<E: Engine + Sync, G: Gate + Sync, R: Threads + Wait + Sync>(
     rt: &R,
@@ -79,8 +95,6 @@ pub(crate) fn search<E: Engine + Sync, G: Gate + Sync, R: Threads + Wait + Sync>
     ensures verdicts { IfOk result (λ f. AreVerdicts core.now holds.now classes.now plan.limit f.patterns.items f.verdicts.items) }
     ensures few { IfOk result (λ f. length f.patterns.items < 2 ^ 32) }
 {
-    core.netlist().sound();
-    few_faults();
-    faults_have_lines();
+    represented(core, classes);
     search_named::<Brand, E, G, R>(rt, alloc, core, classes, plan, engine, gate, holds)
 }

@@ -19,7 +19,7 @@ returns-clause-verdicts g c =
     let all = verdicts_of j list f.patterns.items f.verdicts.items c.in_ok-list-2.ensures.true_list c.in_ok-list-2.ensures.closed done in
     subst (λ (n : Netlist). AreVerdicts n c.args.holds.now c.args.classes.now c.args.plan.limit f.patterns.items f.verdicts.items) (sym c.requires.core)
     (subst (λ (h : Holds). AreVerdicts j.netlist h c.args.classes.now c.args.plan.limit f.patterns.items f.verdicts.items) (sym c.requires.holds.0)
-    (subst (λ (cs : Classes). AreVerdicts j.netlist j.holds cs c.args.plan.limit f.patterns.items f.verdicts.items) (sym c.requires.classes.0)
+    (subst (λ (cs : Classes). AreVerdicts j.netlist j.holds cs c.args.plan.limit f.patterns.items f.verdicts.items) (sym c.requires.classes)
     (subst (λ (l : ℕ). AreVerdicts j.netlist j.holds j.classes l f.patterns.items f.verdicts.items) (sym c.requires.limit.0) all))))
     c.finish.ensures
 
@@ -31,5 +31,5 @@ returns-clause-few g c =
     (λ (f : Finished) done.
     let kept = ap length done.are_kept.are in
     let few = kept_few done.are_kept.needed 0 list.patterns in
-    omega (arith, kept, few, c.in_ok-list-2.ensures.few, c.requires.classes.1))
+    omega (arith, kept, few, c.in_ok-list-2.ensures.few, c.requires.few))
     c.finish.ensures
