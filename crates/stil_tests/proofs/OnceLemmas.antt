@@ -1,5 +1,5 @@
 -- One file for patterns, and one list of patterns for a file.
-use Rattle.std.proofs.Common.{◌≡◌, ◌∙◌, ℕ, Bool, List, [], ◌∷◌, ◌++◌, ap, sym, refl, map, arith, None}
+use Rattle.std.proofs.Common.{◌≡◌, ◌∙◌, ℕ, Bool, List, [], ◌∷◌, ◌++◌, ap, sym, refl, subst, length, map, arith, None}
 use Rattle.std.specs.List.{All, AllZip, Contains, flat_map, zip}
 use Rattle.std.proofs.lemmas.List.Elements.{All-contains}
 use Rattle.netlist.specs.declared.lines.Line.TheVariants.{Out}
@@ -13,10 +13,11 @@ use Rattle.netlist.proofs.Lists.{contains_filter, decides_beq}
 use Rattle.cubes.specs.Cubes.{Pattern, IsPatternOf}
 use Rattle.scan_insert.specs.Scanned.{AreChainsOf}
 use Rattle.scan_play.specs.Vectors.{Response, Responds}
-use Rattle.stil_write.specs.StilFiles.{StilFile}
+use Rattle.stil_write.specs.StilFiles.{Item, StilFile}
 use Rattle.stil_vectors.specs.TestFiles.{test_file}
 use Rattle.stil_tests.specs.Tests.{IsFileOf}
 use Rattle.stil_tests.specs.Laws.{OneFile, OnePatternList}
+use Rattle.stil_tests.specs.inner.Reading.{patterns_in}
 use Rattle.stil_tests.proofs.BackLemmas.{file_back}
 use Rattle.stil_tests.proofs.NameLemmas.{map_agree}
 
@@ -60,3 +61,19 @@ one_file n holds chains patterns f g sound h k =
 pub one_pattern_list : OnePatternList
 one_pattern_list n holds chains patterns others f sound are obey also h k =
     sym (file_back n holds chains patterns f are obey h) ∙ file_back n holds chains others f are also k
+
+-- ---- patterns that were read
+
+read_is : (n : Netlist) (holds : Holds) (chains : List (List ℕ)) (f : StilFile) (items : List Item) (read ps : List Pattern) (inputs : ℕ) → AreChainsOf n chains → read ≡ patterns_in chains inputs items → inputs ≡ length n.inputs
+    → items ≡ f.items → All (IsPatternOf n holds) ps → IsFileOf n holds chains ps f → read ≡ ps
+read_is n holds chains f items read ps inputs are is e i obey h =
+    is ∙ (ap (λ k. patterns_in chains k items) e ∙ (ap (λ (xs : List Item). patterns_in chains (length n.inputs) xs) i ∙ file_back n holds chains ps f are obey h))
+
+pub none_obey : (n : Netlist) (holds : Holds) (chains : List (List ℕ)) (f : StilFile) (items : List Item) (read : List Pattern) (inputs : ℕ) → AreChainsOf n chains → read ≡ patterns_in chains inputs items → inputs ≡ length n.inputs
+    → items ≡ f.items → (All (IsPatternOf n holds) read → ⊥) → (ps : List Pattern) → All (IsPatternOf n holds) ps → IsFileOf n holds chains ps f → ⊥
+none_obey n holds chains f items read inputs are is e i none ps obey h = none (subst (All (IsPatternOf n holds)) (sym (read_is n holds chains f items read ps inputs are is e i obey h)) obey)
+
+pub none_has : (n : Netlist) (holds : Holds) (chains : List (List ℕ)) (f own : StilFile) (items : List Item) (read : List Pattern) (inputs : ℕ) → IsSound n → AreChainsOf n chains → read ≡ patterns_in chains inputs items → inputs ≡ length n.inputs
+    → items ≡ f.items → IsFileOf n holds chains read own → (own ≡ f → ⊥) → (ps : List Pattern) → All (IsPatternOf n holds) ps → IsFileOf n holds chains ps f → ⊥
+none_has n holds chains f own items read inputs sound are is e i made none ps obey h =
+    none (one_file n holds chains read own f sound made (subst (λ (qs : List Pattern). IsFileOf n holds chains qs f) (sym (read_is n holds chains f items read ps inputs are is e i obey h)) h))
