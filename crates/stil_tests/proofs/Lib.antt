@@ -5,3 +5,4 @@ mod AddLemmas
 mod BackLemmas
 mod OnceLemmas
 mod ReadLemmas
+mod SameLemmas

@@ -1,5 +1,5 @@
 -- One file for patterns, and one list of patterns for a file.
-use Rattle.std.proofs.Common.{◌≡◌, ◌∙◌, ℕ, Bool, List, [], ◌∷◌, ◌++◌, ap, sym, refl, subst, length, map, arith, None}
+use Rattle.std.proofs.Common.{◌≡◌, ◌∙◌, ℕ, suc, Bool, List, [], ◌∷◌, ◌++◌, ap, sym, refl, subst, length, map, arith, None}
 use Rattle.std.specs.List.{All, AllZip, Contains, flat_map, zip}
 use Rattle.std.proofs.lemmas.List.Elements.{All-contains}
 use Rattle.netlist.specs.declared.lines.Line.TheVariants.{Out}
@@ -36,8 +36,7 @@ same_response r s o c = ap (λ x. response x r.cells) o ∙ ap (response s.outpu
 responds_once : (n : Netlist) → IsSound n → (p : Pattern) (r s : Response) → Responds n None p r → Responds n None p s → r ≡ s
 responds_once n sound p r s h k =
     let rule = bits None in
-    let once = settles_once beq decides_beq rule n p.inputs p.cells h.values k.values sound.closed sound.acyclic h.settles k.settles in
-    let same : (x : ℕ) → Contains (signals n) x → h.values x ≡ k.values x = λ x c. All-contains (λ y. h.values y ≡ k.values y) (signals n) x once c in
+    let same : (x : ℕ) → Contains (signals n) x → h.values x ≡ k.values x = λ x c. settles_once beq decides_beq rule n p.inputs p.cells h.values k.values sound.closed sound.acyclic h.settles k.settles x c in
     same_response r s
     (h.outputs ∙ (map_agree (λ x. rule.line (Out x) (h.values x)) (λ x. rule.line (Out x) (k.values x)) n.outputs
     (λ x c. ap (rule.line (Out x)) (same x (All-contains (Contains (signals n)) n.outputs x sound.closed.outputs c))) ∙ sym k.outputs))

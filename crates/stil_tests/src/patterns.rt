@@ -1,9 +1,9 @@
 //! The patterns of a file.
-ghost use Rattle.std.specs.Prelude.{◌≡◌, IfOk, MatchBool, MatchOption};
+ghost use Rattle.std.specs.Prelude.{◌≡◌, IfOk, List, MatchBool, MatchOption};
+ghost use Rattle.cubes.specs.Cubes.{IsPatternOf, Pattern as Test};
 ghost use Rattle.std.specs.List.{All};
 ghost use Rattle.netlist.specs.Designs.{IsDesign};
 ghost use Rattle.netlist.specs.Holds.{AreHoldsOf};
-ghost use Rattle.cubes.specs.Cubes.{IsPatternOf};
 ghost use Rattle.scan_insert.specs.Scanned.{AreChainsOf};
 ghost use Rattle.stil_tests.specs.Tests.{IsFileOf};
 
@@ -42,7 +42,7 @@ pub fn patterns_of(
     requires holds { AreHoldsOf core.now holds.now }
     requires chains { AreChainsOf core.now chains.now }
     ensures { IfOk result (λ found. MatchOption found
-        ((patterns : List Pattern) → All (IsPatternOf core.now holds.now) patterns → ¬ IsFileOf core.now holds.now chains.now patterns file.now)
+        ((patterns : List Test) → All (IsPatternOf core.now holds.now) patterns → ¬ IsFileOf core.now holds.now chains.now patterns file.now)
         (λ patterns. All (IsPatternOf core.now holds.now) patterns.items × IsFileOf core.now holds.now chains.now patterns.items file.now)) }
 {
     let netlist = core.netlist();
