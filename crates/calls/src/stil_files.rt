@@ -1,5 +1,5 @@
 //! STIL files of patterns.
-ghost use Rattle.std.specs.Prelude.{◌≡◌, ◌<◌, IfOk};
+ghost use Rattle.std.specs.Prelude.{◌<◌, IfOk};
 ghost use Rattle.netlist.specs.Designs.{IsDesign};
 ghost use Rattle.netlist.specs.Holds.{AreHoldsOf};
 ghost use Rattle.scan_insert.specs.Scanned.{AreChainsOf};
@@ -17,7 +17,8 @@ use stil_write::write_stil;
 
 /// A design's core.
 fn core_of(alloc: Global, netlist: &Netlist) -> Result<Core, AllocError>
-    ensures { IfOk result (λ core. core ≡ netlist.now) }
+    requires { IsDesign netlist.now }
+    ensures { IfOk result IsDesign }
 {
     let Ok(copy) = netlist.copy(alloc) else {
         return Err(AllocError);
@@ -29,11 +30,12 @@ fn core_of(alloc: Global, netlist: &Netlist) -> Result<Core, AllocError>
 }
 
 /// The cells in so many chains.
-fn chains_of(alloc: Global, netlist: &Netlist, asked: u32) -> Result<Chains, AllocError>
+fn chains_of(alloc: Global, core: &Core, asked: u32) -> Result<Chains, AllocError>
     requires some { 0 < asked }
-    requires design { IsDesign netlist.now }
-    ensures { IfOk result (AreChainsOf netlist.now) }
+    requires design { IsDesign core.now }
+    ensures { IfOk result (AreChainsOf core.now) }
 {
+    let netlist = core.netlist();
     netlist.sound();
     match stitch(alloc, netlist.cells(), asked) {
         Ok(chains) => Ok(chains),
@@ -137,7 +139,7 @@ pub fn push_stil(
     let (old, new) = cut(words);
     let core = core_of(alloc, netlist)?;
     let holds = holds_of(alloc, &core, held)?;
-    let chains = chains_of(alloc, core.netlist(), asked.parse().unwrap_or(1).max(1))?;
+    let chains = chains_of(alloc, &core, asked.parse().unwrap_or(1).max(1))?;
     let patterns = patterns_named(alloc, &core, texts)?;
     let Some(text) = text_of(alloc, &core, &chains, &holds, &patterns)? else {
         return to.extend_from_slice(b"no patterns that obey\n");

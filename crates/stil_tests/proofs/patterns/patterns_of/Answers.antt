@@ -14,7 +14,7 @@ returns-then-not-are_patterns c =
     none_obey n holds c.args.chains.now c.args.file.now c.items.result.now c.in-Ok.patterns.items (length c.inputs-inputs.result.now) c.requires.chains c.in-Ok.ensures
     (ap length c.inputs-inputs.ensures ∙ ap (λ (m : Netlist). length m.inputs) c.netlist-netlist.ensures) c.items.ensures
     (λ all. c.if-not-are_patterns.ensures
-        (subst (λ (m : Netlist). All (IsPatternOf m holds) c.deref.result.now) (sym c.netlist-netlist.ensures) (subst (All (IsPatternOf n holds)) (sym c.deref.ensures.value) all)))
+    (subst (λ (m : Netlist). All (IsPatternOf m holds) c.deref.result.now) (sym c.netlist-netlist.ensures) (subst (All (IsPatternOf n holds)) (sym c.deref.ensures.value) all)))
 
 pub returns-in-Ok-false : goal.returns-in-Ok-false
 returns-in-Ok-false c =
