@@ -4,24 +4,14 @@ ghost use Rattle.std.specs.List.{All};
 ghost use Rattle.netlist.specs.Lines.{IsLineOf};
 ghost use Rattle.word_sim.specs.Words.{HasWidthsOf};
 
+use crate::faults::listed;
 use crate::names::push_number;
 use crate::nets::{bits, core_of};
 use crate::trees::cut;
 use cubes::Pattern;
-use fault_universe::{fault_named, faults_have_lines};
 use netlist::{Core, Fault, Netlist, Point};
 use std::alloc::{AllocError, Global};
 use word_sim::{hits, last_tells};
-
-/// The fault of a text, if the list of faults has it.
-fn listed(netlist: &Netlist, text: &str) -> Option<Fault>
-    ensures { IfSome result (λ f. IsLineOf netlist.now f.line) }
-{
-    netlist.sound();
-    faults_have_lines();
-    let fault = fault_named(netlist, text.as_bytes())?;
-    Some(fault)
-}
 
 /// The pattern of a text, `-` for no bits; nothing where it isn't as wide as the netlist.
 fn pattern_of(alloc: Global, core: &Core, text: &str) -> Result<Option<Pattern>, AllocError>

@@ -1,0 +1,5 @@
+mod LineLemmas
+mod LeafLemmas
+mod SearchLemmas
+mod ReportLemmas
+mod TruthLemmas
