@@ -13,6 +13,7 @@ import sys
 sys.path.insert(0, os.path.dirname(os.path.abspath(__file__)))
 import check_certificates
 import check_trees
+import stil_file
 from check_reports import is_report
 from fault_list import fault_list, netlist_of, readers_of
 
@@ -260,6 +261,8 @@ def on_netlist(verb, text, rest):
         return [last_detected(netlist, *rest.split(": ", 1))]
     if verb == "tree":
         return [tree(netlist, *rest.split(" ", 1))]
+    if verb in ("stil", "stil-but"):
+        return stil_answer(netlist, verb == "stil", *rest.split(": ", 1))
     faults = [line.rsplit(" class ", 1) for line in list(fault_list(text))[1:]]
     if verb == "fault":
         return [rest if rest in [fault for fault, _ in faults] else "no fault"]
@@ -276,6 +279,17 @@ def tree(netlist, held, rest):
     if said.startswith("closed") and said.endswith("open 0") and check_trees.is_detected(netlist, fault, held):
         return "a closed tree of a fault that some pattern detects"
     return said
+
+
+def stil_answer(netlist, is_whole, head, texts):
+    """The patterns' file, and of which patterns it is read as the file; None where a word is another in it."""
+    asked, held, *_ = head.split(" ")
+    held = {} if held == "-" else {name: bit == "1" for name, bit in [held.split("=")]}
+    patterns = [(bits_of(inputs), bits_of(cells)) for inputs, _, cells in (text.partition("/") for text in texts.split() if text != "none")]
+    if any(inputs[netlist.inputs.index(name)] != bit for inputs, _ in patterns for name, bit in held.items()):
+        return ["no patterns that obey"]
+    read = " ".join(["patterns"] + [f"{digits(inputs)}/{digits(cells)}" for inputs, cells in patterns])
+    return shown(stil_file.stil(netlist, int(asked), held, patterns)) + [read] if is_whole else None
 
 
 def searched(netlist, held, limit, fault):

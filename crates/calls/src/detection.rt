@@ -30,7 +30,7 @@ fn pattern_of(alloc: Global, core: &Core, text: &str) -> Result<Option<Pattern>,
 }
 
 /// The patterns of a text, parted by blanks, up to the first one that isn't as wide as the netlist.
-fn patterns_of(alloc: Global, core: &Core, text: &str) -> Result<Vec<Pattern>, AllocError>
+pub fn patterns_of(alloc: Global, core: &Core, text: &str) -> Result<Vec<Pattern>, AllocError>
     ensures { IfOk result (λ v. All (HasWidthsOf core.now) v.items) }
 {
     let mut patterns = Vec::new(alloc);

@@ -53,7 +53,7 @@ inputs_back inputs behind count e = ap (take count) (bits_back (inputs ++ behind
 pattern : List Bool → List Bool → Pattern
 pattern inputs cells = record { inputs = inputs; cells = cells }
 
-same_pattern : (p : Pattern) (inputs cells : List Bool) → inputs ≡ p.inputs → cells ≡ p.cells → ◌≡◌ {A = Pattern} (record { inputs = inputs; cells = cells }) p
+pub same_pattern : (p : Pattern) (inputs cells : List Bool) → inputs ≡ p.inputs → cells ≡ p.cells → ◌≡◌ {A = Pattern} (record { inputs = inputs; cells = cells }) p
 unfolding pattern
 same_pattern p inputs cells i c = ap (λ x. pattern x cells) i ∙ ap (pattern p.inputs) c
 

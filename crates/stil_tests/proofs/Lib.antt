@@ -3,4 +3,6 @@ mod FileLemmas
 mod WordLemmas
 mod AddLemmas
 mod BackLemmas
+mod OnceLemmas
 mod ReadLemmas
+mod SameLemmas

@@ -50,9 +50,9 @@ fn are_outputs(alloc: Global, netlist: &Netlist, names: &Texts) -> Result<bool, 
     }
     netlist.sound();
     for place in 0..outputs {
-        let name = names.get(place);
+        let own = names.get(place);
         let pin = pin_name(alloc, netlist, place as u32)?;
-        if name != pin.as_slice() {
+        if own != pin.as_slice() {
             return Ok(false);
         }
     }

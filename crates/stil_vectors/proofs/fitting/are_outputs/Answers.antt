@@ -19,16 +19,16 @@ returns-then-ne c =
     let n = c.args.netlist.now in
     let e = ap length c.outputs-outputs.ensures in
     let l : c.loop-place.place < length n.outputs = omega (arith, e) in
-    names_differ (output_name n) n.outputs c.args.names.now c.loop-place.place (slice_index n.outputs c.loop-place.place) c.get-name.result.now (output_at n c.loop-place.place l) c.get-name.ensures
-    (λ s. other_text c.get-name.result.now c.as_slice.result.now c.if-ne.ensures (s ∙ sym (c.as_slice.ensures.value ∙ c.in_ok-pin.ensures)))
+    names_differ (output_name n) n.outputs c.args.names.now c.loop-place.place (slice_index n.outputs c.loop-place.place) c.get-own.result.now (output_at n c.loop-place.place l) c.get-own.ensures
+    (λ s. other_text c.get-own.result.now c.as_slice.result.now c.if-ne.ensures (s ∙ sym (c.as_slice.ensures.value ∙ c.in_ok-pin.ensures)))
 
 pub loop-place-preserved : goal.loop-place-preserved
 loop-place-preserved c =
     let n = c.args.netlist.now in
     let e = ap length c.outputs-outputs.ensures in
     let l : c.loop-place.place < length n.outputs = omega (arith, e) in
-    names_more (output_name n) n.outputs c.args.names.now c.loop-place.place (slice_index n.outputs c.loop-place.place) c.get-name.result.now (output_at n c.loop-place.place l) c.get-name.ensures
-    (same_text c.get-name.result.now c.as_slice.result.now c.if-ne.ensures ∙ c.as_slice.ensures.value ∙ c.in_ok-pin.ensures) c.loop-place.invariant
+    names_more (output_name n) n.outputs c.args.names.now c.loop-place.place (slice_index n.outputs c.loop-place.place) c.get-own.result.now (output_at n c.loop-place.place l) c.get-own.ensures
+    (same_text c.get-own.result.now c.as_slice.result.now c.if-ne.ensures ∙ c.as_slice.ensures.value ∙ c.in_ok-pin.ensures) c.loop-place.invariant
 
 pub returns : goal.returns
 returns c =

@@ -1,0 +1,105 @@
+"""The STIL file of patterns by a plain program: docs/SCAN_AND_STIL.md has its rules."""
+
+FLUSH = "0011"
+
+
+def digits(bits):
+    return "".join("1" if bit else "0" for bit in bits)
+
+
+def strobes(bits):
+    return "".join("H" if bit else "L" for bit in bits)
+
+
+class Tester:
+    """Writes loads and captures of a netlist with chains."""
+
+    def __init__(self, netlist, asked, holds):
+        self.netlist, self.holds = netlist, holds
+        self.chains = netlist.chains(asked)
+        self.longest = max((len(chain) for chain in self.chains), default=0)
+        self.lines = []
+
+    def load(self, bits, held):
+        """Bits by cell, and what the cells should hold before, if it is known."""
+        if not self.chains:
+            return
+        words = []
+        for k, chain in enumerate(self.chains):
+            word = "".join("1" if bits[cell] else "0" for cell in reversed(chain))
+            words.append((f"SC__si{k}", word.rjust(self.longest, "0")))
+        for k, chain in enumerate(self.chains):
+            word = strobes([held[cell] for cell in reversed(chain)]) if held else ""
+            words.append((f"SC__so{k}", word.ljust(self.longest, "X")))
+        self.line('Call "load_unload"', words)
+
+    def capture(self, inputs, outputs):
+        count = len(self.chains)
+        words = [("SC__pi", digits(inputs) + "0" * min(count, 1))]
+        words += [(f"SC__si{k}", "0") for k in range(count)]
+        words += [("SC__ck", "P")] * min(count, 1)
+        words += [("SC__po", strobes(outputs))]
+        words += [(f"SC__so{k}", "X") for k in range(count)]
+        self.line("V", words)
+
+    def line(self, head, words):
+        self.lines.append(f"  {head} {{ " + "".join(f'"{name}" = {word}; ' for name, word in words) + "}")
+
+    def pattern(self, patterns):
+        """The lines of the pattern's block."""
+        cells = self.netlist.cells
+        flush = {}
+        for chain in self.chains:
+            shifted = (FLUSH * len(chain))[: len(chain)]
+            flush |= {cell: bit == "1" for cell, bit in zip(reversed(chain), shifted)}
+        other = {cell: not bit for cell, bit in flush.items()}
+        zeros = dict.fromkeys(cells, False)
+        self.load(flush, None)
+        self.load(other, flush)
+        self.load(zeros, other)
+        held = None
+        for inputs, state in patterns:
+            self.load(dict(zip(cells, state)), held)
+            _, outputs, taken = self.netlist.settled(inputs, state)
+            self.capture(inputs, outputs)
+            held = dict(zip(cells, taken))
+        self.load(zeros, held)
+        return self.lines
+
+
+def quoted(names, between):
+    return between.join(f'"{name}"' for name in names)
+
+
+def stil(netlist, asked, holds, patterns):
+    """The whole text."""
+    tester = Tester(netlist, asked, holds)
+    count = len(tester.chains)
+    pi = netlist.inputs + ["SC__se"] * min(count, 1)
+    po = [netlist.pin_name(k) for k in range(len(netlist.outputs))]
+    si, so = [f"SC__si{k}" for k in range(count)], [f"SC__so{k}" for k in range(count)]
+    clock = ["SC__ck"] * min(count, 1)
+    lines = ["STIL 1.0;", "Header {", '  Title "full scan test";', "}", "Signals {"]
+    lines += [f'  "{name}" In;' for name in pi] + [f'  "{name}" In {{ ScanIn; }}' for name in si]
+    lines += [f'  "{name}" In;' for name in clock]
+    lines += [f'  "{name}" Out;' for name in po] + [f'  "{name}" Out {{ ScanOut; }}' for name in so]
+    lines += ["}", "SignalGroups {", f"  \"SC__pi\" = '{quoted(pi, ' + ')}';", f"  \"SC__po\" = '{quoted(po, ' + ')}';", "}"]
+    lines += ["Timing {", '  WaveformTable "wft" {', "    Period '100ns';", "    Waveforms {"]
+    lines += [f"      \"{name}\" {{ 01 {{ '0ns' D/U; }} }}" for name in ["SC__pi"] + si]
+    lines += [f"      \"{name}\" {{ 0 {{ '0ns' D; }} P {{ '0ns' D; '45ns' U; '55ns' D; }} }}" for name in clock]
+    lines += [f"      \"{name}\" {{ HLX {{ '40ns' H/L/X; }} }}" for name in ["SC__po"] + so]
+    lines += ["    }", "  }", "}"]
+    if count:
+        lines += ["ScanStructures {"]
+        for k, chain in enumerate(tester.chains):
+            lines += [f'  ScanChain "chain{k}" {{', f"    ScanLength {len(chain)};", f'    ScanIn "{si[k]}";']
+            lines += [f'    ScanOut "{so[k]}";', f"    ScanCells {quoted(chain, ' ')};", '    ScanMasterClock "SC__ck";', "  }"]
+        lines += ["}"]
+    lines += ['PatternBurst "burst" {', '  PatList { "pattern"; }', "}", "PatternExec {", '  PatternBurst "burst";', "}"]
+    if count:
+        idle = digits([holds.get(name, False) for name in netlist.inputs]) + "1"
+        words = [("SC__pi", idle)] + [(name, "#") for name in si] + [("SC__ck", "P"), ("SC__po", "X" * len(po))] + [(name, "#") for name in so]
+        shift = "".join(f'"{name}" = {word}; ' for name, word in words)
+        lines += ["Procedures {", '  "load_unload" {', '    W "wft";', "    Shift {", f"      V {{ {shift}}}", "    }", "  }", "}"]
+    lines += ['Pattern "pattern" {', '  W "wft";'] + tester.pattern(patterns) + ["}"]
+    return "".join(line + "\n" for line in lines)

@@ -1,0 +1,153 @@
+//! STIL files of patterns.
+ghost use Rattle.std.specs.Prelude.{◌<◌, IfOk};
+ghost use Rattle.netlist.specs.Designs.{IsDesign};
+ghost use Rattle.netlist.specs.Holds.{AreHoldsOf};
+ghost use Rattle.scan_insert.specs.Scanned.{AreChainsOf};
+
+use crate::detection::patterns_of as patterns_named;
+use crate::trees::{cut, holds_of};
+use case_text::show;
+use chain_stitch::{Chains, stitch};
+use cubes::Pattern;
+use netlist::{Core, Holds, Netlist};
+use std::alloc::{AllocError, Global};
+use stil_read::{StilFault, read_stil};
+use stil_tests::{are_patterns, patterns_of, stil_of};
+use stil_write::write_stil;
+
+/// A design's core.
+fn core_of(alloc: Global, netlist: &Netlist) -> Result<Core, AllocError>
+    requires { IsDesign netlist.now }
+    ensures { IfOk result IsDesign }
+{
+    let Ok(copy) = netlist.copy(alloc) else {
+        return Err(AllocError);
+    };
+    match Core::of(alloc, copy) {
+        Ok(core) => Ok(core),
+        Err(_) => Err(AllocError),
+    }
+}
+
+/// The cells in so many chains.
+fn chains_of(alloc: Global, core: &Core, asked: u32) -> Result<Chains, AllocError>
+    requires some { 0 < asked }
+    requires design { IsDesign core.now }
+    ensures { IfOk result (AreChainsOf core.now) }
+{
+    let netlist = core.netlist();
+    netlist.sound();
+    match stitch(alloc, netlist.cells(), asked) {
+        Ok(chains) => Ok(chains),
+        Err(_) => Err(AllocError),
+    }
+}
+
+/// Adds bits.
+fn push_bits(to: &mut Vec<u8>, bits: &[bool]) -> Result<(), AllocError> {
+    for bit in bits {
+        to.push(if *bit { b'1' } else { b'0' })?;
+    }
+    Ok(())
+}
+
+/// Adds patterns, a blank before each.
+fn push_patterns(to: &mut Vec<u8>, patterns: &[Pattern]) -> Result<(), AllocError> {
+    to.extend_from_slice(b"patterns")?;
+    for pattern in patterns {
+        to.push(b' ')?;
+        push_bits(to, pattern.inputs())?;
+        to.push(b'/')?;
+        push_bits(to, pattern.cells())?;
+    }
+    to.push(b'\n')?;
+    Ok(())
+}
+
+/// Adds the patterns of a file's text.
+fn push_read(
+    to: &mut Vec<u8>,
+    alloc: Global,
+    core: &Core,
+    chains: &Chains,
+    holds: &Holds,
+    text: &[u8],
+) -> Result<(), AllocError>
+    requires design { IsDesign core.now }
+    requires chains { AreChainsOf core.now chains.now }
+    requires holds { AreHoldsOf core.now holds.now }
+{
+    let file = match read_stil(alloc, text) {
+        Ok(file) => file,
+        Err(StilFault::NotStil) => return to.extend_from_slice(b"not stil\n"),
+        Err(StilFault::NoMemory) => return Err(AllocError),
+    };
+    match patterns_of(alloc, core, chains, &file, holds) {
+        Ok(Some(patterns)) => push_patterns(to, &patterns),
+        Ok(None) => to.extend_from_slice(b"no patterns\n"),
+        Err(_) => Err(AllocError),
+    }
+}
+
+/// The text of the patterns' file; nothing where they aren't patterns that obey.
+fn text_of(
+    alloc: Global,
+    core: &Core,
+    chains: &Chains,
+    holds: &Holds,
+    patterns: &[Pattern],
+) -> Result<Option<Vec<u8>>, AllocError>
+    requires design { IsDesign core.now }
+    requires chains { AreChainsOf core.now chains.now }
+    requires holds { AreHoldsOf core.now holds.now }
+{
+    if !are_patterns(core.netlist(), holds, patterns) {
+        return Ok(None);
+    }
+    let Ok(file) = stil_of(alloc, core, chains, patterns, holds) else {
+        return Err(AllocError);
+    };
+    let text = write_stil(alloc, &file)?;
+    Ok(Some(text))
+}
+
+/// A text with another word where a word stands last.
+fn with_other(alloc: Global, text: &[u8], old: &str, new: &str) -> Result<Vec<u8>, AllocError> {
+    let whole = str::from_utf8(text).unwrap_or("");
+    let (before, behind) = whole.rsplit_once(old).unwrap_or((whole, ""));
+    let mut other = Vec::new(alloc);
+    other.extend_from_slice(before.as_bytes())?;
+    other.extend_from_slice(new.as_bytes())?;
+    other.extend_from_slice(behind.as_bytes())?;
+    Ok(other)
+}
+
+/// `stil CHAINS HELD: PATTERNS`: the file of patterns, and of which patterns its text is read as the file.
+/// `stil-but CHAINS HELD OLD NEW: PATTERNS`: of which patterns the text is read as the file once a word is another where it stands last.
+pub fn push_stil(
+    to: &mut Vec<u8>,
+    alloc: Global,
+    netlist: &Netlist,
+    rest: &str,
+    is_whole: bool,
+) -> Result<(), AllocError>
+    requires { IsDesign netlist.now }
+{
+    let (head, texts) = rest.split_once(": ").unwrap_or((rest, ""));
+    let (asked, head) = cut(head);
+    let (held, words) = cut(head);
+    let (old, new) = cut(words);
+    let core = core_of(alloc, netlist)?;
+    let holds = holds_of(alloc, &core, held)?;
+    let chains = chains_of(alloc, &core, asked.parse().unwrap_or(1).max(1))?;
+    let patterns = patterns_named(alloc, &core, texts)?;
+    let Some(text) = text_of(alloc, &core, &chains, &holds, &patterns)? else {
+        return to.extend_from_slice(b"no patterns that obey\n");
+    };
+    if is_whole {
+        show(to, &text)?;
+        return push_read(to, alloc, &core, &chains, &holds, &text);
+    }
+    let other = with_other(alloc, &text, old, new)?;
+    push_read(to, alloc, &core, &chains, &holds, &other)
+}
