@@ -11,7 +11,9 @@ import subprocess
 import sys
 
 sys.path.insert(0, os.path.dirname(os.path.abspath(__file__)))
+import check_certificates
 import check_trees
+from check_reports import is_report
 from fault_list import fault_list, netlist_of, readers_of
 from sample_netlist import Pcg32
 
@@ -363,6 +365,16 @@ def drawn(netlist, text, seed, count):
     return "".join(packed.last(fault) + "\n" for fault in faults)
 
 
+def certificate(verb, text, read):
+    """What the reader of certificates answers."""
+    faults = [line.rsplit(" class ", 1)[0] for line in list(fault_list(text))[1:]]
+    lines = check_certificates.answer(set(Netlist(text).signals), faults, read)
+    if lines is None:
+        return ["NotCertificate"]
+    whole = "".join(lines)
+    return [f"trees {len(lines)}"] + (shown(whole) if verb == "certificate" else [f"sum {checksum(whole)}"])
+
+
 def texts_and_rows(path):
     """The texts that an input tells, and its other lines."""
     texts, rows, name = {}, [], None
@@ -407,6 +419,16 @@ def differs(row, wanted, given):
     return 1
 
 
+def reported(verb, text, change):
+    """What comes of reading a report, or one with a change."""
+    if verb == "report-with":
+        old, _, new = change.partition("|")
+        text = text.replace(unescape(old + "\\"), unescape(new + "\\"), 1)
+    if not is_report(text):
+        return ["NotReport"]
+    return ["as given"] if verb == "report-with" else shown(text)
+
+
 def check_calls():
     texts, rows = texts_and_rows(f"{ROOT}/crates/calls/stdin")
     stored = answers(f"{ROOT}/crates/calls/stdout", rows)
@@ -417,8 +439,12 @@ def check_calls():
         given = [line for line in given if line]
         if verb in ("gate", "merge", "fill", "generate", "generate-sum"):
             wanted = with_no_netlist(verb, rest)
+        elif verb in ("report", "report-with"):
+            wanted = reported(verb, texts[name], more)
         elif verb in ("read", "read-scanned"):
             wanted = None if given[0].startswith("line ") else shown(Netlist(texts[name]).canonical())
+        elif verb in ("certificate", "certificate-sum"):
+            wanted = certificate(verb, texts[name], texts[more])
         else:
             wanted = on_netlist(verb, texts[name], more)
         if wanted is not None:

@@ -6,28 +6,17 @@ ghost use Rattle.netlist.specs.Lines.{IsLineOf};
 ghost use Rattle.netlist.specs.declared.lines.Fault.{Fault as FaultOf};
 ghost use Rattle.word_sim.specs.Words.{HasWidthsOf};
 
-use crate::faults::all_faults;
+use crate::faults::{all_faults, listed};
 use crate::names::push_number;
 use crate::nets::{bits, core_of};
 use crate::trees::cut;
 use case_text::checksum;
 use cubes::Pattern;
-use fault_universe::{fault_named, faults_have_lines};
 use netlist::{Core, Fault, Netlist, Point};
 use rand_core::Rng;
 use rand_pcg::Pcg32;
 use std::alloc::{AllocError, Global};
 use word_sim::{Hit, hits, last_tells};
-
-/// The fault of a text, if the list of faults has it.
-fn listed(netlist: &Netlist, text: &str) -> Option<Fault>
-    ensures { IfSome result (λ f. IsLineOf netlist.now f.line) }
-{
-    netlist.sound();
-    faults_have_lines();
-    let fault = fault_named(netlist, text.as_bytes())?;
-    Some(fault)
-}
 
 /// The pattern of a text, `-` for no bits; nothing where it isn't as wide as the netlist.
 fn pattern_of(alloc: Global, core: &Core, text: &str) -> Result<Option<Pattern>, AllocError>

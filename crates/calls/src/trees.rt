@@ -2,9 +2,11 @@
 ghost use Rattle.std.specs.Prelude.{IfOk, IfSome};
 ghost use Rattle.std.specs.List.{All};
 ghost use Rattle.netlist.specs.Holds.{AreHoldsOf};
+ghost use Rattle.netlist.specs.Lines.{IsLineOf};
 ghost use Rattle.redundancy_cert.specs.Trees.{DecidesSignal};
 
-use crate::names::{push_number, signal, stuck};
+use crate::faults::listed;
+use crate::names::signal;
 use crate::nets::core_of;
 use certificate::is_one_tree;
 use netlist::{Core, Fault, Holds, Netlist};
@@ -107,6 +109,7 @@ fn push_nodes(
     nodes: Vec<Node>,
     holds: &Holds,
 ) -> Result<(), AllocError>
+    requires line { IsLineOf core.now fault.now.line }
     requires decides { All (DecidesSignal core.now) nodes.items }
     requires holds { AreHoldsOf core.now holds.now }
 {
@@ -128,7 +131,7 @@ pub fn push_tree(
     let (fault, nodes) = rest.split_once(": ").unwrap_or((rest, ""));
     let core = core_of(alloc, netlist)?;
     let holds = holds_of(alloc, &core, held)?;
-    let Some(fault) = stuck(core.netlist(), fault) else {
+    let Some(fault) = listed(core.netlist(), fault) else {
         return to.extend_from_slice(b"no fault\n");
     };
     let nodes = nodes_of(alloc, core.netlist(), nodes)?;
@@ -166,7 +169,7 @@ pub fn push_deep_tree(
     let (depth, fault) = cut(rest);
     let core = core_of(alloc, netlist)?;
     let holds = holds_of(alloc, &core, "-")?;
-    let Some(fault) = stuck(core.netlist(), fault) else {
+    let Some(fault) = listed(core.netlist(), fault) else {
         return to.extend_from_slice(b"no fault\n");
     };
     let nodes = deep(alloc, core.netlist(), name, depth.parse().unwrap_or(0))?;

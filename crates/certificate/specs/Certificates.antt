@@ -1,12 +1,16 @@
 -- Certificates as texts, which stand for them byte for byte.
-use Rattle.std.specs.Prelude.{if◌then◌else◌, List, ◌++◌, codes, ℕ, ◌<◌}
-use Rattle.std.specs.List.{All, flat_map}
+use Rattle.std.specs.Prelude.{if◌then◌else◌, List, ◌++◌, codes, ℕ, ◌<◌, ◌≡◌, ⊤}
+use Rattle.std.specs.List.{All, Contains, flat_map}
 use Rattle.netlist.specs.declared.lines.Fault.{Fault}
 use Rattle.netlist.specs.Netlist.{Netlist, name_of, signal_count}
 use Rattle.netlist.specs.Lines.{signal_of}
 use Rattle.fault_universe.specs.Texts.{fault_text}
+use Rattle.fault_universe.specs.Universe.{universe_of}
 use Rattle.redundancy_cert.specs.declared.nodes.Node.{Node}
 use Rattle.redundancy_cert.specs.declared.nodes.Node.TheVariants.{Closed, Open, Split, Forced}
+use Rattle.redundancy_cert.specs.Trees.{IsOneTree}
+use Rattle.certificate.specs.declared.reading.CertFault.{CertFault}
+use Rattle.certificate.specs.declared.reading.CertFault.TheVariants.{NotCertificate, NoMemory}
 
 -- `!`, `?`, `S x`, `F x 0`, each behind a blank
 abbrev pub node_text : Netlist → Node → List ℕ
@@ -32,3 +36,22 @@ HasSignal n (Forced x bit) = x < signal_count n
 pub record IsNamed (n : Netlist) (p : Fault × List Node) : Type 0 where
   pub fault : signal_of p.0.line < signal_count n
   pub nodes : All (HasSignal n) p.1
+
+-- a fault of the netlist, and one tree of decisions on its signals
+pub record IsEvidence (n : Netlist) (p : Fault × List Node) : Type 0 where
+  pub fault : Contains (universe_of n) p.0
+  pub nodes : All (HasSignal n) p.1
+  pub tree : IsOneTree p.1
+
+-- the bytes are the certificate of these trees, in this order
+pub record IsCertificate (n : Netlist) (bytes : List ℕ) (trees : List (Fault × List Node)) : Type 0 where
+  pub evidence : All (IsEvidence n) trees
+  pub text : bytes ≡ certificate_text n trees
+
+abbrev pub NoCertificate : Netlist → List ℕ → Type 0
+NoCertificate n bytes = (trees : List (Fault × List Node)) → ¬ IsCertificate n bytes trees
+
+-- why a reader answers NotCertificate; want of memory may come at any time
+abbrev pub IsRefused : Type 0 → CertFault → Type 0
+IsRefused none NotCertificate = none
+IsRefused none NoMemory = ⊤

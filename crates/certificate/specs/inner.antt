@@ -1,2 +1,4 @@
 -- What this crate's own proofs cite, and no public contract.
 pub mod Pending
+pub mod Words
+pub mod Parts

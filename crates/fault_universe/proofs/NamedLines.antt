@@ -1,6 +1,6 @@
 -- Which line a text can name.
 use Rattle.std.proofs.Common.{◌≡◌, ◌≢◌, ℕ, ◌^◌, ◌<◌, List, ◌∷◌, ◌++◌, length, get_or, refl, sym, ◌∙◌, ap, subst, codes, decimal, arith}
-use Rattle.std.specs.List.{All, Contains}
+use Rattle.std.specs.List.{All}
 use Rattle.std.proofs.lemmas.List.{append_cancel_left}
 use Rattle.netlist.specs.declared.lines.Line.{Line}
 use Rattle.netlist.specs.declared.lines.Line.TheVariants.{Stem, Pin, Out}
@@ -9,7 +9,7 @@ use Rattle.netlist.specs.Conditions.{IsSound}
 use Rattle.fault_universe.specs.Texts.{line_text}
 use Rattle.fault_universe.specs.inner.Written.{IsWritten}
 use Rattle.netlist.specs.Netlist.{name_of}
-use Rattle.fault_universe.proofs.Names.{no_blank, no_such_name}
+use Rattle.fault_universe.proofs.Names.{no_blank}
 use Rattle.plain_text.proofs.Parts.{byte_inside, same_parts}
 
 -- the line's text begins with the word of its kind
@@ -51,17 +51,17 @@ other_word n text (Pin z k) stem out pin e = pin (name_of n z ++ 32 ∷ decimal 
 other_word n text (Out y) stem out pin e = out (name_of n y) e
 
 module _ (n : Netlist) (sound : IsSound n) where
-  pub no_stem : (name : List ℕ) → (Contains n.names name → ⊥) → (line : Line) → IsWritten n line → codes "stem " ++ name ≢ line_text n line
+  pub no_stem : (name : List ℕ) → ((x : ℕ) → x < length (signals n) → name_of n x ≢ name) → (line : Line) → IsWritten n line → codes "stem " ++ name ≢ line_text n line
   no_stem name none line w e =
       let s = stem_of n name line e in
       let inside : s.signal < length (signals n) = subst (IsWritten n) s.line_is w in
-      no_such_name n sound s.signal name none inside s.name_is
+      none s.signal inside (sym s.name_is)
 
-  pub no_out : (name : List ℕ) → (Contains n.names name → ⊥) → (line : Line) → IsWritten n line → codes "out " ++ name ≢ line_text n line
+  pub no_out : (name : List ℕ) → ((x : ℕ) → x < length (signals n) → name_of n x ≢ name) → (line : Line) → IsWritten n line → codes "out " ++ name ≢ line_text n line
   no_out name none line w e =
       let s = out_of n name line e in
       let inside : s.signal < length (signals n) = subst (IsWritten n) s.line_is w in
-      no_such_name n sound s.signal name none inside s.name_is
+      none s.signal inside (sym s.name_is)
 
   pub no_pin_blank : (text : List ℕ) → All (λ b. b ≢ 32) text → (line : Line) → IsWritten n line → codes "pin " ++ text ≢ line_text n line
   no_pin_blank text none line w e =
@@ -78,8 +78,8 @@ module _ (n : Netlist) (sound : IsSound n) where
         let same = same_parts 32 name (name_of n p.signal) digits (decimal p.place) front (no_blank n sound p.signal inside.0) (sym parts ∙ p.text_is) in
         (p.signal, p.place, inside.0, inside.1, same.0, same.1)
 
-    pub no_pin_name : (Contains n.names name → ⊥) → (line : Line) → IsWritten n line → codes "pin " ++ text ≢ line_text n line
-    no_pin_name none line w e = let p = pin_parts line w e in no_such_name n sound p.0 name none p.2 p.4
+    pub no_pin_name : ((x : ℕ) → x < length (signals n) → name_of n x ≢ name) → (line : Line) → IsWritten n line → codes "pin " ++ text ≢ line_text n line
+    no_pin_name none line w e = let p = pin_parts line w e in none p.0 p.2 (sym p.4)
 
     pub no_pin_number : ((k : ℕ) → k < 2 ^ 32 → digits ≢ decimal k) → (line : Line) → IsWritten n line → codes "pin " ++ text ≢ line_text n line
     no_pin_number none line w e = let p = pin_parts line w e in none p.1 p.3 p.5

@@ -1,9 +1,9 @@
 -- The names of a netlist.
-use Rattle.std.proofs.Common.{◌≡◌, ◌≢◌, ℕ, ◌<◌, true, List, [], length, sym, ◌∙◌, ap, subst, Some, inl, inr, arith}
+use Rattle.std.proofs.Common.{◌≡◌, ◌≢◌, ℕ, ◌<◌, true, List, [], length, sym, ◌∙◌, ap, Some, inl, inr, arith}
 use Rattle.std.specs.List.{All, Contains, slice_get}
 use Rattle.std.proofs.lemmas.Bool.{cases_order, both_ways}
 use Rattle.std.proofs.lemmas.List.{get_or_default}
-use Rattle.std.proofs.lemmas.List.Elements.{All-contains, All-get_or, All-weaker, Contains-get_or}
+use Rattle.std.proofs.lemmas.List.Elements.{All-contains, All-get_or, All-weaker}
 use Rattle.std.proofs.lemmas.Option.{get_or_from_slice_get}
 use Rattle.netlist.specs.Netlist.{Definition, Netlist, signals}
 use Rattle.netlist.specs.Conditions.{IsNumbered, IsRead, IsSound}
@@ -57,6 +57,3 @@ module _ (n : Netlist) (sound : IsSound n) where
 
   pub name_found : (x : ℕ) (name : List ℕ) → slice_get n.names x ≡ Some name → name_of n x ≡ name
   name_found x name e = get_or_from_slice_get n.names x name [] e
-
-  pub no_such_name : (x : ℕ) (name : List ℕ) → (Contains n.names name → ⊥) → x < length (signals n) → name ≢ name_of n x
-  no_such_name x name none l e = none (subst (Contains n.names) (sym e) (Contains-get_or n.names x [] (named x l)))

@@ -3,26 +3,22 @@ ghost use Rattle.std.specs.Prelude.{◌≡◌, ◌≢◌, ◌^◌, ◌<◌, ◌�
 ghost use Rattle.std.specs.List.{All, Contains};
 ghost use Rattle.netlist.specs.declared.lines.Line.TheVariants.{Pin, Out};
 ghost use Rattle.netlist.specs.Netlist.{signals};
+ghost use Rattle.netlist.specs.Conditions.{IsSound};
 ghost use Rattle.fault_universe.specs.Universe.{all_lines, universe_of};
 ghost use Rattle.fault_universe.specs.Texts.{fault_text, value_text};
 ghost use Rattle.fault_universe.specs.inner.Written.{IsLineNamed};
 ghost use Rattle.netlist.specs.Lines.{signal_of};
 
-use crate::fault_sets::{branches, signal_count};
+use crate::fault_sets::branches;
+use crate::signal_names::SignalNames;
 use netlist::{Fault, Line, Netlist, SignalId};
 use plain_text::split_at;
 
-/// The signal of a name.
-fn signal_named(netlist: &Netlist, name: &[u8]) -> Option<SignalId>
-    ensures { MatchOption result (¬ Contains netlist.now.names name.now) (λ x. (x < length (signals netlist.now)) × (slice_get netlist.now.names x ≡ Some name.now)) }
+/// What every netlist is.
+fn sound<N: SignalNames>(names: &N)
+    ensures { IsSound (N.named names.now) }
 {
-    netlist.sound();
-    for x in 0..signal_count(netlist) {
-        if netlist.name(SignalId(x)) == name {
-            return Some(SignalId(x));
-        }
-    }
-    None
+    names.netlist().sound();
 }
 
 /// The number that is written so.
@@ -41,36 +37,36 @@ fn number(digits: &[u8]) -> Option<u32>
 }
 
 /// The stem that is written so, behind `stem `.
-fn stem_named(netlist: &Netlist, name: &[u8]) -> Option<Line>
-    ensures { IsLineNamed netlist.now (codes "stem " ++ name.now) result }
+fn stem_named<N: SignalNames>(names: &N, name: &[u8]) -> Option<Line>
+    ensures { IsLineNamed (N.named names.now) (codes "stem " ++ name.now) result }
 {
-    netlist.sound();
-    match signal_named(netlist, name) {
+    sound(names);
+    match names.signal(name) {
         Some(x) => Some(Line::Stem(x)),
         None => None,
     }
 }
 
 /// The output that is written so, behind `out `.
-fn out_named(netlist: &Netlist, name: &[u8]) -> Option<Line>
-    ensures { IsLineNamed netlist.now (codes "out " ++ name.now) result }
+fn out_named<N: SignalNames>(names: &N, name: &[u8]) -> Option<Line>
+    ensures { IsLineNamed (N.named names.now) (codes "out " ++ name.now) result }
 {
-    netlist.sound();
-    match signal_named(netlist, name) {
+    sound(names);
+    match names.signal(name) {
         Some(y) => Some(Line::Out(y)),
         None => None,
     }
 }
 
 /// The pin that is written so, behind `pin `.
-fn pin_named(netlist: &Netlist, text: &[u8]) -> Option<Line>
-    ensures { IsLineNamed netlist.now (codes "pin " ++ text.now) result }
+fn pin_named<N: SignalNames>(names: &N, text: &[u8]) -> Option<Line>
+    ensures { IsLineNamed (N.named names.now) (codes "pin " ++ text.now) result }
 {
-    netlist.sound();
+    sound(names);
     let Some(parts) = split_at(text, b' ') else {
         return None;
     };
-    let Some(z) = signal_named(netlist, parts.0) else {
+    let Some(z) = names.signal(parts.0) else {
         return None;
     };
     match number(parts.1) {
@@ -80,17 +76,17 @@ fn pin_named(netlist: &Netlist, text: &[u8]) -> Option<Line>
 }
 
 /// The line that is written so, whether or not the netlist has it.
-fn line_named(netlist: &Netlist, text: &[u8]) -> Option<Line>
-    ensures { IsLineNamed netlist.now text.now result }
+fn line_named<N: SignalNames>(names: &N, text: &[u8]) -> Option<Line>
+    ensures { IsLineNamed (N.named names.now) text.now result }
 {
     if let Some(name) = text.strip_prefix(b"stem ") {
-        return stem_named(netlist, name);
+        return stem_named(names, name);
     }
     if let Some(name) = text.strip_prefix(b"out ") {
-        return out_named(netlist, name);
+        return out_named(names, name);
     }
     if let Some(pin) = text.strip_prefix(b"pin ") {
-        return pin_named(netlist, pin);
+        return pin_named(names, pin);
     }
     None
 }
@@ -145,18 +141,27 @@ fn has_line(netlist: &Netlist, line: &Line) -> bool
     }
 }
 
-/// The fault of the netlist that is written so. It takes no memory.
-pub fn fault_named(netlist: &Netlist, bytes: &[u8]) -> Option<Fault>
-    ensures { MatchOption result (All (λ fault. fault_text netlist.now fault ≢ bytes.now) (universe_of netlist.now)) (λ fault. Contains (universe_of netlist.now) fault × (fault_text netlist.now fault ≡ bytes.now)) }
+/// Whether the netlist of the names has the line.
+fn has_named_line<N: SignalNames>(names: &N, line: &Line) -> bool
+    requires { signal_of line.now < length (signals (N.named names.now)) }
+    ensures { IsTrue result ↔ Contains (all_lines (N.named names.now)) line.now }
 {
-    netlist.sound();
+    has_line(names.netlist(), line)
+}
+
+/// The fault of the netlist that is written so. It takes no memory.
+/// Over a netlist its names are passed over one by one; over an index of them it takes the same time however many there are.
+pub fn fault_named<N: SignalNames>(names: &N, bytes: &[u8]) -> Option<Fault>
+    ensures { MatchOption result (All (λ fault. fault_text (N.named names.now) fault ≢ bytes.now) (universe_of (N.named names.now))) (λ fault. Contains (universe_of (N.named names.now)) fault × (fault_text (N.named names.now) fault ≡ bytes.now)) }
+{
+    sound(names);
     let Some(parts) = split_value(bytes) else {
         return None;
     };
-    let Some(line) = line_named(netlist, parts.0) else {
+    let Some(line) = line_named(names, parts.0) else {
         return None;
     };
-    if has_line(netlist, &line) {
+    if has_named_line(names, &line) {
         Some(Fault {
             line,
             value: parts.1,

@@ -49,6 +49,13 @@ impl<'a> NameIndex<'a> {
         Ok(NameIndex { netlist, names })
     }
 
+    /// Whose names they are.
+    pub fn netlist(&self) -> &Netlist
+        ensures { result.now ≡ self.now }
+    {
+        self.netlist
+    }
+
     /// The signal of a name.
     pub fn get(&self, name: &[u8]) -> Option<SignalId>
         ensures { MatchOption result ((x : ℕ) → x < signal_count self.now → name_of self.now x ≢ name.now) (λ x. (x < signal_count self.now) × (name_of self.now x ≡ name.now)) }

@@ -1,5 +1,11 @@
 pub mod Redundant
-pub mod WalkLemmas
+pub mod TallyLemmas
+pub mod MarkLemmas
+pub mod PointLemmas
 pub mod PassLemmas
+pub mod KeptLemmas
+pub mod Free
+pub mod WalkLemmas
+pub mod StepLemmas
 pub mod Counting
 pub mod StackLemmas

@@ -1,80 +1,117 @@
--- What a pass over the netlist tells of its path.
-use Rattle.std.proofs.Common.{◌≡◌, ℕ, ◌<◌, Bool, true, false, not, ◌||◌, List, [], ◌∷◌, Option, Some, refl, sym, ◌∙◌, ap, subst, inl, inr}
+-- What the labels, as they stand, tell of their path.
+use Rattle.std.proofs.Common.{◌≡◌, ℕ, ◌<◌, ◌≤◌, Bool, true, false, not, List, length, Option, Some, None, get_or, refl, sym, ◌∙◌, ap, subst, inl, inr, nat_lt, arith}
 use Rattle.std.specs.Bool.{MatchBool}
-use Rattle.std.specs.List.{All, Contains}
-use Rattle.std.proofs.lemmas.Bool.{or_cases, both_ways}
-use Rattle.std.proofs.lemmas.List.Folds.{list_any_none}
-use Rattle.std.proofs.lemmas.List.Elements.{All-nil, All-cons}
-use Rattle.netlist.specs.declared.kinds.Tri.TheVariants.{X}
+use Rattle.std.specs.List.{Contains}
+use Rattle.netlist.specs.declared.kinds.Tri.TheVariants.{Zero, One, X}
+use Rattle.netlist.specs.declared.kinds.Tri.{Tri}
 use Rattle.netlist.specs.declared.lines.Fault.{Fault}
-use Rattle.netlist.specs.Netlist.{Netlist, signals}
 use Rattle.netlist.specs.Conditions.{IsSound}
-use Rattle.netlist.specs.Settled.{outs, next}
-use Rattle.netlist.proofs.Placed.{signal_below, signal_from}
+use Rattle.netlist.specs.Netlist.{signals}
+use Rattle.netlist.specs.Settled.{at}
 use Rattle.tri.specs.declared.labels.Label.{Label}
-use Rattle.tri.specs.Labels.{Decisions, labels, AreLabels, IsContradicted, IsUnobserved}
-use Rattle.netlist.specs.Holds.{Holds}
+use Rattle.tri.specs.Labels.{Decisions, AreLabels, IsUnobserved, IsContradicted, is_known_as}
+use Rattle.tri.specs.Labelling.{decided_in}
 use Rattle.tri.specs.Paths.{Path, decisions, IsClosedPath, IsUnknown}
 use Rattle.tri.proofs.PathLemmas.{not_closed, not_unknown}
-use Rattle.redundancy_cert.specs.declared.passes.Pass.{Pass}
-use Rattle.redundancy_cert.specs.Walk.{IsPass, no_label, label_at, IsContradictedIn, any_differs, is_observed}
+use Rattle.std.proofs.lemmas.Bool.{both_ways, ltb-true, ltb-false}
+use Rattle.netlist.specs.ThreeValues.{known}
+use Rattle.netlist.proofs.Placed.{signal_below, signal_from}
+use Rattle.events.specs.declared.trails.Change.{Change}
+use Rattle.label_events.specs.Lines.{IsInner, IsRead}
+use Rattle.label_events.proofs.Changing.{fault_changes_nothing, same_off_back}
+use Rattle.redundancy_cert.specs.inner.Tallies.{contradicts}
+use Rattle.redundancy_cert.specs.inner.Passing.{Labelled, AreStanding, IsKept, no_label}
+use Rattle.redundancy_cert.proofs.TallyLemmas.{count_some, count_none}
+use Rattle.redundancy_cert.proofs.PointLemmas.{nothing_differs, none_seen, some_seen, known_unseen, unknown_seen}
 
-or_false : (x y : Bool) → (x || y) ≡ false → (x ≡ false) × (y ≡ false)
-or_false true y e = absurd (both_ways true e refl)
-or_false false y e = (refl, e)
+module _ (p : Labelled) (stands : AreStanding p) (f : Fault) (path : Path) (stuck : p.fault ≡ Some f) (decided : decided_in p.decided ≡ decisions path) where
+  pub are : AreLabels (Some f) (decisions path) p.netlist p.holds (at p.values no_label)
+  are = subst (λ (g : Option Fault). AreLabels g (decisions path) p.netlist p.holds (at p.values no_label)) stuck
+      (subst (λ (d : Decisions). AreLabels p.fault d p.netlist p.holds (at p.values no_label)) decided (stands.labels no_label))
 
-none_any : (ls : List Label) → any_differs ls ≡ false → All (λ (l : Label). l.may_differ ≡ false) ls
-none_any [] e = All-nil _
-none_any (l ∷ ls) e =
-    let both = or_false l.may_differ (any_differs ls) e in
-    All-cons (λ (m : Label). m.may_differ ≡ false) l ls both.0 (none_any ls both.1)
+  pub unknown_from : (x : ℕ) → Contains (signals p.netlist) x → (at p.values no_label x).good ≡ X → IsUnknown f p.netlist p.holds path x
+  unknown_from x s e = record { label = at p.values no_label; are = are; signal = s; unknown = e }
 
-module _ (f : Fault) (n : Netlist) (holds : Holds) (sound : IsSound n) (path : Path) (pass : Pass) (w : IsPass f n holds path pass) where
-  are : AreLabels (Some f) (decisions path) n holds (label_at pass)
-  are = w.values.labels no_label
+  pub known_from : IsSound p.netlist → (x : ℕ) → ((at p.values no_label x).good ≡ X → ⊥) → IsUnknown f p.netlist p.holds path x → ⊥
+  known_from sound x h = not_unknown f p.netlist p.holds sound path x (at p.values no_label) are h
 
-  -- the points of the pass are those of the path
-  observed_is : (any_differs (outs (labels (Some f) (decisions path)) n (label_at pass)) || any_differs (next (labels (Some f) (decisions path)) n (label_at pass)))
-      ≡ is_observed n pass
-  observed_is =
-      ap (λ (g : Option Fault). any_differs (outs (labels g (decisions path)) n (label_at pass)) || any_differs (next (labels g (decisions path)) n (label_at pass))) (sym w.fault)
-      ∙ ap (λ (p : Decisions). any_differs (outs (labels pass.labelling.fault p) n (label_at pass)) || any_differs (next (labels pass.labelling.fault p) n (label_at pass))) (sym w.decided)
+-- ---- the observed points
 
-  contradicted : IsContradictedIn pass → IsContradicted (decisions path) n (label_at pass)
-  contradicted c = (
-    c.0,
-    signal_from n sound.formed.numbered c.0 (subst (λ m. c.0 < m) w.values.size c.1),
-    (c.2.0, ap (λ (p : Decisions). p c.0) (sym w.decided) ∙ c.2.1, c.2.2),
-  )
+module _ (p : Labelled) (marks : List Bool) (d c : ℕ) (trail : List (Change Label)) (kept : IsKept p marks d c trail) (sound : IsSound p.netlist) (f : Fault) (path : Path) where
+  pub observed_inner : (x : ℕ) → IsInner p.netlist f.line x
+      → MatchBool (nat_lt 0 d) (IsUnobserved f (decisions path) p.netlist (at p.values no_label) → ⊥) (IsUnobserved f (decisions path) p.netlist (at p.values no_label))
+  observed_inner x inner =
+      let some : 0 < d → IsUnobserved f (decisions path) p.netlist (at p.values no_label) → ⊥ =
+      λ l. some_seen f (decisions path) p.netlist sound marks p.values kept.standing.size kept.marks_are x inner (subst (λ m. 0 < m) kept.differing_is l) in
+      let none : d ≤ 0 → IsUnobserved f (decisions path) p.netlist (at p.values no_label) =
+      λ l. none_seen f (decisions path) p.netlist sound marks p.values kept.standing.size kept.marks_are x inner (let e = kept.differing_is in omega arith) in
+      let step : (b : Bool) → nat_lt 0 d ≡ b
+      → MatchBool b (IsUnobserved f (decisions path) p.netlist (at p.values no_label) → ⊥) (IsUnobserved f (decisions path) p.netlist (at p.values no_label)) =
+      elim [ true ↦ λ e. some (ltb-true 0 d e) | false ↦ λ e. none (ltb-false 0 d e) ] in
+      step (nat_lt 0 d) refl
 
-  not_contradicted : (IsContradictedIn pass → ⊥) → IsContradicted (decisions path) n (label_at pass) → ⊥
-  not_contradicted h c = h (
-    c.0,
-    subst (λ m. c.0 < m) (sym w.values.size) (signal_below n sound.formed.numbered c.0 c.1),
-    (c.2.0, ap (λ (p : Decisions). p c.0) w.decided ∙ c.2.1, c.2.2),
-  )
+  module _ (stuck : p.fault ≡ Some f) (decided : decided_in p.decided ≡ decisions path) where
+    pub observed_read : (x i : ℕ) (vs : List Label) (v : Bool) → IsRead p.netlist f.line x → i ≡ x → vs ≡ p.values → v ≡ is_known_as f.value (get_or vs i no_label).good
+        → MatchBool (not v) (IsUnobserved f (decisions path) p.netlist (at p.values no_label) → ⊥) (IsUnobserved f (decisions path) p.netlist (at p.values no_label))
+    observed_read x i vs v read ix vp is =
+        let value : v ≡ is_known_as f.value (at p.values no_label x).good = is ∙ (ap (λ (us : List Label). is_known_as f.value (get_or us i no_label).good) vp ∙ ap (λ j. is_known_as f.value (get_or p.values j no_label).good) ix) in
+        let plain : AreLabels None (decisions path) p.netlist p.holds (at p.values no_label) =
+        fault_changes_nothing f.line (Some f) None (decisions path) p.netlist (same_off_back f) p.holds (at p.values no_label) read.off (are p kept.standing f path stuck decided) in
+        let same = nothing_differs (decisions path) p.netlist p.holds sound (at p.values no_label) plain in
+        let step : (b : Bool) → v ≡ b
+        → MatchBool (not b) (IsUnobserved f (decisions path) p.netlist (at p.values no_label) → ⊥) (IsUnobserved f (decisions path) p.netlist (at p.values no_label)) =
+        elim [
+          | true ↦ λ e. known_unseen f (decisions path) p.netlist sound (at p.values no_label) same x read (sym value ∙ e)
+          | false ↦ λ e. unknown_seen f (decisions path) p.netlist sound (at p.values no_label) same x read (sym value ∙ e)
+        ] in
+        subst (λ b. MatchBool (not b) (IsUnobserved f (decisions path) p.netlist (at p.values no_label) → ⊥) (IsUnobserved f (decisions path) p.netlist (at p.values no_label))) refl (step v refl)
 
-  unobserved : is_observed n pass ≡ false → IsUnobserved f (decisions path) n (label_at pass)
-  unobserved e =
-      let both = or_false (any_differs (outs (labels (Some f) (decisions path)) n (label_at pass))) (any_differs (next (labels (Some f) (decisions path)) n (label_at pass))) (observed_is ∙ e) in
-      record { outputs = none_any (outs (labels (Some f) (decisions path)) n (label_at pass)) both.0; cells = none_any (next (labels (Some f) (decisions path)) n (label_at pass)) both.1 }
+    -- ---- whether the label is closed
 
-  observed : is_observed n pass ≡ true → IsUnobserved f (decisions path) n (label_at pass) → ⊥
-  observed e u =
-      elim (or_cases (any_differs (outs (labels (Some f) (decisions path)) n (label_at pass))) (any_differs (next (labels (Some f) (decisions path)) n (label_at pass))) (observed_is ∙ e)) [
-        | inl o ↦ both_ways (any_differs (outs (labels (Some f) (decisions path)) n (label_at pass))) (list_any_none (λ (m : Label). m.may_differ) (outs (labels (Some f) (decisions path)) n (label_at pass)) u.outputs) o
-        | inr c ↦ both_ways (any_differs (next (labels (Some f) (decisions path)) n (label_at pass))) (list_any_none (λ (m : Label). m.may_differ) (next (labels (Some f) (decisions path)) n (label_at pass)) u.cells) c
-      ]
+    as_known : (b : Bool) (t : Tri) → is_known_as b t ≡ true → t ≡ known b
+    as_known true One e = refl
+    as_known true Zero e = absurd (both_ways false refl e)
+    as_known true X e = absurd (both_ways false refl e)
+    as_known false Zero e = refl
+    as_known false One e = absurd (both_ways false refl e)
+    as_known false X e = absurd (both_ways false refl e)
 
-  pub closed_by : (contradicts sees : Bool) → MatchBool contradicts (IsContradictedIn pass) (IsContradictedIn pass → ⊥) → sees ≡ is_observed n pass
-      → MatchBool (contradicts || not sees) (IsClosedPath f n holds path) (IsClosedPath f n holds path → ⊥)
-  closed_by true sees c e = record { label = label_at pass; are = are; closed = inl (contradicted c) }
-  closed_by false false c e = record { label = label_at pass; are = are; closed = inr (unobserved (sym e)) }
-  closed_by false true c e =
-      not_closed f n holds sound path (label_at pass) are (λ h. elim h [ inl x ↦ not_contradicted c x | inr u ↦ observed (sym e) u ])
+    known_itself : (b : Bool) → is_known_as b (known b) ≡ true
+    known_itself true = refl
+    known_itself false = refl
 
-  pub unknown_from : (x : ℕ) → Contains (signals n) x → (label_at pass x).good ≡ X → IsUnknown f n holds path x
-  unknown_from x s e = record { label = label_at pass; are = are; signal = s; unknown = e }
+    clash : (o : Option Bool) (l : Label) → contradicts o l ≡ true → (b : Bool) × (o ≡ Some b) × (l.own ≡ known (not b))
+    clash None l e = absurd (both_ways false refl e)
+    clash (Some b) l e = (b, refl, as_known (not b) l.own e)
 
-  pub known_from : (x : ℕ) → ((label_at pass x).good ≡ X → ⊥) → IsUnknown f n holds path x → ⊥
-  known_from x h = not_unknown f n holds sound path x (label_at pass) are h
+    pub contradicted_some : 0 < c → IsClosedPath f p.netlist p.holds path
+    contradicted_some l =
+        let w = count_some contradicts p.decided p.values None no_label (subst (λ m. 0 < m) kept.contradicted_is l) in
+        let x = w.0 in
+        let h = clash (get_or p.decided x None) (get_or p.values x no_label) w.3 in
+        record {
+          label = at p.values no_label;
+          are = are p kept.standing f path stuck decided;
+          closed = inl (
+            x,
+            signal_from p.netlist sound.formed.numbered x (let m = w.2 in let e = kept.standing.size in omega arith),
+            (h.0, ap (λ (g : Decisions). g x) (sym decided) ∙ h.1, h.2),
+          );
+        }
+
+    not_contradicted : c ≤ 0 → IsContradicted (decisions path) p.netlist (at p.values no_label) → ⊥
+    not_contradicted z w =
+        let x = w.0 in
+        let low : x < length (signals p.netlist) = signal_below p.netlist sound.formed.numbered x w.1 in
+        let none = count_none contradicts p.decided p.values x None no_label (let e = kept.contradicted_is in omega arith) (let e = kept.standing.decided in omega arith)
+        (let e = kept.standing.size in omega arith) in
+        let here : get_or p.decided x None ≡ Some w.2.0 = ap (λ (g : Decisions). g x) decided ∙ w.2.1 in
+        both_ways (contradicts (get_or p.decided x None) (get_or p.values x no_label)) none
+        (ap (λ (o : Option Bool). contradicts o (get_or p.values x no_label)) here ∙ (ap (is_known_as (not w.2.0)) w.2.2 ∙ known_itself (not w.2.0)))
+
+    pub closed_else : c ≤ 0 → (sees : Bool)
+        → MatchBool sees (IsUnobserved f (decisions path) p.netlist (at p.values no_label) → ⊥) (IsUnobserved f (decisions path) p.netlist (at p.values no_label))
+        → MatchBool (not sees) (IsClosedPath f p.netlist p.holds path) (IsClosedPath f p.netlist p.holds path → ⊥)
+    closed_else z true h =
+        not_closed f p.netlist p.holds sound path (at p.values no_label) (are p kept.standing f path stuck decided) (λ w. elim w [ inl k ↦ not_contradicted z k | inr u ↦ h u ])
+    closed_else z false h = record { label = at p.values no_label; are = are p kept.standing f path stuck decided; closed = inr h }

@@ -1,24 +1,21 @@
 -- The check goes over the nodes of a tree in the order of their places.
-use Rattle.std.proofs.Common.{◌≡◌, ℕ, suc, ◌+◌, ◌<◌, ◌≤◌, Bool, true, false, cond, List, [], ◌∷◌, ◌++◌, take, drop, length, get_or, set, replicate, Option, Some, None, refl, sym, ◌∙◌, ap, subst, inl, inr, eqb, arith, length-append}
+use Rattle.std.proofs.Common.{◌≡◌, ℕ, suc, ◌+◌, ◌<◌, ◌≤◌, Bool, true, false, cond, List, [], ◌∷◌, ◌++◌, take, drop, length, get_or, set, Some, refl, sym, ◌∙◌, ap, subst, inl, inr, arith, length-append}
 use Rattle.std.specs.List.{All}
-use Rattle.std.proofs.lemmas.Bool.{eqb-true, eq-eqb, cases_lt}
+use Rattle.std.proofs.lemmas.Bool.{cond-true, cond-false}
 use Rattle.std.proofs.lemmas.Option.{slice_get-get_or}
 use Rattle.std.proofs.lemmas.Grind.{take-set_at}
-use Rattle.std.proofs.lemmas.List.{append_assoc, take-append-drop, append-nil, take_all, drop_more, get_or_past, get_or-replicate, get_or-set_same, get_or-set_other, length-set, length-replicate}
-use Rattle.std.proofs.lemmas.List.Elements.{All-nil, All-head, All-tail, All-more, All-take, All-set, All-push}
+use Rattle.std.proofs.lemmas.List.{append_assoc, take-append-drop, append-nil, take_all, drop_more}
+use Rattle.std.proofs.lemmas.List.Elements.{All-nil, All-head, All-tail, All-more}
 use Rattle.netlist.specs.declared.lines.Fault.{Fault}
-use Rattle.netlist.specs.Netlist.{Netlist, signals}
-use Rattle.netlist.specs.Conditions.{IsSound}
-use Rattle.netlist.proofs.Placed.{signal_below}
-use Rattle.tri.specs.Labelling.{decided_in}
+use Rattle.netlist.specs.Netlist.{Netlist}
 use Rattle.netlist.specs.Holds.{Holds}
-use Rattle.tri.specs.Paths.{Path, decisions}
+use Rattle.tri.specs.Paths.{Path}
 use Rattle.redundancy_cert.specs.declared.nodes.Node.{Node}
-use Rattle.redundancy_cert.specs.declared.nodes.Node.TheVariants.{Closed, Open, Split, Forced}
+use Rattle.redundancy_cert.specs.declared.nodes.Node.TheVariants.{Split, Forced}
 use Rattle.redundancy_cert.specs.declared.steps.Step.{Step}
-use Rattle.redundancy_cert.specs.Trees.{Tree, ClosedEnd, OpenEnd, SplitOn, ForcedTo, preorder, Place, places, IsOneTree, DecidesSignal}
+use Rattle.redundancy_cert.specs.Trees.{Tree, ClosedEnd, OpenEnd, SplitOn, ForcedTo, preorder, Place, places, IsOneTree}
 use Rattle.redundancy_cert.specs.Fits.{NodeFits, PlaceFits, Fits, IsFirstBad}
-use Rattle.redundancy_cert.specs.Walk.{after, walk, path_onto, path_of, waiting_onto, waiting_of, StandsFor, AreWithin, row_onto, row_of, IsAdvanced, IsChecked, DecidesBelow}
+use Rattle.redundancy_cert.specs.inner.Walk.{after, walk, path_onto, path_of, waiting_onto, waiting_of, StandsFor, IsChecked}
 
 -- ---- trees and walks
 
@@ -56,20 +53,12 @@ pub waiting_onto-append : (p : Path) (ws : List Path) (ss : List Step) (s : Step
 waiting_onto-append p ws [] s = refl
 waiting_onto-append p ws (r ∷ ss) s = waiting_onto-append ((r.signal, r.bit) ∷ p) (cond r.waiting (((r.signal, true) ∷ p) ∷ ws) ws) ss s
 
-cond_false : {X : Type 0} (b : Bool) (x y : X) → b ≡ false → cond b x y ≡ y
-cond_false true x y e = absurd cc
-cond_false false x y e = refl
-
-cond_true : {X : Type 0} (b : Bool) (x y : X) → b ≡ true → cond b x y ≡ x
-cond_true true x y e = refl
-cond_true false x y e = absurd cc
-
 -- steps behind which nothing waits
 pub none_waits : (p : Path) (ws : List Path) (ss ts : List Step) → All (λ (s : Step). s.waiting ≡ false) ts → waiting_onto p ws (ss ++ ts) ≡ waiting_onto p ws ss
 none_waits p ws [] [] h = refl
 none_waits p ws [] (t ∷ ts) h =
     none_waits ((t.signal, t.bit) ∷ p) (cond t.waiting (((t.signal, true) ∷ p) ∷ ws) ws) [] ts (All-tail (λ (s : Step). s.waiting ≡ false) t ts h)
-    ∙ cond_false t.waiting (((t.signal, true) ∷ p) ∷ ws) ws (All-head (λ (s : Step). s.waiting ≡ false) t ts h)
+    ∙ cond-false t.waiting (((t.signal, true) ∷ p) ∷ ws) ws (All-head (λ (s : Step). s.waiting ≡ false) t ts h)
 none_waits p ws (s ∷ ss) ts h = none_waits ((s.signal, s.bit) ∷ p) (cond s.waiting (((s.signal, true) ∷ p) ∷ ws) ws) ss ts h
 
 split_at : (ss : List Step) (k : ℕ) (s : Step) → k < length ss → get_or ss k s ≡ s → ss ≡ (take k ss ++ s ∷ []) ++ drop (k + 1) ss
@@ -86,58 +75,13 @@ turned old new k s l is waits rest e =
     let a : new ≡ front ++ t ∷ [] = e ∙ take-set_at old k (k + 1) t refl l in
     let before : waiting_of old ≡ ((s.signal, true) ∷ path_of front) ∷ waiting_of front =
     ap waiting_of (split_at old k s l is) ∙ (none_waits [] [] (front ++ s ∷ []) (drop (k + 1) old) rest
-    ∙ (waiting_onto-append [] [] front s ∙ cond_true s.waiting (((s.signal, true) ∷ path_of front) ∷ waiting_of front) (waiting_of front) waits)) in
+    ∙ (waiting_onto-append [] [] front s ∙ cond-true s.waiting (((s.signal, true) ∷ path_of front) ∷ waiting_of front) (waiting_of front) waits)) in
     let now : path_of new ≡ (s.signal, true) ∷ path_of front = ap path_of a ∙ path_onto-append [] front t in
     let left : waiting_of new ≡ waiting_of front = ap waiting_of a ∙ waiting_onto-append [] [] front t in
     inr (before ∙ (ap (λ p. p ∷ waiting_of front) (sym now) ∙ ap (λ ws. path_of new ∷ ws) (sym left)))
 
 pub nothing_left : (ss : List Step) → All (λ (t : Step). t.waiting ≡ false) ss → waiting_of ss ≡ []
 nothing_left ss h = none_waits [] [] [] ss h
-
--- ---- decided bits by number
-
-pub row_onto-append : (row : List (Option Bool)) (ss : List Step) (s : Step) → row_onto row (ss ++ s ∷ []) ≡ set (row_onto row ss) s.signal (Some s.bit)
-row_onto-append row [] s = refl
-row_onto-append row (r ∷ ss) s = row_onto-append (set row r.signal (Some r.bit)) ss s
-
-pub length-row_onto : (row : List (Option Bool)) (ss : List Step) → length (row_onto row ss) ≡ length row
-length-row_onto row [] = refl
-length-row_onto row (s ∷ ss) = length-row_onto (set row s.signal (Some s.bit)) ss ∙ length-set row s.signal (Some s.bit)
-
-decided_more : (row : List (Option Bool)) (p : Path) (y : ℕ) (b : Bool) → y < length row → ((x : ℕ) → decided_in row x ≡ decisions p x)
-    → (x : ℕ) → decided_in (set row y (Some b)) x ≡ decisions ((y, b) ∷ p) x
-decided_more row p y b l h x =
-    let step : (t : Bool) → eqb x y ≡ t → get_or (set row y (Some b)) x None ≡ cond t (Some b) (decisions p x) =
-    elim [
-      | true ↦ λ e. ap (λ z. get_or (set row y (Some b)) z None) (eqb-true x y e) ∙ get_or-set_same row y (Some b) None l
-      | false ↦ λ e. get_or-set_other row y x (Some b) None (λ same. let bad : eqb x y ≡ true = eq-eqb x y same in let no : true ≡ false = sym bad ∙ e in absurd cc) ∙ h x
-    ] in
-    step (eqb x y) refl
-
-pub row_decides : (row : List (Option Bool)) (p : Path) (ss : List Step) → AreWithin (length row) ss → ((x : ℕ) → decided_in row x ≡ decisions p x)
-    → (x : ℕ) → decided_in (row_onto row ss) x ≡ decisions (path_onto p ss) x
-row_decides row p [] w h = h
-row_decides row p (s ∷ ss) w h =
-    let l : s.signal < length row = All-head (λ (t : Step). t.signal < length row) s ss w in
-    let size : length (set row s.signal (Some s.bit)) ≡ length row = length-set row s.signal (Some s.bit) in
-    row_decides (set row s.signal (Some s.bit)) ((s.signal, s.bit) ∷ p) ss
-    (subst (λ m. AreWithin m ss) (sym size) (All-tail (λ (t : Step). t.signal < length row) s ss w))
-    (decided_more row p s.signal s.bit l h)
-
-abbrev no_bit : Option Bool
-no_bit = None
-
-none_decided : (count x : ℕ) → get_or (replicate count no_bit) x None ≡ None
-none_decided count x = elim (cases_lt x count) [
-  | inl l ↦ get_or-replicate count x None None l
-  | inr g ↦ get_or_past (replicate count None) x None (let e = length-replicate count no_bit in omega arith)
-]
-
-pub row_is : (count : ℕ) (ss : List Step) → AreWithin count ss → decided_in (row_of count ss) ≡ decisions (path_of ss)
-row_is count ss w =
-    let each : (x : ℕ) → decided_in (row_of count ss) x ≡ decisions (path_of ss) x =
-    row_decides (replicate count None) [] ss (subst (λ m. AreWithin m ss) (sym (length-replicate count no_bit)) w) (none_decided count) in
-    λ j x. each x j
 
 -- ---- the places that were looked at
 
@@ -166,19 +110,18 @@ module _ (f : Fault) (n : Netlist) (holds : Holds) (nodes : List Node) (i : ℕ)
             (head, tail)
       ]
 
-  pub checked_more : (node : Node) (new : List Step) (count : ℕ) → count ≡ length (signals n) → i < length nodes → node ≡ get_or nodes i node
-      → NodeFits f n holds (path_of ss) node → IsAdvanced count node ss new → IsChecked f n holds nodes (i + 1) new
-  checked_more node new count c l is fits a =
+  pub checked_more : (node : Node) (new : List Step) → i < length nodes → node ≡ get_or nodes i node → NodeFits f n holds (path_of ss) node
+      → StandsFor new (after (path_of ss) (waiting_of ss) node) → IsChecked f n holds nodes (i + 1) new
+  checked_more node new l is fits stands =
       let at = at_place node l is in
       record {
         tree = w.tree;
         is = w.is;
         todo = after (path_of ss) (waiting_of ss) node;
         ahead = at.1;
-        stands = a.stands;
+        stands = stands;
         before = All-more (PlaceFits f n holds) (places [] w.tree) i (record { path = path_of ss; node = node }) (let s = size in omega arith) w.before
             (subst (PlaceFits f n holds) (sym at.0) fits);
-        within = subst (λ m. AreWithin m new) c a.within;
       }
 
   pub first_bad : (node : Node) → i < length nodes → node ≡ get_or nodes i node → (NodeFits f n holds (path_of ss) node → ⊥) → IsFirstBad f n holds nodes i
@@ -206,46 +149,26 @@ none_checked f n holds nodes w =
       ahead = ap (walk ([] ∷ [])) (sym w.1 ∙ sym (append-nil (preorder t))) ∙ (walk_tree t [] [] [] ∙ append-nil (places [] t));
       stands = inr refl;
       before = All-nil (PlaceFits f n holds);
-      within = All-nil (λ (s : Step). s.signal < length (signals n));
     }
-
--- the steps that are left are within the count
-pub turned_within : (count : ℕ) (old new : List Step) (k : ℕ) (s t : Step) → k < length old → get_or old k s ≡ s → t.signal ≡ s.signal
-    → new ≡ take (k + 1) (set old k t) → AreWithin count old → AreWithin count new
-turned_within count old new k s t l is same e w =
-    let here : s.signal < count = subst (λ (r : Step). r.signal < count) is (w k s l) in
-    subst (AreWithin count) (sym e) (All-take (λ (r : Step). r.signal < count) (k + 1) (set old k t)
-    (All-set (λ (r : Step). r.signal < count) old k t (subst (λ x. x < count) (sym same) here) w))
-
-pub decided_is : (count : ℕ) (ss : List Step) (items : List (Option Bool)) → AreWithin count ss → items ≡ row_of count ss → decided_in items ≡ decisions (path_of ss)
-decided_is count ss items w e = ap decided_in e ∙ row_is count ss w
 
 -- ---- the next node
 
-pub advanced_split : (count x : ℕ) (old new : List Step) → x < count → AreWithin count old
-    → new ≡ old ++ record { signal = x; bit = false; waiting = true } ∷ [] → IsAdvanced count (Split x) old new
-advanced_split count x old new l w e =
+pub stands_split : (x : ℕ) (old new : List Step) → new ≡ old ++ record { signal = x; bit = false; waiting = true } ∷ []
+    → StandsFor new (after (path_of old) (waiting_of old) (Split x))
+stands_split x old new e =
     let s : Step = record { signal = x; bit = false; waiting = true } in
     let path : path_of new ≡ (x, false) ∷ path_of old = ap path_of e ∙ path_onto-append [] old s in
     let rest : waiting_of new ≡ ((x, true) ∷ path_of old) ∷ waiting_of old = ap waiting_of e ∙ waiting_onto-append [] [] old s in
-    record {
-      stands = inr (ap (λ p. p ∷ ((x, true) ∷ path_of old) ∷ waiting_of old) (sym path) ∙ ap (λ ps. path_of new ∷ ps) (sym rest));
-      within = subst (AreWithin count) (sym e) (All-push (λ (r : Step). r.signal < count) old s w l);
-    }
+    inr (ap (λ p. p ∷ ((x, true) ∷ path_of old) ∷ waiting_of old) (sym path) ∙ ap (λ ps. path_of new ∷ ps) (sym rest))
 
-pub advanced_forced : (count x : ℕ) (b : Bool) (old new : List Step) → x < count → AreWithin count old
-    → new ≡ old ++ record { signal = x; bit = b; waiting = false } ∷ [] → IsAdvanced count (Forced x b) old new
-advanced_forced count x b old new l w e =
+pub stands_forced : (x : ℕ) (b : Bool) (old new : List Step) → new ≡ old ++ record { signal = x; bit = b; waiting = false } ∷ []
+    → StandsFor new (after (path_of old) (waiting_of old) (Forced x b))
+stands_forced x b old new e =
     let s : Step = record { signal = x; bit = b; waiting = false } in
     let path : path_of new ≡ (x, b) ∷ path_of old = ap path_of e ∙ path_onto-append [] old s in
     let rest : waiting_of new ≡ waiting_of old = ap waiting_of e ∙ waiting_onto-append [] [] old s in
-    record {
-      stands = inr (ap (λ p. p ∷ waiting_of old) (sym path) ∙ ap (λ ps. path_of new ∷ ps) (sym rest));
-      within = subst (AreWithin count) (sym e) (All-push (λ (r : Step). r.signal < count) old s w l);
-    }
+    inr (ap (λ p. p ∷ waiting_of old) (sym path) ∙ ap (λ ps. path_of new ∷ ps) (sym rest))
 
-pub decides_below : (n : Netlist) → IsSound n → (count : ℕ) (node : Node) → count ≡ length (signals n) → DecidesSignal n node → DecidesBelow count node
-decides_below n sound count Closed e d = tt
-decides_below n sound count Open e d = tt
-decides_below n sound count (Split x) e d = subst (λ m. x < m) (sym e) (signal_below n sound.formed.numbered x d)
-decides_below n sound count (Forced x b) e d = subst (λ m. x < m) (sym e) (signal_below n sound.formed.numbered x d)
+-- a node fits alike where netlist and held inputs are the same
+pub fits_alike : (f : Fault) (n m : Netlist) (holds other : Holds) (p : Path) (node : Node) → n ≡ m → holds ≡ other → NodeFits f n holds p node → NodeFits f m other p node
+fits_alike f n m holds other p node e h fits = subst (λ (x : Netlist). NodeFits f x other p node) e (subst (λ (x : Holds). NodeFits f n x p node) h fits)

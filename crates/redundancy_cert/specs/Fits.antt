@@ -7,7 +7,7 @@ use Rattle.netlist.specs.Holds.{Holds}
 use Rattle.tri.specs.Paths.{Path, IsClosedPath, IsUnknown}
 use Rattle.redundancy_cert.specs.declared.nodes.Node.{Node}
 use Rattle.redundancy_cert.specs.declared.nodes.Node.TheVariants.{Closed, Open, Split, Forced}
-use Rattle.redundancy_cert.specs.declared.checking.Counts.{Counts}
+use Rattle.redundancy_cert.specs.declared.counts.Counts.{Counts}
 use Rattle.redundancy_cert.specs.declared.checking.TreeFault.{TreeFault}
 use Rattle.redundancy_cert.specs.declared.checking.TreeFault.TheVariants.{BadTree, NoMemory}
 use Rattle.redundancy_cert.specs.Trees.{Tree, preorder, Place, places, closed_count, open_count}

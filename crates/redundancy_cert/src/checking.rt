@@ -1,27 +1,21 @@
-//! The independent check of a tree.
-ghost use Rattle.std.specs.Prelude.{◌≡◌, ◌<◌, ◌≤◌, ◌+◌, ◌^◌, List, [], ◌∷◌, ◌++◌, length, IfOk, OnOk, MatchResult};
-ghost use Rattle.std.specs.Bool.{MatchBool};
-ghost use Rattle.std.specs.List.{All, Contains};
+//! The independent check of trees.
+ghost use Rattle.std.specs.Prelude.{◌≡◌, ◌<◌, ◌≤◌, ◌+◌, ◌^◌, List, [], ◌∷◌, ◌++◌, None, Some, IfOk, MatchResult};
+ghost use Rattle.std.specs.List.{All};
 ghost use Rattle.netlist.specs.Holds.{AreHoldsOf};
-ghost use Rattle.netlist.specs.Netlist.{signals};
-ghost use Rattle.tri.specs.Paths.{IsClosedPath};
+ghost use Rattle.netlist.specs.Lines.{IsLineOf};
 ghost use Rattle.redundancy_cert.specs.declared.nodes.Node.{Node};
-ghost use Rattle.redundancy_cert.specs.Trees.{DecidesSignal};
-ghost use Rattle.redundancy_cert.specs.Fits.{NodeFits, Fits, AreCounts, IsFirstBad, IsTreeFault};
-ghost use Rattle.redundancy_cert.specs.Walk.{path_of, AreWithin, IsChecked};
+ghost use Rattle.redundancy_cert.specs.Trees.{DecidesSignal, IsOneTree};
+ghost use Rattle.redundancy_cert.specs.Fits.{Fits, AreCounts, IsTreeFault};
+ghost use Rattle.redundancy_cert.specs.inner.Passing.{SameRun};
+ghost use Rattle.redundancy_cert.specs.inner.Walk.{IsAt};
 
+use crate::counts::{Counts, count_node};
 use crate::nodes::{Node, Tree};
-use crate::passes::{is_closed, is_unknown, label_path};
-use crate::steps::{Step, advance};
-use netlist::{Core, Fault, Holds, SignalId};
-use std::alloc::{AllocError, Global};
-
-/// How many nodes of a tree are Closed, and how many Open.
-#[derive(Clone, Copy, Debug, PartialEq, Eq)]
-pub struct Counts {
-    pub closed: u64,
-    pub left_open: u64,
-}
+use crate::passes::Pass;
+use crate::steps::{Step, enter, unwind};
+use netlist::{Core, Fault, Holds, NoMemory};
+use std::alloc::Global;
+use std::marker::Model;
 
 /// Why a tree is refused.
 #[derive(Clone, Copy, Debug, PartialEq, Eq)]
@@ -31,114 +25,90 @@ pub enum TreeFault {
     NoMemory,
 }
 
-/// Whether the label of the path with one decision more is closed.
-fn is_side_closed(
-    alloc: Global,
-    core: &Core,
-    fault: &Fault,
-    path: &mut Vec<Step>,
-    signal: SignalId,
-    bit: bool,
-    holds: &Holds,
-) -> Result<bool, AllocError>
-    requires signal { Contains (signals core.now) signal }
-    requires within { AreWithin (length (signals core.now)) path.old.items }
-    requires holds { AreHoldsOf core.now holds.now }
-    ensures closed { IfOk result (λ closed. MatchBool closed
-        (IsClosedPath fault.now core.now holds.now ((signal, bit) ∷ path_of path.old.items)) (¬ IsClosedPath fault.now core.now holds.now ((signal, bit) ∷ path_of path.old.items))) }
-    ensures same { OnOk result (path.new.items ≡ path.old.items) }
-{
-    core.netlist().sound();
-    path.push(Step {
-        signal,
-        bit,
-        waiting: false,
-    })?;
-    let pass = label_path(alloc, core, fault, path, holds)?;
-    let closed = is_closed(alloc, core, &pass)?;
-    path.pop();
-    Ok(closed)
+/// The check of trees over one netlist: from tree to tree only what a fault and its decisions reach is evaluated.
+#[derive(Drop)]
+pub struct Checker<'a> {
+    pass: Pass<'a>,
+    path: Vec<Step>,
 }
 
-/// Whether the node fits below the path.
-fn node_fits(
-    alloc: Global,
-    core: &Core,
-    fault: &Fault,
-    path: &mut Vec<Step>,
-    node: &Node,
-    holds: &Holds,
-) -> Result<bool, AllocError>
-    requires decides { DecidesSignal core.now node.now }
-    requires within { AreWithin (length (signals core.now)) path.old.items }
-    requires holds { AreHoldsOf core.now holds.now }
-    ensures fits { IfOk result (λ fits. MatchBool fits
-        (NodeFits fault.now core.now holds.now (path_of path.old.items) node.now) (¬ NodeFits fault.now core.now holds.now (path_of path.old.items) node.now)) }
-    ensures same { OnOk result (path.new.items ≡ path.old.items) }
-{
-    let pass = label_path(alloc, core, fault, path, holds)?;
-    let closed = is_closed(alloc, core, &pass)?;
-    match node {
-        Node::Closed => Ok(closed),
-        Node::Open => Ok(!closed),
-        Node::Split(signal) => {
-            let fits = !closed && is_unknown(core, &pass, *signal);
-            Ok(fits)
-        }
-        Node::Forced(signal, bit) => {
-            let stands = !closed && is_unknown(core, &pass, *signal);
-            let shut = is_side_closed(alloc, core, fault, path, *signal, !*bit, holds)?;
-            Ok(stands && shut)
-        }
-    }
-}
+impl<'a> Model for Checker<'a> {
+    ghost use Rattle.redundancy_cert.specs.Checking.{Checking};
 
-/// One node more is counted.
-fn count_node(counts: &mut Counts, node: &Node)
-    requires closed { counts.old.closed < 2 ^ 63 }
-    requires left_open { counts.old.left_open < 2 ^ 63 }
-    ensures counts { (nodes : List Node) → AreCounts nodes counts.old → AreCounts (nodes ++ node.now ∷ []) counts.new }
-    ensures closed { counts.new.closed ≤ counts.old.closed + 1 }
-    ensures left_open { counts.new.left_open ≤ counts.old.left_open + 1 }
-{
-    match node {
-        Node::Closed => counts.closed += 1,
-        Node::Open => counts.left_open += 1,
-        Node::Split(_) => {}
-        Node::Forced(_, _) => {}
-    }
-}
+    ghost Value = { Checking };
 
-/// Whether node i fits; then the path goes on to the next one.
-fn check_node(
-    alloc: Global,
-    core: &Core,
-    fault: &Fault,
-    nodes: &[Node],
-    i: usize,
-    path: &mut Vec<Step>,
-    holds: &Holds,
-) -> Result<bool, AllocError>
-    requires within { i < length nodes.now }
-    requires decides { All (DecidesSignal core.now) nodes.now }
-    requires holds { AreHoldsOf core.now holds.now }
-    requires checked { IsChecked fault.now core.now holds.now nodes.now i path.old.items }
-    ensures { IfOk result (λ fits. MatchBool fits
-        (IsChecked fault.now core.now holds.now nodes.now (i + 1) path.new.items) (IsFirstBad fault.now core.now holds.now nodes.now i)) }
-{
-    let netlist = core.netlist();
-    netlist.sound();
-    let count = netlist.inputs().len() + netlist.definitions().len();
-    let node = &nodes[i];
-    let fits = node_fits(alloc, core, fault, path, node, holds)?;
-    if !fits {
-        return Ok(false);
-    }
-    advance(count, path, node)?;
-    Ok(true)
+    ghost use Rattle.redundancy_cert.specs.inner.Walk.{IsIdle};
+
+    ghost view = { λ c. record { netlist = c.pass.netlist; holds = c.pass.holds } };
+
+    ghost invariant = { λ c. IsIdle c.pass c.path.items };
 }
 
 /// How many nodes are Closed and how many Open, where the tree fits the fault; or the first node that doesn't.
+fn check_nodes(
+    pass: &mut Pass,
+    path: &mut Vec<Step>,
+    fault: &Fault,
+    nodes: &[Node],
+) -> Result<Counts, TreeFault>
+    requires line { IsLineOf pass.old.netlist fault.now.line }
+    requires stuck { pass.old.fault ≡ Some fault.now }
+    requires root { IsAt pass.old [] }
+    requires none { path.old.items ≡ [] }
+    requires decides { All (DecidesSignal pass.old.netlist) nodes.now }
+    requires one { IsOneTree nodes.now }
+    ensures at { IsAt pass.new path.new.items }
+    ensures same { SameRun pass.old pass.new }
+    ensures answer { MatchResult result (λ c. Fits fault.now pass.old.netlist pass.old.holds nodes.now × AreCounts nodes.now c)
+        (IsTreeFault fault.now pass.old.netlist pass.old.holds nodes.now) }
+{
+    let mut counts = Counts {
+        closed: 0,
+        left_open: 0,
+    };
+    for i in 0..nodes.len() {
+        match enter(pass, path, fault, &nodes[i]) {
+            Err(_) => return Err(TreeFault::NoMemory),
+            Ok(false) => return Err(TreeFault::BadTree(i as u64)),
+            Ok(true) => count_node(&mut counts, &nodes[i]),
+        }
+    }
+    Ok(counts)
+}
+
+impl<'a> Checker<'a> {
+    /// The labels without a fault, and room that every tree uses.
+    pub fn new(alloc: Global, core: &'a Core, holds: &'a Holds) -> Result<Checker<'a>, NoMemory>
+        requires { AreHoldsOf core.now holds.now }
+        ensures { IfOk result (λ c. (c.netlist ≡ core.now) × (c.holds ≡ holds.now)) }
+    {
+        let Ok(pass) = Pass::new(alloc, core, holds) else {
+            return Err(NoMemory);
+        };
+        Ok(Checker {
+            pass,
+            path: Vec::new(alloc),
+        })
+    }
+
+    /// How many nodes of the tree are Closed and how many Open, where it fits the fault; or the first node that doesn't.
+    pub fn check(&mut self, fault: &Fault, tree: &Tree) -> Result<Counts, TreeFault>
+        requires line { IsLineOf self.old.netlist fault.now.line }
+        requires decides { All (DecidesSignal self.old.netlist) tree.now }
+        ensures answer { MatchResult result (λ c. Fits fault.now self.old.netlist self.old.holds tree.now × AreCounts tree.now c)
+            (IsTreeFault fault.now self.old.netlist self.old.holds tree.now) }
+        ensures same { self.new ≡ self.old }
+    {
+        tree.one();
+        self.pass.stick(fault);
+        let answer = check_nodes(&mut self.pass, &mut self.path, fault, tree.nodes());
+        unwind(&mut self.pass, &mut self.path);
+        self.pass.free(fault);
+        answer
+    }
+}
+
+/// The check of one tree.
 pub fn check_tree(
     alloc: Global,
     core: &Core,
@@ -146,23 +116,13 @@ pub fn check_tree(
     tree: &Tree,
     holds: &Holds,
 ) -> Result<Counts, TreeFault>
+    requires line { IsLineOf core.now fault.now.line }
     requires decides { All (DecidesSignal core.now) tree.now }
     requires holds { AreHoldsOf core.now holds.now }
     ensures { MatchResult result (λ c. Fits fault.now core.now holds.now tree.now × AreCounts tree.now c) (IsTreeFault fault.now core.now holds.now tree.now) }
 {
-    tree.one();
-    let nodes = tree.nodes();
-    let mut path = Vec::new(alloc);
-    let mut counts = Counts {
-        closed: 0,
-        left_open: 0,
-    };
-    for i in 0..nodes.len() {
-        match check_node(alloc, core, fault, nodes, i, &mut path, holds) {
-            Err(_) => return Err(TreeFault::NoMemory),
-            Ok(false) => return Err(TreeFault::BadTree(i as u64)),
-            Ok(true) => count_node(&mut counts, &nodes[i]),
-        }
+    match Checker::new(alloc, core, holds) {
+        Ok(mut checker) => checker.check(fault, tree),
+        Err(_) => Err(TreeFault::NoMemory),
     }
-    Ok(counts)
 }

@@ -2,15 +2,18 @@
 #![tactic(auto)]
 
 mod checking;
+mod counts;
 mod engine;
 mod laws;
 mod nodes;
+mod observed;
 mod passes;
-mod points;
 mod stacks;
 mod steps;
+mod tallies;
 
-pub use checking::{Counts, TreeFault, check_tree};
+pub use checking::{Checker, TreeFault, check_tree};
+pub use counts::Counts;
 pub use engine::{Engine, Found};
 pub use laws::closed_tree_is_redundant;
 pub use nodes::{Node, Tree};

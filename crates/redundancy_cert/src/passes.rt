@@ -1,132 +1,232 @@
-//! The labels under a path, and what they tell of it.
-ghost use Rattle.std.specs.Prelude.{◌≡◌, ◌<◌, length, IfOk};
+//! The labels under a fault and decisions, as they stand: after a change of one decision what it reaches is evaluated, and the counts follow.
+ghost use Rattle.std.specs.Prelude.{◌≡◌, ◌<◌, [], None, Some, length, slice_index_or, slice_set, IfOk};
 ghost use Rattle.std.specs.Bool.{MatchBool};
 ghost use Rattle.std.specs.List.{Contains};
-ghost use Rattle.netlist.specs.declared.lines.Fault.{Fault};
-ghost use Rattle.netlist.specs.Holds.{Holds, AreHoldsOf};
+ghost use Rattle.netlist.specs.declared.lines.Fault.{Fault as FaultOf};
+ghost use Rattle.netlist.specs.Holds.{AreHoldsOf};
+ghost use Rattle.netlist.specs.Lines.{IsLineOf, IsFaultOf};
 ghost use Rattle.netlist.specs.Netlist.{signals};
+ghost use Rattle.tri.specs.Labels.{held_value, source_label};
 ghost use Rattle.tri.specs.Labelling.{decided_in};
-ghost use Rattle.tri.specs.Paths.{Path, IsClosedPath, IsUnknown};
-ghost use Rattle.redundancy_cert.specs.Walk.{path_of, row_of, AreWithin, IsPass, IsContradictedAt, IsContradictedIn, any_differs, is_observed};
+ghost use Rattle.tri.specs.Paths.{Path, decisions, IsClosedPath, IsUnknown};
+ghost use Rattle.redundancy_cert.specs.inner.Tallies.{count_pairs, shows, contradicts};
+ghost use Rattle.redundancy_cert.specs.inner.Passing.{AreStanding, IsResettled, IsStart, no_label};
+ghost use Rattle.netlist.specs.Settled.{at};
+ghost use Rattle.tri.specs.Labels.{IsUnobserved};
+ghost use Rattle.label_events.specs.Lines.{AreSameOff};
 
-use crate::points::{cell_values, output_values};
-use crate::steps::Step;
-use netlist::{Core, Fault, Holds, SignalId, Tri};
+use crate::observed::observed_marks;
+use crate::tallies::{Tally, contradicts, counted, recount};
+use events::Events;
+use label_events::{LabelRule, LinePlace, line_place};
+use netlist::{Core, Fault, Holds, Line, SignalId, Tri};
 use std::alloc::{AllocError, Global};
+use std::marker::Model;
 use tri::{Label, Labelling, is_known_as, label_all};
 
-/// The labels under a path.
+/// The labels of all signals as they stand.
 #[derive(Drop)]
-pub(crate) struct Pass {
-    pub labelling: Labelling,
-    pub values: Vec<Label>,
+pub(crate) struct Pass<'a> {
+    holds: &'a Holds,
+    labelling: Labelling,
+    events: Events<'a, Label>,
+    observed: Vec<bool>,
+    counts: Tally,
 }
 
-/// The decided bits, by the number of the signal.
-fn decided_row(alloc: Global, count: usize, path: &[Step]) -> Result<Vec<Option<bool>>, AllocError>
-    requires { AreWithin count path.now }
-    ensures { IfOk result (λ v. v.items ≡ row_of count path.now) }
+impl<'a> Model for Pass<'a> {
+    ghost use Rattle.redundancy_cert.specs.inner.Passing.{Labelled, IsKept};
+
+    ghost Value = { Labelled };
+
+    ghost view = { λ p. record { netlist = p.events.netlist; holds = p.holds.now; fault = p.labelling.fault; decided = p.labelling.decided.items; values = p.events.values } };
+
+    ghost invariant = { λ p. IsKept (record { netlist = p.events.netlist; holds = p.holds.now; fault = p.labelling.fault; decided = p.labelling.decided.items; values = p.events.values })
+        p.observed.items p.counts.differing p.counts.contradicted p.events.trail };
+}
+
+/// What is driven onto an input, of which there are so many, or onto a cell.
+fn driven_onto(labelling: &Labelling, count: usize, id: SignalId, holds: &Holds) -> Label
+    requires { count ≡ length holds.now }
+    ensures { result ≡ source_label (decided_in labelling.now.decided.items) id (held_value (slice_index_or holds.now id None)) }
 {
-    let mut row = vec![in alloc; None; count]?;
-    for step in path {
-        row[step.signal.index()] = Some(step.bit);
+    if id.index() < count {
+        labelling.input(id, holds)
+    } else {
+        labelling.source(id, Tri::X)
     }
-    Ok(row)
 }
 
-/// Works the labels out.
-pub(crate) fn label_path(
-    alloc: Global,
-    core: &Core,
-    fault: &Fault,
-    path: &[Step],
+/// The rule, or what is driven, has changed at one signal: the labels settle, and the counts follow.
+fn resettle(
+    events: &mut Events<Label>,
+    labelling: &Labelling,
+    id: SignalId,
+    observed: &[bool],
+    counts: Tally,
     holds: &Holds,
-) -> Result<Pass, AllocError>
-    requires within { AreWithin (length (signals core.now)) path.now }
-    requires holds { AreHoldsOf core.now holds.now }
-    ensures { IfOk result (IsPass fault.now core.now holds.now (path_of path.now)) }
+) -> Tally
+    requires within { id < length (signals events.old.netlist) }
+    requires trail { events.old.trail ≡ [] }
+    requires observed { length observed.now ≡ length (signals events.old.netlist) }
+    requires decided { length labelling.now.decided.items ≡ length (signals events.old.netlist) }
+    requires holds { AreHoldsOf events.old.netlist holds.now }
+    requires differing { counts.differing ≡ count_pairs shows observed.now events.old.values }
+    requires contradicted { counts.contradicted ≡ count_pairs contradicts labelling.now.decided.items events.old.values }
+    ensures settled { IsResettled labelling.now.fault (decided_in labelling.now.decided.items) events.old.netlist holds.now id events.old.values events.new.values }
+    ensures same { events.new ≡ record events.old { values = events.new.values } }
+    ensures differing { result.differing ≡ count_pairs shows observed.now events.new.values }
+    ensures contradicted { result.contradicted ≡ count_pairs contradicts labelling.now.decided.items events.new.values }
 {
-    let netlist = core.netlist();
-    let count = netlist.inputs().len() + netlist.definitions().len();
-    let decided = decided_row(alloc, count, path)?;
-    let labelling = Labelling {
-        fault: Some(*fault),
-        decided,
-    };
-    let values = label_all(alloc, core, &labelling, holds)?;
-    Ok(Pass { labelling, values })
+    let netlist = events.core().netlist();
+    netlist.sound();
+    let driven = driven_onto(labelling, netlist.inputs().len(), id, holds);
+    let rule = LabelRule { labelling };
+    events.change(&rule, id, driven);
+    let counts = recount(
+        observed,
+        &labelling.decided,
+        events.values(),
+        events.trail(),
+        counts,
+    );
+    events.forget();
+    counts
 }
 
-/// The decided bit of a signal, if there is one.
-fn decision_at(pass: &Pass, x: usize) -> Option<bool>
-    ensures { result ≡ decided_in pass.now.labelling.decided.items x }
-{
-    match pass.labelling.decided.get(x) {
-        None => None,
-        Some(bit) => *bit,
+impl<'a> Pass<'a> {
+    /// Without a fault, and without a decision.
+    pub(crate) fn new(
+        alloc: Global,
+        core: &'a Core,
+        holds: &'a Holds,
+    ) -> Result<Pass<'a>, AllocError>
+        requires { AreHoldsOf core.now holds.now }
+        ensures { IfOk result (λ p. IsStart core.now holds.now p) }
+    {
+        core.netlist().sound();
+        let labelling = Labelling::new(alloc, core, None)?;
+        let values = label_all(alloc, core, &labelling, holds)?;
+        let observed = observed_marks(alloc, core)?;
+        let events = Events::new(alloc, core, values, 0)?;
+        Ok(Pass {
+            holds,
+            labelling,
+            events,
+            observed,
+            counts: Tally {
+                differing: 0,
+                contradicted: 0,
+            },
+        })
     }
-}
 
-/// Whether the decided bit of a signal is the other one than what its pins tell.
-fn is_contradicted_at(pass: &Pass, x: usize) -> bool
-    requires { x < length pass.now.values.items }
-    ensures { MatchBool result (IsContradictedAt pass.now x) (¬ IsContradictedAt pass.now x) }
-{
-    match decision_at(pass, x) {
-        None => false,
-        Some(bit) => is_known_as(!bit, pass.values[x].own),
+    /// What always stands.
+    pub(crate) fn standing(&self)
+        ensures { AreStanding self.now }
+    {
+        let _ = &self.labelling;
     }
-}
 
-/// Whether a decided bit is the other one than what the pins tell.
-fn is_contradicted(pass: &Pass) -> bool
-    ensures { MatchBool result (IsContradictedIn pass.now) (¬ IsContradictedIn pass.now) }
-{
-    for x in 0..pass.values.len() {
-        if is_contradicted_at(pass, x) {
-            return true;
+    pub(crate) fn core(&self) -> &'a Core
+        ensures { result.now ≡ self.now.netlist }
+    {
+        self.events.core()
+    }
+
+    /// Decides a signal, or takes its decision back.
+    pub(crate) fn decide(&mut self, id: SignalId, decision: Option<bool>)
+        requires { id < length (signals self.old.netlist) }
+        ensures { self.new ≡ record self.old { decided = slice_set self.old.decided id decision; values = self.new.values } }
+    {
+        self.events.core().netlist().sound();
+        let x = id.index();
+        let label = self.events.values()[x];
+        let before = contradicts(self.labelling.decided[x], label);
+        let after = contradicts(decision, label);
+        self.counts.contradicted = counted(self.counts.contradicted, before, after);
+        self.labelling.decided[x] = decision;
+        self.counts = resettle(
+            &mut self.events,
+            &self.labelling,
+            id,
+            &self.observed,
+            self.counts,
+            self.holds,
+        );
+    }
+
+    /// A line is stuck that wasn't, or no longer: the labels settle where it enters.
+    fn turn(&mut self, line: &Line, fault: Option<Fault>)
+        requires line { IsLineOf self.old.netlist line.now }
+        requires same { AreSameOff line.now self.old.fault fault }
+        ensures { self.new ≡ record self.old { fault = fault; values = self.new.values } }
+    {
+        self.events.core().netlist().sound();
+        let place = line_place(self.events.core(), line);
+        self.labelling.fault = fault;
+        if let LinePlace::Signal(id) = place {
+            self.counts = resettle(
+                &mut self.events,
+                &self.labelling,
+                id,
+                &self.observed,
+                self.counts,
+                self.holds,
+            );
         }
     }
-    false
-}
 
-fn any_differs(labels: &[Label]) -> bool
-    ensures { result ≡ any_differs labels.now }
-{
-    labels.iter().any(|l| l.may_differ)
-}
+    /// Puts the fault on.
+    pub(crate) fn stick(&mut self, fault: &Fault)
+        requires line { IsLineOf self.old.netlist fault.now.line }
+        requires none { self.old.fault ≡ None }
+        ensures { self.new ≡ record self.old { fault = Some fault.now; values = self.new.values } }
+    {
+        self.turn(&fault.line, Some(*fault));
+    }
 
-/// Whether an observed point may differ.
-fn is_observed(alloc: Global, core: &Core, pass: &Pass) -> Result<bool, AllocError>
-    requires { length pass.now.values.items ≡ length (signals core.now) }
-    ensures { IfOk result (λ b. b ≡ is_observed core.now pass.now) }
-{
-    core.netlist().sound();
-    let outputs = output_values(alloc, &pass.labelling, core.netlist(), &pass.values)?;
-    let cells = cell_values(alloc, &pass.labelling, core.netlist(), &pass.values)?;
-    Ok(any_differs(&outputs) || any_differs(&cells))
-}
+    /// Takes the fault off.
+    pub(crate) fn free(&mut self, fault: &Fault)
+        requires line { IsLineOf self.old.netlist fault.now.line }
+        requires stuck { self.old.fault ≡ Some fault.now }
+        ensures { self.new ≡ record self.old { fault = None; values = self.new.values } }
+    {
+        self.turn(&fault.line, None);
+    }
 
-/// Whether the label is closed.
-pub(crate) fn is_closed(alloc: Global, core: &Core, pass: &Pass) -> Result<bool, AllocError>
-    requires { length pass.now.values.items ≡ length (signals core.now) }
-    ensures { IfOk result (λ closed. (f : Fault) (holds : Holds) (path : Path) → IsPass f core.now holds path pass.now
-        → MatchBool closed (IsClosedPath f core.now holds path) (¬ IsClosedPath f core.now holds path)) }
-{
-    core.netlist().sound();
-    let contradicted = is_contradicted(pass);
-    let observed = is_observed(alloc, core, pass)?;
-    let closed = contradicted || !observed;
-    Ok(closed)
-}
+    /// Whether an observed point may differ.
+    fn is_observed(&self, fault: &Fault) -> bool
+        requires line { IsLineOf self.now.netlist fault.now.line }
+        requires stuck { self.now.fault ≡ Some fault.now }
+        ensures { (path : Path) → decided_in self.now.decided ≡ decisions path → MatchBool result (¬ IsUnobserved fault.now (decisions path) self.now.netlist (at self.now.values no_label)) (IsUnobserved fault.now (decisions path) self.now.netlist (at self.now.values no_label)) }
+    {
+        let core = self.core();
+        core.netlist().sound();
+        match line_place(core, &fault.line) {
+            LinePlace::Signal(_) => self.counts.differing > 0,
+            LinePlace::Point(x) => !is_known_as(fault.value, self.events.values()[x.index()].good),
+        }
+    }
 
-/// Whether the signal's value without the fault isn't known.
-pub(crate) fn is_unknown(core: &Core, pass: &Pass, x: SignalId) -> bool
-    requires signal { Contains (signals core.now) x }
-    requires size { length pass.now.values.items ≡ length (signals core.now) }
-    ensures { (f : Fault) (holds : Holds) (path : Path) → IsPass f core.now holds path pass.now
-        → MatchBool result (IsUnknown f core.now holds path x) (¬ IsUnknown f core.now holds path x) }
-{
-    core.netlist().sound();
-    matches!(pass.values[x.index()].good, Tri::X)
+    /// Whether the label is closed.
+    pub(crate) fn is_closed(&self, fault: &Fault) -> bool
+        requires line { IsLineOf self.now.netlist fault.now.line }
+        requires stuck { self.now.fault ≡ Some fault.now }
+        ensures { (path : Path) → decided_in self.now.decided ≡ decisions path
+            → MatchBool result (IsClosedPath fault.now self.now.netlist self.now.holds path) (¬ IsClosedPath fault.now self.now.netlist self.now.holds path) }
+    {
+        self.core().netlist().sound();
+        self.counts.contradicted > 0 || !self.is_observed(fault)
+    }
+
+    /// Whether the signal's value without the fault isn't known.
+    pub(crate) fn is_unknown(&self, x: SignalId) -> bool
+        requires { Contains (signals self.now.netlist) x }
+        ensures { (f : FaultOf) (path : Path) → self.now.fault ≡ Some f → decided_in self.now.decided ≡ decisions path
+            → MatchBool result (IsUnknown f self.now.netlist self.now.holds path x) (¬ IsUnknown f self.now.netlist self.now.holds path x) }
+    {
+        self.core().netlist().sound();
+        matches!(self.events.values()[x.index()].good, Tri::X)
+    }
 }

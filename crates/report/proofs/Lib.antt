@@ -1,2 +1,9 @@
+pub mod ByteLemmas
+pub mod FaultLemmas
+pub mod HoldLemmas
+pub mod LineLemmas
+pub mod NumberLemmas
+pub mod OutcomeLemmas
 pub mod TableLemmas
+pub mod WholeLemmas
 pub mod WriteLemmas

@@ -1,3 +1,5 @@
+pub mod Laws
+pub mod Reading
 pub mod Reports
 pub mod Texts
 pub mod inner

@@ -2,13 +2,20 @@
 #![tactic(auto)]
 
 mod fault_lines;
+mod fault_words;
 mod hold_lines;
+mod laws;
+mod lines;
 mod outcomes;
+mod pieces;
+mod reading;
 mod reports;
 mod writing;
 
 pub use fault_lines::{FaultLine, FaultLines};
 pub use hold_lines::HoldLines;
+pub use laws::texts_tell_reports;
 pub use outcomes::Outcome;
+pub use reading::{ReportFault, read_report};
 pub use reports::Report;
 pub use writing::write_report;

@@ -119,7 +119,7 @@ fn push_faults(out: &mut Vec<u8>, lines: &FaultLines) -> Result<(), AllocError>
 }
 
 /// The word of a count, by its place.
-fn count_word(place: usize) -> &'static [u8]
+pub(crate) fn count_word(place: usize) -> &'static [u8]
     requires { place < count_of_counts }
     ensures { slice_get count_words place ≡ Some result.now }
 {

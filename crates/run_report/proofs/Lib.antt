@@ -1,1 +1,4 @@
 pub mod CycleLemmas
+mod ListLemmas
+mod SightLemmas
+pub mod WordLemmas

@@ -1,1 +1,4 @@
 pub mod Strobes
+pub mod Outcomes
+pub mod Heads
+pub mod inner

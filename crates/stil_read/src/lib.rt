@@ -8,7 +8,7 @@ mod comment;
 mod expected;
 mod finding;
 mod items;
-mod laws;
+pub mod laws;
 mod pattern;
 mod reader;
 mod signal_block;

@@ -1,6 +1,7 @@
 mod CharLemmas
 mod CallLemmas
 mod VectorLemmas
-mod FitLemmas
+pub mod FitLemmas
 mod WidthLemmas
 mod TestLemmas
+mod PlayLemmas

@@ -111,6 +111,7 @@ pub fn work_rest<J: About, E: Engine>(
     requires few { length list.patterns ≤ class_count J.subject }
     ensures closed { IfOk result (λ l. NoneOpen l.verdicts) }
     ensures true_list { IfOk result (λ l. IsTrueList J.subject l) }
+    ensures few { IfOk result (λ l. length l.patterns ≤ class_count J.subject + class_count J.subject) }
 {
     let mut list = list;
     let mut rng = Lcg64Xsh32::new(seed, worker as u64);

@@ -1,5 +1,5 @@
 //! Workers beside each other.
-ghost use Rattle.std.specs.Prelude.{◌≡◌, ◌<◌, ◌≤◌, [], length, IfOk, vec_len};
+ghost use Rattle.std.specs.Prelude.{◌≡◌, ◌+◌, ◌<◌, ◌≤◌, [], length, IfOk, vec_len};
 ghost use Rattle.std.specs.List.{All};
 ghost use Rattle.list_core.specs.Subjects.{class_count, HaveLines};
 ghost use Rattle.list_core.specs.States.{IsTrueList};
@@ -145,6 +145,7 @@ fn run_named<
     requires unspent { (unspent.name ≡ U.name) × (unspent.parts ≡ U.parts) × (U.parts ≡ workers) }
     ensures closed { IfOk result (λ l. NoneOpen l.verdicts) }
     ensures true_list { IfOk result (λ l. IsTrueList J.subject l) }
+    ensures few { IfOk result (λ l. length l.patterns ≤ class_count J.subject + class_count J.subject) }
 {
     let (shared, shares) = Shared::<J, T, S, P, U>::new(
         alloc, list, workers, takes, settles, publishes, unspent,
@@ -183,6 +184,7 @@ pub fn run_all<J: About + Send + Sync, E: Engine + Sync, G: Gate + Sync, R: Thre
     requires workers { (0 < workers) × (workers ≤ 64) }
     ensures closed { IfOk result (λ l. NoneOpen l.verdicts) }
     ensures true_list { IfOk result (λ l. IsTrueList J.subject l) }
+    ensures few { IfOk result (λ l. length l.patterns ≤ class_count J.subject + class_count J.subject) }
 {
     let parts = workers as u64;
     run_named::<J, Brand, Brand, Brand, Brand, E, G, R>(

@@ -1,0 +1,82 @@
+//! A line: a fault and its tree.
+ghost use Rattle.std.specs.Prelude.{List, MatchOption, MatchResult};
+ghost use Rattle.netlist.specs.declared.lines.Fault.{Fault};
+ghost use Rattle.redundancy_cert.specs.declared.nodes.Node.{Node};
+ghost use Rattle.certificate.specs.Certificates.{IsRefused};
+ghost use Rattle.certificate.specs.inner.Parts.{AreNodes, IsFaultAt, NoFaultAt, IsLineOf};
+ghost use Rattle.certificate.specs.inner.Words.{IsEnd};
+ghost use Rattle.redundancy_cert.specs.Trees.{IsOneTree};
+
+use crate::node::node_at;
+use crate::one_tree::is_one_tree;
+use crate::reading::CertFault;
+use crate::word::cut_fault;
+use fault_universe::fault_named;
+use name_index::NameIndex;
+use netlist::Fault;
+use redundancy_cert::{Node, Tree};
+use std::alloc::Global;
+
+/// The fault that a line begins with, and the text behind it.
+fn fault_at<'a>(names: &NameIndex, line: &'a [u8]) -> Option<(Fault, &'a [u8])>
+    ensures { MatchOption result (NoFaultAt names.now line.now) (λ p. IsFaultAt names.now line.now p.0 p.1.now) }
+{
+    names.netlist().sound();
+    let Some(parts) = cut_fault(line) else {
+        return None;
+    };
+    match fault_named(names, parts.0) {
+        Some(fault) => Some((fault, parts.1)),
+        None => None,
+    }
+}
+
+/// The nodes that a text stands for.
+fn read_nodes(alloc: Global, names: &NameIndex, text: &[u8]) -> Result<Vec<Node>, CertFault>
+    requires { IsEnd text.now }
+    ensures { MatchResult result (λ nodes. AreNodes names.now text.now nodes.items) (IsRefused ((nodes : List Node) → ¬ AreNodes names.now text.now nodes)) }
+{
+    names.netlist().sound();
+    let mut nodes = Vec::new(alloc);
+    let mut rest = text;
+    while !rest.is_empty() {
+        let Some(next) = node_at(names, rest) else {
+            return Err(CertFault::NotCertificate);
+        };
+        let Ok(()) = nodes.push(next.0) else {
+            return Err(CertFault::NoMemory);
+        };
+        rest = next.1;
+    }
+    Ok(nodes)
+}
+
+/// The tree that a text stands for.
+fn read_tree(alloc: Global, names: &NameIndex, text: &[u8]) -> Result<Tree, CertFault>
+    requires { IsEnd text.now }
+    ensures { MatchResult result (λ tree. AreNodes names.now text.now tree × IsOneTree tree) (IsRefused ((nodes : List Node) → AreNodes names.now text.now nodes → ¬ IsOneTree nodes)) }
+{
+    names.netlist().sound();
+    let nodes = read_nodes(alloc, names, text)?;
+    if is_one_tree(&nodes) {
+        Ok(Tree::new(nodes))
+    } else {
+        Err(CertFault::NotCertificate)
+    }
+}
+
+/// The fault and the tree that a line stands for.
+pub(crate) fn read_line(
+    alloc: Global,
+    names: &NameIndex,
+    line: &[u8],
+) -> Result<(Fault, Tree), CertFault>
+    ensures { MatchResult result (IsLineOf names.now line.now) (IsRefused ((p : Fault × List Node) → ¬ IsLineOf names.now line.now p)) }
+{
+    names.netlist().sound();
+    let Some(fault) = fault_at(names, line) else {
+        return Err(CertFault::NotCertificate);
+    };
+    let tree = read_tree(alloc, names, fault.1)?;
+    Ok((fault.0, tree))
+}

@@ -1,0 +1,30 @@
+-- The chains of a design, and what the law of insertion says with scan off.
+use Rattle.std.proofs.Common.{◌≡◌, ℕ, ◌<◌, ◌≤◌, false, List, [], ◌∷◌, length, take, min, None, refl, sym, ◌∙◌, ap, subst, arith}
+use Rattle.std.proofs.lemmas.Option.{none-some}
+use Rattle.std.proofs.lemmas.List.{take_at, length-map}
+use Rattle.netlist.specs.Netlist.{Netlist, cells}
+use Rattle.netlist.specs.Conditions.{IsSound}
+use Rattle.netlist.specs.Settled.{bits, outs}
+use Rattle.chain_stitch.specs.Chains.{chains_of, pieces, lengths_of}
+use Rattle.scan_insert.specs.Laws.{ScanBehaves, last_bits}
+use Rattle.scan_insert.specs.Scanned.{AreChainsOf, cell_ids}
+use Rattle.good_files.specs.ScanOff.{BehavesWithScanOff, design_chains}
+
+none : (count : ℕ) → count ≡ 0 → pieces (lengths_of 0 count) [] ≡ []
+none count e = ap (λ c. pieces (lengths_of 0 c) []) e
+
+nil-cons : {x : List ℕ} {xs : List (List ℕ)} → [] ≡ x ∷ xs → ⊥
+nil-cons e = let l = ap length e in omega arith
+
+-- a netlist with a chain has a cell
+chained : (ids : List ℕ) (asked : ℕ) (chain : List ℕ) (chains : List (List ℕ)) → chains_of ids asked ≡ chain ∷ chains → 0 < length ids
+chained [] asked chain chains e = absurd (nil-cons (sym (none (min asked 0) (omega arith)) ∙ e))
+chained (x ∷ ids) asked chain chains e = omega arith
+
+pub behaves : ScanBehaves → (n : Netlist) (asked : ℕ) → IsSound n → AreChainsOf n (design_chains n asked) → (chains : List (List ℕ)) → design_chains n asked ≡ chains → BehavesWithScanOff n chains
+behaves law n asked sound dealt [] e = refl
+behaves law n asked sound dealt (chain ∷ chains) e = λ inputs state scan_inputs a b p q.
+    let many : length (cell_ids n) ≡ length (cells n) = length-map (cells n) (λ d. d.id) in
+    let cell : 0 < length (cells n) = (let c = chained (cell_ids n) asked chain chains e in omega arith) in
+    let w = law n (chain ∷ chains) None inputs state scan_inputs false a b sound (subst (AreChainsOf n) e dealt) cell (λ g none. absurd (none-some g none)) p q in
+    (ap (take (length n.outputs)) (w.0) ∙ take_at (outs (bits None) n a) (last_bits (chain ∷ chains) state) (length n.outputs) (length-map n.outputs _), w.1)

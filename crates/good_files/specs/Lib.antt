@@ -1,0 +1,4 @@
+pub mod ScanOff
+pub mod GoodFiles
+pub mod RunTheorem
+pub mod Laws

@@ -1,0 +1,8 @@
+use Rattle.std.proofs.Common.{take}
+use Rattle.std.specs.List.{flat_map}
+use Rattle.netlist.specs.Netlist.{Definition, cells}
+use Rattle.redundancy_cert.specs.inner.Passing.{Marks}
+use Rattle.redundancy_cert.proofs.observed.mark_pins.Given as goal
+
+abbrev pub invariant-loop-cell : goal.invariant-loop-cell
+invariant-loop-cell l = Marks (flat_map (λ (d : Definition). d.pins) (take l.cell-index (cells l.core))) l.fn.marks.items l.marks.items

@@ -1,0 +1,121 @@
+-- Whole texts of reports.
+use Rattle.std.proofs.Common.{◌≡◌, ◌≢◌, ℕ, Bool, true, false, not, List, [], ◌∷◌, ◌++◌, get_or, refl, sym, ◌∙◌, ap, codes, append_assoc, arith}
+use Rattle.std.specs.Bool.{beq}
+use Rattle.std.specs.List.{All, flat_map}
+use Rattle.std.proofs.lemmas.Bool.{false≢true}
+use Rattle.std.proofs.lemmas.List.{append-nil, append_cancel_left}
+use Rattle.std.proofs.lemmas.List.Elements.{All-head}
+use Rattle.report.specs.Reports.{Hold, IsFaultText, IsLine, IsReport, Line, Report, at_stem, at_output, at_pin}
+use Rattle.report.specs.Texts.{count_words, counts_text, fault_line, head, hold_line, outcome_text, report_text, share_line}
+use Rattle.report.specs.inner.Lines.{AreCounts, Begins, IsHold, IsShare, NoneBegins, hold_words, fault_words, some_held, version_line}
+use Rattle.report.proofs.HoldLemmas.{hold_lined, hold_told}
+use Rattle.report.proofs.LineLemmas.{nothing_begins, same_lines}
+use Rattle.report.proofs.NumberLemmas.{counts_told, share_told}
+use Rattle.report.proofs.OutcomeLemmas.{fault_lined, fault_told}
+
+pub version_told : (a b : Bool) (r s : List ℕ) → version_line a ++ r ≡ version_line b ++ s → (a ≡ b) × (r ≡ s)
+version_told false false r s e = (refl, append_cancel_left (version_line false) r s e)
+version_told true true r s e = (refl, append_cancel_left (version_line true) r s e)
+version_told false true r s e = let differ : ◌≡◌ {A = ℕ} 49 50 = ap (λ xs. get_or xs 12 0) e in absurd (omega arith)
+version_told true false r s e = let differ : ◌≡◌ {A = ℕ} 50 49 = ap (λ xs. get_or xs 12 0) e in absurd (omega arith)
+
+pub no_version : (text : List ℕ) → ((r : List ℕ) → text ≢ version_line false ++ r) → ((r : List ℕ) → text ≢ version_line true ++ r)
+    → (held : Bool) (rest : List ℕ) → text ≢ version_line held ++ rest
+no_version text one two false rest e = one rest e
+no_version text one two true rest e = two rest e
+
+head_is : (hs : List Hold) → head hs ≡ version_line (some_held hs)
+head_is [] = refl
+head_is (h ∷ hs) = refl
+
+-- no line of a fault is that of a held input
+fault_first : (fault rest : List ℕ) → IsFaultText fault → get_or (fault ++ rest) 0 0 ≢ 104
+fault_first fault rest (at_stem _ n) e = let differ : ◌≡◌ {A = ℕ} 115 104 = sym (ap (λ t. get_or (t ++ rest) 0 0) n.text_is) ∙ e in absurd (omega arith)
+fault_first fault rest (at_output _ n) e = let differ : ◌≡◌ {A = ℕ} 111 104 = sym (ap (λ t. get_or (t ++ rest) 0 0) n.text_is) ∙ e in absurd (omega arith)
+fault_first fault rest (at_pin _ n) e = let differ : ◌≡◌ {A = ℕ} 112 104 = sym (ap (λ t. get_or (t ++ rest) 0 0) n.text_is) ∙ e in absurd (omega arith)
+
+pub no_hold_begins : (ls : List Line) → All IsLine ls → NoneBegins IsHold hold_line (flat_map fault_line ls)
+no_hold_begins [] v h rest w e = nothing_begins IsHold hold_words hold_line hold_lined h rest w e
+no_hold_begins (l ∷ ls) v h rest w e =
+    fault_first l.fault ((outcome_text l.outcome l.pin ++ codes "\n") ++ flat_map fault_line ls) (All-head IsLine l ls v).fault
+    (ap (λ xs. get_or xs 0 0) (sym (append_assoc l.fault (outcome_text l.outcome l.pin ++ codes "\n") (flat_map fault_line ls)) ∙ e))
+
+pub no_fault_begins : NoneBegins IsLine fault_line []
+no_fault_begins = nothing_begins IsLine fault_words fault_line fault_lined
+
+pub same_versions : (a b : Bool) → a ≡ b → not (beq a b) ≡ true → ⊥
+same_versions false false e t = false≢true t
+same_versions false true e t = false≢true e
+same_versions true false e t = false≢true (sym e)
+same_versions true true e t = false≢true t
+
+-- lines of faults, with what is left of them
+pub faults_told : (xs ys : List Line) (rest : List ℕ) → All IsLine xs → All IsLine ys → NoneBegins IsLine fault_line rest
+    → flat_map fault_line xs ++ rest ≡ flat_map fault_line ys → (xs ≡ ys) × (rest ≡ [])
+faults_told xs ys rest v w none e =
+    same_lines IsLine fault_line fault_told xs ys rest [] v w none no_fault_begins (e ∙ sym (append-nil (flat_map fault_line ys)))
+
+-- held inputs, and lines of faults behind them
+pub tables_told : (hs : List Hold) (rest : List ℕ) (is : List Hold) (ls : List Line) → All IsHold hs → NoneBegins IsHold hold_line rest → All IsHold is → All IsLine ls
+    → flat_map hold_line hs ++ rest ≡ flat_map hold_line is ++ flat_map fault_line ls → (hs ≡ is) × (rest ≡ flat_map fault_line ls)
+tables_told hs rest is ls v none w u e = same_lines IsHold hold_line hold_told hs is rest (flat_map fault_line ls) v w none (no_hold_begins ls u) e
+
+-- what stands behind each part
+abbrev pub behind_shares : Report → List ℕ
+behind_shares r = flat_map hold_line r.holds ++ flat_map fault_line r.lines
+
+abbrev pub behind_coverage : Report → List ℕ
+behind_coverage r = share_line (codes "efficiency ") r.efficiency ++ behind_shares r
+
+abbrev pub behind_counts : Report → List ℕ
+behind_counts r = share_line (codes "coverage ") r.coverage ++ behind_coverage r
+
+abbrev pub behind_head : Report → List ℕ
+behind_head r = counts_text count_words r.counts ++ behind_counts r
+
+pub report_text_is : (r : Report) → report_text r ≡ version_line (some_held r.holds) ++ behind_head r
+report_text_is r = ap (λ t. t ++ behind_head r) (head_is r.holds)
+
+pub after_head : (r : Report) (bytes rest : List ℕ) (held : Bool) → bytes ≡ report_text r → bytes ≡ version_line held ++ rest → (held ≡ some_held r.holds) × (rest ≡ behind_head r)
+after_head r bytes rest held e is = version_told held (some_held r.holds) rest (behind_head r) (sym is ∙ (e ∙ report_text_is r))
+
+pub after_counts : (r : Report) (text rest cs : List ℕ) → IsReport r → text ≡ behind_head r → Begins AreCounts (counts_text count_words) text cs rest
+    → (cs ≡ r.counts) × (rest ≡ behind_counts r)
+after_counts r text rest cs v e is = counts_told count_words cs r.counts rest (behind_counts r) is.0.0 v.size is.0.1 v.small (sym is.1 ∙ e)
+
+pub after_coverage : (r : Report) (text rest : List ℕ) (n : ℕ) → IsReport r → text ≡ behind_counts r → Begins IsShare (share_line (codes "coverage ")) text n rest
+    → (n ≡ r.coverage) × (rest ≡ behind_coverage r)
+after_coverage r text rest n v e is = share_told (codes "coverage ") n r.coverage rest (behind_coverage r) is.0 v.coverage (sym is.1 ∙ e)
+
+pub after_efficiency : (r : Report) (text rest : List ℕ) (n : ℕ) → IsReport r → text ≡ behind_coverage r → Begins IsShare (share_line (codes "efficiency ")) text n rest
+    → (n ≡ r.efficiency) × (rest ≡ behind_shares r)
+after_efficiency r text rest n v e is = share_told (codes "efficiency ") n r.efficiency rest (behind_shares r) is.0 v.efficiency (sym is.1 ∙ e)
+
+-- at most one report has a given text
+pub same_report : (r s : Report) → IsReport r → IsReport s → report_text r ≡ report_text s → r ≡ s
+same_report r s v w e =
+    let heads = after_head s (report_text r) (behind_head r) (some_held r.holds) e (report_text_is r) in
+    let counts = after_counts s (behind_head r) (behind_counts r) r.counts w heads.1 ((v.size, v.small), refl) in
+    let coverage = after_coverage s (behind_counts r) (behind_coverage r) r.coverage w counts.1 (v.coverage, refl) in
+    let efficiency = after_efficiency s (behind_coverage r) (behind_shares r) r.efficiency w coverage.1 (v.efficiency, refl) in
+    let tables = tables_told r.holds (flat_map fault_line r.lines) s.holds s.lines v.holds (no_hold_begins r.lines v.lines) w.holds w.lines efficiency.1 in
+    let faults = faults_told r.lines s.lines [] v.lines w.lines no_fault_begins (append-nil (flat_map fault_line r.lines) ∙ tables.1) in
+    ap (λ (k : List ℕ). record { counts = k; coverage = r.coverage; efficiency = r.efficiency; holds = r.holds; lines = r.lines }) counts.0
+    ∙ (ap (λ (k : ℕ). record { counts = s.counts; coverage = k; efficiency = r.efficiency; holds = r.holds; lines = r.lines }) coverage.0
+    ∙ (ap (λ (k : ℕ). record { counts = s.counts; coverage = s.coverage; efficiency = k; holds = r.holds; lines = r.lines }) efficiency.0
+    ∙ (ap (λ (hs : List Hold). record { counts = s.counts; coverage = s.coverage; efficiency = s.efficiency; holds = hs; lines = r.lines }) tables.0
+    ∙ ap (λ (ls : List Line). record { counts = s.counts; coverage = s.coverage; efficiency = s.efficiency; holds = s.holds; lines = ls }) faults.0)))
+
+-- what was read part by part is a report with this text
+pub whole_found : (bytes a b c d : List ℕ) (held : Bool) (counts : List ℕ) (coverage efficiency : ℕ) (hs : List Hold) (ls : List Line)
+    → bytes ≡ version_line held ++ a → Begins AreCounts (counts_text count_words) a counts b → Begins IsShare (share_line (codes "coverage ")) b coverage c
+    → Begins IsShare (share_line (codes "efficiency ")) c efficiency d
+    → All IsHold hs × All IsLine ls × (held ≡ some_held hs) × (d ≡ flat_map hold_line hs ++ flat_map fault_line ls)
+    → IsReport (record { counts = counts; coverage = coverage; efficiency = efficiency; holds = hs; lines = ls })
+    × (bytes ≡ report_text (record { counts = counts; coverage = coverage; efficiency = efficiency; holds = hs; lines = ls }))
+whole_found bytes a b c d held counts coverage efficiency hs ls v p q r t = (
+  record { size = p.0.0; small = p.0.1; coverage = q.0; efficiency = r.0; holds = t.0; lines = t.1 },
+  v ∙ (ap (λ h. version_line h ++ a) t.2 ∙ (ap (λ u. u ++ a) (sym (head_is hs))
+      ∙ ap (λ u. head hs ++ u) (p.1 ∙ ap (λ u. counts_text count_words counts ++ u)
+      (q.1 ∙ ap (λ u. share_line (codes "coverage ") coverage ++ u) (r.1 ∙ ap (λ u. share_line (codes "efficiency ") efficiency ++ u) t.3))))),
+)

@@ -1,0 +1,52 @@
+-- Texts that begin with a line, or with some lines.
+use Rattle.std.specs.Prelude.{ℕ, ◌≡◌, ◌≢◌, ◌/◌, ◌^◌, ◌<◌, ◌++◌, ◌∷◌, [], Bool, true, false, List, codes, decimal, length}
+use Rattle.std.specs.List.{All}
+use Rattle.report.specs.Reports.{Hold, Line, IsWord, count_of_counts}
+use Rattle.report.specs.Texts.{hundredths, outcome_text}
+
+-- the text is what stands for this value, and then the rest
+abbrev pub Begins : {X : Type 0} → (X → Type 0) → (X → List ℕ) → List ℕ → X → List ℕ → Type 0
+Begins valid line text x rest = valid x × (text ≡ line x ++ rest)
+
+-- the text begins with what stands for no value
+abbrev pub NoneBegins : {X : Type 0} → (X → Type 0) → (X → List ℕ) → List ℕ → Type 0
+NoneBegins {X} valid line text = (x : X) (rest : List ℕ) → valid x → text ≢ line x ++ rest
+
+abbrev pub IsCount : ℕ → Type 0
+IsCount count = count < 2 ^ 64
+
+abbrev pub AreCounts : List ℕ → Type 0
+AreCounts counts = (length counts ≡ count_of_counts) × All IsCount counts
+
+abbrev pub IsShare : ℕ → Type 0
+IsShare share = share / 100 < 2 ^ 64
+
+abbrev pub IsHold : Hold → Type 0
+IsHold h = IsWord h.name
+
+-- a count and a share up to the ends of their lines
+abbrev pub count_end : ℕ → List ℕ
+count_end count = decimal count ++ codes "\n"
+
+abbrev pub share_end : ℕ → List ℕ
+share_end share = hundredths share ++ codes "\n"
+
+-- lines without their ends
+abbrev pub bit_text : Bool → List ℕ
+bit_text false = codes " 0"
+bit_text true = codes " 1"
+
+abbrev pub hold_words : Hold → List ℕ
+hold_words h = codes "hold " ++ (h.name ++ bit_text h.bit)
+
+abbrev pub fault_words : Line → List ℕ
+fault_words l = l.fault ++ outcome_text l.outcome l.pin
+
+-- the first line of a version, the second of which holds inputs
+abbrev pub version_line : Bool → List ℕ
+version_line false = codes "atpg report 1\n"
+version_line true = codes "atpg report 2\n"
+
+abbrev pub some_held : List Hold → Bool
+some_held [] = false
+some_held (h ∷ hs) = true

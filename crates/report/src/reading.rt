@@ -1,0 +1,128 @@
+//! Reports from their text: line by line, each line as it is written.
+ghost use Rattle.std.specs.Prelude.{◌≡◌, ◌≢◌, ◌<◌, ◌++◌, List, IfOk, MatchOption};
+ghost use Rattle.std.specs.List.{All, flat_map};
+ghost use Rattle.report.specs.Reading.{IsReportRead};
+ghost use Rattle.report.specs.Reports.{Hold, Line, Report as Kept, IsLine, IsReport};
+ghost use Rattle.report.specs.Texts.{count_words, counts_text, hold_line, fault_line, report_text};
+ghost use Rattle.report.specs.inner.Lines.{Begins, NoneBegins, AreCounts, IsHold, some_held};
+
+use crate::fault_lines::FaultLines;
+use crate::hold_lines::HoldLines;
+use crate::lines::{count, fault, hold, share, version};
+use crate::reports::Report;
+use crate::writing::count_word;
+use std::alloc::{AllocError, Global};
+
+/// Why there is no report.
+#[derive(Clone, Copy, Debug, PartialEq, Eq)]
+pub enum ReportFault {
+    NotReport,
+    NoMemory,
+}
+
+/// How many counts a report has.
+const COUNTS: usize = 14;
+
+/// The counts, and what stands behind them.
+fn counts<'a>(alloc: Global, text: &'a [u8]) -> Result<Option<(Vec<u64>, &'a [u8])>, AllocError>
+    ensures { IfOk result (λ o. MatchOption o (NoneBegins AreCounts (counts_text count_words) text.now) (λ p. Begins AreCounts (counts_text count_words) text.now p.0.items p.1.now)) }
+{
+    let mut counts = Vec::new(alloc);
+    let mut rest = text;
+    for k in 0..COUNTS {
+        let Some((number, after)) = count(count_word(k), rest) else {
+            return Ok(None);
+        };
+        counts.push(number)?;
+        rest = after;
+    }
+    Ok(Some((counts, rest)))
+}
+
+/// All inputs that are held, and what stands behind their lines.
+fn holds<'a>(alloc: Global, text: &'a [u8]) -> Result<(HoldLines, &'a [u8]), AllocError>
+    ensures { IfOk result (λ p. All IsHold p.0 × (text.now ≡ flat_map hold_line p.0 ++ p.1.now) × NoneBegins IsHold hold_line p.1.now) }
+{
+    let mut holds = HoldLines::new(alloc);
+    let mut rest = text;
+    'holds: while let Some((line, after)) = hold(rest) {
+        holds = holds.push(line.name, line.bit)?;
+        rest = after;
+    }
+    Ok((holds, rest))
+}
+
+/// The lines of faults, of which the whole text is made.
+fn fault_lines(alloc: Global, text: &[u8]) -> Result<Option<FaultLines>, AllocError>
+    ensures { IfOk result (λ o. MatchOption o ((ls : List Line) → All IsLine ls → text.now ≢ flat_map fault_line ls) (λ ls. All IsLine ls × (text.now ≡ flat_map fault_line ls))) }
+{
+    let mut lines = FaultLines::new(alloc);
+    let mut rest = text;
+    'faults: while !rest.is_empty() {
+        let Some((line, after)) = fault(rest) else {
+            return Ok(None);
+        };
+        lines = lines.push(line.fault, line.outcome, line.pin)?;
+        rest = after;
+    }
+    Ok(Some(lines))
+}
+
+fn has_lines(holds: &HoldLines) -> bool
+    ensures { result ≡ some_held holds.now }
+{
+    holds.len() > 0
+}
+
+/// The inputs that are held, of which there are some or none as the version says, and the lines of faults.
+fn tables(
+    alloc: Global,
+    held: bool,
+    text: &[u8],
+) -> Result<Option<(HoldLines, FaultLines)>, AllocError>
+    ensures { IfOk result (λ o. MatchOption o
+        ((hs : List Hold) (ls : List Line) → All IsHold hs → All IsLine ls → held ≡ some_held hs → text.now ≢ flat_map hold_line hs ++ flat_map fault_line ls)
+        (λ p. All IsHold p.0 × All IsLine p.1 × (held ≡ some_held p.0) × (text.now ≡ flat_map hold_line p.0 ++ flat_map fault_line p.1))) }
+{
+    let (holds, rest) = holds(alloc, text)?;
+    if held != has_lines(&holds) {
+        return Ok(None);
+    }
+    let Some(lines) = fault_lines(alloc, rest)? else {
+        return Ok(None);
+    };
+    Ok(Some((holds, lines)))
+}
+
+/// The report with this text, if there is one.
+fn report(alloc: Global, bytes: &[u8]) -> Result<Option<Report>, AllocError>
+    ensures { IfOk result (λ o. MatchOption o ((r : Kept) → IsReport r → bytes.now ≢ report_text r) (λ r. IsReport r × (bytes.now ≡ report_text r))) }
+{
+    let Some((held, behind_head)) = version(bytes) else {
+        return Ok(None);
+    };
+    let Some((counts, behind_counts)) = counts(alloc, behind_head)? else {
+        return Ok(None);
+    };
+    let Some((coverage, behind_coverage)) = share(b"coverage ", behind_counts) else {
+        return Ok(None);
+    };
+    let Some((efficiency, behind_shares)) = share(b"efficiency ", behind_coverage) else {
+        return Ok(None);
+    };
+    let Some((holds, lines)) = tables(alloc, held, behind_shares)? else {
+        return Ok(None);
+    };
+    Ok(Some(Report::new(counts, coverage, efficiency, holds, lines)))
+}
+
+/// The report with this text; `NotReport` exactly where no report has it.
+pub fn read_report(alloc: Global, bytes: &[u8]) -> Result<Report, ReportFault>
+    ensures { IsReportRead bytes.now result }
+{
+    match report(alloc, bytes) {
+        Ok(Some(report)) => Ok(report),
+        Ok(None) => Err(ReportFault::NotReport),
+        Err(_) => Err(ReportFault::NoMemory),
+    }
+}

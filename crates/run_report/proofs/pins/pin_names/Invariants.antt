@@ -1,0 +1,6 @@
+use Rattle.std.proofs.Common.{◌≡◌, map, take}
+use Rattle.scan_insert.specs.Names.{output_name}
+use Rattle.run_report.proofs.pins.pin_names.Given as goal
+
+abbrev pub invariant-loop-output : goal.invariant-loop-output
+invariant-loop-output l = l.names ≡ map (output_name l.netlist) (take l.output l.netlist.outputs)

@@ -1,0 +1,61 @@
+-- The numbers of a report, which follow from the netlist, its chains, the limit, the patterns and the lines.
+use Rattle.std.specs.Prelude.{ℕ, ◌≡◌, ◌+◌, ◌*◌, ◌/◌, List, [], ◌∷◌, length, sum_by, Option, Some, None, Bool}
+use Rattle.std.specs.List.{flat_map, zip}
+use Rattle.netlist.specs.Netlist.{Netlist, cells, gates, name_of}
+use Rattle.netlist.specs.Holds.{Holds}
+use Rattle.chain_stitch.specs.Chains.{longest_of}
+use Rattle.fault_universe.specs.Universe.{universe_of}
+use Rattle.fault_collapse.specs.Numbers.{Classes}
+use Rattle.report.specs.declared.outcomes.Outcome.{Outcome}
+use Rattle.report.specs.declared.outcomes.Outcome.TheVariants.{Detected, Redundant, Aborted}
+use Rattle.report.specs.Reports.{Line, Hold, Report}
+use Rattle.run_report.specs.Outcomes.{Test}
+
+-- 1 for an outcome of the kind
+abbrev pub detected_one : Outcome → ℕ
+detected_one (Detected place cycle) = 1
+detected_one Redundant = 0
+detected_one Aborted = 0
+
+abbrev pub redundant_one : Outcome → ℕ
+redundant_one (Detected place cycle) = 0
+redundant_one Redundant = 1
+redundant_one Aborted = 0
+
+abbrev pub aborted_one : Outcome → ℕ
+aborted_one (Detected place cycle) = 0
+aborted_one Redundant = 0
+aborted_one Aborted = 1
+
+-- how many lines are of the kind
+abbrev pub count_of : (Outcome → ℕ) → List Line → ℕ
+count_of one lines = sum_by (λ (l : Line). one l.outcome) lines
+
+-- the cycles of a test of so many patterns with these chains: a flush of three loads, a load and a capture for each pattern, and a last load
+abbrev pub cycle_count : List (List ℕ) → ℕ → ℕ
+cycle_count chains patterns = (patterns + 4) * longest_of chains + patterns
+
+-- the counts, from the netlist, its chains, how many faults, classes and patterns there are, the limit, and the lines
+abbrev pub counts_of : Netlist → List (List ℕ) → ℕ → ℕ → ℕ → ℕ → List Line → List ℕ
+counts_of n chains faults classes patterns limit lines =
+    length n.inputs ∷ length n.outputs ∷ length (gates n) ∷ length (cells n) ∷ length chains ∷ faults ∷ classes ∷ patterns ∷ cycle_count chains patterns ∷ limit
+    ∷ count_of detected_one lines ∷ count_of redundant_one lines ∷ count_of aborted_one lines
+    ∷ (count_of redundant_one lines + count_of aborted_one lines) ∷ []
+
+-- so many of all faults, in hundredths of a percent, rounded down
+abbrev pub share_of : ℕ → ℕ → ℕ
+share_of faults count = 10000 * count / faults
+
+-- the numbers above the lines
+pub record HasHead (t : Test) (classes : Classes) (r : Report) : Type 0 where
+  pub counts : r.counts ≡ counts_of t.netlist t.chains (length (universe_of t.netlist)) (length classes.representatives) (length t.patterns) t.limit r.lines
+  pub coverage : r.coverage ≡ share_of (length (universe_of t.netlist)) (count_of detected_one r.lines)
+  pub efficiency : r.efficiency ≡ share_of (length (universe_of t.netlist)) (count_of detected_one r.lines + count_of redundant_one r.lines)
+
+abbrev pub hold_at : Netlist → ℕ × Option Bool → List Hold
+hold_at n (x, None) = []
+hold_at n (x, Some bit) = record { name = name_of n x; bit = bit } ∷ []
+
+-- the held inputs by name, in the order of inputs
+abbrev pub holds_named : Netlist → Holds → List Hold
+holds_named n holds = flat_map (hold_at n) (zip n.inputs holds)

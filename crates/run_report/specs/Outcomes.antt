@@ -1,0 +1,89 @@
+-- What a report says of faults, and when it is true. (Detected, redundant and aborted faults: Bushnell and Agrawal, Essentials of Electronic Testing.)
+use Rattle.std.specs.Prelude.{ℕ, ◌≡◌, ◌≢◌, ◌≤◌, ◌<◌, ◌⊎◌, List, [], ◌∷◌, length, Some}
+use Rattle.std.specs.List.{slice_get}
+use Rattle.netlist.specs.declared.lines.Fault.{Fault}
+use Rattle.netlist.specs.declared.lines.Point.{Point}
+use Rattle.netlist.specs.Netlist.{Netlist}
+use Rattle.netlist.specs.Holds.{Holds}
+use Rattle.cubes.specs.Cubes.{Pattern}
+use Rattle.scan_insert.specs.Names.{pin_name_of}
+use Rattle.scan_insert.specs.Scanned.{scanned_of}
+use Rattle.scan_play.specs.Vectors.{IsStrobedAt}
+use Rattle.fault_universe.specs.Texts.{fault_text}
+use Rattle.fault_universe.specs.Universe.{universe_of}
+use Rattle.fault_collapse.specs.Classes.{Represents}
+use Rattle.fault_collapse.specs.Numbers.{Classes}
+use Rattle.redundancy_cert.specs.declared.nodes.Node.{Node}
+use Rattle.redundancy_cert.specs.Trees.{closed_count, open_count}
+use Rattle.redundancy_cert.specs.Fits.{Fits}
+use Rattle.word_sim.specs.Hits.{IsLastDetected, IsNeverDetected}
+use Rattle.report.specs.declared.outcomes.Outcome.{Outcome}
+use Rattle.report.specs.declared.outcomes.Outcome.TheVariants.{Detected, Redundant, Aborted}
+use Rattle.report.specs.Reports.{Line}
+
+-- A test of a netlist: the inputs that are held, the scan chains, the patterns in their order,
+-- how many closed ends a search might make, and the trees that it left.
+pub record Test : Type 0 where
+  pub netlist : Netlist
+  pub holds : Holds
+  pub chains : List (List ℕ)
+  pub limit : ℕ
+  pub patterns : List Pattern
+  pub trees : List (Fault × List Node)
+
+-- the tester sees a point of this pattern in this cycle at this pin
+abbrev pub IsSeenAt : Netlist → List (List ℕ) → ℕ → Point → ℕ → List ℕ → Type 0
+IsSeenAt n chains place point cycle pin = (output : ℕ) × IsStrobedAt n chains place point cycle output × (pin ≡ pin_name_of (scanned_of n chains) output)
+
+-- The last pattern that detects the fault is at this place, and its first point is seen in this cycle at this pin.
+pub record IsSeen (t : Test) (f : Fault) (place cycle : ℕ) (pin : List ℕ) : Type 0 where
+  pub point : Point
+  pub last : IsLastDetected t.netlist t.patterns f place point
+  pub seen : IsSeenAt t.netlist t.chains place point cycle pin
+
+-- the first of these trees that stands beside the fault
+abbrev pub IsFirstTree : List (Fault × List Node) → Fault → List Node → Type 0
+IsFirstTree [] f tree = ⊥
+IsFirstTree (p ∷ ps) f tree = ((p.0 ≡ f) × (p.1 ≡ tree)) ⊎ ((p.0 ≢ f) × IsFirstTree ps f tree)
+
+-- No pattern detects the fault, and the tree of its representative fits that.
+pub record IsLeft (t : Test) (f representative : Fault) (tree : List Node) : Type 0 where
+  pub first : IsFirstTree t.trees representative tree
+  pub fits : Fits representative t.netlist t.holds tree
+  pub never : IsNeverDetected t.netlist t.patterns f
+
+-- What is said of a fault is true: where it is seen; or a tree that leaves nothing open; or one that leaves an end open
+-- and has as many closed ends as the limit.
+abbrev pub IsTrueOf : Test → Fault → Fault → Outcome → List ℕ → Type 0
+IsTrueOf t f representative (Detected place cycle) pin = IsSeen t f place cycle pin
+IsTrueOf t f representative Redundant pin = (tree : List Node) × IsLeft t f representative tree × (open_count tree ≡ 0)
+IsTrueOf t f representative Aborted pin = (tree : List Node) × IsLeft t f representative tree × (closed_count tree ≡ t.limit) × (1 ≤ open_count tree)
+
+-- the line at a place is that of the fault at this place, and what it says is true
+pub record IsTrueAt (t : Test) (classes : Classes) (lines : List Line) (place : ℕ) : Type 0 where
+  pub fault : Fault
+  pub class : ℕ
+  pub representative : Fault
+  pub line : Line
+  pub member : slice_get (universe_of t.netlist) place ≡ Some fault
+  pub of_class : slice_get classes.numbers place ≡ Some class
+  pub represents : Represents classes class representative
+  pub said : slice_get lines place ≡ Some line
+  pub names_it : line.fault ≡ fault_text t.netlist fault
+  pub is_true : IsTrueOf t fault representative line.outcome line.pin
+
+-- each fault of the universe has its line, in order, what it says is true, and there is no further line
+pub record AreTrueLines (t : Test) (classes : Classes) (lines : List Line) : Type 0 where
+  pub each : (place : ℕ) → place < length (universe_of t.netlist) → IsTrueAt t classes lines place
+  pub no_more : length lines ≡ length (universe_of t.netlist)
+
+-- some pattern detects the fault
+abbrev pub IsDetected : Netlist → List Pattern → Fault → Type 0
+IsDetected n patterns f = (place : ℕ) × (point : Point) × IsLastDetected n patterns f place point
+
+-- those of the faults that no pattern detects, in order
+abbrev pub AreUndetected : Netlist → List Pattern → List Fault → List Fault → Type 0
+AreUndetected n patterns [] left = left ≡ []
+AreUndetected n patterns (f ∷ fs) left =
+    (IsDetected n patterns f × AreUndetected n patterns fs left)
+    ⊎ (IsNeverDetected n patterns f × ((rest : List Fault) × (left ≡ f ∷ rest) × AreUndetected n patterns fs rest))

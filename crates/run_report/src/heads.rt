@@ -1,0 +1,115 @@
+//! The numbers above the lines of a report.
+ghost use Rattle.std.specs.Prelude.{◌≡◌, ◌+◌, ◌-◌, ◌*◌, ◌<◌, ◌≤◌, ◌^◌, length, IfOk};
+ghost use Rattle.std.specs.List.{All};
+ghost use Rattle.scan_insert.specs.Scanned.{AreChainsOf};
+ghost use Rattle.run_report.specs.Heads.{aborted_one, count_of, counts_of, cycle_count, detected_one, redundant_one, share_of};
+ghost use Rattle.run_report.specs.inner.Tallies.{AreTallied};
+
+use chain_stitch::Chains;
+use netlist::Netlist;
+use report::{FaultLines, Outcome};
+use std::alloc::{AllocError, Global};
+
+/// How many lines are of each kind.
+#[derive(Clone, Copy, Debug, PartialEq, Eq)]
+pub struct Tally {
+    pub detected: u64,
+    pub redundant: u64,
+    pub aborted: u64,
+}
+
+impl Tally {
+    /// No lines.
+    fn none() -> Tally
+        ensures { (result.detected ≡ 0) × (result.redundant ≡ 0) × (result.aborted ≡ 0) }
+    {
+        Tally {
+            detected: 0,
+            redundant: 0,
+            aborted: 0,
+        }
+    }
+
+    /// One line more.
+    fn with(self, outcome: Outcome) -> Tally
+        requires { self.detected + self.redundant + self.aborted < 2 ^ 64 - 1 }
+        ensures detected { result.detected ≡ self.detected + detected_one outcome }
+        ensures redundant { result.redundant ≡ self.redundant + redundant_one outcome }
+        ensures aborted { result.aborted ≡ self.aborted + aborted_one outcome }
+    {
+        let mut tally = self;
+        match outcome {
+            Outcome::Detected(_, _) => tally.detected += 1,
+            Outcome::Redundant => tally.redundant += 1,
+            Outcome::Aborted => tally.aborted += 1,
+        }
+        tally
+    }
+}
+
+/// Counts lines by their kinds.
+pub fn tally_of(lines: &FaultLines) -> Tally
+    ensures kinds { AreTallied lines.now result }
+    ensures fits { result.detected + result.redundant + result.aborted < 2 ^ 64 }
+{
+    let mut tally = Tally::none();
+    for k in 0..lines.len() {
+        tally = tally.with(lines.get(k).outcome);
+    }
+    tally
+}
+
+/// How many cycles a test has.
+#[tactic(auto, using(crate::proofs::CycleLemmas::small_product))]
+fn cycles_of(longest: u64, patterns: u64) -> u64
+    requires longest { longest ≤ 8000000 }
+    requires patterns { patterns < 2 ^ 32 }
+    ensures { result ≡ (patterns + 4) * longest + patterns }
+{
+    (patterns + 4) * longest + patterns
+}
+
+/// The counts of a report: of a netlist and its chains, of so many faults, classes and patterns, with this limit, and of its lines.
+pub fn counts_of(
+    alloc: Global,
+    netlist: &Netlist,
+    chains: &Chains,
+    faults: u32,
+    classes: u32,
+    patterns: u32,
+    limit: u64,
+    lines: &FaultLines,
+) -> Result<Vec<u64>, AllocError>
+    requires chains { AreChainsOf netlist.now chains.now }
+    ensures counts { IfOk result (λ v. v.items ≡ counts_of netlist.now chains.now faults classes patterns limit lines.now) }
+    ensures small { IfOk result (λ v. All (λ k. k < 2 ^ 64) v.items) }
+{
+    netlist.sound();
+    let tally = tally_of(lines);
+    let cells = netlist.cells().len();
+    let counts = [
+        netlist.inputs().len() as u64,
+        netlist.outputs().len() as u64,
+        (netlist.definitions().len() - cells) as u64,
+        cells as u64,
+        chains.count() as u64,
+        faults as u64,
+        classes as u64,
+        patterns as u64,
+        cycles_of(chains.longest() as u64, patterns as u64),
+        limit,
+        tally.detected,
+        tally.redundant,
+        tally.aborted,
+        tally.redundant + tally.aborted,
+    ];
+    Vec::from_slice(alloc, &counts)
+}
+
+/// So many of all faults, in hundredths of a percent, rounded down.
+pub fn share_of(faults: u32, count: u64) -> u128
+    requires { 0 < faults }
+    ensures { result ≡ share_of faults count }
+{
+    10000 * count as u128 / faults as u128
+}

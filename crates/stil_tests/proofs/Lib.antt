@@ -1,0 +1,6 @@
+mod NameLemmas
+mod FileLemmas
+mod WordLemmas
+mod AddLemmas
+mod BackLemmas
+mod ReadLemmas

@@ -1,0 +1,4 @@
+-- What the contracts of private functions cite.
+pub mod Added
+pub mod Reading
+pub mod Obeying

@@ -1,0 +1,7 @@
+mod LineLemmas
+mod LeafLemmas
+mod SearchLemmas
+mod ReportLemmas
+mod TruthLemmas
+mod RunLemmas
+mod PointLemmas

@@ -1,0 +1,40 @@
+-- What is said of a class by its verdict.
+use Rattle.std.specs.Prelude.{ℕ, ◌≡◌, ◌<◌, List, [], ◌∷◌, ◌++◌, length, slice_index, Some}
+use Rattle.std.specs.List.{slice_get}
+use Rattle.netlist.specs.declared.lines.Fault.{Fault}
+use Rattle.netlist.specs.Netlist.{Netlist}
+use Rattle.fault_universe.specs.Texts.{fault_text}
+use Rattle.fault_universe.specs.Universe.{universe_of}
+use Rattle.list_core.specs.declared.verdicts.Verdict.{Verdict}
+use Rattle.list_core.specs.declared.verdicts.Verdict.TheVariants as verdict
+use Rattle.list_core.specs.Verdicts.{verdict_at}
+use Rattle.report.specs.declared.outcomes.Outcome.{Outcome}
+use Rattle.report.specs.declared.outcomes.Outcome.TheVariants as outcome
+use Rattle.report.specs.Reports.{IsLine, Line}
+use Rattle.run_report.specs.Outcomes.{IsSeenAt}
+
+-- The pattern's place, and where the tester sees the point; or that no pattern detects it, by a tree without or with an open end.
+abbrev pub IsOutcomeOf : Netlist → List (List ℕ) → Verdict → Outcome → List ℕ → Type 0
+IsOutcomeOf n chains (verdict.Detected place point) o pin =
+    (cycle : ℕ) × (o ≡ outcome.Detected place cycle) × IsSeenAt n chains place point cycle pin
+IsOutcomeOf n chains (verdict.Redundant tree) o pin = (o ≡ outcome.Redundant) × (pin ≡ [])
+IsOutcomeOf n chains (verdict.Aborted tree) o pin = (o ≡ outcome.Aborted) × (pin ≡ [])
+IsOutcomeOf n chains verdict.Open o pin = ⊥
+
+-- the line of a fault whose class has this verdict
+pub record IsLineOf (n : Netlist) (chains : List (List ℕ)) (f : Fault) (v : Verdict) (l : Line) : Type 0 where
+  pub names_it : l.fault ≡ fault_text n f
+  pub outcome : IsOutcomeOf n chains v l.outcome l.pin
+  pub sound : IsLine l
+
+-- it stands behind the others
+pub record IsAdded (n : Netlist) (chains : List (List ℕ)) (f : Fault) (v : Verdict) (old new : List Line) : Type 0 where
+  pub line : Line
+  pub is_line : IsLineOf n chains f v line
+  pub behind : new ≡ old ++ line ∷ []
+
+-- the lines of the first faults, each by its class's verdict
+pub record AreLines (n : Netlist) (chains : List (List ℕ)) (numbers : List ℕ) (verdicts : List Verdict) (count : ℕ) (lines : List Line) : Type 0 where
+  pub size : length lines ≡ count
+  pub each : (place : ℕ) (f : Fault) → place < count → slice_get (universe_of n) place ≡ Some f
+      → (line : Line) × (slice_get lines place ≡ Some line) × IsLineOf n chains f (verdict_at verdicts (slice_index numbers place)) line

@@ -1,0 +1,51 @@
+-- The verdicts of a finished list, class by class.
+use Rattle.std.specs.Prelude.{ℕ, ◌≡◌, ◌≤◌, ⊤, List, [], ◌∷◌, ◌++◌, length}
+use Rattle.std.specs.List.{All}
+use Rattle.netlist.specs.declared.lines.Fault.{Fault}
+use Rattle.netlist.specs.Netlist.{Netlist}
+use Rattle.netlist.specs.Holds.{Holds}
+use Rattle.cubes.specs.Cubes.{Pattern, IsPatternOf}
+use Rattle.fault_collapse.specs.Classes.{Represents}
+use Rattle.fault_collapse.specs.Numbers.{Classes}
+use Rattle.redundancy_cert.specs.declared.nodes.Node.{Node}
+use Rattle.redundancy_cert.specs.Trees.{closed_count, open_count}
+use Rattle.redundancy_cert.specs.Fits.{Fits}
+use Rattle.word_sim.specs.Hits.{IsLastDetected, IsNeverDetected}
+use Rattle.list_core.specs.declared.verdicts.Verdict.{Verdict}
+use Rattle.list_core.specs.declared.verdicts.Verdict.TheVariants.{Open, Detected, Redundant, Aborted}
+use Rattle.list_core.specs.Verdicts.{verdict_at}
+use Rattle.run_report.specs.Strobes.{IsPointOf}
+
+-- Detected: by the last pattern that detects the fault, at its first point. Else no pattern does, and a tree fits the fault:
+-- one that leaves nothing open, or one that does, with as many closed ends as the limit.
+abbrev pub IsVerdict : Netlist → Holds → ℕ → List Pattern → Fault → Verdict → Type 0
+IsVerdict n holds limit patterns f Open = ⊥
+IsVerdict n holds limit patterns f (Detected place point) = IsLastDetected n patterns f place point
+IsVerdict n holds limit patterns f (Redundant tree) = IsNeverDetected n patterns f × Fits f n holds tree × (open_count tree ≡ 0)
+IsVerdict n holds limit patterns f (Aborted tree) = IsNeverDetected n patterns f × Fits f n holds tree × (closed_count tree ≡ limit) × (1 ≤ open_count tree)
+
+-- one for each class, and all patterns are of the netlist
+pub record AreVerdicts (n : Netlist) (holds : Holds) (classes : Classes) (limit : ℕ) (patterns : List Pattern) (verdicts : List Verdict) : Type 0 where
+  pub count : length verdicts ≡ length classes.representatives
+  pub obey : All (IsPatternOf n holds) patterns
+  pub each : (class : ℕ) (f : Fault) → Represents classes class f → IsVerdict n holds limit patterns f (verdict_at verdicts class)
+
+-- the tree of a class that no pattern detects
+abbrev pub leaf_at : Fault → Verdict → List (Fault × List Node)
+leaf_at f Open = []
+leaf_at f (Detected place point) = []
+leaf_at f (Redundant tree) = (f, tree) ∷ []
+leaf_at f (Aborted tree) = (f, tree) ∷ []
+
+-- the trees of all such classes, each beside its representative, in order
+abbrev pub leaves_of : List Fault → List Verdict → List (Fault × List Node)
+leaves_of [] verdicts = []
+leaves_of (f ∷ fs) [] = []
+leaves_of (f ∷ fs) (v ∷ vs) = leaf_at f v ++ leaves_of fs vs
+
+-- it isn't Open, and its point is one of the netlist
+abbrev pub IsInside : Netlist → Verdict → Type 0
+IsInside n Open = ⊥
+IsInside n (Detected place point) = IsPointOf n point
+IsInside n (Redundant tree) = ⊤
+IsInside n (Aborted tree) = ⊤

@@ -1,0 +1,86 @@
+//! The search, by workers, and the compaction of what they found.
+ghost use Rattle.std.specs.Prelude.{◌≡◌, ◌<◌, ◌≤◌, ◌^◌, IfOk, length};
+ghost use Rattle.netlist.specs.Designs.{IsDesign};
+ghost use Rattle.netlist.specs.Holds.{AreHoldsOf};
+ghost use Rattle.fault_collapse.specs.Classes.{AreClasses};
+ghost use Rattle.list_core.specs.Subjects.{HaveLines, class_count};
+ghost use Rattle.test_files.specs.inner.Verdicts.{AreVerdicts};
+
+use crate::files::Plan;
+use fault_collapse::Classes;
+use fault_universe::{faults_have_lines, few_faults};
+use list_core::{About, FaultList};
+use netlist::{Core, Holds, NoMemory};
+use outside::Gate;
+use redundancy_cert::Engine;
+use reverse_compact::{Finished, finish};
+use std::alloc::Global;
+use std::marker::Brand;
+use std::sync::Wait;
+use std::thread::Threads;
+use worker::run_all;
+
+/// The search under a name for what the list is about.
+fn search_named<
+    J: About + Send + Sync,
+    E: Engine + Sync,
+    G: Gate + Sync,
+    R: Threads + Wait + Sync,
+>(
+    rt: &R,
+    alloc: Global,
+    core: &Core,
+    classes: &Classes,
+    plan: Plan,
+    engine: &E,
+    gate: &G,
+    holds: &Holds,
+) -> Result<Finished, NoMemory>
+    requires core { core.now ≡ J.subject.netlist }
+    requires classes { (classes.now ≡ J.subject.classes) × (class_count J.subject ≤ 2052000000) }
+    requires limit { (plan.limit ≡ J.subject.limit) × (1 ≤ plan.limit) }
+    requires holds { (holds.now ≡ J.subject.holds) × AreHoldsOf core.now holds.now }
+    requires lines { HaveLines J.subject }
+    requires workers { (0 < plan.workers) × (plan.workers ≤ 64) }
+    ensures verdicts { IfOk result (λ f. AreVerdicts core.now holds.now classes.now plan.limit f.patterns.items f.verdicts.items) }
+    ensures few { IfOk result (λ f. length f.patterns.items < 2 ^ 32) }
+{
+    let list = FaultList::<J>::new(alloc, core, classes, plan.limit, holds)?;
+    let list = run_all(
+        rt,
+        alloc,
+        list,
+        core,
+        engine,
+        gate,
+        plan.workers,
+        plan.seed,
+        holds,
+    )?;
+    finish(alloc, core, classes, list)
+}
+
+/// Verdicts for all classes, by so many workers, and the patterns that are kept.
+pub(crate) fn search<E: Engine + Sync, G: Gate + Sync, R: Threads + Wait + Sync>(
+    rt: &R,
+    alloc: Global,
+    core: &Core,
+    classes: &Classes,
+    plan: Plan,
+    engine: &E,
+    gate: &G,
+    holds: &Holds,
+) -> Result<Finished, NoMemory>
+    requires design { IsDesign core.now }
+    requires classes { AreClasses core.now classes.now }
+    requires limit { 1 ≤ plan.limit }
+    requires held { AreHoldsOf core.now holds.now }
+    requires workers { (0 < plan.workers) × (plan.workers ≤ 64) }
+    ensures verdicts { IfOk result (λ f. AreVerdicts core.now holds.now classes.now plan.limit f.patterns.items f.verdicts.items) }
+    ensures few { IfOk result (λ f. length f.patterns.items < 2 ^ 32) }
+{
+    core.netlist().sound();
+    few_faults();
+    faults_have_lines();
+    search_named::<Brand, E, G, R>(rt, alloc, core, classes, plan, engine, gate, holds)
+}
