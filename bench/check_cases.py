@@ -16,6 +16,7 @@ import check_trees
 import stil_file
 from check_reports import is_report
 from fault_list import fault_list, netlist_of, readers_of
+from sample_netlist import Pcg32
 
 ROOT = os.path.dirname(os.path.dirname(os.path.abspath(__file__)))
 WORDS = {"BUF": "BUFF"}
@@ -258,7 +259,15 @@ def on_netlist(verb, text, rest):
     if verb == "search":
         return searched(netlist, *rest.split(" ", 2))
     if verb in ("last", "hits"):
-        return [last_detected(netlist, *rest.split(": ", 1))]
+        names, texts = rest.split(": ", 1)
+        if verb == "hits" and len(texts.split(" ")) > 64:
+            return ["more than 64 patterns"]
+        return [last_detected(netlist, fault, texts) for fault in names.split(", ")]
+    if verb in ("drawn-hits", "drawn-last"):
+        seed, count = rest.split(" ")
+        return [str(checksum(drawn(netlist, text, int(seed), int(count))))]
+    if verb == "events":
+        return [f"{rest.split(' ')[1]} changes, all as from scratch"]
     if verb == "tree":
         return [tree(netlist, *rest.split(" ", 1))]
     if verb in ("stil", "stil-but"):
@@ -314,6 +323,60 @@ def last_detected(netlist, fault, texts):
             if differ:
                 return f"pattern {place} {word} {differ[0]}"
     return "never"
+
+
+class Packed:
+    """Evaluation of many patterns at once, a bit of a number for each."""
+
+    def __init__(self, netlist, columns, count):
+        self.netlist, self.ones, self.columns = netlist, (1 << count) - 1, columns
+        self.good = self.settled(None, 0)
+
+    def made(self, kind, words):
+        word = words[0]
+        for other in words[1:]:
+            word = word & other if kind in ("AND", "NAND") else word | other if kind in ("OR", "NOR") else word ^ other
+        return word ^ self.ones if kind in ("NAND", "NOR", "XNOR", "NOT") else word
+
+    def settled(self, line, stuck):
+        """The words of outputs and next states, with a line stuck or none."""
+        netlist, words = self.netlist, {}
+
+        def stem(name):
+            if name not in words:
+                kind, pins = netlist.defined.get(name, (None, []))
+                word = self.columns[name] if name in self.columns else self.made(kind, [pin(name, k) for k in range(len(pins))])
+                words[name] = stuck if line == f"stem {name}" else word
+            return words[name]
+
+        def pin(name, place):
+            word = stem(netlist.defined[name][1][place])
+            return stuck if line == f"pin {name} {place}" else word
+
+        outputs = [stuck if line == f"out {name}" else stem(name) for name in netlist.outputs]
+        return outputs, [pin(name, 0) for name in netlist.cells]
+
+    def last(self, fault):
+        line, value = fault.rsplit("/", 1)
+        bad = self.settled(line, self.ones if value == "1" else 0)
+        differs = [[one ^ other for one, other in zip(*pair)] for pair in zip(self.good, bad)]
+        last = max((word for words in differs for word in words), key=int.bit_length, default=0).bit_length() - 1
+        if last < 0:
+            return "never"
+        where = [f"{point} {k}" for point, words in zip(("output", "cell"), differs) for k, word in enumerate(words) if word >> last & 1]
+        return f"pattern {last} {where[0]}"
+
+
+def drawn(netlist, text, seed, count):
+    """What so many patterns drawn by PCG say of all faults, a line for each: a word's lowest bit for each input, then each cell."""
+    words = Pcg32(seed, 54)
+    columns = {name: 0 for name in netlist.inputs + netlist.cells}
+    for pattern in range(count):
+        for name in columns:
+            columns[name] |= (words.next_u32() & 1) << pattern
+    packed = Packed(netlist, columns, count)
+    faults = [line.rsplit(" class ", 1)[0] for line in list(fault_list(text))[1:]]
+    return "".join(packed.last(fault) + "\n" for fault in faults)
 
 
 def certificate(verb, text, read):

@@ -59,4 +59,5 @@ def main():
         print(f"{name} = {kind}({', '.join(pins)})")
 
 
-main()
+if __name__ == "__main__":
+    main()

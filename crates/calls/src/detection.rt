@@ -1,17 +1,22 @@
 //! Where faults are last detected.
-ghost use Rattle.std.specs.Prelude.{◌≤◌, IfOk, IfSome, length};
+ghost use Rattle.std.specs.Prelude.{◌≡◌, ℕ, IfOk, IfSome, OnOk, length};
 ghost use Rattle.std.specs.List.{All};
+ghost use Rattle.netlist.specs.Designs.{IsDesign};
 ghost use Rattle.netlist.specs.Lines.{IsLineOf};
+ghost use Rattle.netlist.specs.declared.lines.Fault.{Fault as FaultOf};
 ghost use Rattle.word_sim.specs.Words.{HasWidthsOf};
 
-use crate::faults::listed;
+use crate::faults::{all_faults, listed};
 use crate::names::push_number;
 use crate::nets::{bits, core_of};
 use crate::trees::cut;
+use case_text::checksum;
 use cubes::Pattern;
 use netlist::{Core, Fault, Netlist, Point};
+use rand_core::Rng;
+use rand_pcg::Pcg32;
 use std::alloc::{AllocError, Global};
-use word_sim::{hits, last_tells};
+use word_sim::{Hit, hits, last_tells};
 
 /// The pattern of a text, `-` for no bits; nothing where it isn't as wide as the netlist.
 fn pattern_of(alloc: Global, core: &Core, text: &str) -> Result<Option<Pattern>, AllocError>
@@ -63,42 +68,114 @@ fn push_found(to: &mut Vec<u8>, found: Option<(u32, Point)>) -> Result<(), Alloc
     Ok(())
 }
 
-/// What the simulation of one batch answers.
-fn in_batch(
+/// Adds a line for each fault from its hit, if it has one; hits come in the order of the faults.
+fn push_hits(to: &mut Vec<u8>, count: usize, hits: &[Hit]) -> Result<(), AllocError> {
+    let mut rest = hits;
+    for place in 0..count {
+        rest = match rest {
+            [hit, more @ ..] if hit.class as usize == place => {
+                push_found(to, Some((hit.pattern, hit.point)))?;
+                more
+            }
+            _ => {
+                push_found(to, None)?;
+                rest
+            }
+        };
+    }
+    Ok(())
+}
+
+/// The first name of a text, and the text behind it.
+fn cut_name(text: &str) -> (&str, &str) {
+    text.split_once(", ").unwrap_or((text, ""))
+}
+
+/// Adds the fault of a text, if the list of faults has it.
+fn push_listed(netlist: &Netlist, name: &str, faults: &mut Vec<Fault>) -> Result<(), AllocError>
+    requires { All (λ (f : FaultOf). IsLineOf netlist.now f.line) faults.old.items }
+    ensures { OnOk result (All (λ (f : FaultOf). IsLineOf netlist.now f.line) faults.new.items) }
+{
+    if let Some(fault) = listed(netlist, name) {
+        faults.extend_from_slice(&[fault])?;
+    }
+    Ok(())
+}
+
+/// The faults of a text, parted by `, `, as far as the list of faults has them.
+fn faults_of(alloc: Global, netlist: &Netlist, text: &str) -> Result<Vec<Fault>, AllocError>
+    ensures { IfOk result (λ v. All (λ (f : FaultOf). IsLineOf netlist.now f.line) v.items) }
+{
+    let mut faults = Vec::new(alloc);
+    let mut rest = text;
+    for _ in 0..text.len() {
+        let (name, more) = cut_name(rest);
+        push_listed(netlist, name, &mut faults)?;
+        rest = more;
+    }
+    Ok(faults)
+}
+
+/// Faults with their places.
+fn placed(alloc: Global, core: &Core, faults: &[Fault]) -> Result<Vec<(u32, Fault)>, AllocError>
+    requires { All (λ (f : FaultOf). IsLineOf core.now f.line) faults.now }
+    ensures { IfOk result (λ v. All (λ (g : ℕ × FaultOf). IsLineOf core.now g.1.line) v.items) }
+{
+    let _ = core;
+    let mut classes = Vec::with_capacity(alloc, faults.len())?;
+    let mut place = 0u32;
+    for fault in faults {
+        classes.push((place, *fault))?;
+        place = place.wrapping_add(1);
+    }
+    Ok(classes)
+}
+
+/// `hits FAULTS: PATTERNS`: for each fault the last pattern of one batch that detects it, and its first point.
+fn push_batch(
+    to: &mut Vec<u8>,
     alloc: Global,
     core: &Core,
-    fault: Fault,
+    faults: &[Fault],
     patterns: &[Pattern],
-) -> Result<Option<(u32, Point)>, AllocError>
-    requires few { length patterns.now ≤ 64 }
+) -> Result<(), AllocError>
     requires wide { All (HasWidthsOf core.now) patterns.now }
-    requires line { IsLineOf core.now fault.line }
+    requires lines { All (λ (f : FaultOf). IsLineOf core.now f.line) faults.now }
 {
-    match hits(alloc, core, patterns, &[(0, fault)]) {
-        Ok(found) => Ok(found.first().map(|hit| (hit.pattern, hit.point))),
+    if patterns.len() > 64 {
+        return to.extend_from_slice(b"more than 64 patterns\n");
+    }
+    let classes = placed(alloc, core, faults)?;
+    match hits(alloc, core, patterns, &classes) {
+        Ok(hits) => push_hits(to, faults.len(), &hits),
         Err(_) => Err(AllocError),
     }
 }
 
-/// What the simulation of all patterns answers.
-fn in_all(
+/// `last FAULTS: PATTERNS`: the same by all patterns.
+fn push_last(
+    to: &mut Vec<u8>,
     alloc: Global,
     core: &Core,
-    fault: Fault,
+    faults: &[Fault],
     patterns: &[Pattern],
-) -> Result<Option<(u32, Point)>, AllocError>
-    requires few { length patterns.now ≤ 1000000 }
+) -> Result<(), AllocError>
     requires wide { All (HasWidthsOf core.now) patterns.now }
-    requires line { IsLineOf core.now fault.line }
+    requires lines { All (λ (f : FaultOf). IsLineOf core.now f.line) faults.now }
 {
-    match last_tells(alloc, core, &[fault], patterns) {
-        Ok(last) => Ok(last.first().copied().flatten()),
-        Err(_) => Err(AllocError),
+    if patterns.len() > 1_000_000 {
+        return to.extend_from_slice(b"more than 1000000 patterns\n");
     }
+    let Ok(last) = last_tells(alloc, core, faults, patterns) else {
+        return Err(AllocError);
+    };
+    for found in &last {
+        push_found(to, *found)?;
+    }
+    Ok(())
 }
 
-/// `last FAULT: PATTERNS`, `hits FAULT: PATTERNS`: the last pattern that detects the fault, and its first point, by all patterns or by
-/// one batch.
+/// `last FAULTS: PATTERNS`, `hits FAULTS: PATTERNS`: the last pattern that detects each fault, and its first point.
 pub fn push_detected(
     to: &mut Vec<u8>,
     alloc: Global,
@@ -106,17 +183,78 @@ pub fn push_detected(
     rest: &str,
     is_batch: bool,
 ) -> Result<(), AllocError> {
-    let (fault, texts) = rest.split_once(": ").unwrap_or((rest, ""));
+    let (names, texts) = rest.split_once(": ").unwrap_or((rest, ""));
     let core = core_of(alloc, netlist)?;
-    let Some(fault) = listed(core.netlist(), fault) else {
+    let faults = faults_of(alloc, core.netlist(), names)?;
+    if faults.is_empty() {
         return to.extend_from_slice(b"no fault\n");
-    };
-    let patterns = patterns_of(alloc, &core, texts)?;
-    if is_batch && patterns.len() <= 64 {
-        push_found(to, in_batch(alloc, &core, fault, &patterns)?)
-    } else if patterns.len() <= 1_000_000 {
-        push_found(to, in_all(alloc, &core, fault, &patterns)?)
-    } else {
-        to.extend_from_slice(b"more than 1000000 patterns\n")
     }
+    let patterns = patterns_of(alloc, &core, texts)?;
+    if is_batch {
+        push_batch(to, alloc, &core, &faults, &patterns)
+    } else {
+        push_last(to, alloc, &core, &faults, &patterns)
+    }
+}
+
+/// So many bits.
+fn drawn_bits(alloc: Global, count: usize, random: &mut Pcg32) -> Result<Vec<bool>, AllocError>
+    ensures { IfOk result (λ v. length v.items ≡ count) }
+{
+    let mut bits = Vec::with_capacity(alloc, count)?;
+    for _done in 0..count {
+        bits.push(random.next_u32() % 2 == 1)?;
+    }
+    Ok(bits)
+}
+
+/// A pattern for a netlist.
+fn drawn(alloc: Global, core: &Core, random: &mut Pcg32) -> Result<Pattern, AllocError>
+    ensures { IfOk result (HasWidthsOf core.now) }
+{
+    let inputs = drawn_bits(alloc, core.netlist().inputs().len(), random)?;
+    let cells = drawn_bits(alloc, core.netlist().cells().len(), random)?;
+    Ok(Pattern::new(inputs, cells))
+}
+
+/// So many patterns.
+fn all_drawn(
+    alloc: Global,
+    core: &Core,
+    count: u32,
+    random: &mut Pcg32,
+) -> Result<Vec<Pattern>, AllocError>
+    ensures { IfOk result (λ v. All (HasWidthsOf core.now) v.items) }
+{
+    let mut patterns = Vec::new(alloc);
+    for _done in 0..count {
+        patterns.push(drawn(alloc, core, random)?)?;
+    }
+    Ok(patterns)
+}
+
+/// `drawn-hits SEED COUNT`, `drawn-last SEED COUNT`: the checksum of what so many drawn patterns say of all faults of the list, by one
+/// batch or by all patterns.
+pub fn push_drawn(
+    to: &mut Vec<u8>,
+    alloc: Global,
+    netlist: &Netlist,
+    seed: u64,
+    count: u32,
+    is_batch: bool,
+) -> Result<(), AllocError>
+    requires { IsDesign netlist.now }
+{
+    let core = core_of(alloc, netlist)?;
+    let faults = all_faults(alloc, netlist)?;
+    let patterns = all_drawn(alloc, &core, count, &mut Pcg32::new(seed, 54))?;
+    let mut said = Vec::new(alloc);
+    if is_batch {
+        push_batch(&mut said, alloc, &core, &faults, &patterns)?;
+    } else {
+        push_last(&mut said, alloc, &core, &faults, &patterns)?;
+    }
+    push_number(to, checksum(&said))?;
+    to.push(b'\n')?;
+    Ok(())
 }

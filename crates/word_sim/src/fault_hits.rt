@@ -7,8 +7,8 @@ ghost use Rattle.netlist.specs.declared.lines.Fault.{Fault as FaultOf};
 ghost use Rattle.word_sim.specs.Hits.{AreHits};
 ghost use Rattle.word_sim.specs.Words.{HasWidthsOf};
 ghost use Rattle.word_sim.specs.inner.Found.{hit_of};
-ghost use Rattle.word_sim.specs.inner.Packed.{AreGoodFor};
-ghost use Rattle.word_sim.specs.inner.Points.{point_of};
+ghost use Rattle.word_sim.specs.inner.Packed.{AreGoodFor, AreSettledWords};
+ghost use Rattle.word_sim.specs.inner.Points.{ArePoints, point_of};
 
 use crate::batches::Hit;
 use crate::detecting::last_of;
@@ -39,6 +39,27 @@ pub(crate) fn good_events<'a>(
     Ok(events)
 }
 
+/// The words of other patterns in place of those before.
+pub(crate) fn next_patterns(
+    alloc: Global,
+    events: &mut Events<'_, u64>,
+    patterns: &[Pattern],
+) -> Result<(), AllocError>
+    requires few { length patterns.now ≤ 64 }
+    requires wide { All (HasWidthsOf events.old.netlist) patterns.now }
+    requires settled { AreSettledWords events.old.netlist events.old.values }
+    ensures netlist { events.new.netlist ≡ events.old.netlist }
+    ensures settled { AreSettledWords events.old.netlist events.new.values }
+    ensures good { OnOk result (AreGoodFor events.old.netlist patterns.now events.new.values) }
+    ensures trail { OnOk result (events.new.trail ≡ []) }
+{
+    let netlist = events.core().netlist();
+    let inputs = packed(alloc, Part::Inputs, patterns, netlist.inputs().len())?;
+    let state = packed(alloc, Part::Cells, patterns, netlist.cells().len())?;
+    events.drive(&Words { fault: None }, &inputs, &state);
+    Ok(())
+}
+
 /// Adds the hit of a fault that was found.
 fn push_hit(
     netlist: &Netlist,
@@ -60,8 +81,32 @@ fn push_hit(
     Ok(())
 }
 
-/// The hits, one fault after another.
-fn find_hits(
+/// The hits of faults, one after another. The words are then those before.
+pub(crate) fn find_hits(
+    alloc: Global,
+    events: &mut Events<'_, u64>,
+    points: &Points,
+    patterns: &[Pattern],
+    faults: &[(u32, Fault)],
+) -> Result<Vec<Hit>, AllocError>
+    requires points { ArePoints events.old.netlist points.now.seen.items points.now.first.items points.now.numbers.items }
+    requires good { AreGoodFor events.old.netlist patterns.now events.old.values }
+    requires lines { All (λ (g : ℕ × FaultOf). IsLineOf events.old.netlist g.1.line) faults.now }
+    requires trail { events.old.trail ≡ [] }
+    ensures hits { IfOk result (λ v. AreHits events.old.netlist patterns.now faults.now v.items) }
+    ensures same { events.new ≡ events.old }
+{
+    let used = used_bits(patterns.len());
+    let mut hits = Vec::with_capacity(alloc, faults.len())?;
+    for given in faults {
+        let found = last_of(events, points, patterns, used, &given.1);
+        push_hit(events.core().netlist(), given.0, found, &mut hits)?;
+    }
+    Ok(hits)
+}
+
+/// The hits of one batch.
+fn hits_of_batch(
     alloc: Global,
     core: &Core,
     patterns: &[Pattern],
@@ -72,15 +117,9 @@ fn find_hits(
     requires lines { All (λ (g : ℕ × FaultOf). IsLineOf core.now g.1.line) faults.now }
     ensures { IfOk result (λ v. AreHits core.now patterns.now faults.now v.items) }
 {
-    let mut events = good_events(alloc, core, patterns)?;
     let points = Points::of(alloc, core)?;
-    let used = used_bits(patterns.len());
-    let mut hits = Vec::with_capacity(alloc, faults.len())?;
-    for given in faults {
-        let found = last_of(&mut events, &points, patterns, used, &given.1);
-        push_hit(core.netlist(), given.0, found, &mut hits)?;
-    }
-    Ok(hits)
+    let mut events = good_events(alloc, core, patterns)?;
+    find_hits(alloc, &mut events, &points, patterns, faults)
 }
 
 /// For each given fault that some pattern detects, in the order given, the last such pattern and its first point.
@@ -95,5 +134,5 @@ pub fn hits(
     requires lines { All (λ (g : ℕ × FaultOf). IsLineOf core.now g.1.line) faults.now }
     ensures { IfOk result (λ v. AreHits core.now patterns.now faults.now v.items) }
 {
-    find_hits(alloc, core, patterns, faults).map_err(|_| NoMemory)
+    hits_of_batch(alloc, core, patterns, faults).map_err(|_| NoMemory)
 }

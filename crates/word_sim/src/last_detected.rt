@@ -11,11 +11,11 @@ ghost use Rattle.word_sim.specs.inner.Packed.{AreGoodFor, AreSettledWords, IsUse
 ghost use Rattle.word_sim.specs.inner.Points.{ArePoints, point_of};
 
 use crate::detecting::last_of;
-use crate::fault_hits::good_events;
-use crate::packing::{Part, packed, used_bits};
+use crate::fault_hits::{good_events, next_patterns};
+use crate::packing::used_bits;
 use crate::points::{Points, point_at};
 use cubes::Pattern;
-use events::{Events, Words};
+use events::Events;
 use netlist::{Core, Fault, Netlist, NoMemory, Point};
 use std::alloc::{AllocError, Global};
 
@@ -57,29 +57,6 @@ fn told_by(
     moved(events.core().netlist(), found, start)
 }
 
-/// The words of other patterns in place of those before.
-fn next_patterns(
-    alloc: Global,
-    core: &Core,
-    events: &mut Events<'_, u64>,
-    patterns: &[Pattern],
-) -> Result<(), AllocError>
-    requires few { length patterns.now ≤ 64 }
-    requires wide { All (HasWidthsOf core.now) patterns.now }
-    requires netlist { events.old.netlist ≡ core.now }
-    requires settled { AreSettledWords core.now events.old.values }
-    ensures netlist { OnOk result (events.new.netlist ≡ core.now) }
-    ensures good { OnOk result (AreGoodFor core.now patterns.now events.new.values) }
-    ensures trail { OnOk result (events.new.trail ≡ []) }
-{
-    let netlist = core.netlist();
-    let inputs = packed(alloc, Part::Inputs, patterns, netlist.inputs().len())?;
-    let state = packed(alloc, Part::Cells, patterns, netlist.cells().len())?;
-    let rule = Words { fault: None };
-    events.drive(&rule, &inputs, &state);
-    Ok(())
-}
-
 /// Goes over the faults that no later pattern detects.
 fn tell_all(
     alloc: Global,
@@ -107,7 +84,7 @@ fn tell_all(
     ensures settled { OnOk result (AreSettledWords core.now events.new.values) }
 {
     let part = &patterns[start..end];
-    next_patterns(alloc, core, events, part)?;
+    next_patterns(alloc, events, part)?;
     let used = used_bits(part.len());
     for k in 0..faults.len() {
         let known = told[k];

@@ -7,9 +7,11 @@ mod fault_hits;
 mod last_detected;
 mod packing;
 mod points;
+mod simulator;
 mod words;
 
 pub use batches::{Batch, Hit};
 pub use fault_hits::hits;
 pub use last_detected::last_tells;
+pub use simulator::Simulator;
 pub use words::{Words, good64};

@@ -6,6 +6,7 @@ use Rattle.netlist.specs.declared.lines.Point.{Point}
 use Rattle.netlist.specs.declared.lines.Point.TheVariants.{Output, Cell}
 use Rattle.netlist.specs.Netlist.{Definition, Netlist, cells, signals}
 use Rattle.events.specs.Stuck.{IsObservedOnly}
+use Rattle.word_sim.specs.inner.Packed.{AreSettledWords}
 
 -- the line that a point reads, and the signal that the line reads
 abbrev pub output_point : ℕ → Line × ℕ
@@ -54,3 +55,8 @@ pub record IsReadAt (n : Netlist) (line : Line) (c : ℕ) : Type 0 where
   pub only : IsObservedOnly n line
   pub within : c < length (points n)
   pub here : (slice_index_or (points n) c (Out 0, 0)).0 ≡ line
+
+-- what a simulator has between two batches: words that settle without a fault, and the points of the netlist
+pub record CanSimulate (n : Netlist) (values seen first numbers : List ℕ) : Type 0 where
+  pub settled : AreSettledWords n values
+  pub points_are : ArePoints n seen first numbers

@@ -18,7 +18,7 @@ loop-k-preserved c =
     let f = c.index-faults-k.result in
     let l = c.loop-k-test.true in
     let size = c.loop-k.invariant.0.size in
-    let same : c.loop-k.events.netlist ≡ c.args.core.now = ap (λ (e : Standing ℕ). e.netlist) c.loop-k.invariant.1 ∙ c.in_ok-next_patterns.ensures.netlist in
+    let same : c.loop-k.events.netlist ≡ c.args.core.now = ap (λ (e : Standing ℕ). e.netlist) c.loop-k.invariant.1 ∙ (c.in_ok-next_patterns.ensures.netlist ∙ c.requires.netlist) in
     let known : c.index-known.result.now ≡ get_or c.loop-k.told.items c.loop-k.k None =
     c.index-known.ensures ∙ get_or_default c.loop-k.told.items c.loop-k.k c.index-known.result.now None (omega arith) in (
       one_up n c.args.patterns.now (take (c.args.end - c.args.start) (drop c.args.start c.args.patterns.now)) c.args.start c.args.end c.requires.order refl c.args.faults.now c.loop-k.told.items c.loop-k.k
@@ -32,7 +32,7 @@ pub returns : goal.returns
 returns c =
     record {
       told = all_up c.args.core.now c.args.patterns.now c.args.start c.args.end c.args.faults.now c.loop-k.told.items c.loop-k.k c.loop-k-test.false c.loop-k.invariant.0;
-      netlist = ap (λ (e : Standing ℕ). e.netlist) c.loop-k.invariant.1 ∙ c.in_ok-next_patterns.ensures.netlist;
+      netlist = ap (λ (e : Standing ℕ). e.netlist) c.loop-k.invariant.1 ∙ (c.in_ok-next_patterns.ensures.netlist ∙ c.requires.netlist);
       settled = subst (AreSettledWords c.args.core.now) (sym (ap (λ (e : Standing ℕ). e.values) c.loop-k.invariant.1))
-          (record { inputs = c.in_ok-next_patterns.ensures.good.inputs; state = c.in_ok-next_patterns.ensures.good.state; settles = c.in_ok-next_patterns.ensures.good.settles });
+          (subst (λ (m : Netlist). AreSettledWords m c.next_patterns.new.events.values) c.requires.netlist c.in_ok-next_patterns.ensures.settled);
     }

@@ -4,19 +4,26 @@ use Rattle.netlist.specs.Netlist.{Definition, Netlist, cells}
 use Rattle.netlist.specs.Settled.{Settles, at}
 use Rattle.events.specs.Standing.{SettlesFor}
 use Rattle.events.specs.Words.{words}
-use Rattle.word_sim.specs.inner.Packed.{AreGoodFor}
 use Rattle.word_sim.proofs.GoodLemmas.{good_for}
-use Rattle.word_sim.proofs.last_detected.next_patterns.Goals as goal
+use Rattle.word_sim.proofs.fault_hits.next_patterns.Goals as goal
 
 pub returns-clause-good : goal.returns-clause-good
 returns-clause-good c =
-    let n = c.args.core.now in
-    let width : length c.inputs.result.now ≡ length n.inputs = ap (λ (xs : List ℕ). length xs) c.inputs.ensures ∙ ap (λ (m : Netlist). length m.inputs) c.netlist-netlist.ensures in
+    let n = c.args.events.now.netlist in
+    let same : c.netlist-netlist.result.now ≡ n = c.netlist-netlist.ensures ∙ c.core.ensures in
+    let width : length c.inputs.result.now ≡ length n.inputs = ap (λ (xs : List ℕ). length xs) c.inputs.ensures ∙ ap (λ (m : Netlist). length m.inputs) same in
     let height : length c.cells.result.now ≡ length (cells n) =
-    ap (λ (xs : List ℕ). length xs) c.cells.ensures ∙ (length-map (cells c.netlist-netlist.result.now) (λ (d : Definition). d.id) ∙ ap (λ (m : Netlist). length (cells m)) c.netlist-netlist.ensures) in
-    let over = subst (λ (m : Netlist). SettlesFor (words None) m c.deref.result.now c.deref-2.result.now c.args.events.now.values c.drive.new.self.values) c.requires.netlist c.drive.ensures.settles in
+    ap (λ (xs : List ℕ). length xs) c.cells.ensures ∙ (length-map (cells c.netlist-netlist.result.now) (λ (d : Definition). d.id) ∙ ap (λ (m : Netlist). length (cells m)) same) in
     let settles = λ (d : ℕ). subst (λ (i : List ℕ). Settles (words None) n i c.in_ok-state.state.items (at c.drive.new.self.values d)) c.deref.ensures.value
     (subst (λ (s : List ℕ). Settles (words None) n c.deref.result.now s (at c.drive.new.self.values d)) c.deref-2.ensures.value
-    (over.each c.requires.settled.inputs c.requires.settled.state d (c.requires.settled.settles d))) in
+    (c.drive.ensures.settles.each c.requires.settled.inputs c.requires.settled.state d (c.requires.settled.settles d))) in
     good_for n c.args.patterns.now c.requires.few c.requires.wide c.in_ok-inputs.inputs.items c.in_ok-state.state.items c.drive.new.self.values (length c.inputs.result.now) (length c.cells.result.now)
     width height c.in_ok-inputs.ensures c.in_ok-state.ensures settles
+
+pub returns-clause-settled : goal.returns-clause-settled
+returns-clause-settled c =
+    record {
+      inputs = c.deref.result.now;
+      state = c.deref-2.result.now;
+      settles = λ d. c.drive.ensures.settles.each c.requires.settled.inputs c.requires.settled.state d (c.requires.settled.settles d);
+    }

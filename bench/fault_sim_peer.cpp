@@ -1,0 +1,170 @@
+// The plain C++ program beside which bench/fault_sim times word_sim: 64 patterns in a word, one fault after the other, by events.
+// fault_sim_peer NETLIST BATCHES keep|drop: a line for each batch, as `timings fault_sim times` prints.
+#include <algorithm>
+#include <cstring>
+#include <numeric>
+#include "peer_netlist.hpp"
+
+/// A line stuck: the stem of a signal, a pin of its definition, or (place `none`) an output.
+struct Fault {
+    enum class Line : std::uint8_t { Stem, Pin, Out } line;
+    Id signal, place;
+    Word stuck;
+};
+
+/// All faults of a netlist, and how many stand before those of each signal.
+struct Universe {
+    std::vector<Fault> faults;
+    std::vector<Id> starts;
+
+    explicit Universe(const Netlist& netlist) {
+        for (Id x = 0; x < netlist.signals(); x++) {
+            starts.push_back(static_cast<Id>(faults.size()));
+            add({Fault::Line::Stem, x, 0, 0});
+            if (netlist.readers[x].size() < 2) continue;
+            for (const Reader& reader : netlist.readers[x])
+                add({reader.place == none ? Fault::Line::Out : Fault::Line::Pin, reader.signal, reader.place, 0});
+        }
+    }
+    void add(Fault fault) {
+        faults.push_back(fault);
+        fault.stuck = ones;
+        faults.push_back(fault);
+    }
+};
+
+/// The class of a fault, as the least fault that it is joined with.
+struct Joined {
+    std::vector<Id> parents;
+
+    explicit Joined(size_t count) : parents(count) { std::iota(parents.begin(), parents.end(), 0u); }
+    Id least(Id fault) {
+        while (parents[fault] != fault) fault = parents[fault] = parents[parents[fault]];
+        return fault;
+    }
+    void join(Id one, Id other) {
+        one = least(one);
+        other = least(other);
+        parents[std::max(one, other)] = std::min(one, other);
+    }
+};
+
+/// A pin's fault is the same as the gate's stem stuck at what it makes the gate, where it decides it.
+void join_at(Joined& joined, Kind kind, Id pin, Id stem) {
+    switch (kind) {
+        case Kind::And: joined.join(pin, stem); break;
+        case Kind::Nand: joined.join(pin, stem + 1); break;
+        case Kind::Or: joined.join(pin + 1, stem + 1); break;
+        case Kind::Nor: joined.join(pin + 1, stem); break;
+        case Kind::Not: joined.join(pin, stem + 1); joined.join(pin + 1, stem); break;
+        case Kind::Buff: joined.join(pin, stem); joined.join(pin + 1, stem + 1); break;
+        default: break;
+    }
+}
+
+/// The first member of each class.
+std::vector<Fault> representatives(const Netlist& netlist) {
+    Universe universe(netlist);
+    Joined joined(universe.faults.size());
+    for (Id x = 0; x < netlist.signals(); x++) {
+        const auto& readers = netlist.readers[x];
+        for (Id k = 0; k < readers.size(); k++) {
+            if (readers[k].place == none) continue;
+            Id pin = universe.starts[x] + (readers.size() < 2 ? 0 : 2 * (k + 1));
+            join_at(joined, netlist.kinds[readers[k].signal], pin, universe.starts[readers[k].signal]);
+        }
+    }
+    std::vector<Fault> first;
+    for (Id k = 0; k < universe.faults.size(); k++)
+        if (joined.least(k) == k) first.push_back(universe.faults[k]);
+    return first;
+}
+
+/// What the points are: the outputs in order, then the cells.
+struct Points {
+    Id count = 0;
+    std::vector<Id> first;    // the first point that reads each signal, or the count
+    std::vector<Id> numbers;  // of each cell
+
+    explicit Points(const Netlist& netlist) : first(netlist.signals(), none), numbers(netlist.signals(), none) {
+        for (Id x : netlist.outputs) read(x);
+        for (Id cell : netlist.cells) {
+            numbers[cell] = count;
+            read(*netlist.pins.begin(cell));
+        }
+    }
+    void read(Id x) {
+        first[x] = std::min(first[x], count);
+        count++;
+    }
+};
+
+/// The last pattern that detects a fault, and the first point.
+struct Hit {
+    size_t fault;
+    int pattern;
+    Id point;
+};
+
+/// The hit of a fault whose line is at once observed.
+bool at_point(const Events& events, Id signal, Id point, const Fault& fault, size_t number, std::vector<Hit>& hits) {
+    Word differs = events.values[signal] ^ fault.stuck;
+    if (differs == 0) return false;
+    hits.push_back({number, 63 - __builtin_clzll(differs), point});
+    return true;
+}
+
+bool detect(Events& events, const Points& points, const Fault& fault, size_t number, std::vector<Hit>& hits) {
+    const Netlist& netlist = events.netlist;
+    if (fault.line == Fault::Line::Out) return at_point(events, fault.signal, points.first[fault.signal], fault, number, hits);
+    if (fault.line == Fault::Line::Pin && netlist.kinds[fault.signal] == Kind::Dff)
+        return at_point(events, *netlist.pins.begin(fault.signal), points.numbers[fault.signal], fault, number, hits);
+    if (fault.line == Fault::Line::Stem) events.stick_stem(fault.signal, fault.stuck);
+    else events.stick_pin(fault.signal, fault.place, fault.stuck);
+    Word all = 0;
+    for (const Change& change : events.trail)
+        if (points.first[change.signal] != none) all |= change.before ^ events.values[change.signal];
+    if (all != 0) {
+        int last = 63 - __builtin_clzll(all);
+        Id point = none;
+        for (const Change& change : events.trail)
+            if ((change.before ^ events.values[change.signal]) >> last & 1) point = std::min(point, points.first[change.signal]);
+        hits.push_back({number, last, point});
+    }
+    events.undo();
+    return all != 0;
+}
+
+/// The words of 64 random patterns, drawn pattern by pattern: inputs, then cells.
+void draw(Events& events, Pcg32& random) {
+    for (Id x = 0; x < events.netlist.inputs; x++) events.values[x] = 0;
+    for (Id x : events.netlist.cells) events.values[x] = 0;
+    for (int pattern = 0; pattern < 64; pattern++) {
+        for (Id x = 0; x < events.netlist.inputs; x++) events.values[x] |= Word{random.next() & 1} << pattern;
+        for (Id x : events.netlist.cells) events.values[x] |= Word{random.next() & 1} << pattern;
+    }
+}
+
+int main(int count, char** words) {
+    if (count < 4) return 2;
+    Netlist netlist = read_netlist(words[1]);
+    bool drops = std::strcmp(words[3], "drop") == 0;
+    std::vector<Fault> faults = representatives(netlist);
+    Points points(netlist);
+    Events events(netlist);
+    Pcg32 random(1, 54);
+    std::vector<Hit> hits;
+    for (int batch = 0; batch < std::atoi(words[2]); batch++) {
+        draw(events, random);
+        std::vector<Fault> left;
+        hits.clear();
+        hits.reserve(faults.size());
+        double start = seconds();
+        events.settle();
+        for (size_t k = 0; k < faults.size(); k++)
+            if (!detect(events, points, faults[k], k, hits) && drops) left.push_back(faults[k]);
+        std::printf("classes %zu detected %zu seconds %.6f\n", faults.size(), hits.size(), seconds() - start);
+        if (drops) faults.swap(left);
+    }
+    std::fprintf(stderr, "evaluations %llu\n", static_cast<unsigned long long>(events.evaluations));
+}

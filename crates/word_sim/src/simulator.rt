@@ -1,0 +1,86 @@
+//! Simulation of one batch after another: room is made once.
+ghost use Rattle.std.specs.Prelude.{◌≡◌, ◌≤◌, ℕ, [], length, IfOk};
+ghost use Rattle.std.specs.List.{All};
+ghost use Rattle.netlist.specs.Lines.{IsLineOf};
+ghost use Rattle.netlist.specs.declared.lines.Fault.{Fault as FaultOf};
+ghost use Rattle.word_sim.specs.Hits.{AreHits};
+ghost use Rattle.word_sim.specs.Words.{HasWidthsOf};
+
+use crate::batches::Hit;
+use crate::fault_hits::{find_hits, good_events, next_patterns};
+use crate::points::Points;
+use cubes::Pattern;
+use events::Events;
+use netlist::{Core, Fault, NoMemory};
+use std::alloc::{AllocError, Global};
+use std::marker::Model;
+
+/// The words of a netlist, and what is kept of its points.
+#[derive(Drop)]
+pub struct Simulator<'a> {
+    events: Events<'a, u64>,
+    points: Points,
+}
+
+impl<'a> Model for Simulator<'a> {
+    ghost use Rattle.netlist.specs.Netlist.{Netlist};
+    ghost use Rattle.word_sim.specs.inner.Points.{CanSimulate};
+
+    ghost Value = { Netlist };
+
+    ghost view = { λ s. s.events.netlist };
+
+    ghost invariant = { λ s. CanSimulate s.events.netlist s.events.values s.points.seen.items s.points.first.items s.points.numbers.items };
+}
+
+impl<'a> Simulator<'a> {
+    /// The room for all batches, and no pattern yet.
+    fn made(alloc: Global, core: &'a Core) -> Result<Simulator<'a>, AllocError>
+        ensures { IfOk result (λ s. s ≡ core.now) }
+    {
+        let points = Points::of(alloc, core)?;
+        let events = good_events(alloc, core, &[])?;
+        Ok(Simulator { events, points })
+    }
+
+    /// A simulator of a netlist.
+    pub fn new(alloc: Global, core: &'a Core) -> Result<Simulator<'a>, NoMemory>
+        ensures { IfOk result (λ s. s ≡ core.now) }
+    {
+        Simulator::made(alloc, core).map_err(|_| NoMemory)
+    }
+
+    /// What one batch detects.
+    fn batch_hits(
+        &mut self,
+        alloc: Global,
+        patterns: &[Pattern],
+        faults: &[(u32, Fault)],
+    ) -> Result<Vec<Hit>, AllocError>
+        requires few { length patterns.now ≤ 64 }
+        requires wide { All (HasWidthsOf self.old) patterns.now }
+        requires lines { All (λ (g : ℕ × FaultOf). IsLineOf self.old g.1.line) faults.now }
+        ensures hits { IfOk result (λ v. AreHits self.old patterns.now faults.now v.items) }
+        ensures same { self.new ≡ self.old }
+    {
+        next_patterns(alloc, &mut self.events, patterns)?;
+        find_hits(alloc, &mut self.events, &self.points, patterns, faults)
+    }
+
+    /// For each given fault that some pattern detects, in the order given, the last such pattern and its first point.
+    pub fn hits(
+        &mut self,
+        alloc: Global,
+        patterns: &[Pattern],
+        faults: &[(u32, Fault)],
+    ) -> Result<Vec<Hit>, NoMemory>
+        requires few { length patterns.now ≤ 64 }
+        requires wide { All (HasWidthsOf self.old) patterns.now }
+        requires lines { All (λ (g : ℕ × FaultOf). IsLineOf self.old g.1.line) faults.now }
+        ensures hits { IfOk result (λ v. AreHits self.old patterns.now faults.now v.items) }
+        ensures same { self.new ≡ self.old }
+    {
+        self.batch_hits(alloc, patterns, faults)
+            .map_err(|_| NoMemory)
+    }
+}
