@@ -1,0 +1,91 @@
+//! `search MODE PATH LIMIT`: a search for a test of each class's first member, without simulation in between.
+ghost use Rattle.std.specs.Prelude.{◌≤◌};
+ghost use Rattle.netlist.specs.Holds.{AreHoldsOf};
+
+use netlist::{Core, Fault, Holds, NoMemory, Tri};
+use podem::Podem;
+use redundancy_cert::{Engine, Found, Node};
+use std::alloc::Global;
+
+/// What became of the faults.
+#[derive(Clone, Copy)]
+pub struct Ends {
+    pub tests: u64,
+    pub closed: u64,
+    pub aborted: u64,
+    /// Decisions of trees.
+    pub decisions: u64,
+    /// Sources that tests decide.
+    pub decided: u64,
+}
+
+impl Ends {
+    fn none() -> Ends {
+        Ends {
+            tests: 0,
+            closed: 0,
+            aborted: 0,
+            decisions: 0,
+            decided: 0,
+        }
+    }
+}
+
+/// How many of these nodes are decisions.
+fn decisions_of(nodes: &[Node]) -> u64 {
+    let mut count: u64 = 0;
+    for node in nodes {
+        if matches!(node, Node::Split(_) | Node::Forced(_, _)) {
+            count = count.saturating_add(1);
+        }
+    }
+    count
+}
+
+/// How many of these values are known.
+fn known_of(values: &[Tri]) -> u64 {
+    let mut count: u64 = 0;
+    for value in values {
+        if !matches!(value, Tri::X) {
+            count = count.saturating_add(1);
+        }
+    }
+    count
+}
+
+/// Counts what a search found.
+fn count(ends: &mut Ends, found: &Found) {
+    match found {
+        Found::Test(cube, _) => {
+            ends.tests = ends.tests.saturating_add(1);
+            let decided = known_of(cube.inputs()).saturating_add(known_of(cube.cells()));
+            ends.decided = ends.decided.saturating_add(decided);
+        }
+        Found::Closed(tree) => {
+            ends.closed = ends.closed.saturating_add(1);
+            ends.decisions = ends.decisions.saturating_add(decisions_of(tree.nodes()));
+        }
+        Found::Partial(tree) => {
+            ends.aborted = ends.aborted.saturating_add(1);
+            ends.decisions = ends.decisions.saturating_add(decisions_of(tree.nodes()));
+        }
+    }
+}
+
+/// Searches for a test of each fault.
+pub fn search_all(
+    alloc: Global,
+    core: &Core,
+    faults: &[Fault],
+    limit: u32,
+) -> Result<Ends, NoMemory>
+    requires { 1 ≤ limit }
+{
+    let holds = Holds::none(alloc, core)?;
+    let mut ends = Ends::none();
+    for fault in faults {
+        let found = Podem.search(alloc, core, *fault, limit, &holds)?;
+        count(&mut ends, &found);
+    }
+    Ok(ends)
+}
