@@ -10,3 +10,4 @@ pub mod Undoing
 pub mod Sights
 pub mod StoreLemmas
 pub mod StateLemmas
+pub mod Faulting

@@ -3,13 +3,14 @@ ghost use Rattle.std.specs.Prelude.{◌≡◌, ◌<◌, [], length, map, IfOk};
 ghost use Rattle.std.specs.List.{Contains};
 ghost use Rattle.netlist.specs.Holds.{AreHoldsOf};
 ghost use Rattle.netlist.specs.Conditions.{IsSound};
+ghost use Rattle.netlist.specs.Lines.{IsLineOf};
 ghost use Rattle.netlist.specs.Netlist.{signals};
 ghost use Rattle.pair_sim.specs.Sims.{sim, assigned, undone, HasGood, HasOwn, HasFaulty, MayDiffer, HasLabel, IsNotBlocked, IsState, IsFree, IsContradictedSim, AreChangedSignals};
 
 use crate::levels::{Level, is_contradicted};
 use crate::points::state_of;
 use crate::states::State;
-use crate::steps::{note, relabel, take_back};
+use crate::steps::{note, relabel, replace_fault, take_back};
 use events::Events;
 use netlist::{Core, Fault, Holds, NoMemory, SignalId, Tri};
 use std::alloc::{AllocError, Global};
@@ -82,6 +83,53 @@ impl<'a> PairSim<'a> {
         ensures { IfOk result (λ s. s ≡ sim core.now fault holds.now []) }
     {
         started(alloc, core, &fault, holds).map_err(|_| NoMemory)
+    }
+
+    /// How many decisions there are.
+    fn depth(&self) -> usize
+        ensures { result ≡ length self.now.path }
+    {
+        self.levels.len()
+    }
+
+    /// Takes all decisions back.
+    fn undo_all(&mut self)
+        ensures { self.new ≡ sim self.old.netlist self.old.fault self.old.holds [] }
+    {
+        while self.depth() > 0 {
+            self.undo();
+        }
+    }
+
+    /// Another fault comes in place of this one, where there is no decision.
+    fn put(&mut self, fault: Fault)
+        requires none { self.old.path ≡ [] }
+        requires old_line { IsLineOf self.old.netlist self.old.fault.line }
+        requires line { IsLineOf self.old.netlist fault.line }
+        requires holds { AreHoldsOf self.old.netlist self.old.holds }
+        ensures { self.new ≡ sim self.old.netlist fault self.old.holds [] }
+    {
+        self.events.core().netlist().sound();
+        replace_fault(
+            &mut self.labelling,
+            &mut self.events,
+            self.holds,
+            &self.fault,
+            &fault,
+        );
+        self.names.clear();
+        self.fault = fault;
+    }
+
+    /// Goes over to another fault, without a decision: only what the two faults reach is evaluated.
+    pub fn aim(&mut self, fault: Fault)
+        requires old_line { IsLineOf self.old.netlist self.old.fault.line }
+        requires line { IsLineOf self.old.netlist fault.line }
+        requires holds { AreHoldsOf self.old.netlist self.old.holds }
+        ensures { self.new ≡ sim self.old.netlist fault self.old.holds [] }
+    {
+        self.undo_all();
+        self.put(fault);
     }
 
     /// The label.

@@ -1,13 +1,18 @@
 //! The steps of a simulation: a decision more, and the last one taken back.
-ghost use Rattle.std.specs.Prelude.{◌≡◌, ◌+◌, ◌≤◌, ◌<◌, length, vec_capacity};
+ghost use Rattle.std.specs.Prelude.{◌≡◌, ◌+◌, ◌≤◌, ◌<◌, None, Some, length, slice_index_or, vec_capacity};
 ghost use Rattle.std.specs.Bool.{MatchBool};
+ghost use Rattle.netlist.specs.Holds.{AreHoldsOf};
+ghost use Rattle.netlist.specs.Lines.{IsLineOf};
 ghost use Rattle.netlist.specs.Netlist.{signals};
-ghost use Rattle.pair_sim.specs.inner.Steps.{IsRelabelled, IsForgotten, IsNamed, IsPlayedBack, IsSettledBack};
+ghost use Rattle.tri.specs.Labelling.{decided_in};
+ghost use Rattle.tri.specs.Labels.{source_label, held_value};
+ghost use Rattle.label_events.specs.Lines.{AreSameOff};
+ghost use Rattle.pair_sim.specs.inner.Steps.{IsRelabelled, IsForgotten, IsNamed, IsPlayedBack, IsSettledBack, IsSiteSettled, IsFaultPut, site_of};
 
 use crate::levels::{Level, has_clash, name_changes};
 use events::Events;
 use label_events::LabelRule;
-use netlist::{SignalId, Tri};
+use netlist::{Fault, Holds, Line, Netlist, SignalId, Tri};
 use tri::{Label, Labelling, label_of};
 
 /// The decided bit of a signal changes: the labels that this reaches are worked out anew.
@@ -76,4 +81,84 @@ pub(crate) fn take_back(
         events.undo(level.mark);
         names.truncate(level.mark);
     }
+}
+
+/// The signal that may change where the fault on this line does.
+fn site(line: &Line) -> Option<SignalId>
+    ensures { result ≡ site_of line.now }
+{
+    match line {
+        Line::Stem(x) => Some(*x),
+        Line::Pin(z, _) => Some(*z),
+        Line::Out(_) => None,
+    }
+}
+
+/// What is driven onto a signal if it is an input or a cell: the bit at which an input is held, else X, with its decision.
+fn driven_onto(labelling: &Labelling, netlist: &Netlist, holds: &Holds, id: SignalId) -> Label
+    requires { AreHoldsOf netlist.now holds.now }
+    ensures { result ≡ source_label (decided_in labelling.now.decided.items) id (held_value (slice_index_or holds.now id None)) }
+{
+    if id.index() < netlist.inputs().len() {
+        labelling.input(id, holds)
+    } else {
+        labelling.source(id, Tri::X)
+    }
+}
+
+/// The fault on this line is another one, or none: what it reaches is worked out anew.
+fn settle_site(labelling: &Labelling, events: &mut Events<Label>, holds: &Holds, line: &Line)
+    requires line { IsLineOf events.old.netlist line.now }
+    requires holds { AreHoldsOf events.old.netlist holds.now }
+    requires room { length events.old.trail ≤ events.old.room }
+    ensures { IsSiteSettled holds.now line.now labelling.now events.old events.new }
+{
+    let netlist = events.core().netlist();
+    netlist.sound();
+    match site(line) {
+        None => {}
+        Some(id) => {
+            let driven = driven_onto(labelling, netlist, holds, id);
+            let rule = LabelRule { labelling };
+            events.change(&rule, id, driven);
+        }
+    }
+}
+
+/// Another fault, or none, comes onto a line. What that changes can't be taken back.
+fn put_fault(
+    labelling: &mut Labelling,
+    events: &mut Events<Label>,
+    holds: &Holds,
+    line: &Line,
+    fault: Option<Fault>,
+)
+    requires line { IsLineOf events.old.netlist line.now }
+    requires holds { AreHoldsOf events.old.netlist holds.now }
+    requires same { AreSameOff line.now labelling.old.fault fault }
+    requires room { length events.old.trail ≤ events.old.room }
+    ensures { IsFaultPut holds.now fault labelling.old labelling.new events.old events.new }
+{
+    labelling.fault = fault;
+    settle_site(labelling, events, holds, line);
+    events.forget();
+}
+
+/// Another fault comes in place of this one: what the two reach is worked out anew.
+pub(crate) fn replace_fault(
+    labelling: &mut Labelling,
+    events: &mut Events<Label>,
+    holds: &Holds,
+    last: &Fault,
+    fault: &Fault,
+)
+    requires last { labelling.old.fault ≡ Some last.now }
+    requires last_line { IsLineOf events.old.netlist last.now.line }
+    requires line { IsLineOf events.old.netlist fault.now.line }
+    requires holds { AreHoldsOf events.old.netlist holds.now }
+    requires room { length events.old.trail ≤ events.old.room }
+    ensures { IsFaultPut holds.now (Some fault.now) labelling.old labelling.new events.old events.new }
+{
+    put_fault(labelling, events, holds, &last.line, None);
+    put_fault(labelling, events, holds, &fault.line, Some(*fault));
 }

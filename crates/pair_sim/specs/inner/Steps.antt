@@ -1,14 +1,19 @@
 -- What is done after the labels of a decision were worked out, and to take it back.
-use Rattle.std.specs.Prelude.{ℕ, ◌≡◌, ◌⊎◌, ◌++◌, Bool, false, true, List, map, take, drop, slice_set, Option, None}
+use Rattle.std.specs.Prelude.{ℕ, ◌≡◌, ◌⊎◌, ◌++◌, Bool, false, true, List, [], map, take, drop, slice_set, Option, Some, None}
 use Rattle.std.specs.List.{list_any}
 use Rattle.netlist.specs.declared.kinds.Tri.TheVariants.{X}
+use Rattle.netlist.specs.declared.lines.Line.{Line}
+use Rattle.netlist.specs.declared.lines.Line.TheVariants.{Stem, Pin, Out}
+use Rattle.netlist.specs.declared.lines.Fault.{Fault}
+use Rattle.netlist.specs.Holds.{Holds}
 use Rattle.tri.specs.declared.labels.Label.{Label}
 use Rattle.tri.specs.declared.labelling.Labelling.{Labelling}
 use Rattle.tri.specs.Labels.{labels, label_of}
-use Rattle.tri.specs.Labelling.{decided_in}
+use Rattle.tri.specs.Labelling.{AreLabelled, decided_in}
 use Rattle.events.specs.declared.trails.Change.{Change}
 use Rattle.events.specs.Standing.{Standing, Moves, SettlesAnew}
 use Rattle.events.specs.Trails.{undone}
+use Rattle.label_events.specs.Lines.{AreSameOff}
 use Rattle.pair_sim.specs.inner.Levels.{clashes_at}
 
 -- the decided bit of a signal changed, and the labels settled anew
@@ -44,3 +49,25 @@ pub record IsSettledBack (x mark : ℕ) (old new : Labelling) (s s' : Standing L
   pub relabelled : IsRelabelled x None old new s between
   pub is : s' ≡ record between { trail = take mark between.trail }
   pub names_are : names' ≡ names
+
+-- the signal that may change where the fault on this line does
+abbrev pub site_of : Line → Option ℕ
+site_of (Stem x) = Some x
+site_of (Pin z k) = Some z
+site_of (Out x) = None
+
+-- what settled under another fault on this line, or none, settles
+pub record IsSiteSettled (holds : Holds) (line : Line) (b : Labelling) (s s' : Standing Label) : Type 0 where
+  pub netlist : s'.netlist ≡ s.netlist
+  pub room : s'.room ≡ s.room
+  pub labelled : (f : Option Fault) → AreSameOff line f b.fault → AreLabelled f (decided_in b.decided.items) s.netlist holds s.values
+      → AreLabelled b.fault (decided_in b.decided.items) s.netlist holds s'.values
+
+-- another fault, or none, comes onto a line, and the labels settle anew; the trail is empty then
+pub record IsFaultPut (holds : Holds) (fault : Option Fault) (old new : Labelling) (s s' : Standing Label) : Type 0 where
+  pub fault_is : new.fault ≡ fault
+  pub row : new.decided.items ≡ old.decided.items
+  pub netlist : s'.netlist ≡ s.netlist
+  pub room : s'.room ≡ s.room
+  pub trail : s'.trail ≡ []
+  pub labelled : AreLabelled old.fault (decided_in old.decided.items) s.netlist holds s.values → AreLabelled fault (decided_in old.decided.items) s.netlist holds s'.values
