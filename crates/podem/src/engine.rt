@@ -4,17 +4,28 @@ ghost use Rattle.netlist.specs.Holds.{AreHoldsOf};
 ghost use Rattle.redundancy_cert.specs.Evidence.{HasEvidence};
 ghost use Rattle.podem.specs.Sources.{HasSourceEvidence};
 
+use crate::measures::Measures;
 use crate::searching::search_from;
 use netlist::{Core, Fault, Holds, NoMemory};
 use pair_sim::PairSim;
 use redundancy_cert::{Engine, Found};
 use std::alloc::Global;
 
-/// A search that decides inputs and cells alone.
-#[derive(Clone, Copy, Debug)]
-pub struct Podem;
+/// A search that decides inputs and cells alone, with what guides it.
+#[derive(Debug, Drop)]
+pub struct Podem {
+    measures: Measures,
+}
 
 impl Podem {
+    /// The search with the measures of a netlist. For another one its answers are right too, but it may be slow.
+    pub fn of(alloc: Global, core: &Core) -> Result<Podem, NoMemory> {
+        match Measures::of(alloc, core) {
+            Ok(measures) => Ok(Podem { measures }),
+            Err(_) => Err(NoMemory),
+        }
+    }
+
     /// A test of the fault, a tree that shows it redundant, or a tree with as many Closed as the limit.
     pub fn search_sources(
         &self,
@@ -34,7 +45,16 @@ impl Podem {
         let Ok(mut labels) = PairSim::new(alloc, core, fault, holds) else {
             return Err(NoMemory);
         };
-        search_from(alloc, core, &fault, holds, &mut labels, limit).map_err(|_| NoMemory)
+        search_from(
+            alloc,
+            core,
+            &self.measures,
+            &fault,
+            holds,
+            &mut labels,
+            limit,
+        )
+        .map_err(|_| NoMemory)
     }
 }
 

@@ -10,9 +10,10 @@ ghost use Rattle.redundancy_cert.specs.Stacks.{other_nodes, path_of_stack, close
 ghost use Rattle.redundancy_cert.specs.Evidence.{HasEvidence, IsTestCube};
 ghost use Rattle.netlist.specs.Holds.{AreHoldsOf};
 ghost use Rattle.podem.specs.Sources.{all_sources, sources, undecided, value_of, HasSourceEvidence};
-ghost use Rattle.podem.specs.Searching.{IsAt, IsSearching, IsSeen, IsKnownAt, MayEnter, MayClimb, IsWhole, IsTestAt, IsStepped, IsChosen, IsOfCase};
+ghost use Rattle.podem.specs.inner.Searching.{IsAt, IsSearching, IsSeen, IsKnownAt, MayEnter, MayClimb, IsWhole, IsTestAt, IsStepped, IsChosen, IsOfCase};
 
 use crate::guides::{Aim, best_aim};
+use crate::measures::Measures;
 use cubes::Cube;
 use netlist::{Core, Fault, Holds, Point, SignalId, Tri};
 use pair_sim::{PairSim, State};
@@ -158,6 +159,7 @@ fn wanted_source(core: &Core, labels: &PairSim, wanted: SignalId) -> Option<Sign
 /// The source to which the objective leads back.
 fn guided(
     core: &Core,
+    measures: &Measures,
     fault: &Fault,
     holds: &Holds,
     labels: &PairSim,
@@ -168,7 +170,7 @@ fn guided(
     ensures { IfSome result (λ a. Contains (sources core.now holds.now) a.signal × IsUnknown fault.now core.now holds.now (path_of_stack stack.now.items) a.signal) }
 {
     core.netlist().sound();
-    let aim = best_aim(core, fault, labels)?;
+    let aim = best_aim(core, measures, fault, labels)?;
     let signal = wanted_source(core, labels, aim.signal)?;
     Some(Aim {
         signal,
@@ -177,13 +179,20 @@ fn guided(
 }
 
 /// What to decide next.
-fn choose(core: &Core, fault: &Fault, holds: &Holds, labels: &PairSim, stack: &Vec<Side>) -> Aim
+fn choose(
+    core: &Core,
+    measures: &Measures,
+    fault: &Fault,
+    holds: &Holds,
+    labels: &PairSim,
+    stack: &Vec<Side>,
+) -> Aim
     requires at { IsAt fault.now core.now holds.now labels.now stack.now.items }
     requires going { IsGoingPath fault.now core.now holds.now (path_of_stack stack.now.items) }
     ensures source { Contains (sources core.now holds.now) result.signal }
     ensures free { IsUnknown fault.now core.now holds.now (path_of_stack stack.now.items) result.signal }
 {
-    match guided(core, fault, holds, labels, stack) {
+    match guided(core, measures, fault, holds, labels, stack) {
         Some(aim) => aim,
         None => Aim {
             signal: any_free(core, fault, holds, labels, stack),
@@ -237,18 +246,8 @@ fn after_closed(
             }
         }
         State::Going => {
-            let tree = closed_tree(alloc)?;
-            enter(
-                core,
-                fault,
-                holds,
-                labels,
-                stack,
-                signal,
-                !bit,
-                Other::Searched(tree),
-            )?;
-            Ok(Step::On(true))
+            enter(core, fault, holds, labels, stack, signal, !bit, Other::Shut)?;
+            Ok(Step::On(false))
         }
     }
 }
@@ -272,18 +271,8 @@ fn after_going(
     match look(labels, signal, !bit) {
         State::Test(point) => Ok(Step::Found(point)),
         State::Blocked => {
-            let tree = closed_tree(alloc)?;
-            enter(
-                core,
-                fault,
-                holds,
-                labels,
-                stack,
-                signal,
-                bit,
-                Other::Searched(tree),
-            )?;
-            Ok(Step::On(true))
+            enter(core, fault, holds, labels, stack, signal, bit, Other::Shut)?;
+            Ok(Step::On(false))
         }
         State::Going => {
             enter(
@@ -305,6 +294,7 @@ fn after_going(
 fn take_turn(
     alloc: Global,
     core: &Core,
+    measures: &Measures,
     fault: &Fault,
     holds: &Holds,
     labels: &mut PairSim,
@@ -315,7 +305,7 @@ fn take_turn(
     ensures { IfOk result (IsStepped fault.now core.now holds.now labels.new stack.old.items stack.new.items (closed_around stack.old.items)) }
 {
     core.netlist().sound();
-    let aim = choose(core, fault, holds, labels, stack);
+    let aim = choose(core, measures, fault, holds, labels, stack);
     match look(labels, aim.signal, aim.bit) {
         State::Test(point) => Ok(Step::Found(point)),
         State::Blocked => after_closed(
@@ -388,6 +378,7 @@ fn one_if(more: bool) -> u32
 fn search_on(
     alloc: Global,
     core: &Core,
+    measures: &Measures,
     fault: &Fault,
     holds: &Holds,
     labels: &mut PairSim,
@@ -403,7 +394,7 @@ fn search_on(
     let mut stack = Vec::new(alloc);
     let mut closed: u32 = 0;
     while closed < limit {
-        match take_turn(alloc, core, fault, holds, labels, &mut stack)? {
+        match take_turn(alloc, core, measures, fault, holds, labels, &mut stack)? {
             Step::Found(point) => {
                 let cube = cube_there(alloc, core, fault, holds, labels, &point)?;
                 return Ok(Found::Test(cube, point));
@@ -421,6 +412,7 @@ fn search_on(
 pub(crate) fn search_from(
     alloc: Global,
     core: &Core,
+    measures: &Measures,
     fault: &Fault,
     holds: &Holds,
     labels: &mut PairSim,
@@ -443,6 +435,6 @@ pub(crate) fn search_from(
             let tree = closed_tree(alloc)?;
             Ok(Found::Closed(Tree::new(tree)))
         }
-        State::Going => search_on(alloc, core, fault, holds, labels, limit),
+        State::Going => search_on(alloc, core, measures, fault, holds, labels, limit),
     }
 }

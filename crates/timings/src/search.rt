@@ -82,9 +82,10 @@ pub fn search_all(
     requires { 1 ≤ limit }
 {
     let holds = Holds::none(alloc, core)?;
+    let podem = Podem::of(alloc, core)?;
     let mut ends = Ends::none();
     for fault in faults {
-        let found = Podem.search(alloc, core, *fault, limit, &holds)?;
+        let found = podem.search(alloc, core, *fault, limit, &holds)?;
         count(&mut ends, &found);
     }
     Ok(ends)

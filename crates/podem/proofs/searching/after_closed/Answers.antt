@@ -4,7 +4,7 @@ use Rattle.tri.specs.Paths.{IsClosedPath}
 use Rattle.redundancy_cert.specs.declared.stacks.Other.TheVariants.{Searched}
 use Rattle.redundancy_cert.specs.Stacks.{path_of_stack}
 use Rattle.redundancy_cert.specs.Trees.{open_count}
-use Rattle.podem.proofs.Steps.{test_there, same_chosen, seen_closed, seen_going, enter_beside_closed, both_closed}
+use Rattle.podem.proofs.Steps.{test_there, same_chosen, seen_closed, seen_going, enter_forced, both_closed}
 use Rattle.podem.proofs.searching.after_closed.Goals as goal
 
 not_not : (b : Bool) → b ≡ not (not b)
@@ -42,7 +42,6 @@ enter-requires c =
     let stack = c.args.stack.now.items in
     let x = c.args.signal in
     let sound : IsSound n = subst IsSound c.netlist.ensures c.sound.ensures in
-    enter_beside_closed f n holds sound s' stack x (same_chosen f n holds sound s stack x c.requires.chosen s' c.in-Going.ensures.0) (not c.args.bit)
-    (Searched c.in_ok-tree-in-Going.tree) refl c.in_ok-tree-in-Going.ensures (ap open_count c.in_ok-tree-in-Going.ensures)
+    enter_forced f n holds sound s' stack x (same_chosen f n holds sound s stack x c.requires.chosen s' c.in-Going.ensures.0) (not c.args.bit)
     (subst (λ b. IsClosedPath f n holds ((x, b) ∷ path_of_stack stack)) (not_not c.args.bit) c.requires.closed)
     (seen_going f n holds sound s stack x c.requires.chosen (not c.args.bit) c.in-Going.ensures.1)

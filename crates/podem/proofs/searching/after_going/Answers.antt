@@ -2,7 +2,7 @@ use Rattle.std.proofs.Common.{◌≡◌, Bool, true, false, not, refl, ap, subst
 use Rattle.netlist.specs.Conditions.{IsSound}
 use Rattle.redundancy_cert.specs.declared.stacks.Other.TheVariants.{Searched}
 use Rattle.redundancy_cert.specs.Trees.{open_count}
-use Rattle.podem.proofs.Steps.{test_there, same_chosen, seen_closed, seen_going, enter_beside_closed, enter_beside_open}
+use Rattle.podem.proofs.Steps.{test_there, same_chosen, seen_closed, seen_going, enter_forced, enter_beside_open}
 use Rattle.podem.proofs.searching.after_going.Goals as goal
 
 not_not : (b : Bool) → b ≡ not (not b)
@@ -27,8 +27,7 @@ enter-requires c =
     let stack = c.args.stack.now.items in
     let x = c.args.signal in
     let sound : IsSound n = subst IsSound c.netlist.ensures c.sound.ensures in
-    enter_beside_closed f n holds sound s' stack x (same_chosen f n holds sound s stack x c.requires.chosen s' c.in-Blocked.ensures.0) c.args.bit
-    (Searched c.in_ok-tree-in-Blocked.tree) refl c.in_ok-tree-in-Blocked.ensures (ap open_count c.in_ok-tree-in-Blocked.ensures)
+    enter_forced f n holds sound s' stack x (same_chosen f n holds sound s stack x c.requires.chosen s' c.in-Blocked.ensures.0) c.args.bit
     (seen_closed f n holds sound s stack x c.requires.chosen (not c.args.bit) c.in-Blocked.ensures.1) c.requires.going
 
 pub enter-requires-in-Going : goal.enter-requires-in-Going

@@ -4,7 +4,7 @@ use Rattle.redundancy_cert.specs.declared.stacks.Turn.{Turn}
 use Rattle.redundancy_cert.specs.Stacks.{IsClimbOrTurn, IsTurned}
 use Rattle.tri.specs.Paths.{IsUnknown}
 use Rattle.pair_sim.specs.Sims.{assigned}
-use Rattle.podem.specs.Searching.{IsSearching}
+use Rattle.podem.specs.inner.Searching.{IsSearching}
 use Rattle.podem.proofs.Turns.{path_length, turned, turn_free, climbed, last_is}
 use Rattle.podem.proofs.searching.climb.Goals as goal
 

@@ -7,7 +7,7 @@ use Rattle.redundancy_cert.specs.Fits.{Fits}
 use Rattle.redundancy_cert.specs.Stacks.{whole, path_of_stack, closed_around}
 use Rattle.podem.specs.declared.searching.Step.{Step}
 use Rattle.podem.specs.Sources.{sources, undecided}
-use Rattle.podem.specs.Searching.{IsStepped}
+use Rattle.podem.specs.inner.Searching.{IsStepped}
 use Rattle.podem.proofs.Finish.{partial_tree, partial_evidence, whole_evidence, one_tree, smaller, undecided_many, step_cases}
 use Rattle.podem.proofs.searching.search_on.Goals as goal
 

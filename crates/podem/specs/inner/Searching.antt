@@ -9,11 +9,9 @@ use Rattle.netlist.specs.declared.lines.Point.{Point}
 use Rattle.netlist.specs.Netlist.{Netlist}
 use Rattle.tri.specs.Paths.{Path, decisions, IsClosedPath, IsUnknown, IsTestPath, IsGoingPath}
 use Rattle.redundancy_cert.specs.declared.nodes.Node.{Node}
-use Rattle.redundancy_cert.specs.declared.nodes.Node.TheVariants.{Split}
 use Rattle.redundancy_cert.specs.declared.stacks.Other.{Other}
 use Rattle.redundancy_cert.specs.declared.stacks.Side.{Side}
 use Rattle.redundancy_cert.specs.Trees.{closed_count, open_count}
-use Rattle.redundancy_cert.specs.Fits.{NodeFits}
 use Rattle.redundancy_cert.specs.Stacks.{node_of, path_of_stack, StandsBelow, OtherStands, StandsAround, closed_around, searched_open, searched_open_around}
 use Rattle.pair_sim.specs.declared.states.State.{State}
 use Rattle.pair_sim.specs.declared.states.State.TheVariants.{Test, Blocked, Going}
@@ -59,8 +57,8 @@ pub record IsChosen (f : Fault) (n : Netlist) (holds : Holds) (s : Sim) (stack :
 pub record MayEnter (f : Fault) (n : Netlist) (holds : Holds) (s : Sim) (stack : List Side) (x : ℕ) (b : Bool) (other : Other) : Type 0 where
   pub is : IsAt f n holds s stack
   pub source : Contains (sources n holds) x
-  pub fits : NodeFits f n holds (path_of_stack stack) (Split x)
-  pub split : node_of x b other ≡ Split x
+  pub free : IsUnknown f n holds (path_of_stack stack) x
+  pub fits : PlaceInSources f n holds (record { path = path_of_stack stack; node = node_of x b other })
   pub stands : OtherStands (PlaceInSources f n holds) ((x, not b) ∷ path_of_stack stack) other
   pub searched : searched_open other ≡ 0
   pub going : IsGoingPath f n holds ((x, b) ∷ path_of_stack stack)
