@@ -24,7 +24,7 @@ use Rattle.redundancy_cert.specs.Stacks.{other_nodes, node_of, stack_onto, path_
 use Rattle.redundancy_cert.proofs.StackLemmas.{stack_onto-append, closed_around-append, searched_open_around-append, around-append, around-last, length-stack_onto, turned_stands, climbed_stands, turned_closed, turned_open, climbed_open, climbed_closed}
 use Rattle.pair_sim.specs.Sims.{Sim, sim, assigned, undone, HasGood}
 use Rattle.podem.specs.Sources.{sources, undecided, PlaceInSources, IsSourceTree}
-use Rattle.podem.specs.inner.Searching.{IsSearching, MayEnter, MayClimb, IsWhole, OnSources}
+use Rattle.podem.specs.inner.Searching.{IsSearching, MayEnter, MayClimb, IsWhole, OnSources, IsOfCase}
 use Rattle.podem.proofs.Bounds.{undecided_less, free_source}
 use Rattle.podem.proofs.Owns.{source_signal, any_source, source_own}
 use Rattle.pair_sim.proofs.Free.{own_if_undecided}
@@ -32,6 +32,10 @@ use Rattle.pair_sim.proofs.Free.{own_if_undecided}
 -- where the search may go on, the label isn't closed
 pub going_open : (f : Fault) (n : Netlist) (holds : Holds) → IsSound n → (path : Path) → IsGoingPath f n holds path → IsClosedPath f n holds path → ⊥
 going_open f n holds sound path w = not_closed f n holds sound path w.label w.are w.left_open
+
+-- labels of a path
+pub of_case : (f : Fault) (n : Netlist) (holds : Holds) (s : Sim) (path : Path) → s ≡ sim n f holds path → IsOfCase f n holds s
+of_case f n holds s path e = e ∙ ap (sim n f holds) (sym (ap (λ (r : Sim). r.path) e))
 
 module _ (f : Fault) (n : Netlist) (holds : Holds) where
   -- one decision more

@@ -92,7 +92,7 @@ fn climb(
     requires { MayClimb fault.now core.now holds.now labels.old stack.old.items done.items }
     ensures { IfOk result (λ tree. MatchOption tree
         (IsSearching fault.now core.now holds.now labels.new stack.new.items (closed_around stack.old.items + closed_count done.items))
-        (λ nodes. IsWhole fault.now core.now holds.now nodes.items (closed_around stack.old.items + closed_count done.items))) }
+        (λ nodes. IsWhole fault.now core.now holds.now nodes.items (closed_around stack.old.items + closed_count done.items) × IsOfCase fault.now core.now holds.now labels.new)) }
 {
     while stack.len() > 0 {
         labels.undo();
@@ -389,6 +389,7 @@ fn search_on(
     requires going { IsGoingPath fault.now core.now holds.now [] }
     ensures evidence { IfOk result (HasEvidence fault.now core.now holds.now limit) }
     ensures sources { IfOk result (HasSourceEvidence fault.now core.now holds.now limit) }
+    ensures kept { OnOk result (IsOfCase fault.now core.now holds.now labels.new) }
 {
     core.netlist().sound();
     let mut stack = Vec::new(alloc);
@@ -425,6 +426,9 @@ pub(crate) fn search_from(
 
     // On inputs and cells alone: no Partial for a limit of 2 to their number, and no Open where there is a test.
     ensures sources { IfOk result (HasSourceEvidence fault.now core.now holds.now limit) }
+
+    // The labels are those of some path.
+    ensures kept { OnOk result (IsOfCase fault.now core.now holds.now labels.new) }
 {
     match labels.state() {
         State::Test(point) => {

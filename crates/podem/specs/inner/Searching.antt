@@ -87,7 +87,7 @@ pub record IsTestAt (f : Fault) (n : Netlist) (holds : Holds) (s : Sim) (point :
 -- after a turn: a test; or a whole tree with one Closed more; or the search goes on, with one Closed more or one decision more
 abbrev pub IsStepped : Fault → Netlist → Holds → Sim → List Side → List Side → ℕ → Step → Type 0
 IsStepped f n holds new old_stack new_stack closed (Found point) = IsTestAt f n holds new point
-IsStepped f n holds new old_stack new_stack closed (Done tree) = IsWhole f n holds tree.items (closed + 1)
+IsStepped f n holds new old_stack new_stack closed (Done tree) = IsWhole f n holds tree.items (closed + 1) × IsOfCase f n holds new
 IsStepped f n holds new old_stack new_stack closed (On more) =
     IsSearching f n holds new new_stack (closed + (if more then 1 else 0))
     × (IsTrue more ⊎ (undecided (path_of_stack new_stack) (sources n holds) < undecided (path_of_stack old_stack) (sources n holds)))
