@@ -435,7 +435,7 @@ struct Search {
         if (!n.is_gate(x)) return;
         const Label& l = sim.labels[x];
         if (!l.differs || sim.effect(l)) return;
-        if (best != NONE && m.seen[x] >= m.seen[best]) return;
+        if (best != NONE && (m.seen[x] > m.seen[best] || (m.seen[x] == m.seen[best] && x >= best))) return;
         Aim a = through(x);
         if (a.signal == NONE) return;
         best = x, aim = a;
@@ -460,18 +460,19 @@ struct Search {
         for (u32 x : n.cells) if (good(x) == X) return {x, false};
         abort();
     }
-    // a decision is made; unless it may be gone on with, it is taken back
-    State look(Aim a) {
+    void enter(Aim a, bool tried) {
+        counts.decisions++;
+        stack.push_back({a.signal, a.bit, tried, sim.trail.size(), 0});
+        sim.assign(a.signal, a.bit);
+    }
+    // goes to a side; comes back where it is closed, or always but for a test
+    State look(Aim a, bool stays) {
         size_t mark = sim.trail.size();
         counts.looks++;
         sim.assign(a.signal, a.bit);
         State s = sim.state();
-        if (s == Blocked) sim.undo(mark, a.signal);
+        if (s == Blocked || (s == Going && !stays)) sim.undo(mark, a.signal);
         return s;
-    }
-    void push(Aim a, bool tried, size_t mark) {
-        counts.decisions++;
-        stack.push_back({a.signal, a.bit, tried, mark, 0});
     }
     // 0: a test, 1: redundant, 2: given up
     int run(u64 limit) {
@@ -481,41 +482,32 @@ struct Search {
         while (closed < limit) {
             Aim a = choose(), b{a.signal, !a.bit};
             size_t mark = sim.trail.size();
-            State one = look(a);
-            if (one == Test) return 0;
-            if (one == Going) { push(a, false, mark); continue; }
-            State other = look(b);
+            State other = look(b, false);
             if (other == Test) return 0;
-            if (other == Going) { push(b, true, mark); continue; }
+            State one = look(a, true);
+            if (one == Test) return 0;
+            if (one == Going) {
+                counts.decisions++;
+                stack.push_back({a.signal, a.bit, other == Blocked, mark, 0});
+                continue;
+            }
+            if (other == Going) { enter(b, true); continue; }
             closed++;
             u64 nodes = 1;
             for (;;) {
                 if (stack.empty()) { counts.tree += nodes; return 1; }
-                Side last = stack.back();
-                stack.pop_back();
+                Side& last = stack.back();
                 sim.undo(last.mark, last.signal);
                 if (!last.tried) {
-                    Aim turned{last.signal, !last.bit};
-                    State s = look(turned);
-                    if (s == Test) return 0;
-                    if (s == Going) {
-                        stack.push_back({turned.signal, turned.bit, true, last.mark, nodes});
-                        break;
-                    }
+                    last.tried = true, last.bit = !last.bit, last.nodes = nodes;
+                    sim.assign(last.signal, last.bit);
+                    break;
                 }
                 nodes += last.nodes + 1;
+                stack.pop_back();
             }
         }
-        while (!stack.empty()) {  // what was left untried is looked at
-            Side last = stack.back();
-            stack.pop_back();
-            counts.tree += last.nodes + 1;
-            sim.undo(last.mark, last.signal);
-            if (last.tried) continue;
-            State s = look({last.signal, !last.bit});
-            if (s == Test) return 0;
-            if (s == Going) sim.undo(last.mark, last.signal);
-        }
+        for (auto& side : stack) counts.tree += side.nodes + 1;
         return 2;
     }
 };

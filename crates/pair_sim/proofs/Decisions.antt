@@ -1,4 +1,4 @@
--- Labels where one decision changes: all but that signal stand as they should, and onto a source that was X comes what the decision says.
+-- Onto a source that was X comes what a decision says.
 use Rattle.std.proofs.Common.{◌≡◌, ℕ, ◌≢◌, Bool, true, false, not, cond, List, [], ◌∷◌, map, get_or, Some, None, refl, sym, ◌∙◌, ap, eqb}
 use Rattle.std.specs.List.{All, AllZip, list_any}
 use Rattle.std.proofs.lemmas.Bool.{eqb-false}
@@ -53,25 +53,3 @@ module _ (f : Fault) (path path' : Decisions) (n : Netlist) (holds : Holds) (l :
         (All-from_contains (λ (d : Definition). d.id ≡ x → on_line (Some f) (Stem x) (label_of (path' x) X X false) ≡ on_line (Some f) (Stem x) (source_label path' d.id X)) (cells n)
         (λ d c e. ap (λ z. on_line (Some f) (Stem x) (source_label path' z X)) (sym e)));
   }
-
-  module _ (same : (y : ℕ) → y ≢ x → path y ≡ path' y) where
-    other : (y : ℕ) → eqb y x ≡ false → path y ≡ path' y
-    other y h = same y (eqb-false y x h)
-
-    -- every other signal stands as it should
-    pub labels_change : SettlesBut (λ y. eqb y x) (labels (Some f) path') n (input_labels path' n holds) (cell_labels path' n) l
-    unfolding own
-    labels_change = record {
-      inputs_driven = zip_mapped (λ y w. eqb y x ≡ false → l y ≡ on_line (Some f) (Stem y) w) (λ y. source_label path' y (own y)) n.inputs
-          (All-from_contains (λ y. eqb y x ≡ false → l y ≡ on_line (Some f) (Stem y) (source_label path' y (own y))) n.inputs
-          (λ y c h. All-contains (λ z. l z ≡ on_line (Some f) (Stem z) (source_label path z (own z))) n.inputs y inputs_are c
-          ∙ ap (λ o. on_line (Some f) (Stem y) (label_of o (own y) X false)) (other y h)));
-      cells_driven = zip_mapped (λ (d : Definition) w. eqb d.id x ≡ false → l d.id ≡ on_line (Some f) (Stem d.id) w) (λ (d : Definition). source_label path' d.id X) (cells n)
-          (All-from_contains (λ (d : Definition). eqb d.id x ≡ false → l d.id ≡ on_line (Some f) (Stem d.id) (source_label path' d.id X)) (cells n)
-          (λ d c h. All-contains (λ (e : Definition). l e.id ≡ on_line (Some f) (Stem e.id) (source_label path e.id X)) (cells n) d cells_are c
-          ∙ ap (λ o. on_line (Some f) (Stem d.id) (label_of o X X false)) (other d.id h)));
-      gates_done = λ d c h.
-          let pins = pins_of (labels (Some f) path) l d in
-          All-contains (λ (e : Definition). l e.id ≡ on_line (Some f) (Stem e.id) ((labels (Some f) path).gate e (pins_of (labels (Some f) path) l e))) (gates n) d are.2 c
-          ∙ ap (λ o. on_line (Some f) (Stem d.id) (label_of o (gate_tri d.kind (map (λ (m : Label). m.good) pins)) (gate_tri d.kind (map (λ (m : Label). m.faulty) pins)) (list_any (λ (m : Label). m.may_differ) pins))) (other d.id h);
-    }

@@ -10,7 +10,7 @@ ghost use Rattle.redundancy_cert.specs.Stacks.{other_nodes, path_of_stack, close
 ghost use Rattle.redundancy_cert.specs.Evidence.{HasEvidence, IsTestCube};
 ghost use Rattle.netlist.specs.Holds.{AreHoldsOf};
 ghost use Rattle.podem.specs.Sources.{all_sources, sources, undecided, value_of, HasSourceEvidence};
-ghost use Rattle.podem.specs.inner.Searching.{IsAt, IsSearching, IsSeen, IsKnownAt, MayEnter, MayClimb, IsWhole, IsTestAt, IsStepped, IsChosen, IsOfCase};
+ghost use Rattle.podem.specs.inner.Searching.{IsAt, IsSearching, IsSeen, IsGone, IsKnownAt, MayEnter, MayClimb, IsWhole, IsTestAt, IsStepped, IsChosen, IsOfCase};
 
 use crate::guides::{Aim, best_aim};
 use crate::measures::Measures;
@@ -42,6 +42,20 @@ fn look(labels: &mut PairSim, signal: SignalId, bit: bool) -> State
         State::Test(_) => {}
         State::Blocked => labels.undo(),
         State::Going => labels.undo(),
+    }
+    state
+}
+
+/// Goes to a side, and comes back if its label is closed.
+fn go(labels: &mut PairSim, signal: SignalId, bit: bool) -> State
+    requires { IsFree labels.old signal }
+    ensures { IsGone labels.old signal bit result labels.new }
+{
+    labels.assign(signal, bit);
+    let state = labels.state();
+    match state {
+        State::Blocked => labels.undo(),
+        State::Test(_) | State::Going => {}
     }
     state
 }
@@ -220,7 +234,7 @@ fn forced_tree(alloc: Global, signal: SignalId, bit: bool) -> Result<Vec<Node>, 
     Ok(nodes)
 }
 
-/// A turn where the first side is closed.
+/// A turn where this side is closed: goes to the other one.
 fn after_closed(
     alloc: Global,
     core: &Core,
@@ -236,7 +250,7 @@ fn after_closed(
     ensures { IfOk result (IsStepped fault.now core.now holds.now labels.new stack.old.items stack.new.items (closed_around stack.old.items)) }
 {
     core.netlist().sound();
-    match look(labels, signal, !bit) {
+    match go(labels, signal, !bit) {
         State::Test(point) => Ok(Step::Found(point)),
         State::Blocked => {
             let done = forced_tree(alloc, signal, bit)?;
@@ -246,13 +260,17 @@ fn after_closed(
             }
         }
         State::Going => {
-            enter(core, fault, holds, labels, stack, signal, !bit, Other::Shut)?;
+            stack.push(Side {
+                signal,
+                bit: !bit,
+                other: Other::Shut,
+            })?;
             Ok(Step::On(false))
         }
     }
 }
 
-/// A turn where the first side may be gone on with.
+/// A turn where this side may be gone on with: goes to the other one, and to this one where that is closed.
 fn after_going(
     alloc: Global,
     core: &Core,
@@ -268,29 +286,24 @@ fn after_going(
     ensures { IfOk result (IsStepped fault.now core.now holds.now labels.new stack.old.items stack.new.items (closed_around stack.old.items)) }
 {
     core.netlist().sound();
-    match look(labels, signal, !bit) {
+    match go(labels, signal, !bit) {
         State::Test(point) => Ok(Step::Found(point)),
         State::Blocked => {
             enter(core, fault, holds, labels, stack, signal, bit, Other::Shut)?;
             Ok(Step::On(false))
         }
         State::Going => {
-            enter(
-                core,
-                fault,
-                holds,
-                labels,
-                stack,
+            stack.push(Side {
                 signal,
-                bit,
-                Other::Untried,
-            )?;
+                bit: !bit,
+                other: Other::Untried,
+            })?;
             Ok(Step::On(false))
         }
     }
 }
 
-/// A turn of the search: both sides of a source that is X are looked at.
+/// A turn of the search: the other side of a decision is looked at, and then its own side is gone to.
 fn take_turn(
     alloc: Global,
     core: &Core,
@@ -306,13 +319,13 @@ fn take_turn(
 {
     core.netlist().sound();
     let aim = choose(core, measures, fault, holds, labels, stack);
-    match look(labels, aim.signal, aim.bit) {
+    match look(labels, aim.signal, !aim.bit) {
         State::Test(point) => Ok(Step::Found(point)),
         State::Blocked => after_closed(
-            alloc, core, fault, holds, labels, stack, aim.signal, aim.bit,
+            alloc, core, fault, holds, labels, stack, aim.signal, !aim.bit,
         ),
         State::Going => after_going(
-            alloc, core, fault, holds, labels, stack, aim.signal, aim.bit,
+            alloc, core, fault, holds, labels, stack, aim.signal, !aim.bit,
         ),
     }
 }

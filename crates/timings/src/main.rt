@@ -53,7 +53,7 @@ fn run_search(rt: &HostRuntime, words: &[String], text: &[u8]) -> io::Result<()>
     let classes = classes_of(alloc, &netlist).map_err(|_| refusal())?;
     let core = Core::of(alloc, netlist).map_err(|_| refusal())?;
     let start = Instant::now(rt)?;
-    let ends = search_all(alloc, &core, classes.representatives(), limit).map_err(|_| refusal())?;
+    let ends = search_all(alloc, &core, &classes, limit).map_err(|_| refusal())?;
     println!(rt;
         "classes {} tests {} closed {} aborted {}",
         classes.count(),

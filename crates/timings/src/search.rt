@@ -1,10 +1,14 @@
 //! `search MODE PATH LIMIT`: a search for a test of each class's first member, without simulation in between.
-ghost use Rattle.std.specs.Prelude.{◌≤◌};
-ghost use Rattle.netlist.specs.Holds.{AreHoldsOf};
+ghost use Rattle.std.specs.Prelude.{◌≤◌, ◌<◌, length};
+ghost use Rattle.netlist.specs.Lines.{IsLineOf};
+ghost use Rattle.fault_collapse.specs.Classes.{AreClasses};
 
+use fault_collapse::Classes;
+use fault_universe::faults_have_lines;
 use netlist::{Core, Fault, Holds, NoMemory, Tri};
+use pair_sim::PairSim;
 use podem::Podem;
-use redundancy_cert::{Engine, Found, Node};
+use redundancy_cert::{Found, Node};
 use std::alloc::Global;
 
 /// What became of the faults.
@@ -72,20 +76,37 @@ fn count(ends: &mut Ends, found: &Found) {
     }
 }
 
-/// Searches for a test of each fault.
+/// The first member of a class.
+fn representative(core: &Core, classes: &Classes, class: u32) -> Fault
+    requires classes { AreClasses core.now classes.now }
+    requires within { class < length classes.now.representatives }
+    ensures { IsLineOf core.now result.line }
+{
+    core.netlist().sound();
+    faults_have_lines();
+    classes.representative(class)
+}
+
+/// Searches for a test of each class's first member.
 pub fn search_all(
     alloc: Global,
     core: &Core,
-    faults: &[Fault],
+    classes: &Classes,
     limit: u32,
 ) -> Result<Ends, NoMemory>
-    requires { 1 ≤ limit }
+    requires classes { AreClasses core.now classes.now }
+    requires limit { 1 ≤ limit }
 {
+    let mut ends = Ends::none();
+    if classes.count() == 0 {
+        return Ok(ends);
+    }
     let holds = Holds::none(alloc, core)?;
     let podem = Podem::of(alloc, core)?;
-    let mut ends = Ends::none();
-    for fault in faults {
-        let found = podem.search(alloc, core, *fault, limit, &holds)?;
+    let mut labels = PairSim::new(alloc, core, representative(core, classes, 0), &holds)?;
+    for class in 0..classes.count() {
+        let fault = representative(core, classes, class);
+        let found = podem.search_again(alloc, core, &mut labels, fault, limit, &holds)?;
         count(&mut ends, &found);
     }
     Ok(ends)

@@ -42,6 +42,12 @@ IsSeen old x b (Test point) new = (new ≡ assigned old x b) × IsTestPath old.f
 IsSeen old x b Blocked new = (new ≡ old) × IsClosedPath old.fault old.netlist old.holds ((x, b) ∷ old.path)
 IsSeen old x b Going new = (new ≡ old) × IsGoingPath old.fault old.netlist old.holds ((x, b) ∷ old.path)
 
+-- what is seen of a side that is gone to; the simulation comes back where it is closed
+abbrev pub IsGone : Sim → ℕ → Bool → State → Sim → Type 0
+IsGone old x b (Test point) new = (new ≡ assigned old x b) × IsTestPath old.fault old.netlist old.holds ((x, b) ∷ old.path) point
+IsGone old x b Blocked new = (new ≡ old) × IsClosedPath old.fault old.netlist old.holds ((x, b) ∷ old.path)
+IsGone old x b Going new = (new ≡ assigned old x b) × IsGoingPath old.fault old.netlist old.holds ((x, b) ∷ old.path)
+
 -- a value that is known
 abbrev pub IsKnownAt : Sim → ℕ → Type 0
 IsKnownAt s x = (v : Tri) × HasGood s x v × (v ≢ X)
