@@ -5,10 +5,8 @@
 mod netlists;
 mod search;
 
-use netlist::{Core, NoMemory};
-use netlists::{classes_of, design};
+use netlists::core_and_classes;
 use search::search_all;
-use std::alloc::Global;
 use std::io::{self, Error, ErrorKind};
 use std::time::Instant;
 use std::{env, fs};
@@ -49,9 +47,9 @@ fn print_seconds(rt: &HostRuntime, mode: &str, start: &Instant) -> io::Result<()
 fn run_search(rt: &HostRuntime, words: &[String], text: &[u8]) -> io::Result<()> {
     let alloc = rt.alloc();
     let limit = number(words, 4)?.max(1);
-    let netlist = design(alloc, text).map_err(|_| refusal())?;
-    let classes = classes_of(alloc, &netlist).map_err(|_| refusal())?;
-    let core = Core::of(alloc, netlist).map_err(|_| refusal())?;
+    let Some((core, classes)) = core_and_classes(alloc, text) else {
+        return Err(refusal());
+    };
     let start = Instant::now(rt)?;
     let ends = search_all(alloc, &core, &classes, limit).map_err(|_| refusal())?;
     println!(rt;

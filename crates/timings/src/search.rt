@@ -1,7 +1,9 @@
 //! `search MODE PATH LIMIT`: a search for a test of each class's first member, without simulation in between.
 ghost use Rattle.std.specs.Prelude.{◌≤◌, ◌<◌, length};
+ghost use Rattle.netlist.specs.Holds.{AreHoldsOf};
 ghost use Rattle.netlist.specs.Lines.{IsLineOf};
 ghost use Rattle.fault_collapse.specs.Classes.{AreClasses};
+ghost use Rattle.podem.specs.Sources.{IsLabelling};
 
 use fault_collapse::Classes;
 use fault_universe::faults_have_lines;
@@ -87,6 +89,30 @@ fn representative(core: &Core, classes: &Classes, class: u32) -> Fault
     classes.representative(class)
 }
 
+/// Searches for a test of each class's first member, with the same labels.
+fn search_each(
+    alloc: Global,
+    core: &Core,
+    podem: &Podem,
+    classes: &Classes,
+    labels: &mut PairSim,
+    limit: u32,
+    holds: &Holds,
+) -> Result<Ends, NoMemory>
+    requires classes { AreClasses core.now classes.now }
+    requires limit { 1 ≤ limit }
+    requires holds { AreHoldsOf core.now holds.now }
+    requires case { IsLabelling core.now holds.now labels.old }
+{
+    let mut ends = Ends::none();
+    for class in 0..classes.count() {
+        let fault = representative(core, classes, class);
+        let found = podem.search_again(alloc, core, labels, fault, limit, holds)?;
+        count(&mut ends, &found);
+    }
+    Ok(ends)
+}
+
 /// Searches for a test of each class's first member.
 pub fn search_all(
     alloc: Global,
@@ -97,17 +123,12 @@ pub fn search_all(
     requires classes { AreClasses core.now classes.now }
     requires limit { 1 ≤ limit }
 {
-    let mut ends = Ends::none();
     if classes.count() == 0 {
-        return Ok(ends);
+        return Ok(Ends::none());
     }
     let holds = Holds::none(alloc, core)?;
     let podem = Podem::of(alloc, core)?;
-    let mut labels = PairSim::new(alloc, core, representative(core, classes, 0), &holds)?;
-    for class in 0..classes.count() {
-        let fault = representative(core, classes, class);
-        let found = podem.search_again(alloc, core, &mut labels, fault, limit, &holds)?;
-        count(&mut ends, &found);
-    }
-    Ok(ends)
+    let first = representative(core, classes, 0);
+    let mut labels = PairSim::new(alloc, core, first, &holds)?;
+    search_each(alloc, core, &podem, classes, &mut labels, limit, &holds)
 }
