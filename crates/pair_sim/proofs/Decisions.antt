@@ -1,7 +1,6 @@
 -- Onto a source that was X comes what a decision says.
-use Rattle.std.proofs.Common.{◌≡◌, ℕ, ◌≢◌, Bool, true, false, not, cond, List, [], ◌∷◌, map, get_or, Some, None, refl, sym, ◌∙◌, ap, eqb}
-use Rattle.std.specs.List.{All, AllZip, list_any}
-use Rattle.std.proofs.lemmas.Bool.{eqb-false}
+use Rattle.std.proofs.Common.{◌≡◌, ℕ, Bool, true, false, not, cond, List, [], ◌∷◌, map, get_or, Some, None, refl, sym, ◌∙◌, ap}
+use Rattle.std.specs.List.{All, AllZip}
 use Rattle.std.proofs.lemmas.List.Elements.{All-contains, All-head, All-tail}
 use Rattle.netlist.specs.declared.kinds.Tri.{Tri}
 use Rattle.netlist.specs.declared.kinds.Tri.TheVariants.{X}
@@ -9,15 +8,14 @@ use Rattle.netlist.specs.declared.lines.Line.{Line}
 use Rattle.netlist.specs.declared.lines.Line.TheVariants.{Stem}
 use Rattle.netlist.specs.declared.lines.Fault.{Fault}
 use Rattle.netlist.specs.Holds.{Holds}
-use Rattle.netlist.specs.Netlist.{Definition, Netlist, cells, gates}
-use Rattle.netlist.specs.Settled.{is_line, pins_of}
+use Rattle.netlist.specs.Netlist.{Definition, Netlist, cells}
+use Rattle.netlist.specs.Settled.{is_line}
 use Rattle.netlist.specs.ThreeValues.{known}
 use Rattle.netlist.proofs.Lists.{All-from_contains}
 use Rattle.tri.specs.declared.labels.Label.{Label}
 use Rattle.tri.specs.Labels.{Decisions, AreLabels, is_known_as, labels, label_of, on_line, held_value, source_label, input_labels, cell_labels}
-use Rattle.tri.specs.Gates.{gate_tri}
 use Rattle.tri.proofs.LabelLemmas.{mapped_zip}
-use Rattle.events.specs.Waiting.{SettlesBut, IsDrivenTo}
+use Rattle.events.specs.Waiting.{IsDrivenTo}
 
 zip_mapped : {A B : Type 0} (R : A → B → Type 0) (g : A → B) (xs : List A) → All (λ x. R x (g x)) xs → AllZip R xs (map g xs)
 zip_mapped R g [] h = tt

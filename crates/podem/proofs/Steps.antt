@@ -14,13 +14,12 @@ use Rattle.netlist.proofs.Lists.{All-from_contains}
 use Rattle.tri.specs.Paths.{Path, decisions, IsClosedPath, IsUnknown, IsTestPath, IsGoingPath}
 use Rattle.redundancy_cert.specs.declared.nodes.Node.{Node}
 use Rattle.redundancy_cert.specs.declared.nodes.Node.TheVariants.{Closed, Split, Forced}
-use Rattle.redundancy_cert.specs.declared.stacks.Other.{Other}
 use Rattle.redundancy_cert.specs.declared.stacks.Other.TheVariants.{Untried, Shut}
 use Rattle.redundancy_cert.specs.declared.stacks.Side.{Side}
 use Rattle.redundancy_cert.specs.Trees.{open_count}
 use Rattle.redundancy_cert.specs.Fits.{NodeFits}
-use Rattle.redundancy_cert.specs.Stacks.{other_nodes, node_of, path_of_stack, StandsBelow, searched_open}
-use Rattle.redundancy_cert.proofs.StackLemmas.{closed_stands, open_stands, forced_stands, searched_stands}
+use Rattle.redundancy_cert.specs.Stacks.{path_of_stack, StandsBelow}
+use Rattle.redundancy_cert.proofs.StackLemmas.{closed_stands, open_stands, forced_stands}
 use Rattle.pair_sim.specs.Sims.{Sim, sim, assigned, HasGood}
 use Rattle.podem.specs.Sources.{all_sources, sources, undecided, PlaceInSources}
 use Rattle.podem.specs.inner.Searching.{IsAt, IsChosen, IsKnownAt, MayEnter, MayClimb, IsTestAt, OnSources}

@@ -1,9 +1,8 @@
-use Rattle.std.proofs.Common.{◌≡◌, ◌∷◌, Bool, true, false, not, inr, refl, ap, subst}
+use Rattle.std.proofs.Common.{◌≡◌, ◌∷◌, Bool, true, false, not, inr, refl, subst}
 use Rattle.netlist.specs.Conditions.{IsSound}
 use Rattle.tri.specs.Paths.{IsClosedPath}
 use Rattle.redundancy_cert.specs.declared.stacks.Other.TheVariants.{Shut}
 use Rattle.redundancy_cert.specs.Stacks.{path_of_stack}
-use Rattle.redundancy_cert.specs.Trees.{open_count}
 use Rattle.podem.proofs.Turns.{entered, fewer}
 use Rattle.podem.proofs.Steps.{test_there, same_chosen, seen_closed, seen_going, enter_forced, both_closed}
 use Rattle.podem.proofs.searching.after_closed.Goals as goal

@@ -1,7 +1,6 @@
-use Rattle.std.proofs.Common.{◌≡◌, ◌∷◌, Bool, true, false, not, inr, refl, ap, subst}
+use Rattle.std.proofs.Common.{◌≡◌, ◌∷◌, Bool, true, false, not, inr, refl, subst}
 use Rattle.netlist.specs.Conditions.{IsSound}
 use Rattle.redundancy_cert.specs.declared.stacks.Other.TheVariants.{Untried}
-use Rattle.redundancy_cert.specs.Trees.{open_count}
 use Rattle.tri.specs.Paths.{IsGoingPath}
 use Rattle.redundancy_cert.specs.Stacks.{path_of_stack}
 use Rattle.podem.proofs.Turns.{entered, fewer}

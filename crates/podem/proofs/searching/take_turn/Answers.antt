@@ -1,4 +1,4 @@
-use Rattle.std.proofs.Common.{not, false, subst}
+use Rattle.std.proofs.Common.{not, subst}
 use Rattle.netlist.specs.Conditions.{IsSound}
 use Rattle.podem.proofs.Steps.{test_there}
 use Rattle.podem.proofs.searching.take_turn.Goals as goal
