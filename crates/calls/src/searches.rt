@@ -32,6 +32,9 @@ pub fn push_search(
         return to.extend_from_slice(b"no fault\n");
     };
     let limit: u32 = limit.parse().unwrap_or(1);
-    let found = Podem.search_sources(alloc, &core, fault, limit.max(1), &holds);
+    let Ok(podem) = Podem::of(alloc, &core) else {
+        return Err(AllocError);
+    };
+    let found = podem.search_sources(alloc, &core, fault, limit.max(1), &holds);
     to.extend_from_slice(word_of(found)?.as_bytes())
 }

@@ -24,7 +24,8 @@ use Rattle.events.specs.Waiting.{IsDrivenTo}
 use Rattle.pair_sim.specs.declared.levels.Level.{Level}
 use Rattle.pair_sim.specs.inner.Levels.{blank, path_of, clashes, is_contradicted, decided_count, IsNoted, IsOnTop, GoBack, IsKept}
 use Rattle.pair_sim.proofs.Clashes.{same_elsewhere, decided_last, clash_contradicts, grows, still_contradicted, still_possible}
-use Rattle.pair_sim.proofs.Decisions.{source_is_driven, labels_change}
+use Rattle.label_events.proofs.Changing.{decision_changes}
+use Rattle.pair_sim.proofs.Decisions.{source_is_driven}
 use Rattle.pair_sim.proofs.Free.{free_undecided, own_if_undecided}
 use Rattle.pair_sim.proofs.Noting.{noted_first, noted_more}
 use Rattle.pair_sim.proofs.Rows.{decided_set, decided_few, reverse_push}
@@ -36,7 +37,7 @@ pub relabelled : (f : Fault) (n : Netlist) (holds : Holds) (path path' : Decisio
     → SettlesAnew (labels (Some f) path') n x (label_of (path' x) X X false) old new → length new ≡ length old → AreLabelled (Some f) path' n holds new
 relabelled f n holds path path' x old new same was drives settles size = record {
   size = size ∙ was.size;
-  labels = λ d. settles.each (input_labels path' n holds) (cell_labels path' n) d drives (labels_change f path path' n holds (at old d) x (was.labels d) same);
+  labels = λ d. settles.each (input_labels path' n holds) (cell_labels path' n) d drives (decision_changes (Some f) path path' n holds (at old d) x same (was.labels d));
 }
 
 -- whether a decision is contradicted, as the last level says

@@ -1,7 +1,6 @@
--- Labels where one decision changes: all but that signal stand as they should, and onto a source that was X comes what the decision says.
-use Rattle.std.proofs.Common.{◌≡◌, ℕ, ◌≢◌, Bool, true, false, not, cond, List, [], ◌∷◌, map, get_or, Some, None, refl, sym, ◌∙◌, ap, eqb}
-use Rattle.std.specs.List.{All, AllZip, list_any}
-use Rattle.std.proofs.lemmas.Bool.{eqb-false}
+-- Onto a source that was X comes what a decision says.
+use Rattle.std.proofs.Common.{◌≡◌, ℕ, Bool, true, false, not, cond, List, [], ◌∷◌, map, get_or, Some, None, refl, sym, ◌∙◌, ap}
+use Rattle.std.specs.List.{All, AllZip}
 use Rattle.std.proofs.lemmas.List.Elements.{All-contains, All-head, All-tail}
 use Rattle.netlist.specs.declared.kinds.Tri.{Tri}
 use Rattle.netlist.specs.declared.kinds.Tri.TheVariants.{X}
@@ -9,15 +8,14 @@ use Rattle.netlist.specs.declared.lines.Line.{Line}
 use Rattle.netlist.specs.declared.lines.Line.TheVariants.{Stem}
 use Rattle.netlist.specs.declared.lines.Fault.{Fault}
 use Rattle.netlist.specs.Holds.{Holds}
-use Rattle.netlist.specs.Netlist.{Definition, Netlist, cells, gates}
-use Rattle.netlist.specs.Settled.{is_line, pins_of}
+use Rattle.netlist.specs.Netlist.{Definition, Netlist, cells}
+use Rattle.netlist.specs.Settled.{is_line}
 use Rattle.netlist.specs.ThreeValues.{known}
 use Rattle.netlist.proofs.Lists.{All-from_contains}
 use Rattle.tri.specs.declared.labels.Label.{Label}
 use Rattle.tri.specs.Labels.{Decisions, AreLabels, is_known_as, labels, label_of, on_line, held_value, source_label, input_labels, cell_labels}
-use Rattle.tri.specs.Gates.{gate_tri}
 use Rattle.tri.proofs.LabelLemmas.{mapped_zip}
-use Rattle.events.specs.Waiting.{SettlesBut, IsDrivenTo}
+use Rattle.events.specs.Waiting.{IsDrivenTo}
 
 zip_mapped : {A B : Type 0} (R : A → B → Type 0) (g : A → B) (xs : List A) → All (λ x. R x (g x)) xs → AllZip R xs (map g xs)
 zip_mapped R g [] h = tt
@@ -53,25 +51,3 @@ module _ (f : Fault) (path path' : Decisions) (n : Netlist) (holds : Holds) (l :
         (All-from_contains (λ (d : Definition). d.id ≡ x → on_line (Some f) (Stem x) (label_of (path' x) X X false) ≡ on_line (Some f) (Stem x) (source_label path' d.id X)) (cells n)
         (λ d c e. ap (λ z. on_line (Some f) (Stem x) (source_label path' z X)) (sym e)));
   }
-
-  module _ (same : (y : ℕ) → y ≢ x → path y ≡ path' y) where
-    other : (y : ℕ) → eqb y x ≡ false → path y ≡ path' y
-    other y h = same y (eqb-false y x h)
-
-    -- every other signal stands as it should
-    pub labels_change : SettlesBut (λ y. eqb y x) (labels (Some f) path') n (input_labels path' n holds) (cell_labels path' n) l
-    unfolding own
-    labels_change = record {
-      inputs_driven = zip_mapped (λ y w. eqb y x ≡ false → l y ≡ on_line (Some f) (Stem y) w) (λ y. source_label path' y (own y)) n.inputs
-          (All-from_contains (λ y. eqb y x ≡ false → l y ≡ on_line (Some f) (Stem y) (source_label path' y (own y))) n.inputs
-          (λ y c h. All-contains (λ z. l z ≡ on_line (Some f) (Stem z) (source_label path z (own z))) n.inputs y inputs_are c
-          ∙ ap (λ o. on_line (Some f) (Stem y) (label_of o (own y) X false)) (other y h)));
-      cells_driven = zip_mapped (λ (d : Definition) w. eqb d.id x ≡ false → l d.id ≡ on_line (Some f) (Stem d.id) w) (λ (d : Definition). source_label path' d.id X) (cells n)
-          (All-from_contains (λ (d : Definition). eqb d.id x ≡ false → l d.id ≡ on_line (Some f) (Stem d.id) (source_label path' d.id X)) (cells n)
-          (λ d c h. All-contains (λ (e : Definition). l e.id ≡ on_line (Some f) (Stem e.id) (source_label path e.id X)) (cells n) d cells_are c
-          ∙ ap (λ o. on_line (Some f) (Stem d.id) (label_of o X X false)) (other d.id h)));
-      gates_done = λ d c h.
-          let pins = pins_of (labels (Some f) path) l d in
-          All-contains (λ (e : Definition). l e.id ≡ on_line (Some f) (Stem e.id) ((labels (Some f) path).gate e (pins_of (labels (Some f) path) l e))) (gates n) d are.2 c
-          ∙ ap (λ o. on_line (Some f) (Stem d.id) (label_of o (gate_tri d.kind (map (λ (m : Label). m.good) pins)) (gate_tri d.kind (map (λ (m : Label). m.faulty) pins)) (list_any (λ (m : Label). m.may_differ) pins))) (other d.id h);
-    }

@@ -1,8 +1,7 @@
 -- Another fault, or none, comes onto a line.
-use Rattle.std.proofs.Common.{◌≡◌, ◌≢◌, ◌<◌, ◌≤◌, ◌*◌, ℕ, List, [], ◌∷◌, length, get_or, reverse, Bool, true, false, Option, Some, None, refl, sym, ◌∙◌, ap, subst, ◌&&◌, eqb, arith}
-use Rattle.std.specs.List.{Contains}
+use Rattle.std.proofs.Common.{◌≡◌, ◌≢◌, ◌<◌, ◌≤◌, ℕ, List, [], ◌∷◌, length, get_or, reverse, Bool, true, false, Option, Some, None, refl, sym, ◌∙◌, ap, subst, ◌&&◌, eqb, arith}
 use Rattle.std.proofs.lemmas.List.{length-reverse}
-use Rattle.std.proofs.lemmas.Bool.{both_ways, and_parts, eqb-true}
+use Rattle.std.proofs.lemmas.Bool.{and_parts, eqb-true}
 use Rattle.netlist.specs.declared.lines.Fault.{Fault}
 use Rattle.netlist.specs.declared.lines.Line.{Line}
 use Rattle.netlist.specs.declared.lines.Line.TheVariants.{Stem, Pin, Out}
@@ -15,7 +14,7 @@ use Rattle.tri.specs.declared.labels.Label.{Label}
 use Rattle.tri.specs.Labels.{Decisions, labels, source_label, held_value, input_labels, cell_labels}
 use Rattle.tri.specs.declared.labelling.Labelling.{Labelling}
 use Rattle.tri.specs.Labelling.{AreLabelled, decided_in}
-use Rattle.netlist.specs.Settled.{at, is_line}
+use Rattle.netlist.specs.Settled.{at}
 use Rattle.events.specs.Standing.{Standing, SettlesAnew}
 use Rattle.label_events.specs.Lines.{IsOff, AreSameOff}
 use Rattle.label_events.proofs.Changing.{fault_changes, fault_changes_nothing, is_driven}

@@ -20,7 +20,7 @@ use Rattle.redundancy_cert.specs.Stacks.{whole, path_of_stack}
 use Rattle.redundancy_cert.proofs.StackLemmas.{open_stands, closed_stands, whole_stands, closed_whole, open_whole}
 use Rattle.pair_sim.specs.Sims.{Sim, sim, HasGood}
 use Rattle.podem.specs.Sources.{all_sources, sources, undecided, value_of, PlaceInSources, IsSourceTree}
-use Rattle.podem.specs.Searching.{IsSearching, IsWhole, IsOfCase}
+use Rattle.podem.specs.inner.Searching.{IsSearching, IsWhole, IsOfCase}
 use Rattle.podem.proofs.Bounds.{limit_small}
 use Rattle.podem.proofs.Owns.{source_signal, any_own}
 use Rattle.pair_sim.proofs.Free.{good_is}

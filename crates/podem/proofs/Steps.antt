@@ -14,16 +14,15 @@ use Rattle.netlist.proofs.Lists.{All-from_contains}
 use Rattle.tri.specs.Paths.{Path, decisions, IsClosedPath, IsUnknown, IsTestPath, IsGoingPath}
 use Rattle.redundancy_cert.specs.declared.nodes.Node.{Node}
 use Rattle.redundancy_cert.specs.declared.nodes.Node.TheVariants.{Closed, Split, Forced}
-use Rattle.redundancy_cert.specs.declared.stacks.Other.{Other}
-use Rattle.redundancy_cert.specs.declared.stacks.Other.TheVariants.{Untried}
+use Rattle.redundancy_cert.specs.declared.stacks.Other.TheVariants.{Untried, Shut}
 use Rattle.redundancy_cert.specs.declared.stacks.Side.{Side}
 use Rattle.redundancy_cert.specs.Trees.{open_count}
 use Rattle.redundancy_cert.specs.Fits.{NodeFits}
-use Rattle.redundancy_cert.specs.Stacks.{other_nodes, node_of, path_of_stack, StandsBelow, searched_open}
-use Rattle.redundancy_cert.proofs.StackLemmas.{closed_stands, open_stands, forced_stands, searched_stands}
+use Rattle.redundancy_cert.specs.Stacks.{path_of_stack, StandsBelow}
+use Rattle.redundancy_cert.proofs.StackLemmas.{closed_stands, open_stands, forced_stands}
 use Rattle.pair_sim.specs.Sims.{Sim, sim, assigned, HasGood}
 use Rattle.podem.specs.Sources.{all_sources, sources, undecided, PlaceInSources}
-use Rattle.podem.specs.Searching.{IsAt, IsChosen, IsKnownAt, MayEnter, MayClimb, IsTestAt, OnSources}
+use Rattle.podem.specs.inner.Searching.{IsAt, IsChosen, IsKnownAt, MayEnter, MayClimb, IsTestAt, OnSources}
 use Rattle.podem.proofs.Turns.{going_open, only_sources, none_only, known_decided}
 use Rattle.podem.proofs.Ends.{not_going}
 use Rattle.podem.proofs.Owns.{source_signal, any_source, free_is_source}
@@ -64,17 +63,15 @@ module _ (f : Fault) (n : Netlist) (holds : Holds) (sound : IsSound n) (s : Sim)
   pub is_free : IsUnknown s.fault s.netlist s.holds s.path x
   is_free = subst (λ (r : Sim). IsUnknown r.fault r.netlist r.holds r.path x) (sym w.is.at) w.free
 
-  -- one side is closed, and the other one is gone on with
-  pub enter_beside_closed : (b : Bool) (other : Other) → node_of x b other ≡ Split x → other_nodes other ≡ Closed ∷ [] → searched_open other ≡ 0
-      → IsClosedPath f n holds ((x, not b) ∷ path_of_stack stack) → IsGoingPath f n holds ((x, b) ∷ path_of_stack stack) → MayEnter f n holds s stack x b other
-  enter_beside_closed b other k e z shut going = record {
+  -- one side is closed: the other one is forced, and gone on with
+  pub enter_forced : (b : Bool) → IsClosedPath f n holds ((x, not b) ∷ path_of_stack stack) → IsGoingPath f n holds ((x, b) ∷ path_of_stack stack) → MayEnter f n holds s stack x b Shut
+  enter_forced b shut going = record {
     is = w.is;
     source = w.source;
-    fits = here;
-    split = k;
-    stands = searched_stands (PlaceInSources f n holds) ((x, not b) ∷ path_of_stack stack) other x b (Closed ∷ []) k e
-        (closed_stands (PlaceInSources f n holds) ((x, not b) ∷ path_of_stack stack) shut);
-    searched = z;
+    free = w.free;
+    fits = ((here.0, here.1, shut), w.source);
+    stands = tt;
+    searched = refl;
     going = going;
   }
 
@@ -84,8 +81,8 @@ module _ (f : Fault) (n : Netlist) (holds : Holds) (sound : IsSound n) (s : Sim)
   enter_beside_open b other going = record {
     is = w.is;
     source = w.source;
-    fits = here;
-    split = refl;
+    free = w.free;
+    fits = (here, w.source);
     stands = open_stands (PlaceInSources f n holds) ((x, not b) ∷ path_of_stack stack) other;
     searched = refl;
     going = going;

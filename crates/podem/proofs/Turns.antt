@@ -24,7 +24,7 @@ use Rattle.redundancy_cert.specs.Stacks.{other_nodes, node_of, stack_onto, path_
 use Rattle.redundancy_cert.proofs.StackLemmas.{stack_onto-append, closed_around-append, searched_open_around-append, around-append, around-last, length-stack_onto, turned_stands, climbed_stands, turned_closed, turned_open, climbed_open, climbed_closed}
 use Rattle.pair_sim.specs.Sims.{Sim, sim, assigned, undone, HasGood}
 use Rattle.podem.specs.Sources.{sources, undecided, PlaceInSources, IsSourceTree}
-use Rattle.podem.specs.Searching.{IsSearching, MayEnter, MayClimb, IsWhole, OnSources}
+use Rattle.podem.specs.inner.Searching.{IsSearching, MayEnter, MayClimb, IsWhole, OnSources, IsOfCase}
 use Rattle.podem.proofs.Bounds.{undecided_less, free_source}
 use Rattle.podem.proofs.Owns.{source_signal, any_source, source_own}
 use Rattle.pair_sim.proofs.Free.{own_if_undecided}
@@ -32,6 +32,10 @@ use Rattle.pair_sim.proofs.Free.{own_if_undecided}
 -- where the search may go on, the label isn't closed
 pub going_open : (f : Fault) (n : Netlist) (holds : Holds) → IsSound n → (path : Path) → IsGoingPath f n holds path → IsClosedPath f n holds path → ⊥
 going_open f n holds sound path w = not_closed f n holds sound path w.label w.are w.left_open
+
+-- labels of a path
+pub of_case : (f : Fault) (n : Netlist) (holds : Holds) (s : Sim) (path : Path) → s ≡ sim n f holds path → IsOfCase f n holds s
+of_case f n holds s path e = e ∙ ap (sim n f holds) (sym (ap (λ (r : Sim). r.path) e))
 
 module _ (f : Fault) (n : Netlist) (holds : Holds) where
   -- one decision more
@@ -45,7 +49,7 @@ module _ (f : Fault) (n : Netlist) (holds : Holds) where
         is = record {
           at = a ∙ (ap (λ (r : Sim). assigned r x b) w.is.at ∙ ap (sim n f holds) (sym path));
           around = subst (StandsAround (PlaceInSources f n holds) []) (sym e) (around-append (PlaceInSources f n holds) [] stack side w.is.around
-              (subst (λ (k : Node). PlaceInSources f n holds (record { path = path_of_stack stack; node = k })) (sym w.split) (w.fits, w.source)) w.stands);
+              w.fits w.stands);
           searched = let c = ap searched_open_around e in let d = searched_open_around-append stack side in let g = w.searched in let h = w.is.searched in omega arith;
         };
         going = subst (IsGoingPath f n holds) (sym path) w.going;
@@ -58,7 +62,7 @@ module _ (f : Fault) (n : Netlist) (holds : Holds) where
   fewer s stack stack' x b other w e =
       let side : Side = record { signal = x; bit = b; other = other } in
       let path : path_of_stack stack' ≡ (x, b) ∷ path_of_stack stack = ap path_of_stack e ∙ stack_onto-append [] stack side in
-      let less = undecided_less (path_of_stack stack) x b (sources n holds) w.source (free_source f (path_of_stack stack) n holds x w.fits.1) in
+      let less = undecided_less (path_of_stack stack) x b (sources n holds) w.source (free_source f (path_of_stack stack) n holds x w.free) in
       let same = ap (λ p. undecided p (sources n holds)) path in
       omega arith
 

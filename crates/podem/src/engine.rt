@@ -1,20 +1,32 @@
 //! The engine.
-ghost use Rattle.std.specs.Prelude.{◌≤◌, IfOk};
+ghost use Rattle.std.specs.Prelude.{◌≤◌, IfOk, OnOk};
 ghost use Rattle.netlist.specs.Holds.{AreHoldsOf};
 ghost use Rattle.redundancy_cert.specs.Evidence.{HasEvidence};
-ghost use Rattle.podem.specs.Sources.{HasSourceEvidence};
+ghost use Rattle.netlist.specs.Lines.{IsLineOf};
+ghost use Rattle.podem.specs.Sources.{HasSourceEvidence, IsLabelling};
 
+use crate::measures::Measures;
 use crate::searching::search_from;
 use netlist::{Core, Fault, Holds, NoMemory};
 use pair_sim::PairSim;
 use redundancy_cert::{Engine, Found};
 use std::alloc::Global;
 
-/// A search that decides inputs and cells alone.
-#[derive(Clone, Copy, Debug)]
-pub struct Podem;
+/// A search that decides inputs and cells alone, with what guides it.
+#[derive(Debug, Drop)]
+pub struct Podem {
+    measures: Measures,
+}
 
 impl Podem {
+    /// The search with the measures of a netlist. For another one its answers are right too, but it may be slow.
+    pub fn of(alloc: Global, core: &Core) -> Result<Podem, NoMemory> {
+        match Measures::of(alloc, core) {
+            Ok(measures) => Ok(Podem { measures }),
+            Err(_) => Err(NoMemory),
+        }
+    }
+
     /// A test of the fault, a tree that shows it redundant, or a tree with as many Closed as the limit.
     pub fn search_sources(
         &self,
@@ -34,7 +46,38 @@ impl Podem {
         let Ok(mut labels) = PairSim::new(alloc, core, fault, holds) else {
             return Err(NoMemory);
         };
-        search_from(alloc, core, &fault, holds, &mut labels, limit).map_err(|_| NoMemory)
+        search_from(
+            alloc,
+            core,
+            &self.measures,
+            &fault,
+            holds,
+            &mut labels,
+            limit,
+        )
+        .map_err(|_| NoMemory)
+    }
+
+    /// The same with the labels of an earlier search for another fault: no table is made anew, and what the two faults reach is evaluated.
+    pub fn search_again(
+        &self,
+        alloc: Global,
+        core: &Core,
+        labels: &mut PairSim,
+        fault: Fault,
+        limit: u32,
+        holds: &Holds,
+    ) -> Result<Found, NoMemory>
+        requires limit { 1 ≤ limit }
+        requires holds { AreHoldsOf core.now holds.now }
+        requires case { IsLabelling core.now holds.now labels.old }
+        requires line { IsLineOf core.now fault.line }
+        ensures evidence { IfOk result (HasEvidence fault core.now holds.now limit) }
+        ensures sources { IfOk result (HasSourceEvidence fault core.now holds.now limit) }
+        ensures kept { OnOk result (IsLabelling core.now holds.now labels.new) }
+    {
+        labels.aim(fault);
+        search_from(alloc, core, &self.measures, &fault, holds, labels, limit).map_err(|_| NoMemory)
     }
 }
 

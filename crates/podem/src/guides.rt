@@ -1,8 +1,9 @@
 //! What a decision is made for: an objective, traced back to an input or a cell. Nothing stands on it but the speed of the search.
-ghost use Rattle.std.specs.Prelude.{◌≡◌, ◌<◌, length};
+ghost use Rattle.std.specs.Prelude.{◌≡◌, length};
 ghost use Rattle.netlist.specs.Netlist.{signals};
 ghost use Rattle.pair_sim.specs.Sims.{IsNotBlocked};
 
+use crate::measures::Measures;
 use netlist::{Core, Fault, Kind, Line, SignalId, Tri};
 use pair_sim::PairSim;
 
@@ -11,6 +12,14 @@ use pair_sim::PairSim;
 pub(crate) struct Aim {
     pub signal: SignalId,
     pub bit: bool,
+}
+
+/// A gate that the fault's effect has reached, what it costs to see it, and what lets the effect through.
+#[derive(Clone, Copy)]
+struct Front {
+    gate: SignalId,
+    cost: u32,
+    aim: Aim,
 }
 
 /// How many signals there are.
@@ -22,15 +31,22 @@ fn signal_count(core: &Core) -> usize
     netlist.inputs().len() + netlist.definitions().len()
 }
 
-/// Whether the value of a signal without the fault isn't known.
-fn is_unknown(core: &Core, labels: &PairSim, signal: SignalId) -> bool
+/// The value of a signal without the fault.
+fn good(core: &Core, labels: &PairSim, signal: SignalId) -> Option<Tri>
     requires { labels.now.netlist ≡ core.now }
 {
     core.netlist().sound();
     if signal.index() >= signal_count(core) {
-        return false;
+        return None;
     }
-    matches!(labels.good(signal), Tri::X)
+    Some(labels.good(signal))
+}
+
+/// Whether that isn't known.
+fn is_unknown(core: &Core, labels: &PairSim, signal: SignalId) -> bool
+    requires { labels.now.netlist ≡ core.now }
+{
+    matches!(good(core, labels, signal), Some(Tri::X))
 }
 
 /// Whether both values of a signal are known and differ.
@@ -61,70 +77,134 @@ fn may_get_effect(core: &Core, labels: &PairSim, signal: SignalId) -> bool
     labels.may_differ(signal) && !has_effect(core, labels, signal)
 }
 
-/// The bit on the pins that decides the output by itself, for gates that have one; else what the inputs of a buffer should have.
-fn controlling(kind: Kind) -> bool {
-    matches!(kind, Kind::Or | Kind::Nor)
-}
-
-/// Whether the gate inverts.
-fn inverts(kind: Kind) -> bool {
-    matches!(kind, Kind::Nand | Kind::Nor | Kind::Xnor | Kind::Not)
-}
-
-/// The kind of the gate of a signal; none for an input, a cell and what is no signal.
-fn gate_kind(core: &Core, signal: SignalId) -> Option<Kind> {
+/// The kind and the pins of the gate of a signal; none for an input, a cell and what is no signal.
+fn gate_of(core: &Core, signal: SignalId) -> Option<(Kind, &[SignalId])> {
     if signal.index() >= signal_count(core) {
         return None;
     }
-    match core.netlist().kind(signal) {
-        None => None,
-        Some(kind) => {
-            if kind.is_flip_flop() {
-                None
-            } else {
-                Some(kind)
-            }
-        }
-    }
-}
-
-/// A pin of the gate that is X: the one that comes first in the order of evaluation, or the last one.
-fn unknown_pin(core: &Core, labels: &PairSim, signal: SignalId, last: bool) -> Option<SignalId>
-    requires { labels.now.netlist ≡ core.now }
-{
-    if signal.index() >= signal_count(core) {
+    let kind = core.netlist().kind(signal)?;
+    if kind.is_flip_flop() {
         return None;
     }
-    let mut found = None;
-    for pin in core.netlist().pins(signal) {
-        if is_unknown(core, labels, *pin) {
-            found = Some(*pin);
-            if !last {
-                return found;
-            }
-        }
-    }
-    found
+    Some((kind, core.netlist().pins(signal)))
 }
 
-/// One step back from an aim: a pin of its gate, and the bit there.
-fn step_back(core: &Core, labels: &PairSim, aim: &Aim) -> Option<Aim>
+/// Whether a cost is better than the best so far.
+fn is_better(cost: u32, best: &Option<(SignalId, u32)>, dear: bool) -> bool {
+    match best {
+        None => true,
+        Some((_, least)) => { if dear { cost > *least } else { cost < *least } }
+    }
+}
+
+/// The pin that is X for which a bit costs least, or most.
+fn pin_by_cost(
+    core: &Core,
+    measures: &Measures,
+    labels: &PairSim,
+    pins: &[SignalId],
+    bit: bool,
+    dear: bool,
+) -> Option<Aim>
     requires { labels.now.netlist ≡ core.now }
 {
-    let kind = gate_kind(core, aim.signal)?;
-    let bit = aim.bit != inverts(kind);
-    let decides = bit == controlling(kind);
-    let signal = unknown_pin(core, labels, aim.signal, !decides)?;
+    let mut best = None;
+    for pin in pins {
+        let cost = measures.cost(*pin, bit);
+        if is_unknown(core, labels, *pin) && is_better(cost, &best, dear) {
+            best = Some((*pin, cost));
+        }
+    }
+    let (signal, _) = best?;
     Some(Aim { signal, bit })
 }
 
+/// The pin that is X for which its cheaper bit costs least, at that bit.
+fn cheapest_pin(
+    core: &Core,
+    measures: &Measures,
+    labels: &PairSim,
+    pins: &[SignalId],
+) -> Option<Aim>
+    requires { labels.now.netlist ≡ core.now }
+{
+    let mut best = None;
+    for pin in pins {
+        let cost = measures.cost(*pin, measures.cheap_bit(*pin));
+        if is_unknown(core, labels, *pin) && is_better(cost, &best, false) {
+            best = Some((*pin, cost));
+        }
+    }
+    let (signal, _) = best?;
+    Some(Aim {
+        signal,
+        bit: measures.cheap_bit(signal),
+    })
+}
+
+/// Whether only one of these pins is X, and whether an odd number of the others are 1.
+fn others_of(core: &Core, labels: &PairSim, pins: &[SignalId]) -> (bool, bool)
+    requires { labels.now.netlist ≡ core.now }
+{
+    let mut unknown: u32 = 0;
+    let mut odd = false;
+    for pin in pins {
+        match good(core, labels, *pin) {
+            Some(Tri::X) => unknown = unknown.saturating_add(1),
+            Some(Tri::One) => odd = !odd,
+            _ => {}
+        }
+    }
+    (unknown == 1, odd)
+}
+
+/// A pin of a parity gate, and the bit there: what gives the output its bit where only that pin is X.
+fn parity_pin(
+    core: &Core,
+    measures: &Measures,
+    labels: &PairSim,
+    pins: &[SignalId],
+    bit: bool,
+) -> Option<Aim>
+    requires { labels.now.netlist ≡ core.now }
+{
+    let aim = cheapest_pin(core, measures, labels, pins)?;
+    let (is_last, odd) = others_of(core, labels, pins);
+    if is_last {
+        return Some(Aim {
+            signal: aim.signal,
+            bit: bit != odd,
+        });
+    }
+    Some(aim)
+}
+
+/// One step back from an aim: a pin of its gate, and the bit there. Where one pin decides the easiest is taken, and where all have to have
+/// the bit the hardest.
+fn step_back(core: &Core, measures: &Measures, labels: &PairSim, aim: &Aim) -> Option<Aim>
+    requires { labels.now.netlist ≡ core.now }
+{
+    let (kind, pins) = gate_of(core, aim.signal)?;
+    match kind {
+        Kind::And => pin_by_cost(core, measures, labels, pins, aim.bit, aim.bit),
+        Kind::Nand => pin_by_cost(core, measures, labels, pins, !aim.bit, !aim.bit),
+        Kind::Or => pin_by_cost(core, measures, labels, pins, aim.bit, !aim.bit),
+        Kind::Nor => pin_by_cost(core, measures, labels, pins, !aim.bit, aim.bit),
+        Kind::Xor => parity_pin(core, measures, labels, pins, aim.bit),
+        Kind::Xnor => parity_pin(core, measures, labels, pins, !aim.bit),
+        Kind::Not => pin_by_cost(core, measures, labels, pins, !aim.bit, false),
+        Kind::Buff => pin_by_cost(core, measures, labels, pins, aim.bit, false),
+        Kind::Dff | Kind::Const0 | Kind::Const1 => None,
+    }
+}
+
 /// Where the aim leads back to.
-fn trace_back(core: &Core, labels: &PairSim, start: &Aim) -> Aim
+fn trace_back(core: &Core, measures: &Measures, labels: &PairSim, start: &Aim) -> Aim
     requires { labels.now.netlist ≡ core.now }
 {
     let mut aim = *start;
     for _step in 0..signal_count(core) {
-        match step_back(core, labels, &aim) {
+        match step_back(core, measures, labels, &aim) {
             None => return aim,
             Some(next) => aim = next,
         }
@@ -149,30 +229,98 @@ fn driver(core: &Core, line: &Line) -> SignalId {
     }
 }
 
-/// Whether the fault's effect is at a pin of the gate.
-fn sees_effect(core: &Core, fault: &Fault, labels: &PairSim, signal: SignalId) -> bool
+/// What a gate's pin should have so that an effect on another pin goes through.
+fn through(core: &Core, measures: &Measures, labels: &PairSim, gate: SignalId) -> Option<Aim>
+    requires { labels.now.netlist ≡ core.now }
+{
+    let (kind, pins) = gate_of(core, gate)?;
+    match kind {
+        Kind::And | Kind::Nand => pin_by_cost(core, measures, labels, pins, true, true),
+        Kind::Or | Kind::Nor => pin_by_cost(core, measures, labels, pins, false, true),
+        Kind::Xor | Kind::Xnor => cheapest_pin(core, measures, labels, pins),
+        _ => None,
+    }
+}
+
+/// Whether a gate is nearer to the observed points than the best so far.
+fn is_nearer(gate: SignalId, cost: u32, best: &Option<Front>) -> bool {
+    match best {
+        None => true,
+        Some(front) => {
+            cost < front.cost || (cost == front.cost && gate.index() < front.gate.index())
+        }
+    }
+}
+
+/// A gate that an effect reaches, if it is better than the best so far.
+fn consider(
+    core: &Core,
+    measures: &Measures,
+    labels: &PairSim,
+    gate: SignalId,
+    best: Option<Front>,
+) -> Option<Front>
     requires same { labels.now.netlist ≡ core.now }
     requires not_blocked { IsNotBlocked labels.now }
 {
-    if signal.index() >= signal_count(core) {
-        return false;
+    let cost = measures.sight(gate);
+    if !may_get_effect(core, labels, gate) || !is_nearer(gate, cost, &best) {
+        return best;
     }
-    if let Line::Pin(z, _) = &fault.line {
-        if z.index() == signal.index() {
-            return true;
-        }
+    match through(core, measures, labels, gate) {
+        None => best,
+        Some(aim) => Some(Front { gate, cost, aim }),
     }
-    for pin in core.netlist().pins(signal) {
-        if has_effect(core, labels, *pin) {
-            return true;
-        }
-    }
-    false
 }
 
-/// The objective: the fault is excited, and then a gate at the D-frontier lets its effect through. The gate that comes last in the order of
-/// evaluation is the nearest to the observed points.
-fn objective(core: &Core, fault: &Fault, labels: &PairSim) -> Option<Aim>
+/// The lines that read a signal.
+fn readers<'a>(core: &'a Core, signal: SignalId) -> &'a [Line] {
+    if signal.index() >= signal_count(core) {
+        return &[];
+    }
+    core.netlist().readers(signal)
+}
+
+/// The gates that read a signal with an effect.
+fn consider_readers(
+    core: &Core,
+    measures: &Measures,
+    labels: &PairSim,
+    signal: SignalId,
+    start: Option<Front>,
+) -> Option<Front>
+    requires same { labels.now.netlist ≡ core.now }
+    requires not_blocked { IsNotBlocked labels.now }
+{
+    if !has_effect(core, labels, signal) {
+        return start;
+    }
+    let mut best = start;
+    for line in readers(core, signal) {
+        if let Line::Pin(gate, _) = line {
+            best = consider(core, measures, labels, *gate, best);
+        }
+    }
+    best
+}
+
+/// The best gate of the D-frontier: those that read a signal with an effect, whose own label may still get one.
+fn frontier(core: &Core, measures: &Measures, fault: &Fault, labels: &PairSim) -> Option<Front>
+    requires same { labels.now.netlist ≡ core.now }
+    requires not_blocked { IsNotBlocked labels.now }
+{
+    let mut best = None;
+    if let Line::Pin(gate, _) = &fault.line {
+        best = consider(core, measures, labels, *gate, best);
+    }
+    for signal in labels.trail() {
+        best = consider_readers(core, measures, labels, *signal, best);
+    }
+    best
+}
+
+/// The objective: the fault is excited, and then the gate of the D-frontier that is nearest to the observed points lets its effect through.
+fn objective(core: &Core, measures: &Measures, fault: &Fault, labels: &PairSim) -> Option<Aim>
     requires same { labels.now.netlist ≡ core.now }
     requires not_blocked { IsNotBlocked labels.now }
 {
@@ -183,26 +331,19 @@ fn objective(core: &Core, fault: &Fault, labels: &PairSim) -> Option<Aim>
             bit: !fault.value,
         });
     }
-    let order = core.order();
-    for k in (0..order.len()).rev() {
-        let signal = order[k];
-        if may_get_effect(core, labels, signal) && sees_effect(core, fault, labels, signal) {
-            let kind = gate_kind(core, signal)?;
-            let pin = unknown_pin(core, labels, signal, true)?;
-            return Some(Aim {
-                signal: pin,
-                bit: !controlling(kind),
-            });
-        }
-    }
-    None
+    Some(frontier(core, measures, fault, labels)?.aim)
 }
 
 /// What to decide, if the labels tell.
-pub(crate) fn best_aim(core: &Core, fault: &Fault, labels: &PairSim) -> Option<Aim>
+pub(crate) fn best_aim(
+    core: &Core,
+    measures: &Measures,
+    fault: &Fault,
+    labels: &PairSim,
+) -> Option<Aim>
     requires same { labels.now.netlist ≡ core.now }
     requires not_blocked { IsNotBlocked labels.now }
 {
-    let start = objective(core, fault, labels)?;
-    Some(trace_back(core, labels, &start))
+    let start = objective(core, measures, fault, labels)?;
+    Some(trace_back(core, measures, labels, &start))
 }

@@ -3,6 +3,7 @@
 
 mod engine;
 mod guides;
+mod measures;
 mod searching;
 
 pub use engine::Podem;

@@ -10,9 +10,10 @@ ghost use Rattle.redundancy_cert.specs.Stacks.{other_nodes, path_of_stack, close
 ghost use Rattle.redundancy_cert.specs.Evidence.{HasEvidence, IsTestCube};
 ghost use Rattle.netlist.specs.Holds.{AreHoldsOf};
 ghost use Rattle.podem.specs.Sources.{all_sources, sources, undecided, value_of, HasSourceEvidence};
-ghost use Rattle.podem.specs.Searching.{IsAt, IsSearching, IsSeen, IsKnownAt, MayEnter, MayClimb, IsWhole, IsTestAt, IsStepped, IsChosen, IsOfCase};
+ghost use Rattle.podem.specs.inner.Searching.{IsAt, IsSearching, IsSeen, IsGone, IsKnownAt, MayEnter, MayClimb, IsWhole, IsTestAt, IsStepped, IsChosen, IsOfCase};
 
 use crate::guides::{Aim, best_aim};
+use crate::measures::Measures;
 use cubes::Cube;
 use netlist::{Core, Fault, Holds, Point, SignalId, Tri};
 use pair_sim::{PairSim, State};
@@ -41,6 +42,20 @@ fn look(labels: &mut PairSim, signal: SignalId, bit: bool) -> State
         State::Test(_) => {}
         State::Blocked => labels.undo(),
         State::Going => labels.undo(),
+    }
+    state
+}
+
+/// Goes to a side, and comes back if its label is closed.
+fn go(labels: &mut PairSim, signal: SignalId, bit: bool) -> State
+    requires { IsFree labels.old signal }
+    ensures { IsGone labels.old signal bit result labels.new }
+{
+    labels.assign(signal, bit);
+    let state = labels.state();
+    match state {
+        State::Blocked => labels.undo(),
+        State::Test(_) | State::Going => {}
     }
     state
 }
@@ -91,7 +106,7 @@ fn climb(
     requires { MayClimb fault.now core.now holds.now labels.old stack.old.items done.items }
     ensures { IfOk result (λ tree. MatchOption tree
         (IsSearching fault.now core.now holds.now labels.new stack.new.items (closed_around stack.old.items + closed_count done.items))
-        (λ nodes. IsWhole fault.now core.now holds.now nodes.items (closed_around stack.old.items + closed_count done.items))) }
+        (λ nodes. IsWhole fault.now core.now holds.now nodes.items (closed_around stack.old.items + closed_count done.items) × IsOfCase fault.now core.now holds.now labels.new)) }
 {
     while stack.len() > 0 {
         labels.undo();
@@ -158,6 +173,7 @@ fn wanted_source(core: &Core, labels: &PairSim, wanted: SignalId) -> Option<Sign
 /// The source to which the objective leads back.
 fn guided(
     core: &Core,
+    measures: &Measures,
     fault: &Fault,
     holds: &Holds,
     labels: &PairSim,
@@ -168,7 +184,7 @@ fn guided(
     ensures { IfSome result (λ a. Contains (sources core.now holds.now) a.signal × IsUnknown fault.now core.now holds.now (path_of_stack stack.now.items) a.signal) }
 {
     core.netlist().sound();
-    let aim = best_aim(core, fault, labels)?;
+    let aim = best_aim(core, measures, fault, labels)?;
     let signal = wanted_source(core, labels, aim.signal)?;
     Some(Aim {
         signal,
@@ -177,13 +193,20 @@ fn guided(
 }
 
 /// What to decide next.
-fn choose(core: &Core, fault: &Fault, holds: &Holds, labels: &PairSim, stack: &Vec<Side>) -> Aim
+fn choose(
+    core: &Core,
+    measures: &Measures,
+    fault: &Fault,
+    holds: &Holds,
+    labels: &PairSim,
+    stack: &Vec<Side>,
+) -> Aim
     requires at { IsAt fault.now core.now holds.now labels.now stack.now.items }
     requires going { IsGoingPath fault.now core.now holds.now (path_of_stack stack.now.items) }
     ensures source { Contains (sources core.now holds.now) result.signal }
     ensures free { IsUnknown fault.now core.now holds.now (path_of_stack stack.now.items) result.signal }
 {
-    match guided(core, fault, holds, labels, stack) {
+    match guided(core, measures, fault, holds, labels, stack) {
         Some(aim) => aim,
         None => Aim {
             signal: any_free(core, fault, holds, labels, stack),
@@ -211,7 +234,7 @@ fn forced_tree(alloc: Global, signal: SignalId, bit: bool) -> Result<Vec<Node>, 
     Ok(nodes)
 }
 
-/// A turn where the first side is closed.
+/// A turn where this side is closed: goes to the other one.
 fn after_closed(
     alloc: Global,
     core: &Core,
@@ -227,7 +250,7 @@ fn after_closed(
     ensures { IfOk result (IsStepped fault.now core.now holds.now labels.new stack.old.items stack.new.items (closed_around stack.old.items)) }
 {
     core.netlist().sound();
-    match look(labels, signal, !bit) {
+    match go(labels, signal, !bit) {
         State::Test(point) => Ok(Step::Found(point)),
         State::Blocked => {
             let done = forced_tree(alloc, signal, bit)?;
@@ -237,23 +260,17 @@ fn after_closed(
             }
         }
         State::Going => {
-            let tree = closed_tree(alloc)?;
-            enter(
-                core,
-                fault,
-                holds,
-                labels,
-                stack,
+            stack.push(Side {
                 signal,
-                !bit,
-                Other::Searched(tree),
-            )?;
-            Ok(Step::On(true))
+                bit: !bit,
+                other: Other::Shut,
+            })?;
+            Ok(Step::On(false))
         }
     }
 }
 
-/// A turn where the first side may be gone on with.
+/// A turn where this side may be gone on with: goes to the other one, and to this one where that is closed.
 fn after_going(
     alloc: Global,
     core: &Core,
@@ -269,42 +286,28 @@ fn after_going(
     ensures { IfOk result (IsStepped fault.now core.now holds.now labels.new stack.old.items stack.new.items (closed_around stack.old.items)) }
 {
     core.netlist().sound();
-    match look(labels, signal, !bit) {
+    match go(labels, signal, !bit) {
         State::Test(point) => Ok(Step::Found(point)),
         State::Blocked => {
-            let tree = closed_tree(alloc)?;
-            enter(
-                core,
-                fault,
-                holds,
-                labels,
-                stack,
-                signal,
-                bit,
-                Other::Searched(tree),
-            )?;
-            Ok(Step::On(true))
+            enter(core, fault, holds, labels, stack, signal, bit, Other::Shut)?;
+            Ok(Step::On(false))
         }
         State::Going => {
-            enter(
-                core,
-                fault,
-                holds,
-                labels,
-                stack,
+            stack.push(Side {
                 signal,
-                bit,
-                Other::Untried,
-            )?;
+                bit: !bit,
+                other: Other::Untried,
+            })?;
             Ok(Step::On(false))
         }
     }
 }
 
-/// A turn of the search: both sides of a source that is X are looked at.
+/// A turn of the search: the other side of a decision is looked at, and then its own side is gone to.
 fn take_turn(
     alloc: Global,
     core: &Core,
+    measures: &Measures,
     fault: &Fault,
     holds: &Holds,
     labels: &mut PairSim,
@@ -315,14 +318,14 @@ fn take_turn(
     ensures { IfOk result (IsStepped fault.now core.now holds.now labels.new stack.old.items stack.new.items (closed_around stack.old.items)) }
 {
     core.netlist().sound();
-    let aim = choose(core, fault, holds, labels, stack);
-    match look(labels, aim.signal, aim.bit) {
+    let aim = choose(core, measures, fault, holds, labels, stack);
+    match look(labels, aim.signal, !aim.bit) {
         State::Test(point) => Ok(Step::Found(point)),
         State::Blocked => after_closed(
-            alloc, core, fault, holds, labels, stack, aim.signal, aim.bit,
+            alloc, core, fault, holds, labels, stack, aim.signal, !aim.bit,
         ),
         State::Going => after_going(
-            alloc, core, fault, holds, labels, stack, aim.signal, aim.bit,
+            alloc, core, fault, holds, labels, stack, aim.signal, !aim.bit,
         ),
     }
 }
@@ -388,6 +391,7 @@ fn one_if(more: bool) -> u32
 fn search_on(
     alloc: Global,
     core: &Core,
+    measures: &Measures,
     fault: &Fault,
     holds: &Holds,
     labels: &mut PairSim,
@@ -398,12 +402,13 @@ fn search_on(
     requires going { IsGoingPath fault.now core.now holds.now [] }
     ensures evidence { IfOk result (HasEvidence fault.now core.now holds.now limit) }
     ensures sources { IfOk result (HasSourceEvidence fault.now core.now holds.now limit) }
+    ensures kept { OnOk result (IsOfCase fault.now core.now holds.now labels.new) }
 {
     core.netlist().sound();
     let mut stack = Vec::new(alloc);
     let mut closed: u32 = 0;
     while closed < limit {
-        match take_turn(alloc, core, fault, holds, labels, &mut stack)? {
+        match take_turn(alloc, core, measures, fault, holds, labels, &mut stack)? {
             Step::Found(point) => {
                 let cube = cube_there(alloc, core, fault, holds, labels, &point)?;
                 return Ok(Found::Test(cube, point));
@@ -421,6 +426,7 @@ fn search_on(
 pub(crate) fn search_from(
     alloc: Global,
     core: &Core,
+    measures: &Measures,
     fault: &Fault,
     holds: &Holds,
     labels: &mut PairSim,
@@ -433,6 +439,9 @@ pub(crate) fn search_from(
 
     // On inputs and cells alone: no Partial for a limit of 2 to their number, and no Open where there is a test.
     ensures sources { IfOk result (HasSourceEvidence fault.now core.now holds.now limit) }
+
+    // The labels are those of some path.
+    ensures kept { OnOk result (IsOfCase fault.now core.now holds.now labels.new) }
 {
     match labels.state() {
         State::Test(point) => {
@@ -443,6 +452,6 @@ pub(crate) fn search_from(
             let tree = closed_tree(alloc)?;
             Ok(Found::Closed(Tree::new(tree)))
         }
-        State::Going => search_on(alloc, core, fault, holds, labels, limit),
+        State::Going => search_on(alloc, core, measures, fault, holds, labels, limit),
     }
 }

@@ -1,10 +1,15 @@
 //! `search MODE PATH LIMIT`: a search for a test of each class's first member, without simulation in between.
 ghost use Rattle.std.specs.Prelude.{◌≤◌};
 ghost use Rattle.netlist.specs.Holds.{AreHoldsOf};
+ghost use Rattle.fault_collapse.specs.Classes.{AreClasses};
+ghost use Rattle.podem.specs.Sources.{IsLabelling};
 
-use netlist::{Core, Fault, Holds, NoMemory, Tri};
+use crate::netlists::representative;
+use fault_collapse::Classes;
+use netlist::{Core, Holds, NoMemory, Tri};
+use pair_sim::PairSim;
 use podem::Podem;
-use redundancy_cert::{Engine, Found, Node};
+use redundancy_cert::{Found, Node};
 use std::alloc::Global;
 
 /// What became of the faults.
@@ -72,20 +77,46 @@ fn count(ends: &mut Ends, found: &Found) {
     }
 }
 
-/// Searches for a test of each fault.
-pub fn search_all(
+/// Searches for a test of each class's first member, with the same labels.
+fn search_each(
     alloc: Global,
     core: &Core,
-    faults: &[Fault],
+    podem: &Podem,
+    classes: &Classes,
+    labels: &mut PairSim,
     limit: u32,
+    holds: &Holds,
 ) -> Result<Ends, NoMemory>
-    requires { 1 ≤ limit }
+    requires classes { AreClasses core.now classes.now }
+    requires limit { 1 ≤ limit }
+    requires holds { AreHoldsOf core.now holds.now }
+    requires case { IsLabelling core.now holds.now labels.old }
 {
-    let holds = Holds::none(alloc, core)?;
     let mut ends = Ends::none();
-    for fault in faults {
-        let found = Podem.search(alloc, core, *fault, limit, &holds)?;
+    for class in 0..classes.count() {
+        let fault = representative(core, classes, class);
+        let found = podem.search_again(alloc, core, labels, fault, limit, holds)?;
         count(&mut ends, &found);
     }
     Ok(ends)
+}
+
+/// Searches for a test of each class's first member.
+pub fn search_all(
+    alloc: Global,
+    core: &Core,
+    classes: &Classes,
+    limit: u32,
+) -> Result<Ends, NoMemory>
+    requires classes { AreClasses core.now classes.now }
+    requires limit { 1 ≤ limit }
+{
+    if classes.count() == 0 {
+        return Ok(Ends::none());
+    }
+    let holds = Holds::none(alloc, core)?;
+    let podem = Podem::of(alloc, core)?;
+    let first = representative(core, classes, 0);
+    let mut labels = PairSim::new(alloc, core, first, &holds)?;
+    search_each(alloc, core, &podem, classes, &mut labels, limit, &holds)
 }

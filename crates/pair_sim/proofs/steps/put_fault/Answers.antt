@@ -1,4 +1,4 @@
-use Rattle.std.proofs.Common.{◌≡◌, [], List, ◌∙◌, refl, sym, ap, subst}
+use Rattle.std.proofs.Common.{List, ◌∙◌, refl, sym, ap, subst}
 use Rattle.tri.specs.declared.labels.Label.{Label}
 use Rattle.tri.specs.Labelling.{AreLabelled, decided_in}
 use Rattle.events.specs.Standing.{Standing}

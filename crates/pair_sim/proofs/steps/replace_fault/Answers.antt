@@ -1,4 +1,4 @@
-use Rattle.std.proofs.Common.{◌≡◌, ◌≤◌, List, [], length, Option, Some, None, ◌∙◌, sym, ap, subst, arith}
+use Rattle.std.proofs.Common.{Option, Some, None, sym, subst}
 use Rattle.netlist.specs.declared.lines.Fault.{Fault}
 use Rattle.netlist.specs.Holds.{AreHoldsOf}
 use Rattle.netlist.specs.Lines.{IsLineOf}

@@ -1,8 +1,10 @@
-use Rattle.std.proofs.Common.{◌≡◌, Bool, true, false, not, refl, ap, subst}
+use Rattle.std.proofs.Common.{◌≡◌, ◌∷◌, Bool, true, false, not, inr, refl, subst}
 use Rattle.netlist.specs.Conditions.{IsSound}
-use Rattle.redundancy_cert.specs.declared.stacks.Other.TheVariants.{Searched}
-use Rattle.redundancy_cert.specs.Trees.{open_count}
-use Rattle.podem.proofs.Steps.{test_there, same_chosen, seen_closed, seen_going, enter_beside_closed, enter_beside_open}
+use Rattle.redundancy_cert.specs.declared.stacks.Other.TheVariants.{Untried}
+use Rattle.tri.specs.Paths.{IsGoingPath}
+use Rattle.redundancy_cert.specs.Stacks.{path_of_stack}
+use Rattle.podem.proofs.Turns.{entered, fewer}
+use Rattle.podem.proofs.Steps.{test_there, same_chosen, seen_closed, seen_going, enter_forced, enter_beside_open}
 use Rattle.podem.proofs.searching.after_going.Goals as goal
 
 not_not : (b : Bool) → b ≡ not (not b)
@@ -15,7 +17,7 @@ returns-in-Test c =
     let holds = c.args.holds.now in
     let sound : IsSound n = subst IsSound c.netlist.ensures c.sound.ensures in
     test_there c.args.fault.now n holds sound c.args.labels.now c.args.stack.now.items c.args.signal c.requires.chosen
-    c.look.new.labels (not c.args.bit) c.in-Test.point c.in-Test.ensures.0 c.in-Test.ensures.1
+    c.go.new.labels (not c.args.bit) c.in-Test.point c.in-Test.ensures.0 c.in-Test.ensures.1
 
 pub enter-requires : goal.enter-requires
 enter-requires c =
@@ -23,23 +25,25 @@ enter-requires c =
     let n = c.args.core.now in
     let holds = c.args.holds.now in
     let s = c.args.labels.now in
-    let s' = c.look.new.labels in
+    let s' = c.go.new.labels in
     let stack = c.args.stack.now.items in
     let x = c.args.signal in
     let sound : IsSound n = subst IsSound c.netlist.ensures c.sound.ensures in
-    enter_beside_closed f n holds sound s' stack x (same_chosen f n holds sound s stack x c.requires.chosen s' c.in-Blocked.ensures.0) c.args.bit
-    (Searched c.in_ok-tree-in-Blocked.tree) refl c.in_ok-tree-in-Blocked.ensures (ap open_count c.in_ok-tree-in-Blocked.ensures)
+    enter_forced f n holds sound s' stack x (same_chosen f n holds sound s stack x c.requires.chosen s' c.in-Blocked.ensures.0) c.args.bit
     (seen_closed f n holds sound s stack x c.requires.chosen (not c.args.bit) c.in-Blocked.ensures.1) c.requires.going
 
-pub enter-requires-in-Going : goal.enter-requires-in-Going
-enter-requires-in-Going c =
+pub returns-in_ok-push-in-Going : goal.returns-in_ok-push-in-Going
+returns-in_ok-push-in-Going c =
     let f = c.args.fault.now in
     let n = c.args.core.now in
     let holds = c.args.holds.now in
     let s = c.args.labels.now in
-    let s' = c.look.new.labels in
     let stack = c.args.stack.now.items in
     let x = c.args.signal in
     let sound : IsSound n = subst IsSound c.netlist.ensures c.sound.ensures in
-    enter_beside_open f n holds sound s' stack x (same_chosen f n holds sound s stack x c.requires.chosen s' c.in-Going.ensures.0) c.args.bit
-    (seen_going f n holds sound s stack x c.requires.chosen (not c.args.bit) c.in-Going.ensures.1) c.requires.going
+    let w = enter_beside_open f n holds sound s stack x c.requires.chosen (not c.args.bit)
+    (subst (λ b. IsGoingPath f n holds ((x, b) ∷ path_of_stack stack)) (not_not c.args.bit) c.requires.going)
+    (seen_going f n holds sound s stack x c.requires.chosen (not c.args.bit) c.in-Going.ensures.1) in (
+      entered f n holds s c.go.new.labels stack c.push.new.self.items x (not c.args.bit) Untried w c.in_ok-push-in-Going.ensures.items c.in-Going.ensures.0,
+      inr (fewer f n holds s stack c.push.new.self.items x (not c.args.bit) Untried w c.in_ok-push-in-Going.ensures.items),
+    )

@@ -5,7 +5,7 @@ use Rattle.netlist.specs.Netlist.{Definition, Netlist, cells, signals}
 use Rattle.netlist.specs.Conditions.{IsSound}
 use Rattle.pair_sim.specs.Sims.{Sim}
 use Rattle.podem.proofs.Owns.{inputs_signals, cells_signals}
-use Rattle.podem.specs.Searching.{IsKnownAt}
+use Rattle.podem.specs.inner.Searching.{IsKnownAt}
 use Rattle.podem.proofs.Steps.{some_free, chosen_from}
 use Rattle.podem.proofs.searching.any_free.Goals as goal
 

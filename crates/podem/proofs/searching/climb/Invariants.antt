@@ -1,7 +1,7 @@
 use Rattle.std.proofs.Common.{◌≡◌, ◌+◌, vec_len}
 use Rattle.redundancy_cert.specs.Trees.{closed_count}
 use Rattle.redundancy_cert.specs.Stacks.{closed_around}
-use Rattle.podem.specs.Searching.{MayClimb}
+use Rattle.podem.specs.inner.Searching.{MayClimb}
 use Rattle.podem.proofs.searching.climb.Given as goal
 
 abbrev pub invariant-loop-labels : goal.invariant-loop-labels

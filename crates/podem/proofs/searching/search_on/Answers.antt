@@ -7,7 +7,8 @@ use Rattle.redundancy_cert.specs.Fits.{Fits}
 use Rattle.redundancy_cert.specs.Stacks.{whole, path_of_stack, closed_around}
 use Rattle.podem.specs.declared.searching.Step.{Step}
 use Rattle.podem.specs.Sources.{sources, undecided}
-use Rattle.podem.specs.Searching.{IsStepped}
+use Rattle.podem.specs.inner.Searching.{IsStepped}
+use Rattle.podem.proofs.Turns.{of_case}
 use Rattle.podem.proofs.Finish.{partial_tree, partial_evidence, whole_evidence, one_tree, smaller, undecided_many, step_cases}
 use Rattle.podem.proofs.searching.search_on.Goals as goal
 
@@ -21,7 +22,7 @@ returns-in-Done-clause-evidence c =
     let w = subst (λ (t : Step). IsStepped f n holds c.take_turn.new.labels stack c.take_turn.new.stack.items (closed_around stack) t) c.in-Done.is c.in_ok-point.ensures in
     let l : closed_around stack < c.args.limit = (let a = c.loop-closed.invariant.searching.counted in let b = c.loop-closed-test.true in omega arith) in
     subst (λ (ns : List Node). Fits f n holds ns × (open_count ns ≡ 0) × (closed_count ns ≤ c.args.limit)) (sym c.new.ensures)
-    (whole_evidence f n holds sound c.in-Done.nodes.items (closed_around stack) c.args.limit w l).0
+    (whole_evidence f n holds sound c.in-Done.nodes.items (closed_around stack) c.args.limit w.0 l).0
 
 pub loop-closed-smaller : goal.loop-closed-smaller
 loop-closed-smaller c =
@@ -67,3 +68,24 @@ returns-clause-sources c =
     let is : c.new-2.result ≡ whole stack (Open ∷ []) = c.new-2.ensures ∙ (c.in_ok-nodes.ensures ∙ ap (whole stack) c.in_ok-open.ensures) in
     let w = partial_tree f n holds c.loop-closed.labels stack c.loop-closed.closed c.new-2.result c.loop-closed.invariant.searching is in
     (partial_evidence f n holds sound c.new-2.result c.loop-closed.closed c.args.limit w.0 w.1 w.2 c.loop-closed-test.false c.loop-closed.invariant.within).1
+
+pub returns-in-Found-clause-kept : goal.returns-in-Found-clause-kept
+returns-in-Found-clause-kept c =
+    let f = c.args.fault.now in
+    let n = c.args.core.now in
+    let holds = c.args.holds.now in
+    let stack = c.loop-closed.stack.items in
+    let w = subst (λ (t : Step). IsStepped f n holds c.take_turn.new.labels stack c.take_turn.new.stack.items (closed_around stack) t) c.in-Found.is c.in_ok-point.ensures in
+    of_case f n holds c.take_turn.new.labels w.path w.at
+
+pub returns-in-Done-clause-kept : goal.returns-in-Done-clause-kept
+returns-in-Done-clause-kept c =
+    let f = c.args.fault.now in
+    let n = c.args.core.now in
+    let holds = c.args.holds.now in
+    let stack = c.loop-closed.stack.items in
+    (subst (λ (t : Step). IsStepped f n holds c.take_turn.new.labels stack c.take_turn.new.stack.items (closed_around stack) t) c.in-Done.is c.in_ok-point.ensures).1
+
+pub returns-clause-kept : goal.returns-clause-kept
+returns-clause-kept c =
+    of_case c.args.fault.now c.args.core.now c.args.holds.now c.loop-closed.labels (path_of_stack c.loop-closed.stack.items) c.loop-closed.invariant.searching.is.at

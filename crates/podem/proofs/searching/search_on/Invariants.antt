@@ -1,7 +1,7 @@
 use Rattle.std.proofs.Common.{◌+◌, ◌-◌, ◌*◌, ◌≤◌, length}
 use Rattle.redundancy_cert.specs.Stacks.{path_of_stack}
 use Rattle.podem.specs.Sources.{sources, undecided}
-use Rattle.podem.specs.Searching.{IsSearching}
+use Rattle.podem.specs.inner.Searching.{IsSearching}
 use Rattle.podem.proofs.searching.search_on.Given as goal
 
 abbrev pub invariant-loop-closed : goal.invariant-loop-closed

@@ -1,7 +1,7 @@
 use Rattle.std.proofs.Common.{◌≡◌, ◌∙◌, ℕ, List, map, Option, Some, None, sym, ap, subst}
 use Rattle.std.specs.Option.{IfSome}
 use Rattle.std.specs.List.{All, Contains}
-use Rattle.std.proofs.lemmas.List.Elements.{Contains-append_left, Contains-append_right}
+use Rattle.std.proofs.lemmas.List.Elements.{Contains-append_right}
 use Rattle.netlist.specs.Netlist.{Definition, Netlist, cells, signals}
 use Rattle.netlist.specs.declared.kinds.Tri.TheVariants.{X}
 use Rattle.pair_sim.specs.Sims.{HasGood}

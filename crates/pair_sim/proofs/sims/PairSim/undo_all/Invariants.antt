@@ -1,5 +1,4 @@
 use Rattle.std.proofs.Common.{◌≡◌, length}
-use Rattle.netlist.specs.declared.lines.Fault.{Fault}
 use Rattle.pair_sim.proofs.sims.PairSim.undo_all.Given as goal
 
 abbrev pub invariant-loop-self : goal.invariant-loop-self

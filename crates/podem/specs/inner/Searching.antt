@@ -9,11 +9,9 @@ use Rattle.netlist.specs.declared.lines.Point.{Point}
 use Rattle.netlist.specs.Netlist.{Netlist}
 use Rattle.tri.specs.Paths.{Path, decisions, IsClosedPath, IsUnknown, IsTestPath, IsGoingPath}
 use Rattle.redundancy_cert.specs.declared.nodes.Node.{Node}
-use Rattle.redundancy_cert.specs.declared.nodes.Node.TheVariants.{Split}
 use Rattle.redundancy_cert.specs.declared.stacks.Other.{Other}
 use Rattle.redundancy_cert.specs.declared.stacks.Side.{Side}
 use Rattle.redundancy_cert.specs.Trees.{closed_count, open_count}
-use Rattle.redundancy_cert.specs.Fits.{NodeFits}
 use Rattle.redundancy_cert.specs.Stacks.{node_of, path_of_stack, StandsBelow, OtherStands, StandsAround, closed_around, searched_open, searched_open_around}
 use Rattle.pair_sim.specs.declared.states.State.{State}
 use Rattle.pair_sim.specs.declared.states.State.TheVariants.{Test, Blocked, Going}
@@ -44,6 +42,12 @@ IsSeen old x b (Test point) new = (new ≡ assigned old x b) × IsTestPath old.f
 IsSeen old x b Blocked new = (new ≡ old) × IsClosedPath old.fault old.netlist old.holds ((x, b) ∷ old.path)
 IsSeen old x b Going new = (new ≡ old) × IsGoingPath old.fault old.netlist old.holds ((x, b) ∷ old.path)
 
+-- what is seen of a side that is gone to; the simulation comes back where it is closed
+abbrev pub IsGone : Sim → ℕ → Bool → State → Sim → Type 0
+IsGone old x b (Test point) new = (new ≡ assigned old x b) × IsTestPath old.fault old.netlist old.holds ((x, b) ∷ old.path) point
+IsGone old x b Blocked new = (new ≡ old) × IsClosedPath old.fault old.netlist old.holds ((x, b) ∷ old.path)
+IsGone old x b Going new = (new ≡ assigned old x b) × IsGoingPath old.fault old.netlist old.holds ((x, b) ∷ old.path)
+
 -- a value that is known
 abbrev pub IsKnownAt : Sim → ℕ → Type 0
 IsKnownAt s x = (v : Tri) × HasGood s x v × (v ≢ X)
@@ -59,8 +63,8 @@ pub record IsChosen (f : Fault) (n : Netlist) (holds : Holds) (s : Sim) (stack :
 pub record MayEnter (f : Fault) (n : Netlist) (holds : Holds) (s : Sim) (stack : List Side) (x : ℕ) (b : Bool) (other : Other) : Type 0 where
   pub is : IsAt f n holds s stack
   pub source : Contains (sources n holds) x
-  pub fits : NodeFits f n holds (path_of_stack stack) (Split x)
-  pub split : node_of x b other ≡ Split x
+  pub free : IsUnknown f n holds (path_of_stack stack) x
+  pub fits : PlaceInSources f n holds (record { path = path_of_stack stack; node = node_of x b other })
   pub stands : OtherStands (PlaceInSources f n holds) ((x, not b) ∷ path_of_stack stack) other
   pub searched : searched_open other ≡ 0
   pub going : IsGoingPath f n holds ((x, b) ∷ path_of_stack stack)
@@ -89,7 +93,7 @@ pub record IsTestAt (f : Fault) (n : Netlist) (holds : Holds) (s : Sim) (point :
 -- after a turn: a test; or a whole tree with one Closed more; or the search goes on, with one Closed more or one decision more
 abbrev pub IsStepped : Fault → Netlist → Holds → Sim → List Side → List Side → ℕ → Step → Type 0
 IsStepped f n holds new old_stack new_stack closed (Found point) = IsTestAt f n holds new point
-IsStepped f n holds new old_stack new_stack closed (Done tree) = IsWhole f n holds tree.items (closed + 1)
+IsStepped f n holds new old_stack new_stack closed (Done tree) = IsWhole f n holds tree.items (closed + 1) × IsOfCase f n holds new
 IsStepped f n holds new old_stack new_stack closed (On more) =
     IsSearching f n holds new new_stack (closed + (if more then 1 else 0))
     × (IsTrue more ⊎ (undecided (path_of_stack new_stack) (sources n holds) < undecided (path_of_stack old_stack) (sources n holds)))
