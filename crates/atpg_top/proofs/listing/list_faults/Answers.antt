@@ -4,7 +4,7 @@ use Rattle.commands.specs.Names.{texts_of}
 use Rattle.commands.specs.declared.ending.Finding.TheVariants.{Fine}
 use Rattle.atpg_top.specs.inner.Pieces.{PutsFaultList}
 use Rattle.atpg_top.proofs.Delivering.{faults_deliver}
-use Rattle.atpg_top.proofs.listing.faults.Goals as goal
+use Rattle.atpg_top.proofs.listing.list_faults.Goals as goal
 
 pub returns-in-Ok-put_fault_list : goal.returns-in-Ok-put_fault_list
 returns-in-Ok-put_fault_list g c =
