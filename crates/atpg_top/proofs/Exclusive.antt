@@ -7,7 +7,6 @@ use Rattle.netlist.specs.ThreeValues.{known}
 use Rattle.netlist.specs.declared.kinds.Tri.{Tri}
 use Rattle.netlist.specs.declared.kinds.Tri.TheVariants.{X}
 use Rattle.netlist.specs.declared.lines.Fault.{Fault}
-use Rattle.tri.specs.Settled.{tri_table}
 use Rattle.bench_text.specs.declared.refusal.Names.TheVariants.{Design, Scanned}
 use Rattle.scan_play.specs.Cycles.{Cycle}
 use Rattle.scan_play.specs.Passing.{shown_at, strobe_at}
@@ -31,7 +30,7 @@ use Rattle.atpg_top.specs.FaultLists.{IsFaultList}
 use Rattle.atpg_top.specs.Plays.{IsPlay, finding_of, played_line}
 use Rattle.atpg_top.specs.Scans.{IsScanProduct}
 use Rattle.atpg_top.specs.Steps.{◌>>=◌, named_fault, netlist, test, value}
-use Rattle.atpg_top.specs.inner.Trials.{answer_due, trial_due}
+use Rattle.atpg_top.specs.inner.Trials.{answer_due, fault_due, file_due, trial_due}
 use Rattle.atpg_top.specs.declared.refusal.Refusal.{Refusal}
 use Rattle.atpg_top.specs.declared.refusal.Refusal.TheVariants.{NotStil, StilDoesNotFit}
 use Rattle.atpg_top.proofs.PlayLemmas.{known_is_not_x}
@@ -84,7 +83,7 @@ module _ (cycles : List Cycle) (shown : List (List Tri)) where
 module _ (n : Netlist) (sound : IsSound n) where
   play_once : (f : Option Fault) (cycles : List Cycle) (a b : Played) → PlaysAs n f cycles a → PlaysAs n f cycles b → finding_of a ≡ finding_of b
   play_once f cycles a b p q =
-      let same = runs_once same_tri decides_tri tri_table f n sound.closed sound.acyclic _ cycles p.0 q.0 p.1 q.1 in
+      let same = runs_once same_tri decides_tri _ f n sound.closed sound.acyclic _ cycles p.0 q.0 p.1 q.1 in
       one_finding cycles q.0 a b (subst (λ s. IsPlayed cycles s a) same p.2) q.2
 
   answer_once : (f : Option Fault) (file : StilFile) → IsOneKind (answer_due n f file)
@@ -95,18 +94,17 @@ module _ (n : Netlist) (sound : IsSound n) where
   trial_once : (f : Option Fault) (file : StilFile) → IsOneKind (trial_due n f file)
   trial_once f file = then_one (test (Fits file n) StilDoesNotFit) (λ _. answer_due n f file) (test_single (Fits file n) StilDoesNotFit) (λ _. answer_once f file)
 
-  file_once : AtMostOne → (f : Option Fault) (bytes : Text) → IsOneKind (value StandsFor NotStil bytes >>= λ file. trial_due n f file)
-  file_once one f bytes = then_one (value StandsFor NotStil bytes) (λ file. trial_due n f file) (value_single StandsFor NotStil bytes (one bytes)) (λ file. trial_once f file)
+  file_once : AtMostOne → (f : Option Fault) (stil : Text) → IsOneKind (file_due stil n f)
+  file_once one f stil = then_one (value StandsFor NotStil stil) (trial_due n f) (value_single StandsFor NotStil stil (one stil)) (λ file. trial_once f file)
 
-  fault_once : AtMostOne → (text : Option Text) (bytes : Text) → IsOneKind (named_fault n text >>= λ f. value StandsFor NotStil bytes >>= λ file. trial_due n f file)
-  fault_once one text bytes =
-      then_one (named_fault n text) (λ f. value StandsFor NotStil bytes >>= λ file. trial_due n f file) (fault_single n sound text) (λ f. file_once one f bytes)
+  fault_once : AtMostOne → (text : Option Text) (stil : Text) → IsOneKind (fault_due text stil n)
+  fault_once one text stil = then_one (named_fault n text) (file_due stil n) (fault_single n sound text) (λ f. file_once one f stil)
 
 play_exclusive : AtMostOne → (fault : Option Text) → IsExclusive (play_due fault)
 play_exclusive one fault [] c d p q = absurd p
 play_exclusive one fault (net ∷ []) c d p q = absurd p
 play_exclusive one fault (net ∷ stil ∷ []) c d p q =
-    then_one_where (netlist Scanned net) (λ n. named_fault n fault >>= λ f. value StandsFor NotStil stil >>= λ file. trial_due n f file) (netlist_single Scanned net)
+    then_one_where (netlist Scanned net) (fault_due fault stil) (netlist_single Scanned net)
     (λ n is. fault_once n is.1 one fault stil) c d p q
 play_exclusive one fault (net ∷ stil ∷ more ∷ others) c d p q = absurd p
 

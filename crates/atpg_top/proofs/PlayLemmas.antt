@@ -33,7 +33,7 @@ use Rattle.atpg_top.specs.declared.playing.Trial.{Trial}
 use Rattle.atpg_top.specs.declared.refusal.Refusal.{Refusal}
 use Rattle.atpg_top.specs.declared.refusal.Refusal.TheVariants.{NotStil}
 use Rattle.atpg_top.specs.inner.Answers.{Answers}
-use Rattle.atpg_top.specs.inner.Trials.{IsShown, IsTrial, ReadsTrial, trial_due}
+use Rattle.atpg_top.specs.inner.Trials.{IsShown, IsTrial, ReadsTrial, fault_due, file_due, trial_due}
 
 -- ---- steps
 
@@ -69,7 +69,8 @@ module _ (fault : Option Text) (net stil : Text) where
   tried : (n : Netlist) (f : Option Fault) (file : StilFile) (count : ℕ) (r : Result Product (Stop Refusal)) → IsTrial fault net stil n f file
       → IsWorked (trial_due n f file) count r → IsWorked (play_due fault (net ∷ stil ∷ [])) count r
   tried n f file count r t w =
-      then_worked (netlist Scanned net) _ count n r t.net_is (then_worked (named_fault n fault) _ count f r t.fault_is (then_worked (value StandsFor NotStil stil) _ count file r t.file_is w))
+      then_worked (netlist Scanned net) (fault_due fault stil) count n r t.net_is
+      (then_worked (named_fault n fault) (file_due stil n) count f r t.fault_is (then_worked (value StandsFor NotStil stil) (trial_due n f) count file r t.file_is w))
 
   untried : (count : ℕ) (s : Stop Refusal) → ReadsTrial fault net stil (Err s) → IsWorked (play_due fault (net ∷ stil ∷ [])) count (Err s)
   untried count (stop.Refused r) is = is

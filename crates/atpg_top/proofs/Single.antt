@@ -1,7 +1,7 @@
 -- Steps that answer one thing alone.
 use Rattle.std.proofs.Common.{◌≡◌, ◌∙◌, inl, inr, Option, Some, None, Ok, Err, refl, sym, subst, ap}
 use Rattle.std.specs.Prelude.{Result}
-use Rattle.std.proofs.lemmas.List.Quantifiers.{All-contains}
+use Rattle.std.proofs.lemmas.List.Elements.{All-contains}
 use Rattle.netlist.specs.Conditions.{IsSound}
 use Rattle.netlist.specs.Netlist.{Netlist}
 use Rattle.netlist.specs.declared.lines.Fault.{Fault}

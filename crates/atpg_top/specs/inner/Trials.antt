@@ -39,6 +39,13 @@ answer_due n f file d = (answer : Played) × IsPlay n f (vectors_in file) answer
 abbrev pub trial_due : Netlist → Option Fault → StilFile → Due Refusal → Type 0
 trial_due n f file = test (Fits file n) StilDoesNotFit >>= λ _. answer_due n f file
 
+-- the same of the bytes of a file, and of the text of a fault
+abbrev pub file_due : Text → Netlist → Option Fault → Due Refusal → Type 0
+file_due stil n f = value StandsFor NotStil stil >>= λ file. trial_due n f file
+
+abbrev pub fault_due : Option Text → Text → Netlist → Due Refusal → Type 0
+fault_due fault stil n = named_fault n fault >>= λ f. file_due stil n f
+
 -- a strobe that is shown is one of an output
 abbrev pub IsShown : Netlist → Played → Type 0
 IsShown n played.Passes = ⊤

@@ -11,7 +11,8 @@ returns-clause-plays c =
     let n = c.args.core.now in
     let cycles = vectors_in c.args.file.now in
     let fit = c.fitting_cycles.ensures c.args.file.now n c.sound-2.ensures c.requires in
-    let tells = c.play_tells_the_truth.ensures n c.args.fault cycles c.sound.ensures.closed c.sound.ensures.acyclic fit in
+    let sound = rw c.netlist.ensures at c.sound.ensures in
+    let tells = c.play_tells_the_truth.ensures n c.args.fault cycles sound.closed sound.acyclic fit in
     IfOk-weaker c.play_file.result (PlaysAs n c.args.fault cycles) (IsPlay n c.args.fault cycles) (is_play n c.args.fault cycles tells) c.play_file.ensures
 
 pub returns-clause-shown : goal.returns-clause-shown
