@@ -1,5 +1,5 @@
 -- What a command owes for the same texts is alike.
-use Rattle.std.proofs.Common.{◌≡◌, ◌∙◌, inl, inr, ℕ, Bool, true, false, List, [], ◌∷◌, Option, Some, Ok, refl, sym, subst}
+use Rattle.std.proofs.Common.{◌≡◌, ◌∙◌, inl, inr, ℕ, Bool, true, false, List, [], ◌∷◌, Option, Some, refl, sym, subst}
 use Rattle.std.specs.Prelude.{not}
 use Rattle.netlist.specs.Conditions.{IsSound}
 use Rattle.netlist.specs.Netlist.{Netlist}
@@ -21,17 +21,16 @@ use Rattle.stil_vectors.specs.FileVectors.{vectors_in}
 use Rattle.stil_vectors.specs.Fitting.{Fits}
 use Rattle.stil_write.specs.StilFiles.{StilFile}
 use Rattle.commands.specs.World.{Text}
-use Rattle.commands.specs.Due.{Due, Deliver}
+use Rattle.commands.specs.Due.{Deliver}
 use Rattle.commands.specs.Laws.{IsExclusive}
 use Rattle.commands.specs.declared.ending.Finding.TheVariants.{Fine}
 use Rattle.words.specs.CommandLine.{CommandLine, check, faults, play, run, scan, sweep}
 use Rattle.atpg_top.specs.Commands.{due, faults_due, play_due, scan_due}
 use Rattle.atpg_top.specs.FaultLists.{IsFaultList}
-use Rattle.atpg_top.specs.Plays.{IsPlay, finding_of, played_line}
+use Rattle.atpg_top.specs.Plays.{finding_of, played_line}
 use Rattle.atpg_top.specs.Scans.{IsScanProduct}
-use Rattle.atpg_top.specs.Steps.{◌>>=◌, named_fault, netlist, test, value}
+use Rattle.atpg_top.specs.Steps.{named_fault, netlist, test, value}
 use Rattle.atpg_top.specs.inner.Trials.{answer_due, fault_due, file_due, trial_due}
-use Rattle.atpg_top.specs.declared.refusal.Refusal.{Refusal}
 use Rattle.atpg_top.specs.declared.refusal.Refusal.TheVariants.{NotStil, StilDoesNotFit}
 use Rattle.atpg_top.proofs.PlayLemmas.{known_is_not_x}
 use Rattle.atpg_top.proofs.Single.{IsOneKind, fault_single, given, netlist_single, test_single, then_one, then_one_where, value_single}

@@ -1,5 +1,5 @@
 -- What `play` reads, plays and says.
-use Rattle.std.proofs.Common.{◌≡◌, ◌∙◌, ◌≤◌, ◌<◌, ◌⊎◌, inl, inr, ℕ, zero, suc, Bool, true, false, List, [], ◌∷◌, Option, Result, Ok, Err, Vec, refl, sym, subst, ap, ap₂, arith, length, get_or, map}
+use Rattle.std.proofs.Common.{◌≡◌, ◌∙◌, ◌<◌, inl, inr, ℕ, zero, suc, Bool, true, false, List, [], ◌∷◌, Option, Result, Ok, Err, Vec, refl, sym, subst, ap₂, arith, length, get_or, map}
 use Rattle.std.specs.List.{All}
 use Rattle.std.specs.declared.alloc.Global.{Global}
 use Rattle.std.proofs.Math.ListN.{get_or-eq_default}
@@ -21,7 +21,7 @@ use Rattle.stil_read.specs.Reading.{StandsFor}
 use Rattle.stil_write.specs.StilFiles.{StilFile}
 use Rattle.commands.specs.Names.{texts_of}
 use Rattle.commands.specs.World.{Text}
-use Rattle.commands.specs.Due.{Due, Refuse}
+use Rattle.commands.specs.Due.{Due}
 use Rattle.commands.specs.Worked.{IsWorked}
 use Rattle.commands.specs.declared.product.Product.{Product}
 use Rattle.commands.specs.declared.product.Stop.{Stop}

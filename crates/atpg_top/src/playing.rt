@@ -88,11 +88,7 @@ fn finding_of(answer: Played) -> Finding
 }
 
 /// Adds where a strobe is not met.
-fn push_strobe(
-    text: &mut Vec<u8>,
-    cycle: u64,
-    signal: &[u8],
-) -> Result<(), AllocError>
+fn push_strobe(text: &mut Vec<u8>, cycle: u64, signal: &[u8]) -> Result<(), AllocError>
     ensures { OnOk result (text.new.items ≡ text.old.items ++ (codes " at cycle " ++ (decimal cycle ++ (codes " signal " ++ (signal.now ++ codes "\n"))))) }
 {
     text.extend_from_slice(b" at cycle ")?;

@@ -19,11 +19,7 @@ use stil_vectors::fits;
 use stil_write::StilFile;
 
 /// The netlist that the text stands for.
-pub fn netlist_of(
-    alloc: Global,
-    text: &[u8],
-    reading: Names,
-) -> Result<Netlist, Stop<Refusal>>
+pub fn netlist_of(alloc: Global, text: &[u8], reading: Names) -> Result<Netlist, Stop<Refusal>>
     requires { length text.now ≤ most_bytes }
     ensures step { Answers (netlist reading text.now) result }
     ensures design { IfOk result (IsReadAs reading) }
@@ -63,11 +59,7 @@ pub fn stil_of(alloc: Global, text: &[u8]) -> Result<StilFile, Stop<Refusal>>
 }
 
 /// That the file fits the netlist.
-pub fn fitting(
-    alloc: Global,
-    file: &StilFile,
-    netlist: &Netlist,
-) -> Result<(), Stop<Refusal>>
+pub fn fitting(alloc: Global, file: &StilFile, netlist: &Netlist) -> Result<(), Stop<Refusal>>
     ensures { Answers (test (Fits file.now netlist.now) Refusal.StilDoesNotFit) result }
 {
     match fits(alloc, file, netlist) {

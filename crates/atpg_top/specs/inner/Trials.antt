@@ -1,5 +1,5 @@
 -- What is played on what.
-use Rattle.std.specs.Prelude.{◌≡◌, ◌<◌, ⊤, [], ◌∷◌, List, Option, Result, Ok, Err, length}
+use Rattle.std.specs.Prelude.{◌≡◌, ◌<◌, ⊤, [], ◌∷◌, Option, Result, Ok, Err, length}
 use Rattle.bench_text.specs.declared.refusal.Names.TheVariants.{Scanned}
 use Rattle.netlist.specs.declared.lines.Fault.{Fault}
 use Rattle.netlist.specs.Netlist.{Netlist}

@@ -1,4 +1,3 @@
-use Rattle.std.proofs.Common.{option_map}
 use Rattle.atpg_top.proofs.PlayLemmas.{no_fault, no_file, no_netlist}
 use Rattle.atpg_top.proofs.playing.trial_of.Goals as goal
 

@@ -1,4 +1,3 @@
-use Rattle.std.proofs.Common.{Ok}
 use Rattle.stil_vectors.specs.Fitting.{Fits}
 use Rattle.atpg_top.specs.Steps.{test}
 use Rattle.atpg_top.specs.inner.Trials.{answer_due}
