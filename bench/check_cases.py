@@ -405,7 +405,7 @@ def check_cases():
             files[name] = "".join(texts[part] for part in parts)
         elif verb == "run":
             place += 1
-            if rest.split(" ")[1] not in ("scan", "faults"):
+            if not rest.startswith(("atpg scan ", "atpg faults ")):
                 continue
             given = [line for line in stored[place] if line]
             if given[0] != "status 0" or len(given) < 3 or given[1] != "out":
