@@ -478,10 +478,12 @@ def check_cases():
         if verb == "case":
             place, files = place + 1, {}
         elif verb == "file":
-            name, text = rest.split(" ")
-            files[name] = texts[text]
+            name, *parts = rest.split(" ")
+            files[name] = "".join(texts[part] for part in parts)
         elif verb == "run":
             place += 1
+            if not rest.startswith(("atpg scan ", "atpg faults ")):
+                continue
             given = [line for line in stored[place] if line]
             if given[0] != "status 0" or len(given) < 3 or given[1] != "out":
                 continue

@@ -1,84 +1,39 @@
 -- What a command owes for the same texts is alike.
-use Rattle.std.proofs.Common.{◌≡◌, ◌∙◌, inl, inr, ℕ, [], ◌∷◌, Ok, Err, refl, sym, subst, ap}
-use Rattle.std.specs.Prelude.{Result}
+use Rattle.std.proofs.Common.{◌≡◌, ◌∙◌, inl, inr, ℕ, Bool, true, false, List, [], ◌∷◌, Option, Some, refl, sym, subst}
+use Rattle.std.specs.Prelude.{not}
+use Rattle.netlist.specs.Conditions.{IsSound}
 use Rattle.netlist.specs.Netlist.{Netlist}
-use Rattle.bench_text.specs.declared.refusal.Names.{Names}
-use Rattle.bench_text.specs.declared.refusal.Names.TheVariants.{Design}
+use Rattle.netlist.specs.ThreeValues.{known}
+use Rattle.netlist.specs.declared.kinds.Tri.{Tri}
+use Rattle.netlist.specs.declared.kinds.Tri.TheVariants.{X}
+use Rattle.netlist.specs.declared.lines.Fault.{Fault}
+use Rattle.bench_text.specs.declared.refusal.Names.TheVariants.{Design, Scanned}
+use Rattle.scan_play.specs.Cycles.{Cycle}
+use Rattle.scan_play.specs.Passing.{shown_at, strobe_at}
+use Rattle.scan_play.specs.Playing.{IsMet, IsPlayed, PlaysAs}
+use Rattle.scan_play.specs.declared.played.Played.{Played}
+use Rattle.scan_play.specs.declared.played.Played.TheVariants.{Passes, Fails, Unknown}
+use Rattle.scan_play.proofs.Instances.{same_tri, decides_tri}
+use Rattle.scan_play.proofs.RunLaws.{runs_once}
+use Rattle.stil_read.specs.Laws.{AtMostOne}
+use Rattle.stil_read.specs.Reading.{StandsFor}
+use Rattle.stil_vectors.specs.FileVectors.{vectors_in}
+use Rattle.stil_vectors.specs.Fitting.{Fits}
+use Rattle.stil_write.specs.StilFiles.{StilFile}
 use Rattle.commands.specs.World.{Text}
-use Rattle.commands.specs.Due.{Due, Refuse, Deliver}
-use Rattle.commands.specs.Laws.{AreAlike, IsExclusive}
+use Rattle.commands.specs.Due.{Deliver}
+use Rattle.commands.specs.Laws.{IsExclusive}
 use Rattle.commands.specs.declared.ending.Finding.TheVariants.{Fine}
-use Rattle.words.specs.CommandLine.{CommandLine, scan, faults}
-use Rattle.atpg_top.specs.Commands.{due, faults_due, scan_due}
+use Rattle.words.specs.CommandLine.{CommandLine, check, faults, play, run, scan, sweep}
+use Rattle.atpg_top.specs.Commands.{due, faults_due, play_due, scan_due}
 use Rattle.atpg_top.specs.FaultLists.{IsFaultList}
+use Rattle.atpg_top.specs.Plays.{finding_of, played_line}
 use Rattle.atpg_top.specs.Scans.{IsScanProduct}
-use Rattle.atpg_top.specs.Steps.{◌>>=◌, netlist}
-use Rattle.atpg_top.specs.declared.refusal.Refusal.{Refusal}
-use Rattle.atpg_top.specs.declared.refusal.Refusal.TheVariants as refusal
-use Rattle.atpg_top.proofs.FirstOnLoop.{read_once, refusals_alike}
-
--- a step answers at most one value, or one refusal, and not both
-record IsSingle {A : Type 0} (step : Result A Refusal → Type 0) : Type 0 where
-  value : (x y : A) → step (Ok x) → step (Ok y) → x ≡ y
-  refusal : (r s : Refusal) → step (Err r) → step (Err s) → r ≡ s
-  apart : (x : A) (r : Refusal) → step (Ok x) → step (Err r) → ⊥
-
-abbrev IsOneKind : (Due Refusal → Type 0) → Type 0
-IsOneKind due = (c d : Due Refusal) → due c → due d → AreAlike c d
-
-alike_at : (c d e : Due Refusal) → e ≡ d → AreAlike c d → AreAlike c e
-alike_at c d e same h = subst (λ x. AreAlike c x) (sym same) h
-
-alike_front : (c d e : Due Refusal) → e ≡ c → AreAlike c d → AreAlike e d
-alike_front c d e same h = subst (λ x. AreAlike x d) (sym same) h
-
--- what is due is given whole
-given : (c d x y : Due Refusal) → c ≡ x → d ≡ y → AreAlike x y → AreAlike c d
-given c d x y is also h = alike_front x d c is (alike_at x y d also h)
-
-then_one : {A : Type 0} (step : Result A Refusal → Type 0) (rest : A → Due Refusal → Type 0) → IsSingle step → ((x : A) → IsOneKind (rest x)) → IsOneKind (step >>= rest)
-then_one step rest single each c d p q = elim p as (λ _. AreAlike c d) [
-  | inl x ↦ elim q as (λ _. AreAlike c d) [
-    | inl y ↦ each x.0 c d x.2 (subst (λ z. rest z d) (single.value y.0 x.0 y.1 x.1) y.2)
-    | inr s ↦ absurd (single.apart x.0 s.0 x.1 s.1)
-  ]
-  | inr r ↦ elim q as (λ _. AreAlike c d) [
-    | inl y ↦ absurd (single.apart y.0 r.0 y.1 r.1)
-    | inr s ↦ given c d (Refuse r.0) (Refuse s.0) r.2 s.2 (single.refusal r.0 s.0 r.1 s.1)
-  ]
-]
-
--- ---- the netlist
-
-netlist_refusals : (reading : Names) (bytes : Text) (r s : Refusal) → netlist reading bytes (Err r) → netlist reading bytes (Err s) → r ≡ s
-netlist_refusals reading bytes (refusal.Netlist r) (refusal.Netlist s) a b = ap (λ x. refusal.Netlist x) (refusals_alike reading bytes r s a b)
-netlist_refusals reading bytes (refusal.Netlist r) refusal.NoSuchFault a b = absurd b
-netlist_refusals reading bytes (refusal.Netlist r) refusal.NotStil a b = absurd b
-netlist_refusals reading bytes (refusal.Netlist r) refusal.NotCertificate a b = absurd b
-netlist_refusals reading bytes (refusal.Netlist r) refusal.NotReport a b = absurd b
-netlist_refusals reading bytes (refusal.Netlist r) refusal.StilDoesNotFit a b = absurd b
-netlist_refusals reading bytes refusal.NoSuchFault s a b = absurd a
-netlist_refusals reading bytes refusal.NotStil s a b = absurd a
-netlist_refusals reading bytes refusal.NotCertificate s a b = absurd a
-netlist_refusals reading bytes refusal.NotReport s a b = absurd a
-netlist_refusals reading bytes refusal.StilDoesNotFit s a b = absurd a
-
-netlist_apart : (reading : Names) (bytes : Text) (n : Netlist) (r : Refusal) → netlist reading bytes (Ok n) → netlist reading bytes (Err r) → ⊥
-netlist_apart reading bytes n (refusal.Netlist r) a b = read_once reading bytes n r a b
-netlist_apart reading bytes n refusal.NoSuchFault a b = b
-netlist_apart reading bytes n refusal.NotStil a b = b
-netlist_apart reading bytes n refusal.NotCertificate a b = b
-netlist_apart reading bytes n refusal.NotReport a b = b
-netlist_apart reading bytes n refusal.StilDoesNotFit a b = b
-
-netlist_single : (reading : Names) (bytes : Text) → IsSingle (netlist reading bytes)
-netlist_single reading bytes = record {
-  value = λ m n a b. a.0 ∙ sym b.0;
-  refusal = netlist_refusals reading bytes;
-  apart = netlist_apart reading bytes;
-}
-
--- ---- the commands
+use Rattle.atpg_top.specs.Steps.{named_fault, netlist, test, value}
+use Rattle.atpg_top.specs.inner.Trials.{answer_due, fault_due, file_due, trial_due}
+use Rattle.atpg_top.specs.declared.refusal.Refusal.TheVariants.{NotStil, StilDoesNotFit}
+use Rattle.atpg_top.proofs.PlayLemmas.{known_is_not_x}
+use Rattle.atpg_top.proofs.Single.{IsOneKind, fault_single, given, netlist_single, test_single, then_one, then_one_where, value_single}
 
 scan_exclusive : (chains : ℕ) → IsExclusive (scan_due chains)
 scan_exclusive chains [] c d p q = absurd p
@@ -94,6 +49,68 @@ faults_exclusive (bytes ∷ []) c d p q =
     (λ n x y a b. given x y (Deliver [] a.0 Fine) (Deliver [] b.0 Fine) a.2 b.2 refl) c d p q
 faults_exclusive (bytes ∷ more ∷ others) c d p q = absurd p
 
-pub each_exclusive : (line : CommandLine) → IsExclusive (due line)
-each_exclusive (scan net to chains) = scan_exclusive chains
-each_exclusive (faults net) = faults_exclusive
+-- ---- `play`: the answer is determined
+
+bits_differ : (b : Bool) (v : Tri) (o : Option Tri) → o ≡ Some v → v ≡ known b → o ≡ Some (known (not b)) → ⊥
+bits_differ true v o s k n = let e : Some (known true) ≡ Some (known false) = subst (λ (w : Tri). Some w ≡ Some (known false)) k (sym s ∙ n) in cc
+bits_differ false v o s k n = let e : Some (known false) ≡ Some (known true) = subst (λ (w : Tri). Some w ≡ Some (known true)) k (sym s ∙ n) in cc
+
+not_shown : (b : Bool) (v : Tri) (o : Option Tri) → o ≡ Some v → v ≡ known b → o ≡ Some X → ⊥
+not_shown true v o s k x = let e : Some (known true) ≡ Some X = subst (λ (w : Tri). Some w ≡ Some X) k (sym s ∙ x) in cc
+not_shown false v o s k x = let e : Some (known false) ≡ Some X = subst (λ (w : Tri). Some w ≡ Some X) k (sym s ∙ x) in cc
+
+module _ (cycles : List Cycle) (shown : List (List Tri)) where
+  fails_unmet : (c o : ℕ) → IsMet cycles shown c o → IsPlayed cycles shown (Fails c o) → ⊥
+  fails_unmet c o (inl x) fails = known_is_not_x fails.1.0 (strobe_at cycles c o) x fails.1.1
+  fails_unmet c o (inr s) fails = bits_differ fails.1.0 (strobe_at cycles c o) (shown_at shown c o) s fails.1.1 fails.1.2
+
+  unknown_unmet : (c o : ℕ) → IsMet cycles shown c o → IsPlayed cycles shown (Unknown c o) → ⊥
+  unknown_unmet c o (inl x) fails = known_is_not_x fails.1.0 (strobe_at cycles c o) x fails.1.1
+  unknown_unmet c o (inr s) fails = not_shown fails.1.0 (strobe_at cycles c o) (shown_at shown c o) s fails.1.1 fails.1.2
+
+  one_finding : (a b : Played) → IsPlayed cycles shown a → IsPlayed cycles shown b → finding_of a ≡ finding_of b
+  one_finding Passes Passes p q = refl
+  one_finding Passes (Fails c o) p q = absurd (fails_unmet c o (p c o) q)
+  one_finding Passes (Unknown c o) p q = absurd (unknown_unmet c o (p c o) q)
+  one_finding (Fails c o) Passes p q = absurd (fails_unmet c o (q c o) p)
+  one_finding (Fails c o) (Fails d u) p q = refl
+  one_finding (Fails c o) (Unknown d u) p q = refl
+  one_finding (Unknown c o) Passes p q = absurd (unknown_unmet c o (q c o) p)
+  one_finding (Unknown c o) (Fails d u) p q = refl
+  one_finding (Unknown c o) (Unknown d u) p q = refl
+
+module _ (n : Netlist) (sound : IsSound n) where
+  play_once : (f : Option Fault) (cycles : List Cycle) (a b : Played) → PlaysAs n f cycles a → PlaysAs n f cycles b → finding_of a ≡ finding_of b
+  play_once f cycles a b p q =
+      let same = runs_once same_tri decides_tri _ f n sound.closed sound.acyclic _ cycles p.0 q.0 p.1 q.1 in
+      one_finding cycles q.0 a b (subst (λ s. IsPlayed cycles s a) same p.2) q.2
+
+  answer_once : (f : Option Fault) (file : StilFile) → IsOneKind (answer_due n f file)
+  answer_once f file c d p q =
+      given c d (Deliver [] (played_line n p.0) (finding_of p.0)) (Deliver [] (played_line n q.0) (finding_of q.0)) p.2 q.2
+      (play_once f (vectors_in file) p.0 q.0 p.1.plays q.1.plays)
+
+  trial_once : (f : Option Fault) (file : StilFile) → IsOneKind (trial_due n f file)
+  trial_once f file = then_one (test (Fits file n) StilDoesNotFit) (λ _. answer_due n f file) (test_single (Fits file n) StilDoesNotFit) (λ _. answer_once f file)
+
+  file_once : AtMostOne → (f : Option Fault) (stil : Text) → IsOneKind (file_due stil n f)
+  file_once one f stil = then_one (value StandsFor NotStil stil) (trial_due n f) (value_single StandsFor NotStil stil (one stil)) (λ file. trial_once f file)
+
+  fault_once : AtMostOne → (text : Option Text) (stil : Text) → IsOneKind (fault_due text stil n)
+  fault_once one text stil = then_one (named_fault n text) (file_due stil n) (fault_single n sound text) (λ f. file_once one f stil)
+
+play_exclusive : AtMostOne → (fault : Option Text) → IsExclusive (play_due fault)
+play_exclusive one fault [] c d p q = absurd p
+play_exclusive one fault (net ∷ []) c d p q = absurd p
+play_exclusive one fault (net ∷ stil ∷ []) c d p q =
+    then_one_where (netlist Scanned net) (fault_due fault stil) (netlist_single Scanned net)
+    (λ n is. fault_once n is.1 one fault stil) c d p q
+play_exclusive one fault (net ∷ stil ∷ more ∷ others) c d p q = absurd p
+
+pub each_exclusive : AtMostOne → (line : CommandLine) → IsExclusive (due line)
+each_exclusive one (scan net to chains) = scan_exclusive chains
+each_exclusive one (faults net) = faults_exclusive
+each_exclusive one (play net stil fault) = play_exclusive one fault
+each_exclusive one (run net prefix options holds) = λ texts c d p q. absurd p
+each_exclusive one (check prefix) = λ texts c d p q. absurd p
+each_exclusive one (sweep seed gates) = λ texts c d p q. absurd p

@@ -6,3 +6,5 @@ pub mod FirstOnLoop
 pub mod Endings
 pub mod Saying
 pub mod Delivering
+pub mod PlayLemmas
+pub mod Single

@@ -1,25 +1,40 @@
 -- The commands: for each command line the files that it reads, in order, those that it writes, and what is due of the texts read.
 -- A command to come is an entry in each.
-use Rattle.std.specs.Prelude.{◌≡◌, ℕ, List, [], ◌∷◌}
-use Rattle.bench_text.specs.declared.refusal.Names.TheVariants.{Design}
-use Rattle.words.specs.CommandLine.{CommandLine, scan, faults}
+use Rattle.std.specs.Prelude.{◌≡◌, ◌++◌, ℕ, List, [], ◌∷◌, Option, codes, map}
+use Rattle.bench_text.specs.declared.refusal.Names.TheVariants.{Design, Scanned}
+use Rattle.stil_read.specs.Reading.{StandsFor}
+use Rattle.stil_vectors.specs.FileVectors.{vectors_in}
+use Rattle.stil_vectors.specs.Fitting.{Fits}
+use Rattle.scan_play.specs.declared.played.Played.{Played}
+use Rattle.words.specs.CommandLine.{CommandLine, check, faults, play, run, scan, sweep}
 use Rattle.commands.specs.World.{Text}
 use Rattle.commands.specs.Due.{Due, Deliver}
 use Rattle.commands.specs.declared.ending.Finding.TheVariants.{Fine}
-use Rattle.atpg_top.specs.Steps.{◌>>=◌, netlist}
+use Rattle.atpg_top.specs.Steps.{◌>>=◌, named_fault, netlist, test, value}
 use Rattle.atpg_top.specs.Scans.{IsScanProduct}
 use Rattle.atpg_top.specs.FaultLists.{IsFaultList}
+use Rattle.atpg_top.specs.Plays.{IsPlay, finding_of, played_line}
 use Rattle.atpg_top.specs.declared.refusal.Refusal.{Refusal}
+use Rattle.atpg_top.specs.declared.refusal.Refusal.TheVariants.{NotStil, StilDoesNotFit}
+
+-- the names of a run's files, in the order in which they are written and read
+abbrev pub run_files : Text → List Text
+run_files prefix = map (λ ending. prefix ++ ending) (codes ".net" ∷ codes ".scan" ∷ codes ".stil" ∷ codes ".cert" ∷ codes ".rep" ∷ [])
 
 -- the names of the files that a command line reads, in order
 abbrev pub reads : CommandLine → List Text
 reads (scan net to chains) = net ∷ []
 reads (faults net) = net ∷ []
+reads (run net prefix options holds) = net ∷ []
+reads (play net stil fault) = net ∷ stil ∷ []
+reads (check prefix) = run_files prefix
+reads (sweep seed gates) = []
 
 -- the names of the files that it writes, in order
 abbrev pub writes : CommandLine → List Text
 writes (scan net to chains) = to ∷ []
-writes (faults net) = []
+writes (run net prefix options holds) = run_files prefix
+writes _ = []
 
 -- the scanned netlist's text, and the line that counts cells and chains
 abbrev pub scan_due : ℕ → List Text → Due Refusal → Type 0
@@ -33,7 +48,16 @@ abbrev pub faults_due : List Text → Due Refusal → Type 0
 faults_due (bytes ∷ []) = netlist Design bytes >>= λ n d. (text : Text) × IsFaultList n text × (d ≡ Deliver [] text Fine)
 faults_due texts = λ d. ⊥
 
+-- the line of what playing the file answers
+abbrev pub play_due : Option Text → List Text → Due Refusal → Type 0
+play_due fault (net ∷ stil ∷ []) =
+    netlist Scanned net >>= λ n. named_fault n fault >>= λ f. value StandsFor NotStil stil >>= λ file. test (Fits file n) StilDoesNotFit >>= λ _ d.
+    (answer : Played) × IsPlay n f (vectors_in file) answer × (d ≡ Deliver [] (played_line n answer) (finding_of answer))
+play_due fault texts = λ d. ⊥
+
 -- what is due of the texts that a command line has read
 abbrev pub due : CommandLine → List Text → Due Refusal → Type 0
 due (scan net to chains) = scan_due chains
 due (faults net) = faults_due
+due (play net stil fault) = play_due fault
+due _ = λ texts d. ⊥

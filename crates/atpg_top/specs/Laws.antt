@@ -1,5 +1,5 @@
 -- The statuses exclude each other, so that "only where" in each row is "exactly where": by what the files hold, the status is one of few.
-use Rattle.std.specs.Prelude.{◌≡◌, List, Some}
+use Rattle.std.specs.Prelude.{◌≡◌, List, Some, Ok}
 use Rattle.outside.specs.Causes.{Rose}
 use Rattle.outside.specs.Shelf.{Files}
 use Rattle.words.specs.CommandLine.{CommandLine, command_line}
@@ -18,11 +18,11 @@ use Rattle.atpg_top.specs.declared.status.Status.TheVariants as status
 -- the command ended so
 abbrev pub EndsBy : (Ending Refusal → Type 0) → Status → Type 0
 EndsBy P (status.Command e) = P e
-EndsBy P (status.BadWords text) = ⊥
+EndsBy P _ = ⊥
 
 -- a call with a command line over files that are told
 pub record IsCall (words : List Text) (line : CommandLine) (files : Files) (a b : World) (s : Status) : Type 0 where
-  pub taken : command_line words ≡ Some line
+  pub taken : command_line words ≡ Ok line
   pub told : a.files ≡ Some files
   pub row : TopRow words a b s
 
@@ -51,7 +51,7 @@ RefusedExactly =
 -- A call of the shelf or the output failed: status 5 or 6, which says whose.
 abbrev pub FailedExactly : Type 0
 FailedExactly =
-    (words : List Text) (line : CommandLine) (a b : World) (s : Status) → command_line words ≡ Some line → TopRow words a b s
+    (words : List Text) (line : CommandLine) (a b : World) (s : Status) → command_line words ≡ Ok line → TopRow words a b s
     → ¬ NoneFailed a b → EndsBy (IsFailure a b) s
 
 -- Nothing is in the way, and no count rose: the command did its work, or memory was refused.

@@ -2,6 +2,7 @@ pub mod Steps
 pub mod Lines
 pub mod Scans
 pub mod FaultLists
+pub mod Plays
 pub mod Commands
 pub mod Rows
 pub mod Laws

@@ -13,7 +13,7 @@ use Rattle.commands.specs.declared.ending.Ending.TheVariants.{Ended, Refused, Re
 use Rattle.atpg_top.specs.declared.refusal.Refusal.{Refusal}
 use Rattle.atpg_top.specs.declared.refusal.Refusal.TheVariants.{Netlist, NoSuchFault, NotStil, NotCertificate, NotReport, StilDoesNotFit}
 use Rattle.atpg_top.specs.declared.status.Status.{Status}
-use Rattle.atpg_top.specs.declared.status.Status.TheVariants.{BadWords, Command}
+use Rattle.atpg_top.specs.declared.status.Status.TheVariants.{BadWords, BadHold, Command}
 
 abbrev pub refusal_code : Refusal → ℕ
 refusal_code (Netlist refusal) = 3
@@ -35,6 +35,7 @@ ending_code Memory = 9
 
 abbrev pub code_of : Status → ℕ
 code_of (BadWords text) = 2
+code_of BadHold = 2
 code_of (Command ending) = ending_code ending
 
 abbrev pub kind_name : BenchKind → Text
@@ -79,4 +80,5 @@ ending_line Memory = codes "out of memory\n"
 -- the line of a status; that of bad words is the parser's text
 abbrev pub line_of : Status → Text
 line_of (BadWords text) = text.now
+line_of BadHold = codes "bad hold\n"
 line_of (Command ending) = ending_line ending

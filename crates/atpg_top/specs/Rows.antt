@@ -1,7 +1,7 @@
 -- The status of a call of the program, and what it leaves.
-use Rattle.std.specs.Prelude.{◌≡◌, ◌⊎◌, ℕ, Bool, IsTrue, List, Option, Some, None}
+use Rattle.std.specs.Prelude.{◌≡◌, ◌⊎◌, ℕ, Bool, IsTrue, List, Option, Result, Ok, Err}
 use Rattle.outside.specs.Causes.{Rose}
-use Rattle.words.specs.CommandLine.{CommandLine, command_line}
+use Rattle.words.specs.CommandLine.{CommandLine, NoLine, bad_hold, bad_words, command_line}
 use Rattle.commands.specs.World.{Grows, GrowsInPart, IsAsBefore, Text, World}
 use Rattle.commands.specs.Rows.{CommandRow}
 use Rattle.commands.specs.declared.ending.Ending.{Ending}
@@ -17,13 +17,14 @@ abbrev pub LineRow : CommandLine → World → World → Ending Refusal → Type
 LineRow line a b e = CommandRow (reads line) (writes line) (due line) a b e
 
 -- the same of words that may be no command line: then only want of memory can have come before that was known
-abbrev pub WordsRow : Option CommandLine → World → World → Ending Refusal → Type 0
-WordsRow (Some line) a b e = LineRow line a b e
-WordsRow None a b ending.Memory = IsAsBefore a b
-WordsRow None a b _ = ⊥
+abbrev pub WordsRow : Result CommandLine NoLine → World → World → Ending Refusal → Type 0
+WordsRow (Ok line) a b e = LineRow line a b e
+WordsRow (Err cause) a b ending.Memory = IsAsBefore a b
+WordsRow (Err cause) a b _ = ⊥
 
 abbrev pub TopRow : List Text → World → World → Status → Type 0
-TopRow given a b (status.BadWords text) = (command_line given ≡ None) × IsAsBefore a b
+TopRow given a b (status.BadWords text) = (command_line given ≡ Err bad_words) × IsAsBefore a b
+TopRow given a b status.BadHold = (command_line given ≡ Err bad_hold) × IsAsBefore a b
 TopRow given a b (status.Command e) = WordsRow (command_line given) a b e
 
 -- A sink that may take memory or not has gained the line, or a prefix of it where it failed or was refused memory.

@@ -1,9 +1,14 @@
 -- What is due of texts step by step: each step gives a value, or refuses. The first step that refuses decides.
-use Rattle.std.specs.Prelude.{◌≡◌, ◌⊎◌, Result, Ok, Err}
+use Rattle.std.specs.Prelude.{◌≡◌, ◌≢◌, ◌⊎◌, Option, Some, None, Result, Ok, Err}
+use Rattle.std.specs.List.{All, Contains}
+use Rattle.netlist.specs.declared.lines.Fault.{Fault}
 use Rattle.netlist.specs.Netlist.{Netlist}
+use Rattle.netlist.specs.Conditions.{IsSound}
 use Rattle.bench_text.specs.Reading.{IsRead}
 use Rattle.bench_text.specs.declared.refusal.Names.{Names}
 use Rattle.bench_text.specs.declared.refusal.BenchFault.TheVariants as bench
+use Rattle.fault_universe.specs.Texts.{fault_text}
+use Rattle.fault_universe.specs.Universe.{universe_of}
 use Rattle.commands.specs.World.{Text}
 use Rattle.commands.specs.Due.{Due, Refuse}
 use Rattle.atpg_top.specs.declared.refusal.Refusal.{Refusal}
@@ -16,6 +21,24 @@ abbrev pub ◌>>=◌ : {A : Type 0} → (Result A Refusal → Type 0) → (A →
 
 -- the netlist that .bench text stands for under this reading, or its refusal
 abbrev pub netlist : Names → Text → Result Netlist Refusal → Type 0
-netlist reading bytes (Ok n) = IsRead reading bytes (Ok n)
+netlist reading bytes (Ok n) = IsRead reading bytes (Ok n) × IsSound n
 netlist reading bytes (Err (refusal.Netlist r)) = IsRead reading bytes (Err (bench.Refused r))
 netlist reading bytes (Err _) = ⊥
+
+-- the fault that is written so, if one is asked for; refused exactly where the netlist has none that is
+abbrev pub named_fault : Netlist → Option Text → Result (Option Fault) Refusal → Type 0
+named_fault n None (Ok f) = f ≡ None
+named_fault n None (Err r) = ⊥
+named_fault n (Some text) (Ok None) = ⊥
+named_fault n (Some text) (Ok (Some f)) = Contains (universe_of n) f × (fault_text n f ≡ text)
+named_fault n (Some text) (Err r) = (r ≡ refusal.NoSuchFault) × All (λ f. fault_text n f ≢ text) (universe_of n)
+
+-- the value for which the bytes stand; refused for this reason exactly where there is none
+abbrev pub value : {V : Type 0} → (Text → V → Type 0) → Refusal → Text → Result V Refusal → Type 0
+value StandsFor why bytes (Ok v) = StandsFor bytes v
+value StandsFor why bytes (Err r) = (r ≡ why) × ((v : _) → ¬ StandsFor bytes v)
+
+-- it is so; refused for this reason exactly where it isn't
+abbrev pub test : Type 0 → Refusal → Result Unit Refusal → Type 0
+test P why (Ok _) = P
+test P why (Err r) = (r ≡ why) × (¬ P)

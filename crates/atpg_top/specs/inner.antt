@@ -1,3 +1,5 @@
+pub mod Answers
 pub mod Declined
 pub mod Designs
 pub mod Pieces
+pub mod Trials

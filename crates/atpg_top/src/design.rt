@@ -5,8 +5,9 @@ ghost use Rattle.commands.specs.Contents.{most_bytes};
 ghost use Rattle.commands.specs.Names.{texts_of};
 ghost use Rattle.atpg_top.specs.inner.Designs.{ReadsDesign};
 
+use crate::reading::netlist_of;
 use crate::refusal::Refusal;
-use bench_text::{BenchFault, Names, read};
+use bench_text::Names;
 use commands::Stop;
 use netlist::Netlist;
 use std::alloc::Global;
@@ -17,9 +18,5 @@ pub fn design_of(alloc: Global, texts: Vec<Vec<u8>>) -> Result<Netlist, Stop<Ref
     requires within { All (λ text. length text ≤ most_bytes) (texts_of texts.items) }
     ensures { ReadsDesign (texts_of texts.items) result }
 {
-    match read(alloc, texts[0].as_slice(), Names::Design) {
-        Ok(netlist) => Ok(netlist),
-        Err(BenchFault::Refused(refusal)) => Err(Stop::Refused(Refusal::Netlist(refusal))),
-        Err(BenchFault::NoMemory) => Err(Stop::NoMemory),
-    }
+    netlist_of(alloc, texts[0].as_slice(), Names::Design)
 }

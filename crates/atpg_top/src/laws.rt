@@ -1,10 +1,14 @@
 //! Laws of `top`'s rows: functions that do nothing, whose contracts are the laws.
 ghost use Rattle.atpg_top.specs.Laws.{EachExclusive, FailedExactly, MissingExactly, NothingElse, RefusedExactly, TooLongExactly};
 
+use stil_read::laws::at_most_one;
+
 /// What a command owes for texts is determined, as far as its status tells.
 pub fn each_exclusive()
     ensures { EachExclusive }
-{}
+{
+    at_most_one();
+}
 
 /// A missing file ends with status 7.
 pub fn missing_exactly()
@@ -19,7 +23,9 @@ pub fn too_long_exactly()
 /// Texts that are refused end with the status of their refusal.
 pub fn refused_exactly()
     ensures { RefusedExactly }
-{}
+{
+    at_most_one();
+}
 
 /// A failed call ends with status 5 or 6.
 pub fn failed_exactly()
@@ -29,4 +35,6 @@ pub fn failed_exactly()
 /// With nothing in the way a command ends with 0 or 1, or for want of memory with 9.
 pub fn nothing_else()
     ensures { NothingElse }
-{}
+{
+    at_most_one();
+}

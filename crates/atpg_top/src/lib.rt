@@ -20,20 +20,23 @@ mod fault_list;
 mod laws;
 mod lines;
 mod listing;
+mod playing;
+mod reading;
 mod refusal;
 mod scanning;
 mod status;
 
-use commands::{Ending, FileName, run_command};
+use commands::Ending;
 pub use laws::{
     each_exclusive, failed_exactly, missing_exactly, nothing_else, refused_exactly,
     too_long_exactly,
 };
 use lines::tell;
-use listing::faults;
+use listing::list_faults;
 use outside::{Gate, Shelf, Sink};
+use playing::play_test;
 use refusal::Refusal;
-use scanning::Scan;
+use scanning::scan_netlist;
 use status::Status;
 use std::alloc::Global;
 use std::sync::Wait;
@@ -57,16 +60,13 @@ fn perform<'a, S: Shelf, T: Sink>(
             net,
             out: to,
             chains,
-        } => {
-            let reads = [FileName::of(net)];
-            let writes = [FileName::of(to)];
-            let scan = Scan { chains: *chains };
-            run_command(alloc, shelf, out, &reads, &writes, &scan)
-        }
-        Request::Faults { net } => {
-            let reads = [FileName::of(net)];
-            faults(alloc, shelf, out, &reads)
-        }
+        } => scan_netlist(alloc, shelf, out, net, to, *chains),
+        Request::Faults { net } => list_faults(alloc, shelf, out, net),
+        Request::Play { net, stil, fault } => play_test(alloc, shelf, out, net, stil, *fault),
+        // their entries come
+        Request::Run { .. } => Ending::Memory,
+        Request::Check { .. } => Ending::Memory,
+        Request::Sweep { .. } => Ending::Memory,
     }
 }
 
@@ -78,6 +78,7 @@ fn decline(refusal: &WordsRefusal) -> Status<'_>
         WordsRefusal::BadWords(text) => Status::BadWords {
             text: text.as_str(),
         },
+        WordsRefusal::BadHold => Status::BadHold,
         WordsRefusal::NoMemory => Status::Command(Ending::Memory),
     }
 }

@@ -104,6 +104,7 @@ pub fn tell<E: Sink>(err: &mut E, status: &Status<'_>)
 {
     match status {
         Status::BadWords { text } => say_text(err, text.as_bytes()),
+        Status::BadHold => say_text(err, b"bad hold\n"),
         Status::Command(Ending::Ended(_)) => {}
         Status::Command(Ending::Refused(refusal)) => say_refusal(err, refusal),
         Status::Command(Ending::ReadFailed(name)) => say_name(err, b"read failed: ", name),

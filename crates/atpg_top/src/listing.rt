@@ -1,7 +1,6 @@
 //! `faults`: the list of faults of a file's netlist, shown in pieces.
-ghost use Rattle.std.specs.Prelude.{◌≡◌, [], length};
+ghost use Rattle.std.specs.Prelude.{[], ◌∷◌};
 ghost use Rattle.commands.specs.World.{world};
-ghost use Rattle.commands.specs.Names.{names_of};
 ghost use Rattle.commands.specs.Rows.{CommandRow};
 ghost use Rattle.atpg_top.specs.Commands.{faults_due};
 
@@ -12,19 +11,19 @@ use commands::{Ending, FileName, Finding, Stop, WriteFailure, read_in_order};
 use outside::{Shelf, Sink, WriteRefusal};
 use std::alloc::Global;
 
-/// Shows the faults of the netlist of the one file, each with the number of its class.
-pub fn faults<'a, S: Shelf, T: Sink>(
+/// Shows the faults of the netlist of a file, each with the number of its class.
+pub fn list_faults<'a, S: Shelf, T: Sink>(
     alloc: Global,
     shelf: &mut S,
     out: &mut T,
-    reads: &[FileName<'a>],
+    net: &'a str,
 ) -> Ending<'a, Refusal>
-    requires { length reads.now ≡ 1 }
-    ensures { CommandRow (names_of reads.now) [] faults_due
+    ensures { CommandRow (net.now ∷ []) [] faults_due
         (world (S.files shelf.old) (S.failures shelf.old) (T.taken out.old) (T.failures out.old))
         (world (S.files shelf.new) (S.failures shelf.new) (T.taken out.new) (T.failures out.new)) result }
 {
-    let texts = match read_in_order(alloc, shelf, reads) {
+    let reads = [FileName::of(net)];
+    let texts = match read_in_order(alloc, shelf, &reads) {
         Ok(texts) => texts,
         Err(ending) => return ending,
     };

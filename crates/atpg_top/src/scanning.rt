@@ -2,6 +2,8 @@
 ghost use Rattle.std.specs.Prelude.{◌≡◌, ◌≤◌, ◌++◌, ◌∷◌, [], IfOk, codes, decimal, length};
 ghost use Rattle.netlist.specs.Designs.{IsDesign};
 ghost use Rattle.commands.specs.Names.{texts_of};
+ghost use Rattle.commands.specs.Rows.{CommandRow};
+ghost use Rattle.commands.specs.World.{world};
 ghost use Rattle.commands.specs.declared.ending.Finding.TheVariants.{Fine};
 ghost use Rattle.atpg_top.specs.Commands.{scan_due};
 ghost use Rattle.atpg_top.specs.Scans.{BehavesWithScanOff, IsScanProduct, scan_line};
@@ -10,9 +12,10 @@ use crate::design::design_of;
 use crate::refusal::Refusal;
 use bench_text::write;
 use chain_stitch::stitch;
-use commands::{Finding, Product, Stop, Work};
+use commands::{Ending, FileName, Finding, Product, Stop, Work, run_command};
 use itoa::Buffer;
 use netlist::{Netlist, NoMemory};
+use outside::{Shelf, Sink};
 use scan_insert::insert;
 use scan_insert::laws::scan_behaves;
 use std::alloc::{AllocError, Global};
@@ -72,10 +75,29 @@ fn product_of(alloc: Global, texts: ScanTexts) -> Result<Product, AllocError>
     })
 }
 
+/// Writes the scanned netlist of the file `net`, in at most so many chains, to the file `to`.
+pub fn scan_netlist<'a, S: Shelf, T: Sink>(
+    alloc: Global,
+    shelf: &mut S,
+    out: &mut T,
+    net: &'a str,
+    to: &'a str,
+    chains: u32,
+) -> Ending<'a, Refusal>
+    requires { 1 ≤ chains }
+    ensures { CommandRow (net.now ∷ []) (to.now ∷ []) (scan_due chains)
+        (world (S.files shelf.old) (S.failures shelf.old) (T.taken out.old) (T.failures out.old))
+        (world (S.files shelf.new) (S.failures shelf.new) (T.taken out.new) (T.failures out.new)) result }
+{
+    let reads = [FileName::of(net)];
+    let writes = [FileName::of(to)];
+    run_command(alloc, shelf, out, &reads, &writes, &Scan { chains })
+}
+
 /// The work of `scan`, for at most so many chains.
 #[derive(Clone, Copy, Debug)]
-pub struct Scan {
-    pub chains: u32,
+struct Scan {
+    chains: u32,
 }
 
 impl Work for Scan {

@@ -10,6 +10,8 @@ use commands::{Ending, Finding};
 pub enum Status<'a> {
     /// The words are no command line. The text is for the user.
     BadWords { text: &'a str },
+    /// They would be one, but for the list of held inputs.
+    BadHold,
     /// They are, and the command ended so.
     Command(Ending<'a, Refusal>),
 }
@@ -49,6 +51,7 @@ impl Status<'_> {
     {
         match self {
             Status::BadWords { .. } => 2,
+            Status::BadHold => 2,
             Status::Command(ending) => ending_code(ending),
         }
     }

@@ -2,3 +2,4 @@ pub mod ReadLemmas
 pub mod WriteLemmas
 pub mod PutLemmas
 pub mod Exclusive
+pub mod CommandLemmas

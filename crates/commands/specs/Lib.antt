@@ -7,5 +7,6 @@ pub mod Due
 pub mod Reads
 pub mod Worked
 pub mod Rows
+pub mod Delivered
 pub mod Laws
 pub mod inner

@@ -8,12 +8,12 @@ ghost use Rattle.commands.specs.Due.{Due};
 ghost use Rattle.commands.specs.Worked.{IsWorked};
 ghost use Rattle.commands.specs.Rows.{CommandRow};
 
-use crate::ending::{Ending, WriteFailure};
+use crate::delivering::deliver;
+use crate::ending::Ending;
 use crate::names::FileName;
 use crate::product::{Product, Stop};
 use crate::reading::read_in_order;
-use crate::writing::write_in_order;
-use outside::{Shelf, Sink, WriteRefusal};
+use outside::{Shelf, Sink};
 use std::alloc::Global;
 
 /// The work of a command, between its reads and its writes.
@@ -62,17 +62,6 @@ pub fn run_command<'a, S: Shelf, T: Sink, W: Work>(
         Ok(texts) => texts,
         Err(ending) => return ending,
     };
-    let product = match work.work(alloc, texts) {
-        Ok(product) => product,
-        Err(Stop::Refused(refusal)) => return Ending::Refused(refusal),
-        Err(Stop::NoMemory) => return Ending::Memory,
-    };
-    if let Err(ending) = write_in_order(alloc, shelf, writes, product.texts.as_slice()) {
-        return ending;
-    }
-    match out.put(product.shown.as_slice()) {
-        Ok(()) => Ending::Ended(product.finding),
-        Err(WriteRefusal::Failed) => Ending::WriteFailed(WriteFailure::Output),
-        Err(WriteRefusal::NoMemory) => Ending::Memory,
-    }
+    let worked = work.work(alloc, texts);
+    deliver(alloc, shelf, out, writes, worked)
 }

@@ -6,6 +6,7 @@
 #![tactic(auto)]
 
 mod command;
+mod delivering;
 mod ending;
 mod laws;
 mod names;
@@ -15,6 +16,7 @@ mod reading;
 mod writing;
 
 pub use command::{Work, run_command};
+pub use delivering::deliver;
 pub use ending::{Ending, Finding, WriteFailure};
 pub use laws::{failed_exactly, missing_exactly, nothing_else, refused_exactly, too_long_exactly};
 pub use names::FileName;

@@ -1,3 +1,4 @@
 pub mod NumberLemmas
 pub mod TableLemmas
 pub mod LineLemmas
+pub mod HoldLemmas

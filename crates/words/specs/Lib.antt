@@ -1,4 +1,5 @@
 pub mod Numbers
+pub mod HoldLists
 pub mod Table
 pub mod CommandLine
 pub mod Refusals

@@ -17,12 +17,33 @@ text_option name = record (new_rule name) { long = Some name }
 abbrev pub number_option : Text → ℕ → ℕ → Rule
 number_option name low high = record (text_option name) { parser = Some (Unsigned low high) }
 
+-- a number that must be there, known by its place, from low to high
+abbrev pub required_number : Text → ℕ → ℕ → Rule
+required_number id low high = record (required id) { parser = Some (Unsigned low high) }
+
 -- a command, by its name and its arguments
 abbrev pub command : Text → List Rule → Shape
 command name rules = record (new_shape name) { rules = rules }
 
 abbrev pub most_chains : ℕ
 most_chains = 256
+
+abbrev pub most_workers : ℕ
+most_workers = 64
+
+-- the most closed leaves of a search
+abbrev pub most_limit : ℕ
+most_limit = 100000
+
+-- the most that a seed can be, 2 ^ 64 - 1
+abbrev pub most_seed : ℕ
+most_seed = 18446744073709551615
+
+abbrev pub least_gates : ℕ
+least_gates = 16
+
+abbrev pub most_gates : ℕ
+most_gates = 20000
 
 -- scan NET OUT [--chains C]
 abbrev pub scan_command : Shape
@@ -32,6 +53,26 @@ scan_command = command (codes "scan")
 -- faults NET
 abbrev pub faults_command : Shape
 faults_command = command (codes "faults") (required (codes "NET") ∷ [])
+
+-- run NET PREFIX [--chains C] [--workers N] [--limit L] [--seed S] [--engine podem] [--hold LIST]
+abbrev pub run_command : Shape
+run_command = command (codes "run")
+    (required (codes "NET") ∷ required (codes "PREFIX") ∷ number_option (codes "chains") 1 most_chains
+    ∷ number_option (codes "workers") 1 most_workers ∷ number_option (codes "limit") 1 most_limit
+    ∷ number_option (codes "seed") 0 most_seed ∷ text_option (codes "engine") ∷ text_option (codes "hold") ∷ [])
+
+-- play NET STIL [--fault F]
+abbrev pub play_command : Shape
+play_command = command (codes "play") (required (codes "NET") ∷ required (codes "STIL") ∷ text_option (codes "fault") ∷ [])
+
+-- check PREFIX
+abbrev pub check_command : Shape
+check_command = command (codes "check") (required (codes "PREFIX") ∷ [])
+
+-- sweep SEED GATES
+abbrev pub sweep_command : Shape
+sweep_command = command (codes "sweep")
+    (required_number (codes "SEED") 0 most_seed ∷ required_number (codes "GATES") least_gates most_gates ∷ [])
 
 -- the program, before its commands: it has a version and needs a command, and `help` is none
 abbrev pub program : App
@@ -47,5 +88,5 @@ program = record {
 unfoldable pub command_table : App
 command_table = record {
   top = record program.top { is_leaf = false };
-  subs = scan_command ∷ faults_command ∷ [];
+  subs = scan_command ∷ faults_command ∷ run_command ∷ play_command ∷ check_command ∷ sweep_command ∷ [];
 }

@@ -1,2 +1,4 @@
 pub mod Errors
+pub mod Held
 pub mod Padding
+pub mod RunTable

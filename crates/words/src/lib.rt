@@ -5,24 +5,26 @@
 //! `clap` found a request.
 #![tactic(auto)]
 
-ghost use Rattle.std.specs.Prelude.{◌≡◌, Some, IfOk, IfErr, map};
+ghost use Rattle.std.specs.Prelude.{◌≡◌, Ok, IfOk, IfErr, map};
 ghost use Rattle.std.specs.String.{string_bytes};
 ghost use Rattle.clap.specs.Words.{FailsBy, kind_of, subcommand_of, subcommand_rows_of};
 ghost use Rattle.clap.specs.Faults.{fault_of};
 ghost use Rattle.words.specs.Table.{command_table};
 ghost use Rattle.words.specs.CommandLine.{IsInRange, command_line, line_of};
 ghost use Rattle.words.specs.Refusals.{IsCause};
-ghost use Rattle.words.specs.inner.Errors.{IsMadeOf};
+ghost use Rattle.words.specs.inner.Errors.{BecomesRefusal, IsBadWords, IsMadeOf};
 
 mod commands;
+mod holds;
 mod requests;
 mod values;
 
 use clap::error::ErrorKind;
 use clap::{ArgMatches, Error};
 use commands::table;
-pub use requests::Request;
-use requests::request_of;
+pub use holds::Held;
+pub use requests::{Request, RunOptions};
+use requests::{NoRequest, request_of};
 use std::alloc::Global;
 
 /// Why the words are no request.
@@ -31,12 +33,21 @@ pub enum WordsRefusal {
     /// They are no command line of the table. The text is for the user, its last line ended: what
     /// is wrong and how to get help, or the help or version that was asked for.
     BadWords(String),
+    /// They would be one, but for the list of held inputs.
+    BadHold,
     NoMemory,
 }
 
 // Of numbers that `clap` takes and the table doesn't, as `+5` and `05`.
 const BAD_NUMBER: &str = "\
 error: a number is written in decimal digits, without a sign or a leading zero
+
+For more information, try '--help'.
+";
+
+// Of engines that aren't there.
+const BAD_ENGINE: &str = "\
+error: the engine is podem
 
 For more information, try '--help'.
 ";
@@ -62,10 +73,32 @@ fn refusal(alloc: Global, error: &Error) -> WordsRefusal
     }
 }
 
+// The words are no command line, and this is the text for the user.
+fn bad_words(alloc: Global, text: &str) -> WordsRefusal
+    ensures { IsBadWords result }
+{
+    match String::from_str(alloc, text) {
+        Ok(text) => WordsRefusal::BadWords(text),
+        Err(_) => WordsRefusal::NoMemory,
+    }
+}
+
+// Why values make no request.
+fn refusal_of(alloc: Global, none: NoRequest) -> WordsRefusal
+    ensures { BecomesRefusal none result }
+{
+    match none {
+        NoRequest::BadNumber => bad_words(alloc, BAD_NUMBER),
+        NoRequest::BadEngine => bad_words(alloc, BAD_ENGINE),
+        NoRequest::BadHold => WordsRefusal::BadHold,
+        NoRequest::NoMemory => WordsRefusal::NoMemory,
+    }
+}
+
 /// What the words ask for. The first word is the program's name.
 pub fn parse<'a>(alloc: Global, words: &'a [String]) -> Result<Request<'a>, WordsRefusal>
     ensures request { IfOk result (λ request.
-        command_line (map string_bytes words.entry.now) ≡ Some (line_of request)) }
+        command_line (map string_bytes words.entry.now) ≡ Ok (line_of request)) }
     ensures in_range { IfOk result IsInRange }
     ensures refusal { IfErr result (IsCause (map string_bytes words.entry.now)) }
 {
@@ -73,11 +106,8 @@ pub fn parse<'a>(alloc: Global, words: &'a [String]) -> Result<Request<'a>, Word
         Ok(found) => found,
         Err(error) => return Err(refusal(alloc, &error)),
     };
-    match request_of(&found) {
-        Some(request) => Ok(request),
-        None => match String::from_str(alloc, BAD_NUMBER) {
-            Ok(text) => Err(WordsRefusal::BadWords(text)),
-            Err(_) => Err(WordsRefusal::NoMemory),
-        },
+    match request_of(alloc, &found) {
+        Ok(request) => Ok(request),
+        Err(none) => Err(refusal_of(alloc, none)),
     }
 }

@@ -1,14 +1,46 @@
 //! The request that a command and its values make.
-ghost use Rattle.std.specs.Prelude.{◌≡◌, IfSome, option_and_then, option_map};
-ghost use Rattle.clap.specs.Words.{found_of, rows_of, subcommand_rows_of};
-ghost use Rattle.words.specs.CommandLine.{IsInRange, faults_of, line_by, line_of, scan_of};
+ghost use Rattle.std.specs.Prelude.{◌≡◌, IfOk, IfSome, codes, option_map};
+ghost use Rattle.clap.specs.Words.{first_of, found_of, rows_of, subcommand_rows_of};
+ghost use Rattle.words.specs.CommandLine.{
+  AreInRange,
+  IsInRange,
+  check_of,
+  faults_of,
+  holds_given,
+  is_engine,
+  line_at,
+  line_by,
+  line_from,
+  line_of,
+  options_of,
+  play_of,
+  run_of,
+  scan_of,
+  sweep_of,
+};
+ghost use Rattle.words.specs.inner.Errors.{IsAsked};
+ghost use Rattle.words.specs.inner.Held.{AreHeld};
 
-use crate::commands::MOST_CHAINS;
-use crate::values::{number_or, text};
+use crate::commands::{LEAST_GATES, MOST_CHAINS, MOST_GATES, MOST_LIMIT, MOST_WORKERS};
+use crate::holds::{Held, holds_in};
+use crate::values::{number_of, number_or, text};
 use clap::ArgMatches;
+use std::alloc::Global;
+
+/// The numbers of `run`.
+#[derive(Clone, Copy, Debug, PartialEq, Eq)]
+pub struct RunOptions {
+    /// How many chains at most.
+    pub chains: u32,
+    pub workers: u32,
+    /// How many closed leaves a search may have before it gives up.
+    pub limit: u32,
+    /// What the bits that no search asks for are drawn from.
+    pub seed: u64,
+}
 
 /// What the words ask the program to do.
-#[derive(Clone, Copy, Debug, PartialEq, Eq)]
+#[derive(Debug, Drop)]
 pub enum Request<'a> {
     /// Write to the file `out` the netlist of the file `net` with scan cells in at most `chains`
     /// chains.
@@ -21,6 +53,38 @@ pub enum Request<'a> {
     Faults {
         net: &'a str,
     },
+    /// Search tests for the netlist of the file `net`, its inputs of these names held, and write
+    /// the files whose names begin with `prefix`.
+    Run {
+        net: &'a str,
+        prefix: &'a str,
+        options: RunOptions,
+        holds: Vec<Held<'a>>,
+    },
+    /// Play the file `stil` on the netlist of the file `net`, with the fault of this text or none.
+    Play {
+        net: &'a str,
+        stil: &'a str,
+        fault: Option<&'a str>,
+    },
+    /// Check the files whose names begin with `prefix`.
+    Check {
+        prefix: &'a str,
+    },
+    /// Search tests for a sample netlist of so many gates, and play them.
+    Sweep {
+        seed: u64,
+        gates: u32,
+    },
+}
+
+/// Why the values of a command make no request.
+#[derive(Clone, Copy, Debug)]
+pub(crate) enum NoRequest {
+    BadNumber,
+    BadEngine,
+    BadHold,
+    NoMemory,
 }
 
 fn scan<'a>(found: &ArgMatches<'a>) -> Option<Request<'a>>
@@ -45,6 +109,107 @@ fn faults<'a>(found: &ArgMatches<'a>) -> Option<Request<'a>>
     Some(Request::Faults { net })
 }
 
+fn play<'a>(found: &ArgMatches<'a>) -> Option<Request<'a>>
+    ensures line { option_map line_of result ≡ play_of (rows_of (found_of found.now)) }
+    ensures in_range { IfSome result IsInRange }
+{
+    let net = text(found, "NET")?;
+    let stil = text(found, "STIL")?;
+    let fault = text(found, "fault");
+    Some(Request::Play { net, stil, fault })
+}
+
+fn check<'a>(found: &ArgMatches<'a>) -> Option<Request<'a>>
+    ensures line { option_map line_of result ≡ check_of (rows_of (found_of found.now)) }
+    ensures in_range { IfSome result IsInRange }
+{
+    let prefix = text(found, "PREFIX")?;
+    Some(Request::Check { prefix })
+}
+
+fn sweep<'a>(found: &ArgMatches<'a>) -> Option<Request<'a>>
+    ensures line { option_map line_of result ≡ sweep_of (rows_of (found_of found.now)) }
+    ensures in_range { IfSome result IsInRange }
+{
+    let seed = number_of(found, "SEED", 0, u64::MAX)?;
+    let gates = number_of(found, "GATES", LEAST_GATES, MOST_GATES)?;
+    Some(Request::Sweep {
+        seed,
+        gates: gates as u32,
+    })
+}
+
+fn options(found: &ArgMatches<'_>) -> Option<RunOptions>
+    ensures value { result ≡ options_of (rows_of (found_of found.now)) }
+    ensures in_range { IfSome result AreInRange }
+{
+    let chains = number_or(found, "chains", 1, 1, MOST_CHAINS)?;
+    let workers = number_or(found, "workers", 1, 1, MOST_WORKERS)?;
+    let limit = number_or(found, "limit", 100, 1, MOST_LIMIT)?;
+    let seed = number_or(found, "seed", 1, 0, u64::MAX)?;
+    Some(RunOptions {
+        chains: chains as u32,
+        workers: workers as u32,
+        limit: limit as u32,
+        seed,
+    })
+}
+
+// Whether the engine is one that there is.
+fn is_engine(found: &ArgMatches<'_>) -> bool
+    ensures { result ≡ is_engine (first_of (codes "engine") (rows_of (found_of found.now))) }
+{
+    match text(found, "engine") {
+        Some(name) => name == "podem",
+        None => true,
+    }
+}
+
+// The inputs that are held.
+fn holds<'a>(alloc: Global, found: &ArgMatches<'a>) -> Result<Vec<Held<'a>>, NoRequest>
+    ensures { AreHeld (holds_given (first_of (codes "hold") (rows_of (found_of found.now)))) result }
+{
+    match text(found, "hold") {
+        Some(list) => holds_in(alloc, list),
+        None => Ok(Vec::new(alloc)),
+    }
+}
+
+fn run<'a>(alloc: Global, found: &ArgMatches<'a>) -> Result<Request<'a>, NoRequest>
+    ensures line { IsAsked (run_of (rows_of (found_of found.now))) result }
+    ensures in_range { IfOk result IsInRange }
+{
+    if !is_engine(found) {
+        return Err(NoRequest::BadEngine);
+    }
+    let Some(net) = text(found, "NET") else {
+        return Err(NoRequest::BadNumber);
+    };
+    let Some(prefix) = text(found, "PREFIX") else {
+        return Err(NoRequest::BadNumber);
+    };
+    let Some(options) = options(found) else {
+        return Err(NoRequest::BadNumber);
+    };
+    match holds(alloc, found) {
+        Ok(holds) => Ok(Request::Run {
+            net,
+            prefix,
+            options,
+            holds,
+        }),
+        Err(none) => Err(none),
+    }
+}
+
+// A request, or a number is in the way: `clap` has seen to the rest.
+fn taken<'a>(request: Option<Request<'a>>) -> Result<Request<'a>, NoRequest>
+    ensures line { IsAsked (line_from (option_map line_of request.entry)) result }
+    ensures in_range { IfSome request.entry IsInRange → IfOk result IsInRange }
+{
+    request.ok_or(NoRequest::BadNumber)
+}
+
 // The command that was used, by its name, and what was found of its arguments.
 fn command<'b, 'a>(found: &'b ArgMatches<'a>) -> Option<(&'a str, &'b ArgMatches<'a>)>
     ensures { option_map (λ p. (p.0.now, rows_of (found_of p.1.now))) result
@@ -53,16 +218,36 @@ fn command<'b, 'a>(found: &'b ArgMatches<'a>) -> Option<(&'a str, &'b ArgMatches
     found.subcommand()
 }
 
-/// What was asked for; none where a value is out of its form.
-pub(crate) fn request_of<'a>(found: &ArgMatches<'a>) -> Option<Request<'a>>
-    ensures line { option_map line_of result
-        ≡ option_and_then (λ p. line_by p.0 p.1) (subcommand_rows_of found.now) }
-    ensures in_range { IfSome result IsInRange }
+// What the command of this name asks for, by what was found of its arguments.
+fn request_by<'a>(
+    alloc: Global,
+    name: &str,
+    found: &ArgMatches<'a>,
+) -> Result<Request<'a>, NoRequest>
+    ensures line { IsAsked (line_by name.now (rows_of (found_of found.now))) result }
+    ensures in_range { IfOk result IsInRange }
 {
-    let (name, found) = command(found)?;
     match name {
-        "scan" => scan(found),
-        "faults" => faults(found),
-        _ => None,
+        "scan" => taken(scan(found)),
+        "faults" => taken(faults(found)),
+        "run" => run(alloc, found),
+        "play" => taken(play(found)),
+        "check" => taken(check(found)),
+        "sweep" => taken(sweep(found)),
+        _ => Err(NoRequest::BadNumber),
+    }
+}
+
+/// What was asked for, or why nothing was.
+pub(crate) fn request_of<'a>(
+    alloc: Global,
+    found: &ArgMatches<'a>,
+) -> Result<Request<'a>, NoRequest>
+    ensures line { IsAsked (line_at (subcommand_rows_of found.now)) result }
+    ensures in_range { IfOk result IsInRange }
+{
+    match command(found) {
+        Some(used) => request_by(alloc, used.0, used.1),
+        None => Err(NoRequest::BadNumber),
     }
 }

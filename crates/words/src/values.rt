@@ -3,7 +3,7 @@ ghost use Rattle.std.specs.Prelude.{◌≡◌, ◌≤◌, IfSome, option_map};
 ghost use Rattle.clap.specs.Words.{first_of, found_of, rows_of};
 ghost use Rattle.words.specs.Numbers.{number_in};
 ghost use Rattle.words.specs.inner.Padding.{is_padded};
-ghost use Rattle.words.specs.CommandLine.{number_at};
+ghost use Rattle.words.specs.CommandLine.{number_at, number_of};
 
 use clap::ArgMatches;
 
@@ -51,4 +51,13 @@ pub(crate) fn number_or(
         Some(given) => number(given, low, high),
         None => Some(default),
     }
+}
+
+/// The number that must be there, known by its place.
+pub(crate) fn number_of(found: &ArgMatches<'_>, name: &str, low: u64, high: u64) -> Option<u64>
+    ensures value { result ≡ number_of name.now low high (rows_of (found_of found.now)) }
+    ensures in_range { IfSome result (λ n. (low ≤ n) × (n ≤ high)) }
+{
+    let given = text(found, name)?;
+    number(given, low, high)
 }

@@ -1,20 +1,20 @@
-use Rattle.std.proofs.Common.{[], ◌∷◌, ap, refl}
-use Rattle.commands.specs.World.{Text, world}
-use Rattle.commands.specs.Names.{name_of}
-use Rattle.atpg_top.specs.Commands.{faults_due, scan_due}
-use Rattle.atpg_top.proofs.Delivering.{row_at}
+use Rattle.std.proofs.Common.{inl, refl}
 use Rattle.atpg_top.proofs.perform.Goals as goal
 
 pub returns-in-Scan : goal.returns-in-Scan
-returns-in-Scan g c =
-    let before = world (g.S.Shelf.files c.args.shelf.now) (g.S.Shelf.failures c.args.shelf.now) (g.T.Sink.taken c.args.out.now) (g.T.Sink.failures c.args.out.now) in
-    let after = world (g.S.Shelf.files c.run_command.new.shelf) (g.S.Shelf.failures c.run_command.new.shelf) (g.T.Sink.taken c.run_command.new.out) (g.T.Sink.failures c.run_command.new.out) in
-    rw c.in-Scan.is (row_at (name_of c.of.result ∷ []) (c.in-Scan.net.now ∷ []) (name_of c.of-in-Scan.result ∷ []) (c.in-Scan.to.now ∷ []) (scan_due c.in-Scan.chains) before after c.run_command.result
-    (ap (λ (t : Text). t ∷ []) c.of.ensures) (ap (λ (t : Text). t ∷ []) c.of-in-Scan.ensures) c.run_command.ensures)
+returns-in-Scan g c = rw c.in-Scan.is c.scan_netlist.ensures
 
 pub returns-in-Faults : goal.returns-in-Faults
-returns-in-Faults g c =
-    let before = world (g.S.Shelf.files c.args.shelf.now) (g.S.Shelf.failures c.args.shelf.now) (g.T.Sink.taken c.args.out.now) (g.T.Sink.failures c.args.out.now) in
-    let after = world (g.S.Shelf.files c.faults.new.shelf) (g.S.Shelf.failures c.faults.new.shelf) (g.T.Sink.taken c.faults.new.out) (g.T.Sink.failures c.faults.new.out) in
-    rw c.in-Faults.is (row_at (name_of c.of-in-Faults.result ∷ []) (c.in-Faults.net.now ∷ []) [] [] faults_due before after c.faults.result
-    (ap (λ (t : Text). t ∷ []) c.of-in-Faults.ensures) refl c.faults.ensures)
+returns-in-Faults g c = rw c.in-Faults.is c.list_faults.ensures
+
+pub returns-in-Play : goal.returns-in-Play
+returns-in-Play g c = rw c.in-Play.is c.play_test.ensures
+
+pub returns-in-Run : goal.returns-in-Run
+returns-in-Run g c = rw c.in-Run.is (inl ((refl, refl), (refl, refl)))
+
+pub returns-in-Check : goal.returns-in-Check
+returns-in-Check g c = rw c.in-Check.is (inl ((refl, refl), (refl, refl)))
+
+pub returns-in-Sweep : goal.returns-in-Sweep
+returns-in-Sweep g c = rw c.in-Sweep.is (inl ((refl, refl), (refl, refl)))

@@ -1,4 +1,4 @@
-use Rattle.std.proofs.Common.{◌≡◌, Some, subst}
+use Rattle.std.proofs.Common.{◌≡◌, Ok, subst}
 use Rattle.std.specs.Prelude.{Result, IfOk, map}
 use Rattle.std.specs.String.{string_bytes}
 use Rattle.words.specs.CommandLine.{command_line, line_of}
@@ -11,7 +11,7 @@ use Rattle.atpg_top.proofs.top.Goals as goal
 pub returns-in-Ok : goal.returns-in-Ok
 returns-in-Ok g c =
     let words = map string_bytes c.args.words.now in
-    let taken = subst (λ (r : Result Request WordsRefusal). IfOk r (λ q. command_line words ≡ Some (line_of q))) c.in-Ok.is c.parse-parsed.ensures.request in (
+    let taken = subst (λ (r : Result Request WordsRefusal). IfOk r (λ q. command_line words ≡ Ok (line_of q))) c.in-Ok.is c.parse-parsed.ensures.request in (
       Command c.perform-ending.result,
       c.end.ensures.code,
       row_of words (line_of c.in-Ok.request) _ _ c.perform-ending.result taken c.perform-ending.ensures,

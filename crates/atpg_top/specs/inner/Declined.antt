@@ -9,5 +9,6 @@ use Rattle.atpg_top.specs.declared.status.Status.TheVariants as status
 -- what becomes of words that are no request
 abbrev pub DeclineRow : WordsRefusal → Status → Type 0
 DeclineRow (words.BadWords text) (status.BadWords shown) = ⊤
+DeclineRow words.BadHold status.BadHold = ⊤
 DeclineRow words.NoMemory (status.Command ending.Memory) = ⊤
 DeclineRow _ _ = ⊥

@@ -6,5 +6,7 @@ use Rattle.words.proofs.commands.table.Goals as goal
 pub returns : goal.returns
 unfolding command_table
 returns c =
-    let scan = c.in_ok-with_scan.ensures ∙ ap₂ with_subcommand c.in_ok-program.ensures c.in_ok-scan.ensures.shape in
-    c.in_ok-table.ensures ∙ ap₂ with_subcommand scan c.in_ok-faults.ensures.shape
+    let run = c.in_ok-table-2.ensures ∙ ap₂ with_subcommand c.in_ok-table.ensures c.in_ok-run.ensures.shape in
+    let play = c.in_ok-table-3.ensures ∙ ap₂ with_subcommand run c.in_ok-play.ensures.shape in
+    let check = c.in_ok-table-4.ensures ∙ ap₂ with_subcommand play c.in_ok-check.ensures.shape in
+    c.in_ok-table-5.ensures ∙ ap₂ with_subcommand check c.in_ok-sweep.ensures.shape
