@@ -76,12 +76,13 @@ lines_more n chains numbers verdicts k f v old new member within of_class added 
     | inl same ↦
         let here : slice_get (universe_of n) k ≡ Some g = subst (λ i. slice_get (universe_of n) i ≡ Some g) same at in
         let both : Some f ≡ Some g = sym member ∙ here in
-        let is_g : f ≡ g = cc in
-        (added.line,
-        ap (λ ls. slice_get ls place) added.behind ∙ at_end old added.line place (are.size ∙ sym same),
-        subst (λ h. IsLineOf n chains h (verdict_at verdicts (get_or numbers place 0)) added.line) is_g
-        (subst (λ i. IsLineOf n chains f (verdict_at verdicts (get_or numbers i 0)) added.line) (sym same)
-        (subst (λ w. IsLineOf n chains f w added.line) (named verdicts (get_or numbers k 0) v within of_class) added.is_line)))
+        let is_g : f ≡ g = cc in (
+          added.line,
+          ap (λ ls. slice_get ls place) added.behind ∙ at_end old added.line place (are.size ∙ sym same),
+          subst (λ h. IsLineOf n chains h (verdict_at verdicts (get_or numbers place 0)) added.line) is_g
+              (subst (λ i. IsLineOf n chains f (verdict_at verdicts (get_or numbers i 0)) added.line) (sym same)
+              (subst (λ w. IsLineOf n chains f w added.line) (named verdicts (get_or numbers k 0) v within of_class) added.is_line)),
+        )
     | inr other ↦ elim other [
       | inl lower ↦
           let w = are.each place g lower at in

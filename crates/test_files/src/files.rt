@@ -189,16 +189,7 @@ pub fn test_files<R: Threads + Wait + Sync, E: Engine + Sync, G: Gate + Sync>(
     ensures { IfOk result (IsRun core.now holds.now plan.chains plan.limit) }
 {
     let subject = subject_of(alloc, core.netlist(), plan.chains)?;
-    let found = search(
-        rt,
-        alloc,
-        core,
-        &subject.classes,
-        plan,
-        engine,
-        gate,
-        holds,
-    )?;
+    let found = search(rt, alloc, core, &subject.classes, plan, engine, gate, holds)?;
     let files = texts_of(alloc, core, plan, holds, &subject, found)?;
     core.netlist().sound();
     written_is_run();

@@ -24,12 +24,7 @@ use std::thread::Threads;
 use worker::run_all;
 
 /// The search under a name for what the list is about.
-fn search_named<
-    J: About + Send + Sync,
-    E: Engine + Sync,
-    G: Gate + Sync,
-    R: Threads + Wait + Sync,
->(
+fn search_named<J: About + Send + Sync, E: Engine + Sync, G: Gate + Sync, R: Threads + Wait + Sync>(
     rt: &R,
     alloc: Global,
     core: &Core,

@@ -17,7 +17,6 @@ lines_of-requires-clause-inside c =
     subst (λ (vs : List Verdict). All (IsInside n) vs) (sym c.as_slice.ensures.value)
     (all_inside n c.sound.ensures c.args.holds.now c.args.subject.now.classes c.args.limit found.patterns.items found.verdicts.items c.requires.verdicts)
 
-
 pub report_of-requires-clause-faults : goal.report_of-requires-clause-faults
 report_of-requires-clause-faults c =
     let n = c.args.netlist.now in

@@ -15,7 +15,6 @@ use Rattle.test_files.specs.inner.Written.{IsTestText}
 use Rattle.test_files.proofs.PointLemmas.{all_named}
 use Rattle.test_files.proofs.files.texts_of.Goals as goal
 
-
 pub write_trees-requires : goal.write_trees-requires
 write_trees-requires c =
     let n = c.args.core.now in
