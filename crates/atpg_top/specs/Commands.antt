@@ -10,7 +10,12 @@ use Rattle.words.specs.CommandLine.{CommandLine, check, faults, play, run, scan,
 use Rattle.commands.specs.World.{Text}
 use Rattle.commands.specs.Due.{Due, Deliver}
 use Rattle.commands.specs.declared.ending.Finding.TheVariants.{Fine}
-use Rattle.atpg_top.specs.Steps.{◌>>=◌, named_fault, netlist, test, value}
+use Rattle.words.specs.HoldLists.{Hold}
+use Rattle.words.specs.declared.requests.RunOptions.{RunOptions}
+use Rattle.test_files.specs.declared.files.TestFiles.{TestFiles}
+use Rattle.test_files.specs.Runs.{IsRun}
+use Rattle.atpg_top.specs.Steps.{◌>>=◌, named_fault, named_holds, netlist, test, value}
+use Rattle.atpg_top.specs.Runs.{run_line, texts_made}
 use Rattle.atpg_top.specs.Scans.{IsScanProduct}
 use Rattle.atpg_top.specs.FaultLists.{IsFaultList}
 use Rattle.atpg_top.specs.Plays.{IsPlay, finding_of, played_line}
@@ -55,9 +60,17 @@ play_due fault (net ∷ stil ∷ []) =
     (answer : Played) × IsPlay n f (vectors_in file) answer × (d ≡ Deliver [] (played_line n answer) (finding_of answer))
 play_due fault texts = λ d. ⊥
 
+-- the five texts of a run, and the line with the report's numbers
+abbrev pub run_due : RunOptions → List Hold → List Text → Due Refusal → Type 0
+run_due options named (bytes ∷ []) =
+    netlist Design bytes >>= λ n. named_holds n named >>= λ holds d.
+    (made : TestFiles) × IsRun n holds options.chains options.limit made × (d ≡ Deliver (texts_made made) (run_line made.said) Fine)
+run_due options named texts = λ d. ⊥
+
 -- what is due of the texts that a command line has read
 abbrev pub due : CommandLine → List Text → Due Refusal → Type 0
 due (scan net to chains) = scan_due chains
 due (faults net) = faults_due
 due (play net stil fault) = play_due fault
+due (run net prefix options holds) = run_due options holds
 due _ = λ texts d. ⊥

@@ -1,5 +1,5 @@
 -- The numbers of the statuses and their lines on the error output.
-use Rattle.std.specs.Prelude.{◌++◌, ℕ, [], codes, decimal}
+use Rattle.std.specs.Prelude.{◌++◌, ℕ, List, [], codes, decimal, slice_index_or}
 use Rattle.bench_text.specs.declared.refusal.BenchKind.{BenchKind}
 use Rattle.bench_text.specs.declared.refusal.BenchKind.TheVariants.{BadByte, BadLine, UnknownGate, BadPins, DefinedTwice, Reserved, TooMany, NoInput, NoOutput, Undefined, Loop}
 use Rattle.bench_text.specs.declared.refusal.BenchRefusal.{BenchRefusal}
@@ -11,13 +11,14 @@ use Rattle.commands.specs.declared.ending.WriteFailure.TheVariants.{File, Output
 use Rattle.commands.specs.declared.ending.Ending.{Ending}
 use Rattle.commands.specs.declared.ending.Ending.TheVariants.{Ended, Refused, ReadFailed, WriteFailed, Missing, TooLong, Memory}
 use Rattle.atpg_top.specs.declared.refusal.Refusal.{Refusal}
-use Rattle.atpg_top.specs.declared.refusal.Refusal.TheVariants.{Netlist, NoSuchFault, NotStil, NotCertificate, NotReport, StilDoesNotFit}
+use Rattle.atpg_top.specs.declared.refusal.Refusal.TheVariants.{Netlist, NoSuchFault, NoSuchInput, NotStil, NotCertificate, NotReport, StilDoesNotFit}
 use Rattle.atpg_top.specs.declared.status.Status.{Status}
 use Rattle.atpg_top.specs.declared.status.Status.TheVariants.{BadWords, BadHold, Command}
 
 abbrev pub refusal_code : Refusal → ℕ
 refusal_code (Netlist refusal) = 3
 refusal_code NoSuchFault = 2
+refusal_code (NoSuchInput place) = 2
 refusal_code NotStil = 4
 refusal_code NotCertificate = 4
 refusal_code NotReport = 4
@@ -55,30 +56,32 @@ kind_name Loop = codes "Loop"
 abbrev pub netlist_line : BenchRefusal → Text
 netlist_line refusal = codes "netlist line " ++ (decimal refusal.line ++ (codes ": " ++ (kind_name refusal.kind ++ codes "\n")))
 
-abbrev pub refusal_line : Refusal → Text
-refusal_line (Netlist refusal) = netlist_line refusal
-refusal_line NoSuchFault = codes "no such fault\n"
-refusal_line NotStil = codes "not a stil file\n"
-refusal_line NotCertificate = codes "not a certificate\n"
-refusal_line NotReport = codes "not a report\n"
-refusal_line StilDoesNotFit = codes "stil does not fit\n"
+-- the names are those of the inputs that are to be held
+abbrev pub refusal_line : List Text → Refusal → Text
+refusal_line names (Netlist refusal) = netlist_line refusal
+refusal_line names NoSuchFault = codes "no such fault\n"
+refusal_line names (NoSuchInput place) = codes "no such input: " ++ (slice_index_or names place [] ++ codes "\n")
+refusal_line names NotStil = codes "not a stil file\n"
+refusal_line names NotCertificate = codes "not a certificate\n"
+refusal_line names NotReport = codes "not a report\n"
+refusal_line names StilDoesNotFit = codes "stil does not fit\n"
 
 abbrev pub failure_line : WriteFailure → Text
 failure_line (File name) = codes "write failed: " ++ (name_of name ++ codes "\n")
 failure_line Output = codes "write failed: -\n"
 
 -- the line of an ending; one that did its work has none
-abbrev pub ending_line : Ending Refusal → Text
-ending_line (Ended finding) = []
-ending_line (Refused refusal) = refusal_line refusal
-ending_line (ReadFailed name) = codes "read failed: " ++ (name_of name ++ codes "\n")
-ending_line (WriteFailed failure) = failure_line failure
-ending_line (Missing name) = codes "no such file: " ++ (name_of name ++ codes "\n")
-ending_line (TooLong name) = codes "too long: " ++ (name_of name ++ codes "\n")
-ending_line Memory = codes "out of memory\n"
+abbrev pub ending_line : List Text → Ending Refusal → Text
+ending_line names (Ended finding) = []
+ending_line names (Refused refusal) = refusal_line names refusal
+ending_line names (ReadFailed name) = codes "read failed: " ++ (name_of name ++ codes "\n")
+ending_line names (WriteFailed failure) = failure_line failure
+ending_line names (Missing name) = codes "no such file: " ++ (name_of name ++ codes "\n")
+ending_line names (TooLong name) = codes "too long: " ++ (name_of name ++ codes "\n")
+ending_line names Memory = codes "out of memory\n"
 
 -- the line of a status; that of bad words is the parser's text
-abbrev pub line_of : Status → Text
-line_of (BadWords text) = text.now
-line_of BadHold = codes "bad hold\n"
-line_of (Command ending) = ending_line ending
+abbrev pub line_of : List Text → Status → Text
+line_of names (BadWords text) = text.now
+line_of names BadHold = codes "bad hold\n"
+line_of names (Command ending) = ending_line names ending

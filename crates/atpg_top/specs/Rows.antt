@@ -1,7 +1,8 @@
 -- The status of a call of the program, and what it leaves.
-use Rattle.std.specs.Prelude.{◌≡◌, ◌⊎◌, ℕ, Bool, IsTrue, List, Option, Result, Ok, Err}
+use Rattle.std.specs.Prelude.{◌≡◌, ◌⊎◌, ℕ, Bool, IsTrue, List, [], Option, Result, Ok, Err, map}
 use Rattle.outside.specs.Causes.{Rose}
-use Rattle.words.specs.CommandLine.{CommandLine, NoLine, bad_hold, bad_words, command_line}
+use Rattle.words.specs.CommandLine.{CommandLine, NoLine, bad_hold, bad_words, command_line, run}
+use Rattle.words.specs.HoldLists.{Hold}
 use Rattle.commands.specs.World.{Grows, GrowsInPart, IsAsBefore, Text, World}
 use Rattle.commands.specs.Rows.{CommandRow}
 use Rattle.commands.specs.declared.ending.Ending.{Ending}
@@ -32,7 +33,12 @@ abbrev pub IsSaid : Bool → Text → Option Text → ℕ → Option Text → �
 IsSaid takes_memory line a f b g =
     (Grows a b line × (g ≡ f)) ⊎ (GrowsInPart a b line × (Rose f g ⊎ (IsTrue takes_memory × (g ≡ f))))
 
+-- the names of the inputs that a command line wants held
+abbrev pub held_names : Result CommandLine NoLine → List Text
+held_names (Ok (run net prefix options holds)) = map (λ (h : Hold). h.0) holds
+held_names _ = []
+
 -- The error output gains the line of the status. Where the command did its work it is left alone.
-abbrev pub ErrRow : Bool → Status → Option Text → ℕ → Option Text → ℕ → Type 0
-ErrRow takes_memory (status.Command (ending.Ended finding)) a f b g = (b ≡ a) × (g ≡ f)
-ErrRow takes_memory s a f b g = IsSaid takes_memory (line_of s) a f b g
+abbrev pub ErrRow : Bool → List Text → Status → Option Text → ℕ → Option Text → ℕ → Type 0
+ErrRow takes_memory names (status.Command (ending.Ended finding)) a f b g = (b ≡ a) × (g ≡ f)
+ErrRow takes_memory names s a f b g = IsSaid takes_memory (line_of names s) a f b g

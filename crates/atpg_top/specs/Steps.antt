@@ -4,13 +4,16 @@ use Rattle.std.specs.List.{All, Contains}
 use Rattle.netlist.specs.declared.lines.Fault.{Fault}
 use Rattle.netlist.specs.Netlist.{Netlist}
 use Rattle.netlist.specs.Conditions.{IsSound}
+use Rattle.netlist.specs.Holds.{Holds, none_held}
 use Rattle.bench_text.specs.Reading.{IsRead}
 use Rattle.bench_text.specs.declared.refusal.Names.{Names}
 use Rattle.bench_text.specs.declared.refusal.BenchFault.TheVariants as bench
 use Rattle.fault_universe.specs.Texts.{fault_text}
 use Rattle.fault_universe.specs.Universe.{universe_of}
+use Rattle.words.specs.HoldLists.{Hold}
 use Rattle.commands.specs.World.{Text}
 use Rattle.commands.specs.Due.{Due, Refuse}
+use Rattle.atpg_top.specs.Runs.{AreHeldFrom, IsFirstUnknown}
 use Rattle.atpg_top.specs.declared.refusal.Refusal.{Refusal}
 use Rattle.atpg_top.specs.declared.refusal.Refusal.TheVariants as refusal
 
@@ -32,6 +35,12 @@ named_fault n None (Err r) = ⊥
 named_fault n (Some text) (Ok None) = ⊥
 named_fault n (Some text) (Ok (Some f)) = Contains (universe_of n) f × (fault_text n f ≡ text)
 named_fault n (Some text) (Err r) = (r ≡ refusal.NoSuchFault) × All (λ f. fault_text n f ≢ text) (universe_of n)
+
+-- the inputs that are held, where each name is an input's; else refused for the first that isn't
+abbrev pub named_holds : Netlist → List Hold → Result Holds Refusal → Type 0
+named_holds n named (Ok holds) = AreHeldFrom n (none_held n) named holds
+named_holds n named (Err (refusal.NoSuchInput place)) = IsFirstUnknown n named place
+named_holds n named (Err _) = ⊥
 
 -- the value for which the bytes stand; refused for this reason exactly where there is none
 abbrev pub value : {V : Type 0} → (Text → V → Type 0) → Refusal → Text → Result V Refusal → Type 0

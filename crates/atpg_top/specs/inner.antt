@@ -3,3 +3,5 @@ pub mod Declined
 pub mod Designs
 pub mod Pieces
 pub mod Trials
+pub mod Held
+pub mod Running

@@ -6,23 +6,26 @@
 //! `commands`, the same for all.
 #![tactic(auto)]
 
-ghost use Rattle.std.specs.Prelude.{◌≡◌, map};
+ghost use Rattle.std.specs.Prelude.{◌≡◌, Ok, map};
 ghost use Rattle.std.specs.String.{string_bytes};
-ghost use Rattle.words.specs.CommandLine.{IsInRange, line_of};
+ghost use Rattle.words.specs.CommandLine.{IsInRange, command_line, line_of};
 ghost use Rattle.commands.specs.World.{world};
-ghost use Rattle.atpg_top.specs.Rows.{ErrRow, LineRow, TopRow};
+ghost use Rattle.atpg_top.specs.Rows.{ErrRow, LineRow, TopRow, held_names};
 ghost use Rattle.atpg_top.specs.inner.Declined.{DeclineRow};
+ghost use Rattle.atpg_top.specs.inner.Held.{names_held};
 ghost use Rattle.atpg_top.specs.Lines.{code_of};
 ghost use Rattle.atpg_top.specs.declared.status.Status.{Status};
 
 mod design;
 mod fault_list;
+mod holding;
 mod laws;
 mod lines;
 mod listing;
 mod playing;
 mod reading;
 mod refusal;
+mod running;
 mod scanning;
 mod status;
 
@@ -36,18 +39,21 @@ use listing::list_faults;
 use outside::{Gate, Shelf, Sink};
 use playing::play_test;
 use refusal::Refusal;
+use running::run_netlist;
 use scanning::scan_netlist;
 use status::Status;
 use std::alloc::Global;
 use std::sync::Wait;
 use std::thread::Threads;
-use words::{Request, WordsRefusal, parse};
+use words::{Held, Request, WordsRefusal, parse};
 
 /// Does what was asked.
-fn perform<'a, S: Shelf, T: Sink>(
+fn perform<'a, R: Threads + Wait + Sync, S: Shelf, T: Sink, G: Gate + Sync>(
+    rt: &R,
     alloc: Global,
     shelf: &mut S,
     out: &mut T,
+    gate: &G,
     request: &Request<'a>,
 ) -> Ending<'a, Refusal>
     requires { IsInRange request.now }
@@ -63,8 +69,23 @@ fn perform<'a, S: Shelf, T: Sink>(
         } => scan_netlist(alloc, shelf, out, net, to, *chains),
         Request::Faults { net } => list_faults(alloc, shelf, out, net),
         Request::Play { net, stil, fault } => play_test(alloc, shelf, out, net, stil, *fault),
+        Request::Run {
+            net,
+            prefix,
+            options,
+            holds,
+        } => run_netlist(
+            rt,
+            alloc,
+            shelf,
+            out,
+            gate,
+            net,
+            prefix,
+            *options,
+            holds.as_slice(),
+        ),
         // their entries come
-        Request::Run { .. } => Ending::Memory,
         Request::Check { .. } => Ending::Memory,
         Request::Sweep { .. } => Ending::Memory,
     }
@@ -83,41 +104,51 @@ fn decline(refusal: &WordsRefusal) -> Status<'_>
     }
 }
 
-/// Says how the call ends, and answers the status's number.
-fn end<E: Sink>(err: &mut E, status: &Status<'_>) -> u8
-    ensures code { result ≡ code_of status.now }
-    ensures told { ErrRow E.takes_memory status.now (E.taken err.old) (E.failures err.old) (E.taken err.new) (E.failures err.new) }
+/// The inputs that are to be held.
+fn held_in<'a, 'b>(request: &'b Request<'a>) -> &'b [Held<'a>]
+    ensures { names_held result.now ≡ held_names (Ok (line_of request.now)) }
 {
-    tell(err, status);
+    match request {
+        Request::Run { holds, .. } => holds.as_slice(),
+        _ => &[],
+    }
+}
+
+/// Says how the call ends, and answers the status's number. The inputs are those that are to be held.
+fn end<E: Sink>(err: &mut E, status: &Status<'_>, holds: &[Held<'_>]) -> u8
+    ensures code { result ≡ code_of status.now }
+    ensures told { ErrRow E.takes_memory (names_held holds.now) status.now (E.taken err.old) (E.failures err.old) (E.taken err.new) (E.failures err.new) }
+{
+    tell(err, status, holds);
     status.code()
 }
 
 /// Does what the words ask for, the first word being the program's name, and answers the status
 /// that the program ends with. No line of the error output changes it.
 pub fn top<R: Threads + Wait + Sync, S: Shelf, T: Sink, E: Sink, G: Gate + Sync>(
-    _rt: &R,
+    rt: &R,
     alloc: Global,
     words: &[String],
     shelf: &mut S,
     out: &mut T,
     err: &mut E,
-    _gate: &G,
+    gate: &G,
 ) -> u8
     ensures { (s : Status) × (result ≡ code_of s)
         × TopRow (map string_bytes words.now)
         (world (S.files shelf.old) (S.failures shelf.old) (T.taken out.old) (T.failures out.old))
         (world (S.files shelf.new) (S.failures shelf.new) (T.taken out.new) (T.failures out.new)) s
-        × ErrRow E.takes_memory s (E.taken err.old) (E.failures err.old) (E.taken err.new) (E.failures err.new) }
+        × ErrRow E.takes_memory (held_names (command_line (map string_bytes words.now))) s (E.taken err.old) (E.failures err.old) (E.taken err.new) (E.failures err.new) }
 {
     let parsed = parse(alloc, words);
     match &parsed {
         Ok(request) => {
-            let ending = perform(alloc, shelf, out, request);
-            end(err, &Status::Command(ending))
+            let ending = perform(rt, alloc, shelf, out, gate, request);
+            end(err, &Status::Command(ending), held_in(request))
         }
         Err(refusal) => {
             let status = decline(refusal);
-            end(err, &status)
+            end(err, &status, &[])
         }
     }
 }

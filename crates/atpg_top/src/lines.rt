@@ -1,6 +1,7 @@
 //! The lines on the error output, put in pieces, so that none asks for memory: what the user is
 //! told can't turn a status into another.
-ghost use Rattle.std.specs.Prelude.{◌≡◌, ◌++◌, codes};
+ghost use Rattle.std.specs.Prelude.{◌≡◌, ◌++◌, [], codes, slice_index_or};
+ghost use Rattle.atpg_top.specs.inner.Held.{names_held};
 ghost use Rattle.commands.specs.Names.{name_of};
 ghost use Rattle.commands.specs.Pieces.{join};
 ghost use Rattle.atpg_top.specs.Lines.{failure_line, kind_name, netlist_line, refusal_line};
@@ -12,6 +13,7 @@ use bench_text::{BenchKind, BenchRefusal};
 use commands::{Ending, FileName, WriteFailure, put_pieces};
 use itoa::Buffer;
 use outside::Sink;
+use words::Held;
 
 /// Puts a line in these pieces, as far as the output takes it.
 fn say<E: Sink>(err: &mut E, pieces: &[&[u8]])
@@ -61,13 +63,32 @@ fn say_netlist<E: Sink>(err: &mut E, refusal: &BenchRefusal)
     say(err, pieces.as_slice())
 }
 
-/// The line of a refusal.
-fn say_refusal<E: Sink>(err: &mut E, refusal: &Refusal)
-    ensures { IsSaid E.takes_memory (refusal_line refusal.now) (E.taken err.old) (E.failures err.old) (E.taken err.new) (E.failures err.new) }
+/// The line of a held input that is none.
+fn say_no_input<E: Sink>(err: &mut E, name: &[u8])
+    ensures { IsSaid E.takes_memory (codes "no such input: " ++ (name.now ++ codes "\n")) (E.taken err.old) (E.failures err.old) (E.taken err.new) (E.failures err.new) }
+{
+    let pieces = [b"no such input: ".as_slice(), name, b"\n".as_slice()];
+    say(err, pieces.as_slice())
+}
+
+/// The name of the held input at a place.
+fn name_at<'a>(holds: &[Held<'a>], place: u32) -> &'a [u8]
+    ensures { result.now ≡ slice_index_or (names_held holds.now) place [] }
+{
+    match holds.get(place as usize) {
+        Some(held) => held.name.as_bytes(),
+        None => b"",
+    }
+}
+
+/// The line of a refusal. The inputs are those that are to be held.
+fn say_refusal<E: Sink>(err: &mut E, refusal: &Refusal, holds: &[Held<'_>])
+    ensures { IsSaid E.takes_memory (refusal_line (names_held holds.now) refusal.now) (E.taken err.old) (E.failures err.old) (E.taken err.new) (E.failures err.new) }
 {
     match refusal {
         Refusal::Netlist(refusal) => say_netlist(err, refusal),
         Refusal::NoSuchFault => say_text(err, b"no such fault\n"),
+        Refusal::NoSuchInput(place) => say_no_input(err, name_at(holds, *place)),
         Refusal::NotStil => say_text(err, b"not a stil file\n"),
         Refusal::NotCertificate => say_text(err, b"not a certificate\n"),
         Refusal::NotReport => say_text(err, b"not a report\n"),
@@ -98,15 +119,15 @@ fn say_failed_write<E: Sink>(err: &mut E, failure: &WriteFailure<'_>)
     }
 }
 
-/// Says how the call ends; nothing where the command did its work.
-pub fn tell<E: Sink>(err: &mut E, status: &Status<'_>)
-    ensures { ErrRow E.takes_memory status.now (E.taken err.old) (E.failures err.old) (E.taken err.new) (E.failures err.new) }
+/// Says how the call ends; nothing where the command did its work. The inputs are those that are to be held.
+pub fn tell<E: Sink>(err: &mut E, status: &Status<'_>, holds: &[Held<'_>])
+    ensures { ErrRow E.takes_memory (names_held holds.now) status.now (E.taken err.old) (E.failures err.old) (E.taken err.new) (E.failures err.new) }
 {
     match status {
         Status::BadWords { text } => say_text(err, text.as_bytes()),
         Status::BadHold => say_text(err, b"bad hold\n"),
         Status::Command(Ending::Ended(_)) => {}
-        Status::Command(Ending::Refused(refusal)) => say_refusal(err, refusal),
+        Status::Command(Ending::Refused(refusal)) => say_refusal(err, refusal, holds),
         Status::Command(Ending::ReadFailed(name)) => say_name(err, b"read failed: ", name),
         Status::Command(Ending::WriteFailed(failure)) => say_failed_write(err, failure),
         Status::Command(Ending::Missing(name)) => say_name(err, b"no such file: ", name),

@@ -9,6 +9,8 @@ pub enum Refusal {
     Netlist(BenchRefusal),
     /// The netlist has no fault of the given text.
     NoSuchFault,
+    /// The held input at this place of the list is no input of the netlist.
+    NoSuchInput(u32),
     NotStil,
     NotCertificate,
     NotReport,

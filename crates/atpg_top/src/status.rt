@@ -22,6 +22,7 @@ fn refusal_code(refusal: &Refusal) -> u8
     match refusal {
         Refusal::Netlist(_) => 3,
         Refusal::NoSuchFault => 2,
+        Refusal::NoSuchInput(_) => 2,
         Refusal::NotStil => 4,
         Refusal::NotCertificate => 4,
         Refusal::NotReport => 4,

@@ -1,0 +1,42 @@
+-- What `run` and `sweep` say.
+use Rattle.std.specs.Prelude.{ℕ, ◌≡◌, ◌<◌, ◌++◌, List, [], ◌∷◌, Some, codes, decimal, slice_index, slice_set}
+use Rattle.std.specs.List.{slice_get}
+use Rattle.netlist.specs.Netlist.{Netlist, name_of}
+use Rattle.netlist.specs.Holds.{Holds}
+use Rattle.report.specs.Reports.{Report}
+use Rattle.words.specs.HoldLists.{Hold}
+use Rattle.commands.specs.World.{Text}
+use Rattle.test_files.specs.declared.files.TestFiles.{TestFiles}
+
+-- ---- held inputs by name
+
+-- the input at this place has the name
+abbrev pub IsInputAt : Netlist → ℕ → Text → Type 0
+IsInputAt n k name = (x : ℕ) × (slice_get n.inputs k ≡ Some x) × (name_of n x ≡ name)
+
+-- one after the other the input of each name is held at its bit
+abbrev pub AreHeldFrom : Netlist → Holds → List Hold → Holds → Type 0
+AreHeldFrom n holds [] held = held ≡ holds
+AreHeldFrom n holds (h ∷ named) held = (k : ℕ) × IsInputAt n k h.0 × AreHeldFrom n (slice_set holds k (Some h.1)) named held
+
+-- the first that names no input stands at this place
+pub record IsFirstUnknown (n : Netlist) (named : List Hold) (place : ℕ) : Type 0 where
+  pub hold : Hold
+  pub at : slice_get named place ≡ Some hold
+  pub unknown : (k : ℕ) → ¬ IsInputAt n k hold.0
+  pub before : (j : ℕ) (h : Hold) → j < place → slice_get named j ≡ Some h → (k : ℕ) × IsInputAt n k h.0
+
+-- ---- what is written and shown
+
+-- the five texts, in the order in which they are written
+abbrev pub texts_made : TestFiles → List Text
+texts_made made = made.net.items ∷ made.scan.items ∷ made.stil.items ∷ made.certificate.items ∷ made.report.items ∷ []
+
+abbrev pub count_at : Report → ℕ → ℕ
+count_at r place = slice_index r.counts place
+
+-- `faults 34 detected 34 redundant 0 aborted 0 patterns 9 cycles 9`, by the counts of the report
+abbrev pub run_line : Report → Text
+run_line r =
+    codes "faults " ++ (decimal (count_at r 5) ++ (codes " detected " ++ (decimal (count_at r 10) ++ (codes " redundant " ++ (decimal (count_at r 11)
+    ++ (codes " aborted " ++ (decimal (count_at r 12) ++ (codes " patterns " ++ (decimal (count_at r 7) ++ (codes " cycles " ++ (decimal (count_at r 8) ++ codes "\n")))))))))))

@@ -1,0 +1,28 @@
+-- The steps of `run`.
+use Rattle.std.specs.Prelude.{ℕ, ◌≡◌, ◌<◌, ⊤, List, Option, Some, None, Result, Ok, Err, length}
+use Rattle.netlist.specs.Netlist.{Netlist}
+use Rattle.netlist.specs.Designs.{IsDesign}
+use Rattle.netlist.specs.Holds.{Holds, AreHoldsOf}
+use Rattle.words.specs.HoldLists.{Hold}
+use Rattle.words.specs.declared.requests.RunOptions.{RunOptions}
+use Rattle.commands.specs.World.{Text}
+use Rattle.commands.specs.Due.{Due, Deliver}
+use Rattle.commands.specs.declared.ending.Finding.TheVariants.{Fine}
+use Rattle.test_files.specs.declared.files.TestFiles.{TestFiles}
+use Rattle.test_files.specs.Runs.{IsRun}
+use Rattle.atpg_top.specs.Runs.{IsInputAt, run_line, texts_made}
+use Rattle.atpg_top.specs.Steps.{◌>>=◌, named_holds}
+use Rattle.atpg_top.specs.declared.refusal.Refusal.{Refusal}
+
+-- the number of the input of this name, or there is none
+abbrev pub IsFound : Netlist → Text → Option ℕ → Type 0
+IsFound n name (Some k) = IsInputAt n k name
+IsFound n name None = (k : ℕ) → ¬ IsInputAt n k name
+
+-- what is due of a design with its held inputs
+abbrev pub made_due : RunOptions → Netlist → Holds → Due Refusal → Type 0
+made_due options n holds d = (made : TestFiles) × IsRun n holds options.chains options.limit made × (d ≡ Deliver (texts_made made) (run_line made.said) Fine)
+
+-- the same of the names of inputs
+abbrev pub held_due : RunOptions → List Hold → Netlist → Due Refusal → Type 0
+held_due options named n = named_holds n named >>= λ holds. made_due options n holds

@@ -1,0 +1,202 @@
+//! `run`: the five files of a file's netlist.
+ghost use Rattle.std.specs.Prelude.{◌≡◌, ◌≤◌, ◌<◌, ◌++◌, ◌∷◌, [], IfOk, OnOk, codes, decimal, length, map};
+ghost use Rattle.std.specs.List.{All};
+ghost use Rattle.netlist.specs.Designs.{IsDesign};
+ghost use Rattle.netlist.specs.Holds.{AreHoldsOf};
+ghost use Rattle.report.specs.Reports.{count_of_counts};
+ghost use Rattle.commands.specs.Contents.{most_bytes};
+ghost use Rattle.commands.specs.Names.{texts_of};
+ghost use Rattle.commands.specs.Rows.{CommandRow};
+ghost use Rattle.commands.specs.Worked.{IsWorked};
+ghost use Rattle.commands.specs.World.{world};
+ghost use Rattle.commands.specs.declared.ending.Finding.TheVariants.{Fine};
+ghost use Rattle.words.specs.CommandLine.{AreInRange, hold_of};
+ghost use Rattle.test_files.specs.Runs.{IsRun};
+ghost use Rattle.atpg_top.specs.Commands.{run_due, run_files};
+ghost use Rattle.atpg_top.specs.Runs.{count_at, run_line, texts_made};
+ghost use Rattle.atpg_top.specs.inner.Running.{made_due, held_due};
+
+use crate::design::design_of;
+use crate::holding::holds_of;
+use crate::refusal::Refusal;
+use commands::{Ending, FileName, Finding, Product, Stop, deliver, read_in_order};
+use itoa::Buffer;
+use netlist::{Core, Holds, Netlist, NoMemory};
+use outside::{Gate, Shelf, Sink};
+use podem::Podem;
+use report::Report;
+use std::alloc::{AllocError, Global};
+use std::sync::Wait;
+use std::thread::Threads;
+use test_files::{Plan, TestFiles, test_files};
+use words::{Held, RunOptions};
+
+/// Adds a word and a number.
+fn push_count(line: &mut Vec<u8>, word: &[u8], count: u64) -> Result<(), AllocError>
+    ensures { OnOk result (line.new.items ≡ line.old.items ++ (word.now ++ decimal count)) }
+{
+    line.extend_from_slice(word)?;
+    line.extend_from_slice(Buffer::new().format(count).as_bytes())?;
+    Ok(())
+}
+
+/// The line that `run` prints.
+fn line_of(alloc: Global, said: &Report) -> Result<Vec<u8>, AllocError>
+    ensures { IfOk result (λ t. t.items ≡ run_line said.now) }
+{
+    said.sound();
+    let counts = said.counts();
+    let mut line = Vec::new(alloc);
+    push_count(&mut line, b"faults ", counts[5])?;
+    push_count(&mut line, b" detected ", counts[10])?;
+    push_count(&mut line, b" redundant ", counts[11])?;
+    push_count(&mut line, b" aborted ", counts[12])?;
+    push_count(&mut line, b" patterns ", counts[7])?;
+    push_count(&mut line, b" cycles ", counts[8])?;
+    line.extend_from_slice(b"\n")?;
+    Ok(line)
+}
+
+/// The texts in the order in which they are written.
+fn texts_in_order(alloc: Global, made: TestFiles) -> Result<Vec<Vec<u8>>, AllocError>
+    ensures texts { IfOk result (λ v. texts_of v.items ≡ texts_made made) }
+    ensures count { IfOk result (λ v. length v.items ≡ 5) }
+{
+    let TestFiles {
+        net,
+        scan,
+        stil,
+        certificate,
+        report,
+        said: _,
+    } = made;
+    let mut texts = Vec::new(alloc);
+    texts.push(net)?;
+    texts.push(scan)?;
+    texts.push(stil)?;
+    texts.push(certificate)?;
+    texts.push(report)?;
+    Ok(texts)
+}
+
+/// The product of five files.
+fn product_of(alloc: Global, made: TestFiles) -> Result<Product, AllocError>
+    ensures texts { IfOk result (λ p. texts_of p.texts.items ≡ texts_made made) }
+    ensures count { IfOk result (λ p. length p.texts.items ≡ 5) }
+    ensures shown { IfOk result (λ p. p.shown.items ≡ run_line made.said) }
+    ensures fine { IfOk result (λ p. p.finding ≡ Fine) }
+{
+    let shown = line_of(alloc, &made.said)?;
+    let texts = texts_in_order(alloc, made)?;
+    Ok(Product {
+        texts,
+        shown,
+        finding: Finding::Fine,
+    })
+}
+
+/// The five files, searched by PODEM.
+fn made_of<R: Threads + Wait + Sync, G: Gate + Sync>(
+    rt: &R,
+    alloc: Global,
+    core: &Core,
+    options: RunOptions,
+    holds: &Holds,
+    gate: &G,
+) -> Result<TestFiles, NoMemory>
+    requires design { IsDesign core.now }
+    requires range { AreInRange options }
+    requires held { AreHoldsOf core.now holds.now }
+    ensures { IfOk result (IsRun core.now holds.now options.chains options.limit) }
+{
+    let podem = Podem::of(alloc, core)?;
+    let plan = Plan {
+        chains: options.chains,
+        workers: options.workers,
+        limit: options.limit,
+        seed: options.seed,
+    };
+    test_files(rt, alloc, core, plan, &podem, holds, gate)
+}
+
+/// What `run` makes of a design and the names of inputs that are held.
+fn run_design<R: Threads + Wait + Sync, G: Gate + Sync>(
+    rt: &R,
+    alloc: Global,
+    netlist: Netlist,
+    options: RunOptions,
+    named: &[Held<'_>],
+    gate: &G,
+) -> Result<Product, Stop<Refusal>>
+    requires design { IsDesign netlist }
+    requires range { AreInRange options }
+    ensures { IsWorked (held_due options (map hold_of named.now) netlist) 5 result }
+{
+    let Ok(core) = Core::of(alloc, netlist) else {
+        return Err(Stop::NoMemory);
+    };
+    let holds = match holds_of(alloc, &core, named) {
+        Ok(holds) => holds,
+        Err(stop) => return Err(stop),
+    };
+    let Ok(made) = made_of(rt, alloc, &core, options, &holds, gate) else {
+        return Err(Stop::NoMemory);
+    };
+    match product_of(alloc, made) {
+        Ok(product) => Ok(product),
+        Err(_) => Err(Stop::NoMemory),
+    }
+}
+
+/// The work of `run`, which waits for its workers.
+fn work<R: Threads + Wait + Sync, G: Gate + Sync>(
+    rt: &R,
+    alloc: Global,
+    texts: Vec<Vec<u8>>,
+    options: RunOptions,
+    named: &[Held<'_>],
+    gate: &G,
+) -> Result<Product, Stop<Refusal>>
+    requires count { length texts.items ≡ 1 }
+    requires within { All (λ text. length text ≤ most_bytes) (texts_of texts.items) }
+    requires range { AreInRange options }
+    ensures { IsWorked (run_due options (map hold_of named.now) (texts_of texts.items)) 5 result }
+{
+    match design_of(alloc, texts) {
+        Ok(netlist) => run_design(rt, alloc, netlist, options, named, gate),
+        Err(stop) => Err(stop),
+    }
+}
+
+/// Writes the five files of the netlist of the file `net` under names that begin with `prefix`.
+pub fn run_netlist<'a, R: Threads + Wait + Sync, S: Shelf, T: Sink, G: Gate + Sync>(
+    rt: &R,
+    alloc: Global,
+    shelf: &mut S,
+    out: &mut T,
+    gate: &G,
+    net: &'a str,
+    prefix: &'a str,
+    options: RunOptions,
+    named: &[Held<'_>],
+) -> Ending<'a, Refusal>
+    requires { AreInRange options }
+    ensures { CommandRow (net.now ∷ []) (run_files prefix.now) (run_due options (map hold_of named.now))
+        (world (S.files shelf.old) (S.failures shelf.old) (T.taken out.old) (T.failures out.old))
+        (world (S.files shelf.new) (S.failures shelf.new) (T.taken out.new) (T.failures out.new)) result }
+{
+    let reads = [FileName::of(net)];
+    let writes = [
+        FileName { given: prefix, ending: ".net" },
+        FileName { given: prefix, ending: ".scan" },
+        FileName { given: prefix, ending: ".stil" },
+        FileName { given: prefix, ending: ".cert" },
+        FileName { given: prefix, ending: ".rep" },
+    ];
+    let texts = match read_in_order(alloc, shelf, &reads) {
+        Ok(texts) => texts,
+        Err(ending) => return ending,
+    };
+    let worked = work(rt, alloc, texts, options, named, gate);
+    deliver(alloc, shelf, out, &writes, worked)
+}
