@@ -25,11 +25,16 @@ use Rattle.commands.specs.Due.{Deliver}
 use Rattle.commands.specs.Laws.{IsExclusive}
 use Rattle.commands.specs.declared.ending.Finding.TheVariants.{Fine}
 use Rattle.words.specs.CommandLine.{CommandLine, check, faults, play, run, scan, sweep}
-use Rattle.atpg_top.specs.Commands.{due, faults_due, play_due, scan_due}
+use Rattle.words.specs.HoldLists.{Hold}
+use Rattle.words.specs.declared.requests.RunOptions.{RunOptions}
+use Rattle.atpg_top.specs.Commands.{due, faults_due, play_due, run_due, scan_due}
+use Rattle.atpg_top.specs.Runs.{run_line, texts_made}
+use Rattle.atpg_top.specs.inner.Running.{held_due, made_due}
+use Rattle.atpg_top.proofs.HoldLemmas.{holds_single}
 use Rattle.atpg_top.specs.FaultLists.{IsFaultList}
 use Rattle.atpg_top.specs.Plays.{finding_of, played_line}
 use Rattle.atpg_top.specs.Scans.{IsScanProduct}
-use Rattle.atpg_top.specs.Steps.{named_fault, netlist, test, value}
+use Rattle.atpg_top.specs.Steps.{named_fault, named_holds, netlist, test, value}
 use Rattle.atpg_top.specs.inner.Trials.{answer_due, fault_due, file_due, trial_due}
 use Rattle.atpg_top.specs.declared.refusal.Refusal.TheVariants.{NotStil, StilDoesNotFit}
 use Rattle.atpg_top.proofs.PlayLemmas.{known_is_not_x}
@@ -107,10 +112,20 @@ play_exclusive one fault (net ∷ stil ∷ []) c d p q =
     (λ n is. fault_once n is.1 one fault stil) c d p q
 play_exclusive one fault (net ∷ stil ∷ more ∷ others) c d p q = absurd p
 
+-- ---- `run`
+
+run_exclusive : (options : RunOptions) (named : List Hold) → IsExclusive (run_due options named)
+run_exclusive options named [] c d p q = absurd p
+run_exclusive options named (bytes ∷ []) c d p q =
+    then_one_where (netlist Design bytes) (held_due options named) (netlist_single Design bytes)
+    (λ n is. then_one (named_holds n named) (made_due options n) (holds_single n is.1 named)
+    (λ holds x y a b. given x y (Deliver (texts_made a.0) (run_line a.0.said) Fine) (Deliver (texts_made b.0) (run_line b.0.said) Fine) a.2 b.2 refl)) c d p q
+run_exclusive options named (bytes ∷ more ∷ others) c d p q = absurd p
+
 pub each_exclusive : AtMostOne → (line : CommandLine) → IsExclusive (due line)
 each_exclusive one (scan net to chains) = scan_exclusive chains
 each_exclusive one (faults net) = faults_exclusive
 each_exclusive one (play net stil fault) = play_exclusive one fault
-each_exclusive one (run net prefix options holds) = λ texts c d p q. absurd p
+each_exclusive one (run net prefix options holds) = run_exclusive options holds
 each_exclusive one (check prefix) = λ texts c d p q. absurd p
 each_exclusive one (sweep seed gates) = λ texts c d p q. absurd p

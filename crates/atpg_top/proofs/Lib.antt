@@ -1,4 +1,5 @@
 pub mod ScanOff
+pub mod HoldLemmas
 pub mod Exclusive
 pub mod Cells
 pub mod Zipped
@@ -8,3 +9,4 @@ pub mod Saying
 pub mod Delivering
 pub mod PlayLemmas
 pub mod Single
+pub mod LineLemmas

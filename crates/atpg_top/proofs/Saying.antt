@@ -17,6 +17,10 @@ said takes_memory line a b f g (Err write.NoMemory) put memory = inr (put.0, inr
 pub said_so : (takes_memory : Bool) (line other : Text) (a b : Option Text) (f g : ℕ) → line ≡ other → IsSaid takes_memory line a f b g → IsSaid takes_memory other a f b g
 said_so takes_memory line other a b f g same h = subst (λ (t : Text). IsSaid takes_memory t a f b g) same h
 
+pub of_three : (ps : List (Bor Text)) (p q r : Bor Text) (a b c : Text) → ps ≡ p ∷ q ∷ r ∷ [] → p.now ≡ a → q.now ≡ b → r.now ≡ c
+    → join ps ≡ a ++ (b ++ (c ++ []))
+of_three ps p q r a b c is is-a is-b is-c = rw (is, is-a, is-b, is-c) refl
+
 pub of_four : (ps : List (Bor Text)) (p q r s : Bor Text) (a b c d : Text) → ps ≡ p ∷ q ∷ r ∷ s ∷ [] → p.now ≡ a → q.now ≡ b → r.now ≡ c → s.now ≡ d
     → join ps ≡ a ++ (b ++ (c ++ (d ++ [])))
 of_four ps p q r s a b c d is is-a is-b is-c is-d = rw (is, is-a, is-b, is-c, is-d) refl

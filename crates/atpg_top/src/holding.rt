@@ -16,6 +16,7 @@ use words::Held;
 fn input_named(index: &NameIndex<'_>, name: &str) -> Option<u32>
     ensures { IsFound index.now name.now result }
 {
+    index.netlist().sound();
     let signal = index.get(name.as_bytes())?;
     if signal.index() < index.netlist().inputs().len() {
         Some(signal.index() as u32)

@@ -1,3 +1,6 @@
+use Rattle.std.proofs.Common.{◌++◌, ap, codes}
+use Rattle.commands.specs.World.{Text}
+use Rattle.atpg_top.proofs.Saying.{said_so}
 use Rattle.atpg_top.proofs.lines.say_refusal.Goals as goal
 
 pub returns-in-Netlist : goal.returns-in-Netlist
@@ -17,3 +20,7 @@ returns-in-NotReport g c = rw c.in-NotReport.is c.say_text-in-NotReport.ensures
 
 pub returns-in-StilDoesNotFit : goal.returns-in-StilDoesNotFit
 returns-in-StilDoesNotFit g c = rw c.in-StilDoesNotFit.is c.say_text-in-StilDoesNotFit.ensures
+
+pub returns-in-NoSuchInput : goal.returns-in-NoSuchInput
+returns-in-NoSuchInput g c =
+    rw c.in-NoSuchInput.is (said_so _ _ _ _ _ _ _ (ap (λ (t : Text). codes "no such input: " ++ (t ++ codes "\n")) c.name_at.ensures) c.say_no_input.ensures)

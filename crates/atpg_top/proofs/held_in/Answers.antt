@@ -1,0 +1,10 @@
+use Rattle.std.proofs.Common.{◌≡◌, ◌∙◌, List, ap, sym, refl, map, Ok}
+use Rattle.netlist.proofs.Lists.{map_map}
+use Rattle.words.specs.CommandLine.{hold_of}
+use Rattle.words.specs.HoldLists.{Hold}
+use Rattle.words.specs.declared.holds.Held.{Held}
+use Rattle.atpg_top.specs.inner.Held.{names_held}
+use Rattle.atpg_top.proofs.held_in.Goals as goal
+
+pub returns-in-Run : goal.returns-in-Run
+returns-in-Run c = rw c.in-Run.is (ap names_held c.as_slice.ensures.value ∙ sym (map_map hold_of (λ (h : Hold). h.0) c.in-Run.holds.items))
