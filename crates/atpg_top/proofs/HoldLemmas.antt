@@ -1,20 +1,31 @@
 -- Held inputs by their names.
-use Rattle.std.proofs.Common.{◌≡◌, ◌≢◌, ◌∙◌, ℕ, zero, suc, ◌+◌, ◌<◌, ◌≤◌, inl, inr, Bool, List, [], ◌∷◌, ◌++◌, Option, Some, None, Ok, Err, length, get_or, take, set, refl, sym, subst, ap, arith, length-append, add-one}
+use Rattle.std.proofs.Common.{◌≡◌, ◌≢◌, ◌∙◌, ℕ, zero, suc, ◌+◌, ◌<◌, ◌≤◌, inl, inr, Bool, List, [], ◌∷◌, ◌++◌, Option, Some, None, Ok, Err, length, map, get_or, take, set, refl, sym, subst, ap, arith, length-append, add-one}
 use Rattle.std.specs.Prelude.{Result}
 use Rattle.std.specs.List.{slice_get}
+use Rattle.std.proofs.Math.Seq.{take-suc}
 use Rattle.std.proofs.lemmas.Bool.{cases_order}
+use Rattle.std.proofs.lemmas.List.{map-append}
 use Rattle.std.proofs.lemmas.Option.{slice_get-get_or, slice_get_within, get_or_from_slice_get}
 use Rattle.netlist.specs.Netlist.{Definition, Netlist, name_of, signals}
 use Rattle.netlist.specs.Conditions.{IsSound}
 use Rattle.netlist.specs.Holds.{Holds, none_held}
+use Rattle.bench_text.proofs.Lists.{get_map, got_map}
 use Rattle.fault_universe.proofs.Names.{same_name}
 use Rattle.fault_collapse.proofs.Stems.{input_number}
+use Rattle.words.specs.CommandLine.{hold_of}
 use Rattle.words.specs.HoldLists.{Hold}
+use Rattle.words.specs.declared.holds.Held.{Held}
 use Rattle.atpg_top.specs.Runs.{AreHeldFrom, IsFirstUnknown, IsInputAt}
 use Rattle.atpg_top.specs.Steps.{named_holds}
 use Rattle.atpg_top.specs.declared.refusal.Refusal.{Refusal}
 use Rattle.atpg_top.specs.declared.refusal.Refusal.TheVariants as refusal
 use Rattle.atpg_top.proofs.Single.{IsSingle}
+
+-- each of the names is an input's
+all_inputs : (n : Netlist) (named : List Hold) (holds x : Holds) → AreHeldFrom n holds named x → (j : ℕ) (h : Hold) → slice_get named j ≡ Some h → (k : ℕ) × IsInputAt n k h.0
+all_inputs n [] holds x p j h at = cc
+all_inputs n (g ∷ named) holds x p zero h at = let same : g ≡ h = cc in (p.0, subst (λ (e : Hold). IsInputAt n p.0 e.0) same p.1)
+all_inputs n (g ∷ named) holds x p (suc j) h at = all_inputs n named (set holds p.0 (Some g.1)) x p.2 j h at
 
 module _ (n : Netlist) (sound : IsSound n) where
   -- input k is signal k
@@ -58,13 +69,8 @@ module _ (n : Netlist) (sound : IsSound n) where
       let same = input_once p.0 q.0 h.0 p.1 q.1 in
       held_once named (set holds p.0 (Some h.1)) x y p.2 (subst (λ k. AreHeldFrom n (set holds k (Some h.1)) named y) (sym same) q.2)
 
-  all_inputs : (named : List Hold) (holds x : Holds) → AreHeldFrom n holds named x → (j : ℕ) (h : Hold) → slice_get named j ≡ Some h → (k : ℕ) × IsInputAt n k h.0
-  all_inputs [] holds x p j h at = cc
-  all_inputs (g ∷ named) holds x p zero h at = let same : g ≡ h = cc in (p.0, subst (λ (e : Hold). IsInputAt n p.0 e.0) same p.1)
-  all_inputs (g ∷ named) holds x p (suc j) h at = all_inputs named (set holds p.0 (Some g.1)) x p.2 j h at
-
   holds_apart : (named : List Hold) (x : Holds) (r : Refusal) → named_holds n named (Ok x) → named_holds n named (Err r) → ⊥
-  holds_apart named x (refusal.NoSuchInput place) p q = let w = all_inputs named (none_held n) x p place q.hold q.at in q.unknown w.0 w.1
+  holds_apart named x (refusal.NoSuchInput place) p q = let w = all_inputs n named (none_held n) x p place q.hold q.at in q.unknown w.0 w.1
   holds_apart named x (refusal.Netlist r) p q = q
   holds_apart named x refusal.NoSuchFault p q = q
   holds_apart named x refusal.NotStil p q = q
@@ -109,3 +115,32 @@ pub held_more : (n : Netlist) (named : List Hold) (h : Hold) (holds x : Holds) (
     → AreHeldFrom n holds (named ++ h ∷ []) (set x k (Some h.1))
 held_more n [] h holds x k p at = (k, at, ap (λ (xs : Holds). set xs k (Some h.1)) p)
 held_more n (g ∷ named) h holds x k p at = (p.0, p.1, held_more n named h (set holds p.0 (Some g.1)) x k p.2 at)
+
+-- one more of a list of the names that a request holds
+pub held_next : (n : Netlist) (named : List Held) (j : ℕ) (d : Held) (holds x : Holds) (k : ℕ) → j < length named → AreHeldFrom n holds (map hold_of (take j named)) x
+    → IsInputAt n k (get_or named j d).name.now → AreHeldFrom n holds (map hold_of (take (j + 1) named)) (set x k (Some (get_or named j d).bit))
+held_next n named j d holds x k lt so_far at =
+    let one = held_more n (map hold_of (take j named)) (hold_of (get_or named j d)) holds x k so_far at in
+    subst (λ (hs : List Hold). AreHeldFrom n holds hs (set x k (Some (get_or named j d).bit))) (sym (ap (λ (i : ℕ). map hold_of (take i named)) (add-one j) ∙ (ap (map hold_of) (take-suc named j d lt) ∙ map-append hold_of (take j named) (get_or named j d ∷ [])))) one
+
+not_below_zero : (i : ℕ) → i < 0 → ⊥
+not_below_zero i lt = omega (arith, lt)
+
+slice_get_take : {X : Type 0} (xs : List X) (j i : ℕ) → i < j → slice_get (take j xs) i ≡ slice_get xs i
+slice_get_take [] zero i lt = absurd (not_below_zero i lt)
+slice_get_take [] (suc j) i lt = refl
+slice_get_take (x ∷ xs) zero i lt = absurd (not_below_zero i lt)
+slice_get_take (x ∷ xs) (suc j) zero lt = refl
+slice_get_take (x ∷ xs) (suc j) (suc i) lt = slice_get_take xs j i (omega (arith, lt))
+
+-- the first name that none of the inputs has
+pub unknown_here : (n : Netlist) (named : List Held) (j : ℕ) (d : Held) (x : Holds) → j < length named → AreHeldFrom n (none_held n) (map hold_of (take j named)) x
+    → ((k : ℕ) → ¬ IsInputAt n k (get_or named j d).name.now) → IsFirstUnknown n (map hold_of named) j
+unknown_here n named j d x lt so_far none = record {
+  hold = hold_of (get_or named j d);
+  at = get_map hold_of named j (get_or named j d) (slice_get-get_or named j d lt);
+  unknown = none;
+  before = λ i h less at. let m = got_map hold_of named i h at in
+      let here = get_map hold_of (take j named) i m.0 (slice_get_take named j i less ∙ m.1) ∙ ap (λ (g : Hold). Some g) m.2 in
+      all_inputs n (map hold_of (take j named)) (none_held n) x so_far i h here;
+}

@@ -42,7 +42,7 @@ pub fn holds_of(
     for (place, held) in named.iter().enumerate() {
         match input_named(&index, held.name) {
             Some(input) => holds.set(input, held.bit),
-            None => return Err(Stop::Refused(Refusal::NoSuchInput(place as u32))),
+            None => return Err(Stop::Refused(Refusal::NoSuchInput(place))),
         }
     }
     Ok(holds)

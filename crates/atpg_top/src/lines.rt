@@ -72,10 +72,10 @@ fn say_no_input<E: Sink>(err: &mut E, name: &[u8])
 }
 
 /// The name of the held input at a place.
-fn name_at<'a>(holds: &[Held<'a>], place: u32) -> &'a [u8]
+fn name_at<'a>(holds: &[Held<'a>], place: usize) -> &'a [u8]
     ensures { result.now ≡ slice_index_or (names_held holds.now) place [] }
 {
-    match holds.get(place as usize) {
+    match holds.get(place) {
         Some(held) => held.name.as_bytes(),
         None => b"",
     }

@@ -10,7 +10,7 @@ pub enum Refusal {
     /// The netlist has no fault of the given text.
     NoSuchFault,
     /// The held input at this place of the list is no input of the netlist.
-    NoSuchInput(u32),
+    NoSuchInput(usize),
     NotStil,
     NotCertificate,
     NotReport,
