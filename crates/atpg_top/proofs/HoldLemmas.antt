@@ -1,12 +1,11 @@
 -- Held inputs by their names.
-use Rattle.std.proofs.Common.{◌≡◌, ◌≢◌, ◌∙◌, ℕ, zero, suc, ◌+◌, ◌<◌, ◌≤◌, inl, inr, Bool, List, [], ◌∷◌, ◌++◌, Option, Some, None, Ok, Err, length, map, get_or, take, set, refl, sym, subst, ap, arith, length-append, add-one}
-use Rattle.std.specs.Prelude.{Result}
+use Rattle.std.proofs.Common.{◌≡◌, ◌≢◌, ◌∙◌, ℕ, zero, suc, ◌+◌, ◌<◌, ◌≤◌, inl, inr, List, [], ◌∷◌, ◌++◌, Some, Ok, Err, length, map, get_or, take, set, refl, sym, subst, ap, arith, length-set, add-one}
 use Rattle.std.specs.List.{slice_get}
 use Rattle.std.proofs.Math.Seq.{take-suc}
 use Rattle.std.proofs.lemmas.Bool.{cases_order}
 use Rattle.std.proofs.lemmas.List.{map-append}
 use Rattle.std.proofs.lemmas.Option.{slice_get-get_or, slice_get_within, get_or_from_slice_get}
-use Rattle.netlist.specs.Netlist.{Definition, Netlist, name_of, signals}
+use Rattle.netlist.specs.Netlist.{Netlist, name_of, signals}
 use Rattle.netlist.specs.Conditions.{IsSound}
 use Rattle.netlist.specs.Holds.{Holds, none_held}
 use Rattle.bench_text.proofs.Lists.{get_map, got_map}
@@ -144,3 +143,8 @@ unknown_here n named j d x lt so_far none = record {
       let here = get_map hold_of (take j named) i m.0 (slice_get_take named j i less ∙ m.1) ∙ ap (λ (g : Hold). Some g) m.2 in
       all_inputs n (map hold_of (take j named)) (none_held n) x so_far i h here;
 }
+
+-- as many as there were
+pub held_length : (n : Netlist) (named : List Hold) (holds x : Holds) → AreHeldFrom n holds named x → length x ≡ length holds
+held_length n [] holds x p = ap length p
+held_length n (h ∷ named) holds x p = held_length n named (set holds p.0 (Some h.1)) x p.2 ∙ length-set holds p.0 (Some h.1)

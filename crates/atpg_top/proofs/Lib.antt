@@ -8,5 +8,6 @@ pub mod Endings
 pub mod Saying
 pub mod Delivering
 pub mod PlayLemmas
+pub mod RunLemmas
 pub mod Single
 pub mod LineLemmas

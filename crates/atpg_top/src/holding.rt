@@ -26,11 +26,7 @@ fn input_named(index: &NameIndex<'_>, name: &str) -> Option<u32>
 }
 
 /// Holds each input that is named at its bit.
-pub fn holds_of(
-    alloc: Global,
-    core: &Core,
-    named: &[Held<'_>],
-) -> Result<Holds, Stop<Refusal>>
+pub fn holds_of(alloc: Global, core: &Core, named: &[Held<'_>]) -> Result<Holds, Stop<Refusal>>
     ensures { Answers (named_holds core.now (map hold_of named.now)) result }
 {
     let Ok(mut holds) = Holds::none(alloc, core) else {

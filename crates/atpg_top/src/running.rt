@@ -187,11 +187,26 @@ pub fn run_netlist<'a, R: Threads + Wait + Sync, S: Shelf, T: Sink, G: Gate + Sy
 {
     let reads = [FileName::of(net)];
     let writes = [
-        FileName { given: prefix, ending: ".net" },
-        FileName { given: prefix, ending: ".scan" },
-        FileName { given: prefix, ending: ".stil" },
-        FileName { given: prefix, ending: ".cert" },
-        FileName { given: prefix, ending: ".rep" },
+        FileName {
+            given: prefix,
+            ending: ".net",
+        },
+        FileName {
+            given: prefix,
+            ending: ".scan",
+        },
+        FileName {
+            given: prefix,
+            ending: ".stil",
+        },
+        FileName {
+            given: prefix,
+            ending: ".cert",
+        },
+        FileName {
+            given: prefix,
+            ending: ".rep",
+        },
     ];
     let texts = match read_in_order(alloc, shelf, &reads) {
         Ok(texts) => texts,

@@ -1,8 +1,7 @@
-use Rattle.std.proofs.Common.{◌≡◌, ◌∙◌, List, ap, sym, refl, map, Ok}
+use Rattle.std.proofs.Common.{◌∙◌, ap, sym}
 use Rattle.netlist.proofs.Lists.{map_map}
 use Rattle.words.specs.CommandLine.{hold_of}
 use Rattle.words.specs.HoldLists.{Hold}
-use Rattle.words.specs.declared.holds.Held.{Held}
 use Rattle.atpg_top.specs.inner.Held.{names_held}
 use Rattle.atpg_top.proofs.held_in.Goals as goal
 

@@ -1,4 +1,4 @@
-use Rattle.std.proofs.Common.{inl, refl}
+use Rattle.std.proofs.Common.{inl, refl, sym}
 use Rattle.atpg_top.proofs.perform.Goals as goal
 
 pub returns-in-Scan : goal.returns-in-Scan
@@ -11,7 +11,7 @@ pub returns-in-Play : goal.returns-in-Play
 returns-in-Play g c = rw c.in-Play.is c.play_test.ensures
 
 pub returns-in-Run : goal.returns-in-Run
-returns-in-Run g c = rw c.in-Run.is (inl ((refl, refl), (refl, refl)))
+returns-in-Run g c = rw (c.in-Run.is, sym c.as_slice.ensures.value) c.run_netlist.ensures
 
 pub returns-in-Check : goal.returns-in-Check
 returns-in-Check g c = rw c.in-Check.is (inl ((refl, refl), (refl, refl)))

@@ -1,9 +1,11 @@
-use Rattle.std.proofs.Common.{◌≡◌, Ok, subst}
+use Rattle.std.proofs.Common.{◌≡◌, ◌∙◌, List, Ok, ap, subst, sym}
 use Rattle.std.specs.Prelude.{Result, IfOk, map}
 use Rattle.std.specs.String.{string_bytes}
 use Rattle.words.specs.CommandLine.{command_line, line_of}
 use Rattle.words.specs.declared.WordsRefusal.{WordsRefusal}
 use Rattle.words.specs.declared.requests.Request.{Request}
+use Rattle.commands.specs.World.{Text}
+use Rattle.atpg_top.specs.Rows.{ErrRow, held_names}
 use Rattle.atpg_top.specs.declared.status.Status.TheVariants.{Command}
 use Rattle.atpg_top.proofs.Endings.{row_of}
 use Rattle.atpg_top.proofs.top.Goals as goal
@@ -15,5 +17,6 @@ returns-in-Ok g c =
       Command c.perform-ending.result,
       c.end.ensures.code,
       row_of words (line_of c.in-Ok.request) _ _ c.perform-ending.result taken c.perform-ending.ensures,
-      c.end.ensures.told,
+      subst (λ (names : List Text). ErrRow g.E.Sink.takes_memory names (Command c.perform-ending.result) (g.E.Sink.taken c.args.err.now) (g.E.Sink.failures c.args.err.now) (g.E.Sink.taken c.end.new.err)
+          (g.E.Sink.failures c.end.new.err)) (c.held_in.ensures ∙ ap held_names (sym taken)) c.end.ensures.told,
     )

@@ -1,8 +1,7 @@
 -- The steps of `run`.
-use Rattle.std.specs.Prelude.{ℕ, ◌≡◌, ◌<◌, ⊤, List, Option, Some, None, Result, Ok, Err, length}
+use Rattle.std.specs.Prelude.{ℕ, ◌≡◌, List, Option, Some, None}
 use Rattle.netlist.specs.Netlist.{Netlist}
-use Rattle.netlist.specs.Designs.{IsDesign}
-use Rattle.netlist.specs.Holds.{Holds, AreHoldsOf}
+use Rattle.netlist.specs.Holds.{Holds}
 use Rattle.words.specs.HoldLists.{Hold}
 use Rattle.words.specs.declared.requests.RunOptions.{RunOptions}
 use Rattle.commands.specs.World.{Text}

@@ -1,4 +1,4 @@
-use Rattle.std.proofs.Common.{◌≡◌, ◌∙◌, ℕ, ◌+◌, ◌<◌, ◌≤◌, List, Option, Some, None, length, map, take, get_or, set, sym, subst, ap, arith, length-set}
+use Rattle.std.proofs.Common.{◌∙◌, ◌+◌, List, Some, None, length, map, take, get_or, sym, subst, ap, arith, length-set}
 use Rattle.std.proofs.lemmas.List.{length-map, take_all}
 use Rattle.std.proofs.lemmas.Option.{slice_get_within}
 use Rattle.netlist.specs.Netlist.{Netlist}

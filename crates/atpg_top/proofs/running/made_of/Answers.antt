@@ -1,5 +1,4 @@
-use Rattle.std.proofs.Common.{◌≡◌}
 use Rattle.atpg_top.proofs.running.made_of.Goals as goal
 
 pub returns : goal.returns
-returns c = ?
+returns g c = c.test_files.ensures

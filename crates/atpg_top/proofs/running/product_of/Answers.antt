@@ -1,4 +1,4 @@
-use Rattle.std.proofs.Common.{◌≡◌, ◌∙◌, refl}
+use Rattle.std.proofs.Common.{refl}
 use Rattle.atpg_top.proofs.running.product_of.Goals as goal
 
 pub returns : goal.returns
