@@ -91,10 +91,9 @@ def line_refusal(tokens, defined, is_design):
 def read(text, is_design=True):
     """The netlist that a text stands for, or its refusal."""
     inputs, outputs, definitions, defined, reads = [], [], [], {}, []
-    lines = text.split(b"\n")
-    for number, line in enumerate(lines, 1):
+    for number, line in enumerate(text.split(b"\n"), 1):
         tokens = tokens_of(line)
-        if tokens == [] and (number < len(lines) or True):
+        if tokens == []:
             continue
         refusal = line_refusal(tokens, defined, is_design)
         if refusal is not None:
