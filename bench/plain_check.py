@@ -16,6 +16,7 @@ import re
 import sys
 
 import plain_design as plain
+from plain_stil import is_stil
 
 ENDS = ("net", "scan", "stil", "cert", "rep")
 COUNTS = ("inputs outputs gates cells chains faults classes patterns cycles limit detected redundant aborted untested").split()
@@ -158,105 +159,6 @@ def patterns_of(tokens, netlist, chains, held):
         return None
     ours = plain.stil_text(netlist, chains, held, plain.items_of(netlist, chains, patterns))
     return patterns if plain.stil_tokens(ours) == tokens else None
-
-
-def is_stil(tokens):
-    """Whether the tokens are those of some file of the profile: taken apart by pieces of the written text."""
-    return tokens is not None and StilGrammar(tokens).fits()
-
-
-class StilGrammar:
-    """A value is looked for, written, and its tokens compared."""
-
-    def __init__(self, tokens):
-        self.tokens = [token.decode("latin-1") for token in tokens]
-
-    def names_until(self, place, end):
-        names = []
-        while place < len(self.tokens) and self.tokens[place] != end:
-            names.append(self.tokens[place])
-            place += 1
-        return names
-
-    def fits(self):
-        try:
-            return self.written() == self.tokens
-        except (ValueError, IndexError):
-            return False
-
-    def written(self):
-        """The tokens of the file that these seem to stand for."""
-        t = self.tokens
-        group = lambda name: re.fullmatch(r"'(\"[^\"]*\"(?: \+ \"[^\"]*\")*)'", t[t.index(f'"SC__{name}"', t.index("SignalGroups")) + 2])[1].split(" + ")
-        try:
-            pi, po = group("pi"), group("po")
-        except TypeError:
-            raise ValueError from None
-        chains = []
-        place = t.index("ScanStructures") if "ScanStructures" in t else len(t)
-        for k in range(place, len(t)):
-            if t[k] == "ScanCells":
-                chains.append(self.names_until(k + 1, ";"))
-        names = pi + po + [f'"SC__si{c}"' for c in range(len(chains))] + [f'"SC__so{c}"' for c in range(len(chains))] + ['"SC__ck"'] * bool(chains)
-        if len(set(names)) != len(names) or not all(re.fullmatch(r'"[!-~]{1,261}"', name) and not set(name[1:-1]) & set("\"'") for name in names):
-            raise ValueError
-        if not pi or not po or any(not chain or not all(re.fullmatch(r'"[!-~]{1,261}"', cell) and "'" not in cell for cell in chain) for chain in chains):
-            raise ValueError
-        return self.head(pi, po, chains) + self.items(pi, po, chains) + ["}"]
-
-    def head(self, pi, po, chains):
-        """The tokens up to the first item, from the plain writer, with the shift word of the file."""
-        fake = plain.Netlist([name[1:-1] for name in (pi[:-1] if chains else pi)], [], [])
-        fake.outputs = [name[1:-1] for name in po]
-        text = plain.stil_text(fake, [[cell[1:-1] for cell in chain] for chain in chains], {}, [])
-        tokens = [token.decode("latin-1") for token in plain.stil_tokens(text)]
-        if chains:
-            self.replace_last_input(tokens, pi)
-            t = self.tokens
-            word = t[t.index('"SC__pi"', t.index("Procedures")) + 2]
-            if not re.fullmatch(r"[01]+", word) or len(word) != len(pi):
-                raise ValueError
-            tokens[tokens.index('"SC__pi"', tokens.index("Procedures")) + 2] = word
-        return tokens[:-1]
-
-    def replace_last_input(self, tokens, pi):
-        """The plain writer puts SC__se last of the inputs; a file may have any name there."""
-        first = tokens.index('"SC__se"')
-        tokens[first] = pi[-1]
-        place = tokens.index("SignalGroups")
-        for k in range(place, len(tokens)):
-            if tokens[k].startswith("'") and '"SC__se"' in tokens[k] and tokens[k - 2] == '"SC__pi"':
-                tokens[k] = "'" + " + ".join(pi) + "'"
-
-    def items(self, pi, po, chains):
-        """The items' tokens, word by word as the file has them where they have the right letters and lengths."""
-        t, made = self.tokens, []
-        place = len(t) - 1 if "Pattern" not in t else t.index("Pattern") + 6
-        count = range(len(chains))
-        while place < len(t) - 1:
-            is_call = t[place] == "Call"
-            start = place
-            while t[place] != "}":
-                place += 1
-            words = {t[k - 1]: t[k + 1] for k in range(start, place) if t[k] == "="}
-            if is_call:
-                size = len(words['"SC__si0"'] if chains else "")
-                shape = [(f'"SC__si{c}"', "01", size) for c in count] + [(f'"SC__so{c}"', "HLX", size) for c in count]
-                made += ["Call", '"load_unload"', "{"]
-                if not chains or size == 0:
-                    raise ValueError
-            else:
-                shape = [('"SC__pi"', "01", len(pi))] + [(f'"SC__si{c}"', "01", 1) for c in count] + [('"SC__ck"', "0P", 1)] * bool(chains)
-                shape += [('"SC__po"', "HLX", len(po))] + [(f'"SC__so{c}"', "HLX", 1) for c in count]
-                made += ["V", "{"]
-            for name, letters, size in shape:
-                word = words.get(name, "")
-                if len(word) != size or not set(word) <= set(letters):
-                    raise ValueError
-                made += [name, "=", word, ";"]
-            made.append("}")
-            place += 1
-        return made
 
 
 # Trees, by labels.
@@ -421,8 +323,7 @@ def check(files):
         netlist = plain.read(files["net"])
     except plain.Refusal as refusal:
         return 3, str(refusal)
-    tokens = plain.stil_tokens(files["stil"])
-    if not is_stil(tokens):
+    if not is_stil(files["stil"]):
         return 4, "not a stil file"
     faults = plain.universe(netlist)
     try:
@@ -433,10 +334,10 @@ def check(files):
         head, held, said = read_report(files["rep"])
     except NotText:
         return 4, "not a report"
-    return clauses(files, netlist, tokens, trees, head, held, said)
+    return clauses(files, netlist, trees, head, held, said)
 
 
-def clauses(files, netlist, tokens, trees, head, held, said):
+def clauses(files, netlist, trees, head, held, said):
     asked = head["chains"]
     if (asked == 0 and netlist.cells) or asked >= 2 ** 32:
         return 1, "scan differs"
@@ -446,7 +347,7 @@ def clauses(files, netlist, tokens, trees, head, held, said):
     if not are_holds(netlist, held):
         return 1, "hold differs"
     held = dict(held)
-    patterns = patterns_of(tokens, netlist, chains, held)
+    patterns = patterns_of(plain.stil_tokens(files["stil"]), netlist, chains, held)
     if patterns is None:
         return 1, "stil differs"
     situation = Situation(netlist, chains, held, patterns)
