@@ -1,0 +1,162 @@
+// A plain test generator in C++, to time `atpg run` with one worker beside: the search of search_peer.cpp and the simulation of
+// fault_sim_peer.cpp in the loop of `run`. Each class that is still open is searched; 64 cubes are merged, filled and simulated, and what they
+// detect is dropped; at last the patterns are simulated from the last to the first, and those that are no class's last detector go.
+// It writes no files and keeps no evidence.
+//   clang++ -O2 -std=c++20 -o run_peer run_peer.cpp && ./run_peer NETLIST [LIMIT]
+#include <algorithm>
+#include <cctype>
+#include <chrono>
+#include <cstdint>
+#include <cstdio>
+#include <cstdlib>
+#include <cstring>
+#include <ctime>
+#include <fstream>
+#include <numeric>
+#include <sstream>
+#include <string>
+#include <unordered_map>
+#include <vector>
+
+// Each of the two is a program: here they are parts, their main functions unused.
+#define main unused_main
+namespace searching {
+#include "search_peer.cpp"
+}
+namespace simulating {
+#include "fault_sim_peer.cpp"
+}
+#undef main
+
+using searching::Tri;
+using simulating::Id;
+using simulating::Word;
+
+constexpr size_t batch_size = 64;
+
+// A bit or X for each input, then for each cell.
+using Cube = std::vector<Tri>;
+
+enum class Verdict { Open, Detected, Redundant, Aborted };
+
+struct Generator {
+    searching::Netlist searched;
+    simulating::Netlist simulated;
+    searching::Measures measures;
+    searching::Sim sim;
+    searching::Counts counts;
+    simulating::Events events;
+    simulating::Points points;
+    simulating::Pcg32 random{1, 0};
+    std::vector<searching::Fault> searched_faults;
+    std::vector<simulating::Fault> simulated_faults;
+    std::vector<Verdict> verdicts;
+    std::vector<Cube> cubes, patterns;
+    std::vector<Id> sources;
+
+    explicit Generator(const char* path)
+        : searched(searching::read(path)), simulated(simulating::read_netlist(path)), measures(searched), sim(searched), events(simulated),
+          points(simulated), searched_faults(searching::representatives(searched)), simulated_faults(simulating::representatives(simulated)),
+          verdicts(searched_faults.size(), Verdict::Open) {
+        if (searched_faults.size() != simulated_faults.size()) std::abort();
+        for (Id x = 0; x < simulated.inputs; x++) sources.push_back(x);
+        sources.insert(sources.end(), simulated.cells.begin(), simulated.cells.end());
+    }
+
+    void search(size_t place, searching::u64 limit) {
+        sim.aim(searched_faults[place]);
+        searching::Search search{searched, measures, sim, counts, {}};
+        int end = search.run(limit);
+        if (end != 0) {
+            verdicts[place] = end == 1 ? Verdict::Redundant : Verdict::Aborted;
+            return;
+        }
+        Cube cube;
+        for (Id x : sources) cube.push_back(static_cast<Tri>(sim.decided[x]));
+        cubes.push_back(cube);
+    }
+
+    static bool contradicts(const Cube& one, const Cube& other) {
+        for (size_t k = 0; k < one.size(); k++)
+            if (one[k] != searching::X && other[k] != searching::X && one[k] != other[k]) return true;
+        return false;
+    }
+
+    // Each cube joins the first that it doesn't contradict.
+    std::vector<Cube> merged() const {
+        std::vector<Cube> results;
+        for (const Cube& cube : cubes) {
+            auto into = std::find_if(results.begin(), results.end(), [&](const Cube& other) { return !contradicts(cube, other); });
+            if (into == results.end()) {
+                results.push_back(cube);
+                continue;
+            }
+            for (size_t k = 0; k < cube.size(); k++)
+                if (cube[k] != searching::X) (*into)[k] = cube[k];
+        }
+        return results;
+    }
+
+    void settle(const Cube* first, size_t count) {
+        for (size_t k = 0; k < sources.size(); k++) {
+            Word word = 0;
+            for (size_t j = 0; j < count; j++) word |= Word{first[j][k] == searching::One} << j;
+            if (count < batch_size && count > 0) word |= first[count - 1][k] == searching::One ? ~Word{0} << count : 0;
+            events.values[sources[k]] = word;
+        }
+        events.settle();
+    }
+
+    void publish() {
+        if (cubes.empty()) return;
+        std::vector<Cube> filled = merged();
+        for (Cube& cube : filled)
+            for (Tri& bit : cube)
+                if (bit == searching::X) bit = random.next() & 1 ? searching::One : searching::Zero;
+        settle(filled.data(), filled.size());
+        std::vector<simulating::Hit> hits;
+        for (size_t k = 0; k < verdicts.size(); k++)
+            if ((verdicts[k] == Verdict::Open || verdicts[k] == Verdict::Aborted) && simulating::detect(events, points, simulated_faults[k], k, hits))
+                verdicts[k] = Verdict::Detected;
+        patterns.insert(patterns.end(), filled.begin(), filled.end());
+        cubes.clear();
+    }
+
+    // How many patterns are the last to detect some class.
+    size_t kept() {
+        std::vector<size_t> left;
+        for (size_t k = 0; k < verdicts.size(); k++)
+            if (verdicts[k] == Verdict::Detected) left.push_back(k);
+        std::vector<bool> keeps(patterns.size() + batch_size, false);
+        for (size_t end = patterns.size(); end > 0;) {
+            size_t begin = end > batch_size ? end - batch_size : 0;
+            settle(&patterns[begin], end - begin);
+            std::vector<simulating::Hit> hits;
+            std::vector<size_t> later;
+            for (size_t k : left)
+                if (simulating::detect(events, points, simulated_faults[k], k, hits)) keeps[std::min(begin + hits.back().pattern, end - 1)] = true;
+                else later.push_back(k);
+            left.swap(later);
+            end = begin;
+        }
+        return std::count(keeps.begin(), keeps.end(), true);
+    }
+
+    size_t count(Verdict verdict) const { return std::count(verdicts.begin(), verdicts.end(), verdict); }
+};
+
+int main(int count, char** words) {
+    if (count < 2) return 2;
+    auto limit = static_cast<searching::u64>(count > 2 ? std::atoi(words[2]) : 100);
+    Generator generator(words[1]);
+    for (size_t k = 0; k < generator.verdicts.size(); k++) {
+        if (generator.verdicts[k] != Verdict::Open) continue;
+        generator.search(k, limit);
+        if (generator.cubes.size() == batch_size) generator.publish();
+    }
+    generator.publish();
+    size_t kept = generator.kept();
+    std::printf("classes %zu detected %zu redundant %zu aborted %zu open %zu patterns %zu of %zu\n", generator.verdicts.size(),
+                generator.count(Verdict::Detected), generator.count(Verdict::Redundant), generator.count(Verdict::Aborted),
+                generator.count(Verdict::Open), kept, generator.patterns.size());
+}
