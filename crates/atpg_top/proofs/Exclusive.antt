@@ -21,7 +21,7 @@ use Rattle.stil_vectors.specs.FileVectors.{vectors_in}
 use Rattle.stil_vectors.specs.Fitting.{Fits}
 use Rattle.stil_write.specs.StilFiles.{StilFile}
 use Rattle.commands.specs.World.{Text}
-use Rattle.commands.specs.Due.{Deliver}
+use Rattle.commands.specs.Due.{Deliver, Refuse}
 use Rattle.commands.specs.Laws.{IsExclusive}
 use Rattle.commands.specs.declared.ending.Finding.TheVariants.{Fine}
 use Rattle.words.specs.CommandLine.{CommandLine, check, faults, play, run, scan, sweep}
@@ -36,7 +36,7 @@ use Rattle.atpg_top.specs.Plays.{finding_of, played_line}
 use Rattle.atpg_top.specs.Scans.{IsScanProduct}
 use Rattle.atpg_top.specs.Steps.{named_fault, named_holds, netlist, test, value}
 use Rattle.atpg_top.specs.inner.Trials.{answer_due, fault_due, file_due, trial_due}
-use Rattle.atpg_top.specs.declared.refusal.Refusal.TheVariants.{NotStil, StilDoesNotFit}
+use Rattle.atpg_top.specs.declared.refusal.Refusal.TheVariants.{NotBuilt, NotStil, StilDoesNotFit}
 use Rattle.atpg_top.proofs.PlayLemmas.{known_is_not_x}
 use Rattle.atpg_top.proofs.Single.{IsOneKind, fault_single, given, netlist_single, test_single, then_one, then_one_where, value_single}
 
@@ -127,5 +127,5 @@ each_exclusive one (scan net to chains) = scan_exclusive chains
 each_exclusive one (faults net) = faults_exclusive
 each_exclusive one (play net stil fault) = play_exclusive one fault
 each_exclusive one (run net prefix options holds) = run_exclusive options holds
-each_exclusive one (check prefix) = λ texts c d p q. absurd p
-each_exclusive one (sweep seed gates) = λ texts c d p q. absurd p
+each_exclusive one (check prefix) = λ texts c d p q. given c d (Refuse NotBuilt) (Refuse NotBuilt) p q refl
+each_exclusive one (sweep seed gates) = λ texts c d p q. given c d (Refuse NotBuilt) (Refuse NotBuilt) p q refl

@@ -8,7 +8,7 @@ use Rattle.stil_vectors.specs.Fitting.{Fits}
 use Rattle.scan_play.specs.declared.played.Played.{Played}
 use Rattle.words.specs.CommandLine.{CommandLine, check, faults, play, run, scan, sweep}
 use Rattle.commands.specs.World.{Text}
-use Rattle.commands.specs.Due.{Due, Deliver}
+use Rattle.commands.specs.Due.{Due, Deliver, Refuse}
 use Rattle.commands.specs.declared.ending.Finding.TheVariants.{Fine}
 use Rattle.words.specs.HoldLists.{Hold}
 use Rattle.words.specs.declared.requests.RunOptions.{RunOptions}
@@ -20,7 +20,7 @@ use Rattle.atpg_top.specs.Scans.{IsScanProduct}
 use Rattle.atpg_top.specs.FaultLists.{IsFaultList}
 use Rattle.atpg_top.specs.Plays.{IsPlay, finding_of, played_line}
 use Rattle.atpg_top.specs.declared.refusal.Refusal.{Refusal}
-use Rattle.atpg_top.specs.declared.refusal.Refusal.TheVariants.{NotStil, StilDoesNotFit}
+use Rattle.atpg_top.specs.declared.refusal.Refusal.TheVariants.{NotBuilt, NotStil, StilDoesNotFit}
 
 -- the names of a run's files, in the order in which they are written and read
 abbrev pub run_files : Text → List Text
@@ -32,7 +32,7 @@ reads (scan net to chains) = net ∷ []
 reads (faults net) = net ∷ []
 reads (run net prefix options holds) = net ∷ []
 reads (play net stil fault) = net ∷ stil ∷ []
-reads (check prefix) = run_files prefix
+reads (check prefix) = []
 reads (sweep seed gates) = []
 
 -- the names of the files that it writes, in order
@@ -67,10 +67,15 @@ run_due options named (bytes ∷ []) =
     (made : TestFiles) × IsRun n holds options.chains options.limit made × (d ≡ Deliver (texts_made made) (run_line made.said) Fine)
 run_due options named texts = λ d. ⊥
 
+-- a command that this program doesn't do yet is refused
+abbrev pub not_built : List Text → Due Refusal → Type 0
+not_built texts d = d ≡ Refuse NotBuilt
+
 -- what is due of the texts that a command line has read
 abbrev pub due : CommandLine → List Text → Due Refusal → Type 0
 due (scan net to chains) = scan_due chains
 due (faults net) = faults_due
 due (play net stil fault) = play_due fault
 due (run net prefix options holds) = run_due options holds
-due _ = λ texts d. ⊥
+due (check prefix) = not_built
+due (sweep seed gates) = not_built

@@ -85,9 +85,8 @@ fn perform<'a, R: Threads + Wait + Sync, S: Shelf, T: Sink, G: Gate + Sync>(
             *options,
             holds.as_slice(),
         ),
-        // their entries come
-        Request::Check { .. } => Ending::Memory,
-        Request::Sweep { .. } => Ending::Memory,
+        Request::Check { .. } => Ending::Refused(Refusal::NotBuilt),
+        Request::Sweep { .. } => Ending::Refused(Refusal::NotBuilt),
     }
 }
 

@@ -16,4 +16,6 @@ pub enum Refusal {
     NotReport,
     /// The STIL file's signals are not those of the netlist.
     StilDoesNotFit,
+    /// The command is known, but this program doesn't do it yet.
+    NotBuilt,
 }

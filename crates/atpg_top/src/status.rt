@@ -27,6 +27,7 @@ fn refusal_code(refusal: &Refusal) -> u8
         Refusal::NotCertificate => 4,
         Refusal::NotReport => 4,
         Refusal::StilDoesNotFit => 4,
+        Refusal::NotBuilt => 2,
     }
 }
 

@@ -1,4 +1,5 @@
-use Rattle.std.proofs.Common.{inl, refl, sym}
+use Rattle.std.proofs.Common.{[], refl, sym}
+use Rattle.commands.proofs.CommandLemmas.{nothing_read}
 use Rattle.atpg_top.proofs.perform.Goals as goal
 
 pub returns-in-Scan : goal.returns-in-Scan
@@ -14,7 +15,7 @@ pub returns-in-Run : goal.returns-in-Run
 returns-in-Run g c = rw (c.in-Run.is, sym c.as_slice.ensures.value) c.run_netlist.ensures
 
 pub returns-in-Check : goal.returns-in-Check
-returns-in-Check g c = rw c.in-Check.is (inl ((refl, refl), (refl, refl)))
+returns-in-Check g c = rw c.in-Check.is (([], nothing_read (g.S.Shelf.files c.args.shelf.now), refl), ((refl, refl), (refl, refl)))
 
 pub returns-in-Sweep : goal.returns-in-Sweep
-returns-in-Sweep g c = rw c.in-Sweep.is (inl ((refl, refl), (refl, refl)))
+returns-in-Sweep g c = rw c.in-Sweep.is (([], nothing_read (g.S.Shelf.files c.args.shelf.now), refl), ((refl, refl), (refl, refl)))
