@@ -1,16 +1,16 @@
 -- What good files say comes true.
-use Rattle.std.proofs.Common.{◌≡◌, ◌≢◌, ℕ, ◌<◌, ◌≤◌, ◌+◌, ◌⊎◌, inl, inr, Bool, false, List, [], ◌∷◌, length, map, get_or, Option, Some, None, option_map, refl, sym, ◌∙◌, ap, subst, arith}
-use Rattle.std.specs.List.{All, AllZip, Contains, zip, slice_get}
+use Rattle.std.proofs.Common.{◌≡◌, ℕ, ◌+◌, inl, inr, Bool, false, List, [], ◌∷◌, length, map, get_or, Some, option_map, refl, sym, ◌∙◌, ap, subst, arith}
+use Rattle.std.specs.List.{All, Contains, zip, slice_get}
 use Rattle.std.proofs.lemmas.Option.{get_or_from_slice_get, slice_get-get_or, slice_get-map, slice_get_within}
 use Rattle.std.proofs.lemmas.List.{ext_get_or, length-map}
 use Rattle.std.proofs.lemmas.List.Sums.{sum_by-cons}
 use Rattle.netlist.proofs.Lists.{All-from_contains, contains_head, contains_tail}
 use Rattle.netlist.specs.declared.lines.Fault.{Fault}
 use Rattle.netlist.specs.declared.lines.Point.{Point}
-use Rattle.netlist.specs.Netlist.{Netlist, cells}
+use Rattle.netlist.specs.Netlist.{Netlist}
 use Rattle.netlist.specs.Conditions.{IsSound}
 use Rattle.netlist.specs.Designs.{IsDesign}
-use Rattle.netlist.specs.Lines.{IsLineOf, IsFaultOf}
+use Rattle.netlist.specs.Lines.{IsLineOf}
 use Rattle.netlist.specs.Holds.{Holds, AreHoldsOf}
 use Rattle.netlist.specs.Detection.{Detects, IsRedundant}
 use Rattle.cubes.specs.Cubes.{Pattern}
@@ -38,7 +38,7 @@ use Rattle.word_sim.specs.Hits.{IsNeverDetected}
 use Rattle.report.specs.declared.outcomes.Outcome.{Outcome}
 use Rattle.report.specs.declared.outcomes.Outcome.TheVariants.{Detected, Redundant, Aborted}
 use Rattle.report.specs.Reports.{Line}
-use Rattle.run_report.specs.Outcomes.{Test, IsFirstTree, IsTrueOf, IsTrueAt, AreTrueLines}
+use Rattle.run_report.specs.Outcomes.{Test, IsFirstTree, IsTrueOf, AreTrueLines}
 use Rattle.run_report.specs.Heads.{count_of, detected_one, redundant_one, aborted_one}
 use Rattle.good_files.specs.GoodFiles.{AreGoodFiles, Files, test_of}
 use Rattle.good_files.specs.RunTheorem.{ComesTrue, RunTheorem}

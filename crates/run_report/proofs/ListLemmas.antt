@@ -1,6 +1,6 @@
 -- Lists one element more.
-use Rattle.std.proofs.Common.{◌≡◌, ℕ, zero, suc, ◌+◌, ◌-◌, ◌*◌, ◌<◌, ◌≤◌, min, List, ◌∷◌, [], ◌++◌, length, map, take, get_or, Some, refl, sym, ◌∙◌, ap, ap₂, arith, add-one, take_all, length-append}
-use Rattle.std.specs.List.{flat_map, slice_get, sum_by, zip}
+use Rattle.std.proofs.Common.{◌≡◌, ℕ, zero, suc, ◌+◌, ◌-◌, ◌*◌, ◌<◌, ◌≤◌, List, ◌∷◌, [], ◌++◌, length, map, take, Some, refl, sym, ◌∙◌, ap, ap₂, arith, add-one, take_all, length-append}
+use Rattle.std.specs.List.{flat_map, slice_get, zip}
 use Rattle.std.proofs.lemmas.List.{flat_map_more}
 use Rattle.std.proofs.lemmas.List.Filters.{length-filter_both}
 use Rattle.std.proofs.lemmas.Slice.Zip.{length-zip}

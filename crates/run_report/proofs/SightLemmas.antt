@@ -1,13 +1,13 @@
 -- Points are strobed at outputs of the scanned netlist.
-use Rattle.std.proofs.Common.{◌≡◌, ℕ, ◌+◌, ◌<◌, List, [], ◌∷◌, length, map, get_or, Option, option_map, Some, sym, ◌∙◌, ap, subst, arith, length-append}
-use Rattle.std.specs.List.{slice_get, zip}
+use Rattle.std.proofs.Common.{◌≡◌, ℕ, ◌+◌, ◌<◌, List, [], ◌∷◌, length, map, get_or, option_map, Some, sym, ◌∙◌, ap, arith, length-append}
+use Rattle.std.specs.List.{slice_get}
 use Rattle.std.proofs.lemmas.List.{length-map}
 use Rattle.std.proofs.lemmas.Option.{slice_get-map, slice_get_within, slice_get-get_or}
 use Rattle.netlist.specs.declared.lines.Point.{Point}
 use Rattle.netlist.specs.declared.lines.Point.TheVariants.{Output, Cell}
 use Rattle.netlist.specs.Netlist.{Netlist}
 use Rattle.netlist.specs.Conditions.{IsSound}
-use Rattle.scan_insert.specs.Names.{numbers_from, output_name, pin_name_of}
+use Rattle.scan_insert.specs.Names.{output_name, pin_name_of}
 use Rattle.scan_insert.specs.Scanned.{AreChainsOf, naming_of, scanned_of}
 use Rattle.scan_insert.proofs.Concrete.{are_dealt, outs_length}
 use Rattle.scan_play.specs.Vectors.{IsStrobedAt}

@@ -1,5 +1,5 @@
 -- Names of pins are words of a report.
-use Rattle.std.proofs.Common.{◌≡◌, ℕ, ◌<◌, true, false, Bool, cond, List, [], ◌∷◌, ◌++◌, length, map, codes, refl, sym, ap, subst, arith, IsTrue, length-append, ◌==◌}
+use Rattle.std.proofs.Common.{◌≡◌, ℕ, ◌<◌, true, false, Bool, cond, List, [], ◌∷◌, ◌++◌, length, map, codes, refl, sym, subst, arith, IsTrue, length-append, ◌==◌}
 use Rattle.std.specs.List.{All, Contains, list_any}
 use Rattle.std.proofs.lemmas.List.Elements.{All-nil, All-cons, All-contains, All-get_or, All-head, All-tail}
 use Rattle.netlist.specs.Netlist.{Netlist, name_of, signals}

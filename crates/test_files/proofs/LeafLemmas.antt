@@ -1,5 +1,5 @@
 -- One tree more.
-use Rattle.std.proofs.Common.{◌≡◌, ℕ, zero, suc, ◌+◌, ◌<◌, ◌≤◌, List, [], ◌∷◌, ◌++◌, length, take, get_or, refl, sym, ◌∙◌, ap, arith, append_assoc, append-nil, add-one}
+use Rattle.std.proofs.Common.{◌≡◌, ℕ, ◌<◌, List, [], ◌∷◌, ◌++◌, length, get_or, refl, sym, ◌∙◌, ap, arith, append_assoc, append-nil}
 use Rattle.netlist.specs.declared.lines.Fault.{Fault}
 use Rattle.redundancy_cert.specs.declared.nodes.Node.{Node}
 use Rattle.list_core.specs.declared.verdicts.Verdict.{Verdict}

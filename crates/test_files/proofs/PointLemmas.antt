@@ -1,13 +1,11 @@
 -- What is detected is seen at points of the netlist, and its faults and trees are named by signals of it.
-use Rattle.std.proofs.Common.{◌≡◌, ◌≢◌, ℕ, zero, suc, ◌+◌, ◌*◌, ◌<◌, ◌≤◌, ◌⊎◌, inl, inr, Bool, true, false, List, [], ◌∷◌, ◌++◌, length, map, get_or, Some, None, refl, sym, ◌∙◌, ap, subst, arith, length-append}
-use Rattle.std.specs.Prelude.{⊤}
-use Rattle.std.specs.List.{All, Contains, flat_map, slice_get}
+use Rattle.std.proofs.Common.{◌≡◌, ℕ, zero, suc, ◌<◌, inl, inr, Bool, true, false, List, [], ◌∷◌, ◌++◌, length, map, get_or, Some, None, refl, sym, ◌∙◌, ap, subst, arith, length-append}
+use Rattle.std.specs.List.{All, flat_map, slice_get}
 use Rattle.std.proofs.lemmas.Bool.{cases_lt}
 use Rattle.std.proofs.lemmas.List.{length-map}
 use Rattle.std.proofs.lemmas.List.Elements.{All-nil, All-cons, All-from_get_or, All-head, All-tail}
 use Rattle.std.proofs.lemmas.Option.{slice_get_past, slice_get-get_or, slice_get_within}
 use Rattle.netlist.proofs.Lists.{All-from_contains, all_left, all_right}
-use Rattle.netlist.specs.declared.lines.Line.{Line as LineOf}
 use Rattle.netlist.specs.declared.lines.Line.TheVariants.{Out, Stem}
 use Rattle.netlist.specs.declared.lines.Fault.{Fault}
 use Rattle.netlist.specs.declared.lines.Point.{Point}
@@ -23,7 +21,7 @@ use Rattle.scan_play.proofs.Applied.{length-next}
 use Rattle.bench_text.proofs.WriteLemmas.{signal-below}
 use Rattle.fault_universe.specs.Laws.{FaultsHaveLines, FaultsHaveSignals}
 use Rattle.fault_universe.proofs.Elements.{contains_at}
-use Rattle.fault_universe.specs.Universe.{all_lines, faults_of, lines_of, universe_of}
+use Rattle.fault_universe.specs.Universe.{all_lines, lines_of, universe_of}
 use Rattle.fault_universe.proofs.FaultLists.{length-faults}
 use Rattle.fault_collapse.specs.Classes.{AreClasses}
 use Rattle.fault_collapse.specs.Numbers.{Classes}

@@ -1,8 +1,8 @@
 -- What every report is.
-use Rattle.std.proofs.Common.{◌≡◌, ℕ, ◌+◌, ◌*◌, ◌/◌, ◌<◌, ◌≤◌, Bool, List, [], ◌∷◌, ◌++◌, length, map, Option, Some, None, refl, sym, ◌∙◌, ap, subst, arith, div-le_self}
-use Rattle.std.specs.List.{All, Contains, flat_map, zip}
+use Rattle.std.proofs.Common.{ℕ, ◌*◌, ◌/◌, ◌<◌, ◌≤◌, Bool, List, [], ◌∷◌, ◌++◌, length, map, Option, Some, None, arith, div-le_self}
+use Rattle.std.specs.List.{All, flat_map, zip}
 use Rattle.std.proofs.lemmas.List.Elements.{All-nil, All-cons, All-head, All-tail, Contains-append_left}
-use Rattle.netlist.specs.Netlist.{Definition, Netlist, name_of, signals}
+use Rattle.netlist.specs.Netlist.{Definition, Netlist, name_of}
 use Rattle.netlist.specs.Conditions.{IsSound}
 use Rattle.netlist.specs.Holds.{Holds}
 use Rattle.netlist.proofs.Lists.{All-from_contains}

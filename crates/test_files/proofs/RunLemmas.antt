@@ -1,9 +1,7 @@
 -- The texts of verdicts are good files.
-use Rattle.std.proofs.Common.{◌≡◌, ℕ, ◌<◌, ◌≤◌, Bool, not, true, false, List, [], ◌∷◌, ◌++◌, length, map, Ok, None, refl, sym, ◌∙◌, ap, subst, arith, IsTrue}
-use Rattle.std.specs.List.{All, slice_get}
-use Rattle.std.proofs.lemmas.List.Elements.{All-nil, All-cons, All-head, All-tail, All-weaker}
-use Rattle.netlist.specs.declared.lines.Fault.{Fault}
-use Rattle.netlist.specs.Netlist.{Netlist, name_of, signals}
+use Rattle.std.proofs.Common.{◌≡◌, ℕ, Bool, not, false, List, Ok, refl, sym, ap, subst, IsTrue}
+use Rattle.std.proofs.lemmas.List.Elements.{All-weaker}
+use Rattle.netlist.specs.Netlist.{Netlist}
 use Rattle.netlist.specs.Conditions.{IsSound}
 use Rattle.netlist.specs.Designs.{IsDesign, is_reserved}
 use Rattle.netlist.specs.Holds.{Holds}
@@ -15,16 +13,10 @@ use Rattle.bench_text.specs.Reading.{IsRead}
 use Rattle.stil_read.specs.Laws.{WrittenStands}
 use Rattle.stil_read.specs.Reading.{StandsFor}
 use Rattle.fault_universe.specs.Laws.{TextsDiffer}
-use Rattle.fault_universe.specs.Universe.{universe_of}
-use Rattle.fault_collapse.specs.Classes.{AreClasses}
 use Rattle.fault_collapse.specs.Laws.{DetectedAlike}
 use Rattle.fault_collapse.specs.Numbers.{Classes}
-use Rattle.redundancy_cert.specs.declared.nodes.Node.{Node}
 use Rattle.list_core.specs.declared.verdicts.Verdict.{Verdict}
-use Rattle.report.specs.Reports.{Line, Report}
-use Rattle.run_report.specs.Outcomes.{AreTrueLines}
-use Rattle.run_report.specs.Heads.{HasHead, count_of, counts_of, detected_one, redundant_one, share_of}
-use Rattle.good_files.specs.GoodFiles.{AreGoodFiles, test_of}
+use Rattle.good_files.specs.GoodFiles.{AreGoodFiles}
 use Rattle.good_files.specs.ScanOff.{design_chains}
 use Rattle.test_files.specs.declared.files.TestFiles.{TestFiles}
 use Rattle.test_files.specs.Runs.{files_of}

@@ -1,6 +1,6 @@
 -- The lines and the trees of verdicts are true.
-use Rattle.std.proofs.Common.{◌≡◌, ◌≢◌, ℕ, zero, suc, ◌+◌, ◌<◌, ◌≤◌, ◌⊎◌, inl, inr, false, List, [], ◌∷◌, ◌++◌, length, map, get_or, Some, refl, sym, ◌∙◌, ap, subst, arith}
-use Rattle.std.specs.List.{All, slice_get}
+use Rattle.std.proofs.Common.{◌≡◌, ◌≢◌, ℕ, zero, suc, ◌<◌, inl, inr, false, List, [], ◌∷◌, ◌++◌, length, map, get_or, Some, refl, sym, ◌∙◌, ap, subst, arith}
+use Rattle.std.specs.List.{slice_get}
 use Rattle.std.proofs.lemmas.List.Elements.{All-get_or}
 use Rattle.std.proofs.lemmas.Option.{get_or_from_slice_get, slice_get-get_or, slice_get_within}
 use Rattle.netlist.specs.declared.lines.Line.TheVariants.{Stem}
@@ -9,7 +9,6 @@ use Rattle.netlist.specs.declared.lines.Point.{Point}
 use Rattle.netlist.specs.Netlist.{Netlist}
 use Rattle.netlist.specs.Conditions.{IsSound}
 use Rattle.netlist.specs.Holds.{Holds}
-use Rattle.netlist.specs.Detection.{Detects}
 use Rattle.cubes.specs.Cubes.{Pattern}
 use Rattle.fault_universe.specs.Laws.{TextsDiffer}
 use Rattle.fault_universe.specs.Universe.{universe_of}
@@ -23,9 +22,8 @@ use Rattle.list_core.specs.declared.verdicts.Verdict.{Verdict}
 use Rattle.list_core.specs.declared.verdicts.Verdict.TheVariants.{Open, Detected, Redundant, Aborted}
 use Rattle.list_core.specs.Verdicts.{verdict_at}
 use Rattle.report.specs.declared.outcomes.Outcome.{Outcome}
-use Rattle.report.specs.declared.outcomes.Outcome.TheVariants as outcome
 use Rattle.report.specs.Reports.{Line}
-use Rattle.run_report.specs.Outcomes.{Test, AreTrueLines, AreUndetected, IsFirstTree, IsTrueAt, IsTrueOf}
+use Rattle.run_report.specs.Outcomes.{Test, AreTrueLines, AreUndetected, IsFirstTree, IsTrueOf}
 use Rattle.test_files.specs.inner.Outcomes.{AreLines, IsOutcomeOf}
 use Rattle.test_files.specs.inner.Verdicts.{AreVerdicts, IsVerdict, leaf_at, leaves_of}
 

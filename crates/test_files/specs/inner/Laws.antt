@@ -5,7 +5,6 @@ use Rattle.netlist.specs.Designs.{IsDesign}
 use Rattle.netlist.specs.Netlist.{Netlist}
 use Rattle.netlist.specs.Holds.{Holds, AreHoldsOf}
 use Rattle.cubes.specs.Cubes.{Pattern}
-use Rattle.scan_insert.specs.Scanned.{AreChainsOf}
 use Rattle.fault_collapse.specs.Classes.{AreClasses}
 use Rattle.fault_collapse.specs.Numbers.{Classes}
 use Rattle.list_core.specs.declared.verdicts.Verdict.{Verdict}

@@ -1,5 +1,5 @@
-use Rattle.std.proofs.Common.{◌≡◌, ◌<◌, ℕ, List, length, subst, sym, ◌∙◌, ap, arith, Some}
-use Rattle.std.specs.List.{slice_get, flat_map, zip}
+use Rattle.std.proofs.Common.{◌≡◌, ℕ, List, length, subst, sym, ◌∙◌, ap, arith, Some}
+use Rattle.std.specs.List.{slice_get, flat_map}
 use Rattle.std.proofs.lemmas.Option.{slice_get-get_or}
 use Rattle.run_report.specs.Heads.{hold_at}
 use Rattle.run_report.proofs.ListLemmas.{held_more, all_held}

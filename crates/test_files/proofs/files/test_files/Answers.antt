@@ -1,4 +1,4 @@
-use Rattle.std.proofs.Common.{◌≡◌, ℕ, subst}
+use Rattle.std.proofs.Common.{subst}
 use Rattle.netlist.specs.Conditions.{IsSound}
 use Rattle.netlist.specs.Netlist.{Netlist}
 use Rattle.fault_collapse.specs.Classes.{AreClasses}

@@ -1,4 +1,4 @@
-use Rattle.std.proofs.Common.{◌≡◌, ℕ, List, subst, sym, ◌∙◌, ap}
+use Rattle.std.proofs.Common.{ℕ, List, subst, sym, ◌∙◌, ap}
 use Rattle.std.specs.List.{All}
 use Rattle.netlist.specs.declared.lines.Fault.{Fault}
 use Rattle.netlist.specs.Netlist.{Netlist}

@@ -1,4 +1,4 @@
-use Rattle.std.proofs.Common.{◌≡◌, ◌<◌, ℕ, [], length, refl, sym, ◌∙◌, ap, arith, length-append, rules}
+use Rattle.std.proofs.Common.{◌<◌, length, refl, sym, ◌∙◌, ap, arith, length-append}
 use Rattle.test_files.proofs.LeafLemmas.{leaves_more, leaves_none}
 use Rattle.test_files.proofs.leaves.leaves_within.Goals as goal
 

@@ -1,10 +1,9 @@
-use Rattle.std.proofs.Common.{◌≡◌, ◌<◌, ◌+◌, ℕ, List, length, get_or, Some, subst, sym, ◌∙◌, ap, arith}
-use Rattle.std.specs.List.{Contains, slice_get}
+use Rattle.std.proofs.Common.{◌≡◌, ◌<◌, List, length, get_or, Some, subst, ◌∙◌, ap, arith}
+use Rattle.std.specs.List.{slice_get}
 use Rattle.std.proofs.lemmas.List.Elements.{All-get_or}
 use Rattle.netlist.specs.declared.lines.Fault.{Fault}
 use Rattle.fault_universe.specs.Universe.{universe_of}
 use Rattle.fault_universe.proofs.Elements.{contains_at}
-use Rattle.list_core.specs.declared.verdicts.Verdict.{Verdict}
 use Rattle.test_files.proofs.LineLemmas.{lines_more}
 use Rattle.test_files.proofs.lines.lines_within.Goals as goal
 

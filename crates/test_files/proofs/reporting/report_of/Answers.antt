@@ -1,8 +1,7 @@
-use Rattle.std.proofs.Common.{◌≡◌, ◌+◌, ◌/◌, ◌<◌, ℕ, List, length, subst, sym, ◌∙◌, ap, ap₂, arith}
+use Rattle.std.proofs.Common.{◌+◌, ◌/◌, ◌<◌, List, length, subst, sym, ◌∙◌, ap, ap₂, arith}
 use Rattle.std.specs.List.{All}
 use Rattle.report.specs.Reports.{Hold, IsWord, Report}
 use Rattle.run_report.specs.Heads.{share_of}
-use Rattle.test_files.specs.inner.Reports.{IsReported}
 use Rattle.test_files.proofs.ReportLemmas.{held_words, share_small}
 use Rattle.test_files.proofs.reporting.report_of.Goals as goal
 

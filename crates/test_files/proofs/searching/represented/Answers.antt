@@ -1,4 +1,4 @@
-use Rattle.std.proofs.Common.{◌≡◌, ◌≤◌, ℕ, List, length, subst, arith, false}
+use Rattle.std.proofs.Common.{subst, arith, false}
 use Rattle.netlist.specs.declared.lines.Line.TheVariants.{Stem}
 use Rattle.netlist.specs.Conditions.{IsSound}
 use Rattle.test_files.proofs.PointLemmas.{have_lines}

@@ -1,4 +1,4 @@
-use Rattle.std.proofs.Common.{◌≡◌, ◌<◌, List, ℕ, length, subst, sym, ap, arith}
+use Rattle.std.proofs.Common.{◌<◌, ℕ, length, subst, sym, ap, arith}
 use Rattle.std.proofs.lemmas.Result.{IfOk-weaker}
 use Rattle.netlist.specs.Netlist.{Netlist}
 use Rattle.netlist.specs.Holds.{Holds}

@@ -1,4 +1,4 @@
-use Rattle.std.proofs.Common.{◌≡◌, ◌<◌, ℕ, List, length, ap, ◌∙◌, arith}
+use Rattle.std.proofs.Common.{ℕ, List, length, ap, ◌∙◌, arith}
 use Rattle.chain_stitch.specs.Chains.{chains_of}
 use Rattle.netlist.proofs.Settling.{cells_distinct}
 use Rattle.scan_play.proofs.ApplyLemmas.{few_cells}
