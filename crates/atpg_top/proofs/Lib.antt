@@ -1,4 +1,3 @@
-pub mod ScanOff
 pub mod HoldLemmas
 pub mod Exclusive
 pub mod Cells

@@ -1,29 +1,13 @@
 -- What `scan` makes of a design.
-use Rattle.std.specs.Prelude.{ℕ, ◌≡◌, Bool, false, List, [], ◌∷◌, ◌++◌, length, take, None, codes, decimal}
+use Rattle.std.specs.Prelude.{ℕ, ◌≡◌, List, ◌++◌, length, codes, decimal}
 use Rattle.netlist.specs.Netlist.{Netlist, cells}
-use Rattle.netlist.specs.Settled.{Settles, bits, outs, next}
-use Rattle.chain_stitch.specs.Chains.{chains_of}
-use Rattle.scan_insert.specs.Scanned.{cell_ids, scanned_of}
+use Rattle.scan_insert.specs.Scanned.{scanned_of}
 use Rattle.bench_text.specs.Canonical.{canonical}
-
--- the chains of a design, at most so many as are asked for
-abbrev pub design_chains : Netlist → ℕ → List (List ℕ)
-design_chains n asked = chains_of (cell_ids n) asked
+use Rattle.good_files.specs.ScanOff.{BehavesWithScanOff, design_chains}
 
 -- `cells 3 chains 1`
 abbrev pub scan_line : Netlist → List (List ℕ) → List ℕ
 scan_line n chains = codes "cells " ++ (decimal (length (cells n)) ++ (codes " chains " ++ (decimal (length chains) ++ codes "\n")))
-
--- With scan off the scanned netlist behaves as the original: for every input, state and scan-in value it has the original's outputs at these,
--- and its cells take what the original's cells take. Without chains it is the original.
-abbrev pub BehavesWithScanOff : Netlist → List (List ℕ) → Type 0
-BehavesWithScanOff n [] = scanned_of n [] ≡ n
-BehavesWithScanOff n (chain ∷ chains) =
-    (inputs state scan_inputs : List Bool) (a b : ℕ → Bool)
-    → Settles (bits None) n inputs state a
-    → Settles (bits None) (scanned_of n (chain ∷ chains)) (inputs ++ false ∷ scan_inputs) state b
-    → (take (length n.outputs) (outs (bits None) (scanned_of n (chain ∷ chains)) b) ≡ outs (bits None) n a)
-    × (next (bits None) (scanned_of n (chain ∷ chains)) b ≡ next (bits None) n a)
 
 -- the text that is written and the line that is printed, and that the netlist of the text can be trusted
 pub record IsScanProduct (n : Netlist) (asked : ℕ) (text line : List ℕ) : Type 0 where

@@ -6,7 +6,7 @@ ghost use Rattle.commands.specs.Rows.{CommandRow};
 ghost use Rattle.commands.specs.World.{world};
 ghost use Rattle.commands.specs.declared.ending.Finding.TheVariants.{Fine};
 ghost use Rattle.atpg_top.specs.Commands.{scan_due};
-ghost use Rattle.atpg_top.specs.Scans.{BehavesWithScanOff, IsScanProduct, scan_line};
+ghost use Rattle.atpg_top.specs.Scans.{IsScanProduct, scan_line};
 
 use crate::design::design_of;
 use crate::refusal::Refusal;

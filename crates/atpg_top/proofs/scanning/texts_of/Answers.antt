@@ -2,10 +2,10 @@ use Rattle.std.proofs.Common.{◌≡◌, ℕ, List, ap, ◌∙◌, length, refl,
 use Rattle.bench_text.specs.Canonical.{canonical}
 use Rattle.chain_stitch.specs.Chains.{chains_of}
 use Rattle.scan_insert.specs.Scanned.{Insertion, scanned_of}
-use Rattle.atpg_top.specs.Scans.{design_chains}
+use Rattle.good_files.specs.ScanOff.{design_chains}
 use Rattle.netlist.proofs.Settling.{cells_distinct}
 use Rattle.atpg_top.proofs.Cells.{few_cells, cell_count, line_same}
-use Rattle.atpg_top.proofs.ScanOff.{behaves}
+use Rattle.good_files.proofs.Chains.{behaves}
 use Rattle.atpg_top.proofs.scanning.texts_of.Goals as goal
 
 pub stitch-requires-clause-few : goal.stitch-requires-clause-few
@@ -32,5 +32,5 @@ returns-in-Ok c =
       text_is = c.in_ok-text.ensures ∙ ap canonical (c.netlist.ensures ∙ scanned_is);
       line_is = c.in-Ok.ensures ∙ line_same n (design_chains n c.args.asked) (length c.cells-cells.result.now) c.count-count.result
           (cell_count n c.cells-cells.result.now c.cells-cells.ensures) (c.count-count.ensures ∙ ap length chains_are);
-      behaves = behaves c.scan_behaves.ensures n c.args.asked c.sound.ensures c.requires.some (design_chains n c.args.asked) refl;
+      behaves = behaves c.scan_behaves.ensures n c.args.asked c.sound.ensures (record { asked = c.args.asked; some = c.requires.some; are = refl }) (design_chains n c.args.asked) refl;
     }
