@@ -4,8 +4,8 @@ ghost use Rattle.netlist.specs.Designs.{IsDesign};
 ghost use Rattle.netlist.specs.Holds.{AreHoldsOf};
 ghost use Rattle.scan_insert.specs.Scanned.{AreChainsOf};
 
-use crate::detection::patterns_of as patterns_named;
-use crate::trees::{cut, holds_of};
+use crate::designs::core_of;
+use crate::patterns::{cut, holds_of, patterns_of as patterns_named};
 use case_text::show;
 use chain_stitch::{Chains, stitch};
 use cubes::Pattern;
@@ -14,20 +14,6 @@ use std::alloc::{AllocError, Global};
 use stil_read::{StilFault, read_stil};
 use stil_tests::{are_patterns, patterns_of, stil_of};
 use stil_write::write_stil;
-
-/// A design's core.
-fn core_of(alloc: Global, netlist: &Netlist) -> Result<Core, AllocError>
-    requires { IsDesign netlist.now }
-    ensures { IfOk result IsDesign }
-{
-    let Ok(copy) = netlist.copy(alloc) else {
-        return Err(AllocError);
-    };
-    match Core::of(alloc, copy) {
-        Ok(core) => Ok(core),
-        Err(_) => Err(AllocError),
-    }
-}
 
 /// The cells in so many chains.
 fn chains_of(alloc: Global, core: &Core, asked: u32) -> Result<Chains, AllocError>
