@@ -108,6 +108,50 @@ fn with_other(alloc: Global, text: &[u8], old: &str, new: &str) -> Result<Vec<u8
     Ok(other)
 }
 
+/// Adds the file of patterns and what is read of it, or what is read of it once a word is another.
+fn push_file(
+    to: &mut Vec<u8>,
+    alloc: Global,
+    core: &Core,
+    chains: &Chains,
+    holds: &Holds,
+    patterns: &[Pattern],
+    other: Option<(&str, &str)>,
+) -> Result<(), AllocError>
+    requires design { IsDesign core.now }
+    requires chains { AreChainsOf core.now chains.now }
+    requires holds { AreHoldsOf core.now holds.now }
+{
+    let Some(text) = text_of(alloc, core, chains, holds, patterns)? else {
+        return to.extend_from_slice(b"no patterns that obey\n");
+    };
+    let Some((old, new)) = other else {
+        show(to, &text)?;
+        return push_read(to, alloc, core, chains, holds, &text);
+    };
+    let text = with_other(alloc, &text, old, new)?;
+    push_read(to, alloc, core, chains, holds, &text)
+}
+
+/// Adds the same of the patterns of a text, with so many chains.
+fn push_named(
+    to: &mut Vec<u8>,
+    alloc: Global,
+    core: &Core,
+    holds: &Holds,
+    asked: u32,
+    texts: &str,
+    other: Option<(&str, &str)>,
+) -> Result<(), AllocError>
+    requires some { 0 < asked }
+    requires design { IsDesign core.now }
+    requires holds { AreHoldsOf core.now holds.now }
+{
+    let chains = chains_of(alloc, core, asked)?;
+    let patterns = patterns_named(alloc, core, texts)?;
+    push_file(to, alloc, core, &chains, holds, &patterns, other)
+}
+
 /// `stil CHAINS HELD: PATTERNS`: the file of patterns, and of which patterns its text is read as the file.
 /// `stil-but CHAINS HELD OLD NEW: PATTERNS`: of which patterns the text is read as the file once a word is another where it stands last.
 pub fn push_stil(
@@ -122,18 +166,9 @@ pub fn push_stil(
     let (head, texts) = rest.split_once(": ").unwrap_or((rest, ""));
     let (asked, head) = cut(head);
     let (held, words) = cut(head);
-    let (old, new) = cut(words);
     let core = core_of(alloc, netlist)?;
     let holds = holds_of(alloc, &core, held)?;
-    let chains = chains_of(alloc, &core, asked.parse().unwrap_or(1).max(1))?;
-    let patterns = patterns_named(alloc, &core, texts)?;
-    let Some(text) = text_of(alloc, &core, &chains, &holds, &patterns)? else {
-        return to.extend_from_slice(b"no patterns that obey\n");
-    };
-    if is_whole {
-        show(to, &text)?;
-        return push_read(to, alloc, &core, &chains, &holds, &text);
-    }
-    let other = with_other(alloc, &text, old, new)?;
-    push_read(to, alloc, &core, &chains, &holds, &other)
+    let asked = asked.parse().unwrap_or(1).max(1);
+    let other = if is_whole { None } else { Some(cut(words)) };
+    push_named(to, alloc, &core, &holds, asked, texts, other)
 }
