@@ -1,5 +1,5 @@
 #!/usr/bin/env python3
-"""Works out what the rows of crates/calls and crates/cases have to print, by a plain program apart from the crates, and compares.
+"""Works out what the rows of crates/calls, crates/file_calls and crates/cases have to print, by a plain program apart from the crates, and compares.
 
 A row that this program doesn't know (a refusal, a line of an error output) is worked out by hand; how many there are is printed.
 
@@ -443,28 +443,32 @@ def reported(verb, text, change):
     return ["as given"] if verb == "report-with" else shown(text)
 
 
-def check_calls():
-    texts, rows = texts_and_rows(f"{ROOT}/crates/calls/stdin")
-    stored = answers(f"{ROOT}/crates/calls/stdout", rows)
+def wanted_of(texts, verb, rest, given):
+    """What a row has to print; None where this program doesn't know."""
+    name, _, more = rest.partition(" ")
+    if verb in ("gate", "merge", "fill", "generate", "generate-sum"):
+        return with_no_netlist(verb, rest)
+    if verb in ("report", "report-with"):
+        return reported(verb, texts[name], more)
+    if verb in ("read", "read-scanned"):
+        return None if given[0].startswith("line ") else shown(Netlist(texts[name]).canonical())
+    if verb in ("certificate", "certificate-sum"):
+        return certificate(verb, texts[name], texts[more])
+    return on_netlist(verb, texts[name], more)
+
+
+def check_calls(crate):
+    texts, rows = texts_and_rows(f"{ROOT}/crates/{crate}/stdin")
+    stored = answers(f"{ROOT}/crates/{crate}/stdout", rows)
     wrong, known = int(len(stored) != len(rows)), 0
     for row, given in zip(rows, stored):
         verb, _, rest = row.partition(" ")
-        name, _, more = rest.partition(" ")
         given = [line for line in given if line]
-        if verb in ("gate", "merge", "fill", "generate", "generate-sum"):
-            wanted = with_no_netlist(verb, rest)
-        elif verb in ("report", "report-with"):
-            wanted = reported(verb, texts[name], more)
-        elif verb in ("read", "read-scanned"):
-            wanted = None if given[0].startswith("line ") else shown(Netlist(texts[name]).canonical())
-        elif verb in ("certificate", "certificate-sum"):
-            wanted = certificate(verb, texts[name], texts[more])
-        else:
-            wanted = on_netlist(verb, texts[name], more)
+        wanted = wanted_of(texts, verb, rest, given)
         if wanted is not None:
             known += 1
             wrong += differs(row, wanted, given)
-    print(f"calls: {known} of {len(rows)} rows worked out, {wrong} differ")
+    print(f"{crate}: {known} of {len(rows)} rows worked out, {wrong} differ")
     return wrong
 
 
@@ -504,4 +508,4 @@ def check_cases():
 
 
 if __name__ == "__main__":
-    sys.exit(1 if check_calls() + check_cases() else 0)
+    sys.exit(1 if check_calls("calls") + check_calls("file_calls") + check_cases() else 0)

@@ -6,7 +6,7 @@ use Rattle.netlist.proofs.Placed.{signals_length}
 use Rattle.netlist.proofs.Settling.{cells_distinct}
 use Rattle.chain_stitch.specs.Chains.{chains_of}
 use Rattle.scan_insert.proofs.Soundness.{filter_le}
-use Rattle.calls.proofs.stil_files.chains_of.Goals as goal
+use Rattle.file_calls.proofs.stil_files.chains_of.Goals as goal
 
 pub stitch-requires-clause-few : goal.stitch-requires-clause-few
 stitch-requires-clause-few c =

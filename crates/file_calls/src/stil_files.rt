@@ -4,8 +4,8 @@ ghost use Rattle.netlist.specs.Designs.{IsDesign};
 ghost use Rattle.netlist.specs.Holds.{AreHoldsOf};
 ghost use Rattle.scan_insert.specs.Scanned.{AreChainsOf};
 
-use crate::detection::patterns_of as patterns_named;
-use crate::trees::{cut, holds_of};
+use crate::designs::core_of;
+use crate::patterns::{cut, holds_of, patterns_of as patterns_named};
 use case_text::show;
 use chain_stitch::{Chains, stitch};
 use cubes::Pattern;
@@ -14,20 +14,6 @@ use std::alloc::{AllocError, Global};
 use stil_read::{StilFault, read_stil};
 use stil_tests::{are_patterns, patterns_of, stil_of};
 use stil_write::write_stil;
-
-/// A design's core.
-fn core_of(alloc: Global, netlist: &Netlist) -> Result<Core, AllocError>
-    requires { IsDesign netlist.now }
-    ensures { IfOk result IsDesign }
-{
-    let Ok(copy) = netlist.copy(alloc) else {
-        return Err(AllocError);
-    };
-    match Core::of(alloc, copy) {
-        Ok(core) => Ok(core),
-        Err(_) => Err(AllocError),
-    }
-}
 
 /// The cells in so many chains.
 fn chains_of(alloc: Global, core: &Core, asked: u32) -> Result<Chains, AllocError>
@@ -122,6 +108,50 @@ fn with_other(alloc: Global, text: &[u8], old: &str, new: &str) -> Result<Vec<u8
     Ok(other)
 }
 
+/// Adds the file of patterns and what is read of it, or what is read of it once a word is another.
+fn push_file(
+    to: &mut Vec<u8>,
+    alloc: Global,
+    core: &Core,
+    chains: &Chains,
+    holds: &Holds,
+    patterns: &[Pattern],
+    other: Option<(&str, &str)>,
+) -> Result<(), AllocError>
+    requires design { IsDesign core.now }
+    requires chains { AreChainsOf core.now chains.now }
+    requires holds { AreHoldsOf core.now holds.now }
+{
+    let Some(text) = text_of(alloc, core, chains, holds, patterns)? else {
+        return to.extend_from_slice(b"no patterns that obey\n");
+    };
+    let Some((old, new)) = other else {
+        show(to, &text)?;
+        return push_read(to, alloc, core, chains, holds, &text);
+    };
+    let text = with_other(alloc, &text, old, new)?;
+    push_read(to, alloc, core, chains, holds, &text)
+}
+
+/// Adds the same of the patterns of a text, with so many chains.
+fn push_named(
+    to: &mut Vec<u8>,
+    alloc: Global,
+    core: &Core,
+    holds: &Holds,
+    asked: u32,
+    texts: &str,
+    other: Option<(&str, &str)>,
+) -> Result<(), AllocError>
+    requires some { 0 < asked }
+    requires design { IsDesign core.now }
+    requires holds { AreHoldsOf core.now holds.now }
+{
+    let chains = chains_of(alloc, core, asked)?;
+    let patterns = patterns_named(alloc, core, texts)?;
+    push_file(to, alloc, core, &chains, holds, &patterns, other)
+}
+
 /// `stil CHAINS HELD: PATTERNS`: the file of patterns, and of which patterns its text is read as the file.
 /// `stil-but CHAINS HELD OLD NEW: PATTERNS`: of which patterns the text is read as the file once a word is another where it stands last.
 pub fn push_stil(
@@ -136,18 +166,9 @@ pub fn push_stil(
     let (head, texts) = rest.split_once(": ").unwrap_or((rest, ""));
     let (asked, head) = cut(head);
     let (held, words) = cut(head);
-    let (old, new) = cut(words);
     let core = core_of(alloc, netlist)?;
     let holds = holds_of(alloc, &core, held)?;
-    let chains = chains_of(alloc, &core, asked.parse().unwrap_or(1).max(1))?;
-    let patterns = patterns_named(alloc, &core, texts)?;
-    let Some(text) = text_of(alloc, &core, &chains, &holds, &patterns)? else {
-        return to.extend_from_slice(b"no patterns that obey\n");
-    };
-    if is_whole {
-        show(to, &text)?;
-        return push_read(to, alloc, &core, &chains, &holds, &text);
-    }
-    let other = with_other(alloc, &text, old, new)?;
-    push_read(to, alloc, &core, &chains, &holds, &other)
+    let asked = asked.parse().unwrap_or(1).max(1);
+    let other = if is_whole { None } else { Some(cut(words)) };
+    push_named(to, alloc, &core, &holds, asked, texts, other)
 }

@@ -1,6 +1,8 @@
 //! Certificates, read for a netlist.
+ghost use Rattle.netlist.specs.Designs.{IsDesign};
+
+use crate::designs::core_of;
 use crate::names::{name_of, push_line_text, push_number};
-use crate::nets::{core_of, design, push_refusal};
 use case_text::{checksum, show};
 use certificate::{CertFault, read_trees};
 use netlist::{Fault, Netlist};
@@ -64,14 +66,16 @@ fn push_lines(to: &mut Vec<u8>, lines: &[u8], is_whole: bool) -> Result<(), Allo
     Ok(())
 }
 
-/// Reads a certificate for a netlist.
-fn push_read(
+/// `certificate TEXT CERTIFICATE`: the trees of the certificate, or that it is none. `certificate-sum` has the checksum of their lines.
+pub fn push_certificate(
     to: &mut Vec<u8>,
     alloc: Global,
     netlist: &Netlist,
     bytes: &[u8],
     is_whole: bool,
-) -> Result<(), AllocError> {
+) -> Result<(), AllocError>
+    requires { IsDesign netlist.now }
+{
     let core = core_of(alloc, netlist)?;
     match read_trees(alloc, &core, bytes) {
         Ok(trees) => {
@@ -83,19 +87,5 @@ fn push_read(
         }
         Err(CertFault::NotCertificate) => to.extend_from_slice(b"NotCertificate\n"),
         Err(CertFault::NoMemory) => Err(AllocError),
-    }
-}
-
-/// `certificate TEXT CERTIFICATE`: the trees of the certificate, or that it is none. `certificate-sum` has the checksum of their lines.
-pub fn push_certificate(
-    to: &mut Vec<u8>,
-    alloc: Global,
-    text: &[u8],
-    bytes: &[u8],
-    is_whole: bool,
-) -> Result<(), AllocError> {
-    match design(alloc, text) {
-        Ok(netlist) => push_read(to, alloc, &netlist, bytes, is_whole),
-        Err(fault) => push_refusal(to, &fault),
     }
 }
