@@ -1,5 +1,6 @@
 pub mod Trails
 pub mod Standing
+pub mod Rooms
 pub mod Waiting
 pub mod Stuck
 pub mod Words

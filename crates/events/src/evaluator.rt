@@ -3,6 +3,7 @@ ghost use Rattle.std.specs.Prelude.{◌≡◌, ◌+◌, ◌^◌, ◌<◌, ◌≤
 ghost use Rattle.netlist.specs.Lines.{IsLineOf};
 ghost use Rattle.netlist.specs.Netlist.{cells, signals};
 ghost use Rattle.netlist.specs.Settled.{Table, with_fault};
+ghost use Rattle.events.specs.Rooms.{CanServe, IsRoomOf, standing_in};
 ghost use Rattle.events.specs.Standing.{IsStanding, Moves, SettlesAnew, SettlesFor, SettlesOver};
 ghost use Rattle.events.specs.Stuck.{IsObservedOnly, IsSite};
 ghost use Rattle.events.specs.Trails.{undone};
@@ -11,6 +12,7 @@ use crate::agendas::Agenda;
 use crate::comparing::Comparing;
 use crate::driving::drive_onto;
 use crate::resettling::{resettle, touch};
+use crate::rooms::EventRoom;
 use crate::tables::Tables;
 use crate::trails::{Change, undo};
 use netlist::{Core, Fault, Line, SignalId};
@@ -64,6 +66,45 @@ impl<'a, V: Copy + Drop> Events<'a, V> {
             trail,
             values,
         })
+    }
+
+    /// What is kept of it beside the netlist.
+    pub fn into_room(self) -> EventRoom<V>
+        ensures { IsRoomOf self.entry result }
+    {
+        let Events {
+            core: _,
+            tables,
+            agenda,
+            trail,
+            values,
+        } = self;
+        EventRoom {
+            tables,
+            agenda,
+            trail,
+            values,
+        }
+    }
+
+    /// Goes on where the room was left.
+    pub fn in_room(core: &'a Core, room: EventRoom<V>) -> Events<'a, V>
+        requires { CanServe core.now room }
+        ensures { result ≡ standing_in core.now room }
+    {
+        let EventRoom {
+            tables,
+            agenda,
+            trail,
+            values,
+        } = room;
+        Events {
+            core,
+            tables,
+            agenda,
+            trail,
+            values,
+        }
     }
 
     pub fn core(&self) -> &'a Core

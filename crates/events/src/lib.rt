@@ -9,6 +9,7 @@ mod evaluator;
 mod laws;
 mod pins;
 mod resettling;
+mod rooms;
 mod tables;
 mod trails;
 mod words;
@@ -19,5 +20,6 @@ pub use evaluator::Events;
 pub use laws::{
     none_waits, observed_only, rule_changes, source_step_settles, step_settles, stuck_changes,
 };
+pub use rooms::EventRoom;
 pub use trails::Change;
 pub use words::{Words, words_settle_as_bits};

@@ -1,6 +1,8 @@
 -- Another fault, or none, comes onto a line.
-use Rattle.std.proofs.Common.{◌≡◌, ◌≢◌, ◌<◌, ◌≤◌, ℕ, List, [], ◌∷◌, length, get_or, reverse, Bool, true, false, Option, Some, None, refl, sym, ◌∙◌, ap, subst, ◌&&◌, eqb, arith}
+use Rattle.std.proofs.Common.{◌≡◌, ◌≢◌, ◌<◌, ◌≤◌, ℕ, List, [], ◌∷◌, length, get_or, reverse, Bool, true, false, Option, Some, None, refl, sym, ◌∙◌, ap, subst, ◌&&◌, eqb, vec_capacity, arith}
+use Rattle.std.specs.List.{flat_map}
 use Rattle.std.proofs.lemmas.List.{length-reverse}
+use Rattle.netlist.proofs.Lists.{contains_nil}
 use Rattle.std.proofs.lemmas.Bool.{and_parts, eqb-true}
 use Rattle.netlist.specs.declared.lines.Fault.{Fault}
 use Rattle.netlist.specs.declared.lines.Line.{Line}
@@ -16,6 +18,8 @@ use Rattle.tri.specs.declared.labelling.Labelling.{Labelling}
 use Rattle.tri.specs.Labelling.{AreLabelled, decided_in}
 use Rattle.netlist.specs.Settled.{at}
 use Rattle.events.specs.Standing.{Standing, SettlesAnew}
+use Rattle.events.specs.Stuck.{IsObservedOnly}
+use Rattle.events.specs.Trails.{AreChanges}
 use Rattle.label_events.specs.Lines.{IsOff, AreSameOff}
 use Rattle.label_events.proofs.Changing.{fault_changes, fault_changes_nothing, is_driven}
 use Rattle.pair_sim.specs.declared.levels.Level.{Level}
@@ -23,7 +27,11 @@ use Rattle.tri.specs.Paths.{decisions}
 use Rattle.pair_sim.specs.inner.Levels.{path_of}
 use Rattle.pair_sim.specs.inner.Stored.{IsStored}
 use Rattle.pair_sim.proofs.StoreLemmas.{stored_first}
-use Rattle.pair_sim.specs.inner.Steps.{IsFaultPut, site_of}
+use Rattle.observed_points.specs.declared.points.Points.{Points}
+use Rattle.pair_sim.specs.declared.reach.Reach.{Reach}
+use Rattle.pair_sim.specs.inner.Reach.{reached_one, IsReach}
+use Rattle.pair_sim.specs.inner.Steps.{IsFaultPut, IsFaultSet, IsFaultReplaced, site_of}
+use Rattle.pair_sim.proofs.Reaching.{reached_all}
 
 is_false : (b : Bool) → (b ≡ true → ⊥) → b ≡ false
 is_false true h = absurd (h refl)
@@ -69,6 +77,17 @@ module _ (line : Line) (f g : Option Fault) (path : Decisions) (n : Netlist) (ho
     labels = λ d. fault_changes_nothing line f g path n same holds (at old d) (off_all n line site) (was.labels d);
   }
 
+-- no change
+pub nothing_changed : (values : List Label) → AreChanges values values []
+nothing_changed values = record {
+  size = refl;
+  once = λ i k d less low. absurd (omega (arith, low));
+  before = λ c e m. absurd (contains_nil c m);
+  changed = λ c e m. absurd (contains_nil c m);
+  others = λ x e h. refl;
+  undone_is = refl;
+}
+
 path_length : (levels : List Level) → length (path_of levels) ≡ length levels
 path_length [] = refl
 path_length (v ∷ vs) = let h = path_length vs in omega arith
@@ -99,6 +118,34 @@ put_again holds f g old mid new s s1 s2 v w = record {
       (subst (λ (r : List (Option Bool)). AreLabelled g (decided_in r) s1.netlist holds s2.values) v.row (w.labelled there));
 }
 
+-- a fault is taken away, and then another one is set
+pub replaced : (holds : Holds) (fault : Fault) (old mid new : Labelling) (reach reach' : Reach) (s s1 s2 s3 : Standing Label)
+    → IsFaultPut holds None old mid s s1 → IsFaultSet holds fault mid new s1 s2 → s3 ≡ record s2 { trail = [] }
+    → reach'.points ≡ reach.points → (reach'.known ≡ true → IsObservedOnly s2.netlist fault.line → ⊥)
+    → reach'.signals.items ≡ flat_map (reached_one reach.points.first.items (length reach.points.seen.items) s2.values) s2.trail
+    → vec_capacity reach'.signals ≡ vec_capacity reach.signals → IsFaultReplaced holds fault old new reach reach' s s3
+replaced holds fault old mid new reach reach' s s1 s2 s3 v w e points known noted room =
+    let netlist : s2.netlist ≡ s.netlist = w.netlist ∙ v.netlist in
+    let values : s3.values ≡ s2.values = ap (λ (t : Standing Label). t.values) e in
+    record {
+      put = put_again holds None (Some fault) old mid new s s1 s3 v (record {
+        fault_is = w.fault_is;
+        row = w.row;
+        netlist = ap (λ (t : Standing Label). t.netlist) e ∙ w.netlist;
+        room = ap (λ (t : Standing Label). t.room) e ∙ w.room;
+        trail = ap (λ (t : Standing Label). t.trail) e;
+        labelled = λ was. subst (λ (vs : List Label). AreLabelled (Some fault) (decided_in mid.decided.items) s1.netlist holds vs) (sym values) (w.labelled was);
+      });
+      good = s1.values;
+      good_are = v.labelled;
+      changes = s2.trail;
+      are_changes = subst (λ (vs : List Label). AreChanges s1.values vs s2.trail) (sym values) w.are_changes;
+      points = points;
+      known = λ k only. known k (subst (λ (n : Netlist). IsObservedOnly n fault.line) (sym netlist) only);
+      signals_are = noted ∙ ap (λ (vs : List Label). flat_map (reached_one reach.points.first.items (length reach.points.seen.items) vs) s2.trail) (sym values);
+      reach_room = room;
+    }
+
 -- a simulation without a decision is stored as it should be after its fault is another one
 pub stored_put : (f g : Fault) (holds : Holds) (old new : Labelling) (levels : List Level) (names names' : List ℕ) (s s' : Standing Label) (lc nc nc' : ℕ)
     → IsStored f holds old.fault old.decided.items levels names s lc nc → levels ≡ [] → IsFaultPut holds (Some g) old new s s' → names' ≡ [] → nc ≤ nc'
@@ -122,3 +169,27 @@ stored_put f g holds old new levels names names' s s' lc nc nc' h none w nobody 
     let d = w.room in
     stored_first g holds new.fault new.decided.items levels names' s' lc nc' w.fault_is (omega arith) (λ x. ap (λ (r : List (Option Bool)). decided_in r x) w.row ∙ free x) are
     w.trail none nobody (omega arith) (omega arith) (omega arith)
+
+-- and so is what is known of the new fault's reach
+pub reach_put : (f g : Fault) (holds : Holds) (old new : Labelling) (reach reach' : Reach) (levels : List Level) (names : List ℕ) (s s' : Standing Label) (lc nc : ℕ)
+    → IsSound s.netlist → IsStored f holds old.fault old.decided.items levels names s lc nc → levels ≡ []
+    → IsReach f s.netlist holds reach.points.seen.items reach.points.first.items reach.points.numbers.items reach.known reach.signals.items (vec_capacity reach.signals)
+    → IsFaultReplaced holds g old new reach reach' s s'
+    → IsReach g s'.netlist holds reach'.points.seen.items reach'.points.first.items reach'.points.numbers.items reach'.known reach'.signals.items (vec_capacity reach'.signals)
+reach_put f g holds old new reach reach' levels names s s' lc nc sound h none r w =
+    let free : (x : ℕ) → decided_in old.decided.items x ≡ None = λ x. h.kept.row_is x ∙ ap (λ (vs : List Level). decisions (path_of (reverse vs)) x) none in
+    let path : decided_in old.decided.items ≡ decisions (path_of (reverse levels)) = λ i x. h.kept.row_is x i in
+    let empty : decided_in old.decided.items ≡ decisions [] = λ i x. free x i in
+    let was : AreLabelled old.fault (decided_in old.decided.items) s.netlist holds s.values =
+    subst (λ (p : Decisions). AreLabelled old.fault p s.netlist holds s.values) (sym path)
+    (subst (λ (o : Option Fault). AreLabelled o (decisions (path_of (reverse levels))) s.netlist holds s.values) (sym h.fault) h.kept.labelled) in
+    let good : AreLabelled None (decisions []) s.netlist holds w.good = subst (λ (p : Decisions). AreLabelled None p s.netlist holds w.good) empty (w.good_are was) in
+    let are : AreLabelled (Some g) (decisions []) s.netlist holds s'.values = subst (λ (p : Decisions). AreLabelled (Some g) p s.netlist holds s'.values) empty (w.put.labelled was) in
+    let there : IsReach g s.netlist holds reach.points.seen.items reach.points.first.items reach.points.numbers.items reach'.known reach'.signals.items (vec_capacity reach'.signals) = record {
+      points_are = r.points_are;
+      reached = λ k. reached_all s.netlist sound reach.points.seen.items reach.points.first.items reach.points.numbers.items r.points_are g holds w.good s'.values w.changes good are
+          w.are_changes reach'.signals.items w.signals_are (w.known k);
+      room_is = (let a = r.room_is in let b = w.reach_room in omega arith);
+    } in
+    subst (λ (n : Netlist). IsReach g n holds reach'.points.seen.items reach'.points.first.items reach'.points.numbers.items reach'.known reach'.signals.items (vec_capacity reach'.signals)) (sym w.put.netlist)
+    (subst (λ (p : Points). IsReach g s.netlist holds p.seen.items p.first.items p.numbers.items reach'.known reach'.signals.items (vec_capacity reach'.signals)) (sym w.points) there)

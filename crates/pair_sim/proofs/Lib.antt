@@ -11,3 +11,5 @@ pub mod Sights
 pub mod StoreLemmas
 pub mod StateLemmas
 pub mod Faulting
+pub mod Effects
+pub mod Reaching

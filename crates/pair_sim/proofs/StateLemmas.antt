@@ -23,11 +23,14 @@ use Rattle.pair_sim.specs.declared.states.State.{State}
 use Rattle.pair_sim.specs.declared.states.State.TheVariants.{Test, Blocked, Going}
 use Rattle.pair_sim.specs.Sims.{sim, IsState, IsContradictedSim, AreChangedSignals}
 use Rattle.pair_sim.specs.inner.Levels.{blank, path_of, rank, times, is_contradicted, IsNoted, GoBack, IsKept}
+use Rattle.observed_points.specs.Points.{ArePoints}
 use Rattle.pair_sim.specs.inner.Points.{IsStateOf, MayNot, SomeMay}
+use Rattle.pair_sim.specs.inner.Reach.{AreReached, IsStateInView}
 use Rattle.pair_sim.proofs.Assigning.{last_flag, flag_true, flag_false}
 use Rattle.pair_sim.proofs.Counts.{stands, stands_not}
 use Rattle.pair_sim.proofs.Noting.{noted_first}
 use Rattle.pair_sim.proofs.Ranks.{rank_few}
+use Rattle.pair_sim.proofs.Reaching.{state_seen}
 
 mapped : {A B : Type 0} (g : A → B) (xs : List A) (x : A) → Contains xs x → Contains (map g xs) (g x)
 mapped g xs x c = (c.0, omega (arith, c.1, length-map xs g), get_or-map g xs c.0 x (g x) c.1 ∙ ap g c.2)
@@ -131,3 +134,12 @@ module _ (f : Fault) (n : Netlist) (holds : Holds) (row : List (Option Bool)) (l
             let few = rank_few (at values blank x) in
             omega arith;
       }
+
+  -- where the path stands by the signals that the fault may reach
+  pub state_in_view_is : IsSound n → (seen first numbers : List ℕ) → ArePoints n seen first numbers → (ids : List ℕ) → AreReached f n holds ids → is_contradicted (reverse levels) ≡ false
+      → (state : State) → IsStateInView n first (length seen) values ids state → IsState (sim n f holds (path_of (reverse levels))) state
+  state_in_view_is sound seen first numbers points ids reached e state h =
+      let noted = noted_now sound e in
+      state_is false state (sym e)
+      (state_seen n sound seen first numbers points f holds (decisions (path_of (reverse levels))) values noted.start kept.labelled noted.are
+      (flag_false (is_contradicted (reverse levels)) _ _ flag e) ids reached state h)

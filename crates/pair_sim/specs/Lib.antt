@@ -1,3 +1,4 @@
 pub mod Sims
+pub mod Rooms
 pub mod Laws
 pub mod inner

@@ -26,7 +26,7 @@ pub(crate) enum Sight {
 }
 
 /// Whether both values are known and differ.
-fn has_effect(label: &Label) -> bool
+pub(crate) fn has_effect(label: &Label) -> bool
     ensures { result ≡ has_effect label.now }
 {
     match label.good {

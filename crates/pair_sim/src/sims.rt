@@ -5,10 +5,13 @@ ghost use Rattle.netlist.specs.Holds.{AreHoldsOf};
 ghost use Rattle.netlist.specs.Conditions.{IsSound};
 ghost use Rattle.netlist.specs.Lines.{IsLineOf};
 ghost use Rattle.netlist.specs.Netlist.{signals};
+ghost use Rattle.pair_sim.specs.Rooms.{CanServeLabels};
 ghost use Rattle.pair_sim.specs.Sims.{sim, assigned, undone, HasGood, HasOwn, HasFaulty, MayDiffer, HasLabel, IsNotBlocked, IsState, IsFree, IsContradictedSim, AreChangedSignals};
 
 use crate::levels::{Level, is_contradicted};
 use crate::points::state_of;
+use crate::reach::{Reach, state_in_view};
+use crate::rooms::SimRoom;
 use crate::states::State;
 use crate::steps::{note, relabel, replace_fault, take_back};
 use events::Events;
@@ -26,6 +29,7 @@ pub struct PairSim<'a> {
     events: Events<'a, Label>,
     levels: Vec<Level>,
     names: Vec<SignalId>,
+    reach: Reach,
 }
 
 impl<'a> Model for PairSim<'a> {
@@ -37,10 +41,12 @@ impl<'a> Model for PairSim<'a> {
     ghost use Rattle.pair_sim.specs.Sims.{sim};
     ghost use Rattle.pair_sim.specs.inner.Levels.{path_of};
     ghost use Rattle.pair_sim.specs.inner.Stored.{IsStored};
+    ghost use Rattle.pair_sim.specs.inner.Reach.{IsReach};
 
     ghost view = { λ a. sim a.events.netlist a.fault a.holds.now (path_of (reverse a.levels.items)) };
 
-    ghost invariant = { λ a. IsStored a.fault a.holds.now a.labelling.fault a.labelling.decided.items a.levels.items a.names.items a.events (vec_capacity a.levels) (vec_capacity a.names) };
+    ghost invariant = { λ a. IsStored a.fault a.holds.now a.labelling.fault a.labelling.decided.items a.levels.items a.names.items a.events (vec_capacity a.levels) (vec_capacity a.names)
+        × IsReach a.fault a.events.netlist a.holds.now a.reach.points.seen.items a.reach.points.first.items a.reach.points.numbers.items a.reach.known a.reach.signals.items (vec_capacity a.reach.signals) };
 }
 
 /// The simulation without a decision.
@@ -61,6 +67,7 @@ fn started<'a>(
     let events = Events::new(alloc, core, values, 4 * count)?;
     let levels = Vec::with_capacity(alloc, count)?;
     let names = Vec::with_capacity(alloc, 5 * count)?;
+    let reach = Reach::new(alloc, core)?;
     Ok(PairSim {
         fault: *fault,
         holds,
@@ -68,6 +75,7 @@ fn started<'a>(
         events,
         levels,
         names,
+        reach,
     })
 }
 
@@ -83,6 +91,68 @@ impl<'a> PairSim<'a> {
         ensures { IfOk result (λ s. s ≡ sim core.now fault holds.now []) }
     {
         started(alloc, core, &fault, holds).map_err(|_| NoMemory)
+    }
+
+    /// What is kept of it for another fault.
+    pub fn into_room(self) -> SimRoom
+        requires { IsLineOf self.netlist self.fault.line }
+        ensures { CanServeLabels self.entry.netlist self.entry.holds result }
+    {
+        let PairSim {
+            fault,
+            holds: _,
+            labelling,
+            events,
+            levels,
+            names,
+            reach,
+        } = self;
+        SimRoom {
+            fault,
+            labelling,
+            events: events.into_room(),
+            levels,
+            names,
+            reach,
+        }
+    }
+
+    /// The simulation as the room was left.
+    fn resumed(room: SimRoom, core: &'a Core, holds: &'a Holds) -> PairSim<'a>
+        requires { CanServeLabels core.now holds.now room }
+        ensures netlist { result.netlist ≡ core.now }
+        ensures holds { result.holds ≡ holds.now }
+        ensures line { IsLineOf core.now result.fault.line }
+    {
+        let SimRoom {
+            fault,
+            labelling,
+            events,
+            levels,
+            names,
+            reach,
+        } = room;
+        PairSim {
+            fault,
+            holds,
+            labelling,
+            events: Events::in_room(core, events),
+            levels,
+            names,
+            reach,
+        }
+    }
+
+    /// The simulation of a fault without a decision, in room that was kept: only what this fault and the one before reach is evaluated.
+    pub fn in_room(room: SimRoom, core: &'a Core, fault: Fault, holds: &'a Holds) -> PairSim<'a>
+        requires serves { CanServeLabels core.now holds.now room }
+        requires line { IsLineOf core.now fault.line }
+        requires holds { AreHoldsOf core.now holds.now }
+        ensures { result ≡ sim core.now fault holds.now [] }
+    {
+        let mut labels = PairSim::resumed(room, core, holds);
+        labels.aim(fault);
+        labels
     }
 
     /// How many decisions there are.
@@ -113,6 +183,7 @@ impl<'a> PairSim<'a> {
         replace_fault(
             &mut self.labelling,
             &mut self.events,
+            &mut self.reach,
             self.holds,
             &self.fault,
             &fault,
@@ -232,6 +303,9 @@ impl<'a> PairSim<'a> {
         let netlist = self.events.core().netlist();
         netlist.sound();
         let contradicted = is_contradicted(&self.levels);
+        if self.reach.known && !contradicted {
+            return state_in_view(netlist, &self.reach, self.events.values());
+        }
         state_of(
             netlist,
             &self.labelling.fault,

@@ -1,5 +1,5 @@
 //! The steps of a simulation: a decision more, and the last one taken back.
-ghost use Rattle.std.specs.Prelude.{◌≡◌, ◌+◌, ◌≤◌, ◌<◌, None, Some, length, slice_index_or, vec_capacity};
+ghost use Rattle.std.specs.Prelude.{◌≡◌, ◌+◌, ◌≤◌, ◌<◌, [], None, Some, length, slice_index_or, vec_capacity};
 ghost use Rattle.std.specs.Bool.{MatchBool};
 ghost use Rattle.netlist.specs.Holds.{AreHoldsOf};
 ghost use Rattle.netlist.specs.Lines.{IsLineOf};
@@ -7,9 +7,11 @@ ghost use Rattle.netlist.specs.Netlist.{signals};
 ghost use Rattle.tri.specs.Labelling.{decided_in};
 ghost use Rattle.tri.specs.Labels.{source_label, held_value};
 ghost use Rattle.label_events.specs.Lines.{AreSameOff};
-ghost use Rattle.pair_sim.specs.inner.Steps.{IsRelabelled, IsForgotten, IsNamed, IsPlayedBack, IsSettledBack, IsSiteSettled, IsFaultPut, site_of};
+ghost use Rattle.observed_points.specs.Points.{ArePoints};
+ghost use Rattle.pair_sim.specs.inner.Steps.{IsRelabelled, IsForgotten, IsNamed, IsPlayedBack, IsSettledBack, IsSiteSettled, IsFaultPut, IsFaultSet, IsFaultReplaced, site_of};
 
 use crate::levels::{Level, has_clash, name_changes};
+use crate::reach::Reach;
 use events::Events;
 use label_events::LabelRule;
 use netlist::{Fault, Holds, Line, Netlist, SignalId, Tri};
@@ -144,10 +146,24 @@ fn put_fault(
     events.forget();
 }
 
-/// Another fault comes in place of this one: what the two reach is worked out anew.
+/// A fault comes onto a line where there was none. What that changes stands on the trail.
+fn set_fault(labelling: &mut Labelling, events: &mut Events<Label>, holds: &Holds, fault: &Fault)
+    requires line { IsLineOf events.old.netlist fault.now.line }
+    requires holds { AreHoldsOf events.old.netlist holds.now }
+    requires none { labelling.old.fault ≡ None }
+    requires room { length events.old.trail ≤ events.old.room }
+    requires empty { events.old.trail ≡ [] }
+    ensures { IsFaultSet holds.now fault.now labelling.old labelling.new events.old events.new }
+{
+    labelling.fault = Some(*fault);
+    settle_site(labelling, events, holds, &fault.line);
+}
+
+/// Another fault comes in place of this one: what the two reach is worked out anew, and at which points it may be seen.
 pub(crate) fn replace_fault(
     labelling: &mut Labelling,
     events: &mut Events<Label>,
+    reach: &mut Reach,
     holds: &Holds,
     last: &Fault,
     fault: &Fault,
@@ -157,8 +173,17 @@ pub(crate) fn replace_fault(
     requires line { IsLineOf events.old.netlist fault.now.line }
     requires holds { AreHoldsOf events.old.netlist holds.now }
     requires room { length events.old.trail ≤ events.old.room }
-    ensures { IsFaultPut holds.now (Some fault.now) labelling.old labelling.new events.old events.new }
+    requires points { ArePoints events.old.netlist reach.old.points.seen.items reach.old.points.first.items reach.old.points.numbers.items }
+    requires reach_room { length (signals events.old.netlist) ≤ vec_capacity reach.old.signals }
+    ensures { IsFaultReplaced holds.now fault.now labelling.old labelling.new reach.old reach.new events.old events.new }
 {
     put_fault(labelling, events, holds, &last.line, None);
-    put_fault(labelling, events, holds, &fault.line, Some(*fault));
+    set_fault(labelling, events, holds, fault);
+    reach.note(
+        events.core().netlist(),
+        &fault.line,
+        events.trail(),
+        events.values(),
+    );
+    events.forget();
 }

@@ -8,7 +8,7 @@ ghost use Rattle.podem.specs.Sources.{HasSourceEvidence, IsLabelling};
 use crate::measures::Measures;
 use crate::searching::search_from;
 use netlist::{Core, Fault, Holds, NoMemory};
-use pair_sim::PairSim;
+use pair_sim::{PairSim, SimRoom};
 use redundancy_cert::{Engine, Found};
 use std::alloc::Global;
 
@@ -82,6 +82,12 @@ impl Podem {
 }
 
 impl Engine for Podem {
+    ghost use Rattle.pair_sim.specs.Rooms.{CanServeLabels};
+
+    type Room = SimRoom;
+
+    ghost serves = { CanServeLabels };
+
     fn search(
         &self,
         alloc: Global,
@@ -91,5 +97,33 @@ impl Engine for Podem {
         holds: &Holds,
     ) -> Result<Found, NoMemory> {
         self.search_sources(alloc, core, fault, limit, holds)
+    }
+
+    fn room(&self, alloc: Global, core: &Core, holds: &Holds) -> Result<SimRoom, NoMemory> {
+        SimRoom::new(alloc, core, holds)
+    }
+
+    fn search_in(
+        &self,
+        alloc: Global,
+        room: SimRoom,
+        core: &Core,
+        fault: Fault,
+        limit: u32,
+        holds: &Holds,
+    ) -> Result<(Found, SimRoom), NoMemory> {
+        let mut labels = PairSim::in_room(room, core, fault, holds);
+        match search_from(
+            alloc,
+            core,
+            &self.measures,
+            &fault,
+            holds,
+            &mut labels,
+            limit,
+        ) {
+            Ok(found) => Ok((found, labels.into_room())),
+            Err(_) => Err(NoMemory),
+        }
     }
 }

@@ -23,7 +23,7 @@ struct Front {
 }
 
 /// How many signals there are.
-fn signal_count(core: &Core) -> usize
+pub(crate) fn signal_count(core: &Core) -> usize
     ensures { result ≡ length (signals core.now) }
 {
     let netlist = core.netlist();

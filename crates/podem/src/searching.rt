@@ -1,5 +1,5 @@
 //! The search from the path without decisions.
-ghost use Rattle.std.specs.Prelude.{◌≡◌, ◌≤◌, ◌<◌, ◌+◌, ◌^◌, ℕ, [], ◌∷◌, length, IfOk, IfSome, OnOk, MatchOption, map, if◌then◌else◌};
+ghost use Rattle.std.specs.Prelude.{◌≡◌, ◌≤◌, ◌<◌, ◌+◌, ◌^◌, ℕ, [], ◌∷◌, length, IfOk, IfSome, OnOk, MatchOption, IsTrue, map, if◌then◌else◌};
 ghost use Rattle.std.specs.List.{All, Contains};
 ghost use Rattle.netlist.specs.declared.kinds.Tri.TheVariants.{X};
 ghost use Rattle.netlist.specs.Netlist.{signals};
@@ -12,7 +12,7 @@ ghost use Rattle.netlist.specs.Holds.{AreHoldsOf};
 ghost use Rattle.podem.specs.Sources.{all_sources, sources, undecided, value_of, HasSourceEvidence};
 ghost use Rattle.podem.specs.inner.Searching.{IsAt, IsSearching, IsSeen, IsGone, IsKnownAt, MayEnter, MayClimb, IsWhole, IsTestAt, IsStepped, IsChosen, IsOfCase};
 
-use crate::guides::{Aim, best_aim};
+use crate::guides::{Aim, best_aim, signal_count};
 use crate::measures::Measures;
 use cubes::Cube;
 use netlist::{Core, Fault, Holds, Point, SignalId, Tri};
@@ -146,17 +146,17 @@ fn any_free(
     }
 }
 
-/// This signal, if it is among these and is X.
-fn wanted_in(labels: &PairSim, ids: &[SignalId], wanted: SignalId) -> Option<SignalId>
-    requires { All (Contains (signals labels.now.netlist)) ids.now }
-    ensures { IfSome result (λ x. Contains ids.now x × HasGood labels.now x X) }
+/// Whether a signal is an input or a cell.
+fn is_source(core: &Core, signal: SignalId) -> bool
+    requires { signal < length (signals core.now) }
+    ensures { IsTrue result → Contains (all_sources core.now) signal }
 {
-    for id in ids {
-        if id.index() == wanted.index() && matches!(labels.good(*id), Tri::X) {
-            return Some(*id);
-        }
+    let netlist = core.netlist();
+    netlist.sound();
+    if signal.index() < netlist.inputs().len() {
+        return true;
     }
-    None
+    netlist.definition(signal).kind().is_flip_flop()
 }
 
 /// This signal, if it is an input or a cell and is X.
@@ -164,9 +164,13 @@ fn wanted_source(core: &Core, labels: &PairSim, wanted: SignalId) -> Option<Sign
     requires { labels.now.netlist ≡ core.now }
     ensures { IfSome result (λ x. Contains (all_sources core.now) x × HasGood labels.now x X) }
 {
-    match wanted_in(labels, core.netlist().inputs(), wanted) {
-        Some(signal) => Some(signal),
-        None => wanted_in(labels, core.netlist().cells(), wanted),
+    core.netlist().sound();
+    if wanted.index() >= signal_count(core) || !is_source(core, wanted) {
+        return None;
+    }
+    match labels.good(wanted) {
+        Tri::X => Some(wanted),
+        Tri::Zero | Tri::One => None,
     }
 }
 

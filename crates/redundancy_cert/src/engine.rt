@@ -1,6 +1,7 @@
 //! What a search answers.
 ghost use Rattle.std.specs.Prelude.{◌≤◌, IfOk};
 ghost use Rattle.netlist.specs.Holds.{AreHoldsOf};
+ghost use Rattle.netlist.specs.Lines.{IsLineOf};
 ghost use Rattle.redundancy_cert.specs.Evidence.{HasEvidence};
 
 use crate::nodes::Tree;
@@ -21,6 +22,15 @@ pub enum Found {
 
 /// A search for tests.
 pub trait Engine {
+    ghost use Rattle.netlist.specs.Netlist.{Netlist};
+    ghost use Rattle.netlist.specs.Holds.{Holds};
+
+    /// What a search may keep for the next one: tables, labels, stacks. No answer rests on it.
+    type Room: Drop + Send;
+
+    /// The room serves searches of this netlist under these held inputs.
+    ghost serves: { Netlist → Holds → Self.Room → Type 0 };
+
     /// A test of the fault, a tree that shows it redundant, or a tree of as many Closed as the limit.
     fn search(
         &self,
@@ -33,4 +43,26 @@ pub trait Engine {
         requires limit { 1 ≤ limit }
         requires holds { AreHoldsOf core.now holds.now }
         ensures { IfOk result (HasEvidence fault core.now holds.now limit) };
+
+    /// Room for one search after the other.
+    fn room(&self, alloc: Global, core: &Core, holds: &Holds) -> Result<Self::Room, NoMemory>
+        requires { AreHoldsOf core.now holds.now }
+        ensures { IfOk result (serves core.now holds.now) };
+
+    /// The same answer as a search in this room, whatever was searched in it before; and the room back.
+    fn search_in(
+        &self,
+        alloc: Global,
+        room: Self::Room,
+        core: &Core,
+        fault: Fault,
+        limit: u32,
+        holds: &Holds,
+    ) -> Result<(Found, Self::Room), NoMemory>
+        requires limit { 1 ≤ limit }
+        requires holds { AreHoldsOf core.now holds.now }
+        requires line { IsLineOf core.now fault.line }
+        requires room { serves core.now holds.now room }
+        ensures evidence { IfOk result (λ r. HasEvidence fault core.now holds.now limit r.0) }
+        ensures room { IfOk result (λ r. serves core.now holds.now r.1) };
 }

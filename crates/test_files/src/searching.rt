@@ -1,5 +1,5 @@
 //! The search, by workers, and the compaction of what they found.
-ghost use Rattle.std.specs.Prelude.{◌≡◌, ◌<◌, ◌≤◌, ◌^◌, IfOk, length};
+ghost use Rattle.std.specs.Prelude.{◌≡◌, ◌+◌, ◌<◌, ◌≤◌, ◌^◌, IfOk, length};
 ghost use Rattle.std.specs.List.{All};
 ghost use Rattle.netlist.specs.declared.lines.Fault.{Fault as FaultOf};
 ghost use Rattle.netlist.specs.Designs.{IsDesign};
@@ -7,6 +7,7 @@ ghost use Rattle.netlist.specs.Lines.{IsLineOf};
 ghost use Rattle.netlist.specs.Holds.{AreHoldsOf};
 ghost use Rattle.fault_collapse.specs.Classes.{AreClasses};
 ghost use Rattle.list_core.specs.Subjects.{HaveLines, class_count};
+ghost use Rattle.reverse_compact.specs.Finished.{AreFinished};
 ghost use Rattle.test_files.specs.inner.Verdicts.{AreVerdicts};
 
 use crate::files::Plan;
@@ -16,12 +17,40 @@ use list_core::{About, FaultList};
 use netlist::{Core, Holds, NoMemory};
 use outside::Gate;
 use redundancy_cert::Engine;
-use reverse_compact::{Finished, finish};
+use reverse_compact::{Finished, compact};
 use std::alloc::Global;
 use std::marker::Brand;
 use std::sync::Wait;
 use std::thread::Threads;
-use worker::run_all;
+use worker::{last_tells_beside, run_all};
+
+/// The list compacted: each worker goes over a part of the classes for the last pattern that detects each.
+fn finish_beside<J: About, R: Threads + Sync>(
+    rt: &R,
+    alloc: Global,
+    core: &Core,
+    classes: &Classes,
+    list: FaultList<J>,
+    workers: u32,
+) -> Result<Finished, NoMemory>
+    requires core { core.now ≡ J.subject.netlist }
+    requires classes { classes.now ≡ J.subject.classes }
+    requires lines { HaveLines J.subject }
+    requires few { length list.patterns + 64 ≤ 2 ^ 32 }
+    requires workers { 0 < workers }
+    ensures { IfOk result (λ f. AreFinished J.subject list f.patterns.items f.verdicts.items) }
+{
+    list.true_list();
+    let last = last_tells_beside(
+        rt,
+        alloc,
+        core,
+        classes.representatives(),
+        list.patterns(),
+        workers,
+    )?;
+    compact(alloc, list, &last)
+}
 
 /// The search under a name for what the list is about.
 fn search_named<J: About + Send + Sync, E: Engine + Sync, G: Gate + Sync, R: Threads + Wait + Sync>(
@@ -56,7 +85,7 @@ fn search_named<J: About + Send + Sync, E: Engine + Sync, G: Gate + Sync, R: Thr
         plan.seed,
         holds,
     )?;
-    finish(alloc, core, classes, list)
+    finish_beside(rt, alloc, core, classes, list, plan.workers)
 }
 
 /// Classes are few, and each representative stands on a line of the netlist.

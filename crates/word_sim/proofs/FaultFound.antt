@@ -19,9 +19,9 @@ use Rattle.events.proofs.Standing.{observed_settles}
 use Rattle.word_sim.specs.Hits.{LastDetected}
 use Rattle.word_sim.specs.inner.Differences.{AreDifferences, AreShown, IsSole}
 use Rattle.word_sim.specs.inner.Packed.{AreGoodFor, IsUsed}
-use Rattle.word_sim.specs.inner.Points.{points, watched, point_of, ArePoints, IsReadAt}
-use Rattle.word_sim.proofs.ObservedPoints.{signal_in, signal_within, watched_count, watched_in}
-use Rattle.word_sim.proofs.PointTables.{points_few}
+use Rattle.observed_points.specs.Points.{points, watched, point_of, ArePoints, IsReadAt}
+use Rattle.observed_points.proofs.ObservedPoints.{signal_in, signal_within, watched_count, watched_in}
+use Rattle.observed_points.proofs.PointTables.{points_few}
 use Rattle.word_sim.proofs.StuckPoints.{sole_differences, stuck_differences}
 use Rattle.word_sim.proofs.WordDetection.{differs, last_detected}
 

@@ -8,7 +8,7 @@ use Rattle.cubes.specs.Cubes.{Pattern}
 use Rattle.word_sim.specs.declared.batches.Hit.{Hit}
 use Rattle.word_sim.specs.Hits.{AreHits, LastDetected}
 use Rattle.word_sim.specs.inner.Found.{hit_of}
-use Rattle.word_sim.specs.inner.Points.{point_of}
+use Rattle.observed_points.specs.Points.{point_of}
 
 module _ (n : Netlist) (patterns : List Pattern) where
   one_hit : (given : ℕ × Fault) (found : Option (ℕ × ℕ)) → LastDetected n patterns given.1 (option_map (λ (w : ℕ × ℕ). (w.0, point_of n w.1)) found) → AreHits n patterns (given ∷ []) (hit_of n given.0 found)

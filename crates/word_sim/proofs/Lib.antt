@@ -1,8 +1,6 @@
-pub mod ObservedPoints
+pub mod PointOrder
 pub mod WordDetection
 pub mod HighestBits
-pub mod PinLists
-pub mod PointTables
 pub mod PackedLemmas
 pub mod Found
 pub mod StuckPoints

@@ -19,39 +19,14 @@ use Rattle.events.specs.Trails.{AreChanges}
 use Rattle.events.specs.Words.{bit_of, ones}
 use Rattle.events.proofs.WordBits.{bit_of_xor}
 use Rattle.word_sim.specs.inner.Differences.{shows, AreDifferences, AreShown, IsSole}
-use Rattle.word_sim.specs.inner.Points.{points, watched, AreFirst, IsReadAt}
-use Rattle.word_sim.proofs.ObservedPoints.{line_in, signal_in, points_count, watched_count, watched_in, output_in, cell_in}
-use Rattle.word_sim.proofs.PointTables.{no_definition}
+use Rattle.observed_points.specs.Points.{points, watched, AreFirst, IsReadAt}
+use Rattle.observed_points.proofs.ObservedPoints.{line_in, signal_in, points_count, watched_count, watched_in, output_in, cell_in}
+use Rattle.observed_points.proofs.LineReads.{same_line, line_same, points_once, unread}
 use Rattle.word_sim.proofs.WordDetection.{differ, differs}
-
-same_line : (l m : Line) → is_line l m ≡ true → l ≡ m
-same_line (Stem x) (Stem y) h = ap Stem (eqb-true x y h)
-same_line (Pin x j) (Pin y k) h = let p = and_parts (eqb x y) (eqb j k) h in ap (λ z. Pin z j) (eqb-true x y p.0) ∙ ap (Pin y) (eqb-true j k p.1)
-same_line (Out x) (Out y) h = ap Out (eqb-true x y h)
-same_line (Stem x) (Pin y k) h = absurd (both_ways false refl h)
-same_line (Stem x) (Out y) h = absurd (both_ways false refl h)
-same_line (Pin x j) (Stem y) h = absurd (both_ways false refl h)
-same_line (Pin x j) (Out y) h = absurd (both_ways false refl h)
-same_line (Out x) (Stem y) h = absurd (both_ways false refl h)
-same_line (Out x) (Pin y k) h = absurd (both_ways false refl h)
-
-line_same : (l : Line) → is_line l l ≡ true
-line_same (Stem x) = eq-eqb x x refl
-line_same (Pin x j) = and_from (eqb x x) (eqb j j) (eq-eqb x x refl) (eq-eqb j j refl)
-line_same (Out x) = eq-eqb x x refl
 
 differ_same : (b : Bool) → differ b b ≡ false
 differ_same true = refl
 differ_same false = refl
-
-outs_same : (x y : ℕ) → Out x ≡ Out y → x ≡ y
-outs_same x y e = cc
-
-pins_same : (x y : ℕ) → Pin x 0 ≡ Pin y 0 → x ≡ y
-pins_same x y e = cc
-
-out_no_pin : (x y : ℕ) → Out x ≡ Pin y 0 → ⊥
-out_no_pin x y e = cc
 
 -- a list has a change of the signal, or none
 change_of : (changes : List (Change ℕ)) (x : ℕ) → ((d : Change ℕ) × Contains changes d × (d.signal ≡ x)) ⊎ ((d : Change ℕ) → Contains changes d → d.signal ≢ x)
@@ -82,62 +57,6 @@ any_from p (y ∷ ys) h = elim (or_cases (p y) (list_any p ys) h) [
 ]
 
 module _ (n : Netlist) (sound : IsSound n) where
-  -- each line is read at one point
-  points_once : (c d : ℕ) → c < length (points n) → d < length (points n) → line_in n sound c ≡ line_in n sound d → c ≡ d
-  points_once c d l m e =
-      let all = points_count n sound in
-      elim (cases_lt c (length n.outputs)) [
-        | inl low ↦ elim (cases_lt d (length n.outputs)) [
-          | inl low' ↦
-              let same : get_or n.outputs c 0 ≡ get_or n.outputs d 0 = outs_same (get_or n.outputs c 0) (get_or n.outputs d 0)
-              (sym (ap (λ (p : Line × ℕ). p.0) (output_in n sound c low)) ∙ (e ∙ ap (λ (p : Line × ℕ). p.0) (output_in n sound d low'))) in
-              elim (cases_eq c d) [
-                | inl is ↦ is
-                | inr ne ↦ elim (cases_lt c d) [
-                  | inl before ↦ absurd (sound.formed.once c d 0 before low' same)
-                  | inr behind ↦ absurd (sound.formed.once d c 0 (omega arith) low (sym same))
-                ]
-              ]
-          | inr high ↦ absurd (out_no_pin (get_or n.outputs c 0) (get_or (cells n) (d - length n.outputs) no_definition).id
-              (sym (ap (λ (p : Line × ℕ). p.0) (output_in n sound c low)) ∙ (e ∙ ap (λ (p : Line × ℕ). p.0) (cell_in n sound d no_definition high m))))
-        ]
-        | inr high ↦ elim (cases_lt d (length n.outputs)) [
-          | inl low' ↦ absurd (out_no_pin (get_or n.outputs d 0) (get_or (cells n) (c - length n.outputs) no_definition).id
-              (sym (ap (λ (p : Line × ℕ). p.0) (output_in n sound d low')) ∙ (sym e ∙ ap (λ (p : Line × ℕ). p.0) (cell_in n sound c no_definition high l))))
-          | inr high' ↦
-              let ids = map (λ (f : Definition). f.id) (cells n) in
-              let size = length-map (cells n) (λ (f : Definition). f.id) in
-              let apart = cells_distinct n sound.formed.numbered (map (λ (f : Definition). f.id) (cells n)) refl in
-              let i = c - length n.outputs in
-              let j = d - length n.outputs in
-              let same : (get_or (cells n) (c - length n.outputs) no_definition).id ≡ (get_or (cells n) (d - length n.outputs) no_definition).id =
-              pins_same (get_or (cells n) (c - length n.outputs) no_definition).id (get_or (cells n) (d - length n.outputs) no_definition).id
-              (sym (ap (λ (p : Line × ℕ). p.0) (cell_in n sound c no_definition high l)) ∙ (e ∙ ap (λ (p : Line × ℕ). p.0) (cell_in n sound d no_definition high' m))) in
-              let alike : get_or ids (c - length n.outputs) 0 ≡ get_or ids (d - length n.outputs) 0 =
-              get_or-map (λ (f : Definition). f.id) (cells n) (c - length n.outputs) no_definition 0 (omega arith) ∙ (same
-              ∙ sym (get_or-map (λ (f : Definition). f.id) (cells n) (d - length n.outputs) no_definition 0 (omega arith))) in
-              elim (cases_eq c d) [
-                | inl is ↦ is
-                | inr ne ↦ elim (cases_lt c d) [
-                  | inl before ↦ absurd (apart (c - length n.outputs) (d - length n.outputs) 0 (omega arith) (omega arith) alike)
-                  | inr behind ↦ absurd (apart (d - length n.outputs) (c - length n.outputs) 0 (omega arith) (omega arith) (sym alike))
-                ]
-              ]
-        ]
-      ]
-
-  -- a line that enters an equation is read at no point
-  unread : (line : Line) → ¬ IsObservedOnly n line → (c : ℕ) → c < length (points n) → is_line line (line_in n sound c) ≡ false
-  unread line h c l = false_from_ne_true (is_line line (line_in n sound c)) (λ e. h (subst (IsObservedOnly n) (sym (same_line line (line_in n sound c) e)) (only c l))) where
-    only : (c : ℕ) → c < length (points n) → IsObservedOnly n (line_in n sound c)
-    only c l = elim (cases_lt c (length n.outputs)) [
-      | inl low ↦ subst (IsObservedOnly n) (sym (ap (λ (p : Line × ℕ). p.0) (output_in n sound c low))) tt
-      | inr high ↦
-          let all = points_count n sound in
-          subst (IsObservedOnly n) (sym (ap (λ (p : Line × ℕ). p.0) (cell_in n sound c no_definition high l)))
-          (cell_no_gate n sound.formed.numbered (get_or (cells n) (c - length n.outputs) no_definition) (Contains-get_or (cells n) (c - length n.outputs) no_definition (omega arith)))
-    ]
-
   module _ (f : Fault) (good faulty : List ℕ) where
     -- at a point whose line isn't stuck
     plain : (c j : ℕ) → is_line f.line (line_in n sound c) ≡ false
@@ -166,7 +85,7 @@ module _ (n : Netlist) (sound : IsSound n) where
           let in' : d.signal < length (signals n) = subst (λ y. d.signal < y) size b.0 in
           let x : signal_in n sound (get_or first d.signal 0) ≡ d.signal = sym (seen_in (get_or first d.signal 0) low) ∙ (first_is.each d.signal in').here l in (
             low,
-            plain (get_or first d.signal 0) j (unread f.line enters (get_or first d.signal 0) low)
+            plain (get_or first d.signal 0) j (unread n sound f.line enters (get_or first d.signal 0) low)
                 ∙ (ap (λ y. bit_of j (bit_xor (at good 0 y) (at faulty 0 y))) x ∙ (ap (λ v. bit_of j (bit_xor v (at faulty 0 d.signal))) (sym b.1) ∙ parts.1)),
           )
 
@@ -175,7 +94,7 @@ module _ (n : Netlist) (sound : IsSound n) where
           → (d : Change ℕ) × Contains changes d × (shows first (length seen) faulty j d ≡ true) × (get_or first d.signal 0 ≤ c)
       differs_shown c j l h =
           let x = signal_in n sound c in
-          let bit : bit_of j (bit_xor (at good 0 (signal_in n sound c)) (at faulty 0 (signal_in n sound c))) ≡ true = sym (plain c j (unread f.line enters c l)) ∙ h in
+          let bit : bit_of j (bit_xor (at good 0 (signal_in n sound c)) (at faulty 0 (signal_in n sound c))) ≡ true = sym (plain c j (unread n sound f.line enters c l)) ∙ h in
           elim (change_of changes (signal_in n sound c)) [
             | inr none ↦
                 let same : at faulty 0 (signal_in n sound c) ≡ at good 0 (signal_in n sound c) = are.others (signal_in n sound c) 0 none in
@@ -245,7 +164,7 @@ module _ (n : Netlist) (sound : IsSound n) where
       ∙ sym (bit_of_xor (at good 0 (signal_in n sound number)) (cond f.value ones 0) j) in
       let other : (c j : ℕ) → c < length (points n) → c ≢ number → differs n sound f (at good 0) (at good 0) c j ≡ false =
       λ c j l ne. ap (λ b. differ (bit_of j (at good 0 (signal_in n sound c))) (bit_of j (cond b (cond f.value ones 0) (at good 0 (signal_in n sound c)))))
-      (false_from_ne_true (is_line f.line (line_in n sound c)) (λ t. ne (points_once c number l r.within (sym (same_line f.line (line_in n sound c) t) ∙ sym r.here))))
+      (false_from_ne_true (is_line f.line (line_in n sound c)) (λ t. ne (points_once n sound c number l r.within (sym (same_line f.line (line_in n sound c) t) ∙ sym r.here))))
       ∙ differ_same (bit_of j (at good 0 (signal_in n sound c))) in
       let at_all : (c j : ℕ) → c < length (points n) → bit_of j (bit_xor (at good 0 (signal_in n sound number)) (cond f.value ones 0)) ≡ false → differs n sound f (at good 0) (at good 0) c j ≡ false =
       λ c j l none. elim (cases_eq c number) [

@@ -17,9 +17,10 @@ use Rattle.cubes.specs.Cubes.{Pattern}
 use Rattle.events.specs.Words.{bit_of, words}
 use Rattle.events.proofs.WordBits.{words_as_bits, bit_line}
 use Rattle.word_sim.specs.Hits.{IsDetectedAt, IsBefore, LastDetected}
-use Rattle.word_sim.specs.inner.Points.{points, point_of}
+use Rattle.observed_points.specs.Points.{points, point_of}
 use Rattle.word_sim.specs.inner.Differences.{AreDifferences}
-use Rattle.word_sim.proofs.ObservedPoints.{line_in, signal_in, observed_in, point_in, before_in, signal_within}
+use Rattle.observed_points.proofs.ObservedPoints.{line_in, signal_in, observed_in, point_in, signal_within}
+use Rattle.word_sim.proofs.PointOrder.{before_in}
 
 none_some : {X : Type 0} (x : X) → ◌≡◌ {A = Option X} None (Some x) → ⊥
 none_some x e = cc

@@ -1,5 +1,5 @@
 -- What the proofs of this crate need and no caller has to read.
-pub mod Points
 pub mod Packed
 pub mod Differences
 pub mod Found
+pub mod Simulating

@@ -8,13 +8,13 @@ ghost use Rattle.events.specs.Words.{bit_of, ones};
 ghost use Rattle.word_sim.specs.inner.Differences.{shows, AreShown, IsFirstShown, IsSole};
 ghost use Rattle.word_sim.specs.Hits.{LastDetected};
 ghost use Rattle.word_sim.specs.inner.Packed.{AreGoodFor, IsUsed};
-ghost use Rattle.word_sim.specs.inner.Points.{ArePoints, point_of};
+ghost use Rattle.observed_points.specs.Points.{ArePoints, point_of};
 ghost use Rattle.std.specs.Option.{option_map};
 
-use crate::points::Points;
 use cubes::Pattern;
 use events::{Change, Events, Words};
 use netlist::Fault;
+use observed_points::Points;
 
 /// The patterns that tell a change apart at a point.
 #[inline(always)]

@@ -8,15 +8,15 @@ ghost use Rattle.word_sim.specs.Hits.{AreHits};
 ghost use Rattle.word_sim.specs.Words.{HasWidthsOf};
 ghost use Rattle.word_sim.specs.inner.Found.{hit_of};
 ghost use Rattle.word_sim.specs.inner.Packed.{AreGoodFor, AreSettledWords};
-ghost use Rattle.word_sim.specs.inner.Points.{ArePoints, point_of};
+ghost use Rattle.observed_points.specs.Points.{ArePoints, point_of};
 
 use crate::batches::Hit;
 use crate::detecting::last_of;
 use crate::packing::{Part, packed, used_bits};
-use crate::points::{Points, point_at};
 use cubes::Pattern;
 use events::{Events, Words};
 use netlist::{Core, Fault, Netlist, NoMemory};
+use observed_points::{Points, point_at};
 use std::alloc::{AllocError, Global};
 
 /// The words of patterns, settled without a fault.

@@ -8,15 +8,15 @@ ghost use Rattle.word_sim.specs.Hits.{LastDetected};
 ghost use Rattle.word_sim.specs.Words.{HasWidthsOf};
 ghost use Rattle.word_sim.specs.inner.Found.{AreFrom, IsTold};
 ghost use Rattle.word_sim.specs.inner.Packed.{AreGoodFor, AreSettledWords, IsUsed};
-ghost use Rattle.word_sim.specs.inner.Points.{ArePoints, point_of};
+ghost use Rattle.observed_points.specs.Points.{ArePoints, point_of};
 
 use crate::detecting::last_of;
 use crate::fault_hits::{good_events, next_patterns};
 use crate::packing::used_bits;
-use crate::points::{Points, point_at};
 use cubes::Pattern;
 use events::Events;
 use netlist::{Core, Fault, Netlist, NoMemory, Point};
+use observed_points::{Points, point_at};
 use std::alloc::{AllocError, Global};
 
 /// What was found among some patterns, by places among all.

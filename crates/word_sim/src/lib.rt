@@ -6,7 +6,6 @@ mod detecting;
 mod fault_hits;
 mod last_detected;
 mod packing;
-mod points;
 mod simulator;
 mod words;
 

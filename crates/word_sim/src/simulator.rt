@@ -8,10 +8,10 @@ ghost use Rattle.word_sim.specs.Words.{HasWidthsOf};
 
 use crate::batches::Hit;
 use crate::fault_hits::{find_hits, good_events, next_patterns};
-use crate::points::Points;
 use cubes::Pattern;
 use events::Events;
 use netlist::{Core, Fault, NoMemory};
+use observed_points::Points;
 use std::alloc::{AllocError, Global};
 use std::marker::Model;
 
@@ -24,7 +24,7 @@ pub struct Simulator<'a> {
 
 impl<'a> Model for Simulator<'a> {
     ghost use Rattle.netlist.specs.Netlist.{Netlist};
-    ghost use Rattle.word_sim.specs.inner.Points.{CanSimulate};
+    ghost use Rattle.word_sim.specs.inner.Simulating.{CanSimulate};
 
     ghost Value = { Netlist };
 

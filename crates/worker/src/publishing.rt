@@ -15,7 +15,7 @@ use shared_list::{Share, Shared};
 use std::alloc::Global;
 use std::sync::Wait;
 use std::sync::ledger::Ledger;
-use word_sim::{Batch, hits};
+use word_sim::{Batch, Simulator};
 
 /// A pattern for each cube.
 fn fill_all<N: Rng>(
@@ -59,20 +59,24 @@ fn patterns_of<N: Rng>(
 fn batch_of<J: About>(
     alloc: Global,
     core: &Core,
+    simulator: &mut Simulator<'_>,
     patterns: Vec<Pattern>,
     left: &Left<J>,
     holds: &Holds,
 ) -> Result<Batch, NoMemory>
     requires core { core.now ≡ J.subject.netlist }
+    requires simulator { simulator.old ≡ core.now }
     requires lines { HaveLines J.subject }
     requires held { holds.now ≡ J.subject.holds }
     requires few { vec_len patterns ≤ 64 }
     requires wide { All (IsPatternOf core.now holds.now) patterns.items }
     ensures patterns { IfOk result (λ b. b.patterns ≡ patterns.items) }
     ensures true_batch { IfOk result (IsTrueBatch J.subject) }
+    ensures simulator { simulator.new ≡ simulator.old }
 {
+    let _ = core;
     let _ = holds;
-    let hits = hits(alloc, core, &patterns, left.classes())?;
+    let hits = simulator.hits(alloc, &patterns, left.classes())?;
     Ok(Batch::new(patterns, hits))
 }
 
@@ -92,6 +96,7 @@ pub(crate) fn publish_cubes<
     shared: &Shared<J, T, S, P, U>,
     share: &mut Share<T, S, P, U>,
     core: &Core,
+    simulator: &mut Simulator<'_>,
     gate: &G,
     rng: &mut N,
     cubes: &[Cube],
@@ -99,6 +104,7 @@ pub(crate) fn publish_cubes<
 ) -> Result<(), NoMemory>
     requires table { share.old.table ≡ shared.now.word.shared.table_id }
     requires core { core.now ≡ J.subject.netlist }
+    requires simulator { simulator.old ≡ core.now }
     requires lines { HaveLines J.subject }
     requires held { holds.now ≡ J.subject.holds }
     requires wide { All (IsCubeOf core.now holds.now) cubes.now }
@@ -106,10 +112,11 @@ pub(crate) fn publish_cubes<
     requires unspent { length cubes.now ≤ share.old.unspent }
     ensures table { share.new.table ≡ share.old.table }
     ensures ended { share.new.ended ≡ share.old.ended }
+    ensures simulator { simulator.new ≡ simulator.old }
 {
     let patterns = patterns_of(alloc, core, cubes, rng, holds)?;
     let left = shared.undetected(rt, alloc)?;
-    let batch = batch_of(alloc, core, patterns, &left, holds)?;
+    let batch = batch_of(alloc, core, simulator, patterns, &left, holds)?;
     if let Err((NoMemory, _)) = shared.publish(rt, share, batch) {
         return Err(NoMemory);
     }

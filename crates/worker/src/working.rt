@@ -18,8 +18,9 @@ use shared_list::{Drawn, Share, Shared};
 use std::alloc::Global;
 use std::sync::Wait;
 use std::sync::ledger::Ledger;
+use word_sim::Simulator;
 
-/// Searches claim after claim, until there is none.
+/// Searches claim after claim, until there is none. Room for searches and for simulation is made once.
 pub fn work<J: About, T: Ledger, S: Ledger, P: Ledger, U: Ledger, E: Engine, G: Gate, R: Wait>(
     rt: &R,
     alloc: Global,
@@ -40,6 +41,8 @@ pub fn work<J: About, T: Ledger, S: Ledger, P: Ledger, U: Ledger, E: Engine, G: 
     ensures ended { OnOk result (share.new.ended ≡ true) }
 {
     let mut rng = Lcg64Xsh32::new(seed, share.worker() as u64);
+    let mut room = engine.room(alloc, core, holds)?;
+    let mut simulator = Simulator::new(alloc, core)?;
     let mut cubes = Vec::new(alloc);
     for _ in rt.forever() {
         let claim = match shared.take(rt, share) {
@@ -48,14 +51,32 @@ pub fn work<J: About, T: Ledger, S: Ledger, P: Ledger, U: Ledger, E: Engine, G: 
             Drawn::None => break,
         };
         gate.at(share.worker(), Stage::Claimed);
-        match engine.search(alloc, core, claim.fault(), claim.limit(), holds)? {
+        let (found, kept) = engine.search_in(
+            alloc,
+            room,
+            core,
+            claim.fault(),
+            claim.limit(),
+            holds,
+        )?;
+        room = kept;
+        match found {
             Found::Test(cube, _) => {
                 add(&mut cubes, cube)?;
                 if cubes.len() == 64 {
                     publish_cubes(
-                        rt, alloc, shared, share, core, gate, &mut rng, &cubes, holds,
+                        rt,
+                        alloc,
+                        shared,
+                        share,
+                        core,
+                        &mut simulator,
+                        gate,
+                        &mut rng,
+                        &cubes,
+                        holds,
                     )?;
-                    cubes = Vec::new(alloc);
+                    cubes.clear();
                 }
             }
             Found::Closed(tree) => {
@@ -67,6 +88,15 @@ pub fn work<J: About, T: Ledger, S: Ledger, P: Ledger, U: Ledger, E: Engine, G: 
         }
     }
     publish_cubes(
-        rt, alloc, shared, share, core, gate, &mut rng, &cubes, holds,
+        rt,
+        alloc,
+        shared,
+        share,
+        core,
+        &mut simulator,
+        gate,
+        &mut rng,
+        &cubes,
+        holds,
     )
 }

@@ -1,6 +1,6 @@
 -- What is done after the labels of a decision were worked out, and to take it back.
-use Rattle.std.specs.Prelude.{ℕ, ◌≡◌, ◌⊎◌, ◌++◌, Bool, false, true, List, [], map, take, drop, slice_set, Option, Some, None}
-use Rattle.std.specs.List.{list_any}
+use Rattle.std.specs.Prelude.{ℕ, ◌≡◌, ◌⊎◌, ◌++◌, Bool, false, true, List, [], map, take, drop, slice_set, length, vec_capacity, Option, Some, None, IsTrue}
+use Rattle.std.specs.List.{list_any, flat_map}
 use Rattle.netlist.specs.declared.kinds.Tri.TheVariants.{X}
 use Rattle.netlist.specs.declared.lines.Line.{Line}
 use Rattle.netlist.specs.declared.lines.Line.TheVariants.{Stem, Pin, Out}
@@ -12,9 +12,12 @@ use Rattle.tri.specs.Labels.{labels, label_of}
 use Rattle.tri.specs.Labelling.{AreLabelled, decided_in}
 use Rattle.events.specs.declared.trails.Change.{Change}
 use Rattle.events.specs.Standing.{Standing, Moves, SettlesAnew}
-use Rattle.events.specs.Trails.{undone}
+use Rattle.events.specs.Stuck.{IsObservedOnly}
+use Rattle.events.specs.Trails.{AreChanges, undone}
 use Rattle.label_events.specs.Lines.{AreSameOff}
+use Rattle.pair_sim.specs.declared.reach.Reach.{Reach}
 use Rattle.pair_sim.specs.inner.Levels.{clashes_at}
+use Rattle.pair_sim.specs.inner.Reach.{reached_one}
 
 -- the decided bit of a signal changed, and the labels settled anew
 pub record IsRelabelled (x : ℕ) (decision : Option Bool) (old new : Labelling) (s s' : Standing Label) : Type 0 where
@@ -56,10 +59,13 @@ site_of (Stem x) = Some x
 site_of (Pin z k) = Some z
 site_of (Out x) = None
 
--- what settled under another fault on this line, or none, settles
+-- what settled under another fault on this line, or none, settles, and the trail has gained what changed
 pub record IsSiteSettled (holds : Holds) (line : Line) (b : Labelling) (s s' : Standing Label) : Type 0 where
   pub netlist : s'.netlist ≡ s.netlist
   pub room : s'.room ≡ s.room
+  pub changes : List (Change Label)
+  pub trail : s'.trail ≡ s.trail ++ changes
+  pub are_changes : AreChanges s.values s'.values changes
   pub labelled : (f : Option Fault) → AreSameOff line f b.fault → AreLabelled f (decided_in b.decided.items) s.netlist holds s.values
       → AreLabelled b.fault (decided_in b.decided.items) s.netlist holds s'.values
 
@@ -71,3 +77,24 @@ pub record IsFaultPut (holds : Holds) (fault : Option Fault) (old new : Labellin
   pub room : s'.room ≡ s.room
   pub trail : s'.trail ≡ []
   pub labelled : AreLabelled old.fault (decided_in old.decided.items) s.netlist holds s.values → AreLabelled fault (decided_in old.decided.items) s.netlist holds s'.values
+
+-- a fault comes where there was none, and the labels settle anew; the trail has what changed
+pub record IsFaultSet (holds : Holds) (fault : Fault) (old new : Labelling) (s s' : Standing Label) : Type 0 where
+  pub fault_is : new.fault ≡ Some fault
+  pub row : new.decided.items ≡ old.decided.items
+  pub netlist : s'.netlist ≡ s.netlist
+  pub room : s'.room ≡ s.room
+  pub are_changes : AreChanges s.values s'.values s'.trail
+  pub labelled : AreLabelled old.fault (decided_in old.decided.items) s.netlist holds s.values → AreLabelled (Some fault) (decided_in old.decided.items) s.netlist holds s'.values
+
+-- Another fault comes in place of one, over the labels without a fault. What is noted of its reach is what it changes of these.
+pub record IsFaultReplaced (holds : Holds) (fault : Fault) (old new : Labelling) (reach reach' : Reach) (s s' : Standing Label) : Type 0 where
+  pub put : IsFaultPut holds (Some fault) old new s s'
+  pub good : List Label
+  pub good_are : AreLabelled old.fault (decided_in old.decided.items) s.netlist holds s.values → AreLabelled None (decided_in old.decided.items) s.netlist holds good
+  pub changes : List (Change Label)
+  pub are_changes : AreChanges good s'.values changes
+  pub points : reach'.points ≡ reach.points
+  pub known : IsTrue reach'.known → ¬ IsObservedOnly s.netlist fault.line
+  pub signals_are : reach'.signals.items ≡ flat_map (reached_one reach.points.first.items (length reach.points.seen.items) s'.values) changes
+  pub reach_room : vec_capacity reach'.signals ≡ vec_capacity reach.signals

@@ -8,7 +8,7 @@ use Rattle.netlist.specs.Netlist.{Netlist}
 use Rattle.cubes.specs.Cubes.{Pattern}
 use Rattle.word_sim.specs.declared.batches.Hit.{Hit}
 use Rattle.word_sim.specs.Hits.{IsDetectedAt, IsLastDetected, LastDetected}
-use Rattle.word_sim.specs.inner.Points.{point_of}
+use Rattle.observed_points.specs.Points.{point_of}
 
 abbrev pub hit_of : Netlist → ℕ → Option (ℕ × ℕ) → List Hit
 hit_of n class None = []

@@ -1,4 +1,5 @@
 use Rattle.std.proofs.Common.{◌≡◌, List, [], length, Some, Option, sym, ◌∙◌, ap, subst, vec_capacity, arith}
+use Rattle.std.proofs.lemmas.Bool.{both_ways}
 use Rattle.netlist.specs.declared.lines.Fault.{Fault}
 use Rattle.netlist.specs.Netlist.{Netlist, signals}
 use Rattle.netlist.proofs.Placed.{signals_length}
@@ -6,6 +7,7 @@ use Rattle.tri.specs.declared.labels.Label.{Label}
 use Rattle.tri.specs.Labels.{Decisions}
 use Rattle.tri.specs.Labelling.{AreLabelled, decided_in}
 use Rattle.tri.specs.Paths.{decisions}
+use Rattle.observed_points.specs.Points.{ArePoints}
 use Rattle.pair_sim.proofs.StoreLemmas.{stored_first}
 use Rattle.pair_sim.proofs.sims.started.Goals as goal
 
@@ -30,6 +32,13 @@ invariant_of-result c =
     let changes = c.in_ok-events.ensures.3 in
     let levels = c.in_ok-levels.ensures.capacity in
     let names = c.in_ok-names.ensures.capacity in
-    stored_first f holds l.fault l.decided.items c.in_ok-levels.levels.items c.in_ok-names.names.items e (vec_capacity c.in_ok-levels.levels) (vec_capacity c.in_ok-names.names)
-    c.in_ok-labelling.ensures.fault (c.in_ok-labelling.ensures.size ∙ sym same) c.in_ok-labelling.ensures.free are
-    c.in_ok-events.ensures.2 c.in_ok-levels.ensures.items c.in_ok-names.ensures.items (omega arith) (omega arith) (omega arith)
+    let p = c.in_ok-reach.reach.points in (
+      stored_first f holds l.fault l.decided.items c.in_ok-levels.levels.items c.in_ok-names.names.items e (vec_capacity c.in_ok-levels.levels) (vec_capacity c.in_ok-names.names)
+          c.in_ok-labelling.ensures.fault (c.in_ok-labelling.ensures.size ∙ sym same) c.in_ok-labelling.ensures.free are
+          c.in_ok-events.ensures.2 c.in_ok-levels.ensures.items c.in_ok-names.ensures.items (omega arith) (omega arith) (omega arith),
+      record {
+        points_are = subst (λ (m : Netlist). ArePoints m p.seen.items p.first.items p.numbers.items) (sym netlist) c.in_ok-reach.ensures.points;
+        reached = λ h. absurd (both_ways c.in_ok-reach.reach.known c.in_ok-reach.ensures.known h);
+        room_is = (let r = c.in_ok-reach.ensures.room in omega arith);
+      },
+    )

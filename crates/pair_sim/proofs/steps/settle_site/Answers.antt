@@ -1,10 +1,11 @@
-use Rattle.std.proofs.Common.{◌∙◌, refl, sym, subst}
+use Rattle.std.proofs.Common.{[], ◌∙◌, refl, sym, subst}
+use Rattle.std.proofs.lemmas.List.{append-nil}
 use Rattle.netlist.specs.Conditions.{IsSound}
 use Rattle.tri.specs.declared.labels.Label.{Label}
 use Rattle.tri.specs.Labels.{labels}
 use Rattle.tri.specs.Labelling.{decided_in}
 use Rattle.events.specs.Standing.{SettlesAnew}
-use Rattle.pair_sim.proofs.Faulting.{site_within, put_there, put_nowhere}
+use Rattle.pair_sim.proofs.Faulting.{site_within, put_there, put_nowhere, nothing_changed}
 use Rattle.pair_sim.proofs.steps.settle_site.Goals as goal
 
 pub change-requires-clause-within : goal.change-requires-clause-within
@@ -19,6 +20,9 @@ returns-in-None c =
     record {
       netlist = refl;
       room = refl;
+      changes = [];
+      trail = sym (append-nil s.trail);
+      are_changes = nothing_changed s.values;
       labelled = λ f same was. put_nowhere c.args.line.now f b.fault (decided_in b.decided.items) s.netlist c.args.holds.now same s.values s.values (sym c.site.ensures ∙ c.in-None.is) was;
     }
 
@@ -32,6 +36,9 @@ returns-in-Some c =
     record {
       netlist = c.change.ensures.moves.netlist;
       room = c.change.ensures.moves.room;
+      changes = c.change.ensures.moves.changes;
+      trail = c.change.ensures.moves.trail;
+      are_changes = c.change.ensures.moves.are_changes;
       labelled = λ f same was. put_there c.args.line.now f b.fault (decided_in b.decided.items) s.netlist holds same s.values c.change.new.self.values sound c.requires.holds x
           (sym c.site.ensures ∙ c.in-Some.is)
           (subst (λ (l : Label). SettlesAnew (labels b.fault (decided_in b.decided.items)) s.netlist x l s.values c.change.new.self.values) c.driven_onto-driven.ensures c.change.ensures.settles)

@@ -6,9 +6,9 @@ use Rattle.events.specs.declared.trails.Change.{Change}
 use Rattle.events.specs.Stuck.{IsObservedOnly}
 use Rattle.events.specs.Words.{word_table}
 use Rattle.word_sim.specs.inner.Differences.{IsSole}
-use Rattle.word_sim.specs.inner.Points.{IsReadAt}
+use Rattle.observed_points.specs.Points.{IsReadAt}
 use Rattle.word_sim.proofs.FaultFound.{sole_signal, found_sole, small_sole, found_stuck, small_stuck}
-use Rattle.word_sim.proofs.ObservedPoints.{signal_in}
+use Rattle.observed_points.proofs.ObservedPoints.{signal_in}
 use Rattle.word_sim.proofs.detecting.last_of.Goals as goal
 
 pub bounds-values-index : goal.bounds-values-index

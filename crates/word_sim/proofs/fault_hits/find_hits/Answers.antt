@@ -6,7 +6,7 @@ use Rattle.netlist.specs.Netlist.{Netlist}
 use Rattle.events.specs.Standing.{Standing}
 use Rattle.word_sim.specs.Hits.{LastDetected}
 use Rattle.word_sim.specs.inner.Found.{hit_of}
-use Rattle.word_sim.specs.inner.Points.{point_of}
+use Rattle.observed_points.specs.Points.{point_of}
 use Rattle.word_sim.proofs.HitLists.{hits_more}
 use Rattle.word_sim.proofs.fault_hits.find_hits.Goals as goal
 

@@ -1,18 +1,35 @@
 use Rattle.std.proofs.Common.{arith, rules}
 use Rattle.std.proofs.lemmas.List.Elements.{All-push}
 use Rattle.cubes.specs.Cubes.{IsCubeOf}
-use Rattle.worker.proofs.WorkLemmas.{test_is_cube}
+use Rattle.worker.proofs.WorkLemmas.{closed_settles, partial_settles, test_is_cube}
 use Rattle.worker.proofs.working.work.Goals as goal
 
 pub publish_cubes-requires-clause-wide : goal.publish_cubes-requires-clause-wide
 publish_cubes-requires-clause-wide g c =
-    rw (c.deref.ensures.value, c.in_ok-add-in-Test.ensures.items) (All-push (IsCubeOf c.args.core.now c.args.holds.now) c.loop.cubes.items c.in-Test.cube c.loop.invariant.wide (test_is_cube c.fault.result c.args.core.now c.args.holds.now c.limit.result c.in_ok-cube.field-0 c.in-Test.cube c.in-Test.field-1 c.in_ok-cube.ensures c.in-Test.is))
+    rw (c.deref.ensures.value, c.in_ok-add-in-Test.ensures.items) (All-push (IsCubeOf c.args.core.now c.args.holds.now) c.loop.cubes.items c.in-Test.cube c.loop.invariant.wide
+    (test_is_cube c.fault.result c.args.core.now c.args.holds.now c.limit.result c.in_ok-found.found c.in-Test.cube c.in-Test.field-1 c.in_ok-found.ensures.evidence c.in-Test.is))
 
 pub loop-preserved-else-len-eq64 : goal.loop-preserved-else-len-eq64
 loop-preserved-else-len-eq64 g c =
     record {
       few = omega (arith, c.in_ok-add-in-Test.ensures.len, c.loop.invariant.few, c.len.ensures, c.if-len-eq64.false);
       unspent = search rules;
-      wide = rw c.in_ok-add-in-Test.ensures.items (All-push (IsCubeOf c.args.core.now c.args.holds.now) c.loop.cubes.items c.in-Test.cube c.loop.invariant.wide (test_is_cube c.fault.result c.args.core.now c.args.holds.now c.limit.result c.in_ok-cube.field-0 c.in-Test.cube c.in-Test.field-1 c.in_ok-cube.ensures c.in-Test.is));
+      wide = rw c.in_ok-add-in-Test.ensures.items (All-push (IsCubeOf c.args.core.now c.args.holds.now) c.loop.cubes.items c.in-Test.cube c.loop.invariant.wide
+          (test_is_cube c.fault.result c.args.core.now c.args.holds.now c.limit.result c.in_ok-found.found c.in-Test.cube c.in-Test.field-1 c.in_ok-found.ensures.evidence c.in-Test.is));
       table = search rules;
+      room = c.in_ok-found.ensures.room;
+      simulator = c.loop.invariant.simulator;
     }
+
+pub settle-requires-clause-fits : goal.settle-requires-clause-fits
+settle-requires-clause-fits g c =
+    closed_settles g.J.About.subject c.fault.result c.in-Claim.claim.fault c.args.core.now c.args.holds.now c.limit.result c.in_ok-found.found c.in-Closed.tree
+    c.in_ok-found.ensures.evidence c.in-Closed.is c.fault.ensures.fault c.requires.core c.requires.held.0
+
+pub settle-requires-in-Partial-clause-fits : goal.settle-requires-in-Partial-clause-fits
+settle-requires-in-Partial-clause-fits g c =
+    partial_settles g.J.About.subject c.fault.result c.in-Claim.claim.fault c.args.core.now c.args.holds.now c.limit.result c.in_ok-found.found c.in-Partial.tree
+    c.in_ok-found.ensures.evidence c.in-Partial.is c.fault.ensures.fault c.requires.core c.requires.held.0 c.limit.ensures
+
+pub publish_cubes-requires-2-clause-wide : goal.publish_cubes-requires-2-clause-wide
+publish_cubes-requires-2-clause-wide g c = rw c.deref-2.ensures.value c.loop.invariant.wide

@@ -9,4 +9,6 @@ invariant-loop g l = record {
   unspent : vec_len l.cubes ≤ l.share.unspent;
   wide : All (IsCubeOf l.core l.holds) l.cubes.items;
   table : l.share.table ≡ l.fn.share.table;
+  room : g.E.Engine.serves l.core l.holds l.room;
+  simulator : l.simulator ≡ l.core;
 }

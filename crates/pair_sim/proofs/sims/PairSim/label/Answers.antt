@@ -17,13 +17,13 @@ returns c =
     let sound : IsSound n = subst IsSound (c.netlist.ensures ∙ c.core.ensures) c.sound.ensures in
     let x = c.args.signal in
     let low = signal_below n sound.formed.numbered x (subst (λ (s : Sim). Contains (signals s.netlist) x) (sym c.self.view_is) c.requires) in
-    let size = c.self.invariant.kept.labelled.size in
+    let size = c.self.invariant.0.kept.labelled.size in
     let same = ap length c.values.ensures.values in
     let at_x = c.index.ensures in
     let inside : c.index.result < length c.values.result.now = omega arith in
     record {
       label = at i.events.values blank;
-      are = subst (λ (s : Sim). AreLabelsOf s (at i.events.values blank)) c.self.view_is (c.self.invariant.kept.labelled.labels blank);
+      are = subst (λ (s : Sim). AreLabelsOf s (at i.events.values blank)) c.self.view_is (c.self.invariant.0.kept.labelled.labels blank);
       is = sym (get_or_default c.values.result.now c.index.result _ blank inside
           ∙ (ap (λ (vs : List Label). get_or vs c.index.result blank) c.values.ensures.values ∙ ap (at i.events.values blank) c.index.ensures));
     }

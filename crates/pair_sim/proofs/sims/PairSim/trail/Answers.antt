@@ -10,5 +10,5 @@ returns c possible =
     let sound : IsSound i.events.netlist = subst IsSound (c.netlist.ensures ∙ c.core.ensures) c.sound.ensures in
     subst (λ (ns : List ℕ). AreChangedSignals c.args.self.now ns) (sym c.deref.ensures.value)
     (subst (λ (s : Sim). AreChangedSignals s i.names.items) c.self.view_is
-    (names_changed i.fault i.events.netlist i.holds.now i.labelling.decided.items i.levels.items i.names.items i.events.values i.events.trail c.self.invariant.kept sound
+    (names_changed i.fault i.events.netlist i.holds.now i.labelling.decided.items i.levels.items i.names.items i.events.values i.events.trail c.self.invariant.0.kept sound
     (λ w. possible (subst IsContradictedSim c.self.view_is w))))

@@ -1,7 +1,7 @@
 use Rattle.std.proofs.Common.{sym, subst}
 use Rattle.netlist.specs.Netlist.{Netlist}
 use Rattle.word_sim.specs.inner.Packed.{AreSettledWords}
-use Rattle.word_sim.specs.inner.Points.{ArePoints}
+use Rattle.observed_points.specs.Points.{ArePoints}
 use Rattle.word_sim.proofs.simulator.Simulator.made.Goals as goal
 
 pub invariant_of-result : goal.invariant_of-result

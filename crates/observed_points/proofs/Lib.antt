@@ -1,0 +1,4 @@
+pub mod ObservedPoints
+pub mod PinLists
+pub mod PointTables
+pub mod LineReads

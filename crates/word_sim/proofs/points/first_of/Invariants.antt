@@ -1,5 +1,0 @@
-use Rattle.word_sim.specs.inner.Points.{AreFirst}
-use Rattle.word_sim.proofs.points.first_of.Given as goal
-
-abbrev pub invariant-loop-k : goal.invariant-loop-k
-invariant-loop-k l = AreFirst l.seen l.count l.k l.first.items

@@ -1,0 +1,40 @@
+-- What was told of the chunks of a list is told of the list.
+use Rattle.std.proofs.Common.{◌≡◌, ℕ, ◌+◌, ◌*◌, ◌/◌, ◌%◌, ◌<◌, ◌≤◌, min, List, [], ◌∷◌, ◌++◌, length, take, drop, sym, ◌∙◌, ap, subst, inl, inr, arith}
+use Rattle.std.specs.Fork.{slice_chunk}
+use Rattle.std.specs.List.{AllZip}
+use Rattle.std.proofs.Math.Seq.{take-add}
+use Rattle.std.proofs.lemmas.Nat.{div-add-mod'}
+use Rattle.std.proofs.Math.Nat.{mod-lt, min-eq_left}
+use Rattle.std.proofs.lemmas.Bool.{cases_lt}
+
+pub zip_append : {A B : Type 0} (R : A → B → Type 0) (xs xs' : List A) (ys ys' : List B) → AllZip R xs ys → AllZip R xs' ys' → AllZip R (xs ++ xs') (ys ++ ys')
+zip_append R [] xs' [] ys' h k = k
+zip_append R [] xs' (y ∷ ys) ys' h k = absurd h
+zip_append R (x ∷ xs) xs' [] ys' h k = absurd h
+zip_append R (x ∷ xs) xs' (y ∷ ys) ys' h k = (h.0, zip_append R xs xs' ys ys' h.1 k)
+
+-- one chunk more
+pub zip_more : {A B : Type 0} (R : A → B → Type 0) (xs : List A) (size n : ℕ) (told more all : List B) → AllZip R (take (n * size) xs) told → AllZip R (slice_chunk xs size n) more → all ≡ told ++ more
+    → AllZip R (take ((n + 1) * size) xs) all
+zip_more R xs size n told more all h k e =
+    let next : (n + 1) * size ≡ n * size + size = omega arith in
+    subst (λ ys. AllZip R (take ((n + 1) * size) xs) ys) (sym e)
+    (subst (λ m. AllZip R (take m xs) (told ++ more)) (sym next)
+    (subst (λ zs. AllZip R zs (told ++ more)) (sym (take-add (n * size) size xs)) (zip_append R (take (n * size) xs) (slice_chunk xs size n) told more h k)))
+
+-- the chunks cover the list
+pub covers : (count size chunks : ℕ) → 0 < size → chunks ≡ count / size + min 1 (count % size) → count ≤ chunks * size
+covers count size chunks some e =
+    let whole = div-add-mod' count size in
+    let rest = mod-lt count some in
+    elim (cases_lt 0 (count % size)) [
+      | inl more ↦
+          let one : min 1 (count % size) ≡ 1 = min-eq_left more in
+          let more_chunks : chunks * size ≡ (count / size + 1) * size = ap (λ k. k * size) (e ∙ ap (λ k. count / size + k) one) in
+          let product : (count / size + 1) * size ≡ count / size * size + size = omega arith in
+          omega arith
+      | inr none ↦
+          let zero_left : min 1 (count % size) ≡ 0 = ap (min 1) (let z : count % size ≡ 0 = omega arith in z) in
+          let same_chunks : chunks * size ≡ (count / size) * size = ap (λ k. k * size) (e ∙ (ap (λ k. count / size + k) zero_left ∙ (let z : count / size + 0 ≡ count / size = omega arith in z))) in
+          omega arith
+    ]
