@@ -1,6 +1,6 @@
 -- Joined faults behave alike, and so do equivalent ones.
 use Rattle.std.proofs.Common.{◌≡◌, ◌≢◌, ℕ, suc, zero, ◌+◌, ◌<◌, ◌≤◌, ◌⊎◌, ◌&&◌, Bool, true, false, not, eqb, List, [], ◌∷◌, ◌++◌, map, length, refl, sym, ◌∙◌, ap, subst, Some, inl, inr, arith, length-append}
-use Rattle.std.specs.Bool.{beq}
+use Rattle.std.specs.Bool.{Decides}
 use Rattle.std.specs.List.{All, AllZip, Contains, flat_map, slice_get}
 use Rattle.std.proofs.lemmas.Bool.{both_ways, cases_Bool, cases_lt, eq-eqb, eqb-true, ne_eqb}
 use Rattle.std.proofs.lemmas.List.{get_or_append_left, get_or_default, length-map}
@@ -13,11 +13,11 @@ use Rattle.netlist.specs.declared.lines.Line.TheVariants.{Stem, Pin, Out}
 use Rattle.netlist.specs.declared.lines.Fault.{Fault}
 use Rattle.netlist.specs.Netlist.{Definition, Netlist, is_cell, is_flip_flop, is_gate, cells, gates, signals}
 use Rattle.netlist.specs.Conditions.{IsSound}
-use Rattle.netlist.specs.Gates.{allows_pins, gate_bit}
+use Rattle.netlist.specs.Gates.{allows_pins}
 use Rattle.netlist.specs.Laws.{HoldsEverywhere, SettlesOnce, SomeSettles}
 use Rattle.netlist.specs.Readers.{readers_of}
-use Rattle.netlist.specs.Settled.{Rule, Settles, bits, is_line, next, on_pins, outs, pins_of}
-use Rattle.netlist.proofs.Lists.{All-from_contains, contains_cases, contains_filter, contains_head, contains_map, contains_nil, contains_tail, decides_beq, filter_contains, map_agree}
+use Rattle.netlist.specs.Settled.{Rule, Settles, Table, is_line, next, on_pins, outs, pins_of, with_fault}
+use Rattle.netlist.proofs.Lists.{All-from_contains, contains_cases, contains_filter, contains_head, contains_map, contains_nil, contains_tail, filter_contains, map_agree}
 use Rattle.netlist.proofs.Placed.{definition_below, same_definition}
 use Rattle.netlist.proofs.Settling.{above_inputs}
 use Rattle.fault_universe.proofs.Elements.{contains_at}
@@ -25,17 +25,17 @@ use Rattle.fault_universe.proofs.Members.{read_signal}
 use Rattle.fault_universe.proofs.Names.{is_signal}
 use Rattle.fault_universe.proofs.Readers.{IsPinOf, output_reads, pin_reads}
 use Rattle.fault_collapse.specs.Joined.{IsEquivalent, IsJoined, joined, output_value, reflexive, symmetric, transitive}
+use Rattle.fault_collapse.specs.Laws.{Controls}
 use Rattle.fault_collapse.proofs.Agreement.{AreApart, free, held, next_agree, outs_agree}
-use Rattle.fault_collapse.proofs.Controlled.{controlled}
 use Rattle.fault_collapse.proofs.Reading.{branch_at, only_one, stem_at, to_pin}
 
 -- what a fault's settled assignment gives
-pub record AgreeOn (n : Netlist) (f g : Fault) (a b : ℕ → Bool) : Type 0 where
-  pub outs : outs (bits (Some f)) n a ≡ outs (bits (Some g)) n b
-  pub next : next (bits (Some f)) n a ≡ next (bits (Some g)) n b
+pub record AgreeOn {V : Type 0} (table : Table V) (n : Netlist) (f g : Fault) (a b : ℕ → V) : Type 0 where
+  pub outs : outs (with_fault table (Some f)) n a ≡ outs (with_fault table (Some g)) n b
+  pub next : next (with_fault table (Some f)) n a ≡ next (with_fault table (Some g)) n b
 
 -- a value at a pin
-on_pin : (rule : Rule Bool) (z k i : ℕ) (vs : List Bool) (v : Bool) → slice_get vs i ≡ Some v → slice_get (on_pins rule z k vs) i ≡ Some (rule.line (Pin z (k + i)) v)
+on_pin : {V : Type 0} (rule : Rule V) (z k i : ℕ) (vs : List V) (v : V) → slice_get vs i ≡ Some v → slice_get (on_pins rule z k vs) i ≡ Some (rule.line (Pin z (k + i)) v)
 on_pin rule z k i [] v e = absurd (cc)
 on_pin rule z k zero (u ∷ vs) v e =
     let same : u ≡ v = cc in
@@ -45,24 +45,24 @@ on_pin rule z k (suc i) (u ∷ vs) v e =
     let at : k + 1 + i ≡ k + suc i = omega arith in
     on_pin rule z (k + 1) i vs v e ∙ ap (λ j. Some (rule.line (Pin z j) v)) at
 
-mapped_at : (a : ℕ → Bool) (xs : List ℕ) (i x : ℕ) → slice_get xs i ≡ Some x → slice_get (map a xs) i ≡ Some (a x)
+mapped_at : {V : Type 0} (a : ℕ → V) (xs : List ℕ) (i x : ℕ) → slice_get xs i ≡ Some x → slice_get (map a xs) i ≡ Some (a x)
 mapped_at a [] i x e = absurd (cc)
 mapped_at a (y ∷ ys) zero x e = let same : y ≡ x = cc in ap (λ z. Some (a z)) same
 mapped_at a (y ∷ ys) (suc i) x e = mapped_at a ys i x e
 
-pub pin_value : (rule : Rule Bool) (a : ℕ → Bool) (d : Definition) (k x : ℕ) → slice_get d.pins k ≡ Some x → slice_get (pins_of rule a d) k ≡ Some (rule.line (Pin d.id k) (a x))
+pub pin_value : {V : Type 0} (rule : Rule V) (a : ℕ → V) (d : Definition) (k x : ℕ) → slice_get d.pins k ≡ Some x → slice_get (pins_of rule a d) k ≡ Some (rule.line (Pin d.id k) (a x))
 pin_value rule a d k x e = let at : 0 + k ≡ k = omega arith in on_pin rule d.id 0 k (map a d.pins) (a x) (mapped_at a d.pins k x e) ∙ ap (λ j. Some (rule.line (Pin d.id j) (a x))) at
 
 -- what is driven there
-driven : {X : Type 0} (R : X → Bool → Type 0) (xs : List X) (vs : List Bool) (x : X) → AllZip R xs vs → Contains xs x → (v : Bool) × R x v
+driven : {X V : Type 0} (R : X → V → Type 0) (xs : List X) (vs : List V) (x : X) → AllZip R xs vs → Contains xs x → (v : V) × R x v
 driven R [] vs x h c = absurd (contains_nil x c)
 driven R (y ∷ ys) [] x h c = absurd h
-driven {X} R (y ∷ ys) (v ∷ vs) x h c = elim (contains_cases y x ys c) [
+driven {X} {V} R (y ∷ ys) (v ∷ vs) x h c = elim (contains_cases y x ys c) [
   | inl e ↦ (v, subst (λ (z : X). R z v) e h.0)
   | inr r ↦ driven R ys vs x h.1 r
 ]
 
-zip_length : {X : Type 0} (R : X → Bool → Type 0) (xs : List X) (vs : List Bool) → AllZip R xs vs → length vs ≡ length xs
+zip_length : {X V : Type 0} (R : X → V → Type 0) (xs : List X) (vs : List V) → AllZip R xs vs → length vs ≡ length xs
 zip_length R [] [] h = refl
 zip_length R [] (v ∷ vs) h = absurd h
 zip_length R (x ∷ xs) [] h = absurd h
@@ -72,27 +72,27 @@ defined_kind : (d : Definition) (b : Bool) → is_cell d ≡ b → (is_cell d �
 defined_kind d true e = inl e
 defined_kind d false e = inr (ap not e)
 
-module _ (n : Netlist) (sound : IsSound n) (f : Fault) (inputs state : List Bool) (a : ℕ → Bool) (p : Settles (bits (Some f)) n inputs state a) where
+module _ {V : Type 0} (table : Table V) (n : Netlist) (sound : IsSound n) (f : Fault) (inputs state : List V) (a : ℕ → V) (p : Settles (with_fault table (Some f)) n inputs state a) where
   -- a stuck stem has the stuck value
-  pub stuck_stem : (x : ℕ) → Contains (signals n) x → f.line ≡ Stem x → a x ≡ f.value
+  pub stuck_stem : (x : ℕ) → Contains (signals n) x → f.line ≡ Stem x → a x ≡ table.known f.value
   stuck_stem x c is =
       let here : is_line f.line (Stem x) ≡ true = ap (λ l. is_line l (Stem x)) is ∙ eq-eqb x x refl in
       elim (Contains-append_cases n.inputs (map (λ (d : Definition). d.id) n.definitions) x c) [
-        | inl i ↦ let v = driven (λ y v. a y ≡ (bits (Some f)).line (Stem y) v) n.inputs inputs x p.0 i in v.1 ∙ held f (Stem x) v.0 here
+        | inl i ↦ let v = driven (λ y v. a y ≡ (with_fault table (Some f)).line (Stem y) v) n.inputs inputs x p.0 i in v.1 ∙ held table.known f (Stem x) v.0 here
         | inr m ↦
             let d = contains_map (λ (d : Definition). d.id) n.definitions x m in
             let stuck : is_line f.line (Stem d.0.id) ≡ true = ap (λ y. is_line f.line (Stem y)) d.2 ∙ here in
             ap a (sym d.2) ∙ elim (defined_kind d.0 (is_cell d.0) refl) [
               | inl cell ↦
-                  let v = driven (λ (e : Definition) v. a e.id ≡ (bits (Some f)).line (Stem e.id) v) (cells n) state d.0 p.1 (filter_contains is_cell n.definitions d.0 d.1 cell) in
-                  v.1 ∙ held f (Stem d.0.id) v.0 stuck
+                  let v = driven (λ (e : Definition) v. a e.id ≡ (with_fault table (Some f)).line (Stem e.id) v) (cells n) state d.0 p.1 (filter_contains is_cell n.definitions d.0 d.1 cell) in
+                  v.1 ∙ held table.known f (Stem d.0.id) v.0 stuck
               | inr gate ↦
-                  All-contains (λ (e : Definition). a e.id ≡ (bits (Some f)).line (Stem e.id) (gate_bit e.kind (pins_of (bits (Some f)) a e))) (gates n) d.0 p.2
-                  (filter_contains is_gate n.definitions d.0 d.1 gate) ∙ held f (Stem d.0.id) (gate_bit d.0.kind (pins_of (bits (Some f)) a d.0)) stuck
+                  All-contains (λ (e : Definition). a e.id ≡ (with_fault table (Some f)).line (Stem e.id) (table.gate e.kind (pins_of (with_fault table (Some f)) a e))) (gates n) d.0 p.2
+                  (filter_contains is_gate n.definitions d.0 d.1 gate) ∙ held table.known f (Stem d.0.id) (table.gate d.0.kind (pins_of (with_fault table (Some f)) a d.0)) stuck
             ]
       ]
 
-length-on_pins : (rule : Rule Bool) (z k : ℕ) (vs : List Bool) → length (on_pins rule z k vs) ≡ length vs
+length-on_pins : {V : Type 0} (rule : Rule V) (z k : ℕ) (vs : List V) → length (on_pins rule z k vs) ≡ length vs
 length-on_pins rule z k [] = refl
 length-on_pins rule z k (v ∷ vs) = ap suc (length-on_pins rule z (k + 1) vs)
 
@@ -200,71 +200,73 @@ module _ (n : Netlist) (sound : IsSound n) (f g : Fault) (j : IsJoined n f g) wh
       cells = away_cells;
     }
 
-  module _ (everywhere : HoldsEverywhere) (inputs state : List Bool) (a b : ℕ → Bool) (p : Settles (bits (Some f)) n inputs state a) (q : Settles (bits (Some g)) n inputs state b) where
+  module _ {V : Type 0} (same : V → V → Bool) (decides : (x y : V) → Decides (same x y) (x ≡ y)) (table : Table V) (controls : Controls table)
+      (everywhere : HoldsEverywhere) (inputs state : List V) (a b : ℕ → V) (p : Settles (with_fault table (Some f)) n inputs state a) (q : Settles (with_fault table (Some g)) n inputs state b) where
     below : j.gate.id < length (signals n)
     below = definition_below n sound.formed.numbered j.gate j.member
 
-    at_output : b j.gate.id ≡ g.value
-    at_output = stuck_stem n sound g inputs state b q j.gate.id (is_signal n sound.formed.numbered j.gate.id below) j.output
+    at_output : b j.gate.id ≡ table.known g.value
+    at_output = stuck_stem table n sound g inputs state b q j.gate.id (is_signal n sound.formed.numbered j.gate.id below) j.output
 
     -- the gate's pin is at the stuck value, and so its output is at the other fault's
-    at_gate : is_line f.line (Stem j.gate.id) ≡ false → (bits (Some f)).line (Pin j.gate.id j.place) (a j.signal) ≡ f.value → a j.gate.id ≡ b j.gate.id
+    at_gate : is_line f.line (Stem j.gate.id) ≡ false → (with_fault table (Some f)).line (Pin j.gate.id j.place) (a j.signal) ≡ table.known f.value → a j.gate.id ≡ b j.gate.id
     at_gate elsewhere pin =
-        let settled = All-contains (λ (e : Definition). a e.id ≡ (bits (Some f)).line (Stem e.id) (gate_bit e.kind (pins_of (bits (Some f)) a e))) (gates n) j.gate p.2 the_gate in
-        let value : slice_get (pins_of (bits (Some f)) a j.gate) j.place ≡ Some f.value = pin_value (bits (Some f)) a j.gate j.place j.signal j.pin ∙ ap (λ v. Some v) pin in
-        let size : length (pins_of (bits (Some f)) a j.gate) ≡ length j.gate.pins = length-on_pins (bits (Some f)) j.gate.id 0 (map a j.gate.pins) ∙ length-map j.gate.pins a in
+        let settled = All-contains (λ (e : Definition). a e.id ≡ (with_fault table (Some f)).line (Stem e.id) (table.gate e.kind (pins_of (with_fault table (Some f)) a e))) (gates n) j.gate p.2 the_gate in
+        let value : slice_get (pins_of (with_fault table (Some f)) a j.gate) j.place ≡ Some (table.known f.value) = pin_value (with_fault table (Some f)) a j.gate j.place j.signal j.pin ∙ ap (λ v. Some v) pin in
+        let size : length (pins_of (with_fault table (Some f)) a j.gate) ≡ length j.gate.pins = length-on_pins (with_fault table (Some f)) j.gate.id 0 (map a j.gate.pins) ∙ length-map j.gate.pins a in
         let allowed = ap (allows_pins j.gate.kind) size ∙ All-contains (λ (d : Definition). allows_pins d.kind (length d.pins) ≡ true) n.definitions j.gate sound.closed.allowed j.member in
-        settled ∙ (free f (Stem j.gate.id) (gate_bit j.gate.kind (pins_of (bits (Some f)) a j.gate)) elsewhere
-        ∙ (controlled j.gate.kind f.value g.value (pins_of (bits (Some f)) a j.gate) j.place j.values allowed value ∙ sym at_output))
+        settled ∙ (free table.known f (Stem j.gate.id) (table.gate j.gate.kind (pins_of (with_fault table (Some f)) a j.gate)) elsewhere
+        ∙ (controls j.gate.kind f.value g.value (pins_of (with_fault table (Some f)) a j.gate) j.place j.values allowed value ∙ sym at_output))
 
-    pub joined_agree : AgreeOn n f g a b
+    pub joined_agree : AgreeOn table n f g a b
     joined_agree = elim (cases_lt (length (readers_of n j.signal)) 2) [
       | inl few ↦
           let signal : Contains (signals n) j.signal = read_signal n sound j.gate.id j.place j.signal pin_of in
           let elsewhere = input_stem few (Stem j.gate.id) (ne_eqb j.signal j.gate.id not_own) in
-          let pin = free f (Pin j.gate.id j.place) (a j.signal) (input_stem few (Pin j.gate.id j.place) refl) ∙ stuck_stem n sound f inputs state a p j.signal signal (stem few) in
+          let pin = free table.known f (Pin j.gate.id j.place) (a j.signal) (input_stem few (Pin j.gate.id j.place) refl) ∙ stuck_stem table n sound f inputs state a p j.signal signal (stem few) in
           record {
-            outs = outs_agree everywhere n sound f g j.gate.id (λ y. eqb y j.signal) (stem_apart few) inputs state a b p q (at_gate elsewhere pin);
-            next = next_agree everywhere n sound f g j.gate.id (λ y. eqb y j.signal) (stem_apart few) inputs state a b p q (at_gate elsewhere pin);
+            outs = outs_agree same decides table everywhere n sound f g j.gate.id (λ y. eqb y j.signal) (stem_apart few) inputs state a b p q (at_gate elsewhere pin);
+            next = next_agree same decides table everywhere n sound f g j.gate.id (λ y. eqb y j.signal) (stem_apart few) inputs state a b p q (at_gate elsewhere pin);
           }
       | inr many ↦
           let elsewhere = input_branch many (Stem j.gate.id) refl in
           let here : is_line f.line (Pin j.gate.id j.place) ≡ true =
           ap (λ l. is_line l (Pin j.gate.id j.place)) (branch many) ∙ (ap (λ b. b && eqb j.place j.place) (eq-eqb j.gate.id j.gate.id refl) ∙ eq-eqb j.place j.place refl) in
-          let pin = held f (Pin j.gate.id j.place) (a j.signal) here in
+          let pin = held table.known f (Pin j.gate.id j.place) (a j.signal) here in
           record {
-            outs = outs_agree everywhere n sound f g j.gate.id (λ _. false) (branch_apart many) inputs state a b p q (at_gate elsewhere pin);
-            next = next_agree everywhere n sound f g j.gate.id (λ _. false) (branch_apart many) inputs state a b p q (at_gate elsewhere pin);
+            outs = outs_agree same decides table everywhere n sound f g j.gate.id (λ _. false) (branch_apart many) inputs state a b p q (at_gate elsewhere pin);
+            next = next_agree same decides table everywhere n sound f g j.gate.id (λ _. false) (branch_apart many) inputs state a b p q (at_gate elsewhere pin);
           }
     ]
 
 -- two assignments that are one on all signals
-module _ (n : Netlist) (sound : IsSound n) (f : Fault) (a b : ℕ → Bool) (same : All (λ x. a x ≡ b x) (signals n)) where
-  same_cells : (ds : List Definition) → ((d : Definition) → Contains ds d → Contains n.definitions d) → flat_map (pins_of (bits (Some f)) a) ds ≡ flat_map (pins_of (bits (Some f)) b) ds
+module _ {V : Type 0} (table : Table V) (n : Netlist) (sound : IsSound n) (f : Fault) (a b : ℕ → V) (same : All (λ x. a x ≡ b x) (signals n)) where
+  same_cells : (ds : List Definition) → ((d : Definition) → Contains ds d → Contains n.definitions d) → flat_map (pins_of (with_fault table (Some f)) a) ds ≡ flat_map (pins_of (with_fault table (Some f)) b) ds
   same_cells [] within = refl
   same_cells (d ∷ ds) within =
       let read : All (Contains (signals n)) d.pins = All-contains (λ (e : Definition). All (Contains (signals n)) e.pins) n.definitions d sound.closed.pins (within d (contains_head d ds)) in
       let values = map_agree a b d.pins (All-from_contains (λ x. a x ≡ b x) d.pins (λ x c. All-contains (λ y. a y ≡ b y) (signals n) x same (All-contains (Contains (signals n)) d.pins x read c))) in
-      ap (λ vs. on_pins (bits (Some f)) d.id 0 vs ++ flat_map (pins_of (bits (Some f)) a) ds) values
-      ∙ ap (λ vs. pins_of (bits (Some f)) b d ++ vs) (same_cells ds (λ e c. within e (contains_tail d e ds c)))
+      ap (λ vs. on_pins (with_fault table (Some f)) d.id 0 vs ++ flat_map (pins_of (with_fault table (Some f)) a) ds) values
+      ∙ ap (λ vs. pins_of (with_fault table (Some f)) b d ++ vs) (same_cells ds (λ e c. within e (contains_tail d e ds c)))
 
-  pub same_agree : AgreeOn n f f a b
+  pub same_agree : AgreeOn table n f f a b
   same_agree = record {
-    outs = map_agree (λ x. (bits (Some f)).line (Out x) (a x)) (λ x. (bits (Some f)).line (Out x) (b x)) n.outputs
-        (All-from_contains (λ x. (bits (Some f)).line (Out x) (a x) ≡ (bits (Some f)).line (Out x) (b x)) n.outputs
-        (λ x c. ap ((bits (Some f)).line (Out x)) (All-contains (λ y. a y ≡ b y) (signals n) x same (All-contains (Contains (signals n)) n.outputs x sound.closed.outputs c))));
+    outs = map_agree (λ x. (with_fault table (Some f)).line (Out x) (a x)) (λ x. (with_fault table (Some f)).line (Out x) (b x)) n.outputs
+        (All-from_contains (λ x. (with_fault table (Some f)).line (Out x) (a x) ≡ (with_fault table (Some f)).line (Out x) (b x)) n.outputs
+        (λ x c. ap ((with_fault table (Some f)).line (Out x)) (All-contains (λ y. a y ≡ b y) (signals n) x same (All-contains (Contains (signals n)) n.outputs x sound.closed.outputs c))));
     next = same_cells (cells n) (λ d c. (contains_filter is_cell n.definitions d c).0);
   }
 
-module _ (everywhere : HoldsEverywhere) (once : SettlesOnce Bool) (some : SomeSettles Bool) (n : Netlist) (sound : IsSound n) (inputs state : List Bool) where
-  pub equivalent_agree : (f g : Fault) → IsEquivalent n f g → (a b : ℕ → Bool) → Settles (bits (Some f)) n inputs state a → Settles (bits (Some g)) n inputs state b → AgreeOn n f g a b
-  equivalent_agree f g (joined x y j) a b p q = joined_agree n sound f g j everywhere inputs state a b p q
-  equivalent_agree f g (reflexive x) a b p q = same_agree n sound f a b (once beq decides_beq (bits (Some f)) n inputs state a b sound.closed sound.acyclic p q)
+module _ {V : Type 0} (same : V → V → Bool) (decides : (x y : V) → Decides (same x y) (x ≡ y)) (blank : V) (table : Table V) (controls : Controls table)
+    (everywhere : HoldsEverywhere) (once : SettlesOnce V) (some : SomeSettles V) (n : Netlist) (sound : IsSound n) (inputs state : List V) where
+  pub equivalent_agree : (f g : Fault) → IsEquivalent n f g → (a b : ℕ → V) → Settles (with_fault table (Some f)) n inputs state a → Settles (with_fault table (Some g)) n inputs state b → AgreeOn table n f g a b
+  equivalent_agree f g (joined x y j) a b p q = joined_agree n sound f g j same decides table controls everywhere inputs state a b p q
+  equivalent_agree f g (reflexive x) a b p q = same_agree table n sound f a b (once same decides (with_fault table (Some f)) n inputs state a b sound.closed sound.acyclic p q)
   equivalent_agree f g (symmetric x y e) a b p q = let h = equivalent_agree g f e b a q p in record { outs = sym h.outs; next = sym h.next }
   equivalent_agree f h (transitive x g y d e) a b p q =
-      let m = some false (bits (Some g)) n inputs state sound.formed.numbered sound.closed sound.acyclic
-      (zip_length (λ x v. a x ≡ (bits (Some f)).line (Stem x) v) n.inputs inputs p.0)
-      (zip_length (λ (c : Definition) v. a c.id ≡ (bits (Some f)).line (Stem c.id) v) (cells n) state p.1) in
+      let m = some blank (with_fault table (Some g)) n inputs state sound.formed.numbered sound.closed sound.acyclic
+      (zip_length (λ x v. a x ≡ (with_fault table (Some f)).line (Stem x) v) n.inputs inputs p.0)
+      (zip_length (λ (c : Definition) v. a c.id ≡ (with_fault table (Some f)).line (Stem c.id) v) (cells n) state p.1) in
       let one = equivalent_agree f g d a m.0 p m.1 in
       let two = equivalent_agree g h e m.0 b m.1 q in
       record { outs = one.outs ∙ two.outs; next = one.next ∙ two.next }

@@ -11,4 +11,4 @@ mod union_find;
 
 pub use classes::Classes;
 pub use collapsing::collapse;
-pub use laws::{classes_once, detected_alike, equivalent_agree};
+pub use laws::{bits_control, classes_once, detected_alike, equivalent_agree, equivalent_agree_by};

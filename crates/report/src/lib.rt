@@ -17,5 +17,6 @@ pub use hold_lines::HoldLines;
 pub use laws::texts_tell_reports;
 pub use outcomes::Outcome;
 pub use reading::{ReportFault, read_report};
+pub use pieces::{behind, is_word};
 pub use reports::Report;
 pub use writing::write_report;

@@ -7,7 +7,7 @@ ghost use Rattle.report.specs.Reports.{IsWord};
 ghost use Rattle.report.specs.inner.Lines.{bit_text};
 
 /// What stands behind a word at the front.
-pub(crate) fn behind<'a>(word: &[u8], text: &'a [u8]) -> Option<&'a [u8]>
+pub fn behind<'a>(word: &[u8], text: &'a [u8]) -> Option<&'a [u8]>
     ensures { MatchOption result ((rest : List ℕ) → text.now ≢ word.now ++ rest) (λ rest. text.now ≡ word.now ++ rest.now) }
 {
     text.strip_prefix(word)
@@ -41,7 +41,7 @@ fn are_name_bytes(text: &[u8]) -> bool
 }
 
 /// Whether the text is a name, however long.
-pub(crate) fn is_word(text: &[u8]) -> bool
+pub fn is_word(text: &[u8]) -> bool
     ensures { IsTrue result ↔ IsWord text.now }
 {
     if text.is_empty() {

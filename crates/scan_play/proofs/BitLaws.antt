@@ -145,10 +145,10 @@ own_responses n f sound (p ∷ ps) (r ∷ rs) h =
       (record { values = a.0; settles = a.1; outputs = refl; cells = refl }, others.1),
     )
 
-abbrev SameDrive : Cycle → Cycle → Type 0
+abbrev pub SameDrive : Cycle → Cycle → Type 0
 SameDrive c d = (c.drive ≡ d.drive) × (c.pulse ≡ d.pulse)
 
-runs_alike : {V : Type 0} (table : Table V) (g : Option Fault) (s : Netlist) (state : List V) (cs ds : List Cycle) (shown : List (List V)) → AllZip SameDrive cs ds
+pub runs_alike : {V : Type 0} (table : Table V) (g : Option Fault) (s : Netlist) (state : List V) (cs ds : List Cycle) (shown : List (List V)) → AllZip SameDrive cs ds
     → Runs table g s state cs shown → Runs table g s state ds shown
 runs_alike table g s state [] [] shown h run = run
 runs_alike table g s state [] (d ∷ ds) shown h run = absurd h

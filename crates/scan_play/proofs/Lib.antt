@@ -18,3 +18,4 @@ pub mod BurstLemmas
 pub mod ApplyLemmas
 pub mod PlanMarks
 pub mod PlanLemmas
+pub mod JudgeLemmas

@@ -45,7 +45,7 @@ get_or-numbers first (suc count) zero d l = omega arith
 get_or-numbers first (suc count) (suc k) d l = omega (arith, get_or-numbers (first + 1) count k d (omega (arith, l)))
 
 -- the strobes of each cycle
-abbrev rows : List Cycle → List (List Tri)
+abbrev pub rows : List Cycle → List (List Tri)
 rows cycles = map (λ (x : Cycle). x.strobe) cycles
 
 length-load : (n : Netlist) (holds : Holds) (chains : List (List ℕ)) (bits : List Bool) (held : List Tri) → length (rows (load n holds chains bits held)) ≡ longest_of chains
@@ -54,7 +54,7 @@ length-load n holds chains bits held =
     let f = shift n holds (map (word_in m) (by_chain chains bits)) (map (word_out m) (by_chain chains held)) in
     length-map (map f (numbers_from 0 m)) (λ (x : Cycle). x.strobe) ∙ (length-map (numbers_from 0 m) f ∙ length-numbers_from 0 m)
 
-abbrev load_row : Netlist → List (List ℕ) → List Tri → ℕ → List Tri
+abbrev pub load_row : Netlist → List (List ℕ) → List Tri → ℕ → List Tri
 load_row n chains held t = replicate (length n.outputs) X ++ column X (map (word_out (longest_of chains)) (by_chain chains held)) t
 
 row_of_load : (n : Netlist) (holds : Holds) (chains : List (List ℕ)) (bits : List Bool) (held : List Tri) (t : ℕ) → t < longest_of chains
@@ -69,7 +69,7 @@ row_of_load n holds chains bits held t l =
     ∙ ap (λ k. (f k).strobe) (get_or-numbers 0 m t 0 l ∙ omega arith))
 
 -- past a load
-past_load : (n : Netlist) (holds : Holds) (chains : List (List ℕ)) (bits : List Bool) (held : List Tri) (rest : List Cycle) (c k : ℕ) → c ≡ longest_of chains + k
+pub past_load : (n : Netlist) (holds : Holds) (chains : List (List ℕ)) (bits : List Bool) (held : List Tri) (rest : List Cycle) (c k : ℕ) → c ≡ longest_of chains + k
     → get_or (rows (load n holds chains bits held ++ rest)) c [] ≡ get_or (rows rest) k []
 past_load n holds chains bits held rest c k e =
     let first = load n holds chains bits held in
@@ -79,7 +79,7 @@ past_load n holds chains bits held rest c k e =
     ∙ ap (λ j. get_or (rows rest) j []) (omega arith))
 
 -- within a load
-in_load : (n : Netlist) (holds : Holds) (chains : List (List ℕ)) (bits : List Bool) (held : List Tri) (rest : List Cycle) (t : ℕ) → t < longest_of chains
+pub in_load : (n : Netlist) (holds : Holds) (chains : List (List ℕ)) (bits : List Bool) (held : List Tri) (rest : List Cycle) (t : ℕ) → t < longest_of chains
     → get_or (rows (load n holds chains bits held ++ rest)) t [] ≡ load_row n chains held t
 in_load n holds chains bits held rest t l =
     let first = load n holds chains bits held in
@@ -187,7 +187,7 @@ same_place ids i j x apart a b =
       ]
     ]
 
-longest_above : (chains : List (List ℕ)) (c : ℕ) (chain : List ℕ) → slice_get chains c ≡ Some chain → length chain ≤ longest_of chains
+pub longest_above : (chains : List (List ℕ)) (c : ℕ) (chain : List ℕ) → slice_get chains c ≡ Some chain → length chain ≤ longest_of chains
 longest_above [] c chain e = cc
 longest_above (own ∷ chains) zero chain e = let same = ap length (get_of (own ∷ chains) zero chain chain e) in omega arith
 longest_above (own ∷ chains) (suc c) chain e = let l = longest_above chains c chain e in omega arith

@@ -29,7 +29,7 @@ use Rattle.scan_play.specs.Bursts.{cycles_of}
 use Rattle.scan_play.specs.Cycles.{IsCycleOf}
 use Rattle.scan_play.specs.inner.Plans.{IsReady, Stays, IsPath, IsPlanned, IsDrivenOnto, AreSettled, IsStepped}
 use Rattle.scan_play.specs.inner.Steps.{IsStep}
-use Rattle.scan_play.specs.inner.Unmet.{unmet_by, or_else, unmet_in}
+use Rattle.scan_play.specs.Judging.{IsOpen, Judging, judged_in, or_else}
 use Rattle.scan_play.proofs.PlanMarks.{taken_more}
 use Rattle.scan_play.proofs.PlaySteps.{cycle_fits}
 use Rattle.scan_play.proofs.RunLaws.{next_length}
@@ -131,25 +131,25 @@ module _ (f : Option Fault) (n : Netlist) (numbered : IsNumbered n) (base inputs
 -- ---- a cycle
 
 -- what is shown is the same wherever it is strobed
-unmet_alike : (c o : ℕ) (ss vs ws : List Tri) → length vs ≡ length ws → ((k : ℕ) → k < length vs → (slice_get ss k ≡ Some X) ⊎ (get_or vs k X ≡ get_or ws k X))
-    → unmet_in c o ss vs ≡ unmet_in c o ss ws
-unmet_alike c o [] vs ws e h = refl
-unmet_alike c o (s ∷ ss) [] [] e h = refl
-unmet_alike c o (s ∷ ss) [] (w ∷ ws) e h = absurd (omega (arith, e))
-unmet_alike c o (s ∷ ss) (v ∷ vs) [] e h = absurd (omega (arith, e))
-unmet_alike c o (s ∷ ss) (v ∷ vs) (w ∷ ws) e h =
-    let rest : unmet_in c (o + 1) ss vs ≡ unmet_in c (o + 1) ss ws = unmet_alike c (o + 1) ss vs ws (omega (arith, e)) (λ k l. h (suc k) (omega (arith, l))) in
-    let here : unmet_by c o s v ≡ unmet_by c o s w = elim (h zero (omega arith)) [
+judged_alike : (J : Judging) → IsOpen J → (c o : ℕ) (ss vs ws : List Tri) → length vs ≡ length ws → ((k : ℕ) → k < length vs → (slice_get ss k ≡ Some X) ⊎ (get_or vs k X ≡ get_or ws k X))
+    → judged_in J c o ss vs ≡ judged_in J c o ss ws
+judged_alike J opens c o [] vs ws e h = refl
+judged_alike J opens c o (s ∷ ss) [] [] e h = refl
+judged_alike J opens c o (s ∷ ss) [] (w ∷ ws) e h = absurd (omega (arith, e))
+judged_alike J opens c o (s ∷ ss) (v ∷ vs) [] e h = absurd (omega (arith, e))
+judged_alike J opens c o (s ∷ ss) (v ∷ vs) (w ∷ ws) e h =
+    let rest : judged_in J c (o + 1) ss vs ≡ judged_in J c (o + 1) ss ws = judged_alike J opens c (o + 1) ss vs ws (omega (arith, e)) (λ k l. h (suc k) (omega (arith, l))) in
+    let here : J c o s v ≡ J c o s w = elim (h zero (omega arith)) [
       | inl x ↦ open_strobe s x
-      | inr same ↦ ap (unmet_by c o s) same
+      | inr same ↦ ap (J c o s) same
     ] in
-    ap (λ x. or_else x (unmet_in c (o + 1) ss vs)) here ∙ ap (or_else (unmet_by c o s w)) rest
+    ap (λ x. or_else x (judged_in J c (o + 1) ss vs)) here ∙ ap (or_else (J c o s w)) rest
   where
     some_same : (x y : Tri) → Some x ≡ Some y → x ≡ y
     some_same x y e = cc
 
-    open_strobe : (s : Tri) → Some s ≡ Some X → unmet_by c o s v ≡ unmet_by c o s w
-    open_strobe s x = let is = some_same s X x in ap (λ t. unmet_by c o t v) is ∙ sym (ap (λ t. unmet_by c o t w) is)
+    open_strobe : (s : Tri) → Some s ≡ Some X → J c o s v ≡ J c o s w
+    open_strobe s x = let is = some_same s X x in ap (λ t. J c o t v) is ∙ (opens c o v ∙ sym (ap (λ t. J c o t w) is ∙ opens c o w))
 
 slice_front : (xs ys : List Tri) (k : ℕ) (x : Tri) → slice_get xs k ≡ Some x → slice_get (xs ++ ys) k ≡ Some x
 slice_front [] ys k x e = absurd (none_some e)
@@ -185,11 +185,11 @@ flat_map_agree f g (x ∷ xs) h =
     let r : flat_map f xs ≡ flat_map g xs = flat_map_agree f g xs (λ y c. h y (suc c.0, omega (arith, c.1), c.2)) in
     cc
 
-module _ (f : Option Fault) (n : Netlist) (sound : IsSound n) (drive : List Bool) (strobe : List Tri) (steps : List ℕ) (v0 v1 v2 : List Tri) (plan : IsPlanned f n drive strobe steps v0)
+module _ (J : Judging) (opens : IsOpen J) (f : Option Fault) (n : Netlist) (sound : IsSound n) (drive : List Bool) (strobe : List Tri) (steps : List ℕ) (v0 v1 v2 : List Tri) (plan : IsPlanned f n drive strobe steps v0)
     (ins : List Bool) (outs_of : List Tri) (pulse : Bool) (state row after : List Tri) (number : ℕ) (found : Option Played)
     (wide : length (drive ++ ins) ≡ length n.inputs) (size : length state ≡ length (cells n))
     (onto : IsDrivenOnto f n (map known (drive ++ ins)) state v0 v1) (stepped : IsStepped f n steps v1 v2)
-    (shows : row ≡ outs (tris f) n (at v2 X)) (keeps : after ≡ cond pulse (next (tris f) n (at v2 X)) state) (is : found ≡ unmet_in number 0 (strobe ++ outs_of) row) where
+    (shows : row ≡ outs (tris f) n (at v2 X)) (keeps : after ≡ cond pulse (next (tris f) n (at v2 X)) state) (is : found ≡ judged_in J number 0 (strobe ++ outs_of) row) where
   module _ (t : ℕ → Tri) (q : Settles (tris f) n (map known (drive ++ ins)) state t) where
     base_allows : (x : ℕ) → Contains (signals n) x → allows_tri (at plan.base X x) (t x) ≡ true
     base_allows =
@@ -229,10 +229,10 @@ module _ (f : Option Fault) (n : Netlist) (sound : IsSound n) (drive : List Bool
     next_same = flat_map_agree (pins_of (tris f) (at v2 X)) (pins_of (tris f) t) (cells n) (λ d c.
         pins_settled f n sound.formed.numbered plan.base (map known (drive ++ ins)) state t q v2 steps d at_end (All-contains (λ (e : Definition). All (IsReady n plan.base steps) e.pins) (cells n) d plan.has.cells_ready c))
 
-    shown_same : unmet_in number 0 (strobe ++ outs_of) (outs (tris f) n (at v2 X)) ≡ unmet_in number 0 (strobe ++ outs_of) (outs (tris f) n t)
+    shown_same : judged_in J number 0 (strobe ++ outs_of) (outs (tris f) n (at v2 X)) ≡ judged_in J number 0 (strobe ++ outs_of) (outs (tris f) n t)
     shown_same =
         let line : ℕ → Tri → Tri = λ x. (tris f).line (Out x) in
-        unmet_alike number 0 (strobe ++ outs_of) (outs (tris f) n (at v2 X)) (outs (tris f) n t) (length-map n.outputs (λ x. line x (at v2 X x)) ∙ sym (length-map n.outputs (λ x. line x (t x))))
+        judged_alike J opens number 0 (strobe ++ outs_of) (outs (tris f) n (at v2 X)) (outs (tris f) n t) (length-map n.outputs (λ x. line x (at v2 X x)) ∙ sym (length-map n.outputs (λ x. line x (t x))))
         (λ k l.
         let w : k < length n.outputs = omega (arith, length-map n.outputs (λ x. line x (at v2 X x))) in
         elim (strobe_cases (slice_get strobe k)) [
@@ -241,11 +241,11 @@ module _ (f : Option Fault) (n : Netlist) (sound : IsSound n) (drive : List Bool
               ∙ (ap (line (get_or n.outputs k 0)) (at_end (get_or n.outputs k 0) (plan.has.outputs_ready k w s)) ∙ sym (get_or-map (λ x. line x (t x)) n.outputs k 0 X w)))
         ])
 
-  pub planned_step : IsStep f n state after (record { drive = drive ++ ins; strobe = strobe ++ outs_of; pulse = pulse }) number found
+  pub planned_step : IsStep J f n state after (record { drive = drive ++ ins; strobe = strobe ++ outs_of; pulse = pulse }) number found
   planned_step = record {
     size = ap length keeps ∙ cond_length pulse (next (tris f) n (at v2 X)) state (length (cells n)) (next_length (tris f) n (at v2 X) sound.closed) size;
     outcome = λ shown then tick. (
-      ap (unmet_in number 0 (strobe ++ outs_of)) tick.shows ∙ (sym (shown_same tick.values tick.settles) ∙ (ap (unmet_in number 0 (strobe ++ outs_of)) (sym shows) ∙ sym is)),
+      ap (judged_in J number 0 (strobe ++ outs_of)) tick.shows ∙ (sym (shown_same tick.values tick.settles) ∙ (ap (judged_in J number 0 (strobe ++ outs_of)) (sym shows) ∙ sym is)),
       tick.keeps ∙ (ap (λ x. cond pulse x state) (sym (next_same tick.values tick.settles)) ∙ sym keeps),
     );
   }
@@ -275,7 +275,7 @@ narrow n b fit some =
 
 -- ---- as the player has it
 
-module _ (f : Option Fault) (n net : Netlist) (drive : List Bool) (strobe : List Tri) (steps : List ℕ) (v0 v1 v2 : List Tri) (ins : List Bool) (outs_of : List Tri) (state driven from : List Tri)
+module _ (J : Judging) (opens : IsOpen J) (f : Option Fault) (n net : Netlist) (drive : List Bool) (strobe : List Tri) (steps : List ℕ) (v0 v1 v2 : List Tri) (ins : List Bool) (outs_of : List Tri) (state driven from : List Tri)
     (there : net ≡ n) (sound : IsSound n) (plan : IsPlanned f n drive strobe steps v0) (wide : length (drive ++ ins) ≡ length n.inputs) (size : length state ≡ length (cells n))
     (is_driven : driven ≡ map known (drive ++ ins)) (is_from : from ≡ state) (onto : IsDrivenOnto f net driven from v0 v1) (stepped : IsStepped f net steps v1 v2) where
   onto_here : IsDrivenOnto f n (map known (drive ++ ins)) state v0 v1
@@ -287,15 +287,15 @@ module _ (f : Option Fault) (n net : Netlist) (drive : List Bool) (strobe : List
   stepped_here = subst (λ (m : Netlist). IsStepped f m steps v1 v2) there stepped
 
   pub shift_step : (pulse : Bool) (number : ℕ) (seen row strobes after : List Tri) (found : Option Played) → seen ≡ v2 → row ≡ outs (tris f) n (at seen X) → strobes ≡ strobe ++ outs_of
-      → found ≡ unmet_in number 0 strobes row → after ≡ cond pulse (next (tris f) n (at v2 X)) state
-      → IsStep f n state after (record { drive = drive ++ ins; strobe = strobe ++ outs_of; pulse = pulse }) number found
+      → found ≡ judged_in J number 0 strobes row → after ≡ cond pulse (next (tris f) n (at v2 X)) state
+      → IsStep J f n state after (record { drive = drive ++ ins; strobe = strobe ++ outs_of; pulse = pulse }) number found
   shift_step pulse number seen row strobes after found s shows t is keeps =
-      planned_step f n sound drive strobe steps v0 v1 v2 plan ins outs_of pulse state row after number found wide size onto_here stepped_here
-      (shows ∙ ap (λ (vs : List Tri). outs (tris f) n (at vs X)) s) keeps (is ∙ ap (λ (x : List Tri). unmet_in number 0 x row) t)
+      planned_step J opens f n sound drive strobe steps v0 v1 v2 plan ins outs_of pulse state row after number found wide size onto_here stepped_here
+      (shows ∙ ap (λ (vs : List Tri). outs (tris f) n (at vs X)) s) keeps (is ∙ ap (λ (x : List Tri). judged_in J number 0 x row) t)
 
   pub shift_planned : IsPlanned f n drive strobe steps v2
   shift_planned =
-      still_planned f n sound drive strobe steps v0 v1 v2 plan ins outs_of false state (outs (tris f) n (at v2 X)) state 0 (unmet_in 0 0 (strobe ++ outs_of) (outs (tris f) n (at v2 X))) wide size
+      still_planned J opens f n sound drive strobe steps v0 v1 v2 plan ins outs_of false state (outs (tris f) n (at v2 X)) state 0 (judged_in J 0 0 (strobe ++ outs_of) (outs (tris f) n (at v2 X))) wide size
       onto_here stepped_here refl refl refl
 
 -- what is driven where a burst is planned

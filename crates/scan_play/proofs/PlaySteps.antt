@@ -24,7 +24,7 @@ use Rattle.scan_play.specs.declared.played.Played.{Played}
 use Rattle.scan_play.specs.Cycles.{Cycle, IsCycleOf}
 use Rattle.scan_play.specs.Runs.{Ticks}
 use Rattle.scan_play.specs.Bursts.{cycle_of, cycles_of, all_cycles}
-use Rattle.scan_play.specs.inner.Unmet.{unmet_in}
+use Rattle.scan_play.specs.Judging.{Judging, judged_in}
 use Rattle.scan_play.specs.inner.Steps.{IsStep, PlaysOn}
 use Rattle.scan_play.proofs.Instances.{same_tri, decides_tri}
 use Rattle.scan_play.proofs.RunLaws.{one_tick, next_length}
@@ -54,17 +54,17 @@ cond_length : (b : Bool) (xs ys : List Tri) (k : ℕ) → length xs ≡ k → le
 cond_length true xs ys k e h = e
 cond_length false xs ys k e h = h
 
-pub step_from : (f : Option Fault) (n : Netlist) (cycle : Cycle) (number : ℕ) (state after drive strobe row : List Tri) (values : ℕ → Tri) (found : Option Played) → IsSound n
+pub step_from : (J : Judging) (f : Option Fault) (n : Netlist) (cycle : Cycle) (number : ℕ) (state after drive strobe row : List Tri) (values : ℕ → Tri) (found : Option Played) → IsSound n
     → drive ≡ map known cycle.drive → strobe ≡ cycle.strobe → length state ≡ length (cells n) → Settles (tris f) n drive state values
-    → row ≡ outs (tris f) n values → after ≡ cond cycle.pulse (next (tris f) n values) state → found ≡ unmet_in number 0 strobe row
-    → IsStep f n state after cycle number found
-step_from f n cycle number state after drive strobe row values found sound d s size settles shows keeps is = record {
+    → row ≡ outs (tris f) n values → after ≡ cond cycle.pulse (next (tris f) n values) state → found ≡ judged_in J number 0 strobe row
+    → IsStep J f n state after cycle number found
+step_from J f n cycle number state after drive strobe row values found sound d s size settles shows keeps is = record {
   size = ap length keeps ∙ cond_length cycle.pulse (next (tris f) n values) state (length (cells n)) (next_length (tris f) n values sound.closed) size;
   outcome = λ shown then tick.
       let own : Ticks tri_table f n state cycle row after =
       record { values = values; settles = subst (λ (x : List Tri). Settles (tris f) n x state values) d settles; shows = shows; keeps = keeps } in
       let same = one_tick same_tri decides_tri tri_table f n sound.closed sound.acyclic state cycle shown row then after tick own in
-      (ap (unmet_in number 0 cycle.strobe) same.0 ∙ (ap (λ (x : List Tri). unmet_in number 0 x row) (sym s) ∙ sym is), same.1);
+      (ap (judged_in J number 0 cycle.strobe) same.0 ∙ (ap (λ (x : List Tri). judged_in J number 0 x row) (sym s) ∙ sym is), same.1);
 }
 
 -- ---- a burst
@@ -94,32 +94,32 @@ taken b t l =
     let d : Cycle = cycle_of b t in
     take_more (cycles_of b) t d (omega arith) ∙ ap (λ c. take t (cycles_of b) ++ c ∷ []) (cycle_at b t d l)
 
-module _ (f : Option Fault) (n : Netlist) where
-  one_more : (b : Burst) (t first : ℕ) (start state after : List Tri) (found : Option Played) → t < b.count → PlaysOn f n (take t (cycles_of b)) first start state None
-      → IsStep f n state after (cycle_of b t) (first + t) found → PlaysOn f n (take (t + 1) (cycles_of b)) first start after found
+module _ (J : Judging) (f : Option Fault) (n : Netlist) where
+  one_more : (b : Burst) (t first : ℕ) (start state after : List Tri) (found : Option Played) → t < b.count → PlaysOn J f n (take t (cycles_of b)) first start state None
+      → IsStep J f n state after (cycle_of b t) (first + t) found → PlaysOn J f n (take (t + 1) (cycles_of b)) first start after found
   one_more b t first start state after found l h step =
       let size = length-cycles_of b in
       let many : first + t ≡ first + length (take t (cycles_of b)) = omega (arith, length-take t (cycles_of b)) in
-      let one = plays_step f n (cycle_of b t) (first + length (take t (cycles_of b))) state after found (subst (λ k. IsStep f n state after (cycle_of b t) k found) many step) in
-      subst (λ cs. PlaysOn f n cs first start after found) (sym (taken b t l))
-      (plays_then f n (take t (cycles_of b)) (cycle_of b t ∷ []) first start state after found h one)
+      let one = plays_step J f n (cycle_of b t) (first + length (take t (cycles_of b))) state after found (subst (λ k. IsStep J f n state after (cycle_of b t) k found) many step) in
+      subst (λ cs. PlaysOn J f n cs first start after found) (sym (taken b t l))
+      (plays_then J f n (take t (cycles_of b)) (cycle_of b t ∷ []) first start state after found h one)
 
-  pub burst_more : (b : Burst) (t first : ℕ) (start state after : List Tri) (found : Option Played) → t < b.count → PlaysOn f n (take t (cycles_of b)) first start state None
-      → IsStep f n state after (cycle_of b t) (first + t) found → found ≡ None → PlaysOn f n (take (t + 1) (cycles_of b)) first start after None
+  pub burst_more : (b : Burst) (t first : ℕ) (start state after : List Tri) (found : Option Played) → t < b.count → PlaysOn J f n (take t (cycles_of b)) first start state None
+      → IsStep J f n state after (cycle_of b t) (first + t) found → found ≡ None → PlaysOn J f n (take (t + 1) (cycles_of b)) first start after None
   burst_more b t first start state after found l h step is =
-      subst (λ x. PlaysOn f n (take (t + 1) (cycles_of b)) first start after x) is (one_more b t first start state after found l h step)
+      subst (λ x. PlaysOn J f n (take (t + 1) (cycles_of b)) first start after x) is (one_more b t first start state after found l h step)
 
-  pub burst_found : (b : Burst) (t first : ℕ) (start state after : List Tri) (found : Option Played) (p : Played) → t < b.count → PlaysOn f n (take t (cycles_of b)) first start state None
-      → IsStep f n state after (cycle_of b t) (first + t) found → found ≡ Some p → PlaysOn f n (cycles_of b) first start after (Some p)
+  pub burst_found : (b : Burst) (t first : ℕ) (start state after : List Tri) (found : Option Played) (p : Played) → t < b.count → PlaysOn J f n (take t (cycles_of b)) first start state None
+      → IsStep J f n state after (cycle_of b t) (first + t) found → found ≡ Some p → PlaysOn J f n (cycles_of b) first start after (Some p)
   burst_found b t first start state after found p l h step is =
-      let some = subst (λ x. PlaysOn f n (take (t + 1) (cycles_of b)) first start after x) is (one_more b t first start state after found l h step) in
-      subst (λ cs. PlaysOn f n cs first start after (Some p)) (take-append-drop (t + 1) (cycles_of b))
-      (plays_found f n (take (t + 1) (cycles_of b)) (drop (t + 1) (cycles_of b)) first start after p some)
+      let some = subst (λ x. PlaysOn J f n (take (t + 1) (cycles_of b)) first start after x) is (one_more b t first start state after found l h step) in
+      subst (λ cs. PlaysOn J f n cs first start after (Some p)) (take-append-drop (t + 1) (cycles_of b))
+      (plays_found J f n (take (t + 1) (cycles_of b)) (drop (t + 1) (cycles_of b)) first start after p some)
 
-  pub burst_done : (b : Burst) (t first : ℕ) (start state : List Tri) → b.count ≤ t → PlaysOn f n (take t (cycles_of b)) first start state None → PlaysOn f n (cycles_of b) first start state None
+  pub burst_done : (b : Burst) (t first : ℕ) (start state : List Tri) → b.count ≤ t → PlaysOn J f n (take t (cycles_of b)) first start state None → PlaysOn J f n (cycles_of b) first start state None
   burst_done b t first start state l h =
       let size = length-cycles_of b in
-      subst (λ cs. PlaysOn f n cs first start state None) (take_all t (cycles_of b) (omega arith)) h
+      subst (λ cs. PlaysOn J f n cs first start state None) (take_all t (cycles_of b) (omega arith)) h
 
   -- ---- bursts
 
@@ -145,29 +145,29 @@ module _ (f : Option Fault) (n : Netlist) where
   burst_fits bursts i b h l is = subst (λ x. All (IsCycleOf n) (cycles_of x)) (sym is) (all_flat_map (IsCycleOf n) cycles_of bursts h i b l)
 
   pub bursts_more : (bursts : List Burst) (i first : ℕ) (b : Burst) (start state after : List Tri) (found : Option Played) → i < length bursts → b ≡ get_or bursts i b
-      → first ≡ length (all_cycles (take i bursts)) → PlaysOn f n (all_cycles (take i bursts)) 0 start state None → PlaysOn f n (cycles_of b) first state after found
-      → PlaysOn f n (all_cycles (take (i + 1) bursts)) 0 start after found
+      → first ≡ length (all_cycles (take i bursts)) → PlaysOn J f n (all_cycles (take i bursts)) 0 start state None → PlaysOn J f n (cycles_of b) first state after found
+      → PlaysOn J f n (all_cycles (take (i + 1) bursts)) 0 start after found
   bursts_more bursts i first b start state after found l is number h one =
       let at : first ≡ 0 + length (all_cycles (take i bursts)) = omega (arith, number) in
-      subst (λ cs. PlaysOn f n cs 0 start after found) (sym (bursts_taken bursts i b l is))
-      (plays_then f n (all_cycles (take i bursts)) (cycles_of b) 0 start state after found h (subst (λ k. PlaysOn f n (cycles_of b) k state after found) at one))
+      subst (λ cs. PlaysOn J f n cs 0 start after found) (sym (bursts_taken bursts i b l is))
+      (plays_then J f n (all_cycles (take i bursts)) (cycles_of b) 0 start state after found h (subst (λ k. PlaysOn J f n (cycles_of b) k state after found) at one))
 
   pub bursts_none : (bursts : List Burst) (i first : ℕ) (b : Burst) (start state after : List Tri) (found : Option Played) → i < length bursts → b ≡ get_or bursts i b
-      → first ≡ length (all_cycles (take i bursts)) → PlaysOn f n (all_cycles (take i bursts)) 0 start state None → PlaysOn f n (cycles_of b) first state after found → found ≡ None
-      → PlaysOn f n (all_cycles (take (i + 1) bursts)) 0 start after None
+      → first ≡ length (all_cycles (take i bursts)) → PlaysOn J f n (all_cycles (take i bursts)) 0 start state None → PlaysOn J f n (cycles_of b) first state after found → found ≡ None
+      → PlaysOn J f n (all_cycles (take (i + 1) bursts)) 0 start after None
   bursts_none bursts i first b start state after found l is number h one none =
-      subst (λ x. PlaysOn f n (all_cycles (take (i + 1) bursts)) 0 start after x) none (bursts_more bursts i first b start state after found l is number h one)
+      subst (λ x. PlaysOn J f n (all_cycles (take (i + 1) bursts)) 0 start after x) none (bursts_more bursts i first b start state after found l is number h one)
 
   pub bursts_found : (bursts : List Burst) (i first : ℕ) (b : Burst) (start state after : List Tri) (found : Option Played) (p : Played) → i < length bursts → b ≡ get_or bursts i b
-      → first ≡ length (all_cycles (take i bursts)) → PlaysOn f n (all_cycles (take i bursts)) 0 start state None → PlaysOn f n (cycles_of b) first state after found → found ≡ Some p
-      → PlaysOn f n (all_cycles bursts) 0 start after (Some p)
+      → first ≡ length (all_cycles (take i bursts)) → PlaysOn J f n (all_cycles (take i bursts)) 0 start state None → PlaysOn J f n (cycles_of b) first state after found → found ≡ Some p
+      → PlaysOn J f n (all_cycles bursts) 0 start after (Some p)
   bursts_found bursts i first b start state after found p l is number h one some =
-      let some_found = subst (λ x. PlaysOn f n (all_cycles (take (i + 1) bursts)) 0 start after x) some (bursts_more bursts i first b start state after found l is number h one) in
+      let some_found = subst (λ x. PlaysOn J f n (all_cycles (take (i + 1) bursts)) 0 start after x) some (bursts_more bursts i first b start state after found l is number h one) in
       let whole : all_cycles (take (i + 1) bursts) ++ all_cycles (drop (i + 1) bursts) ≡ all_cycles bursts =
       sym (flat_map-append cycles_of (take (i + 1) bursts) (drop (i + 1) bursts)) ∙ ap all_cycles (take-append-drop (i + 1) bursts) in
-      subst (λ cs. PlaysOn f n cs 0 start after (Some p)) whole
-      (plays_found f n (all_cycles (take (i + 1) bursts)) (all_cycles (drop (i + 1) bursts)) 0 start after p some_found)
+      subst (λ cs. PlaysOn J f n cs 0 start after (Some p)) whole
+      (plays_found J f n (all_cycles (take (i + 1) bursts)) (all_cycles (drop (i + 1) bursts)) 0 start after p some_found)
 
-  pub bursts_done : (bursts : List Burst) (i : ℕ) (start state : List Tri) → length bursts ≤ i → PlaysOn f n (all_cycles (take i bursts)) 0 start state None
-      → PlaysOn f n (all_cycles bursts) 0 start state None
-  bursts_done bursts i start state l h = subst (λ x. PlaysOn f n (all_cycles x) 0 start state None) (take_all i bursts l) h
+  pub bursts_done : (bursts : List Burst) (i : ℕ) (start state : List Tri) → length bursts ≤ i → PlaysOn J f n (all_cycles (take i bursts)) 0 start state None
+      → PlaysOn J f n (all_cycles bursts) 0 start state None
+  bursts_done bursts i start state l h = subst (λ x. PlaysOn J f n (all_cycles x) 0 start state None) (take_all i bursts l) h

@@ -121,7 +121,7 @@ module _ (f : Option Fault) (n : Netlist) (closed : IsClosed n) (acyclic : IsAcy
 
 -- ---- what the player answers
 
-xs_allow : (bs : List Bool) (k : ℕ) → length bs ≡ k → AreAllowed (replicate k X) bs
+pub xs_allow : (bs : List Bool) (k : ℕ) → length bs ≡ k → AreAllowed (replicate k X) bs
 xs_allow [] zero e = tt
 xs_allow [] (suc k) e = absurd (omega (arith, e))
 xs_allow (b ∷ bs) zero e = absurd (omega (arith, e))
@@ -142,7 +142,7 @@ row_met (s ∷ ss) (v ∷ vs) (b ∷ bs) e h k =
     some_same : (x y : Tri) → Some x ≡ Some y → x ≡ y
     some_same x y e = cc
 
-run_row_length : (f : Option Fault) (n : Netlist) (state : List Tri) (c : Cycle) (row after : List Tri) → Ticks tri_table f n state c row after → length row ≡ length n.outputs
+pub run_row_length : (f : Option Fault) (n : Netlist) (state : List Tri) (c : Cycle) (row after : List Tri) → Ticks tri_table f n state c row after → length row ≡ length n.outputs
 run_row_length f n state c row after t = ap length t.shows ∙ length-map n.outputs _
 
 all_met : (f : Option Fault) (n : Netlist) (state : List Tri) (cycles : List Cycle) (shown : List (List Tri)) (bit_shown : List (List Bool)) → All (IsCycleOf n) cycles
@@ -159,13 +159,13 @@ all_met f n state (c ∷ cs) (x ∷ xs) (b ∷ bs) fit run met h =
       all_met f n run.0 cs xs bs (All-tail (IsCycleOf n) c cs fit) run.2 (λ k o. met (suc k) o) h.1,
     )
 
-allowed_bit : (b v : Bool) → IsTrue (allows (known b) v) → v ≡ b
+pub allowed_bit : (b v : Bool) → IsTrue (allows (known b) v) → v ≡ b
 allowed_bit true true h = refl
 allowed_bit true false h = no h
 allowed_bit false true h = no h
 allowed_bit false false h = refl
 
-row_bit : (vs : List Tri) (bs : List Bool) (o : ℕ) (b : Bool) → AreAllowed vs bs → slice_get vs o ≡ Some (known b) → slice_get bs o ≡ Some b
+pub row_bit : (vs : List Tri) (bs : List Bool) (o : ℕ) (b : Bool) → AreAllowed vs bs → slice_get vs o ≡ Some (known b) → slice_get bs o ≡ Some b
 row_bit [] bs o b h e = cc
 row_bit (v ∷ vs) [] o b h e = absurd h
 row_bit (v ∷ vs) (c ∷ cs) zero b h e = ap (λ x. Some x) (allowed_bit b c (subst (λ (t : Tri). IsTrue (allows t c)) (some_same v (known b) e) h.0))
@@ -174,14 +174,14 @@ row_bit (v ∷ vs) (c ∷ cs) zero b h e = ap (λ x. Some x) (allowed_bit b c (s
     some_same x y e = cc
 row_bit (v ∷ vs) (c ∷ cs) (suc o) b h e = row_bit vs cs o b h.1 e
 
-bit_at : (shown : List (List Tri)) (bit_shown : List (List Bool)) (c o : ℕ) (b : Bool) → AllZip AreAllowed shown bit_shown → shown_at shown c o ≡ Some (known b) → shown_at bit_shown c o ≡ Some b
+pub bit_at : (shown : List (List Tri)) (bit_shown : List (List Bool)) (c o : ℕ) (b : Bool) → AllZip AreAllowed shown bit_shown → shown_at shown c o ≡ Some (known b) → shown_at bit_shown c o ≡ Some b
 bit_at [] bit_shown c o b h e = cc
 bit_at (x ∷ xs) [] c o b h e = absurd h
 bit_at (x ∷ xs) (y ∷ ys) zero o b h e = row_bit x y o b h.0 e
 bit_at (x ∷ xs) (y ∷ ys) (suc c) o b h e = bit_at xs ys c o b h.1 e
 
 -- a run has a bit for each cell, where there is a cycle
-run_allowed : (f : Option Fault) (n : Netlist) (cycles : List Cycle) (state : List Bool) (shown : List (List Tri)) (bit_shown : List (List Bool)) → IsClosed n → IsAcyclic n
+pub run_allowed : (f : Option Fault) (n : Netlist) (cycles : List Cycle) (state : List Bool) (shown : List (List Tri)) (bit_shown : List (List Bool)) → IsClosed n → IsAcyclic n
     → Runs tri_table f n (replicate (length (cells n)) X) cycles shown → Runs bit_table f n state cycles bit_shown → AllZip AreAllowed shown bit_shown
 run_allowed f n [] state [] [] closed acyclic p q = tt
 run_allowed f n [] state [] (y ∷ ys) closed acyclic p q = absurd q

@@ -5,5 +5,6 @@ pub mod Passing
 pub mod Shifts
 pub mod Vectors
 pub mod Playing
+pub mod Judging
 pub mod Laws
 pub mod inner

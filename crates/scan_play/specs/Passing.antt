@@ -27,3 +27,7 @@ abbrev pub FailsAt : Netlist → Option Fault → List Cycle → ℕ → ℕ →
 FailsAt n f cycles c o =
     (b : Bool) × (strobe_at cycles c o ≡ known b)
     × ((state : List Bool) (shown : List (List Bool)) → Runs bit_table f n state cycles shown → shown_at shown c o ≡ Some (not b))
+
+-- The strobe of cycle c at output o is of a bit, and the other bit is shown. It is said of any values, of which some stand for bits.
+abbrev pub IsWrong : {V : Type 0} → (Bool → V) → List Cycle → List (List V) → ℕ → ℕ → Type 0
+IsWrong value cycles shown c o = (b : Bool) × (strobe_at cycles c o ≡ known b) × (shown_at shown c o ≡ Some (value (not b)))

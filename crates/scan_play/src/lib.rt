@@ -4,20 +4,21 @@
 mod applying;
 mod cycles;
 mod flushing;
+mod judging;
 mod laws;
 mod loading;
 mod planning;
 mod played;
 mod playing;
 mod stepping;
-mod strobes;
 
 pub use applying::vectors_of;
 pub use cycles::{Burst, Cycle, Vectors};
+pub use judging::{Judge, Strict};
 pub use laws::{
     detected_fails, good_passes, no_sequence_detects_redundant, play_tells_the_truth, runs_once,
     some_run, strobes_known, three_values_above_runs, undetected_passes, vectors_counted,
     vectors_decide, vectors_fit, vectors_obey,
 };
 pub use played::Played;
-pub use playing::play;
+pub use playing::{play, play_before};

@@ -8,12 +8,13 @@ ghost use Rattle.scan_play.specs.Bursts.{cycle_of, cycles_of, all_cycles};
 ghost use Rattle.scan_play.specs.inner.Plans.{IsPlanned};
 ghost use Rattle.scan_play.specs.inner.Steps.{IsStep, PlaysOn};
 ghost use Rattle.scan_play.specs.Playing.{PlaysAs};
+ghost use Rattle.scan_play.specs.Judging.{IsJudged};
 
 use crate::cycles::{Burst, Vectors, push_known};
 use crate::planning::Plan;
 use crate::played::Played;
 use crate::stepping::{drive_sources, evaluate_all};
-use crate::strobes::unmet_in;
+use crate::judging::{Judge, Strict, judged_in};
 use netlist::{Core, Fault, NoMemory, SignalId, Tri};
 use std::alloc::{AllocError, Global};
 use tri::Tris;
@@ -30,9 +31,10 @@ struct Bench {
 }
 
 /// Plays one cycle.
-fn play_cycle(
+fn play_cycle<J: Judge>(
     core: &Core,
     rule: &Tris,
+    judge: &J,
     burst: &Burst,
     t: usize,
     number: u64,
@@ -43,7 +45,7 @@ fn play_cycle(
     requires size { length bench.old.state.items ≡ length (cells core.now) }
     requires room { length bench.old.values.items ≡ length (signals core.now) }
     ensures room { IfOk result (λ _. length bench.new.values.items ≡ length (signals core.now)) }
-    ensures played { IfOk result (λ found. IsStep rule.now.fault core.now bench.old.state.items bench.new.state.items (cycle_of burst.now t) number found) }
+    ensures played { IfOk result (λ found. IsStep (J.says judge.now) rule.now.fault core.now bench.old.state.items bench.new.state.items (cycle_of burst.now t) number found) }
 {
     core.netlist().sound();
     burst.read_drive(t, &mut bench.drive)?;
@@ -56,7 +58,7 @@ fn play_cycle(
         &mut bench.pins,
     )?;
     core.outs_into(rule, &bench.values, &mut bench.shown)?;
-    let found = unmet_in(number, &bench.strobe, &bench.shown);
+    let found = judged_in(judge, number, &bench.strobe, &bench.shown);
     if burst.pulse {
         core.next_into(rule, &bench.values, &mut bench.state)?;
     }
@@ -64,9 +66,10 @@ fn play_cycle(
 }
 
 /// Plays the cycles of a burst, up to the first with an unmet strobe: each gate is evaluated in each cycle.
-fn play_cycles(
+fn play_cycles<J: Judge>(
     core: &Core,
     rule: &Tris,
+    judge: &J,
     burst: &Burst,
     first: u64,
     bench: &mut Bench,
@@ -76,10 +79,10 @@ fn play_cycles(
     requires room { length bench.old.values.items ≡ length (signals core.now) }
     requires few { first + burst.now.count < 2 ^ 64 }
     ensures room { IfOk result (λ _. length bench.new.values.items ≡ length (signals core.now)) }
-    ensures played { IfOk result (λ found. PlaysOn rule.now.fault core.now (cycles_of burst.now) first bench.old.state.items bench.new.state.items found) }
+    ensures played { IfOk result (λ found. PlaysOn (J.says judge.now) rule.now.fault core.now (cycles_of burst.now) first bench.old.state.items bench.new.state.items found) }
 {
     for t in 0..burst.count {
-        match play_cycle(core, rule, burst, t, first + t as u64, bench)? {
+        match play_cycle(core, rule, judge, burst, t, first + t as u64, bench)? {
             Some(played) => return Ok(Some(played)),
             None => {}
         }
@@ -88,9 +91,10 @@ fn play_cycles(
 }
 
 /// Plays one cycle by the steps of a plan.
-fn play_shift(
+fn play_shift<J: Judge>(
     core: &Core,
     rule: &Tris,
+    judge: &J,
     burst: &Burst,
     t: usize,
     number: u64,
@@ -102,7 +106,7 @@ fn play_shift(
     requires size { length bench.old.state.items ≡ length (cells core.now) }
     requires planned { IsPlanned rule.now.fault core.now burst.now.drive.items burst.now.strobe.items steps.now bench.old.values.items }
     ensures planned { IfOk result (λ _. IsPlanned rule.now.fault core.now burst.now.drive.items burst.now.strobe.items steps.now bench.new.values.items) }
-    ensures played { IfOk result (λ found. IsStep rule.now.fault core.now bench.old.state.items bench.new.state.items (cycle_of burst.now t) number found) }
+    ensures played { IfOk result (λ found. IsStep (J.says judge.now) rule.now.fault core.now bench.old.state.items bench.new.state.items (cycle_of burst.now t) number found) }
 {
     let netlist = core.netlist();
     netlist.sound();
@@ -111,7 +115,7 @@ fn play_shift(
     drive_sources(rule, netlist, &bench.drive, &bench.state, &mut bench.values);
     evaluate_all(rule, netlist, steps, &mut bench.values, &mut bench.pins)?;
     core.outs_into(rule, &bench.values, &mut bench.shown)?;
-    let found = unmet_in(number, &bench.strobe, &bench.shown);
+    let found = judged_in(judge, number, &bench.strobe, &bench.shown);
     if burst.pulse {
         core.next_into(rule, &bench.values, &mut bench.state)?;
     }
@@ -119,9 +123,10 @@ fn play_shift(
 }
 
 /// Plays the cycles of a burst by the steps of a plan, up to the first with an unmet strobe.
-fn play_shifts(
+fn play_shifts<J: Judge>(
     core: &Core,
     rule: &Tris,
+    judge: &J,
     burst: &Burst,
     first: u64,
     steps: &[SignalId],
@@ -132,10 +137,10 @@ fn play_shifts(
     requires planned { IsPlanned rule.now.fault core.now burst.now.drive.items burst.now.strobe.items steps.now bench.old.values.items }
     requires few { first + burst.now.count < 2 ^ 64 }
     ensures room { IfOk result (λ _. length bench.new.values.items ≡ length (signals core.now)) }
-    ensures played { IfOk result (λ found. PlaysOn rule.now.fault core.now (cycles_of burst.now) first bench.old.state.items bench.new.state.items found) }
+    ensures played { IfOk result (λ found. PlaysOn (J.says judge.now) rule.now.fault core.now (cycles_of burst.now) first bench.old.state.items bench.new.state.items found) }
 {
     for t in 0..burst.count {
-        match play_shift(core, rule, burst, t, first + t as u64, steps, bench)? {
+        match play_shift(core, rule, judge, burst, t, first + t as u64, steps, bench)? {
             Some(played) => return Ok(Some(played)),
             None => {}
         }
@@ -184,9 +189,10 @@ fn plan_burst(
 const LONG: usize = 4;
 
 /// Plays the cycles of a burst, up to the first with an unmet strobe.
-fn play_burst(
+fn play_burst<J: Judge>(
     core: &Core,
     rule: &Tris,
+    judge: &J,
     burst: &Burst,
     first: u64,
     idle: &[Tri],
@@ -199,22 +205,23 @@ fn play_burst(
     requires idle { idle.now ≡ replicate (length (cells core.now)) X }
     requires few { first + burst.now.count < 2 ^ 64 }
     ensures room { IfOk result (λ _. length bench.new.values.items ≡ length (signals core.now)) }
-    ensures played { IfOk result (λ found. PlaysOn rule.now.fault core.now (cycles_of burst.now) first bench.old.state.items bench.new.state.items found) }
+    ensures played { IfOk result (λ found. PlaysOn (J.says judge.now) rule.now.fault core.now (cycles_of burst.now) first bench.old.state.items bench.new.state.items found) }
 {
     if burst.count < LONG {
-        return play_cycles(core, rule, burst, first, bench);
+        return play_cycles(core, rule, judge, burst, first, bench);
     }
     let planned = plan_burst(core, rule, burst, idle, plan, bench)?;
     if planned {
-        return play_shifts(core, rule, burst, first, &plan.steps, bench);
+        return play_shifts(core, rule, judge, burst, first, &plan.steps, bench);
     }
-    play_cycles(core, rule, burst, first, bench)
+    play_cycles(core, rule, judge, burst, first, bench)
 }
 
 /// Plays bursts, up to the first cycle with an unmet strobe.
-fn play_bursts(
+fn play_bursts<J: Judge>(
     core: &Core,
     rule: &Tris,
+    judge: &J,
     bursts: &[Burst],
     idle: &[Tri],
     plan: &mut Plan,
@@ -225,11 +232,11 @@ fn play_bursts(
     requires room { length bench.old.values.items ≡ length (signals core.now) }
     requires idle { idle.now ≡ replicate (length (cells core.now)) X }
     requires few { length (all_cycles bursts.now) < 2 ^ 64 }
-    ensures { IfOk result (λ found. PlaysOn rule.now.fault core.now (all_cycles bursts.now) 0 bench.old.state.items bench.new.state.items found) }
+    ensures { IfOk result (λ found. PlaysOn (J.says judge.now) rule.now.fault core.now (all_cycles bursts.now) 0 bench.old.state.items bench.new.state.items found) }
 {
     let mut first: u64 = 0;
     for burst in bursts {
-        match play_burst(core, rule, burst, first, idle, plan, bench)? {
+        match play_burst(core, rule, judge, burst, first, idle, plan, bench)? {
             Some(played) => return Ok(Some(played)),
             None => {}
         }
@@ -247,16 +254,17 @@ fn unknowns(alloc: Global, count: usize) -> Result<Vec<Tri>, AllocError>
     Ok(values)
 }
 
-/// Plays vectors on a netlist, with a line stuck or with none.
-fn play_from_unknown(
+/// Plays vectors on a netlist, with a line stuck or with none, up to the first strobe of which the judge says something.
+fn play_from_unknown<J: Judge>(
     alloc: Global,
     core: &Core,
     rule: &Tris,
+    judge: &J,
     vectors: &Vectors,
-) -> Result<Played, AllocError>
+) -> Result<Option<Played>, AllocError>
     requires fits { All (IsCycleOf core.now) vectors.now }
     requires few { length vectors.now < 2 ^ 64 }
-    ensures { IfOk result (λ played. PlaysAs core.now rule.now.fault vectors.now played) }
+    ensures { IfOk result (λ found. IsJudged (J.says judge.now) core.now rule.now.fault vectors.now found) }
 {
     core.netlist().sound();
     let netlist = core.netlist();
@@ -273,10 +281,23 @@ fn play_from_unknown(
         values,
         pins: Vec::new(alloc),
     };
-    match play_bursts(core, rule, vectors.bursts(), &idle, &mut plan, &mut bench)? {
-        None => Ok(Played::Passes),
-        Some(played) => Ok(played),
-    }
+    let found = play_bursts(core, rule, judge, vectors.bursts(), &idle, &mut plan, &mut bench)?;
+    Ok(found)
+}
+
+/// Plays vectors on a netlist, with a line stuck or with none: what the judge first says, if anything.
+pub fn play_before<J: Judge>(
+    alloc: Global,
+    core: &Core,
+    fault: Option<Fault>,
+    vectors: &Vectors,
+    judge: &J,
+) -> Result<Option<Played>, NoMemory>
+    requires fits { All (IsCycleOf core.now) vectors.now }
+    requires few { length vectors.now < 2 ^ 64 }
+    ensures { IfOk result (λ found. IsJudged (J.says judge.now) core.now fault vectors.now found) }
+{
+    play_from_unknown(alloc, core, &Tris { fault }, judge, vectors).map_err(|_| NoMemory)
 }
 
 /// Plays vectors on a netlist, with a line stuck or with none: the first strobe that isn't known and equal decides.
@@ -290,5 +311,8 @@ pub fn play(
     requires few { length vectors.now < 2 ^ 64 }
     ensures { IfOk result (λ played. PlaysAs core.now fault vectors.now played) }
 {
-    play_from_unknown(alloc, core, &Tris { fault }, vectors).map_err(|_| NoMemory)
+    match play_before(alloc, core, fault, vectors, &Strict)? {
+        None => Ok(Played::Passes),
+        Some(played) => Ok(played),
+    }
 }

@@ -7,17 +7,17 @@ use Rattle.tri.specs.Settled.{tri_table}
 use Rattle.scan_play.specs.declared.played.Played.{Played}
 use Rattle.scan_play.specs.Cycles.{Cycle}
 use Rattle.scan_play.specs.Runs.{Ticks, Runs}
-use Rattle.scan_play.specs.inner.Unmet.{unmet_in, unmet}
+use Rattle.scan_play.specs.Judging.{Judging, judged, judged_in}
 
 -- a cycle of this number was played: what is unmet in it, and what the cells hold after it
-pub record IsStep (f : Option Fault) (n : Netlist) (state after : List Tri) (cycle : Cycle) (number : ℕ) (found : Option Played) : Type 0 where
+pub record IsStep (says : Judging) (f : Option Fault) (n : Netlist) (state after : List Tri) (cycle : Cycle) (number : ℕ) (found : Option Played) : Type 0 where
   pub size : length after ≡ length (cells n)
-  pub outcome : (shown next : List Tri) → Ticks tri_table f n state cycle shown next → (unmet_in number 0 cycle.strobe shown ≡ found) × (next ≡ after)
+  pub outcome : (shown next : List Tri) → Ticks tri_table f n state cycle shown next → (judged_in says number 0 cycle.strobe shown ≡ found) × (next ≡ after)
 
 -- These cycles were played, whatever comes behind them: a strobe of one is unmet, or all are met and the run goes on from what the cells then hold.
-pub record PlaysOn (f : Option Fault) (n : Netlist) (cycles : List Cycle) (first : ℕ) (state after : List Tri) (found : Option Played) : Type 0 where
+pub record PlaysOn (says : Judging) (f : Option Fault) (n : Netlist) (cycles : List Cycle) (first : ℕ) (state after : List Tri) (found : Option Played) : Type 0 where
   pub size : length after ≡ length (cells n)
   pub outcome : (rest : List Cycle) (shown : List (List Tri)) → Runs tri_table f n state (cycles ++ rest) shown
       → MatchOption found
-      ((later : List (List Tri)) × Runs tri_table f n after rest later × (unmet first (cycles ++ rest) shown ≡ unmet (first + length cycles) rest later))
-      (λ p. unmet first (cycles ++ rest) shown ≡ Some p)
+      ((later : List (List Tri)) × Runs tri_table f n after rest later × (judged says first (cycles ++ rest) shown ≡ judged says (first + length cycles) rest later))
+      (λ p. judged says first (cycles ++ rest) shown ≡ Some p)

@@ -1,7 +1,9 @@
-use Rattle.fault_collapse.proofs.Behaviour.{equivalent_agree}
+use Rattle.std.proofs.Common.{false}
+use Rattle.std.specs.Bool.{beq}
+use Rattle.netlist.specs.Settled.{bit_table}
+use Rattle.netlist.proofs.Lists.{decides_beq}
 use Rattle.fault_collapse.proofs.laws.equivalent_agree.Goals as goal
 
 pub returns : goal.returns
 returns c n f g inputs state a b sound e p q =
-    let h = equivalent_agree c.holds_everywhere.ensures c.settles_once.ensures c.some_settles.ensures n sound inputs state f g e a b p q in
-    (h.outs, h.next)
+    c.equivalent_agree_by.ensures beq decides_beq false bit_table c.bits_control.ensures n f g inputs state a b sound e p q

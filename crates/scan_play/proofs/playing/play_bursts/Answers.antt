@@ -3,35 +3,35 @@ use Rattle.scan_play.proofs.PlaySteps.{burst_fits, number_below, number_more, bu
 use Rattle.scan_play.proofs.playing.play_bursts.Goals as goal
 
 pub play_burst-requires-clause-fits : goal.play_burst-requires-clause-fits
-play_burst-requires-clause-fits c =
-    burst_fits c.args.rule.now.fault c.args.core.now c.args.bursts.now c.loop-burst.burst-index c.burst-item.result c.requires.fits c.loop-burst-test.true c.burst-item.is
+play_burst-requires-clause-fits g c =
+    burst_fits (g.J.Judge.says c.args.judge.now) c.args.rule.now.fault c.args.core.now c.args.bursts.now c.loop-burst.burst-index c.burst-item.result c.requires.fits c.loop-burst-test.true c.burst-item.is
 
 pub play_burst-requires-clause-few : goal.play_burst-requires-clause-few
-play_burst-requires-clause-few c =
-    let l = number_below c.args.rule.now.fault c.args.core.now c.args.bursts.now c.loop-burst.burst-index c.loop-burst.first c.burst-item.result c.loop-burst-test.true c.burst-item.is c.loop-burst.invariant.number in
+play_burst-requires-clause-few g c =
+    let l = number_below (g.J.Judge.says c.args.judge.now) c.args.rule.now.fault c.args.core.now c.args.bursts.now c.loop-burst.burst-index c.loop-burst.first c.burst-item.result c.loop-burst-test.true c.burst-item.is c.loop-burst.invariant.number in
     let few = c.requires.few in
     omega arith
 
 pub play_burst-requires-clause-room : goal.play_burst-requires-clause-room
-play_burst-requires-clause-room c = c.loop-burst.invariant.room
+play_burst-requires-clause-room g c = c.loop-burst.invariant.room
 
 pub overflow_add-first : goal.overflow_add-first
-overflow_add-first c =
-    let l = number_below c.args.rule.now.fault c.args.core.now c.args.bursts.now c.loop-burst.burst-index c.loop-burst.first c.burst-item.result c.loop-burst-test.true c.burst-item.is c.loop-burst.invariant.number in
+overflow_add-first g c =
+    let l = number_below (g.J.Judge.says c.args.judge.now) c.args.rule.now.fault c.args.core.now c.args.bursts.now c.loop-burst.burst-index c.loop-burst.first c.burst-item.result c.loop-burst-test.true c.burst-item.is c.loop-burst.invariant.number in
     let few = c.requires.few in
     omega arith
 
 pub returns-in-Some : goal.returns-in-Some
-returns-in-Some c =
-    bursts_found c.args.rule.now.fault c.args.core.now c.args.bursts.now c.loop-burst.burst-index c.loop-burst.first c.burst-item.result c.args.bench.now.state.items
+returns-in-Some g c =
+    bursts_found (g.J.Judge.says c.args.judge.now) c.args.rule.now.fault c.args.core.now c.args.bursts.now c.loop-burst.burst-index c.loop-burst.first c.burst-item.result c.args.bench.now.state.items
     c.loop-burst.bench.state.items c.play_burst.new.bench.state.items c.in_ok-played.field-0 c.in-Some.played c.loop-burst-test.true c.burst-item.is c.loop-burst.invariant.number
     c.loop-burst.invariant.plays c.in_ok-played.ensures.played c.in-Some.is
 
 pub loop-burst-preserved : goal.loop-burst-preserved
-loop-burst-preserved c = record {
-  number = number_more c.args.rule.now.fault c.args.core.now c.args.bursts.now c.loop-burst.burst-index c.loop-burst.first c.burst-item.result c.loop-burst-test.true c.burst-item.is c.loop-burst.invariant.number;
+loop-burst-preserved g c = record {
+  number = number_more (g.J.Judge.says c.args.judge.now) c.args.rule.now.fault c.args.core.now c.args.bursts.now c.loop-burst.burst-index c.loop-burst.first c.burst-item.result c.loop-burst-test.true c.burst-item.is c.loop-burst.invariant.number;
   room = c.in_ok-played.ensures.room;
-  plays = bursts_none c.args.rule.now.fault c.args.core.now c.args.bursts.now c.loop-burst.burst-index c.loop-burst.first c.burst-item.result c.args.bench.now.state.items
+  plays = bursts_none (g.J.Judge.says c.args.judge.now) c.args.rule.now.fault c.args.core.now c.args.bursts.now c.loop-burst.burst-index c.loop-burst.first c.burst-item.result c.args.bench.now.state.items
       c.loop-burst.bench.state.items c.play_burst.new.bench.state.items c.in_ok-played.field-0 c.loop-burst-test.true c.burst-item.is c.loop-burst.invariant.number
       c.loop-burst.invariant.plays c.in_ok-played.ensures.played c.in-None.is;
 }

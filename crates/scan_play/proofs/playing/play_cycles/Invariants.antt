@@ -6,7 +6,7 @@ use Rattle.scan_play.proofs.playing.play_cycles.Given as goal
 
 -- no strobe was unmet so far
 abbrev pub invariant-loop-t : goal.invariant-loop-t
-invariant-loop-t l = record {
+invariant-loop-t g l = record {
   room : length l.bench.values.items ≡ length (signals l.core);
-  plays : PlaysOn l.rule.fault l.core (take l.t (cycles_of l.burst)) l.first l.initial.bench.state.items l.bench.state.items None;
+  plays : PlaysOn (g.J.Judge.says l.judge) l.rule.fault l.core (take l.t (cycles_of l.burst)) l.first l.initial.bench.state.items l.bench.state.items None;
 }

@@ -1,40 +1,23 @@
-use Rattle.std.proofs.Common.{◌≡◌, length, List, replicate, Option, map, sym, ◌∙◌, ap, subst}
+use Rattle.std.proofs.Common.{◌≡◌, length, List, replicate, map, ◌∙◌, ap, subst, sym}
 use Rattle.std.proofs.lemmas.List.{length-map}
 use Rattle.netlist.specs.declared.kinds.Tri.TheVariants.{X}
 use Rattle.netlist.specs.Netlist.{Netlist, Definition, cells}
 use Rattle.netlist.specs.Conditions.{IsSound}
-use Rattle.scan_play.specs.declared.played.Played.{Played}
 use Rattle.scan_play.specs.Cycles.{Cycle}
-use Rattle.scan_play.specs.Playing.{PlaysAs}
-use Rattle.scan_play.specs.inner.Unmet.{or_passes}
 use Rattle.scan_play.specs.inner.Steps.{PlaysOn}
-use Rattle.scan_play.proofs.PlayLemmas.{plays_as}
+use Rattle.scan_play.proofs.PlayLemmas.{judged_as}
 use Rattle.scan_play.proofs.playing.play_from_unknown.Goals as goal
 
-pub returns-in-None : goal.returns-in-None
-returns-in-None c =
-    let n = c.args.core.now in
-    let start = c.in_ok-state.state.items in
-    let all : start ≡ replicate (length (cells n)) X =
-    c.in_ok-state.ensures
-    ∙ (ap (λ (k : List _). replicate (length k) X) c.cells.ensures
-    ∙ (ap (λ (m : Netlist). replicate (length (map (λ (d : Definition). d.id) (cells m))) X) c.netlist-netlist.ensures
-    ∙ ap (λ k. replicate k X) (length-map (cells n) (λ (d : Definition). d.id)))) in
-    let played = subst (λ (cs : List Cycle). PlaysOn c.args.rule.now.fault n cs 0 start c.play_bursts.new.bench.state.items c.in_ok-play_bursts.field-0) (sym c.bursts.ensures) c.in_ok-play_bursts.ensures in
-    subst (λ (x : Option Played). PlaysAs n c.args.rule.now.fault c.args.vectors.now (or_passes x)) c.in-None.is
-    (plays_as c.args.rule.now.fault n c.args.vectors.now start c.play_bursts.new.bench.state.items c.in_ok-play_bursts.field-0
-    (subst IsSound c.netlist.ensures c.sound.ensures) c.requires.fits all played)
-
 pub returns : goal.returns
-returns c =
+returns g c =
     let n = c.args.core.now in
+    let says = g.J.Judge.says c.args.judge.now in
     let start = c.in_ok-state.state.items in
     let all : start ≡ replicate (length (cells n)) X =
     c.in_ok-state.ensures
     ∙ (ap (λ (k : List _). replicate (length k) X) c.cells.ensures
     ∙ (ap (λ (m : Netlist). replicate (length (map (λ (d : Definition). d.id) (cells m))) X) c.netlist-netlist.ensures
     ∙ ap (λ k. replicate k X) (length-map (cells n) (λ (d : Definition). d.id)))) in
-    let played = subst (λ (cs : List Cycle). PlaysOn c.args.rule.now.fault n cs 0 start c.play_bursts.new.bench.state.items c.in_ok-play_bursts.field-0) (sym c.bursts.ensures) c.in_ok-play_bursts.ensures in
-    subst (λ (x : Option Played). PlaysAs n c.args.rule.now.fault c.args.vectors.now (or_passes x)) c.in-Some.is
-    (plays_as c.args.rule.now.fault n c.args.vectors.now start c.play_bursts.new.bench.state.items c.in_ok-play_bursts.field-0
-    (subst IsSound c.netlist.ensures c.sound.ensures) c.requires.fits all played)
+    let played = subst (λ (cs : List Cycle). PlaysOn says c.args.rule.now.fault n cs 0 start c.play_bursts.new.bench.state.items c.in_ok-found.found) (sym c.bursts.ensures) c.in_ok-found.ensures in
+    judged_as says c.args.rule.now.fault n c.args.vectors.now start c.play_bursts.new.bench.state.items c.in_ok-found.found
+    (subst IsSound c.netlist.ensures c.sound.ensures) c.requires.fits all played
