@@ -115,6 +115,7 @@ pub record AsOriginal {V : Type 0} (table : Table V) (s : Naming) (n : Netlist) 
   pub cells_next : next (with_fault table (named_fault s f)) (scanned s n) b ≡ cond e (map (λ (d : Definition). b (s.before d.id)) (cells n)) (next (with_fault table f) n a)
   pub cells_hold : AllZip (λ (d : Definition) v. b (s.held d.id) ≡ v) (cells n) state
   pub scan_inputs_have : AllZip (λ x v. b x ≡ v) s.scan_in scan_inputs
+  pub stems : (x : ℕ) → Contains (signals n) x → b (s.stem x) ≡ a x
 
 module _ {V : Type 0} (same : V → V → Bool) (decides : (x y : V) → Decides (same x y) (x ≡ y)) (table : Table V) (multiplexes : Multiplexes table)
     (s : Naming) (n : Netlist) (naming : IsNaming s n) (numbered : IsNumbered n) (closed : IsClosed n) (acyclic : IsAcyclic n)
@@ -323,4 +324,5 @@ module _ {V : Type 0} (same : V → V → Bool) (decides : (x y : V) → Decides
         (All-from_contains (λ (d : Definition). (v : V) → stuck table.known (named_fault s f) (Stem (s.held d.id)) v ≡ v) (cells n) held_clear) state_of_cells;
     scan_inputs_have = plain_inputs table.known f (named_fault s f) b s.scan_in scan_inputs
         (λ x c v. let o = naming.scan_in x c in clear_stem x (ScanIn o.0) v o.1 (λ y r. cc) (λ y r. cc)) parts.2;
+    stems = agrees;
   }

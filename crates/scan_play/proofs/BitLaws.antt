@@ -36,7 +36,7 @@ use Rattle.scan_play.proofs.Bridge.{bridge}
 use Rattle.scan_play.proofs.Instances.{bits_above}
 use Rattle.scan_play.proofs.Places.{response_at, strobe_of_point}
 
-Allows : Tri → Bool → Type 0
+unfoldable pub Allows : Tri → Bool → Type 0
 Allows s b = IsTrue (allows s b)
 
 same_bits : (vs ws : List Bool) → AllZip (λ v w. beq v w ≡ true) vs ws → vs ≡ ws
@@ -97,12 +97,12 @@ same_lists (x ∷ xs) [] h = absurd (h zero (λ e. cc))
 same_lists (x ∷ xs) (y ∷ ys) h = ap (λ z. z ∷ xs) (same_bit x y (h zero)) ∙ ap (λ zs. y ∷ zs) (same_lists xs ys (λ k. h (suc k)))
 
 -- the settled bits with any fault, for a pattern that has settled bits
-faulty_values : (n : Netlist) (f g : Option Fault) (p : Pattern) (r : Response) → IsSound n → Responds n g p r → (a : ℕ → Bool) × Settles (bits f) n p.inputs p.cells a
+pub faulty_values : (n : Netlist) (f g : Option Fault) (p : Pattern) (r : Response) → IsSound n → Responds n g p r → (a : ℕ → Bool) × Settles (bits f) n p.inputs p.cells a
 faulty_values n f g p r sound h =
     some_settled false (bits f) n p.inputs p.cells sound.formed.numbered sound.closed sound.acyclic
     (sym (zip_length _ n.inputs p.inputs h.settles.0)) (sym (zip_length _ (cells n) p.cells h.settles.1))
 
-undetected_responds : (n : Netlist) (f : Fault) (p : Pattern) (r : Response) → IsSound n → Responds n None p r → ((point : Point) → ¬ Detects n f p.inputs p.cells point) → Responds n (Some f) p r
+pub undetected_responds : (n : Netlist) (f : Fault) (p : Pattern) (r : Response) → IsSound n → Responds n None p r → ((point : Point) → ¬ Detects n f p.inputs p.cells point) → Responds n (Some f) p r
 undetected_responds n f p r sound h undetected =
     let a = faulty_values n (Some f) None p r sound h in
     let same_there : (point : Point) → observed (bits None) n h.values point ≢ observed (bits (Some f)) n a.0 point → ⊥ =
@@ -171,10 +171,10 @@ map_alike : (f g : ℕ → Cycle) → ((t : ℕ) → SameDrive (f t) (g t)) → 
 map_alike f g h [] = tt
 map_alike f g h (t ∷ ts) = (h t, map_alike f g h ts)
 
-load_alike : (n : Netlist) (holds : Holds) (chains : List (List ℕ)) (bs : List Bool) (held held' : List Tri) → AllZip SameDrive (load n holds chains bs held) (load n holds chains bs held')
+pub load_alike : (n : Netlist) (holds : Holds) (chains : List (List ℕ)) (bs : List Bool) (held held' : List Tri) → AllZip SameDrive (load n holds chains bs held) (load n holds chains bs held')
 load_alike n holds chains bs held held' = map_alike _ _ (λ t. (refl, refl)) (numbers_from 0 _)
 
-capture_alike : (chains : List (List ℕ)) (p : Pattern) (r r' : Response) → SameDrive (capture chains p r) (capture chains p r')
+pub capture_alike : (chains : List (List ℕ)) (p : Pattern) (r r' : Response) → SameDrive (capture chains p r) (capture chains p r')
 capture_alike [] p r r' = (refl, refl)
 capture_alike (chain ∷ chains) p r r' = (refl, refl)
 
@@ -188,7 +188,7 @@ applied_alike n holds chains held held' (p ∷ ps) (r ∷ rs) (r' ∷ rs') e e' 
     (load n holds chains p.cells held') (capture chains p r' ∷ applied n holds chains (map known r'.cells) (zip ps rs')) (load_alike n holds chains p.cells held held')
     (capture_alike chains p r r', applied_alike n holds chains (map known r.cells) (map known r'.cells) ps rs rs' (omega (arith, e)) (omega (arith, e')))
 
-same_self : (cs : List Cycle) → AllZip SameDrive cs cs
+pub same_self : (cs : List Cycle) → AllZip SameDrive cs cs
 same_self [] = tt
 same_self (c ∷ cs) = ((refl, refl), same_self cs)
 
@@ -219,7 +219,7 @@ shown_in_row (s ∷ ss) [] o b h e = absurd h
 shown_in_row (s ∷ ss) (v ∷ vs) zero b h e = ap (λ x. Some x) (allowed_bit b v (subst (λ (x : Tri). Allows x v) e h.0))
 shown_in_row (s ∷ ss) (v ∷ vs) (suc o) b h e = shown_in_row ss vs o b h.1 e
 
-shown_where_strobed : (cycles : List Cycle) (shown : List (List Bool)) (c o : ℕ) (b : Bool) → AllZip (λ (x : Cycle) vs. AllZip Allows x.strobe vs) cycles shown
+pub shown_where_strobed : (cycles : List Cycle) (shown : List (List Bool)) (c o : ℕ) (b : Bool) → AllZip (λ (x : Cycle) vs. AllZip Allows x.strobe vs) cycles shown
     → strobe_at cycles c o ≡ known b → shown_at shown c o ≡ Some b
 shown_where_strobed [] shown c o b h e = known_not_x b e
 shown_where_strobed (x ∷ xs) [] c o b h e = absurd h
@@ -236,7 +236,7 @@ differing (false ∷ xs) (true ∷ ys) zero e d = (false, refl, refl)
 differing (false ∷ xs) (false ∷ ys) zero e d = absurd (d refl)
 differing (x ∷ xs) (y ∷ ys) (suc k) e d = differing xs ys k (omega (arith, e)) d
 
-detected_bits : (n : Netlist) (f : Fault) (p : Pattern) (r own : Response) (point : Point) → IsSound n → Responds n None p r → Responds n (Some f) p own → Detects n f p.inputs p.cells point
+pub detected_bits : (n : Netlist) (f : Fault) (p : Pattern) (r own : Response) (point : Point) → IsSound n → Responds n None p r → Responds n (Some f) p own → Detects n f p.inputs p.cells point
     → (b : Bool) × (response_at r point ≡ Some b) × (response_at own point ≡ Some (not b))
 detected_bits n f p r own (Output k) sound h g t =
     let a = same_response None n p.inputs p.cells h.values t.good sound h.settles t.good_settles in

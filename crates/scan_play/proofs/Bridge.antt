@@ -114,7 +114,7 @@ module _ {V : Type 0} (table : Table V) (is : IsAboveBits table) where
         let r = behaves_by is.same is.decides table is.multiplexes is.blank n (chain ∷ rest) f inputs state scan_inputs e a.0 b sound are some valid a.1 q in
         record { values = a.0; settles = a.1; shows = r.0; keeps = r.1 }
 
-    shift_law : (holds : Holds) → AreHoldsOf n holds
+    pub shift_law : (holds : Holds) → AreHoldsOf n holds
         → ShiftLaw table is.blank (fault_at (sites_of n (chain ∷ rest)) f) (scanned_of n (chain ∷ rest)) n holds (chain ∷ rest)
     shift_law holds fit ins state b size settles =
         let g = fault_at (sites_of n (chain ∷ rest)) f in
@@ -126,7 +126,7 @@ module _ {V : Type 0} (table : Table V) (is : IsAboveBits table) where
         let r = scan_values idle true (map table.known ins) state b wide q in
         (outs (with_fault table f) n r.values, length-map n.outputs _, r.shows, r.keeps)
 
-    capture_law : CaptureLaw table (fault_at (sites_of n (chain ∷ rest)) f) (scanned_of n (chain ∷ rest)) n (chain ∷ rest) f
+    pub capture_law : CaptureLaw table (fault_at (sites_of n (chain ∷ rest)) f) (scanned_of n (chain ∷ rest)) n (chain ∷ rest) f
     capture_law p r b responds settles =
         let g = fault_at (sites_of n (chain ∷ rest)) f in
         let S = scanned_of n (chain ∷ rest) in

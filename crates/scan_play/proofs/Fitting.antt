@@ -22,7 +22,7 @@ use Rattle.scan_play.specs.Vectors.{Response, Responds, flush, capture, applied,
 use Rattle.scan_play.proofs.Shifting.{zip_length}
 use Rattle.scan_play.proofs.Loads.{length-column, length-by_chain}
 
-all_append : {X : Type 0} (P : X → Type 0) (xs ys : List X) → All P xs → All P ys → All P (xs ++ ys)
+pub all_append : {X : Type 0} (P : X → Type 0) (xs ys : List X) → All P xs → All P ys → All P (xs ++ ys)
 all_append P [] ys h k = k
 all_append P (x ∷ xs) ys h k = All-cons P x (xs ++ ys) (All-head P x xs h) (all_append P xs ys (All-tail P x xs h) k)
 
@@ -31,13 +31,13 @@ all_map P f [] h = All-nil _
 all_map P f (x ∷ xs) h = All-cons P (f x) (map f xs) (h x) (all_map P f xs h)
 
 module _ (n : Netlist) (holds : Holds) (chain : List ℕ) (rest : List (List ℕ)) (sound : IsSound n) (held_are : AreHoldsOf n holds) (are : AreChainsOf n (chain ∷ rest)) where
-  wide : length (scanned_of n (chain ∷ rest)).inputs ≡ length n.inputs + (1 + length (chain ∷ rest))
+  pub wide : length (scanned_of n (chain ∷ rest)).inputs ≡ length n.inputs + (1 + length (chain ∷ rest))
   wide =
       let s = naming_of n (chain ∷ rest) in
       length-append (map s.stem n.inputs) (s.enable ∷ s.scan_in)
       ∙ omega (arith, length-map n.inputs s.stem, ins_length n sound chain rest (are_dealt n (chain ∷ rest) are))
 
-  long : length (scanned_of n (chain ∷ rest)).outputs ≡ length n.outputs + length (chain ∷ rest)
+  pub long : length (scanned_of n (chain ∷ rest)).outputs ≡ length n.outputs + length (chain ∷ rest)
   long =
       let s = naming_of n (chain ∷ rest) in
       length-append (map s.stem n.outputs) (map (λ (p : ℕ × ℕ). p.0) s.scan_out)
@@ -52,7 +52,7 @@ module _ (n : Netlist) (holds : Holds) (chain : List ℕ) (rest : List (List ℕ
         ∙ omega (arith, length-replicate (length n.outputs) X, length-column X outs t, o)) ∙ sym long;
   }
 
-  load_fits : (bs : List Bool) (held : List Tri) → All (IsCycleOf (scanned_of n (chain ∷ rest))) (load n holds (chain ∷ rest) bs held)
+  pub load_fits : (bs : List Bool) (held : List Tri) → All (IsCycleOf (scanned_of n (chain ∷ rest))) (load n holds (chain ∷ rest) bs held)
   load_fits bs held =
       let chains : List (List ℕ) = chain ∷ rest in
       let m = longest_of chains in
@@ -112,7 +112,7 @@ vectors_fit n holds (chain ∷ rest) patterns cycles sound are v =
 
 -- ---- how many
 
-count_load : (n : Netlist) (holds : Holds) (chains : List (List ℕ)) (bs : List Bool) (held : List Tri) → length (load n holds chains bs held) ≡ longest_of chains
+pub count_load : (n : Netlist) (holds : Holds) (chains : List (List ℕ)) (bs : List Bool) (held : List Tri) → length (load n holds chains bs held) ≡ longest_of chains
 count_load n holds chains bs held =
     let m = longest_of chains in
     length-map (numbers_from 0 m) (shift n holds (map (word_in m) (by_chain chains bs)) (map (word_out m) (by_chain chains held))) ∙ length-numbers_from 0 m
@@ -149,7 +149,7 @@ count_vectors n holds chains tests =
       count_applied n holds chains idle tests,
     )
 
-zip_count : {X Y : Type 0} (xs : List X) (ys : List Y) → length xs ≡ length ys → length (zip xs ys) ≡ length xs
+pub zip_count : {X Y : Type 0} (xs : List X) (ys : List Y) → length xs ≡ length ys → length (zip xs ys) ≡ length xs
 zip_count [] ys e = refl
 zip_count (x ∷ xs) [] e = absurd (omega (arith, e))
 zip_count (x ∷ xs) (y ∷ ys) e = ap suc (zip_count xs ys (omega (arith, e)))

@@ -48,7 +48,7 @@ get_or-numbers first (suc count) (suc k) d l = omega (arith, get_or-numbers (fir
 abbrev pub rows : List Cycle → List (List Tri)
 rows cycles = map (λ (x : Cycle). x.strobe) cycles
 
-length-load : (n : Netlist) (holds : Holds) (chains : List (List ℕ)) (bits : List Bool) (held : List Tri) → length (rows (load n holds chains bits held)) ≡ longest_of chains
+pub length-load : (n : Netlist) (holds : Holds) (chains : List (List ℕ)) (bits : List Bool) (held : List Tri) → length (rows (load n holds chains bits held)) ≡ longest_of chains
 length-load n holds chains bits held =
     let m = longest_of chains in
     let f = shift n holds (map (word_in m) (by_chain chains bits)) (map (word_out m) (by_chain chains held)) in
@@ -57,7 +57,7 @@ length-load n holds chains bits held =
 abbrev pub load_row : Netlist → List (List ℕ) → List Tri → ℕ → List Tri
 load_row n chains held t = replicate (length n.outputs) X ++ column X (map (word_out (longest_of chains)) (by_chain chains held)) t
 
-row_of_load : (n : Netlist) (holds : Holds) (chains : List (List ℕ)) (bits : List Bool) (held : List Tri) (t : ℕ) → t < longest_of chains
+pub row_of_load : (n : Netlist) (holds : Holds) (chains : List (List ℕ)) (bits : List Bool) (held : List Tri) (t : ℕ) → t < longest_of chains
     → get_or (rows (load n holds chains bits held)) t [] ≡ load_row n chains held t
 row_of_load n holds chains bits held t l =
     let m = longest_of chains in
@@ -193,7 +193,7 @@ longest_above (own ∷ chains) zero chain e = let same = ap length (get_of (own 
 longest_above (own ∷ chains) (suc c) chain e = let l = longest_above chains c chain e in omega arith
 
 -- what the shift of a load strobes at a scan output
-scan_strobe : (n : Netlist) (chains : List (List ℕ)) (held : List Tri) (c k cell q : ℕ) (chain : List ℕ) → AllPairs (λ x y. x ≢ y) (cells_of chains)
+pub scan_strobe : (n : Netlist) (chains : List (List ℕ)) (held : List Tri) (c k cell q : ℕ) (chain : List ℕ) → AllPairs (λ x y. x ≢ y) (cells_of chains)
     → length held ≡ length (cells_of chains) → slice_get chains c ≡ Some chain → slice_get chain k ≡ Some cell → slice_get (cells_of chains) q ≡ Some cell
     → get_or (load_row n chains held (length chain - 1 - k)) (length n.outputs + c) X ≡ get_or held q X
 scan_strobe n chains held c k cell q chain apart size e h is =
@@ -233,7 +233,7 @@ known_at [] xs k b e = cc
 known_at (c ∷ cs) xs zero b e = ap known (get_of (c ∷ cs) zero b b e)
 known_at (c ∷ cs) xs (suc k) b e = known_at cs xs k b e
 
-capture_strobe : (chains : List (List ℕ)) (p : Pattern) (r : Response) (k : ℕ) (b : Bool) → slice_get r.outputs k ≡ Some b → get_or (capture chains p r).strobe k X ≡ known b
+pub capture_strobe : (chains : List (List ℕ)) (p : Pattern) (r : Response) (k : ℕ) (b : Bool) → slice_get r.outputs k ≡ Some b → get_or (capture chains p r).strobe k X ≡ known b
 capture_strobe [] p r k b e = ap (λ (x : List Tri). get_or x k X) (sym (append-nil (map known r.outputs))) ∙ known_at r.outputs [] k b e
 capture_strobe (chain ∷ chains) p r k b e = known_at r.outputs (replicate (length (chain ∷ chains)) X) k b e
 

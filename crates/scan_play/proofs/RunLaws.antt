@@ -28,7 +28,7 @@ use Rattle.scan_play.proofs.Applied.{length-pins}
 pub next_length : {V : Type 0} (rule : Rule V) (n : Netlist) (a : ℕ → V) → IsClosed n → length (next rule n a) ≡ length (cells n)
 next_length rule n a closed = length-pins rule a (cells n) (one_pin n closed)
 
-cond_length : {V : Type 0} (b : Bool) (xs ys : List V) (k : ℕ) → length xs ≡ k → length ys ≡ k → length (cond b xs ys) ≡ k
+pub cond_length : {V : Type 0} (b : Bool) (xs ys : List V) (k : ℕ) → length xs ≡ k → length ys ≡ k → length (cond b xs ys) ≡ k
 cond_length true xs ys k e h = e
 cond_length false xs ys k e h = h
 

@@ -22,7 +22,7 @@ use netlist::{Bits, Core, Holds, Netlist, NoMemory, Tri};
 use std::alloc::{AllocError, Global};
 
 /// One cycle as a burst.
-fn single(alloc: Global, drive: Vec<bool>, strobe: Vec<Tri>, pulse: bool) -> Burst
+pub fn single(alloc: Global, drive: Vec<bool>, strobe: Vec<Tri>, pulse: bool) -> Burst
     ensures { cycles_of result ≡ record { drive = drive.items; strobe = strobe.items; pulse = pulse } ∷ [] }
 {
     Burst {
@@ -37,7 +37,7 @@ fn single(alloc: Global, drive: Vec<bool>, strobe: Vec<Tri>, pulse: bool) -> Bur
 }
 
 /// A capture, which strobes these outputs.
-fn capture(
+pub fn capture(
     alloc: Global,
     chains: &Chains,
     pattern: &Pattern,
@@ -61,7 +61,7 @@ fn capture(
 }
 
 /// The fault-free response to a pattern.
-fn respond(
+pub fn respond(
     alloc: Global,
     core: &Core,
     pattern: &Pattern,
@@ -109,7 +109,7 @@ fn push_test(
 }
 
 /// The three loads that flush the chains.
-fn flush_bursts(
+pub fn flush_bursts(
     alloc: Global,
     netlist: &Netlist,
     chains: &Chains,

@@ -74,7 +74,7 @@ impl Vectors {
 }
 
 /// Adds these bits as values.
-pub(crate) fn push_known(bits: &[bool], values: &mut Vec<Tri>) -> Result<(), AllocError>
+pub fn push_known(bits: &[bool], values: &mut Vec<Tri>) -> Result<(), AllocError>
     ensures { OnOk result (values.new.items ≡ values.old.items ++ map known bits.now) }
 {
     for bit in bits {

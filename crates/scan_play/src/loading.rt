@@ -108,7 +108,7 @@ fn shift_drive(alloc: Global, inputs: u32, holds: &Holds) -> Result<Vec<bool>, A
 }
 
 /// Strobes of nothing.
-pub(crate) fn no_strobes(alloc: Global, count: usize) -> Result<Vec<Tri>, AllocError>
+pub fn no_strobes(alloc: Global, count: usize) -> Result<Vec<Tri>, AllocError>
     ensures { IfOk result (λ v. v.items ≡ replicate count X) }
 {
     let mut strobes = Vec::new(alloc);
@@ -147,7 +147,7 @@ fn all_outs(alloc: Global, chains: &Chains, held: &[Tri], m: usize) -> Result<Ve
 }
 
 /// A load of these bits, which strobes what the cells should hold before.
-pub(crate) fn load(
+pub fn load(
     alloc: Global,
     netlist: &Netlist,
     chains: &Chains,

@@ -16,7 +16,7 @@ use Rattle.scan_insert.specs.Names.{output_name}
 use Rattle.scan_play.specs.Vectors.{Response, Responds, flush}
 use Rattle.scan_play.proofs.Applied.{length-next}
 use Rattle.stil_write.specs.StilFiles.{Item, StilFile, Text, Vector, where_chained}
-use Rattle.stil_vectors.specs.TestFiles.{applied_items, capture_item, load_items, shift_word_of, test_file, test_items, text_of_bits, text_of_values}
+use Rattle.stil_vectors.specs.TestFiles.{applied_items, capture_item, char_of_value, load_items, shift_word_of, test_file, test_items, text_of_bits, text_of_values}
 use Rattle.stil_tests.specs.Tests.{IsFileOf}
 use Rattle.stil_tests.specs.inner.Added.{AreAll, AreBegun, IsAdded, flush_items}
 
@@ -39,6 +39,10 @@ capture_words k once pi po first second third fourth fifth sixth eo e1 e2 e3 e4 
     let s5 : fifth ≡ pi ∷ (zeros ++ pulse ++ po ∷ []) = e5 ∙ ap (λ (l : List Text). l ++ po ∷ []) s4 in
     e6 ∙ (ap (λ (l : List Text). l ++ xs) s5
     ∙ ap (λ (l : List Text). pi ∷ l) (append_assoc (zeros ++ pulse) (po ∷ []) xs ∙ append_assoc zeros pulse (po ∷ xs)))
+
+pub unstrobed : (k : ℕ) → replicate k (char_of_value X) ≡ text_of_values (replicate k X)
+unstrobed zero = refl
+unstrobed (suc k) = ap (λ l. char_of_value X ∷ l) (unstrobed k)
 
 -- ---- tests
 

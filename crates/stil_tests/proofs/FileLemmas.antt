@@ -114,7 +114,7 @@ call_is chain rest bits held some =
           (zip_ins m chains bits (omega arith)) (zip_outs m chains held (omega arith)),
     )
 
-load_are : (f : StilFile) (chains : List (List ℕ)) (bits : List Bool) (held : List Tri) → length f.chains ≡ length chains → All (λ (chain : List ℕ). 0 < length chain) chains → All (IsItem f) (load_items chains bits held)
+pub load_are : (f : StilFile) (chains : List (List ℕ)) (bits : List Bool) (held : List Tri) → length f.chains ≡ length chains → All (λ (chain : List ℕ). 0 < length chain) chains → All (IsItem f) (load_items chains bits held)
 load_are f [] bits held e some = All-nil (IsItem f)
 load_are f (chain ∷ rest) bits held e some =
     All-cons (IsItem f) (Call (load_words (chain ∷ rest) bits held)) []
@@ -142,13 +142,17 @@ capture_zip k pis pos inputs strobes ei es =
           (word_of_values pos strobes es, zip_copies k (strobes_of_size 1) (codes "X") (one_is (strobes_of_size 1) 88 refl refl))),
     )
 
-capture_is : (f : StilFile) (chains : List (List ℕ)) (p : Pattern) (r : Response) → length f.chains ≡ length chains → length (p.inputs ++ where_chained (length chains) false) ≡ length f.pi → length r.outputs ≡ length f.po
-    → IsItem f (capture_item chains p r)
-capture_is f chains p r e ei eo =
+pub vector_is : (f : StilFile) (chains : List (List ℕ)) (inputs : List Bool) (strobes : List Tri) → length f.chains ≡ length chains → length (inputs ++ where_chained (length chains) false) ≡ length f.pi → length strobes ≡ length f.po
+    → IsItem f (Vector (text_of_bits (inputs ++ where_chained (length chains) false) ∷ (replicate (length chains) (codes "0") ++ (where_chained (length chains) (codes "P") ++ (text_of_values strobes ∷ replicate (length chains) (codes "X"))))))
+vector_is f chains inputs strobes e ei eo =
     let k = length chains in
-    let words = text_of_bits (p.inputs ++ where_chained k false) ∷ (replicate k (codes "0") ++ (where_chained k (codes "P") ++ (text_of_values (map known r.outputs) ∷ replicate k (codes "X")))) in
+    let words = text_of_bits (inputs ++ where_chained k false) ∷ (replicate k (codes "0") ++ (where_chained k (codes "P") ++ (text_of_values strobes ∷ replicate k (codes "X")))) in
     subst (λ j. AllZip IsWord (forms_by j (length f.pi) (length f.po)) words) (sym e)
-    (capture_zip k (length f.pi) (length f.po) (p.inputs ++ where_chained k false) (map known r.outputs) ei (length-map r.outputs known ∙ eo))
+    (capture_zip k (length f.pi) (length f.po) (inputs ++ where_chained k false) strobes ei eo)
+
+pub capture_is : (f : StilFile) (chains : List (List ℕ)) (p : Pattern) (r : Response) → length f.chains ≡ length chains → length (p.inputs ++ where_chained (length chains) false) ≡ length f.pi → length r.outputs ≡ length f.po
+    → IsItem f (capture_item chains p r)
+capture_is f chains p r e ei eo = vector_is f chains p.inputs (map known r.outputs) e ei (length-map r.outputs known ∙ eo)
 
 -- ---- all items
 
@@ -254,7 +258,7 @@ cell_names_ok n chains sound are =
     (All-weaker (λ x. x < length (net.signals n)) (λ x. IsName (name_of n x)) (own_name n sound) (get_or chains c d)
     (cells_of_chain (λ x. x < length (net.signals n)) chains c (get_or chains c d) below (slice_get-get_or chains c d l))))
 
-filled : (n : Netlist) (chains : List (List ℕ)) → AreChainsOf n chains → All (λ (chain : List ℕ). 0 < length chain) chains
+pub filled : (n : Netlist) (chains : List (List ℕ)) → AreChainsOf n chains → All (λ (chain : List ℕ). 0 < length chain) chains
 filled n chains are = subst (All (λ (chain : List ℕ). 0 < length chain)) (sym are.are) (stitched_filled (cell_ids n) are.asked are.some)
 
 -- ---- without chains

@@ -1,5 +1,5 @@
 mod NameLemmas
-mod FileLemmas
+pub mod FileLemmas
 mod WordLemmas
 mod AddLemmas
 mod BackLemmas

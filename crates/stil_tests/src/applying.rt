@@ -102,7 +102,7 @@ fn push_test(
 }
 
 /// Adds the three loads that flush the chains.
-fn push_flush(
+pub fn push_flush(
     alloc: Global,
     items: &mut Items,
     room: &mut Room,

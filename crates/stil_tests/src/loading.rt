@@ -12,13 +12,13 @@ use stil_write::{ItemKind, Items, Texts};
 
 /// Room for an item's words, and for one of them.
 #[derive(Drop)]
-pub(crate) struct Room {
+pub struct Room {
     pub(crate) word: Vec<u8>,
     pub(crate) words: Texts,
 }
 
 impl Room {
-    pub(crate) fn new(alloc: Global) -> Room {
+    pub fn new(alloc: Global) -> Room {
         Room {
             word: Vec::new(alloc),
             words: Texts::new(alloc),
@@ -61,7 +61,7 @@ fn push_outs(room: &mut Room, chains: &Chains, held: &[Tri]) -> Result<(), Alloc
 }
 
 /// Adds a load of these bits, which strobes what the cells should hold before.
-pub(crate) fn push_load(
+pub fn push_load(
     items: &mut Items,
     room: &mut Room,
     chains: &Chains,

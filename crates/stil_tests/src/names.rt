@@ -27,11 +27,7 @@ fn push_names(names: &mut Texts, netlist: &Netlist, ids: &[SignalId]) -> Result<
 }
 
 /// The inputs, and the scan enable where there are chains.
-pub(crate) fn input_names(
-    alloc: Global,
-    netlist: &Netlist,
-    chains: usize,
-) -> Result<Texts, AllocError>
+pub fn input_names(alloc: Global, netlist: &Netlist, chains: usize) -> Result<Texts, AllocError>
     ensures { IfOk result (λ names. names ≡ map (name_of netlist.now) netlist.now.inputs ++ where_chained chains (codes "SC__se")) }
 {
     netlist.sound();
@@ -44,7 +40,7 @@ pub(crate) fn input_names(
 }
 
 /// The pins of the outputs.
-pub(crate) fn output_names(alloc: Global, netlist: &Netlist) -> Result<Texts, NoMemory>
+pub fn output_names(alloc: Global, netlist: &Netlist) -> Result<Texts, NoMemory>
     ensures { IfOk result (λ names. names ≡ map (output_name netlist.now) netlist.now.outputs) }
 {
     netlist.sound();
@@ -57,7 +53,7 @@ pub(crate) fn output_names(alloc: Global, netlist: &Netlist) -> Result<Texts, No
 }
 
 /// The cells of each chain.
-pub(crate) fn chain_names(
+pub fn chain_names(
     alloc: Global,
     netlist: &Netlist,
     chains: &Chains,
@@ -83,7 +79,7 @@ fn idle_char(held: Option<bool>) -> u8
 }
 
 /// What the inputs have while the chains shift; nothing without chains.
-pub(crate) fn shift_word(
+pub fn shift_word(
     alloc: Global,
     inputs: usize,
     holds: &Holds,

@@ -3,5 +3,5 @@ mod CallLemmas
 mod VectorLemmas
 pub mod FitLemmas
 mod WidthLemmas
-mod TestLemmas
+pub mod TestLemmas
 mod PlayLemmas

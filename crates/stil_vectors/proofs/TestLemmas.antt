@@ -96,7 +96,7 @@ first_size chain chains bits held =
     let few = length-take (length chain) bits in
     length-map (word_in m own) char_of_bit ∙ length-word_in m own (omega (arith, few))
 
-load_vectors : (n : Netlist) (holds : Holds) (chains : List (List ℕ)) (f : StilFile) (bits : List Bool) (held : List Tri) → length f.chains ≡ length chains → length f.po ≡ length n.outputs → f.shift_word ≡ shift_word_of holds chains
+pub load_vectors : (n : Netlist) (holds : Holds) (chains : List (List ℕ)) (f : StilFile) (bits : List Bool) (held : List Tri) → length f.chains ≡ length chains → length f.po ≡ length n.outputs → f.shift_word ≡ shift_word_of holds chains
     → flat_map (cycles_of_item f) (load_items chains bits held) ≡ load n holds chains bits held
 load_vectors n holds [] f bits held ec eo ew = refl
 load_vectors n holds (chain ∷ chains) f bits held ec eo ew =
@@ -125,26 +125,37 @@ got_behind : (n : ℕ) (b p : Text) (rest : List Text) → get_or (replicate n b
 got_behind zero b p rest = refl
 got_behind (suc n) b p rest = got_behind n b p rest
 
-abbrev vector_by : ℕ → List Text → Cycle
+abbrev pub vector_by : ℕ → List Text → Cycle
 vector_by n words = record {
   drive = bits_of (together (take (n + 1) words));
   strobe = values_of (together (drop (n + 1 + length (where_chained n (codes "SC__ck"))) words));
   pulse = has_pulse n words;
 }
 
-abbrev capture_words : ℕ → Text → Text → List Text
+abbrev pub capture_words : ℕ → Text → Text → List Text
 capture_words n pi po = pi ∷ (replicate n (codes "0") ++ (where_chained n (codes "P") ++ (po ∷ replicate n (codes "X"))))
 
-capture_by : (chains : List (List ℕ)) (p : Pattern) (r : Response)
-    → vector_by (length chains) (capture_words (length chains) (text_of_bits (p.inputs ++ where_chained (length chains) false)) (text_of_values (map known r.outputs))) ≡ capture chains p r
-capture_by [] p r =
+abbrev pub vector_words : List (List ℕ) → List Bool → List Tri → List Text
+vector_words chains inputs strobes = capture_words (length chains) (text_of_bits (inputs ++ where_chained (length chains) false)) (text_of_values strobes)
+
+-- a cycle with scan off that strobes these values
+abbrev pub plain_cycle : List (List ℕ) → List Bool → List Tri → Cycle
+plain_cycle [] inputs strobes = record { drive = inputs; strobe = strobes; pulse = false }
+plain_cycle (chain ∷ chains) inputs strobes = record {
+  drive = inputs ++ false ∷ replicate (length (chain ∷ chains)) false;
+  strobe = strobes ++ replicate (length (chain ∷ chains)) X;
+  pulse = true;
+}
+
+vector_made : (chains : List (List ℕ)) (inputs : List Bool) (strobes : List Tri) → vector_by (length chains) (vector_words chains inputs strobes) ≡ plain_cycle chains inputs strobes
+vector_made [] inputs strobes =
     same_cycle _ _ _ _ _ _
-    (ap bits_of (append-nil (text_of_bits (p.inputs ++ []))) ∙ bits_back (p.inputs ++ []) ∙ append-nil p.inputs)
-    (ap values_of (append-nil (text_of_values (map known r.outputs))) ∙ values_back (map known r.outputs)) refl
-capture_by (chain ∷ chains) p r =
+    (ap bits_of (append-nil (text_of_bits (inputs ++ []))) ∙ bits_back (inputs ++ []) ∙ append-nil inputs)
+    (ap values_of (append-nil (text_of_values strobes)) ∙ values_back strobes) refl
+vector_made (chain ∷ chains) inputs strobes =
     let n = suc (length chains) in
-    let pi = text_of_bits (p.inputs ++ false ∷ []) in
-    let po = text_of_values (map known r.outputs) in
+    let pi = text_of_bits (inputs ++ false ∷ []) in
+    let po = text_of_values strobes in
     let zeros = replicate n (codes "0") in
     let rest = po ∷ replicate n (codes "X") in
     let words = capture_words n pi po in
@@ -152,19 +163,26 @@ capture_by (chain ∷ chains) p r =
     let front : take (n + 1) words ≡ pi ∷ zeros = ap (λ k. take k words) one ∙ ap (λ l. pi ∷ l) (front_of n zeros (codes "P" ∷ rest) (length-replicate n (codes "0"))) in
     let behind : drop (n + 1) words ≡ codes "P" ∷ rest = ap (λ k. drop k words) one ∙ back_of n zeros (codes "P" ∷ rest) (length-replicate n (codes "0")) in
     let back : drop (n + 1 + 1) words ≡ rest = drop_more (n + 1) 1 words ∙ ap (drop 1) behind in
-    let driven : bits_of (together (take (n + 1) words)) ≡ p.inputs ++ false ∷ replicate n false =
+    let driven : bits_of (together (take (n + 1) words)) ≡ inputs ++ false ∷ replicate n false =
     ap (λ (ws : List Text). bits_of (together ws)) front ∙ ap (λ (t : Text). bits_of (pi ++ t)) (together_copies n 48) ∙ map-append bit_of pi (replicate n 48)
-    ∙ ap (λ (x : List Bool). x ++ bits_of (replicate n 48)) (bits_back (p.inputs ++ false ∷ [])) ∙ ap (λ (x : List Bool). (p.inputs ++ false ∷ []) ++ x) (map_copies bit_of n 48)
-    ∙ append_assoc p.inputs (false ∷ []) (replicate n false) in
-    let strobed : values_of (together (drop (n + 1 + 1) words)) ≡ map known r.outputs ++ replicate n X =
+    ∙ ap (λ (x : List Bool). x ++ bits_of (replicate n 48)) (bits_back (inputs ++ false ∷ [])) ∙ ap (λ (x : List Bool). (inputs ++ false ∷ []) ++ x) (map_copies bit_of n 48)
+    ∙ append_assoc inputs (false ∷ []) (replicate n false) in
+    let strobed : values_of (together (drop (n + 1 + 1) words)) ≡ strobes ++ replicate n X =
     ap (λ (ws : List Text). values_of (together ws)) back ∙ ap (λ (t : Text). values_of (po ++ t)) (together_copies n 88) ∙ map-append value_of po (replicate n 88)
-    ∙ ap (λ (x : List Tri). x ++ values_of (replicate n 88)) (values_back (map known r.outputs)) ∙ ap (λ (x : List Tri). map known r.outputs ++ x) (map_copies value_of n 88) in
+    ∙ ap (λ (x : List Tri). x ++ values_of (replicate n 88)) (values_back strobes) ∙ ap (λ (x : List Tri). strobes ++ x) (map_copies value_of n 88) in
     let pulsed : has_pulse n words ≡ true = ap (λ (w : Text). get_or w 0 0 == 80) (got_behind n (codes "0") (codes "P") rest) in
     same_cycle _ _ _ _ _ _ driven strobed pulsed
 
-capture_vectors : (chains : List (List ℕ)) (f : StilFile) (p : Pattern) (r : Response) → length f.chains ≡ length chains → cycles_of_item f (capture_item chains p r) ≡ capture chains p r ∷ []
-capture_vectors chains f p r e =
-    ap (λ c. c ∷ []) (ap (λ k. vector_by k (capture_words (length chains) (text_of_bits (p.inputs ++ where_chained (length chains) false)) (text_of_values (map known r.outputs)))) e ∙ capture_by chains p r)
+pub vector_vectors : (chains : List (List ℕ)) (f : StilFile) (inputs : List Bool) (strobes : List Tri) → length f.chains ≡ length chains
+    → cycles_of_item f (Vector (vector_words chains inputs strobes)) ≡ plain_cycle chains inputs strobes ∷ []
+vector_vectors chains f inputs strobes e = ap (λ c. c ∷ []) (ap (λ k. vector_by k (vector_words chains inputs strobes)) e ∙ vector_made chains inputs strobes)
+
+capture_plain : (chains : List (List ℕ)) (p : Pattern) (r : Response) → plain_cycle chains p.inputs (map known r.outputs) ≡ capture chains p r
+capture_plain [] p r = refl
+capture_plain (chain ∷ chains) p r = refl
+
+pub capture_vectors : (chains : List (List ℕ)) (f : StilFile) (p : Pattern) (r : Response) → length f.chains ≡ length chains → cycles_of_item f (capture_item chains p r) ≡ capture chains p r ∷ []
+capture_vectors chains f p r e = vector_vectors chains f p.inputs (map known r.outputs) e ∙ ap (λ c. c ∷ []) (capture_plain chains p r)
 
 -- ---- the whole
 
@@ -177,7 +195,7 @@ applied_vectors n holds chains f held (test ∷ tests) ec eo ew =
     ∙ ap (λ c. load n holds chains test.0.cells held ++ (c ++ flat_map (cycles_of_item f) (applied_items chains (map known test.1.cells) tests))) (capture_vectors chains f test.0 test.1 ec)
     ∙ ap (λ c. load n holds chains test.0.cells held ++ (capture chains test.0 test.1 ∷ c)) (applied_vectors n holds chains f (map known test.1.cells) tests ec eo ew)
 
-four : (f : StilFile) (a b c d : List Item) (p q r s : List Cycle) → flat_map (cycles_of_item f) a ≡ p → flat_map (cycles_of_item f) b ≡ q → flat_map (cycles_of_item f) c ≡ r → flat_map (cycles_of_item f) d ≡ s
+pub four : (f : StilFile) (a b c d : List Item) (p q r s : List Cycle) → flat_map (cycles_of_item f) a ≡ p → flat_map (cycles_of_item f) b ≡ q → flat_map (cycles_of_item f) c ≡ r → flat_map (cycles_of_item f) d ≡ s
     → flat_map (cycles_of_item f) (a ++ b ++ c ++ d) ≡ p ++ q ++ r ++ s
 four f a b c d p q r s ea eb ec ed =
     flat_map-append (cycles_of_item f) (a ++ b ++ c) d

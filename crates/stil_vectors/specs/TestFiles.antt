@@ -42,6 +42,12 @@ capture_item chains p r =
     Vector (text_of_bits (p.inputs ++ where_chained (length chains) false) ∷ (replicate (length chains) (codes "0") ++ (where_chained (length chains) (codes "P")
     ++ (text_of_values (map known r.outputs) ∷ replicate (length chains) (codes "X")))))
 
+-- a launch: a capture's words, but nothing is strobed
+abbrev pub launch_item : ℕ → List (List ℕ) → Pattern → Item
+launch_item outputs chains p =
+    Vector (text_of_bits (p.inputs ++ where_chained (length chains) false) ∷ (replicate (length chains) (codes "0") ++ (where_chained (length chains) (codes "P")
+    ++ (text_of_values (replicate outputs X) ∷ replicate (length chains) (codes "X")))))
+
 abbrev pub applied_items : List (List ℕ) → List Tri → List (Pattern × Response) → List Item
 applied_items chains held [] = load_items chains (replicate (length (cells_of chains)) false) held
 applied_items chains held (test ∷ tests) = load_items chains test.0.cells held ++ capture_item chains test.0 test.1 ∷ applied_items chains (map known test.1.cells) tests

@@ -16,29 +16,29 @@ use Rattle.events.specs.Stuck.{IsObservedOnly}
 use Rattle.events.specs.Trails.{AreChanges}
 use Rattle.events.specs.Words.{ones, words, word_table}
 use Rattle.events.proofs.Standing.{observed_settles}
-use Rattle.word_sim.specs.Hits.{LastDetected}
+use Rattle.word_sim.specs.Hits.{LastMarked}
 use Rattle.word_sim.specs.inner.Differences.{AreDifferences, AreShown, IsSole}
-use Rattle.word_sim.specs.inner.Packed.{AreGoodFor, IsUsed}
+use Rattle.word_sim.specs.inner.Packed.{AreGoodFor, IsMarked}
 use Rattle.observed_points.specs.Points.{points, watched, point_of, ArePoints, IsReadAt}
 use Rattle.observed_points.proofs.ObservedPoints.{signal_in, signal_within, watched_count, watched_in}
 use Rattle.observed_points.proofs.PointTables.{points_few}
 use Rattle.word_sim.proofs.StuckPoints.{sole_differences, stuck_differences}
-use Rattle.word_sim.proofs.WordDetection.{differs, last_detected}
+use Rattle.word_sim.proofs.WordDetection.{differs, last_marked}
 
 -- what is found is small
 small_found : (n : Netlist) → IsSound n → (test : ℕ → ℕ → Bool) (used : ℕ) (found : Option (ℕ × ℕ)) → AreDifferences (length (points n)) test used found → IfSome found (λ w. (w.0 < 64) × (w.1 < 2 ^ 32))
 small_found n sound test used None h = tt
 small_found n sound test used (Some w) h = let s = h.some w.0 w.1 refl in let l = s.2 in let few = points_few n sound in (s.0, omega arith)
 
-module _ (n : Netlist) (sound : IsSound n) (f : Fault) (patterns : List Pattern) (values : List ℕ) (good : AreGoodFor n patterns values) (used : ℕ) (is_used : IsUsed (length patterns) used) where
+module _ (n : Netlist) (sound : IsSound n) (f : Fault) (values : List ℕ) (used : ℕ) where
   sole_is : (number g : ℕ) (found : Option (ℕ × ℕ)) → IsReadAt n f.line number → g ≡ at values 0 (signal_in n sound number) → IsSole (bit_xor g (cond f.value ones 0)) used number found
       → AreDifferences (length (points n)) (differs n sound f (at values 0) (at values 0)) used found
   sole_is number g found r e h = sole_differences n sound f values number used found r (subst (λ v. IsSole (bit_xor v (cond f.value ones 0)) used number found) e h)
 
-  pub found_sole : (number g : ℕ) (found : Option (ℕ × ℕ)) → IsReadAt n f.line number → g ≡ at values 0 (signal_in n sound number) → IsSole (bit_xor g (cond f.value ones 0)) used number found
-      → LastDetected n patterns f (option_map (λ (w : ℕ × ℕ). (w.0, point_of n w.1)) found)
-  found_sole number g found r e h =
-      last_detected n sound f (at values 0) (at values 0) good.inputs good.state (good.settles 0) ((observed_settles word_table f n values r.only).each good.inputs good.state 0 (good.settles 0))
+  pub found_sole : (patterns : List Pattern) → AreGoodFor n patterns values → IsMarked (length patterns) used → (number g : ℕ) (found : Option (ℕ × ℕ)) → IsReadAt n f.line number → g ≡ at values 0 (signal_in n sound number) → IsSole (bit_xor g (cond f.value ones 0)) used number found
+      → LastMarked n patterns used f (option_map (λ (w : ℕ × ℕ). (w.0, point_of n w.1)) found)
+  found_sole patterns good is_used number g found r e h =
+      last_marked n sound f (at values 0) (at values 0) good.inputs good.state (good.settles 0) ((observed_settles word_table f n values r.only).each good.inputs good.state 0 (good.settles 0))
       patterns good.few good.inputs_are good.state_are used is_used found (sole_is number g found r e h)
 
   pub small_sole : (number g : ℕ) (found : Option (ℕ × ℕ)) → IsReadAt n f.line number → g ≡ at values 0 (signal_in n sound number) → IsSole (bit_xor g (cond f.value ones 0)) used number found
@@ -56,9 +56,9 @@ module _ (n : Netlist) (sound : IsSound n) (f : Fault) (patterns : List Pattern)
         (subst (λ k. AreShown first k shown_values used trail found) count_is
         (subst (λ fs. AreShown fs count shown_values used trail found) first_is shown))))
 
-    pub found_stuck : LastDetected n patterns f (option_map (λ (w : ℕ × ℕ). (w.0, point_of n w.1)) found)
-    found_stuck =
-        last_detected n sound f (at values 0) (at new 0) good.inputs good.state (good.settles 0) (over.each good.inputs good.state 0 (good.settles 0))
+    pub found_stuck : (patterns : List Pattern) → AreGoodFor n patterns values → IsMarked (length patterns) used → LastMarked n patterns used f (option_map (λ (w : ℕ × ℕ). (w.0, point_of n w.1)) found)
+    found_stuck patterns good is_used =
+        last_marked n sound f (at values 0) (at new 0) good.inputs good.state (good.settles 0) (over.each good.inputs good.state 0 (good.settles 0))
         patterns good.few good.inputs_are good.state_are used is_used found stuck_is
 
     pub small_stuck : IfSome found (λ w. (w.0 < 64) × (w.1 < 2 ^ 32))

@@ -16,7 +16,8 @@ use Rattle.netlist.proofs.Lists.{decides_beq}
 use Rattle.cubes.specs.Cubes.{Pattern}
 use Rattle.events.specs.Words.{bit_of, words}
 use Rattle.events.proofs.WordBits.{words_as_bits, bit_line}
-use Rattle.word_sim.specs.Hits.{IsDetectedAt, IsBefore, LastDetected}
+use Rattle.word_sim.specs.Hits.{IsDetectedAt, IsBefore, LastDetected, LastMarked}
+use Rattle.word_sim.specs.inner.Packed.{IsMarked, IsUsed}
 use Rattle.observed_points.specs.Points.{points, point_of}
 use Rattle.word_sim.specs.inner.Differences.{AreDifferences}
 use Rattle.observed_points.proofs.ObservedPoints.{line_in, signal_in, observed_in, point_in, signal_within}
@@ -113,7 +114,7 @@ no_pattern = record { inputs = []; cells = [] }
 module _ (n : Netlist) (sound : IsSound n) (f : Fault) (good faulty : ℕ → ℕ) (inputs state : List ℕ) (good_settles : Settles (words None) n inputs state good)
     (faulty_settles : Settles (words (Some f)) n inputs state faulty) (patterns : List Pattern) (few : length patterns ≤ 64)
     (inputs_are : (j : ℕ) (p : Pattern) → slice_get patterns j ≡ Some p → map (bit_of j) inputs ≡ p.inputs) (state_are : (j : ℕ) (p : Pattern) → slice_get patterns j ≡ Some p → map (bit_of j) state ≡ p.cells)
-    (used : ℕ) (is_used : (j : ℕ) → j < 64 → bit_of j used ≡ ltb j (length patterns)) where
+    (used : ℕ) (is_used : (j : ℕ) → j < 64 → bit_of j used ≡ true → j < length patterns) where
   within : (j : ℕ) (p : Pattern) → slice_get patterns j ≡ Some p → j < length patterns
   within j p e = some_below patterns j p e
 
@@ -122,19 +123,16 @@ module _ (n : Netlist) (sound : IsSound n) (f : Fault) (good faulty : ℕ → �
       let l = within j h.pattern h.at in
       (l, detects_differs n sound f good faulty inputs state good_settles faulty_settles j (omega arith) h.pattern (inputs_are j h.pattern h.at) (state_are j h.pattern h.at) q h.detects)
 
-  used_at : (j : ℕ) → j < length patterns → bit_of j used ≡ true
-  used_at j l = is_used j (omega arith) ∙ lt-ltb j (length patterns) l
-
-  pub last_detected : (found : Option (ℕ × ℕ)) → AreDifferences (length (points n)) (differs n sound f good faulty) used found → LastDetected n patterns f (option_map (λ (w : ℕ × ℕ). (w.0, point_of n w.1)) found)
-  last_detected None h = λ j q t.
+  pub last_marked : (found : Option (ℕ × ℕ)) → AreDifferences (length (points n)) (differs n sound f good faulty) used found → LastMarked n patterns used f (option_map (λ (w : ℕ × ℕ). (w.0, point_of n w.1)) found)
+  last_marked None h = λ j q marked t.
       let w = detected_differs j q t in
       let l = w.0 in
-      both_ways (differs n sound f good faulty w.1.0 j) (h.none refl j w.1.0 (omega arith) (used_at j w.0) w.1.1) w.1.3
-  last_detected (Some w) h =
+      both_ways (differs n sound f good faulty w.1.0 j) (h.none refl j w.1.0 (omega arith) marked w.1.1) w.1.3
+  last_marked (Some w) h =
       let j = w.0 in
       let c = w.1 in
       let s = h.some w.0 w.1 refl in
-      let inside : w.0 < length patterns = ltb-true w.0 (length patterns) (sym (is_used w.0 s.0) ∙ s.1) in
+      let inside : w.0 < length patterns = is_used w.0 s.0 s.1 in
       let p = get_or patterns w.0 no_pattern in
       let at_p : slice_get patterns w.0 ≡ Some p = slice_get-get_or patterns w.0 no_pattern inside in
       record {
@@ -143,11 +141,29 @@ module _ (n : Netlist) (sound : IsSound n) (f : Fault) (good faulty : ℕ → �
           at = at_p;
           detects = differs_detects n sound f good faulty inputs state good_settles faulty_settles w.0 s.0 p (inputs_are w.0 p at_p) (state_are w.0 p at_p) w.1 s.2 s.3;
         };
-        last = λ i q later t.
+        marked = s.1;
+        last = λ i q later marked t.
             let d = detected_differs i q t in
             let l = d.0 in
-            both_ways (differs n sound f good faulty d.1.0 i) (s.5 i d.1.0 later (omega arith) (used_at i d.0) d.1.1) d.1.3;
+            both_ways (differs n sound f good faulty d.1.0 i) (s.5 i d.1.0 later (omega arith) marked d.1.1) d.1.3;
         first = λ q before t.
             let d = detected_differs w.0 q t in
             both_ways (differs n sound f good faulty d.1.0 w.0) (s.4 d.1.0 (before_in n sound d.1.0 w.1 (subst (λ r. IsBefore r (point_of n w.1)) d.1.2 before))) d.1.3;
       }
+
+-- where each pattern is marked
+pub used_marked : (m used : ℕ) → IsUsed m used → IsMarked m used
+used_marked m used is j l e = ltb-true j m (sym (is j l) ∙ e)
+
+pub marked_all : (n : Netlist) (patterns : List Pattern) (f : Fault) (used : ℕ) → length patterns ≤ 64 → IsUsed (length patterns) used
+    → (found : Option (ℕ × Point)) → LastMarked n patterns used f found → LastDetected n patterns f found
+marked_all n patterns f used few is None h = λ j q t.
+    let l = some_below patterns j t.pattern t.at in
+    h j q (is j (omega arith) ∙ lt-ltb j (length patterns) l) t
+marked_all n patterns f used few is (Some w) h = record {
+  here = h.here;
+  last = λ j q later t.
+      let l = some_below patterns j t.pattern t.at in
+      h.last j q later (is j (omega arith) ∙ lt-ltb j (length patterns) l) t;
+  first = h.first;
+}

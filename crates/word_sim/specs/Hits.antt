@@ -1,6 +1,6 @@
 -- Patterns that are published together, and what patterns detect. (Fault dropping by the last detecting pattern, as static compaction
 -- in reverse order wants it: Bushnell and Agrawal, Essentials of Electronic Testing.)
-use Rattle.std.specs.Prelude.{ℕ, ◌≡◌, ◌<◌, ◌⊎◌, ⊤, List, [], ◌∷◌, Option, Some, None}
+use Rattle.std.specs.Prelude.{ℕ, ◌≡◌, ◌<◌, ◌⊎◌, ⊤, true, List, [], ◌∷◌, Option, Some, None}
 use Rattle.std.specs.List.{slice_get}
 use Rattle.netlist.specs.declared.lines.Fault.{Fault}
 use Rattle.netlist.specs.declared.lines.Point.{Point}
@@ -8,6 +8,7 @@ use Rattle.netlist.specs.declared.lines.Point.TheVariants.{Output, Cell}
 use Rattle.netlist.specs.Netlist.{Netlist}
 use Rattle.netlist.specs.Detection.{Detects}
 use Rattle.cubes.specs.Cubes.{Pattern}
+use Rattle.events.specs.Words.{bit_of}
 use Rattle.word_sim.specs.declared.batches.Hit.{Hit}
 
 -- patterns, and hits that name places among them
@@ -33,6 +34,18 @@ pub record IsLastDetected (n : Netlist) (patterns : List Pattern) (f : Fault) (p
   pub here : IsDetectedAt n patterns f place point
   pub last : (later : ℕ) (p : Point) → place < later → ¬ IsDetectedAt n patterns f later p
   pub first : (p : Point) → IsBefore p point → ¬ IsDetectedAt n patterns f place p
+
+-- the last pattern that is marked by its bit of a word and detects the fault, and the first point at which it does
+pub record IsLastMarked (n : Netlist) (patterns : List Pattern) (marks : ℕ) (f : Fault) (place : ℕ) (point : Point) : Type 0 where
+  pub here : IsDetectedAt n patterns f place point
+  pub marked : bit_of place marks ≡ true
+  pub last : (later : ℕ) (p : Point) → place < later → bit_of later marks ≡ true → ¬ IsDetectedAt n patterns f later p
+  pub first : (p : Point) → IsBefore p point → ¬ IsDetectedAt n patterns f place p
+
+-- where it is last detected by a marked pattern, if at all
+abbrev pub LastMarked : Netlist → List Pattern → ℕ → Fault → Option (ℕ × Point) → Type 0
+LastMarked n patterns marks f None = (place : ℕ) (p : Point) → bit_of place marks ≡ true → ¬ IsDetectedAt n patterns f place p
+LastMarked n patterns marks f (Some w) = IsLastMarked n patterns marks f w.0 w.1
 
 abbrev pub IsNeverDetected : Netlist → List Pattern → Fault → Type 0
 IsNeverDetected n patterns f = (place : ℕ) (p : Point) → ¬ IsDetectedAt n patterns f place p

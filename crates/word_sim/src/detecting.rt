@@ -6,8 +6,9 @@ ghost use Rattle.netlist.specs.Netlist.{Netlist as Equations, signals};
 ghost use Rattle.events.specs.declared.trails.Change.{Change as ChangeOf};
 ghost use Rattle.events.specs.Words.{bit_of, ones};
 ghost use Rattle.word_sim.specs.inner.Differences.{shows, AreShown, IsFirstShown, IsSole};
-ghost use Rattle.word_sim.specs.Hits.{LastDetected};
-ghost use Rattle.word_sim.specs.inner.Packed.{AreGoodFor, IsUsed};
+ghost use Rattle.cubes.specs.Cubes.{Pattern as Bits};
+ghost use Rattle.word_sim.specs.Hits.{LastDetected, LastMarked};
+ghost use Rattle.word_sim.specs.inner.Packed.{AreGoodFor, IsMarked, IsUsed};
 ghost use Rattle.observed_points.specs.Points.{ArePoints, point_of};
 ghost use Rattle.std.specs.Option.{option_map};
 
@@ -113,6 +114,43 @@ fn known(bit: bool) -> u64
     if bit { u64::MAX } else { 0 }
 }
 
+/// The last of the patterns that are marked which detects a fault, and the number of the first point at which it does. The words are then those before.
+pub fn last_marked(
+    events: &mut Events<'_, u64>,
+    points: &Points,
+    marks: u64,
+    fault: &Fault,
+) -> Option<(u32, usize)>
+    requires points { ArePoints events.old.netlist points.now.seen.items points.now.first.items points.now.numbers.items }
+    requires line { IsLineOf events.old.netlist fault.now.line }
+    requires trail { events.old.trail ≡ [] }
+    ensures found { (patterns : List Bits) → AreGoodFor events.old.netlist patterns events.old.values → IsMarked (length patterns) marks
+        → LastMarked events.old.netlist patterns marks fault.now (option_map (λ (w : ℕ × ℕ). (w.0, point_of events.old.netlist w.1)) result) }
+    ensures small { IfSome result (λ w. (w.0 < 64) × (w.1 < 2 ^ 32)) }
+    ensures same { events.new ≡ events.old }
+{
+    let netlist = events.core().netlist();
+    netlist.sound();
+    if let Some(number) = points.sole(netlist, &fault.line) {
+        let signal = points.seen[number as usize];
+        let good = events.values()[signal.index()];
+        return last_differing(good ^ known(fault.value), marks, number);
+    }
+    let rule = Words {
+        fault: Some(*fault),
+    };
+    events.stick(&rule, fault);
+    let found = last_shown(
+        events.trail(),
+        events.values(),
+        &points.first,
+        points.seen.len(),
+        marks,
+    );
+    events.undo(0);
+    found
+}
+
 /// The last pattern that detects a fault, and the number of the first point at which it does. The words are then those before.
 pub(crate) fn last_of(
     events: &mut Events<'_, u64>,
@@ -130,24 +168,6 @@ pub(crate) fn last_of(
     ensures small { IfSome result (λ w. (w.0 < 64) × (w.1 < 2 ^ 32)) }
     ensures same { events.new ≡ events.old }
 {
-    let netlist = events.core().netlist();
-    netlist.sound();
-    if let Some(number) = points.sole(netlist, &fault.line) {
-        let signal = points.seen[number as usize];
-        let good = events.values()[signal.index()];
-        return last_differing(good ^ known(fault.value), used, number);
-    }
-    let rule = Words {
-        fault: Some(*fault),
-    };
-    events.stick(&rule, fault);
-    let found = last_shown(
-        events.trail(),
-        events.values(),
-        &points.first,
-        points.seen.len(),
-        used,
-    );
-    events.undo(0);
-    found
+    let _ = patterns;
+    last_marked(events, points, used, fault)
 }

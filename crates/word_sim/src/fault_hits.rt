@@ -20,7 +20,7 @@ use observed_points::{Points, point_at};
 use std::alloc::{AllocError, Global};
 
 /// The words of patterns, settled without a fault.
-pub(crate) fn good_events<'a>(
+pub fn good_events<'a>(
     alloc: Global,
     core: &'a Core,
     patterns: &[Pattern],
@@ -40,7 +40,7 @@ pub(crate) fn good_events<'a>(
 }
 
 /// The words of other patterns in place of those before.
-pub(crate) fn next_patterns(
+pub fn next_patterns(
     alloc: Global,
     events: &mut Events<'_, u64>,
     patterns: &[Pattern],

@@ -10,7 +10,9 @@ mod simulator;
 mod words;
 
 pub use batches::{Batch, Hit};
-pub use fault_hits::hits;
+pub use detecting::last_marked;
+pub use fault_hits::{good_events, hits, next_patterns};
 pub use last_detected::last_tells;
+pub use packing::used_bits;
 pub use simulator::Simulator;
 pub use words::{Words, good64};

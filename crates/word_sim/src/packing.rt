@@ -67,7 +67,7 @@ pub(crate) fn packed(
 }
 
 /// The bits that patterns have: those below their count.
-pub(crate) fn used_bits(count: usize) -> u64
+pub fn used_bits(count: usize) -> u64
     requires { count ≤ 64 }
     ensures { IsUsed count result }
 {

@@ -1,5 +1,5 @@
 -- Patterns packed into words, a bit for each.
-use Rattle.std.specs.Prelude.{ℕ, ◌≡◌, ◌<◌, ◌≤◌, Bool, false, List, map, length, None, Some, nat_lt, slice_index_or}
+use Rattle.std.specs.Prelude.{ℕ, ◌≡◌, ◌<◌, ◌≤◌, Bool, true, false, List, map, length, None, Some, nat_lt, slice_index_or}
 use Rattle.std.specs.List.{slice_get}
 use Rattle.cubes.specs.Cubes.{Pattern}
 use Rattle.netlist.specs.Netlist.{Netlist}
@@ -26,6 +26,10 @@ pub record ArePacked (part : Part) (patterns : List Pattern) (width : ℕ) (word
 -- the word has the bits below m
 abbrev pub IsUsed : ℕ → ℕ → Type 0
 IsUsed m word = (j : ℕ) → j < 64 → (bit_of j word ≡ nat_lt j m)
+
+-- each bit of the word is that of a pattern, of which there are m
+abbrev pub IsMarked : ℕ → ℕ → Type 0
+IsMarked m word = (j : ℕ) → j < 64 → bit_of j word ≡ true → j < m
 
 -- words that settle without a fault for the words of these patterns
 pub record AreGoodFor (n : Netlist) (patterns : List Pattern) (values : List ℕ) : Type 0 where
