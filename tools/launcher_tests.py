@@ -9,6 +9,8 @@ import subprocess
 import tempfile
 import time
 
+import plain_design
+
 ROOT = pathlib.Path(__file__).resolve().parent.parent
 
 # What the tests need of `rt`: it "proves" each crate whose source hasn't the word broken, and "builds" a program that says its words.
@@ -255,3 +257,48 @@ def test_build_to_a_folder():
         (to / "atpg").unlink()
         status, out, errors = made.build("--to", to)
         assert status == 0 and out.startswith("build: nothing changed") and (to / "atpg").exists(), (out, errors)
+
+
+# tools/explain, on refusals that the plain reader finds.
+
+REFUSED = (
+    ("INPUT(a)\nOUTPUT(y)\ny = AND(a, Bee)\nbee = NOT(a)\n", ["  y = AND(a, Bee)", "Bee is neither an INPUT nor defined; like it are bee (line 4)"]),
+    ("INPUT(a)\nOUTPUT(y)\nOUTPUT(z)\ny = NOT(a)\n", ["  OUTPUT(z)", "z is neither an INPUT nor defined"]),
+    ("INPUT(a)\nOUTPUT(y)\ny = AND(a, u)\nu = OR(v, a)\nv = NOT(u)\nw = NOT(a)\n", [
+        "  y = AND(a, u)", "gates read one another in a circle, without a DFF between:", "  u (line 4) reads v (line 5) reads u (line 4)",
+        "  y reads from it"]),
+    ("INPUT(a)\nOUTPUT(y)\ny = NOT(y)\n", ["  y = NOT(y)", "gates read one another in a circle, without a DFF between:",
+                                          "  y (line 3) reads y (line 3)"]),
+    ("INPUT(a)\nOUTPUT(y)\ny = NAN(a)\n", ["  y = NAN(a)", "NAN is no gate; like it are NAND, AND. Gates are AND, NAND, OR, NOR, XOR, XNOR, NOT, "
+                                          "BUFF, DFF, CONST0, CONST1"]),
+    ("INPUT(a)\nOUTPUT(y)\ny = NOT(a, a)\n", ["  y = NOT(a, a)", "NOT has 2 pins here, and may have 1"]),
+    ("INPUT(a)\nOUTPUT(y)\ny = XOR(a)\n", ["  y = XOR(a)", "XOR has 1 pin here, and may have 2 to 1,024"]),
+    ("INPUT(a)\nINPUT(a)\nOUTPUT(a)\n", ["  INPUT(a)", "a is defined on line 1 too: INPUT(a)"]),
+    ("INPUT(a)\nOUTPUT(SC__a)\n", ["  OUTPUT(SC__a)", "names that begin with SC__ are for scan insertion: SC__a"]),
+    ("INPUT(a)\nOUTPUT(y);\n", ["  OUTPUT(y);", "it is none of INPUT(x), OUTPUT(x) and z = GATE(a, b, ..)"]),
+    ("INPUT(a)\nOUTPUT(" + "y" * 300 + ")\n", ["  OUTPUT(" + "y" * 300 + ")",
+                                             "a name has 300 bytes, and may have 255 (261 where the netlist is read as scanned)"]),
+    ("INPUT(a)\nOUTPUT(\"y)\n", ["  OUTPUT(\"y)", "byte 8 is 0x22, which may stand in comments alone"]),
+    ("OUTPUT(y)\ny = CONST1()\n", ["no line is an INPUT"]),
+)
+
+
+def test_explain():
+    """The line and what is wrong with it, below what the program says."""
+    with tree() as made:
+        made.add_rt()
+        (made.root / "bench").mkdir()
+        shutil.copy2(ROOT / "bench/plain_design.py", made.root / "bench")
+        shutil.copy2(ROOT / "tools/explain", made.root / "tools")
+        for number, (text, wanted) in enumerate(REFUSED):
+            path = made.folder / f"{number}.bench"
+            path.write_text(text)
+            try:
+                plain_design.read(text.encode())
+            except plain_design.Refusal as why:
+                line = str(why)
+            made.put(made.root / "atpg", f"#!/bin/sh\necho '{line}' >&2\nexit 3\n")
+            status, out, errors = made.run(made.root / "tools/explain", path)
+            assert (status, out, errors.splitlines()) == (3, "", [line, *wanted]), (text, errors)
+        made.put(made.root / "atpg", "#!/bin/sh\necho faults 2 classes 2\n")
+        assert made.run(made.root / "tools/explain", "x") == (0, "x: read as a netlist\n", "")
