@@ -78,15 +78,20 @@ impl<'a, R: Runtime> Progress<'a, R> {
             return;
         };
         let seconds = time.as_secs();
-        let now = seconds.saturating_mul(1000 / EVERY) + u64::from(time.subsec_millis()) / EVERY;
+        let part = u64::from(time.subsec_millis()) / EVERY;
+        let now = seconds.saturating_mul(1000 / EVERY).saturating_add(part);
         if self.shown.swap(now, Ordering::SeqCst) == now {
             return;
         }
         let claims = self.claims.load(Ordering::SeqCst);
         let batches = self.batches.load(Ordering::SeqCst);
         let _ = match self.classes {
-            Some(classes) => eprint!(self.rt; "\n{claims} of {classes} classes claimed, {batches} batches, {seconds} s{AFTER}"),
-            None => eprint!(self.rt; "\n{claims} classes claimed, {batches} batches, {seconds} s{AFTER}"),
+            Some(classes) => eprint!(self.rt;
+                "\n{claims} of {classes} classes claimed, {batches} batches, {seconds} s{AFTER}"
+            ),
+            None => eprint!(self.rt;
+                "\n{claims} classes claimed, {batches} batches, {seconds} s{AFTER}"
+            ),
         };
     }
 
