@@ -3,6 +3,7 @@
 import contextlib
 import os
 import pathlib
+import re
 import shutil
 import signal
 import subprocess
@@ -55,7 +56,8 @@ for word in "$@"; do
     -h | --help | --version) printf 'atpg 0.1\n' >&2; exit 2 ;;
     esac
 done
-echo "ran $*"
+[ "$1" = faults ] && echo "faults 9 classes 7" && [ "$2" = counted ] && exit
+echo "ran $*${ATPG_CLASSES+ of $ATPG_CLASSES}"
 [ "$1" != play ]
 """
 
@@ -97,9 +99,10 @@ class Tree:
         """The PATH without the folders that have an rt."""
         return os.pathsep.join(each for each in os.environ["PATH"].split(os.pathsep) if not os.path.exists(os.path.join(each, "rt")))
 
-    def run(self, *words):
-        """The status, standard output and standard error."""
-        done = subprocess.run(**self.words(*words), capture_output=True)
+    def run(self, *words, **more):
+        """The status, standard output and standard error, with more of the environment."""
+        asked = self.words(*words)
+        done = subprocess.run(**asked | {"env": asked["env"] | more}, capture_output=True)
         return done.returncode, done.stdout, done.stderr
 
     def atpg(self, *words):
@@ -158,7 +161,7 @@ def test_launcher_staleness():
         assert [line.rpartition(" (")[0] for line in out.splitlines()[2:5]] == [
             "build: 1 of 3: netlist", "build: 2 of 3: below", "build: 3 of 3: atpg_main"], out
         assert made.left() == [], made.left()
-        ran = (0, "ran faults x\n", "")
+        ran = (0, "faults 9 classes 7\nran faults x\n", "")
         assert made.atpg("faults", "x") == ran
         assert made.atpg("play", "x", "y") == (1, "ran play x y\n", "")
         for name in ("netlist", "below", "atpg_main"):
@@ -185,7 +188,7 @@ def test_launcher_by_a_link():
         assert made.build()[0] == 0
         (made.folder / "link").symlink_to(made.root / "atpg")
         (made.folder / "second").symlink_to("link")
-        assert made.run(made.folder / "second", "faults", "x") == (0, "ran faults x\n", "")
+        assert made.run(made.folder / "second", "faults", "x") == (0, "faults 9 classes 7\nran faults x\n", "")
         (made.folder / "made").symlink_to(made.root / "build")
         assert made.run(made.folder / "made") == (0, "build: nothing changed since the last build\n", "")
 
@@ -200,6 +203,18 @@ def test_launcher_help():
         assert made.atpg("run", "--bad", "--help") == (2, "", "error: unexpected argument\n")
         assert made.atpg("play", "a", "b", "--fault", "-h")[2] == "atpg 0.1\n"  # a value: the program's to say
         assert made.atpg("scan", "--", "-h", "b")[2] == "atpg 0.1\n"
+
+
+def test_launcher_counts_classes():
+    """Where the line that says how far a run is will be shown, the program is told of how many classes."""
+    with tree() as made:
+        made.add_rt()
+        assert made.build()[0] == 0
+        words = (made.root / "atpg", "run", "counted", "b")
+        assert made.run(*words, ATPG_PROGRESS="1")[1] == "ran run counted b of 7\n"
+        assert made.run(*words, ATPG_PROGRESS="0")[1] == "ran run counted b\n"
+        assert made.run(*words)[1] == "ran run counted b\n"
+        assert made.run(*words, ATPG_PROGRESS="1", ATPG_CLASSES="5")[1] == "ran run counted b of 5\n"
 
 
 def test_launcher_looks_first():
@@ -241,7 +256,7 @@ def test_build_to_a_folder():
         to = made.folder / "some" / "bin"
         status, out, errors = made.build("--to", to, "--keep")
         assert status == 0, errors
-        assert made.run(to / "atpg", "faults", "x") == (0, "ran faults x\n", "")
+        assert made.run(to / "atpg", "faults", "x") == (0, "faults 9 classes 7\nran faults x\n", "")
         assert not (to / "atpg-check").exists()
         assert len(made.left()) == 1, made.left()
         assert not any((made.temporary / made.left()[0] / "crates").glob("other"))
@@ -257,6 +272,50 @@ def test_build_to_a_folder():
         (to / "atpg").unlink()
         status, out, errors = made.build("--to", to)
         assert status == 0 and out.startswith("build: nothing changed") and (to / "atpg").exists(), (out, errors)
+
+
+# tools/run_many, with stand-ins for both programs.
+
+RUN = r"""#!/usr/bin/env bash
+[ "$(basename "$2")" = bad.bench ] && echo "netlist line 1: BadLine" >&2 && exit 3
+for end in net scan stil cert; do echo "$*" >"$3.$end"; done
+printf 'atpg report 1\nfaults 4\ndetected 3\naborted 1\nredundant 0\ncoverage 75.00\nefficiency 75.00\npatterns 2\ncycles 9\nstem a/0 aborted\n' >"$3.rep"
+echo faults 4
+"""
+
+CHECK = r"""#!/usr/bin/env bash
+grep -q false "$1.net" && echo "fault stem a/0" && exit 1
+echo "checked 4 faults"
+"""
+
+
+def test_run_many():
+    """Each design is run and checked, by parallel where it is here; the table has numbers of good files alone."""
+    with tree() as made:
+        made.put(made.bin / "atpg", RUN)
+        made.put(made.bin / "check", CHECK)
+        programs = {"ATPG": str(made.bin / "atpg"), "ATPG_CHECK": str(made.bin / "check")}
+        designs, to = made.folder / "designs", made.folder / "some" / "made"
+        designs.mkdir()
+        for name in ("b", "a", "false", "bad"):
+            (designs / f"{name}.bench").write_text("INPUT(a)\n")
+        tool = ROOT / "tools/run_many"
+        for task, status in ((1, 0), (2, 0), (3, 1), (4, 1)):
+            assert made.run(tool, designs, "--to", to, "--task", task, "--", "--hold", "x y=1", **programs)[0] == status, task
+        assert "--hold x y=1" in (to / "a.net").read_text()
+        assert made.run(tool, designs, "--to", to, "--task", "5", **programs)[0] == 1
+        status, table, _ = made.run(tool, "--join", to, **programs)
+        rows = [re.sub(r" \d+\.\d\d (?=[cN])", " s ", re.sub(r" +", " ", line)) for line in table.splitlines()]
+        assert status == 1 and rows[1:] == [
+            "a 4 3 0 1 75.00 75.00 2 9 s checked 4 faults", "b 4 3 0 1 75.00 75.00 2 9 s checked 4 faults",
+            "bad - - - - - - - - s NOT GOOD: netlist line 1: BadLine", "false - - - - - - - - s NOT GOOD: fault stem a/0"], table
+        if shutil.which("parallel") is None:
+            return "ok, but for parallel, which isn't here"
+        shutil.rmtree(to)
+        (designs / "bad.bench").unlink()
+        (designs / "false.bench").unlink()
+        status, table, errors = made.run(tool, designs, "--to", to, "--jobs", "2", "--", "--hold", "x y=1", **programs)
+        assert status == 0 and len(table.splitlines()) == 3 and "--hold x y=1" in (to / "b.net").read_text(), (table, errors)
 
 
 # tools/explain, on refusals that the plain reader finds.
