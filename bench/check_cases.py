@@ -302,7 +302,7 @@ def stil_answer(netlist, is_whole, head, texts):
 
 
 def searched(netlist, held, limit, fault):
-    """A test or none, by all patterns; None where the limit might end the search before."""
+    """A test or none, by all patterns; None where the backtrack limit might end the search before."""
     held = {} if held == "-" else dict([held.split("=")])
     sources = len(netlist.inputs) - len(held) + len(netlist.cells)
     if check_trees.is_detected(netlist, fault, held):

@@ -362,7 +362,7 @@ def clauses(files, netlist, trees, head, held, said):
 # Making files.
 
 def tree_of(netlist, fault, limit, held):
-    """A tree that splits sources in order until each label is closed, or the limit is met; Open beyond it."""
+    """A tree that splits sources in order until each label is closed, or the backtrack limit is met; Open beyond it."""
     nodes, left, sources = [], limit, [name for name in netlist.inputs + netlist.cells if name not in held]
     waiting = [{}]
     while waiting:

@@ -1,8 +1,11 @@
 //! The program: the real words, files and outputs, handed to `top`.
 #![tactic(auto)]
 
+mod progress;
+
 use atpg_top::top;
-use outside::{FolderShelf, OpenGate, OutSink, Sink};
+use outside::{FolderShelf, OutSink, Sink};
+use progress::Progress;
 use std::process::ExitCode;
 use std::{env, io};
 
@@ -31,13 +34,16 @@ fn main(rt: HostRuntime) -> ExitCode {
     };
     let mut shelf = FolderShelf::new(&rt);
     let mut out = OutSink::new(rt.stdout());
-    ExitCode::from(top(
+    let progress = Progress::new(&rt);
+    let status = top(
         &rt,
         alloc,
         words.as_slice(),
         &mut shelf,
         &mut out,
         &mut err,
-        &OpenGate,
-    ))
+        &progress,
+    );
+    progress.end();
+    ExitCode::from(status)
 }

@@ -17,7 +17,7 @@ fn word_of(found: Result<Found, NoMemory>) -> Result<&'static str, AllocError> {
     }
 }
 
-/// `search HELD LIMIT FAULT`: whether PODEM finds a test, shows that there is none, or gives up at the limit.
+/// `search HELD LIMIT FAULT`: whether PODEM finds a test, shows that there is none, or gives up at the backtrack limit.
 pub fn push_search(
     to: &mut Vec<u8>,
     alloc: Global,

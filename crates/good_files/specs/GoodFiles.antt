@@ -37,7 +37,7 @@ pub record Files : Type 0 where
 abbrev pub most_limit : ℕ
 most_limit = 100000
 
--- a test of a netlist with these inputs held, at most so many chains, and this limit
+-- a test of a netlist with these inputs held, at most so many chains, and this backtrack limit
 abbrev pub test_of : Netlist → Holds → ℕ → ℕ → List Pattern → List (Fault × List Node) → Test
 test_of n holds asked limit patterns trees =
     record { netlist = n; holds = holds; chains = design_chains n asked; limit = limit; patterns = patterns; trees = trees }

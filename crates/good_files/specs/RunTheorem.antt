@@ -45,7 +45,7 @@ module _ (n : Netlist) (holds : Holds) (chains : List (List ℕ)) (limit : ℕ) 
   IsCertified tree = (representative : Fault) × Contains trees (representative, tree) × Fits representative n holds tree
 
   -- What is said of a fault comes true on the tester. Detected: the file fails on that faulty netlist at the named strobe, from every power-up state.
-  -- Redundant: by a closed tree, so that nothing tells it. Aborted: with exactly the limit's closed ends, and the file passes on that faulty netlist.
+  -- Redundant: by a closed tree, so that nothing tells it. Aborted: with exactly as many closed ends as the backtrack limit, and the file passes on that faulty netlist.
   abbrev pub ComesTrue : Fault → Outcome → List ℕ → Type 0
   ComesTrue f (Detected place cycle) pin =
       (output : ℕ) × (pin ≡ pin_name_of (scanned_of n chains) output) × FailsAt (scanned_of n chains) (moved n chains (Some f)) cycles cycle output

@@ -89,7 +89,7 @@ spared s patterns entries = record s { spare_patterns = patterns; spare_entries 
 abbrev pub IsPublished : State → ℕ → Batch → State → Type 0
 IsPublished s worker b t = spared t 0 0 ≡ spared (published s worker b) 0 0
 
--- the tree fits the fault, and where it leaves an end open, it has as many closed ends as the limit
+-- the tree fits the fault, and where it leaves an end open, it has as many closed ends as the backtrack limit
 pub record MaySettle (j : Subject) (fault : Fault) (tree : List Node) : Type 0 where
   pub fits : Fits fault j.netlist j.holds tree
   pub closed : 1 ≤ open_count tree → closed_count tree ≡ j.limit
@@ -130,7 +130,7 @@ pub record IsTrueList (j : Subject) (s : State) : Type 0 where
 
 -- ---- for private functions
 
--- what a list keeps beside: the representatives, the limit, and room for what is still to come
+-- what a list keeps beside: the representatives, the backtrack limit, and room for what is still to come
 pub record IsKept (j : Subject) (s : State) (faults : List Fault) (limit entries entries_room patterns patterns_room : ℕ) : Type 0 where
   pub true_list : IsTrueList j s
   pub faults_are : faults ≡ j.classes.representatives

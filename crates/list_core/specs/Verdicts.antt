@@ -8,7 +8,7 @@ use Rattle.list_core.specs.declared.verdicts.Verdict.TheVariants.{Open, Detected
 use Rattle.list_core.specs.Subjects.{Subject, DetectsClass, FitsClass}
 
 -- The verdict is true of the class: a pattern detects it; or a fitting tree leaves nothing open;
--- or one leaves an end open and has as many closed ends as the limit.
+-- or one leaves an end open and has as many closed ends as the backtrack limit.
 abbrev pub VerdictHolds : Subject → List Pattern → ℕ → Verdict → Type 0
 VerdictHolds j patterns class Open = ⊤
 VerdictHolds j patterns class (Detected place point) = DetectsClass j patterns class place point

@@ -56,7 +56,7 @@ PlaceInSources f n holds p = StandsInSources f n holds p.path p.node
 abbrev pub IsSourceTree : Fault → Netlist → Holds → List Node → Type 0
 IsSourceTree f n holds nodes = StandsBelow (PlaceInSources f n holds) [] nodes
 
--- what more a search on sources answers: such trees, and Partial only with a limit below 2 to the number of sources
+-- what more a search on sources answers: such trees, and Partial only with a backtrack limit below 2 to the number of sources
 abbrev pub HasSourceEvidence : Fault → Netlist → Holds → ℕ → Found → Type 0
 HasSourceEvidence f n holds limit (Test cube point) = Unit {0}
 HasSourceEvidence f n holds limit (Complete tree) = IsSourceTree f n holds tree

@@ -27,7 +27,7 @@ impl Podem {
         }
     }
 
-    /// A test of the fault, a tree that shows it redundant, or a tree with as many Closed as the limit.
+    /// A test of the fault, a tree that shows it redundant, or a tree with as many Closed as the backtrack limit.
     pub fn search_sources(
         &self,
         alloc: Global,
@@ -40,7 +40,7 @@ impl Podem {
         requires holds { AreHoldsOf core.now holds.now }
         ensures evidence { IfOk result (HasEvidence fault core.now holds.now limit) }
 
-        // Only inputs that aren't held and cells are decided: no Partial for a limit of 2 to their number, and no Open where there is a test.
+        // Only inputs that aren't held and cells are decided: no Partial for a backtrack limit of 2 to their number, and no Open where there is a test.
         ensures sources { IfOk result (HasSourceEvidence fault core.now holds.now limit) }
     {
         let Ok(mut labels) = PairSim::new(alloc, core, fault, holds) else {

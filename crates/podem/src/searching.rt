@@ -426,7 +426,7 @@ fn search_on(
     Ok(Found::Partial(Tree::new(nodes)))
 }
 
-/// The search from the path without decisions: a test, a tree without Open, or a tree with as many Closed as the limit.
+/// The search from the path without decisions: a test, a tree without Open, or a tree with as many Closed as the backtrack limit.
 pub(crate) fn search_from(
     alloc: Global,
     core: &Core,
@@ -441,7 +441,7 @@ pub(crate) fn search_from(
     requires some { 1 ≤ limit }
     ensures evidence { IfOk result (HasEvidence fault.now core.now holds.now limit) }
 
-    // On inputs and cells alone: no Partial for a limit of 2 to their number, and no Open where there is a test.
+    // On inputs and cells alone: no Partial for a backtrack limit of 2 to their number, and no Open where there is a test.
     ensures sources { IfOk result (HasSourceEvidence fault.now core.now holds.now limit) }
 
     // The labels are those of some path.

@@ -16,7 +16,7 @@ pub enum Found {
     Test(Cube, Point),
     /// A tree without Open: no pattern that obeys the held inputs detects the fault.
     Closed(Tree),
-    /// The search gave up: a tree with as many Closed as the limit allows.
+    /// The search gave up: a tree with as many Closed as the backtrack limit allows.
     Partial(Tree),
 }
 
@@ -31,7 +31,7 @@ pub trait Engine {
     /// The room serves searches of this netlist under these held inputs.
     ghost serves: { Netlist → Holds → Self.Room → Type 0 };
 
-    /// A test of the fault, a tree that shows it redundant, or a tree of as many Closed as the limit.
+    /// A test of the fault, a tree that shows it redundant, or a tree of as many Closed as the backtrack limit.
     fn search(
         &self,
         alloc: Global,

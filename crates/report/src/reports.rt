@@ -6,7 +6,7 @@ use crate::fault_lines::FaultLines;
 use crate::hold_lines::HoldLines;
 use std::marker::Model;
 
-/// Fourteen counts (inputs, outputs, gates without cells, cells, chains, faults, classes, patterns, cycles, limit, detected, redundant,
+/// Fourteen counts (inputs, outputs, gates without cells, cells, chains, faults, classes, patterns, cycles, backtrack limit, detected, redundant,
 /// aborted, untested), coverage and efficiency in hundredths of a percent, the inputs that are held, and a line for each fault.
 #[derive(Drop)]
 pub struct Report {

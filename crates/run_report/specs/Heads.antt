@@ -1,4 +1,4 @@
--- The numbers of a report, which follow from the netlist, its chains, the limit, the patterns and the lines.
+-- The numbers of a report, which follow from the netlist, its chains, the backtrack limit, the patterns and the lines.
 use Rattle.std.specs.Prelude.{ℕ, ◌≡◌, ◌+◌, ◌*◌, ◌/◌, List, [], ◌∷◌, length, sum_by, Option, Some, None, Bool}
 use Rattle.std.specs.List.{flat_map, zip}
 use Rattle.netlist.specs.Netlist.{Netlist, cells, gates, name_of}
@@ -35,7 +35,7 @@ count_of one lines = sum_by (λ (l : Line). one l.outcome) lines
 abbrev pub cycle_count : List (List ℕ) → ℕ → ℕ
 cycle_count chains patterns = (patterns + 4) * longest_of chains + patterns
 
--- the counts, from the netlist, its chains, how many faults, classes and patterns there are, the limit, and the lines
+-- the counts, from the netlist, its chains, how many faults, classes and patterns there are, the backtrack limit, and the lines
 abbrev pub counts_of : Netlist → List (List ℕ) → ℕ → ℕ → ℕ → ℕ → List Line → List ℕ
 counts_of n chains faults classes patterns limit lines =
     length n.inputs ∷ length n.outputs ∷ length (gates n) ∷ length (cells n) ∷ length chains ∷ faults ∷ classes ∷ patterns ∷ cycle_count chains patterns ∷ limit

@@ -53,7 +53,7 @@ pub record IsLeft (t : Test) (f representative : Fault) (tree : List Node) : Typ
   pub never : IsNeverDetected t.netlist t.patterns f
 
 -- What is said of a fault is true: where it is seen; or a tree that leaves nothing open; or one that leaves an end open
--- and has as many closed ends as the limit.
+-- and has as many closed ends as the backtrack limit.
 abbrev pub IsTrueOf : Test → Fault → Fault → Outcome → List ℕ → Type 0
 IsTrueOf t f representative (Detected place cycle) pin = IsSeen t f place cycle pin
 IsTrueOf t f representative Redundant pin = (tree : List Node) × IsLeft t f representative tree × (open_count tree ≡ 0)

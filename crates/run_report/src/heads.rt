@@ -69,7 +69,7 @@ fn cycles_of(longest: u64, patterns: u64) -> u64
     (patterns + 4) * longest + patterns
 }
 
-/// The counts of a report: of a netlist and its chains, of so many faults, classes and patterns, with this limit, and of its lines.
+/// The counts of a report: of a netlist and its chains, of so many faults, classes and patterns, with this backtrack limit, and of its lines.
 pub fn counts_of(
     alloc: Global,
     netlist: &Netlist,

@@ -14,7 +14,7 @@ use report::{FaultLines, Report};
 use run_report::{counts_of, hold_lines, share_of, tally_of};
 use std::alloc::Global;
 
-/// The report of these lines, for so many faults, classes and patterns, with this limit.
+/// The report of these lines, for so many faults, classes and patterns, with this backtrack limit.
 pub(crate) fn report_of(
     alloc: Global,
     netlist: &Netlist,

@@ -31,7 +31,7 @@ most_chains = 256
 abbrev pub most_workers : ℕ
 most_workers = 64
 
--- the most closed leaves of a search
+-- the greatest backtrack limit: the most ends that a search may close
 abbrev pub most_limit : ℕ
 most_limit = 100000
 

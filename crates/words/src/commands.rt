@@ -28,7 +28,7 @@ pub(crate) const MOST_CHAINS: u64 = 256;
 /// The most workers that may be asked for.
 pub(crate) const MOST_WORKERS: u64 = 64;
 
-/// The most closed leaves of a search that may be asked for.
+/// The greatest backtrack limit that may be asked for.
 pub(crate) const MOST_LIMIT: u64 = 100_000;
 
 /// The gates of a sample netlist, at least and at most.
@@ -155,7 +155,7 @@ fn run_by_numbers<'a>(alloc: Global) -> Result<Command<'a>, AllocError>
     let command = with_number(alloc, command, "chains", 1, MOST_CHAINS, help)?;
     let help = "How many workers, 1 to 64 [default: 1]";
     let command = with_number(alloc, command, "workers", 1, MOST_WORKERS, help)?;
-    let help = "How many closed leaves a search may have, 1 to 100000 [default: 100]";
+    let help = "The backtrack limit: how many ends a search may close, 1 to 100000 [default: 100]";
     let command = with_number(alloc, command, "limit", 1, MOST_LIMIT, help)?;
     let help = "What free bits are drawn from [default: 1]";
     with_number(alloc, command, "seed", 0, u64::MAX, help)

@@ -33,7 +33,7 @@ pub struct RunOptions {
     /// How many chains at most.
     pub chains: u32,
     pub workers: u32,
-    /// How many closed leaves a search may have before it gives up.
+    /// The backtrack limit: how many ends a search may close before it gives up.
     pub limit: u32,
     /// What the bits that no search asks for are drawn from.
     pub seed: u64,

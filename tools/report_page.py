@@ -1,0 +1,145 @@
+"""A page of HTML that shows a run: the numbers, the pictures, each redundant and aborted fault with its cone, and the evidence for it."""
+
+import collections
+import html
+import pathlib
+import sys
+
+sys.path.insert(0, str(pathlib.Path(__file__).resolve().parent.parent / "bench"))
+import plain_design as plain  # noqa: E402
+
+MOST_FAULTS = 2_000  # of each kind
+MOST_NAMES = 8
+MOST_BYTES = 4_000  # of a certificate's line
+
+STYLE = """
+body { font: 15px/1.45 "DejaVu Sans", Helvetica, Arial, sans-serif; color: #222; margin: 2em auto; max-width: 62em; padding: 0 1em }
+h1 { font-size: 1.5em } h2 { font-size: 1.15em; margin-top: 2em }
+table { border-collapse: collapse; margin: 0.5em 0 }
+th, td { text-align: left; padding: 0.15em 0.9em 0.15em 0; border-bottom: 1px solid #ddd; vertical-align: top }
+td.number, th.number { text-align: right; font-variant-numeric: tabular-nums }
+code, pre { font-family: "DejaVu Sans Mono", Menlo, monospace; font-size: 0.88em }
+pre { white-space: pre-wrap; overflow-wrap: anywhere; margin: 0.2em 0 }
+pre:target { background: #fff3c4 }
+svg { max-width: 100%; height: auto }
+"""
+
+
+class Cones:
+    """What a line leads to, and what leads to it."""
+
+    def __init__(self, design):
+        self.design, self.readers, self.points = design, collections.defaultdict(list), collections.defaultdict(list)
+        for name, pins in design.pins.items():
+            for pin in pins if design.kinds[name] != "DFF" else []:
+                self.readers[pin].append(name)
+        for point in design.points():
+            self.points[design.signal_at(point)].append(point)
+
+    def ahead(self, line):
+        """The outputs and cells' pins that a line leads to, in order."""
+        words = line.split(" ")
+        if words[0] == "out" or words[0] == "pin" and self.design.kinds[words[1]] == "DFF":
+            return [line]
+        reached = self.walk(words[1], lambda name: self.readers[name])
+        return [point for name in reached for point in self.points[name]]
+
+    def behind(self, line):
+        """How many signals lead to a line, its own with them."""
+        name = self.design.signal_at(line) if line.startswith("out ") else line.split(" ")[1]
+        return len(self.walk(name, lambda each: self.design.pins[each] if self.design.kinds[each] != "DFF" or each == name else []))
+
+    @staticmethod
+    def walk(name, following):
+        reached, waiting = {name: None}, [name]
+        while waiting:
+            for other in following(waiting.pop()):
+                if other not in reached:
+                    reached[other] = None
+                    waiting.append(other)
+        return list(reached)
+
+
+def table(head, rows):
+    """A table; what is a number stands to the right."""
+    line = lambda tag, cells: "<tr>" + "".join(
+        f'<{tag}{cls(cell)}>{cell if isinstance(cell, Markup) else html.escape(str(cell))}</{tag}>' for cell in cells) + "</tr>"
+    cls = lambda cell: ' class="number"' if str(cell).replace(".", "").replace(",", "").isdigit() else ""
+    return "\n".join(["<table>", line("th", head)] + [line("td", row) for row in rows] + ["</table>"])
+
+
+class Markup(str):
+    """Text that is HTML already."""
+
+
+def code(text):
+    return Markup(f"<code>{html.escape(text)}</code>")
+
+
+def representatives(design, verdicts):
+    """For each fault the text of its class's representative, as the certificate names it."""
+    faults = [(verdict.line, int(verdict.bit)) for verdict in verdicts]
+    try:
+        firsts = plain.classes(design.as_plain(), faults)
+    except KeyError:  # not all faults of the netlist stand in the report
+        return {}
+    return {fault: f"{faults[first][0]}/{faults[first][1]}" for fault, first in zip(faults, firsts)}
+
+
+def driver(design, line):
+    name = line.split(" ")[1]
+    kind = design.kinds[name]
+    return f"INPUT({name})" if kind == "INPUT" else f"{name} = {kind}({', '.join(design.pins[name])})"
+
+
+def fault_rows(design, verdicts, end, named, numbers):
+    """A row for each fault that ended so: the fault, its gate, its cone, and a link to the certificate's line."""
+    cones = Cones(design)
+    for verdict in verdicts:
+        if verdict.end != end:
+            continue
+        points = cones.ahead(verdict.line)
+        shown = ", ".join(points[:MOST_NAMES]) + (f" and {len(points) - MOST_NAMES:,} more" if len(points) > MOST_NAMES else "")
+        number = numbers.get(named.get((verdict.line, int(verdict.bit))))
+        link = Markup(f'<a href="#line-{number}">line {number}</a>') if number else "none"
+        yield [code(f"{verdict.line}/{verdict.bit}"), code(driver(design, verdict.line)), f"{cones.behind(verdict.line):,}",
+               shown or "no point", link]
+
+
+def fault_part(design, verdicts, end, named, numbers):
+    count = sum(verdict.end == end for verdict in verdicts)
+    parts = [f"<h2>{end.capitalize()} faults: {count:,}</h2>"]
+    if count:
+        rows = [row for row, _ in zip(fault_rows(design, verdicts, end, named, numbers), range(MOST_FAULTS))]
+        parts.append(table(["fault", "at", "signals before it", "it leads to", "certificate"], rows))
+    if count > MOST_FAULTS:
+        parts.append(f"<p>And {count - MOST_FAULTS:,} more.</p>")
+    return parts
+
+
+def certificate_part(prefix, trees):
+    parts = [f"<h2>Certificate</h2>\n<p>Lines of <code>{html.escape(prefix.name)}.cert</code>, one for each class without a detecting "
+             "pattern. <code>!</code> is a closed end, <code>?</code> an open one, <code>S</code> a split, <code>F</code> a forced bit.</p>"]
+    for tree in trees:
+        text = tree.text if len(tree.text) <= MOST_BYTES else f"{tree.text[:MOST_BYTES]} .. ({tree.nodes:,} nodes in all)"
+        parts.append(f'<pre id="line-{tree.number}">{tree.number}: {html.escape(text)}</pre>')
+    return parts
+
+
+def page(prefix, design, head, held, verdicts, trees, tables, pictures):
+    """The whole page; `tables` are those of the printed report, each a title, a head and rows."""
+    named = representatives(design, verdicts)
+    numbers = {tree.fault: tree.number for tree in trees}
+    name = html.escape(prefix.name)
+    parts = ["<!DOCTYPE html>", f'<html lang="en"><head><meta charset="utf-8"><title>Test of {name}</title><style>{STYLE}</style></head><body>',
+             f"<h1>Test of {name}</h1>",
+             f"<p>This page believes the files of the run: <code>atpg check {name}</code> says whether they are true.</p>",
+             table(["number", "value"], head.items())]
+    if held:
+        parts.append(f"<p>Held: {html.escape(', '.join(f'{each}={bit}' for each, bit in held))}</p>")
+    parts += pictures
+    for end in ("redundant", "aborted"):
+        parts += fault_part(design, verdicts, end, named, numbers)
+    for title, columns, rows in tables:
+        parts += [f"<h2>{html.escape(title)}</h2>", table(columns, rows)]
+    return "\n".join(parts + certificate_part(prefix, trees) + ["</body></html>"]) + "\n"
