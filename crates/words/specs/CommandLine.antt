@@ -26,6 +26,8 @@ pub data CommandLine : Type 0 where
   check : Text → CommandLine
   -- the seed of a sample netlist, and its gates
   sweep : ℕ → ℕ → CommandLine
+  -- the netlist's file, the STIL file, and how many chains at most
+  chaintest : Text → Text → ℕ → CommandLine
 
 -- Why words are no command line: by `clap`'s rule, or the form or range of a value; or, all else being in order, by the list of held inputs.
 pub data NoLine : Type 0 where
@@ -92,6 +94,11 @@ abbrev pub sweep_of : List Row → Option CommandLine
 sweep_of rows = option_and_then (λ seed. option_map (λ gates. sweep seed gates)
     (number_of (codes "GATES") least_gates most_gates rows)) (number_of (codes "SEED") 0 most_seed rows)
 
+abbrev pub chaintest_of : List Row → Option CommandLine
+chaintest_of rows = option_and_then (λ net. option_and_then (λ stil.
+    option_map (λ chains. chaintest net stil chains) (number_at (codes "chains") 1 1 most_chains rows))
+    (first_of (codes "STIL") rows)) (first_of (codes "NET") rows)
+
 -- a command whose values have their form and are in their range, or bad words
 abbrev pub line_from : Option CommandLine → Result CommandLine NoLine
 line_from line = ok_or line bad_words
@@ -105,6 +112,7 @@ line_by name rows =
     else if bytes_eq name (codes "play") then line_from (play_of rows)
     else if bytes_eq name (codes "check") then line_from (check_of rows)
     else if bytes_eq name (codes "sweep") then line_from (sweep_of rows)
+    else if bytes_eq name (codes "chaintest") then line_from (chaintest_of rows)
     else Err bad_words
 
 abbrev pub line_at : Option (Text × List Row) → Result CommandLine NoLine
@@ -134,6 +142,7 @@ line_of (request.Run net prefix options holds) = run net.now prefix.now options 
 line_of (request.Play net stil fault) = play net.now stil.now (option_map (λ t. t.now) fault)
 line_of (request.Check prefix) = check prefix.now
 line_of (request.Sweep seed gates) = sweep seed gates
+line_of (request.ChainTest net stil chains) = chaintest net.now stil.now chains
 
 pub record AreInRange (options : RunOptions) : Type 0 where
   pub chains : (1 ≤ options.chains) × (options.chains ≤ most_chains)
@@ -145,4 +154,5 @@ abbrev pub IsInRange : Request → Type 0
 IsInRange (request.Scan net out chains) = (1 ≤ chains) × (chains ≤ most_chains)
 IsInRange (request.Run net prefix options holds) = AreInRange options
 IsInRange (request.Sweep seed gates) = (least_gates ≤ gates) × (gates ≤ most_gates)
+IsInRange (request.ChainTest net stil chains) = (1 ≤ chains) × (chains ≤ most_chains)
 IsInRange _ = ⊤

@@ -74,6 +74,11 @@ abbrev pub sweep_command : Shape
 sweep_command = command (codes "sweep")
     (required_number (codes "SEED") 0 most_seed ∷ required_number (codes "GATES") least_gates most_gates ∷ [])
 
+-- chaintest NET STIL [--chains C]
+abbrev pub chaintest_command : Shape
+chaintest_command = command (codes "chaintest")
+    (required (codes "NET") ∷ required (codes "STIL") ∷ number_option (codes "chains") 1 most_chains ∷ [])
+
 -- the program, before its commands: it has a version and needs a command, and `help` is none
 abbrev pub program : App
 program = record {
@@ -88,5 +93,5 @@ program = record {
 unfoldable pub command_table : App
 command_table = record {
   top = record program.top { is_leaf = false };
-  subs = scan_command ∷ faults_command ∷ run_command ∷ play_command ∷ check_command ∷ sweep_command ∷ [];
+  subs = scan_command ∷ faults_command ∷ run_command ∷ play_command ∷ check_command ∷ sweep_command ∷ chaintest_command ∷ [];
 }

@@ -3,6 +3,7 @@ ghost use Rattle.std.specs.Prelude.{◌≡◌, ◌≤◌, IfOk, false};
 ghost use Rattle.clap.specs.Words.{app_of, rule_of, shape_of, with_rule, with_subcommand};
 ghost use Rattle.clap.specs.declared.builder.command.Command.TheViews.{out-Command as fields_of};
 ghost use Rattle.words.specs.Table.{
+  chaintest_command,
   check_command,
   command_table,
   faults_command,
@@ -212,6 +213,18 @@ fn sweep<'a>(alloc: Global) -> Result<Command<'a>, AllocError>
     with_required_number(alloc, command, "GATES", LEAST_GATES, MOST_GATES, help)
 }
 
+fn chaintest<'a>(alloc: Global) -> Result<Command<'a>, AllocError>
+    ensures shape { IfOk result (λ c. shape_of c ≡ chaintest_command) }
+    ensures local { IfOk result (λ c. (fields_of c).has_globals ≡ false) }
+{
+    let about = "Says what a test shows of the faults in the scan hardware";
+    let command = Command::new(alloc, "chaintest").about(about);
+    let command = with_required(alloc, command, "NET", "The netlist, a .bench file")?;
+    let command = with_required(alloc, command, "STIL", "The test, a STIL file")?;
+    let help = "How many chains at most, 1 to 256 [default: 1]";
+    with_number(alloc, command, "chains", 1, MOST_CHAINS, help)
+}
+
 // The program's own words, before its commands. Its texts call it by this name, however it is
 // started.
 fn program<'a>(alloc: Global) -> Result<Command<'a>, AllocError>
@@ -241,5 +254,6 @@ pub(crate) fn table<'a>(alloc: Global) -> Result<Command<'a>, AllocError>
     let table = with_command(table, play(alloc)?)?;
     let table = with_command(table, check(alloc)?)?;
     let table = with_command(table, sweep(alloc)?)?;
+    let table = with_command(table, chaintest(alloc)?)?;
     Ok(table)
 }

@@ -4,6 +4,7 @@ ghost use Rattle.clap.specs.Words.{first_of, found_of, rows_of, subcommand_rows_
 ghost use Rattle.words.specs.CommandLine.{
   AreInRange,
   IsInRange,
+  chaintest_of,
   check_of,
   faults_of,
   holds_given,
@@ -76,6 +77,13 @@ pub enum Request<'a> {
         seed: u64,
         gates: u32,
     },
+    /// Say what the file `stil` shows of the faults in the scan hardware of the netlist of the file
+    /// `net`, scanned in at most `chains` chains.
+    ChainTest {
+        net: &'a str,
+        stil: &'a str,
+        chains: u32,
+    },
 }
 
 /// Why the values of a command make no request.
@@ -136,6 +144,20 @@ fn sweep<'a>(found: &ArgMatches<'a>) -> Option<Request<'a>>
     Some(Request::Sweep {
         seed,
         gates: gates as u32,
+    })
+}
+
+fn chaintest<'a>(found: &ArgMatches<'a>) -> Option<Request<'a>>
+    ensures line { option_map line_of result ≡ chaintest_of (rows_of (found_of found.now)) }
+    ensures in_range { IfSome result IsInRange }
+{
+    let net = text(found, "NET")?;
+    let stil = text(found, "STIL")?;
+    let chains = number_or(found, "chains", 1, 1, MOST_CHAINS)?;
+    Some(Request::ChainTest {
+        net,
+        stil,
+        chains: chains as u32,
     })
 }
 
@@ -234,6 +256,7 @@ fn request_by<'a>(
         "play" => taken(play(found)),
         "check" => taken(check(found)),
         "sweep" => taken(sweep(found)),
+        "chaintest" => taken(chaintest(found)),
         _ => Err(NoRequest::BadNumber),
     }
 }
