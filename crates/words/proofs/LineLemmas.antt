@@ -9,7 +9,7 @@ use Rattle.clap.specs.Faults.{fault_of}
 use Rattle.clap.specs.declared.error.Error.{Error}
 use Rattle.clap.specs.declared.error.kind.ErrorKind.{ErrorKind}
 use Rattle.clap.specs.declared.error.kind.ErrorKind.TheVariants.{OutOfMemory}
-use Rattle.words.specs.CommandLine.{CommandLine, NoLine, bad_words, check_of, command_line, faults_of, line_at, line_by, line_from, line_where_taken, play_of, run_of, scan_of, sweep_of}
+use Rattle.words.specs.CommandLine.{CommandLine, NoLine, bad_words, check_of, command_line, diagnose_of, faults_of, line_at, line_by, line_from, line_where_taken, play_of, run_of, scan_of, sweep_of}
 use Rattle.words.specs.Refusals.{IsCause}
 use Rattle.words.specs.inner.Errors.{BecomesRefusal, IsAsked, IsMadeOf}
 use Rattle.words.specs.Table.{command_table}
@@ -90,6 +90,10 @@ pub is_sweep : (rows : List Row) → line_from (sweep_of rows) ≡ line_by (code
 unfolding line_by
 is_sweep rows = refl
 
+pub is_diagnose : (rows : List Row) → line_from (diagnose_of rows) ≡ line_by (codes "diagnose") rows
+unfolding line_by
+is_diagnose rows = refl
+
 passed : (name word : Text) (a b : Line) → (name ≡ word → ⊥) → b ≡ (if bytes_eq name word then a else b)
 passed name word a b differs =
     sym (cond-false (bytes_eq name word) a b (false_from_ne_true _ (λ h. differs ((bytes_eq-Decides name word).0 h))))
@@ -102,10 +106,11 @@ pub record IsNoCommand (name : Text) : Type 0 where
   pub play : name ≡ codes "play" → ⊥
   pub check : name ≡ codes "check" → ⊥
   pub sweep : name ≡ codes "sweep" → ⊥
+  pub diagnose : name ≡ codes "diagnose" → ⊥
 
 pub is_none : (name : Text) (rows : List Row) → IsNoCommand name → line_by name rows ≡ Err bad_words
 unfolding line_by
 is_none name rows other = sym (
-    passed name _ _ _ other.sweep ∙ passed name _ _ _ other.check ∙ passed name _ _ _ other.play ∙ passed name _ _ _ other.run
+    passed name _ _ _ other.diagnose ∙ passed name _ _ _ other.sweep ∙ passed name _ _ _ other.check ∙ passed name _ _ _ other.play ∙ passed name _ _ _ other.run
     ∙ passed name _ _ _ other.faults ∙ passed name _ _ _ other.scan
     )

@@ -10,6 +10,7 @@ use Rattle.words.specs.HoldLists.{Hold, holds_in}
 use Rattle.words.specs.Table.{command_table, least_gates, most_chains, most_gates, most_limit, most_seed, most_workers}
 use Rattle.words.specs.declared.holds.Held.{Held}
 use Rattle.words.specs.declared.requests.RunOptions.{RunOptions}
+use Rattle.words.specs.declared.requests.DiagnoseOptions.{DiagnoseOptions}
 use Rattle.words.specs.declared.requests.Request.{Request}
 use Rattle.words.specs.declared.requests.Request.TheVariants as request
 
@@ -26,6 +27,8 @@ pub data CommandLine : Type 0 where
   check : Text → CommandLine
   -- the seed of a sample netlist, and its gates
   sweep : ℕ → ℕ → CommandLine
+  -- the design's file, the STIL file, the file of the tester's log, and the numbers
+  diagnose : Text → Text → Text → DiagnoseOptions → CommandLine
 
 -- Why words are no command line: by `clap`'s rule, or the form or range of a value; or, all else being in order, by the list of held inputs.
 pub data NoLine : Type 0 where
@@ -92,6 +95,13 @@ abbrev pub sweep_of : List Row → Option CommandLine
 sweep_of rows = option_and_then (λ seed. option_map (λ gates. sweep seed gates)
     (number_of (codes "GATES") least_gates most_gates rows)) (number_of (codes "SEED") 0 most_seed rows)
 
+abbrev pub diagnose_of : List Row → Option CommandLine
+diagnose_of rows = option_and_then (λ net. option_and_then (λ stil. option_and_then (λ log. option_and_then (λ chains.
+    option_map (λ workers. diagnose net stil log (record { chains = chains; workers = workers }))
+    (number_at (codes "workers") 1 1 most_workers rows))
+    (number_at (codes "chains") 1 1 most_chains rows))
+    (first_of (codes "LOG") rows)) (first_of (codes "STIL") rows)) (first_of (codes "NET") rows)
+
 -- a command whose values have their form and are in their range, or bad words
 abbrev pub line_from : Option CommandLine → Result CommandLine NoLine
 line_from line = ok_or line bad_words
@@ -105,6 +115,7 @@ line_by name rows =
     else if bytes_eq name (codes "play") then line_from (play_of rows)
     else if bytes_eq name (codes "check") then line_from (check_of rows)
     else if bytes_eq name (codes "sweep") then line_from (sweep_of rows)
+    else if bytes_eq name (codes "diagnose") then line_from (diagnose_of rows)
     else Err bad_words
 
 abbrev pub line_at : Option (Text × List Row) → Result CommandLine NoLine
@@ -134,15 +145,21 @@ line_of (request.Run net prefix options holds) = run net.now prefix.now options 
 line_of (request.Play net stil fault) = play net.now stil.now (option_map (λ t. t.now) fault)
 line_of (request.Check prefix) = check prefix.now
 line_of (request.Sweep seed gates) = sweep seed gates
+line_of (request.Diagnose net stil log options) = diagnose net.now stil.now log.now options
 
 pub record AreInRange (options : RunOptions) : Type 0 where
   pub chains : (1 ≤ options.chains) × (options.chains ≤ most_chains)
   pub workers : (1 ≤ options.workers) × (options.workers ≤ most_workers)
   pub limit : (1 ≤ options.limit) × (options.limit ≤ most_limit)
 
+pub record AreWithin (options : DiagnoseOptions) : Type 0 where
+  pub chains : (1 ≤ options.chains) × (options.chains ≤ most_chains)
+  pub workers : (1 ≤ options.workers) × (options.workers ≤ most_workers)
+
 -- each number of a request is in its range
 abbrev pub IsInRange : Request → Type 0
 IsInRange (request.Scan net out chains) = (1 ≤ chains) × (chains ≤ most_chains)
 IsInRange (request.Run net prefix options holds) = AreInRange options
 IsInRange (request.Sweep seed gates) = (least_gates ≤ gates) × (gates ≤ most_gates)
+IsInRange (request.Diagnose net stil log options) = AreWithin options
 IsInRange _ = ⊤

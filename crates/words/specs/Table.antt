@@ -74,6 +74,12 @@ abbrev pub sweep_command : Shape
 sweep_command = command (codes "sweep")
     (required_number (codes "SEED") 0 most_seed ∷ required_number (codes "GATES") least_gates most_gates ∷ [])
 
+-- diagnose NET STIL LOG [--chains C] [--workers N]
+abbrev pub diagnose_command : Shape
+diagnose_command = command (codes "diagnose")
+    (required (codes "NET") ∷ required (codes "STIL") ∷ required (codes "LOG") ∷ number_option (codes "chains") 1 most_chains
+    ∷ number_option (codes "workers") 1 most_workers ∷ [])
+
 -- the program, before its commands: it has a version and needs a command, and `help` is none
 abbrev pub program : App
 program = record {
@@ -88,5 +94,5 @@ program = record {
 unfoldable pub command_table : App
 command_table = record {
   top = record program.top { is_leaf = false };
-  subs = scan_command ∷ faults_command ∷ run_command ∷ play_command ∷ check_command ∷ sweep_command ∷ [];
+  subs = scan_command ∷ faults_command ∷ run_command ∷ play_command ∷ check_command ∷ sweep_command ∷ diagnose_command ∷ [];
 }

@@ -5,6 +5,7 @@ ghost use Rattle.words.specs.CommandLine.{
   AreInRange,
   IsInRange,
   check_of,
+  diagnose_of,
   faults_of,
   holds_given,
   is_engine,
@@ -37,6 +38,14 @@ pub struct RunOptions {
     pub limit: u32,
     /// What the bits that no search asks for are drawn from.
     pub seed: u64,
+}
+
+/// The numbers of `diagnose`.
+#[derive(Clone, Copy, Debug, PartialEq, Eq)]
+pub struct DiagnoseOptions {
+    /// How many chains at most.
+    pub chains: u32,
+    pub workers: u32,
 }
 
 /// What the words ask the program to do.
@@ -75,6 +84,14 @@ pub enum Request<'a> {
     Sweep {
         seed: u64,
         gates: u32,
+    },
+    /// List the faults of the netlist of the file `net` that explain what failed, by the file `log`,
+    /// when the file `stil` was played on the chip.
+    Diagnose {
+        net: &'a str,
+        stil: &'a str,
+        log: &'a str,
+        options: DiagnoseOptions,
     },
 }
 
@@ -136,6 +153,27 @@ fn sweep<'a>(found: &ArgMatches<'a>) -> Option<Request<'a>>
     Some(Request::Sweep {
         seed,
         gates: gates as u32,
+    })
+}
+
+fn diagnose<'a>(found: &ArgMatches<'a>) -> Option<Request<'a>>
+    ensures line { option_map line_of result ≡ diagnose_of (rows_of (found_of found.now)) }
+    ensures in_range { IfSome result IsInRange }
+{
+    let net = text(found, "NET")?;
+    let stil = text(found, "STIL")?;
+    let log = text(found, "LOG")?;
+    let chains = number_or(found, "chains", 1, 1, MOST_CHAINS)?;
+    let workers = number_or(found, "workers", 1, 1, MOST_WORKERS)?;
+    let options = DiagnoseOptions {
+        chains: chains as u32,
+        workers: workers as u32,
+    };
+    Some(Request::Diagnose {
+        net,
+        stil,
+        log,
+        options,
     })
 }
 
@@ -234,6 +272,7 @@ fn request_by<'a>(
         "play" => taken(play(found)),
         "check" => taken(check(found)),
         "sweep" => taken(sweep(found)),
+        "diagnose" => taken(diagnose(found)),
         _ => Err(NoRequest::BadNumber),
     }
 }
