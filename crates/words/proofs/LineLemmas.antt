@@ -9,7 +9,7 @@ use Rattle.clap.specs.Faults.{fault_of}
 use Rattle.clap.specs.declared.error.Error.{Error}
 use Rattle.clap.specs.declared.error.kind.ErrorKind.{ErrorKind}
 use Rattle.clap.specs.declared.error.kind.ErrorKind.TheVariants.{OutOfMemory}
-use Rattle.words.specs.CommandLine.{CommandLine, NoLine, bad_words, chaintest_of, check_of, command_line, faults_of, line_at, line_by, line_from, line_where_taken, play_of, run_of, scan_of, sweep_of}
+use Rattle.words.specs.CommandLine.{CommandLine, NoLine, bad_words, chaintest_of, check_of, command_line, diagnose_of, faults_of, line_at, line_by, line_from, line_where_taken, play_of, run_of, scan_of, sweep_of}
 use Rattle.words.specs.Refusals.{IsCause}
 use Rattle.words.specs.inner.Errors.{BecomesRefusal, IsAsked, IsMadeOf}
 use Rattle.words.specs.Table.{command_table}
@@ -94,6 +94,10 @@ pub is_chaintest : (rows : List Row) → line_from (chaintest_of rows) ≡ line_
 unfolding line_by
 is_chaintest rows = refl
 
+pub is_diagnose : (rows : List Row) → line_from (diagnose_of rows) ≡ line_by (codes "diagnose") rows
+unfolding line_by
+is_diagnose rows = refl
+
 passed : (name word : Text) (a b : Line) → (name ≡ word → ⊥) → b ≡ (if bytes_eq name word then a else b)
 passed name word a b differs =
     sym (cond-false (bytes_eq name word) a b (false_from_ne_true _ (λ h. differs ((bytes_eq-Decides name word).0 h))))
@@ -107,10 +111,11 @@ pub record IsNoCommand (name : Text) : Type 0 where
   pub check : name ≡ codes "check" → ⊥
   pub sweep : name ≡ codes "sweep" → ⊥
   pub chaintest : name ≡ codes "chaintest" → ⊥
+  pub diagnose : name ≡ codes "diagnose" → ⊥
 
 pub is_none : (name : Text) (rows : List Row) → IsNoCommand name → line_by name rows ≡ Err bad_words
 unfolding line_by
 is_none name rows other = sym (
-    passed name _ _ _ other.chaintest ∙ passed name _ _ _ other.sweep ∙ passed name _ _ _ other.check ∙ passed name _ _ _ other.play ∙ passed name _ _ _ other.run
+    passed name _ _ _ other.diagnose ∙ passed name _ _ _ other.chaintest ∙ passed name _ _ _ other.sweep ∙ passed name _ _ _ other.check ∙ passed name _ _ _ other.play ∙ passed name _ _ _ other.run
     ∙ passed name _ _ _ other.faults ∙ passed name _ _ _ other.scan
     )

@@ -10,6 +10,7 @@ use Rattle.words.specs.HoldLists.{Hold, holds_in}
 use Rattle.words.specs.Table.{command_table, least_gates, most_chains, most_gates, most_limit, most_seed, most_workers}
 use Rattle.words.specs.declared.holds.Held.{Held}
 use Rattle.words.specs.declared.requests.RunOptions.{RunOptions}
+use Rattle.words.specs.declared.requests.DiagnoseOptions.{DiagnoseOptions}
 use Rattle.words.specs.declared.requests.Request.{Request}
 use Rattle.words.specs.declared.requests.Request.TheVariants as request
 
@@ -28,6 +29,8 @@ pub data CommandLine : Type 0 where
   sweep : ℕ → ℕ → CommandLine
   -- the netlist's file, the STIL file, and how many chains at most
   chaintest : Text → Text → ℕ → CommandLine
+  -- the design's file, the STIL file, the file of the tester's log, and the numbers
+  diagnose : Text → Text → Text → DiagnoseOptions → CommandLine
 
 -- Why words are no command line: by `clap`'s rule, or the form or range of a value; or, all else being in order, by the list of held inputs.
 pub data NoLine : Type 0 where
@@ -99,6 +102,13 @@ chaintest_of rows = option_and_then (λ net. option_and_then (λ stil.
     option_map (λ chains. chaintest net stil chains) (number_at (codes "chains") 1 1 most_chains rows))
     (first_of (codes "STIL") rows)) (first_of (codes "NET") rows)
 
+abbrev pub diagnose_of : List Row → Option CommandLine
+diagnose_of rows = option_and_then (λ net. option_and_then (λ stil. option_and_then (λ log. option_and_then (λ chains.
+    option_map (λ workers. diagnose net stil log (record { chains = chains; workers = workers }))
+    (number_at (codes "workers") 1 1 most_workers rows))
+    (number_at (codes "chains") 1 1 most_chains rows))
+    (first_of (codes "LOG") rows)) (first_of (codes "STIL") rows)) (first_of (codes "NET") rows)
+
 -- a command whose values have their form and are in their range, or bad words
 abbrev pub line_from : Option CommandLine → Result CommandLine NoLine
 line_from line = ok_or line bad_words
@@ -113,6 +123,7 @@ line_by name rows =
     else if bytes_eq name (codes "check") then line_from (check_of rows)
     else if bytes_eq name (codes "sweep") then line_from (sweep_of rows)
     else if bytes_eq name (codes "chaintest") then line_from (chaintest_of rows)
+    else if bytes_eq name (codes "diagnose") then line_from (diagnose_of rows)
     else Err bad_words
 
 abbrev pub line_at : Option (Text × List Row) → Result CommandLine NoLine
@@ -143,11 +154,16 @@ line_of (request.Play net stil fault) = play net.now stil.now (option_map (λ t.
 line_of (request.Check prefix) = check prefix.now
 line_of (request.Sweep seed gates) = sweep seed gates
 line_of (request.ChainTest net stil chains) = chaintest net.now stil.now chains
+line_of (request.Diagnose net stil log options) = diagnose net.now stil.now log.now options
 
 pub record AreInRange (options : RunOptions) : Type 0 where
   pub chains : (1 ≤ options.chains) × (options.chains ≤ most_chains)
   pub workers : (1 ≤ options.workers) × (options.workers ≤ most_workers)
   pub limit : (1 ≤ options.limit) × (options.limit ≤ most_limit)
+
+pub record AreWithin (options : DiagnoseOptions) : Type 0 where
+  pub chains : (1 ≤ options.chains) × (options.chains ≤ most_chains)
+  pub workers : (1 ≤ options.workers) × (options.workers ≤ most_workers)
 
 -- each number of a request is in its range
 abbrev pub IsInRange : Request → Type 0
@@ -155,4 +171,5 @@ IsInRange (request.Scan net out chains) = (1 ≤ chains) × (chains ≤ most_cha
 IsInRange (request.Run net prefix options holds) = AreInRange options
 IsInRange (request.Sweep seed gates) = (least_gates ≤ gates) × (gates ≤ most_gates)
 IsInRange (request.ChainTest net stil chains) = (1 ≤ chains) × (chains ≤ most_chains)
+IsInRange (request.Diagnose net stil log options) = AreWithin options
 IsInRange _ = ⊤

@@ -79,6 +79,12 @@ abbrev pub chaintest_command : Shape
 chaintest_command = command (codes "chaintest")
     (required (codes "NET") ∷ required (codes "STIL") ∷ number_option (codes "chains") 1 most_chains ∷ [])
 
+-- diagnose NET STIL LOG [--chains C] [--workers N]
+abbrev pub diagnose_command : Shape
+diagnose_command = command (codes "diagnose")
+    (required (codes "NET") ∷ required (codes "STIL") ∷ required (codes "LOG") ∷ number_option (codes "chains") 1 most_chains
+    ∷ number_option (codes "workers") 1 most_workers ∷ [])
+
 -- the program, before its commands: it has a version and needs a command, and `help` is none
 abbrev pub program : App
 program = record {
@@ -93,5 +99,5 @@ program = record {
 unfoldable pub command_table : App
 command_table = record {
   top = record program.top { is_leaf = false };
-  subs = scan_command ∷ faults_command ∷ run_command ∷ play_command ∷ check_command ∷ sweep_command ∷ chaintest_command ∷ [];
+  subs = scan_command ∷ faults_command ∷ run_command ∷ play_command ∷ check_command ∷ sweep_command ∷ chaintest_command ∷ diagnose_command ∷ [];
 }

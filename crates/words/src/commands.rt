@@ -6,6 +6,7 @@ ghost use Rattle.words.specs.Table.{
   chaintest_command,
   check_command,
   command_table,
+  diagnose_command,
   faults_command,
   number_option,
   play_command,
@@ -225,6 +226,21 @@ fn chaintest<'a>(alloc: Global) -> Result<Command<'a>, AllocError>
     with_number(alloc, command, "chains", 1, MOST_CHAINS, help)
 }
 
+fn diagnose<'a>(alloc: Global) -> Result<Command<'a>, AllocError>
+    ensures shape { IfOk result (λ c. shape_of c ≡ diagnose_command) }
+    ensures local { IfOk result (λ c. (fields_of c).has_globals ≡ false) }
+{
+    let about = "Lists the faults that explain a tester's log";
+    let command = Command::new(alloc, "diagnose").about(about);
+    let command = with_required(alloc, command, "NET", "The netlist, a .bench file")?;
+    let command = with_required(alloc, command, "STIL", "The test, a STIL file")?;
+    let command = with_required(alloc, command, "LOG", "What failed on the tester")?;
+    let help = "How many chains at most, 1 to 256 [default: 1]";
+    let command = with_number(alloc, command, "chains", 1, MOST_CHAINS, help)?;
+    let help = "How many workers, 1 to 64 [default: 1]";
+    with_number(alloc, command, "workers", 1, MOST_WORKERS, help)
+}
+
 // The program's own words, before its commands. Its texts call it by this name, however it is
 // started.
 fn program<'a>(alloc: Global) -> Result<Command<'a>, AllocError>
@@ -255,5 +271,6 @@ pub(crate) fn table<'a>(alloc: Global) -> Result<Command<'a>, AllocError>
     let table = with_command(table, check(alloc)?)?;
     let table = with_command(table, sweep(alloc)?)?;
     let table = with_command(table, chaintest(alloc)?)?;
+    let table = with_command(table, diagnose(alloc)?)?;
     Ok(table)
 }

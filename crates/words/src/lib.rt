@@ -23,7 +23,7 @@ use clap::error::ErrorKind;
 use clap::{ArgMatches, Error};
 use commands::table;
 pub use holds::Held;
-pub use requests::{Request, RunOptions};
+pub use requests::{DiagnoseOptions, Request, RunOptions};
 use requests::{NoRequest, request_of};
 use std::alloc::Global;
 

@@ -6,6 +6,7 @@ ghost use Rattle.words.specs.CommandLine.{
   IsInRange,
   chaintest_of,
   check_of,
+  diagnose_of,
   faults_of,
   holds_given,
   is_engine,
@@ -38,6 +39,14 @@ pub struct RunOptions {
     pub limit: u32,
     /// What the bits that no search asks for are drawn from.
     pub seed: u64,
+}
+
+/// The numbers of `diagnose`.
+#[derive(Clone, Copy, Debug, PartialEq, Eq)]
+pub struct DiagnoseOptions {
+    /// How many chains at most.
+    pub chains: u32,
+    pub workers: u32,
 }
 
 /// What the words ask the program to do.
@@ -83,6 +92,14 @@ pub enum Request<'a> {
         net: &'a str,
         stil: &'a str,
         chains: u32,
+    },
+    /// List the faults of the netlist of the file `net` that explain what failed, by the file `log`,
+    /// when the file `stil` was played on the chip.
+    Diagnose {
+        net: &'a str,
+        stil: &'a str,
+        log: &'a str,
+        options: DiagnoseOptions,
     },
 }
 
@@ -158,6 +175,27 @@ fn chaintest<'a>(found: &ArgMatches<'a>) -> Option<Request<'a>>
         net,
         stil,
         chains: chains as u32,
+    })
+}
+
+fn diagnose<'a>(found: &ArgMatches<'a>) -> Option<Request<'a>>
+    ensures line { option_map line_of result ≡ diagnose_of (rows_of (found_of found.now)) }
+    ensures in_range { IfSome result IsInRange }
+{
+    let net = text(found, "NET")?;
+    let stil = text(found, "STIL")?;
+    let log = text(found, "LOG")?;
+    let chains = number_or(found, "chains", 1, 1, MOST_CHAINS)?;
+    let workers = number_or(found, "workers", 1, 1, MOST_WORKERS)?;
+    let options = DiagnoseOptions {
+        chains: chains as u32,
+        workers: workers as u32,
+    };
+    Some(Request::Diagnose {
+        net,
+        stil,
+        log,
+        options,
     })
 }
 
@@ -257,6 +295,7 @@ fn request_by<'a>(
         "check" => taken(check(found)),
         "sweep" => taken(sweep(found)),
         "chaintest" => taken(chaintest(found)),
+        "diagnose" => taken(diagnose(found)),
         _ => Err(NoRequest::BadNumber),
     }
 }

@@ -10,4 +10,5 @@ returns c =
     let play = c.in_ok-table-3.ensures ∙ ap₂ with_subcommand run c.in_ok-play.ensures.shape in
     let check = c.in_ok-table-4.ensures ∙ ap₂ with_subcommand play c.in_ok-check.ensures.shape in
     let sweep = c.in_ok-table-5.ensures ∙ ap₂ with_subcommand check c.in_ok-sweep.ensures.shape in
-    c.in_ok-table-6.ensures ∙ ap₂ with_subcommand sweep c.in_ok-chaintest.ensures.shape
+    let chaintest = c.in_ok-table-6.ensures ∙ ap₂ with_subcommand sweep c.in_ok-chaintest.ensures.shape in
+    c.in_ok-table-7.ensures ∙ ap₂ with_subcommand chaintest c.in_ok-diagnose.ensures.shape

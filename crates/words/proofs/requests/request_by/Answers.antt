@@ -1,6 +1,6 @@
 use Rattle.std.proofs.Common.{◌∙◌, ap}
 use Rattle.words.specs.CommandLine.{line_from}
-use Rattle.words.proofs.LineLemmas.{asked_as, is_chaintest, is_check, is_faults, is_none, is_play, is_run, is_scan, is_sweep, named}
+use Rattle.words.proofs.LineLemmas.{asked_as, is_chaintest, is_check, is_diagnose, is_faults, is_none, is_play, is_run, is_scan, is_sweep, named}
 use Rattle.words.proofs.requests.request_by.Goals as goal
 
 pub returns-in-scan-clause-line : goal.returns-in-scan-clause-line
@@ -21,6 +21,9 @@ returns-in-sweep-clause-line c = asked_as _ _ c.taken-in-sweep.result (named _ _
 pub returns-in-chaintest-clause-line : goal.returns-in-chaintest-clause-line
 returns-in-chaintest-clause-line c = asked_as _ _ c.taken-in-chaintest.result (named _ _ _ _ c.in-chaintest.is (ap line_from c.chaintest.ensures.line ∙ is_chaintest _)) c.taken-in-chaintest.ensures.line
 
+pub returns-in-diagnose-clause-line : goal.returns-in-diagnose-clause-line
+returns-in-diagnose-clause-line c = asked_as _ _ c.taken-in-diagnose.result (named _ _ _ _ c.in-diagnose.is (ap line_from c.diagnose.ensures.line ∙ is_diagnose _)) c.taken-in-diagnose.ensures.line
+
 pub returns-in-run-clause-line : goal.returns-in-run-clause-line
 returns-in-run-clause-line c = asked_as _ _ c.run.result (named _ _ _ _ c.in-run.is (is_run _)) c.run.ensures.line
 
@@ -34,4 +37,5 @@ returns-in_default-clause-line c =
       check = c.in_default.not-check;
       sweep = c.in_default.not-sweep;
       chaintest = c.in_default.not-chaintest;
+      diagnose = c.in_default.not-diagnose;
     }
