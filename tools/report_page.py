@@ -33,7 +33,8 @@ class Cones:
         for name, pins in design.pins.items():
             for pin in pins if design.kinds[name] != "DFF" else []:
                 self.readers[pin].append(name)
-        for point in design.points():
+        self.places = {point: place for place, point in enumerate(design.points())}
+        for point in self.places:
             self.points[design.signal_at(point)].append(point)
 
     def ahead(self, line):
@@ -42,12 +43,13 @@ class Cones:
         if words[0] == "out" or words[0] == "pin" and self.design.kinds[words[1]] == "DFF":
             return [line]
         reached = self.walk(words[1], lambda name: self.readers[name])
-        return [point for name in reached for point in self.points[name]]
+        return sorted((point for name in reached for point in self.points[name]), key=self.places.get)
 
     def behind(self, line):
-        """How many signals lead to a line, its own with them."""
-        name = self.design.signal_at(line) if line.startswith("out ") else line.split(" ")[1]
-        return len(self.walk(name, lambda each: self.design.pins[each] if self.design.kinds[each] != "DFF" or each == name else []))
+        """How many signals lead to a line, from inputs and cells on, with the one that it is of."""
+        words = line.split(" ")
+        name = self.design.pins[words[1]][int(words[2])] if words[0] == "pin" else words[1]
+        return len(self.walk(name, lambda each: [] if self.design.is_source(each) else self.design.pins[each]))
 
     @staticmethod
     def walk(name, following):
@@ -134,7 +136,7 @@ def page(prefix, design, head, held, verdicts, trees, tables, pictures):
     parts = ["<!DOCTYPE html>", f'<html lang="en"><head><meta charset="utf-8"><title>Test of {name}</title><style>{STYLE}</style></head><body>',
              f"<h1>Test of {name}</h1>",
              f"<p>This page believes the files of the run: <code>atpg check {name}</code> says whether they are true.</p>",
-             table(["number", "value"], head.items())]
+             table(["number", "value"], [("backtrack limit" if word == "limit" else word, value) for word, value in head.items()])]
     if held:
         parts.append(f"<p>Held: {html.escape(', '.join(f'{each}={bit}' for each, bit in held))}</p>")
     parts += pictures
