@@ -234,16 +234,34 @@ def test_launcher_looks_first():
 
 
 def test_build_refuses():
-    """What isn't proved is named, and no program is put in place."""
+    """What isn't proved is named, no program is put in place, and the next build goes on from there."""
     with tree() as made:
         made.add_rt()
         made.source("below").write_text("broken\n")
         status, out, errors = made.build()
         assert status == 1 and "build: below: failed (1)\n" in errors and "fn below::f: not proved" in errors, (status, out, errors)
-        assert made.left() == [] and not (made.root / "crates/atpg_main/out").exists()
+        assert len(made.left()) == 1 and f"rm -rf {made.temporary / made.left()[0]}" in errors, errors
+        assert not (made.root / "crates/atpg_main/out").exists()
+        made.source("below").write_text("mended\n")
+        assert made.build()[0] == 0 and made.left() == []
         for words, why in ((("--to",), "--to needs a folder"), (("--jobs", "0"), "--jobs needs a number"), (("--all",), "unknown word --all")):
             status, _, errors = made.build(*words)
             assert status == 2 and errors.startswith(f"build: {why}"), errors
+
+
+def test_build_interrupted():
+    """It ends with all that it began."""
+    with tree() as made:
+        made.put(made.bin / "rt", "#!/bin/sh\necho $$ >$TMPDIR/pid\nsleep 60\n")
+        child = subprocess.Popen(**made.words(made.root / "build"), stderr=subprocess.DEVNULL, stdout=subprocess.DEVNULL)
+        while not (made.temporary / "pid").exists() or not (made.temporary / "pid").read_text():
+            time.sleep(0.05)
+        began = time.monotonic()
+        child.send_signal(signal.SIGTERM)
+        assert child.wait() == 143 and time.monotonic() - began < 20
+        pid = int((made.temporary / "pid").read_text())
+        assert not pathlib.Path(f"/proc/{pid}").exists() or "Z" in pathlib.Path(f"/proc/{pid}/stat").read_text().split()[2]
+        assert len(made.left()) == 2, made.left()  # the copy, and the stand-in's number
 
 
 def test_build_to_a_folder():
