@@ -20,6 +20,7 @@ th, td { text-align: left; padding: 0.15em 0.9em 0.15em 0; border-bottom: 1px so
 td.number, th.number { text-align: right; font-variant-numeric: tabular-nums }
 code, pre { font-family: "DejaVu Sans Mono", Menlo, monospace; font-size: 0.88em }
 pre { white-space: pre-wrap; overflow-wrap: anywhere; margin: 0.2em 0 }
+td:first-child code { white-space: nowrap }
 pre:target { background: #fff3c4 }
 svg { max-width: 100%; height: auto }
 """
@@ -128,6 +129,13 @@ def certificate_part(prefix, trees):
     return parts
 
 
+def numbers_part(head):
+    """The head's numbers, in two columns."""
+    named = [("backtrack limit" if word == "limit" else word, value) for word, value in head.items()]
+    half = len(named) // 2
+    return table(["", "", "", ""], [[*left, *right] for left, right in zip(named[:half], named[half:])])
+
+
 def page(prefix, design, head, held, verdicts, trees, tables, pictures):
     """The whole page; `tables` are those of the printed report, each a title, a head and rows."""
     named = representatives(design, verdicts)
@@ -136,7 +144,7 @@ def page(prefix, design, head, held, verdicts, trees, tables, pictures):
     parts = ["<!DOCTYPE html>", f'<html lang="en"><head><meta charset="utf-8"><title>Test of {name}</title><style>{STYLE}</style></head><body>',
              f"<h1>Test of {name}</h1>",
              f"<p>This page believes the files of the run: <code>atpg check {name}</code> says whether they are true.</p>",
-             table(["number", "value"], [("backtrack limit" if word == "limit" else word, value) for word, value in head.items()])]
+             numbers_part(head)]
     if held:
         parts.append(f"<p>Held: {html.escape(', '.join(f'{each}={bit}' for each, bit in held))}</p>")
     parts += pictures
