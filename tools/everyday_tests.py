@@ -1,6 +1,9 @@
 """Tests of tools/try_guide, tools/run_many and tools/explain. tools/test_tools runs them."""
 
+import contextlib
+import os
 import pathlib
+import pty
 import re
 import shutil
 import subprocess
@@ -66,6 +69,54 @@ def test_try_guide():
     status, said, _ = tried(GUIDE.replace("c d\n$ seq", "c e\n$ seq"))
     assert status == 1 and "    c d" in said and "    c e" in said and "2 commands printed something else" in said, said
     assert tried("```console\n$ ./atpg --version\n...\n```\n")[0] in (0, 2)
+
+
+# The line that shows how far a run is, by the proved build where it stands.
+
+PROGRAM = ROOT / "crates/atpg_main/out/atpg_main"
+SHOWN = re.compile(r"\n(\d+) (?:of (\d+) )?classes claimed, (\d+) batches, (\d+) s\x1b\[K\r\x1b\[1A")
+
+
+def shown_by(folder, **more):
+    """The standard output and error of a run that takes a second or two."""
+    done = subprocess.run([PROGRAM, "run", "sample.bench", "sample", "--workers", "2"], cwd=folder, capture_output=True, text=True,
+                          env={word: value for word, value in os.environ.items() if not word.startswith("ATPG_")} | more)
+    assert done.returncode == 0 and done.stdout.startswith("faults "), done
+    return done.stdout, done.stderr
+
+
+def on_a_terminal(folder):
+    """What a run shows where its standard error is a terminal."""
+    ours, its = pty.openpty()
+    child = subprocess.Popen([PROGRAM, "run", "sample.bench", "sample"], cwd=folder, stdout=subprocess.DEVNULL, stderr=its)
+    os.close(its)
+    shown = b""
+    with contextlib.suppress(OSError):  # the terminal's end
+        while piece := os.read(ours, 4096):
+            shown += piece
+    os.close(ours)
+    assert child.wait() == 0
+    return shown.decode().replace("\r\n", "\n")
+
+
+def test_progress():
+    """Counts go up, the line goes away at the end, and nothing is shown where it isn't asked for."""
+    if not PROGRAM.exists():
+        return "ok, but there is no proved build: the line wasn't looked at"
+    with tempfile.TemporaryDirectory() as name:
+        folder = pathlib.Path(name)
+        made = subprocess.run([ROOT / "bench/sample_netlist.py", "7", "4000"], capture_output=True, check=True)
+        (folder / "sample.bench").write_bytes(made.stdout)
+        for more, classes in (({"ATPG_PROGRESS": "1", "ATPG_CLASSES": "77"}, "77"), ({"ATPG_PROGRESS": "1"}, "")):
+            shown = shown_by(folder, **more)[1]
+            found = SHOWN.findall(shown)
+            assert found and SHOWN.sub("", shown) == "\x1b[J", shown
+            assert all(each[1] == classes for each in found)
+            for place in (0, 2, 3):
+                counts = [int(each[place]) for each in found]
+                assert counts == sorted(counts), counts
+        assert shown_by(folder)[1] == shown_by(folder, ATPG_PROGRESS="0")[1] == ""
+        assert SHOWN.search(on_a_terminal(folder))
 
 
 # tools/run_many, with stand-ins for both programs.
