@@ -13,8 +13,10 @@ import sys
 sys.path.insert(0, os.path.dirname(os.path.abspath(__file__)))
 import check_certificates
 import check_trees
+import plain_design
 import stil_file
 from check_reports import is_report
+from plain_chains import chain_test, cycles_in
 from fault_list import fault_list, netlist_of, readers_of
 from sample_netlist import Pcg32
 
@@ -486,7 +488,7 @@ def check_cases():
             files[name] = "".join(texts[part] for part in parts)
         elif verb == "run":
             place += 1
-            if not rest.startswith(("atpg scan ", "atpg faults ")):
+            if not rest.startswith(("atpg scan ", "atpg faults ", "atpg chaintest ")):
                 continue
             given = [line for line in stored[place] if line]
             if given[0] != "status 0" or len(given) < 3 or given[1] != "out":
@@ -496,6 +498,11 @@ def check_cases():
             if words[1] == "faults":
                 wanted = shown("".join(line + "\n" for line in fault_list(files[words[2]])))
                 wrong += differs(row, wanted, given[2 : 2 + len(wanted)])
+            elif words[1] == "chaintest":
+                design = plain_design.read(files[words[2]].encode())
+                text = chain_test(design, int(words[5]) if len(words) > 5 else 1, cycles_in(files[words[3]]))
+                wanted = ["status 0", "out"] + shown(text) + [f"file {words[2]} as before", f"file {words[3]} as before", "files 2"]
+                wrong += differs(row, wanted, given)
             else:
                 asked = int(words[5]) if len(words) > 5 else 1
                 netlist = Netlist(files[words[2]])

@@ -7,6 +7,7 @@ pub mod Endings
 pub mod Saying
 pub mod Delivering
 pub mod PlayLemmas
+pub mod ChainTestLemmas
 pub mod RunLemmas
 pub mod Single
 pub mod LineLemmas

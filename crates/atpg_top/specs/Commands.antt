@@ -2,11 +2,13 @@
 -- A command to come is an entry in each.
 use Rattle.std.specs.Prelude.{◌≡◌, ◌++◌, ℕ, List, [], ◌∷◌, Option, codes, map}
 use Rattle.bench_text.specs.declared.refusal.Names.TheVariants.{Design, Scanned}
+use Rattle.good_files.specs.ScanOff.{design_chains}
+use Rattle.scan_insert.specs.Scanned.{scanned_of}
 use Rattle.stil_read.specs.Reading.{StandsFor}
 use Rattle.stil_vectors.specs.FileVectors.{vectors_in}
 use Rattle.stil_vectors.specs.Fitting.{Fits}
 use Rattle.scan_play.specs.declared.played.Played.{Played}
-use Rattle.words.specs.CommandLine.{CommandLine, check, faults, play, run, scan, sweep}
+use Rattle.words.specs.CommandLine.{CommandLine, chaintest, check, faults, play, run, scan, sweep}
 use Rattle.commands.specs.World.{Text}
 use Rattle.commands.specs.Due.{Due, Deliver, Refuse}
 use Rattle.commands.specs.declared.ending.Finding.TheVariants.{Fine}
@@ -18,6 +20,7 @@ use Rattle.atpg_top.specs.Steps.{◌>>=◌, named_fault, named_holds, netlist, t
 use Rattle.atpg_top.specs.Runs.{run_line, texts_made}
 use Rattle.atpg_top.specs.Scans.{IsScanProduct}
 use Rattle.atpg_top.specs.FaultLists.{IsFaultList}
+use Rattle.atpg_top.specs.ChainTests.{IsChainTest, Strobe, chain_test_text, hardware_of}
 use Rattle.atpg_top.specs.Plays.{IsPlay, finding_of, played_line}
 use Rattle.atpg_top.specs.declared.refusal.Refusal.{Refusal}
 use Rattle.atpg_top.specs.declared.refusal.Refusal.TheVariants.{NotBuilt, NotStil, StilDoesNotFit}
@@ -34,6 +37,7 @@ reads (run net prefix options holds) = net ∷ []
 reads (play net stil fault) = net ∷ stil ∷ []
 reads (check prefix) = []
 reads (sweep seed gates) = []
+reads (chaintest net stil chains) = net ∷ stil ∷ []
 
 -- the names of the files that it writes, in order
 abbrev pub writes : CommandLine → List Text
@@ -67,6 +71,14 @@ run_due options named (bytes ∷ []) =
     (made : TestFiles) × IsRun n holds options.chains options.limit made × (d ≡ Deliver (texts_made made) (run_line made.said) Fine)
 run_due options named texts = λ d. ⊥
 
+-- the lines of what the file shows of the scan hardware, the file fitting the scanned netlist
+abbrev pub chaintest_due : ℕ → List Text → Due Refusal → Type 0
+chaintest_due asked (net ∷ stil ∷ []) =
+    netlist Design net >>= λ n. value StandsFor NotStil stil >>= λ file. test (Fits file (scanned_of n (design_chains n asked))) StilDoesNotFit >>= λ _ d.
+    (told : List Strobe) × IsChainTest n (design_chains n asked) (vectors_in file) told
+    × (d ≡ Deliver [] (chain_test_text (scanned_of n (design_chains n asked)) (hardware_of n (design_chains n asked)) told) Fine)
+chaintest_due asked texts = λ d. ⊥
+
 -- a command that this program doesn't do yet is refused
 abbrev pub not_built : List Text → Due Refusal → Type 0
 not_built texts d = d ≡ Refuse NotBuilt
@@ -79,3 +91,4 @@ due (play net stil fault) = play_due fault
 due (run net prefix options holds) = run_due options holds
 due (check prefix) = not_built
 due (sweep seed gates) = not_built
+due (chaintest net stil chains) = chaintest_due chains

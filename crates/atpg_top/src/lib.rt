@@ -16,6 +16,7 @@ ghost use Rattle.atpg_top.specs.inner.Held.{names_held};
 ghost use Rattle.atpg_top.specs.Lines.{code_of};
 ghost use Rattle.atpg_top.specs.declared.status.Status.{Status};
 
+mod chain_testing;
 mod design;
 mod fault_list;
 mod holding;
@@ -28,7 +29,9 @@ mod refusal;
 mod running;
 mod scanning;
 mod status;
+mod told_lines;
 
+use chain_testing::test_chains;
 use commands::Ending;
 pub use laws::{
     each_exclusive, failed_exactly, missing_exactly, nothing_else, refused_exactly,
@@ -87,6 +90,9 @@ fn perform<'a, R: Threads + Wait + Sync, S: Shelf, T: Sink, G: Gate + Sync>(
         ),
         Request::Check { .. } => Ending::Refused(Refusal::NotBuilt),
         Request::Sweep { .. } => Ending::Refused(Refusal::NotBuilt),
+        Request::ChainTest { net, stil, chains } => {
+            test_chains(alloc, shelf, out, net, stil, *chains)
+        }
     }
 }
 
