@@ -3,6 +3,7 @@ pub mod Lines
 pub mod Scans
 pub mod FaultLists
 pub mod Plays
+pub mod Checks
 pub mod Runs
 pub mod Commands
 pub mod Rows

@@ -16,6 +16,7 @@ ghost use Rattle.atpg_top.specs.inner.Held.{names_held};
 ghost use Rattle.atpg_top.specs.Lines.{code_of};
 ghost use Rattle.atpg_top.specs.declared.status.Status.{Status};
 
+mod checking;
 mod design;
 mod fault_list;
 mod holding;
@@ -29,6 +30,7 @@ mod running;
 mod scanning;
 mod status;
 
+use checking::check_run;
 use commands::Ending;
 pub use laws::{
     each_exclusive, failed_exactly, missing_exactly, nothing_else, refused_exactly,
@@ -85,7 +87,7 @@ fn perform<'a, R: Threads + Wait + Sync, S: Shelf, T: Sink, G: Gate + Sync>(
             *options,
             holds.as_slice(),
         ),
-        Request::Check { .. } => Ending::Refused(Refusal::NotBuilt),
+        Request::Check { prefix } => check_run(alloc, shelf, out, prefix),
         Request::Sweep { .. } => Ending::Refused(Refusal::NotBuilt),
     }
 }

@@ -1,6 +1,6 @@
 use Rattle.std.proofs.Common.{◌∙◌, codes, refl}
-use Rattle.atpg_top.proofs.Saying.{name_whole, of_four, said_so}
-use Rattle.atpg_top.proofs.lines.say_name.Goals as goal
+use Rattle.status_lines.proofs.Saying.{name_whole, of_four, said_so}
+use Rattle.status_lines.proofs.lines.say_name.Goals as goal
 
 pub returns : goal.returns
 returns g c =

@@ -6,7 +6,7 @@ use Rattle.outside.specs.declared.refusal.WriteRefusal.{WriteRefusal}
 use Rattle.outside.specs.declared.refusal.WriteRefusal.TheVariants as write
 use Rattle.commands.specs.World.{Text}
 use Rattle.commands.specs.Pieces.{PutsText, join}
-use Rattle.atpg_top.specs.Rows.{IsSaid}
+use Rattle.status_lines.specs.Lines.{IsSaid}
 
 pub said : (takes_memory : Bool) (line : Text) (a b : Option Text) (f g : ℕ) (r : Result Unit WriteRefusal) → PutsText a f b g line r → (r ≡ Err write.NoMemory → IsTrue takes_memory)
     → IsSaid takes_memory line a f b g

@@ -1,4 +1,4 @@
-use Rattle.atpg_top.proofs.lines.say_failed_write.Goals as goal
+use Rattle.status_lines.proofs.lines.say_failed_write.Goals as goal
 
 pub returns-in-File : goal.returns-in-File
 returns-in-File g c = rw c.in-File.is c.say_name.ensures

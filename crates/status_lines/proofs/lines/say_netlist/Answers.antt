@@ -1,7 +1,7 @@
 use Rattle.std.proofs.Common.{◌∙◌, codes, decimal}
-use Rattle.atpg_top.specs.Lines.{kind_name}
-use Rattle.atpg_top.proofs.Saying.{of_five, said_so}
-use Rattle.atpg_top.proofs.lines.say_netlist.Goals as goal
+use Rattle.status_lines.specs.Lines.{kind_name}
+use Rattle.status_lines.proofs.Saying.{of_five, said_so}
+use Rattle.status_lines.proofs.lines.say_netlist.Goals as goal
 
 pub returns : goal.returns
 returns g c =
