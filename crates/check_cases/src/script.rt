@@ -26,7 +26,8 @@ fn cut(line: &str) -> (&str, &str) {
 fn put(files: &mut Vec<Named>, alloc: Global, name: &str, text: Vec<u8>) -> Result<(), AllocError> {
     let name = String::from_str(alloc, name)?;
     files.retain(|file| file.name.as_str() != name.as_str());
-    files.push(Named { name, text })
+    files.push(Named { name, text })?;
+    Ok(())
 }
 
 /// The names of files under the prefix `p`.
@@ -83,7 +84,8 @@ impl Script {
         self.texts.push(Named {
             name,
             text: Vec::new(alloc),
-        })
+        })?;
+        Ok(())
     }
 
     /// Adds a line to the text that was begun last, or bytes so many times.
@@ -151,7 +153,8 @@ impl Script {
             _ => {
                 self.report.extend_from_slice(b"no such line: ")?;
                 self.report.extend_from_slice(line.as_bytes())?;
-                self.report.push(b'\n')
+                self.report.push(b'\n')?;
+                Ok(())
             }
         }
     }

@@ -1,6 +1,5 @@
 -- What is due of the same five texts is alike.
-use Rattle.std.proofs.Common.{◌≡◌, ◌∙◌, ℕ, List, [], ◌∷◌, Ok, Err, refl, sym, ap, subst}
-use Rattle.std.specs.Prelude.{Result}
+use Rattle.std.proofs.Common.{◌≡◌, inl, inr, ℕ, List, [], ◌∷◌, Ok, Err, refl, sym, ap, subst}
 use Rattle.commands.specs.World.{Text}
 use Rattle.commands.specs.Due.{Due, Deliver, Refuse}
 use Rattle.commands.specs.Laws.{AreAlike, IsExclusive}
@@ -11,7 +10,7 @@ use Rattle.file_clauses.specs.declared.answers.Checked.TheVariants.{Faults, Fals
 use Rattle.file_clauses.specs.declared.answers.CheckFault.{CheckFault}
 use Rattle.file_clauses.specs.declared.answers.CheckFault.TheVariants as fault
 use Rattle.file_clauses.specs.Laws.{AnswersAgree, AreAlike as AreAlikeAnswers}
-use Rattle.check_command.specs.Checking.{IsTold, answer_line, check_due, finding_of}
+use Rattle.check_command.specs.Checking.{answer_line, check_due, fault_of, files_due, finding_of}
 use Rattle.check_command.specs.declared.refusal.CheckRefusal.{CheckRefusal}
 use Rattle.check_command.specs.declared.refusal.CheckRefusal.TheVariants as refusal
 
@@ -25,57 +24,49 @@ same_finding (Faults m) (False c) alike = absurd alike
 same_finding (False c) (Faults k) alike = absurd alike
 same_finding (False c) (False d) alike = refl
 
-told_once : (f : CheckFault) (c d : Due CheckRefusal) → IsTold (Err f) c → IsTold (Err f) d → AreAlike c d
-told_once (fault.Netlist why) c d p q = given c d (Refuse (refusal.Netlist why)) (Refuse (refusal.Netlist why)) p q refl
-told_once fault.NotStil c d p q = given c d (Refuse refusal.NotStil) (Refuse refusal.NotStil) p q refl
-told_once fault.NotCertificate c d p q = given c d (Refuse refusal.NotCertificate) (Refuse refusal.NotCertificate) p q refl
-told_once fault.NotReport c d p q = given c d (Refuse refusal.NotReport) (Refuse refusal.NotReport) p q refl
-told_once fault.NoMemory c d p q = absurd p
+-- texts that are answered aren't refused
+not_behind : (a : Checked) (why : CheckRefusal) → AreAlikeAnswers (Ok a) (Err (fault_of why)) → ⊥
+not_behind a (refusal.Netlist why) alike = alike
+not_behind a refusal.NotStil alike = alike
+not_behind a refusal.NotCertificate alike = alike
+not_behind a refusal.NotReport alike = alike
 
--- a refusal is told, unless memory was wanting, and is no answer
-not_beside : (f : CheckFault) (a : Checked) (c : Due CheckRefusal) → IsTold (Err f) c → AreAlikeAnswers (Err f) (Ok a) → ⊥
-not_beside (fault.Netlist why) a c told alike = alike
-not_beside fault.NotStil a c told alike = alike
-not_beside fault.NotCertificate a c told alike = alike
-not_beside fault.NotReport a c told alike = alike
-not_beside fault.NoMemory a c told alike = told
+-- the refusal that is told so; want of memory is none
+told_by : CheckFault → CheckRefusal
+told_by (fault.Netlist why) = refusal.Netlist why
+told_by fault.NotStil = refusal.NotStil
+told_by fault.NotCertificate = refusal.NotCertificate
+told_by fault.NotReport = refusal.NotReport
+told_by fault.NoMemory = refusal.NotReport
 
-not_behind : (f : CheckFault) (a : Checked) (c : Due CheckRefusal) → IsTold (Err f) c → AreAlikeAnswers (Ok a) (Err f) → ⊥
-not_behind (fault.Netlist why) a c told alike = alike
-not_behind fault.NotStil a c told alike = alike
-not_behind fault.NotCertificate a c told alike = alike
-not_behind fault.NotReport a c told alike = alike
-not_behind fault.NoMemory a c told alike = told
+same_refusal : (why other : CheckRefusal) → AreAlikeAnswers (Err (fault_of why)) (Err (fault_of other)) → why ≡ other
+unfolding told_by
+same_refusal (refusal.Netlist why) (refusal.Netlist other) alike = ap told_by alike
+same_refusal (refusal.Netlist why) refusal.NotStil alike = ap told_by alike
+same_refusal (refusal.Netlist why) refusal.NotCertificate alike = ap told_by alike
+same_refusal (refusal.Netlist why) refusal.NotReport alike = ap told_by alike
+same_refusal refusal.NotStil (refusal.Netlist other) alike = ap told_by alike
+same_refusal refusal.NotStil refusal.NotStil alike = refl
+same_refusal refusal.NotStil refusal.NotCertificate alike = ap told_by alike
+same_refusal refusal.NotStil refusal.NotReport alike = ap told_by alike
+same_refusal refusal.NotCertificate (refusal.Netlist other) alike = ap told_by alike
+same_refusal refusal.NotCertificate refusal.NotStil alike = ap told_by alike
+same_refusal refusal.NotCertificate refusal.NotCertificate alike = refl
+same_refusal refusal.NotCertificate refusal.NotReport alike = ap told_by alike
+same_refusal refusal.NotReport (refusal.Netlist other) alike = ap told_by alike
+same_refusal refusal.NotReport refusal.NotStil alike = ap told_by alike
+same_refusal refusal.NotReport refusal.NotCertificate alike = ap told_by alike
+same_refusal refusal.NotReport refusal.NotReport alike = refl
 
-same_fault : (f g : CheckFault) (c d : Due CheckRefusal) → IsTold (Err f) c → IsTold (Err g) d → AreAlikeAnswers (Err f) (Err g) → g ≡ f
-same_fault fault.NoMemory g c d p q alike = absurd p
-same_fault (fault.Netlist why) fault.NoMemory c d p q alike = absurd q
-same_fault (fault.Netlist why) (fault.Netlist other) c d p q alike = sym alike
-same_fault (fault.Netlist why) fault.NotStil c d p q alike = sym alike
-same_fault (fault.Netlist why) fault.NotCertificate c d p q alike = sym alike
-same_fault (fault.Netlist why) fault.NotReport c d p q alike = sym alike
-same_fault fault.NotStil fault.NoMemory c d p q alike = absurd q
-same_fault fault.NotStil (fault.Netlist other) c d p q alike = sym alike
-same_fault fault.NotStil fault.NotStil c d p q alike = sym alike
-same_fault fault.NotStil fault.NotCertificate c d p q alike = sym alike
-same_fault fault.NotStil fault.NotReport c d p q alike = sym alike
-same_fault fault.NotCertificate fault.NoMemory c d p q alike = absurd q
-same_fault fault.NotCertificate (fault.Netlist other) c d p q alike = sym alike
-same_fault fault.NotCertificate fault.NotStil c d p q alike = sym alike
-same_fault fault.NotCertificate fault.NotCertificate c d p q alike = sym alike
-same_fault fault.NotCertificate fault.NotReport c d p q alike = sym alike
-same_fault fault.NotReport fault.NoMemory c d p q alike = absurd q
-same_fault fault.NotReport (fault.Netlist other) c d p q alike = sym alike
-same_fault fault.NotReport fault.NotStil c d p q alike = sym alike
-same_fault fault.NotReport fault.NotCertificate c d p q alike = sym alike
-same_fault fault.NotReport fault.NotReport c d p q alike = sym alike
-
-told_alike : (a b : Result Checked CheckFault) (c d : Due CheckRefusal) → AreAlikeAnswers a b → IsTold a c → IsTold b d → AreAlike c d
-told_alike (Ok a) (Ok b) c d alike p q =
-    given c d (Deliver [] (answer_line a) (finding_of a)) (Deliver [] (answer_line b) (finding_of b)) p q (same_finding a b alike)
-told_alike (Ok a) (Err g) c d alike p q = absurd (not_behind g a d q alike)
-told_alike (Err f) (Ok b) c d alike p q = absurd (not_beside f b c p alike)
-told_alike (Err f) (Err g) c d alike p q = told_once f c d p (subst (λ (h : CheckFault). IsTold (Err h) d) (same_fault f g c d p q alike) q)
+module _ (agree : AnswersAgree) (files : Files) where
+  alike : (c d : Due CheckRefusal) → files_due files c → files_due files d → AreAlike c d
+  alike c d (inl p) (inl q) =
+      given c d (Deliver [] (answer_line p.0) (finding_of p.0)) (Deliver [] (answer_line q.0) (finding_of q.0)) p.2 q.2
+      (same_finding p.0 q.0 (agree files (Ok p.0) (Ok q.0) p.1 q.1))
+  alike c d (inl p) (inr q) = absurd (not_behind p.0 q.0 (agree files (Ok p.0) (Err (fault_of q.0)) p.1 q.1))
+  alike c d (inr p) (inl q) = absurd (not_behind q.0 p.0 (agree files (Ok q.0) (Err (fault_of p.0)) q.1 p.1))
+  alike c d (inr p) (inr q) =
+      given c d (Refuse p.0) (Refuse q.0) p.2 q.2 (same_refusal p.0 q.0 (agree files (Err (fault_of p.0)) (Err (fault_of q.0)) p.1 q.1))
 
 pub check_exclusive : AnswersAgree → IsExclusive check_due
 check_exclusive agree [] c d p q = absurd p
@@ -84,6 +75,5 @@ check_exclusive agree (net ∷ scan ∷ []) c d p q = absurd p
 check_exclusive agree (net ∷ scan ∷ stil ∷ []) c d p q = absurd p
 check_exclusive agree (net ∷ scan ∷ stil ∷ certificate ∷ []) c d p q = absurd p
 check_exclusive agree (net ∷ scan ∷ stil ∷ certificate ∷ report ∷ []) c d p q =
-    let files : Files = record { net = net; scan = scan; stil = stil; certificate = certificate; report = report } in
-    told_alike p.0 q.0 c d (agree files p.0 q.0 p.1 q.1) p.2 q.2
+    let files : Files = record { net = net; scan = scan; stil = stil; certificate = certificate; report = report } in alike agree files c d p q
 check_exclusive agree (net ∷ scan ∷ stil ∷ certificate ∷ report ∷ more ∷ others) c d p q = absurd p

@@ -1,5 +1,5 @@
 -- What `check` reads, and what is due of the texts.
-use Rattle.std.specs.Prelude.{ℕ, ◌≡◌, ◌++◌, List, [], ◌∷◌, Result, Ok, Err, codes, decimal, map}
+use Rattle.std.specs.Prelude.{ℕ, ◌≡◌, ◌⊎◌, ◌++◌, List, [], ◌∷◌, Ok, codes, decimal, length, map}
 use Rattle.commands.specs.World.{Text}
 use Rattle.commands.specs.Due.{Due, Deliver, Refuse}
 use Rattle.commands.specs.declared.ending.Finding.{Finding}
@@ -10,7 +10,13 @@ use Rattle.file_clauses.specs.declared.answers.Clause.{Clause}
 use Rattle.file_clauses.specs.declared.answers.Clause.TheVariants as clause
 use Rattle.file_clauses.specs.declared.answers.CheckFault.{CheckFault}
 use Rattle.file_clauses.specs.declared.answers.CheckFault.TheVariants as fault
+use Rattle.file_clauses.specs.Checks.{IsOutside}
 use Rattle.file_clauses.specs.Laws.{IsWholeAnswer}
+use Rattle.good_files.specs.GoodFiles.{AreGoodFiles, Files}
+use Rattle.netlist.specs.Conditions.{IsSound}
+use Rattle.netlist.specs.Holds.{Holds}
+use Rattle.netlist.specs.Netlist.{Netlist}
+use Rattle.fault_universe.specs.Universe.{universe_of}
 use Rattle.check_command.specs.declared.refusal.CheckRefusal.{CheckRefusal}
 use Rattle.check_command.specs.declared.refusal.CheckRefusal.TheVariants as refusal
 
@@ -42,18 +48,28 @@ finding_of (False clause) = Differs
 
 -- ---- what is due
 
--- what an answer comes to; want of memory to nothing that is due
-abbrev pub IsTold : Result Checked CheckFault → Due CheckRefusal → Type 0
-IsTold (Ok answer) d = d ≡ Deliver [] (answer_line answer) (finding_of answer)
-IsTold (Err (fault.Netlist why)) d = d ≡ Refuse (refusal.Netlist why)
-IsTold (Err fault.NotStil) d = d ≡ Refuse refusal.NotStil
-IsTold (Err fault.NotCertificate) d = d ≡ Refuse refusal.NotCertificate
-IsTold (Err fault.NotReport) d = d ≡ Refuse refusal.NotReport
-IsTold (Err fault.NoMemory) d = ⊥
+-- the refusal as the check tells it
+abbrev pub fault_of : CheckRefusal → CheckFault
+fault_of (refusal.Netlist why) = fault.Netlist why
+fault_of refusal.NotStil = fault.NotStil
+fault_of refusal.NotCertificate = fault.NotCertificate
+fault_of refusal.NotReport = fault.NotReport
 
--- the line of what is answered of the five texts, which are good where that is how many faults there are
+-- the line of what is answered of five texts, which are good where that is how many faults there are; or the refusal of the first outside its grammar
+abbrev pub files_due : Files → Due CheckRefusal → Type 0
+files_due files d =
+    ((answer : Checked) × IsWholeAnswer files (Ok answer) × (d ≡ Deliver [] (answer_line answer) (finding_of answer)))
+    ⊎ ((why : CheckRefusal) × IsOutside files (fault_of why) × (d ≡ Refuse why))
+
 abbrev pub check_due : List Text → Due CheckRefusal → Type 0
-check_due (net ∷ scan ∷ stil ∷ certificate ∷ report ∷ []) d =
-    (answer : Result Checked CheckFault)
-    × IsWholeAnswer (record { net = net; scan = scan; stil = stil; certificate = certificate; report = report }) answer × IsTold answer d
-check_due texts d = ⊥
+check_due (net ∷ scan ∷ stil ∷ certificate ∷ report ∷ []) =
+    files_due (record { net = net; scan = scan; stil = stil; certificate = certificate; report = report })
+check_due texts = λ d. ⊥
+
+-- ---- the law
+
+-- Of good files, whoever made them, nothing else is due than the line that says how many faults there are.
+abbrev pub GoodFilesChecked : Type 0
+GoodFilesChecked =
+    (n : Netlist) (holds : Holds) (asked limit : ℕ) (files : Files) → IsSound n → AreGoodFiles n holds asked limit files
+    → (d : Due CheckRefusal) → files_due files d → d ≡ Deliver [] (checked_line (length (universe_of n))) Fine

@@ -12,7 +12,7 @@ mod status;
 mod top;
 
 pub use command::{check_prefix, check_texts, file_names};
-pub use laws::check_exclusive;
+pub use laws::{check_exclusive, good_files_checked};
 pub use refusal::CheckRefusal;
 pub use status::CheckStatus;
 pub use top::check_top;
