@@ -33,7 +33,7 @@ mod status;
 use checking::check_run;
 use commands::Ending;
 pub use laws::{
-    each_exclusive, failed_exactly, missing_exactly, nothing_else, refused_exactly,
+    each_exclusive, failed_exactly, missing_exactly, nothing_else, refused_exactly, runs_pass,
     too_long_exactly,
 };
 use lines::tell;

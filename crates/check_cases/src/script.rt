@@ -48,8 +48,8 @@ struct Ran {
     err: MemorySink,
 }
 
-/// Checks the files.
-fn ran(alloc: Global, files: &[Named]) -> Result<Ran, AllocError> {
+/// What the check of the files comes to.
+fn answer_of(alloc: Global, files: &[Named]) -> Result<Ran, AllocError> {
     let mut words = Vec::new(alloc);
     words.push(String::from_str(alloc, "atpg-check")?)?;
     words.push(String::from_str(alloc, "p")?)?;
@@ -120,7 +120,7 @@ impl Script {
 
     /// Checks the files, and adds the line and what came.
     fn check(&mut self, alloc: Global, line: &str) -> Result<(), AllocError> {
-        let came = ran(alloc, &self.files)?;
+        let came = answer_of(alloc, &self.files)?;
         self.report.extend_from_slice(line.as_bytes())?;
         self.report.extend_from_slice(b"\nstatus ")?;
         let mut digits = Buffer::new();
