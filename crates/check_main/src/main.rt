@@ -28,11 +28,5 @@ fn main(rt: HostRuntime) -> ExitCode {
     };
     let mut shelf = FolderShelf::new(&rt);
     let mut out = OutSink::new(rt.stdout());
-    ExitCode::from(check_top(
-        alloc,
-        words.as_slice(),
-        &mut shelf,
-        &mut out,
-        &mut err,
-    ))
+    ExitCode::from(check_top(alloc, words.as_slice(), &mut shelf, &mut out, &mut err))
 }
