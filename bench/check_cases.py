@@ -1,5 +1,6 @@
 #!/usr/bin/env python3
-"""Works out what the rows of crates/calls, crates/file_calls and crates/cases have to print, by a plain program apart from the crates, and compares.
+"""Works out what the rows of crates/calls, crates/file_calls, crates/cases and crates/check_cases have to print, by plain programs apart from the crates,
+and compares.
 
 A row that this program doesn't know (a refusal, a line of an error output) is worked out by hand; how many there are is printed.
 
@@ -12,6 +13,7 @@ import sys
 
 sys.path.insert(0, os.path.dirname(os.path.abspath(__file__)))
 import check_certificates
+import check_checks
 import check_trees
 import plain_design
 import stil_file
@@ -514,5 +516,15 @@ def check_cases():
     return wrong
 
 
+def check_check_cases():
+    wanted = check_checks.wanted()
+    with open(f"{ROOT}/crates/check_cases/stdout", encoding="latin-1") as file:
+        given = file.read()
+    rows = wanted.count("\nstatus ")
+    wrong = differs("check_cases", wanted.split("\n"), given.split("\n"))
+    print(f"check_cases: {rows} of {rows} rows worked out, {'some' if wrong else 0} differ")
+    return wrong
+
+
 if __name__ == "__main__":
-    sys.exit(1 if check_calls("calls") + check_calls("file_calls") + check_cases() else 0)
+    sys.exit(1 if check_calls("calls") + check_calls("file_calls") + check_cases() + check_check_cases() else 0)

@@ -1,5 +1,5 @@
 -- What a command owes for the same texts is alike.
-use Rattle.std.proofs.Common.{◌≡◌, ◌∙◌, inl, inr, ℕ, Bool, true, false, List, [], ◌∷◌, Option, Some, refl, sym, subst}
+use Rattle.std.proofs.Common.{◌≡◌, ◌∙◌, inl, inr, ℕ, Bool, true, false, List, [], ◌∷◌, Option, Some, refl, sym, ap, subst}
 use Rattle.std.specs.Prelude.{not}
 use Rattle.netlist.specs.Conditions.{IsSound}
 use Rattle.netlist.specs.Netlist.{Netlist}
@@ -23,12 +23,15 @@ use Rattle.scan_insert.specs.Scanned.{scanned_of}
 use Rattle.stil_vectors.specs.Fitting.{Fits}
 use Rattle.stil_write.specs.StilFiles.{StilFile}
 use Rattle.commands.specs.World.{Text}
-use Rattle.commands.specs.Due.{Deliver, Refuse}
-use Rattle.commands.specs.Laws.{IsExclusive}
+use Rattle.commands.specs.Due.{Due, Deliver, Refuse}
+use Rattle.commands.specs.Laws.{AreAlike, IsExclusive}
 use Rattle.commands.specs.declared.ending.Finding.TheVariants.{Fine}
 use Rattle.words.specs.CommandLine.{CommandLine, chaintest, check, faults, play, run, scan, sweep}
 use Rattle.words.specs.HoldLists.{Hold}
 use Rattle.words.specs.declared.requests.RunOptions.{RunOptions}
+use Rattle.check_command.specs.Checking as command
+use Rattle.check_command.specs.declared.refusal.CheckRefusal.{CheckRefusal}
+use Rattle.atpg_top.specs.Checks.{check_due, refusal_of, told}
 use Rattle.atpg_top.specs.Commands.{chaintest_due, due, faults_due, play_due, run_due, scan_due}
 use Rattle.atpg_top.specs.Runs.{run_line, texts_made}
 use Rattle.atpg_top.specs.inner.Running.{held_due, made_due}
@@ -145,11 +148,22 @@ chaintest_exclusive one asked (net ∷ stil ∷ []) c d p q =
     (λ n. then_one (value StandsFor NotStil stil) (test_due asked n) (value_single StandsFor NotStil stil (one stil)) (λ file. fit_once n (design_chains n asked) file)) c d p q
 chaintest_exclusive one asked (net ∷ stil ∷ more ∷ others) c d p q = absurd p
 
-pub each_exclusive : AtMostOne → (line : CommandLine) → IsExclusive (due line)
-each_exclusive one (scan net to chains) = scan_exclusive chains
-each_exclusive one (faults net) = faults_exclusive
-each_exclusive one (play net stil fault) = play_exclusive one fault
-each_exclusive one (run net prefix options holds) = run_exclusive options holds
-each_exclusive one (check prefix) = λ texts c d p q. given c d (Refuse NotBuilt) (Refuse NotBuilt) p q refl
-each_exclusive one (chaintest net stil chains) = chaintest_exclusive one chains
-each_exclusive one (sweep seed gates) = λ texts c d p q. given c d (Refuse NotBuilt) (Refuse NotBuilt) p q refl
+-- ---- `check`
+
+told_alike : (c d : Due CheckRefusal) → AreAlike c d → AreAlike (told c) (told d)
+told_alike (Refuse r) (Refuse s) alike = ap refusal_of alike
+told_alike (Refuse r) (Deliver texts shown finding) alike = absurd alike
+told_alike (Deliver texts shown finding) (Refuse s) alike = absurd alike
+told_alike (Deliver texts shown finding) (Deliver others also found) alike = alike
+
+check_exclusive : IsExclusive command.check_due → IsExclusive check_due
+check_exclusive checks texts c d p q = given c d (told p.0) (told q.0) p.2 q.2 (told_alike p.0 q.0 (checks texts p.0 q.0 p.1 q.1))
+
+pub each_exclusive : AtMostOne → IsExclusive command.check_due → (line : CommandLine) → IsExclusive (due line)
+each_exclusive one checks (scan net to chains) = scan_exclusive chains
+each_exclusive one checks (faults net) = faults_exclusive
+each_exclusive one checks (play net stil fault) = play_exclusive one fault
+each_exclusive one checks (run net prefix options holds) = run_exclusive options holds
+each_exclusive one checks (check prefix) = check_exclusive checks
+each_exclusive one checks (sweep seed gates) = λ texts c d p q. given c d (Refuse NotBuilt) (Refuse NotBuilt) p q refl
+each_exclusive one checks (chaintest net stil chains) = chaintest_exclusive one chains

@@ -1,6 +1,6 @@
 -- The commands: for each command line the files that it reads, in order, those that it writes, and what is due of the texts read.
 -- A command to come is an entry in each.
-use Rattle.std.specs.Prelude.{◌≡◌, ◌++◌, ℕ, List, [], ◌∷◌, Option, codes, map}
+use Rattle.std.specs.Prelude.{◌≡◌, ℕ, List, [], ◌∷◌, Option}
 use Rattle.bench_text.specs.declared.refusal.Names.TheVariants.{Design, Scanned}
 use Rattle.good_files.specs.ScanOff.{design_chains}
 use Rattle.scan_insert.specs.Scanned.{scanned_of}
@@ -16,6 +16,8 @@ use Rattle.words.specs.HoldLists.{Hold}
 use Rattle.words.specs.declared.requests.RunOptions.{RunOptions}
 use Rattle.test_files.specs.declared.files.TestFiles.{TestFiles}
 use Rattle.test_files.specs.Runs.{IsRun}
+use Rattle.check_command.specs.Checking.{run_files}
+use Rattle.atpg_top.specs.Checks.{check_due}
 use Rattle.atpg_top.specs.Steps.{◌>>=◌, named_fault, named_holds, netlist, test, value}
 use Rattle.atpg_top.specs.Runs.{run_line, texts_made}
 use Rattle.atpg_top.specs.Scans.{IsScanProduct}
@@ -25,17 +27,13 @@ use Rattle.atpg_top.specs.Plays.{IsPlay, finding_of, played_line}
 use Rattle.atpg_top.specs.declared.refusal.Refusal.{Refusal}
 use Rattle.atpg_top.specs.declared.refusal.Refusal.TheVariants.{NotBuilt, NotStil, StilDoesNotFit}
 
--- the names of a run's files, in the order in which they are written and read
-abbrev pub run_files : Text → List Text
-run_files prefix = map (λ ending. prefix ++ ending) (codes ".net" ∷ codes ".scan" ∷ codes ".stil" ∷ codes ".cert" ∷ codes ".rep" ∷ [])
-
 -- the names of the files that a command line reads, in order
 abbrev pub reads : CommandLine → List Text
 reads (scan net to chains) = net ∷ []
 reads (faults net) = net ∷ []
 reads (run net prefix options holds) = net ∷ []
 reads (play net stil fault) = net ∷ stil ∷ []
-reads (check prefix) = []
+reads (check prefix) = run_files prefix
 reads (sweep seed gates) = []
 reads (chaintest net stil chains) = net ∷ stil ∷ []
 
@@ -89,6 +87,6 @@ due (scan net to chains) = scan_due chains
 due (faults net) = faults_due
 due (play net stil fault) = play_due fault
 due (run net prefix options holds) = run_due options holds
-due (check prefix) = not_built
+due (check prefix) = check_due
 due (sweep seed gates) = not_built
 due (chaintest net stil chains) = chaintest_due chains
