@@ -20,14 +20,18 @@ use Rattle.stil_read.specs.Reading.{StandsFor}
 use Rattle.stil_vectors.specs.FileVectors.{vectors_in}
 use Rattle.stil_vectors.specs.Fitting.{Fits}
 use Rattle.stil_write.specs.StilFiles.{StilFile}
+use Rattle.scan_insert.specs.Scanned.{scanned_of}
+use Rattle.good_files.specs.ScanOff.{design_chains}
+use Rattle.fail_log.specs.Laws.{OneLog}
+use Rattle.fail_log.specs.Reading.{IsLogOf}
 use Rattle.commands.specs.World.{Text}
 use Rattle.commands.specs.Due.{Deliver, Refuse}
 use Rattle.commands.specs.Laws.{IsExclusive}
 use Rattle.commands.specs.declared.ending.Finding.TheVariants.{Fine}
-use Rattle.words.specs.CommandLine.{CommandLine, check, faults, play, run, scan, sweep}
+use Rattle.words.specs.CommandLine.{CommandLine, check, diagnose, faults, play, run, scan, sweep}
 use Rattle.words.specs.HoldLists.{Hold}
 use Rattle.words.specs.declared.requests.RunOptions.{RunOptions}
-use Rattle.atpg_top.specs.Commands.{due, faults_due, play_due, run_due, scan_due}
+use Rattle.atpg_top.specs.Commands.{diagnose_due, due, faults_due, play_due, run_due, scan_due}
 use Rattle.atpg_top.specs.Runs.{run_line, texts_made}
 use Rattle.atpg_top.specs.inner.Running.{held_due, made_due}
 use Rattle.atpg_top.proofs.HoldLemmas.{holds_single}
@@ -35,8 +39,9 @@ use Rattle.atpg_top.specs.FaultLists.{IsFaultList}
 use Rattle.atpg_top.specs.Plays.{finding_of, played_line}
 use Rattle.atpg_top.specs.Scans.{IsScanProduct}
 use Rattle.atpg_top.specs.Steps.{named_fault, named_holds, netlist, test, value}
+use Rattle.atpg_top.specs.inner.Cases.{case_due, diagnosis_due, log_due, test_due}
 use Rattle.atpg_top.specs.inner.Trials.{answer_due, fault_due, file_due, trial_due}
-use Rattle.atpg_top.specs.declared.refusal.Refusal.TheVariants.{NotBuilt, NotStil, StilDoesNotFit}
+use Rattle.atpg_top.specs.declared.refusal.Refusal.TheVariants.{NotBuilt, NotLog, NotStil, StilDoesNotFit}
 use Rattle.atpg_top.proofs.PlayLemmas.{known_is_not_x}
 use Rattle.atpg_top.proofs.Single.{IsOneKind, fault_single, given, netlist_single, test_single, then_one, then_one_where, value_single}
 
@@ -122,10 +127,26 @@ run_exclusive options named (bytes ∷ []) c d p q =
     (λ holds x y a b. given x y (Deliver (texts_made a.0) (run_line a.0.said) Fine) (Deliver (texts_made b.0) (run_line b.0.said) Fine) a.2 b.2 refl)) c d p q
 run_exclusive options named (bytes ∷ more ∷ others) c d p q = absurd p
 
-pub each_exclusive : AtMostOne → (line : CommandLine) → IsExclusive (due line)
-each_exclusive one (scan net to chains) = scan_exclusive chains
-each_exclusive one (faults net) = faults_exclusive
-each_exclusive one (play net stil fault) = play_exclusive one fault
-each_exclusive one (run net prefix options holds) = run_exclusive options holds
-each_exclusive one (check prefix) = λ texts c d p q. given c d (Refuse NotBuilt) (Refuse NotBuilt) p q refl
-each_exclusive one (sweep seed gates) = λ texts c d p q. given c d (Refuse NotBuilt) (Refuse NotBuilt) p q refl
+-- ---- `diagnose`
+
+diagnose_exclusive : AtMostOne → OneLog → (chains : ℕ) → IsExclusive (diagnose_due chains)
+diagnose_exclusive one once chains [] c d p q = absurd p
+diagnose_exclusive one once chains (net ∷ []) c d p q = absurd p
+diagnose_exclusive one once chains (net ∷ stil ∷ []) c d p q = absurd p
+diagnose_exclusive one once chains (net ∷ stil ∷ log ∷ []) c d p q =
+    then_one (netlist Design net) (test_due chains stil log) (netlist_single Design net)
+    (λ n. then_one (value StandsFor NotStil stil) (log_due chains log n) (value_single StandsFor NotStil stil (one stil))
+    (λ file. then_one (value IsLogOf NotLog log) (case_due chains n file) (value_single IsLogOf NotLog log (once log))
+    (λ failures. let fits = Fits file (scanned_of n (design_chains n chains)) in
+    then_one (test fits StilDoesNotFit) (λ _. diagnosis_due chains n file failures) (test_single fits StilDoesNotFit)
+    (λ u x y a b. given x y (Deliver [] a.0 Fine) (Deliver [] b.0 Fine) a.2 b.2 refl)))) c d p q
+diagnose_exclusive one once chains (net ∷ stil ∷ log ∷ more ∷ others) c d p q = absurd p
+
+pub each_exclusive : AtMostOne → OneLog → (line : CommandLine) → IsExclusive (due line)
+each_exclusive one once (scan net to chains) = scan_exclusive chains
+each_exclusive one once (faults net) = faults_exclusive
+each_exclusive one once (play net stil fault) = play_exclusive one fault
+each_exclusive one once (run net prefix options holds) = run_exclusive options holds
+each_exclusive one once (check prefix) = λ texts c d p q. given c d (Refuse NotBuilt) (Refuse NotBuilt) p q refl
+each_exclusive one once (sweep seed gates) = λ texts c d p q. given c d (Refuse NotBuilt) (Refuse NotBuilt) p q refl
+each_exclusive one once (diagnose net stil log options) = diagnose_exclusive one once options.chains

@@ -5,8 +5,11 @@ use Rattle.bench_text.specs.declared.refusal.Names.TheVariants.{Design, Scanned}
 use Rattle.stil_read.specs.Reading.{StandsFor}
 use Rattle.stil_vectors.specs.FileVectors.{vectors_in}
 use Rattle.stil_vectors.specs.Fitting.{Fits}
+use Rattle.scan_insert.specs.Scanned.{scanned_of}
 use Rattle.scan_play.specs.declared.played.Played.{Played}
-use Rattle.words.specs.CommandLine.{CommandLine, check, faults, play, run, scan, sweep}
+use Rattle.good_files.specs.ScanOff.{design_chains}
+use Rattle.fail_log.specs.Reading.{IsLogOf}
+use Rattle.words.specs.CommandLine.{CommandLine, check, diagnose, faults, play, run, scan, sweep}
 use Rattle.commands.specs.World.{Text}
 use Rattle.commands.specs.Due.{Due, Deliver, Refuse}
 use Rattle.commands.specs.declared.ending.Finding.TheVariants.{Fine}
@@ -19,8 +22,9 @@ use Rattle.atpg_top.specs.Runs.{run_line, texts_made}
 use Rattle.atpg_top.specs.Scans.{IsScanProduct}
 use Rattle.atpg_top.specs.FaultLists.{IsFaultList}
 use Rattle.atpg_top.specs.Plays.{IsPlay, finding_of, played_line}
+use Rattle.atpg_top.specs.Diagnoses.{IsDiagnosis}
 use Rattle.atpg_top.specs.declared.refusal.Refusal.{Refusal}
-use Rattle.atpg_top.specs.declared.refusal.Refusal.TheVariants.{NotBuilt, NotStil, StilDoesNotFit}
+use Rattle.atpg_top.specs.declared.refusal.Refusal.TheVariants.{NotBuilt, NotLog, NotStil, StilDoesNotFit}
 
 -- the names of a run's files, in the order in which they are written and read
 abbrev pub run_files : Text → List Text
@@ -34,6 +38,7 @@ reads (run net prefix options holds) = net ∷ []
 reads (play net stil fault) = net ∷ stil ∷ []
 reads (check prefix) = []
 reads (sweep seed gates) = []
+reads (diagnose net stil log options) = net ∷ stil ∷ log ∷ []
 
 -- the names of the files that it writes, in order
 abbrev pub writes : CommandLine → List Text
@@ -67,6 +72,14 @@ run_due options named (bytes ∷ []) =
     (made : TestFiles) × IsRun n holds options.chains options.limit made × (d ≡ Deliver (texts_made made) (run_line made.said) Fine)
 run_due options named texts = λ d. ⊥
 
+-- the faults that explain what failed; how many workers look for them makes no difference
+abbrev pub diagnose_due : ℕ → List Text → Due Refusal → Type 0
+diagnose_due chains (net ∷ stil ∷ log ∷ []) =
+    netlist Design net >>= λ n. value StandsFor NotStil stil >>= λ file. value IsLogOf NotLog log >>= λ failures.
+    test (Fits file (scanned_of n (design_chains n chains))) StilDoesNotFit >>= λ _ d.
+    (text : Text) × IsDiagnosis n (design_chains n chains) (vectors_in file) failures text × (d ≡ Deliver [] text Fine)
+diagnose_due chains texts = λ d. ⊥
+
 -- a command that this program doesn't do yet is refused
 abbrev pub not_built : List Text → Due Refusal → Type 0
 not_built texts d = d ≡ Refuse NotBuilt
@@ -79,3 +92,4 @@ due (play net stil fault) = play_due fault
 due (run net prefix options holds) = run_due options holds
 due (check prefix) = not_built
 due (sweep seed gates) = not_built
+due (diagnose net stil log options) = diagnose_due options.chains

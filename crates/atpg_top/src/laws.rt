@@ -1,6 +1,7 @@
 //! Laws of `top`'s rows: functions that do nothing, whose contracts are the laws.
 ghost use Rattle.atpg_top.specs.Laws.{EachExclusive, FailedExactly, MissingExactly, NothingElse, RefusedExactly, TooLongExactly};
 
+use fail_log::one_log;
 use stil_read::laws::at_most_one;
 
 /// What a command owes for texts is determined, as far as its status tells.
@@ -8,6 +9,7 @@ pub fn each_exclusive()
     ensures { EachExclusive }
 {
     at_most_one();
+    one_log();
 }
 
 /// A missing file ends with status 7.
@@ -25,6 +27,7 @@ pub fn refused_exactly()
     ensures { RefusedExactly }
 {
     at_most_one();
+    one_log();
 }
 
 /// A failed call ends with status 5 or 6.
@@ -37,4 +40,5 @@ pub fn nothing_else()
     ensures { NothingElse }
 {
     at_most_one();
+    one_log();
 }

@@ -17,6 +17,7 @@ ghost use Rattle.atpg_top.specs.Lines.{code_of};
 ghost use Rattle.atpg_top.specs.declared.status.Status.{Status};
 
 mod design;
+mod diagnosing;
 mod fault_list;
 mod holding;
 mod laws;
@@ -30,6 +31,7 @@ mod scanning;
 mod status;
 
 use commands::Ending;
+use diagnosing::diagnose_log;
 pub use laws::{
     each_exclusive, failed_exactly, missing_exactly, nothing_else, refused_exactly,
     too_long_exactly,
@@ -87,6 +89,12 @@ fn perform<'a, R: Threads + Wait + Sync, S: Shelf, T: Sink, G: Gate + Sync>(
         ),
         Request::Check { .. } => Ending::Refused(Refusal::NotBuilt),
         Request::Sweep { .. } => Ending::Refused(Refusal::NotBuilt),
+        Request::Diagnose {
+            net,
+            stil,
+            log,
+            options,
+        } => diagnose_log(rt, alloc, shelf, out, net, stil, log, *options),
     }
 }
 

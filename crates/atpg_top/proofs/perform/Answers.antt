@@ -14,6 +14,9 @@ returns-in-Play g c = rw c.in-Play.is c.play_test.ensures
 pub returns-in-Run : goal.returns-in-Run
 returns-in-Run g c = rw (c.in-Run.is, sym c.as_slice.ensures.value) c.run_netlist.ensures
 
+pub returns-in-Diagnose : goal.returns-in-Diagnose
+returns-in-Diagnose g c = rw c.in-Diagnose.is c.diagnose_log.ensures
+
 pub returns-in-Check : goal.returns-in-Check
 returns-in-Check g c = rw c.in-Check.is (([], nothing_read (g.S.Shelf.files c.args.shelf.now), refl), ((refl, refl), (refl, refl)))
 
