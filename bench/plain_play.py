@@ -33,3 +33,12 @@ def unmet(scanned, cycles, fault):
                 yield number, pin, value is X
         if pulse:
             state = {name: on(f"pin {name} 0", values[scanned.pins[name][0]]) for name in scanned.cells}
+
+
+def site_of(netlist, fault):
+    """The fault at the line of the scanned netlist that stands for its line: a cell's pin is at its first new gate."""
+    line, stuck = fault
+    words = line.split(" ")
+    if words[0] == "pin" and words[1] in netlist.cells:
+        return f"pin SC__a_{words[1]} 0", stuck
+    return line, stuck
