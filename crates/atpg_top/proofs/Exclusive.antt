@@ -22,17 +22,19 @@ use Rattle.good_files.specs.ScanOff.{design_chains}
 use Rattle.scan_insert.specs.Scanned.{scanned_of}
 use Rattle.stil_vectors.specs.Fitting.{Fits}
 use Rattle.stil_write.specs.StilFiles.{StilFile}
+use Rattle.fail_log.specs.Laws.{OneLog}
+use Rattle.fail_log.specs.Reading.{IsLogOf}
 use Rattle.commands.specs.World.{Text}
 use Rattle.commands.specs.Due.{Due, Deliver, Refuse}
 use Rattle.commands.specs.Laws.{AreAlike, IsExclusive}
 use Rattle.commands.specs.declared.ending.Finding.TheVariants.{Fine}
-use Rattle.words.specs.CommandLine.{CommandLine, chaintest, check, faults, play, run, scan, sweep}
+use Rattle.words.specs.CommandLine.{CommandLine, chaintest, check, diagnose, faults, play, run, scan, sweep}
 use Rattle.words.specs.HoldLists.{Hold}
 use Rattle.words.specs.declared.requests.RunOptions.{RunOptions}
 use Rattle.check_command.specs.Checking as command
 use Rattle.check_command.specs.declared.refusal.CheckRefusal.{CheckRefusal}
 use Rattle.atpg_top.specs.Checks.{check_due, refusal_of, told}
-use Rattle.atpg_top.specs.Commands.{chaintest_due, due, faults_due, play_due, run_due, scan_due}
+use Rattle.atpg_top.specs.Commands.{chaintest_due, diagnose_due, due, faults_due, play_due, run_due, scan_due}
 use Rattle.atpg_top.specs.Runs.{run_line, texts_made}
 use Rattle.atpg_top.specs.inner.Running.{held_due, made_due}
 use Rattle.atpg_top.proofs.HoldLemmas.{holds_single}
@@ -42,8 +44,9 @@ use Rattle.atpg_top.specs.Scans.{IsScanProduct}
 use Rattle.atpg_top.specs.Steps.{named_fault, named_holds, netlist, test, value}
 use Rattle.atpg_top.specs.ChainTests.{chain_test_text, hardware_of}
 use Rattle.atpg_top.specs.inner.ChainTrials.{bytes_due, fit_due, test_due, told_due}
+use Rattle.atpg_top.specs.inner.Cases as cases
 use Rattle.atpg_top.specs.inner.Trials.{answer_due, fault_due, file_due, trial_due}
-use Rattle.atpg_top.specs.declared.refusal.Refusal.TheVariants.{NotBuilt, NotStil, StilDoesNotFit}
+use Rattle.atpg_top.specs.declared.refusal.Refusal.TheVariants.{NotBuilt, NotLog, NotStil, StilDoesNotFit}
 use Rattle.atpg_top.proofs.PlayLemmas.{known_is_not_x}
 use Rattle.atpg_top.proofs.Single.{IsOneKind, fault_single, given, netlist_single, test_single, then_one, then_one_where, value_single}
 
@@ -159,11 +162,27 @@ told_alike (Deliver texts shown finding) (Deliver others also found) alike = ali
 check_exclusive : IsExclusive command.check_due → IsExclusive check_due
 check_exclusive checks texts c d p q = given c d (told p.0) (told q.0) p.2 q.2 (told_alike p.0 q.0 (checks texts p.0 q.0 p.1 q.1))
 
-pub each_exclusive : AtMostOne → IsExclusive command.check_due → (line : CommandLine) → IsExclusive (due line)
-each_exclusive one checks (scan net to chains) = scan_exclusive chains
-each_exclusive one checks (faults net) = faults_exclusive
-each_exclusive one checks (play net stil fault) = play_exclusive one fault
-each_exclusive one checks (run net prefix options holds) = run_exclusive options holds
-each_exclusive one checks (check prefix) = check_exclusive checks
-each_exclusive one checks (sweep seed gates) = λ texts c d p q. given c d (Refuse NotBuilt) (Refuse NotBuilt) p q refl
-each_exclusive one checks (chaintest net stil chains) = chaintest_exclusive one chains
+-- ---- `diagnose`
+
+diagnose_exclusive : AtMostOne → OneLog → (chains : ℕ) → IsExclusive (diagnose_due chains)
+diagnose_exclusive one once chains [] c d p q = absurd p
+diagnose_exclusive one once chains (net ∷ []) c d p q = absurd p
+diagnose_exclusive one once chains (net ∷ stil ∷ []) c d p q = absurd p
+diagnose_exclusive one once chains (net ∷ stil ∷ log ∷ []) c d p q =
+    then_one (netlist Design net) (cases.test_due chains stil log) (netlist_single Design net)
+    (λ n. then_one (value StandsFor NotStil stil) (cases.log_due chains log n) (value_single StandsFor NotStil stil (one stil))
+    (λ file. then_one (value IsLogOf NotLog log) (cases.case_due chains n file) (value_single IsLogOf NotLog log (once log))
+    (λ failures. let fits = Fits file (scanned_of n (design_chains n chains)) in
+    then_one (test fits StilDoesNotFit) (λ _. cases.diagnosis_due chains n file failures) (test_single fits StilDoesNotFit)
+    (λ u x y a b. given x y (Deliver [] a.0 Fine) (Deliver [] b.0 Fine) a.2 b.2 refl)))) c d p q
+diagnose_exclusive one once chains (net ∷ stil ∷ log ∷ more ∷ others) c d p q = absurd p
+
+pub each_exclusive : AtMostOne → IsExclusive command.check_due → OneLog → (line : CommandLine) → IsExclusive (due line)
+each_exclusive one checks once (scan net to chains) = scan_exclusive chains
+each_exclusive one checks once (faults net) = faults_exclusive
+each_exclusive one checks once (play net stil fault) = play_exclusive one fault
+each_exclusive one checks once (run net prefix options holds) = run_exclusive options holds
+each_exclusive one checks once (check prefix) = check_exclusive checks
+each_exclusive one checks once (sweep seed gates) = λ texts c d p q. given c d (Refuse NotBuilt) (Refuse NotBuilt) p q refl
+each_exclusive one checks once (chaintest net stil chains) = chaintest_exclusive one chains
+each_exclusive one checks once (diagnose net stil log options) = diagnose_exclusive one once options.chains

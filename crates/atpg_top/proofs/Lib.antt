@@ -8,5 +8,6 @@ pub mod Delivering
 pub mod PlayLemmas
 pub mod ChainTestLemmas
 pub mod RunLemmas
+pub mod DiagnoseLemmas
 pub mod Single
 pub mod LineLemmas

@@ -7,8 +7,11 @@ use Rattle.scan_insert.specs.Scanned.{scanned_of}
 use Rattle.stil_read.specs.Reading.{StandsFor}
 use Rattle.stil_vectors.specs.FileVectors.{vectors_in}
 use Rattle.stil_vectors.specs.Fitting.{Fits}
+use Rattle.scan_insert.specs.Scanned.{scanned_of}
 use Rattle.scan_play.specs.declared.played.Played.{Played}
-use Rattle.words.specs.CommandLine.{CommandLine, chaintest, check, faults, play, run, scan, sweep}
+use Rattle.good_files.specs.ScanOff.{design_chains}
+use Rattle.fail_log.specs.Reading.{IsLogOf}
+use Rattle.words.specs.CommandLine.{CommandLine, chaintest, check, diagnose, faults, play, run, scan, sweep}
 use Rattle.commands.specs.World.{Text}
 use Rattle.commands.specs.Due.{Due, Deliver, Refuse}
 use Rattle.commands.specs.declared.ending.Finding.TheVariants.{Fine}
@@ -24,8 +27,9 @@ use Rattle.atpg_top.specs.Scans.{IsScanProduct}
 use Rattle.atpg_top.specs.FaultLists.{IsFaultList}
 use Rattle.atpg_top.specs.ChainTests.{IsChainTest, Strobe, chain_test_text, hardware_of}
 use Rattle.atpg_top.specs.Plays.{IsPlay, finding_of, played_line}
+use Rattle.atpg_top.specs.Diagnoses.{IsDiagnosis}
 use Rattle.atpg_top.specs.declared.refusal.Refusal.{Refusal}
-use Rattle.atpg_top.specs.declared.refusal.Refusal.TheVariants.{NotBuilt, NotStil, StilDoesNotFit}
+use Rattle.atpg_top.specs.declared.refusal.Refusal.TheVariants.{NotBuilt, NotLog, NotStil, StilDoesNotFit}
 
 -- the names of the files that a command line reads, in order
 abbrev pub reads : CommandLine → List Text
@@ -36,6 +40,7 @@ reads (play net stil fault) = net ∷ stil ∷ []
 reads (check prefix) = run_files prefix
 reads (sweep seed gates) = []
 reads (chaintest net stil chains) = net ∷ stil ∷ []
+reads (diagnose net stil log options) = net ∷ stil ∷ log ∷ []
 
 -- the names of the files that it writes, in order
 abbrev pub writes : CommandLine → List Text
@@ -77,6 +82,14 @@ chaintest_due asked (net ∷ stil ∷ []) =
     × (d ≡ Deliver [] (chain_test_text (scanned_of n (design_chains n asked)) (hardware_of n (design_chains n asked)) told) Fine)
 chaintest_due asked texts = λ d. ⊥
 
+-- the faults that explain what failed; how many workers look for them makes no difference
+abbrev pub diagnose_due : ℕ → List Text → Due Refusal → Type 0
+diagnose_due chains (net ∷ stil ∷ log ∷ []) =
+    netlist Design net >>= λ n. value StandsFor NotStil stil >>= λ file. value IsLogOf NotLog log >>= λ failures.
+    test (Fits file (scanned_of n (design_chains n chains))) StilDoesNotFit >>= λ _ d.
+    (text : Text) × IsDiagnosis n (design_chains n chains) (vectors_in file) failures text × (d ≡ Deliver [] text Fine)
+diagnose_due chains texts = λ d. ⊥
+
 -- a command that this program doesn't do yet is refused
 abbrev pub not_built : List Text → Due Refusal → Type 0
 not_built texts d = d ≡ Refuse NotBuilt
@@ -90,3 +103,4 @@ due (run net prefix options holds) = run_due options holds
 due (check prefix) = check_due
 due (sweep seed gates) = not_built
 due (chaintest net stil chains) = chaintest_due chains
+due (diagnose net stil log options) = diagnose_due options.chains

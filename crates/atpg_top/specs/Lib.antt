@@ -6,6 +6,7 @@ pub mod Plays
 pub mod ChainTests
 pub mod Checks
 pub mod Runs
+pub mod Diagnoses
 pub mod Commands
 pub mod Rows
 pub mod Laws

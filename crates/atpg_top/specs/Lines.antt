@@ -7,7 +7,7 @@ use Rattle.commands.specs.declared.ending.Ending.{Ending}
 use Rattle.commands.specs.declared.ending.Ending.TheVariants.{Ended, Refused, ReadFailed, WriteFailed, Missing, TooLong, Memory}
 use Rattle.status_lines.specs.Lines.{failure_line, netlist_line}
 use Rattle.atpg_top.specs.declared.refusal.Refusal.{Refusal}
-use Rattle.atpg_top.specs.declared.refusal.Refusal.TheVariants.{Netlist, NoSuchFault, NoSuchInput, NotStil, NotCertificate, NotReport, StilDoesNotFit, NotBuilt}
+use Rattle.atpg_top.specs.declared.refusal.Refusal.TheVariants.{Netlist, NoSuchFault, NoSuchInput, NotStil, NotCertificate, NotReport, NotLog, StilDoesNotFit, NotBuilt}
 use Rattle.atpg_top.specs.declared.status.Status.{Status}
 use Rattle.atpg_top.specs.declared.status.Status.TheVariants.{BadWords, BadHold, Command}
 
@@ -18,6 +18,7 @@ refusal_code (NoSuchInput place) = 2
 refusal_code NotStil = 4
 refusal_code NotCertificate = 4
 refusal_code NotReport = 4
+refusal_code NotLog = 4
 refusal_code StilDoesNotFit = 4
 refusal_code NotBuilt = 2
 
@@ -44,6 +45,7 @@ refusal_line names (NoSuchInput place) = codes "no such input: " ++ (slice_index
 refusal_line names NotStil = codes "not a stil file\n"
 refusal_line names NotCertificate = codes "not a certificate\n"
 refusal_line names NotReport = codes "not a report\n"
+refusal_line names NotLog = codes "not a fail log\n"
 refusal_line names StilDoesNotFit = codes "stil does not fit\n"
 refusal_line names NotBuilt = codes "not built yet\n"
 

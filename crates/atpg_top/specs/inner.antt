@@ -4,5 +4,6 @@ pub mod Designs
 pub mod Pieces
 pub mod Trials
 pub mod ChainTrials
+pub mod Cases
 pub mod Held
 pub mod Running

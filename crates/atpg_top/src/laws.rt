@@ -3,6 +3,7 @@ ghost use Rattle.atpg_top.specs.Checks.{RunsPass};
 ghost use Rattle.atpg_top.specs.Laws.{EachExclusive, FailedExactly, MissingExactly, NothingElse, RefusedExactly, TooLongExactly};
 
 use check_command::{check_exclusive, good_files_checked};
+use fail_log::one_log;
 use stil_read::laws::at_most_one;
 
 /// What a command owes for texts is determined, as far as its status tells.
@@ -11,6 +12,7 @@ pub fn each_exclusive()
 {
     at_most_one();
     check_exclusive();
+    one_log();
 }
 
 /// A missing file ends with status 7.
@@ -29,6 +31,7 @@ pub fn refused_exactly()
 {
     at_most_one();
     check_exclusive();
+    one_log();
 }
 
 /// A failed call ends with status 5 or 6.
@@ -49,4 +52,5 @@ pub fn runs_pass()
     ensures { RunsPass }
 {
     good_files_checked();
+    one_log();
 }

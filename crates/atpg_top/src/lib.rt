@@ -19,6 +19,7 @@ ghost use Rattle.atpg_top.specs.declared.status.Status.{Status};
 mod chain_testing;
 mod checking;
 mod design;
+mod diagnosing;
 mod fault_list;
 mod holding;
 mod laws;
@@ -35,6 +36,7 @@ mod told_lines;
 use chain_testing::test_chains;
 use checking::check_run;
 use commands::Ending;
+use diagnosing::diagnose_log;
 pub use laws::{
     each_exclusive, failed_exactly, missing_exactly, nothing_else, refused_exactly, runs_pass,
     too_long_exactly,
@@ -95,6 +97,12 @@ fn perform<'a, R: Threads + Wait + Sync, S: Shelf, T: Sink, G: Gate + Sync>(
         Request::ChainTest { net, stil, chains } => {
             test_chains(alloc, shelf, out, net, stil, *chains)
         }
+        Request::Diagnose {
+            net,
+            stil,
+            log,
+            options,
+        } => diagnose_log(rt, alloc, shelf, out, net, stil, log, *options),
     }
 }
 

@@ -41,6 +41,7 @@ fn say_refusal<E: Sink>(err: &mut E, refusal: &Refusal, holds: &[Held<'_>])
         Refusal::NotStil => say_text(err, b"not a stil file\n"),
         Refusal::NotCertificate => say_text(err, b"not a certificate\n"),
         Refusal::NotReport => say_text(err, b"not a report\n"),
+        Refusal::NotLog => say_text(err, b"not a fail log\n"),
         Refusal::StilDoesNotFit => say_text(err, b"stil does not fit\n"),
         Refusal::NotBuilt => say_text(err, b"not built yet\n"),
     }

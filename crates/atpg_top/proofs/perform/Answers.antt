@@ -17,6 +17,9 @@ returns-in-Run g c = rw (c.in-Run.is, sym c.as_slice.ensures.value) c.run_netlis
 pub returns-in-ChainTest : goal.returns-in-ChainTest
 returns-in-ChainTest g c = rw c.in-ChainTest.is c.test_chains.ensures
 
+pub returns-in-Diagnose : goal.returns-in-Diagnose
+returns-in-Diagnose g c = rw c.in-Diagnose.is c.diagnose_log.ensures
+
 pub returns-in-Check : goal.returns-in-Check
 returns-in-Check g c = rw c.in-Check.is c.check_run.ensures
 
