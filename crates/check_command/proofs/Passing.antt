@@ -1,5 +1,5 @@
 -- Good files are checked.
-use Rattle.std.proofs.Common.{◌≡◌, ◌∙◌, ◌⊎◌, inl, inr, ℕ, [], Ok, Err, ap, length}
+use Rattle.std.proofs.Common.{◌≡◌, ◌∙◌, ◌⊎◌, inl, inr, ℕ, [], Ok, Err, refl, ap, length}
 use Rattle.std.specs.Prelude.{Result}
 use Rattle.netlist.specs.Conditions.{IsSound}
 use Rattle.netlist.specs.Holds.{Holds}
@@ -19,24 +19,22 @@ use Rattle.check_command.specs.declared.refusal.CheckRefusal.{CheckRefusal}
 use Rattle.check_command.specs.declared.refusal.CheckRefusal.TheVariants as refusal
 
 -- an answer that is want of memory or this one is this one
-answer_is : (answer : Checked) (count : ℕ) → (Ok answer ≡ Err fault.NoMemory) ⊎ (Ok answer ≡ Ok (Faults count)) → answer ≡ Faults count
-answer_is answer count (inl none) = cc
-answer_is answer count (inr one) = cc
+answer_is : (r : Result Checked CheckFault) (answer : Checked) (count : ℕ) → r ≡ Ok answer → (r ≡ Err fault.NoMemory) ⊎ (r ≡ Ok (Faults count)) → answer ≡ Faults count
+answer_is r answer count is (inl none) = cc
+answer_is r answer count is (inr one) = cc
 
 -- a refusal is neither
-no_refusal : (why : CheckRefusal) (answer : Checked) → (Err (fault_of why) ≡ Err fault.NoMemory) ⊎ (Err (fault_of why) ≡ Ok answer) → ⊥
-no_refusal (refusal.Netlist why) answer (inl none) = cc
-no_refusal refusal.NotStil answer (inl none) = cc
-no_refusal refusal.NotCertificate answer (inl none) = cc
-no_refusal refusal.NotReport answer (inl none) = cc
-no_refusal (refusal.Netlist why) answer (inr one) = cc
-no_refusal refusal.NotStil answer (inr one) = cc
-no_refusal refusal.NotCertificate answer (inr one) = cc
-no_refusal refusal.NotReport answer (inr one) = cc
+no_refusal : (r : Result Checked CheckFault) (why : CheckRefusal) (answer : Checked) → r ≡ Err (fault_of why) → (r ≡ Err fault.NoMemory) ⊎ (r ≡ Ok answer) → ⊥
+no_refusal r (refusal.Netlist why) answer is (inl none) = cc
+no_refusal r refusal.NotStil answer is (inl none) = cc
+no_refusal r refusal.NotCertificate answer is (inl none) = cc
+no_refusal r refusal.NotReport answer is (inl none) = cc
+no_refusal r why answer is (inr one) = cc
 
 module _ (pass : GoodFilesPass) (n : Netlist) (holds : Holds) (asked limit : ℕ) (files : Files) (sound : IsSound n) (good : AreGoodFiles n holds asked limit files) where
   pub checked : (d : Due CheckRefusal) → files_due files d → d ≡ Deliver [] (checked_line (length (universe_of n))) Fine
   checked d (inl due) =
       due.2 ∙ ap (λ (answer : Checked). let told : Due CheckRefusal = Deliver [] (answer_line answer) (finding_of answer) in told)
-      (answer_is due.0 (length (universe_of n)) (pass n holds asked limit files sound good (Ok due.0) due.1.0))
-  checked d (inr due) = absurd (no_refusal due.0 (Faults (length (universe_of n))) (pass n holds asked limit files sound good (Err (fault_of due.0)) due.1))
+      (answer_is (Ok due.0) due.0 (length (universe_of n)) refl (pass n holds asked limit files sound good (Ok due.0) due.1.0))
+  checked d (inr due) =
+      absurd (no_refusal (Err (fault_of due.0)) due.0 (Faults (length (universe_of n))) refl (pass n holds asked limit files sound good (Err (fault_of due.0)) due.1))

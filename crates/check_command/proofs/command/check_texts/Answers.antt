@@ -1,3 +1,4 @@
+use Rattle.std.proofs.Common.{Err}
 use Rattle.commands.specs.Names.{texts_of}
 use Rattle.good_files.specs.GoodFiles.{Files}
 use Rattle.check_command.proofs.FiveTexts.{answered, at_texts, five_texts, stopped}
@@ -27,4 +28,4 @@ returns-in-Err c =
     } in
     let same = five_texts c.args.texts.items _ _ _ _ _ _ _ _ _ _ c.requires.count c.index.ensures c.index-2.ensures c.index-3.ensures c.index-4.ensures c.index-5.ensures files
     c.as_slice-net.ensures.value c.as_slice-scan.ensures.value c.as_slice-stil.ensures.value c.as_slice-certificate.ensures.value c.as_slice-report.ensures.value in
-    at_texts files (texts_of c.args.texts.items) _ same (stopped files c.in-Err.stop c.in-Err.ensures)
+    at_texts files (texts_of c.args.texts.items) (Err c.in-Err.stop) same (stopped files c.in-Err.stop c.in-Err.ensures)
