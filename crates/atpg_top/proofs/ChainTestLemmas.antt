@@ -129,10 +129,10 @@ hardware_signals law n chains h is sound =
     let there : scanned_of n chains ≡ s = sym (ap (λ (i : Insertion). i.netlist) is.scanned) in
     let P : Fault → Type 0 = λ f. signal_of f.line < length (signals s) in
     All-from_contains P h.faults.items (λ f c.
-        let all = signals_of law s sound in
-        within P (universe_of s) all f
-        (subst (λ (m : Netlist). Contains (universe_of m) f) there
-        (contains_filter (λ g. not (is_site (sites_of n chains) (universe_of n) g)) (universe_of (scanned_of n chains)) f (subst (λ fs. Contains fs f) here c)).0))
+    let all = signals_of law s sound in
+    within P (universe_of s) all f
+    (subst (λ (m : Netlist). Contains (universe_of m) f) there
+    (contains_filter (λ g. not (is_site (sites_of n chains) (universe_of n) g)) (universe_of (scanned_of n chains)) f (subst (λ fs. Contains fs f) here c)).0))
   where
     within : (P : Fault → Type 0) (fs : List Fault) → All P fs → (f : Fault) → Contains fs f → P f
     within P fs all f c = subst P c.2 (all c.0 f c.1)
