@@ -1,4 +1,5 @@
 mod TokenLemmas
+mod FormatLemmas
 mod ExpectLemmas
 mod WholeLemmas
 mod SignalLemmas

@@ -73,7 +73,7 @@ abbrev pub block_place : Class → Place
 block_place class.Star = BehindStar
 block_place kind = InBlock
 
-block_end : (before kind : Class) (b : ℕ) (bs : List ℕ) → class_of b ≡ kind → ends_block before kind ≡ true → tokens_from (block_place before) (b ∷ bs) ≡ tokens bs
+pub block_end : (before kind : Class) (b : ℕ) (bs : List ℕ) → class_of b ≡ kind → ends_block before kind ≡ true → tokens_from (block_place before) (b ∷ bs) ≡ tokens bs
 block_end class.Star class.Slash b bs is h = star_turn b bs class.Slash is
 block_end class.Star class.Gap b bs is h = cc
 block_end class.Star class.Mark b bs is h = cc
@@ -103,7 +103,7 @@ star_more class.Other h = refl
 in_more : (kind : Class) (b : ℕ) (bs : List ℕ) → class_of b ≡ kind → tokens_from InBlock (b ∷ bs) ≡ tokens_from (block_place kind) bs
 in_more kind b bs is = block_turn b bs kind is ∙ ap (λ t. after_turn t bs) (in_block-go kind)
 
-block_more : (before kind : Class) (b : ℕ) (bs : List ℕ) → class_of b ≡ kind → ends_block before kind ≡ false → tokens_from (block_place before) (b ∷ bs) ≡ tokens_from (block_place kind) bs
+pub block_more : (before kind : Class) (b : ℕ) (bs : List ℕ) → class_of b ≡ kind → ends_block before kind ≡ false → tokens_from (block_place before) (b ∷ bs) ≡ tokens_from (block_place kind) bs
 block_more class.Star kind b bs is h = star_turn b bs kind is ∙ ap (λ t. after_turn t bs) (star_more kind h)
 block_more class.Gap kind b bs is h = in_more kind b bs is
 block_more class.Mark kind b bs is h = in_more kind b bs is
@@ -193,7 +193,7 @@ slash_is : (b : ℕ) → class_of b ≡ class.Slash → b ≡ 47
 unfolding class_of
 slash_is b e = is_equal b 47 (only_slash _ _ _ (b == 47) _ _ e)
 
-slash_47 : class_of 47 ≡ class.Slash
+pub slash_47 : class_of 47 ≡ class.Slash
 unfolding class_of
 slash_47 = refl
 
@@ -217,7 +217,7 @@ word_by_class class.Quote c cs b bs is rest = word_stop c cs b bs (ap (λ k. wor
 word_by_class class.Star c cs b bs is rest = word_stop c cs b bs (ap (λ k. word_by k bs) is) (stops_at class.Star c cs b bs is refl)
 word_by_class class.Other c cs b bs is rest = word_stop c cs b bs (ap (λ k. word_by k bs) is) (stops_at class.Other c cs b bs is refl)
 
-word_none : word_len [] ≡ 0
+pub word_none : word_len [] ≡ 0
 unfolding word_len
 word_none = refl
 
@@ -226,7 +226,7 @@ word_at [] c cs = rw word_none (at_end (InWord (c ∷ cs)) ∙ ap (λ w. Spelled
 word_at (b ∷ bs) c cs = word_by_class (class_of b) c cs b bs refl (λ d ds. word_at bs d ds)
 
 -- a word at the front
-abbrev IsWordFront : List ℕ → Type 0
+abbrev pub IsWordFront : List ℕ → Type 0
 IsWordFront all = tokens all ≡ Spelled (take (word_len all) all) ∷ tokens (drop (word_len all) all)
 
 pub letter_front : (b : ℕ) (bs : List ℕ) → class_of b ≡ class.Letter → IsWordFront (b ∷ bs)

@@ -1,4 +1,5 @@
 pub mod Tokens
 pub mod Reading
 pub mod Laws
+pub mod Format
 pub mod inner
