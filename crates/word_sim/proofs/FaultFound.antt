@@ -26,7 +26,7 @@ use Rattle.word_sim.proofs.StuckPoints.{sole_differences, stuck_differences}
 use Rattle.word_sim.proofs.WordDetection.{differs, last_marked}
 
 -- what is found is small
-small_found : (n : Netlist) → IsSound n → (test : ℕ → ℕ → Bool) (used : ℕ) (found : Option (ℕ × ℕ)) → AreDifferences (length (points n)) test used found → IfSome found (λ w. (w.0 < 64) × (w.1 < 2 ^ 32))
+pub small_found : (n : Netlist) → IsSound n → (test : ℕ → ℕ → Bool) (used : ℕ) (found : Option (ℕ × ℕ)) → AreDifferences (length (points n)) test used found → IfSome found (λ w. (w.0 < 64) × (w.1 < 2 ^ 32))
 small_found n sound test used None h = tt
 small_found n sound test used (Some w) h = let s = h.some w.0 w.1 refl in let l = s.2 in let few = points_few n sound in (s.0, omega arith)
 

@@ -9,3 +9,5 @@ pub mod HitLists
 pub mod LastFrom
 pub mod GoodLemmas
 pub mod WidthLemmas
+pub mod TurnedPoints
+pub mod ToldFaults

@@ -24,7 +24,7 @@ use Rattle.observed_points.proofs.ObservedPoints.{line_in, signal_in, points_cou
 use Rattle.observed_points.proofs.LineReads.{same_line, line_same, points_once, unread}
 use Rattle.word_sim.proofs.WordDetection.{differ, differs}
 
-differ_same : (b : Bool) → differ b b ≡ false
+pub differ_same : (b : Bool) → differ b b ≡ false
 differ_same true = refl
 differ_same false = refl
 

@@ -1,4 +1,5 @@
 -- What the proofs of this crate need and no caller has to read.
+pub mod Groups
 pub mod Packed
 pub mod Differences
 pub mod Found

@@ -33,7 +33,7 @@ fn shown(change: &Change<u64>, values: &[u64], first: &[u32], count: usize) -> u
 }
 
 /// The patterns that tell some change apart at a point.
-fn all_shown(trail: &[Change<u64>], values: &[u64], first: &[u32], count: usize) -> u64
+pub(crate) fn all_shown(trail: &[Change<u64>], values: &[u64], first: &[u32], count: usize) -> u64
     requires within { All (λ (c : ChangeOf ℕ). c.signal < length values.now) trail.now }
     requires size { length first.now ≡ length values.now }
     ensures { (j : ℕ) → j < 64 → bit_of j result ≡ list_any (shows first.now count values.now j) trail.now }
@@ -76,8 +76,30 @@ fn first_shown(trail: &[Change<u64>], values: &[u64], first: &[u32], count: usiz
     least
 }
 
+/// The last of these patterns under which some change shows, and the first point at which one does.
+pub(crate) fn last_among(
+    trail: &[Change<u64>],
+    values: &[u64],
+    first: &[u32],
+    count: usize,
+    all: u64,
+    used: u64,
+) -> Option<(u32, usize)>
+    requires within { All (λ (c : ChangeOf ℕ). c.signal < length values.now) trail.now }
+    requires size { length first.now ≡ length values.now }
+    requires all { (j : ℕ) → j < 64 → bit_of j all ≡ list_any (shows first.now count values.now j) trail.now }
+    ensures { AreShown first.now count values.now used trail.now result }
+{
+    let shown = all & used;
+    if shown == 0 {
+        return None;
+    }
+    let last = 63 - shown.leading_zeros();
+    Some((last, first_shown(trail, values, first, count, last)))
+}
+
 /// The last pattern under which some change shows, and the first point at which one does.
-pub(crate) fn last_shown(
+fn last_shown(
     trail: &[Change<u64>],
     values: &[u64],
     first: &[u32],
@@ -88,12 +110,8 @@ pub(crate) fn last_shown(
     requires size { length first.now ≡ length values.now }
     ensures { AreShown first.now count values.now used trail.now result }
 {
-    let all = all_shown(trail, values, first, count) & used;
-    if all == 0 {
-        return None;
-    }
-    let last = 63 - all.leading_zeros();
-    Some((last, first_shown(trail, values, first, count, last)))
+    let all = all_shown(trail, values, first, count);
+    last_among(trail, values, first, count, all, used)
 }
 
 /// The last pattern under which a word differs, at a point.

@@ -1,17 +1,19 @@
 //! What up to 64 patterns detect of given faults.
-ghost use Rattle.std.specs.Prelude.{◌≡◌, ◌++◌, ◌≤◌, ◌<◌, ◌^◌, [], ℕ, List, length, IfOk, IfSome, OnOk};
-ghost use Rattle.std.specs.List.{All};
+ghost use Rattle.std.specs.Prelude.{◌≡◌, ◌++◌, ◌≤◌, ◌<◌, ◌^◌, [], ℕ, List, Some, None, replicate, length, IfOk, IfSome, OnOk};
+ghost use Rattle.std.specs.List.{All, slice_get};
 ghost use Rattle.netlist.specs.Lines.{IsLineOf};
-ghost use Rattle.netlist.specs.Netlist.{Netlist as Equations};
+ghost use Rattle.netlist.specs.Netlist.{Netlist as Equations, signals};
 ghost use Rattle.netlist.specs.declared.lines.Fault.{Fault as FaultOf};
 ghost use Rattle.word_sim.specs.Hits.{AreHits};
 ghost use Rattle.word_sim.specs.Words.{HasWidthsOf};
 ghost use Rattle.word_sim.specs.inner.Found.{hit_of};
-ghost use Rattle.word_sim.specs.inner.Packed.{AreGoodFor, AreSettledWords};
+ghost use Rattle.word_sim.specs.inner.Groups.{AreReaches, AreTold, HasRoom, IsFound};
+ghost use Rattle.word_sim.specs.inner.Packed.{AreGoodFor, AreSettledWords, IsUsed};
 ghost use Rattle.observed_points.specs.Points.{ArePoints, point_of};
 
 use crate::batches::Hit;
 use crate::detecting::last_of;
+use crate::groups::{Groups, Reach, Told, tell_from};
 use crate::packing::{Part, packed, used_bits};
 use cubes::Pattern;
 use events::{Events, Words};
@@ -81,11 +83,80 @@ fn push_hit(
     Ok(())
 }
 
+/// What is found of a fault: by the head of its region, or else by itself. The words are then those before.
+fn found_of(
+    events: &mut Events<'_, u64>,
+    points: &Points,
+    patterns: &[Pattern],
+    used: u64,
+    reaches: &[Reach],
+    links: &[u32],
+    faults: &[(u32, Fault)],
+    k: usize,
+    told: &mut Vec<Told>,
+) -> Option<(u32, usize)>
+    requires points { ArePoints events.old.netlist points.now.seen.items points.now.first.items points.now.numbers.items }
+    requires good { AreGoodFor events.old.netlist patterns.now events.old.values }
+    requires used { IsUsed (length patterns.now) used }
+    requires lines { All (λ (g : ℕ × FaultOf). IsLineOf events.old.netlist g.1.line) faults.now }
+    requires reaches { AreReaches events.old.netlist events.old.values faults.now reaches.now }
+    requires size { length events.old.values ≡ length (signals events.old.netlist) }
+    requires trail { events.old.trail ≡ [] }
+    requires within { k < length faults.now }
+    requires told { AreTold events.old.netlist patterns.now faults.now told.old.items }
+    ensures found { (g : ℕ × FaultOf) → slice_get faults.now k ≡ Some g → IsFound events.old.netlist patterns.now g.1 result }
+    ensures told { AreTold events.old.netlist patterns.now faults.now told.new.items }
+    ensures same { events.new ≡ events.old }
+{
+    if told[k].is_none() {
+        tell_from(
+            events, points, patterns, used, reaches, links, faults, k, told,
+        );
+    }
+    match told[k] {
+        Some(found) => found,
+        None => last_of(events, points, patterns, used, &faults[k].1),
+    }
+}
+
+/// The hits of faults, one after another, by groups of which nothing is told. The words are then those before.
+fn hits_of_groups(
+    alloc: Global,
+    events: &mut Events<'_, u64>,
+    points: &Points,
+    reaches: &[Reach],
+    links: &[u32],
+    told: &mut Vec<Told>,
+    patterns: &[Pattern],
+    faults: &[(u32, Fault)],
+) -> Result<Vec<Hit>, AllocError>
+    requires points { ArePoints events.old.netlist points.now.seen.items points.now.first.items points.now.numbers.items }
+    requires good { AreGoodFor events.old.netlist patterns.now events.old.values }
+    requires lines { All (λ (g : ℕ × FaultOf). IsLineOf events.old.netlist g.1.line) faults.now }
+    requires reaches { AreReaches events.old.netlist events.old.values faults.now reaches.now }
+    requires size { length events.old.values ≡ length (signals events.old.netlist) }
+    requires trail { events.old.trail ≡ [] }
+    requires told { told.old.items ≡ replicate (length faults.now) None }
+    ensures hits { IfOk result (λ v. AreHits events.old.netlist patterns.now faults.now v.items) }
+    ensures same { events.new ≡ events.old }
+{
+    let used = used_bits(patterns.len());
+    let mut hits = Vec::with_capacity(alloc, faults.len())?;
+    for k in 0..faults.len() {
+        let found = found_of(
+            events, points, patterns, used, reaches, links, faults, k, told,
+        );
+        push_hit(events.core().netlist(), faults[k].0, found, &mut hits)?;
+    }
+    Ok(hits)
+}
+
 /// The hits of faults, one after another. The words are then those before.
 pub(crate) fn find_hits(
     alloc: Global,
     events: &mut Events<'_, u64>,
     points: &Points,
+    groups: &mut Groups,
     patterns: &[Pattern],
     faults: &[(u32, Fault)],
 ) -> Result<Vec<Hit>, AllocError>
@@ -93,16 +164,22 @@ pub(crate) fn find_hits(
     requires good { AreGoodFor events.old.netlist patterns.now events.old.values }
     requires lines { All (λ (g : ℕ × FaultOf). IsLineOf events.old.netlist g.1.line) faults.now }
     requires trail { events.old.trail ≡ [] }
+    requires room { HasRoom events.old.netlist groups.old.paths.heads.items groups.old.paths.opens.items }
     ensures hits { IfOk result (λ v. AreHits events.old.netlist patterns.now faults.now v.items) }
     ensures same { events.new ≡ events.old }
+    ensures room { HasRoom events.old.netlist groups.new.paths.heads.items groups.new.paths.opens.items }
 {
-    let used = used_bits(patterns.len());
-    let mut hits = Vec::with_capacity(alloc, faults.len())?;
-    for given in faults {
-        let found = last_of(events, points, patterns, used, &given.1);
-        push_hit(events.core().netlist(), given.0, found, &mut hits)?;
-    }
-    Ok(hits)
+    groups.gather(events.core(), events.values(), faults)?;
+    hits_of_groups(
+        alloc,
+        events,
+        points,
+        &groups.reaches,
+        &groups.links,
+        &mut groups.told,
+        patterns,
+        faults,
+    )
 }
 
 /// The hits of one batch.
@@ -118,8 +195,9 @@ fn hits_of_batch(
     ensures { IfOk result (λ v. AreHits core.now patterns.now faults.now v.items) }
 {
     let points = Points::of(alloc, core)?;
+    let mut groups = Groups::new(alloc, core.netlist())?;
     let mut events = good_events(alloc, core, patterns)?;
-    find_hits(alloc, &mut events, &points, patterns, faults)
+    find_hits(alloc, &mut events, &points, &mut groups, patterns, faults)
 }
 
 /// For each given fault that some pattern detects, in the order given, the last such pattern and its first point.

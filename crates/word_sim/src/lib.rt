@@ -4,6 +4,7 @@
 mod batches;
 mod detecting;
 mod fault_hits;
+mod groups;
 mod last_detected;
 mod packing;
 mod simulator;

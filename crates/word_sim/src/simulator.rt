@@ -8,6 +8,7 @@ ghost use Rattle.word_sim.specs.Words.{HasWidthsOf};
 
 use crate::batches::Hit;
 use crate::fault_hits::{find_hits, good_events, next_patterns};
+use crate::groups::Groups;
 use cubes::Pattern;
 use events::Events;
 use netlist::{Core, Fault, NoMemory};
@@ -15,11 +16,12 @@ use observed_points::Points;
 use std::alloc::{AllocError, Global};
 use std::marker::Model;
 
-/// The words of a netlist, and what is kept of its points.
+/// The words of a netlist, and what is kept of its points and of the faults of a batch.
 #[derive(Drop)]
 pub struct Simulator<'a> {
     events: Events<'a, u64>,
     points: Points,
+    groups: Groups,
 }
 
 impl<'a> Model for Simulator<'a> {
@@ -30,7 +32,7 @@ impl<'a> Model for Simulator<'a> {
 
     ghost view = { λ s. s.events.netlist };
 
-    ghost invariant = { λ s. CanSimulate s.events.netlist s.events.values s.points.seen.items s.points.first.items s.points.numbers.items };
+    ghost invariant = { λ s. CanSimulate s.events.netlist s.events.values s.points.seen.items s.points.first.items s.points.numbers.items s.groups.paths.heads.items s.groups.paths.opens.items };
 }
 
 impl<'a> Simulator<'a> {
@@ -39,8 +41,13 @@ impl<'a> Simulator<'a> {
         ensures { IfOk result (λ s. s ≡ core.now) }
     {
         let points = Points::of(alloc, core)?;
+        let groups = Groups::new(alloc, core.netlist())?;
         let events = good_events(alloc, core, &[])?;
-        Ok(Simulator { events, points })
+        Ok(Simulator {
+            events,
+            points,
+            groups,
+        })
     }
 
     /// A simulator of a netlist.
@@ -64,7 +71,14 @@ impl<'a> Simulator<'a> {
         ensures same { self.new ≡ self.old }
     {
         next_patterns(alloc, &mut self.events, patterns)?;
-        find_hits(alloc, &mut self.events, &self.points, patterns, faults)
+        find_hits(
+            alloc,
+            &mut self.events,
+            &self.points,
+            &mut self.groups,
+            patterns,
+            faults,
+        )
     }
 
     /// For each given fault that some pattern detects, in the order given, the last such pattern and its first point.

@@ -1,7 +1,8 @@
-use Rattle.std.proofs.Common.{sym, subst}
+use Rattle.std.proofs.Common.{◌∙◌, sym, subst}
 use Rattle.netlist.specs.Netlist.{Netlist}
-use Rattle.word_sim.specs.inner.Packed.{AreSettledWords}
 use Rattle.observed_points.specs.Points.{ArePoints}
+use Rattle.word_sim.specs.inner.Groups.{HasRoom}
+use Rattle.word_sim.specs.inner.Packed.{AreSettledWords}
 use Rattle.word_sim.proofs.simulator.Simulator.made.Goals as goal
 
 pub invariant_of-result : goal.invariant_of-result
@@ -11,4 +12,5 @@ invariant_of-result c =
     record {
       settled = subst (λ (m : Netlist). AreSettledWords m c.in_ok-events.events.values) (sym c.in_ok-events.ensures.netlist) settled;
       points_are = subst (λ (m : Netlist). ArePoints m c.in_ok-points.points.seen.items c.in_ok-points.points.first.items c.in_ok-points.points.numbers.items) (sym c.in_ok-events.ensures.netlist) c.in_ok-points.ensures;
+      room = subst (λ (m : Netlist). HasRoom m c.in_ok-groups.groups.paths.heads.items c.in_ok-groups.groups.paths.opens.items) (c.netlist.ensures ∙ sym c.in_ok-events.ensures.netlist) c.in_ok-groups.ensures;
     }

@@ -1,0 +1,10 @@
+pub mod GateBits
+pub mod Ranks
+pub mod Gates
+pub mod OnlyReaders
+pub mod Alike
+pub mod Changing
+pub mod Faults
+pub mod PathWords
+pub mod TurnedOver
+pub mod TurnedBits

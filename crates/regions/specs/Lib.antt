@@ -1,0 +1,5 @@
+pub mod Turned
+pub mod Regions
+pub mod Sensitized
+pub mod Laws
+pub mod Paths
