@@ -1,5 +1,5 @@
 #!/usr/bin/env python3
-"""Works out what the rows of crates/calls, crates/file_calls, crates/cases and crates/check_cases have to print, by plain programs apart from the crates,
+"""Works out what the rows of crates/calls, crates/file_calls, crates/cases, crates/list_calls and crates/check_cases have to print, by plain programs apart from the crates,
 and compares.
 
 A row that this program doesn't know (a refusal, a line of an error output) is worked out by hand; how many there are is printed.
@@ -17,6 +17,7 @@ import check_checks
 import check_trees
 import plain_design
 import plain_design as plain
+import list_play
 import stil_file
 from check_reports import is_report
 from plain_chains import chain_test, cycles_in
@@ -277,8 +278,8 @@ def on_netlist(verb, text, rest):
         return [f"{rest.split(' ')[1]} changes, all as from scratch"]
     if verb == "tree":
         return [tree(netlist, *rest.split(" ", 1))]
-    if verb in ("stil", "stil-but"):
-        return stil_answer(netlist, verb == "stil", *rest.split(": ", 1))
+    if verb in ("vectors", "stil", "stil-but"):
+        return stil_answer(netlist, verb, *rest.split(": ", 1))
     faults = [line.rsplit(" class ", 1) for line in list(fault_list(text))[1:]]
     if verb == "fault":
         return [rest if rest in [fault for fault, _ in faults] else "no fault"]
@@ -297,15 +298,17 @@ def tree(netlist, held, rest):
     return said
 
 
-def stil_answer(netlist, is_whole, head, texts):
-    """The patterns' file, and of which patterns it is read as the file; None where a word is another in it."""
+def stil_answer(netlist, verb, head, texts):
+    """The patterns' vectors, or their file and of which patterns it is read as the file; None where a word is another in it."""
     asked, held, *_ = head.split(" ")
     held = {} if held == "-" else {name: bit == "1" for name, bit in [held.split("=")]}
     patterns = [(bits_of(inputs), bits_of(cells)) for inputs, _, cells in (text.partition("/") for text in texts.split() if text != "none")]
     if any(inputs[netlist.inputs.index(name)] != bit for inputs, _ in patterns for name, bit in held.items()):
         return ["no patterns that obey"]
     read = " ".join(["patterns"] + [f"{digits(inputs)}/{digits(cells)}" for inputs, cells in patterns])
-    return shown(stil_file.stil(netlist, int(asked), held, patterns)) + [read] if is_whole else None
+    if verb == "vectors":
+        return stil_file.vectors(netlist, int(asked), held, patterns)
+    return shown(stil_file.stil(netlist, int(asked), held, patterns)) + [read] if verb == "stil" else None
 
 
 def searched(netlist, held, limit, fault):
@@ -461,7 +464,96 @@ def wanted_of(texts, verb, rest, given):
         return None if given[0].startswith("line ") else shown(Netlist(texts[name]).canonical())
     if verb in ("certificate", "certificate-sum"):
         return certificate(verb, texts[name], texts[more])
+    if verb == "labels":
+        return labelled(Netlist(texts[name]), more, given)
+    if verb == "words":
+        return settled_words(Netlist(texts[name]), more)
+    if verb in ("list", "shares", "searches"):
+        return on_fault_list(verb, name, texts[name], more, given)
     return on_netlist(verb, texts[name], more)
+
+
+def first_members(text):
+    """The first member of each class."""
+    members = {}
+    for line in list(fault_list(text))[1:]:
+        fault, number = line.rsplit(" class ", 1)
+        members.setdefault(int(number), fault)
+    return [members[number] for number in sorted(members)]
+
+
+FOUND = {}
+
+
+def searched_all(name, text, limit, given):
+    """What the searches of a design found, where each answer is right: a cube of which each pattern is a test, or a tree that fits and closes as
+    it says. Which of the right answers comes, the search's guide decides."""
+    netlist, found = Netlist(text), {}
+    for number, (fault, line) in enumerate(zip(first_members(text), given, strict=True)):
+        head, kind, answer = line.split(" ", 3)[0:2], line.split(" ", 3)[2], line.split(" ", 3)[3]
+        if head != ["class", str(number)]:
+            return ["another class"]
+        if kind == "cube":
+            choices = [answer.replace("X", "0"), answer.replace("X", "1")]
+            if len(answer) < 16:
+                choices = ["".join(c) for c in itertools.product(*["01" if c == "X" else c for c in answer])]
+            if any(last_detected(netlist, fault, choice) == "never" for choice in choices):
+                return [f"class {number}: not each pattern of the cube is a test"]
+        else:
+            said = check_trees.answer(netlist, gate, fault, answer, {})
+            closed = answer.split().count("!")
+            wanted = f"closed {closed} open {answer.split().count('?')}"
+            if said != wanted or (kind == "aborted") != ("?" in answer.split()) or (kind == "aborted" and closed != int(limit)):
+                return [f"class {number}: {said}"]
+        found[number] = (kind, answer)
+    FOUND[name, limit] = found
+    return given
+
+
+def state_lines(netlist, fault, path, given):
+    """The state of a fault under decisions, and the labels where the search may go on. The order of the trail is taken from what is given."""
+    found, points = check_trees.labels(netlist, gate, fault, path, {})
+    if check_trees.is_closed(netlist, gate, fault, path, {}):
+        return ["blocked"]
+    for place, (_, good, faulty, differs) in enumerate(points):
+        if differs and "X" not in (good, faulty) and good != faulty:
+            cells = place - len(netlist.outputs)
+            return [f"test output {place}" if cells < 0 else f"test cell {cells}"]
+    said = ["going"] + [f"{name} {own}{good}{faulty}{'d' if differs else 's'}" for name, (own, good, faulty, differs) in ((x, found[x]) for x in netlist.signals)]
+    start, _ = check_trees.labels(netlist, gate, fault, {}, {})
+    changed = [name for name in netlist.signals if found[name] != start[name]]
+    trail = next((line for line in given if sorted(line.split(" ")[1:]) == sorted(changed) and line.startswith("trail")), "another trail")
+    return [" ".join(said), trail]
+
+
+def labelled(netlist, rest, given):
+    """The states of a fault under each decision."""
+    fault, _, decisions = rest.partition(": ")
+    lines = state_lines(netlist, fault, {}, given)
+    for decision in decisions.split(";"):
+        name, bit = decision.strip().split("=")
+        lines += state_lines(netlist, fault, {name: bit}, given)
+    return lines + state_lines(netlist, fault, {}, given)
+
+
+def settled_words(netlist, rest):
+    """For each signal its bit under each pattern."""
+    patterns = [[bits_of(part) for part in text.partition("/")[::2]] for text in rest.split(" ")]
+    columns = [netlist.settled(*pattern)[0] for pattern in patterns]
+    return [f"{name} {digits(column[k] for column in columns)}" for k, name in enumerate(netlist.signals)]
+
+
+def on_fault_list(verb, name, text, rest, given):
+    """What calls of a list of fault classes answer."""
+    numbers, _, calls = rest.partition(": ")
+    limit = numbers.split(" ")[-1]
+    if verb == "searches":
+        return searched_all(name, text, limit, given)
+    netlist = Netlist(text)
+    faults = list_play.List(first_members(text), int(limit), lambda fault, patterns: last_detected(netlist, fault, " ".join(patterns)), merged)
+    if verb == "list":
+        return list(list_play.on_list(faults, calls))
+    return list(list_play.on_shares(faults, FOUND.get((name, limit), {}), calls))
 
 
 def check_calls(crate):
@@ -549,4 +641,4 @@ def check_check_cases():
 
 
 if __name__ == "__main__":
-    sys.exit(1 if check_calls("calls") + check_calls("file_calls") + check_cases() + check_check_cases() else 0)
+    sys.exit(1 if check_calls("calls") + check_calls("file_calls") + check_calls("list_calls") + check_cases() + check_check_cases() else 0)

@@ -103,3 +103,22 @@ def stil(netlist, asked, holds, patterns):
         lines += ["Procedures {", '  "load_unload" {', '    W "wft";', "    Shift {", f"      V {{ {shift}}}", "    }", "  }", "}"]
     lines += ['Pattern "pattern" {', '  W "wft";'] + tester.pattern(patterns) + ["}"]
     return "".join(line + "\n" for line in lines)
+
+
+def vectors(netlist, asked, holds, patterns):
+    """What the inputs of the scanned netlist are driven with, what its outputs are strobed for and the clock, cycle by cycle. A load is as many
+    cycles as the longest chain has cells: there the inputs idle at their held bits or 0, with the scan enable at 1."""
+    tester = Tester(netlist, asked, holds)
+    count, ports = len(tester.chains), len(netlist.outputs)
+    idle = digits([holds.get(name, False) for name in netlist.inputs]) + "1"
+    cycles = []
+    for line in tester.pattern(patterns):
+        words = [part.split(" = ") for part in line[line.index("{") + 2 : -3].split("; ")]
+        words = {name.strip('"'): word for name, word in words}
+        ins = [words[f"SC__si{k}"] for k in range(count)]
+        outs = [words[f"SC__so{k}"] for k in range(count)]
+        if line.startswith("  Call"):
+            cycles += [f"{idle}{''.join(i)} {'X' * ports}{''.join(o)} P" for i, o in zip(zip(*ins), zip(*outs))]
+        else:
+            cycles.append(f"{words['SC__pi']}{''.join(ins)} {words['SC__po']}{''.join(outs)} {'P' if count else '0'}")
+    return [f"cycle {cycle}" for cycle in cycles]

@@ -9,6 +9,7 @@ mod patterns;
 mod reports;
 mod script;
 mod stil_files;
+mod vectors;
 
 use script::Script;
 use std::io::{self, Write};

@@ -38,7 +38,7 @@ fn work(
         "certificate" | "certificate-sum" => {
             push_certificate(to, alloc, netlist, certificate, verb == "certificate")
         }
-        "stil" | "stil-but" => push_stil(to, alloc, netlist, rest, verb == "stil"),
+        "vectors" | "stil" | "stil-but" => push_stil(to, alloc, netlist, verb, rest),
         _ => to.extend_from_slice(b"no such call\n"),
     }
 }

@@ -1,4 +1,4 @@
-//! STIL files of patterns.
+//! STIL files and vectors of patterns.
 ghost use Rattle.std.specs.Prelude.{◌<◌, IfOk};
 ghost use Rattle.netlist.specs.Designs.{IsDesign};
 ghost use Rattle.netlist.specs.Holds.{AreHoldsOf};
@@ -6,6 +6,7 @@ ghost use Rattle.scan_insert.specs.Scanned.{AreChainsOf};
 
 use crate::designs::core_of;
 use crate::patterns::{cut, holds_of, patterns_of as patterns_named};
+use crate::vectors::push_vectors;
 use case_text::show;
 use chain_stitch::{Chains, stitch};
 use cubes::Pattern;
@@ -30,7 +31,7 @@ fn chains_of(alloc: Global, core: &Core, asked: u32) -> Result<Chains, AllocErro
 }
 
 /// Adds bits.
-fn push_bits(to: &mut Vec<u8>, bits: &[bool]) -> Result<(), AllocError> {
+pub fn push_bits(to: &mut Vec<u8>, bits: &[bool]) -> Result<(), AllocError> {
     for bit in bits {
         to.push(if *bit { b'1' } else { b'0' })?;
     }
@@ -133,7 +134,18 @@ fn push_file(
     push_read(to, alloc, core, chains, holds, &text)
 }
 
-/// Adds the same of the patterns of a text, with so many chains.
+/// What is to be shown of patterns.
+#[derive(Clone, Copy)]
+enum Wanted<'a> {
+    /// What the tester drives and strobes, cycle by cycle.
+    Vectors,
+    /// The file, and what is read of it.
+    File,
+    /// What is read of it once a word is another.
+    FileBut(&'a str, &'a str),
+}
+
+/// Adds this of the patterns of a text, with so many chains.
 fn push_named(
     to: &mut Vec<u8>,
     alloc: Global,
@@ -141,7 +153,7 @@ fn push_named(
     holds: &Holds,
     asked: u32,
     texts: &str,
-    other: Option<(&str, &str)>,
+    wanted: Wanted<'_>,
 ) -> Result<(), AllocError>
     requires some { 0 < asked }
     requires design { IsDesign core.now }
@@ -149,17 +161,24 @@ fn push_named(
 {
     let chains = chains_of(alloc, core, asked)?;
     let patterns = patterns_named(alloc, core, texts)?;
-    push_file(to, alloc, core, &chains, holds, &patterns, other)
+    match wanted {
+        Wanted::Vectors => push_vectors(to, alloc, core, &chains, holds, &patterns),
+        Wanted::File => push_file(to, alloc, core, &chains, holds, &patterns, None),
+        Wanted::FileBut(old, new) => {
+            push_file(to, alloc, core, &chains, holds, &patterns, Some((old, new)))
+        }
+    }
 }
 
+/// `vectors CHAINS HELD: PATTERNS`: the vectors of patterns.
 /// `stil CHAINS HELD: PATTERNS`: the file of patterns, and of which patterns its text is read as the file.
 /// `stil-but CHAINS HELD OLD NEW: PATTERNS`: of which patterns the text is read as the file once a word is another where it stands last.
 pub fn push_stil(
     to: &mut Vec<u8>,
     alloc: Global,
     netlist: &Netlist,
+    verb: &str,
     rest: &str,
-    is_whole: bool,
 ) -> Result<(), AllocError>
     requires { IsDesign netlist.now }
 {
@@ -169,6 +188,11 @@ pub fn push_stil(
     let core = core_of(alloc, netlist)?;
     let holds = holds_of(alloc, &core, held)?;
     let asked = asked.parse().unwrap_or(1).max(1);
-    let other = if is_whole { None } else { Some(cut(words)) };
-    push_named(to, alloc, &core, &holds, asked, texts, other)
+    let (old, new) = cut(words);
+    let wanted = match verb {
+        "vectors" => Wanted::Vectors,
+        "stil" => Wanted::File,
+        _ => Wanted::FileBut(old, new),
+    };
+    push_named(to, alloc, &core, &holds, asked, texts, wanted)
 }
