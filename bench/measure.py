@@ -3,6 +3,8 @@ import os
 import statistics
 import subprocess
 import sys
+import tempfile
+from typing import NamedTuple
 
 HERE = os.path.dirname(os.path.abspath(__file__))
 MADE = os.path.join(HERE, "made")
@@ -27,15 +29,41 @@ def made_netlist(signals, scattered=False):
     return netlist
 
 
+class Usage(NamedTuple):
+    """What a command took: seconds by the clock and of processor, peak resident MB, how often it gave the processor up by itself, its status."""
+
+    clock: float
+    processor: float
+    memory: float
+    waits: int
+    status: int
+
+
+def usage_program():
+    """bench/child_usage.c, built where it isn't or has changed."""
+    source, made = os.path.join(HERE, "child_usage.c"), os.path.join(MADE, "child_usage")
+    if not os.path.exists(made) or os.path.getmtime(made) < os.path.getmtime(source):
+        os.makedirs(MADE, exist_ok=True)
+        subprocess.run(["cc", "-O2", "-Wall", "-Wextra", "-o", made, source], check=True)
+    return made
+
+
+def run(command, limit=None, quiet=False):
+    """What a command printed on both outputs (quiet: on standard error alone) and what it took; at a limit of seconds of processor it ends."""
+    limited = command if limit is None else ["bash", "-c", f'ulimit -t {limit}; exec "$@"', "limited", *command]
+    with tempfile.NamedTemporaryFile("r") as told:
+        done = subprocess.run([usage_program(), told.name, *limited], stdout=subprocess.DEVNULL if quiet else subprocess.PIPE,
+                              stderr=subprocess.PIPE if quiet else subprocess.STDOUT)
+        clock, processor, peak, waits, status = told.read().split()
+    return (done.stderr if quiet else done.stdout).decode(errors="replace"), Usage(float(clock), float(processor), int(peak) / 1024, int(waits), int(status))
+
+
 def measure(command):
     """Seconds of processor (of one thread: stable where the machine has other work), peak resident MB."""
-    child = subprocess.Popen(command, stdout=subprocess.DEVNULL, stderr=subprocess.PIPE)
-    said = child.stderr.read()
-    _, status, usage = os.wait4(child.pid, 0)
-    child.returncode = os.waitstatus_to_exitcode(status)
-    if child.returncode != 0:
-        raise SystemExit(f"{command} ended with {child.returncode}: {said.decode(errors='replace')}")
-    return usage.ru_utime + usage.ru_stime, usage.ru_maxrss / 1024
+    printed, usage = run(command, quiet=True)
+    if usage.status != 0:
+        raise SystemExit(f"{command} ended with {usage.status}: {printed[-500:]}")
+    return usage.processor, usage.memory
 
 
 def best_of(command, runs=3):

@@ -1,8 +1,8 @@
 // A plain test generator in C++, to time `atpg run` with one worker beside: the search of search_peer.cpp and the simulation of
 // fault_sim_peer.cpp in the loop of `run`. Each class that is still open is searched; 64 cubes are merged, filled and simulated, and what they
 // detect is dropped; at last the patterns are simulated from the last to the first, and those that are no class's last detector go.
-// It writes no files and keeps no evidence.
-//   clang++ -O2 -std=c++20 -o run_peer run_peer.cpp && ./run_peer NETLIST [LIMIT]
+// It writes no files and keeps no evidence. With `regions` faults are simulated by fanout-free regions.
+//   clang++ -O2 -std=c++20 -o run_peer run_peer.cpp && ./run_peer NETLIST [LIMIT [regions]]
 #include <algorithm>
 #include <cctype>
 #include <chrono>
@@ -47,6 +47,8 @@ struct Generator {
     searching::Counts counts;
     simulating::Events events;
     simulating::Points points;
+    simulating::ByRegions together;
+    bool by_regions;
     simulating::Pcg32 random{1, 0};
     std::vector<searching::Fault> searched_faults;
     std::vector<simulating::Fault> simulated_faults;
@@ -54,9 +56,9 @@ struct Generator {
     std::vector<Cube> cubes, patterns;
     std::vector<Id> sources;
 
-    explicit Generator(const char* path)
+    Generator(const char* path, bool regions)
         : searched(searching::read(path)), simulated(simulating::read_netlist(path)), measures(searched), sim(searched), events(simulated),
-          points(simulated), searched_faults(searching::representatives(searched)), simulated_faults(simulating::representatives(simulated)),
+          points(simulated), together(simulated), by_regions(regions), searched_faults(searching::representatives(searched)), simulated_faults(simulating::representatives(simulated)),
           verdicts(searched_faults.size(), Verdict::Open) {
         if (searched_faults.size() != simulated_faults.size()) std::abort();
         for (Id x = 0; x < simulated.inputs; x++) sources.push_back(x);
@@ -107,6 +109,17 @@ struct Generator {
         events.settle();
     }
 
+    // What the patterns that have settled detect of the classes at these places, in order.
+    std::vector<simulating::Hit> hits_of(const std::vector<size_t>& left) {
+        std::vector<simulating::Fault> faults;
+        for (size_t k : left) faults.push_back(simulated_faults[k]);
+        std::vector<simulating::Hit> hits;
+        if (by_regions) together.hits(events, points, faults, hits);
+        else
+            for (size_t k = 0; k < faults.size(); k++) simulating::detect(events, points, faults[k], k, hits);
+        return hits;
+    }
+
     void publish() {
         if (cubes.empty()) return;
         std::vector<Cube> filled = merged();
@@ -114,10 +127,10 @@ struct Generator {
             for (Tri& bit : cube)
                 if (bit == searching::X) bit = random.next() & 1 ? searching::One : searching::Zero;
         settle(filled.data(), filled.size());
-        std::vector<simulating::Hit> hits;
+        std::vector<size_t> left;
         for (size_t k = 0; k < verdicts.size(); k++)
-            if ((verdicts[k] == Verdict::Open || verdicts[k] == Verdict::Aborted) && simulating::detect(events, points, simulated_faults[k], k, hits))
-                verdicts[k] = Verdict::Detected;
+            if (verdicts[k] == Verdict::Open || verdicts[k] == Verdict::Aborted) left.push_back(k);
+        for (const simulating::Hit& hit : hits_of(left)) verdicts[left[hit.fault]] = Verdict::Detected;
         patterns.insert(patterns.end(), filled.begin(), filled.end());
         cubes.clear();
     }
@@ -131,11 +144,15 @@ struct Generator {
         for (size_t end = patterns.size(); end > 0;) {
             size_t begin = end > batch_size ? end - batch_size : 0;
             settle(&patterns[begin], end - begin);
-            std::vector<simulating::Hit> hits;
+            std::vector<simulating::Hit> hits = hits_of(left);
             std::vector<size_t> later;
-            for (size_t k : left)
-                if (simulating::detect(events, points, simulated_faults[k], k, hits)) keeps[std::min(begin + hits.back().pattern, end - 1)] = true;
-                else later.push_back(k);
+            for (size_t k = 0, next = 0; k < left.size(); k++) {
+                if (next == hits.size() || hits[next].fault != k) {
+                    later.push_back(left[k]);
+                    continue;
+                }
+                keeps[std::min(begin + hits[next++].pattern, end - 1)] = true;
+            }
             left.swap(later);
             end = begin;
         }
@@ -148,7 +165,7 @@ struct Generator {
 int main(int count, char** words) {
     if (count < 2) return 2;
     auto limit = static_cast<searching::u64>(count > 2 ? std::atoi(words[2]) : 100);
-    Generator generator(words[1]);
+    Generator generator(words[1], count > 3 && std::strcmp(words[3], "regions") == 0);
     for (size_t k = 0; k < generator.verdicts.size(); k++) {
         if (generator.verdicts[k] != Verdict::Open) continue;
         generator.search(k, limit);

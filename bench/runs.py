@@ -3,9 +3,8 @@ import os
 import re
 import subprocess
 import sys
-import time
 
-from measure import HERE, MADE, proved_build
+from measure import HERE, MADE, proved_build, run
 
 EXAMPLES = os.path.join(HERE, "..", "examples")
 # names as this file takes them: an example, a circuit of make_circuits.py, or a sample netlist of a seed and gates
@@ -44,17 +43,9 @@ class Measured:
     """One run of a command: what it printed, its status, seconds by the clock and of processor, peak MB, waits."""
 
     def __init__(self, command, limit=None):
-        began = time.monotonic()
-        limited = command if limit is None else ["bash", "-c", f'ulimit -t {limit}; exec "$@"', "limited", *command]
-        child = subprocess.Popen(limited, stdout=subprocess.PIPE, stderr=subprocess.STDOUT)
-        self.printed = child.stdout.read().decode(errors="replace")
-        _, status, usage = os.wait4(child.pid, 0)
-        child.returncode = os.waitstatus_to_exitcode(status)
-        self.clock = time.monotonic() - began
-        self.status = child.returncode
-        self.processor = usage.ru_utime + usage.ru_stime
-        self.memory = usage.ru_maxrss / 1024
-        self.waits = usage.ru_nvcsw  # how often it gave the processor up by itself
+        self.printed, usage = run(command, limit)
+        self.status, self.clock, self.processor = usage.status, usage.clock, usage.processor
+        self.memory, self.waits = usage.memory, usage.waits
 
 
 def best(command, times):

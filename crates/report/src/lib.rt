@@ -16,7 +16,7 @@ pub use fault_lines::{FaultLine, FaultLines};
 pub use hold_lines::HoldLines;
 pub use laws::texts_tell_reports;
 pub use outcomes::Outcome;
-pub use reading::{ReportFault, read_report};
 pub use pieces::{behind, is_word};
+pub use reading::{ReportFault, read_report};
 pub use reports::Report;
 pub use writing::write_report;

@@ -11,10 +11,10 @@ ghost use Rattle.scan_play.specs.Playing.{PlaysAs};
 ghost use Rattle.scan_play.specs.Judging.{IsJudged};
 
 use crate::cycles::{Burst, Vectors, push_known};
+use crate::judging::{Judge, Strict, judged_in};
 use crate::planning::Plan;
 use crate::played::Played;
 use crate::stepping::{drive_sources, evaluate_all};
-use crate::judging::{Judge, Strict, judged_in};
 use netlist::{Core, Fault, NoMemory, SignalId, Tri};
 use std::alloc::{AllocError, Global};
 use tri::Tris;
@@ -281,7 +281,15 @@ fn play_from_unknown<J: Judge>(
         values,
         pins: Vec::new(alloc),
     };
-    let found = play_bursts(core, rule, judge, vectors.bursts(), &idle, &mut plan, &mut bench)?;
+    let found = play_bursts(
+        core,
+        rule,
+        judge,
+        vectors.bursts(),
+        &idle,
+        &mut plan,
+        &mut bench,
+    )?;
     Ok(found)
 }
 

@@ -10,9 +10,9 @@ ghost use Rattle.transition.specs.inner.Launches.{AreSecond, IsLaunched};
 
 use events::{Events, Words};
 use netlist::{Fault, Netlist, SignalId};
+use observed_points::Points;
 use std::alloc::{AllocError, Global};
 use transition_frames::source_of;
-use observed_points::Points;
 
 /// The words of these signals.
 fn words_of(alloc: Global, first: &[u64], ids: &[SignalId]) -> Result<Vec<u64>, AllocError>

@@ -18,8 +18,8 @@ use cubes::Pattern;
 use events::Events;
 use fault_universe::FaultSet;
 use netlist::{Core, Fault, Netlist, NoMemory, Point};
-use std::alloc::{AllocError, Global};
 use observed_points::{Points, point_at};
+use std::alloc::{AllocError, Global};
 use word_sim::{good_events, last_marked, next_patterns, used_bits};
 
 /// What was found among some patterns, by places among all.
@@ -30,7 +30,7 @@ fn moved(netlist: &Netlist, found: Option<(u32, usize)>, start: usize) -> Option
 {
     match found {
         None => None,
-        Some((pattern, number)) => Some((start as u32 + pattern(netlist, number))),
+        Some((pattern, number)) => Some((start as u32 + pattern, point_at(netlist, number))),
     }
 }
 
