@@ -175,15 +175,7 @@ fn diagnosis<R: Threads + Sync>(
     candidates_tell_the_truth();
     let faults = faults_of(alloc, &case.netlist)?;
     let classes = collapse(alloc, &case.netlist, &faults)?;
-    let found = suspects(
-        rt,
-        alloc,
-        scanned,
-        &faults,
-        &classes,
-        case,
-        options.workers,
-    )?;
+    let found = suspects(rt, alloc, scanned, &faults, &classes, case, options.workers)?;
     match text_of(alloc, &case.netlist, &faults, &found) {
         Ok(text) => Ok(text),
         Err(_) => Err(NoMemory),
