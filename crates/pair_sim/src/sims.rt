@@ -163,7 +163,7 @@ impl<'a> PairSim<'a> {
     }
 
     /// Takes all decisions back.
-    fn undo_all(&mut self)
+    pub fn undo_all(&mut self)
         ensures { self.new ≡ sim self.old.netlist self.old.fault self.old.holds [] }
     {
         while self.depth() > 0 {

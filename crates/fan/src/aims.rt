@@ -1,0 +1,126 @@
+//! Signals that may be forced: what implications, a single gate of the D-frontier and the fault's line ask for.
+ghost use Rattle.std.specs.Prelude.{◌≡◌};
+ghost use Rattle.pair_sim.specs.Sims.{IsNotBlocked};
+
+use crate::frontier::{FrontGates, frontier};
+use crate::guides::Aim;
+use crate::views::{
+    count_pins, driver, gate_of, has_head, is_inverting, is_own_unknown, is_unknown, may_differ,
+};
+use head_lines::Role;
+use netlist::{Core, Fault, Kind, SignalId};
+use pair_sim::PairSim;
+use redundancy_cert::Side;
+use std::alloc::{AllocError, Global};
+
+/// Asks for a bit on each pin that is X.
+fn ask_all(
+    core: &Core,
+    labels: &PairSim,
+    pins: &[SignalId],
+    bit: bool,
+    aims: &mut Vec<Aim>,
+) -> Result<(), AllocError>
+    requires { labels.now.netlist ≡ core.now }
+{
+    for pin in pins {
+        if is_unknown(core, labels, *pin) {
+            aims.push(Aim { signal: *pin, bit })?;
+        }
+    }
+    Ok(())
+}
+
+/// What the pins of a gate have to have so that it has its decided bit.
+fn imply(
+    core: &Core,
+    labels: &PairSim,
+    gate: SignalId,
+    bit: bool,
+    aims: &mut Vec<Aim>,
+) -> Result<(), AllocError>
+    requires { labels.now.netlist ≡ core.now }
+{
+    let Some((kind, pins)) = gate_of(core, gate) else {
+        return Ok(());
+    };
+    let (unknown, odd) = count_pins(core, labels, pins);
+    let inner = bit != is_inverting(kind);
+    match kind {
+        Kind::And | Kind::Nand => {
+            if inner || unknown == 1 {
+                ask_all(core, labels, pins, inner, aims)?;
+            }
+        }
+        Kind::Or | Kind::Nor => {
+            if !inner || unknown == 1 {
+                ask_all(core, labels, pins, inner, aims)?;
+            }
+        }
+        Kind::Xor | Kind::Xnor => {
+            if unknown == 1 {
+                ask_all(core, labels, pins, inner != odd, aims)?;
+            }
+        }
+        Kind::Not | Kind::Buff => ask_all(core, labels, pins, inner, aims)?,
+        Kind::Dff | Kind::Const0 | Kind::Const1 => {}
+    }
+    Ok(())
+}
+
+/// What the other pins of a gate have to have so that an effect goes through.
+fn let_through(
+    core: &Core,
+    labels: &PairSim,
+    gate: SignalId,
+    aims: &mut Vec<Aim>,
+) -> Result<(), AllocError>
+    requires same { labels.now.netlist ≡ core.now }
+    requires not_blocked { IsNotBlocked labels.now }
+{
+    let Some((kind, pins)) = gate_of(core, gate) else {
+        return Ok(());
+    };
+    let bit = match kind {
+        Kind::And | Kind::Nand => true,
+        Kind::Or | Kind::Nor => false,
+        _ => return Ok(()),
+    };
+    for pin in pins {
+        if is_unknown(core, labels, *pin) && !may_differ(core, labels, *pin) {
+            aims.push(Aim { signal: *pin, bit })?;
+        }
+    }
+    Ok(())
+}
+
+/// What may be forced.
+pub(crate) fn forced_aims(
+    alloc: Global,
+    core: &Core,
+    fault: &Fault,
+    roles: &[Role],
+    labels: &PairSim,
+    stack: &[Side],
+) -> Result<Vec<Aim>, AllocError>
+    requires same { labels.now.netlist ≡ core.now }
+    requires not_blocked { IsNotBlocked labels.now }
+{
+    let mut aims = Vec::new(alloc);
+    let site = driver(core, &fault.line);
+    if is_unknown(core, labels, site) {
+        aims.push(Aim {
+            signal: site,
+            bit: !fault.value,
+        })?;
+    }
+    for side in stack {
+        if !has_head(roles, side.signal) && is_own_unknown(core, labels, side.signal) {
+            imply(core, labels, side.signal, side.bit, &mut aims)?;
+        }
+    }
+    if let FrontGates::Single(gate) = frontier(core, fault, labels) {
+        let_through(core, labels, gate, &mut aims)?;
+    }
+    Ok(aims)
+}

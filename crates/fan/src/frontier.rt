@@ -1,0 +1,120 @@
+//! The D-frontier: gates that an effect has come to and not yet passed. Nothing stands on it but the speed of the search.
+ghost use Rattle.std.specs.Prelude.{◌≡◌};
+ghost use Rattle.pair_sim.specs.Sims.{IsNotBlocked};
+
+use crate::measures::Measures;
+use crate::views::{has_effect, may_get_effect, readers};
+use netlist::{Core, Fault, Line, SignalId};
+use pair_sim::PairSim;
+
+/// The gates of the D-frontier among these readers: the only one so far, or that there are more.
+fn join_frontier(core: &Core, labels: &PairSim, signal: SignalId, start: FrontGates) -> FrontGates
+    requires same { labels.now.netlist ≡ core.now }
+    requires not_blocked { IsNotBlocked labels.now }
+{
+    let mut found = start;
+    for line in readers(core, signal) {
+        if let Line::Pin(gate, _) = line {
+            if may_get_effect(core, labels, *gate) {
+                found = with_gate(found, *gate);
+            }
+        }
+    }
+    found
+}
+
+/// What is known of the D-frontier.
+#[derive(Clone, Copy, Drop)]
+pub(crate) enum FrontGates {
+    Empty,
+    Single(SignalId),
+    More,
+}
+
+/// With a gate more.
+fn with_gate(frontier: FrontGates, gate: SignalId) -> FrontGates {
+    match frontier {
+        FrontGates::Empty => FrontGates::Single(gate),
+        FrontGates::Single(other) => {
+            if other.index() == gate.index() {
+                FrontGates::Single(other)
+            } else {
+                FrontGates::More
+            }
+        }
+        FrontGates::More => FrontGates::More,
+    }
+}
+
+/// The D-frontier.
+pub(crate) fn frontier(core: &Core, fault: &Fault, labels: &PairSim) -> FrontGates
+    requires same { labels.now.netlist ≡ core.now }
+    requires not_blocked { IsNotBlocked labels.now }
+{
+    let mut found = FrontGates::Empty;
+    if let Line::Pin(gate, _) = &fault.line {
+        if may_get_effect(core, labels, *gate) {
+            found = with_gate(found, *gate);
+        }
+    }
+    for signal in labels.trail() {
+        if has_effect(core, labels, *signal) {
+            found = join_frontier(core, labels, *signal, found);
+        }
+    }
+    found
+}
+
+/// Whether a gate is nearer to the observed points than the best so far.
+fn is_nearer(measures: &Measures, gate: SignalId, best: &Option<SignalId>) -> bool {
+    match best {
+        None => true,
+        Some(other) => measures.sight(gate) < measures.sight(*other),
+    }
+}
+
+/// The nearest gate among the readers of a signal and the best so far.
+fn nearer_reader(
+    core: &Core,
+    measures: &Measures,
+    labels: &PairSim,
+    signal: SignalId,
+    start: Option<SignalId>,
+) -> Option<SignalId>
+    requires same { labels.now.netlist ≡ core.now }
+    requires not_blocked { IsNotBlocked labels.now }
+{
+    let mut best = start;
+    for line in readers(core, signal) {
+        if let Line::Pin(gate, _) = line {
+            if may_get_effect(core, labels, *gate) && is_nearer(measures, *gate, &best) {
+                best = Some(*gate);
+            }
+        }
+    }
+    best
+}
+
+/// The gate of the D-frontier that is nearest to the observed points.
+pub(crate) fn nearest(
+    core: &Core,
+    measures: &Measures,
+    fault: &Fault,
+    labels: &PairSim,
+) -> Option<SignalId>
+    requires same { labels.now.netlist ≡ core.now }
+    requires not_blocked { IsNotBlocked labels.now }
+{
+    let mut best: Option<SignalId> = None;
+    if let Line::Pin(gate, _) = &fault.line {
+        if may_get_effect(core, labels, *gate) {
+            best = Some(*gate);
+        }
+    }
+    for signal in labels.trail() {
+        if has_effect(core, labels, *signal) {
+            best = nearer_reader(core, measures, labels, *signal, best);
+        }
+    }
+    best
+}
