@@ -1,15 +1,14 @@
 -- What may be split on, and that something is left to split on while the search may go on.
-use Rattle.std.proofs.Common.{◌≡◌, ◌≢◌, ℕ, ◌<◌, ◌≤◌, ◌⊎◌, ◌||◌, Bool, true, false, not, List, [], map, length, get_or, eqb, Option, Some, None, refl, sym, ◌∙◌, ap, subst, inl, inr, arith}
+use Rattle.std.proofs.Common.{◌≡◌, ℕ, ◌<◌, ◌≤◌, ◌⊎◌, ◌||◌, Bool, true, false, not, List, [], length, get_or, eqb, Option, Some, None, refl, sym, ◌∙◌, ap, subst, inl, inr, arith}
 use Rattle.std.specs.Bool.{Decides}
 use Rattle.std.specs.Option.{is_some}
-use Rattle.std.specs.List.{All, Contains, list_any}
-use Rattle.std.proofs.lemmas.Bool.{cases_Bool, both_ways, eq-eqb, eqb-true}
+use Rattle.std.specs.List.{Contains, list_any}
+use Rattle.std.proofs.lemmas.Bool.{both_ways, eq-eqb, eqb-true}
 use Rattle.std.proofs.lemmas.List.{length-map, get_or_past}
-use Rattle.netlist.specs.declared.kinds.Tri.{Tri}
 use Rattle.netlist.specs.declared.kinds.Tri.TheVariants.{X}
 use Rattle.netlist.specs.declared.lines.Fault.{Fault}
 use Rattle.netlist.specs.Holds.{Holds, AreHoldsOf}
-use Rattle.netlist.specs.Netlist.{Definition, Netlist, is_cell, is_gate, cells, gates, signals, Reads, IsGateAt}
+use Rattle.netlist.specs.Netlist.{Definition, Netlist, is_cell, is_gate, cells, gates, signals, IsGateAt}
 use Rattle.netlist.specs.Conditions.{IsSound}
 use Rattle.netlist.specs.ThreeValues.{known}
 use Rattle.netlist.proofs.Lists.{contains_filter, any_true, any_from}
@@ -18,8 +17,8 @@ use Rattle.netlist.proofs.Orders.{input_low}
 use Rattle.netlist.proofs.Settling.{above_inputs}
 use Rattle.netlist.proofs.SomeSettled.{some_settled}
 use Rattle.tri.specs.declared.labels.Label.{Label}
-use Rattle.tri.specs.Labels.{Decisions, label_of, held_value, labels, input_labels, cell_labels, source_label, AreLabels, IsClosedAt}
-use Rattle.tri.specs.Paths.{Path, decisions, IsClosedPath, IsUnknown}
+use Rattle.tri.specs.Labels.{Decisions, label_of, held_value, labels, input_labels, cell_labels, source_label, AreLabels}
+use Rattle.tri.specs.Paths.{Path, decisions, IsUnknown}
 use Rattle.tri.proofs.PathLemmas.{labels_once}
 use Rattle.pair_sim.specs.Sims.{Sim, sim, HasGood}
 use Rattle.pair_sim.proofs.Free.{free_undecided, own_if_undecided}
@@ -27,13 +26,13 @@ use Rattle.redundancy_cert.specs.declared.stacks.Side.{Side}
 use Rattle.redundancy_cert.specs.Stacks.{path_of_stack}
 use Rattle.head_lines.specs.declared.roles.Role.{Role}
 use Rattle.head_lines.specs.declared.roles.Role.TheVariants.{Bound, Head, Inner}
-use Rattle.head_lines.specs.HeadLines.{IsUpward, IsReached, IsConstant, IsBound, IsHead, IsSource, IsPlace, IsBoundOrHead, AreMarks, is_bound_role, is_head_role, role_at, AreRoles}
+use Rattle.head_lines.specs.HeadLines.{IsUpward, IsReached, IsConstant, IsBound, IsHead, IsSource, is_bound_role, is_head_role, role_at, AreRoles}
 use Rattle.head_lines.proofs.GateTests.{no_gate_low}
-use Rattle.head_lines.proofs.Inner.{input_own, cell_own}
+use Rattle.head_lines.proofs.Inner.{input_own}
 use Rattle.head_lines.proofs.Ends.{met_there}
 use Rattle.fan.specs.Trees.{IsLeftOpen}
-use Rattle.fan.specs.inner.Searching.{IsAt, IsFreeToDecide, IsEndPlace, IsFreeEnd, IsNoFreeEnd, IsSplit}
-use Rattle.fan.proofs.Placing.{place_may, head_place, stem_place, source_place}
+use Rattle.fan.specs.inner.Searching.{IsAt, IsEndPlace, IsFreeEnd, IsNoFreeEnd, IsSplit}
+use Rattle.fan.proofs.Placing.{place_may, head_place, source_place}
 use Rattle.fan.proofs.Turns.{all_on, none_on}
 
 -- ---- ends
