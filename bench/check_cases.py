@@ -1,5 +1,6 @@
 #!/usr/bin/env python3
-"""Works out what the rows of crates/calls, crates/file_calls and crates/cases have to print, by a plain program apart from the crates, and compares.
+"""Works out what the rows of crates/calls, crates/file_calls, crates/cases and crates/check_cases have to print, by plain programs apart from the crates,
+and compares.
 
 A row that this program doesn't know (a refusal, a line of an error output) is worked out by hand; how many there are is printed.
 
@@ -12,10 +13,16 @@ import sys
 
 sys.path.insert(0, os.path.dirname(os.path.abspath(__file__)))
 import check_certificates
+import check_checks
 import check_trees
+import plain_design
+import plain_design as plain
 import stil_file
 from check_reports import is_report
+from plain_chains import chain_test, cycles_in
 from fault_list import fault_list, netlist_of, readers_of
+from plain_check import patterns_of
+from plain_play import cycles_of, site_of, unmet
 from sample_netlist import Pcg32
 
 ROOT = os.path.dirname(os.path.dirname(os.path.abspath(__file__)))
@@ -474,6 +481,21 @@ def check_calls(crate):
     return wrong
 
 
+def diagnosed(net, stil, log, asked):
+    """The faults with which exactly what the log says fails, by a plain player."""
+    netlist = plain.read(net.encode())
+    chains = plain.chains_of(netlist.cells, asked)
+    items = plain.items_of(netlist, chains, patterns_of(plain.stil_tokens(stil.encode()), netlist, chains, {}))
+    cycles, scanned = list(cycles_of(netlist, chains, items)), plain.scanned(netlist, chains)
+    failures = {(*line.split(" "), False) for line in log.split("\n")[1:-1]}
+    found = [
+        f"{line}/{stuck}"
+        for line, stuck in plain.universe(netlist)
+        if {(str(cycle), pin, unknown) for cycle, pin, unknown in unmet(scanned, cycles, site_of(netlist, (line, stuck)))} == failures
+    ]
+    return "".join(line + "\n" for line in [f"candidates {len(found)}"] + found)
+
+
 def check_cases():
     texts, rows = texts_and_rows(f"{ROOT}/crates/cases/stdin")
     heads = [row for row in rows if row.startswith(("case ", "run "))]
@@ -488,16 +510,25 @@ def check_cases():
             files[name] = "".join(texts[part] for part in parts)
         elif verb == "run":
             place += 1
-            if not rest.startswith(("atpg scan ", "atpg faults ")):
+            if not rest.startswith(("atpg scan ", "atpg faults ", "atpg chaintest ", "atpg diagnose ")):
                 continue
             given = [line for line in stored[place] if line]
             if given[0] != "status 0" or len(given) < 3 or given[1] != "out":
                 continue
             known += 1
             words = rest.split(" ")
-            if words[1] == "faults":
+            if words[1] == "diagnose":
+                asked = int(words[words.index("--chains") + 1]) if "--chains" in words else 1
+                wanted = shown(diagnosed(*(files[name] for name in words[2:5]), asked))
+                wrong += differs(row, wanted + [f"file {words[2]} as before"], given[2 : 3 + len(wanted)])
+            elif words[1] == "faults":
                 wanted = shown("".join(line + "\n" for line in fault_list(files[words[2]])))
                 wrong += differs(row, wanted, given[2 : 2 + len(wanted)])
+            elif words[1] == "chaintest":
+                design = plain_design.read(files[words[2]].encode())
+                text = chain_test(design, int(words[5]) if len(words) > 5 else 1, cycles_in(files[words[3]]))
+                wanted = ["status 0", "out"] + shown(text) + [f"file {words[2]} as before", f"file {words[3]} as before", "files 2"]
+                wrong += differs(row, wanted, given)
             else:
                 asked = int(words[5]) if len(words) > 5 else 1
                 netlist = Netlist(files[words[2]])
@@ -509,5 +540,15 @@ def check_cases():
     return wrong
 
 
+def check_check_cases():
+    wanted = check_checks.wanted()
+    with open(f"{ROOT}/crates/check_cases/stdout", encoding="latin-1") as file:
+        given = file.read()
+    rows = wanted.count("\nstatus ")
+    wrong = differs("check_cases", wanted.split("\n"), given.split("\n"))
+    print(f"check_cases: {rows} of {rows} rows worked out, {'some' if wrong else 0} differ")
+    return wrong
+
+
 if __name__ == "__main__":
-    sys.exit(1 if check_calls("calls") + check_calls("file_calls") + check_cases() else 0)
+    sys.exit(1 if check_calls("calls") + check_calls("file_calls") + check_cases() + check_check_cases() else 0)

@@ -16,7 +16,7 @@ ROUNDS = 21  # of our own commands; those beside a slow peer have fewer
 def proved_build():
     """The program as it was proved and built."""
     if not os.path.exists(PROGRAM):
-        sys.exit("no proved build: (cd crates/atpg_main && rt run -- --help)")
+        sys.exit("no proved build: ./build makes it")
     return PROGRAM
 
 

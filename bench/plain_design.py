@@ -291,6 +291,17 @@ def items_of(netlist, chains, patterns):
     return items + [("call", *load_words(chains, longest, zeros, before))]
 
 
+def cycles_of(netlist, chains, items):
+    """Each cycle's drives of the scanned netlist's inputs, strobes of its outputs, and whether there is a pulse."""
+    count, inputs, outputs = len(chains), len(netlist.inputs), len(netlist.outputs)
+    for item in items:
+        if item[0] == "call":
+            for t in range(len(item[1][0])):
+                yield "0" * inputs + "1" + "".join(word[t] for word in item[1]), "X" * outputs + "".join(word[t] for word in item[2]), True
+        else:
+            yield item[1] + "0" * (count + 1 if chains else 0), item[2] + "X" * count, bool(chains)
+
+
 def stil_text(netlist, chains, held, items):
     """The text of a file, as the writer lays it out."""
     count = range(len(chains))

@@ -3,14 +3,11 @@
 import contextlib
 import os
 import pathlib
-import re
 import shutil
 import signal
 import subprocess
 import tempfile
 import time
-
-import plain_design
 
 ROOT = pathlib.Path(__file__).resolve().parent.parent
 
@@ -237,16 +234,34 @@ def test_launcher_looks_first():
 
 
 def test_build_refuses():
-    """What isn't proved is named, and no program is put in place."""
+    """What isn't proved is named, no program is put in place, and the next build goes on from there."""
     with tree() as made:
         made.add_rt()
         made.source("below").write_text("broken\n")
         status, out, errors = made.build()
         assert status == 1 and "build: below: failed (1)\n" in errors and "fn below::f: not proved" in errors, (status, out, errors)
-        assert made.left() == [] and not (made.root / "crates/atpg_main/out").exists()
+        assert len(made.left()) == 1 and f"rm -rf {made.temporary / made.left()[0]}" in errors, errors
+        assert not (made.root / "crates/atpg_main/out").exists()
+        made.source("below").write_text("mended\n")
+        assert made.build()[0] == 0 and made.left() == []
         for words, why in ((("--to",), "--to needs a folder"), (("--jobs", "0"), "--jobs needs a number"), (("--all",), "unknown word --all")):
             status, _, errors = made.build(*words)
             assert status == 2 and errors.startswith(f"build: {why}"), errors
+
+
+def test_build_interrupted():
+    """It ends with all that it began."""
+    with tree() as made:
+        made.put(made.bin / "rt", "#!/bin/sh\necho $$ >$TMPDIR/pid\nsleep 60\n")
+        child = subprocess.Popen(**made.words(made.root / "build"), stderr=subprocess.DEVNULL, stdout=subprocess.DEVNULL)
+        while not (made.temporary / "pid").exists() or not (made.temporary / "pid").read_text():
+            time.sleep(0.05)
+        began = time.monotonic()
+        child.send_signal(signal.SIGTERM)
+        assert child.wait() == 143 and time.monotonic() - began < 20
+        pid = int((made.temporary / "pid").read_text())
+        assert not pathlib.Path(f"/proc/{pid}").exists() or "Z" in pathlib.Path(f"/proc/{pid}/stat").read_text().split()[2]
+        assert len(made.left()) == 2, made.left()  # the copy, and the stand-in's number
 
 
 def test_build_to_a_folder():
@@ -272,92 +287,3 @@ def test_build_to_a_folder():
         (to / "atpg").unlink()
         status, out, errors = made.build("--to", to)
         assert status == 0 and out.startswith("build: nothing changed") and (to / "atpg").exists(), (out, errors)
-
-
-# tools/run_many, with stand-ins for both programs.
-
-RUN = r"""#!/usr/bin/env bash
-[ "$(basename "$2")" = bad.bench ] && echo "netlist line 1: BadLine" >&2 && exit 3
-for end in net scan stil cert; do echo "$*" >"$3.$end"; done
-printf 'atpg report 1\nfaults 4\ndetected 3\naborted 1\nredundant 0\ncoverage 75.00\nefficiency 75.00\npatterns 2\ncycles 9\nstem a/0 aborted\n' >"$3.rep"
-echo faults 4
-"""
-
-CHECK = r"""#!/usr/bin/env bash
-grep -q false "$1.net" && echo "fault stem a/0" && exit 1
-echo "checked 4 faults"
-"""
-
-
-def test_run_many():
-    """Each design is run and checked, by parallel where it is here; the table has numbers of good files alone."""
-    with tree() as made:
-        made.put(made.bin / "atpg", RUN)
-        made.put(made.bin / "check", CHECK)
-        programs = {"ATPG": str(made.bin / "atpg"), "ATPG_CHECK": str(made.bin / "check")}
-        designs, to = made.folder / "designs", made.folder / "some" / "made"
-        designs.mkdir()
-        for name in ("b", "a", "false", "bad"):
-            (designs / f"{name}.bench").write_text("INPUT(a)\n")
-        tool = ROOT / "tools/run_many"
-        for task, status in ((1, 0), (2, 0), (3, 1), (4, 1)):
-            assert made.run(tool, designs, "--to", to, "--task", task, "--", "--hold", "x y=1", **programs)[0] == status, task
-        assert "--hold x y=1" in (to / "a.net").read_text()
-        assert made.run(tool, designs, "--to", to, "--task", "5", **programs)[0] == 1
-        status, table, _ = made.run(tool, "--join", to, **programs)
-        rows = [re.sub(r" \d+\.\d\d (?=[cN])", " s ", re.sub(r" +", " ", line)) for line in table.splitlines()]
-        assert status == 1 and rows[1:] == [
-            "a 4 3 0 1 75.00 75.00 2 9 s checked 4 faults", "b 4 3 0 1 75.00 75.00 2 9 s checked 4 faults",
-            "bad - - - - - - - - s NOT GOOD: netlist line 1: BadLine", "false - - - - - - - - s NOT GOOD: fault stem a/0"], table
-        if shutil.which("parallel") is None:
-            return "ok, but for parallel, which isn't here"
-        shutil.rmtree(to)
-        (designs / "bad.bench").unlink()
-        (designs / "false.bench").unlink()
-        status, table, errors = made.run(tool, designs, "--to", to, "--jobs", "2", "--", "--hold", "x y=1", **programs)
-        assert status == 0 and len(table.splitlines()) == 3 and "--hold x y=1" in (to / "b.net").read_text(), (table, errors)
-
-
-# tools/explain, on refusals that the plain reader finds.
-
-REFUSED = (
-    ("INPUT(a)\nOUTPUT(y)\ny = AND(a, Bee)\nbee = NOT(a)\n", ["  y = AND(a, Bee)", "Bee is neither an INPUT nor defined; like it are bee (line 4)"]),
-    ("INPUT(a)\nOUTPUT(y)\nOUTPUT(z)\ny = NOT(a)\n", ["  OUTPUT(z)", "z is neither an INPUT nor defined"]),
-    ("INPUT(a)\nOUTPUT(y)\ny = AND(a, u)\nu = OR(v, a)\nv = NOT(u)\nw = NOT(a)\n", [
-        "  y = AND(a, u)", "gates read one another in a circle, without a DFF between:", "  u (line 4) reads v (line 5) reads u (line 4)",
-        "  y reads from it"]),
-    ("INPUT(a)\nOUTPUT(y)\ny = NOT(y)\n", ["  y = NOT(y)", "gates read one another in a circle, without a DFF between:",
-                                          "  y (line 3) reads y (line 3)"]),
-    ("INPUT(a)\nOUTPUT(y)\ny = NAN(a)\n", ["  y = NAN(a)", "NAN is no gate; like it are NAND, AND. Gates are AND, NAND, OR, NOR, XOR, XNOR, NOT, "
-                                          "BUFF, DFF, CONST0, CONST1"]),
-    ("INPUT(a)\nOUTPUT(y)\ny = NOT(a, a)\n", ["  y = NOT(a, a)", "NOT has 2 pins here, and may have 1"]),
-    ("INPUT(a)\nOUTPUT(y)\ny = XOR(a)\n", ["  y = XOR(a)", "XOR has 1 pin here, and may have 2 to 1,024"]),
-    ("INPUT(a)\nINPUT(a)\nOUTPUT(a)\n", ["  INPUT(a)", "a is defined on line 1 too: INPUT(a)"]),
-    ("INPUT(a)\nOUTPUT(SC__a)\n", ["  OUTPUT(SC__a)", "names that begin with SC__ are for scan insertion: SC__a"]),
-    ("INPUT(a)\nOUTPUT(y);\n", ["  OUTPUT(y);", "it is none of INPUT(x), OUTPUT(x) and z = GATE(a, b, ..)"]),
-    ("INPUT(a)\nOUTPUT(" + "y" * 300 + ")\n", ["  OUTPUT(" + "y" * 300 + ")",
-                                             "a name has 300 bytes, and may have 255 (261 where the netlist is read as scanned)"]),
-    ("INPUT(a)\nOUTPUT(\"y)\n", ["  OUTPUT(\"y)", "byte 8 is 0x22, which may stand in comments alone"]),
-    ("OUTPUT(y)\ny = CONST1()\n", ["no line is an INPUT"]),
-)
-
-
-def test_explain():
-    """The line and what is wrong with it, below what the program says."""
-    with tree() as made:
-        made.add_rt()
-        (made.root / "bench").mkdir()
-        shutil.copy2(ROOT / "bench/plain_design.py", made.root / "bench")
-        shutil.copy2(ROOT / "tools/explain", made.root / "tools")
-        for number, (text, wanted) in enumerate(REFUSED):
-            path = made.folder / f"{number}.bench"
-            path.write_text(text)
-            try:
-                plain_design.read(text.encode())
-            except plain_design.Refusal as why:
-                line = str(why)
-            made.put(made.root / "atpg", f"#!/bin/sh\necho '{line}' >&2\nexit 3\n")
-            status, out, errors = made.run(made.root / "tools/explain", path)
-            assert (status, out, errors.splitlines()) == (3, "", [line, *wanted]), (text, errors)
-        made.put(made.root / "atpg", "#!/bin/sh\necho faults 2 classes 2\n")
-        assert made.run(made.root / "tools/explain", "x") == (0, "x: read as a netlist\n", "")

@@ -20,6 +20,7 @@ th, td { text-align: left; padding: 0.15em 0.9em 0.15em 0; border-bottom: 1px so
 td.number, th.number { text-align: right; font-variant-numeric: tabular-nums }
 code, pre { font-family: "DejaVu Sans Mono", Menlo, monospace; font-size: 0.88em }
 pre { white-space: pre-wrap; overflow-wrap: anywhere; margin: 0.2em 0 }
+td:first-child code { white-space: nowrap }
 pre:target { background: #fff3c4 }
 svg { max-width: 100%; height: auto }
 """
@@ -33,7 +34,8 @@ class Cones:
         for name, pins in design.pins.items():
             for pin in pins if design.kinds[name] != "DFF" else []:
                 self.readers[pin].append(name)
-        for point in design.points():
+        self.places = {point: place for place, point in enumerate(design.points())}
+        for point in self.places:
             self.points[design.signal_at(point)].append(point)
 
     def ahead(self, line):
@@ -42,12 +44,13 @@ class Cones:
         if words[0] == "out" or words[0] == "pin" and self.design.kinds[words[1]] == "DFF":
             return [line]
         reached = self.walk(words[1], lambda name: self.readers[name])
-        return [point for name in reached for point in self.points[name]]
+        return sorted((point for name in reached for point in self.points[name]), key=self.places.get)
 
     def behind(self, line):
-        """How many signals lead to a line, its own with them."""
-        name = self.design.signal_at(line) if line.startswith("out ") else line.split(" ")[1]
-        return len(self.walk(name, lambda each: self.design.pins[each] if self.design.kinds[each] != "DFF" or each == name else []))
+        """How many signals lead to a line, from inputs and cells on, with the one that it is of."""
+        words = line.split(" ")
+        name = self.design.pins[words[1]][int(words[2])] if words[0] == "pin" else words[1]
+        return len(self.walk(name, lambda each: [] if self.design.is_source(each) else self.design.pins[each]))
 
     @staticmethod
     def walk(name, following):
@@ -126,6 +129,13 @@ def certificate_part(prefix, trees):
     return parts
 
 
+def numbers_part(head):
+    """The head's numbers, in two columns."""
+    named = [("backtrack limit" if word == "limit" else word, value) for word, value in head.items()]
+    half = len(named) // 2
+    return table(["", "", "", ""], [[*left, *right] for left, right in zip(named[:half], named[half:])])
+
+
 def page(prefix, design, head, held, verdicts, trees, tables, pictures):
     """The whole page; `tables` are those of the printed report, each a title, a head and rows."""
     named = representatives(design, verdicts)
@@ -134,7 +144,7 @@ def page(prefix, design, head, held, verdicts, trees, tables, pictures):
     parts = ["<!DOCTYPE html>", f'<html lang="en"><head><meta charset="utf-8"><title>Test of {name}</title><style>{STYLE}</style></head><body>',
              f"<h1>Test of {name}</h1>",
              f"<p>This page believes the files of the run: <code>atpg check {name}</code> says whether they are true.</p>",
-             table(["number", "value"], head.items())]
+             numbers_part(head)]
     if held:
         parts.append(f"<p>Held: {html.escape(', '.join(f'{each}={bit}' for each, bit in held))}</p>")
     parts += pictures

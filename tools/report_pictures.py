@@ -122,5 +122,6 @@ def draw_trees(name, sizes):
     parts.append(text_at((LEFT + WIDE - RIGHT) / 2, HIGH - 12, "nodes of a tree" if few else "nodes of a tree, from (1k is 1,024)", size=12))
     parts.append(text_at(16, middle, "number of trees", size=12, more=f' transform="rotate(-90 16 {middle:.1f})"'))
     trees = sum(sizes.redundant.values()) + sum(sizes.aborted.values())
-    under = f"{trees:,} trees; the greatest has {sizes.greatest[0]:,} nodes" if trees else "no trees"
+    most_nodes = sizes.greatest[0]
+    under = f"{trees:,} tree{'s' * (trees != 1)}; the greatest has {most_nodes:,} node{'s' * (most_nodes != 1)}" if trees else "no trees"
     return picture(f"Sizes of trees: {name}", under, parts)

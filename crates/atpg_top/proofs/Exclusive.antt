@@ -1,5 +1,5 @@
 -- What a command owes for the same texts is alike.
-use Rattle.std.proofs.Common.{◌≡◌, ◌∙◌, inl, inr, ℕ, Bool, true, false, List, [], ◌∷◌, Option, Some, refl, sym, subst}
+use Rattle.std.proofs.Common.{◌≡◌, ◌∙◌, inl, inr, ℕ, Bool, true, false, List, [], ◌∷◌, Option, Some, refl, sym, ap, subst}
 use Rattle.std.specs.Prelude.{not}
 use Rattle.netlist.specs.Conditions.{IsSound}
 use Rattle.netlist.specs.Netlist.{Netlist}
@@ -18,16 +18,23 @@ use Rattle.scan_play.proofs.RunLaws.{runs_once}
 use Rattle.stil_read.specs.Laws.{AtMostOne}
 use Rattle.stil_read.specs.Reading.{StandsFor}
 use Rattle.stil_vectors.specs.FileVectors.{vectors_in}
+use Rattle.good_files.specs.ScanOff.{design_chains}
+use Rattle.scan_insert.specs.Scanned.{scanned_of}
 use Rattle.stil_vectors.specs.Fitting.{Fits}
 use Rattle.stil_write.specs.StilFiles.{StilFile}
+use Rattle.fail_log.specs.Laws.{OneLog}
+use Rattle.fail_log.specs.Reading.{IsLogOf}
 use Rattle.commands.specs.World.{Text}
-use Rattle.commands.specs.Due.{Deliver, Refuse}
-use Rattle.commands.specs.Laws.{IsExclusive}
+use Rattle.commands.specs.Due.{Due, Deliver, Refuse}
+use Rattle.commands.specs.Laws.{AreAlike, IsExclusive}
 use Rattle.commands.specs.declared.ending.Finding.TheVariants.{Fine}
-use Rattle.words.specs.CommandLine.{CommandLine, check, faults, play, run, scan, sweep}
+use Rattle.words.specs.CommandLine.{CommandLine, chaintest, check, diagnose, faults, play, run, scan, sweep}
 use Rattle.words.specs.HoldLists.{Hold}
 use Rattle.words.specs.declared.requests.RunOptions.{RunOptions}
-use Rattle.atpg_top.specs.Commands.{due, faults_due, play_due, run_due, scan_due}
+use Rattle.check_command.specs.Checking as command
+use Rattle.check_command.specs.declared.refusal.CheckRefusal.{CheckRefusal}
+use Rattle.atpg_top.specs.Checks.{check_due, refusal_of, told}
+use Rattle.atpg_top.specs.Commands.{chaintest_due, diagnose_due, due, faults_due, play_due, run_due, scan_due}
 use Rattle.atpg_top.specs.Runs.{run_line, texts_made}
 use Rattle.atpg_top.specs.inner.Running.{held_due, made_due}
 use Rattle.atpg_top.proofs.HoldLemmas.{holds_single}
@@ -35,8 +42,11 @@ use Rattle.atpg_top.specs.FaultLists.{IsFaultList}
 use Rattle.atpg_top.specs.Plays.{finding_of, played_line}
 use Rattle.atpg_top.specs.Scans.{IsScanProduct}
 use Rattle.atpg_top.specs.Steps.{named_fault, named_holds, netlist, test, value}
+use Rattle.atpg_top.specs.ChainTests.{chain_test_text, hardware_of}
+use Rattle.atpg_top.specs.inner.ChainTrials.{bytes_due, fit_due, test_due, told_due}
+use Rattle.atpg_top.specs.inner.Cases as cases
 use Rattle.atpg_top.specs.inner.Trials.{answer_due, fault_due, file_due, trial_due}
-use Rattle.atpg_top.specs.declared.refusal.Refusal.TheVariants.{NotBuilt, NotStil, StilDoesNotFit}
+use Rattle.atpg_top.specs.declared.refusal.Refusal.TheVariants.{NotBuilt, NotLog, NotStil, StilDoesNotFit}
 use Rattle.atpg_top.proofs.PlayLemmas.{known_is_not_x}
 use Rattle.atpg_top.proofs.Single.{IsOneKind, fault_single, given, netlist_single, test_single, then_one, then_one_where, value_single}
 
@@ -122,10 +132,57 @@ run_exclusive options named (bytes ∷ []) c d p q =
     (λ holds x y a b. given x y (Deliver (texts_made a.0) (run_line a.0.said) Fine) (Deliver (texts_made b.0) (run_line b.0.said) Fine) a.2 b.2 refl)) c d p q
 run_exclusive options named (bytes ∷ more ∷ others) c d p q = absurd p
 
-pub each_exclusive : AtMostOne → (line : CommandLine) → IsExclusive (due line)
-each_exclusive one (scan net to chains) = scan_exclusive chains
-each_exclusive one (faults net) = faults_exclusive
-each_exclusive one (play net stil fault) = play_exclusive one fault
-each_exclusive one (run net prefix options holds) = run_exclusive options holds
-each_exclusive one (check prefix) = λ texts c d p q. given c d (Refuse NotBuilt) (Refuse NotBuilt) p q refl
-each_exclusive one (sweep seed gates) = λ texts c d p q. given c d (Refuse NotBuilt) (Refuse NotBuilt) p q refl
+-- ---- `chaintest`
+
+told_once : (n : Netlist) (chains : List (List ℕ)) (file : StilFile) → IsOneKind (told_due n chains file)
+told_once n chains file c d p q =
+    let text = chain_test_text (scanned_of n chains) (hardware_of n chains) in
+    given c d (Deliver [] (text p.0) Fine) (Deliver [] (text q.0) Fine) p.2 q.2 refl
+
+fit_once : (n : Netlist) (chains : List (List ℕ)) (file : StilFile) → IsOneKind (fit_due n chains file)
+fit_once n chains file =
+    then_one (test (Fits file (scanned_of n chains)) StilDoesNotFit) (λ _. told_due n chains file) (test_single (Fits file (scanned_of n chains)) StilDoesNotFit) (λ _. told_once n chains file)
+
+chaintest_exclusive : AtMostOne → (asked : ℕ) → IsExclusive (chaintest_due asked)
+chaintest_exclusive one asked [] c d p q = absurd p
+chaintest_exclusive one asked (net ∷ []) c d p q = absurd p
+chaintest_exclusive one asked (net ∷ stil ∷ []) c d p q =
+    then_one (netlist Design net) (bytes_due asked stil) (netlist_single Design net)
+    (λ n. then_one (value StandsFor NotStil stil) (test_due asked n) (value_single StandsFor NotStil stil (one stil)) (λ file. fit_once n (design_chains n asked) file)) c d p q
+chaintest_exclusive one asked (net ∷ stil ∷ more ∷ others) c d p q = absurd p
+
+-- ---- `check`
+
+told_alike : (c d : Due CheckRefusal) → AreAlike c d → AreAlike (told c) (told d)
+told_alike (Refuse r) (Refuse s) alike = ap refusal_of alike
+told_alike (Refuse r) (Deliver texts shown finding) alike = absurd alike
+told_alike (Deliver texts shown finding) (Refuse s) alike = absurd alike
+told_alike (Deliver texts shown finding) (Deliver others also found) alike = alike
+
+check_exclusive : IsExclusive command.check_due → IsExclusive check_due
+check_exclusive checks texts c d p q = given c d (told p.0) (told q.0) p.2 q.2 (told_alike p.0 q.0 (checks texts p.0 q.0 p.1 q.1))
+
+-- ---- `diagnose`
+
+diagnose_exclusive : AtMostOne → OneLog → (chains : ℕ) → IsExclusive (diagnose_due chains)
+diagnose_exclusive one once chains [] c d p q = absurd p
+diagnose_exclusive one once chains (net ∷ []) c d p q = absurd p
+diagnose_exclusive one once chains (net ∷ stil ∷ []) c d p q = absurd p
+diagnose_exclusive one once chains (net ∷ stil ∷ log ∷ []) c d p q =
+    then_one (netlist Design net) (cases.test_due chains stil log) (netlist_single Design net)
+    (λ n. then_one (value StandsFor NotStil stil) (cases.log_due chains log n) (value_single StandsFor NotStil stil (one stil))
+    (λ file. then_one (value IsLogOf NotLog log) (cases.case_due chains n file) (value_single IsLogOf NotLog log (once log))
+    (λ failures. let fits = Fits file (scanned_of n (design_chains n chains)) in
+    then_one (test fits StilDoesNotFit) (λ _. cases.diagnosis_due chains n file failures) (test_single fits StilDoesNotFit)
+    (λ u x y a b. given x y (Deliver [] a.0 Fine) (Deliver [] b.0 Fine) a.2 b.2 refl)))) c d p q
+diagnose_exclusive one once chains (net ∷ stil ∷ log ∷ more ∷ others) c d p q = absurd p
+
+pub each_exclusive : AtMostOne → IsExclusive command.check_due → OneLog → (line : CommandLine) → IsExclusive (due line)
+each_exclusive one checks once (scan net to chains) = scan_exclusive chains
+each_exclusive one checks once (faults net) = faults_exclusive
+each_exclusive one checks once (play net stil fault) = play_exclusive one fault
+each_exclusive one checks once (run net prefix options holds) = run_exclusive options holds
+each_exclusive one checks once (check prefix) = check_exclusive checks
+each_exclusive one checks once (sweep seed gates) = λ texts c d p q. given c d (Refuse NotBuilt) (Refuse NotBuilt) p q refl
+each_exclusive one checks once (chaintest net stil chains) = chaintest_exclusive one chains
+each_exclusive one checks once (diagnose net stil log options) = diagnose_exclusive one once options.chains

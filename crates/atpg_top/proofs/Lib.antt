@@ -1,12 +1,13 @@
 pub mod HoldLemmas
 pub mod Exclusive
 pub mod Cells
+pub mod Checking
 pub mod Zipped
-pub mod FirstOnLoop
 pub mod Endings
-pub mod Saying
 pub mod Delivering
 pub mod PlayLemmas
+pub mod ChainTestLemmas
 pub mod RunLemmas
+pub mod DiagnoseLemmas
 pub mod Single
 pub mod LineLemmas

@@ -77,7 +77,7 @@ module _ (fault : Option Text) (net stil : Text) where
   untried count stop.NoMemory is = tt
 
 -- two texts, one behind the other
-two_texts : (vs : List (Vec ℕ Global)) (v w d e : Vec ℕ Global) → length vs ≡ 2 → v ≡ get_or vs 0 d → w ≡ get_or vs 1 e → texts_of vs ≡ v.items ∷ w.items ∷ []
+pub two_texts : (vs : List (Vec ℕ Global)) (v w d e : Vec ℕ Global) → length vs ≡ 2 → v ≡ get_or vs 0 d → w ≡ get_or vs 1 e → texts_of vs ≡ v.items ∷ w.items ∷ []
 two_texts [] v w d e count is also = absurd (omega arith)
 two_texts (x ∷ []) v w d e count is also = absurd (omega arith)
 two_texts (x ∷ y ∷ []) v w d e count is also =
@@ -121,7 +121,7 @@ row_of n [] fit c o below = absurd (omega arith)
 row_of n (x ∷ xs) fit zero o below = let e = (All-head (IsCycleOf n) x xs fit).strobe in omega (arith, e)
 row_of n (x ∷ xs) fit (suc c) o below = row_of n xs (All-tail (IsCycleOf n) x xs fit) c o below
 
-strobed_within : (n : Netlist) (cycles : List Cycle) → All (IsCycleOf n) cycles → (c o : ℕ) (b : Bool) → strobe_at cycles c o ≡ known b → o < length n.outputs
+pub strobed_within : (n : Netlist) (cycles : List Cycle) → All (IsCycleOf n) cycles → (c o : ℕ) (b : Bool) → strobe_at cycles c o ≡ known b → o < length n.outputs
 strobed_within n cycles fit c o b e = row_of n cycles fit c o (within_row (get_or (map (λ (x : Cycle). x.strobe) cycles) c []) o b e)
 
 pub is_shown : (n : Netlist) (f : Option Fault) (cycles : List Cycle) → All (IsCycleOf n) cycles → (answer : Played) → PlaysAs n f cycles answer → IsShown n answer

@@ -16,7 +16,7 @@ use Rattle.commands.specs.Laws.{AreAlike}
 use Rattle.atpg_top.specs.Steps.{◌>>=◌, named_fault, netlist, test, value}
 use Rattle.atpg_top.specs.declared.refusal.Refusal.{Refusal}
 use Rattle.atpg_top.specs.declared.refusal.Refusal.TheVariants as refusal
-use Rattle.atpg_top.proofs.FirstOnLoop.{read_once, refusals_alike}
+use Rattle.file_clauses.proofs.FirstOnLoop.{read_once, refusals_alike}
 
 -- a step answers at most one value, or one refusal, and not both
 pub record IsSingle {A : Type 0} (step : Result A Refusal → Type 0) : Type 0 where
@@ -62,6 +62,7 @@ netlist_refusals reading bytes (refusal.Netlist r) (refusal.NoSuchInput place) a
 netlist_refusals reading bytes (refusal.Netlist r) refusal.NotStil a b = absurd b
 netlist_refusals reading bytes (refusal.Netlist r) refusal.NotCertificate a b = absurd b
 netlist_refusals reading bytes (refusal.Netlist r) refusal.NotReport a b = absurd b
+netlist_refusals reading bytes (refusal.Netlist r) refusal.NotLog a b = absurd b
 netlist_refusals reading bytes (refusal.Netlist r) refusal.StilDoesNotFit a b = absurd b
 netlist_refusals reading bytes (refusal.Netlist r) refusal.NotBuilt a b = absurd b
 netlist_refusals reading bytes refusal.NoSuchFault s a b = absurd a
@@ -69,6 +70,7 @@ netlist_refusals reading bytes (refusal.NoSuchInput place) s a b = absurd a
 netlist_refusals reading bytes refusal.NotStil s a b = absurd a
 netlist_refusals reading bytes refusal.NotCertificate s a b = absurd a
 netlist_refusals reading bytes refusal.NotReport s a b = absurd a
+netlist_refusals reading bytes refusal.NotLog s a b = absurd a
 netlist_refusals reading bytes refusal.StilDoesNotFit s a b = absurd a
 netlist_refusals reading bytes refusal.NotBuilt s a b = absurd a
 
@@ -79,6 +81,7 @@ netlist_apart reading bytes n (refusal.NoSuchInput place) a b = b
 netlist_apart reading bytes n refusal.NotStil a b = b
 netlist_apart reading bytes n refusal.NotCertificate a b = b
 netlist_apart reading bytes n refusal.NotReport a b = b
+netlist_apart reading bytes n refusal.NotLog a b = b
 netlist_apart reading bytes n refusal.StilDoesNotFit a b = b
 netlist_apart reading bytes n refusal.NotBuilt a b = b
 

@@ -1,12 +1,17 @@
 -- The commands: for each command line the files that it reads, in order, those that it writes, and what is due of the texts read.
 -- A command to come is an entry in each.
-use Rattle.std.specs.Prelude.{◌≡◌, ◌++◌, ℕ, List, [], ◌∷◌, Option, codes, map}
+use Rattle.std.specs.Prelude.{◌≡◌, ℕ, List, [], ◌∷◌, Option}
 use Rattle.bench_text.specs.declared.refusal.Names.TheVariants.{Design, Scanned}
+use Rattle.good_files.specs.ScanOff.{design_chains}
+use Rattle.scan_insert.specs.Scanned.{scanned_of}
 use Rattle.stil_read.specs.Reading.{StandsFor}
 use Rattle.stil_vectors.specs.FileVectors.{vectors_in}
 use Rattle.stil_vectors.specs.Fitting.{Fits}
+use Rattle.scan_insert.specs.Scanned.{scanned_of}
 use Rattle.scan_play.specs.declared.played.Played.{Played}
-use Rattle.words.specs.CommandLine.{CommandLine, check, faults, play, run, scan, sweep}
+use Rattle.good_files.specs.ScanOff.{design_chains}
+use Rattle.fail_log.specs.Reading.{IsLogOf}
+use Rattle.words.specs.CommandLine.{CommandLine, chaintest, check, diagnose, faults, play, run, scan, sweep}
 use Rattle.commands.specs.World.{Text}
 use Rattle.commands.specs.Due.{Due, Deliver, Refuse}
 use Rattle.commands.specs.declared.ending.Finding.TheVariants.{Fine}
@@ -14,17 +19,17 @@ use Rattle.words.specs.HoldLists.{Hold}
 use Rattle.words.specs.declared.requests.RunOptions.{RunOptions}
 use Rattle.test_files.specs.declared.files.TestFiles.{TestFiles}
 use Rattle.test_files.specs.Runs.{IsRun}
+use Rattle.check_command.specs.Checking.{run_files}
+use Rattle.atpg_top.specs.Checks.{check_due}
 use Rattle.atpg_top.specs.Steps.{◌>>=◌, named_fault, named_holds, netlist, test, value}
 use Rattle.atpg_top.specs.Runs.{run_line, texts_made}
 use Rattle.atpg_top.specs.Scans.{IsScanProduct}
 use Rattle.atpg_top.specs.FaultLists.{IsFaultList}
+use Rattle.atpg_top.specs.ChainTests.{IsChainTest, Strobe, chain_test_text, hardware_of}
 use Rattle.atpg_top.specs.Plays.{IsPlay, finding_of, played_line}
+use Rattle.atpg_top.specs.Diagnoses.{IsDiagnosis}
 use Rattle.atpg_top.specs.declared.refusal.Refusal.{Refusal}
-use Rattle.atpg_top.specs.declared.refusal.Refusal.TheVariants.{NotBuilt, NotStil, StilDoesNotFit}
-
--- the names of a run's files, in the order in which they are written and read
-abbrev pub run_files : Text → List Text
-run_files prefix = map (λ ending. prefix ++ ending) (codes ".net" ∷ codes ".scan" ∷ codes ".stil" ∷ codes ".cert" ∷ codes ".rep" ∷ [])
+use Rattle.atpg_top.specs.declared.refusal.Refusal.TheVariants.{NotBuilt, NotLog, NotStil, StilDoesNotFit}
 
 -- the names of the files that a command line reads, in order
 abbrev pub reads : CommandLine → List Text
@@ -32,8 +37,10 @@ reads (scan net to chains) = net ∷ []
 reads (faults net) = net ∷ []
 reads (run net prefix options holds) = net ∷ []
 reads (play net stil fault) = net ∷ stil ∷ []
-reads (check prefix) = []
+reads (check prefix) = run_files prefix
 reads (sweep seed gates) = []
+reads (chaintest net stil chains) = net ∷ stil ∷ []
+reads (diagnose net stil log options) = net ∷ stil ∷ log ∷ []
 
 -- the names of the files that it writes, in order
 abbrev pub writes : CommandLine → List Text
@@ -67,6 +74,22 @@ run_due options named (bytes ∷ []) =
     (made : TestFiles) × IsRun n holds options.chains options.limit made × (d ≡ Deliver (texts_made made) (run_line made.said) Fine)
 run_due options named texts = λ d. ⊥
 
+-- the lines of what the file shows of the scan hardware, the file fitting the scanned netlist
+abbrev pub chaintest_due : ℕ → List Text → Due Refusal → Type 0
+chaintest_due asked (net ∷ stil ∷ []) =
+    netlist Design net >>= λ n. value StandsFor NotStil stil >>= λ file. test (Fits file (scanned_of n (design_chains n asked))) StilDoesNotFit >>= λ _ d.
+    (told : List Strobe) × IsChainTest n (design_chains n asked) (vectors_in file) told
+    × (d ≡ Deliver [] (chain_test_text (scanned_of n (design_chains n asked)) (hardware_of n (design_chains n asked)) told) Fine)
+chaintest_due asked texts = λ d. ⊥
+
+-- the faults that explain what failed; how many workers look for them makes no difference
+abbrev pub diagnose_due : ℕ → List Text → Due Refusal → Type 0
+diagnose_due chains (net ∷ stil ∷ log ∷ []) =
+    netlist Design net >>= λ n. value StandsFor NotStil stil >>= λ file. value IsLogOf NotLog log >>= λ failures.
+    test (Fits file (scanned_of n (design_chains n chains))) StilDoesNotFit >>= λ _ d.
+    (text : Text) × IsDiagnosis n (design_chains n chains) (vectors_in file) failures text × (d ≡ Deliver [] text Fine)
+diagnose_due chains texts = λ d. ⊥
+
 -- a command that this program doesn't do yet is refused
 abbrev pub not_built : List Text → Due Refusal → Type 0
 not_built texts d = d ≡ Refuse NotBuilt
@@ -77,5 +100,7 @@ due (scan net to chains) = scan_due chains
 due (faults net) = faults_due
 due (play net stil fault) = play_due fault
 due (run net prefix options holds) = run_due options holds
-due (check prefix) = not_built
+due (check prefix) = check_due
 due (sweep seed gates) = not_built
+due (chaintest net stil chains) = chaintest_due chains
+due (diagnose net stil log options) = diagnose_due options.chains

@@ -3,7 +3,10 @@ pub mod Lines
 pub mod Scans
 pub mod FaultLists
 pub mod Plays
+pub mod ChainTests
+pub mod Checks
 pub mod Runs
+pub mod Diagnoses
 pub mod Commands
 pub mod Rows
 pub mod Laws

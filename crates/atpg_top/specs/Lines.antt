@@ -1,17 +1,13 @@
 -- The numbers of the statuses and their lines on the error output.
-use Rattle.std.specs.Prelude.{◌++◌, ℕ, List, [], codes, decimal, slice_index_or}
-use Rattle.bench_text.specs.declared.refusal.BenchKind.{BenchKind}
-use Rattle.bench_text.specs.declared.refusal.BenchKind.TheVariants.{BadByte, BadLine, UnknownGate, BadPins, DefinedTwice, Reserved, TooMany, NoInput, NoOutput, Undefined, Loop}
-use Rattle.bench_text.specs.declared.refusal.BenchRefusal.{BenchRefusal}
+use Rattle.std.specs.Prelude.{◌++◌, ℕ, List, [], codes, slice_index_or}
 use Rattle.commands.specs.World.{Text}
 use Rattle.commands.specs.Names.{name_of}
 use Rattle.commands.specs.declared.ending.Finding.TheVariants.{Fine, Differs}
-use Rattle.commands.specs.declared.ending.WriteFailure.{WriteFailure}
-use Rattle.commands.specs.declared.ending.WriteFailure.TheVariants.{File, Output}
 use Rattle.commands.specs.declared.ending.Ending.{Ending}
 use Rattle.commands.specs.declared.ending.Ending.TheVariants.{Ended, Refused, ReadFailed, WriteFailed, Missing, TooLong, Memory}
+use Rattle.status_lines.specs.Lines.{failure_line, netlist_line}
 use Rattle.atpg_top.specs.declared.refusal.Refusal.{Refusal}
-use Rattle.atpg_top.specs.declared.refusal.Refusal.TheVariants.{Netlist, NoSuchFault, NoSuchInput, NotStil, NotCertificate, NotReport, StilDoesNotFit, NotBuilt}
+use Rattle.atpg_top.specs.declared.refusal.Refusal.TheVariants.{Netlist, NoSuchFault, NoSuchInput, NotStil, NotCertificate, NotReport, NotLog, StilDoesNotFit, NotBuilt}
 use Rattle.atpg_top.specs.declared.status.Status.{Status}
 use Rattle.atpg_top.specs.declared.status.Status.TheVariants.{BadWords, BadHold, Command}
 
@@ -22,6 +18,7 @@ refusal_code (NoSuchInput place) = 2
 refusal_code NotStil = 4
 refusal_code NotCertificate = 4
 refusal_code NotReport = 4
+refusal_code NotLog = 4
 refusal_code StilDoesNotFit = 4
 refusal_code NotBuilt = 2
 
@@ -40,23 +37,6 @@ code_of (BadWords text) = 2
 code_of BadHold = 2
 code_of (Command ending) = ending_code ending
 
-abbrev pub kind_name : BenchKind → Text
-kind_name BadByte = codes "BadByte"
-kind_name BadLine = codes "BadLine"
-kind_name UnknownGate = codes "UnknownGate"
-kind_name BadPins = codes "BadPins"
-kind_name DefinedTwice = codes "DefinedTwice"
-kind_name Reserved = codes "Reserved"
-kind_name TooMany = codes "TooMany"
-kind_name NoInput = codes "NoInput"
-kind_name NoOutput = codes "NoOutput"
-kind_name Undefined = codes "Undefined"
-kind_name Loop = codes "Loop"
-
--- `netlist line 4: Loop`
-abbrev pub netlist_line : BenchRefusal → Text
-netlist_line refusal = codes "netlist line " ++ (decimal refusal.line ++ (codes ": " ++ (kind_name refusal.kind ++ codes "\n")))
-
 -- the names are those of the inputs that are to be held
 abbrev pub refusal_line : List Text → Refusal → Text
 refusal_line names (Netlist refusal) = netlist_line refusal
@@ -65,12 +45,9 @@ refusal_line names (NoSuchInput place) = codes "no such input: " ++ (slice_index
 refusal_line names NotStil = codes "not a stil file\n"
 refusal_line names NotCertificate = codes "not a certificate\n"
 refusal_line names NotReport = codes "not a report\n"
+refusal_line names NotLog = codes "not a fail log\n"
 refusal_line names StilDoesNotFit = codes "stil does not fit\n"
 refusal_line names NotBuilt = codes "not built yet\n"
-
-abbrev pub failure_line : WriteFailure → Text
-failure_line (File name) = codes "write failed: " ++ (name_of name ++ codes "\n")
-failure_line Output = codes "write failed: -\n"
 
 -- the line of an ending; one that did its work has none
 abbrev pub ending_line : List Text → Ending Refusal → Text

@@ -1,12 +1,12 @@
 -- The status of a call of the program, and what it leaves.
-use Rattle.std.specs.Prelude.{◌≡◌, ◌⊎◌, ℕ, Bool, IsTrue, List, [], Option, Result, Ok, Err, map}
-use Rattle.outside.specs.Causes.{Rose}
+use Rattle.std.specs.Prelude.{◌≡◌, ℕ, Bool, List, [], Option, Result, Ok, Err, map}
 use Rattle.words.specs.CommandLine.{CommandLine, NoLine, bad_hold, bad_words, command_line, run}
 use Rattle.words.specs.HoldLists.{Hold}
-use Rattle.commands.specs.World.{Grows, GrowsInPart, IsAsBefore, Text, World}
+use Rattle.commands.specs.World.{IsAsBefore, Text, World}
 use Rattle.commands.specs.Rows.{CommandRow}
 use Rattle.commands.specs.declared.ending.Ending.{Ending}
 use Rattle.commands.specs.declared.ending.Ending.TheVariants as ending
+use Rattle.status_lines.specs.Lines.{IsSaid}
 use Rattle.atpg_top.specs.Commands.{due, reads, writes}
 use Rattle.atpg_top.specs.Lines.{line_of}
 use Rattle.atpg_top.specs.declared.refusal.Refusal.{Refusal}
@@ -27,11 +27,6 @@ abbrev pub TopRow : List Text → World → World → Status → Type 0
 TopRow given a b (status.BadWords text) = (command_line given ≡ Err bad_words) × IsAsBefore a b
 TopRow given a b status.BadHold = (command_line given ≡ Err bad_hold) × IsAsBefore a b
 TopRow given a b (status.Command e) = WordsRow (command_line given) a b e
-
--- A sink that may take memory or not has gained the line, or a prefix of it where it failed or was refused memory.
-abbrev pub IsSaid : Bool → Text → Option Text → ℕ → Option Text → ℕ → Type 0
-IsSaid takes_memory line a f b g =
-    (Grows a b line × (g ≡ f)) ⊎ (GrowsInPart a b line × (Rose f g ⊎ (IsTrue takes_memory × (g ≡ f))))
 
 -- the names of the inputs that a command line wants held
 abbrev pub held_names : Result CommandLine NoLine → List Text

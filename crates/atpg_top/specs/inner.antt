@@ -3,5 +3,7 @@ pub mod Declined
 pub mod Designs
 pub mod Pieces
 pub mod Trials
+pub mod ChainTrials
+pub mod Cases
 pub mod Held
 pub mod Running

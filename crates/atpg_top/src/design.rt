@@ -1,6 +1,9 @@
-//! The design that a command reads.
-ghost use Rattle.std.specs.Prelude.{◌≡◌, ◌≤◌, length};
+//! The design that a command reads, and the chip that is made of it.
+ghost use Rattle.std.specs.Prelude.{◌≡◌, ◌≤◌, IfOk, length};
 ghost use Rattle.std.specs.List.{All};
+ghost use Rattle.netlist.specs.Designs.{IsDesign};
+ghost use Rattle.scan_insert.specs.Scanned.{insertion_of};
+ghost use Rattle.good_files.specs.ScanOff.{design_chains};
 ghost use Rattle.commands.specs.Contents.{most_bytes};
 ghost use Rattle.commands.specs.Names.{texts_of};
 ghost use Rattle.atpg_top.specs.inner.Designs.{ReadsDesign};
@@ -8,8 +11,10 @@ ghost use Rattle.atpg_top.specs.inner.Designs.{ReadsDesign};
 use crate::reading::netlist_of;
 use crate::refusal::Refusal;
 use bench_text::Names;
+use chain_stitch::stitch;
 use commands::Stop;
-use netlist::Netlist;
+use netlist::{Netlist, NoMemory};
+use scan_insert::{Scanned, insert};
 use std::alloc::Global;
 
 /// The design that the one text stands for. The text is let go.
@@ -19,4 +24,15 @@ pub fn design_of(alloc: Global, texts: Vec<Vec<u8>>) -> Result<Netlist, Stop<Ref
     ensures { ReadsDesign (texts_of texts.items) result }
 {
     netlist_of(alloc, texts[0].as_slice(), Names::Design)
+}
+
+/// The design with scan cells, in at most so many chains.
+pub fn scanned_of(alloc: Global, netlist: &Netlist, asked: u32) -> Result<Scanned, NoMemory>
+    requires design { IsDesign netlist.now }
+    requires some { 1 ≤ asked }
+    ensures { IfOk result (λ s. s ≡ insertion_of netlist.now (design_chains netlist.now asked)) }
+{
+    netlist.sound();
+    let chains = stitch(alloc, netlist.cells(), asked)?;
+    insert(alloc, netlist, &chains)
 }

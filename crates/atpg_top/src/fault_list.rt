@@ -103,7 +103,7 @@ fn put_faults<T: Sink>(
 }
 
 /// The faults of a design.
-fn faults_of(alloc: Global, netlist: &Netlist) -> Result<FaultSet, NoMemory>
+pub fn faults_of(alloc: Global, netlist: &Netlist) -> Result<FaultSet, NoMemory>
     requires { IsDesign netlist.now }
     ensures { IfOk result (λ faults. faults ≡ universe_of netlist.now) }
 {

@@ -1,6 +1,9 @@
 //! Laws of `top`'s rows: functions that do nothing, whose contracts are the laws.
+ghost use Rattle.atpg_top.specs.Checks.{RunsPass};
 ghost use Rattle.atpg_top.specs.Laws.{EachExclusive, FailedExactly, MissingExactly, NothingElse, RefusedExactly, TooLongExactly};
 
+use check_command::{check_exclusive, good_files_checked};
+use fail_log::one_log;
 use stil_read::laws::at_most_one;
 
 /// What a command owes for texts is determined, as far as its status tells.
@@ -8,6 +11,8 @@ pub fn each_exclusive()
     ensures { EachExclusive }
 {
     at_most_one();
+    check_exclusive();
+    one_log();
 }
 
 /// A missing file ends with status 7.
@@ -25,6 +30,8 @@ pub fn refused_exactly()
     ensures { RefusedExactly }
 {
     at_most_one();
+    check_exclusive();
+    one_log();
 }
 
 /// A failed call ends with status 5 or 6.
@@ -37,4 +44,13 @@ pub fn nothing_else()
     ensures { NothingElse }
 {
     at_most_one();
+    check_exclusive();
+}
+
+/// The files of a run pass the check: status 0, but for files that can't be had, an output that fails and want of memory.
+pub fn runs_pass()
+    ensures { RunsPass }
+{
+    good_files_checked();
+    one_log();
 }

@@ -16,7 +16,10 @@ ghost use Rattle.atpg_top.specs.inner.Held.{names_held};
 ghost use Rattle.atpg_top.specs.Lines.{code_of};
 ghost use Rattle.atpg_top.specs.declared.status.Status.{Status};
 
+mod chain_testing;
+mod checking;
 mod design;
+mod diagnosing;
 mod fault_list;
 mod holding;
 mod laws;
@@ -28,10 +31,14 @@ mod refusal;
 mod running;
 mod scanning;
 mod status;
+mod told_lines;
 
+use chain_testing::test_chains;
+use checking::check_run;
 use commands::Ending;
+use diagnosing::diagnose_log;
 pub use laws::{
-    each_exclusive, failed_exactly, missing_exactly, nothing_else, refused_exactly,
+    each_exclusive, failed_exactly, missing_exactly, nothing_else, refused_exactly, runs_pass,
     too_long_exactly,
 };
 use lines::tell;
@@ -85,8 +92,17 @@ fn perform<'a, R: Threads + Wait + Sync, S: Shelf, T: Sink, G: Gate + Sync>(
             *options,
             holds.as_slice(),
         ),
-        Request::Check { .. } => Ending::Refused(Refusal::NotBuilt),
+        Request::Check { prefix } => check_run(alloc, shelf, out, prefix),
         Request::Sweep { .. } => Ending::Refused(Refusal::NotBuilt),
+        Request::ChainTest { net, stil, chains } => {
+            test_chains(alloc, shelf, out, net, stil, *chains)
+        }
+        Request::Diagnose {
+            net,
+            stil,
+            log,
+            options,
+        } => diagnose_log(rt, alloc, shelf, out, net, stil, log, *options),
     }
 }
 

@@ -4,6 +4,7 @@ ghost use Rattle.bench_text.specs.Reading.{IsReadAs};
 ghost use Rattle.netlist.specs.Conditions.{IsSound};
 ghost use Rattle.stil_read.specs.Reading.{StandsFor};
 ghost use Rattle.stil_vectors.specs.Fitting.{Fits};
+ghost use Rattle.fail_log.specs.Reading.{IsLogOf};
 ghost use Rattle.commands.specs.Contents.{most_bytes};
 ghost use Rattle.atpg_top.specs.Steps.{named_fault, netlist, test, value};
 ghost use Rattle.atpg_top.specs.inner.Answers.{Answers};
@@ -11,6 +12,7 @@ ghost use Rattle.atpg_top.specs.inner.Answers.{Answers};
 use crate::refusal::Refusal;
 use bench_text::{BenchFault, Names, read};
 use commands::Stop;
+use fail_log::{FailLog, LogFault, read_log};
 use fault_universe::fault_named;
 use netlist::{Fault, Netlist};
 use std::alloc::Global;
@@ -55,6 +57,17 @@ pub fn stil_of(alloc: Global, text: &[u8]) -> Result<StilFile, Stop<Refusal>>
         Ok(file) => Ok(file),
         Err(StilFault::NotStil) => Err(Stop::Refused(Refusal::NotStil)),
         Err(StilFault::NoMemory) => Err(Stop::NoMemory),
+    }
+}
+
+/// What the tester's log says failed.
+pub fn log_of(alloc: Global, text: &[u8]) -> Result<FailLog, Stop<Refusal>>
+    ensures { Answers (value IsLogOf Refusal.NotLog text.now) result }
+{
+    match read_log(alloc, text) {
+        Ok(log) => Ok(log),
+        Err(LogFault::NotLog) => Err(Stop::Refused(Refusal::NotLog)),
+        Err(LogFault::NoMemory) => Err(Stop::NoMemory),
     }
 }
 

@@ -14,6 +14,7 @@ pub enum Refusal {
     NotStil,
     NotCertificate,
     NotReport,
+    NotLog,
     /// The STIL file's signals are not those of the netlist.
     StilDoesNotFit,
     /// The command is known, but this program doesn't do it yet.

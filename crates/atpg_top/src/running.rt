@@ -12,7 +12,8 @@ ghost use Rattle.commands.specs.World.{world};
 ghost use Rattle.commands.specs.declared.ending.Finding.TheVariants.{Fine};
 ghost use Rattle.words.specs.CommandLine.{AreInRange, hold_of};
 ghost use Rattle.test_files.specs.Runs.{IsRun};
-ghost use Rattle.atpg_top.specs.Commands.{run_due, run_files};
+ghost use Rattle.check_command.specs.Checking.{run_files};
+ghost use Rattle.atpg_top.specs.Commands.{run_due};
 ghost use Rattle.atpg_top.specs.Runs.{count_at, run_line, texts_made};
 ghost use Rattle.atpg_top.specs.inner.Running.{made_due, held_due};
 

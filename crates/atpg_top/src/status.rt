@@ -26,6 +26,7 @@ fn refusal_code(refusal: &Refusal) -> u8
         Refusal::NotStil => 4,
         Refusal::NotCertificate => 4,
         Refusal::NotReport => 4,
+        Refusal::NotLog => 4,
         Refusal::StilDoesNotFit => 4,
         Refusal::NotBuilt => 2,
     }

@@ -1,6 +1,7 @@
 -- What good files say comes true.
-use Rattle.std.proofs.Common.{◌≡◌, ℕ, ◌+◌, inl, inr, Bool, false, List, [], ◌∷◌, length, map, get_or, Some, option_map, refl, sym, ◌∙◌, ap, subst, arith}
+use Rattle.std.proofs.Common.{◌≡◌, ◌≤◌, ℕ, ◌+◌, inl, inr, Bool, false, List, [], ◌∷◌, length, map, get_or, Some, option_map, Ok, refl, sym, ◌∙◌, ap, subst, arith, IsTrue}
 use Rattle.std.specs.List.{All, Contains, zip, slice_get}
+use Rattle.std.proofs.lemmas.List.Elements.{All-weaker}
 use Rattle.std.proofs.lemmas.Option.{get_or_from_slice_get, slice_get-get_or, slice_get-map, slice_get_within}
 use Rattle.std.proofs.lemmas.List.{ext_get_or, length-map}
 use Rattle.std.proofs.lemmas.List.Sums.{sum_by-cons}
@@ -10,10 +11,15 @@ use Rattle.netlist.specs.declared.lines.Point.{Point}
 use Rattle.netlist.specs.Netlist.{Netlist}
 use Rattle.netlist.specs.Conditions.{IsSound}
 use Rattle.netlist.specs.Designs.{IsDesign}
+use Rattle.netlist.specs.Names.{IsName}
 use Rattle.netlist.specs.Lines.{IsLineOf}
 use Rattle.netlist.specs.Holds.{Holds, AreHoldsOf}
 use Rattle.netlist.specs.Detection.{Detects, IsRedundant}
 use Rattle.cubes.specs.Cubes.{Pattern}
+use Rattle.bench_text.specs.declared.refusal.Names.TheVariants.{Scanned}
+use Rattle.bench_text.specs.Canonical.{canonical}
+use Rattle.bench_text.specs.Laws.{CanonicalTextIsRead, Fits, is_free}
+use Rattle.bench_text.specs.Reading.{IsRead}
 use Rattle.scan_insert.specs.Laws.{ScanBehaves, ScannedIsSound}
 use Rattle.scan_insert.specs.Scanned.{AreChainsOf, scanned_of}
 use Rattle.scan_play.specs.Cycles.{Cycle}
@@ -44,6 +50,21 @@ use Rattle.good_files.specs.GoodFiles.{AreGoodFiles, Files, test_of}
 use Rattle.good_files.specs.RunTheorem.{ComesTrue, RunTheorem}
 use Rattle.good_files.specs.ScanOff.{design_chains}
 use Rattle.good_files.proofs.Chains.{behaves}
+
+-- ---- the scanned netlist's text
+
+-- any netlist is read as a scanned one from its canonical text
+fits_scanned : (n : Netlist) → IsSound n → Fits Scanned n
+fits_scanned n sound = record {
+  short = All-weaker IsName (λ (x : List ℕ). length x ≤ 261) (λ x name. name.short) n.names sound.formed.names;
+  free = All-weaker IsName (λ (x : List ℕ). IsTrue (is_free Scanned x)) (λ x name. refl) n.names sound.formed.names;
+  few = sound.sized.small;
+}
+
+read_back : CanonicalTextIsRead → (n : Netlist) → IsSound n → (text : List ℕ) → text ≡ canonical n → IsRead Scanned text (Ok n)
+read_back law n sound text is =
+    let w = law Scanned n sound (fits_scanned n sound) in
+    subst (λ (t : List ℕ). IsRead Scanned t (Ok n)) (sym is) (sym w.1, w.0, sound.acyclic)
 
 -- ---- lines
 
@@ -116,6 +137,7 @@ pub record Laws : Type 1 where
   pub fit : VectorsFit
   pub redundant : NoSequenceDetectsRedundant
   pub run : SomeRun Bool
+  pub read : CanonicalTextIsRead
   pub test : TestVectors
   pub lines : FaultsHaveLines
   pub alike : DetectedAlike
@@ -179,6 +201,7 @@ truth laws n holds asked limit files sound design good =
       stil_is = good.stil_is;
       report_is = good.report_is;
       certificate_is = good.certificate_is;
+      scan_is = read_back laws.read (scanned_of n chains) scanned files.scan good.scan_is;
       behaves = behaves laws.scan n asked sound good.dealt chains refl;
       passes = laws.good n holds chains good.patterns cycles sound of_cells vectors;
       runs = λ f state is_fault size. laws.run false bit_table (moved n chains f) (scanned_of n chains) state cycles scanned.formed.numbered scanned.closed scanned.acyclic size

@@ -1,11 +1,13 @@
 -- The run theorem: what five good files say of the chip.
-use Rattle.std.specs.Prelude.{ℕ, ◌≡◌, ◌≤◌, ◌+◌, Bool, List, map, length, Option, Some, None}
+use Rattle.std.specs.Prelude.{ℕ, ◌≡◌, ◌≤◌, ◌+◌, Bool, List, map, length, Option, Some, None, Ok}
 use Rattle.std.specs.List.{All, Contains, slice_get}
 use Rattle.netlist.specs.declared.lines.Fault.{Fault}
 use Rattle.netlist.specs.Netlist.{Netlist, cells}
 use Rattle.netlist.specs.Lines.{IsFaultOf}
 use Rattle.netlist.specs.Holds.{Holds, Obeys}
 use Rattle.netlist.specs.Settled.{bit_table}
+use Rattle.bench_text.specs.Reading.{IsRead}
+use Rattle.bench_text.specs.declared.refusal.Names.TheVariants.{Scanned}
 use Rattle.scan_insert.specs.Names.{pin_name_of}
 use Rattle.scan_insert.specs.Scanned.{scanned_of}
 use Rattle.scan_play.specs.Cycles.{Cycle}
@@ -53,9 +55,9 @@ module _ (n : Netlist) (holds : Holds) (chains : List (List ℕ)) (limit : ℕ) 
   ComesTrue f Aborted pin =
       (tree : List Node) × IsCertified tree × (closed_count tree ≡ limit) × (1 ≤ open_count tree) × Passes (scanned_of n chains) (moved n chains (Some f)) cycles
 
--- With scan off the scanned netlist behaves as the original. The STIL file, read back, passes on the good scanned netlist, and from each power-up state
--- there is a run, with each fault and with none. The report has each fault of the universe once, in order, and what it says comes true;
--- detected, redundant and aborted faults are all of them.
+-- The second file, read as a scanned netlist, is the scanned netlist. With scan off that behaves as the original. The STIL file, read back,
+-- passes on the good scanned netlist, and from each power-up state there is a run, with each fault and with none. The report has each fault of
+-- the universe once, in order, and what it says comes true; detected, redundant and aborted faults are all of them.
 pub record RunTheorem (n : Netlist) (holds : Holds) (chains : List (List ℕ)) (limit : ℕ) (files : Files) : Type 0 where
   pub file : StilFile
   pub said : Report
@@ -63,6 +65,7 @@ pub record RunTheorem (n : Netlist) (holds : Holds) (chains : List (List ℕ)) (
   pub stil_is : StandsFor files.stil file
   pub report_is : files.report ≡ report_text said
   pub certificate_is : files.certificate ≡ certificate_text n trees
+  pub scan_is : IsRead Scanned files.scan (Ok (scanned_of n chains))
   pub behaves : BehavesWithScanOff n chains
   pub passes : Passes (scanned_of n chains) None (vectors_in file)
   pub runs : (f : Option Fault) (state : List Bool) → IsFaultOf n f → length state ≡ length (cells (scanned_of n chains))

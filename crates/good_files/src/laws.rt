@@ -1,6 +1,7 @@
 //! The law of good files: a function that does nothing, whose contract is the law.
 ghost use Rattle.good_files.specs.Laws.{GoodFilesTellTheTruth};
 
+use bench_text::canonical_text_is_read;
 use fault_collapse::detected_alike;
 use fault_universe::faults_have_lines;
 use redundancy_cert::closed_tree_is_redundant;
@@ -17,6 +18,7 @@ pub fn good_files_tell_the_truth()
 {
     scan_behaves();
     scanned_is_sound();
+    canonical_text_is_read();
     good_passes();
     undetected_passes();
     detected_fails();

@@ -14,8 +14,14 @@ returns-in-Play g c = rw c.in-Play.is c.play_test.ensures
 pub returns-in-Run : goal.returns-in-Run
 returns-in-Run g c = rw (c.in-Run.is, sym c.as_slice.ensures.value) c.run_netlist.ensures
 
+pub returns-in-ChainTest : goal.returns-in-ChainTest
+returns-in-ChainTest g c = rw c.in-ChainTest.is c.test_chains.ensures
+
+pub returns-in-Diagnose : goal.returns-in-Diagnose
+returns-in-Diagnose g c = rw c.in-Diagnose.is c.diagnose_log.ensures
+
 pub returns-in-Check : goal.returns-in-Check
-returns-in-Check g c = rw c.in-Check.is (([], nothing_read (g.S.Shelf.files c.args.shelf.now), refl), ((refl, refl), (refl, refl)))
+returns-in-Check g c = rw c.in-Check.is c.check_run.ensures
 
 pub returns-in-Sweep : goal.returns-in-Sweep
 returns-in-Sweep g c = rw c.in-Sweep.is (([], nothing_read (g.S.Shelf.files c.args.shelf.now), refl), ((refl, refl), (refl, refl)))

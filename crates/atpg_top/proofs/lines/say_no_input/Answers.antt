@@ -1,5 +1,5 @@
 use Rattle.std.proofs.Common.{codes, refl}
-use Rattle.atpg_top.proofs.Saying.{of_three, said_so}
+use Rattle.status_lines.proofs.Saying.{of_three, said_so}
 use Rattle.atpg_top.proofs.lines.say_no_input.Goals as goal
 
 pub returns : goal.returns

@@ -1,6 +1,6 @@
 use Rattle.std.proofs.Common.{◌++◌, ap, codes}
 use Rattle.commands.specs.World.{Text}
-use Rattle.atpg_top.proofs.Saying.{said_so}
+use Rattle.status_lines.proofs.Saying.{said_so}
 use Rattle.atpg_top.proofs.lines.say_refusal.Goals as goal
 
 pub returns-in-Netlist : goal.returns-in-Netlist
@@ -17,6 +17,9 @@ returns-in-NotCertificate g c = rw c.in-NotCertificate.is c.say_text-in-NotCerti
 
 pub returns-in-NotReport : goal.returns-in-NotReport
 returns-in-NotReport g c = rw c.in-NotReport.is c.say_text-in-NotReport.ensures
+
+pub returns-in-NotLog : goal.returns-in-NotLog
+returns-in-NotLog g c = rw c.in-NotLog.is c.say_text-in-NotLog.ensures
 
 pub returns-in-StilDoesNotFit : goal.returns-in-StilDoesNotFit
 returns-in-StilDoesNotFit g c = rw c.in-StilDoesNotFit.is c.say_text-in-StilDoesNotFit.ensures

@@ -3,7 +3,8 @@ use Rattle.commands.specs.Names.{name_of, texts_of}
 use Rattle.commands.specs.World.{Text, world}
 use Rattle.commands.proofs.CommandLemmas.{command_row}
 use Rattle.words.specs.CommandLine.{hold_of}
-use Rattle.atpg_top.specs.Commands.{run_due, run_files}
+use Rattle.check_command.specs.Checking.{run_files}
+use Rattle.atpg_top.specs.Commands.{run_due}
 use Rattle.atpg_top.proofs.Delivering.{row_at}
 use Rattle.atpg_top.proofs.running.run_netlist.Goals as goal
 

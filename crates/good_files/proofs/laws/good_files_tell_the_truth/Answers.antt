@@ -11,6 +11,7 @@ returns c = truth (record {
   fit = c.vectors_fit.ensures;
   redundant = c.no_sequence_detects_redundant.ensures;
   run = c.some_run.ensures;
+  read = c.canonical_text_is_read.ensures;
   test = c.test_vectors.ensures;
   lines = c.faults_have_lines.ensures;
   alike = c.detected_alike.ensures;

@@ -1,0 +1,37 @@
+-- What is due of `check`, in the words of this program's refusals.
+use Rattle.std.specs.Prelude.{ℕ, ◌≡◌, List, [], length}
+use Rattle.netlist.specs.Conditions.{IsSound}
+use Rattle.netlist.specs.Holds.{Holds}
+use Rattle.netlist.specs.Netlist.{Netlist}
+use Rattle.fault_universe.specs.Universe.{universe_of}
+use Rattle.test_files.specs.declared.files.TestFiles.{TestFiles}
+use Rattle.test_files.specs.Runs.{IsRun}
+use Rattle.commands.specs.World.{Text}
+use Rattle.commands.specs.declared.ending.Finding.TheVariants.{Fine}
+use Rattle.commands.specs.Due.{Due, Deliver, Refuse}
+use Rattle.check_command.specs.Checking as command
+use Rattle.check_command.specs.declared.refusal.CheckRefusal.{CheckRefusal}
+use Rattle.check_command.specs.declared.refusal.CheckRefusal.TheVariants as check
+use Rattle.atpg_top.specs.Runs.{texts_made}
+use Rattle.atpg_top.specs.declared.refusal.Refusal.{Refusal}
+use Rattle.atpg_top.specs.declared.refusal.Refusal.TheVariants.{Netlist, NotStil, NotCertificate, NotReport}
+
+abbrev pub refusal_of : CheckRefusal → Refusal
+refusal_of (check.Netlist why) = Netlist why
+refusal_of check.NotStil = NotStil
+refusal_of check.NotCertificate = NotCertificate
+refusal_of check.NotReport = NotReport
+
+abbrev pub told : Due CheckRefusal → Due Refusal
+told (Refuse r) = Refuse (refusal_of r)
+told (Deliver texts shown finding) = Deliver texts shown finding
+
+-- how many faults were checked, or the first clause that is false
+abbrev pub check_due : List Text → Due Refusal → Type 0
+check_due texts d = (e : Due CheckRefusal) × command.check_due texts e × (d ≡ told e)
+
+-- Of the five texts of a run nothing else is due than the line that says how many faults there are.
+abbrev pub RunsPass : Type 0
+RunsPass =
+    (n : Netlist) (holds : Holds) (asked limit : ℕ) (made : TestFiles) → IsSound n → IsRun n holds asked limit made
+    → (d : Due Refusal) → check_due (texts_made made) d → d ≡ Deliver [] (command.checked_line (length (universe_of n))) Fine

@@ -1,0 +1,52 @@
+-- What is diagnosed: a design, a test, and what failed.
+use Rattle.std.specs.Prelude.{ℕ, ◌≡◌, ⊤, List, [], ◌∷◌, Result, Ok, Err}
+use Rattle.bench_text.specs.declared.refusal.Names.TheVariants.{Design}
+use Rattle.netlist.specs.Netlist.{Netlist}
+use Rattle.netlist.specs.Designs.{IsDesign}
+use Rattle.scan_insert.specs.Scanned.{scanned_of}
+use Rattle.good_files.specs.ScanOff.{design_chains}
+use Rattle.stil_read.specs.Reading.{StandsFor}
+use Rattle.stil_vectors.specs.FileVectors.{vectors_in}
+use Rattle.stil_vectors.specs.Fitting.{Fits}
+use Rattle.stil_write.specs.StilFiles.{StilFile}
+use Rattle.fail_log.specs.Failures.{Failing}
+use Rattle.fail_log.specs.Reading.{IsLogOf}
+use Rattle.commands.specs.World.{Text}
+use Rattle.commands.specs.Due.{Due, Deliver, Refuse}
+use Rattle.commands.specs.declared.ending.Finding.TheVariants.{Fine}
+use Rattle.commands.specs.declared.product.Stop.{Stop}
+use Rattle.commands.specs.declared.product.Stop.TheVariants as stop
+use Rattle.atpg_top.specs.Commands.{diagnose_due}
+use Rattle.atpg_top.specs.Diagnoses.{IsDiagnosis}
+use Rattle.atpg_top.specs.Steps.{◌>>=◌, netlist, test, value}
+use Rattle.atpg_top.specs.declared.diagnosing.Case.{Case}
+use Rattle.atpg_top.specs.declared.refusal.Refusal.{Refusal}
+use Rattle.atpg_top.specs.declared.refusal.Refusal.TheVariants.{NotLog, NotStil, StilDoesNotFit}
+
+-- the design, the file and the failures that the texts give
+pub record IsCase (net stil log : Text) (n : Netlist) (file : StilFile) (failures : List Failing) : Type 0 where
+  pub net_is : netlist Design net (Ok n)
+  pub file_is : value StandsFor NotStil stil (Ok file)
+  pub log_is : value IsLogOf NotLog log (Ok failures)
+  pub design : IsDesign n
+
+abbrev pub ReadsCase : ℕ → Text → Text → Text → Result Case (Stop Refusal) → Type 0
+ReadsCase chains net stil log (Ok c) = IsCase net stil log c.netlist c.file c.log
+ReadsCase chains net stil log (Err (stop.Refused r)) = diagnose_due chains (net ∷ stil ∷ log ∷ []) (Refuse r)
+ReadsCase chains net stil log (Err stop.NoMemory) = ⊤
+
+-- what is due of a design, a file that fits its scanned netlist, and failures
+abbrev pub diagnosis_due : ℕ → Netlist → StilFile → List Failing → Due Refusal → Type 0
+diagnosis_due chains n file failures d =
+    (text : Text) × IsDiagnosis n (design_chains n chains) (vectors_in file) failures text × (d ≡ Deliver [] text Fine)
+
+-- the same of a file that may not fit
+abbrev pub case_due : ℕ → Netlist → StilFile → List Failing → Due Refusal → Type 0
+case_due chains n file failures = test (Fits file (scanned_of n (design_chains n chains))) StilDoesNotFit >>= λ _. diagnosis_due chains n file failures
+
+-- the same of the bytes of a log, and of those of a file
+abbrev pub log_due : ℕ → Text → Netlist → StilFile → Due Refusal → Type 0
+log_due chains log n file = value IsLogOf NotLog log >>= λ failures. case_due chains n file failures
+
+abbrev pub test_due : ℕ → Text → Text → Netlist → Due Refusal → Type 0
+test_due chains stil log n = value StandsFor NotStil stil >>= λ file. log_due chains log n file

@@ -1,0 +1,300 @@
+//! `diagnose`: the faults of a file's netlist that explain what failed on the tester.
+ghost use Rattle.std.specs.Prelude.{◌≡◌, ◌≤◌, ◌<◌, ◌^◌, ◌++◌, ◌∷◌, [], IfOk, OnOk, Some, length};
+ghost use Rattle.std.specs.List.{All};
+ghost use Rattle.netlist.specs.Designs.{IsDesign};
+ghost use Rattle.netlist.specs.Lines.{signal_of};
+ghost use Rattle.netlist.specs.Netlist.{signals};
+ghost use Rattle.fault_universe.specs.Universe.{universe_of};
+ghost use Rattle.scan_insert.specs.Scanned.{insertion_of};
+ghost use Rattle.good_files.specs.ScanOff.{design_chains};
+ghost use Rattle.stil_vectors.specs.FileVectors.{vectors_in};
+ghost use Rattle.stil_vectors.specs.Fitting.{Fits};
+ghost use Rattle.diagnose.specs.Candidates.{AreCandidates, IsScannedDesign};
+ghost use Rattle.commands.specs.Contents.{most_bytes};
+ghost use Rattle.commands.specs.Names.{texts_of};
+ghost use Rattle.commands.specs.Rows.{CommandRow};
+ghost use Rattle.commands.specs.Worked.{IsWorked};
+ghost use Rattle.commands.specs.World.{world};
+ghost use Rattle.words.specs.CommandLine.{AreWithin};
+ghost use Rattle.atpg_top.specs.Commands.{diagnose_due};
+ghost use Rattle.atpg_top.specs.Diagnoses.{IsDiagnosis, candidates_line, suspect_line, suspect_lines};
+ghost use Rattle.atpg_top.specs.inner.Cases.{ReadsCase, case_due, diagnosis_due};
+
+use crate::design::scanned_of;
+use crate::fault_list::faults_of;
+use crate::reading::{fitting, log_of, netlist_of, stil_of};
+use crate::refusal::Refusal;
+use bench_text::Names;
+use commands::{Ending, FileName, Finding, Product, Stop, deliver, read_in_order};
+use diagnose::{candidates, candidates_tell_the_truth};
+use fail_log::FailLog;
+use fault_collapse::{Classes, collapse};
+use fault_universe::{FaultSet, faults_have_signals, push_text};
+use itoa::Buffer;
+use netlist::{Core, Fault, Netlist, NoMemory};
+use outside::{Shelf, Sink};
+use scan_insert::Scanned;
+use scan_insert::laws::scanned_is_sound;
+use scan_play::Vectors;
+use std::alloc::{AllocError, Global};
+use std::thread::Threads;
+use stil_vectors::{cycle_count, fitting_cycles, vectors};
+use stil_write::StilFile;
+use words::DiagnoseOptions;
+
+/// What is diagnosed: the design, the test, and what failed.
+#[derive(Drop)]
+struct Case {
+    netlist: Netlist,
+    file: StilFile,
+    log: FailLog,
+}
+
+/// Reads the design, the file and the log.
+fn case_of(alloc: Global, net: &[u8], stil: &[u8], log: &[u8]) -> Result<Case, Stop<Refusal>>
+    requires { length net.now ≤ most_bytes }
+    ensures { (chains : _) → ReadsCase chains net.now stil.now log.now result }
+{
+    let netlist = match netlist_of(alloc, net, Names::Design) {
+        Ok(netlist) => netlist,
+        Err(stop) => return Err(stop),
+    };
+    let file = match stil_of(alloc, stil) {
+        Ok(file) => file,
+        Err(stop) => return Err(stop),
+    };
+    match log_of(alloc, log) {
+        Ok(log) => Ok(Case { netlist, file, log }),
+        Err(stop) => Err(stop),
+    }
+}
+
+/// The cycles of a file, which have to be fewer than 2 to the 64.
+fn cycles_of(alloc: Global, file: &StilFile) -> Result<Vectors, NoMemory>
+    ensures cycles { IfOk result (λ v. v ≡ vectors_in file.now) }
+    ensures few { IfOk result (λ v. length v < 2 ^ 64) }
+{
+    match cycle_count(file) {
+        Some(_) => vectors(alloc, file),
+        None => Err(NoMemory),
+    }
+}
+
+/// A core for the scanned netlist.
+fn core_of(alloc: Global, scanned: &Scanned) -> Result<Core, NoMemory>
+    ensures { IfOk result (λ core. core ≡ scanned.now.netlist) }
+{
+    let copy = scanned.netlist().copy(alloc)?;
+    match Core::of(alloc, copy) {
+        Ok(core) => Ok(core),
+        Err(_) => Err(NoMemory),
+    }
+}
+
+/// The places of the faults that explain the log of a file that fits.
+fn suspects<R: Threads + Sync>(
+    rt: &R,
+    alloc: Global,
+    scanned: &Scanned,
+    faults: &FaultSet,
+    classes: &Classes,
+    case: &Case,
+    workers: u32,
+) -> Result<Vec<u32>, NoMemory>
+    requires design { IsScannedDesign scanned.now faults.now classes.now }
+    requires fits { Fits case.now.file scanned.now.netlist }
+    requires workers { (1 ≤ workers) × (workers ≤ 64) }
+    ensures { IfOk result (λ found. AreCandidates scanned.now faults.now (vectors_in case.now.file) case.now.log found.items) }
+{
+    case.file.sound();
+    fitting_cycles();
+    let core = core_of(alloc, scanned)?;
+    let cycles = cycles_of(alloc, &case.file)?;
+    candidates(
+        rt, alloc, &core, scanned, faults, classes, &cycles, &case.log, workers,
+    )
+}
+
+/// The line that counts them.
+fn begun(alloc: Global, count: usize) -> Result<Vec<u8>, AllocError>
+    ensures { IfOk result (λ text. text.items ≡ candidates_line count) }
+{
+    let mut text = Vec::new(alloc);
+    text.extend_from_slice(b"candidates ")?;
+    text.extend_from_slice(Buffer::new().format(count).as_bytes())?;
+    text.extend_from_slice(b"\n")?;
+    Ok(text)
+}
+
+/// Adds the line of a fault.
+fn push_suspect(text: &mut Vec<u8>, netlist: &Netlist, fault: Fault) -> Result<(), AllocError>
+    requires { signal_of fault.line < length (signals netlist.now) }
+    ensures { OnOk result (text.new.items ≡ text.old.items ++ suspect_line netlist.now (Some fault)) }
+{
+    push_text(text, netlist, fault)?;
+    text.extend_from_slice(b"\n")?;
+    Ok(())
+}
+
+/// What is printed of the faults at these places.
+fn text_of(
+    alloc: Global,
+    netlist: &Netlist,
+    faults: &FaultSet,
+    places: &[u32],
+) -> Result<Vec<u8>, AllocError>
+    requires universe { faults.now ≡ universe_of netlist.now }
+    requires within { All (λ i. i < length (universe_of netlist.now)) places.now }
+    ensures { IfOk result (λ text. text.items ≡ candidates_line (length places.now) ++ suspect_lines netlist.now places.now) }
+{
+    netlist.sound();
+    faults_have_signals();
+    let mut text = begun(alloc, places.len())?;
+    for place in places {
+        push_suspect(&mut text, netlist, faults.fault(*place))?;
+    }
+    Ok(text)
+}
+
+/// What is printed of a case whose file fits.
+fn diagnosis<R: Threads + Sync>(
+    rt: &R,
+    alloc: Global,
+    scanned: &Scanned,
+    case: &Case,
+    options: DiagnoseOptions,
+) -> Result<Vec<u8>, NoMemory>
+    requires design { IsDesign case.now.netlist }
+    requires range { AreWithin options }
+    requires scanned { scanned.now ≡ insertion_of case.now.netlist (design_chains case.now.netlist options.chains) }
+    requires fits { Fits case.now.file scanned.now.netlist }
+    ensures { IfOk result (λ text. IsDiagnosis case.now.netlist (design_chains case.now.netlist options.chains) (vectors_in case.now.file) case.now.log text.items) }
+{
+    case.netlist.sound();
+    scanned_is_sound();
+    candidates_tell_the_truth();
+    let faults = faults_of(alloc, &case.netlist)?;
+    let classes = collapse(alloc, &case.netlist, &faults)?;
+    let found = suspects(
+        rt,
+        alloc,
+        scanned,
+        &faults,
+        &classes,
+        case,
+        options.workers,
+    )?;
+    match text_of(alloc, &case.netlist, &faults, &found) {
+        Ok(text) => Ok(text),
+        Err(_) => Err(NoMemory),
+    }
+}
+
+/// The product of a case whose file fits.
+fn product_of<R: Threads + Sync>(
+    rt: &R,
+    alloc: Global,
+    scanned: &Scanned,
+    case: &Case,
+    options: DiagnoseOptions,
+) -> Result<Product, Stop<Refusal>>
+    requires design { IsDesign case.now.netlist }
+    requires range { AreWithin options }
+    requires scanned { scanned.now ≡ insertion_of case.now.netlist (design_chains case.now.netlist options.chains) }
+    requires fits { Fits case.now.file scanned.now.netlist }
+    ensures { IsWorked (diagnosis_due options.chains case.now.netlist case.now.file case.now.log) 0 result }
+{
+    match diagnosis(rt, alloc, scanned, case, options) {
+        Ok(shown) => Ok(Product {
+            texts: Vec::new(alloc),
+            shown,
+            finding: Finding::Fine,
+        }),
+        Err(_) => Err(Stop::NoMemory),
+    }
+}
+
+/// Diagnoses a case, if its file fits the scanned design.
+fn fitted<R: Threads + Sync>(
+    rt: &R,
+    alloc: Global,
+    scanned: &Scanned,
+    case: &Case,
+    options: DiagnoseOptions,
+) -> Result<Product, Stop<Refusal>>
+    requires design { IsDesign case.now.netlist }
+    requires range { AreWithin options }
+    requires scanned { scanned.now ≡ insertion_of case.now.netlist (design_chains case.now.netlist options.chains) }
+    ensures { IsWorked (case_due options.chains case.now.netlist case.now.file case.now.log) 0 result }
+{
+    match fitting(alloc, &case.file, scanned.netlist()) {
+        Ok(()) => product_of(rt, alloc, scanned, case, options),
+        Err(stop) => Err(stop),
+    }
+}
+
+/// Diagnoses a case, the design scanned as the options say.
+fn diagnosed<R: Threads + Sync>(
+    rt: &R,
+    alloc: Global,
+    case: &Case,
+    options: DiagnoseOptions,
+) -> Result<Product, Stop<Refusal>>
+    requires design { IsDesign case.now.netlist }
+    requires range { AreWithin options }
+    ensures { IsWorked (case_due options.chains case.now.netlist case.now.file case.now.log) 0 result }
+{
+    match scanned_of(alloc, &case.netlist, options.chains) {
+        Ok(scanned) => fitted(rt, alloc, &scanned, case, options),
+        Err(_) => Err(Stop::NoMemory),
+    }
+}
+
+/// The work of `diagnose`.
+fn work<R: Threads + Sync>(
+    rt: &R,
+    alloc: Global,
+    texts: Vec<Vec<u8>>,
+    options: DiagnoseOptions,
+) -> Result<Product, Stop<Refusal>>
+    requires count { length texts.items ≡ 3 }
+    requires within { All (λ text. length text ≤ most_bytes) (texts_of texts.items) }
+    requires range { AreWithin options }
+    ensures { IsWorked (diagnose_due options.chains (texts_of texts.items)) 0 result }
+{
+    let net = texts[0].as_slice();
+    let stil = texts[1].as_slice();
+    let log = texts[2].as_slice();
+    match case_of(alloc, net, stil, log) {
+        Ok(case) => {
+            drop(texts);
+            diagnosed(rt, alloc, &case, options)
+        }
+        Err(stop) => Err(stop),
+    }
+}
+
+/// Shows the faults of the netlist of the file `net` that explain what failed, by the file `log`, when the file `stil` was played on the chip.
+pub fn diagnose_log<'a, R: Threads + Sync, S: Shelf, T: Sink>(
+    rt: &R,
+    alloc: Global,
+    shelf: &mut S,
+    out: &mut T,
+    net: &'a str,
+    stil: &'a str,
+    log: &'a str,
+    options: DiagnoseOptions,
+) -> Ending<'a, Refusal>
+    requires { AreWithin options }
+    ensures { CommandRow (net.now ∷ stil.now ∷ log.now ∷ []) [] (diagnose_due options.chains)
+        (world (S.files shelf.old) (S.failures shelf.old) (T.taken out.old) (T.failures out.old))
+        (world (S.files shelf.new) (S.failures shelf.new) (T.taken out.new) (T.failures out.new)) result }
+{
+    let reads = [FileName::of(net), FileName::of(stil), FileName::of(log)];
+    let texts = match read_in_order(alloc, shelf, &reads) {
+        Ok(texts) => texts,
+        Err(ending) => return ending,
+    };
+    let worked = work(rt, alloc, texts, options);
+    deliver(alloc, shelf, out, &[], worked)
+}

@@ -1,0 +1,18 @@
+//! The check of five files as data. The input names texts, says which five are checked and what is changed in them, and the output has
+//! for each check the status and the line that it ends with. README.md has the lines.
+#![tactic(auto)]
+
+mod changing;
+mod script;
+
+use script::Script;
+use std::io::{self, Write};
+
+fn main(rt: HostRuntime) -> io::Result<()> {
+    let given = io::read_to_string(rt.alloc(), rt.reader())?;
+    let mut script = Script::new(rt.alloc());
+    for line in given.lines() {
+        script.take(rt.alloc(), line)?;
+    }
+    io::writer(&rt).write_all(script.report())
+}

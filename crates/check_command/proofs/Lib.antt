@@ -1,0 +1,4 @@
+pub mod Exclusive
+pub mod FiveTexts
+pub mod Passing
+pub mod Words

@@ -1,0 +1,42 @@
+-- Good files are checked.
+use Rattle.std.proofs.Common.{◌≡◌, ◌∙◌, ◌⊎◌, inl, inr, ℕ, [], Ok, Err, ap, length}
+use Rattle.std.specs.Prelude.{Result}
+use Rattle.netlist.specs.Conditions.{IsSound}
+use Rattle.netlist.specs.Holds.{Holds}
+use Rattle.netlist.specs.Netlist.{Netlist}
+use Rattle.fault_universe.specs.Universe.{universe_of}
+use Rattle.commands.specs.Due.{Due, Deliver}
+use Rattle.commands.specs.declared.ending.Finding.TheVariants.{Fine}
+use Rattle.good_files.specs.GoodFiles.{AreGoodFiles, Files}
+use Rattle.file_clauses.specs.declared.answers.Checked.{Checked}
+use Rattle.file_clauses.specs.declared.answers.Checked.TheVariants.{Faults}
+use Rattle.file_clauses.specs.declared.answers.CheckFault.{CheckFault}
+use Rattle.file_clauses.specs.declared.answers.CheckFault.TheVariants as fault
+use Rattle.file_clauses.specs.Checks.{IsOutside}
+use Rattle.file_clauses.specs.Laws.{GoodFilesPass}
+use Rattle.check_command.specs.Checking.{answer_line, checked_line, fault_of, files_due, finding_of}
+use Rattle.check_command.specs.declared.refusal.CheckRefusal.{CheckRefusal}
+use Rattle.check_command.specs.declared.refusal.CheckRefusal.TheVariants as refusal
+
+-- an answer that is want of memory or this one is this one
+answer_is : (answer : Checked) (count : ℕ) → (Ok answer ≡ Err fault.NoMemory) ⊎ (Ok answer ≡ Ok (Faults count)) → answer ≡ Faults count
+answer_is answer count (inl none) = cc
+answer_is answer count (inr one) = cc
+
+-- a refusal is neither
+no_refusal : (why : CheckRefusal) (answer : Checked) → (Err (fault_of why) ≡ Err fault.NoMemory) ⊎ (Err (fault_of why) ≡ Ok answer) → ⊥
+no_refusal (refusal.Netlist why) answer (inl none) = cc
+no_refusal refusal.NotStil answer (inl none) = cc
+no_refusal refusal.NotCertificate answer (inl none) = cc
+no_refusal refusal.NotReport answer (inl none) = cc
+no_refusal (refusal.Netlist why) answer (inr one) = cc
+no_refusal refusal.NotStil answer (inr one) = cc
+no_refusal refusal.NotCertificate answer (inr one) = cc
+no_refusal refusal.NotReport answer (inr one) = cc
+
+module _ (pass : GoodFilesPass) (n : Netlist) (holds : Holds) (asked limit : ℕ) (files : Files) (sound : IsSound n) (good : AreGoodFiles n holds asked limit files) where
+  pub checked : (d : Due CheckRefusal) → files_due files d → d ≡ Deliver [] (checked_line (length (universe_of n))) Fine
+  checked d (inl due) =
+      due.2 ∙ ap (λ (answer : Checked). let told : Due CheckRefusal = Deliver [] (answer_line answer) (finding_of answer) in told)
+      (answer_is due.0 (length (universe_of n)) (pass n holds asked limit files sound good (Ok due.0) due.1.0))
+  checked d (inr due) = absurd (no_refusal due.0 (Faults (length (universe_of n))) (pass n holds asked limit files sound good (Err (fault_of due.0)) due.1))

@@ -1,0 +1,75 @@
+-- What `check` reads, and what is due of the texts.
+use Rattle.std.specs.Prelude.{ℕ, ◌≡◌, ◌⊎◌, ◌++◌, List, [], ◌∷◌, Ok, codes, decimal, length, map}
+use Rattle.commands.specs.World.{Text}
+use Rattle.commands.specs.Due.{Due, Deliver, Refuse}
+use Rattle.commands.specs.declared.ending.Finding.{Finding}
+use Rattle.commands.specs.declared.ending.Finding.TheVariants.{Fine, Differs}
+use Rattle.file_clauses.specs.declared.answers.Checked.{Checked}
+use Rattle.file_clauses.specs.declared.answers.Checked.TheVariants.{Faults, False}
+use Rattle.file_clauses.specs.declared.answers.Clause.{Clause}
+use Rattle.file_clauses.specs.declared.answers.Clause.TheVariants as clause
+use Rattle.file_clauses.specs.declared.answers.CheckFault.{CheckFault}
+use Rattle.file_clauses.specs.declared.answers.CheckFault.TheVariants as fault
+use Rattle.file_clauses.specs.Checks.{IsOutside}
+use Rattle.file_clauses.specs.Laws.{IsWholeAnswer}
+use Rattle.good_files.specs.GoodFiles.{AreGoodFiles, Files}
+use Rattle.netlist.specs.Conditions.{IsSound}
+use Rattle.netlist.specs.Holds.{Holds}
+use Rattle.netlist.specs.Netlist.{Netlist}
+use Rattle.fault_universe.specs.Universe.{universe_of}
+use Rattle.check_command.specs.declared.refusal.CheckRefusal.{CheckRefusal}
+use Rattle.check_command.specs.declared.refusal.CheckRefusal.TheVariants as refusal
+
+-- the names of a run's files, in the order in which they are written and read
+abbrev pub run_files : Text → List Text
+run_files prefix = map (λ ending. prefix ++ ending) (codes ".net" ∷ codes ".scan" ∷ codes ".stil" ∷ codes ".cert" ∷ codes ".rep" ∷ [])
+
+-- ---- what is shown
+
+abbrev pub clause_line : Clause → Text
+clause_line clause.ScanDiffers = codes "scan differs\n"
+clause_line clause.HoldDiffers = codes "hold differs\n"
+clause_line clause.StilDiffers = codes "stil differs\n"
+clause_line (clause.Fault text) = codes "fault " ++ (text.items ++ codes "\n")
+clause_line clause.TotalsDiffer = codes "totals differ\n"
+
+-- `checked 34 faults`
+abbrev pub checked_line : ℕ → Text
+checked_line count = codes "checked " ++ (decimal count ++ codes " faults\n")
+
+-- how many faults there are, or the first clause that is false
+abbrev pub answer_line : Checked → Text
+answer_line (Faults count) = checked_line count
+answer_line (False clause) = clause_line clause
+
+abbrev pub finding_of : Checked → Finding
+finding_of (Faults count) = Fine
+finding_of (False clause) = Differs
+
+-- ---- what is due
+
+-- the refusal as the check tells it
+abbrev pub fault_of : CheckRefusal → CheckFault
+fault_of (refusal.Netlist why) = fault.Netlist why
+fault_of refusal.NotStil = fault.NotStil
+fault_of refusal.NotCertificate = fault.NotCertificate
+fault_of refusal.NotReport = fault.NotReport
+
+-- the line of what is answered of five texts, which are good where that is how many faults there are; or the refusal of the first outside its grammar
+abbrev pub files_due : Files → Due CheckRefusal → Type 0
+files_due files d =
+    ((answer : Checked) × IsWholeAnswer files (Ok answer) × (d ≡ Deliver [] (answer_line answer) (finding_of answer)))
+    ⊎ ((why : CheckRefusal) × IsOutside files (fault_of why) × (d ≡ Refuse why))
+
+abbrev pub check_due : List Text → Due CheckRefusal → Type 0
+check_due (net ∷ scan ∷ stil ∷ certificate ∷ report ∷ []) =
+    files_due (record { net = net; scan = scan; stil = stil; certificate = certificate; report = report })
+check_due texts = λ d. ⊥
+
+-- ---- the law
+
+-- Of good files, whoever made them, nothing else is due than the line that says how many faults there are.
+abbrev pub GoodFilesChecked : Type 0
+GoodFilesChecked =
+    (n : Netlist) (holds : Holds) (asked limit : ℕ) (files : Files) → IsSound n → AreGoodFiles n holds asked limit files
+    → (d : Due CheckRefusal) → files_due files d → d ≡ Deliver [] (checked_line (length (universe_of n))) Fine

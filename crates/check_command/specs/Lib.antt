@@ -1,0 +1,3 @@
+pub mod Checking
+pub mod Top
+pub mod inner

@@ -1,0 +1,2 @@
+-- What proofs cite, and no public contract.
+pub mod Answers

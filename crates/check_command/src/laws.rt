@@ -1,0 +1,19 @@
+//! Laws of the command: functions that do nothing, whose contracts are the laws.
+ghost use Rattle.commands.specs.Laws.{IsExclusive};
+ghost use Rattle.check_command.specs.Checking.{GoodFilesChecked, check_due};
+
+use file_clauses::{answers_agree, good_files_pass};
+
+/// What is due of the same five texts is alike: the same refusal, or the same finding.
+pub fn check_exclusive()
+    ensures { IsExclusive check_due }
+{
+    answers_agree();
+}
+
+/// Good files, whoever made them, end with status 0, but for files that can't be had, an output that fails and want of memory.
+pub fn good_files_checked()
+    ensures { GoodFilesChecked }
+{
+    good_files_pass();
+}

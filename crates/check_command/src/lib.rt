@@ -1,0 +1,18 @@
+//! The command `check` of a prefix: it reads the five files of that prefix, checks them, and shows how many faults were checked or the
+//! first clause that is false. [`check_top`] is a whole program that does nothing else.
+//!
+//! It stands on the independent check alone, and on no search, list, lock or worker, so that a buyer of patterns can have it by itself.
+#![tactic(auto)]
+
+mod command;
+mod laws;
+mod lines;
+mod refusal;
+mod status;
+mod top;
+
+pub use command::{check_prefix, check_texts, file_names};
+pub use laws::{check_exclusive, good_files_checked};
+pub use refusal::CheckRefusal;
+pub use status::CheckStatus;
+pub use top::check_top;

@@ -1,0 +1,32 @@
+//! The program that only checks: the real words, files and outputs, handed to `check_top`.
+#![tactic(auto)]
+
+use check_command::check_top;
+use outside::{FolderShelf, OutSink, Sink};
+use std::process::ExitCode;
+use std::{env, io};
+
+/// The status and the line where the words can't be had: memory was refused, or one isn't UTF-8.
+fn refusal(error: &io::Error) -> (u8, &'static str) {
+    match error.kind() {
+        io::ErrorKind::OutOfMemory => (9, "out of memory\n"),
+        _ => (2, "usage: atpg-check PREFIX\n"),
+    }
+}
+
+fn main(rt: HostRuntime) -> ExitCode {
+    let alloc = rt.alloc();
+    let mut err = OutSink::new(rt.stderr());
+    let given = env::args(&rt).and_then(|given| Ok(given.collect(alloc)?));
+    let words: Vec<String> = match given {
+        Ok(words) => words,
+        Err(error) => {
+            let (status, line) = refusal(&error);
+            let _ = err.put(line.as_bytes());
+            return ExitCode::from(status);
+        }
+    };
+    let mut shelf = FolderShelf::new(&rt);
+    let mut out = OutSink::new(rt.stdout());
+    ExitCode::from(check_top(alloc, words.as_slice(), &mut shelf, &mut out, &mut err))
+}

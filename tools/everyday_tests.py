@@ -1,0 +1,208 @@
+"""Tests of tools/try_guide, tools/run_many and tools/explain. tools/test_tools runs them."""
+
+import contextlib
+import os
+import pathlib
+import pty
+import re
+import shutil
+import subprocess
+import tempfile
+
+import plain_design
+from launcher_tests import tree
+
+ROOT = pathlib.Path(__file__).resolve().parent.parent
+
+
+# tools/try_guide, on guides of its own.
+
+GUIDE = """# A guide
+
+```console
+$ echo one; echo two >&2
+one
+two
+$ printf '%s\\n' 'a $ b' \\
+    "c d"
+a $ b
+c d
+$ seq 1 5
+1
+...
+5
+$ true
+```
+
+```sh
+$ echo not run
+```
+
+```console
+$ echo 'not built yet'; echo status 2
+checked 5 faults
+$ yosys_that_is_not_there() { echo "error: unrecognized subcommand 'diagnose'"; }; yosys_that_is_not_there
+candidates 1
+$ echo five
+```
+"""
+
+
+def tried(text, *words):
+    """What try_guide says of a guide, and the guide afterwards."""
+    with tempfile.TemporaryDirectory() as name:
+        path = pathlib.Path(name) / "guide.md"
+        path.write_text(text)
+        done = subprocess.run([ROOT / "tools/try_guide", *words, path], capture_output=True, text=True)
+        return done.returncode, done.stdout, path.read_text()
+
+
+def test_try_guide():
+    """Commands run in order; what they print is compared with what is shown, and may be put there."""
+    status, said, _ = tried(GUIDE)
+    assert status == 1 and said.count("the program doesn't have the command yet") == 2, said
+    assert "line 27: $ echo five" in said and "1 commands printed something else" in said, said
+    assert "5 commands run, 2 left out, 6 lines compared" in said, said
+    status, said, text = tried(GUIDE, "--write")
+    assert status == 0 and text == GUIDE.replace("$ echo five\n", "$ echo five\nfive\n"), text
+    assert tried(text)[0] == 0
+    status, said, _ = tried(GUIDE.replace("c d\n$ seq", "c e\n$ seq"))
+    assert status == 1 and "    c d" in said and "    c e" in said and "2 commands printed something else" in said, said
+    assert tried("```console\n$ ./atpg --version\n...\n```\n")[0] in (0, 2)
+
+
+# The line that shows how far a run is, by the proved build where it stands.
+
+PROGRAM = ROOT / "crates/atpg_main/out/atpg_main"
+SHOWN = re.compile(r"\n(\d+) (?:of (\d+) )?classes claimed, (\d+) batches, (\d+) s\x1b\[K\r\x1b\[1A")
+
+
+def shown_by(folder, **more):
+    """The standard output and error of a run that takes a second or two."""
+    done = subprocess.run([PROGRAM, "run", "sample.bench", "sample", "--workers", "2"], cwd=folder, capture_output=True, text=True,
+                          env={word: value for word, value in os.environ.items() if not word.startswith("ATPG_")} | more)
+    assert done.returncode == 0 and done.stdout.startswith("faults "), done
+    return done.stdout, done.stderr
+
+
+def on_a_terminal(folder):
+    """What a run shows where its standard error is a terminal."""
+    ours, its = pty.openpty()
+    child = subprocess.Popen([PROGRAM, "run", "sample.bench", "sample"], cwd=folder, stdout=subprocess.DEVNULL, stderr=its)
+    os.close(its)
+    shown = b""
+    with contextlib.suppress(OSError):  # the terminal's end
+        while piece := os.read(ours, 4096):
+            shown += piece
+    os.close(ours)
+    assert child.wait() == 0
+    return shown.decode().replace("\r\n", "\n")
+
+
+def test_progress():
+    """Counts go up, the line goes away at the end, and nothing is shown where it isn't asked for."""
+    if not PROGRAM.exists():
+        return "ok, but there is no proved build: the line wasn't looked at"
+    with tempfile.TemporaryDirectory() as name:
+        folder = pathlib.Path(name)
+        made = subprocess.run([ROOT / "bench/sample_netlist.py", "7", "4000"], capture_output=True, check=True)
+        (folder / "sample.bench").write_bytes(made.stdout)
+        for more, classes in (({"ATPG_PROGRESS": "1", "ATPG_CLASSES": "77"}, "77"), ({"ATPG_PROGRESS": "1"}, "")):
+            shown = shown_by(folder, **more)[1]
+            found = SHOWN.findall(shown)
+            assert found and SHOWN.sub("", shown) == "\x1b[J", shown
+            assert all(each[1] == classes for each in found)
+            for place in (0, 2, 3):
+                counts = [int(each[place]) for each in found]
+                assert counts == sorted(counts), counts
+        assert shown_by(folder)[1] == shown_by(folder, ATPG_PROGRESS="0")[1] == ""
+        assert SHOWN.search(on_a_terminal(folder))
+
+
+# tools/run_many, with stand-ins for both programs.
+
+RUN = r"""#!/usr/bin/env bash
+[ "$(basename "$2")" = bad.bench ] && echo "netlist line 1: BadLine" >&2 && exit 3
+for end in net scan stil cert; do echo "$*" >"$3.$end"; done
+printf 'atpg report 1\nfaults 4\ndetected 3\naborted 1\nredundant 0\ncoverage 75.00\nefficiency 75.00\npatterns 2\ncycles 9\nstem a/0 aborted\n' >"$3.rep"
+echo faults 4
+"""
+
+CHECK = r"""#!/usr/bin/env bash
+grep -q false "$1.net" && echo "fault stem a/0" && exit 1
+echo "checked 4 faults"
+"""
+
+
+def test_run_many():
+    """Each design is run and checked, by parallel where it is here; the table has numbers of good files alone."""
+    with tree() as made:
+        made.put(made.bin / "atpg", RUN)
+        made.put(made.bin / "check", CHECK)
+        programs = {"ATPG": str(made.bin / "atpg"), "ATPG_CHECK": str(made.bin / "check")}
+        designs, to = made.folder / "designs", made.folder / "some" / "made"
+        designs.mkdir()
+        for name in ("b", "a", "false", "bad"):
+            (designs / f"{name}.bench").write_text("INPUT(a)\n")
+        tool = ROOT / "tools/run_many"
+        for task, status in ((1, 0), (2, 0), (3, 1), (4, 1)):
+            assert made.run(tool, designs, "--to", to, "--task", task, "--", "--hold", "x y=1", **programs)[0] == status, task
+        assert "--hold x y=1" in (to / "a.net").read_text()
+        assert made.run(tool, designs, "--to", to, "--task", "5", **programs)[0] == 1
+        status, table, _ = made.run(tool, "--join", to, **programs)
+        rows = [re.sub(r" \d+\.\d\d (?=[cN])", " s ", re.sub(r" +", " ", line)) for line in table.splitlines()]
+        assert status == 1 and rows[1:] == [
+            "a 4 3 0 1 75.00 75.00 2 9 s checked 4 faults", "b 4 3 0 1 75.00 75.00 2 9 s checked 4 faults",
+            "bad - - - - - - - - s NOT GOOD: netlist line 1: BadLine", "false - - - - - - - - s NOT GOOD: fault stem a/0"], table
+        if shutil.which("parallel") is None:
+            return "ok, but for parallel, which isn't here"
+        shutil.rmtree(to)
+        (designs / "bad.bench").unlink()
+        (designs / "false.bench").unlink()
+        status, table, errors = made.run(tool, designs, "--to", to, "--jobs", "2", "--", "--hold", "x y=1", **programs)
+        assert status == 0 and len(table.splitlines()) == 3 and "--hold x y=1" in (to / "b.net").read_text(), (table, errors)
+
+
+# tools/explain, on refusals that the plain reader finds.
+
+REFUSED = (
+    ("INPUT(a)\nOUTPUT(y)\ny = AND(a, Bee)\nbee = NOT(a)\n", ["  y = AND(a, Bee)", "Bee is neither an INPUT nor defined; like it are bee (line 4)"]),
+    ("INPUT(a)\nOUTPUT(y)\nOUTPUT(z)\ny = NOT(a)\n", ["  OUTPUT(z)", "z is neither an INPUT nor defined"]),
+    ("INPUT(a)\nOUTPUT(y)\ny = AND(a, u)\nu = OR(v, a)\nv = NOT(u)\nw = NOT(a)\n", [
+        "  y = AND(a, u)", "gates read one another in a circle, without a DFF between:", "  u (line 4) reads v (line 5) reads u (line 4)",
+        "  y reads from it"]),
+    ("INPUT(a)\nOUTPUT(y)\ny = NOT(y)\n", ["  y = NOT(y)", "gates read one another in a circle, without a DFF between:",
+                                          "  y (line 3) reads y (line 3)"]),
+    ("INPUT(a)\nOUTPUT(y)\ny = NAN(a)\n", ["  y = NAN(a)", "NAN is no gate; like it are NAND, AND. Gates are AND, NAND, OR, NOR, XOR, XNOR, NOT, "
+                                          "BUFF, DFF, CONST0, CONST1"]),
+    ("INPUT(a)\nOUTPUT(y)\ny = NOT(a, a)\n", ["  y = NOT(a, a)", "NOT has 2 pins here, and may have 1"]),
+    ("INPUT(a)\nOUTPUT(y)\ny = XOR(a)\n", ["  y = XOR(a)", "XOR has 1 pin here, and may have 2 to 1,024"]),
+    ("INPUT(a)\nINPUT(a)\nOUTPUT(a)\n", ["  INPUT(a)", "a is defined on line 1 too: INPUT(a)"]),
+    ("INPUT(a)\nOUTPUT(SC__a)\n", ["  OUTPUT(SC__a)", "names that begin with SC__ are for scan insertion: SC__a"]),
+    ("INPUT(a)\nOUTPUT(y);\n", ["  OUTPUT(y);", "it is none of INPUT(x), OUTPUT(x) and z = GATE(a, b, ..)"]),
+    ("INPUT(a)\nOUTPUT(" + "y" * 300 + ")\n", ["  OUTPUT(" + "y" * 300 + ")",
+                                             "a name has 300 bytes, and may have 255 (261 where the netlist is read as scanned)"]),
+    ("INPUT(a)\nOUTPUT(\"y)\n", ["  OUTPUT(\"y)", "byte 8 is 0x22, which may stand in comments alone"]),
+    ("OUTPUT(y)\ny = CONST1()\n", ["no line is an INPUT"]),
+)
+
+
+def test_explain():
+    """The line and what is wrong with it, below what the program says."""
+    with tree() as made:
+        made.add_rt()
+        (made.root / "bench").mkdir()
+        shutil.copy2(ROOT / "bench/plain_design.py", made.root / "bench")
+        shutil.copy2(ROOT / "tools/explain", made.root / "tools")
+        for number, (text, wanted) in enumerate(REFUSED):
+            path = made.folder / f"{number}.bench"
+            path.write_text(text)
+            try:
+                plain_design.read(text.encode())
+            except plain_design.Refusal as why:
+                line = str(why)
+            made.put(made.root / "atpg", f"#!/bin/sh\necho '{line}' >&2\nexit 3\n")
+            status, out, errors = made.run(made.root / "tools/explain", path)
+            assert (status, out, errors.splitlines()) == (3, "", [line, *wanted]), (text, errors)
+        made.put(made.root / "atpg", "#!/bin/sh\necho faults 2 classes 2\n")
+        assert made.run(made.root / "tools/explain", "x") == (0, "x: read as a netlist\n", "")
