@@ -264,8 +264,8 @@ def on_netlist(verb, text, rest):
         return [netlist.site(rest.split(" ", 1)[1])]
     if verb == "pin-name":
         return [netlist.pin_name(int(rest))]
-    if verb == "search":
-        return searched(netlist, *rest.split(" ", 2))
+    if verb in ("search", "search-fan"):
+        return searched(netlist, verb == "search-fan", *rest.split(" ", 2))
     if verb in ("last", "hits"):
         names, texts = rest.split(": ", 1)
         if verb == "hits" and len(texts.split(" ")) > 64:
@@ -311,10 +311,12 @@ def stil_answer(netlist, verb, head, texts):
     return shown(stil_file.stil(netlist, int(asked), held, patterns)) + [read] if verb == "stil" else None
 
 
-def searched(netlist, held, limit, fault):
-    """A test or none, by all patterns; None where the backtrack limit might end the search before."""
+def searched(netlist, by_fan, held, limit, fault):
+    """A test or none, by all patterns; None where the backtrack limit might end the search before. FAN also decides stems; head lines stand for sources."""
     held = {} if held == "-" else dict([held.split("=")])
     sources = len(netlist.inputs) - len(held) + len(netlist.cells)
+    if by_fan:
+        sources += sum(len(readers) >= 2 for readers in readers_of(netlist.outputs, netlist.definitions).values())
     if check_trees.is_detected(netlist, fault, held):
         found = "test"
     else:

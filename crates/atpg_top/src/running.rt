@@ -21,16 +21,18 @@ use crate::design::design_of;
 use crate::holding::holds_of;
 use crate::refusal::Refusal;
 use commands::{Ending, FileName, Finding, Product, Stop, deliver, read_in_order};
+use fan::Fan;
 use itoa::Buffer;
 use netlist::{Core, Holds, Netlist, NoMemory};
 use outside::{Gate, Shelf, Sink};
 use podem::Podem;
+use redundancy_cert::Engine;
 use report::Report;
 use std::alloc::{AllocError, Global};
 use std::sync::Wait;
 use std::thread::Threads;
 use test_files::{Plan, TestFiles, test_files};
-use words::{Held, RunOptions};
+use words::{EngineName, Held, RunOptions};
 
 /// Adds a word and a number.
 fn push_count(line: &mut Vec<u8>, word: &[u8], count: u64) -> Result<(), AllocError>
@@ -96,7 +98,31 @@ fn product_of(alloc: Global, made: TestFiles) -> Result<Product, AllocError>
     })
 }
 
-/// The five files, searched by PODEM.
+/// The five files, as this engine finds them.
+fn made_by<R: Threads + Wait + Sync, E: Engine + Sync, G: Gate + Sync>(
+    rt: &R,
+    alloc: Global,
+    core: &Core,
+    options: RunOptions,
+    engine: &E,
+    holds: &Holds,
+    gate: &G,
+) -> Result<TestFiles, NoMemory>
+    requires design { IsDesign core.now }
+    requires range { AreInRange options }
+    requires held { AreHoldsOf core.now holds.now }
+    ensures { IfOk result (IsRun core.now holds.now options.chains options.limit) }
+{
+    let plan = Plan {
+        chains: options.chains,
+        workers: options.workers,
+        limit: options.limit,
+        seed: options.seed,
+    };
+    test_files(rt, alloc, core, plan, engine, holds, gate)
+}
+
+/// The five files, as the engine that was asked for finds them.
 fn made_of<R: Threads + Wait + Sync, G: Gate + Sync>(
     rt: &R,
     alloc: Global,
@@ -110,14 +136,16 @@ fn made_of<R: Threads + Wait + Sync, G: Gate + Sync>(
     requires held { AreHoldsOf core.now holds.now }
     ensures { IfOk result (IsRun core.now holds.now options.chains options.limit) }
 {
-    let podem = Podem::of(alloc, core)?;
-    let plan = Plan {
-        chains: options.chains,
-        workers: options.workers,
-        limit: options.limit,
-        seed: options.seed,
-    };
-    test_files(rt, alloc, core, plan, &podem, holds, gate)
+    match options.engine {
+        EngineName::Podem => {
+            let podem = Podem::of(alloc, core)?;
+            made_by(rt, alloc, core, options, &podem, holds, gate)
+        }
+        EngineName::Fan => {
+            let fan = Fan::of(alloc, core)?;
+            made_by(rt, alloc, core, options, &fan, holds, gate)
+        }
+    }
 }
 
 /// What `run` makes of a design and the names of inputs that are held.

@@ -1,8 +1,12 @@
 //! Searches for a test of a fault.
+ghost use Rattle.std.specs.Prelude.{◌≤◌};
+ghost use Rattle.netlist.specs.Holds.{AreHoldsOf};
+
 use crate::names::stuck;
 use crate::nets::core_of;
 use crate::trees::{cut, holds_of};
-use netlist::{Netlist, NoMemory};
+use fan::Fan;
+use netlist::{Core, Fault, Holds, Netlist, NoMemory};
 use podem::Podem;
 use redundancy_cert::Found;
 use std::alloc::{AllocError, Global};
@@ -17,12 +21,38 @@ fn word_of(found: Result<Found, NoMemory>) -> Result<&'static str, AllocError> {
     }
 }
 
-/// `search HELD LIMIT FAULT`: whether PODEM finds a test, shows that there is none, or gives up at the backtrack limit.
+/// Which engine searches.
+#[derive(Clone, Copy)]
+pub enum By {
+    Podem,
+    Fan,
+}
+
+/// What it finds.
+fn found_by(
+    by: By,
+    alloc: Global,
+    core: &Core,
+    fault: Fault,
+    limit: u32,
+    holds: &Holds,
+) -> Result<Found, NoMemory>
+    requires limit { 1 ≤ limit }
+    requires holds { AreHoldsOf core.now holds.now }
+{
+    match by {
+        By::Podem => Podem::of(alloc, core)?.search_sources(alloc, core, fault, limit, holds),
+        By::Fan => Fan::of(alloc, core)?.search_places(alloc, core, fault, limit, holds),
+    }
+}
+
+/// `search HELD LIMIT FAULT`, `search-fan ..`: whether the engine finds a test, shows that there is none, or gives up at the backtrack limit.
 pub fn push_search(
     to: &mut Vec<u8>,
     alloc: Global,
     netlist: &Netlist,
     rest: &str,
+    by: By,
 ) -> Result<(), AllocError> {
     let (held, rest) = cut(rest);
     let (limit, fault) = cut(rest);
@@ -32,9 +62,6 @@ pub fn push_search(
         return to.extend_from_slice(b"no fault\n");
     };
     let limit: u32 = limit.parse().unwrap_or(1);
-    let Ok(podem) = Podem::of(alloc, &core) else {
-        return Err(AllocError);
-    };
-    let found = podem.search_sources(alloc, &core, fault, limit.max(1), &holds);
+    let found = found_by(by, alloc, &core, fault, limit.max(1), &holds);
     to.extend_from_slice(word_of(found)?.as_bytes())
 }

@@ -9,6 +9,8 @@ use Rattle.words.specs.Numbers.{number_in}
 use Rattle.words.specs.HoldLists.{Hold, holds_in}
 use Rattle.words.specs.Table.{command_table, least_gates, most_chains, most_gates, most_limit, most_seed, most_workers}
 use Rattle.words.specs.declared.holds.Held.{Held}
+use Rattle.words.specs.declared.requests.EngineName.{EngineName}
+use Rattle.words.specs.declared.requests.EngineName.TheVariants.{Podem, Fan}
 use Rattle.words.specs.declared.requests.RunOptions.{RunOptions}
 use Rattle.words.specs.declared.requests.DiagnoseOptions.{DiagnoseOptions}
 use Rattle.words.specs.declared.requests.Request.{Request}
@@ -57,19 +59,22 @@ scan_of rows = option_and_then (λ net. option_and_then (λ out.
 abbrev pub faults_of : List Row → Option CommandLine
 faults_of rows = option_map (λ net. faults net) (first_of (codes "NET") rows)
 
--- the numbers of `run`, 1, 1, 100 and 1 where they aren't given
-abbrev pub options_of : List Row → Option RunOptions
-options_of rows = option_and_then (λ chains. option_and_then (λ workers. option_and_then (λ limit.
-    option_map (λ seed. record { chains = chains; workers = workers; limit = limit; seed = seed })
+-- the engine of this name, `podem` where none is given
+abbrev pub engine_given : Option Text → Option EngineName
+engine_given None = Some Podem
+engine_given (Some text) =
+    if bytes_eq text (codes "podem") then Some Podem
+    else if bytes_eq text (codes "fan") then Some Fan
+    else None
+
+-- the engine of `run` with its numbers, 1, 1, 100 and 1 where they aren't given
+abbrev pub options_of : EngineName → List Row → Option RunOptions
+options_of engine rows = option_and_then (λ chains. option_and_then (λ workers. option_and_then (λ limit.
+    option_map (λ seed. record { engine = engine; chains = chains; workers = workers; limit = limit; seed = seed })
     (number_at (codes "seed") 1 0 most_seed rows))
     (number_at (codes "limit") 100 1 most_limit rows))
     (number_at (codes "workers") 1 1 most_workers rows))
     (number_at (codes "chains") 1 1 most_chains rows)
-
--- `podem` is the one engine
-abbrev pub is_engine : Option Text → Bool
-is_engine None = true
-is_engine (Some text) = bytes_eq text (codes "podem")
 
 abbrev pub holds_given : Option Text → Option (List Hold)
 holds_given None = Some []
@@ -80,11 +85,13 @@ run_where (Some net) (Some prefix) (Some options) (Some holds) = Ok (run net pre
 run_where (Some net) (Some prefix) (Some options) None = Err bad_hold
 run_where _ _ _ _ = Err bad_words
 
+abbrev pub run_by : Option EngineName → List Row → Result CommandLine NoLine
+run_by (Some engine) rows =
+    run_where (first_of (codes "NET") rows) (first_of (codes "PREFIX") rows) (options_of engine rows) (holds_given (first_of (codes "hold") rows))
+run_by None rows = Err bad_words
+
 abbrev pub run_of : List Row → Result CommandLine NoLine
-run_of rows =
-    if is_engine (first_of (codes "engine") rows) then
-    run_where (first_of (codes "NET") rows) (first_of (codes "PREFIX") rows) (options_of rows) (holds_given (first_of (codes "hold") rows))
-    else Err bad_words
+run_of rows = run_by (engine_given (first_of (codes "engine") rows)) rows
 
 abbrev pub play_of : List Row → Option CommandLine
 play_of rows = option_and_then (λ net. option_map (λ stil. play net stil (first_of (codes "fault") rows))

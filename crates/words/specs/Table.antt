@@ -54,7 +54,7 @@ scan_command = command (codes "scan")
 abbrev pub faults_command : Shape
 faults_command = command (codes "faults") (required (codes "NET") ∷ [])
 
--- run NET PREFIX [--chains C] [--workers N] [--limit L] [--seed S] [--engine podem] [--hold LIST]
+-- run NET PREFIX [--chains C] [--workers N] [--limit L] [--seed S] [--engine E] [--hold LIST]
 abbrev pub run_command : Shape
 run_command = command (codes "run")
     (required (codes "NET") ∷ required (codes "PREFIX") ∷ number_option (codes "chains") 1 most_chains

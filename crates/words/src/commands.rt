@@ -172,7 +172,7 @@ fn run<'a>(alloc: Global) -> Result<Command<'a>, AllocError>
         alloc,
         command,
         "engine",
-        "The search: podem [default: podem]",
+        "The search: podem or fan [default: podem]",
     )?;
     let help = "Inputs that are held, as NAME=0,NAME=1";
     with_text(alloc, command, "hold", help)

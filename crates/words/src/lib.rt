@@ -23,7 +23,7 @@ use clap::error::ErrorKind;
 use clap::{ArgMatches, Error};
 use commands::table;
 pub use holds::Held;
-pub use requests::{DiagnoseOptions, Request, RunOptions};
+pub use requests::{DiagnoseOptions, EngineName, Request, RunOptions};
 use requests::{NoRequest, request_of};
 use std::alloc::Global;
 
@@ -47,7 +47,7 @@ For more information, try '--help'.
 
 // Of engines that aren't there.
 const BAD_ENGINE: &str = "\
-error: the engine is podem
+error: the engine is podem or fan
 
 For more information, try '--help'.
 ";

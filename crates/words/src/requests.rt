@@ -7,9 +7,9 @@ ghost use Rattle.words.specs.CommandLine.{
   chaintest_of,
   check_of,
   diagnose_of,
+  engine_given,
   faults_of,
   holds_given,
-  is_engine,
   line_at,
   line_by,
   line_from,
@@ -29,9 +29,17 @@ use crate::values::{number_of, number_or, text};
 use clap::ArgMatches;
 use std::alloc::Global;
 
-/// The numbers of `run`.
+/// A search that there is.
+#[derive(Clone, Copy, Debug, PartialEq, Eq)]
+pub enum EngineName {
+    Podem,
+    Fan,
+}
+
+/// The engine and the numbers of `run`.
 #[derive(Clone, Copy, Debug, PartialEq, Eq)]
 pub struct RunOptions {
+    pub engine: EngineName,
     /// How many chains at most.
     pub chains: u32,
     pub workers: u32,
@@ -199,8 +207,8 @@ fn diagnose<'a>(found: &ArgMatches<'a>) -> Option<Request<'a>>
     })
 }
 
-fn options(found: &ArgMatches<'_>) -> Option<RunOptions>
-    ensures value { result ≡ options_of (rows_of (found_of found.now)) }
+fn options(found: &ArgMatches<'_>, engine: EngineName) -> Option<RunOptions>
+    ensures value { result ≡ options_of engine (rows_of (found_of found.now)) }
     ensures in_range { IfSome result AreInRange }
 {
     let chains = number_or(found, "chains", 1, 1, MOST_CHAINS)?;
@@ -208,6 +216,7 @@ fn options(found: &ArgMatches<'_>) -> Option<RunOptions>
     let limit = number_or(found, "limit", 100, 1, MOST_LIMIT)?;
     let seed = number_or(found, "seed", 1, 0, u64::MAX)?;
     Some(RunOptions {
+        engine,
         chains: chains as u32,
         workers: workers as u32,
         limit: limit as u32,
@@ -215,13 +224,15 @@ fn options(found: &ArgMatches<'_>) -> Option<RunOptions>
     })
 }
 
-// Whether the engine is one that there is.
-fn is_engine(found: &ArgMatches<'_>) -> bool
-    ensures { result ≡ is_engine (first_of (codes "engine") (rows_of (found_of found.now))) }
+// The engine, if it is one that there is.
+fn engine(found: &ArgMatches<'_>) -> Option<EngineName>
+    ensures { result ≡ engine_given (first_of (codes "engine") (rows_of (found_of found.now))) }
 {
     match text(found, "engine") {
-        Some(name) => name == "podem",
-        None => true,
+        Some("podem") => Some(EngineName::Podem),
+        Some("fan") => Some(EngineName::Fan),
+        Some(_) => None,
+        None => Some(EngineName::Podem),
     }
 }
 
@@ -239,16 +250,16 @@ fn run<'a>(alloc: Global, found: &ArgMatches<'a>) -> Result<Request<'a>, NoReque
     ensures line { IsAsked (run_of (rows_of (found_of found.now))) result }
     ensures in_range { IfOk result IsInRange }
 {
-    if !is_engine(found) {
+    let Some(engine) = engine(found) else {
         return Err(NoRequest::BadEngine);
-    }
+    };
     let Some(net) = text(found, "NET") else {
         return Err(NoRequest::BadNumber);
     };
     let Some(prefix) = text(found, "PREFIX") else {
         return Err(NoRequest::BadNumber);
     };
-    let Some(options) = options(found) else {
+    let Some(options) = options(found, engine) else {
         return Err(NoRequest::BadNumber);
     };
     match holds(alloc, found) {
