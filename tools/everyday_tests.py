@@ -60,14 +60,14 @@ def tried(text, *words):
 def test_try_guide():
     """Commands run in order; what they print is compared with what is shown, and may be put there."""
     status, said, _ = tried(GUIDE)
-    assert status == 1 and said.count("the program doesn't have the command yet") == 2, said
-    assert "line 27: $ echo five" in said and "1 commands printed something else" in said, said
-    assert "5 commands run, 2 left out, 6 lines compared" in said, said
+    assert status == 0 and said.count("the program doesn't have the command yet") == 2, said
+    assert "line 27 doesn't show what this prints" in said and "$ echo five" in said, said
+    assert "5 commands run, 2 left out, 1 not shown, 6 lines compared, 0 commands printed something else" in said, said
     status, said, text = tried(GUIDE, "--write")
     assert status == 0 and text == GUIDE.replace("$ echo five\n", "$ echo five\nfive\n"), text
     assert tried(text)[0] == 0
     status, said, _ = tried(GUIDE.replace("c d\n$ seq", "c e\n$ seq"))
-    assert status == 1 and "    c d" in said and "    c e" in said and "2 commands printed something else" in said, said
+    assert status == 1 and "    c d" in said and "    c e" in said and "1 commands printed something else" in said, said
     assert tried("```console\n$ ./atpg --version\n...\n```\n")[0] in (0, 2)
 
 
