@@ -13,6 +13,7 @@ import sys
 sys.path.insert(0, os.path.dirname(os.path.abspath(__file__)))
 import check_certificates
 import check_trees
+import plain_check
 import stil_file
 from check_reports import is_report
 from fault_list import fault_list, netlist_of, readers_of
@@ -472,38 +473,84 @@ def check_calls(crate):
     return wrong
 
 
+def scan_answer(files, words):
+    netlist = Netlist(files[words[2]])
+    asked = int(words[5]) if len(words) > 5 else 1
+    said = f"|cells {len(netlist.cells)} chains {len(netlist.chains(asked))}"
+    return ["status 0", "out", said, f"file {words[2]} as before", f"file {words[3]}"] + shown(netlist.scanned(asked)) + ["files 2"]
+
+
+def faults_answer(files, words):
+    return ["status 0", "out"] + shown("".join(line + "\n" for line in fault_list(files[words[2]])))
+
+
+def check_answer(files, words):
+    """The status and the line, where the five files stand."""
+    ends = {end: f"{words[2]}.{end}" for end in plain_check.ENDS}
+    if not all(name in files for name in ends.values()):
+        return None
+    status, line = plain_check.check({end: files[name].encode("latin-1") for end, name in ends.items()})
+    return [f"status {status}", "out" if status < 2 else "err", f"|{line}"]
+
+
+def sweep_answer(files, words):
+    """The lines that don't depend on the search; with so many cells on one chain there are (P + 4) * cells + P cycles."""
+    gates = int(words[3])
+    faults, classes = next(iter(fault_list(sample(words[2], words[3])))).split(" ")[1::2]
+    return ["status 0", "out", f"|gates {gates}", f"|cells {gates // 8}", f"|faults {faults}", f"|classes {classes}",
+            f"|detected, redundant or aborted {faults}", f"|cycles {gates // 8 + 1}P + {gates // 8 * 4}", "|play ok"]
+
+
+def cut_answer(files, name, words):
+    """What comes of each proper prefix of a file, lengths with one answer together."""
+    answers = [check_answer(files | {name: files[name][:length]}, words) for length in range(len(files[name]))]
+    lines, start = [], 0
+    for k in range(1, len(answers) + 1):
+        if k == len(answers) or answers[k] != answers[start]:
+            status, *others = answers[start]
+            lines += [f"{start} to {k - 1}: {status}", *others]
+            start = k
+    return lines
+
+
+WORKED_OUT = {"scan": scan_answer, "faults": faults_answer, "check": check_answer, "sweep": sweep_answer}
+
+
+def case_answer(files, fails, verb, rest):
+    """What the first lines of a run are; None where this program doesn't know."""
+    name, _, words = rest.partition(" ")
+    if verb == "twice":
+        return ["the same"]
+    if verb == "cut":
+        return cut_answer(files, name, words.split(" "))
+    words = rest.split(" ")
+    return None if fails or words[1] not in WORKED_OUT else WORKED_OUT[words[1]](files, words)
+
+
 def check_cases():
     texts, rows = texts_and_rows(f"{ROOT}/crates/cases/stdin")
-    heads = [row for row in rows if row.startswith(("case ", "run "))]
-    stored = dict(zip(range(len(heads)), answers(f"{ROOT}/crates/cases/stdout", heads)))
-    wrong, known, place, files = 0, 0, -1, {}
+    heads = [row for row in rows if row.startswith(("case ", "run ", "twice ", "cut "))]
+    stored = iter(answers(f"{ROOT}/crates/cases/stdout", heads))
+    wrong, known, files, fails = 0, 0, {}, False
     for row in rows:
         verb, _, rest = row.partition(" ")
+        given = [line for line in next(stored, []) if line] if row in heads else []
         if verb == "case":
-            place, files = place + 1, {}
+            files, fails = {}, False
         elif verb == "file":
             name, *parts = rest.split(" ")
             files[name] = "".join(texts[part] for part in parts)
-        elif verb == "run":
-            place += 1
-            if not rest.startswith(("atpg scan ", "atpg faults ")):
+        elif verb.endswith("-fails") or row == "out-as hidden":
+            fails = True
+        elif verb in ("run", "twice", "cut"):
+            refused = rest.startswith(("atpg scan ", "atpg faults ")) and given[:2] != ["status 0", "out"]
+            if verb == "run" and (refused or given[:1] == ["status 2"]):
                 continue
-            given = [line for line in stored[place] if line]
-            if given[0] != "status 0" or len(given) < 3 or given[1] != "out":
-                continue
-            known += 1
-            words = rest.split(" ")
-            if words[1] == "faults":
-                wanted = shown("".join(line + "\n" for line in fault_list(files[words[2]])))
-                wrong += differs(row, wanted, given[2 : 2 + len(wanted)])
-            else:
-                asked = int(words[5]) if len(words) > 5 else 1
-                netlist = Netlist(files[words[2]])
-                said = f"|cells {len(netlist.cells)} chains {len(netlist.chains(asked))}"
-                wanted = ["status 0", "out", said, f"file {words[2]} as before", f"file {words[3]}"]
-                wanted += shown(netlist.scanned(asked)) + ["files 2"]
-                wrong += differs(row, wanted, given)
-    print(f"cases: {known} runs at status 0 worked out, {wrong} differ")
+            wanted = case_answer(files, fails, verb, rest)
+            if wanted is not None:
+                known += 1
+                wrong += differs(row, wanted, given[: len(wanted)])
+    print(f"cases: {known} runs worked out, {wrong} differ")
     return wrong
 
 

@@ -27,12 +27,13 @@ use Rattle.commands.specs.declared.ending.Finding.TheVariants.{Fine}
 use Rattle.words.specs.CommandLine.{CommandLine, check, faults, play, run, scan, sweep}
 use Rattle.words.specs.HoldLists.{Hold}
 use Rattle.words.specs.declared.requests.RunOptions.{RunOptions}
-use Rattle.atpg_top.specs.Commands.{due, faults_due, play_due, run_due, scan_due}
+use Rattle.atpg_top.specs.Commands.{due, faults_due, play_due, run_due, scan_due, sweep_due}
 use Rattle.atpg_top.specs.Runs.{run_line, texts_made}
 use Rattle.atpg_top.specs.inner.Running.{held_due, made_due}
 use Rattle.atpg_top.proofs.HoldLemmas.{holds_single}
 use Rattle.atpg_top.specs.FaultLists.{IsFaultList}
 use Rattle.atpg_top.specs.Plays.{finding_of, played_line}
+use Rattle.atpg_top.specs.Sweeps.{sweep_text}
 use Rattle.atpg_top.specs.Scans.{IsScanProduct}
 use Rattle.atpg_top.specs.Steps.{named_fault, named_holds, netlist, test, value}
 use Rattle.atpg_top.specs.inner.Trials.{answer_due, fault_due, file_due, trial_due}
@@ -122,10 +123,16 @@ run_exclusive options named (bytes ∷ []) c d p q =
     (λ holds x y a b. given x y (Deliver (texts_made a.0) (run_line a.0.said) Fine) (Deliver (texts_made b.0) (run_line b.0.said) Fine) a.2 b.2 refl)) c d p q
 run_exclusive options named (bytes ∷ more ∷ others) c d p q = absurd p
 
+-- ---- `sweep`
+
+sweep_exclusive : (seed gates : ℕ) → IsExclusive (sweep_due seed gates)
+sweep_exclusive seed gates [] c d p q = given c d (Deliver [] (sweep_text p.0.said) Fine) (Deliver [] (sweep_text q.0.said) Fine) p.2 q.2 refl
+sweep_exclusive seed gates (bytes ∷ others) c d p q = absurd p
+
 pub each_exclusive : AtMostOne → (line : CommandLine) → IsExclusive (due line)
 each_exclusive one (scan net to chains) = scan_exclusive chains
 each_exclusive one (faults net) = faults_exclusive
 each_exclusive one (play net stil fault) = play_exclusive one fault
 each_exclusive one (run net prefix options holds) = run_exclusive options holds
 each_exclusive one (check prefix) = λ texts c d p q. given c d (Refuse NotBuilt) (Refuse NotBuilt) p q refl
-each_exclusive one (sweep seed gates) = λ texts c d p q. given c d (Refuse NotBuilt) (Refuse NotBuilt) p q refl
+each_exclusive one (sweep seed gates) = sweep_exclusive seed gates

@@ -8,5 +8,6 @@ pub mod Saying
 pub mod Delivering
 pub mod PlayLemmas
 pub mod RunLemmas
+pub mod SweepLemmas
 pub mod Single
 pub mod LineLemmas

@@ -1,6 +1,7 @@
 -- The commands: for each command line the files that it reads, in order, those that it writes, and what is due of the texts read.
 -- A command to come is an entry in each.
 use Rattle.std.specs.Prelude.{◌≡◌, ◌++◌, ℕ, List, [], ◌∷◌, Option, codes, map}
+use Rattle.net_gen.specs.Samples.{sample, words_of}
 use Rattle.bench_text.specs.declared.refusal.Names.TheVariants.{Design, Scanned}
 use Rattle.stil_read.specs.Reading.{StandsFor}
 use Rattle.stil_vectors.specs.FileVectors.{vectors_in}
@@ -19,6 +20,7 @@ use Rattle.atpg_top.specs.Runs.{run_line, texts_made}
 use Rattle.atpg_top.specs.Scans.{IsScanProduct}
 use Rattle.atpg_top.specs.FaultLists.{IsFaultList}
 use Rattle.atpg_top.specs.Plays.{IsPlay, finding_of, played_line}
+use Rattle.atpg_top.specs.Sweeps.{IsSweep, sweep_text}
 use Rattle.atpg_top.specs.declared.refusal.Refusal.{Refusal}
 use Rattle.atpg_top.specs.declared.refusal.Refusal.TheVariants.{NotBuilt, NotStil, StilDoesNotFit}
 
@@ -67,6 +69,11 @@ run_due options named (bytes ∷ []) =
     (made : TestFiles) × IsRun n holds options.chains options.limit made × (d ≡ Deliver (texts_made made) (run_line made.said) Fine)
 run_due options named texts = λ d. ⊥
 
+-- the numbers of a run of the sample netlist, whose test passes
+abbrev pub sweep_due : ℕ → ℕ → List Text → Due Refusal → Type 0
+sweep_due seed gates [] = λ d. (made : TestFiles) × IsSweep (sample gates (words_of seed)) made × (d ≡ Deliver [] (sweep_text made.said) Fine)
+sweep_due seed gates texts = λ d. ⊥
+
 -- a command that this program doesn't do yet is refused
 abbrev pub not_built : List Text → Due Refusal → Type 0
 not_built texts d = d ≡ Refuse NotBuilt
@@ -78,4 +85,4 @@ due (faults net) = faults_due
 due (play net stil fault) = play_due fault
 due (run net prefix options holds) = run_due options holds
 due (check prefix) = not_built
-due (sweep seed gates) = not_built
+due (sweep seed gates) = sweep_due seed gates

@@ -4,6 +4,7 @@ pub mod Scans
 pub mod FaultLists
 pub mod Plays
 pub mod Runs
+pub mod Sweeps
 pub mod Commands
 pub mod Rows
 pub mod Laws

@@ -28,6 +28,7 @@ mod refusal;
 mod running;
 mod scanning;
 mod status;
+mod sweeping;
 
 use commands::Ending;
 pub use laws::{
@@ -45,6 +46,7 @@ use status::Status;
 use std::alloc::Global;
 use std::sync::Wait;
 use std::thread::Threads;
+use sweeping::sweep_sample;
 use words::{Held, Request, WordsRefusal, parse};
 
 /// Does what was asked.
@@ -86,7 +88,9 @@ fn perform<'a, R: Threads + Wait + Sync, S: Shelf, T: Sink, G: Gate + Sync>(
             holds.as_slice(),
         ),
         Request::Check { .. } => Ending::Refused(Refusal::NotBuilt),
-        Request::Sweep { .. } => Ending::Refused(Refusal::NotBuilt),
+        Request::Sweep { seed, gates } => {
+            sweep_sample(rt, alloc, shelf, out, gate, *seed, *gates)
+        }
     }
 }
 
