@@ -116,10 +116,10 @@ fn play_passing(alloc: Global, core: &Core, file: &StilFile) -> Result<(), NoMem
     requires passes { (answer : PlayedOf) → PlaysAs core.now None (vectors_in file.now) answer → answer ≡ Passes }
     ensures { OnOk result (IsPlay core.now None (vectors_in file.now) Passes) }
 {
-    match answer_of(alloc, core, None, file)? {
+    let answer = answer_of(alloc, core, None, file)?;
+    match answer {
         Played::Passes => Ok(()),
-        Played::Fails(_, _) => unreachable!(),
-        Played::Unknown(_, _) => unreachable!(),
+        _ => unreachable!(),
     }
 }
 
@@ -129,12 +129,13 @@ fn play_back(alloc: Global, core: &Core, made: &TestFiles) -> Result<(), NoMemor
     requires run { IsSweepRun core.now made.now }
     ensures { OnOk result (IsPlayedBack core.now made.now.stil.items) }
 {
-    core.netlist().sound();
+    let netlist = core.netlist();
+    netlist.sound();
     at_most_one();
     files_fit();
     file_vectors();
     vectors_decide();
-    let scanned = scanned_core(alloc, core.netlist())?;
+    let scanned = scanned_core(alloc, netlist)?;
     let file = read_back(alloc, made.stil.as_slice())?;
     play_passing(alloc, &scanned, &file)
 }
