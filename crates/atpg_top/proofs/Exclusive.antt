@@ -34,19 +34,20 @@ use Rattle.words.specs.declared.requests.RunOptions.{RunOptions}
 use Rattle.check_command.specs.Checking as command
 use Rattle.check_command.specs.declared.refusal.CheckRefusal.{CheckRefusal}
 use Rattle.atpg_top.specs.Checks.{check_due, refusal_of, told}
-use Rattle.atpg_top.specs.Commands.{chaintest_due, diagnose_due, due, faults_due, play_due, run_due, scan_due}
+use Rattle.atpg_top.specs.Commands.{chaintest_due, diagnose_due, due, faults_due, play_due, run_due, scan_due, sweep_due}
 use Rattle.atpg_top.specs.Runs.{run_line, texts_made}
 use Rattle.atpg_top.specs.inner.Running.{held_due, made_due}
 use Rattle.atpg_top.proofs.HoldLemmas.{holds_single}
 use Rattle.atpg_top.specs.FaultLists.{IsFaultList}
 use Rattle.atpg_top.specs.Plays.{finding_of, played_line}
+use Rattle.atpg_top.specs.Sweeps.{sweep_text}
 use Rattle.atpg_top.specs.Scans.{IsScanProduct}
 use Rattle.atpg_top.specs.Steps.{named_fault, named_holds, netlist, test, value}
 use Rattle.atpg_top.specs.ChainTests.{chain_test_text, hardware_of}
 use Rattle.atpg_top.specs.inner.ChainTrials.{bytes_due, fit_due, test_due, told_due}
 use Rattle.atpg_top.specs.inner.Cases as cases
 use Rattle.atpg_top.specs.inner.Trials.{answer_due, fault_due, file_due, trial_due}
-use Rattle.atpg_top.specs.declared.refusal.Refusal.TheVariants.{NotBuilt, NotLog, NotStil, StilDoesNotFit}
+use Rattle.atpg_top.specs.declared.refusal.Refusal.TheVariants.{NotLog, NotStil, StilDoesNotFit}
 use Rattle.atpg_top.proofs.PlayLemmas.{known_is_not_x}
 use Rattle.atpg_top.proofs.Single.{IsOneKind, fault_single, given, netlist_single, test_single, then_one, then_one_where, value_single}
 
@@ -177,12 +178,18 @@ diagnose_exclusive one once chains (net ∷ stil ∷ log ∷ []) c d p q =
     (λ u x y a b. given x y (Deliver [] a.0 Fine) (Deliver [] b.0 Fine) a.2 b.2 refl)))) c d p q
 diagnose_exclusive one once chains (net ∷ stil ∷ log ∷ more ∷ others) c d p q = absurd p
 
+-- ---- `sweep`
+
+sweep_exclusive : (seed gates : ℕ) → IsExclusive (sweep_due seed gates)
+sweep_exclusive seed gates [] c d p q = given c d (Deliver [] (sweep_text p.0.said) Fine) (Deliver [] (sweep_text q.0.said) Fine) p.2 q.2 refl
+sweep_exclusive seed gates (bytes ∷ others) c d p q = absurd p
+
 pub each_exclusive : AtMostOne → IsExclusive command.check_due → OneLog → (line : CommandLine) → IsExclusive (due line)
 each_exclusive one checks once (scan net to chains) = scan_exclusive chains
 each_exclusive one checks once (faults net) = faults_exclusive
 each_exclusive one checks once (play net stil fault) = play_exclusive one fault
 each_exclusive one checks once (run net prefix options holds) = run_exclusive options holds
 each_exclusive one checks once (check prefix) = check_exclusive checks
-each_exclusive one checks once (sweep seed gates) = λ texts c d p q. given c d (Refuse NotBuilt) (Refuse NotBuilt) p q refl
+each_exclusive one checks once (sweep seed gates) = sweep_exclusive seed gates
 each_exclusive one checks once (chaintest net stil chains) = chaintest_exclusive one chains
 each_exclusive one checks once (diagnose net stil log options) = diagnose_exclusive one once options.chains

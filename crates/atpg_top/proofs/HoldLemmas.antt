@@ -76,7 +76,6 @@ module _ (n : Netlist) (sound : IsSound n) where
   holds_apart named x refusal.NotCertificate p q = q
   holds_apart named x refusal.NotReport p q = q
   holds_apart named x refusal.StilDoesNotFit p q = q
-  holds_apart named x refusal.NotBuilt p q = q
 
   first_once : (named : List Hold) (i j : ℕ) → IsFirstUnknown n named i → IsFirstUnknown n named j → i ≡ j
   first_once named i j p q = elim (cases_order i j) [
@@ -95,14 +94,12 @@ module _ (n : Netlist) (sound : IsSound n) where
   refusals_once named (refusal.NoSuchInput i) refusal.NotCertificate p q = absurd q
   refusals_once named (refusal.NoSuchInput i) refusal.NotReport p q = absurd q
   refusals_once named (refusal.NoSuchInput i) refusal.StilDoesNotFit p q = absurd q
-  refusals_once named (refusal.NoSuchInput i) refusal.NotBuilt p q = absurd q
   refusals_once named (refusal.Netlist r) s p q = absurd p
   refusals_once named refusal.NoSuchFault s p q = absurd p
   refusals_once named refusal.NotStil s p q = absurd p
   refusals_once named refusal.NotCertificate s p q = absurd p
   refusals_once named refusal.NotReport s p q = absurd p
   refusals_once named refusal.StilDoesNotFit s p q = absurd p
-  refusals_once named refusal.NotBuilt s p q = absurd p
 
   -- the step answers one thing alone
   pub holds_single : (named : List Hold) → IsSingle (named_holds n named)

@@ -9,5 +9,6 @@ pub mod PlayLemmas
 pub mod ChainTestLemmas
 pub mod RunLemmas
 pub mod DiagnoseLemmas
+pub mod SweepLemmas
 pub mod Single
 pub mod LineLemmas

@@ -64,7 +64,6 @@ netlist_refusals reading bytes (refusal.Netlist r) refusal.NotCertificate a b = 
 netlist_refusals reading bytes (refusal.Netlist r) refusal.NotReport a b = absurd b
 netlist_refusals reading bytes (refusal.Netlist r) refusal.NotLog a b = absurd b
 netlist_refusals reading bytes (refusal.Netlist r) refusal.StilDoesNotFit a b = absurd b
-netlist_refusals reading bytes (refusal.Netlist r) refusal.NotBuilt a b = absurd b
 netlist_refusals reading bytes refusal.NoSuchFault s a b = absurd a
 netlist_refusals reading bytes (refusal.NoSuchInput place) s a b = absurd a
 netlist_refusals reading bytes refusal.NotStil s a b = absurd a
@@ -72,7 +71,6 @@ netlist_refusals reading bytes refusal.NotCertificate s a b = absurd a
 netlist_refusals reading bytes refusal.NotReport s a b = absurd a
 netlist_refusals reading bytes refusal.NotLog s a b = absurd a
 netlist_refusals reading bytes refusal.StilDoesNotFit s a b = absurd a
-netlist_refusals reading bytes refusal.NotBuilt s a b = absurd a
 
 netlist_apart : (reading : Names) (bytes : Text) (n : Netlist) (r : Refusal) → netlist reading bytes (Ok n) → netlist reading bytes (Err r) → ⊥
 netlist_apart reading bytes n (refusal.Netlist r) a b = read_once reading bytes n r a.0 b
@@ -83,7 +81,6 @@ netlist_apart reading bytes n refusal.NotCertificate a b = b
 netlist_apart reading bytes n refusal.NotReport a b = b
 netlist_apart reading bytes n refusal.NotLog a b = b
 netlist_apart reading bytes n refusal.StilDoesNotFit a b = b
-netlist_apart reading bytes n refusal.NotBuilt a b = b
 
 pub netlist_single : (reading : Names) (bytes : Text) → IsSingle (netlist reading bytes)
 netlist_single reading bytes = record {

@@ -1,6 +1,7 @@
 -- The commands: for each command line the files that it reads, in order, those that it writes, and what is due of the texts read.
 -- A command to come is an entry in each.
 use Rattle.std.specs.Prelude.{◌≡◌, ℕ, List, [], ◌∷◌, Option}
+use Rattle.net_gen.specs.Samples.{sample, words_of}
 use Rattle.bench_text.specs.declared.refusal.Names.TheVariants.{Design, Scanned}
 use Rattle.good_files.specs.ScanOff.{design_chains}
 use Rattle.scan_insert.specs.Scanned.{scanned_of}
@@ -13,7 +14,7 @@ use Rattle.good_files.specs.ScanOff.{design_chains}
 use Rattle.fail_log.specs.Reading.{IsLogOf}
 use Rattle.words.specs.CommandLine.{CommandLine, chaintest, check, diagnose, faults, play, run, scan, sweep}
 use Rattle.commands.specs.World.{Text}
-use Rattle.commands.specs.Due.{Due, Deliver, Refuse}
+use Rattle.commands.specs.Due.{Due, Deliver}
 use Rattle.commands.specs.declared.ending.Finding.TheVariants.{Fine}
 use Rattle.words.specs.HoldLists.{Hold}
 use Rattle.words.specs.declared.requests.RunOptions.{RunOptions}
@@ -28,8 +29,9 @@ use Rattle.atpg_top.specs.FaultLists.{IsFaultList}
 use Rattle.atpg_top.specs.ChainTests.{IsChainTest, Strobe, chain_test_text, hardware_of}
 use Rattle.atpg_top.specs.Plays.{IsPlay, finding_of, played_line}
 use Rattle.atpg_top.specs.Diagnoses.{IsDiagnosis}
+use Rattle.atpg_top.specs.Sweeps.{IsSweep, sweep_text}
 use Rattle.atpg_top.specs.declared.refusal.Refusal.{Refusal}
-use Rattle.atpg_top.specs.declared.refusal.Refusal.TheVariants.{NotBuilt, NotLog, NotStil, StilDoesNotFit}
+use Rattle.atpg_top.specs.declared.refusal.Refusal.TheVariants.{NotLog, NotStil, StilDoesNotFit}
 
 -- the names of the files that a command line reads, in order
 abbrev pub reads : CommandLine → List Text
@@ -90,9 +92,10 @@ diagnose_due chains (net ∷ stil ∷ log ∷ []) =
     (text : Text) × IsDiagnosis n (design_chains n chains) (vectors_in file) failures text × (d ≡ Deliver [] text Fine)
 diagnose_due chains texts = λ d. ⊥
 
--- a command that this program doesn't do yet is refused
-abbrev pub not_built : List Text → Due Refusal → Type 0
-not_built texts d = d ≡ Refuse NotBuilt
+-- the numbers of a run of the sample netlist, whose test passes
+abbrev pub sweep_due : ℕ → ℕ → List Text → Due Refusal → Type 0
+sweep_due seed gates [] = λ d. (made : TestFiles) × IsSweep (sample gates (words_of seed)) made × (d ≡ Deliver [] (sweep_text made.said) Fine)
+sweep_due seed gates texts = λ d. ⊥
 
 -- what is due of the texts that a command line has read
 abbrev pub due : CommandLine → List Text → Due Refusal → Type 0
@@ -101,6 +104,6 @@ due (faults net) = faults_due
 due (play net stil fault) = play_due fault
 due (run net prefix options holds) = run_due options holds
 due (check prefix) = check_due
-due (sweep seed gates) = not_built
+due (sweep seed gates) = sweep_due seed gates
 due (chaintest net stil chains) = chaintest_due chains
 due (diagnose net stil log options) = diagnose_due options.chains

@@ -7,6 +7,7 @@ pub mod ChainTests
 pub mod Checks
 pub mod Runs
 pub mod Diagnoses
+pub mod Sweeps
 pub mod Commands
 pub mod Rows
 pub mod Laws

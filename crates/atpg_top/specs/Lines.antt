@@ -7,7 +7,7 @@ use Rattle.commands.specs.declared.ending.Ending.{Ending}
 use Rattle.commands.specs.declared.ending.Ending.TheVariants.{Ended, Refused, ReadFailed, WriteFailed, Missing, TooLong, Memory}
 use Rattle.status_lines.specs.Lines.{failure_line, netlist_line}
 use Rattle.atpg_top.specs.declared.refusal.Refusal.{Refusal}
-use Rattle.atpg_top.specs.declared.refusal.Refusal.TheVariants.{Netlist, NoSuchFault, NoSuchInput, NotStil, NotCertificate, NotReport, NotLog, StilDoesNotFit, NotBuilt}
+use Rattle.atpg_top.specs.declared.refusal.Refusal.TheVariants.{Netlist, NoSuchFault, NoSuchInput, NotStil, NotCertificate, NotReport, NotLog, StilDoesNotFit}
 use Rattle.atpg_top.specs.declared.status.Status.{Status}
 use Rattle.atpg_top.specs.declared.status.Status.TheVariants.{BadWords, BadHold, Command}
 
@@ -20,7 +20,6 @@ refusal_code NotCertificate = 4
 refusal_code NotReport = 4
 refusal_code NotLog = 4
 refusal_code StilDoesNotFit = 4
-refusal_code NotBuilt = 2
 
 abbrev pub ending_code : Ending Refusal → ℕ
 ending_code (Ended Fine) = 0
@@ -47,7 +46,6 @@ refusal_line names NotCertificate = codes "not a certificate\n"
 refusal_line names NotReport = codes "not a report\n"
 refusal_line names NotLog = codes "not a fail log\n"
 refusal_line names StilDoesNotFit = codes "stil does not fit\n"
-refusal_line names NotBuilt = codes "not built yet\n"
 
 -- the line of an ending; one that did its work has none
 abbrev pub ending_line : List Text → Ending Refusal → Text

@@ -32,6 +32,7 @@ mod running;
 mod scanning;
 mod status;
 mod told_lines;
+mod sweeping;
 
 use chain_testing::test_chains;
 use checking::check_run;
@@ -52,6 +53,7 @@ use status::Status;
 use std::alloc::Global;
 use std::sync::Wait;
 use std::thread::Threads;
+use sweeping::sweep_sample;
 use words::{Held, Request, WordsRefusal, parse};
 
 /// Does what was asked.
@@ -93,7 +95,9 @@ fn perform<'a, R: Threads + Wait + Sync, S: Shelf, T: Sink, G: Gate + Sync>(
             holds.as_slice(),
         ),
         Request::Check { prefix } => check_run(alloc, shelf, out, prefix),
-        Request::Sweep { .. } => Ending::Refused(Refusal::NotBuilt),
+        Request::Sweep { seed, gates } => {
+            sweep_sample(rt, alloc, shelf, out, gate, *seed, *gates)
+        }
         Request::ChainTest { net, stil, chains } => {
             test_chains(alloc, shelf, out, net, stil, *chains)
         }

@@ -43,7 +43,6 @@ fn say_refusal<E: Sink>(err: &mut E, refusal: &Refusal, holds: &[Held<'_>])
         Refusal::NotReport => say_text(err, b"not a report\n"),
         Refusal::NotLog => say_text(err, b"not a fail log\n"),
         Refusal::StilDoesNotFit => say_text(err, b"stil does not fit\n"),
-        Refusal::NotBuilt => say_text(err, b"not built yet\n"),
     }
 }
 

@@ -60,7 +60,7 @@ fn trial_of(
 }
 
 /// Plays the file, which fits the netlist.
-fn answer_of(
+pub(crate) fn answer_of(
     alloc: Global,
     core: &Core,
     fault: Option<Fault>,

@@ -17,6 +17,4 @@ pub enum Refusal {
     NotLog,
     /// The STIL file's signals are not those of the netlist.
     StilDoesNotFit,
-    /// The command is known, but this program doesn't do it yet.
-    NotBuilt,
 }

@@ -35,7 +35,7 @@ use test_files::{Plan, TestFiles, test_files};
 use words::{EngineName, Held, RunOptions};
 
 /// Adds a word and a number.
-fn push_count(line: &mut Vec<u8>, word: &[u8], count: u64) -> Result<(), AllocError>
+pub(crate) fn push_count(line: &mut Vec<u8>, word: &[u8], count: u64) -> Result<(), AllocError>
     ensures { OnOk result (line.new.items ≡ line.old.items ++ (word.now ++ decimal count)) }
 {
     line.extend_from_slice(word)?;
@@ -99,7 +99,7 @@ fn product_of(alloc: Global, made: TestFiles) -> Result<Product, AllocError>
 }
 
 /// The five files, as this engine finds them.
-fn made_by<R: Threads + Wait + Sync, E: Engine + Sync, G: Gate + Sync>(
+pub(crate) fn made_by<R: Threads + Wait + Sync, E: Engine + Sync, G: Gate + Sync>(
     rt: &R,
     alloc: Global,
     core: &Core,

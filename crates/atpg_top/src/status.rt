@@ -28,7 +28,6 @@ fn refusal_code(refusal: &Refusal) -> u8
         Refusal::NotReport => 4,
         Refusal::NotLog => 4,
         Refusal::StilDoesNotFit => 4,
-        Refusal::NotBuilt => 2,
     }
 }
 

@@ -24,4 +24,4 @@ pub returns-in-Check : goal.returns-in-Check
 returns-in-Check g c = rw c.in-Check.is c.check_run.ensures
 
 pub returns-in-Sweep : goal.returns-in-Sweep
-returns-in-Sweep g c = rw c.in-Sweep.is (([], nothing_read (g.S.Shelf.files c.args.shelf.now), refl), ((refl, refl), (refl, refl)))
+returns-in-Sweep g c = rw c.in-Sweep.is c.sweep_sample.ensures

@@ -28,5 +28,3 @@ pub returns-in-NoSuchInput : goal.returns-in-NoSuchInput
 returns-in-NoSuchInput g c =
     rw c.in-NoSuchInput.is (said_so _ _ _ _ _ _ _ (ap (λ (t : Text). codes "no such input: " ++ (t ++ codes "\n")) c.name_at.ensures) c.say_no_input.ensures)
 
-pub returns-in-NotBuilt : goal.returns-in-NotBuilt
-returns-in-NotBuilt g c = rw c.in-NotBuilt.is c.say_text-in-NotBuilt.ensures

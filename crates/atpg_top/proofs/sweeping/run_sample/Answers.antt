@@ -1,0 +1,24 @@
+use Rattle.std.proofs.Common.{None, arith, subst, ◌∙◌, ap, length}
+use Rattle.std.proofs.lemmas.List.{length-map}
+use Rattle.std.proofs.lemmas.Result.{IfOk-weaker}
+use Rattle.netlist.specs.Holds.{Holds}
+use Rattle.test_files.specs.declared.files.TestFiles.{TestFiles}
+use Rattle.test_files.specs.Runs.{IsRun}
+use Rattle.atpg_top.specs.Sweeps.{IsSweepRun, sweep_chains, sweep_limit}
+use Rattle.atpg_top.proofs.sweeping.run_sample.Goals as goal
+
+pub made_of-requires-clause-range : goal.made_of-requires-clause-range
+made_of-requires-clause-range g c = record {
+  chains = (omega arith, omega arith);
+  workers = (omega arith, omega arith);
+  limit = (omega arith, omega arith);
+}
+
+pub made_of-requires-clause-held : goal.made_of-requires-clause-held
+made_of-requires-clause-held g c = ap length c.in_ok-holds.ensures ∙ length-map c.args.core.now.inputs (λ _. None)
+
+pub returns : goal.returns
+returns g c =
+    let n = c.args.core.now in
+    IfOk-weaker c.made_of.result (IsRun n c.in_ok-holds.holds sweep_chains sweep_limit) (IsSweepRun n)
+    (λ made is. subst (λ (h : Holds). IsRun n h sweep_chains sweep_limit made) c.in_ok-holds.ensures is) c.made_of.ensures

@@ -1,0 +1,233 @@
+//! `sweep`: a run of a sample netlist, whose test is read back and played.
+//!
+//! No file is read or written. The texts of a run are good, so it is proved, and no answer, that the test is read back and that
+//! the scanned netlist passes it.
+ghost use Rattle.std.specs.Prelude.{◌≡◌, ◌≤◌, ◌++◌, [], IfOk, None, OnOk, length};
+ghost use Rattle.commands.specs.Rows.{CommandRow};
+ghost use Rattle.commands.specs.Worked.{IsWorked};
+ghost use Rattle.commands.specs.World.{world};
+ghost use Rattle.net_gen.specs.Samples.{fewest_gates, most_gates, sample, words_of};
+ghost use Rattle.netlist.specs.Designs.{IsDesign};
+ghost use Rattle.scan_insert.specs.Scanned.{scanned_of};
+ghost use Rattle.scan_play.specs.Playing.{PlaysAs};
+ghost use Rattle.scan_play.specs.declared.played.Played.{Played as PlayedOf};
+ghost use Rattle.scan_play.specs.declared.played.Played.TheVariants.{Passes};
+ghost use Rattle.good_files.specs.ScanOff.{design_chains};
+ghost use Rattle.stil_read.specs.Reading.{StandsFor};
+ghost use Rattle.stil_vectors.specs.FileVectors.{vectors_in};
+ghost use Rattle.stil_vectors.specs.Fitting.{Fits};
+ghost use Rattle.stil_write.specs.StilFiles.{StilFile as File};
+ghost use Rattle.test_files.specs.declared.files.TestFiles.{TestFiles as Made};
+ghost use Rattle.atpg_top.specs.Commands.{sweep_due};
+ghost use Rattle.atpg_top.specs.Plays.{IsPlay};
+ghost use Rattle.atpg_top.specs.Sweeps.{IsPlayedBack, IsSweep, IsSweepRun, number_line, sweep_chains, sweep_text};
+
+use crate::playing::answer_of;
+use crate::refusal::Refusal;
+use crate::running::{made_of, push_count};
+use chain_stitch::stitch;
+use commands::{Ending, Finding, Product, Stop, deliver};
+use net_gen::{generate, samples_are_designs};
+use netlist::{Core, Holds, Netlist, NoMemory};
+use outside::{Gate, Shelf, Sink};
+use report::Report;
+use scan_insert::insert;
+use scan_play::{Played, vectors_decide};
+use std::alloc::{AllocError, Global};
+use std::sync::Wait;
+use std::thread::Threads;
+use stil_read::laws::at_most_one;
+use stil_read::{StilFault, read_stil};
+use stil_tests::laws::{file_vectors, files_fit};
+use stil_write::StilFile;
+use test_files::TestFiles;
+use words::RunOptions;
+
+const CHAINS: u32 = 1;
+
+const LIMIT: u32 = 100;
+
+/// The netlist of a seed, with so many gates.
+fn sample_core(alloc: Global, seed: u64, gates: u32) -> Result<Core, NoMemory>
+    requires least { fewest_gates ≤ gates }
+    requires most { gates ≤ most_gates }
+    ensures sample { IfOk result (λ core. core ≡ sample gates (words_of seed)) }
+    ensures design { IfOk result IsDesign }
+{
+    samples_are_designs();
+    let netlist = generate(alloc, seed, gates)?;
+    match Core::of(alloc, netlist) {
+        Ok(core) => Ok(core),
+        Err(_) => Err(NoMemory),
+    }
+}
+
+/// The texts of a run by one worker.
+fn run_sample<R: Threads + Wait + Sync, G: Gate + Sync>(
+    rt: &R,
+    alloc: Global,
+    core: &Core,
+    seed: u64,
+    gate: &G,
+) -> Result<TestFiles, NoMemory>
+    requires { IsDesign core.now }
+    ensures { IfOk result (IsSweepRun core.now) }
+{
+    let options = RunOptions {
+        chains: CHAINS,
+        workers: 1,
+        limit: LIMIT,
+        seed,
+    };
+    let holds = Holds::none(alloc, core)?;
+    made_of(rt, alloc, core, options, &holds, gate)
+}
+
+/// The scanned netlist of a design, in one chain.
+fn scanned_core(alloc: Global, netlist: &Netlist) -> Result<Core, NoMemory>
+    requires { IsDesign netlist.now }
+    ensures { IfOk result (λ core. core ≡ scanned_of netlist.now (design_chains netlist.now sweep_chains)) }
+{
+    netlist.sound();
+    let chains = stitch(alloc, netlist.cells(), CHAINS)?;
+    let scanned = insert(alloc, netlist, &chains)?;
+    let copy = scanned.netlist().copy(alloc)?;
+    match Core::of(alloc, copy) {
+        Ok(core) => Ok(core),
+        Err(_) => Err(NoMemory),
+    }
+}
+
+/// The file that the text stands for.
+fn read_back(alloc: Global, text: &[u8]) -> Result<StilFile, NoMemory>
+    requires { (file : File) × StandsFor text.now file }
+    ensures { IfOk result (StandsFor text.now) }
+{
+    match read_stil(alloc, text) {
+        Ok(file) => Ok(file),
+        Err(StilFault::NotStil) => unreachable!(),
+        Err(StilFault::NoMemory) => Err(NoMemory),
+    }
+}
+
+/// Plays a file on a netlist that passes it.
+fn play_passing(alloc: Global, core: &Core, file: &StilFile) -> Result<(), NoMemory>
+    requires fits { Fits file.now core.now }
+    requires passes { (answer : PlayedOf) → PlaysAs core.now None (vectors_in file.now) answer → answer ≡ Passes }
+    ensures { OnOk result (IsPlay core.now None (vectors_in file.now) Passes) }
+{
+    let answer = answer_of(alloc, core, None, file)?;
+    match answer {
+        Played::Passes => Ok(()),
+        _ => unreachable!(),
+    }
+}
+
+/// Reads the test of a run back, and plays it.
+fn play_back(alloc: Global, core: &Core, made: &TestFiles) -> Result<(), NoMemory>
+    requires design { IsDesign core.now }
+    requires run { IsSweepRun core.now made.now }
+    ensures { OnOk result (IsPlayedBack core.now made.now.stil.items) }
+{
+    let netlist = core.netlist();
+    netlist.sound();
+    at_most_one();
+    files_fit();
+    file_vectors();
+    vectors_decide();
+    let scanned = scanned_core(alloc, netlist)?;
+    let file = read_back(alloc, made.stil.as_slice())?;
+    play_passing(alloc, &scanned, &file)
+}
+
+/// Adds a line with a word and a number.
+fn push_line(text: &mut Vec<u8>, word: &[u8], number: u64) -> Result<(), AllocError>
+    ensures { OnOk result (text.new.items ≡ text.old.items ++ number_line word.now number) }
+{
+    push_count(text, word, number)?;
+    text.extend_from_slice(b"\n")?;
+    Ok(())
+}
+
+/// What is shown of a run whose test passes.
+fn text_of(alloc: Global, said: &Report) -> Result<Vec<u8>, AllocError>
+    ensures { IfOk result (λ t. t.items ≡ sweep_text said.now) }
+{
+    said.sound();
+    let counts = said.counts();
+    let mut text = Vec::new(alloc);
+    push_line(&mut text, b"gates ", counts[2])?;
+    push_line(&mut text, b"cells ", counts[3])?;
+    push_line(&mut text, b"faults ", counts[5])?;
+    push_line(&mut text, b"classes ", counts[6])?;
+    push_line(&mut text, b"detected ", counts[10])?;
+    push_line(&mut text, b"redundant ", counts[11])?;
+    push_line(&mut text, b"aborted ", counts[12])?;
+    push_line(&mut text, b"patterns ", counts[7])?;
+    push_line(&mut text, b"cycles ", counts[8])?;
+    text.extend_from_slice(b"play ok\n")?;
+    Ok(text)
+}
+
+/// Runs the netlist of a seed, plays its test, and says how it went.
+fn swept<R: Threads + Wait + Sync, G: Gate + Sync>(
+    rt: &R,
+    alloc: Global,
+    seed: u64,
+    gates: u32,
+    gate: &G,
+) -> Result<Vec<u8>, NoMemory>
+    requires least { fewest_gates ≤ gates }
+    requires most { gates ≤ most_gates }
+    ensures { IfOk result (λ text. (made : Made) × IsSweep (sample gates (words_of seed)) made × (text.items ≡ sweep_text made.said)) }
+{
+    let core = sample_core(alloc, seed, gates)?;
+    let made = run_sample(rt, alloc, &core, seed, gate)?;
+    play_back(alloc, &core, &made)?;
+    match text_of(alloc, &made.said) {
+        Ok(text) => Ok(text),
+        Err(_) => Err(NoMemory),
+    }
+}
+
+/// The work of `sweep`, which waits for its worker.
+fn work<R: Threads + Wait + Sync, G: Gate + Sync>(
+    rt: &R,
+    alloc: Global,
+    seed: u64,
+    gates: u32,
+    gate: &G,
+) -> Result<Product, Stop<Refusal>>
+    requires least { fewest_gates ≤ gates }
+    requires most { gates ≤ most_gates }
+    ensures { IsWorked (sweep_due seed gates []) 0 result }
+{
+    match swept(rt, alloc, seed, gates, gate) {
+        Ok(shown) => Ok(Product {
+            texts: Vec::new(alloc),
+            shown,
+            finding: Finding::Fine,
+        }),
+        Err(_) => Err(Stop::NoMemory),
+    }
+}
+
+/// Runs the netlist of a seed, with so many gates, and shows the numbers of the run.
+pub fn sweep_sample<'a, R: Threads + Wait + Sync, S: Shelf, T: Sink, G: Gate + Sync>(
+    rt: &R,
+    alloc: Global,
+    shelf: &mut S,
+    out: &mut T,
+    gate: &G,
+    seed: u64,
+    gates: u32,
+) -> Ending<'a, Refusal>
+    requires least { fewest_gates ≤ gates }
+    requires most { gates ≤ most_gates }
+    ensures { CommandRow [] [] (sweep_due seed gates)
+        (world (S.files shelf.old) (S.failures shelf.old) (T.taken out.old) (T.failures out.old))
+        (world (S.files shelf.new) (S.failures shelf.new) (T.taken out.new) (T.failures out.new)) result }
+{
+    let worked = work(rt, alloc, seed, gates, gate);
+    deliver(alloc, shelf, out, &[], worked)
+}
