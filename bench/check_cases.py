@@ -655,60 +655,6 @@ def case_answer(files, fails, verb, rest):
     return None if fails or words[1] not in WORKED_OUT else WORKED_OUT[words[1]](files, words)
 
 
-def scan_answer(files, words):
-    netlist = Netlist(files[words[2]])
-    asked = int(words[5]) if len(words) > 5 else 1
-    said = f"|cells {len(netlist.cells)} chains {len(netlist.chains(asked))}"
-    return ["status 0", "out", said, f"file {words[2]} as before", f"file {words[3]}"] + shown(netlist.scanned(asked)) + ["files 2"]
-
-
-def faults_answer(files, words):
-    return ["status 0", "out"] + shown("".join(line + "\n" for line in fault_list(files[words[2]])))
-
-
-def check_answer(files, words):
-    """The status and the line, where the five files stand."""
-    ends = {end: f"{words[2]}.{end}" for end in plain_check.ENDS}
-    if not all(name in files for name in ends.values()):
-        return None
-    status, line = plain_check.check({end: files[name].encode("latin-1") for end, name in ends.items()})
-    return [f"status {status}", "out" if status < 2 else "err", f"|{line}"]
-
-
-def sweep_answer(files, words):
-    """The lines that don't depend on the search; with so many cells on one chain there are (P + 4) * cells + P cycles."""
-    gates = int(words[3])
-    faults, classes = next(iter(fault_list(sample(words[2], words[3])))).split(" ")[1::2]
-    return ["status 0", "out", f"|gates {gates}", f"|cells {gates // 8}", f"|faults {faults}", f"|classes {classes}",
-            f"|detected, redundant or aborted {faults}", f"|cycles {gates // 8 + 1}P + {gates // 8 * 4}", "|play ok"]
-
-
-def cut_answer(files, name, words):
-    """What comes of each proper prefix of a file, lengths with one answer together."""
-    answers = [check_answer(files | {name: files[name][:length]}, words) for length in range(len(files[name]))]
-    lines, start = [], 0
-    for k in range(1, len(answers) + 1):
-        if k == len(answers) or answers[k] != answers[start]:
-            status, *others = answers[start]
-            lines += [f"{start} to {k - 1}: {status}", *others]
-            start = k
-    return lines
-
-
-WORKED_OUT = {"scan": scan_answer, "faults": faults_answer, "check": check_answer, "sweep": sweep_answer}
-
-
-def case_answer(files, fails, verb, rest):
-    """What the first lines of a run are; None where this program doesn't know."""
-    name, _, words = rest.partition(" ")
-    if verb == "twice":
-        return ["the same"]
-    if verb == "cut":
-        return cut_answer(files, name, words.split(" "))
-    words = rest.split(" ")
-    return None if fails or words[1] not in WORKED_OUT else WORKED_OUT[words[1]](files, words)
-
-
 def check_cases():
     texts, rows = texts_and_rows(f"{ROOT}/crates/cases/stdin")
     heads = [row for row in rows if row.startswith(("case ", "run ", "twice ", "cut "))]
