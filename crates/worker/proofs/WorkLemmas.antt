@@ -1,6 +1,8 @@
 -- Cubes, patterns and hits of a batch.
-use Rattle.std.proofs.Common.{zero, suc, ◌≡◌, ◌≢◌, inl, inr, ℕ, ◌<◌, List, [], ◌∷◌, get_or, refl, sym, ◌∙◌, subst, arith}
+use Rattle.std.proofs.Common.{zero, suc, ◌≡◌, ◌≢◌, inl, inr, ℕ, ◌<◌, List, [], ◌∷◌, get_or, refl, sym, ◌∙◌, ap, subst, arith}
 use Rattle.std.specs.List.{All, AllPairs}
+use Rattle.std.specs.Prelude.{true, Result, Ok, Err}
+use Rattle.std.specs.Result.{OnOk}
 use Rattle.std.proofs.lemmas.List.Elements.{All-cons, All-head, All-tail}
 use Rattle.std.proofs.lemmas.List.Kept.{AllPairs-cons}
 use Rattle.std.proofs.lemmas.Option.{get_or_from_slice_get, slice_get_within}
@@ -21,6 +23,8 @@ use Rattle.redundancy_cert.specs.Evidence.{HasEvidence, IsTestCube}
 use Rattle.list_core.specs.States.{MaySettle}
 use Rattle.list_core.specs.Subjects.{Subject, Represents, HaveLines}
 use Rattle.list_core.specs.Batches.{IsTrueHit, IsTrueBatch}
+use Rattle.shared_list.specs.Tally.{Tally}
+use Rattle.shared_list.specs.Outcomes.{IsNone}
 
 -- cubes of one netlist have the same widths
 pub same_widths : (n : Netlist) (holds : Holds) (cubes : List Cube) → All (IsCubeOf n holds) cubes → AllPairs HaveSameWidths cubes
@@ -168,3 +172,12 @@ single_true j n holds f c p o class en eh rep test agrees is =
       });
       once = λ i k d less lt. absurd (omega (arith, less, lt));
     }
+
+-- a share that is told that there is no class has ended
+pub ended_by_none : (classes : ℕ) (before after : Tally) → IsNone classes before after → after.ended ≡ true
+ended_by_none classes before after (inl had) = ap (λ (t : Tally). t.ended) had.same ∙ had.ended
+ended_by_none classes before after (inr last) = ap (λ (t : Tally). t.ended) last.after_is
+
+pub whatever_comes : {A E P : Type 0} (r : Result A E) → P → OnOk r P
+whatever_comes (Ok x) p = p
+whatever_comes (Err e) p = tt

@@ -1,7 +1,9 @@
-use Rattle.std.proofs.Common.{arith, rules}
+use Rattle.std.proofs.Common.{◌≡◌, ◌∙◌, ap, arith, rules, true}
 use Rattle.std.proofs.lemmas.List.Elements.{All-push}
 use Rattle.cubes.specs.Cubes.{IsCubeOf}
-use Rattle.worker.proofs.WorkLemmas.{closed_settles, partial_settles, test_is_cube}
+use Rattle.shared_list.specs.Tally.{Tally}
+use Rattle.worker.proofs.WorkLemmas.{closed_settles, ended_by_none, partial_settles, test_is_cube, whatever_comes}
+use Rattle.worker.proofs.working.work.Goals.{in-None, in-Some+in-None-take}
 use Rattle.worker.proofs.working.work.Goals as goal
 
 pub publish_cubes-requires-clause-wide : goal.publish_cubes-requires-clause-wide
@@ -33,3 +35,11 @@ settle-requires-in-Partial-clause-fits g c =
 
 pub publish_cubes-requires-2-clause-wide : goal.publish_cubes-requires-2-clause-wide
 publish_cubes-requires-2-clause-wide g c = rw c.deref-2.ensures.value c.loop.invariant.wide
+
+pub returns-clause-ended : goal.returns-clause-ended
+returns-clause-ended g c =
+    let told : c.match-next.share.ended ≡ true = elim c.match-next.branch [
+      | in-None w ↦ search rules
+      | in-Some+in-None-take w ↦ ap (λ (t : Tally). t.ended) w.share-is ∙ ended_by_none _ c.loop.share w.take.new.share w.in-None-take.ensures
+    ] in
+    whatever_comes c.publish_cubes-2.result (c.publish_cubes-2.ensures.ended ∙ told)
