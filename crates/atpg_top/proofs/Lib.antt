@@ -1,7 +1,7 @@
 pub mod HoldLemmas
 pub mod Exclusive
 pub mod Cells
-pub mod Checking
+pub mod CheckLemmas
 pub mod Zipped
 pub mod Endings
 pub mod Delivering

@@ -1,5 +1,5 @@
 use Rattle.commands.specs.Names.{texts_of}
-use Rattle.atpg_top.proofs.Checking.{done, refused}
+use Rattle.atpg_top.proofs.CheckLemmas.{done, refused}
 use Rattle.atpg_top.proofs.checking.CheckWork.work.Goals as goal
 
 pub returns-in-Ok : goal.returns-in-Ok
