@@ -1,4 +1,4 @@
-use Rattle.std.proofs.Common.{ℕ, List, sym, subst}
+use Rattle.std.proofs.Common.{ℕ, sym, subst}
 use Rattle.std.specs.List.{All}
 use Rattle.netlist.specs.declared.lines.Fault.{Fault}
 use Rattle.netlist.specs.Lines.{IsLineOf}
