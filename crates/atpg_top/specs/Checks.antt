@@ -14,13 +14,13 @@ use Rattle.check_command.specs.declared.refusal.CheckRefusal.{CheckRefusal}
 use Rattle.check_command.specs.declared.refusal.CheckRefusal.TheVariants as check
 use Rattle.atpg_top.specs.Runs.{texts_made}
 use Rattle.atpg_top.specs.declared.refusal.Refusal.{Refusal}
-use Rattle.atpg_top.specs.declared.refusal.Refusal.TheVariants.{Netlist, NotStil, NotCertificate, NotReport}
+use Rattle.atpg_top.specs.declared.refusal.Refusal.TheVariants as refusal
 
 abbrev pub refusal_of : CheckRefusal → Refusal
-refusal_of (check.Netlist why) = Netlist why
-refusal_of check.NotStil = NotStil
-refusal_of check.NotCertificate = NotCertificate
-refusal_of check.NotReport = NotReport
+refusal_of (check.Netlist why) = refusal.Netlist why
+refusal_of check.NotStil = refusal.NotStil
+refusal_of check.NotCertificate = refusal.NotCertificate
+refusal_of check.NotReport = refusal.NotReport
 
 abbrev pub told : Due CheckRefusal → Due Refusal
 told (Refuse r) = Refuse (refusal_of r)
