@@ -31,8 +31,8 @@ mod refusal;
 mod running;
 mod scanning;
 mod status;
-mod told_lines;
 mod sweeping;
+mod told_lines;
 
 use chain_testing::test_chains;
 use checking::check_run;

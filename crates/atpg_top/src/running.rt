@@ -99,7 +99,7 @@ fn product_of(alloc: Global, made: TestFiles) -> Result<Product, AllocError>
 }
 
 /// The five files, as this engine finds them.
-pub(crate) fn made_by<R: Threads + Wait + Sync, E: Engine + Sync, G: Gate + Sync>(
+fn made_by<R: Threads + Wait + Sync, E: Engine + Sync, G: Gate + Sync>(
     rt: &R,
     alloc: Global,
     core: &Core,
@@ -123,7 +123,7 @@ pub(crate) fn made_by<R: Threads + Wait + Sync, E: Engine + Sync, G: Gate + Sync
 }
 
 /// The five files, as the engine that was asked for finds them.
-fn made_of<R: Threads + Wait + Sync, G: Gate + Sync>(
+pub(crate) fn made_of<R: Threads + Wait + Sync, G: Gate + Sync>(
     rt: &R,
     alloc: Global,
     core: &Core,

@@ -41,7 +41,7 @@ use stil_read::{StilFault, read_stil};
 use stil_tests::laws::{file_vectors, files_fit};
 use stil_write::StilFile;
 use test_files::TestFiles;
-use words::RunOptions;
+use words::{EngineName, RunOptions};
 
 const CHAINS: u32 = 1;
 
@@ -78,6 +78,7 @@ fn run_sample<R: Threads + Wait + Sync, G: Gate + Sync>(
         workers: 1,
         limit: LIMIT,
         seed,
+        engine: EngineName::Podem,
     };
     let holds = Holds::none(alloc, core)?;
     made_of(rt, alloc, core, options, &holds, gate)
