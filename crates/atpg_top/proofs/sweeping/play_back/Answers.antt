@@ -18,7 +18,7 @@ use Rattle.atpg_top.specs.Sweeps.{sweep_chains, sweep_limit}
 use Rattle.atpg_top.proofs.SweepLemmas.{fits, on_ok, passes}
 use Rattle.atpg_top.proofs.sweeping.play_back.Goals as goal
 
-scanned_by : Netlist → Netlist
+abbrev scanned_by : Netlist → Netlist
 scanned_by n = scanned_of n (design_chains n sweep_chains)
 
 pub read_back-requires : goal.read_back-requires

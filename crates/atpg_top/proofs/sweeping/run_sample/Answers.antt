@@ -8,14 +8,14 @@ use Rattle.atpg_top.specs.Sweeps.{IsSweepRun, sweep_chains, sweep_limit}
 use Rattle.atpg_top.proofs.sweeping.run_sample.Goals as goal
 
 pub made_of-requires-clause-range : goal.made_of-requires-clause-range
-made_of-requires-clause-range g c = record {
+made_of-requires-clause-range g c κs within = record {
   chains = (omega arith, omega arith);
   workers = (omega arith, omega arith);
   limit = (omega arith, omega arith);
 }
 
 pub made_of-requires-clause-held : goal.made_of-requires-clause-held
-made_of-requires-clause-held g c = ap length c.in_ok-holds.ensures ∙ length-map c.args.core.now.inputs (λ _. None)
+made_of-requires-clause-held g c κs within = ap length c.in_ok-holds.ensures ∙ length-map c.args.core.now.inputs (λ _. None)
 
 pub returns : goal.returns
 returns g c =
