@@ -75,6 +75,7 @@ module _ (n : Netlist) (sound : IsSound n) where
   holds_apart named x refusal.NotStil p q = q
   holds_apart named x refusal.NotCertificate p q = q
   holds_apart named x refusal.NotReport p q = q
+  holds_apart named x refusal.NotLog p q = q
   holds_apart named x refusal.StilDoesNotFit p q = q
 
   first_once : (named : List Hold) (i j : ℕ) → IsFirstUnknown n named i → IsFirstUnknown n named j → i ≡ j
@@ -93,12 +94,14 @@ module _ (n : Netlist) (sound : IsSound n) where
   refusals_once named (refusal.NoSuchInput i) refusal.NotStil p q = absurd q
   refusals_once named (refusal.NoSuchInput i) refusal.NotCertificate p q = absurd q
   refusals_once named (refusal.NoSuchInput i) refusal.NotReport p q = absurd q
+  refusals_once named (refusal.NoSuchInput i) refusal.NotLog p q = absurd q
   refusals_once named (refusal.NoSuchInput i) refusal.StilDoesNotFit p q = absurd q
   refusals_once named (refusal.Netlist r) s p q = absurd p
   refusals_once named refusal.NoSuchFault s p q = absurd p
   refusals_once named refusal.NotStil s p q = absurd p
   refusals_once named refusal.NotCertificate s p q = absurd p
   refusals_once named refusal.NotReport s p q = absurd p
+  refusals_once named refusal.NotLog s p q = absurd p
   refusals_once named refusal.StilDoesNotFit s p q = absurd p
 
   -- the step answers one thing alone
