@@ -45,6 +45,7 @@ pub fn nothing_else()
 {
     at_most_one();
     check_exclusive();
+    one_log();
 }
 
 /// The files of a run pass the check: status 0, but for files that can't be had, an output that fails and want of memory.
@@ -52,5 +53,4 @@ pub fn runs_pass()
     ensures { RunsPass }
 {
     good_files_checked();
-    one_log();
 }
