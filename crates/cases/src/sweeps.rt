@@ -44,12 +44,7 @@ fn push_cycles(to: &mut Vec<u8>, text: &str, each: u64, more: u64) -> Result<(),
 }
 
 /// Adds the lines of `sweep`: in place of those with the verdicts how many faults have one, and the cycles by the number P of patterns.
-pub fn push_sweep(
-    to: &mut Vec<u8>,
-    bytes: &[u8],
-    each: u64,
-    more: u64,
-) -> Result<(), AllocError> {
+pub fn push_sweep(to: &mut Vec<u8>, bytes: &[u8], each: u64, more: u64) -> Result<(), AllocError> {
     let Ok(text) = str::from_utf8(bytes) else {
         return show(to, bytes);
     };
