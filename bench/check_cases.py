@@ -1,6 +1,6 @@
 #!/usr/bin/env python3
-"""Works out what the rows of crates/calls, crates/file_calls, crates/cases, crates/list_calls and crates/check_cases have to print, by plain programs apart from the crates,
-and compares.
+"""Works out what the rows of crates/calls, crates/file_calls, crates/list_calls, crates/cases and crates/check_cases have to print, by plain
+programs apart from the crates, and compares.
 
 A row that this program doesn't know (a refusal, a line of an error output) is worked out by hand; how many there are is printed.
 
@@ -15,15 +15,13 @@ sys.path.insert(0, os.path.dirname(os.path.abspath(__file__)))
 import check_certificates
 import check_checks
 import check_trees
-import plain_design
-import plain_design as plain
 import list_play
 import plain_check
-import plain_check
+import plain_design as plain
 import stil_file
 from check_reports import is_report
-from plain_chains import chain_test, cycles_in
 from fault_list import fault_list, netlist_of, readers_of
+from plain_chains import chain_test, cycles_in
 from plain_check import patterns_of
 from plain_play import cycles_of, site_of, unmet
 from sample_netlist import Pcg32
@@ -631,7 +629,7 @@ def cut_answer(files, name, words):
 
 
 def chaintest_answer(files, words):
-    design = plain_design.read(files[words[2]].encode())
+    design = plain.read(files[words[2]].encode())
     text = chain_test(design, int(words[5]) if len(words) > 5 else 1, cycles_in(files[words[3]]))
     return ["status 0", "out"] + shown(text) + [f"file {words[2]} as before", f"file {words[3]} as before", "files 2"]
 
