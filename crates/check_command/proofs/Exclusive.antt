@@ -1,9 +1,7 @@
 -- What is due of the same five texts is alike.
-use Rattle.std.proofs.Common.{◌≡◌, inl, inr, ℕ, List, [], ◌∷◌, Ok, Err, refl, sym, ap, subst}
-use Rattle.commands.specs.World.{Text}
+use Rattle.std.proofs.Common.{◌≡◌, inl, inr, [], ◌∷◌, Ok, Err, refl, sym, ap, subst}
 use Rattle.commands.specs.Due.{Due, Deliver, Refuse}
 use Rattle.commands.specs.Laws.{AreAlike, IsExclusive}
-use Rattle.commands.specs.declared.ending.Finding.{Finding}
 use Rattle.good_files.specs.GoodFiles.{Files}
 use Rattle.file_clauses.specs.declared.answers.Checked.{Checked}
 use Rattle.file_clauses.specs.declared.answers.Checked.TheVariants.{Faults, False}

@@ -1,9 +1,7 @@
 -- Five texts, one behind the other, and what is due of them.
-use Rattle.std.proofs.Common.{◌≡◌, ◌∙◌, inl, inr, ℕ, List, [], ◌∷◌, Ok, Err, Vec, refl, sym, subst, arith, length, get_or}
-use Rattle.std.specs.Prelude.{Result, ◌≤◌}
-use Rattle.std.specs.List.{All}
+use Rattle.std.proofs.Common.{◌≡◌, inl, inr, ℕ, List, [], ◌∷◌, Ok, Err, Vec, refl, subst, arith, length, get_or}
+use Rattle.std.specs.Prelude.{Result}
 use Rattle.std.specs.declared.alloc.Global.{Global}
-use Rattle.commands.specs.Contents.{most_bytes}
 use Rattle.commands.specs.Names.{texts_of}
 use Rattle.commands.specs.World.{Text}
 use Rattle.commands.specs.Worked.{IsWorked}

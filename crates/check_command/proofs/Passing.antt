@@ -12,7 +12,6 @@ use Rattle.file_clauses.specs.declared.answers.Checked.{Checked}
 use Rattle.file_clauses.specs.declared.answers.Checked.TheVariants.{Faults}
 use Rattle.file_clauses.specs.declared.answers.CheckFault.{CheckFault}
 use Rattle.file_clauses.specs.declared.answers.CheckFault.TheVariants as fault
-use Rattle.file_clauses.specs.Checks.{IsOutside}
 use Rattle.file_clauses.specs.Laws.{GoodFilesPass}
 use Rattle.check_command.specs.Checking.{answer_line, checked_line, fault_of, files_due, finding_of}
 use Rattle.check_command.specs.declared.refusal.CheckRefusal.{CheckRefusal}
