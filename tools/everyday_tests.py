@@ -105,7 +105,7 @@ def test_progress():
         return "ok, but there is no proved build: the line wasn't looked at"
     with tempfile.TemporaryDirectory() as name:
         folder = pathlib.Path(name)
-        made = subprocess.run([ROOT / "bench/sample_netlist.py", "7", "4000"], capture_output=True, check=True)
+        made = subprocess.run([ROOT / "bench/sample_netlist.py", "1", "20000"], capture_output=True, check=True)
         (folder / "sample.bench").write_bytes(made.stdout)
         for more, classes in (({"ATPG_PROGRESS": "1", "ATPG_CLASSES": "77"}, "77"), ({"ATPG_PROGRESS": "1"}, "")):
             shown = shown_by(folder, **more)[1]
