@@ -78,11 +78,12 @@ SHOWN = re.compile(r"\n(\d+) (?:of (\d+) )?classes claimed, (\d+) batches, (\d+)
 
 
 def shown_by(folder, **more):
-    """The standard output and error of a run that takes a second or two."""
-    done = subprocess.run([PROGRAM, "run", "sample.bench", "sample", "--workers", "2"], cwd=folder, capture_output=True, text=True,
+    """The standard output and error of a run that takes a moment."""
+    done = subprocess.run([PROGRAM, "run", "sample.bench", "sample", "--workers", "2"], cwd=folder, capture_output=True,
                           env={word: value for word, value in os.environ.items() if not word.startswith("ATPG_")} | more)
-    assert done.returncode == 0 and done.stdout.startswith("faults "), done
-    return done.stdout, done.stderr
+    said, shown = done.stdout.decode(), done.stderr.decode()  # as bytes: a text's ends of line would be made alike
+    assert done.returncode == 0 and said.startswith("faults "), done
+    return said, shown
 
 
 def on_a_terminal(folder):
