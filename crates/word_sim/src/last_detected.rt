@@ -17,6 +17,9 @@ use cubes::Pattern;
 use netlist::{Core, Fault, NoMemory, Point};
 use std::alloc::{AllocError, Global};
 
+/// The place of a fault has 32 bits.
+const MOST_FAULTS: usize = 1 << 32;
+
 /// The faults of which nothing is told, by their places.
 fn list_untold(
     faults: &[Fault],
@@ -168,7 +171,7 @@ fn find_last(
     requires count { length patterns.now + 64 ≤ 2 ^ 32 }
     ensures { IfOk result (λ v. AllZip (LastDetected core.now patterns.now) faults.now v.items) }
 {
-    if faults.len() > 4294967296 {
+    if faults.len() > MOST_FAULTS {
         return Err(AllocError);
     }
     let mut simulator = Simulator::made(alloc, core)?;

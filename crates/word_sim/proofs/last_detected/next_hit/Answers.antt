@@ -1,4 +1,4 @@
-use Rattle.std.proofs.Common.{◌<◌, drop, get_or, length, arith}
+use Rattle.std.proofs.Common.{◌<◌, drop, get_or, length}
 use Rattle.std.proofs.lemmas.List.{drop_all, get_or_default}
 use Rattle.word_sim.proofs.Untold.{no_hit, none_here, hit_or_other}
 use Rattle.word_sim.proofs.last_detected.next_hit.Goals as goal

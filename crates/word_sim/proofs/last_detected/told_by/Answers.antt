@@ -1,4 +1,4 @@
-use Rattle.std.proofs.Common.{◌≡◌, ◌∷◌, ℕ, Option, drop, sym, subst}
+use Rattle.std.proofs.Common.{◌∷◌, ℕ, Option, drop, sym, subst}
 use Rattle.netlist.specs.declared.lines.Point.{Point}
 use Rattle.word_sim.specs.Hits.{AreHits}
 use Rattle.word_sim.specs.inner.Found.{IsTold, untold}
