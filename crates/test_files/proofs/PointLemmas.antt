@@ -32,6 +32,8 @@ use Rattle.redundancy_cert.specs.Trees.{Tree, ClosedEnd, OpenEnd, SplitOn, Force
 use Rattle.redundancy_cert.specs.Fits.{Fits, PlaceFits}
 use Rattle.certificate.specs.Certificates.{HasSignal, IsNamed}
 use Rattle.run_report.specs.Strobes.{IsPointOf}
+use Rattle.run_report.proofs.PointLemmas.{point_inside}
+use Rattle.good_files.proofs.TreeLemmas.{fitting_named}
 use Rattle.list_core.specs.declared.verdicts.Verdict.{Verdict}
 use Rattle.list_core.specs.declared.verdicts.Verdict.TheVariants.{Open, Detected, Redundant, Aborted}
 use Rattle.list_core.specs.Verdicts.{verdict_at}
@@ -45,7 +47,7 @@ joined P (x ∷ xs) ys h k = All-cons P x (xs ++ ys) (All-head P x xs h) (joined
 
 -- ---- points
 
-pub point_inside : (n : Netlist) → IsSound n → (f : Fault) (inputs state : List Bool) (point : Point) → Detects n f inputs state point → IsPointOf n point
+inside : (n : Netlist) → IsSound n → (f : Fault) (inputs state : List Bool) (point : Point) → Detects n f inputs state point → IsPointOf n point
 point_inside n sound f inputs state (Output k) d = elim (cases_lt k (length n.outputs)) [
   | inl low ↦ low
   | inr high ↦
@@ -79,18 +81,6 @@ all_inside n sound holds classes limit patterns verdicts found = All-from_get_or
 
 -- ---- lines
 
-lines_some : (n : Netlist) (xs : List ℕ) → 0 < length xs → 0 < length (flat_map (lines_of n) xs)
-lines_some n [] lt = absurd (omega arith)
-lines_some n (x ∷ xs) lt =
-    let size = length-append (lines_of n x) (flat_map (lines_of n) xs) in
-    omega arith
-
-pub some_fault : (n : Netlist) → IsSound n → 0 < length (universe_of n)
-some_fault n sound =
-    let all = length-append n.inputs (map (λ (d : Definition). d.id) n.definitions) in
-    let some = lines_some n (signals n) (omega (arith, all, sound.sized.input)) in
-    omega (arith, length-faults (all_lines n), some)
-
 pub all_sound : (n : Netlist) (chains : List (List ℕ)) (numbers : List ℕ) (verdicts : List Verdict) (lines : List Line) → AreLines n chains numbers verdicts (length (universe_of n)) lines → All IsLine lines
 all_sound n chains numbers verdicts lines all = All-from_contains IsLine lines (λ line here.
     let f = get_or (universe_of n) here.0 blank in
@@ -102,38 +92,14 @@ all_sound n chains numbers verdicts lines all = All-from_contains IsLine lines (
 
 -- ---- names
 
-tree_named : (n : Netlist) → IsSound n → (f : Fault) (holds : Holds) (path : Path) (t : Tree) → All (PlaceFits f n holds) (places path t) → All (HasSignal n) (preorder t)
-tree_named n sound f holds path ClosedEnd fits = All-cons (HasSignal n) node.Closed [] tt (All-nil (HasSignal n))
-tree_named n sound f holds path OpenEnd fits = All-cons (HasSignal n) node.Open [] tt (All-nil (HasSignal n))
-tree_named n sound f holds path (SplitOn x t u) fits =
-    let P = PlaceFits f n holds in
-    let here : Place = record { path = path; node = node.Split x } in
-    let zero_side = places ((x, false) ∷ path) t in
-    let one_side = places ((x, true) ∷ path) u in
-    let head = All-head P here (zero_side ++ one_side) fits in
-    let tail = All-tail P here (zero_side ++ one_side) fits in
-    All-cons (HasSignal n) (node.Split x) (preorder t ++ preorder u) (signal-below n sound.formed.numbered x head.1.signal)
-    (joined (HasSignal n) (preorder t) (preorder u) (tree_named n sound f holds ((x, false) ∷ path) t (all_left P zero_side one_side tail))
-    (tree_named n sound f holds ((x, true) ∷ path) u (all_right P zero_side one_side tail)))
-tree_named n sound f holds path (ForcedTo x b t) fits =
-    let P = PlaceFits f n holds in
-    let here : Place = record { path = path; node = node.Forced x b } in
-    let side = places ((x, b) ∷ path) t in
-    let head = All-head P here side fits in
-    All-cons (HasSignal n) (node.Forced x b) (preorder t) (signal-below n sound.formed.numbered x head.1.signal)
-    (tree_named n sound f holds ((x, b) ∷ path) t (All-tail P here side fits))
-
-nodes_named : (n : Netlist) → IsSound n → (f : Fault) (holds : Holds) (nodes : List Node) → Fits f n holds nodes → All (HasSignal n) nodes
-nodes_named n sound f holds nodes fits = subst (All (HasSignal n)) fits.1 (tree_named n sound f holds [] fits.0 fits.2)
-
 leaf_named : (n : Netlist) → IsSound n → (holds : Holds) (limit : ℕ) (patterns : List Pattern) (f : Fault) (v : Verdict) → signal_of f.line < signal_count n
     → IsVerdict n holds limit patterns f v → All (IsNamed n) (leaf_at f v)
 leaf_named n sound holds limit patterns f Open lt is = absurd is
 leaf_named n sound holds limit patterns f (Detected place point) lt is = All-nil (IsNamed n)
 leaf_named n sound holds limit patterns f (Redundant tree) lt is =
-    All-cons (IsNamed n) (f, tree) [] (record { fault = lt; nodes = nodes_named n sound f holds tree is.1 }) (All-nil (IsNamed n))
+    All-cons (IsNamed n) (f, tree) [] (record { fault = lt; nodes = fitting_named f n holds sound tree is.1 }) (All-nil (IsNamed n))
 leaf_named n sound holds limit patterns f (Aborted tree) lt is =
-    All-cons (IsNamed n) (f, tree) [] (record { fault = lt; nodes = nodes_named n sound f holds tree is.1 }) (All-nil (IsNamed n))
+    All-cons (IsNamed n) (f, tree) [] (record { fault = lt; nodes = fitting_named f n holds sound tree is.1 }) (All-nil (IsNamed n))
 
 leaves_named : (n : Netlist) → IsSound n → (holds : Holds) (limit : ℕ) (patterns : List Pattern) (fs : List Fault) (vs : List Verdict) → length vs ≡ length fs
     → ((class : ℕ) (f : Fault) → slice_get fs class ≡ Some f → (signal_of f.line < signal_count n) × IsVerdict n holds limit patterns f (verdict_at vs class))
