@@ -17,17 +17,15 @@ import check_checks
 import check_trees
 import list_play
 import plain_check
-import plain_design as plain
+import plain_program
 import stil_file
 from check_reports import is_report
 from fault_list import fault_list, netlist_of, readers_of
-from plain_chains import chain_test, cycles_in
-from plain_check import patterns_of
-from plain_play import cycles_of, site_of, unmet
 from sample_netlist import Pcg32
 
 ROOT = os.path.dirname(os.path.dirname(os.path.abspath(__file__)))
 WORDS = {"BUF": "BUFF"}
+RUNS = ("case ", "run ", "keep ", "twice ", "cut ")
 
 
 def shown(text):
@@ -573,110 +571,122 @@ def check_calls(crate):
     return wrong
 
 
-def diagnosed(net, stil, log, asked):
-    """The faults with which exactly what the log says fails, by a plain player."""
-    netlist = plain.read(net.encode())
-    chains = plain.chains_of(netlist.cells, asked)
-    items = plain.items_of(netlist, chains, patterns_of(plain.stil_tokens(stil.encode()), netlist, chains, {}))
-    cycles, scanned = list(cycles_of(netlist, chains, items)), plain.scanned(netlist, chains)
-    failures = {(*line.split(" "), False) for line in log.split("\n")[1:-1]}
-    found = [
-        f"{line}/{stuck}"
-        for line, stuck in plain.universe(netlist)
-        if {(str(cycle), pin, unknown) for cycle, pin, unknown in unmet(scanned, cycles, site_of(netlist, (line, stuck)))} == failures
-    ]
-    return "".join(line + "\n" for line in [f"candidates {len(found)}"] + found)
+class Case:
+    """What a case has said so far: its files, which calls fail, and how its outputs are shown."""
+
+    def __init__(self):
+        self.files, self.fails, self.showing = {}, plain_program.Fails({}, {}, {}), {"out": "whole", "err": "whole"}
+
+    def take(self, verb, rest, texts):
+        """Takes a line that isn't a run."""
+        target = verb.split("-")[0]
+        if verb == "file":
+            name, *parts = rest.split(" ")
+            self.files[name] = "".join(texts[part] for part in parts)
+        elif verb.endswith("-fails"):
+            number, kept = map(int, rest.split(" "))
+            getattr(self.fails, target)[number] = kept
+        elif verb.endswith("-as"):
+            self.showing[target] = rest
+
+    def ending(self, words, runs, files=None):
+        return plain_program.ending([word.replace("~", " ") for word in words], files or self.files, self.fails, runs)
+
+    def shown_output(self, name, text):
+        """An output as it is shown: whole, or up to the count of patterns."""
+        text = text.split(" patterns ")[0] if self.showing[name] == "totals" else text
+        return [name] + shown(text) if text else []
+
+    def told(self, words, ended):
+        """The lines of a run."""
+        lines = [f"status {ended.status}"] + self.shown_output("out", ended.out) + self.shown_output("err", ended.err)
+        for name, before in self.files.items():
+            after = ended.files.get(name)
+            lines += [f"file {name} as before"] if after == before else [f"file {name} now"] + shown(after)
+        for word in words:
+            if word not in self.files and word in ended.files:
+                lines += [f"file {word}"] + shown(ended.files[word])
+        return lines + [f"files {len(ended.files)}"]
+
+    def told_cut(self, name, words, runs):
+        """What comes of each proper prefix of a file, lengths with one answer together."""
+        answers = []
+        for length in range(len(self.files[name])):
+            ended = self.ending(words, runs, self.files | {name: self.files[name][:length]})
+            answers.append([f"status {ended.status}"] + self.shown_output("out", ended.out) + self.shown_output("err", ended.err))
+        lines, start = [], 0
+        for k in range(1, len(answers) + 1):
+            if k == len(answers) or answers[k] != answers[start]:
+                status, *others = answers[start]
+                lines += [f"{start} to {k - 1}: {status}", *others]
+                start = k
+        return lines
 
 
-def scan_answer(files, words):
-    netlist = Netlist(files[words[2]])
-    asked = int(words[5]) if len(words) > 5 else 1
-    said = f"|cells {len(netlist.cells)} chains {len(netlist.chains(asked))}"
-    return ["status 0", "out", said, f"file {words[2]} as before", f"file {words[3]}"] + shown(netlist.scanned(asked)) + ["files 2"]
-
-
-def faults_answer(files, words):
-    return ["status 0", "out"] + shown("".join(line + "\n" for line in fault_list(files[words[2]])))
-
-
-def check_answer(files, words):
-    """The status and the line, where the five files stand."""
-    ends = {end: f"{words[2]}.{end}" for end in plain_check.ENDS}
-    if not all(name in files for name in ends.values()):
-        return None
-    status, line = plain_check.check({end: files[name].encode("latin-1") for end, name in ends.items()})
-    return [f"status {status}", "out" if status < 2 else "err", f"|{line}"]
-
-
-def sweep_answer(files, words):
+def sweep_answer(case, words):
     """The lines that don't depend on the search; with so many cells on one chain there are (P + 4) * cells + P cycles."""
     gates = int(words[3])
+    if case.fails.out:
+        return case.told(words, plain_program.Ended(6, f"gates {gates}\n"[:case.fails.out[1]], "write failed: -\n", {}))
     faults, classes = next(iter(fault_list(sample(words[2], words[3])))).split(" ")[1::2]
     return ["status 0", "out", f"|gates {gates}", f"|cells {gates // 8}", f"|faults {faults}", f"|classes {classes}",
-            f"|detected, redundant or aborted {faults}", f"|cycles {gates // 8 + 1}P + {gates // 8 * 4}", "|play ok"]
+            f"|detected, redundant or aborted {faults}", f"|cycles {gates // 8 + 1}P + {gates // 8 * 4}", "|play ok", "files 0"]
 
 
-def cut_answer(files, name, words):
-    """What comes of each proper prefix of a file, lengths with one answer together."""
-    answers = [check_answer(files | {name: files[name][:length]}, words) for length in range(len(files[name]))]
-    lines, start = [], 0
-    for k in range(1, len(answers) + 1):
-        if k == len(answers) or answers[k] != answers[start]:
-            status, *others = answers[start]
-            lines += [f"{start} to {k - 1}: {status}", *others]
-            start = k
-    return lines
+def keep_files(case, prefix, words, runs):
+    """The files of a run stand in those that follow; where nobody can say what they hold, so."""
+    try:
+        made = case.ending(words, runs).files
+    except plain_program.Unknown:
+        made = {}
+    case.files |= {f"{prefix}.{end}": made.get(f"{prefix}.{end}") for end in plain_check.ENDS}
 
 
-def chaintest_answer(files, words):
-    design = plain.read(files[words[2]].encode())
-    text = chain_test(design, int(words[5]) if len(words) > 5 else 1, cycles_in(files[words[3]]))
-    return ["status 0", "out"] + shown(text) + [f"file {words[2]} as before", f"file {words[3]} as before", "files 2"]
-
-
-def diagnose_answer(files, words):
-    asked = int(words[words.index("--chains") + 1]) if "--chains" in words else 1
-    return ["status 0", "out"] + shown(diagnosed(*(files[name] for name in words[2:5]), asked)) + [f"file {words[2]} as before"]
-
-
-WORKED_OUT = {"chaintest": chaintest_answer, "diagnose": diagnose_answer, "scan": scan_answer, "faults": faults_answer, "check": check_answer, "sweep": sweep_answer}
-
-
-def case_answer(files, fails, verb, rest):
-    """What the first lines of a run are; None where this program doesn't know."""
-    name, _, words = rest.partition(" ")
+def case_answer(case, verb, rest, runs):
+    """The lines of a run; Unknown where this program can't say them."""
+    name, _, behind = rest.partition(" ")
     if verb == "twice":
         return ["the same"]
     if verb == "cut":
-        return cut_answer(files, name, words.split(" "))
-    words = rest.split(" ")
-    return None if fails or words[1] not in WORKED_OUT else WORKED_OUT[words[1]](files, words)
+        return case.told_cut(name, behind.split(" "), runs)
+    words = (behind if verb == "keep" else rest).split(" ")
+    if case.showing["err"] == "hidden":
+        raise plain_program.Unknown
+    if words[1] == "sweep":
+        return sweep_answer(case, words)
+    if case.showing["out"] not in ("whole", "totals"):
+        raise plain_program.Unknown
+    return case.told(words, case.ending(words, runs))
+
+
+def told_runs(texts):
+    """The runs whose five texts the input tells, by netlist and options."""
+    gates = texts["two_gates"]
+    return {(gates, ("--limit", "2")): [gates, gates] + [texts[f"two_gates_{end}"] for end in ("stil", "cert", "rep")]}
 
 
 def check_cases():
     texts, rows = texts_and_rows(f"{ROOT}/crates/cases/stdin")
-    heads = [row for row in rows if row.startswith(("case ", "run ", "twice ", "cut "))]
+    heads = ["run " + row.split(" ", 2)[2] if row.startswith("keep ") else row for row in rows if row.startswith(RUNS)]
     stored = iter(answers(f"{ROOT}/crates/cases/stdout", heads))
-    wrong, known, files, fails = 0, 0, {}, False
+    wrong, known, count, case, runs = 0, 0, 0, Case(), told_runs(texts)
     for row in rows:
         verb, _, rest = row.partition(" ")
-        given = [line for line in next(stored, []) if line] if row in heads else []
+        given = [line for line in next(stored, []) if line] if row.startswith(RUNS) else []
         if verb == "case":
-            files, fails = {}, False
-        elif verb == "file":
-            name, *parts = rest.split(" ")
-            files[name] = "".join(texts[part] for part in parts)
-        elif verb.endswith("-fails") or row == "out-as hidden":
-            fails = True
-        elif verb in ("run", "twice", "cut"):
-            refused = rest.startswith(("atpg scan ", "atpg faults ", "atpg chaintest ", "atpg diagnose ")) and given[:2] != ["status 0", "out"]
-            if verb == "run" and (refused or given[:1] == ["status 2"]):
-                continue
-            wanted = case_answer(files, fails, verb, rest)
-            if wanted is not None:
+            case = Case()
+        elif not row.startswith(RUNS):
+            case.take(verb, rest, texts)
+        else:
+            count += 1
+            try:
+                wrong += differs(row, case_answer(case, verb, rest, runs), given)
                 known += 1
-                wrong += differs(row, wanted, given[: len(wanted)])
-    print(f"cases: {known} runs worked out, {wrong} differ")
+            except plain_program.Unknown:
+                pass
+            if verb == "keep":
+                keep_files(case, rest.split(" ")[0], rest.split(" ")[1:], runs)
+    print(f"cases: {known} of {count} runs worked out, {wrong} differ")
     return wrong
 
 

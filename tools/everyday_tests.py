@@ -135,6 +135,55 @@ echo "checked 4 faults"
 """
 
 
+SBATCH = r"""#!/usr/bin/env bash
+# Runs what is wrapped at once, for each task of an array where there is one, as Slurm would run it later.
+echo "$*" >>"$(dirname "$0")/asked"
+tasks=1
+for word in "$@"; do
+    case $word in
+        --array=*) tasks=${word#--array=1-}; tasks=${tasks%\%*} ;;
+        --output=*) output=${word#--output=} ;;
+        --wrap=*) wrapped=${word#--wrap=} ;;
+    esac
+done
+for task in $(seq "$tasks"); do
+    (cd / && SLURM_ARRAY_TASK_ID=$task sh -c "$wrapped" >"${output//%a/$task}" 2>&1)
+done
+echo "$((16 + $(wc -l <"$(dirname "$0")/asked")));cluster"
+"""
+
+
+def test_run_many_by_slurm():
+    """An array and a job that waits for it and joins, by a stand-in for sbatch; a task that does several designs."""
+    with tree() as made:
+        tool, designs, to = ROOT / "tools/run_many", made.folder / "designs", made.folder / "made"
+        designs.mkdir()
+        for name in ("a", "b", "c"):
+            (designs / f"{name}.bench").write_text("INPUT(a)\n")
+        status, _, errors = made.run(tool, "designs", "--to", "made", "--slurm")
+        assert status == 1 and errors == "run_many: no sbatch on the PATH\n", errors
+        made.put(made.bin / "atpg", RUN)
+        made.put(made.bin / "check", CHECK)
+        made.put(made.bin / "sbatch", SBATCH)
+        programs = {"ATPG": str(made.bin / "atpg"), "ATPG_CHECK": str(made.bin / "check")}
+        status, said, errors = made.run(tool, "designs", "--to", "made", "--slurm", "--jobs", "2", "--", "--hold", "x y=1", "--workers", "4",
+                                        **programs)
+        assert status == 0 and said == f"run_many: 3 designs in 3 tasks of job 17; job 18 writes {to}/table when all have ended\n", (said, errors)
+        asked = (made.bin / "asked").read_text().splitlines()
+        assert "--array=1-3%2 --cpus-per-task=4 " in asked[0] and "--dependency=afterany:17 " in asked[1], asked
+        assert [line.split()[0] for line in (to / "table").read_text().splitlines()] == ["design", "a", "b", "c"]
+        assert "--hold x y=1" in (to / "c.net").read_text()
+        (to / "b.done").unlink()
+        status, table, _ = made.run(tool, designs, "--join", to)
+        assert status == 1 and table.splitlines()[-1] == "not run: b", table
+        for task, stems in ((1, "ac"), (2, "b")):
+            part = made.folder / f"part{task}"
+            assert made.run(tool, designs, "--to", part, "--task", task, "--of", "2", **programs)[0] == 0
+            assert sorted(path.stem for path in part.glob("*.done")) == list(stems)
+        made.put(made.bin / "sbatch", "#!/bin/sh\necho 'no partition' >&2\nexit 1\n")
+        assert made.run(tool, "designs", "--to", "made", "--slurm")[2] == "run_many: sbatch ended with 1: no partition\n"
+
+
 def test_run_many():
     """Each design is run and checked, by parallel where it is here; the table has numbers of good files alone."""
     with tree() as made:

@@ -54,6 +54,10 @@ for word in "$@"; do
     esac
 done
 [ "$1" = faults ] && echo "faults 9 classes 7" && [ "$2" = counted ] && exit
+if [ "$2" = large ]; then
+    head -c 5000 /dev/zero >"$3.net" 2>/dev/null
+    [ $? -eq 1 ] && exit 6
+fi
 echo "ran $*${ATPG_CLASSES+ of $ATPG_CLASSES}"
 [ "$1" != play ]
 """
@@ -231,6 +235,15 @@ def test_launcher_looks_first():
         status, out, errors = made.atpg("scan", "a.bench", "./a.bench", "--chains", "2")
         assert (status, out) == (2, "") and errors == "atpg: scan would write over its netlist: ./a.bench is a.bench\n", errors
         assert made.atpg("scan", "a.bench", "b.bench")[0] == 0
+
+
+def test_launcher_limits_files():
+    """A write that meets a limit to the size of files fails; it doesn't end the program by a signal."""
+    with tree() as made:
+        made.add_rt()
+        assert made.build()[0] == 0
+        assert made.run("bash", "-c", 'ulimit -f 1; exec "$@"', "limited", made.root / "atpg", "run", "large", "b")[0] == 6
+        assert (made.folder / "b.net").stat().st_size == 1024
 
 
 def test_build_refuses():
