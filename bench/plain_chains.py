@@ -1,7 +1,5 @@
 """What a test shows of the faults in a design's scan hardware, by a plain program apart from the crates: every gate is worked out in three values in every cycle."""
 
-import re
-
 import plain_design as plain
 from plain_check import X, tri_gate
 
@@ -37,21 +35,6 @@ def hardware_faults(netlist, scanned):
     """The faults of the scanned netlist that stand for none of the design's."""
     sites = {(site_of(netlist, line), bit) for line, bit in plain.universe(netlist)}
     return [fault for fault in plain.universe(scanned) if fault not in sites]
-
-
-def cycles_in(text):
-    """The cycles of a written file: drives of the inputs, strobes of the outputs, and whether there is a pulse."""
-    cycles = []
-    for line in text.split('Pattern "pattern" {')[1].splitlines():
-        words = dict(re.findall(r'"(SC__[a-z]+\d*)" = (\w+);', line))
-        ins = [word for name, word in words.items() if name.startswith("SC__si")]
-        outs = [word for name, word in words.items() if name.startswith("SC__so")]
-        if line.startswith("  V "):
-            cycles.append((words["SC__pi"] + "".join(ins), words["SC__po"] + "".join(outs), words.get("SC__ck") == "P"))
-        elif line.startswith("  Call "):
-            pi, po = re.search(r'V \{ "SC__pi" = (\w+);.*"SC__po" = (\w+);', text).groups()
-            cycles += [(pi + "".join(word[t] for word in ins), po + "".join(word[t] for word in outs), True) for t in range(len(ins[0]))]
-    return cycles
 
 
 def chain_test(netlist, asked, cycles):

@@ -9,10 +9,10 @@ from typing import NamedTuple
 import plain_check
 import plain_design as plain
 from fault_list import fault_list
-from plain_chains import chain_test, cycles_in
+from plain_chains import chain_test
 from plain_check import ENDS
 from plain_play import site_of, unmet
-from plain_stil import Walk, is_stil, signals
+from plain_stil import Walk, cycles_in, is_stil, signals
 
 MOST_BYTES = 67_108_864
 MOST_LINES = 100_000  # of a netlist that the plain reader is given
@@ -103,7 +103,7 @@ def cycles_that_fit(stil, scanned):
     outputs += [f"SC__so{c}" for c in range(chains)]
     if inputs != scanned.inputs or outputs != plain.pin_names(scanned) or bool(chains) != bool(scanned.cells):
         raise Refused(4, "stil does not fit\n")
-    return cycles_in(stil)
+    return cycles_in(stil.encode("latin-1"))
 
 
 def need_stil(text):

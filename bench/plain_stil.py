@@ -168,3 +168,31 @@ def is_stil(text):
     except NotStil:
         return False
     return True
+
+
+def assigned_behind(tokens, place):
+    """The words behind a brace, by their names: `"name" = word;` up to the brace that closes it."""
+    end = tokens.index("}", place)
+    return {tokens[k].strip('"'): tokens[k + 2] for k in range(place, end, 4)}
+
+
+def words_of(words, side):
+    """The words of scan inputs or scan outputs, in order."""
+    return [words[f"SC__{side}{c}"] for c in range(sum(name.startswith(f"SC__{side}") for name in words))]
+
+
+def cycles_in(text):
+    """The cycles of a file: drives of the inputs, strobes of the outputs, and whether there is a pulse."""
+    tokens, cycles, shift = [token.decode("latin-1") for token in stil_tokens(text)], [], {}
+    if "Shift" in tokens:
+        shift = assigned_behind(tokens, tokens.index("Shift") + 4)
+    begin = max(k for k, token in enumerate(tokens) if token == "Pattern")
+    for place in range(begin, len(tokens)):
+        if tokens[place] == "V":
+            words = assigned_behind(tokens, place + 2)
+            cycles.append((words["SC__pi"] + "".join(words_of(words, "si")), words["SC__po"] + "".join(words_of(words, "so")), words.get("SC__ck") == "P"))
+        elif tokens[place] == "Call":
+            words = assigned_behind(tokens, place + 3)
+            ins, outs = words_of(words, "si"), words_of(words, "so")
+            cycles += [(shift["SC__pi"] + "".join(word[t] for word in ins), shift["SC__po"] + "".join(word[t] for word in outs), True) for t in range(len(ins[0]))]
+    return cycles
