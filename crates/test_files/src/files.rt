@@ -189,11 +189,12 @@ pub fn test_files<R: Threads + Wait + Sync, E: Engine + Sync, G: Gate + Sync>(
     requires held { AreHoldsOf core.now holds.now }
     ensures { IfOk result (IsRun core.now holds.now plan.chains plan.limit) }
 {
-    let chains = stitched(alloc, core.netlist(), plan.chains)?;
-    let subject = subject_of(alloc, core.netlist())?;
+    let netlist = core.netlist();
+    netlist.sound();
+    let chains = stitched(alloc, netlist, plan.chains)?;
+    let subject = subject_of(alloc, netlist)?;
     let found = search(rt, alloc, core, &subject.classes, plan, engine, gate, holds)?;
     let files = texts_of(alloc, core, plan, holds, &chains, &subject, found)?;
-    core.netlist().sound();
     written_is_run();
     Ok(files)
 }
