@@ -1,37 +1,23 @@
 -- What is detected is seen at points of the netlist, and its faults and trees are named by signals of it.
-use Rattle.std.proofs.Common.{◌≡◌, ℕ, zero, suc, ◌<◌, inl, inr, Bool, true, false, List, [], ◌∷◌, ◌++◌, length, map, get_or, Some, None, refl, sym, ◌∙◌, ap, subst, arith, length-append}
-use Rattle.std.specs.List.{All, flat_map, slice_get}
-use Rattle.std.proofs.lemmas.Bool.{cases_lt}
-use Rattle.std.proofs.lemmas.List.{length-map}
+use Rattle.std.proofs.Common.{◌≡◌, ℕ, zero, suc, ◌<◌, false, List, [], ◌∷◌, ◌++◌, length, get_or, Some, refl, sym, ◌∙◌, ap, subst, arith}
+use Rattle.std.specs.List.{All, slice_get}
 use Rattle.std.proofs.lemmas.List.Elements.{All-nil, All-cons, All-from_get_or, All-head, All-tail}
-use Rattle.std.proofs.lemmas.Option.{slice_get_past, slice_get-get_or, slice_get_within}
-use Rattle.netlist.proofs.Lists.{All-from_contains, all_left, all_right}
-use Rattle.netlist.specs.declared.lines.Line.TheVariants.{Out, Stem}
+use Rattle.std.proofs.lemmas.Option.{slice_get-get_or, slice_get_within}
+use Rattle.netlist.proofs.Lists.{All-from_contains}
+use Rattle.netlist.specs.declared.lines.Line.TheVariants.{Stem}
 use Rattle.netlist.specs.declared.lines.Fault.{Fault}
-use Rattle.netlist.specs.declared.lines.Point.{Point}
-use Rattle.netlist.specs.declared.lines.Point.TheVariants.{Output, Cell}
-use Rattle.netlist.specs.Netlist.{Definition, Netlist, cells, signal_count, signals}
+use Rattle.netlist.specs.Netlist.{Netlist, cells, signal_count, signals}
 use Rattle.netlist.specs.Conditions.{IsSound}
 use Rattle.netlist.specs.Holds.{Holds}
 use Rattle.netlist.specs.Lines.{IsLineOf, signal_of}
-use Rattle.netlist.specs.Settled.{bits, next, outs}
-use Rattle.netlist.specs.Detection.{Detects}
 use Rattle.cubes.specs.Cubes.{Pattern}
-use Rattle.scan_play.proofs.Applied.{length-next}
-use Rattle.bench_text.proofs.WriteLemmas.{signal-below}
 use Rattle.fault_universe.specs.Laws.{FaultsHaveLines, FaultsHaveSignals}
 use Rattle.fault_universe.proofs.Elements.{contains_at}
-use Rattle.fault_universe.specs.Universe.{all_lines, lines_of, universe_of}
-use Rattle.fault_universe.proofs.FaultLists.{length-faults}
+use Rattle.fault_universe.specs.Universe.{universe_of}
 use Rattle.fault_collapse.specs.Classes.{AreClasses}
 use Rattle.fault_collapse.specs.Numbers.{Classes}
-use Rattle.tri.specs.Paths.{Path}
-use Rattle.redundancy_cert.specs.declared.nodes.Node.{Node}
 use Rattle.redundancy_cert.specs.declared.nodes.Node.TheVariants as node
-use Rattle.redundancy_cert.specs.Trees.{Tree, ClosedEnd, OpenEnd, SplitOn, ForcedTo, Place, places, preorder}
-use Rattle.redundancy_cert.specs.Fits.{Fits, PlaceFits}
-use Rattle.certificate.specs.Certificates.{HasSignal, IsNamed}
-use Rattle.run_report.specs.Strobes.{IsPointOf}
+use Rattle.certificate.specs.Certificates.{IsNamed}
 use Rattle.run_report.proofs.PointLemmas.{point_inside}
 use Rattle.good_files.proofs.TreeLemmas.{fitting_named}
 use Rattle.list_core.specs.declared.verdicts.Verdict.{Verdict}
@@ -46,22 +32,6 @@ joined P [] ys h k = k
 joined P (x ∷ xs) ys h k = All-cons P x (xs ++ ys) (All-head P x xs h) (joined P xs ys (All-tail P x xs h) k)
 
 -- ---- points
-
-inside : (n : Netlist) → IsSound n → (f : Fault) (inputs state : List Bool) (point : Point) → Detects n f inputs state point → IsPointOf n point
-point_inside n sound f inputs state (Output k) d = elim (cases_lt k (length n.outputs)) [
-  | inl low ↦ low
-  | inr high ↦
-      let good = length-map n.outputs (λ x. (bits None).line (Out x) (d.good x)) in
-      let faulty = length-map n.outputs (λ x. (bits (Some f)).line (Out x) (d.faulty x)) in
-      absurd (d.differs (slice_get_past (outs (bits None) n d.good) k (omega (arith, good, high)) ∙ sym (slice_get_past (outs (bits (Some f)) n d.faulty) k (omega (arith, faulty, high)))))
-]
-point_inside n sound f inputs state (Cell k) d = elim (cases_lt k (length (cells n))) [
-  | inl low ↦ low
-  | inr high ↦
-      let good = length-next (bits None) n d.good sound in
-      let faulty = length-next (bits (Some f)) n d.faulty sound in
-      absurd (d.differs (slice_get_past (next (bits None) n d.good) k (omega (arith, good, high)) ∙ sym (slice_get_past (next (bits (Some f)) n d.faulty) k (omega (arith, faulty, high)))))
-]
 
 inside : (n : Netlist) → IsSound n → (holds : Holds) (limit : ℕ) (patterns : List Pattern) (f : Fault) (v : Verdict) → IsVerdict n holds limit patterns f v → IsInside n v
 inside n sound holds limit patterns f Open is = is
