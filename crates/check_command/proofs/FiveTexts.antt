@@ -1,5 +1,6 @@
 -- Five texts, one behind the other, and what is due of them.
-use Rattle.std.proofs.Common.{◌≡◌, inl, inr, ℕ, List, [], ◌∷◌, Ok, Err, Vec, refl, subst, arith, length, get_or}
+use Rattle.std.proofs.Common.{◌≡◌, ◌≤◌, inl, inr, ℕ, List, [], ◌∷◌, Ok, Err, Vec, refl, sym, subst, arith, length, get_or}
+use Rattle.std.specs.List.{All}
 use Rattle.std.specs.Prelude.{Result}
 use Rattle.std.specs.declared.alloc.Global.{Global}
 use Rattle.commands.specs.Names.{texts_of}
@@ -40,3 +41,8 @@ five_texts (a ∷ b ∷ c ∷ d ∷ e ∷ g ∷ gs) p q r s t dp dq dr ds dt cou
 pub at_texts : (f : Files) (texts : List Text) (r : Result Product (Stop CheckRefusal)) → f.net ∷ f.scan ∷ f.stil ∷ f.certificate ∷ f.report ∷ [] ≡ texts
     → IsWorked (check_due (f.net ∷ f.scan ∷ f.stil ∷ f.certificate ∷ f.report ∷ [])) 0 r → IsWorked (check_due texts) 0 r
 at_texts f texts r same worked = subst (λ (ts : List Text). IsWorked (check_due ts) 0 r) same worked
+
+-- what holds of all texts that were read holds of the STIL file
+pub stil_within : (most : ℕ) (f : Files) (texts : List Text) → f.net ∷ f.scan ∷ f.stil ∷ f.certificate ∷ f.report ∷ [] ≡ texts
+    → All (λ (t : Text). length t ≤ most) texts → length f.stil ≤ most
+stil_within most f texts same within = (subst (λ (ts : List Text). All (λ (t : Text). length t ≤ most) ts) (sym same) within) 2 [] (omega arith)

@@ -26,7 +26,8 @@ fn answer_of(
     certificate: &[u8],
     report: &[u8],
 ) -> Result<Checked, Stop<CheckRefusal>>
-    requires { length net.now ≤ most_bytes }
+    requires net { length net.now ≤ most_bytes }
+    requires stil { length stil.now ≤ most_bytes }
     ensures { IsAnswered (record { net = net.now; scan = scan.now; stil = stil.now; certificate = certificate.now; report = report.now }) result }
 {
     match check_files(alloc, net, scan, stil, certificate, report) {

@@ -9,7 +9,7 @@ ghost use Rattle.head_lines.specs.HeadLines.{AreRoles};
 ghost use Rattle.fan.specs.Trees.{HasEvidenceOnPlaces};
 ghost use Rattle.fan.specs.inner.Searching.{IsOfCase};
 
-use crate::guides::{Guide, Objectives, Stop, Wants};
+use crate::guides::{Guide, GuideRoom, Objectives, Stop};
 use crate::measures::Measures;
 use crate::searching::search_from;
 use head_lines::{Role, roles_of};
@@ -30,11 +30,11 @@ pub struct Fan {
     measures: Measures,
 }
 
-/// What a search leaves to the next one: its labels, and the rows of what its guide wanted.
+/// What a search leaves to the next one: its labels, and the room of its guide.
 #[derive(Drop)]
 pub struct FanRoom {
     labels: SimRoom,
-    wants: Wants,
+    guide: GuideRoom,
 }
 
 /// A short search, if its answer is more than that it gave up; if not, its decisions are taken back.
@@ -137,10 +137,10 @@ impl Fan {
         // Open where the condition for a test is met.
         ensures places { IfOk result (HasEvidenceOnPlaces fault core.now holds.now limit) }
     {
-        let Ok(wants) = Wants::of(alloc, core) else {
+        let Ok(room) = GuideRoom::of(alloc, core) else {
             return Err(NoMemory);
         };
-        let mut guide = Guide::of(&self.measures, wants);
+        let mut guide = Guide::of(&self.measures, room);
         let Ok(mut labels) = PairSim::new(alloc, core, fault, holds) else {
             return Err(NoMemory);
         };
@@ -169,11 +169,11 @@ impl Engine for Fan {
     }
 
     fn room(&self, alloc: Global, core: &Core, holds: &Holds) -> Result<FanRoom, NoMemory> {
-        let Ok(wants) = Wants::of(alloc, core) else {
+        let Ok(guide) = GuideRoom::of(alloc, core) else {
             return Err(NoMemory);
         };
         let labels = SimRoom::new(alloc, core, holds)?;
-        Ok(FanRoom { labels, wants })
+        Ok(FanRoom { labels, guide })
     }
 
     fn search_in(
@@ -186,13 +186,13 @@ impl Engine for Fan {
         holds: &Holds,
     ) -> Result<(Found, FanRoom), NoMemory> {
         let mut labels = PairSim::in_room(room.labels, core, fault, holds);
-        let mut guide = Guide::of(&self.measures, room.wants);
+        let mut guide = Guide::of(&self.measures, room.guide);
         match attempts(alloc, core, &mut guide, &fault, holds, &mut labels, limit) {
             Ok(found) => Ok((
                 found,
                 FanRoom {
                     labels: labels.into_room(),
-                    wants: guide.into_wants(),
+                    guide: guide.into_room(),
                 },
             )),
             Err(_) => Err(NoMemory),

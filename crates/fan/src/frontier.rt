@@ -3,9 +3,11 @@ ghost use Rattle.std.specs.Prelude.{◌≡◌};
 ghost use Rattle.pair_sim.specs.Sims.{IsNotBlocked};
 
 use crate::measures::Measures;
-use crate::views::{has_effect, may_get_effect, readers};
+use crate::paths::Paths;
+use crate::views::{has_effect, may_get_effect, readers, signal_count};
 use netlist::{Core, Fault, Line, SignalId};
 use pair_sim::PairSim;
+use std::alloc::AllocError;
 
 /// The gates of the D-frontier among these readers: the only one so far, or that there are more.
 fn join_frontier(core: &Core, labels: &PairSim, signal: SignalId, start: FrontGates) -> FrontGates
@@ -65,8 +67,21 @@ pub(crate) fn frontier(core: &Core, fault: &Fault, labels: &PairSim) -> FrontGat
     found
 }
 
-/// Whether a gate is nearer to the observed points than the best so far.
-fn is_nearer(measures: &Measures, gate: SignalId, best: &Option<SignalId>) -> bool {
+/// Whether a gate is one of the D-frontier that wasn't come to, and nearer to the observed points than the best so far.
+fn is_nearer(
+    core: &Core,
+    measures: &Measures,
+    labels: &PairSim,
+    paths: &Paths,
+    gate: SignalId,
+    best: &Option<SignalId>,
+) -> bool
+    requires same { labels.now.netlist ≡ core.now }
+    requires not_blocked { IsNotBlocked labels.now }
+{
+    if paths.has(gate) || !may_get_effect(core, labels, gate) {
+        return false;
+    }
     match best {
         None => true,
         Some(other) => measures.sight(gate) < measures.sight(*other),
@@ -78,6 +93,7 @@ fn nearer_reader(
     core: &Core,
     measures: &Measures,
     labels: &PairSim,
+    paths: &Paths,
     signal: SignalId,
     start: Option<SignalId>,
 ) -> Option<SignalId>
@@ -87,7 +103,7 @@ fn nearer_reader(
     let mut best = start;
     for line in readers(core, signal) {
         if let Line::Pin(gate, _) = line {
-            if may_get_effect(core, labels, *gate) && is_nearer(measures, *gate, &best) {
+            if is_nearer(core, measures, labels, paths, *gate, &best) {
                 best = Some(*gate);
             }
         }
@@ -95,26 +111,50 @@ fn nearer_reader(
     best
 }
 
-/// The gate of the D-frontier that is nearest to the observed points.
-pub(crate) fn nearest(
+/// The gate of the D-frontier that is nearest to the observed points, of those that weren't come to.
+fn nearest_left(
     core: &Core,
     measures: &Measures,
     fault: &Fault,
     labels: &PairSim,
+    paths: &Paths,
 ) -> Option<SignalId>
     requires same { labels.now.netlist ≡ core.now }
     requires not_blocked { IsNotBlocked labels.now }
 {
     let mut best: Option<SignalId> = None;
     if let Line::Pin(gate, _) = &fault.line {
-        if may_get_effect(core, labels, *gate) {
+        if is_nearer(core, measures, labels, paths, *gate, &best) {
             best = Some(*gate);
         }
     }
     for signal in labels.trail() {
         if has_effect(core, labels, *signal) {
-            best = nearer_reader(core, measures, labels, *signal, best);
+            best = nearer_reader(core, measures, labels, paths, *signal, best);
         }
     }
     best
+}
+
+/// The gate of the D-frontier that is nearest to the observed points, of those from which the effect may come to one.
+pub(crate) fn nearest(
+    core: &Core,
+    measures: &Measures,
+    fault: &Fault,
+    labels: &PairSim,
+    paths: &mut Paths,
+) -> Result<Option<SignalId>, AllocError>
+    requires same { labels.now.netlist ≡ core.now }
+    requires not_blocked { IsNotBlocked labels.now }
+{
+    paths.begin();
+    for _step in 0..signal_count(core) {
+        let Some(gate) = nearest_left(core, measures, fault, labels, paths) else {
+            return Ok(None);
+        };
+        if paths.leads(core, labels, gate)? {
+            return Ok(Some(gate));
+        }
+    }
+    Ok(None)
 }

@@ -5,6 +5,7 @@ ghost use Rattle.pair_sim.specs.Sims.{IsNotBlocked};
 
 use crate::frontier::nearest;
 use crate::measures::Measures;
+use crate::paths::Paths;
 use crate::tracing::traced;
 use crate::views::{
     count_pins, driver, gate_of, has_head, is_inverting, is_own_unknown, is_unknown, may_differ,
@@ -51,7 +52,7 @@ pub(crate) enum Stop {
 
 /// Rows of what is wanted of each signal, and of whether the backtrace has come to it.
 #[derive(Drop)]
-pub(crate) struct Wants {
+struct Wants {
     zero: Vec<u32>,
     one: Vec<u32>,
     met: Vec<bool>,
@@ -61,7 +62,7 @@ pub(crate) struct Wants {
 
 impl Wants {
     /// With room for a netlist.
-    pub(crate) fn of(alloc: Global, core: &Core) -> Result<Wants, AllocError> {
+    fn of(alloc: Global, core: &Core) -> Result<Wants, AllocError> {
         let count = signal_count(core);
         Ok(Wants {
             zero: vec![in alloc; 0u32; count]?,
@@ -132,6 +133,23 @@ impl Wants {
     }
 }
 
+/// What a guide leaves to the next one.
+#[derive(Drop)]
+pub(crate) struct GuideRoom {
+    wants: Wants,
+    paths: Paths,
+}
+
+impl GuideRoom {
+    /// Room for a netlist.
+    pub(crate) fn of(alloc: Global, core: &Core) -> Result<GuideRoom, AllocError> {
+        Ok(GuideRoom {
+            wants: Wants::of(alloc, core)?,
+            paths: Paths::of(alloc, core)?,
+        })
+    }
+}
+
 /// What leads the search: measures, how it goes back, and what is wanted.
 #[derive(Drop)]
 pub(crate) struct Guide<'a> {
@@ -139,6 +157,7 @@ pub(crate) struct Guide<'a> {
     objectives: Objectives,
     stop: Stop,
     wants: Wants,
+    paths: Paths,
 }
 
 /// Before which others a signal waits: gates from the last to the first in the order of evaluation, then inputs and cells.
@@ -147,19 +166,23 @@ fn rank(core: &Core, signal: SignalId) -> u64 {
 }
 
 impl<'a> Guide<'a> {
-    /// With these rows.
-    pub(crate) fn of(measures: &'a Measures, wants: Wants) -> Guide<'a> {
+    /// In a room, whatever it held.
+    pub(crate) fn of(measures: &'a Measures, room: GuideRoom) -> Guide<'a> {
         Guide {
             measures,
             objectives: Objectives::All,
             stop: Stop::Heads,
-            wants,
+            wants: room.wants,
+            paths: room.paths,
         }
     }
 
-    /// The rows, for another search.
-    pub(crate) fn into_wants(self) -> Wants {
-        self.wants
+    /// The room, for another search.
+    pub(crate) fn into_room(self) -> GuideRoom {
+        GuideRoom {
+            wants: self.wants,
+            paths: self.paths,
+        }
     }
 
     /// From here on it goes back so.
@@ -330,7 +353,7 @@ impl<'a> Guide<'a> {
                 self.spread(core, labels, side.signal, votes_for(side.bit, 1))?;
             }
         }
-        match nearest(core, self.measures, fault, labels) {
+        match nearest(core, self.measures, fault, labels, &mut self.paths)? {
             None => Ok(()),
             Some(gate) => self.want_through(core, labels, gate),
         }
@@ -424,7 +447,7 @@ pub(crate) fn best_aim(
     requires not_blocked { IsNotBlocked labels.now }
 {
     if matches!(guide.objectives, Objectives::One) {
-        return Ok(traced(
+        return traced(
             core,
             guide.measures,
             fault,
@@ -432,7 +455,8 @@ pub(crate) fn best_aim(
             labels,
             stack,
             guide.stop,
-        ));
+            &mut guide.paths,
+        );
     }
     guide.wants.clear();
     guide.want_objectives(core, fault, roles, labels, stack)?;

@@ -8,6 +8,7 @@ mod forcing;
 mod frontier;
 mod guides;
 mod measures;
+mod paths;
 mod searching;
 mod standing;
 mod tracing;

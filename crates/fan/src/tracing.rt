@@ -6,6 +6,7 @@ ghost use Rattle.pair_sim.specs.Sims.{IsNotBlocked};
 use crate::frontier::nearest;
 use crate::guides::{Aim, Stop};
 use crate::measures::Measures;
+use crate::paths::Paths;
 use crate::views::{
     count_pins, driver, gate_of, has_head, is_inverting, is_own_unknown, is_unknown, may_differ,
     place_of, readers, signal_count,
@@ -14,6 +15,7 @@ use head_lines::Role;
 use netlist::{Core, Fault, Kind, SignalId};
 use pair_sim::PairSim;
 use redundancy_cert::Side;
+use std::alloc::AllocError;
 
 /// Which pin of a gate is gone to.
 #[derive(Clone, Copy, Drop)]
@@ -150,26 +152,30 @@ fn objective(
     roles: &[Role],
     labels: &PairSim,
     stack: &[Side],
-) -> Option<Aim>
+    paths: &mut Paths,
+) -> Result<Option<Aim>, AllocError>
     requires same { labels.now.netlist ≡ core.now }
     requires not_blocked { IsNotBlocked labels.now }
 {
     let site = driver(core, &fault.line);
     if is_unknown(core, labels, site) {
-        return Some(Aim {
+        return Ok(Some(Aim {
             signal: site,
             bit: !fault.value,
-        });
+        }));
     }
     let decided = lowest_decided(core, roles, labels, stack);
-    if let Some(gate) = nearest(core, measures, fault, labels) {
+    if let Some(gate) = nearest(core, measures, fault, labels, paths)? {
         if let Some(pin) = lowest_pin(core, measures, labels, gate) {
             if is_lower(core, pin.signal, &decided) {
-                return Some(pin);
+                return Ok(Some(pin));
             }
         }
     }
-    into_gate(core, measures, labels, decided?)
+    let Some(gate) = decided else {
+        return Ok(None);
+    };
+    Ok(into_gate(core, measures, labels, gate))
 }
 
 /// Whether the backtrace ends at a signal: at a head line, an input or a cell, and at the first fanout stem where it is to.
@@ -183,6 +189,28 @@ fn ends(core: &Core, roles: &[Role], labels: &PairSim, id: SignalId, stop: Stop)
     matches!(stop, Stop::Stems) && readers(core, id).len() >= 2 && !may_differ(core, labels, id)
 }
 
+/// Where an objective leads.
+fn trace_from(
+    core: &Core,
+    measures: &Measures,
+    roles: &[Role],
+    labels: &PairSim,
+    stop: Stop,
+    objective: Aim,
+) -> Option<Aim>
+    requires same { labels.now.netlist ≡ core.now }
+    requires not_blocked { IsNotBlocked labels.now }
+{
+    let mut aim = objective;
+    for _step in 0..signal_count(core) {
+        if ends(core, roles, labels, aim.signal, stop) {
+            return Some(aim);
+        }
+        aim = into_gate(core, measures, labels, aim)?;
+    }
+    None
+}
+
 /// Where the lowest objective leads.
 pub(crate) fn traced(
     core: &Core,
@@ -192,16 +220,13 @@ pub(crate) fn traced(
     labels: &PairSim,
     stack: &[Side],
     stop: Stop,
-) -> Option<Aim>
+    paths: &mut Paths,
+) -> Result<Option<Aim>, AllocError>
     requires same { labels.now.netlist ≡ core.now }
     requires not_blocked { IsNotBlocked labels.now }
 {
-    let mut aim = objective(core, measures, fault, roles, labels, stack)?;
-    for _step in 0..signal_count(core) {
-        if ends(core, roles, labels, aim.signal, stop) {
-            return Some(aim);
-        }
-        aim = into_gate(core, measures, labels, aim)?;
+    match objective(core, measures, fault, roles, labels, stack, paths)? {
+        None => Ok(None),
+        Some(aim) => Ok(trace_from(core, measures, roles, labels, stop, aim)),
     }
-    None
 }

@@ -28,8 +28,7 @@ use Rattle.netlist.specs.Settled.{bit_table}
 use Rattle.scan_play.specs.Laws.{moved, GoodPasses, UndetectedPasses, DetectedFails, VectorsFit, NoSequenceDetectsRedundant, SomeRun}
 use Rattle.stil_write.specs.StilFiles.{StilFile}
 use Rattle.stil_vectors.specs.FileVectors.{vectors_in}
-use Rattle.stil_vectors.specs.Laws.{TestVectors}
-use Rattle.stil_tests.specs.Tests.{IsFileOf}
+use Rattle.stil_tests.specs.Laws.{FileVectors}
 use Rattle.fault_universe.specs.Laws.{FaultsHaveLines}
 use Rattle.fault_universe.specs.Texts.{fault_text}
 use Rattle.fault_universe.specs.Universe.{universe_of}
@@ -46,6 +45,8 @@ use Rattle.report.specs.declared.outcomes.Outcome.TheVariants.{Detected, Redunda
 use Rattle.report.specs.Reports.{Line}
 use Rattle.run_report.specs.Outcomes.{Test, IsFirstTree, IsTrueOf, AreTrueLines}
 use Rattle.run_report.specs.Heads.{count_of, detected_one, redundant_one, aborted_one}
+use Rattle.run_report.proofs.ClassLemmas.{equivalent}
+use Rattle.run_report.proofs.ListLemmas.{one_kind}
 use Rattle.good_files.specs.GoodFiles.{AreGoodFiles, Files, test_of}
 use Rattle.good_files.specs.RunTheorem.{ComesTrue, RunTheorem}
 use Rattle.good_files.specs.ScanOff.{design_chains}
@@ -69,11 +70,6 @@ read_back law n sound text is =
 -- ---- lines
 
 -- every line is of one of the three kinds
-one_kind : (o : Outcome) → detected_one o + redundant_one o + aborted_one o ≡ 1
-one_kind (Detected place cycle) = refl
-one_kind Redundant = refl
-one_kind Aborted = refl
-
 all_kinds : (lines : List Line) → count_of detected_one lines + count_of redundant_one lines + count_of aborted_one lines ≡ length lines
 all_kinds [] = refl
 all_kinds (l ∷ ls) =
@@ -96,17 +92,6 @@ once t classes lines are =
     let w = are.each k (omega (arith, lt, length-map lines (λ l. l.fault), are.no_more)) in
     got (λ (l : Line). l.fault) lines k w.line [] w.said ∙ w.names_it ∙ sym (got (fault_text n) (universe_of n) k w.fault [] w.member))
 
--- ---- classes
-
--- a fault of a class is equivalent to its representative
-equivalent : (n : Netlist) (classes : Classes) → AreClasses n classes → (place class : ℕ) (f g : Fault)
-    → slice_get (universe_of n) place ≡ Some f → slice_get classes.numbers place ≡ Some class → Represents classes class g → IsEquivalent n f g
-equivalent n classes are place class f g at number represents =
-    let first = are.first class (slice_get_within classes.representatives class g represents) in
-    let same : get_or classes.numbers place 0 ≡ get_or classes.numbers first.place 0 =
-    get_or_from_slice_get classes.numbers place class 0 number ∙ sym first.member in
-    (are.equivalent place first.place f g at (first.representative g represents)).0 same
-
 stands : (trees : List (Fault × List Node)) (f : Fault) (tree : List Node) → IsFirstTree trees f tree → Contains trees (f, tree)
 stands [] f tree e = absurd e
 stands (p ∷ ps) f tree (inl e) = subst (λ (q : Fault × List Node). Contains (p ∷ ps) q) (λ i. (e.0 i, e.1 i)) (contains_head p ps)
@@ -116,16 +101,6 @@ same_member : {X : Type 0} (xs : List X) (k : ℕ) (x y : X) → slice_get xs k 
 same_member xs k x y p q = let both : Some x ≡ Some y = sym p ∙ q in cc
 
 -- ---- the tester
-
--- the vectors of the file are those of the patterns
-pub file_vectors : TestVectors → (n : Netlist) (holds : Holds) (chains : List (List ℕ)) (patterns : List Pattern) (file : StilFile)
-    → AreHoldsOf n holds → IsFileOf n holds chains patterns file → AreVectors n holds chains patterns (vectors_in file)
-file_vectors law n holds chains patterns file held t = record {
-  held = held;
-  responses = t.responses;
-  respond = t.respond;
-  are = ap vectors_in t.is ∙ law n holds chains (zip patterns t.responses);
-}
 
 -- the laws that are cited
 pub record Laws : Type 1 where
@@ -138,7 +113,7 @@ pub record Laws : Type 1 where
   pub redundant : NoSequenceDetectsRedundant
   pub run : SomeRun Bool
   pub read : CanonicalTextIsRead
-  pub test : TestVectors
+  pub test : FileVectors
   pub lines : FaultsHaveLines
   pub alike : DetectedAlike
   pub closed : ClosedTreeIsRedundant
@@ -192,7 +167,7 @@ truth laws n holds asked limit files sound design good =
     let t = test_of n holds asked limit good.patterns good.trees in
     let cycles = vectors_in good.file in
     let of_cells = good.dealt in
-    let vectors = file_vectors laws.test n holds chains good.patterns good.file good.held good.is_file_of in
+    let vectors = laws.test n holds chains good.patterns good.file good.is_file_of in
     let scanned = laws.sound n chains sound design of_cells in
     record {
       file = good.file;

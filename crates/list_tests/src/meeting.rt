@@ -1,8 +1,7 @@
 //! Two that wait for each other.
 use netlist::{Core, Fault, Holds, NoMemory};
 use outside::{Gate, Stage};
-use pair_sim::SimRoom;
-use podem::Podem;
+use podem::{Podem, PodemRoom};
 use redundancy_cert::{Engine, Found};
 use std::alloc::Global;
 use std::sync::atomic::{AtomicU64, Ordering};
@@ -89,11 +88,11 @@ impl MeetingEngine {
 }
 
 impl Engine for MeetingEngine {
-    ghost use Rattle.pair_sim.specs.Rooms.{CanServeLabels};
+    ghost use Rattle.podem.specs.Rooms.{CanServe};
 
-    type Room = SimRoom;
+    type Room = PodemRoom;
 
-    ghost serves = { CanServeLabels };
+    ghost serves = { CanServe };
 
     fn search(
         &self,
@@ -107,19 +106,19 @@ impl Engine for MeetingEngine {
         self.podem.search_sources(alloc, core, fault, limit, holds)
     }
 
-    fn room(&self, alloc: Global, core: &Core, holds: &Holds) -> Result<SimRoom, NoMemory> {
+    fn room(&self, alloc: Global, core: &Core, holds: &Holds) -> Result<PodemRoom, NoMemory> {
         self.podem.room(alloc, core, holds)
     }
 
     fn search_in(
         &self,
         alloc: Global,
-        room: SimRoom,
+        room: PodemRoom,
         core: &Core,
         fault: Fault,
         limit: u32,
         holds: &Holds,
-    ) -> Result<(Found, SimRoom), NoMemory> {
+    ) -> Result<(Found, PodemRoom), NoMemory> {
         self.meeting.meet(self.begun.fetch_add(1, Ordering::SeqCst));
         self.podem.search_in(alloc, room, core, fault, limit, holds)
     }

@@ -5,6 +5,7 @@ ghost use Rattle.redundancy_cert.specs.Evidence.{HasEvidence};
 ghost use Rattle.netlist.specs.Lines.{IsLineOf};
 ghost use Rattle.podem.specs.Sources.{HasSourceEvidence, IsLabelling};
 
+use crate::effects::Effects;
 use crate::measures::Measures;
 use crate::searching::search_from;
 use netlist::{Core, Fault, Holds, NoMemory};
@@ -16,6 +17,13 @@ use std::alloc::Global;
 #[derive(Debug, Drop)]
 pub struct Podem {
     measures: Measures,
+}
+
+/// What a search leaves to the next one: its labels, and the room of the signals with an effect.
+#[derive(Drop)]
+pub struct PodemRoom {
+    labels: SimRoom,
+    effects: Effects,
 }
 
 impl Podem {
@@ -46,12 +54,14 @@ impl Podem {
         let Ok(mut labels) = PairSim::new(alloc, core, fault, holds) else {
             return Err(NoMemory);
         };
+        let mut effects = Effects::new(alloc);
         search_from(
             alloc,
             core,
             &self.measures,
             &fault,
             holds,
+            &mut effects,
             &mut labels,
             limit,
         )
@@ -77,16 +87,27 @@ impl Podem {
         ensures kept { OnOk result (IsLabelling core.now holds.now labels.new) }
     {
         labels.aim(fault);
-        search_from(alloc, core, &self.measures, &fault, holds, labels, limit).map_err(|_| NoMemory)
+        let mut effects = Effects::new(alloc);
+        search_from(
+            alloc,
+            core,
+            &self.measures,
+            &fault,
+            holds,
+            &mut effects,
+            labels,
+            limit,
+        )
+        .map_err(|_| NoMemory)
     }
 }
 
 impl Engine for Podem {
-    ghost use Rattle.pair_sim.specs.Rooms.{CanServeLabels};
+    ghost use Rattle.podem.specs.Rooms.{CanServe};
 
-    type Room = SimRoom;
+    type Room = PodemRoom;
 
-    ghost serves = { CanServeLabels };
+    ghost serves = { CanServe };
 
     fn search(
         &self,
@@ -99,30 +120,40 @@ impl Engine for Podem {
         self.search_sources(alloc, core, fault, limit, holds)
     }
 
-    fn room(&self, alloc: Global, core: &Core, holds: &Holds) -> Result<SimRoom, NoMemory> {
-        SimRoom::new(alloc, core, holds)
+    fn room(&self, alloc: Global, core: &Core, holds: &Holds) -> Result<PodemRoom, NoMemory> {
+        let labels = SimRoom::new(alloc, core, holds)?;
+        let effects = Effects::new(alloc);
+        Ok(PodemRoom { labels, effects })
     }
 
     fn search_in(
         &self,
         alloc: Global,
-        room: SimRoom,
+        room: PodemRoom,
         core: &Core,
         fault: Fault,
         limit: u32,
         holds: &Holds,
-    ) -> Result<(Found, SimRoom), NoMemory> {
-        let mut labels = PairSim::in_room(room, core, fault, holds);
+    ) -> Result<(Found, PodemRoom), NoMemory> {
+        let mut labels = PairSim::in_room(room.labels, core, fault, holds);
+        let mut effects = room.effects;
         match search_from(
             alloc,
             core,
             &self.measures,
             &fault,
             holds,
+            &mut effects,
             &mut labels,
             limit,
         ) {
-            Ok(found) => Ok((found, labels.into_room())),
+            Ok(found) => Ok((
+                found,
+                PodemRoom {
+                    labels: labels.into_room(),
+                    effects,
+                },
+            )),
             Err(_) => Err(NoMemory),
         }
     }

@@ -3,6 +3,7 @@ ghost use Rattle.std.specs.Prelude.{◌≡◌, length};
 ghost use Rattle.netlist.specs.Netlist.{signals};
 ghost use Rattle.pair_sim.specs.Sims.{IsNotBlocked};
 
+use crate::effects::Effects;
 use crate::measures::Measures;
 use netlist::{Core, Fault, Kind, Line, SignalId, Tri};
 use pair_sim::PairSim;
@@ -20,6 +21,59 @@ struct Front {
     gate: SignalId,
     cost: u32,
     aim: Aim,
+}
+
+/// What guides the search for one fault: what bits cost, and what is wanted where both cost alike.
+#[derive(Clone, Copy)]
+pub(crate) struct Guide<'a> {
+    measures: &'a Measures,
+    salt: u64,
+}
+
+impl<'a> Guide<'a> {
+    pub(crate) fn new(measures: &'a Measures, fault: &Fault) -> Guide<'a> {
+        Guide {
+            measures,
+            salt: salt_of(fault),
+        }
+    }
+
+    fn cost(&self, signal: SignalId, bit: bool) -> u32 {
+        self.measures.cost(signal, bit)
+    }
+
+    /// The bit that is cheaper. Where both cost alike it depends on fault and signal: were it the same for all faults, their tests would be alike,
+    /// and a parity tree would need one for each input.
+    fn cheap_bit(&self, signal: SignalId) -> bool {
+        let zero = self.cost(signal, false);
+        let one = self.cost(signal, true);
+        if zero == one {
+            return is_odd(mixed(self.salt ^ signal.index() as u64));
+        }
+        one < zero
+    }
+}
+
+/// A number whose bits depend on all bits of another one. (The finisher of SplitMix64: Steele, Lea and Flood, Fast splittable pseudorandom
+/// number generators, 2014.)
+fn mixed(number: u64) -> u64 {
+    let one = (number ^ (number >> 30)).wrapping_mul(0xbf58_476d_1ce4_e5b9);
+    let other = (one ^ (one >> 27)).wrapping_mul(0x94d0_49bb_1331_11eb);
+    other ^ (other >> 31)
+}
+
+fn is_odd(number: u64) -> bool {
+    number & 1 == 1
+}
+
+/// A number for a fault: one signal and one pin in 2 to the 32 each, and the stuck value.
+fn salt_of(fault: &Fault) -> u64 {
+    let (signal, place) = match &fault.line {
+        Line::Stem(x) => (*x, 0),
+        Line::Out(x) => (*x, 1),
+        Line::Pin(z, k) => (*z, u64::from(*k).wrapping_add(2)),
+    };
+    mixed((signal.index() as u64) << 32 ^ place << 1 ^ u64::from(fault.value))
 }
 
 /// How many signals there are.
@@ -50,7 +104,7 @@ fn is_unknown(core: &Core, labels: &PairSim, signal: SignalId) -> bool
 }
 
 /// Whether both values of a signal are known and differ.
-fn has_effect(core: &Core, labels: &PairSim, signal: SignalId) -> bool
+pub(crate) fn has_effect(core: &Core, labels: &PairSim, signal: SignalId) -> bool
     requires same { labels.now.netlist ≡ core.now }
     requires not_blocked { IsNotBlocked labels.now }
 {
@@ -100,7 +154,7 @@ fn is_better(cost: u32, best: &Option<(SignalId, u32)>, dear: bool) -> bool {
 /// The pin that is X for which a bit costs least, or most.
 fn pin_by_cost(
     core: &Core,
-    measures: &Measures,
+    guide: &Guide,
     labels: &PairSim,
     pins: &[SignalId],
     bit: bool,
@@ -110,7 +164,7 @@ fn pin_by_cost(
 {
     let mut best = None;
     for pin in pins {
-        let cost = measures.cost(*pin, bit);
+        let cost = guide.cost(*pin, bit);
         if is_unknown(core, labels, *pin) && is_better(cost, &best, dear) {
             best = Some((*pin, cost));
         }
@@ -120,17 +174,12 @@ fn pin_by_cost(
 }
 
 /// The pin that is X for which its cheaper bit costs least, at that bit.
-fn cheapest_pin(
-    core: &Core,
-    measures: &Measures,
-    labels: &PairSim,
-    pins: &[SignalId],
-) -> Option<Aim>
+fn cheapest_pin(core: &Core, guide: &Guide, labels: &PairSim, pins: &[SignalId]) -> Option<Aim>
     requires { labels.now.netlist ≡ core.now }
 {
     let mut best = None;
     for pin in pins {
-        let cost = measures.cost(*pin, measures.cheap_bit(*pin));
+        let cost = guide.cost(*pin, guide.cheap_bit(*pin));
         if is_unknown(core, labels, *pin) && is_better(cost, &best, false) {
             best = Some((*pin, cost));
         }
@@ -138,7 +187,7 @@ fn cheapest_pin(
     let (signal, _) = best?;
     Some(Aim {
         signal,
-        bit: measures.cheap_bit(signal),
+        bit: guide.cheap_bit(signal),
     })
 }
 
@@ -161,14 +210,14 @@ fn others_of(core: &Core, labels: &PairSim, pins: &[SignalId]) -> (bool, bool)
 /// A pin of a parity gate, and the bit there: what gives the output its bit where only that pin is X.
 fn parity_pin(
     core: &Core,
-    measures: &Measures,
+    guide: &Guide,
     labels: &PairSim,
     pins: &[SignalId],
     bit: bool,
 ) -> Option<Aim>
     requires { labels.now.netlist ≡ core.now }
 {
-    let aim = cheapest_pin(core, measures, labels, pins)?;
+    let aim = cheapest_pin(core, guide, labels, pins)?;
     let (is_last, odd) = others_of(core, labels, pins);
     if is_last {
         return Some(Aim {
@@ -181,30 +230,30 @@ fn parity_pin(
 
 /// One step back from an aim: a pin of its gate, and the bit there. Where one pin decides the easiest is taken, and where all have to have
 /// the bit the hardest.
-fn step_back(core: &Core, measures: &Measures, labels: &PairSim, aim: &Aim) -> Option<Aim>
+fn step_back(core: &Core, guide: &Guide, labels: &PairSim, aim: &Aim) -> Option<Aim>
     requires { labels.now.netlist ≡ core.now }
 {
     let (kind, pins) = gate_of(core, aim.signal)?;
     match kind {
-        Kind::And => pin_by_cost(core, measures, labels, pins, aim.bit, aim.bit),
-        Kind::Nand => pin_by_cost(core, measures, labels, pins, !aim.bit, !aim.bit),
-        Kind::Or => pin_by_cost(core, measures, labels, pins, aim.bit, !aim.bit),
-        Kind::Nor => pin_by_cost(core, measures, labels, pins, !aim.bit, aim.bit),
-        Kind::Xor => parity_pin(core, measures, labels, pins, aim.bit),
-        Kind::Xnor => parity_pin(core, measures, labels, pins, !aim.bit),
-        Kind::Not => pin_by_cost(core, measures, labels, pins, !aim.bit, false),
-        Kind::Buff => pin_by_cost(core, measures, labels, pins, aim.bit, false),
+        Kind::And => pin_by_cost(core, guide, labels, pins, aim.bit, aim.bit),
+        Kind::Nand => pin_by_cost(core, guide, labels, pins, !aim.bit, !aim.bit),
+        Kind::Or => pin_by_cost(core, guide, labels, pins, aim.bit, !aim.bit),
+        Kind::Nor => pin_by_cost(core, guide, labels, pins, !aim.bit, aim.bit),
+        Kind::Xor => parity_pin(core, guide, labels, pins, aim.bit),
+        Kind::Xnor => parity_pin(core, guide, labels, pins, !aim.bit),
+        Kind::Not => pin_by_cost(core, guide, labels, pins, !aim.bit, false),
+        Kind::Buff => pin_by_cost(core, guide, labels, pins, aim.bit, false),
         Kind::Dff | Kind::Const0 | Kind::Const1 => None,
     }
 }
 
 /// Where the aim leads back to.
-fn trace_back(core: &Core, measures: &Measures, labels: &PairSim, start: &Aim) -> Aim
+fn trace_back(core: &Core, guide: &Guide, labels: &PairSim, start: &Aim) -> Aim
     requires { labels.now.netlist ≡ core.now }
 {
     let mut aim = *start;
     for _step in 0..signal_count(core) {
-        match step_back(core, measures, labels, &aim) {
+        match step_back(core, guide, labels, &aim) {
             None => return aim,
             Some(next) => aim = next,
         }
@@ -230,14 +279,14 @@ fn driver(core: &Core, line: &Line) -> SignalId {
 }
 
 /// What a gate's pin should have so that an effect on another pin goes through.
-fn through(core: &Core, measures: &Measures, labels: &PairSim, gate: SignalId) -> Option<Aim>
+fn through(core: &Core, guide: &Guide, labels: &PairSim, gate: SignalId) -> Option<Aim>
     requires { labels.now.netlist ≡ core.now }
 {
     let (kind, pins) = gate_of(core, gate)?;
     match kind {
-        Kind::And | Kind::Nand => pin_by_cost(core, measures, labels, pins, true, true),
-        Kind::Or | Kind::Nor => pin_by_cost(core, measures, labels, pins, false, true),
-        Kind::Xor | Kind::Xnor => cheapest_pin(core, measures, labels, pins),
+        Kind::And | Kind::Nand => pin_by_cost(core, guide, labels, pins, true, true),
+        Kind::Or | Kind::Nor => pin_by_cost(core, guide, labels, pins, false, true),
+        Kind::Xor | Kind::Xnor => cheapest_pin(core, guide, labels, pins),
         _ => None,
     }
 }
@@ -255,7 +304,7 @@ fn is_nearer(gate: SignalId, cost: u32, best: &Option<Front>) -> bool {
 /// A gate that an effect reaches, if it is better than the best so far.
 fn consider(
     core: &Core,
-    measures: &Measures,
+    guide: &Guide,
     labels: &PairSim,
     gate: SignalId,
     best: Option<Front>,
@@ -263,11 +312,11 @@ fn consider(
     requires same { labels.now.netlist ≡ core.now }
     requires not_blocked { IsNotBlocked labels.now }
 {
-    let cost = measures.sight(gate);
+    let cost = guide.measures.sight(gate);
     if !may_get_effect(core, labels, gate) || !is_nearer(gate, cost, &best) {
         return best;
     }
-    match through(core, measures, labels, gate) {
+    match through(core, guide, labels, gate) {
         None => best,
         Some(aim) => Some(Front { gate, cost, aim }),
     }
@@ -284,7 +333,7 @@ fn readers<'a>(core: &'a Core, signal: SignalId) -> &'a [Line] {
 /// The gates that read a signal with an effect.
 fn consider_readers(
     core: &Core,
-    measures: &Measures,
+    guide: &Guide,
     labels: &PairSim,
     signal: SignalId,
     start: Option<Front>,
@@ -292,35 +341,46 @@ fn consider_readers(
     requires same { labels.now.netlist ≡ core.now }
     requires not_blocked { IsNotBlocked labels.now }
 {
-    if !has_effect(core, labels, signal) {
-        return start;
-    }
     let mut best = start;
     for line in readers(core, signal) {
         if let Line::Pin(gate, _) = line {
-            best = consider(core, measures, labels, *gate, best);
+            best = consider(core, guide, labels, *gate, best);
         }
     }
     best
 }
 
 /// The best gate of the D-frontier: those that read a signal with an effect, whose own label may still get one.
-fn frontier(core: &Core, measures: &Measures, fault: &Fault, labels: &PairSim) -> Option<Front>
+fn frontier(
+    core: &Core,
+    guide: &Guide,
+    fault: &Fault,
+    effects: &Effects,
+    labels: &PairSim,
+) -> Option<Front>
     requires same { labels.now.netlist ≡ core.now }
     requires not_blocked { IsNotBlocked labels.now }
 {
     let mut best = None;
     if let Line::Pin(gate, _) = &fault.line {
-        best = consider(core, measures, labels, *gate, best);
+        best = consider(core, guide, labels, *gate, best);
     }
-    for signal in labels.trail() {
-        best = consider_readers(core, measures, labels, *signal, best);
+    for number in 0..effects.len() {
+        if let Some(signal) = effects.signal(number) {
+            best = consider_readers(core, guide, labels, signal, best);
+        }
     }
     best
 }
 
 /// The objective: the fault is excited, and then the gate of the D-frontier that is nearest to the observed points lets its effect through.
-fn objective(core: &Core, measures: &Measures, fault: &Fault, labels: &PairSim) -> Option<Aim>
+fn objective(
+    core: &Core,
+    guide: &Guide,
+    fault: &Fault,
+    effects: &Effects,
+    labels: &PairSim,
+) -> Option<Aim>
     requires same { labels.now.netlist ≡ core.now }
     requires not_blocked { IsNotBlocked labels.now }
 {
@@ -331,19 +391,20 @@ fn objective(core: &Core, measures: &Measures, fault: &Fault, labels: &PairSim) 
             bit: !fault.value,
         });
     }
-    Some(frontier(core, measures, fault, labels)?.aim)
+    Some(frontier(core, guide, fault, effects, labels)?.aim)
 }
 
 /// What to decide, if the labels tell.
 pub(crate) fn best_aim(
     core: &Core,
-    measures: &Measures,
+    guide: &Guide,
     fault: &Fault,
+    effects: &Effects,
     labels: &PairSim,
 ) -> Option<Aim>
     requires same { labels.now.netlist ≡ core.now }
     requires not_blocked { IsNotBlocked labels.now }
 {
-    let start = objective(core, measures, fault, labels)?;
-    Some(trace_back(core, measures, labels, &start))
+    let start = objective(core, guide, fault, effects, labels)?;
+    Some(trace_back(core, guide, labels, &start))
 }

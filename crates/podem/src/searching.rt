@@ -12,7 +12,8 @@ ghost use Rattle.netlist.specs.Holds.{AreHoldsOf};
 ghost use Rattle.podem.specs.Sources.{all_sources, sources, undecided, value_of, HasSourceEvidence};
 ghost use Rattle.podem.specs.inner.Searching.{IsAt, IsSearching, IsSeen, IsGone, IsKnownAt, MayEnter, MayClimb, IsWhole, IsTestAt, IsStepped, IsChosen, IsOfCase};
 
-use crate::guides::{Aim, best_aim, signal_count};
+use crate::effects::Effects;
+use crate::guides::{Aim, Guide, best_aim, signal_count};
 use crate::measures::Measures;
 use cubes::Cube;
 use netlist::{Core, Fault, Holds, Point, SignalId, Tri};
@@ -99,6 +100,7 @@ fn climb(
     core: &Core,
     fault: &Fault,
     holds: &Holds,
+    effects: &mut Effects,
     labels: &mut PairSim,
     stack: &mut Vec<Side>,
     mut done: Vec<Node>,
@@ -110,6 +112,7 @@ fn climb(
 {
     while stack.len() > 0 {
         labels.undo();
+        effects.cut(labels.trail().len());
         match end_side(stack, done)? {
             Turn::Climbed(nodes) => done = nodes,
             Turn::Turned => {
@@ -177,9 +180,10 @@ fn wanted_source(core: &Core, labels: &PairSim, wanted: SignalId) -> Option<Sign
 /// The source to which the objective leads back.
 fn guided(
     core: &Core,
-    measures: &Measures,
+    guide: &Guide,
     fault: &Fault,
     holds: &Holds,
+    effects: &Effects,
     labels: &PairSim,
     stack: &Vec<Side>,
 ) -> Option<Aim>
@@ -188,7 +192,7 @@ fn guided(
     ensures { IfSome result (λ a. Contains (sources core.now holds.now) a.signal × IsUnknown fault.now core.now holds.now (path_of_stack stack.now.items) a.signal) }
 {
     core.netlist().sound();
-    let aim = best_aim(core, measures, fault, labels)?;
+    let aim = best_aim(core, guide, fault, effects, labels)?;
     let signal = wanted_source(core, labels, aim.signal)?;
     Some(Aim {
         signal,
@@ -199,9 +203,10 @@ fn guided(
 /// What to decide next.
 fn choose(
     core: &Core,
-    measures: &Measures,
+    guide: &Guide,
     fault: &Fault,
     holds: &Holds,
+    effects: &Effects,
     labels: &PairSim,
     stack: &Vec<Side>,
 ) -> Aim
@@ -210,7 +215,7 @@ fn choose(
     ensures source { Contains (sources core.now holds.now) result.signal }
     ensures free { IsUnknown fault.now core.now holds.now (path_of_stack stack.now.items) result.signal }
 {
-    match guided(core, measures, fault, holds, labels, stack) {
+    match guided(core, guide, fault, holds, effects, labels, stack) {
         Some(aim) => aim,
         None => Aim {
             signal: any_free(core, fault, holds, labels, stack),
@@ -244,6 +249,7 @@ fn after_closed(
     core: &Core,
     fault: &Fault,
     holds: &Holds,
+    effects: &mut Effects,
     labels: &mut PairSim,
     stack: &mut Vec<Side>,
     signal: SignalId,
@@ -258,7 +264,7 @@ fn after_closed(
         State::Test(point) => Ok(Step::Found(point)),
         State::Blocked => {
             let done = forced_tree(alloc, signal, bit)?;
-            match climb(core, fault, holds, labels, stack, done)? {
+            match climb(core, fault, holds, effects, labels, stack, done)? {
                 Some(nodes) => Ok(Step::Done(nodes)),
                 None => Ok(Step::On(true)),
             }
@@ -311,9 +317,10 @@ fn after_going(
 fn take_turn(
     alloc: Global,
     core: &Core,
-    measures: &Measures,
+    guide: &Guide,
     fault: &Fault,
     holds: &Holds,
+    effects: &mut Effects,
     labels: &mut PairSim,
     stack: &mut Vec<Side>,
 ) -> Result<Step, AllocError>
@@ -322,11 +329,12 @@ fn take_turn(
     ensures { IfOk result (IsStepped fault.now core.now holds.now labels.new stack.old.items stack.new.items (closed_around stack.old.items)) }
 {
     core.netlist().sound();
-    let aim = choose(core, measures, fault, holds, labels, stack);
+    effects.follow(core, labels)?;
+    let aim = choose(core, guide, fault, holds, effects, labels, stack);
     match look(labels, aim.signal, !aim.bit) {
         State::Test(point) => Ok(Step::Found(point)),
         State::Blocked => after_closed(
-            alloc, core, fault, holds, labels, stack, aim.signal, !aim.bit,
+            alloc, core, fault, holds, effects, labels, stack, aim.signal, !aim.bit,
         ),
         State::Going => after_going(
             alloc, core, fault, holds, labels, stack, aim.signal, !aim.bit,
@@ -395,9 +403,10 @@ fn one_if(more: bool) -> u32
 fn search_on(
     alloc: Global,
     core: &Core,
-    measures: &Measures,
+    guide: &Guide,
     fault: &Fault,
     holds: &Holds,
+    effects: &mut Effects,
     labels: &mut PairSim,
     limit: u32,
 ) -> Result<Found, AllocError>
@@ -412,7 +421,9 @@ fn search_on(
     let mut stack = Vec::new(alloc);
     let mut closed: u32 = 0;
     while closed < limit {
-        match take_turn(alloc, core, measures, fault, holds, labels, &mut stack)? {
+        match take_turn(
+            alloc, core, guide, fault, holds, effects, labels, &mut stack,
+        )? {
             Step::Found(point) => {
                 let cube = cube_there(alloc, core, fault, holds, labels, &point)?;
                 return Ok(Found::Test(cube, point));
@@ -433,6 +444,7 @@ pub(crate) fn search_from(
     measures: &Measures,
     fault: &Fault,
     holds: &Holds,
+    effects: &mut Effects,
     labels: &mut PairSim,
     limit: u32,
 ) -> Result<Found, AllocError>
@@ -456,6 +468,10 @@ pub(crate) fn search_from(
             let tree = closed_tree(alloc)?;
             Ok(Found::Closed(Tree::new(tree)))
         }
-        State::Going => search_on(alloc, core, measures, fault, holds, labels, limit),
+        State::Going => {
+            effects.cut(0);
+            let guide = Guide::new(measures, fault);
+            search_on(alloc, core, &guide, fault, holds, effects, labels, limit)
+        }
     }
 }

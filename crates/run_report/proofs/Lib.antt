@@ -1,4 +1,6 @@
 pub mod CycleLemmas
-mod ListLemmas
+pub mod ListLemmas
 mod SightLemmas
 pub mod WordLemmas
+pub mod ClassLemmas
+pub mod PointLemmas

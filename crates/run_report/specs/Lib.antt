@@ -1,4 +1,5 @@
 pub mod Strobes
 pub mod Outcomes
 pub mod Heads
+pub mod Subjects
 pub mod inner

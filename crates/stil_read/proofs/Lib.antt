@@ -14,3 +14,4 @@ mod NameLemmas
 mod PassLemmas
 mod SpeltLemmas
 mod ReadLemmas
+mod SizeLemmas

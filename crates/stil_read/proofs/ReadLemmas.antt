@@ -9,7 +9,7 @@ use Rattle.stil_read.specs.inner.Grammar.{IsSpelt}
 use Rattle.stil_read.proofs.OnceLemmas.{spelt_once}
 use Rattle.stil_read.proofs.SpeltLemmas.{written_spelt}
 
-spelt_by : (bytes : Text) (f : StilFile) → StandsFor bytes f → IsSpelt f (tokens bytes)
+pub spelt_by : (bytes : Text) (f : StilFile) → StandsFor bytes f → IsSpelt f (tokens bytes)
 spelt_by bytes f h = subst (IsSpelt f) (sym h.tokens_are) (written_spelt f h.is_file)
 
 pub found : (bytes : Text) (g f : StilFile) → IsSpelt g (tokens bytes) → StandsFor bytes f → g ≡ f

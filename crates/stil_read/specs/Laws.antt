@@ -1,5 +1,5 @@
 -- Laws of reading.
-use Rattle.std.specs.Prelude.{◌≡◌}
+use Rattle.std.specs.Prelude.{◌≡◌, ◌≤◌, length}
 use Rattle.stil_write.specs.StilFiles.{StilFile, IsStilFile, Text}
 use Rattle.stil_write.specs.Texts.{stil_text}
 use Rattle.stil_read.specs.Reading.{StandsFor}
@@ -11,3 +11,7 @@ AtMostOne = (bytes : Text) (f g : StilFile) → StandsFor bytes f → StandsFor 
 -- a written text stands for its file
 abbrev pub WrittenStands : Type 0
 WrittenStands = (f : StilFile) → IsStilFile f → StandsFor (stil_text f) f
+
+-- A text has at least as many bytes as its file has items.
+abbrev pub ItemsTakeBytes : Type 0
+ItemsTakeBytes = (bytes : Text) (f : StilFile) → StandsFor bytes f → length f.items ≤ length bytes

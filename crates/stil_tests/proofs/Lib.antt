@@ -6,3 +6,4 @@ mod BackLemmas
 mod OnceLemmas
 mod ReadLemmas
 mod SameLemmas
+mod SizeLemmas

@@ -1,5 +1,5 @@
 -- Laws of the file of patterns.
-use Rattle.std.specs.Prelude.{ℕ, ◌≡◌, List}
+use Rattle.std.specs.Prelude.{ℕ, ◌≡◌, ◌≤◌, List, length}
 use Rattle.std.specs.List.{All}
 use Rattle.netlist.specs.Netlist.{Netlist}
 use Rattle.netlist.specs.Holds.{Holds}
@@ -48,3 +48,8 @@ abbrev pub FilesFit : Type 0
 FilesFit =
     (n : Netlist) (holds : Holds) (chains : List (List ℕ)) (patterns : List Pattern) (f : StilFile)
     → IsSound n → IsDesign n → AreChainsOf n chains → IsFileOf n holds chains patterns f → Fits f (scanned_of n chains)
+
+-- The file of patterns has at least as many items as there are patterns.
+abbrev pub PatternsTakeItems : Type 0
+PatternsTakeItems =
+    (n : Netlist) (holds : Holds) (chains : List (List ℕ)) (patterns : List Pattern) (f : StilFile) → IsFileOf n holds chains patterns f → length patterns ≤ length f.items

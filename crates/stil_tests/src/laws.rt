@@ -1,5 +1,5 @@
 //! Laws of the file of patterns: functions that do nothing, whose contracts are the laws.
-ghost use Rattle.stil_tests.specs.Laws.{FileVectors, FilesFit, FilesReadBack, OneFile, OnePatternList};
+ghost use Rattle.stil_tests.specs.Laws.{FileVectors, FilesFit, FilesReadBack, OneFile, OnePatternList, PatternsTakeItems};
 
 use stil_read::laws::{at_most_one, written_stands};
 use stil_vectors::test_vectors;
@@ -32,4 +32,9 @@ pub fn one_file()
 /// A file is that of one list of patterns at most.
 pub fn one_pattern_list()
     ensures { OnePatternList }
+{}
+
+/// A file has no fewer items than it is of patterns.
+pub fn patterns_take_items()
+    ensures { PatternsTakeItems }
 {}

@@ -1,37 +1,25 @@
 -- What is detected is seen at points of the netlist, and its faults and trees are named by signals of it.
-use Rattle.std.proofs.Common.{◌≡◌, ℕ, zero, suc, ◌<◌, inl, inr, Bool, true, false, List, [], ◌∷◌, ◌++◌, length, map, get_or, Some, None, refl, sym, ◌∙◌, ap, subst, arith, length-append}
-use Rattle.std.specs.List.{All, flat_map, slice_get}
-use Rattle.std.proofs.lemmas.Bool.{cases_lt}
-use Rattle.std.proofs.lemmas.List.{length-map}
+use Rattle.std.proofs.Common.{◌≡◌, ℕ, zero, suc, ◌<◌, false, List, [], ◌∷◌, ◌++◌, length, get_or, Some, refl, sym, ◌∙◌, ap, subst, arith}
+use Rattle.std.specs.List.{All, slice_get}
 use Rattle.std.proofs.lemmas.List.Elements.{All-nil, All-cons, All-from_get_or, All-head, All-tail}
-use Rattle.std.proofs.lemmas.Option.{slice_get_past, slice_get-get_or, slice_get_within}
-use Rattle.netlist.proofs.Lists.{All-from_contains, all_left, all_right}
-use Rattle.netlist.specs.declared.lines.Line.TheVariants.{Out, Stem}
+use Rattle.std.proofs.lemmas.Option.{slice_get-get_or, slice_get_within}
+use Rattle.netlist.proofs.Lists.{All-from_contains}
+use Rattle.netlist.specs.declared.lines.Line.TheVariants.{Stem}
 use Rattle.netlist.specs.declared.lines.Fault.{Fault}
-use Rattle.netlist.specs.declared.lines.Point.{Point}
-use Rattle.netlist.specs.declared.lines.Point.TheVariants.{Output, Cell}
-use Rattle.netlist.specs.Netlist.{Definition, Netlist, cells, signal_count, signals}
+use Rattle.netlist.specs.Netlist.{Netlist, cells, signal_count, signals}
 use Rattle.netlist.specs.Conditions.{IsSound}
 use Rattle.netlist.specs.Holds.{Holds}
 use Rattle.netlist.specs.Lines.{IsLineOf, signal_of}
-use Rattle.netlist.specs.Settled.{bits, next, outs}
-use Rattle.netlist.specs.Detection.{Detects}
 use Rattle.cubes.specs.Cubes.{Pattern}
-use Rattle.scan_play.proofs.Applied.{length-next}
-use Rattle.bench_text.proofs.WriteLemmas.{signal-below}
 use Rattle.fault_universe.specs.Laws.{FaultsHaveLines, FaultsHaveSignals}
 use Rattle.fault_universe.proofs.Elements.{contains_at}
-use Rattle.fault_universe.specs.Universe.{all_lines, lines_of, universe_of}
-use Rattle.fault_universe.proofs.FaultLists.{length-faults}
+use Rattle.fault_universe.specs.Universe.{universe_of}
 use Rattle.fault_collapse.specs.Classes.{AreClasses}
 use Rattle.fault_collapse.specs.Numbers.{Classes}
-use Rattle.tri.specs.Paths.{Path}
-use Rattle.redundancy_cert.specs.declared.nodes.Node.{Node}
 use Rattle.redundancy_cert.specs.declared.nodes.Node.TheVariants as node
-use Rattle.redundancy_cert.specs.Trees.{Tree, ClosedEnd, OpenEnd, SplitOn, ForcedTo, Place, places, preorder}
-use Rattle.redundancy_cert.specs.Fits.{Fits, PlaceFits}
-use Rattle.certificate.specs.Certificates.{HasSignal, IsNamed}
-use Rattle.run_report.specs.Strobes.{IsPointOf}
+use Rattle.certificate.specs.Certificates.{IsNamed}
+use Rattle.run_report.proofs.PointLemmas.{point_inside}
+use Rattle.good_files.proofs.TreeLemmas.{fitting_named}
 use Rattle.list_core.specs.declared.verdicts.Verdict.{Verdict}
 use Rattle.list_core.specs.declared.verdicts.Verdict.TheVariants.{Open, Detected, Redundant, Aborted}
 use Rattle.list_core.specs.Verdicts.{verdict_at}
@@ -44,22 +32,6 @@ joined P [] ys h k = k
 joined P (x ∷ xs) ys h k = All-cons P x (xs ++ ys) (All-head P x xs h) (joined P xs ys (All-tail P x xs h) k)
 
 -- ---- points
-
-pub point_inside : (n : Netlist) → IsSound n → (f : Fault) (inputs state : List Bool) (point : Point) → Detects n f inputs state point → IsPointOf n point
-point_inside n sound f inputs state (Output k) d = elim (cases_lt k (length n.outputs)) [
-  | inl low ↦ low
-  | inr high ↦
-      let good = length-map n.outputs (λ x. (bits None).line (Out x) (d.good x)) in
-      let faulty = length-map n.outputs (λ x. (bits (Some f)).line (Out x) (d.faulty x)) in
-      absurd (d.differs (slice_get_past (outs (bits None) n d.good) k (omega (arith, good, high)) ∙ sym (slice_get_past (outs (bits (Some f)) n d.faulty) k (omega (arith, faulty, high)))))
-]
-point_inside n sound f inputs state (Cell k) d = elim (cases_lt k (length (cells n))) [
-  | inl low ↦ low
-  | inr high ↦
-      let good = length-next (bits None) n d.good sound in
-      let faulty = length-next (bits (Some f)) n d.faulty sound in
-      absurd (d.differs (slice_get_past (next (bits None) n d.good) k (omega (arith, good, high)) ∙ sym (slice_get_past (next (bits (Some f)) n d.faulty) k (omega (arith, faulty, high)))))
-]
 
 inside : (n : Netlist) → IsSound n → (holds : Holds) (limit : ℕ) (patterns : List Pattern) (f : Fault) (v : Verdict) → IsVerdict n holds limit patterns f v → IsInside n v
 inside n sound holds limit patterns f Open is = is
@@ -79,18 +51,6 @@ all_inside n sound holds classes limit patterns verdicts found = All-from_get_or
 
 -- ---- lines
 
-lines_some : (n : Netlist) (xs : List ℕ) → 0 < length xs → 0 < length (flat_map (lines_of n) xs)
-lines_some n [] lt = absurd (omega arith)
-lines_some n (x ∷ xs) lt =
-    let size = length-append (lines_of n x) (flat_map (lines_of n) xs) in
-    omega arith
-
-pub some_fault : (n : Netlist) → IsSound n → 0 < length (universe_of n)
-some_fault n sound =
-    let all = length-append n.inputs (map (λ (d : Definition). d.id) n.definitions) in
-    let some = lines_some n (signals n) (omega (arith, all, sound.sized.input)) in
-    omega (arith, length-faults (all_lines n), some)
-
 pub all_sound : (n : Netlist) (chains : List (List ℕ)) (numbers : List ℕ) (verdicts : List Verdict) (lines : List Line) → AreLines n chains numbers verdicts (length (universe_of n)) lines → All IsLine lines
 all_sound n chains numbers verdicts lines all = All-from_contains IsLine lines (λ line here.
     let f = get_or (universe_of n) here.0 blank in
@@ -102,38 +62,14 @@ all_sound n chains numbers verdicts lines all = All-from_contains IsLine lines (
 
 -- ---- names
 
-tree_named : (n : Netlist) → IsSound n → (f : Fault) (holds : Holds) (path : Path) (t : Tree) → All (PlaceFits f n holds) (places path t) → All (HasSignal n) (preorder t)
-tree_named n sound f holds path ClosedEnd fits = All-cons (HasSignal n) node.Closed [] tt (All-nil (HasSignal n))
-tree_named n sound f holds path OpenEnd fits = All-cons (HasSignal n) node.Open [] tt (All-nil (HasSignal n))
-tree_named n sound f holds path (SplitOn x t u) fits =
-    let P = PlaceFits f n holds in
-    let here : Place = record { path = path; node = node.Split x } in
-    let zero_side = places ((x, false) ∷ path) t in
-    let one_side = places ((x, true) ∷ path) u in
-    let head = All-head P here (zero_side ++ one_side) fits in
-    let tail = All-tail P here (zero_side ++ one_side) fits in
-    All-cons (HasSignal n) (node.Split x) (preorder t ++ preorder u) (signal-below n sound.formed.numbered x head.1.signal)
-    (joined (HasSignal n) (preorder t) (preorder u) (tree_named n sound f holds ((x, false) ∷ path) t (all_left P zero_side one_side tail))
-    (tree_named n sound f holds ((x, true) ∷ path) u (all_right P zero_side one_side tail)))
-tree_named n sound f holds path (ForcedTo x b t) fits =
-    let P = PlaceFits f n holds in
-    let here : Place = record { path = path; node = node.Forced x b } in
-    let side = places ((x, b) ∷ path) t in
-    let head = All-head P here side fits in
-    All-cons (HasSignal n) (node.Forced x b) (preorder t) (signal-below n sound.formed.numbered x head.1.signal)
-    (tree_named n sound f holds ((x, b) ∷ path) t (All-tail P here side fits))
-
-nodes_named : (n : Netlist) → IsSound n → (f : Fault) (holds : Holds) (nodes : List Node) → Fits f n holds nodes → All (HasSignal n) nodes
-nodes_named n sound f holds nodes fits = subst (All (HasSignal n)) fits.1 (tree_named n sound f holds [] fits.0 fits.2)
-
 leaf_named : (n : Netlist) → IsSound n → (holds : Holds) (limit : ℕ) (patterns : List Pattern) (f : Fault) (v : Verdict) → signal_of f.line < signal_count n
     → IsVerdict n holds limit patterns f v → All (IsNamed n) (leaf_at f v)
 leaf_named n sound holds limit patterns f Open lt is = absurd is
 leaf_named n sound holds limit patterns f (Detected place point) lt is = All-nil (IsNamed n)
 leaf_named n sound holds limit patterns f (Redundant tree) lt is =
-    All-cons (IsNamed n) (f, tree) [] (record { fault = lt; nodes = nodes_named n sound f holds tree is.1 }) (All-nil (IsNamed n))
+    All-cons (IsNamed n) (f, tree) [] (record { fault = lt; nodes = fitting_named f n holds sound tree is.1 }) (All-nil (IsNamed n))
 leaf_named n sound holds limit patterns f (Aborted tree) lt is =
-    All-cons (IsNamed n) (f, tree) [] (record { fault = lt; nodes = nodes_named n sound f holds tree is.1 }) (All-nil (IsNamed n))
+    All-cons (IsNamed n) (f, tree) [] (record { fault = lt; nodes = fitting_named f n holds sound tree is.1 }) (All-nil (IsNamed n))
 
 leaves_named : (n : Netlist) → IsSound n → (holds : Holds) (limit : ℕ) (patterns : List Pattern) (fs : List Fault) (vs : List Verdict) → length vs ≡ length fs
     → ((class : ℕ) (f : Fault) → slice_get fs class ≡ Some f → (signal_of f.line < signal_count n) × IsVerdict n holds limit patterns f (verdict_at vs class))

@@ -24,46 +24,9 @@ use Rattle.list_core.specs.Verdicts.{verdict_at}
 use Rattle.report.specs.declared.outcomes.Outcome.{Outcome}
 use Rattle.report.specs.Reports.{Line}
 use Rattle.run_report.specs.Outcomes.{Test, AreTrueLines, AreUndetected, IsFirstTree, IsTrueOf}
+use Rattle.run_report.proofs.ClassLemmas.{equivalent, last_alike, never_alike, representatives_differ}
 use Rattle.test_files.specs.inner.Outcomes.{AreLines, IsOutcomeOf}
 use Rattle.test_files.specs.inner.Verdicts.{AreVerdicts, IsVerdict, leaf_at, leaves_of}
-
--- ---- classes
-
-module _ (n : Netlist) (sound : IsSound n) (alike : DetectedAlike) (f g : Fault) (same : IsEquivalent n f g) where
-  to_f : (patterns : List Pattern) (place : ℕ) (point : Point) → IsDetectedAt n patterns g place point → IsDetectedAt n patterns f place point
-  to_f patterns place point d = record { pattern = d.pattern; at = d.at; detects = (alike n f g d.pattern.inputs d.pattern.cells point sound same).1 d.detects }
-
-  to_g : (patterns : List Pattern) (place : ℕ) (point : Point) → IsDetectedAt n patterns f place point → IsDetectedAt n patterns g place point
-  to_g patterns place point d = record { pattern = d.pattern; at = d.at; detects = (alike n f g d.pattern.inputs d.pattern.cells point sound same).0 d.detects }
-
-  -- a fault of a class is last detected as the class's representative is
-  pub last_alike : (patterns : List Pattern) (place : ℕ) (point : Point) → IsLastDetected n patterns g place point → IsLastDetected n patterns f place point
-  last_alike patterns place point d = record {
-    here = to_f patterns place point d.here;
-    last = λ later p lt e. d.last later p lt (to_g patterns later p e);
-    first = λ p before e. d.first p before (to_g patterns place p e);
-  }
-
-  pub never_alike : (patterns : List Pattern) → IsNeverDetected n patterns g → IsNeverDetected n patterns f
-  never_alike patterns never place p e = never place p (to_g patterns place p e)
-
--- a fault of a class is equivalent to its representative
-equivalent : (n : Netlist) (classes : Classes) → AreClasses n classes → (place class : ℕ) (f g : Fault)
-    → slice_get (universe_of n) place ≡ Some f → slice_get classes.numbers place ≡ Some class → Represents classes class g → IsEquivalent n f g
-equivalent n classes are place class f g at number represents =
-    let first = are.first class (slice_get_within classes.representatives class g represents) in
-    let same : get_or classes.numbers place 0 ≡ get_or classes.numbers first.place 0 =
-    get_or_from_slice_get classes.numbers place class 0 number ∙ sym first.member in
-    (are.equivalent place first.place f g at (first.representative g represents)).0 same
-
--- two classes have two representatives
-pub representatives_differ : TextsDiffer → (n : Netlist) → IsSound n → (classes : Classes) → AreClasses n classes
-    → (i j : ℕ) (f : Fault) → slice_get classes.representatives i ≡ Some f → slice_get classes.representatives j ≡ Some f → i ≡ j
-representatives_differ law n sound classes are i j f p q =
-    let a = are.first i (slice_get_within classes.representatives i f p) in
-    let b = are.first j (slice_get_within classes.representatives j f q) in
-    let place = law n a.place b.place f f sound (a.representative f p) (b.representative f q) refl in
-    sym a.member ∙ (ap (λ k. get_or classes.numbers k 0) place ∙ b.member)
 
 -- ---- trees
 

@@ -2,6 +2,5 @@
 pub mod Verdicts
 pub mod Outcomes
 pub mod Reports
-pub mod Subjects
 pub mod Written
 pub mod Laws

@@ -5,12 +5,10 @@ ghost use Rattle.netlist.specs.Designs.{IsDesign};
 ghost use Rattle.cubes.specs.Cubes.{IsPatternOf};
 ghost use Rattle.netlist.specs.Holds.{AreHoldsOf};
 ghost use Rattle.scan_insert.specs.Scanned.{AreChainsOf, scanned_of};
-ghost use Rattle.fault_universe.specs.Universe.{universe_of};
-ghost use Rattle.fault_collapse.specs.Classes.{AreClasses};
+ghost use Rattle.run_report.specs.Subjects.{IsSubjectOf};
 ghost use Rattle.good_files.specs.GoodFiles.{most_limit};
 ghost use Rattle.good_files.specs.ScanOff.{design_chains};
 ghost use Rattle.test_files.specs.Runs.{IsRun};
-ghost use Rattle.test_files.specs.inner.Subjects.{IsSubjectOf};
 ghost use Rattle.test_files.specs.inner.Written.{IsTestText, IsWritten};
 ghost use Rattle.test_files.specs.inner.Verdicts.{AreVerdicts};
 ghost use Rattle.test_files.specs.inner.Reports.{IsSaid};
@@ -19,7 +17,7 @@ use crate::leaves::leaves_of;
 use crate::lines::lines_of;
 use crate::reporting::report_of;
 use crate::searching::search;
-use crate::subjects::{Subject, subject_of};
+use crate::stitching::stitched;
 use crate::truth::written_is_run;
 use bench_text::write;
 use certificate::write_trees;
@@ -31,7 +29,7 @@ use outside::Gate;
 use redundancy_cert::Engine;
 use report::{Report, write_report};
 use reverse_compact::Finished;
-use run_report::pin_names;
+use run_report::{Subject, pin_names, subject_of};
 use scan_insert::insert;
 use std::alloc::Global;
 use std::sync::Wait;
@@ -84,26 +82,26 @@ fn said_of(
     alloc: Global,
     netlist: &Netlist,
     scanned: &Netlist,
+    chains: &Chains,
     subject: &Subject,
     found: &Finished,
     limit: u32,
     holds: &Holds,
 ) -> Result<Report, NoMemory>
-    requires chains { AreChainsOf netlist.now subject.now.chains }
-    requires scanned { scanned.now ≡ scanned_of netlist.now subject.now.chains }
-    requires faults { subject.now.faults ≡ universe_of netlist.now }
-    requires classes { AreClasses netlist.now subject.now.classes }
+    requires chains { AreChainsOf netlist.now chains.now }
+    requires scanned { scanned.now ≡ scanned_of netlist.now chains.now }
+    requires subject { IsSubjectOf netlist.now subject.now }
     requires held { AreHoldsOf netlist.now holds.now }
     requires verdicts { AreVerdicts netlist.now holds.now subject.now.classes limit found.now.patterns.items found.now.verdicts.items }
     requires few { length found.now.patterns.items < 2 ^ 32 }
-    ensures { IfOk result (IsSaid netlist.now subject.now.chains holds.now subject.now.classes limit found.now.patterns.items found.now.verdicts.items) }
+    ensures { IfOk result (IsSaid netlist.now chains.now holds.now subject.now.classes limit found.now.patterns.items found.now.verdicts.items) }
 {
     netlist.sound();
     let pins = pin_names(alloc, scanned)?;
     let lines = lines_of(
         alloc,
         netlist,
-        &subject.chains,
+        chains,
         &pins,
         &subject.faults,
         &subject.classes,
@@ -112,7 +110,7 @@ fn said_of(
     report_of(
         alloc,
         netlist,
-        &subject.chains,
+        chains,
         subject.faults.len(),
         subject.classes.count(),
         found.patterns.as_slice().len() as u32,
@@ -128,13 +126,15 @@ fn texts_of(
     core: &Core,
     plan: Plan,
     holds: &Holds,
+    chains: &Chains,
     subject: &Subject,
     found: Finished,
 ) -> Result<TestFiles, NoMemory>
     requires design { IsDesign core.now }
     requires some { 1 ≤ plan.chains }
     requires held { AreHoldsOf core.now holds.now }
-    requires subject { IsSubjectOf core.now plan.chains subject.now }
+    requires chains { chains.now ≡ design_chains core.now plan.chains }
+    requires subject { IsSubjectOf core.now subject.now }
     requires verdicts { AreVerdicts core.now holds.now subject.now.classes plan.limit found.patterns.items found.verdicts.items }
     requires few { length found.patterns.items < 2 ^ 32 }
     ensures { IfOk result (IsWritten core.now holds.now (design_chains core.now plan.chains) subject.now.classes plan.limit found.patterns.items found.verdicts.items) }
@@ -142,11 +142,12 @@ fn texts_of(
     let netlist = core.netlist();
     netlist.sound();
     faults_have_signals();
-    let scanned = insert(alloc, netlist, &subject.chains)?;
+    let scanned = insert(alloc, netlist, chains)?;
     let said = said_of(
         alloc,
         netlist,
         scanned.netlist(),
+        chains,
         subject,
         &found,
         plan.limit,
@@ -154,7 +155,7 @@ fn texts_of(
     )?;
     said.sound();
     let Finished { patterns, verdicts } = found;
-    let stil = stil_text(alloc, core, &subject.chains, patterns.as_slice(), holds)?;
+    let stil = stil_text(alloc, core, chains, patterns.as_slice(), holds)?;
     let leaves = leaves_of(alloc, subject.classes.representatives(), verdicts)?;
     let certificate = write_trees(alloc, core, leaves.as_slice())?;
     let net = write(alloc, netlist)?;
@@ -188,10 +189,12 @@ pub fn test_files<R: Threads + Wait + Sync, E: Engine + Sync, G: Gate + Sync>(
     requires held { AreHoldsOf core.now holds.now }
     ensures { IfOk result (IsRun core.now holds.now plan.chains plan.limit) }
 {
-    let subject = subject_of(alloc, core.netlist(), plan.chains)?;
+    let netlist = core.netlist();
+    netlist.sound();
+    let chains = stitched(alloc, netlist, plan.chains)?;
+    let subject = subject_of(alloc, netlist)?;
     let found = search(rt, alloc, core, &subject.classes, plan, engine, gate, holds)?;
-    let files = texts_of(alloc, core, plan, holds, &subject, found)?;
-    core.netlist().sound();
+    let files = texts_of(alloc, core, plan, holds, &chains, &subject, found)?;
     written_is_run();
     Ok(files)
 }

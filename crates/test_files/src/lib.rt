@@ -6,7 +6,7 @@ mod leaves;
 mod lines;
 mod reporting;
 mod searching;
-mod subjects;
+mod stitching;
 mod truth;
 
 pub use files::{Plan, TestFiles, test_files};

@@ -11,3 +11,4 @@ pub mod GoodLemmas
 pub mod WidthLemmas
 pub mod TurnedPoints
 pub mod ToldFaults
+pub mod Untold

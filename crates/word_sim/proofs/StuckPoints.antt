@@ -1,18 +1,12 @@
 -- Where a stuck line shows: at the points that its changes reach, or at the one point that reads it.
-use Rattle.std.proofs.Common.{◌≡◌, ℕ, ◌-◌, ◌<◌, ◌≤◌, ◌≢◌, ◌⊎◌, Bool, true, false, cond, ltb, List, [], ◌∷◌, map, length, get_or, Option, refl, sym, ◌∙◌, ap, subst, inl, inr, eqb, arith, bit_xor}
+use Rattle.std.proofs.Common.{◌≡◌, ℕ, ◌<◌, ◌≤◌, ◌≢◌, ◌⊎◌, Bool, true, false, cond, ltb, List, [], ◌∷◌, length, get_or, Option, refl, sym, ◌∙◌, ap, subst, inl, inr, arith, bit_xor}
 use Rattle.std.specs.List.{Contains, list_any}
-use Rattle.std.proofs.lemmas.Bool.{cases_eq, cases_lt, both_ways, and_parts, and_from, lt-ltb, ltb-true, eqb-true, eq-eqb, false_from_ne_true, or_left, or_right, or_cases}
-use Rattle.std.proofs.lemmas.List.{get_or-map, length-map}
-use Rattle.std.proofs.lemmas.List.Elements.{Contains-get_or}
+use Rattle.std.proofs.lemmas.Bool.{cases_eq, cases_lt, both_ways, and_parts, and_from, lt-ltb, ltb-true, false_from_ne_true, or_left, or_right, or_cases}
 use Rattle.netlist.specs.declared.lines.Fault.{Fault}
-use Rattle.netlist.specs.declared.lines.Line.{Line}
-use Rattle.netlist.specs.declared.lines.Line.TheVariants.{Stem, Pin, Out}
 use Rattle.netlist.specs.Conditions.{IsSound}
-use Rattle.netlist.specs.Netlist.{Definition, Netlist, cells, signals}
+use Rattle.netlist.specs.Netlist.{Netlist, signals}
 use Rattle.netlist.specs.Settled.{at, is_line}
 use Rattle.netlist.proofs.Lists.{contains_cases, contains_head, contains_nil, contains_tail}
-use Rattle.netlist.proofs.Orders.{cell_no_gate}
-use Rattle.netlist.proofs.Settling.{cells_distinct}
 use Rattle.events.specs.declared.trails.Change.{Change}
 use Rattle.events.specs.Stuck.{IsObservedOnly}
 use Rattle.events.specs.Trails.{AreChanges}
@@ -20,7 +14,7 @@ use Rattle.events.specs.Words.{bit_of, ones}
 use Rattle.events.proofs.WordBits.{bit_of_xor}
 use Rattle.word_sim.specs.inner.Differences.{shows, AreDifferences, AreShown, IsSole}
 use Rattle.observed_points.specs.Points.{points, watched, AreFirst, IsReadAt}
-use Rattle.observed_points.proofs.ObservedPoints.{line_in, signal_in, points_count, watched_count, watched_in, output_in, cell_in}
+use Rattle.observed_points.proofs.ObservedPoints.{line_in, signal_in, watched_count, watched_in}
 use Rattle.observed_points.proofs.LineReads.{same_line, line_same, points_once, unread}
 use Rattle.word_sim.proofs.WordDetection.{differ, differs}
 

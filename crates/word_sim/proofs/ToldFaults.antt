@@ -1,5 +1,5 @@
 -- What is told of the faults of a batch, one after another.
-use Rattle.std.proofs.Common.{◌≡◌, ℕ, ◌<◌, ◌^◌, List, length, get_or, set, Option, Some, None, false, refl, sym, ◌∙◌, ap, subst, inl, inr, arith}
+use Rattle.std.proofs.Common.{◌≡◌, ℕ, ◌<◌, ◌^◌, List, length, get_or, set, Option, Some, None, false, sym, ◌∙◌, ap, subst, inl, inr, arith}
 use Rattle.std.specs.List.{slice_get}
 use Rattle.std.specs.Prelude.{IfSome}
 use Rattle.std.proofs.lemmas.Bool.{cases_eq}
@@ -20,7 +20,6 @@ use Rattle.cubes.specs.Cubes.{Pattern}
 use Rattle.events.specs.declared.trails.Change.{Change}
 use Rattle.regions.specs.Paths.{IsReach}
 use Rattle.word_sim.specs.inner.Groups.{AreReaches, AreTold, IsFound, IsToldOf, CanTell, CanTellAll}
-use Rattle.word_sim.proofs.WordDetection.{some_below}
 
 some_same : (a b : ℕ × Fault) → Some a ≡ Some b → a ≡ b
 some_same a b e = cc

@@ -1,13 +1,11 @@
 -- What the head of a region turned over shows at points is what each fault of the region shows there, where it reaches the head.
-use Rattle.std.proofs.Common.{◌≡◌, ℕ, ◌<◌, ◌≤◌, Bool, true, false, ◌&&◌, cond, arith, List, map, length, Option, Some, None, refl, sym, ◌∙◌, ap, subst, inl, inr, bit_and, bit_xor, not, []}
-use Rattle.std.specs.List.{slice_get}
+use Rattle.std.proofs.Common.{◌≡◌, ℕ, ◌<◌, Bool, true, false, ◌&&◌, cond, arith, List, map, length, Option, Some, None, sym, ◌∙◌, ap, subst, inl, inr, bit_and, bit_xor, not}
 use Rattle.std.specs.Option.{option_map}
 use Rattle.std.specs.Prelude.{IfSome}
 use Rattle.std.proofs.lemmas.Bool.{cases_Bool, and_parts, both_ways}
 use Rattle.netlist.specs.declared.lines.Fault.{Fault}
 use Rattle.netlist.specs.declared.lines.Line.TheVariants.{Stem}
 use Rattle.netlist.specs.Conditions.{IsSound}
-use Rattle.netlist.specs.Detection.{observed}
 use Rattle.netlist.specs.Lines.{IsLineOf}
 use Rattle.netlist.specs.Netlist.{Definition, Netlist, cells, signals}
 use Rattle.netlist.specs.Settled.{Settles, at, bits}
@@ -21,12 +19,10 @@ use Rattle.events.specs.Words.{bit_of, ones, words}
 use Rattle.regions.proofs.TurnedBits.{turned_as_bits}
 use Rattle.events.proofs.WordBits.{bit_line, bit_of_and, words_as_bits}
 use Rattle.regions.specs.Paths.{bits_at, IsReach}
-use Rattle.regions.specs.Regions.{GatePin, IsLinePath}
 use Rattle.regions.specs.Sensitized.{reaches}
 use Rattle.regions.proofs.Changing.{zip_length}
 use Rattle.regions.proofs.GateBits.{bit_none, bit_not_word}
 use Rattle.regions.proofs.Faults.{observed_by_head, left_alone}
-use Rattle.word_sim.specs.Hits.{LastDetected}
 use Rattle.word_sim.specs.inner.Differences.{AreDifferences, AreShown}
 use Rattle.word_sim.specs.inner.Groups.{IsFound, CanTell}
 use Rattle.word_sim.specs.inner.Packed.{AreGoodFor, IsUsed}

@@ -1,95 +1,150 @@
-//! Where faults are last detected, by any number of patterns.
-ghost use Rattle.std.specs.Prelude.{◌≡◌, ◌+◌, ◌≤◌, ◌<◌, ◌^◌, [], ℕ, length, replicate, IfOk, IfSome, OnOk};
+//! Where faults are last detected, by any number of patterns: 64 after another from the last ones on, over the faults of which nothing is told yet.
+ghost use Rattle.std.specs.Prelude.{◌≡◌, ◌==◌, ◌+◌, ◌-◌, ◌≤◌, ◌<◌, ◌^◌, ◌∷◌, ℕ, List, Option, None, Some, drop, take, length, replicate, IfOk, OnOk, if◌then◌else◌};
 ghost use Rattle.std.specs.List.{All, AllZip};
-ghost use Rattle.std.specs.Option.{option_map};
 ghost use Rattle.netlist.specs.Lines.{IsLineOf};
+ghost use Rattle.netlist.specs.Netlist.{Netlist as Equations};
 ghost use Rattle.netlist.specs.declared.lines.Fault.{Fault as FaultOf};
-ghost use Rattle.word_sim.specs.Hits.{LastDetected};
+ghost use Rattle.netlist.specs.declared.lines.Point.{Point as PointOf};
+ghost use Rattle.cubes.specs.Cubes.{Pattern as Bits};
+ghost use Rattle.word_sim.specs.declared.batches.Hit.{Hit as HitOf};
+ghost use Rattle.word_sim.specs.Hits.{AreHits, LastDetected};
 ghost use Rattle.word_sim.specs.Words.{HasWidthsOf};
-ghost use Rattle.word_sim.specs.inner.Found.{AreFrom, IsTold};
-ghost use Rattle.word_sim.specs.inner.Packed.{AreGoodFor, AreSettledWords, IsUsed};
-ghost use Rattle.observed_points.specs.Points.{ArePoints, point_of};
+ghost use Rattle.word_sim.specs.inner.Found.{AreFrom, IsTold, untold};
 
-use crate::detecting::last_of;
-use crate::fault_hits::{good_events, next_patterns};
-use crate::packing::used_bits;
+use crate::batches::Hit;
+use crate::simulator::Simulator;
 use cubes::Pattern;
-use events::Events;
-use netlist::{Core, Fault, Netlist, NoMemory, Point};
-use observed_points::{Points, point_at};
+use netlist::{Core, Fault, NoMemory, Point};
 use std::alloc::{AllocError, Global};
 
-/// What was found among some patterns, by places among all.
-fn moved(netlist: &Netlist, found: Option<(u32, usize)>, start: usize) -> Option<(u32, Point)>
-    requires small { IfSome found (λ w. (w.0 < 64) × (w.1 < 2 ^ 32)) }
-    requires start { start + 64 ≤ 2 ^ 32 }
-    ensures { result ≡ option_map (λ (w : ℕ × ℕ). (start + w.0, point_of netlist.now w.1)) found }
+/// The place of a fault has 32 bits.
+const MOST_FAULTS: usize = 1 << 32;
+
+/// The faults of which nothing is told, by their places.
+fn list_untold(
+    faults: &[Fault],
+    told: &[Option<(u32, Point)>],
+    rest: &mut Vec<(u32, Fault)>,
+) -> Result<(), AllocError>
+    requires size { length told.now ≡ length faults.now }
+    requires few { length faults.now ≤ 2 ^ 32 }
+    ensures { OnOk result (rest.new.items ≡ untold 0 faults.now told.now) }
 {
-    match found {
-        None => None,
-        Some((pattern, number)) => Some((start as u32 + pattern, point_at(netlist, number))),
+    rest.clear();
+    for k in 0..faults.len() {
+        let known = told[k];
+        if known.is_none() {
+            rest.push((k as u32, faults[k]))?;
+        }
+    }
+    Ok(())
+}
+
+/// What a hit tells of the fault at place k, and the place of the next hit.
+fn told_by_hit(k: usize, hit: &Hit, next: usize, start: usize) -> (Option<(u32, Point)>, usize)
+    requires small { hit.now.pattern < 64 }
+    requires start { start + 64 ≤ 2 ^ 32 }
+    requires next { next < 2 ^ 63 }
+    ensures { result ≡ (if hit.now.class == k then (Some (start + hit.now.pattern, hit.now.point), next + 1) else (None, next)) }
+{
+    if hit.class as usize == k {
+        (Some((start as u32 + hit.pattern, hit.point)), next + 1)
+    } else {
+        (None, next)
     }
 }
 
-/// Where a fault is last detected: what is known, or else what these patterns tell.
+/// Where the fault at place k, of which nothing is told, is last detected by these hits from the next on, and the next after.
+fn next_hit(k: usize, hits: &[Hit], next: usize, start: usize) -> (Option<(u32, Point)>, usize)
+    requires small { All (λ (h : HitOf). h.pattern < 64) hits.now }
+    requires start { start + 64 ≤ 2 ^ 32 }
+    ensures { (n : Equations) (part : List Bits) (f : FaultOf) (faults : List FaultOf) (told : List (Option (ℕ × PointOf)))
+        → AreHits n part ((k, f) ∷ untold (k + 1) faults told) (drop next hits.now)
+        → IsTold n part start f None result.0 × AreHits n part (untold (k + 1) faults told) (drop result.1 hits.now) }
+{
+    if next >= hits.len() {
+        return (None, next);
+    }
+    told_by_hit(k, &hits[next], next, start)
+}
+
+/// The same of a fault of which this is told.
 fn told_by(
-    events: &mut Events<'_, u64>,
-    points: &Points,
-    patterns: &[Pattern],
-    used: u64,
-    start: usize,
-    fault: &Fault,
     known: Option<(u32, Point)>,
-) -> Option<(u32, Point)>
-    requires points { ArePoints events.old.netlist points.now.seen.items points.now.first.items points.now.numbers.items }
-    requires good { AreGoodFor events.old.netlist patterns.now events.old.values }
-    requires used { IsUsed (length patterns.now) used }
-    requires line { IsLineOf events.old.netlist fault.now.line }
-    requires trail { events.old.trail ≡ [] }
+    k: usize,
+    hits: &[Hit],
+    next: usize,
+    start: usize,
+) -> (Option<(u32, Point)>, usize)
+    requires small { All (λ (h : HitOf). h.pattern < 64) hits.now }
     requires start { start + 64 ≤ 2 ^ 32 }
-    ensures told { IsTold events.old.netlist patterns.now start fault.now known result }
-    ensures same { events.new ≡ events.old }
+    ensures { (n : Equations) (part : List Bits) (f : FaultOf) (faults : List FaultOf) (told : List (Option (ℕ × PointOf)))
+        → AreHits n part (untold k (f ∷ faults) (known ∷ told)) (drop next hits.now)
+        → IsTold n part start f known result.0 × AreHits n part (untold (k + 1) faults told) (drop result.1 hits.now) }
 {
-    if known.is_some() {
-        return known;
+    match known {
+        Some(_) => (known, next),
+        None => next_hit(k, hits, next, start),
     }
-    let found = last_of(events, points, patterns, used, fault);
-    moved(events.core().netlist(), found, start)
 }
 
-/// Goes over the faults that no later pattern detects.
+/// Tells of each fault of which nothing is told what the hits of a part of the patterns say.
 fn tell_all(
-    alloc: Global,
     core: &Core,
-    events: &mut Events<'_, u64>,
-    points: &Points,
     patterns: &[Pattern],
     start: usize,
     end: usize,
     faults: &[Fault],
+    hits: &[Hit],
+    told: &mut Vec<Option<(u32, Point)>>,
+)
+    requires small { All (λ (h : HitOf). h.pattern < 64) hits.now }
+    requires start { start + 64 ≤ 2 ^ 32 }
+    requires order { start ≤ end }
+    requires hits { AreHits core.now (take (end - start) (drop start patterns.now)) (untold 0 faults.now told.old.items) hits.now }
+    requires later { AreFrom core.now patterns.now end faults.now told.old.items }
+    ensures { AreFrom core.now patterns.now start faults.now told.new.items }
+{
+    let _ = core;
+    let _ = patterns;
+    let _ = end;
+    let mut next = 0;
+    for k in 0..faults.len() {
+        let known = told[k];
+        let (last, more) = told_by(known, k, hits, next, start);
+        told[k] = last;
+        next = more;
+    }
+}
+
+/// What a part of the patterns tells of the faults of which nothing is told.
+fn tell_part(
+    alloc: Global,
+    core: &Core,
+    simulator: &mut Simulator<'_>,
+    patterns: &[Pattern],
+    start: usize,
+    end: usize,
+    faults: &[Fault],
+    rest: &mut Vec<(u32, Fault)>,
     told: &mut Vec<Option<(u32, Point)>>,
 ) -> Result<(), AllocError>
-    requires points { ArePoints core.now points.now.seen.items points.now.first.items points.now.numbers.items }
     requires wide { All (HasWidthsOf core.now) patterns.now }
     requires lines { All (λ (f : FaultOf). IsLineOf core.now f.line) faults.now }
     requires count { length patterns.now + 64 ≤ 2 ^ 32 }
+    requires places { length faults.now ≤ 2 ^ 32 }
     requires order { start ≤ end }
     requires end { end ≤ length patterns.now }
     requires few { end ≤ start + 64 }
     requires later { AreFrom core.now patterns.now end faults.now told.old.items }
-    requires netlist { events.old.netlist ≡ core.now }
-    requires settled { AreSettledWords core.now events.old.values }
+    requires simulator { simulator.old ≡ core.now }
     ensures told { OnOk result (AreFrom core.now patterns.now start faults.now told.new.items) }
-    ensures netlist { OnOk result (events.new.netlist ≡ core.now) }
-    ensures settled { OnOk result (AreSettledWords core.now events.new.values) }
+    ensures simulator { simulator.new ≡ core.now }
 {
+    list_untold(faults, told, rest)?;
     let part = &patterns[start..end];
-    next_patterns(alloc, events, part)?;
-    let used = used_bits(part.len());
-    for k in 0..faults.len() {
-        let known = told[k];
-        told[k] = told_by(events, points, part, used, start, &faults[k], known);
-    }
+    let hits = simulator.batch_hits(alloc, part, rest)?;
+    tell_all(core, patterns, start, end, faults, &hits, told);
     Ok(())
 }
 
@@ -116,21 +171,24 @@ fn find_last(
     requires count { length patterns.now + 64 ≤ 2 ^ 32 }
     ensures { IfOk result (λ v. AllZip (LastDetected core.now patterns.now) faults.now v.items) }
 {
-    let points = Points::of(alloc, core)?;
-    let mut events = good_events(alloc, core, &[])?;
+    if faults.len() > MOST_FAULTS {
+        return Err(AllocError);
+    }
+    let mut simulator = Simulator::made(alloc, core)?;
+    let mut rest = Vec::new(alloc);
     let mut told = none_told(alloc, faults.len())?;
     let mut end = patterns.len();
     while end > 0 {
         let start = if end > 64 { end - 64 } else { 0 };
-        tell_all(
+        tell_part(
             alloc,
             core,
-            &mut events,
-            &points,
+            &mut simulator,
             patterns,
             start,
             end,
             faults,
+            &mut rest,
             &mut told,
         )?;
         end = start;

@@ -37,7 +37,7 @@ impl<'a> Model for Simulator<'a> {
 
 impl<'a> Simulator<'a> {
     /// The room for all batches, and no pattern yet.
-    fn made(alloc: Global, core: &'a Core) -> Result<Simulator<'a>, AllocError>
+    pub(crate) fn made(alloc: Global, core: &'a Core) -> Result<Simulator<'a>, AllocError>
         ensures { IfOk result (λ s. s ≡ core.now) }
     {
         let points = Points::of(alloc, core)?;
@@ -58,7 +58,7 @@ impl<'a> Simulator<'a> {
     }
 
     /// What one batch detects.
-    fn batch_hits(
+    pub(crate) fn batch_hits(
         &mut self,
         alloc: Global,
         patterns: &[Pattern],

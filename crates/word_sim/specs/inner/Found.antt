@@ -40,3 +40,10 @@ pub record AreFromUpTo (n : Netlist) (patterns : List Pattern) (m m' : ℕ) (fau
   pub size : length last ≡ length faults
   pub before : (i : ℕ) (f : Fault) → i < k → slice_get faults i ≡ Some f → IsFrom n patterns m f (slice_index_or last i None)
   pub after : (i : ℕ) (f : Fault) → k ≤ i → slice_get faults i ≡ Some f → IsFrom n patterns m' f (slice_index_or last i None)
+
+-- the faults of which nothing is told, by their places from k on
+abbrev pub untold : ℕ → List Fault → List (Option (ℕ × Point)) → List (ℕ × Fault)
+untold k [] told = []
+untold k (f ∷ faults) [] = []
+untold k (f ∷ faults) (None ∷ told) = (k, f) ∷ untold (k + 1) faults told
+untold k (f ∷ faults) (Some w ∷ told) = untold (k + 1) faults told

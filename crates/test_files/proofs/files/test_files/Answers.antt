@@ -10,12 +10,12 @@ returns g c =
     let classes = c.in_ok-subject.subject.classes in
     let found = c.in_ok-found.found in
     c.written_is_run.ensures n c.args.holds.now c.args.plan.chains c.args.plan.limit classes found.patterns.items found.verdicts.items c.in_ok-files.files
-    (subst IsSound c.netlist-2.ensures c.sound.ensures) c.requires.design
+    (subst IsSound c.netlist-netlist.ensures c.sound.ensures) c.requires.design
     (record {
       some = c.requires.some;
       limit_is = c.requires.limit;
       held = c.requires.held;
-      are_classes = subst (λ (m : Netlist). AreClasses m classes) c.netlist.ensures c.in_ok-subject.ensures.classes;
+      are_classes = subst (λ (m : Netlist). AreClasses m classes) c.netlist-netlist.ensures c.in_ok-subject.ensures.classes;
       found = c.in_ok-found.ensures.verdicts;
       written = c.in_ok-files.ensures;
     })

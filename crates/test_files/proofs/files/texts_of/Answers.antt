@@ -33,18 +33,18 @@ returns c =
     let limit = c.args.plan.limit in
     let chains = design_chains n c.args.plan.chains in
     let same_netlist = c.netlist-netlist.ensures in
-    let same_chains = c.requires.subject.chains in
+    let same_chains = c.requires.chains in
     let scanned = ap (λ (i : Insertion). i.netlist) c.in_ok-scanned.ensures
-    ∙ (ap (λ (m : Netlist). scanned_of m s.chains) same_netlist ∙ ap (λ (cs : List (List ℕ)). scanned_of n cs) same_chains) in
+    ∙ (ap (λ (m : Netlist). scanned_of m c.args.chains.now) same_netlist ∙ ap (λ (cs : List (List ℕ)). scanned_of n cs) same_chains) in
     let reps = ap (λ (fs : List Fault). leaves_of fs found.verdicts.items) c.representatives.ensures in
     record {
       net = c.in_ok-net.ensures ∙ ap canonical same_netlist;
       scan = c.in_ok-scan.ensures ∙ ap canonical (c.netlist-2.ensures ∙ scanned);
       stil = subst (λ (cs : List (List ℕ)). IsTestText n holds cs found.patterns.items c.in_ok-stil.stil.items) same_chains
-          (subst (λ (ps : List Pattern). IsTestText n holds s.chains ps c.in_ok-stil.stil.items) c.as_slice.ensures.value c.in_ok-stil.ensures);
+          (subst (λ (ps : List Pattern). IsTestText n holds c.args.chains.now ps c.in_ok-stil.stil.items) c.as_slice.ensures.value c.in_ok-stil.ensures);
       certificate = c.in_ok-certificate.ensures ∙ ap (λ (ls : List (Fault × List Node)). certificate_text n ls) (c.as_slice-2.ensures.value ∙ (c.in_ok-leaves.ensures ∙ reps));
       report = c.in_ok-report.ensures;
       is_report = c.sound-2.ensures;
       said = subst (λ (cs : List (List ℕ)). IsSaid n cs holds s.classes limit found.patterns.items found.verdicts.items c.in_ok-said.said) same_chains
-          (subst (λ (m : Netlist). IsSaid m s.chains holds s.classes limit found.patterns.items found.verdicts.items c.in_ok-said.said) same_netlist c.in_ok-said.ensures);
+          (subst (λ (m : Netlist). IsSaid m c.args.chains.now holds s.classes limit found.patterns.items found.verdicts.items c.in_ok-said.said) same_netlist c.in_ok-said.ensures);
     }

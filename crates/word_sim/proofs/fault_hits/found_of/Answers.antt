@@ -1,5 +1,4 @@
-use Rattle.std.proofs.Common.{◌≡◌, ℕ, List, Some, sym, ◌∙◌, ap, subst}
-use Rattle.netlist.specs.Netlist.{Netlist}
+use Rattle.std.proofs.Common.{◌≡◌, ℕ, sym, ◌∙◌, ap, subst}
 use Rattle.events.specs.Standing.{Standing}
 use Rattle.word_sim.specs.inner.Groups.{AreTold}
 use Rattle.word_sim.proofs.ToldFaults.{told_is, found_alone}

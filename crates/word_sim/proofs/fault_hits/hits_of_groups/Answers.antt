@@ -4,7 +4,6 @@ use Rattle.netlist.specs.declared.lines.Fault.{Fault}
 use Rattle.netlist.specs.Netlist.{Netlist}
 use Rattle.events.specs.Standing.{Standing}
 use Rattle.word_sim.specs.inner.Found.{hit_of}
-use Rattle.observed_points.specs.Points.{point_of}
 use Rattle.word_sim.specs.inner.Groups.{AreTold, IsFound}
 use Rattle.word_sim.proofs.HitLists.{hits_more}
 use Rattle.word_sim.proofs.fault_hits.hits_of_groups.Goals as goal

@@ -1,8 +1,7 @@
-use Rattle.std.proofs.Common.{◌≡◌, ◌∙◌, List, ℕ, None, ap, sym, subst, length}
+use Rattle.std.proofs.Common.{◌≡◌, ◌∙◌, List, ℕ, None, ap, subst, length}
 use Rattle.std.proofs.lemmas.List.{length-map}
 use Rattle.netlist.specs.Netlist.{Definition, Netlist, cells}
 use Rattle.netlist.specs.Settled.{Settles, at}
-use Rattle.events.specs.Standing.{SettlesFor}
 use Rattle.events.specs.Words.{words}
 use Rattle.word_sim.proofs.GoodLemmas.{good_for}
 use Rattle.word_sim.proofs.fault_hits.next_patterns.Goals as goal

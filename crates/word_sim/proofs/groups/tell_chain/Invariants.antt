@@ -1,4 +1,3 @@
-use Rattle.std.proofs.Common.{◌≡◌}
 use Rattle.word_sim.specs.inner.Groups.{AreTold}
 use Rattle.word_sim.proofs.groups.tell_chain.Given as goal
 

@@ -1,4 +1,4 @@
-use Rattle.std.proofs.Common.{◌≡◌, ◌++◌, List, ℕ, sym, ◌∙◌, ap}
+use Rattle.std.proofs.Common.{◌++◌, List, ℕ, ◌∙◌, ap}
 use Rattle.events.specs.declared.trails.Change.{Change}
 use Rattle.word_sim.proofs.ToldFaults.{head_low, turned_all}
 use Rattle.word_sim.proofs.groups.tell_from.Goals as goal

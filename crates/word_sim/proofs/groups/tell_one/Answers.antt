@@ -1,9 +1,6 @@
-use Rattle.std.proofs.Common.{◌≡◌, ◌<◌, ℕ, List, length, sym, ◌∙◌, ap, subst, arith}
+use Rattle.std.proofs.Common.{◌≡◌, ℕ, List, length, sym, ◌∙◌, ap, subst, arith}
 use Rattle.std.specs.List.{list_any}
 use Rattle.netlist.specs.Conditions.{IsSound}
-use Rattle.netlist.specs.Netlist.{Netlist}
-use Rattle.events.specs.declared.trails.Change.{Change}
-use Rattle.events.specs.Words.{bit_of}
 use Rattle.word_sim.specs.inner.Differences.{shows}
 use Rattle.word_sim.proofs.TurnedPoints.{told_one}
 use Rattle.word_sim.proofs.groups.tell_one.Goals as goal

@@ -8,8 +8,7 @@ loop-end-init c = (
   omega arith,
   subst (AreFrom c.args.core.now c.args.patterns.now (length c.args.patterns.now) c.args.faults.now) (sym c.in_ok-told.ensures)
       (none_from c.args.core.now c.args.patterns.now c.args.faults.now (length c.args.patterns.now) refl),
-  c.in_ok-events.ensures.netlist,
-  record { inputs = c.in_ok-events.ensures.good.inputs; state = c.in_ok-events.ensures.good.state; settles = c.in_ok-events.ensures.good.settles },
+  c.in_ok-simulator.ensures,
 )
 
 pub returns : goal.returns

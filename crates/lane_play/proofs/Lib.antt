@@ -1,0 +1,4 @@
+pub mod LaneBits
+pub mod Stuckness
+pub mod VerdictLemmas
+pub mod PlayedLemmas

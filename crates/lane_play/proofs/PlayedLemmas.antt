@@ -1,0 +1,223 @@
+-- Machines played side by side are as far as their own players.
+use Rattle.std.proofs.Common.{◌≡◌, ℕ, suc, zero, ◌+◌, ◌<◌, ◌≤◌, Bool, true, false, cond, List, [], ◌∷◌, ◌++◌, map, length, get_or, take, drop, replicate, Option, Some, None, refl, sym, ◌∙◌, ap, subst, arith, length-append, length-take}
+use Rattle.std.specs.List.{All, slice_get}
+use Rattle.std.proofs.lemmas.Bool.{both_ways}
+use Rattle.std.proofs.lemmas.List.{length-map, length-replicate, get_or-map, take_all, take_more, take-append-drop, append_assoc, append-nil}
+use Rattle.std.proofs.lemmas.Grind.{flat_map-append}
+use Rattle.netlist.specs.declared.kinds.Tri.{Tri}
+use Rattle.netlist.specs.declared.kinds.Tri.TheVariants.{X}
+use Rattle.netlist.specs.declared.lines.Fault.{Fault}
+use Rattle.netlist.specs.Conditions.{IsSound}
+use Rattle.netlist.specs.Netlist.{Netlist, cells}
+use Rattle.netlist.specs.Settled.{Settles, at, next, outs}
+use Rattle.netlist.specs.ThreeValues.{known}
+use Rattle.netlist.proofs.Settling.{zip_from}
+use Rattle.tri.specs.Settled.{tris}
+use Rattle.events.specs.Words.{bit_of}
+use Rattle.scan_insert.specs.Names.{numbers_from}
+use Rattle.scan_insert.proofs.Numbers.{length-numbers_from, get_or-numbers_from}
+use Rattle.scan_play.specs.declared.cycles.Burst.{Burst}
+use Rattle.scan_play.specs.declared.played.Played.{Played}
+use Rattle.scan_play.specs.Bursts.{all_cycles, cycle_of, cycles_of}
+use Rattle.scan_play.specs.Cycles.{Cycle, IsCycleOf}
+use Rattle.scan_play.specs.Judging.{IsJudged, Judging, judged_in, or_else}
+use Rattle.scan_play.specs.inner.Steps.{IsStep, PlaysOn}
+use Rattle.scan_play.proofs.PlayLemmas.{judged_as, plays_found, plays_nothing, plays_step, plays_then}
+use Rattle.scan_play.proofs.PlaySteps.{length-cycles_of, step_from}
+use Rattle.scan_play.proofs.RunLaws.{next_length}
+use Rattle.lane_play.specs.declared.packed.Lanes.{Lanes}
+use Rattle.lane_play.specs.inner.Lanes.{always, lane, lanes, lanes_rule}
+use Rattle.lane_play.specs.inner.Verdicts.{AreJudgedIn, AreLeft, found_at, is_open}
+use Rattle.lane_play.specs.Judged.{AreJudged}
+use Rattle.lane_play.specs.inner.Steps.{ArePlayed, AreSteps}
+use Rattle.lane_play.proofs.LaneBits.{bit_none, lane_always, lane_next, lane_outs, lane_settles, lane_unknown}
+
+-- ---- one machine of lists
+
+lanes_always : (k : ℕ) → k < 64 → (bits : List Bool) → lanes k (map always bits) ≡ map known bits
+lanes_always k low [] = refl
+lanes_always k low (b ∷ bs) = ap (λ v. v ∷ lanes k (map always bs)) (lane_always k low b) ∙ ap (λ vs. known b ∷ vs) (lanes_always k low bs)
+
+lanes_unknown : (k : ℕ) → k < 64 → (count : ℕ) → lanes k (replicate count (record { known = 0; value = 0 })) ≡ replicate count X
+lanes_unknown k low zero = refl
+lanes_unknown k low (suc count) = ap (λ v. v ∷ lanes k (replicate count (record { known = 0; value = 0 }))) (lane_unknown k low) ∙ ap (λ vs. X ∷ vs) (lanes_unknown k low count)
+
+lanes_chosen : (k : ℕ) (b : Bool) (us vs : List Lanes) → lanes k (cond b us vs) ≡ cond b (lanes k us) (lanes k vs)
+lanes_chosen k true us vs = refl
+lanes_chosen k false us vs = refl
+
+chosen_length : (b : Bool) (us vs : List Lanes) (m : ℕ) → length us ≡ m → length vs ≡ m → length (cond b us vs) ≡ m
+chosen_length true us vs m e h = e
+chosen_length false us vs m e h = h
+
+pub size_kept : (faults : List Fault) (n : Netlist) (pulse : Bool) (state after : List Lanes) (a : ℕ → Lanes) → IsSound n → length state ≡ length (cells n)
+    → after ≡ cond pulse (next (lanes_rule faults) n a) state → length after ≡ length (cells n)
+size_kept faults n pulse state after a sound size is =
+    ap length is ∙ chosen_length pulse (next (lanes_rule faults) n a) state (length (cells n)) (next_length (lanes_rule faults) n a sound.closed) size
+
+-- ---- a cycle
+
+module _ (J : Judging) (faults : List Fault) (n : Netlist) where
+  pub steps_from : (cycle : Cycle) (number : ℕ) (state after drive row values : List Lanes) (strobe : List Tri) (old new : List (Option Played)) → length faults ≤ 64 → IsSound n → length old ≤ 64
+      → drive ≡ map always cycle.drive → strobe ≡ cycle.strobe → length state ≡ length (cells n)
+      → ((d : Lanes) → Settles (lanes_rule faults) n drive state (at values d)) → ((d : Lanes) → row ≡ outs (lanes_rule faults) n (at values d))
+      → ((d : Lanes) → after ≡ cond cycle.pulse (next (lanes_rule faults) n (at values d)) state) → AreJudgedIn J number strobe row old new
+      → AreSteps J faults n state after cycle number old new
+  steps_from cycle number state after drive row values strobe old new machines sound few d s size settles shows keeps judged = record {
+    size = judged.size;
+    each = λ k l.
+        let low : k < 64 = omega (arith, l, few) in
+        let blank : Lanes = record { known = 0; value = 0 } in
+        let a : ℕ → Lanes = at values blank in
+        let rule = tris (slice_get faults k) in
+        record {
+          said = judged_in J number 0 strobe (lanes k row);
+          step = step_from J (slice_get faults k) n cycle number (lanes k state) (lanes k after) (lanes k drive) strobe (lanes k row) (λ x. lane k (a x)) (judged_in J number 0 strobe (lanes k row)) sound
+              (ap (lanes k) d ∙ lanes_always k low cycle.drive) s (length-map state (lane k) ∙ size)
+              (lane_settles k low faults machines n drive state a (settles blank))
+              (ap (lanes k) (shows blank) ∙ sym (lane_outs k low faults machines n a))
+              (ap (lanes k) (keeps blank) ∙ (lanes_chosen k cycle.pulse (next (lanes_rule faults) n a) state ∙ ap (λ vs. cond cycle.pulse vs (lanes k state)) (sym (lane_next k low faults machines n a))))
+              refl;
+          found = judged.each k l;
+        };
+  }
+
+  -- ---- cycles, one behind the other
+
+  some_state : (f : Option Fault) (cs : List Cycle) (start state after : List Tri) (p : Played) → length after ≡ length (cells n) → PlaysOn J f n cs 0 start state (Some p) → PlaysOn J f n cs 0 start after (Some p)
+  some_state f cs start state after p size h = record { size = size; outcome = h.outcome }
+
+  one_more : (f : Option Fault) (cs : List Cycle) (cycle : Cycle) (start state after : List Tri) (old new said : Option Played) → PlaysOn J f n cs 0 start state old
+      → IsStep J f n state after cycle (0 + length cs) said → new ≡ or_else old said → PlaysOn J f n (cs ++ cycle ∷ []) 0 start after new
+  one_more f cs cycle start state after None new said h step e =
+      subst (PlaysOn J f n (cs ++ cycle ∷ []) 0 start after) (sym e)
+      (plays_then J f n cs (cycle ∷ []) 0 start state after said h (plays_step J f n cycle (0 + length cs) state after said step))
+  one_more f cs cycle start state after (Some p) new said h step e =
+      subst (PlaysOn J f n (cs ++ cycle ∷ []) 0 start after) (sym e)
+      (some_state f (cs ++ cycle ∷ []) start state after p step.size (plays_found J f n cs (cycle ∷ []) 0 start state p h))
+
+  played_more : (cs : List Cycle) (cycle : Cycle) (number : ℕ) (state after : List Lanes) (old new : List (Option Played)) → number ≡ length cs → ArePlayed J faults n cs state old
+      → AreSteps J faults n state after cycle number old new → ArePlayed J faults n (cs ++ cycle ∷ []) after new
+  played_more cs cycle number state after old new at h steps = record {
+    size = steps.size ∙ h.size;
+    each = λ k l.
+        let st = steps.each k (let e = h.size in omega (arith, l)) in
+        let number_is : number ≡ 0 + length cs = omega (arith, at) in
+        one_more (slice_get faults k) cs cycle (replicate (length (cells n)) X) (lanes k state) (lanes k after) (found_at old k) (found_at new k) st.said (h.each k l)
+        (subst (λ m. IsStep J (slice_get faults k) n (lanes k state) (lanes k after) cycle m st.said) number_is st.step) st.found;
+  }
+
+  closed_stays : (f : Option Fault) (cs ds : List Cycle) (start state : List Tri) (found : Option Played) → is_open found ≡ false → PlaysOn J f n cs 0 start state found → PlaysOn J f n (cs ++ ds) 0 start state found
+  closed_stays f cs ds start state None e h = absurd (both_ways true e refl)
+  closed_stays f cs ds start state (Some p) e h = plays_found J f n cs ds 0 start state p h
+
+  -- once something is said of each machine, it stays, whatever comes behind
+  pub played_whole : (cs ds : List Cycle) (state : List Lanes) (found : List (Option Played)) (left : ℕ) → length found ≤ 64 → AreLeft found (length found) left → left ≡ 0
+      → ArePlayed J faults n cs state found → ArePlayed J faults n (cs ++ ds) state found
+  played_whole cs ds state found left few h none played = record {
+    size = played.size;
+    each = λ k l.
+        let inside : k < length found = (let e = played.size in omega (arith, l)) in
+        let low : k < 64 = omega (arith, inside, few) in
+        closed_stays (slice_get faults k) cs ds (replicate (length (cells n)) X) (lanes k state) (found_at found k)
+        (sym (h k inside) ∙ (ap (bit_of k) none ∙ bit_none k low)) (played.each k l);
+  }
+
+  -- ---- a burst
+
+  cycle_here : (b : Burst) (t : ℕ) (d : Cycle) → t < b.count → get_or (cycles_of b) t d ≡ cycle_of b t
+  cycle_here b t d l =
+      let size = length-numbers_from 0 b.count in
+      get_or-map (cycle_of b) (numbers_from 0 b.count) t 0 d (omega arith) ∙ ap (cycle_of b) (get_or-numbers_from 0 b.count t 0 l ∙ omega arith)
+
+  taken : (before : List Cycle) (b : Burst) (t : ℕ) → t < b.count → (before ++ take t (cycles_of b)) ++ cycle_of b t ∷ [] ≡ before ++ take (t + 1) (cycles_of b)
+  taken before b t l =
+      let size = length-cycles_of b in
+      let d : Cycle = cycle_of b t in
+      append_assoc before (take t (cycles_of b)) (cycle_of b t ∷ [])
+      ∙ ap (λ cs. before ++ cs) (ap (λ c. take t (cycles_of b) ++ c ∷ []) (sym (cycle_here b t d l)) ∙ sym (take_more (cycles_of b) t d (omega arith)))
+
+  pub burst_more : (before : List Cycle) (b : Burst) (t first number : ℕ) (state after : List Lanes) (old new : List (Option Played)) → t < b.count → length before ≡ first → number ≡ first + t
+      → ArePlayed J faults n (before ++ take t (cycles_of b)) state old → AreSteps J faults n state after (cycle_of b t) number old new
+      → ArePlayed J faults n (before ++ take (t + 1) (cycles_of b)) after new
+  burst_more before b t first number state after old new l size at h steps =
+      let whole = length-cycles_of b in
+      let one = length-append before (take t (cycles_of b)) in
+      let two = length-take t (cycles_of b) in
+      subst (λ cs. ArePlayed J faults n cs after new) (taken before b t l)
+      (played_more (before ++ take t (cycles_of b)) (cycle_of b t) number state after old new (omega arith) h steps)
+
+  pub burst_begun : (before : List Cycle) (b : Burst) (state : List Lanes) (found : List (Option Played)) → ArePlayed J faults n before state found → ArePlayed J faults n (before ++ take 0 (cycles_of b)) state found
+  burst_begun before b state found h = subst (λ cs. ArePlayed J faults n cs state found) (sym (append-nil before)) h
+
+  pub burst_done : (before : List Cycle) (b : Burst) (t : ℕ) (state : List Lanes) (found : List (Option Played)) → b.count ≤ t → ArePlayed J faults n (before ++ take t (cycles_of b)) state found
+      → ArePlayed J faults n (before ++ cycles_of b) state found
+  burst_done before b t state found l h =
+      let size = length-cycles_of b in
+      subst (λ cs. ArePlayed J faults n (before ++ cs) state found) (take_all t (cycles_of b) (omega arith)) h
+
+  pub burst_stopped : (before : List Cycle) (b : Burst) (t : ℕ) (state : List Lanes) (found : List (Option Played)) (left : ℕ) → length found ≤ 64 → AreLeft found (length found) left → left ≡ 0
+      → ArePlayed J faults n (before ++ take t (cycles_of b)) state found → ArePlayed J faults n (before ++ cycles_of b) state found
+  burst_stopped before b t state found left few h none played =
+      subst (λ cs. ArePlayed J faults n cs state found)
+      (append_assoc before (take t (cycles_of b)) (drop t (cycles_of b)) ∙ ap (λ cs. before ++ cs) (take-append-drop t (cycles_of b)))
+      (played_whole (before ++ take t (cycles_of b)) (drop t (cycles_of b)) state found left few h none played)
+
+  -- ---- bursts
+
+  pub bursts_more : (bursts : List Burst) (i : ℕ) (b : Burst) (state : List Lanes) (found : List (Option Played)) → i < length bursts → b ≡ get_or bursts i b
+      → ArePlayed J faults n (all_cycles (take i bursts) ++ cycles_of b) state found → ArePlayed J faults n (all_cycles (take (i + 1) bursts)) state found
+  bursts_more bursts i b state found l is h =
+      subst (λ cs. ArePlayed J faults n cs state found)
+      (sym (ap all_cycles (take_more bursts i b l ∙ ap (λ x. take i bursts ++ x ∷ []) (sym is))
+      ∙ (flat_map-append cycles_of (take i bursts) (b ∷ []) ∙ ap (λ x. all_cycles (take i bursts) ++ x) (append-nil (cycles_of b))))) h
+
+  pub bursts_done : (bursts : List Burst) (i : ℕ) (state : List Lanes) (found : List (Option Played)) → length bursts ≤ i → ArePlayed J faults n (all_cycles (take i bursts)) state found
+      → ArePlayed J faults n (all_cycles bursts) state found
+  bursts_done bursts i state found l h = subst (λ x. ArePlayed J faults n (all_cycles x) state found) (take_all i bursts l) h
+
+  pub bursts_stopped : (bursts : List Burst) (i : ℕ) (b : Burst) (state : List Lanes) (found : List (Option Played)) (left : ℕ) → i < length bursts → b ≡ get_or bursts i b
+      → length found ≤ 64 → AreLeft found (length found) left → left ≡ 0
+      → ArePlayed J faults n (all_cycles (take i bursts) ++ cycles_of b) state found → ArePlayed J faults n (all_cycles bursts) state found
+  bursts_stopped bursts i b state found left l is few h none played =
+      subst (λ cs. ArePlayed J faults n cs state found)
+      (sym (flat_map-append cycles_of (take (i + 1) bursts) (drop (i + 1) bursts)) ∙ ap all_cycles (take-append-drop (i + 1) bursts))
+      (played_whole (all_cycles (take (i + 1) bursts)) (all_cycles (drop (i + 1) bursts)) state found left few h none (bursts_more bursts i b state found l is played))
+
+  -- ---- from all cells X to the answers
+
+  none_found : (count k : ℕ) → found_at (replicate count None) k ≡ None
+  none_found zero k = refl
+  none_found (suc count) zero = refl
+  none_found (suc count) (suc k) = none_found count k
+
+  pub played_nothing : (state : List Lanes) (found : List (Option Played)) → length faults ≤ 64 → state ≡ replicate (length (cells n)) (record { known = 0; value = 0 }) → found ≡ replicate (length faults) None
+      → ArePlayed J faults n [] state found
+  played_nothing state found few s f = record {
+    size = ap length f ∙ length-replicate (length faults) None;
+    each = λ k l.
+        let low : k < 64 = omega (arith, l, few) in
+        let start : lanes k state ≡ replicate (length (cells n)) X = ap (lanes k) s ∙ lanes_unknown k low (length (cells n)) in
+        let none : found_at found k ≡ None = ap (λ xs. found_at xs k) f ∙ none_found (length faults) k in
+        subst (PlaysOn J (slice_get faults k) n [] 0 (replicate (length (cells n)) X) (lanes k state)) (sym none)
+        (subst (λ x. PlaysOn J (slice_get faults k) n [] 0 (replicate (length (cells n)) X) x None) (sym start)
+        (plays_nothing J (slice_get faults k) n 0 (replicate (length (cells n)) X) (length-replicate (length (cells n)) X)));
+  }
+
+  slice_at : (fs : List Fault) (k : ℕ) (d : Fault) → k < length fs → slice_get fs k ≡ Some (get_or fs k d)
+  slice_at [] k d l = absurd (omega (arith, l))
+  slice_at (f ∷ fs) zero d l = refl
+  slice_at (f ∷ fs) (suc k) d l = slice_at fs k d (omega (arith, l))
+
+  default_none : (found : List (Option Played)) (k : ℕ) (d : Option Played) → k < length found → found_at found k ≡ get_or found k d
+  default_none [] k d l = absurd (omega (arith, l))
+  default_none (x ∷ xs) zero d l = refl
+  default_none (x ∷ xs) (suc k) d l = default_none xs k d (omega (arith, l))
+
+  pub judged_all : (cycles : List Cycle) (state : List Lanes) (found : List (Option Played)) → IsSound n → All (IsCycleOf n) cycles → ArePlayed J faults n cycles state found → AreJudged J n faults cycles found
+  judged_all cycles state found sound fits h =
+      zip_from (λ f said. IsJudged J n (Some f) cycles said) faults found (sym h.size)
+      (λ k f said l.
+      let p = judged_as J (slice_get faults k) n cycles (replicate (length (cells n)) X) (lanes k state) (found_at found k) sound fits refl (h.each k l) in
+      subst (IsJudged J n (Some (get_or faults k f)) cycles) (default_none found k said (let e = h.size in omega (arith, l)))
+      (subst (λ g. IsJudged J n g cycles (found_at found k)) (slice_at faults k f l) p))

@@ -1,0 +1,199 @@
+-- What is said of each machine, and the word of those of which nothing is.
+use Rattle.std.proofs.Common.{◌≡◌, ◌≢◌, ℕ, suc, zero, ◌+◌, ◌<◌, ◌≤◌, Bool, true, false, not, ◌&&◌, ◌||◌, if◌then◌else◌, List, [], ◌∷◌, length, get_or, set, drop, Option, Some, None, refl, sym, ◌∙◌, ap, inl, inr, eqb, arith, bit_and, bit_or, bit_xor}
+use Rattle.std.specs.Int.{bit_at, bit_not, w64}
+use Rattle.std.proofs.lemmas.Bool.{eq-eqb, ne_eqb, cases_eq, both_ways}
+use Rattle.std.proofs.lemmas.List.{get_or_default, get_or-map, length-map, length-set, get_or-set_same, get_or-set_other}
+use Rattle.std.proofs.lemmas.Nat.Bits.{bit_at_set_same, bit_at_set_other, bit_at_clear_same, bit_at_clear_other}
+use Rattle.netlist.specs.declared.kinds.Tri.{Tri}
+use Rattle.netlist.specs.declared.kinds.Tri.TheVariants.{Zero, One, X}
+use Rattle.netlist.specs.ThreeValues.{known}
+use Rattle.events.specs.Words.{bit_of, ones}
+use Rattle.events.proofs.WordBits.{bit_of_and, bit_of_or}
+use Rattle.scan_play.specs.declared.played.Played.{Played}
+use Rattle.scan_play.specs.Judging.{Judging, judged_in, or_else}
+use Rattle.scan_play.proofs.PlayLemmas.{judged_more}
+use Rattle.lane_play.specs.declared.packed.Lanes.{Lanes}
+use Rattle.lane_play.specs.inner.Lanes.{lane, lanes, one_at}
+use Rattle.lane_play.specs.inner.Verdicts.{AreJudgedIn, AreLeft, AreSaid, found_at, is_open, said_of}
+use Rattle.lane_play.proofs.LaneBits.{bit_not_word, bit_none}
+
+-- ---- one bit of a word
+
+pub put_same : (word k : ℕ) → k < 64 → bit_of k (bit_or word (one_at k)) ≡ true
+put_same word k l = eq-eqb (bit_at (bit_or word (one_at k)) k) 1 (bit_at_set_same w64 word k l)
+
+pub put_other : (word k j : ℕ) → k < 64 → j ≢ k → bit_of j (bit_or word (one_at k)) ≡ bit_of j word
+put_other word k j l ne = ap (λ x. eqb x 1) (bit_at_set_other w64 word k l j ne)
+
+pub cleared_same : (word k : ℕ) → k < 64 → bit_of k (bit_and word (bit_not w64 (one_at k))) ≡ false
+cleared_same word k l =
+    ne_eqb (bit_at (bit_and word (bit_not w64 (one_at k))) k) 1
+    (λ o. let z : bit_at (bit_and word (bit_not w64 (one_at k))) k ≡ 0 = bit_at_clear_same w64 word k l in let o' : bit_at (bit_and word (bit_not w64 (one_at k))) k ≡ 1 = o in omega arith)
+
+pub cleared_other : (word k j : ℕ) → k < 64 → j < 64 → j ≢ k → bit_of j (bit_and word (bit_not w64 (one_at k))) ≡ bit_of j word
+cleared_other word k j l m ne = ap (λ x. eqb x 1) (bit_at_clear_other w64 word k l j m ne)
+
+-- ---- of which nothing was said
+
+pub left_more : (found : List (Option Played)) (m left left' : ℕ) (item : Option Played) (bit : Bool) → m < length found → length found ≤ 64 → item ≡ get_or found m item → bit ≡ is_open item
+    → bit_of m left' ≡ bit → ((j : ℕ) → j < 64 → j ≢ m → bit_of j left' ≡ bit_of j left) → AreLeft found m left → AreLeft found (m + 1) left'
+left_more found m left left' item bit l few is b same others h k low = elim (cases_eq k m) [
+  | inl e ↦ ap (λ i. bit_of i left') e ∙ (same ∙ (b ∙ ap is_open (is ∙ (get_or_default found m item None l ∙ ap (found_at found) (sym e)))))
+  | inr ne ↦ others k (omega (arith, low, l, few)) ne ∙ h k (omega (arith, low, ne))
+]
+
+-- ---- what is said at a strobe
+
+masked_none : (b : Bool) → false ≡ (not true && b)
+masked_none b = refl
+
+told_cases : (z o x : Option Played) (k b : Bool)
+    → ((not (is_open z) && (k && not b)) || ((not (is_open o) && (k && b)) || (not (is_open x) && not k))) ≡ not (is_open (said_of z o x (if k then known b else X)))
+told_cases None None None true true = refl
+told_cases None None None true false = refl
+told_cases None None None false b = refl
+told_cases None None (Some x) true true = refl
+told_cases None None (Some x) true false = refl
+told_cases None None (Some x) false b = refl
+told_cases None (Some o) None true true = refl
+told_cases None (Some o) None true false = refl
+told_cases None (Some o) None false b = refl
+told_cases None (Some o) (Some x) true true = refl
+told_cases None (Some o) (Some x) true false = refl
+told_cases None (Some o) (Some x) false b = refl
+told_cases (Some z) None None true true = refl
+told_cases (Some z) None None true false = refl
+told_cases (Some z) None None false b = refl
+told_cases (Some z) None (Some x) true true = refl
+told_cases (Some z) None (Some x) true false = refl
+told_cases (Some z) None (Some x) false b = refl
+told_cases (Some z) (Some o) None true true = refl
+told_cases (Some z) (Some o) None true false = refl
+told_cases (Some z) (Some o) None false b = refl
+told_cases (Some z) (Some o) (Some x) true true = refl
+told_cases (Some z) (Some o) (Some x) true false = refl
+told_cases (Some z) (Some o) (Some x) false b = refl
+
+-- the machines of which something is said, from those that show 0, 1 and X
+pub told_bits : (k : ℕ) (low : k < 64) (z o x : Option Played) (shown : Lanes) (zs os xs : ℕ)
+    → bit_of k zs ≡ (not (is_open z) && bit_of k (bit_and shown.known (bit_xor shown.value ones))) → bit_of k os ≡ (not (is_open o) && bit_of k (bit_and shown.known shown.value))
+    → bit_of k xs ≡ (not (is_open x) && bit_of k (bit_xor shown.known ones))
+    → bit_of k (bit_or zs (bit_or os xs)) ≡ not (is_open (said_of z o x (lane k shown)))
+told_bits k low z o x shown zs os xs a b c =
+    let kb = bit_of k shown.known in
+    let vb = bit_of k shown.value in
+    let a' : bit_of k zs ≡ (not (is_open z) && (kb && not vb)) =
+    a ∙ ap (λ y. not (is_open z) && y) (bit_of_and shown.known (bit_xor shown.value ones) k ∙ ap (λ y. kb && y) (bit_not_word k low shown.value)) in
+    let b' : bit_of k os ≡ (not (is_open o) && (kb && vb)) = b ∙ ap (λ y. not (is_open o) && y) (bit_of_and shown.known shown.value k) in
+    let c' : bit_of k xs ≡ (not (is_open x) && not kb) = c ∙ ap (λ y. not (is_open x) && y) (bit_not_word k low shown.known) in
+    bit_of_or zs (bit_or os xs) k
+    ∙ (ap (λ y. bit_of k zs || y) (bit_of_or os xs k)
+    ∙ (ap (λ y. y || (bit_of k os || bit_of k xs)) a'
+    ∙ (ap (λ y. (not (is_open z) && (kb && not vb)) || (y || bit_of k xs)) b'
+    ∙ (ap (λ y. (not (is_open z) && (kb && not vb)) || ((not (is_open o) && (kb && vb)) || y)) c'
+    ∙ told_cases z o x kb vb))))
+
+pub said_as : (z o x : Option Played) (say : Tri → Option Played) → z ≡ say Zero → o ≡ say One → x ≡ say X → (v : Tri) → said_of z o x v ≡ say v
+said_as z o x say a b c Zero = a
+said_as z o x say a b c One = b
+said_as z o x say a b c X = c
+
+pub said_alike : (say say' : Tri → Option Played) (shown : Lanes) (old new : List (Option Played)) → ((v : Tri) → say v ≡ say' v) → AreSaid say shown old new → AreSaid say' shown old new
+said_alike say say' shown old new same h = record { size = h.size; each = λ k l. h.each k l ∙ ap (or_else (found_at old k)) (same (lane k shown)) }
+
+or_none : (x : Option Played) → x ≡ or_else x None
+or_none None = refl
+or_none (Some p) = refl
+
+-- nothing is said
+pub silent : (say : Tri → Option Played) (shown : Lanes) (found : List (Option Played)) → ((v : Tri) → say v ≡ None) → AreSaid say shown found found
+silent say shown found none = record { size = refl; each = λ k l. or_none (found_at found k) ∙ ap (or_else (found_at found k)) (sym (none (lane k shown))) }
+
+stays : (x y : Option Played) → (not (is_open y) && is_open x) ≡ false → x ≡ or_else x y
+stays None None e = refl
+stays None (Some q) e = absurd (both_ways true e refl)
+stays (Some p) y e = refl
+
+-- nothing is said of a machine of which nothing was
+pub untold : (say : Tri → Option Played) (shown : Lanes) (found : List (Option Played)) (told left : ℕ) → length found ≤ 64
+    → ((k : ℕ) → k < 64 → bit_of k told ≡ not (is_open (say (lane k shown)))) → AreLeft found (length found) left → bit_and told left ≡ 0 → AreSaid say shown found found
+untold say shown found told left few t h none = record {
+  size = refl;
+  each = λ k l.
+      let low : k < 64 = omega (arith, l, few) in
+      stays (found_at found k) (say (lane k shown))
+      (ap (λ b. b && is_open (found_at found k)) (sym (t k low)) ∙ (ap (λ b. bit_of k told && b) (sym (h k l)) ∙ (sym (bit_of_and told left k) ∙ (ap (bit_of k) none ∙ bit_none k low))));
+}
+
+-- so far the first m machines had it said
+pub record IsTakenDown (say : Tri → Option Played) (shown : Lanes) (m : ℕ) (old new : List (Option Played)) : Type 0 where
+  pub size : length new ≡ length old
+  pub done : (k : ℕ) → k < m → k < length old → found_at new k ≡ or_else (found_at old k) (say (lane k shown))
+  pub others : (k : ℕ) → m ≤ k → found_at new k ≡ found_at old k
+
+pub none_down : (say : Tri → Option Played) (shown : Lanes) (old : List (Option Played)) → IsTakenDown say shown 0 old old
+none_down say shown old = record { size = refl; done = λ k l m. absurd (omega (arith, l)); others = λ k l. refl }
+
+pub one_down : (say : Tri → Option Played) (shown : Lanes) (m : ℕ) (old new : List (Option Played)) (item said put : Option Played) → m < length new → item ≡ get_or new m item
+    → said ≡ say (lane m shown) → put ≡ or_else item said → IsTakenDown say shown m old new → IsTakenDown say shown (m + 1) old (set new m put)
+one_down say shown m old new item said put l is s p h = record {
+  size = length-set new m put ∙ h.size;
+  done = λ k low inside. elim (cases_eq k m) [
+    | inl e ↦
+        ap (found_at (set new m put)) e ∙ (get_or-set_same new m put None l
+        ∙ (p ∙ (ap (λ x. or_else x said) (is ∙ (get_or_default new m item None l ∙ (h.others m (omega arith) ∙ ap (found_at old) (sym e))))
+        ∙ (ap (or_else (found_at old k)) (s ∙ ap (λ i. say (lane i shown)) (sym e))))))
+    | inr ne ↦ get_or-set_other new m k put None ne ∙ h.done k (omega (arith, low, ne)) inside
+  ];
+  others = λ k high. get_or-set_other new m k put None (λ e. omega (arith, high, e)) ∙ h.others k (omega (arith, high));
+}
+
+pub all_down : (say : Tri → Option Played) (shown : Lanes) (m : ℕ) (old new : List (Option Played)) → length old ≤ m → IsTakenDown say shown m old new → AreSaid say shown old new
+all_down say shown m old new all h = record { size = h.size; each = λ k l. h.done k (omega (arith, l, all)) l }
+
+-- ---- what is said in a cycle
+
+or_assoc : (x y z : Option Played) → or_else x (or_else y z) ≡ or_else (or_else x y) z
+or_assoc None y z = refl
+or_assoc (Some p) y z = refl
+
+-- so far the first o strobes were judged
+pub record AreJudgedUpTo (says : Judging) (cycle o : ℕ) (strobes : List Tri) (shown : List Lanes) (old new : List (Option Played)) : Type 0 where
+  pub size : length new ≡ length old
+  pub each : (k : ℕ) → k < length old
+      → or_else (found_at old k) (judged_in says cycle 0 strobes (lanes k shown)) ≡ or_else (found_at new k) (judged_in says cycle o (drop o strobes) (drop o (lanes k shown)))
+
+pub none_judged : (says : Judging) (cycle : ℕ) (strobes : List Tri) (shown : List Lanes) (old : List (Option Played)) → AreJudgedUpTo says cycle 0 strobes shown old old
+none_judged says cycle strobes shown old = record { size = refl; each = λ k l. refl }
+
+pub one_judged : (says : Judging) (cycle o : ℕ) (strobes : List Tri) (shown : List Lanes) (old new new' : List (Option Played)) (d : Tri) (e : Lanes) → o < length strobes → length strobes ≡ length shown
+    → AreSaid (says cycle o (get_or strobes o d)) (get_or shown o e) new new' → AreJudgedUpTo says cycle o strobes shown old new → AreJudgedUpTo says cycle (o + 1) strobes shown old new'
+one_judged says cycle o strobes shown old new new' d e l same said h =
+    let s = get_or strobes o d in
+    let v = get_or shown o e in
+    let inner : o < length shown = omega (arith, l, same) in
+    record {
+      size = said.size ∙ h.size;
+      each = λ k inside.
+          let row = lanes k shown in
+          let wide : length strobes ≡ length row = same ∙ sym (length-map shown (lane k)) in
+          let value : lane k v ≡ get_or row o (lane k v) = sym (get_or-map (lane k) shown o e (lane k v) inner) in
+          h.each k inside
+          ∙ (ap (or_else (found_at new k)) (judged_more says cycle o strobes row s (lane k v) l wide (get_or_default strobes o d s l) value)
+          ∙ (or_assoc (found_at new k) (says cycle o s (lane k v)) (judged_in says cycle (o + 1) (drop (o + 1) strobes) (drop (o + 1) row))
+          ∙ ap (λ x. or_else x (judged_in says cycle (o + 1) (drop (o + 1) strobes) (drop (o + 1) row))) (sym (said.each k (let z = h.size in omega (arith, inside))))));
+    }
+
+nothing_left : {Y : Type 0} (ys : List Y) (o : ℕ) → length ys ≤ o → drop o ys ≡ []
+nothing_left [] zero l = refl
+nothing_left [] (suc o) l = refl
+nothing_left (y ∷ ys) zero l = absurd (omega (arith, l))
+nothing_left (y ∷ ys) (suc o) l = nothing_left ys o (omega (arith, l))
+
+pub all_judged : (says : Judging) (cycle o : ℕ) (strobes : List Tri) (shown : List Lanes) (old new : List (Option Played)) → length strobes ≤ o → AreJudgedUpTo says cycle o strobes shown old new
+    → AreJudgedIn says cycle strobes shown old new
+all_judged says cycle o strobes shown old new all h = record {
+  size = h.size;
+  each = λ k l.
+      sym (h.each k l ∙ (ap (λ ss. or_else (found_at new k) (judged_in says cycle o ss (drop o (lanes k shown)))) (nothing_left strobes o all) ∙ sym (or_none (found_at new k))));
+}

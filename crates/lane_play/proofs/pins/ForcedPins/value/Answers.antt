@@ -1,0 +1,69 @@
+use Rattle.std.proofs.Common.{◌≡◌, ◌<◌, List, map, length, get_or, sym, ap, ◌∙◌, subst, zero-add, arith}
+use Rattle.std.proofs.lemmas.List.{length-map, get_or-map, get_or_default}
+use Rattle.netlist.specs.declared.lines.Line.TheVariants.{Pin}
+use Rattle.netlist.specs.Settled.{at}
+use Rattle.events.proofs.Stuck.{length-on_pins, get_or-on_pins}
+use Rattle.lane_play.specs.declared.packed.Lanes.{Lanes}
+use Rattle.lane_play.specs.inner.Lanes.{lanes_rule}
+use Rattle.lane_play.proofs.pins.ForcedPins.value.Goals as goal
+
+pub overflow_cast-place : goal.overflow_cast-place
+overflow_cast-place c =
+    let p = c.args.self.now in
+    let r = c.requires in
+    let few = p.few in
+    let a = length-on_pins (lanes_rule p.faults.now) p.id 0 (map (at p.values.now (record { known = 0; value = 0 })) p.pins.now) in
+    let b = length-map p.pins.now (at p.values.now (record { known = 0; value = 0 })) in
+    omega arith
+
+pub offset_bounds-self-place : goal.offset_bounds-self-place
+offset_bounds-self-place c =
+    let p = c.args.self.now in
+    let r = c.requires in
+    let few = p.few in
+    let a = length-on_pins (lanes_rule p.faults.now) p.id 0 (map (at p.values.now (record { known = 0; value = 0 })) p.pins.now) in
+    let b = length-map p.pins.now (at p.values.now (record { known = 0; value = 0 })) in
+    omega arith
+
+pub bounds-self-place : goal.bounds-self-place
+bounds-self-place c =
+    let p = c.args.self.now in
+    let r = c.requires in
+    let a = length-on_pins (lanes_rule p.faults.now) p.id 0 (map (at p.values.now (record { known = 0; value = 0 })) p.pins.now) in
+    let b = length-map p.pins.now (at p.values.now (record { known = 0; value = 0 })) in
+    omega arith
+
+pub bounds-self-index : goal.bounds-self-index
+bounds-self-index c =
+    let p = c.args.self.now in
+    let r = c.requires in
+    let a = length-on_pins (lanes_rule p.faults.now) p.id 0 (map (at p.values.now (record { known = 0; value = 0 })) p.pins.now) in
+    let b = length-map p.pins.now (at p.values.now (record { known = 0; value = 0 })) in
+    subst (λ x. x < length p.values.now) (sym c.index.ensures) (p.below c.args.place c.index-self-place.result (omega arith))
+
+pub offset_bounds-self-index : goal.offset_bounds-self-index
+offset_bounds-self-index c =
+    let p = c.args.self.now in
+    let r = c.requires in
+    let a = length-on_pins (lanes_rule p.faults.now) p.id 0 (map (at p.values.now (record { known = 0; value = 0 })) p.pins.now) in
+    let b = length-map p.pins.now (at p.values.now (record { known = 0; value = 0 })) in
+    let l : c.index.result < length p.values.now = subst (λ x. x < length p.values.now) (sym c.index.ensures) (p.below c.args.place c.index-self-place.result (omega arith)) in
+    omega arith
+
+pub returns : goal.returns
+returns c =
+    let p = c.args.self.now in
+    let rule = lanes_rule p.faults.now in
+    let vs : List Lanes = map (at p.values.now (record { known = 0; value = 0 })) p.pins.now in
+    let r = c.requires in
+    let a = length-on_pins rule p.id 0 vs in
+    let b = length-map p.pins.now (at p.values.now (record { known = 0; value = 0 })) in
+    let l : c.args.place < length p.pins.now = omega arith in
+    let inside : c.index.result < length p.values.now = subst (λ x. x < length p.values.now) (sym c.index.ensures) (p.below c.args.place c.index-self-place.result l) in
+    let value : get_or vs c.args.place (record { known = 0; value = 0 }) ≡ get_or p.values.now c.index.result (record { known = 0; value = 0 }) =
+    get_or-map (at p.values.now (record { known = 0; value = 0 })) p.pins.now c.args.place c.index-self-place.result (record { known = 0; value = 0 }) l
+    ∙ ap (at p.values.now (record { known = 0; value = 0 })) (sym c.index.ensures) in
+    c.forced.ensures
+    ∙ (ap (rule.line (Pin p.id c.args.place)) (get_or_default p.values.now c.index.result _ (record { known = 0; value = 0 }) inside ∙ sym value)
+    ∙ (ap (λ i. rule.line (Pin p.id i) (get_or vs c.args.place (record { known = 0; value = 0 }))) (sym (zero-add c.args.place))
+    ∙ sym (get_or-on_pins rule p.id 0 c.args.place vs c.forced.result (record { known = 0; value = 0 }) (omega arith))))

@@ -1,0 +1,14 @@
+use Rattle.std.proofs.Common.{◌≡◌, ◌++◌, List, length, take}
+use Rattle.netlist.specs.Netlist.{cells, signals}
+use Rattle.scan_play.specs.Bursts.{cycles_of}
+use Rattle.scan_play.specs.Cycles.{Cycle}
+use Rattle.lane_play.specs.inner.Steps.{ArePlayed}
+use Rattle.lane_play.proofs.playing.play_burst.Given as goal
+
+abbrev pub invariant-loop-t : goal.invariant-loop-t
+invariant-loop-t g l = record {
+  size : length l.bench.state.items ≡ length (cells l.core);
+  room : length l.bench.values.items ≡ length (signals l.core);
+  played : (before : List Cycle) → length before ≡ l.first → ArePlayed (g.J.Judge.says l.judge) l.rule.faults.now l.core before l.initial.bench.state.items l.initial.so_far.found.items
+      → ArePlayed (g.J.Judge.says l.judge) l.rule.faults.now l.core (before ++ take l.t (cycles_of l.burst)) l.bench.state.items l.so_far.found.items;
+}

@@ -1,0 +1,5 @@
+-- What the contracts of private functions cite.
+pub mod Lanes
+pub mod Spans
+pub mod Verdicts
+pub mod Steps

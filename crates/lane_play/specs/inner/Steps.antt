@@ -1,0 +1,28 @@
+-- How far machines were played side by side.
+use Rattle.std.specs.Prelude.{ℕ, ◌≡◌, ◌<◌, List, length, replicate, Option}
+use Rattle.std.specs.List.{slice_get}
+use Rattle.netlist.specs.declared.kinds.Tri.TheVariants.{X}
+use Rattle.netlist.specs.declared.lines.Fault.{Fault}
+use Rattle.netlist.specs.Netlist.{Netlist, cells}
+use Rattle.scan_play.specs.declared.played.Played.{Played}
+use Rattle.scan_play.specs.Cycles.{Cycle}
+use Rattle.scan_play.specs.Judging.{Judging, or_else}
+use Rattle.scan_play.specs.inner.Steps.{IsStep, PlaysOn}
+use Rattle.lane_play.specs.declared.packed.Lanes.{Lanes}
+use Rattle.lane_play.specs.inner.Lanes.{lanes}
+use Rattle.lane_play.specs.inner.Verdicts.{found_at}
+
+-- a cycle of this number was played: for each machine it is the step of its own player
+pub record IsLaneStep (says : Judging) (f : Option Fault) (n : Netlist) (state after : List Lanes) (cycle : Cycle) (number k : ℕ) (old new : Option Played) : Type 0 where
+  pub said : Option Played
+  pub step : IsStep says f n (lanes k state) (lanes k after) cycle number said
+  pub found : new ≡ or_else old said
+
+pub record AreSteps (says : Judging) (faults : List Fault) (n : Netlist) (state after : List Lanes) (cycle : Cycle) (number : ℕ) (old new : List (Option Played)) : Type 0 where
+  pub size : length new ≡ length old
+  pub each : (k : ℕ) → k < length old → IsLaneStep says (slice_get faults k) n state after cycle number k (found_at old k) (found_at new k)
+
+-- these cycles were played, from all cells X: each machine is as far as its own player
+pub record ArePlayed (says : Judging) (faults : List Fault) (n : Netlist) (cycles : List Cycle) (state : List Lanes) (found : List (Option Played)) : Type 0 where
+  pub size : length found ≡ length faults
+  pub each : (k : ℕ) → k < length faults → PlaysOn says (slice_get faults k) n cycles 0 (replicate (length (cells n)) X) (lanes k state) (found_at found k)

@@ -1,0 +1,207 @@
+//! What is said of each machine.
+//!
+//! A judge says the same of all machines that show the same value at a strobe. So it is asked for each of the three values, and one word tells
+//! whether something is said of a machine of which nothing was; that is seldom, and then all machines are walked.
+ghost use Rattle.std.specs.Prelude.{◌≡◌, ◌≢◌, ◌&&◌, ◌^◌, ◌<◌, ◌≤◌, ℕ, None, IfOk, length, not, replicate};
+ghost use Rattle.netlist.specs.declared.kinds.Tri.TheVariants.{Zero, One, X};
+ghost use Rattle.events.specs.Words.{bit_of};
+ghost use Rattle.scan_play.specs.Judging.{or_else};
+ghost use Rattle.lane_play.specs.inner.Lanes.{lane};
+ghost use Rattle.lane_play.specs.inner.Verdicts.{AreJudgedIn, AreLeft, AreSaid, is_open, said_of};
+
+use crate::packed::Lanes;
+use netlist::Tri;
+use scan_play::{Judge, Played};
+use std::alloc::{AllocError, Global};
+
+/// What was first said of each machine, and a bit for each of which nothing was said yet.
+#[derive(Drop)]
+pub(crate) struct Verdicts {
+    pub found: Vec<Option<Played>>,
+    pub left: u64,
+    pub ghost few: { length found.items ≤ 64 },
+    pub ghost lefts: { AreLeft found.items (length found.items) left },
+}
+
+/// The word with a bit at a place.
+fn with_bit(word: u64, k: usize, bit: bool) -> u64
+    requires { k < 64 }
+    ensures same { bit_of k result ≡ bit }
+    ensures others { (j : ℕ) → j < 64 → j ≢ k → bit_of j result ≡ bit_of j word }
+{
+    if bit {
+        word | (1u64 << k)
+    } else {
+        word & !(1u64 << k)
+    }
+}
+
+/// Whether nothing was said.
+fn is_open(said: &Option<Played>) -> bool
+    ensures { result ≡ is_open said.now }
+{
+    match said {
+        Some(_) => false,
+        None => true,
+    }
+}
+
+/// The machines of which nothing was said.
+fn left_of(found: &[Option<Played>]) -> u64
+    requires { length found.now ≤ 64 }
+    ensures { AreLeft found.now (length found.now) result }
+{
+    let mut left = 0;
+    for k in 0..found.len() {
+        left = with_bit(left, k, is_open(&found[k]));
+    }
+    left
+}
+
+impl Verdicts {
+    /// Nothing is said of so many machines.
+    pub(crate) fn none(alloc: Global, count: usize) -> Result<Verdicts, AllocError>
+        requires { count ≤ 64 }
+        ensures { IfOk result (λ v. v.found.items ≡ replicate count None) }
+    {
+        let mut found = Vec::with_capacity(alloc, count)?;
+        for _done in 0..count {
+            found.push(None)?;
+        }
+        let left = left_of(&found);
+        Ok(Verdicts { found, left })
+    }
+}
+
+/// What a judge says of each value at a strobe.
+#[derive(Clone, Copy)]
+struct Sayings {
+    zero: Option<Played>,
+    one: Option<Played>,
+    unknown: Option<Played>,
+}
+
+/// What is said where something is, and nothing before.
+fn first_of(one: Option<Played>, other: Option<Played>) -> Option<Played>
+    ensures { result ≡ or_else one other }
+{
+    match one {
+        Some(said) => Some(said),
+        None => other,
+    }
+}
+
+/// These machines, where something is said.
+fn masked(said: &Option<Played>, word: u64) -> u64
+    ensures { (k : ℕ) → k < 64 → bit_of k result ≡ (not (is_open said.now) && bit_of k word) }
+{
+    match said {
+        Some(_) => word,
+        None => 0,
+    }
+}
+
+/// Asks a judge for each value.
+fn ask<J: Judge>(judge: &J, cycle: u64, output: u32, strobe: Tri) -> Sayings
+    ensures zero { result.zero ≡ J.says judge.now cycle output strobe Zero }
+    ensures one { result.one ≡ J.says judge.now cycle output strobe One }
+    ensures unknown { result.unknown ≡ J.says judge.now cycle output strobe X }
+{
+    Sayings {
+        zero: judge.says(cycle, output, strobe, Tri::Zero),
+        one: judge.says(cycle, output, strobe, Tri::One),
+        unknown: judge.says(cycle, output, strobe, Tri::X),
+    }
+}
+
+impl Sayings {
+    /// What is said of a value.
+    fn of(self, value: Tri) -> Option<Played>
+        ensures { result ≡ said_of self.zero self.one self.unknown value }
+    {
+        match value {
+            Tri::Zero => self.zero,
+            Tri::One => self.one,
+            Tri::X => self.unknown,
+        }
+    }
+
+    /// The machines of which something is said.
+    fn told(self, shown: Lanes) -> u64
+        ensures { (k : ℕ) → k < 64 → bit_of k result ≡ not (is_open (said_of self.zero self.one self.unknown (lane k shown))) }
+    {
+        let zero = masked(&self.zero, shown.known & (shown.value ^ u64::MAX));
+        let one = masked(&self.one, shown.known & shown.value);
+        let unknown = masked(&self.unknown, shown.known ^ u64::MAX);
+        zero | (one | unknown)
+    }
+}
+
+/// Takes down what is said of each machine of which nothing was.
+#[inline(never)]
+fn take_down(sayings: Sayings, shown: Lanes, verdicts: Verdicts) -> Verdicts
+    ensures { AreSaid (said_of sayings.zero sayings.one sayings.unknown) shown verdicts.found.items result.found.items }
+{
+    let Verdicts { mut found, left: _ } = verdicts;
+    for k in 0..found.len() {
+        found[k] = first_of(found[k], sayings.of(shown.lane(k)));
+    }
+    let left = left_of(&found);
+    Verdicts { found, left }
+}
+
+/// What is said where a bit is strobed.
+fn judge_bit<J: Judge>(
+    judge: &J,
+    cycle: u64,
+    output: u32,
+    strobe: Tri,
+    shown: Lanes,
+    verdicts: Verdicts,
+) -> Verdicts
+    ensures { AreSaid (J.says judge.now cycle output strobe) shown verdicts.found.items result.found.items }
+{
+    let sayings = ask(judge, cycle, output, strobe);
+    if sayings.told(shown) & verdicts.left == 0 {
+        return verdicts;
+    }
+    take_down(sayings, shown, verdicts)
+}
+
+/// What is said at an output.
+#[inline(always)]
+fn judge_output<J: Judge>(
+    judge: &J,
+    cycle: u64,
+    output: u32,
+    strobe: Tri,
+    shown: Lanes,
+    verdicts: Verdicts,
+) -> Verdicts
+    ensures { AreSaid (J.says judge.now cycle output strobe) shown verdicts.found.items result.found.items }
+{
+    match strobe {
+        Tri::X => verdicts,
+        Tri::Zero => judge_bit(judge, cycle, output, Tri::Zero, shown, verdicts),
+        Tri::One => judge_bit(judge, cycle, output, Tri::One, shown, verdicts),
+    }
+}
+
+/// What is said in a cycle.
+pub(crate) fn judge_row<J: Judge>(
+    judge: &J,
+    cycle: u64,
+    strobes: &[Tri],
+    shown: &[Lanes],
+    verdicts: Verdicts,
+) -> Verdicts
+    requires same { length strobes.now ≡ length shown.now }
+    requires few { length strobes.now < 2 ^ 32 }
+    ensures { AreJudgedIn (J.says judge.now) cycle strobes.now shown.now verdicts.found.items result.found.items }
+{
+    let mut so_far = verdicts;
+    for o in 0..strobes.len() {
+        so_far = judge_output(judge, cycle, o as u32, strobes[o], shown[o], so_far);
+    }
+    so_far
+}

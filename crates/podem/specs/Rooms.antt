@@ -1,0 +1,9 @@
+-- What a search leaves to the next one for another fault of the netlist.
+use Rattle.netlist.specs.Netlist.{Netlist}
+use Rattle.netlist.specs.Holds.{Holds}
+use Rattle.pair_sim.specs.Rooms.{CanServeLabels}
+use Rattle.podem.specs.declared.engine.PodemRoom.{PodemRoom}
+
+-- its labels are as those of a room of the simulation
+abbrev pub CanServe : Netlist → Holds → PodemRoom → Type 0
+CanServe n holds r = CanServeLabels n holds r.labels

@@ -1,0 +1,11 @@
+-- What a report speaks of.
+use Rattle.std.specs.Prelude.{◌≡◌}
+use Rattle.netlist.specs.Netlist.{Netlist}
+use Rattle.fault_universe.specs.Universe.{universe_of}
+use Rattle.fault_collapse.specs.Classes.{AreClasses}
+use Rattle.run_report.specs.declared.subjects.Subject.{Subject}
+
+-- all faults of a netlist, and their classes
+pub record IsSubjectOf (n : Netlist) (s : Subject) : Type 0 where
+  pub faults : s.faults ≡ universe_of n
+  pub classes : AreClasses n s.classes
