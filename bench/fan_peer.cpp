@@ -11,25 +11,34 @@ enum Role : u8 { Bound, Head, Inner };
 
 struct Roles {
     const Netlist& n;
-    std::vector<u8> start;  // what is bound whatever the fault
-    std::vector<u8> role;
+    std::vector<u8> base, role;  // whatever the fault, and of the last one
+    std::vector<u32> changed;
 
-    explicit Roles(const Netlist& n) : n(n), start(n.count, 0), role(n.count, Inner) {
+    explicit Roles(const Netlist& n) : n(n), base(n.count, Inner) {
+        std::vector<u8> bound(n.count, 0);
         for (u32 x : n.order) {
             bool is = n.pin_count(x) == 0;
-            for (u32 k = 0; k < n.pin_count(x); k++) is |= start[n.pin(x, k)] || is_stem(n.pin(x, k));
-            start[x] = is;
+            for (u32 k = 0; k < n.pin_count(x); k++) is |= bound[n.pin(x, k)] || is_stem(n.pin(x, k));
+            bound[x] = is;
         }
-    }
-    bool is_stem(u32 x) const { return n.lines[x].size() >= 4; }
-    void aim(const Fault& f) {
-        std::vector<u8> bound = start;
-        if (f.sort == 0 || (f.sort == 1 && n.is_gate(f.signal))) bound[f.signal] = 1;
-        for (u32 x : n.order) for (u32 k = 0; k < n.pin_count(x); k++) bound[x] |= bound[n.pin(x, k)];
         for (u32 x = 0; x < n.count; x++) {
             bool is_read = n.observed[x];
             for (u32 i = n.fan_begin[x]; i < n.fan_begin[x + 1]; i++) is_read |= bound[n.fan[i]];
-            role[x] = bound[x] ? Bound : is_read ? Head : Inner;
+            base[x] = bound[x] ? Bound : is_read ? Head : Inner;
+        }
+        role = base;
+    }
+    bool is_stem(u32 x) const { return n.lines[x].size() >= 4; }
+    void put(u32 x, Role r) { role[x] = r, changed.push_back(x); }
+    // what a fault binds besides is a chain: a signal of two readers is a stem, and what reads it is bound anyway
+    void aim(const Fault& f) {
+        for (u32 x : changed) role[x] = base[x];
+        changed.clear();
+        u32 x = f.sort == 0 || (f.sort == 1 && n.is_gate(f.signal)) ? f.signal : NONE;
+        while (x != NONE && role[x] != Bound) {
+            put(x, Bound);
+            for (u32 k = 0; n.is_gate(x) && k < n.pin_count(x); k++) if (role[n.pin(x, k)] == Inner) put(n.pin(x, k), Head);
+            x = n.lines[x].size() == 2 && n.fan_begin[x] < n.fan_begin[x + 1] ? n.fan[n.fan_begin[x]] : NONE;
         }
     }
     bool may(u32 x) const { return role[x] != Inner; }
@@ -53,11 +62,16 @@ struct Fan {
     const Roles& roles;
     Sim& sim;
     Counts& counts;
-    Manner manner;
+    Manner manner{};
     struct Side { u32 signal; bool bit; bool tried; size_t mark; u64 nodes; };
     std::vector<Side> stack;
     std::vector<Votes> votes;
     std::vector<u8> met;
+    std::vector<u32> rounds, paths;  // the last round in which each signal was come to, and those that wait
+    u32 round = 0;
+
+    Fan(const Netlist& n, const Measures& m, const Roles& roles, Sim& sim, Counts& counts)
+        : n(n), m(m), roles(roles), sim(sim), counts(counts), votes(n.count), met(n.count, 0), rounds(n.count, 0) {}
 
     Tri good(u32 x) const { return sim.labels[x].good; }
     bool open(u32 x) const { return n.is_gate(x) && roles.role[x] != Head && sim.labels[x].own == X; }
@@ -92,10 +106,27 @@ struct Fan {
             for (u32 i = n.fan_begin[c.signal]; i < n.fan_begin[c.signal + 1]; i++) gate(n.fan[i]);
         }
     }
-    u32 nearest() const {
-        u32 best = NONE;
-        frontier([&](u32 x) { if (best == NONE || m.seen[x] < m.seen[best]) best = x; });
-        return best;
+    // whether the effect may still come from a gate to an observed point
+    void meet(u32 x) { if (rounds[x] != round) rounds[x] = round, paths.push_back(x); }
+    bool leads(u32 gate) {
+        paths.clear();
+        for (meet(gate); !paths.empty();) {
+            u32 x = paths.back();
+            paths.pop_back();
+            if (n.observed[x]) return true;
+            for (u32 i = n.fan_begin[x]; i < n.fan_begin[x + 1]; i++) {
+                u32 z = n.fan[i];
+                if (sim.labels[z].differs && !sim.effect(sim.labels[z])) meet(z);
+            }
+        }
+        return false;
+    }
+    u32 nearest() {
+        for (round++;;) {
+            u32 best = NONE;
+            frontier([&](u32 x) { if (rounds[x] != round && (best == NONE || m.seen[x] < m.seen[best])) best = x; });
+            if (best == NONE || leads(best)) return best;
+        }
     }
 
     // what may be forced
@@ -134,7 +165,7 @@ struct Fan {
         bool all = joins(kind) ? bit : parts(kind) && !bit;
         return {all ? hardest(a.signal, bit) : easiest(a.signal, bit), bit};
     }
-    Aim objective() const {
+    Aim objective() {
         if (good(driver()) == X) return {driver(), !sim.fault.value};
         Aim decided, pin;
         auto lower = [&](u32 x, const Aim& best) { return best.signal == NONE || place(x) < place(best.signal); };
@@ -147,7 +178,7 @@ struct Fan {
         if (pin.signal != NONE && lower(pin.signal, decided)) return pin;
         return decided.signal == NONE ? decided : into(decided);
     }
-    Aim traced() const {
+    Aim traced() {
         for (Aim a = objective(); a.signal != NONE; a = into(a)) {
             u32 x = a.signal;
             if (roles.role[x] == Head || !n.is_gate(x) || (manner.stems && roles.is_stem(x) && !sim.labels[x].differs)) return a;
@@ -249,7 +280,9 @@ struct Fan {
         return false;
     }
     // 0: a test, 1: redundant, 2: given up
-    int run(u64 limit) {
+    int run(Manner how, u64 limit) {
+        manner = how;
+        stack.clear();
         State s = sim.state();
         if (s != Going) return s == Test ? 0 : 1;
         for (u64 closed = 0; closed < limit;) {
@@ -290,14 +323,14 @@ int main(int argc, char** argv) {
     Sim sim(n);
     Roles roles(n);
     constexpr struct { Manner manner; u64 most; } attempts[] = {{{false, false}, 16}, {{true, true}, 64}, {{false, true}, 64}, {{true, false}, 0}};
+    Fan search(n, m, roles, sim, counts);
     for (auto& f : faults) {
         roles.aim(f);
         int end = 2;
         for (auto& attempt : attempts) {
             if (attempt.most >= limit) continue;
             sim.aim(f);
-            Fan search{n, m, roles, sim, counts, attempt.manner, {}, std::vector<Votes>(n.count), std::vector<u8>(n.count, 0), {}, {}};
-            end = search.run(attempt.most ? attempt.most : limit);
+            end = search.run(attempt.manner, attempt.most ? attempt.most : limit);
             if (end != 2) break;
         }
         (end == 0 ? counts.tests : end == 1 ? counts.closed : counts.aborted)++;

@@ -266,12 +266,13 @@ def test_build_interrupted():
     """It ends with all that it began."""
     with tree() as made:
         made.put(made.bin / "rt", "#!/bin/sh\necho $$ >$TMPDIR/pid\nsleep 60\n")
-        child = subprocess.Popen(**made.words(made.root / "build"), stderr=subprocess.DEVNULL, stdout=subprocess.DEVNULL)
+        child = subprocess.Popen(**made.words(made.root / "build"), stderr=subprocess.PIPE, stdout=subprocess.DEVNULL)
         while not (made.temporary / "pid").exists() or not (made.temporary / "pid").read_text():
             time.sleep(0.05)
         began = time.monotonic()
         child.send_signal(signal.SIGTERM)
         assert child.wait() == 143 and time.monotonic() - began < 20
+        assert "build: what was done is kept: ./build goes on from there, and rm -rf " in child.stderr.read()
         pid = int((made.temporary / "pid").read_text())
         assert not pathlib.Path(f"/proc/{pid}").exists() or "Z" in pathlib.Path(f"/proc/{pid}/stat").read_text().split()[2]
         assert len(made.left()) == 2, made.left()  # the copy, and the stand-in's number

@@ -1,0 +1,258 @@
+// A plain player of 64 faulty machines side by side in C++, to time `atpg chaintest` and `atpg diagnose` beside: two words a signal for three
+// values, each gate evaluated in each cycle, and a batch ends once each of its machines is told.
+// It reads a scanned netlist, a file laid out as the writer of this repository does, and faults (`stem NAME BIT`, `pin NAME K BIT`, `out NAME BIT`),
+// and checks nothing of them. Without a log it tells of each fault the first strobe that is known to be wrong; with one, which faults explain it;
+// with `=K` it writes the log of fault K.
+//   g++ -O2 -std=c++17 -o lanes_peer lanes_peer.cpp && ./lanes_peer NET.scan TEST.stil FAULTS [LOG | =K]
+#include <algorithm>
+#include <cstring>
+#include <sstream>
+
+#include "peer_netlist.hpp"
+
+/// The value of machine k is known where bit k of `known` is 1, and then it is bit k of `value`.
+struct Lanes {
+    Word known = 0, value = 0;
+};
+
+struct Cycle {
+    std::vector<char> drive;   // a bit for each input
+    std::vector<std::pair<Id, char>> strobes;  // outputs and bits
+    bool pulse;
+};
+
+struct Fault {
+    char line;  // 's'tem, 'p'in, 'o'ut
+    Id signal, place;
+    bool bit;
+};
+
+/// A line at which machines are stuck.
+struct Force {
+    char line;
+    Id signal, place;
+    Word mask = 0, bits = 0;
+};
+
+static Lanes forced(Lanes v, const Force& f) { return {v.known | f.mask, (v.value & ~f.mask) | f.bits}; }
+
+static std::vector<std::string> read_names(const char* path) {
+    std::ifstream file(path);
+    std::vector<std::string> inputs, definitions;
+    for (std::string line; std::getline(file, line);) {
+        size_t open = line.find('('), is = line.find(" = ");
+        if (open == std::string::npos) continue;
+        if (is != std::string::npos) definitions.push_back(line.substr(0, is));
+        else if (line[0] == 'I') inputs.push_back(line.substr(6, line.find(')') - 6));
+    }
+    inputs.insert(inputs.end(), definitions.begin(), definitions.end());
+    return inputs;
+}
+
+static std::vector<std::string> words_of(const std::string& line) {
+    std::vector<std::string> words;
+    for (size_t at = line.find(" = "); at != std::string::npos; at = line.find(" = ", at + 3)) words.push_back(line.substr(at + 3, line.find(';', at) - at - 3));
+    return words;
+}
+
+static std::vector<Cycle> read_cycles(const Netlist& net, const char* path) {
+    std::vector<Cycle> cycles;
+    std::ifstream file(path);
+    std::string shift;
+    size_t chains = 0;
+    Id outputs = static_cast<Id>(net.outputs.size());
+    auto add = [&](const std::string& pi, const std::string& si, bool pulse, const std::string& po, const std::string& so) {
+        Cycle cycle{{}, {}, pulse};
+        for (char bit : pi + si) cycle.drive.push_back(bit == '1');
+        for (Id k = 0; k < po.size(); k++)
+            if (po[k] != 'X') cycle.strobes.push_back({k, po[k] == 'H'});
+        for (Id k = 0; k < so.size(); k++)
+            if (so[k] != 'X') cycle.strobes.push_back({outputs - static_cast<Id>(so.size()) + k, so[k] == 'H'});
+        cycles.push_back(std::move(cycle));
+    };
+    for (std::string line; std::getline(file, line);) {
+        if (line.compare(0, 8, "      V ") == 0) {
+            auto parts = words_of(line);
+            shift = parts[0];
+            chains = (parts.size() - 3) / 2;
+        } else if (line.compare(0, 4, "  Ca") == 0) {
+            auto parts = words_of(line);
+            for (size_t t = 0; t < parts[0].size(); t++) {
+                std::string si, so;
+                for (size_t c = 0; c < chains; c++) si += parts[c][t], so += parts[chains + c][t];
+                add(shift, si, true, "", so);
+            }
+        } else if (line.compare(0, 4, "  V ") == 0) {
+            auto parts = words_of(line);
+            std::string si, so;
+            for (size_t c = 0; c < chains; c++) si += parts[1 + c][0], so += parts[3 + chains + c][0];
+            add(parts[0], si, parts[1 + chains] == "P", parts[2 + chains], so);
+        }
+    }
+    return cycles;
+}
+
+struct Player {
+    const Netlist& net;
+    std::vector<Lanes> values, next;
+    std::vector<Force> forces;
+    std::vector<std::vector<Id>> at;  // for each signal the forces at lines that it names
+    std::vector<char> named;
+
+    explicit Player(const Netlist& given) : net(given), values(given.signals()), next(given.cells.size()), at(given.signals()), named(given.signals(), 0) {}
+
+    void stick(const std::vector<Fault>& faults, size_t first, size_t count) {
+        for (const Force& f : forces) at[f.signal].clear(), named[f.signal] = 0;
+        forces.clear();
+        for (size_t k = 0; k < count; k++) {
+            const Fault& f = faults[first + k];
+            auto same = [&](const Force& g) { return g.line == f.line && g.signal == f.signal && g.place == f.place; };
+            auto found = std::find_if(forces.begin(), forces.end(), same);
+            if (found == forces.end()) {
+                at[f.signal].push_back(static_cast<Id>(forces.size()));
+                named[f.signal] = 1;
+                forces.push_back({f.line, f.signal, f.place});
+                found = forces.end() - 1;
+            }
+            found->mask |= Word{1} << k;
+            if (f.bit) found->bits |= Word{1} << k;
+        }
+        std::fill(values.begin(), values.end(), Lanes{});
+        std::fill(next.begin(), next.end(), Lanes{});
+    }
+
+    Lanes on(char line, Id signal, Id place, Lanes v) const {
+        for (Id f : at[signal])
+            if (forces[f].line == line && forces[f].place == place) v = forced(v, forces[f]);
+        return v;
+    }
+
+    template <class Pin> Lanes made(Id x, Pin pin) const {
+        Id count = static_cast<Id>(net.pins.size(x));
+        Lanes v;
+        switch (net.kinds[x]) {
+            case Kind::And: case Kind::Nand: {
+                Word zeros = 0, known = ones, all = ones;
+                for (Id k = 0; k < count; k++) { Lanes p = pin(k); zeros |= p.known & ~p.value; known &= p.known; all &= p.value; }
+                v = {known | zeros, all};
+                break;
+            }
+            case Kind::Or: case Kind::Nor: {
+                Word some = 0, known = ones, any = 0;
+                for (Id k = 0; k < count; k++) { Lanes p = pin(k); some |= p.known & p.value; known &= p.known; any |= p.value; }
+                v = {known | some, any};
+                break;
+            }
+            case Kind::Xor: case Kind::Xnor: {
+                v = {ones, 0};
+                for (Id k = 0; k < count; k++) { Lanes p = pin(k); v.known &= p.known; v.value ^= p.value; }
+                break;
+            }
+            case Kind::Const0: return {ones, 0};
+            case Kind::Const1: return {ones, ones};
+            default: v = pin(0);
+        }
+        bool turned = net.kinds[x] == Kind::Nand || net.kinds[x] == Kind::Nor || net.kinds[x] == Kind::Xnor || net.kinds[x] == Kind::Not;
+        if (turned) v.value = ~v.value;
+        return v;
+    }
+
+    void settle(const Cycle& cycle) {
+        for (Id x = 0; x < net.inputs; x++) {
+            Lanes v{ones, cycle.drive[x] ? ones : 0};
+            values[x] = named[x] ? on('s', x, 0, v) : v;
+        }
+        for (size_t c = 0; c < net.cells.size(); c++) {
+            Id x = net.cells[c];
+            values[x] = named[x] ? on('s', x, 0, next[c]) : next[c];
+        }
+        for (Id x : net.order) {
+            const Id* pins = net.pins.begin(x);
+            if (named[x]) values[x] = on('s', x, 0, made(x, [&](Id k) { return on('p', x, k, values[pins[k]]); }));
+            else values[x] = made(x, [&](Id k) { return values[pins[k]]; });
+        }
+    }
+
+    Lanes shown(Id output) const {
+        Id x = net.outputs[output];
+        return named[x] ? on('o', x, 0, values[x]) : values[x];
+    }
+
+    void tick() {
+        for (size_t c = 0; c < net.cells.size(); c++) {
+            Id x = net.cells[c], pin = *net.pins.begin(x);
+            next[c] = named[x] ? on('p', x, 0, values[pin]) : values[pin];
+        }
+    }
+};
+
+int main(int count, char** words) {
+    if (count < 4) return 2;
+    Netlist net = read_netlist(words[1]);
+    std::vector<std::string> names = read_names(words[1]);
+    std::unordered_map<std::string, Id> ids;
+    for (Id x = 0; x < names.size(); x++) ids[names[x]] = x;
+    std::vector<Cycle> cycles = read_cycles(net, words[2]);
+    std::vector<Fault> faults;
+    std::ifstream list(words[3]);
+    for (std::string line; std::getline(list, line);) {
+        std::istringstream text(line);
+        std::string kind, name;
+        Id place = 0, bit = 0;
+        text >> kind >> name;
+        if (kind == "pin") text >> place;
+        text >> bit;
+        faults.push_back({kind[0], ids.at(name), place, bit == 1});
+    }
+    bool logs = count > 4 && words[4][0] == '=', diagnoses = count > 4 && !logs;
+    if (logs) faults = {faults.at(std::strtoull(words[4] + 1, nullptr, 10))};
+    std::vector<std::vector<char>> logged(diagnoses ? cycles.size() : 0, std::vector<char>(net.outputs.size(), 0));
+    if (diagnoses) {
+        std::unordered_map<std::string, Id> places;
+        for (Id k = 0; k < net.outputs.size(); k++) places[names[net.outputs[k]]] = k;
+        std::ifstream log(words[4]);
+        std::string head;
+        std::getline(log, head);
+        size_t cycle;
+        for (std::string name; log >> cycle >> name;) logged[cycle][places.at(name)] = 1;
+    }
+    if (logs) std::puts("atpg fail log 1");
+    double begin = seconds();
+    Player player(net);
+    size_t told = 0, played = 0;
+    for (size_t first = 0; first < faults.size(); first += 64) {
+        size_t machines = std::min<size_t>(64, faults.size() - first);
+        player.stick(faults, first, machines);
+        Word left = machines == 64 ? ones : (Word{1} << machines) - 1;
+        std::vector<std::pair<size_t, Id>> found(machines);
+        for (size_t c = 0; c < cycles.size() && left; c++) {
+            const Cycle& cycle = cycles[c];
+            player.settle(cycle);
+            for (auto [output, bit] : cycle.strobes) {
+                Lanes v = player.shown(output);
+                Word wrong = bit ? ~v.value : v.value, said = v.known & wrong;
+                if (logs) {
+                    if (said & 1) std::printf("%zu %s\n", c, names[net.outputs[output]].c_str());
+                    continue;
+                }
+                if (diagnoses) said = ~v.known | (logged[c][output] ? ~wrong : wrong);
+                for (said &= left; said; said &= said - 1) {
+                    int k = __builtin_ctzll(said);
+                    found[k] = {c, output};
+                    left &= ~(Word{1} << k);
+                }
+            }
+            if (cycle.pulse) player.tick();
+            played++;
+        }
+        for (size_t k = 0; k < machines; k++) {
+            bool open = left >> k & 1;
+            told += !open;
+            if (logs) continue;
+            if (diagnoses) { if (open) std::printf("%zu\n", first + k); }
+            else if (open) std::printf("%zu untold\n", first + k);
+            else std::printf("%zu fails %zu %s\n", first + k, found[k].first, names[net.outputs[found[k].second]].c_str());
+        }
+    }
+    std::fprintf(stderr, "%zu faults %zu told %zu cycles %.3f s\n", faults.size(), told, played, seconds() - begin);
+}
