@@ -12,7 +12,7 @@ ghost use Rattle.fan.specs.inner.Searching.{IsOfCase};
 use crate::guides::{Guide, GuideRoom, Objectives, Stop};
 use crate::measures::Measures;
 use crate::searching::search_from;
-use head_lines::{Role, roles_of};
+use head_lines::{Role, RoleRoom, roles_of};
 use netlist::{Core, Fault, Holds, NoMemory};
 use pair_sim::{PairSim, SimRoom};
 use redundancy_cert::{Engine, Found};
@@ -30,10 +30,11 @@ pub struct Fan {
     measures: Measures,
 }
 
-/// What a search leaves to the next one: its labels, and the room of its guide.
+/// What a search leaves to the next one: its labels, the roles of signals, and the room of its guide.
 #[derive(Drop)]
 pub struct FanRoom {
     labels: SimRoom,
+    roles: RoleRoom,
     guide: GuideRoom,
 }
 
@@ -78,37 +79,38 @@ fn attempts(
     guide: &mut Guide,
     fault: &Fault,
     holds: &Holds,
+    roles: &[Role],
     labels: &mut PairSim,
     limit: u32,
 ) -> Result<Found, AllocError>
     requires start { labels.old ≡ sim core.now fault.now holds.now [] }
     requires some { 1 ≤ limit }
     requires fit { AreHoldsOf core.now holds.now }
+    requires roles { AreRoles fault.now core.now holds.now roles.now }
     ensures evidence { IfOk result (HasEvidence fault.now core.now holds.now limit) }
     ensures places { IfOk result (HasEvidenceOnPlaces fault.now core.now holds.now limit) }
     ensures kept { OnOk result (IsOfCase fault.now core.now holds.now labels.new) }
 {
-    let roles = roles_of(alloc, core, fault, holds)?;
     guide.go_back(Objectives::One, Stop::Heads);
     if let Some(found) = short_attempt(
-        alloc, core, guide, fault, holds, &roles, labels, FEW, limit,
+        alloc, core, guide, fault, holds, roles, labels, FEW, limit,
     )? {
         return Ok(found);
     }
     guide.go_back(Objectives::All, Stop::Stems);
     if let Some(found) = short_attempt(
-        alloc, core, guide, fault, holds, &roles, labels, MORE, limit,
+        alloc, core, guide, fault, holds, roles, labels, MORE, limit,
     )? {
         return Ok(found);
     }
     guide.go_back(Objectives::One, Stop::Stems);
     if let Some(found) = short_attempt(
-        alloc, core, guide, fault, holds, &roles, labels, MORE, limit,
+        alloc, core, guide, fault, holds, roles, labels, MORE, limit,
     )? {
         return Ok(found);
     }
     guide.go_back(Objectives::All, Stop::Heads);
-    search_from(alloc, core, guide, fault, holds, &roles, labels, limit)
+    search_from(alloc, core, guide, fault, holds, roles, labels, limit)
 }
 
 impl Fan {
@@ -144,7 +146,20 @@ impl Fan {
         let Ok(mut labels) = PairSim::new(alloc, core, fault, holds) else {
             return Err(NoMemory);
         };
-        attempts(alloc, core, &mut guide, &fault, holds, &mut labels, limit).map_err(|_| NoMemory)
+        let Ok(roles) = roles_of(alloc, core, &fault, holds) else {
+            return Err(NoMemory);
+        };
+        attempts(
+            alloc,
+            core,
+            &mut guide,
+            &fault,
+            holds,
+            &roles,
+            &mut labels,
+            limit,
+        )
+        .map_err(|_| NoMemory)
     }
 }
 
@@ -152,10 +167,11 @@ impl Engine for Fan {
     ghost use Rattle.netlist.specs.Netlist.{Netlist};
     ghost use Rattle.netlist.specs.Holds.{Holds};
     ghost use Rattle.pair_sim.specs.Rooms.{CanServeLabels};
+    ghost use Rattle.head_lines.specs.Rooms.{CanServeRoles};
 
     type Room = FanRoom;
 
-    ghost serves = { λ (n : Netlist) (holds : Holds) r. CanServeLabels n holds r.labels };
+    ghost serves = { λ (n : Netlist) (holds : Holds) r. CanServeLabels n holds r.labels × CanServeRoles n holds r.roles };
 
     fn search(
         &self,
@@ -172,8 +188,15 @@ impl Engine for Fan {
         let Ok(guide) = GuideRoom::of(alloc, core) else {
             return Err(NoMemory);
         };
+        let Ok(roles) = RoleRoom::of(alloc, core, holds) else {
+            return Err(NoMemory);
+        };
         let labels = SimRoom::new(alloc, core, holds)?;
-        Ok(FanRoom { labels, guide })
+        Ok(FanRoom {
+            labels,
+            roles,
+            guide,
+        })
     }
 
     fn search_in(
@@ -185,13 +208,27 @@ impl Engine for Fan {
         limit: u32,
         holds: &Holds,
     ) -> Result<(Found, FanRoom), NoMemory> {
+        let mut roles = room.roles;
+        let Ok(_) = roles.aim(core, &fault, holds) else {
+            return Err(NoMemory);
+        };
         let mut labels = PairSim::in_room(room.labels, core, fault, holds);
         let mut guide = Guide::of(&self.measures, room.guide);
-        match attempts(alloc, core, &mut guide, &fault, holds, &mut labels, limit) {
+        match attempts(
+            alloc,
+            core,
+            &mut guide,
+            &fault,
+            holds,
+            roles.roles(),
+            &mut labels,
+            limit,
+        ) {
             Ok(found) => Ok((
                 found,
                 FanRoom {
                     labels: labels.into_room(),
+                    roles,
                     guide: guide.into_room(),
                 },
             )),
