@@ -79,7 +79,7 @@ SHOWN = re.compile(r"\n(\d+) (?:of (\d+) )?classes claimed, (\d+) batches, (\d+)
 
 def shown_by(folder, **more):
     """The standard output and error of a run that takes a moment."""
-    done = subprocess.run([PROGRAM, "run", "sample.bench", "sample", "--workers", "2"], cwd=folder, capture_output=True,
+    done = subprocess.run([PROGRAM, "run", "long.bench", "long", "--workers", "2"], cwd=folder, capture_output=True,
                           env={word: value for word, value in os.environ.items() if not word.startswith("ATPG_")} | more)
     said, shown = done.stdout.decode(), done.stderr.decode()  # as bytes: a text's ends of line would be made alike
     assert done.returncode == 0 and said.startswith("faults "), done
@@ -89,7 +89,7 @@ def shown_by(folder, **more):
 def on_a_terminal(folder):
     """What a run shows where its standard error is a terminal."""
     ours, its = pty.openpty()
-    child = subprocess.Popen([PROGRAM, "run", "sample.bench", "sample"], cwd=folder, stdout=subprocess.DEVNULL, stderr=its)
+    child = subprocess.Popen([PROGRAM, "run", "long.bench", "long"], cwd=folder, stdout=subprocess.DEVNULL, stderr=its)
     os.close(its)
     shown = b""
     with contextlib.suppress(OSError):  # the terminal's end
@@ -106,8 +106,8 @@ def test_progress():
         return "ok, but there is no proved build: the line wasn't looked at"
     with tempfile.TemporaryDirectory() as name:
         folder = pathlib.Path(name)
-        made = subprocess.run([ROOT / "bench/sample_netlist.py", "1", "20000"], capture_output=True, check=True)
-        (folder / "sample.bench").write_bytes(made.stdout)
+        subprocess.run([ROOT / "bench/make_circuits.py", "--into", folder, "multiplier:64"], capture_output=True, check=True)
+        (folder / "multiplier_64.bench").rename(folder / "long.bench")
         for more, classes in (({"ATPG_PROGRESS": "1", "ATPG_CLASSES": "77"}, "77"), ({"ATPG_PROGRESS": "1"}, "")):
             shown = shown_by(folder, **more)[1]
             found = SHOWN.findall(shown)
