@@ -4,6 +4,15 @@
 //! Each status has its cause in the contract of `top`, and says what then stands. What a command
 //! line reads, writes and owes is one table (`specs/Commands.antt`); how it can end is the table of
 //! `commands`, the same for all.
+//!
+//! Gives: `top`, the whole program as one call.
+//! Proved: `top`: every status has its cause and says what stands. 0 means, of `scan`: the canonical text of the scanned netlist, which behaves as
+//! the original with scan off; of `faults`: exactly the list of faults with their classes; of `run`: good files of the netlist that was read, with
+//! the run theorem, and the line with their numbers; of `chaintest`: each fault of the scan hardware with what the file shows of it; of `diagnose`:
+//! exactly the faults that explain the log; of `sweep`: the numbers of good files of the sample netlist, whose test passes. 0 or 1 of `play` and
+//! `check` mean exactly what the player and the check answer, and hold on the chip from every power-up state where strobes are known. The laws: what
+//! is due of the same texts is alike; statuses exclude each other.
+//! Tested: that `run` heeds its options, by `list_tests` and `cases`.
 #![tactic(auto)]
 
 ghost use Rattle.std.specs.Prelude.{◌≡◌, Ok, map};

@@ -1,4 +1,10 @@
 //! Values settled anew after a change: only what the change reaches is evaluated.
+//!
+//! Gives: `Events`, `EventRoom`, `Agenda`, `Words`.
+//! Proved: `Events`: after a change, a stuck line, other inputs or an undo, the values are the settled ones, and the trail has exactly what changed;
+//! words of 64 patterns settle as the bits of each.
+//! Tested: run below `podem` and `word_sim` in `calls`.
+//! Neither: that work follows what changes.
 #![tactic(auto)]
 
 mod agendas;

@@ -1,4 +1,8 @@
 //! The single stuck-at faults of a netlist: their list, and their texts.
+//!
+//! Gives: `universe`, `FaultSet`, `text_of`, `fault_named`.
+//! Proved: `universe`, `text_of` exactly; `fault_named` exactly, over a netlist or an index of its names; texts one to one with members.
+//! Neither: time.
 #![tactic(auto)]
 
 mod fault_sets;

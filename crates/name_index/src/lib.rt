@@ -1,4 +1,8 @@
 //! The names of a netlist, looked up: for readers of texts with many names.
+//!
+//! Gives: `NameIndex`.
+//! Proved: `get`: exactly the signal of a name, or that no signal has it; `netlist`: whose names they are.
+//! Neither: that a name is found in the same time however many there are.
 #![tactic(auto)]
 
 ghost use Rattle.std.specs.Prelude.{◌≡◌, ◌≢◌, ◌<◌, ℕ, IfOk, MatchOption};

@@ -1,4 +1,8 @@
 //! Compaction in reverse order: only the patterns that are the last to detect some class are kept.
+//!
+//! Gives: `finish`, `Finished`.
+//! Proved: `finish`: exactly the patterns that are the last to detect some class, each class at its new place, with its first point there.
+//! Tested: run by `run`.
 #![tactic(auto)]
 
 mod compaction;

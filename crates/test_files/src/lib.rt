@@ -1,4 +1,10 @@
 //! The five files of a run: from a design to its scanned netlist, the test, the certificate and the report.
+//!
+//! Gives: `test_files`, `Plan`, `TestFiles`.
+//! Proved: `test_files`: good files of a design, with the run theorem, for every number of workers and interleaving, searched by any engine that
+//! keeps the trait's contract.
+//! Tested: run by `run`.
+//! Neither: how many patterns and aborted faults there are.
 #![tactic(auto)]
 
 mod files;

@@ -3,6 +3,10 @@
 //!
 //! `commands` builds the table for `clap`, `values` reads single values, `requests` makes of what
 //! `clap` found a request.
+//!
+//! Gives: `parse`, `Request`.
+//! Proved: `parse`: exactly the request that clap's rule gives over the table, with exactly the list of held inputs, or why there is none.
+//! Tested: clap's texts.
 #![tactic(auto)]
 
 ghost use Rattle.std.specs.Prelude.{◌≡◌, Ok, IfOk, IfErr, map};
