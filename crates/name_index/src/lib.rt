@@ -60,7 +60,7 @@ impl<'a> NameIndex<'a> {
         self.netlist
     }
 
-    /// The signal of a name.
+    /// The signal of a name, by one look-up in the table of hashes.
     pub fn get(&self, name: &[u8]) -> Option<SignalId>
         ensures { MatchOption result ((x : ℕ) → x < signal_count self.now → name_of self.now x ≢ name.now) (λ x. (x < signal_count self.now) × (name_of self.now x ≡ name.now)) }
     {

@@ -1,4 +1,7 @@
 //! The engine.
+//!
+//! What guides the search (how dear bits are, where the effect is) is made once for a netlist and kept with the labels from search to search,
+//! since a search is often shorter than that would take.
 ghost use Rattle.std.specs.Prelude.{◌≤◌, IfOk, OnOk};
 ghost use Rattle.netlist.specs.Holds.{AreHoldsOf};
 ghost use Rattle.redundancy_cert.specs.Evidence.{HasEvidence};

@@ -1,4 +1,13 @@
 //! The search from the path without decisions.
+//!
+//! Branch and bound over the bits of inputs and cells alone (Goel 1981). The D-algorithm (Roth 1966) decides on inner signals too, and then has
+//! to justify what it decided; here each decision can be had, and whether a path is closed is told by its labels.
+//!
+//! A turn looks at the other side of a decision before it goes to the wanted one. Where that is closed already, the decision is Forced and
+//! takes nothing from the backtrack limit; where it is a test, the search is over.
+//!
+//! The stack of decisions, each with what is known of its other side, stands for the tree at any time (`redundancy_cert::Side`). So nothing is
+//! recursive, and a search that gives up has its tree up to there.
 ghost use Rattle.std.specs.Prelude.{◌≡◌, ◌≤◌, ◌<◌, ◌+◌, ◌^◌, ℕ, [], ◌∷◌, length, IfOk, IfSome, OnOk, MatchOption, IsTrue, map, if◌then◌else◌};
 ghost use Rattle.std.specs.List.{All, Contains};
 ghost use Rattle.netlist.specs.declared.kinds.Tri.TheVariants.{X};

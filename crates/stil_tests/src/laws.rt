@@ -24,7 +24,7 @@ pub fn files_read_back()
     at_most_one();
 }
 
-/// Patterns have one file.
+/// No two files are that of the same patterns.
 pub fn one_file()
     ensures { OneFile }
 {}

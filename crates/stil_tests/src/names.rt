@@ -39,7 +39,7 @@ pub fn input_names(alloc: Global, netlist: &Netlist, chains: usize) -> Result<Te
     Ok(names)
 }
 
-/// The pins of the outputs.
+/// What the tester calls the outputs: one that is an input too has a name of its own.
 pub fn output_names(alloc: Global, netlist: &Netlist) -> Result<Texts, NoMemory>
     ensures { IfOk result (λ names. names ≡ map (output_name netlist.now) netlist.now.outputs) }
 {
@@ -52,7 +52,6 @@ pub fn output_names(alloc: Global, netlist: &Netlist) -> Result<Texts, NoMemory>
     Ok(names)
 }
 
-/// The cells of each chain.
 pub fn chain_names(
     alloc: Global,
     netlist: &Netlist,

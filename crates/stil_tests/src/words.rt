@@ -10,7 +10,6 @@ use netlist::Tri;
 use std::alloc::AllocError;
 use tri::known;
 
-/// The character of a bit.
 pub(crate) fn char_of_bit(bit: bool) -> u8
     ensures { result ≡ char_of_bit bit }
 {
@@ -28,7 +27,6 @@ pub(crate) fn char_of_value(value: Tri) -> u8
     }
 }
 
-/// Adds bits.
 pub(crate) fn push_bits(word: &mut Vec<u8>, bits: &[bool]) -> Result<(), AllocError>
     ensures { OnOk result (word.new.items ≡ word.old.items ++ text_of_bits bits.now) }
 {
