@@ -6,7 +6,7 @@ import subprocess
 import sys
 
 ROOT = pathlib.Path(__file__).resolve().parent.parent
-sys.path.insert(0, str(ROOT / "bench"))
+sys.path.insert(0, str(ROOT / "bench/measure"))
 from measure import proved_build  # noqa: E402
 
 ENDS = ("net", "scan", "stil", "cert", "rep")
