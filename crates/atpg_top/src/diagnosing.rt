@@ -242,7 +242,6 @@ fn diagnosed<R: Threads + Sync>(
     }
 }
 
-/// The work of `diagnose`.
 fn work<R: Threads + Sync>(
     rt: &R,
     alloc: Global,

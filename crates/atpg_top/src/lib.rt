@@ -132,7 +132,7 @@ fn decline(refusal: &WordsRefusal) -> Status<'_>
     }
 }
 
-/// The inputs that are to be held.
+/// The inputs that are to be held, which `run` alone may name.
 fn held_in<'a, 'b>(request: &'b Request<'a>) -> &'b [Held<'a>]
     ensures { names_held result.now ≡ held_names (Ok (line_of request.now)) }
 {

@@ -15,7 +15,6 @@ use redundancy_cert::Side;
 /// What was seen of signals that may be forced.
 #[derive(Drop)]
 pub enum Seen {
-    /// A test.
     Reached(Point),
     /// The other side of this one is closed.
     ShutBeside(Aim),

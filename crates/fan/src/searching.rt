@@ -1,4 +1,9 @@
 //! The search from the path without decisions.
+//!
+//! As in `podem`, a stack of decisions stands for the tree, and both sides of a decision are looked at. But a turn looks first for a signal of
+//! which one side is closed already, and forces it to the other (`forcing`): FAN's unique implications, told by labels. Else it splits on what
+//! the backtrace wants (`guides`), a head line or a fanout stem sooner than an input. Where the condition for a test is met the head lines are
+//! justified without a decision (`head_lines`), so such a path is a test.
 ghost use Rattle.std.specs.Prelude.{◌≡◌, ◌≤◌, ◌<◌, ◌+◌, ℕ, [], ◌∷◌, length, IfOk, OnOk, MatchOption, if◌then◌else◌};
 ghost use Rattle.std.specs.List.{Contains};
 ghost use Rattle.netlist.specs.Holds.{AreHoldsOf};

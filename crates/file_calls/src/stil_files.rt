@@ -30,7 +30,6 @@ fn chains_of(alloc: Global, core: &Core, asked: u32) -> Result<Chains, AllocErro
     }
 }
 
-/// Adds bits.
 pub fn push_bits(to: &mut Vec<u8>, bits: &[bool]) -> Result<(), AllocError> {
     for bit in bits {
         to.push(if *bit { b'1' } else { b'0' })?;

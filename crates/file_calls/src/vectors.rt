@@ -11,7 +11,6 @@ use scan_play::{Burst, Cycle, vectors_of};
 use std::alloc::{AllocError, Global};
 use stil_tests::are_patterns;
 
-/// The letter of a strobe.
 fn letter_of(strobe: Tri) -> u8 {
     match strobe {
         Tri::Zero => b'L',

@@ -13,7 +13,6 @@ use crate::reports::Report;
 use crate::writing::count_word;
 use std::alloc::{AllocError, Global};
 
-/// Why there is no report.
 #[derive(Clone, Copy, Debug, PartialEq, Eq)]
 pub enum ReportFault {
     NotReport,
@@ -94,7 +93,6 @@ fn tables(
     Ok(Some((holds, lines)))
 }
 
-/// The report with this text, if there is one.
 fn report(alloc: Global, bytes: &[u8]) -> Result<Option<Report>, AllocError>
     ensures { IfOk result (λ o. MatchOption o ((r : Kept) → IsReport r → bytes.now ≢ report_text r) (λ r. IsReport r × (bytes.now ≡ report_text r))) }
 {

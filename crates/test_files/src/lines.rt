@@ -19,7 +19,7 @@ use report::{FaultLines, Outcome};
 use run_report::sight_of;
 use std::alloc::{AllocError, Global};
 
-/// What is said of a class.
+/// What each fault of a class has in its line behind its name.
 #[derive(Clone, Copy)]
 struct Said<'a> {
     outcome: Outcome,

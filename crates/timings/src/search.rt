@@ -18,7 +18,7 @@ pub struct Ends {
     pub tests: u64,
     pub closed: u64,
     pub aborted: u64,
-    /// Decisions of trees.
+    /// In the trees of all faults that aren't detected.
     pub decisions: u64,
     /// Sources that tests decide.
     pub decided: u64,

@@ -100,7 +100,6 @@ fn are_distinct(alloc: Global, holds: &[Held<'_>]) -> Result<bool, AllocError>
     Ok(true)
 }
 
-/// What the list holds.
 pub(crate) fn holds_in<'a>(alloc: Global, list: &'a str) -> Result<Vec<Held<'a>>, NoRequest>
     ensures { AreHeld (holds_in list.now) result }
 {
