@@ -1,6 +1,7 @@
 //! Fanout-free regions: one propagation from the head of a region tells all faults of the region.
 #![tactic(auto)]
 
+mod controlling;
 mod laws;
 mod passing;
 mod paths;
