@@ -6,6 +6,7 @@
 //! Tested: run below `word_sim` in `calls`.
 #![tactic(auto)]
 
+mod controlling;
 mod laws;
 mod passing;
 mod paths;
