@@ -1,5 +1,5 @@
 -- What is done to the values of all machines is done to those of each.
-use Rattle.std.proofs.Common.{◌≡◌, ℕ, suc, zero, ◌+◌, ◌<◌, ◌≤◌, true, false, if◌then◌else◌, Bool, List, [], ◌∷◌, ◌++◌, map, length, get_or, set, take, refl, sym, ◌∙◌, ap, subst}
+use Rattle.std.proofs.Common.{◌≡◌, ℕ, suc, zero, ◌+◌, ◌<◌, ◌≤◌, true, false, if◌then◌else◌, Bool, List, [], ◌∷◌, ◌++◌, map, length, get_or, set, take, refl, sym, ◌∙◌, ap, subst, arith}
 use Rattle.std.specs.List.{AllZip, slice_get}
 use Rattle.std.proofs.lemmas.List.{length-map, map-set, take_more}
 use Rattle.std.proofs.lemmas.List.Elements.{All-contains}
@@ -61,6 +61,12 @@ common_known k low [] (t ∷ ts) c x e = absurd c
 common_known k low (v ∷ vs) [] c x e = absurd c
 common_known k low (v ∷ vs) (t ∷ ts) c zero e = c.0 k low e
 common_known k low (v ∷ vs) (t ∷ ts) c (suc x) e = common_known k low vs ts c.1 x e
+
+pub common_size : (values : List Lanes) (table : List Tri) → AreCommon values table → length table ≡ length values
+common_size [] [] c = refl
+common_size [] (t ∷ ts) c = absurd c
+common_size (v ∷ vs) [] c = absurd c
+common_size (v ∷ vs) (t ∷ ts) c = omega (arith, common_size vs ts c.1)
 
 pub common_more : (values : List Lanes) (old new : List Tri) (i : ℕ) (v : Lanes) (t : Tri) → i < length values → v ≡ get_or values i v → new ≡ old ++ t ∷ []
     → ((k : ℕ) → k < 64 → is_x t ≡ false → is_x (lane k v) ≡ false) → AreCommon (take i values) old → AreCommon (take (i + 1) values) new

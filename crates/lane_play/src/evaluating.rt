@@ -91,7 +91,8 @@ pub(crate) fn evaluate_all(
     requires sound { IsSound netlist.now }
     requires gates { All (IsGateAt netlist.now) steps.now }
     requires size { length values.old.items ≡ length (signals netlist.now) }
-    ensures { (k : ℕ) → k < 64 → IsStepped (slice_get rule.now.faults.now k) netlist.now steps.now (lanes k values.old.items) (lanes k values.new.items) }
+    ensures size { length values.new.items ≡ length values.old.items }
+    ensures stepped { (k : ℕ) → k < 64 → IsStepped (slice_get rule.now.faults.now k) netlist.now steps.now (lanes k values.old.items) (lanes k values.new.items) }
 {
     for id in steps {
         evaluate(rule, netlist, *id, values);

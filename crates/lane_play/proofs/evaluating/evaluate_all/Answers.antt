@@ -33,8 +33,8 @@ loop-id-preserved c = record {
       (c.loop-id.invariant.keeps k low base inputs state settled path q h);
 }
 
-pub returns : goal.returns
-returns c k low = record {
+pub returns-clause-stepped : goal.returns-clause-stepped
+returns-clause-stepped c k low = record {
   size = length-map c.loop-id.values.items (lane k) ∙ (c.loop-id.invariant.size ∙ sym (length-map c.args.values.now.items (lane k)));
   keeps = λ base inputs state settled path q h.
       subst (λ (done : List ℕ). AreSettled c.args.netlist.now base done settled (lanes k c.loop-id.values.items)) (take_all c.loop-id.id-index c.args.steps.now (let f = c.loop-id-test.false in omega arith))

@@ -9,11 +9,18 @@ use Rattle.scan_play.specs.inner.Plans.{HasSteps}
 use Rattle.lane_play.specs.declared.packed.Lanes.{Lanes}
 use Rattle.lane_play.specs.inner.Lanes.{always, lanes_rule}
 use Rattle.lane_play.specs.inner.Shifts.{AreCommon}
+use Rattle.lane_play.proofs.Machines.{common_size}
 use Rattle.lane_play.proofs.ShiftLemmas.{planned_lanes}
 use Rattle.lane_play.proofs.planning.plan_burst.Goals as goal
 
 pub settle_into-requires-clause-ordered : goal.settle_into-requires-clause-ordered
 settle_into-requires-clause-ordered c = subst (λ (m : Netlist). IsOrder m c.order.result.now) (sym c.netlist-netlist.ensures) c.order.ensures
+
+pub choose_steps-requires : goal.choose_steps-requires
+choose_steps-requires c =
+    ap length c.deref-5.ensures.value
+    ∙ (common_size c.deref-3.result.now c.read_common.new.table.items c.in_ok-read_common.ensures
+    ∙ (ap length c.deref-3.ensures.value ∙ (c.settle_into.ensures.size ∙ ap (λ (m : Netlist). length (signals m)) c.netlist-netlist.ensures)))
 
 pub returns-clause-planned : goal.returns-clause-planned
 returns-clause-planned c e =

@@ -1,7 +1,7 @@
-use Rattle.std.proofs.Common.{◌≡◌, ◌*◌, length, cond, List, take, drop, sym, ◌∙◌, ap, subst, arith}
+use Rattle.std.proofs.Common.{◌≡◌, ◌*◌, length, cond, List, [], take, drop, sym, ◌∙◌, ap, subst, arith}
 use Rattle.std.specs.List.{All}
 use Rattle.std.proofs.lemmas.List.{length-map}
-use Rattle.netlist.specs.Netlist.{Netlist, IsGateAt}
+use Rattle.netlist.specs.Netlist.{Netlist, signals, IsGateAt}
 use Rattle.netlist.specs.Conditions.{IsSound}
 use Rattle.netlist.specs.Settled.{at, outs, next}
 use Rattle.scan_play.specs.Bursts.{cycle_of}
@@ -25,6 +25,19 @@ evaluate_all-requires-clause-gates g c =
     let b = c.args.burst.now in
     subst (λ (m : Netlist). All (IsGateAt m) c.args.steps.now) (sym c.netlist-netlist.ensures)
     (planned_gates c.args.rule.now.faults.now c.args.core.now b.drive.items b.strobe.items c.args.steps.now c.args.bench.now.values.items c.requires.planned)
+
+pub evaluate_all-requires-clause-size : goal.evaluate_all-requires-clause-size
+evaluate_all-requires-clause-size g c = (c.drive_sources.ensures.begun []).size
+
+pub outs_into-requires : goal.outs_into-requires
+outs_into-requires g c =
+    ap length c.deref-3.ensures.value
+    ∙ (c.evaluate_all.ensures.size ∙ ((c.drive_sources.ensures.begun []).size ∙ ap (λ (m : Netlist). length (signals m)) c.netlist-netlist.ensures))
+
+pub tick-requires : goal.tick-requires
+tick-requires g c =
+    ap length c.deref-6.ensures.value
+    ∙ (c.evaluate_all.ensures.size ∙ ((c.drive_sources.ensures.begun []).size ∙ ap (λ (m : Netlist). length (signals m)) c.netlist-netlist.ensures))
 
 pub judge_row-found-requires-clause-same : goal.judge_row-found-requires-clause-same
 judge_row-found-requires-clause-same g c =
@@ -50,7 +63,7 @@ returns-clause-planned g c =
     c.args.steps.now c.args.bench.now.values.items c.drive_sources.new.values.items c.evaluate_all.new.values.items
     (take b.width (drop (c.args.t * b.width) b.ins.items)) (take b.width (drop (c.args.t * b.width) b.outs.items)) c.args.bench.now.state.items c.deref.result.now c.deref-2.result.now
     c.netlist-netlist.ensures (subst IsSound c.netlist-netlist.ensures c.sound.ensures) c.requires.planned c.requires.fits.drive c.requires.size
-    (c.deref.ensures.value ∙ c.in_ok-read_drive.ensures) c.deref-2.ensures.value c.drive_sources.ensures.onto c.evaluate_all.ensures
+    (c.deref.ensures.value ∙ c.in_ok-read_drive.ensures) c.deref-2.ensures.value c.drive_sources.ensures.onto c.evaluate_all.ensures.stepped
 
 pub returns-clause-played : goal.returns-clause-played
 returns-clause-played g c =
@@ -62,7 +75,7 @@ returns-clause-played g c =
     c.args.steps.now c.args.bench.now.values.items c.drive_sources.new.values.items c.evaluate_all.new.values.items
     (take b.width (drop (c.args.t * b.width) b.ins.items)) (take b.width (drop (c.args.t * b.width) b.outs.items)) state c.deref.result.now c.deref-2.result.now
     c.netlist-netlist.ensures (subst IsSound c.netlist-netlist.ensures c.sound.ensures) c.requires.planned c.requires.fits.drive c.requires.size
-    (c.deref.ensures.value ∙ c.in_ok-read_drive.ensures) c.deref-2.ensures.value c.drive_sources.ensures.onto c.evaluate_all.ensures
+    (c.deref.ensures.value ∙ c.in_ok-read_drive.ensures) c.deref-2.ensures.value c.drive_sources.ensures.onto c.evaluate_all.ensures.stepped
     b.pulse c.args.number c.deref-3.result.now c.deref-5.result.now c.tick.new.state.items c.deref-4.result.now c.args.verdicts.found.items c.judge_row-found.result.found.items
     c.args.verdicts.few c.deref-3.ensures.value (λ d. c.deref-5.ensures.value ∙ c.in_ok-outs_into.ensures d) (c.deref-4.ensures.value ∙ c.in_ok-read_strobe.ensures)
     (λ d. c.in_ok-tick.ensures d ∙ ap (λ (vs : List Lanes). cond b.pulse (next rule n (at vs d)) state) c.deref-6.ensures.value)
