@@ -1,5 +1,6 @@
 // A plain player of 64 faulty machines side by side in C++, to time `atpg chaintest` and `atpg diagnose` beside: two words a signal for three
-// values, each gate evaluated in each cycle, and a batch ends once each of its machines is told.
+// values, and a batch ends once each of its machines is told. For each shift of the chains those gates are chosen whose value isn't known in every
+// machine where scan inputs and cells are X, and which a cell or a scan output reads by way of such gates: they alone are evaluated while it shifts.
 // It reads a scanned netlist, a file laid out as the writer of this repository does, and faults (`stem NAME BIT`, `pin NAME K BIT`, `out NAME BIT`),
 // and checks nothing of them. Without a log it tells of each fault the first strobe that is known to be wrong; with one, which faults explain it;
 // with `=K` it writes the log of fault K.
@@ -19,6 +20,7 @@ struct Cycle {
     std::vector<char> drive;   // a bit for each input
     std::vector<std::pair<Id, char>> strobes;  // outputs and bits
     bool pulse;
+    size_t shift;  // which shift of the chains it is of, from 1 on; 0 for none
 };
 
 struct Fault {
@@ -55,14 +57,14 @@ static std::vector<std::string> words_of(const std::string& line) {
     return words;
 }
 
-static std::vector<Cycle> read_cycles(const Netlist& net, const char* path) {
+static std::vector<Cycle> read_cycles(const Netlist& net, const char* path, Id& chains) {
     std::vector<Cycle> cycles;
     std::ifstream file(path);
-    std::string shift;
-    size_t chains = 0;
+    std::string held;
+    size_t shifts = 0;
     Id outputs = static_cast<Id>(net.outputs.size());
-    auto add = [&](const std::string& pi, const std::string& si, bool pulse, const std::string& po, const std::string& so) {
-        Cycle cycle{{}, {}, pulse};
+    auto add = [&](const std::string& pi, const std::string& si, bool pulse, const std::string& po, const std::string& so, size_t shift) {
+        Cycle cycle{{}, {}, pulse, shift};
         for (char bit : pi + si) cycle.drive.push_back(bit == '1');
         for (Id k = 0; k < po.size(); k++)
             if (po[k] != 'X') cycle.strobes.push_back({k, po[k] == 'H'});
@@ -73,20 +75,21 @@ static std::vector<Cycle> read_cycles(const Netlist& net, const char* path) {
     for (std::string line; std::getline(file, line);) {
         if (line.compare(0, 8, "      V ") == 0) {
             auto parts = words_of(line);
-            shift = parts[0];
-            chains = (parts.size() - 3) / 2;
+            held = parts[0];
+            chains = static_cast<Id>((parts.size() - 3) / 2);
         } else if (line.compare(0, 4, "  Ca") == 0) {
             auto parts = words_of(line);
+            shifts++;
             for (size_t t = 0; t < parts[0].size(); t++) {
                 std::string si, so;
-                for (size_t c = 0; c < chains; c++) si += parts[c][t], so += parts[chains + c][t];
-                add(shift, si, true, "", so);
+                for (Id c = 0; c < chains; c++) si += parts[c][t], so += parts[chains + c][t];
+                add(held, si, true, "", so, shifts);
             }
         } else if (line.compare(0, 4, "  V ") == 0) {
             auto parts = words_of(line);
             std::string si, so;
-            for (size_t c = 0; c < chains; c++) si += parts[1 + c][0], so += parts[3 + chains + c][0];
-            add(parts[0], si, parts[1 + chains] == "P", parts[2 + chains], so);
+            for (Id c = 0; c < chains; c++) si += parts[1 + c][0], so += parts[3 + chains + c][0];
+            add(parts[0], si, parts[1 + chains] == "P", parts[2 + chains], so, 0);
         }
     }
     return cycles;
@@ -94,12 +97,14 @@ static std::vector<Cycle> read_cycles(const Netlist& net, const char* path) {
 
 struct Player {
     const Netlist& net;
-    std::vector<Lanes> values, next;
+    std::vector<Lanes> values, next, idle;
+    std::vector<Id> steps;  // the gates that the shift evaluates
+    std::vector<char> read;
     std::vector<Force> forces;
     std::vector<std::vector<Id>> at;  // for each signal the forces at lines that it names
     std::vector<char> named;
 
-    explicit Player(const Netlist& given) : net(given), values(given.signals()), next(given.cells.size()), at(given.signals()), named(given.signals(), 0) {}
+    explicit Player(const Netlist& given) : net(given), values(given.signals()), next(given.cells.size()), idle(next), at(given.signals()), named(given.signals(), 0) {}
 
     void stick(const std::vector<Fault>& faults, size_t first, size_t count) {
         for (const Force& f : forces) at[f.signal].clear(), named[f.signal] = 0;
@@ -157,20 +162,44 @@ struct Player {
         return v;
     }
 
-    void settle(const Cycle& cycle) {
+    /// What comes onto inputs and cells; of the last so many inputs nothing is known.
+    void drive(const Cycle& cycle, Id free, const std::vector<Lanes>& state) {
         for (Id x = 0; x < net.inputs; x++) {
-            Lanes v{ones, cycle.drive[x] ? ones : 0};
+            Lanes v = x + free < net.inputs ? Lanes{ones, cycle.drive[x] ? ones : 0} : Lanes{};
             values[x] = named[x] ? on('s', x, 0, v) : v;
         }
         for (size_t c = 0; c < net.cells.size(); c++) {
             Id x = net.cells[c];
-            values[x] = named[x] ? on('s', x, 0, next[c]) : next[c];
+            values[x] = named[x] ? on('s', x, 0, state[c]) : state[c];
         }
-        for (Id x : net.order) {
+    }
+
+    void evaluate(const std::vector<Id>& gates) {
+        for (Id x : gates) {
             const Id* pins = net.pins.begin(x);
             if (named[x]) values[x] = on('s', x, 0, made(x, [&](Id k) { return on('p', x, k, values[pins[k]]); }));
             else values[x] = made(x, [&](Id k) { return values[pins[k]]; });
         }
+    }
+
+    void settle(const Cycle& cycle) {
+        drive(cycle, 0, next);
+        evaluate(cycle.shift ? steps : net.order);
+    }
+
+    /// Chooses the gates of a shift, of which this is a cycle.
+    void plan(const Cycle& cycle, Id chains) {
+        drive(cycle, chains, idle);
+        evaluate(net.order);
+        read.assign(net.signals(), 0);
+        for (Id x : net.cells) read[*net.pins.begin(x)] = 1;
+        for (size_t k = net.outputs.size() - chains; k < net.outputs.size(); k++) read[net.outputs[k]] = 1;
+        auto is_step = [&](Id x) { return read[x] && values[x].known != ones; };
+        for (size_t k = net.order.size(); k-- > 0;)
+            if (is_step(net.order[k])) for (const Id *p = net.pins.begin(net.order[k]), *last = net.pins.end(net.order[k]); p != last; p++) read[*p] = 1;
+        steps.clear();
+        for (Id x : net.order)
+            if (is_step(x)) steps.push_back(x);
     }
 
     Lanes shown(Id output) const {
@@ -192,7 +221,8 @@ int main(int count, char** words) {
     std::vector<std::string> names = read_names(words[1]);
     std::unordered_map<std::string, Id> ids;
     for (Id x = 0; x < names.size(); x++) ids[names[x]] = x;
-    std::vector<Cycle> cycles = read_cycles(net, words[2]);
+    Id chains = 0;
+    std::vector<Cycle> cycles = read_cycles(net, words[2], chains);
     std::vector<Fault> faults;
     std::ifstream list(words[3]);
     for (std::string line; std::getline(list, line);) {
@@ -227,6 +257,7 @@ int main(int count, char** words) {
         std::vector<std::pair<size_t, Id>> found(machines);
         for (size_t c = 0; c < cycles.size() && left; c++) {
             const Cycle& cycle = cycles[c];
+            if (cycle.shift && (c == 0 || cycles[c - 1].shift != cycle.shift)) player.plan(cycle, chains);
             player.settle(cycle);
             for (auto [output, bit] : cycle.strobes) {
                 Lanes v = player.shown(output);

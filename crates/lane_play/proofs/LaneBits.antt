@@ -122,7 +122,7 @@ flip false = refl
 -- ---- one machine
 
 module _ (j : ℕ) (low : j < 64) where
-  bit_ones : bit_of j ones ≡ true
+  pub bit_ones : bit_of j ones ≡ true
   bit_ones = eq-eqb (bit_at ones j) 1 (bit_at_ones 64 j low)
 
   pub bit_none : bit_of j 0 ≡ false
@@ -257,7 +257,7 @@ module _ (j : ℕ) (low : j < 64) where
     pub lane_line : (line : Line) (v : Lanes) → lane j ((lanes_rule faults).line line v) ≡ (tris (slice_get faults j)).line line (lane j v)
     lane_line line v = forced_at 0 j faults line v (omega arith) (omega (arith, few))
 
-    lane_gates : (d : Definition) (vs : List Lanes) → lane j ((lanes_rule faults).gate d vs) ≡ (tris (slice_get faults j)).gate d (lanes j vs)
+    pub lane_gates : (d : Definition) (vs : List Lanes) → lane j ((lanes_rule faults).gate d vs) ≡ (tris (slice_get faults j)).gate d (lanes j vs)
     lane_gates d vs = lane_gate d.kind vs
 
     -- settled values of all machines are settled values of each
@@ -265,7 +265,7 @@ module _ (j : ℕ) (low : j < 64) where
         → Settles (tris (slice_get faults j)) n (lanes j inputs) (lanes j state) (λ x. lane j (a x))
     lane_settles n inputs state a s = image_settles (lane j) (lanes_rule faults) (tris (slice_get faults j)) lane_line lane_gates n inputs state a s
 
-    lane_pins : (z k : ℕ) (vs : List Lanes) → lanes j (on_pins (lanes_rule faults) z k vs) ≡ on_pins (tris (slice_get faults j)) z k (lanes j vs)
+    pub lane_pins : (z k : ℕ) (vs : List Lanes) → lanes j (on_pins (lanes_rule faults) z k vs) ≡ on_pins (tris (slice_get faults j)) z k (lanes j vs)
     lane_pins z k [] = refl
     lane_pins z k (v ∷ vs) = ap (λ w. w ∷ lanes j (on_pins (lanes_rule faults) z (k + 1) vs)) (lane_line (Pin z k) v)
         ∙ ap (λ ws. (tris (slice_get faults j)).line (Pin z k) (lane j v) ∷ ws) (lane_pins z (k + 1) vs)

@@ -34,15 +34,15 @@ use Rattle.lane_play.proofs.LaneBits.{bit_none, lane_always, lane_next, lane_out
 
 -- ---- one machine of lists
 
-lanes_always : (k : ℕ) → k < 64 → (bits : List Bool) → lanes k (map always bits) ≡ map known bits
+pub lanes_always : (k : ℕ) → k < 64 → (bits : List Bool) → lanes k (map always bits) ≡ map known bits
 lanes_always k low [] = refl
 lanes_always k low (b ∷ bs) = ap (λ v. v ∷ lanes k (map always bs)) (lane_always k low b) ∙ ap (λ vs. known b ∷ vs) (lanes_always k low bs)
 
-lanes_unknown : (k : ℕ) → k < 64 → (count : ℕ) → lanes k (replicate count (record { known = 0; value = 0 })) ≡ replicate count X
+pub lanes_unknown : (k : ℕ) → k < 64 → (count : ℕ) → lanes k (replicate count (record { known = 0; value = 0 })) ≡ replicate count X
 lanes_unknown k low zero = refl
 lanes_unknown k low (suc count) = ap (λ v. v ∷ lanes k (replicate count (record { known = 0; value = 0 }))) (lane_unknown k low) ∙ ap (λ vs. X ∷ vs) (lanes_unknown k low count)
 
-lanes_chosen : (k : ℕ) (b : Bool) (us vs : List Lanes) → lanes k (cond b us vs) ≡ cond b (lanes k us) (lanes k vs)
+pub lanes_chosen : (k : ℕ) (b : Bool) (us vs : List Lanes) → lanes k (cond b us vs) ≡ cond b (lanes k us) (lanes k vs)
 lanes_chosen k true us vs = refl
 lanes_chosen k false us vs = refl
 

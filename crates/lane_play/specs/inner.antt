@@ -2,4 +2,5 @@
 pub mod Lanes
 pub mod Spans
 pub mod Verdicts
+pub mod Shifts
 pub mod Steps

@@ -1,12 +1,13 @@
 //! The values of all machines, settled gate by gate: each gate is evaluated in one pass over its pins.
-ghost use Rattle.std.specs.Prelude.{◌≡◌, ◌≢◌, ◌<◌, ◌≤◌, ℕ, List, length};
+ghost use Rattle.std.specs.Prelude.{◌≡◌, ◌≢◌, ◌<◌, ◌≤◌, ℕ, List, length, slice_get};
 ghost use Rattle.std.specs.List.{All, AllPairs};
 ghost use Rattle.netlist.specs.Netlist.{cells, signals, IsGateAt};
 ghost use Rattle.netlist.specs.Conditions.{IsSound};
 ghost use Rattle.netlist.specs.Orders.{IsOrder};
 ghost use Rattle.netlist.specs.Settled.{Settles, at};
 ghost use Rattle.netlist.specs.inner.Settling.{IsDriven, AllSettleUpTo, IsEvaluated};
-ghost use Rattle.lane_play.specs.inner.Lanes.{lanes_rule};
+ghost use Rattle.scan_play.specs.inner.Plans.{IsDrivenOnto, IsStepped};
+ghost use Rattle.lane_play.specs.inner.Lanes.{lanes, lanes_rule};
 ghost use Rattle.lane_play.specs.declared.packed.Lanes.{Lanes as Packed};
 
 use crate::packed::Lanes;
@@ -25,8 +26,8 @@ fn drive(rule: &Stuck, ids: &[SignalId], driven: &[Lanes], values: &mut Vec<Lane
     }
 }
 
-/// Puts what is driven onto inputs and cells.
-fn drive_sources(
+/// Puts what is driven onto inputs and cells; every gate keeps its value.
+pub(crate) fn drive_sources(
     rule: &Stuck,
     netlist: &Netlist,
     inputs: &[Lanes],
@@ -37,7 +38,8 @@ fn drive_sources(
     requires inputs { length inputs.now ≡ length netlist.now.inputs }
     requires state { length state.now ≡ length (cells netlist.now) }
     requires size { length values.old.items ≡ length (signals netlist.now) }
-    ensures { (order : List ℕ) → AllSettleUpTo (lanes_rule rule.now.faults.now) netlist.now order inputs.now state.now values.new.items 0 }
+    ensures begun { (order : List ℕ) → AllSettleUpTo (lanes_rule rule.now.faults.now) netlist.now order inputs.now state.now values.new.items 0 }
+    ensures onto { (k : ℕ) → k < 64 → IsDrivenOnto (slice_get rule.now.faults.now k) netlist.now (lanes k inputs.now) (lanes k state.now) (lanes k values.old.items) (lanes k values.new.items) }
 {
     drive(rule, netlist.inputs(), inputs, values);
     drive(rule, netlist.cells(), state, values);
@@ -75,6 +77,24 @@ pub(crate) fn settle_into(
 {
     drive_sources(rule, netlist, inputs, state, values);
     for id in order {
+        evaluate(rule, netlist, *id, values);
+    }
+}
+
+/// Evaluates these gates, one after the other.
+pub(crate) fn evaluate_all(
+    rule: &Stuck,
+    netlist: &Netlist,
+    steps: &[SignalId],
+    values: &mut Vec<Lanes>,
+)
+    requires sound { IsSound netlist.now }
+    requires gates { All (IsGateAt netlist.now) steps.now }
+    requires size { length values.old.items ≡ length (signals netlist.now) }
+    ensures size { length values.new.items ≡ length values.old.items }
+    ensures stepped { (k : ℕ) → k < 64 → IsStepped (slice_get rule.now.faults.now k) netlist.now steps.now (lanes k values.old.items) (lanes k values.new.items) }
+{
+    for id in steps {
         evaluate(rule, netlist, *id, values);
     }
 }

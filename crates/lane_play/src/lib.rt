@@ -6,11 +6,14 @@
 //! Neither: time.
 #![tactic(auto)]
 
+mod cycles;
 mod evaluating;
 mod judging;
 mod packed;
 mod pins;
+mod planning;
 mod playing;
+mod shifting;
 mod spans;
 mod stuck;
 

@@ -1,120 +1,24 @@
 //! The player of up to 64 faulty machines: the cycles of vectors, from all cells X, until something is said of each machine.
-ghost use Rattle.std.specs.Prelude.{◌≡◌, ◌+◌, ◌^◌, ◌<◌, ◌≤◌, ◌++◌, List, [], cond, length, map, replicate, IfOk, OnOk};
+ghost use Rattle.std.specs.Prelude.{◌≡◌, ◌+◌, ◌^◌, ◌<◌, ◌≤◌, ◌++◌, List, [], length, replicate, IfOk};
 ghost use Rattle.std.specs.List.{All};
 ghost use Rattle.netlist.specs.Netlist.{cells, signals};
-ghost use Rattle.scan_play.specs.Bursts.{all_cycles, cycle_of, cycles_of};
+ghost use Rattle.scan_play.specs.Bursts.{all_cycles, cycles_of};
 ghost use Rattle.scan_play.specs.Cycles.{Cycle, IsCycleOf};
-ghost use Rattle.netlist.specs.Settled.{at, next};
-ghost use Rattle.lane_play.specs.inner.Lanes.{always, lanes_rule};
-ghost use Rattle.lane_play.specs.declared.packed.Lanes.{Lanes as Packed};
 ghost use Rattle.lane_play.specs.Judged.{AreJudged};
-ghost use Rattle.lane_play.specs.inner.Steps.{ArePlayed, AreSteps};
+ghost use Rattle.lane_play.specs.inner.Steps.{ArePlayed};
 
-use crate::evaluating::settle_into;
-use crate::judging::{Verdicts, judge_row};
+use crate::cycles::{Bench, play_cycles};
+use crate::judging::Verdicts;
 use crate::packed::Lanes;
+use crate::planning::{Planner, plan_burst, push_unknowns};
+use crate::shifting::play_shifts;
 use crate::stuck::Stuck;
-use netlist::{Core, Fault, NoMemory, Tri};
+use netlist::{Core, Fault, NoMemory};
 use scan_play::{Burst, Judge, Played, Vectors};
 use std::alloc::{AllocError, Global};
 
-/// What the machines' cells hold, and room for what a cycle drives, strobes and shows, and for the values of all signals.
-#[derive(Drop)]
-struct Bench {
-    state: Vec<Lanes>,
-    drive: Vec<Lanes>,
-    strobe: Vec<Tri>,
-    shown: Vec<Lanes>,
-    values: Vec<Lanes>,
-}
-
-/// Adds these bits, for all machines.
-fn push_always(bits: &[bool], values: &mut Vec<Lanes>) -> Result<(), AllocError>
-    ensures { OnOk result (values.new.items ≡ values.old.items ++ map always bits.now) }
-{
-    for bit in bits {
-        values.push(Lanes::always(*bit))?;
-    }
-    Ok(())
-}
-
-/// What the inputs are driven with in a cycle.
-fn read_drive(burst: &Burst, t: usize, drive: &mut Vec<Lanes>) -> Result<(), AllocError>
-    requires { t < burst.now.count }
-    ensures { OnOk result (drive.new.items ≡ map always (cycle_of burst.now t).drive) }
-{
-    drive.clear();
-    push_always(&burst.drive, drive)?;
-    let start = t * burst.width;
-    push_always(&burst.ins[start..start + burst.width], drive)?;
-    Ok(())
-}
-
-/// What the outputs are strobed for in a cycle.
-fn read_strobe(burst: &Burst, t: usize, strobe: &mut Vec<Tri>) -> Result<(), AllocError>
-    requires { t < burst.now.count }
-    ensures { OnOk result (strobe.new.items ≡ (cycle_of burst.now t).strobe) }
-{
-    strobe.clear();
-    strobe.extend_from_slice(&burst.strobe)?;
-    let start = t * burst.width;
-    strobe.extend_from_slice(&burst.outs[start..start + burst.width])?;
-    Ok(())
-}
-
-/// The cells take their next values, where the clock has a pulse.
-fn tick(
-    core: &Core,
-    rule: &Stuck,
-    pulse: bool,
-    values: &[Lanes],
-    state: &mut Vec<Lanes>,
-) -> Result<(), AllocError>
-    requires { length values.now ≡ length (signals core.now) }
-    ensures { OnOk result ((d : Packed) → state.new.items ≡ cond pulse (next (lanes_rule rule.now.faults.now) core.now (at values.now d)) state.old.items) }
-{
-    if !pulse {
-        return Ok(());
-    }
-    core.next_into(rule, values, state)
-}
-
-/// Plays one cycle.
-fn play_cycle<J: Judge>(
-    core: &Core,
-    rule: &Stuck,
-    judge: &J,
-    burst: &Burst,
-    t: usize,
-    number: u64,
-    bench: &mut Bench,
-    verdicts: Verdicts,
-) -> Result<Verdicts, AllocError>
-    requires within { t < burst.now.count }
-    requires fits { IsCycleOf core.now (cycle_of burst.now t) }
-    requires size { length bench.old.state.items ≡ length (cells core.now) }
-    requires room { length bench.old.values.items ≡ length (signals core.now) }
-    ensures size { IfOk result (λ _. length bench.new.state.items ≡ length (cells core.now)) }
-    ensures room { IfOk result (λ _. length bench.new.values.items ≡ length (signals core.now)) }
-    ensures played { IfOk result (λ v. AreSteps (J.says judge.now) rule.now.faults.now core.now bench.old.state.items bench.new.state.items (cycle_of burst.now t) number verdicts.found.items v.found.items) }
-{
-    let netlist = core.netlist();
-    netlist.sound();
-    read_drive(burst, t, &mut bench.drive)?;
-    read_strobe(burst, t, &mut bench.strobe)?;
-    settle_into(
-        rule,
-        netlist,
-        core.order(),
-        &bench.drive,
-        &bench.state,
-        &mut bench.values,
-    );
-    core.outs_into(rule, &bench.values, &mut bench.shown)?;
-    let found = judge_row(judge, number, &bench.strobe, &bench.shown, verdicts);
-    tick(core, rule, burst.pulse, &bench.values, &mut bench.state)?;
-    Ok(found)
-}
+/// From so many cycles on it pays to plan a burst.
+const LONG: usize = 4;
 
 /// Plays the cycles of a burst, until something is said of each machine.
 fn play_burst<J: Judge>(
@@ -123,26 +27,38 @@ fn play_burst<J: Judge>(
     judge: &J,
     burst: &Burst,
     first: u64,
+    idle: &[Lanes],
+    planner: &mut Planner,
     bench: &mut Bench,
     verdicts: Verdicts,
 ) -> Result<Verdicts, AllocError>
     requires fits { All (IsCycleOf core.now) (cycles_of burst.now) }
     requires size { length bench.old.state.items ≡ length (cells core.now) }
     requires room { length bench.old.values.items ≡ length (signals core.now) }
+    requires idle { idle.now ≡ replicate (length (cells core.now)) (record { known = 0; value = 0 }) }
     requires few { first + burst.now.count < 2 ^ 64 }
     ensures size { IfOk result (λ _. length bench.new.state.items ≡ length (cells core.now)) }
     ensures room { IfOk result (λ _. length bench.new.values.items ≡ length (signals core.now)) }
     ensures played { IfOk result (λ v. (before : List Cycle) → length before ≡ first → ArePlayed (J.says judge.now) rule.now.faults.now core.now before bench.old.state.items verdicts.found.items
         → ArePlayed (J.says judge.now) rule.now.faults.now core.now (before ++ cycles_of burst.now) bench.new.state.items v.found.items) }
 {
-    let mut so_far = verdicts;
-    for t in 0..burst.count {
-        so_far = play_cycle(core, rule, judge, burst, t, first + t as u64, bench, so_far)?;
-        if so_far.left == 0 {
-            return Ok(so_far);
-        }
+    if burst.count < LONG {
+        return play_cycles(core, rule, judge, burst, first, bench, verdicts);
     }
-    Ok(so_far)
+    let planned = plan_burst(core, rule, burst, idle, planner, bench)?;
+    if planned {
+        return play_shifts(
+            core,
+            rule,
+            judge,
+            burst,
+            first,
+            &planner.plan.steps,
+            bench,
+            verdicts,
+        );
+    }
+    play_cycles(core, rule, judge, burst, first, bench, verdicts)
 }
 
 /// Plays bursts, until something is said of each machine.
@@ -151,12 +67,15 @@ fn play_bursts<J: Judge>(
     rule: &Stuck,
     judge: &J,
     bursts: &[Burst],
+    idle: &[Lanes],
+    planner: &mut Planner,
     bench: &mut Bench,
     verdicts: Verdicts,
 ) -> Result<Verdicts, AllocError>
     requires fits { All (IsCycleOf core.now) (all_cycles bursts.now) }
     requires size { length bench.old.state.items ≡ length (cells core.now) }
     requires room { length bench.old.values.items ≡ length (signals core.now) }
+    requires idle { idle.now ≡ replicate (length (cells core.now)) (record { known = 0; value = 0 }) }
     requires few { length (all_cycles bursts.now) < 2 ^ 64 }
     requires begun { ArePlayed (J.says judge.now) rule.now.faults.now core.now [] bench.old.state.items verdicts.found.items }
     ensures { IfOk result (λ v. ArePlayed (J.says judge.now) rule.now.faults.now core.now (all_cycles bursts.now) bench.new.state.items v.found.items) }
@@ -164,7 +83,9 @@ fn play_bursts<J: Judge>(
     let mut first: u64 = 0;
     let mut so_far = verdicts;
     for burst in bursts {
-        so_far = play_burst(core, rule, judge, burst, first, bench, so_far)?;
+        so_far = play_burst(
+            core, rule, judge, burst, first, idle, planner, bench, so_far,
+        )?;
         if so_far.left == 0 {
             return Ok(so_far);
         }
@@ -178,9 +99,7 @@ fn unknowns(alloc: Global, count: usize) -> Result<Vec<Lanes>, AllocError>
     ensures { IfOk result (λ v. v.items ≡ replicate count (record { known = 0; value = 0 })) }
 {
     let mut values = Vec::with_capacity(alloc, count)?;
-    for _done in 0..count {
-        values.push(Lanes::unknown())?;
-    }
+    push_unknowns(count, &mut values)?;
     Ok(values)
 }
 
@@ -215,9 +134,20 @@ fn play_from_unknown<J: Judge>(
     netlist.sound();
     let signals = netlist.inputs().len() + netlist.definitions().len();
     let mut bench = bench_of(alloc, netlist.cells().len(), signals)?;
+    let idle = unknowns(alloc, netlist.cells().len())?;
+    let mut planner = Planner::new(alloc);
     let rule = Stuck::new(alloc, faults, signals)?;
     let verdicts = Verdicts::none(alloc, faults.len())?;
-    let found = play_bursts(core, &rule, judge, vectors.bursts(), &mut bench, verdicts)?;
+    let found = play_bursts(
+        core,
+        &rule,
+        judge,
+        vectors.bursts(),
+        &idle,
+        &mut planner,
+        &mut bench,
+        verdicts,
+    )?;
     Ok(found)
 }
 

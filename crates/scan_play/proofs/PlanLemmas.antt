@@ -178,7 +178,7 @@ strobe_cases (Some One) = inr (λ e. one_x (inner e))
     one_x : One ≡ X → ⊥
     one_x e = cc
 
-flat_map_agree : {A B : Type 0} (f g : A → List B) (xs : List A) → ((x : A) → Contains xs x → f x ≡ g x) → flat_map f xs ≡ flat_map g xs
+pub flat_map_agree : {A B : Type 0} (f g : A → List B) (xs : List A) → ((x : A) → Contains xs x → f x ≡ g x) → flat_map f xs ≡ flat_map g xs
 flat_map_agree f g [] h = refl
 flat_map_agree f g (x ∷ xs) h =
     let e : f x ≡ g x = h x (0, omega arith, refl) in

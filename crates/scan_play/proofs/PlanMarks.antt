@@ -1,13 +1,16 @@
 -- Marks in a table, and what they say is ready.
-use Rattle.std.proofs.Common.{◌≡◌, ℕ, suc, zero, ◌+◌, ◌<◌, Bool, true, ◌⊎◌, List, [], ◌∷◌, ◌++◌, map, length, get_or, set, take, Some, None, slice_get, refl, sym, ◌∙◌, ap, subst, inl, inr, arith, length-append}
+use Rattle.std.proofs.Common.{◌≡◌, ℕ, suc, zero, ◌+◌, ◌<◌, Bool, true, false, ◌⊎◌, List, [], ◌∷◌, ◌++◌, map, length, get_or, set, take, Some, None, slice_get, refl, sym, ◌∙◌, ap, subst, inl, inr, arith, length-append}
 use Rattle.std.specs.List.{All, Contains}
 use Rattle.std.proofs.lemmas.Bool.{cases_eq}
 use Rattle.std.proofs.lemmas.List.{get_or_default, get_or_append_left, take_more}
 use Rattle.std.proofs.lemmas.Option.{get_or_from_slice_get}
 use Rattle.std.proofs.lemmas.List.Elements.{All-push, Contains-append_left, Contains-append_right}
 use Rattle.netlist.specs.declared.kinds.Tri.{Tri}
+use Rattle.netlist.specs.declared.kinds.Tri.TheVariants.{X}
 use Rattle.netlist.specs.Netlist.{Definition, Netlist, is_cell, cells, gates}
 use Rattle.netlist.specs.Conditions.{IsNumbered}
+use Rattle.netlist.specs.Settled.{at}
+use Rattle.netlist.specs.ThreeValues.{is_x}
 use Rattle.netlist.proofs.Lists.{contains_head, filter_contains}
 use Rattle.scan_insert.proofs.Loopless.{map_contains}
 use Rattle.scan_play.specs.inner.Plans.{IsReady, AreMarked, AreReady, AreCellsMarked, AreOutputsMarked, HasSteps, IsPath}
@@ -78,6 +81,29 @@ input_there n numbered x l =
 
 pub cell_there : (n : Netlist) (x : ℕ) (d : Definition) → Contains n.definitions d → d.id ≡ x → is_cell d ≡ true → Contains (map (λ (e : Definition). e.id) (cells n)) x
 cell_there n x d c e cell = subst (Contains (map (λ (f : Definition). f.id) (cells n))) e (map_contains (λ (f : Definition). f.id) (cells n) d (filter_contains is_cell n.definitions d c cell))
+
+-- what stays by one table stays by another that has an X at most where the first has one
+pub ready_known : (n : Netlist) (table base : List Tri) (done : List ℕ) (x : ℕ) → ((y : ℕ) → is_x (at table X y) ≡ false → is_x (at base X y) ≡ false) → IsReady n table done x → IsReady n base done x
+ready_known n table base done x more r = elim r [
+  | inl i ↦ inl i
+  | inr r1 ↦ elim r1 [
+    | inl c ↦ inr (inl c)
+    | inr r2 ↦ elim r2 [
+      | inl s ↦ inr (inr (inl (s.0, more x s.1)))
+      | inr d ↦ inr (inr (inr d))
+    ]
+  ]
+]
+
+pub steps_known : (n : Netlist) (strobe table base : List Tri) (steps : List ℕ) → ((y : ℕ) → is_x (at table X y) ≡ false → is_x (at base X y) ≡ false) → HasSteps n strobe table steps → HasSteps n strobe base steps
+steps_known n strobe table base steps more h = record {
+  path = record {
+    are_gates = h.path.are_gates;
+    reads = λ m g l gate same k d low. ready_known n table base (take m steps) (get_or g.pins k d) more (h.path.reads m g l gate same k d low);
+  };
+  cells_ready = λ k d l j e low. ready_known n table base steps (get_or (get_or (cells n) k d).pins j e) more (h.cells_ready k d l j e low);
+  outputs_ready = λ k l s. ready_known n table base steps (get_or n.outputs k 0) more (h.outputs_ready k l s);
+}
 
 -- ---- tables
 

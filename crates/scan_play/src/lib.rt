@@ -29,5 +29,6 @@ pub use laws::{
     vectors_decide, vectors_fit, vectors_obey,
 };
 pub use loading::{load, no_strobes};
+pub use planning::Plan;
 pub use played::Played;
 pub use playing::{play, play_before};

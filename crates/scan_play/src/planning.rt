@@ -13,16 +13,17 @@ ghost use Rattle.scan_play.specs.inner.Plans.{AreCellsMarked, AreMarked, AreOutp
 use netlist::{Core, Definition, Netlist, SignalId, Tri};
 use std::alloc::AllocError;
 
-/// Room to choose gates in.
+/// The gates that were chosen for a burst, and room to choose in.
 #[derive(Drop)]
-pub(crate) struct Plan {
+pub struct Plan {
     read: Vec<bool>,
     ready: Vec<bool>,
     pub steps: Vec<SignalId>,
 }
 
 impl Plan {
-    pub(crate) fn new(alloc: std::alloc::Global) -> Plan {
+    /// No gate is chosen.
+    pub fn new(alloc: std::alloc::Global) -> Plan {
         Plan {
             read: Vec::new(alloc),
             ready: Vec::new(alloc),
@@ -288,8 +289,9 @@ fn are_outputs_marked(netlist: &Netlist, strobe: &[Tri], marks: &[bool]) -> bool
 }
 
 impl Plan {
-    /// Chooses the gates that have to be evaluated where these values stay. Answers whether they will do.
-    pub(crate) fn choose_steps(
+    /// Chooses the gates that have to be evaluated where these values stay. Answers whether they will do. Of a value that isn't X only that it
+    /// stays is asked, so for many machines at once any will do that isn't X where it stays in each.
+    pub fn choose_steps(
         &mut self,
         core: &Core,
         strobe: &[Tri],

@@ -8,7 +8,7 @@ use Rattle.lane_play.specs.inner.Lanes.{lanes_rule}
 use Rattle.lane_play.proofs.evaluating.settle_into.Goals as goal
 
 pub loop-id-init : goal.loop-id-init
-loop-id-init c = c.drive_sources.ensures c.args.order.now
+loop-id-init c = c.drive_sources.ensures.begun c.args.order.now
 
 pub evaluate-requires-clause-gate : goal.evaluate-requires-clause-gate
 evaluate-requires-clause-gate c =

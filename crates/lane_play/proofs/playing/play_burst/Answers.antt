@@ -1,30 +1,24 @@
-use Rattle.std.proofs.Common.{◌+◌, refl}
-use Rattle.scan_play.proofs.PlaySteps.{cycle_fits}
-use Rattle.lane_play.proofs.PlayedLemmas.{burst_done, burst_more, burst_stopped}
+use Rattle.std.proofs.Common.{◌≡◌, ◌++◌, List, IfOk, length, subst, arith}
+use Rattle.scan_play.specs.Bursts.{cycles_of}
+use Rattle.scan_play.specs.Cycles.{Cycle}
+use Rattle.scan_play.proofs.PlanLemmas.{narrow}
+use Rattle.lane_play.specs.declared.packed.Lanes.{Lanes}
+use Rattle.lane_play.specs.inner.Steps.{ArePlayed}
 use Rattle.lane_play.proofs.playing.play_burst.Goals as goal
 
-pub play_cycle-requires-clause-fits : goal.play_cycle-requires-clause-fits
-play_cycle-requires-clause-fits g c = cycle_fits c.args.core.now c.args.burst.now c.loop-t.t c.requires.fits c.loop-t-test.true
+pub plan_burst-requires-clause-narrow : goal.plan_burst-requires-clause-narrow
+plan_burst-requires-clause-narrow g c = narrow c.args.core.now c.args.burst.now c.requires.fits (let f = c.if-burst-lt-LONG.false in omega arith)
 
-pub returns-then-so_far-eq0-clause-played : goal.returns-then-so_far-eq0-clause-played
-returns-then-so_far-eq0-clause-played g c before size h =
-    let says = g.J.Judge.says c.args.judge.now in
-    let faults = c.args.rule.now.faults.now in
-    let v = c.in_ok-so_far.so_far in
-    burst_stopped says faults c.args.core.now before c.args.burst.now (c.loop-t.t + 1) c.play_cycle.new.bench.state.items v.found.items v.left v.few v.lefts c.if-so_far-eq0.true
-    (burst_more says faults c.args.core.now before c.args.burst.now c.loop-t.t c.args.first (c.args.first + c.loop-t.t) c.loop-t.bench.state.items c.play_cycle.new.bench.state.items
-    c.loop-t.so_far.found.items v.found.items c.loop-t-test.true size refl (c.loop-t.invariant.played before size h) c.in_ok-so_far.ensures.played)
-
-pub loop-t-preserved : goal.loop-t-preserved
-loop-t-preserved g c = record {
-  size = c.in_ok-so_far.ensures.size;
-  room = c.in_ok-so_far.ensures.room;
-  played = λ before size h.
-      burst_more (g.J.Judge.says c.args.judge.now) c.args.rule.now.faults.now c.args.core.now before c.args.burst.now c.loop-t.t c.args.first (c.args.first + c.loop-t.t) c.loop-t.bench.state.items
-      c.play_cycle.new.bench.state.items c.loop-t.so_far.found.items c.in_ok-so_far.so_far.found.items c.loop-t-test.true size refl (c.loop-t.invariant.played before size h) c.in_ok-so_far.ensures.played;
-}
+pub returns-then-planned-clause-played : goal.returns-then-planned-clause-played
+returns-then-planned-clause-played g c =
+    subst (λ (s : List Lanes). IfOk c.play_shifts.result (λ v. (before : List Cycle) → length before ≡ c.args.first
+    → ArePlayed (g.J.Judge.says c.args.judge.now) c.args.rule.now.faults.now c.args.core.now before s c.args.verdicts.found.items
+    → ArePlayed (g.J.Judge.says c.args.judge.now) c.args.rule.now.faults.now c.args.core.now (before ++ cycles_of c.args.burst.now) c.play_shifts.new.bench.state.items v.found.items))
+    c.in_ok-planned.ensures.state c.play_shifts.ensures.played
 
 pub returns-clause-played : goal.returns-clause-played
-returns-clause-played g c before size h =
-    burst_done (g.J.Judge.says c.args.judge.now) c.args.rule.now.faults.now c.args.core.now before c.args.burst.now c.loop-t.t c.loop-t.bench.state.items c.loop-t.so_far.found.items
-    c.loop-t-test.false (c.loop-t.invariant.played before size h)
+returns-clause-played g c =
+    subst (λ (s : List Lanes). IfOk c.play_cycles-2.result (λ v. (before : List Cycle) → length before ≡ c.args.first
+    → ArePlayed (g.J.Judge.says c.args.judge.now) c.args.rule.now.faults.now c.args.core.now before s c.args.verdicts.found.items
+    → ArePlayed (g.J.Judge.says c.args.judge.now) c.args.rule.now.faults.now c.args.core.now (before ++ cycles_of c.args.burst.now) c.play_cycles-2.new.bench.state.items v.found.items))
+    c.in_ok-planned.ensures.state c.play_cycles-2.ensures.played

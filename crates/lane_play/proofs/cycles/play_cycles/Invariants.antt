@@ -3,7 +3,7 @@ use Rattle.netlist.specs.Netlist.{cells, signals}
 use Rattle.scan_play.specs.Bursts.{cycles_of}
 use Rattle.scan_play.specs.Cycles.{Cycle}
 use Rattle.lane_play.specs.inner.Steps.{ArePlayed}
-use Rattle.lane_play.proofs.playing.play_burst.Given as goal
+use Rattle.lane_play.proofs.cycles.play_cycles.Given as goal
 
 abbrev pub invariant-loop-t : goal.invariant-loop-t
 invariant-loop-t g l = record {

@@ -9,7 +9,7 @@ use Rattle.scan_play.proofs.PlaySteps.{few_outputs}
 use Rattle.lane_play.specs.declared.packed.Lanes.{Lanes}
 use Rattle.lane_play.specs.inner.Lanes.{always, lanes_rule}
 use Rattle.lane_play.proofs.PlayedLemmas.{size_kept, steps_from}
-use Rattle.lane_play.proofs.playing.play_cycle.Goals as goal
+use Rattle.lane_play.proofs.cycles.play_cycle.Goals as goal
 
 blank : Lanes
 blank = record { known = 0; value = 0 }

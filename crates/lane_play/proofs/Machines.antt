@@ -1,0 +1,148 @@
+-- What is done to the values of all machines is done to those of each.
+use Rattle.std.proofs.Common.{◌≡◌, ℕ, suc, zero, ◌+◌, ◌<◌, ◌≤◌, true, false, if◌then◌else◌, Bool, List, [], ◌∷◌, ◌++◌, map, length, get_or, set, take, refl, sym, ◌∙◌, ap, subst, arith}
+use Rattle.std.specs.List.{AllZip, slice_get}
+use Rattle.std.proofs.lemmas.List.{length-map, map-set, take_more}
+use Rattle.std.proofs.lemmas.List.Elements.{All-contains}
+use Rattle.netlist.specs.declared.kinds.Tri.{Tri}
+use Rattle.netlist.specs.declared.kinds.Tri.TheVariants.{Zero, One, X}
+use Rattle.netlist.specs.declared.lines.Fault.{Fault}
+use Rattle.netlist.specs.declared.lines.Line.TheVariants.{Stem, Out}
+use Rattle.netlist.specs.Netlist.{Definition, Netlist, cells, gates}
+use Rattle.netlist.specs.Settled.{Rule, Settles, at, on_pins, pins_of, outs, next}
+use Rattle.netlist.specs.ThreeValues.{known, is_x}
+use Rattle.netlist.specs.inner.Settling.{IsDriven, IsEvaluated}
+use Rattle.netlist.proofs.Alike.{zip_append}
+use Rattle.netlist.proofs.Lists.{All-from_contains, map_agree, map_map}
+use Rattle.netlist.proofs.Settling.{zip_kept}
+use Rattle.tri.specs.Settled.{tris}
+use Rattle.events.specs.Words.{bit_of, ones}
+use Rattle.scan_play.proofs.PlanLemmas.{flat_map_agree}
+use Rattle.lane_play.specs.declared.packed.Lanes.{Lanes}
+use Rattle.lane_play.specs.inner.Lanes.{always, lane, lanes, lanes_rule}
+use Rattle.lane_play.specs.inner.Shifts.{AreCommon}
+use Rattle.lane_play.proofs.LaneBits.{bit_ones, lane_always, lane_gates, lane_line, lane_next, lane_outs, lane_pins, lane_settles, lane_unknown}
+
+-- ---- assignments that agree
+
+module _ {V : Type 0} (rule : Rule V) (n : Netlist) (a b : ℕ → V) (same : (x : ℕ) → a x ≡ b x) where
+  pins_agree : (d : Definition) → pins_of rule a d ≡ pins_of rule b d
+  pins_agree d = ap (on_pins rule d.id 0) (map_agree a b d.pins (λ k e l. same (get_or d.pins k e)))
+
+  settles_agree : (inputs state : List V) → Settles rule n inputs state a → Settles rule n inputs state b
+  settles_agree inputs state s = (
+    zip_kept (λ x v. a x ≡ rule.line (Stem x) v) (λ x v. b x ≡ rule.line (Stem x) v) n.inputs inputs (λ x v c e. sym (same x) ∙ e) s.0,
+    zip_kept (λ (d : Definition) v. a d.id ≡ rule.line (Stem d.id) v) (λ (d : Definition) v. b d.id ≡ rule.line (Stem d.id) v) (cells n) state (λ d v c e. sym (same d.id) ∙ e) s.1,
+    All-from_contains (λ (d : Definition). b d.id ≡ rule.line (Stem d.id) (rule.gate d (pins_of rule b d))) (gates n) (λ d c.
+        sym (same d.id)
+        ∙ (All-contains (λ (e : Definition). a e.id ≡ rule.line (Stem e.id) (rule.gate e (pins_of rule a e))) (gates n) d s.2 c
+        ∙ ap (λ vs. rule.line (Stem d.id) (rule.gate d vs)) (pins_agree d))),
+  )
+
+  outs_agree : outs rule n a ≡ outs rule n b
+  outs_agree = map_agree (λ x. rule.line (Out x) (a x)) (λ x. rule.line (Out x) (b x)) n.outputs (λ k e l. ap (rule.line (Out (get_or n.outputs k e))) (same (get_or n.outputs k e)))
+
+  next_agree : next rule n a ≡ next rule n b
+  next_agree = flat_map_agree (pins_of rule a) (pins_of rule b) (cells n) (λ d c. pins_agree d)
+
+-- ---- what all machines know
+
+known_is : (b : Bool) → is_x (known b) ≡ false
+known_is true = refl
+known_is false = refl
+
+pub all_known : (k : ℕ) → k < 64 → (v : Lanes) → v.known ≡ ones → is_x (lane k v) ≡ false
+all_known k low v e =
+    ap (λ w. is_x (if bit_of k w then known (bit_of k v.value) else X)) e
+    ∙ (ap (λ b. is_x (if b then known (bit_of k v.value) else X)) (bit_ones k low) ∙ known_is (bit_of k v.value))
+
+pub common_known : (k : ℕ) → k < 64 → (values : List Lanes) (table : List Tri) → AreCommon values table → (x : ℕ) → is_x (at table X x) ≡ false → is_x (at (lanes k values) X x) ≡ false
+common_known k low [] [] c x e = e
+common_known k low [] (t ∷ ts) c x e = absurd c
+common_known k low (v ∷ vs) [] c x e = absurd c
+common_known k low (v ∷ vs) (t ∷ ts) c zero e = c.0 k low e
+common_known k low (v ∷ vs) (t ∷ ts) c (suc x) e = common_known k low vs ts c.1 x e
+
+pub common_size : (values : List Lanes) (table : List Tri) → AreCommon values table → length table ≡ length values
+common_size [] [] c = refl
+common_size [] (t ∷ ts) c = absurd c
+common_size (v ∷ vs) [] c = absurd c
+common_size (v ∷ vs) (t ∷ ts) c = omega (arith, common_size vs ts c.1)
+
+pub common_more : (values : List Lanes) (old new : List Tri) (i : ℕ) (v : Lanes) (t : Tri) → i < length values → v ≡ get_or values i v → new ≡ old ++ t ∷ []
+    → ((k : ℕ) → k < 64 → is_x t ≡ false → is_x (lane k v) ≡ false) → AreCommon (take i values) old → AreCommon (take (i + 1) values) new
+common_more values old new i v t l is e here h =
+    subst (λ vs. AreCommon vs new) (sym (take_more values i v l ∙ ap (λ y. take i values ++ y ∷ []) (sym is)))
+    (subst (λ ts. AreCommon (take i values ++ v ∷ []) ts) (sym e)
+    (zip_append (λ (w : Lanes) (u : Tri). (k : ℕ) → k < 64 → is_x u ≡ false → is_x (lane k w) ≡ false) (take i values) (v ∷ []) old (t ∷ []) h (here, tt)))
+
+-- ---- one machine
+
+-- values of which a machine's is this
+abbrev everywhere : Tri → Lanes
+everywhere Zero = always false
+everywhere One = always true
+everywhere X = record { known = 0; value = 0 }
+
+module _ (k : ℕ) (low : k < 64) where
+  lane_everywhere : (t : Tri) → lane k (everywhere t) ≡ t
+  lane_everywhere Zero = lane_always k low false
+  lane_everywhere One = lane_always k low true
+  lane_everywhere X = lane_unknown k low
+
+  at_lane : (values : List Lanes) (x : ℕ) (d : Lanes) → at (lanes k values) (lane k d) x ≡ lane k (at values d x)
+  at_lane [] x d = refl
+  at_lane (v ∷ vs) zero d = refl
+  at_lane (v ∷ vs) (suc x) d = at_lane vs x d
+
+  at_machine : (values : List Lanes) (x : ℕ) (t : Tri) → at (lanes k values) t x ≡ lane k (at values (everywhere t) x)
+  at_machine values x t = ap (λ d. at (lanes k values) d x) (sym (lane_everywhere t)) ∙ at_lane values x (everywhere t)
+
+  module _ (faults : List Fault) (few : length faults ≤ 64) where
+    pub machine_driven : (ids : List ℕ) (driven old new : List Lanes) (m : ℕ) → IsDriven (lanes_rule faults) ids driven old new m
+        → IsDriven (tris (slice_get faults k)) ids (lanes k driven) (lanes k old) (lanes k new) m
+    machine_driven ids driven old new m h = record {
+      size = length-map new (lane k) ∙ (h.size ∙ sym (length-map old (lane k)));
+      here = λ i t l.
+          at_machine new (get_or ids i 0) t
+          ∙ (ap (lane k) (h.here i (everywhere t) l)
+          ∙ (lane_line k low faults few (Stem (get_or ids i 0)) (at driven (everywhere t) i)
+          ∙ ap ((tris (slice_get faults k)).line (Stem (get_or ids i 0))) (sym (at_machine driven i t))));
+      others = λ x t none. at_machine new x t ∙ (ap (lane k) (h.others x (everywhere t) none) ∙ sym (at_machine old x t));
+    }
+
+    pins_same : (g : Definition) (values : List Lanes) (t : Tri) → lanes k (pins_of (lanes_rule faults) (at values (everywhere t)) g) ≡ pins_of (tris (slice_get faults k)) (at (lanes k values) t) g
+    pins_same g values t =
+        lane_pins k low faults few g.id 0 (map (at values (everywhere t)) g.pins)
+        ∙ ap (on_pins (tris (slice_get faults k)) g.id 0)
+        (map_map (at values (everywhere t)) (lane k) g.pins
+        ∙ map_agree (λ x. lane k (at values (everywhere t) x)) (at (lanes k values) t) g.pins (λ i e l. sym (at_machine values (get_or g.pins i e) t)))
+
+    pub machine_evaluated : (n : Netlist) (x : ℕ) (old new : List Lanes) → IsEvaluated (lanes_rule faults) n x old new → IsEvaluated (tris (slice_get faults k)) n x (lanes k old) (lanes k new)
+    machine_evaluated n x old new h = record {
+      size = length-map new (lane k) ∙ (h.size ∙ sym (length-map old (lane k)));
+      set = λ g t gate same.
+          let rule : Rule Lanes = lanes_rule faults in
+          let own : Rule Tri = tris (slice_get faults k) in
+          let read : List Lanes = pins_of rule (at old (everywhere t)) g in
+          ap (lanes k) (h.set g (everywhere t) gate same)
+          ∙ (map-set (lane k) old x (rule.line (Stem g.id) (rule.gate g read))
+          ∙ ap (set (lanes k old) x)
+          (lane_line k low faults few (Stem g.id) (rule.gate g read)
+          ∙ ap (own.line (Stem g.id)) (lane_gates k low faults few g read ∙ ap (own.gate g) (pins_same g old t))));
+    }
+
+    pub machine_settles : (n : Netlist) (inputs state values : List Lanes) → ((d : Lanes) → Settles (lanes_rule faults) n inputs state (at values d))
+        → Settles (tris (slice_get faults k)) n (lanes k inputs) (lanes k state) (at (lanes k values) X)
+    machine_settles n inputs state values s =
+        settles_agree (tris (slice_get faults k)) n (λ x. lane k (at values (everywhere X) x)) (at (lanes k values) X) (λ x. sym (at_machine values x X)) (lanes k inputs) (lanes k state)
+        (lane_settles k low faults few n inputs state (at values (everywhere X)) (s (everywhere X)))
+
+    pub machine_outs : (n : Netlist) (values : List Lanes) → lanes k (outs (lanes_rule faults) n (at values (record { known = 0; value = 0 }))) ≡ outs (tris (slice_get faults k)) n (at (lanes k values) X)
+    machine_outs n values =
+        sym (lane_outs k low faults few n (at values (everywhere X)))
+        ∙ outs_agree (tris (slice_get faults k)) n (λ x. lane k (at values (everywhere X) x)) (at (lanes k values) X) (λ x. sym (at_machine values x X))
+
+    pub machine_next : (n : Netlist) (values : List Lanes) → lanes k (next (lanes_rule faults) n (at values (record { known = 0; value = 0 }))) ≡ next (tris (slice_get faults k)) n (at (lanes k values) X)
+    machine_next n values =
+        sym (lane_next k low faults few n (at values (everywhere X)))
+        ∙ next_agree (tris (slice_get faults k)) n (λ x. lane k (at values (everywhere X) x)) (at (lanes k values) X) (λ x. sym (at_machine values x X))

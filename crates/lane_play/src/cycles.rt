@@ -1,0 +1,145 @@
+//! Cycles in which each gate is evaluated.
+ghost use Rattle.std.specs.Prelude.{◌≡◌, ◌+◌, ◌^◌, ◌<◌, ◌++◌, List, cond, length, map, IfOk, OnOk};
+ghost use Rattle.std.specs.List.{All};
+ghost use Rattle.netlist.specs.Netlist.{cells, signals};
+ghost use Rattle.netlist.specs.Settled.{at, next};
+ghost use Rattle.scan_play.specs.Bursts.{cycle_of, cycles_of};
+ghost use Rattle.scan_play.specs.Cycles.{Cycle, IsCycleOf};
+ghost use Rattle.lane_play.specs.inner.Lanes.{always, lanes_rule};
+ghost use Rattle.lane_play.specs.declared.packed.Lanes.{Lanes as Packed};
+ghost use Rattle.lane_play.specs.inner.Steps.{ArePlayed, AreSteps};
+
+use crate::evaluating::settle_into;
+use crate::judging::{Verdicts, judge_row};
+use crate::packed::Lanes;
+use crate::stuck::Stuck;
+use netlist::{Core, Tri};
+use scan_play::{Burst, Judge};
+use std::alloc::AllocError;
+
+/// What the machines' cells hold, and room for what a cycle drives, strobes and shows, and for the values of all signals.
+#[derive(Drop)]
+pub(crate) struct Bench {
+    pub state: Vec<Lanes>,
+    pub drive: Vec<Lanes>,
+    pub strobe: Vec<Tri>,
+    pub shown: Vec<Lanes>,
+    pub values: Vec<Lanes>,
+}
+
+/// Adds these bits, for all machines.
+pub(crate) fn push_always(bits: &[bool], values: &mut Vec<Lanes>) -> Result<(), AllocError>
+    ensures { OnOk result (values.new.items ≡ values.old.items ++ map always bits.now) }
+{
+    for bit in bits {
+        values.push(Lanes::always(*bit))?;
+    }
+    Ok(())
+}
+
+/// What the inputs are driven with in a cycle.
+pub(crate) fn read_drive(burst: &Burst, t: usize, drive: &mut Vec<Lanes>) -> Result<(), AllocError>
+    requires { t < burst.now.count }
+    ensures { OnOk result (drive.new.items ≡ map always (cycle_of burst.now t).drive) }
+{
+    drive.clear();
+    push_always(&burst.drive, drive)?;
+    let start = t * burst.width;
+    push_always(&burst.ins[start..start + burst.width], drive)?;
+    Ok(())
+}
+
+/// What the outputs are strobed for in a cycle.
+pub(crate) fn read_strobe(burst: &Burst, t: usize, strobe: &mut Vec<Tri>) -> Result<(), AllocError>
+    requires { t < burst.now.count }
+    ensures { OnOk result (strobe.new.items ≡ (cycle_of burst.now t).strobe) }
+{
+    strobe.clear();
+    strobe.extend_from_slice(&burst.strobe)?;
+    let start = t * burst.width;
+    strobe.extend_from_slice(&burst.outs[start..start + burst.width])?;
+    Ok(())
+}
+
+/// The cells take their next values, where the clock has a pulse.
+pub(crate) fn tick(
+    core: &Core,
+    rule: &Stuck,
+    pulse: bool,
+    values: &[Lanes],
+    state: &mut Vec<Lanes>,
+) -> Result<(), AllocError>
+    requires { length values.now ≡ length (signals core.now) }
+    ensures { OnOk result ((d : Packed) → state.new.items ≡ cond pulse (next (lanes_rule rule.now.faults.now) core.now (at values.now d)) state.old.items) }
+{
+    if !pulse {
+        return Ok(());
+    }
+    core.next_into(rule, values, state)
+}
+
+/// Plays one cycle.
+fn play_cycle<J: Judge>(
+    core: &Core,
+    rule: &Stuck,
+    judge: &J,
+    burst: &Burst,
+    t: usize,
+    number: u64,
+    bench: &mut Bench,
+    verdicts: Verdicts,
+) -> Result<Verdicts, AllocError>
+    requires within { t < burst.now.count }
+    requires fits { IsCycleOf core.now (cycle_of burst.now t) }
+    requires size { length bench.old.state.items ≡ length (cells core.now) }
+    requires room { length bench.old.values.items ≡ length (signals core.now) }
+    ensures size { IfOk result (λ _. length bench.new.state.items ≡ length (cells core.now)) }
+    ensures room { IfOk result (λ _. length bench.new.values.items ≡ length (signals core.now)) }
+    ensures played { IfOk result (λ v. AreSteps (J.says judge.now) rule.now.faults.now core.now bench.old.state.items bench.new.state.items (cycle_of burst.now t) number verdicts.found.items v.found.items) }
+{
+    let netlist = core.netlist();
+    netlist.sound();
+    read_drive(burst, t, &mut bench.drive)?;
+    read_strobe(burst, t, &mut bench.strobe)?;
+    settle_into(
+        rule,
+        netlist,
+        core.order(),
+        &bench.drive,
+        &bench.state,
+        &mut bench.values,
+    );
+    core.outs_into(rule, &bench.values, &mut bench.shown)?;
+    let found = judge_row(judge, number, &bench.strobe, &bench.shown, verdicts);
+    tick(core, rule, burst.pulse, &bench.values, &mut bench.state)?;
+    Ok(found)
+}
+
+/// Plays the cycles of a burst, until something is said of each machine: each gate is evaluated in each cycle.
+pub(crate) fn play_cycles<J: Judge>(
+    core: &Core,
+    rule: &Stuck,
+    judge: &J,
+    burst: &Burst,
+    first: u64,
+    bench: &mut Bench,
+    verdicts: Verdicts,
+) -> Result<Verdicts, AllocError>
+    requires fits { All (IsCycleOf core.now) (cycles_of burst.now) }
+    requires size { length bench.old.state.items ≡ length (cells core.now) }
+    requires room { length bench.old.values.items ≡ length (signals core.now) }
+    requires few { first + burst.now.count < 2 ^ 64 }
+    ensures size { IfOk result (λ _. length bench.new.state.items ≡ length (cells core.now)) }
+    ensures room { IfOk result (λ _. length bench.new.values.items ≡ length (signals core.now)) }
+    ensures played { IfOk result (λ v. (before : List Cycle) → length before ≡ first → ArePlayed (J.says judge.now) rule.now.faults.now core.now before bench.old.state.items verdicts.found.items
+        → ArePlayed (J.says judge.now) rule.now.faults.now core.now (before ++ cycles_of burst.now) bench.new.state.items v.found.items) }
+{
+    let mut so_far = verdicts;
+    for t in 0..burst.count {
+        so_far = play_cycle(core, rule, judge, burst, t, first + t as u64, bench, so_far)?;
+        if so_far.left == 0 {
+            return Ok(so_far);
+        }
+    }
+    Ok(so_far)
+}
