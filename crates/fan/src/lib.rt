@@ -7,11 +7,9 @@ mod engine;
 mod forcing;
 mod frontier;
 mod guides;
-mod measures;
 mod paths;
 mod searching;
 mod standing;
 mod tracing;
-mod views;
 
 pub use engine::Fan;

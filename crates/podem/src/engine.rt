@@ -5,13 +5,12 @@ ghost use Rattle.redundancy_cert.specs.Evidence.{HasEvidence};
 ghost use Rattle.netlist.specs.Lines.{IsLineOf};
 ghost use Rattle.podem.specs.Sources.{HasSourceEvidence, IsLabelling};
 
-use crate::effects::Effects;
-use crate::measures::Measures;
 use crate::searching::search_from;
 use netlist::{Core, Fault, Holds, NoMemory};
 use pair_sim::{PairSim, SimRoom};
 use redundancy_cert::{Engine, Found};
 use std::alloc::Global;
+use testability::{Effects, Measures};
 
 /// A search that decides inputs and cells alone, with what guides it.
 #[derive(Debug, Drop)]
