@@ -13,11 +13,9 @@ mod engine;
 mod forcing;
 mod frontier;
 mod guides;
-mod measures;
 mod paths;
 mod searching;
 mod standing;
 mod tracing;
-mod views;
 
 pub use engine::Fan;

@@ -21,14 +21,13 @@ ghost use Rattle.netlist.specs.Holds.{AreHoldsOf};
 ghost use Rattle.podem.specs.Sources.{all_sources, sources, undecided, value_of, HasSourceEvidence};
 ghost use Rattle.podem.specs.inner.Searching.{IsAt, IsSearching, IsSeen, IsGone, IsKnownAt, MayEnter, MayClimb, IsWhole, IsTestAt, IsStepped, IsChosen, IsOfCase};
 
-use crate::effects::Effects;
-use crate::guides::{Aim, Guide, best_aim, signal_count};
-use crate::measures::Measures;
+use crate::guides::{Guide, best_aim};
 use cubes::Cube;
 use netlist::{Core, Fault, Holds, Point, SignalId, Tri};
 use pair_sim::{PairSim, State};
 use redundancy_cert::{Found, Node, Other, Side, Tree, Turn, end_side, whole_tree};
 use std::alloc::{AllocError, Global};
+use testability::{Aim, Effects, Measures, signal_count};
 
 /// What comes of a turn.
 #[derive(Drop)]

@@ -1,4 +1,4 @@
-//! The signals on which the fault's effect is known to be. Nothing stands on them but the speed of the search.
+//! The signals on which the fault's effect is known to be.
 //!
 //! A search asks for the gates that read such signals at every turn, and between two turns only the end of the trail of labels changes: it is
 //! cut where decisions are taken back, and grows with the next one. So what stands at each place of the trail is looked at once, and what is
@@ -6,7 +6,7 @@
 ghost use Rattle.std.specs.Prelude.{◌≡◌};
 ghost use Rattle.pair_sim.specs.Sims.{IsNotBlocked};
 
-use crate::guides::has_effect;
+use crate::views::has_effect;
 use netlist::{Core, SignalId};
 use pair_sim::PairSim;
 use std::alloc::{AllocError, Global};
@@ -20,14 +20,14 @@ struct Effect {
 
 /// The signals with an effect along the trail, first those that got it first, and how much of the trail has been looked at.
 #[derive(Debug, Drop)]
-pub(crate) struct Effects {
+pub struct Effects {
     found: Vec<Effect>,
     looked_at: usize,
 }
 
 impl Effects {
     /// Of a trail that hasn't been looked at.
-    pub(crate) fn new(alloc: Global) -> Effects {
+    pub fn new(alloc: Global) -> Effects {
         Effects {
             found: Vec::new(alloc),
             looked_at: 0,
@@ -35,14 +35,14 @@ impl Effects {
     }
 
     /// The trail has been cut to this length.
-    pub(crate) fn cut(&mut self, length: usize) {
+    pub fn cut(&mut self, length: usize) {
         let kept = self.found.partition_point(|effect| effect.place < length);
         self.found.truncate(kept);
         self.looked_at = self.looked_at.min(length);
     }
 
     /// Looks at what the trail has gained.
-    pub(crate) fn follow(&mut self, core: &Core, labels: &PairSim) -> Result<(), AllocError>
+    pub fn follow(&mut self, core: &Core, labels: &PairSim) -> Result<(), AllocError>
         requires same { labels.now.netlist ≡ core.now }
         requires not_blocked { IsNotBlocked labels.now }
     {
@@ -58,11 +58,11 @@ impl Effects {
     }
 
     /// The signals, one after the other.
-    pub(crate) fn signal(&self, number: usize) -> Option<SignalId> {
+    pub fn signal(&self, number: usize) -> Option<SignalId> {
         self.found.get(number).map(|effect| effect.signal)
     }
 
-    pub(crate) fn len(&self) -> usize {
+    pub fn len(&self) -> usize {
         self.found.len()
     }
 }

@@ -1,14 +1,20 @@
-//! What guides read of a netlist and its labels. Nothing stands on it but the speed of the search.
+//! What guides read of a netlist and its labels.
 ghost use Rattle.std.specs.Prelude.{◌≡◌, ◌≤◌, length};
 ghost use Rattle.netlist.specs.Netlist.{signals};
 ghost use Rattle.pair_sim.specs.Sims.{IsNotBlocked};
 
-use head_lines::Role;
 use netlist::{Core, Kind, Line, SignalId, Tri};
 use pair_sim::PairSim;
 
+/// A signal, and the bit that it should have.
+#[derive(Clone, Copy, Drop)]
+pub struct Aim {
+    pub signal: SignalId,
+    pub bit: bool,
+}
+
 /// How many signals there are.
-pub(crate) fn signal_count(core: &Core) -> usize
+pub fn signal_count(core: &Core) -> usize
     ensures { result ≡ length (signals core.now) }
 {
     let netlist = core.netlist();
@@ -17,7 +23,7 @@ pub(crate) fn signal_count(core: &Core) -> usize
 }
 
 /// The value of a signal without the fault.
-pub(crate) fn good(core: &Core, labels: &PairSim, signal: SignalId) -> Option<Tri>
+pub fn good(core: &Core, labels: &PairSim, signal: SignalId) -> Option<Tri>
     requires { labels.now.netlist ≡ core.now }
 {
     core.netlist().sound();
@@ -27,15 +33,15 @@ pub(crate) fn good(core: &Core, labels: &PairSim, signal: SignalId) -> Option<Tr
     Some(labels.good(signal))
 }
 
-/// Whether that isn't known.
-pub(crate) fn is_unknown(core: &Core, labels: &PairSim, signal: SignalId) -> bool
+/// Whether the value of a signal without the fault isn't known.
+pub fn is_unknown(core: &Core, labels: &PairSim, signal: SignalId) -> bool
     requires { labels.now.netlist ≡ core.now }
 {
     matches!(good(core, labels, signal), Some(Tri::X))
 }
 
 /// Whether both values of a signal are known and differ.
-pub(crate) fn has_effect(core: &Core, labels: &PairSim, signal: SignalId) -> bool
+pub fn has_effect(core: &Core, labels: &PairSim, signal: SignalId) -> bool
     requires same { labels.now.netlist ≡ core.now }
     requires not_blocked { IsNotBlocked labels.now }
 {
@@ -51,7 +57,7 @@ pub(crate) fn has_effect(core: &Core, labels: &PairSim, signal: SignalId) -> boo
 }
 
 /// Whether the fault may still reach a signal, and doesn't yet.
-pub(crate) fn may_get_effect(core: &Core, labels: &PairSim, signal: SignalId) -> bool
+pub fn may_get_effect(core: &Core, labels: &PairSim, signal: SignalId) -> bool
     requires same { labels.now.netlist ≡ core.now }
     requires not_blocked { IsNotBlocked labels.now }
 {
@@ -63,7 +69,7 @@ pub(crate) fn may_get_effect(core: &Core, labels: &PairSim, signal: SignalId) ->
 }
 
 /// The kind and the pins of the gate of a signal; none for an input, a cell and what is no signal.
-pub(crate) fn gate_of(core: &Core, signal: SignalId) -> Option<(Kind, &[SignalId])> {
+pub fn gate_of(core: &Core, signal: SignalId) -> Option<(Kind, &[SignalId])> {
     if signal.index() >= signal_count(core) {
         return None;
     }
@@ -75,7 +81,7 @@ pub(crate) fn gate_of(core: &Core, signal: SignalId) -> Option<(Kind, &[SignalId
 }
 
 /// The signal that comes onto a line.
-pub(crate) fn driver(core: &Core, line: &Line) -> SignalId {
+pub fn driver(core: &Core, line: &Line) -> SignalId {
     match line {
         Line::Stem(x) => *x,
         Line::Out(x) => *x,
@@ -92,7 +98,7 @@ pub(crate) fn driver(core: &Core, line: &Line) -> SignalId {
 }
 
 /// The lines that read a signal.
-pub(crate) fn readers<'a>(core: &'a Core, signal: SignalId) -> &'a [Line] {
+pub fn readers<'a>(core: &'a Core, signal: SignalId) -> &'a [Line] {
     if signal.index() >= signal_count(core) {
         return &[];
     }
@@ -100,7 +106,7 @@ pub(crate) fn readers<'a>(core: &'a Core, signal: SignalId) -> &'a [Line] {
 }
 
 /// Whether the fault may reach a signal.
-pub(crate) fn may_differ(core: &Core, labels: &PairSim, signal: SignalId) -> bool
+pub fn may_differ(core: &Core, labels: &PairSim, signal: SignalId) -> bool
     requires same { labels.now.netlist ≡ core.now }
     requires not_blocked { IsNotBlocked labels.now }
 {
@@ -112,7 +118,7 @@ pub(crate) fn may_differ(core: &Core, labels: &PairSim, signal: SignalId) -> boo
 }
 
 /// Whether its pins tell nothing of a signal.
-pub(crate) fn is_own_unknown(core: &Core, labels: &PairSim, signal: SignalId) -> bool
+pub fn is_own_unknown(core: &Core, labels: &PairSim, signal: SignalId) -> bool
     requires same { labels.now.netlist ≡ core.now }
     requires not_blocked { IsNotBlocked labels.now }
 {
@@ -123,16 +129,8 @@ pub(crate) fn is_own_unknown(core: &Core, labels: &PairSim, signal: SignalId) ->
     matches!(labels.own(signal), Tri::X)
 }
 
-/// Whether a signal is a head line.
-pub(crate) fn has_head(roles: &[Role], signal: SignalId) -> bool {
-    match roles.get(signal.index()) {
-        None => false,
-        Some(role) => matches!(role, Role::Head),
-    }
-}
-
 /// Of the pins: how many are X, and whether an odd number of the others are 1.
-pub(crate) fn count_pins(core: &Core, labels: &PairSim, pins: &[SignalId]) -> (u32, bool)
+pub fn count_pins(core: &Core, labels: &PairSim, pins: &[SignalId]) -> (u32, bool)
     requires { labels.now.netlist ≡ core.now }
 {
     let mut unknown: u32 = 0;
@@ -148,12 +146,12 @@ pub(crate) fn count_pins(core: &Core, labels: &PairSim, pins: &[SignalId]) -> (u
 }
 
 /// Whether a kind turns the bit over.
-pub(crate) fn is_inverting(kind: Kind) -> bool {
+pub fn is_inverting(kind: Kind) -> bool {
     matches!(kind, Kind::Nand | Kind::Nor | Kind::Xnor | Kind::Not)
 }
 
 /// The place of a gate in the order of evaluation, from 1; 0 for inputs and cells.
-pub(crate) fn place_of(core: &Core, signal: SignalId) -> u64
+pub fn place_of(core: &Core, signal: SignalId) -> u64
     ensures { result ≤ 16000000 }
 {
     let schedule = core.schedule();
