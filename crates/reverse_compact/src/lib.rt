@@ -5,5 +5,6 @@ mod compaction;
 mod finishing;
 mod keeping;
 
-pub use compaction::{Finished, compact};
+pub use compaction::{Finished, compact, needed};
 pub use finishing::finish;
+pub use keeping::{kept, new_places};
