@@ -21,6 +21,7 @@ mod checking;
 mod design;
 mod diagnosing;
 mod fault_list;
+mod five_files;
 mod holding;
 mod laws;
 mod lines;
@@ -30,6 +31,7 @@ mod reading;
 mod refusal;
 mod running;
 mod scanning;
+mod slow_lines;
 mod status;
 mod sweeping;
 mod told_lines;
@@ -49,6 +51,7 @@ use playing::play_test;
 use refusal::Refusal;
 use running::run_netlist;
 use scanning::scan_netlist;
+use slow_lines::test_slow_lines;
 use status::Status;
 use std::alloc::Global;
 use std::sync::Wait;
@@ -107,6 +110,11 @@ fn perform<'a, R: Threads + Wait + Sync, S: Shelf, T: Sink, G: Gate + Sync>(
             log,
             options,
         } => diagnose_log(rt, alloc, shelf, out, net, stil, log, *options),
+        Request::Transition {
+            net,
+            prefix,
+            options,
+        } => test_slow_lines(rt, alloc, shelf, out, net, prefix, *options),
     }
 }
 

@@ -1,10 +1,10 @@
 use Rattle.std.proofs.Common.{refl}
-use Rattle.atpg_top.proofs.running.product_of.Goals as goal
+use Rattle.atpg_top.proofs.five_files.product_of.Goals as goal
 
 pub returns : goal.returns
 returns c = record {
   texts = c.in_ok-texts.ensures.texts;
   count = c.in_ok-texts.ensures.count;
-  shown = c.in_ok-shown.ensures;
+  shown = refl;
   fine = refl;
 }

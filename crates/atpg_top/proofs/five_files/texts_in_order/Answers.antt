@@ -1,5 +1,5 @@
 use Rattle.std.proofs.Common.{refl}
-use Rattle.atpg_top.proofs.running.texts_in_order.Goals as goal
+use Rattle.atpg_top.proofs.five_files.texts_in_order.Goals as goal
 
 pub returns : goal.returns
 returns c = record {
