@@ -198,7 +198,8 @@ def run(texts, options, runs):
 
 def transition(texts, options):
     """The texts of a test for slow lines. Every search comes to an end where the backtrack limit is that of all bits of the signals on which it
-    splits; the patterns are known where each fault that can be detected has one test alone. The searches choose the trees."""
+    splits. The patterns are known where the tests of each fault are those of one cube, which is what a search that decides no more than it
+    needs finds. The searches choose the trees."""
     netlist = netlist_of(texts[0])
     limit, sources = int(options.get("--limit", "100")), len(netlist.inputs + netlist.cells)
     if sources > plain_transition.MOST_SOURCES:
@@ -209,8 +210,10 @@ def transition(texts, options):
     tests = plain_transition.tests_of(netlist)
     detected = sum(bool(each) for each in tests)
     totals = f"faults {len(tests)} detected {detected} redundant {len(tests) - detected} aborted 0"
-    if all(len(each) <= 1 for each in tests):
-        situation = plain_transition.kept(netlist, chains, [each[0] for each in tests if each])
+    cubes = [plain_transition.cube_of(each) for each in tests if each]
+    if None not in cubes:
+        patterns = plain_transition.filled(netlist, cubes, int(options.get("--seed", "1")))
+        situation = plain_transition.kept(netlist, chains, patterns)
         stil = plain_transition.stil_of(netlist, chains, situation.patterns).decode()
         report = plain_transition.report_of(situation, limit)
         shown = f"{totals} patterns {len(situation.patterns)} cycles {situation.cycles()}\n"

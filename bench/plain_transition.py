@@ -17,6 +17,7 @@ import plain_check
 import plain_design as plain
 from plain_check import ENDS, NotText
 from plain_stil import is_stil
+from sample_netlist import Pcg32
 
 MOST_SOURCES = 12
 SLOW = ("rise", "fall")  # of a line that is slow to leave 0, or 1
@@ -234,10 +235,27 @@ class SlowLines(plain_check.Situation):
         return super().head(said, limit) | {"cycles": self.cycles()}
 
 
+def cube_of(tests):
+    """The bits that all tests of a fault have, where its tests are all patterns that have these; else None."""
+    cube = {name: bit for name, bit in tests[0].items() if all(test[name] == bit for test in tests)}
+    return cube if len(tests) == 2 ** (len(tests[0]) - len(cube)) else None
+
+
+def filled(netlist, cubes, seed):
+    """Cubes merged in order, each with the first that it doesn't contradict, and filled by the lowest bits of drawn words."""
+    results, words = [], Pcg32(seed, 0)
+    for cube in cubes:
+        fitting = next((result for result in results if all(result.get(name, bit) == bit for name, bit in cube.items())), None)
+        if fitting is None:
+            results.append(dict(cube))
+        else:
+            fitting.update(cube)
+    return [{name: cube[name] if name in cube else words.next_u32() & 1 for name in netlist.inputs + netlist.cells} for cube in results]
+
+
 def kept(netlist, chains, patterns):
-    """What follows of these patterns, of which each that comes again is left out, and then each that isn't the last to detect some fault."""
-    merged = [pattern for k, pattern in enumerate(patterns) if pattern not in patterns[:k]]
-    return SlowLines(netlist, chains, plain_check.kept_patterns(SlowLines(netlist, chains, merged)))
+    """What follows of the patterns that are the last to detect some fault."""
+    return SlowLines(netlist, chains, plain_check.kept_patterns(SlowLines(netlist, chains, patterns)))
 
 
 def report_of(situation, limit):

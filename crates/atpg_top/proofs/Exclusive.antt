@@ -37,7 +37,7 @@ use Rattle.atpg_top.specs.Checks.{check_due, refusal_of, told}
 use Rattle.atpg_top.specs.Commands.{chaintest_due, diagnose_due, due, faults_due, play_due, run_due, scan_due, sweep_due, transition_due}
 use Rattle.transition_run.specs.declared.files.TransitionFiles.{TransitionFiles}
 use Rattle.transition_run.specs.Runs.{files_of}
-use Rattle.atpg_top.specs.Runs.{counts_line, texts_in, texts_made}
+use Rattle.atpg_top.specs.Runs.{tests_line, texts_in, texts_made}
 use Rattle.atpg_top.specs.inner.Running.{held_due, made_due, slow_due}
 use Rattle.atpg_top.proofs.HoldLemmas.{holds_single}
 use Rattle.atpg_top.specs.FaultLists.{IsFaultList}
@@ -133,13 +133,13 @@ play_exclusive one fault (net ∷ stil ∷ more ∷ others) c d p q = absurd p
 run_exclusive : (options : RunOptions) (named : List Hold) → IsExclusive (run_due options named)
 run_exclusive options named =
     design_exclusive (held_due options named) (λ n sound. then_one (named_holds n named) (made_due options n) (holds_single n sound named)
-    (λ holds x y a b. given x y (Deliver (texts_made a.0) (counts_line a.0.said.counts) Fine) (Deliver (texts_made b.0) (counts_line b.0.said.counts) Fine) a.2 b.2 refl))
+    (λ holds x y a b. given x y (Deliver (texts_made a.0) (tests_line a.0.said.counts) Fine) (Deliver (texts_made b.0) (tests_line b.0.said.counts) Fine) a.2 b.2 refl))
 
 -- ---- `transition`
 
 transition_exclusive : (options : RunOptions) → IsExclusive (transition_due options)
 transition_exclusive options =
-    design_exclusive (slow_due options) (λ n sound x y a b. let due : TransitionFiles → Due Refusal = λ made. Deliver (texts_in (files_of made)) (counts_line made.said.counts.items) Fine in
+    design_exclusive (slow_due options) (λ n sound x y a b. let due : TransitionFiles → Due Refusal = λ made. Deliver (texts_in (files_of made)) (tests_line made.said.counts.items) Fine in
     given x y (due a.0) (due b.0) a.2 b.2 refl)
 
 -- ---- `chaintest`

@@ -23,7 +23,7 @@ use Rattle.transition_run.specs.Runs.{IsTransitionRun, files_of}
 use Rattle.check_command.specs.Checking.{run_files}
 use Rattle.atpg_top.specs.Checks.{check_due}
 use Rattle.atpg_top.specs.Steps.{◌>>=◌, design_due, named_fault, named_holds, netlist, test, value}
-use Rattle.atpg_top.specs.Runs.{counts_line, texts_in, texts_made}
+use Rattle.atpg_top.specs.Runs.{tests_line, texts_in, texts_made}
 use Rattle.atpg_top.specs.Scans.{IsScanProduct}
 use Rattle.atpg_top.specs.FaultLists.{IsFaultList}
 use Rattle.atpg_top.specs.ChainTests.{IsChainTest, Strobe, chain_test_text, hardware_of}
@@ -70,12 +70,12 @@ play_due fault texts = λ d. ⊥
 -- the five texts of a run, and the line with the report's numbers
 abbrev pub run_due : RunOptions → List Hold → List Text → Due Refusal → Type 0
 run_due options named = design_due (λ n. named_holds n named >>= λ holds d.
-    (made : TestFiles) × IsRun n holds options.chains options.limit made × (d ≡ Deliver (texts_made made) (counts_line made.said.counts) Fine))
+    (made : TestFiles) × IsRun n holds options.chains options.limit made × (d ≡ Deliver (texts_made made) (tests_line made.said.counts) Fine))
 
 -- the five texts of a design's slow lines, and the line with the report's numbers
 abbrev pub transition_due : RunOptions → List Text → Due Refusal → Type 0
 transition_due options = design_due (λ n d.
-    (made : TransitionFiles) × IsTransitionRun n options.chains options.limit made × (d ≡ Deliver (texts_in (files_of made)) (counts_line made.said.counts.items) Fine))
+    (made : TransitionFiles) × IsTransitionRun n options.chains options.limit made × (d ≡ Deliver (texts_in (files_of made)) (tests_line made.said.counts.items) Fine))
 
 -- the lines of what the file shows of the scan hardware, the file fitting the scanned netlist
 abbrev pub chaintest_due : ℕ → List Text → Due Refusal → Type 0

@@ -41,7 +41,7 @@ abbrev pub count_at : Report → ℕ → ℕ
 count_at r place = slice_index r.counts place
 
 -- `faults 34 detected 34 redundant 0 aborted 0 patterns 9 cycles 9`, by the counts of a report
-abbrev pub counts_line : List ℕ → Text
-counts_line counts =
+abbrev pub tests_line : List ℕ → Text
+tests_line counts =
     codes "faults " ++ (decimal (slice_index counts 5) ++ (codes " detected " ++ (decimal (slice_index counts 10) ++ (codes " redundant " ++ (decimal (slice_index counts 11)
     ++ (codes " aborted " ++ (decimal (slice_index counts 12) ++ (codes " patterns " ++ (decimal (slice_index counts 7) ++ (codes " cycles " ++ (decimal (slice_index counts 8) ++ codes "\n")))))))))))

@@ -3,7 +3,7 @@ ghost use Rattle.std.specs.Prelude.{◌≡◌, ◌++◌, ◌∷◌, [], IfOk, On
 ghost use Rattle.report.specs.Reports.{count_of_counts};
 ghost use Rattle.commands.specs.Names.{texts_of};
 ghost use Rattle.commands.specs.declared.ending.Finding.TheVariants.{Fine};
-ghost use Rattle.atpg_top.specs.Runs.{counts_line};
+ghost use Rattle.atpg_top.specs.Runs.{tests_line};
 
 use commands::{Finding, Product};
 use itoa::Buffer;
@@ -19,9 +19,9 @@ pub fn push_count(line: &mut Vec<u8>, word: &[u8], count: u64) -> Result<(), All
 }
 
 /// The line of a report's counts.
-pub fn counts_line(alloc: Global, counts: &[u64]) -> Result<Vec<u8>, AllocError>
+pub fn tests_line(alloc: Global, counts: &[u64]) -> Result<Vec<u8>, AllocError>
     requires { length counts.now ≡ count_of_counts }
-    ensures { IfOk result (λ t. t.items ≡ counts_line counts.now) }
+    ensures { IfOk result (λ t. t.items ≡ tests_line counts.now) }
 {
     let mut line = Vec::new(alloc);
     push_count(&mut line, b"faults ", counts[5])?;

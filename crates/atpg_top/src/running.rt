@@ -13,11 +13,11 @@ ghost use Rattle.words.specs.CommandLine.{AreInRange, hold_of};
 ghost use Rattle.test_files.specs.Runs.{IsRun};
 ghost use Rattle.check_command.specs.Checking.{run_files};
 ghost use Rattle.atpg_top.specs.Commands.{run_due};
-ghost use Rattle.atpg_top.specs.Runs.{counts_line, texts_made};
+ghost use Rattle.atpg_top.specs.Runs.{tests_line, texts_made};
 ghost use Rattle.atpg_top.specs.inner.Running.{made_due, held_due};
 
 use crate::design::design_of;
-use crate::five_files::{counts_line, product_of};
+use crate::five_files::{tests_line, product_of};
 use crate::holding::holds_of;
 use crate::refusal::Refusal;
 use check_command::file_names;
@@ -37,11 +37,11 @@ use words::{EngineName, Held, RunOptions};
 fn product_by(alloc: Global, made: TestFiles) -> Result<Product, AllocError>
     ensures texts { IfOk result (λ p. texts_of p.texts.items ≡ texts_made made) }
     ensures count { IfOk result (λ p. length p.texts.items ≡ 5) }
-    ensures shown { IfOk result (λ p. p.shown.items ≡ counts_line made.said.counts) }
+    ensures shown { IfOk result (λ p. p.shown.items ≡ tests_line made.said.counts) }
     ensures fine { IfOk result (λ p. p.finding ≡ Fine) }
 {
     made.said.sound();
-    let shown = counts_line(alloc, made.said.counts())?;
+    let shown = tests_line(alloc, made.said.counts())?;
     let TestFiles {
         net,
         scan,

@@ -13,11 +13,11 @@ ghost use Rattle.transition_report.specs.Numbers.{IsSized};
 ghost use Rattle.transition_run.specs.Runs.{IsTransitionRun, files_of};
 ghost use Rattle.check_command.specs.Checking.{run_files};
 ghost use Rattle.atpg_top.specs.Commands.{transition_due};
-ghost use Rattle.atpg_top.specs.Runs.{counts_line, texts_in};
+ghost use Rattle.atpg_top.specs.Runs.{tests_line, texts_in};
 ghost use Rattle.atpg_top.specs.inner.Running.{slow_due};
 
 use crate::design::design_of;
-use crate::five_files::{counts_line, product_of};
+use crate::five_files::{tests_line, product_of};
 use crate::refusal::Refusal;
 use check_command::file_names;
 use commands::{Ending, FileName, Product, Stop, deliver, read_in_order};
@@ -37,10 +37,10 @@ fn product_by(alloc: Global, made: TransitionFiles) -> Result<Product, AllocErro
     requires { IsSized made.said }
     ensures texts { IfOk result (λ p. texts_of p.texts.items ≡ texts_in (files_of made)) }
     ensures count { IfOk result (λ p. length p.texts.items ≡ 5) }
-    ensures shown { IfOk result (λ p. p.shown.items ≡ counts_line made.said.counts.items) }
+    ensures shown { IfOk result (λ p. p.shown.items ≡ tests_line made.said.counts.items) }
     ensures fine { IfOk result (λ p. p.finding ≡ Fine) }
 {
-    let shown = counts_line(alloc, made.said.counts.as_slice())?;
+    let shown = tests_line(alloc, made.said.counts.as_slice())?;
     let TransitionFiles {
         net,
         scan,

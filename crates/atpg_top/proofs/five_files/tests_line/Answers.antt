@@ -1,7 +1,7 @@
 use Rattle.std.proofs.Common.{◌∙◌, ◌++◌, List, ℕ, ap, codes, decimal, get_or}
 use Rattle.commands.specs.World.{Text}
 use Rattle.atpg_top.proofs.LineLemmas.{six_counts}
-use Rattle.atpg_top.proofs.five_files.counts_line.Goals as goal
+use Rattle.atpg_top.proofs.five_files.tests_line.Goals as goal
 
 abbrev count_text : List ℕ → ℕ → Text
 count_text counts place = decimal (get_or counts place 0)
