@@ -17,7 +17,7 @@ ghost use Rattle.atpg_top.specs.Runs.{tests_line, texts_in};
 ghost use Rattle.atpg_top.specs.inner.Running.{slow_due};
 
 use crate::design::design_of;
-use crate::five_files::{tests_line, product_of};
+use crate::five_files::{product_of, tests_line};
 use crate::refusal::Refusal;
 use check_command::file_names;
 use commands::{Ending, FileName, Product, Stop, deliver, read_in_order};
