@@ -21,13 +21,10 @@ use Rattle.list_core.specs.Verdicts.{verdict_at, VerdictHolds}
 use Rattle.reverse_compact.specs.Kept.{AreLastDetected, IsNeeded, is_last_at, kept_from, new_place, marked_from}
 use Rattle.reverse_compact.specs.Finished.{IsFinished, AreFinished}
 use Rattle.reverse_compact.specs.inner.Marks.{last_at, new_verdict, ArePlaces, AreRenamed}
-use Rattle.reverse_compact.proofs.LastPlaces.{last_kept, marked_by, never_kept, some_marked}
+use Rattle.reverse_compact.proofs.LastPlaces.{last_kept, marked_by, never_kept, some_marked, some_same}
 
 no_fault : Fault
 no_fault = record { line = Stem 0; value = false }
-
-same_Some : {X : Type 0} (x y : X) → Some x ≡ Some y → x ≡ y
-same_Some x y e = cc
 
 -- ---- where a class is last detected
 
@@ -36,7 +33,7 @@ last_of : (n : Netlist) (ps : List Pattern) (fs : List Fault) (ls : List (Option
 last_of n ps [] [] c f are e = cc
 last_of n ps [] (l ∷ ls) c f are e = elim are [ ]
 last_of n ps (g ∷ fs) [] c f are e = elim are [ ]
-last_of n ps (g ∷ fs) (l ∷ ls) zero f are e = (let P : Fault → Type 0 = λ h. LastDetected n ps h l in subst P (same_Some g f e) are.0)
+last_of n ps (g ∷ fs) (l ∷ ls) zero f are e = (let P : Fault → Type 0 = λ h. LastDetected n ps h l in subst P (some_same g f e) are.0)
 last_of n ps (g ∷ fs) (l ∷ ls) (suc c) f are e = last_of n ps fs ls c f are.1 e
 
 -- two last patterns of one fault are one
@@ -74,7 +71,7 @@ verdict_stays : (j : Subject) (ps kept : List Pattern) (c : ℕ) (f : Fault) (v 
     → VerdictHolds j ps c v → VerdictHolds j kept c v
 verdict_stays j ps kept c f Open rep never held = tt
 verdict_stays j ps kept c f (Detected place point) rep never held =
-    let same : held.fault ≡ f = same_Some held.fault f (sym held.represents ∙ rep) in
+    let same : held.fault ≡ f = some_same held.fault f (sym held.represents ∙ rep) in
     let here : IsDetectedAt j.netlist ps held.fault place point = record { pattern = held.pattern; at = held.at; detects = held.detects } in
     absurd (never place point (let P : Fault → Type 0 = λ g. IsDetectedAt j.netlist ps g place point in subst P same here))
 verdict_stays j ps kept c f (Redundant tree) rep never held = held

@@ -5,13 +5,14 @@ use Rattle.std.proofs.lemmas.Bool.Decides.{nat_tests}
 use Rattle.netlist.specs.declared.lines.Fault.{Fault}
 use Rattle.netlist.specs.declared.lines.Point.{Point}
 use Rattle.netlist.specs.Netlist.{Netlist}
+use Rattle.netlist.proofs.Lists.{contains_head, contains_tail}
 use Rattle.cubes.specs.Cubes.{Pattern}
 use Rattle.word_sim.specs.Hits.{IsDetectedAt, IsLastDetected, IsNeverDetected}
 use Rattle.reverse_compact.specs.Kept.{is_last_at, kept_from, new_place, marked_from}
 use Rattle.reverse_compact.specs.inner.Marks.{last_at}
 use Rattle.reverse_compact.proofs.KeepLemmas.{kept_at, source, rises}
 
-some_same : {X : Type 0} (x y : X) → Some x ≡ Some y → x ≡ y
+pub some_same : {X : Type 0} (x y : X) → Some x ≡ Some y → x ≡ y
 some_same x y e = cc
 
 or_left : (a b : Bool) → a ≡ true → (a || b) ≡ true
@@ -32,12 +33,6 @@ same_number a b e = grind (arith, nat_tests)
 number_same : (a b : ℕ) → a ≡ b → (a == b) ≡ true
 number_same a b e = grind (arith, nat_tests)
 
-here_first : {X : Type 0} (x : X) (xs : List X) → Contains (x ∷ xs) x
-here_first x xs = (0, omega arith, refl)
-
-behind : {X : Type 0} (y : X) (xs : List X) (x : X) → Contains xs x → Contains (y ∷ xs) x
-behind y xs x c = (suc c.0, omega (arith, c.1), c.2)
-
 -- a marked place is the last one of some fault
 pub marked_by : (R : Fault → Option (ℕ × Point) → Type 0) (fs : List Fault) (ls : List (Option (ℕ × Point))) (k : ℕ)
     → AllZip R fs ls → is_last_at ls k ≡ true → (f : Fault) × Contains fs f × ((o : Point) × R f (Some (k, o)))
@@ -45,14 +40,14 @@ marked_by R [] [] k are e = cc
 marked_by R [] (l ∷ ls) k are e = elim are [ ]
 marked_by R (f ∷ fs) [] k are e = elim are [ ]
 marked_by R (f ∷ fs) (None ∷ ls) k are e =
-    let rest = marked_by R fs ls k are.1 e in (rest.0, behind f fs rest.0 rest.1, rest.2)
+    let rest = marked_by R fs ls k are.1 e in (rest.0, contains_tail f rest.0 fs rest.1, rest.2)
 marked_by R (f ∷ fs) (Some l ∷ ls) k are e =
     by_case (or_cases (l.0 == k) (is_last_at ls k) e) (λ there. marked_by R fs ls k are.1 there)
   where
     by_case : ((l.0 == k) ≡ true) ⊎ (is_last_at ls k ≡ true) → (is_last_at ls k ≡ true → (g : Fault) × Contains fs g × ((o : Point) × R g (Some (k, o))))
         → (g : Fault) × Contains (f ∷ fs) g × ((o : Point) × R g (Some (k, o)))
-    by_case (inl here) rest = (f, here_first f fs, (l.1, (let P : ℕ → Type 0 = λ i. R f (Some (i, l.1)) in subst P (same_number l.0 k here) are.0)))
-    by_case (inr there) rest = (let r = rest there in (r.0, behind f fs r.0 r.1, r.2))
+    by_case (inl here) rest = (f, contains_head f fs, (l.1, (let P : ℕ → Type 0 = λ i. R f (Some (i, l.1)) in subst P (same_number l.0 k here) are.0)))
+    by_case (inr there) rest = (let r = rest there in (r.0, contains_tail f r.0 fs r.1, r.2))
 
 -- the place where some class is last detected is marked
 pub some_marked : (ls : List (Option (ℕ × Point))) (c : ℕ) (l : ℕ × Point) → last_at ls c ≡ Some l → is_last_at ls l.0 ≡ true

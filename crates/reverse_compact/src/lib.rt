@@ -2,9 +2,7 @@
 #![tactic(auto)]
 
 mod compaction;
-mod finishing;
 mod keeping;
 
 pub use compaction::{Finished, compact, needed};
-pub use finishing::finish;
 pub use keeping::{kept, new_places};
