@@ -57,12 +57,12 @@ def best(command, times):
     return min(runs, key=lambda each: each.processor)
 
 
-def prefix_of(name):
-    return os.path.join(MADE, "run_" + name.replace(":", "_"))
+def prefix_of(name, command="run"):
+    return os.path.join(MADE, f"{command}_" + name.replace(":", "_"))
 
 
-def run_command(name, workers=1, options=()):
-    return [proved_build(), "run", netlist_of(name), prefix_of(name), "--workers", str(workers), *options]
+def run_command(name, workers=1, options=(), command="run"):
+    return [proved_build(), command, netlist_of(name), prefix_of(name, command), "--workers", str(workers), *options]
 
 
 def files_of(name, options=()):

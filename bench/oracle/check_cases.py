@@ -30,6 +30,8 @@ RUNS = ("case ", "run ", "keep ", "twice ", "cut ")
 
 def shown(text):
     """The lines in which a text is shown."""
+    if isinstance(text, plain_program.Begun):
+        raise plain_program.Unknown
     lines = text.split("\n")
     escaped = ["|" + "".join(escape(ord(c)) for c in line) for line in lines]
     return escaped[:-1] + ([escaped[-1] + "\\"] if lines[-1] else [])

@@ -273,20 +273,25 @@ def load_words(chains, longest, values, before):
     return into, out
 
 
-def items_of(netlist, chains, patterns):
-    """Calls and vectors: ("call", in words, out words) and ("vector", pi, po)."""
-    captured = capture_of(netlist, patterns)
-    vector = lambda pattern, outs: ("vector", "".join(str(pattern[name]) for name in netlist.inputs), "".join("LH"[bit] for bit in outs))
+def vector_of(netlist, pattern, outs):
+    return "vector", "".join(str(pattern[name]) for name in netlist.inputs), "".join("LHX"[bit] for bit in outs)
+
+
+def items_of(netlist, chains, patterns, captured=None):
+    """Calls and vectors: ("call", in words, out words) and ("vector", pi, po). For each pattern `captured` has its vectors and what the cells
+    then hold; without it, that is one capture."""
+    if captured is None:
+        captured = [([vector_of(netlist, pattern, outs)], cells) for pattern, (outs, cells) in zip(patterns, capture_of(netlist, patterns))]
     if not chains:
-        return [vector(pattern, outs) for pattern, (outs, _) in zip(patterns, captured)]
+        return [vector for vectors, _ in captured for vector in vectors]
     longest = max(len(chain) for chain in chains)
     flush = {cell: int((len(chain) - 1 - k) % 4 >= 2) for chain in chains for k, cell in enumerate(chain)}
     other = {cell: 1 - bit for cell, bit in flush.items()}
     zeros = dict.fromkeys(flush, 0)
     items = [("call", *load_words(chains, longest, values, before)) for values, before in ((flush, None), (other, flush), (zeros, other))]
     before = None
-    for pattern, (outs, cells) in zip(patterns, captured):
-        items += [("call", *load_words(chains, longest, pattern, before)), vector(pattern, outs)]
+    for pattern, (vectors, cells) in zip(patterns, captured):
+        items += [("call", *load_words(chains, longest, pattern, before)), *vectors]
         before = cells
     return items + [("call", *load_words(chains, longest, zeros, before))]
 

@@ -8,6 +8,7 @@ from typing import NamedTuple
 
 import plain_check
 import plain_design as plain
+import plain_transition
 from fault_list import fault_list
 from plain_chains import chain_test
 from plain_check import ENDS
@@ -16,7 +17,7 @@ from plain_stil import Walk, cycles_in, is_stil, signals
 
 MOST_BYTES = 67_108_864
 MOST_LINES = 100_000  # of a netlist that the plain reader is given
-READ = {"scan": 1, "faults": 1, "run": 1, "play": 2, "chaintest": 2, "diagnose": 3, "sweep": 0}
+READ = {"scan": 1, "faults": 1, "run": 1, "transition": 1, "play": 2, "chaintest": 2, "diagnose": 3, "sweep": 0}
 NAME = r"[!$-&*+\--<>-~]+"  # bytes of .bench's names
 HELD = re.compile(f"{NAME}=[01](,{NAME}=[01])*")
 LOG = re.compile(rf"atpg fail log 1\n((0|[1-9]\d*) {NAME}\n)*")
@@ -28,6 +29,15 @@ class Unknown(Exception):
 
 class Refused(Exception):
     """A command that ends without writing: the status, and the pieces of its line."""
+
+
+class Begun(str):
+    """A text of which only the beginning is known."""
+
+    def __getitem__(self, part):
+        if part.stop > len(self):
+            raise Unknown
+        return str(self)[part]
 
 
 class Due(NamedTuple):
@@ -165,6 +175,8 @@ def diagnose(texts, options):
 
 def check(texts, _):
     netlist_of(texts[0])
+    if isinstance(texts[2], Begun):
+        raise Unknown
     status, line = plain_check.check({end: text.encode("latin-1") for end, text in zip(ENDS, texts)})
     if status > 1:
         raise Refused(status, line + "\n")
@@ -184,7 +196,34 @@ def run(texts, options, runs):
     return Due(made, " ".join(f"{word} {number[word]}" for word in ("faults", "detected", "redundant", "aborted", "patterns", "cycles")) + "\n")
 
 
-WORK = {"scan": scan, "faults": faults, "play": play, "chaintest": chaintest, "diagnose": diagnose, "check": check}
+def transition(texts, options):
+    """The texts of a test for slow lines. Every search comes to an end where the backtrack limit is that of all bits of the signals on which it
+    splits. The patterns are known where the tests of each fault are those of one cube, which is what a search that decides no more than it
+    needs finds. The searches choose the trees."""
+    netlist = netlist_of(texts[0])
+    limit, sources = int(options.get("--limit", "100")), len(netlist.inputs + netlist.cells)
+    if sources > plain_transition.MOST_SOURCES:
+        raise Unknown
+    if limit < 2 ** (plain_transition.most_places(netlist) if options.get("--engine") == "fan" else sources):
+        raise Unknown
+    chains = plain.chains_of(netlist.cells, asked_chains(options))
+    tests = plain_transition.tests_of(netlist)
+    detected = sum(bool(each) for each in tests)
+    totals = f"faults {len(tests)} detected {detected} redundant {len(tests) - detected} aborted 0"
+    cubes = [plain_transition.cube_of(each) for each in tests if each]
+    if None not in cubes:
+        patterns = plain_transition.filled(netlist, cubes, int(options.get("--seed", "1")))
+        situation = plain_transition.kept(netlist, chains, patterns)
+        stil = plain_transition.stil_of(netlist, chains, situation.patterns).decode()
+        report = plain_transition.report_of(situation, limit)
+        shown = f"{totals} patterns {len(situation.patterns)} cycles {situation.cycles()}\n"
+    else:
+        stil, report, shown = Begun("STIL 1.0;\n"), Begun("atpg transition 1\n"), Begun(totals)
+    made = [plain.canonical(netlist).decode(), plain.canonical(plain.scanned(netlist, chains)).decode(), stil]
+    return Due(made + [Begun("atpg transition certificate 1\n"), report], shown)
+
+
+WORK = {"scan": scan, "faults": faults, "play": play, "chaintest": chaintest, "diagnose": diagnose, "transition": transition, "check": check}
 
 
 def is_hold_list(told):
@@ -208,7 +247,7 @@ def read_in_order(command, given, files, shelf):
 
 def written(command, given, due, files, shelf):
     """Writes in order, up to the first that fails."""
-    names = [(given[1], f".{end}") for end in ENDS] if command == "run" else [(name, "") for name in given[1:]]
+    names = [(given[1], f".{end}") for end in ENDS] if command in ("run", "transition") else [(name, "") for name in given[1:]]
     for (name, end), text in zip(names, due.texts):
         kept = shelf.next()
         files[name + end] = text if kept is None else text[:kept]
@@ -227,7 +266,7 @@ def ending(words, files, fails, runs):
         due = run(texts, options, runs) if command == "run" else WORK[command](texts, options)
         written(command, given, due, files, shelf)
         kept = fails.out.get(1)
-        shown = due.shown[:kept]
+        shown = due.shown if kept is None else due.shown[:kept]
         if kept is not None:
             raise Refused(6, "write failed: -\n")
         return Ended(due.status, shown, "", files)

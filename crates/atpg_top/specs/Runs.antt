@@ -1,11 +1,13 @@
--- What `run` and `sweep` say.
+-- What `run`, `transition` and `sweep` say.
 use Rattle.std.specs.Prelude.{ℕ, ◌≡◌, ◌<◌, ◌++◌, List, [], ◌∷◌, Some, codes, decimal, slice_index, slice_set}
 use Rattle.std.specs.List.{slice_get}
 use Rattle.netlist.specs.Netlist.{Netlist, name_of}
 use Rattle.netlist.specs.Holds.{Holds}
+use Rattle.good_files.specs.GoodFiles.{Files}
 use Rattle.report.specs.Reports.{Report}
 use Rattle.words.specs.HoldLists.{Hold}
 use Rattle.commands.specs.World.{Text}
+use Rattle.test_files.specs.Runs.{files_of}
 use Rattle.test_files.specs.declared.files.TestFiles.{TestFiles}
 
 -- ---- held inputs by name
@@ -29,14 +31,17 @@ pub record IsFirstUnknown (n : Netlist) (named : List Hold) (place : ℕ) : Type
 -- ---- what is written and shown
 
 -- the five texts, in the order in which they are written
+abbrev pub texts_in : Files → List Text
+texts_in files = files.net ∷ files.scan ∷ files.stil ∷ files.certificate ∷ files.report ∷ []
+
 abbrev pub texts_made : TestFiles → List Text
-texts_made made = made.net.items ∷ made.scan.items ∷ made.stil.items ∷ made.certificate.items ∷ made.report.items ∷ []
+texts_made made = texts_in (files_of made)
 
 abbrev pub count_at : Report → ℕ → ℕ
 count_at r place = slice_index r.counts place
 
--- `faults 34 detected 34 redundant 0 aborted 0 patterns 9 cycles 9`, by the counts of the report
-abbrev pub run_line : Report → Text
-run_line r =
-    codes "faults " ++ (decimal (count_at r 5) ++ (codes " detected " ++ (decimal (count_at r 10) ++ (codes " redundant " ++ (decimal (count_at r 11)
-    ++ (codes " aborted " ++ (decimal (count_at r 12) ++ (codes " patterns " ++ (decimal (count_at r 7) ++ (codes " cycles " ++ (decimal (count_at r 8) ++ codes "\n")))))))))))
+-- `faults 34 detected 34 redundant 0 aborted 0 patterns 9 cycles 9`, by the counts of a report
+abbrev pub tests_line : List ℕ → Text
+tests_line counts =
+    codes "faults " ++ (decimal (slice_index counts 5) ++ (codes " detected " ++ (decimal (slice_index counts 10) ++ (codes " redundant " ++ (decimal (slice_index counts 11)
+    ++ (codes " aborted " ++ (decimal (slice_index counts 12) ++ (codes " patterns " ++ (decimal (slice_index counts 7) ++ (codes " cycles " ++ (decimal (slice_index counts 8) ++ codes "\n")))))))))))

@@ -8,10 +8,10 @@
 //! Gives: `top`, the whole program as one call.
 //! Proved: `top`: every status has its cause and says what stands. 0 means, of `scan`: the canonical text of the scanned netlist, which behaves as
 //! the original with scan off; of `faults`: exactly the list of faults with their classes; of `run`: good files of the netlist that was read, with
-//! the run theorem, and the line with their numbers; of `chaintest`: each fault of the scan hardware with what the file shows of it; of `diagnose`:
-//! exactly the faults that explain the log; of `sweep`: the numbers of good files of the sample netlist, whose test passes. 0 or 1 of `play` and
-//! `check` mean exactly what the player and the check answer, and hold on the chip from every power-up state where strobes are known. The laws: what
-//! is due of the same texts is alike; statuses exclude each other.
+//! the run theorem, and the line with their numbers; of `transition`: five files of slow lines that tell the truth; of `chaintest`: each fault of the
+//! scan hardware with what the file shows of it; of `diagnose`: exactly the faults that explain the log; of `sweep`: the numbers of good files of the
+//! sample netlist, whose test passes. 0 or 1 of `play` and `check` mean exactly what the player and the check answer, and hold on the chip from every
+//! power-up state where strobes are known. The laws: what is due of the same texts is alike; statuses exclude each other.
 //! Tested: that `run` heeds its options, by `list_tests` and `cases`.
 #![tactic(auto)]
 
@@ -30,6 +30,7 @@ mod checking;
 mod design;
 mod diagnosing;
 mod fault_list;
+mod five_files;
 mod holding;
 mod laws;
 mod lines;
@@ -39,6 +40,7 @@ mod reading;
 mod refusal;
 mod running;
 mod scanning;
+mod slow_lines;
 mod status;
 mod sweeping;
 mod told_lines;
@@ -58,6 +60,7 @@ use playing::play_test;
 use refusal::Refusal;
 use running::run_netlist;
 use scanning::scan_netlist;
+use slow_lines::test_slow_lines;
 use status::Status;
 use std::alloc::Global;
 use std::sync::Wait;
@@ -116,6 +119,11 @@ fn perform<'a, R: Threads + Wait + Sync, S: Shelf, T: Sink, G: Gate + Sync>(
             log,
             options,
         } => diagnose_log(rt, alloc, shelf, out, net, stil, log, *options),
+        Request::Transition {
+            net,
+            prefix,
+            options,
+        } => test_slow_lines(rt, alloc, shelf, out, net, prefix, *options),
     }
 }
 

@@ -22,9 +22,10 @@ ghost use Rattle.atpg_top.specs.Commands.{sweep_due};
 ghost use Rattle.atpg_top.specs.Plays.{IsPlay};
 ghost use Rattle.atpg_top.specs.Sweeps.{IsPlayedBack, IsSweep, IsSweepRun, number_line, sweep_chains, sweep_text};
 
+use crate::five_files::push_count;
 use crate::playing::answer_of;
 use crate::refusal::Refusal;
-use crate::running::{made_of, push_count};
+use crate::running::made_of;
 use chain_stitch::stitch;
 use commands::{Ending, Finding, Product, Stop, deliver};
 use net_gen::{generate, samples_are_designs};

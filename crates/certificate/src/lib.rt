@@ -19,4 +19,4 @@ mod writing;
 pub use laws::one_certificate;
 pub use one_tree::is_one_tree;
 pub use reading::{CertFault, read_trees};
-pub use writing::write_trees;
+pub use writing::{push_nodes, write_trees};

@@ -12,7 +12,7 @@ mod named_faults;
 mod signal_names;
 
 pub use fault_sets::{FaultSet, branches, signal_count, universe};
-pub use fault_texts::{push_text, text_of};
+pub use fault_texts::{push_line, push_text, text_of};
 pub use laws::{faults_have_lines, faults_have_signals, few_faults, texts_differ};
 pub use named_faults::fault_named;
 pub use signal_names::SignalNames;

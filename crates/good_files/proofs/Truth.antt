@@ -70,7 +70,7 @@ read_back law n sound text is =
 -- ---- lines
 
 -- every line is of one of the three kinds
-all_kinds : (lines : List Line) → count_of detected_one lines + count_of redundant_one lines + count_of aborted_one lines ≡ length lines
+pub all_kinds : (lines : List Line) → count_of detected_one lines + count_of redundant_one lines + count_of aborted_one lines ≡ length lines
 all_kinds [] = refl
 all_kinds (l ∷ ls) =
     let d = sum_by-cons (λ (m : Line). detected_one m.outcome) l ls in

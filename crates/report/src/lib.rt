@@ -25,4 +25,4 @@ pub use outcomes::Outcome;
 pub use pieces::{behind, is_word};
 pub use reading::{ReportFault, read_report};
 pub use reports::Report;
-pub use writing::write_report;
+pub use writing::{push_counts, push_faults, push_share, write_report};

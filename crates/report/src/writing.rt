@@ -44,8 +44,8 @@ fn push_hundredths(out: &mut Vec<u8>, share: u128) -> Result<(), AllocError>
     push_number(out, (share % 10) as u64)
 }
 
-/// `coverage 83.05`
-fn push_share(out: &mut Vec<u8>, word: &[u8], share: u128) -> Result<(), AllocError>
+/// Adds the line of a share, `coverage 83.05`, behind its word.
+pub fn push_share(out: &mut Vec<u8>, word: &[u8], share: u128) -> Result<(), AllocError>
     requires { share / 100 < 2 ^ 64 }
     ensures { OnOk result (out.new.items ≡ out.old.items ++ share_line word.now share) }
 {
@@ -108,7 +108,8 @@ fn push_fault(
     out.extend_from_slice(b"\n")
 }
 
-fn push_faults(out: &mut Vec<u8>, lines: &FaultLines) -> Result<(), AllocError>
+/// Adds the lines of faults.
+pub fn push_faults(out: &mut Vec<u8>, lines: &FaultLines) -> Result<(), AllocError>
     ensures { OnOk result (out.new.items ≡ out.old.items ++ flat_map fault_line lines.now) }
 {
     for k in 0..lines.len() {
@@ -142,7 +143,8 @@ pub(crate) fn count_word(place: usize) -> &'static [u8]
     }
 }
 
-fn push_counts(out: &mut Vec<u8>, counts: &[u64]) -> Result<(), AllocError>
+/// Adds the lines of the counts.
+pub fn push_counts(out: &mut Vec<u8>, counts: &[u64]) -> Result<(), AllocError>
     requires { length counts.now ≡ count_of_counts }
     ensures { OnOk result (out.new.items ≡ out.old.items ++ counts_text count_words counts.now) }
 {

@@ -2,7 +2,7 @@
 ghost use Rattle.std.specs.Prelude.{◌≡◌, ◌+◌, ◌-◌, ◌*◌, ◌<◌, ◌≤◌, ◌^◌, length, IfOk};
 ghost use Rattle.std.specs.List.{All};
 ghost use Rattle.scan_insert.specs.Scanned.{AreChainsOf};
-ghost use Rattle.run_report.specs.Heads.{aborted_one, count_of, counts_of, cycle_count, detected_one, redundant_one, share_of};
+ghost use Rattle.run_report.specs.Heads.{aborted_one, count_of, counts_of, counts_with, detected_one, redundant_one, share_of};
 ghost use Rattle.run_report.specs.inner.Tallies.{AreTallied};
 
 use chain_stitch::Chains;
@@ -69,7 +69,44 @@ fn cycles_of(longest: u64, patterns: u64) -> u64
     (patterns + 4) * longest + patterns
 }
 
-/// The counts of a report: of a netlist and its chains, of so many faults, classes and patterns, with this backtrack limit, and of its lines.
+/// The counts of a report: of a netlist and its chains, of so many faults, classes, patterns and cycles, with this backtrack limit, and of its lines.
+pub fn counts_with(
+    alloc: Global,
+    netlist: &Netlist,
+    chains: &Chains,
+    faults: u32,
+    classes: u32,
+    patterns: u32,
+    cycles: u64,
+    limit: u64,
+    lines: &FaultLines,
+) -> Result<Vec<u64>, AllocError>
+    ensures counts { IfOk result (λ v. v.items ≡ counts_with netlist.now chains.now faults classes patterns cycles limit lines.now) }
+    ensures small { IfOk result (λ v. All (λ k. k < 2 ^ 64) v.items) }
+{
+    netlist.sound();
+    let tally = tally_of(lines);
+    let cells = netlist.cells().len();
+    let counts = [
+        netlist.inputs().len() as u64,
+        netlist.outputs().len() as u64,
+        (netlist.definitions().len() - cells) as u64,
+        cells as u64,
+        chains.count() as u64,
+        faults as u64,
+        classes as u64,
+        patterns as u64,
+        cycles,
+        limit,
+        tally.detected,
+        tally.redundant,
+        tally.aborted,
+        tally.redundant + tally.aborted,
+    ];
+    Vec::from_slice(alloc, &counts)
+}
+
+/// The counts of the report of a test of stuck lines.
 pub fn counts_of(
     alloc: Global,
     netlist: &Netlist,
@@ -85,25 +122,10 @@ pub fn counts_of(
     ensures small { IfOk result (λ v. All (λ k. k < 2 ^ 64) v.items) }
 {
     netlist.sound();
-    let tally = tally_of(lines);
-    let cells = netlist.cells().len();
-    let counts = [
-        netlist.inputs().len() as u64,
-        netlist.outputs().len() as u64,
-        (netlist.definitions().len() - cells) as u64,
-        cells as u64,
-        chains.count() as u64,
-        faults as u64,
-        classes as u64,
-        patterns as u64,
-        cycles_of(chains.longest() as u64, patterns as u64),
-        limit,
-        tally.detected,
-        tally.redundant,
-        tally.aborted,
-        tally.redundant + tally.aborted,
-    ];
-    Vec::from_slice(alloc, &counts)
+    let cycles = cycles_of(chains.longest() as u64, patterns as u64);
+    counts_with(
+        alloc, netlist, chains, faults, classes, patterns, cycles, limit, lines,
+    )
 }
 
 /// So many of all faults, in hundredths of a percent, rounded down.

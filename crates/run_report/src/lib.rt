@@ -13,7 +13,7 @@ mod sights;
 mod strobes;
 mod subjects;
 
-pub use heads::{Tally, counts_of, share_of, tally_of};
+pub use heads::{Tally, counts_of, counts_with, share_of, tally_of};
 pub use held::hold_lines;
 pub use pins::pin_names;
 pub use sights::{Sight, sight_of};

@@ -1,12 +1,12 @@
--- What is detected is seen at points of the netlist, and its faults and trees are named by signals of it.
-use Rattle.std.proofs.Common.{◌≡◌, ℕ, zero, suc, ◌<◌, false, List, [], ◌∷◌, ◌++◌, length, get_or, Some, refl, sym, ◌∙◌, ap, subst, arith}
+-- The points of verdicts are those of the netlist, and its faults and trees are named by signals of it.
+use Rattle.std.proofs.Common.{◌≡◌, ℕ, zero, suc, ◌<◌, List, [], ◌∷◌, ◌++◌, length, get_or, Some, refl, sym, ◌∙◌, ap, subst, arith, false}
 use Rattle.std.specs.List.{All, slice_get}
-use Rattle.std.proofs.lemmas.List.Elements.{All-nil, All-cons, All-from_get_or, All-head, All-tail}
+use Rattle.std.proofs.lemmas.List.Elements.{All-append, All-nil, All-cons, All-from_get_or}
 use Rattle.std.proofs.lemmas.Option.{slice_get-get_or, slice_get_within}
 use Rattle.netlist.proofs.Lists.{All-from_contains}
 use Rattle.netlist.specs.declared.lines.Line.TheVariants.{Stem}
 use Rattle.netlist.specs.declared.lines.Fault.{Fault}
-use Rattle.netlist.specs.Netlist.{Netlist, cells, signal_count, signals}
+use Rattle.netlist.specs.Netlist.{Netlist, signal_count}
 use Rattle.netlist.specs.Conditions.{IsSound}
 use Rattle.netlist.specs.Holds.{Holds}
 use Rattle.netlist.specs.Lines.{IsLineOf, signal_of}
@@ -16,20 +16,15 @@ use Rattle.fault_universe.proofs.Elements.{contains_at}
 use Rattle.fault_universe.specs.Universe.{universe_of}
 use Rattle.fault_collapse.specs.Classes.{AreClasses}
 use Rattle.fault_collapse.specs.Numbers.{Classes}
-use Rattle.redundancy_cert.specs.declared.nodes.Node.TheVariants as node
 use Rattle.certificate.specs.Certificates.{IsNamed}
+use Rattle.certificate.proofs.NamedTrees.{nodes_named}
 use Rattle.run_report.proofs.PointLemmas.{point_inside}
-use Rattle.good_files.proofs.TreeLemmas.{fitting_named}
 use Rattle.list_core.specs.declared.verdicts.Verdict.{Verdict}
 use Rattle.list_core.specs.declared.verdicts.Verdict.TheVariants.{Open, Detected, Redundant, Aborted}
 use Rattle.list_core.specs.Verdicts.{verdict_at}
 use Rattle.report.specs.Reports.{IsLine, Line}
 use Rattle.test_files.specs.inner.Outcomes.{AreLines}
 use Rattle.test_files.specs.inner.Verdicts.{AreVerdicts, IsInside, IsVerdict, leaf_at, leaves_of}
-
-joined : {X : Type 0} (P : X → Type 0) (xs ys : List X) → All P xs → All P ys → All P (xs ++ ys)
-joined P [] ys h k = k
-joined P (x ∷ xs) ys h k = All-cons P x (xs ++ ys) (All-head P x xs h) (joined P xs ys (All-tail P x xs h) k)
 
 -- ---- points
 
@@ -78,7 +73,7 @@ leaves_named n sound holds limit patterns [] vs size each = All-nil (IsNamed n)
 leaves_named n sound holds limit patterns (f ∷ fs) [] size each = absurd (omega arith)
 leaves_named n sound holds limit patterns (f ∷ fs) (v ∷ vs) size each =
     let here = each zero f refl in
-    joined (IsNamed n) (leaf_at f v) (leaves_of fs vs) (leaf_named n sound holds limit patterns f v here.0 here.1)
+    All-append (IsNamed n) (leaf_at f v) (leaves_of fs vs) (leaf_named n sound holds limit patterns f v here.0 here.1)
     (leaves_named n sound holds limit patterns fs vs (omega arith) (λ class g at. each (suc class) g at))
 
 pub all_named : FaultsHaveSignals → (n : Netlist) → IsSound n → (holds : Holds) (classes : Classes) → AreClasses n classes → (limit : ℕ) (patterns : List Pattern) (verdicts : List Verdict)

@@ -1,5 +1,5 @@
 -- What every report is.
-use Rattle.std.proofs.Common.{ℕ, ◌*◌, ◌/◌, ◌<◌, ◌≤◌, Bool, List, [], ◌∷◌, ◌++◌, length, map, Option, Some, None, arith, div-le_self}
+use Rattle.std.proofs.Common.{ℕ, ◌<◌, Bool, List, [], ◌∷◌, ◌++◌, length, map, Option, Some, None}
 use Rattle.std.specs.List.{All, flat_map, zip}
 use Rattle.std.proofs.lemmas.List.Elements.{All-nil, All-cons, All-head, All-tail, Contains-append_left}
 use Rattle.netlist.specs.Netlist.{Definition, Netlist, name_of}
@@ -7,14 +7,8 @@ use Rattle.netlist.specs.Conditions.{IsSound}
 use Rattle.netlist.specs.Holds.{Holds}
 use Rattle.netlist.proofs.Lists.{All-from_contains}
 use Rattle.report.specs.Reports.{Hold, IsWord}
-use Rattle.run_report.specs.Heads.{hold_at, holds_named, share_of}
+use Rattle.run_report.specs.Heads.{hold_at, holds_named}
 use Rattle.run_report.proofs.WordLemmas.{name_word}
-
-pub share_small : (faults count : ℕ) → count ≤ 9000000000 → share_of faults count / 100 < 18446744073709551616
-share_small faults count few =
-    let whole = div-le_self (10000 * count) faults in
-    let part = div-le_self (share_of faults count) 100 in
-    omega (arith, whole, part, few)
 
 joined : {X : Type 0} (P : X → Type 0) (xs ys : List X) → All P xs → All P ys → All P (xs ++ ys)
 joined P [] ys h k = k

@@ -1,7 +1,6 @@
 -- The verdicts of a finished list.
-use Rattle.std.proofs.Common.{◌≡◌, ℕ, zero, suc, ◌<◌, ◌≤◌, inl, inr, Bool, cond, true, false, true≢false, List, [], ◌∷◌, length, get_or, Some, refl, sym, ◌∙◌, ap, subst, arith}
+use Rattle.std.proofs.Common.{◌≡◌, ℕ, zero, suc, ◌<◌, ◌≤◌, inl, inr, Bool, false, true≢false, List, [], ◌∷◌, length, get_or, Some, refl, sym, ◌∙◌, ap, subst, arith}
 use Rattle.std.specs.List.{All}
-use Rattle.std.proofs.lemmas.List.Elements.{All-nil, All-cons, All-head, All-tail}
 use Rattle.std.proofs.lemmas.Bool.{cases_order}
 use Rattle.std.proofs.lemmas.Option.{slice_get-get_or, slice_get_within}
 use Rattle.netlist.specs.Netlist.{Netlist}
@@ -13,7 +12,7 @@ use Rattle.netlist.specs.Detection.{Detects}
 use Rattle.cubes.specs.Cubes.{Pattern, IsPatternOf}
 use Rattle.redundancy_cert.specs.Fits.{Fits}
 use Rattle.word_sim.specs.Hits.{IsNeverDetected}
-use Rattle.reverse_compact.specs.Kept.{kept_from}
+use Rattle.reverse_compact.proofs.KeepLemmas.{kept_all}
 use Rattle.reverse_compact.specs.Finished.{AreFinished}
 use Rattle.worker.specs.Working.{NoneOpen}
 use Rattle.list_core.specs.Subjects.{Subject, Represents}
@@ -22,21 +21,6 @@ use Rattle.list_core.specs.declared.verdicts.Verdict.{Verdict}
 use Rattle.list_core.specs.declared.verdicts.Verdict.TheVariants.{Open, Detected, Redundant, Aborted}
 use Rattle.list_core.specs.Verdicts.{VerdictHolds, is_open, verdict_at}
 use Rattle.test_files.specs.inner.Verdicts.{AreVerdicts, IsVerdict}
-
-kept_all : {X : Type 0} (P : X → Type 0) (marked : ℕ → Bool) (k : ℕ) (xs : List X) → All P xs → All P (kept_from marked k xs)
-kept_all P marked k [] h = All-nil P
-kept_all P marked k (x ∷ xs) h =
-    let rest = kept_all P marked (suc k) xs (All-tail P x xs h) in
-    elim (marked k) as (λ (b : Bool). All P (cond b (x ∷ kept_from marked (suc k) xs) (kept_from marked (suc k) xs))) [
-      | true ↦ All-cons P x (kept_from marked (suc k) xs) (All-head P x xs h) rest
-      | false ↦ rest
-    ]
-
-pub kept_few : {X : Type 0} (marked : ℕ → Bool) (k : ℕ) (xs : List X) → length (kept_from marked k xs) ≤ length xs
-kept_few marked k [] = omega arith
-kept_few marked k (x ∷ xs) =
-    let rest = kept_few marked (suc k) xs in
-    elim (marked k) as (λ (b : Bool). length (cond b (x ∷ kept_from marked (suc k) xs) (kept_from marked (suc k) xs)) ≤ suc (length xs)) [ true ↦ omega arith | false ↦ omega arith ]
 
 same_fault : (j : Subject) (class : ℕ) (f g : Fault) → Represents j class f → Represents j class g → f ≡ g
 same_fault j class f g p q = let both : Some f ≡ Some g = sym p ∙ q in cc

@@ -9,7 +9,7 @@ use Rattle.clap.specs.Faults.{fault_of}
 use Rattle.clap.specs.declared.error.Error.{Error}
 use Rattle.clap.specs.declared.error.kind.ErrorKind.{ErrorKind}
 use Rattle.clap.specs.declared.error.kind.ErrorKind.TheVariants.{OutOfMemory}
-use Rattle.words.specs.CommandLine.{CommandLine, NoLine, bad_words, chaintest_of, check_of, command_line, diagnose_of, faults_of, line_at, line_by, line_from, line_where_taken, play_of, run_of, scan_of, sweep_of}
+use Rattle.words.specs.CommandLine.{CommandLine, NoLine, bad_words, chaintest_of, check_of, command_line, diagnose_of, faults_of, line_at, line_by, line_from, line_where_taken, play_of, run_of, scan_of, sweep_of, transition_of}
 use Rattle.words.specs.Refusals.{IsCause}
 use Rattle.words.specs.inner.Errors.{BecomesRefusal, IsAsked, IsMadeOf}
 use Rattle.words.specs.Table.{command_table}
@@ -98,6 +98,10 @@ pub is_diagnose : (rows : List Row) → line_from (diagnose_of rows) ≡ line_by
 unfolding line_by
 is_diagnose rows = refl
 
+pub is_transition : (rows : List Row) → line_from (transition_of rows) ≡ line_by (codes "transition") rows
+unfolding line_by
+is_transition rows = refl
+
 passed : (name word : Text) (a b : Line) → (name ≡ word → ⊥) → b ≡ (if bytes_eq name word then a else b)
 passed name word a b differs =
     sym (cond-false (bytes_eq name word) a b (false_from_ne_true _ (λ h. differs ((bytes_eq-Decides name word).0 h))))
@@ -112,10 +116,11 @@ pub record IsNoCommand (name : Text) : Type 0 where
   pub sweep : name ≡ codes "sweep" → ⊥
   pub chaintest : name ≡ codes "chaintest" → ⊥
   pub diagnose : name ≡ codes "diagnose" → ⊥
+  pub transition : name ≡ codes "transition" → ⊥
 
 pub is_none : (name : Text) (rows : List Row) → IsNoCommand name → line_by name rows ≡ Err bad_words
 unfolding line_by
 is_none name rows other = sym (
-    passed name _ _ _ other.diagnose ∙ passed name _ _ _ other.chaintest ∙ passed name _ _ _ other.sweep ∙ passed name _ _ _ other.check ∙ passed name _ _ _ other.play ∙ passed name _ _ _ other.run
+    passed name _ _ _ other.transition ∙ passed name _ _ _ other.diagnose ∙ passed name _ _ _ other.chaintest ∙ passed name _ _ _ other.sweep ∙ passed name _ _ _ other.check ∙ passed name _ _ _ other.play ∙ passed name _ _ _ other.run
     ∙ passed name _ _ _ other.faults ∙ passed name _ _ _ other.scan
     )

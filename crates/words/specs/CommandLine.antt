@@ -33,6 +33,8 @@ pub data CommandLine : Type 0 where
   chaintest : Text → Text → ℕ → CommandLine
   -- the design's file, the STIL file, the file of the tester's log, and the numbers
   diagnose : Text → Text → Text → DiagnoseOptions → CommandLine
+  -- the netlist's file, what the names of the files written begin with, and the numbers
+  transition : Text → Text → RunOptions → CommandLine
 
 -- Why words are no command line: by `clap`'s rule, or the form or range of a value; or, all else being in order, by the list of held inputs.
 pub data NoLine : Type 0 where
@@ -67,7 +69,7 @@ engine_given (Some text) =
     else if bytes_eq text (codes "fan") then Some Fan
     else None
 
--- the engine of `run` with its numbers, 1, 1, 100 and 1 where they aren't given
+-- the engine of a command that searches, with its numbers, 1, 1, 100 and 1 where they aren't given
 abbrev pub options_of : EngineName → List Row → Option RunOptions
 options_of engine rows = option_and_then (λ chains. option_and_then (λ workers. option_and_then (λ limit.
     option_map (λ seed. record { engine = engine; chains = chains; workers = workers; limit = limit; seed = seed })
@@ -76,22 +78,30 @@ options_of engine rows = option_and_then (λ chains. option_and_then (λ workers
     (number_at (codes "workers") 1 1 most_workers rows))
     (number_at (codes "chains") 1 1 most_chains rows)
 
+-- the netlist's file, what the names of the files written begin with, and the engine and the numbers
+abbrev pub Search : Type 0
+Search = Text × Text × RunOptions
+
+-- what `run` and `transition` are given alike
+abbrev pub search_of : List Row → Option Search
+search_of rows = option_and_then (λ engine. option_and_then (λ net. option_and_then (λ prefix.
+    option_map (λ options. (net, prefix, options)) (options_of engine rows))
+    (first_of (codes "PREFIX") rows)) (first_of (codes "NET") rows)) (engine_given (first_of (codes "engine") rows))
+
 abbrev pub holds_given : Option Text → Option (List Hold)
 holds_given None = Some []
 holds_given (Some text) = holds_in text
 
-abbrev pub run_where : Option Text → Option Text → Option RunOptions → Option (List Hold) → Result CommandLine NoLine
-run_where (Some net) (Some prefix) (Some options) (Some holds) = Ok (run net prefix options holds)
-run_where (Some net) (Some prefix) (Some options) None = Err bad_hold
-run_where _ _ _ _ = Err bad_words
-
-abbrev pub run_by : Option EngineName → List Row → Result CommandLine NoLine
-run_by (Some engine) rows =
-    run_where (first_of (codes "NET") rows) (first_of (codes "PREFIX") rows) (options_of engine rows) (holds_given (first_of (codes "hold") rows))
-run_by None rows = Err bad_words
+abbrev pub run_where : Option Search → Option (List Hold) → Result CommandLine NoLine
+run_where (Some s) (Some holds) = Ok (run s.0 s.1 s.2 holds)
+run_where (Some s) None = Err bad_hold
+run_where None _ = Err bad_words
 
 abbrev pub run_of : List Row → Result CommandLine NoLine
-run_of rows = run_by (engine_given (first_of (codes "engine") rows)) rows
+run_of rows = run_where (search_of rows) (holds_given (first_of (codes "hold") rows))
+
+abbrev pub transition_of : List Row → Option CommandLine
+transition_of rows = option_map (λ s. transition s.0 s.1 s.2) (search_of rows)
 
 abbrev pub play_of : List Row → Option CommandLine
 play_of rows = option_and_then (λ net. option_map (λ stil. play net stil (first_of (codes "fault") rows))
@@ -131,6 +141,7 @@ line_by name rows =
     else if bytes_eq name (codes "sweep") then line_from (sweep_of rows)
     else if bytes_eq name (codes "chaintest") then line_from (chaintest_of rows)
     else if bytes_eq name (codes "diagnose") then line_from (diagnose_of rows)
+    else if bytes_eq name (codes "transition") then line_from (transition_of rows)
     else Err bad_words
 
 abbrev pub line_at : Option (Text × List Row) → Result CommandLine NoLine
@@ -162,6 +173,7 @@ line_of (request.Check prefix) = check prefix.now
 line_of (request.Sweep seed gates) = sweep seed gates
 line_of (request.ChainTest net stil chains) = chaintest net.now stil.now chains
 line_of (request.Diagnose net stil log options) = diagnose net.now stil.now log.now options
+line_of (request.Transition net prefix options) = transition net.now prefix.now options
 
 pub record AreInRange (options : RunOptions) : Type 0 where
   pub chains : (1 ≤ options.chains) × (options.chains ≤ most_chains)
@@ -179,4 +191,5 @@ IsInRange (request.Run net prefix options holds) = AreInRange options
 IsInRange (request.Sweep seed gates) = (least_gates ≤ gates) × (gates ≤ most_gates)
 IsInRange (request.ChainTest net stil chains) = (1 ≤ chains) × (chains ≤ most_chains)
 IsInRange (request.Diagnose net stil log options) = AreWithin options
+IsInRange (request.Transition net prefix options) = AreInRange options
 IsInRange _ = ⊤

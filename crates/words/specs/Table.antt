@@ -1,5 +1,5 @@
 -- The table of commands, in the terms of `clap`: what a parse reads of a command.
-use Rattle.std.specs.Prelude.{ℕ, true, false, List, [], ◌∷◌, Some, codes}
+use Rattle.std.specs.Prelude.{ℕ, ◌++◌, true, false, List, [], ◌∷◌, Some, codes}
 use Rattle.clap.specs.Words.{App, Rule, Shape, Text, new_rule}
 use Rattle.clap.specs.Simple.{new_shape}
 use Rattle.clap.specs.declared.builder.value_parser.ValueParser.TheVariants.{Unsigned}
@@ -54,12 +54,16 @@ scan_command = command (codes "scan")
 abbrev pub faults_command : Shape
 faults_command = command (codes "faults") (required (codes "NET") ∷ [])
 
--- run NET PREFIX [--chains C] [--workers N] [--limit L] [--seed S] [--engine E] [--hold LIST]
-abbrev pub run_command : Shape
-run_command = command (codes "run")
-    (required (codes "NET") ∷ required (codes "PREFIX") ∷ number_option (codes "chains") 1 most_chains
+-- what `run` and `transition` have alike: NET PREFIX [--chains C] [--workers N] [--limit L] [--seed S] [--engine E]
+abbrev pub search_rules : List Rule
+search_rules =
+    required (codes "NET") ∷ required (codes "PREFIX") ∷ number_option (codes "chains") 1 most_chains
     ∷ number_option (codes "workers") 1 most_workers ∷ number_option (codes "limit") 1 most_limit
-    ∷ number_option (codes "seed") 0 most_seed ∷ text_option (codes "engine") ∷ text_option (codes "hold") ∷ [])
+    ∷ number_option (codes "seed") 0 most_seed ∷ text_option (codes "engine") ∷ []
+
+-- run NET PREFIX .. [--hold LIST]
+abbrev pub run_command : Shape
+run_command = command (codes "run") (search_rules ++ text_option (codes "hold") ∷ [])
 
 -- play NET STIL [--fault F]
 abbrev pub play_command : Shape
@@ -85,6 +89,10 @@ diagnose_command = command (codes "diagnose")
     (required (codes "NET") ∷ required (codes "STIL") ∷ required (codes "LOG") ∷ number_option (codes "chains") 1 most_chains
     ∷ number_option (codes "workers") 1 most_workers ∷ [])
 
+-- transition NET PREFIX ..
+abbrev pub transition_command : Shape
+transition_command = command (codes "transition") search_rules
+
 -- the program, before its commands: it has a version and needs a command, and `help` is none
 abbrev pub program : App
 program = record {
@@ -99,5 +107,5 @@ program = record {
 unfoldable pub command_table : App
 command_table = record {
   top = record program.top { is_leaf = false };
-  subs = scan_command ∷ faults_command ∷ run_command ∷ play_command ∷ check_command ∷ sweep_command ∷ chaintest_command ∷ diagnose_command ∷ [];
+  subs = scan_command ∷ faults_command ∷ run_command ∷ play_command ∷ check_command ∷ sweep_command ∷ chaintest_command ∷ diagnose_command ∷ transition_command ∷ [];
 }

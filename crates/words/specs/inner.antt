@@ -1,4 +1,5 @@
 pub mod Errors
 pub mod Held
 pub mod Padding
-pub mod RunTable
+pub mod SearchTable
+pub mod Searches

@@ -17,8 +17,9 @@ ghost use Rattle.words.specs.Table.{
   scan_command,
   sweep_command,
   text_option,
+  transition_command,
 };
-ghost use Rattle.words.specs.inner.RunTable.{run_by_numbers};
+ghost use Rattle.words.specs.inner.SearchTable.{with_search};
 
 use clap::builder::ValueParser;
 use clap::{Arg, Command};
@@ -144,12 +145,12 @@ fn faults<'a>(alloc: Global) -> Result<Command<'a>, AllocError>
     with_required(alloc, command, "NET", "The netlist, a .bench file")
 }
 
-// `run` with its numbers, before the engine and the held inputs.
-fn run_by_numbers<'a>(alloc: Global) -> Result<Command<'a>, AllocError>
-    ensures app { IfOk result (λ c. app_of c ≡ run_by_numbers) }
-    ensures local { IfOk result (λ c. (fields_of c).has_globals ≡ false) }
+// With what `run` and `transition` have alike.
+fn with_search<'a>(alloc: Global, command: Command<'a>) -> Result<Command<'a>, AllocError>
+    ensures app { IfOk result (λ c. app_of c ≡ with_search (app_of command.entry)) }
+    ensures local { (fields_of command.entry).has_globals ≡ false
+        → IfOk result (λ c. (fields_of c).has_globals ≡ false) }
 {
-    let command = Command::new(alloc, "run").about("Searches tests for the faults of a netlist");
     let command = with_required(alloc, command, "NET", "The netlist, a .bench file")?;
     let help = "What the names of the five files begin with";
     let command = with_required(alloc, command, "PREFIX", help)?;
@@ -160,22 +161,28 @@ fn run_by_numbers<'a>(alloc: Global) -> Result<Command<'a>, AllocError>
     let help = "The backtrack limit: how many ends a search may close, 1 to 100000 [default: 100]";
     let command = with_number(alloc, command, "limit", 1, MOST_LIMIT, help)?;
     let help = "What free bits are drawn from [default: 1]";
-    with_number(alloc, command, "seed", 0, u64::MAX, help)
+    let command = with_number(alloc, command, "seed", 0, u64::MAX, help)?;
+    let help = "The search: podem or fan [default: podem]";
+    with_text(alloc, command, "engine", help)
 }
 
 fn run<'a>(alloc: Global) -> Result<Command<'a>, AllocError>
     ensures shape { IfOk result (λ c. shape_of c ≡ run_command) }
     ensures local { IfOk result (λ c. (fields_of c).has_globals ≡ false) }
 {
-    let command = run_by_numbers(alloc)?;
-    let command = with_text(
-        alloc,
-        command,
-        "engine",
-        "The search: podem or fan [default: podem]",
-    )?;
+    let command = Command::new(alloc, "run").about("Searches tests for the faults of a netlist");
+    let command = with_search(alloc, command)?;
     let help = "Inputs that are held, as NAME=0,NAME=1";
     with_text(alloc, command, "hold", help)
+}
+
+fn transition<'a>(alloc: Global) -> Result<Command<'a>, AllocError>
+    ensures shape { IfOk result (λ c. shape_of c ≡ transition_command) }
+    ensures local { IfOk result (λ c. (fields_of c).has_globals ≡ false) }
+{
+    let about = "Searches tests for the slow lines of a netlist";
+    let command = Command::new(alloc, "transition").about(about);
+    with_search(alloc, command)
 }
 
 fn play<'a>(alloc: Global) -> Result<Command<'a>, AllocError>
@@ -272,5 +279,6 @@ pub(crate) fn table<'a>(alloc: Global) -> Result<Command<'a>, AllocError>
     let table = with_command(table, sweep(alloc)?)?;
     let table = with_command(table, chaintest(alloc)?)?;
     let table = with_command(table, diagnose(alloc)?)?;
+    let table = with_command(table, transition(alloc)?)?;
     Ok(table)
 }

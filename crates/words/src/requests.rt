@@ -18,10 +18,13 @@ ghost use Rattle.words.specs.CommandLine.{
   play_of,
   run_of,
   scan_of,
+  search_of,
   sweep_of,
+  transition_of,
 };
 ghost use Rattle.words.specs.inner.Errors.{IsAsked};
 ghost use Rattle.words.specs.inner.Held.{AreHeld};
+ghost use Rattle.words.specs.inner.Searches.{IsSearch};
 
 use crate::commands::{LEAST_GATES, MOST_CHAINS, MOST_GATES, MOST_LIMIT, MOST_WORKERS};
 use crate::holds::{Held, holds_in};
@@ -36,7 +39,7 @@ pub enum EngineName {
     Fan,
 }
 
-/// The engine and the numbers of `run`.
+/// The engine and the numbers of `run` and of `transition`.
 #[derive(Clone, Copy, Debug, PartialEq, Eq)]
 pub struct RunOptions {
     pub engine: EngineName,
@@ -109,6 +112,21 @@ pub enum Request<'a> {
         log: &'a str,
         options: DiagnoseOptions,
     },
+    /// Search tests for the slow lines of the netlist of the file `net`, and write the files whose
+    /// names begin with `prefix`.
+    Transition {
+        net: &'a str,
+        prefix: &'a str,
+        options: RunOptions,
+    },
+}
+
+// What `run` and `transition` are given alike.
+#[derive(Clone, Copy, Debug)]
+struct SearchLine<'a> {
+    net: &'a str,
+    prefix: &'a str,
+    options: RunOptions,
 }
 
 /// Why the values of a command make no request.
@@ -246,9 +264,10 @@ fn holds<'a>(alloc: Global, found: &ArgMatches<'a>) -> Result<Vec<Held<'a>>, NoR
     }
 }
 
-fn run<'a>(alloc: Global, found: &ArgMatches<'a>) -> Result<Request<'a>, NoRequest>
-    ensures line { IsAsked (run_of (rows_of (found_of found.now))) result }
-    ensures in_range { IfOk result IsInRange }
+// What a command that searches is given, or what is in the way.
+fn search_line<'a>(found: &ArgMatches<'a>) -> Result<SearchLine<'a>, NoRequest>
+    ensures value { IsSearch (search_of (rows_of (found_of found.now))) result }
+    ensures in_range { IfOk result (λ line. AreInRange line.options) }
 {
     let Some(engine) = engine(found) else {
         return Err(NoRequest::BadEngine);
@@ -259,15 +278,44 @@ fn run<'a>(alloc: Global, found: &ArgMatches<'a>) -> Result<Request<'a>, NoReque
     let Some(prefix) = text(found, "PREFIX") else {
         return Err(NoRequest::BadNumber);
     };
-    let Some(options) = options(found, engine) else {
-        return Err(NoRequest::BadNumber);
-    };
-    match holds(alloc, found) {
-        Ok(holds) => Ok(Request::Run {
+    match options(found, engine) {
+        Some(options) => Ok(SearchLine {
             net,
             prefix,
             options,
+        }),
+        None => Err(NoRequest::BadNumber),
+    }
+}
+
+fn run<'a>(alloc: Global, found: &ArgMatches<'a>) -> Result<Request<'a>, NoRequest>
+    ensures line { IsAsked (run_of (rows_of (found_of found.now))) result }
+    ensures in_range { IfOk result IsInRange }
+{
+    let line = match search_line(found) {
+        Ok(line) => line,
+        Err(none) => return Err(none),
+    };
+    match holds(alloc, found) {
+        Ok(holds) => Ok(Request::Run {
+            net: line.net,
+            prefix: line.prefix,
+            options: line.options,
             holds,
+        }),
+        Err(none) => Err(none),
+    }
+}
+
+fn transition<'a>(found: &ArgMatches<'a>) -> Result<Request<'a>, NoRequest>
+    ensures line { IsAsked (line_from (transition_of (rows_of (found_of found.now)))) result }
+    ensures in_range { IfOk result IsInRange }
+{
+    match search_line(found) {
+        Ok(line) => Ok(Request::Transition {
+            net: line.net,
+            prefix: line.prefix,
+            options: line.options,
         }),
         Err(none) => Err(none),
     }
@@ -307,6 +355,7 @@ fn request_by<'a>(
         "sweep" => taken(sweep(found)),
         "chaintest" => taken(chaintest(found)),
         "diagnose" => taken(diagnose(found)),
+        "transition" => transition(found),
         _ => Err(NoRequest::BadNumber),
     }
 }

@@ -2,7 +2,8 @@ use Rattle.std.proofs.Common.{◌+◌, ◌/◌, ◌<◌, List, length, subst, sy
 use Rattle.std.specs.List.{All}
 use Rattle.report.specs.Reports.{Hold, IsWord, Report}
 use Rattle.run_report.specs.Heads.{share_of}
-use Rattle.test_files.proofs.ReportLemmas.{held_words, share_small}
+use Rattle.run_report.proofs.CycleLemmas.{share_small}
+use Rattle.test_files.proofs.ReportLemmas.{held_words}
 use Rattle.test_files.proofs.reporting.report_of.Goals as goal
 
 pub new-requires : goal.new-requires

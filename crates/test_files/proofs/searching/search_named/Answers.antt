@@ -6,7 +6,8 @@ use Rattle.fault_collapse.specs.Numbers.{Classes}
 use Rattle.reverse_compact.specs.declared.compaction.Finished.{Finished}
 use Rattle.reverse_compact.specs.Finished.{AreFinished}
 use Rattle.test_files.specs.inner.Verdicts.{AreVerdicts}
-use Rattle.test_files.proofs.SearchLemmas.{kept_few, verdicts_of}
+use Rattle.reverse_compact.proofs.KeepLemmas.{kept_few}
+use Rattle.test_files.proofs.SearchLemmas.{verdicts_of}
 use Rattle.test_files.proofs.searching.search_named.Goals as goal
 
 pub returns-clause-verdicts : goal.returns-clause-verdicts

@@ -11,4 +11,5 @@ returns c =
     let check = c.in_ok-table-4.ensures ∙ ap₂ with_subcommand play c.in_ok-check.ensures.shape in
     let sweep = c.in_ok-table-5.ensures ∙ ap₂ with_subcommand check c.in_ok-sweep.ensures.shape in
     let chaintest = c.in_ok-table-6.ensures ∙ ap₂ with_subcommand sweep c.in_ok-chaintest.ensures.shape in
-    c.in_ok-table-7.ensures ∙ ap₂ with_subcommand chaintest c.in_ok-diagnose.ensures.shape
+    let diagnose = c.in_ok-table-7.ensures ∙ ap₂ with_subcommand chaintest c.in_ok-diagnose.ensures.shape in
+    c.in_ok-table-8.ensures ∙ ap₂ with_subcommand diagnose c.in_ok-transition.ensures.shape

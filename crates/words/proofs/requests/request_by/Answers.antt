@@ -1,6 +1,6 @@
 use Rattle.std.proofs.Common.{◌∙◌, ap}
 use Rattle.words.specs.CommandLine.{line_from}
-use Rattle.words.proofs.LineLemmas.{asked_as, is_chaintest, is_check, is_diagnose, is_faults, is_none, is_play, is_run, is_scan, is_sweep, named}
+use Rattle.words.proofs.LineLemmas.{asked_as, is_chaintest, is_check, is_diagnose, is_faults, is_none, is_play, is_run, is_scan, is_sweep, is_transition, named}
 use Rattle.words.proofs.requests.request_by.Goals as goal
 
 pub returns-in-scan-clause-line : goal.returns-in-scan-clause-line
@@ -27,6 +27,9 @@ returns-in-diagnose-clause-line c = asked_as _ _ c.taken-in-diagnose.result (nam
 pub returns-in-run-clause-line : goal.returns-in-run-clause-line
 returns-in-run-clause-line c = asked_as _ _ c.run.result (named _ _ _ _ c.in-run.is (is_run _)) c.run.ensures.line
 
+pub returns-in-transition-clause-line : goal.returns-in-transition-clause-line
+returns-in-transition-clause-line c = asked_as _ _ c.transition.result (named _ _ _ _ c.in-transition.is (is_transition _)) c.transition.ensures.line
+
 pub returns-in_default-clause-line : goal.returns-in_default-clause-line
 returns-in_default-clause-line c =
     is_none _ _ record {
@@ -38,4 +41,5 @@ returns-in_default-clause-line c =
       sweep = c.in_default.not-sweep;
       chaintest = c.in_default.not-chaintest;
       diagnose = c.in_default.not-diagnose;
+      transition = c.in_default.not-transition;
     }
