@@ -1,5 +1,5 @@
 -- What `run` and `sweep` say.
-use Rattle.std.specs.Prelude.{ℕ, ◌≡◌, ◌<◌, ◌++◌, List, [], ◌∷◌, Some, codes, decimal, slice_index, slice_set}
+use Rattle.std.specs.Prelude.{ℕ, ◌≡◌, ◌<◌, ◌++◌, List, [], ◌∷◌, Some, codes, decimal, slice_set}
 use Rattle.std.specs.List.{slice_get}
 use Rattle.netlist.specs.Netlist.{Netlist, name_of}
 use Rattle.netlist.specs.Holds.{Holds}
@@ -32,11 +32,8 @@ pub record IsFirstUnknown (n : Netlist) (named : List Hold) (place : ℕ) : Type
 abbrev pub texts_made : TestFiles → List Text
 texts_made made = made.net.items ∷ made.scan.items ∷ made.stil.items ∷ made.certificate.items ∷ made.report.items ∷ []
 
-abbrev pub count_at : Report → ℕ → ℕ
-count_at r place = slice_index r.counts place
-
 -- `faults 34 detected 34 redundant 0 aborted 0 patterns 9 cycles 9`, by the counts of the report
 abbrev pub run_line : Report → Text
 run_line r =
-    codes "faults " ++ (decimal (count_at r 5) ++ (codes " detected " ++ (decimal (count_at r 10) ++ (codes " redundant " ++ (decimal (count_at r 11)
-    ++ (codes " aborted " ++ (decimal (count_at r 12) ++ (codes " patterns " ++ (decimal (count_at r 7) ++ (codes " cycles " ++ (decimal (count_at r 8) ++ codes "\n")))))))))))
+    codes "faults " ++ (decimal r.counts.faults ++ (codes " detected " ++ (decimal r.counts.detected ++ (codes " redundant " ++ (decimal r.counts.redundant
+    ++ (codes " aborted " ++ (decimal r.counts.aborted ++ (codes " patterns " ++ (decimal r.counts.patterns ++ (codes " cycles " ++ (decimal r.counts.cycles ++ codes "\n")))))))))))

@@ -3,7 +3,6 @@ ghost use Rattle.std.specs.Prelude.{◌≡◌, ◌≤◌, ◌<◌, ◌++◌, ◌
 ghost use Rattle.std.specs.List.{All};
 ghost use Rattle.netlist.specs.Designs.{IsDesign};
 ghost use Rattle.netlist.specs.Holds.{AreHoldsOf};
-ghost use Rattle.report.specs.Reports.{count_of_counts};
 ghost use Rattle.commands.specs.Contents.{most_bytes};
 ghost use Rattle.commands.specs.Names.{texts_of};
 ghost use Rattle.commands.specs.Rows.{CommandRow};
@@ -14,7 +13,7 @@ ghost use Rattle.words.specs.CommandLine.{AreInRange, hold_of};
 ghost use Rattle.test_files.specs.Runs.{IsRun};
 ghost use Rattle.check_command.specs.Checking.{run_files};
 ghost use Rattle.atpg_top.specs.Commands.{run_due};
-ghost use Rattle.atpg_top.specs.Runs.{count_at, run_line, texts_made};
+ghost use Rattle.atpg_top.specs.Runs.{run_line, texts_made};
 ghost use Rattle.atpg_top.specs.inner.Running.{made_due, held_due};
 
 use crate::design::design_of;
@@ -47,15 +46,14 @@ pub(crate) fn push_count(line: &mut Vec<u8>, word: &[u8], count: u64) -> Result<
 fn line_of(alloc: Global, said: &Report) -> Result<Vec<u8>, AllocError>
     ensures { IfOk result (λ t. t.items ≡ run_line said.now) }
 {
-    said.sound();
     let counts = said.counts();
     let mut line = Vec::new(alloc);
-    push_count(&mut line, b"faults ", counts[5])?;
-    push_count(&mut line, b" detected ", counts[10])?;
-    push_count(&mut line, b" redundant ", counts[11])?;
-    push_count(&mut line, b" aborted ", counts[12])?;
-    push_count(&mut line, b" patterns ", counts[7])?;
-    push_count(&mut line, b" cycles ", counts[8])?;
+    push_count(&mut line, b"faults ", counts.faults)?;
+    push_count(&mut line, b" detected ", counts.detected)?;
+    push_count(&mut line, b" redundant ", counts.redundant)?;
+    push_count(&mut line, b" aborted ", counts.aborted)?;
+    push_count(&mut line, b" patterns ", counts.patterns)?;
+    push_count(&mut line, b" cycles ", counts.cycles)?;
     line.extend_from_slice(b"\n")?;
     Ok(line)
 }

@@ -1,6 +1,7 @@
 //! The report of a run: a verdict for each fault, and the numbers above; its text both ways.
 #![tactic(auto)]
 
+mod counts;
 mod fault_lines;
 mod fault_words;
 mod hold_lines;
@@ -12,6 +13,7 @@ mod reading;
 mod reports;
 mod writing;
 
+pub use counts::ReportCounts;
 pub use fault_lines::{FaultLine, FaultLines};
 pub use hold_lines::HoldLines;
 pub use laws::texts_tell_reports;

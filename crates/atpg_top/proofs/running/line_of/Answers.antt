@@ -1,23 +1,21 @@
 use Rattle.std.proofs.Common.{◌≡◌, ◌∙◌, ◌++◌, List, ℕ, ap, codes, decimal, get_or, subst}
+use Rattle.report.specs.declared.counts.ReportCounts.{ReportCounts}
 use Rattle.commands.specs.World.{Text}
 use Rattle.atpg_top.proofs.LineLemmas.{six_counts}
 use Rattle.atpg_top.proofs.running.line_of.Goals as goal
 
-abbrev count_text : List ℕ → ℕ → Text
-count_text counts place = decimal (get_or counts place 0)
-
-abbrev line_by : List ℕ → Text
+abbrev line_by : ReportCounts → Text
 line_by counts =
-    codes "faults " ++ (count_text counts 5 ++ (codes " detected " ++ (count_text counts 10 ++ (codes " redundant " ++ (count_text counts 11
-    ++ (codes " aborted " ++ (count_text counts 12 ++ (codes " patterns " ++ (count_text counts 7 ++ (codes " cycles " ++ (count_text counts 8 ++ codes "\n")))))))))))
+    codes "faults " ++ (decimal counts.faults ++ (codes " detected " ++ (decimal counts.detected ++ (codes " redundant " ++ (decimal counts.redundant
+    ++ (codes " aborted " ++ (decimal counts.aborted ++ (codes " patterns " ++ (decimal counts.patterns ++ (codes " cycles " ++ (decimal counts.cycles ++ codes "\n")))))))))))
 
 pub returns : goal.returns
 returns c =
-    let counts = c.counts-counts.result.now in
-    subst (λ (k : List ℕ). c.extend_from_slice.new.self.items ≡ line_by k) c.counts-counts.ensures
-    (six_counts (codes "faults ") (count_text counts 5) (codes " detected ") (count_text counts 10) (codes " redundant ") (count_text counts 11) (codes " aborted ") (count_text counts 12)
-    (codes " patterns ") (count_text counts 7) (codes " cycles ") (count_text counts 8) (codes "\n")
+    let counts = c.counts-counts.result in
+    subst (λ (k : ReportCounts). c.extend_from_slice.new.self.items ≡ line_by k) c.counts-counts.ensures
+    (six_counts (codes "faults ") (decimal counts.faults) (codes " detected ") (decimal counts.detected) (codes " redundant ") (decimal counts.redundant) (codes " aborted ") (decimal counts.aborted)
+    (codes " patterns ") (decimal counts.patterns) (codes " cycles ") (decimal counts.cycles) (codes "\n")
     c.push_count.new.line.items c.push_count-2.new.line.items c.push_count-3.new.line.items c.push_count-4.new.line.items c.push_count-5.new.line.items c.push_count-6.new.line.items
     c.extend_from_slice.new.self.items
-    (c.in_ok-push_count.ensures ∙ ap (λ (l : Text). l ++ (codes "faults " ++ count_text counts 5)) c.new-line.ensures.items)
+    (c.in_ok-push_count.ensures ∙ ap (λ (l : Text). l ++ (codes "faults " ++ decimal counts.faults)) c.new-line.ensures.items)
     c.in_ok-push_count-2.ensures c.in_ok-push_count-3.ensures c.in_ok-push_count-4.ensures c.in_ok-push_count-5.ensures c.in_ok-push_count-6.ensures c.in_ok-extend_from_slice.ensures.items)
