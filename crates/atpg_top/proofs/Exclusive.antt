@@ -139,7 +139,7 @@ run_exclusive options named =
 
 transition_exclusive : (options : RunOptions) → IsExclusive (transition_due options)
 transition_exclusive options =
-    design_exclusive (slow_due options) (λ n sound x y a b. let due : TransitionFiles → Due Refusal = λ made. Deliver (texts_in (files_of made)) (tests_line made.said.counts.items) Fine in
+    design_exclusive (slow_due options) (λ n sound x y a b. let due : TransitionFiles → Due Refusal = λ made. Deliver (texts_in (files_of made)) (tests_line made.said.counts) Fine in
     given x y (due a.0) (due b.0) a.2 b.2 refl)
 
 -- ---- `chaintest`

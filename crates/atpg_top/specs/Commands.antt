@@ -75,7 +75,7 @@ run_due options named = design_due (λ n. named_holds n named >>= λ holds d.
 -- the five texts of a design's slow lines, and the line with the report's numbers
 abbrev pub transition_due : RunOptions → List Text → Due Refusal → Type 0
 transition_due options = design_due (λ n d.
-    (made : TransitionFiles) × IsTransitionRun n options.chains options.limit made × (d ≡ Deliver (texts_in (files_of made)) (tests_line made.said.counts.items) Fine))
+    (made : TransitionFiles) × IsTransitionRun n options.chains options.limit made × (d ≡ Deliver (texts_in (files_of made)) (tests_line made.said.counts) Fine))
 
 -- the lines of what the file shows of the scan hardware, the file fitting the scanned netlist
 abbrev pub chaintest_due : ℕ → List Text → Due Refusal → Type 0

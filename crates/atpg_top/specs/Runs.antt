@@ -1,10 +1,10 @@
 -- What `run`, `transition` and `sweep` say.
-use Rattle.std.specs.Prelude.{ℕ, ◌≡◌, ◌<◌, ◌++◌, List, [], ◌∷◌, Some, codes, decimal, slice_index, slice_set}
+use Rattle.std.specs.Prelude.{ℕ, ◌≡◌, ◌<◌, ◌++◌, List, [], ◌∷◌, Some, codes, decimal, slice_set}
 use Rattle.std.specs.List.{slice_get}
 use Rattle.netlist.specs.Netlist.{Netlist, name_of}
 use Rattle.netlist.specs.Holds.{Holds}
 use Rattle.good_files.specs.GoodFiles.{Files}
-use Rattle.report.specs.Reports.{Report}
+use Rattle.report.specs.declared.counts.ReportCounts.{ReportCounts}
 use Rattle.words.specs.HoldLists.{Hold}
 use Rattle.commands.specs.World.{Text}
 use Rattle.test_files.specs.Runs.{files_of}
@@ -37,11 +37,8 @@ texts_in files = files.net ∷ files.scan ∷ files.stil ∷ files.certificate �
 abbrev pub texts_made : TestFiles → List Text
 texts_made made = texts_in (files_of made)
 
-abbrev pub count_at : Report → ℕ → ℕ
-count_at r place = slice_index r.counts place
-
 -- `faults 34 detected 34 redundant 0 aborted 0 patterns 9 cycles 9`, by the counts of a report
-abbrev pub tests_line : List ℕ → Text
+abbrev pub tests_line : ReportCounts → Text
 tests_line counts =
-    codes "faults " ++ (decimal (slice_index counts 5) ++ (codes " detected " ++ (decimal (slice_index counts 10) ++ (codes " redundant " ++ (decimal (slice_index counts 11)
-    ++ (codes " aborted " ++ (decimal (slice_index counts 12) ++ (codes " patterns " ++ (decimal (slice_index counts 7) ++ (codes " cycles " ++ (decimal (slice_index counts 8) ++ codes "\n")))))))))))
+    codes "faults " ++ (decimal counts.faults ++ (codes " detected " ++ (decimal counts.detected ++ (codes " redundant " ++ (decimal counts.redundant
+    ++ (codes " aborted " ++ (decimal counts.aborted ++ (codes " patterns " ++ (decimal counts.patterns ++ (codes " cycles " ++ (decimal counts.cycles ++ codes "\n")))))))))))

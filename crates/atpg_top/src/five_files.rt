@@ -1,12 +1,12 @@
 //! What a command that searches writes and shows: five files, and a line of counts.
 ghost use Rattle.std.specs.Prelude.{◌≡◌, ◌++◌, ◌∷◌, [], IfOk, OnOk, decimal, length};
-ghost use Rattle.report.specs.Reports.{count_of_counts};
 ghost use Rattle.commands.specs.Names.{texts_of};
 ghost use Rattle.commands.specs.declared.ending.Finding.TheVariants.{Fine};
 ghost use Rattle.atpg_top.specs.Runs.{tests_line};
 
 use commands::{Finding, Product};
 use itoa::Buffer;
+use report::ReportCounts;
 use std::alloc::{AllocError, Global};
 
 /// Adds a word and a number.
@@ -19,17 +19,16 @@ pub fn push_count(line: &mut Vec<u8>, word: &[u8], count: u64) -> Result<(), All
 }
 
 /// The line of a report's counts.
-pub fn tests_line(alloc: Global, counts: &[u64]) -> Result<Vec<u8>, AllocError>
-    requires { length counts.now ≡ count_of_counts }
-    ensures { IfOk result (λ t. t.items ≡ tests_line counts.now) }
+pub fn tests_line(alloc: Global, counts: ReportCounts) -> Result<Vec<u8>, AllocError>
+    ensures { IfOk result (λ t. t.items ≡ tests_line counts) }
 {
     let mut line = Vec::new(alloc);
-    push_count(&mut line, b"faults ", counts[5])?;
-    push_count(&mut line, b" detected ", counts[10])?;
-    push_count(&mut line, b" redundant ", counts[11])?;
-    push_count(&mut line, b" aborted ", counts[12])?;
-    push_count(&mut line, b" patterns ", counts[7])?;
-    push_count(&mut line, b" cycles ", counts[8])?;
+    push_count(&mut line, b"faults ", counts.faults)?;
+    push_count(&mut line, b" detected ", counts.detected)?;
+    push_count(&mut line, b" redundant ", counts.redundant)?;
+    push_count(&mut line, b" aborted ", counts.aborted)?;
+    push_count(&mut line, b" patterns ", counts.patterns)?;
+    push_count(&mut line, b" cycles ", counts.cycles)?;
     line.extend_from_slice(b"\n")?;
     Ok(line)
 }

@@ -40,7 +40,6 @@ fn product_by(alloc: Global, made: TestFiles) -> Result<Product, AllocError>
     ensures shown { IfOk result (λ p. p.shown.items ≡ tests_line made.said.counts) }
     ensures fine { IfOk result (λ p. p.finding ≡ Fine) }
 {
-    made.said.sound();
     let shown = tests_line(alloc, made.said.counts())?;
     let TestFiles {
         net,

@@ -9,7 +9,6 @@ ghost use Rattle.commands.specs.Worked.{IsWorked};
 ghost use Rattle.commands.specs.World.{world};
 ghost use Rattle.commands.specs.declared.ending.Finding.TheVariants.{Fine};
 ghost use Rattle.words.specs.CommandLine.{AreInRange};
-ghost use Rattle.transition_report.specs.Numbers.{IsSized};
 ghost use Rattle.transition_run.specs.Runs.{IsTransitionRun, files_of};
 ghost use Rattle.check_command.specs.Checking.{run_files};
 ghost use Rattle.atpg_top.specs.Commands.{transition_due};
@@ -34,13 +33,12 @@ use words::{EngineName, RunOptions};
 
 /// What is written and shown of a test for slow lines.
 fn product_by(alloc: Global, made: TransitionFiles) -> Result<Product, AllocError>
-    requires { IsSized made.said }
     ensures texts { IfOk result (λ p. texts_of p.texts.items ≡ texts_in (files_of made)) }
     ensures count { IfOk result (λ p. length p.texts.items ≡ 5) }
-    ensures shown { IfOk result (λ p. p.shown.items ≡ tests_line made.said.counts.items) }
+    ensures shown { IfOk result (λ p. p.shown.items ≡ tests_line made.said.counts) }
     ensures fine { IfOk result (λ p. p.finding ≡ Fine) }
 {
-    let shown = tests_line(alloc, made.said.counts.as_slice())?;
+    let shown = tests_line(alloc, made.said.counts)?;
     let TransitionFiles {
         net,
         scan,

@@ -155,18 +155,17 @@ fn push_line(text: &mut Vec<u8>, word: &[u8], number: u64) -> Result<(), AllocEr
 fn text_of(alloc: Global, said: &Report) -> Result<Vec<u8>, AllocError>
     ensures { IfOk result (λ t. t.items ≡ sweep_text said.now) }
 {
-    said.sound();
     let counts = said.counts();
     let mut text = Vec::new(alloc);
-    push_line(&mut text, b"gates ", counts[2])?;
-    push_line(&mut text, b"cells ", counts[3])?;
-    push_line(&mut text, b"faults ", counts[5])?;
-    push_line(&mut text, b"classes ", counts[6])?;
-    push_line(&mut text, b"detected ", counts[10])?;
-    push_line(&mut text, b"redundant ", counts[11])?;
-    push_line(&mut text, b"aborted ", counts[12])?;
-    push_line(&mut text, b"patterns ", counts[7])?;
-    push_line(&mut text, b"cycles ", counts[8])?;
+    push_line(&mut text, b"gates ", counts.gates)?;
+    push_line(&mut text, b"cells ", counts.cells)?;
+    push_line(&mut text, b"faults ", counts.faults)?;
+    push_line(&mut text, b"classes ", counts.classes)?;
+    push_line(&mut text, b"detected ", counts.detected)?;
+    push_line(&mut text, b"redundant ", counts.redundant)?;
+    push_line(&mut text, b"aborted ", counts.aborted)?;
+    push_line(&mut text, b"patterns ", counts.patterns)?;
+    push_line(&mut text, b"cycles ", counts.cycles)?;
     text.extend_from_slice(b"play ok\n")?;
     Ok(text)
 }

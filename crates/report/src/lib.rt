@@ -7,6 +7,7 @@
 //! Neither: time.
 #![tactic(auto)]
 
+mod counts;
 mod fault_lines;
 mod fault_words;
 mod hold_lines;
@@ -18,6 +19,7 @@ mod reading;
 mod reports;
 mod writing;
 
+pub use counts::ReportCounts;
 pub use fault_lines::{FaultLine, FaultLines};
 pub use hold_lines::HoldLines;
 pub use laws::texts_tell_reports;

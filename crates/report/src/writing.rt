@@ -1,9 +1,9 @@
 //! Reports as text.
-ghost use Rattle.std.specs.Prelude.{◌≡◌, ◌<◌, ◌≤◌, ◌^◌, ◌/◌, ◌++◌, length, decimal, IfOk, OnOk, slice_get, Some};
+ghost use Rattle.std.specs.Prelude.{◌≡◌, ◌<◌, ◌≤◌, ◌^◌, ◌/◌, ◌++◌, decimal, IfOk, OnOk};
 ghost use Rattle.std.specs.List.{flat_map};
-ghost use Rattle.report.specs.Reports.{count_of_counts};
-ghost use Rattle.report.specs.Texts.{count_line, count_words, counts_text, hundredths, share_line, hold_line, outcome_text, fault_line, head, report_text};
+ghost use Rattle.report.specs.Texts.{count_line, counts_text, hundredths, share_line, hold_line, outcome_text, fault_line, head, report_text};
 
+use crate::counts::{ReportCounts, count_word};
 use crate::fault_lines::FaultLines;
 use crate::hold_lines::HoldLines;
 use crate::outcomes::Outcome;
@@ -119,36 +119,12 @@ pub fn push_faults(out: &mut Vec<u8>, lines: &FaultLines) -> Result<(), AllocErr
     Ok(())
 }
 
-/// The word of a count, by its place.
-pub(crate) fn count_word(place: usize) -> &'static [u8]
-    requires { place < count_of_counts }
-    ensures { slice_get count_words place ≡ Some result.now }
-{
-    match place {
-        0 => b"inputs ",
-        1 => b"outputs ",
-        2 => b"gates ",
-        3 => b"cells ",
-        4 => b"chains ",
-        5 => b"faults ",
-        6 => b"classes ",
-        7 => b"patterns ",
-        8 => b"cycles ",
-        9 => b"limit ",
-        10 => b"detected ",
-        11 => b"redundant ",
-        12 => b"aborted ",
-        13 => b"untested ",
-        _ => unreachable!(),
-    }
-}
-
 /// Adds the lines of the counts.
-pub fn push_counts(out: &mut Vec<u8>, counts: &[u64]) -> Result<(), AllocError>
-    requires { length counts.now ≡ count_of_counts }
-    ensures { OnOk result (out.new.items ≡ out.old.items ++ counts_text count_words counts.now) }
+pub fn push_counts(out: &mut Vec<u8>, counts: ReportCounts) -> Result<(), AllocError>
+    ensures { OnOk result (out.new.items ≡ out.old.items ++ counts_text counts) }
 {
-    for (k, count) in counts.iter().enumerate() {
+    let numbers = counts.to_array();
+    for (k, count) in numbers.iter().enumerate() {
         push_count(out, count_word(k), *count)?;
     }
     Ok(())

@@ -35,8 +35,7 @@ pub(crate) fn report_of(
     netlist.sound();
     let tally = tally_of(&lines);
     let held = hold_lines(alloc, netlist, holds)?;
-    let counts = match counts_of(
-        alloc,
+    let counts = counts_of(
         netlist,
         chains,
         faults,
@@ -44,10 +43,8 @@ pub(crate) fn report_of(
         patterns,
         limit as u64,
         &lines,
-    ) {
-        Ok(counts) => counts,
-        Err(_) => return Err(NoMemory),
-    };
+    );
+    counts.sound();
     let coverage = share_of(faults, tally.detected);
     let efficiency = share_of(faults, tally.detected + tally.redundant);
     Ok(Report::new(counts, coverage, efficiency, held, lines))

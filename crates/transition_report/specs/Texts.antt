@@ -8,7 +8,7 @@ use Rattle.netlist.specs.Lines.{IsLineOf, signal_of}
 use Rattle.fault_universe.specs.Texts.{line_text}
 use Rattle.redundancy_cert.specs.declared.nodes.Node.{Node}
 use Rattle.certificate.specs.Certificates.{HasSignal, node_text}
-use Rattle.report.specs.Texts.{count_words, counts_text, share_line, fault_line}
+use Rattle.report.specs.Texts.{counts_text, share_line, fault_line}
 use Rattle.transition_frames.specs.Frames.{frames_of}
 use Rattle.transition_report.specs.declared.reporting.TransitionReport.{TransitionReport}
 
@@ -37,7 +37,7 @@ pub record IsNamed (n : Netlist) (p : Fault × List Node) : Type 0 where
 abbrev pub transition_report_text : TransitionReport → List ℕ
 transition_report_text r =
     codes "atpg transition 1\n"
-    ++ (counts_text count_words r.counts.items
+    ++ (counts_text r.counts
     ++ (share_line (codes "coverage ") r.coverage
     ++ (share_line (codes "efficiency ") r.efficiency
     ++ flat_map fault_line r.lines)))

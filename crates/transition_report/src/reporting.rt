@@ -7,7 +7,7 @@ ghost use Rattle.transition_report.specs.Numbers.{IsReportOf, IsSized};
 
 use chain_stitch::Chains;
 use netlist::{Netlist, NoMemory};
-use report::{FaultLines, push_counts, push_faults, push_share};
+use report::{FaultLines, ReportCounts, push_counts, push_faults, push_share};
 use run_report::{counts_with, share_of, tally_of};
 use std::alloc::{AllocError, Global};
 
@@ -15,7 +15,7 @@ use std::alloc::{AllocError, Global};
 /// each fault.
 #[derive(Drop)]
 pub struct TransitionReport {
-    pub counts: Vec<u64>,
+    pub counts: ReportCounts,
     pub coverage: u128,
     pub efficiency: u128,
     pub lines: FaultLines,
@@ -50,8 +50,7 @@ pub fn report_of(
     let faults = lines.len() as u32;
     let tally = tally_of(&lines);
     let cycles = launch_cycles(chains.longest() as u64, patterns as u64);
-    let Ok(counts) = counts_with(
-        alloc,
+    let counts = counts_with(
         netlist,
         chains,
         faults,
@@ -60,9 +59,7 @@ pub fn report_of(
         cycles,
         limit as u64,
         &lines,
-    ) else {
-        return Err(NoMemory);
-    };
+    );
     let coverage = share_of(faults, tally.detected);
     let efficiency = share_of(faults, tally.detected + tally.redundant);
     Ok(TransitionReport {
@@ -78,7 +75,7 @@ fn push_report(out: &mut Vec<u8>, report: &TransitionReport) -> Result<(), Alloc
     ensures { OnOk result (out.new.items ≡ out.old.items ++ transition_report_text report.now) }
 {
     out.extend_from_slice(b"atpg transition 1\n")?;
-    push_counts(out, &report.counts)?;
+    push_counts(out, report.counts)?;
     push_share(out, b"coverage ", report.coverage)?;
     push_share(out, b"efficiency ", report.efficiency)?;
     push_faults(out, &report.lines)?;

@@ -31,4 +31,4 @@ held_due options named n = named_holds n named >>= λ holds. made_due options n 
 -- what is due of a design whose slow lines are searched
 abbrev pub slow_due : RunOptions → Netlist → Due Refusal → Type 0
 slow_due options n d =
-    (made : TransitionFiles) × IsTransitionRun n options.chains options.limit made × (d ≡ Deliver (texts_in (files_of made)) (tests_line made.said.counts.items) Fine)
+    (made : TransitionFiles) × IsTransitionRun n options.chains options.limit made × (d ≡ Deliver (texts_in (files_of made)) (tests_line made.said.counts) Fine)

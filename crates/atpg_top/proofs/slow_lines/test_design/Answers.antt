@@ -5,9 +5,6 @@ use Rattle.commands.specs.Names.{texts_of}
 use Rattle.atpg_top.specs.inner.Running.{slow_due}
 use Rattle.atpg_top.proofs.slow_lines.test_design.Goals as goal
 
-pub product_by-requires : goal.product_by-requires
-product_by-requires g c = c.in-Ok-made_of.ensures.sized
-
 pub returns-in-Ok-product_by : goal.returns-in-Ok-product_by
 returns-in-Ok-product_by g c =
     let p = c.in-Ok-product_by in (

@@ -14,8 +14,7 @@ new-requires c =
     let d = share_small c.args.faults c.tally_of-tally.result.detected (omega (arith, few, c.requires.faults.1, c.ranges.faults.fits)) in
     let e = share_small c.args.faults (c.tally_of-tally.result.detected + c.tally_of-tally.result.redundant) (omega (arith, few, c.requires.faults.1, c.ranges.faults.fits)) in
     record {
-      size = ap length c.in-Ok.ensures.counts;
-      small = c.in-Ok.ensures.small;
+      counts = c.sound-2.ensures;
       coverage = subst (λ k. k / 100 < 18446744073709551616) (sym c.share_of-coverage.ensures) d;
       efficiency = subst (λ k. k / 100 < 18446744073709551616) (sym c.share_of-efficiency.ensures) e;
       holds = subst (λ (hs : List Hold). All (λ (h : Hold). IsWord h.name) hs) (sym c.in_ok-held.ensures) (held_words n c.sound.ensures c.args.holds.now);
@@ -29,7 +28,7 @@ returns c =
     record {
       lines_are = ap (λ (r : Report). r.lines) is;
       held = ap (λ (r : Report). r.holds) is ∙ c.in_ok-held.ensures;
-      counts = ap (λ (r : Report). r.counts) is ∙ c.in-Ok.ensures.counts;
+      counts = ap (λ (r : Report). r.counts) is ∙ c.counts_of-counts.ensures;
       coverage = ap (λ (r : Report). r.coverage) is ∙ (c.share_of-coverage.ensures ∙ ap (share_of c.args.faults) kinds.detected);
       efficiency = ap (λ (r : Report). r.efficiency) is
           ∙ (c.share_of-efficiency.ensures ∙ ap (share_of c.args.faults) (ap₂ (λ x y. x + y) kinds.detected kinds.redundant));

@@ -25,7 +25,7 @@ returns-clause-report c =
     c.launch_cycles-cycles.ensures ∙ ap (λ (m : ℕ). (c.args.patterns + 4) * m + 2 * c.args.patterns) c.longest.ensures in
     record {
       lines_are = refl;
-      counts = c.in-Ok.ensures.counts
+      counts = c.counts_with-counts.ensures
           ∙ (ap (λ (k : ℕ). counts_with c.args.netlist.now c.args.chains.now k k c.args.patterns c.launch_cycles-cycles.result c.args.limit c.args.lines) faults
           ∙ ap (λ (k : ℕ). counts_with c.args.netlist.now c.args.chains.now (length (universe_of c.args.netlist.now)) (length (universe_of c.args.netlist.now)) c.args.patterns k c.args.limit c.args.lines) cycles);
       coverage = c.share_of-coverage.ensures
