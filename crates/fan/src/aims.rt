@@ -94,7 +94,7 @@ fn let_through(
     Ok(())
 }
 
-/// What may be forced.
+/// What may be forced, in this order: by the fault's line, by what the decisions imply, and by the gate of the D-frontier where there is one alone.
 pub(crate) fn forced_aims(
     alloc: Global,
     core: &Core,

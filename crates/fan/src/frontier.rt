@@ -32,7 +32,6 @@ pub(crate) enum FrontGates {
     More,
 }
 
-/// With a gate more.
 fn with_gate(frontier: FrontGates, gate: SignalId) -> FrontGates {
     match frontier {
         FrontGates::Empty => FrontGates::Single(gate),
@@ -47,7 +46,7 @@ fn with_gate(frontier: FrontGates, gate: SignalId) -> FrontGates {
     }
 }
 
-/// The D-frontier.
+/// The D-frontier: the gates with an effect on a pin and none on the output yet.
 pub(crate) fn frontier(
     core: &Core,
     fault: &Fault,

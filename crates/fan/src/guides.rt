@@ -44,7 +44,6 @@ pub(crate) enum Objectives {
 /// Where the backtrace stops before head lines, inputs and cells. All objectives together stop at a stem of which both bits are wanted, too.
 #[derive(Clone, Copy, Drop)]
 pub(crate) enum Stop {
-    /// Nowhere.
     Heads,
     /// At the first fanout stem outside what the fault may reach.
     Stems,
@@ -209,7 +208,6 @@ impl<'a> Guide<'a> {
         self.effects.follow(core, labels)
     }
 
-    /// The signals with an effect.
     pub(crate) fn effects(&self) -> &Effects {
         &self.effects
     }

@@ -91,7 +91,6 @@ fn climb(
     Ok(Some(done))
 }
 
-/// The tree of one Closed.
 fn closed_tree(alloc: Global) -> Result<Vec<Node>, AllocError>
     ensures { IfOk result (λ v. v.items ≡ Node.Closed ∷ []) }
 {
@@ -100,7 +99,6 @@ fn closed_tree(alloc: Global) -> Result<Vec<Node>, AllocError>
     Ok(nodes)
 }
 
-/// The tree of a Forced and one Closed.
 fn forced_tree(alloc: Global, signal: SignalId, bit: bool) -> Result<Vec<Node>, AllocError>
     ensures { IfOk result (λ v. v.items ≡ Node.Forced signal bit ∷ Node.Closed ∷ []) }
 {
@@ -247,7 +245,6 @@ fn take_turn(
     }
 }
 
-/// The tree of one Open.
 fn open_tree(alloc: Global) -> Result<Vec<Node>, AllocError>
     ensures { IfOk result (λ v. v.items ≡ Node.Open ∷ []) }
 {

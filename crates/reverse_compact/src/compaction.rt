@@ -30,7 +30,6 @@ fn mark(marks: &mut Vec<bool>, class: &Option<(u32, Point)>)
     }
 }
 
-/// No marks.
 fn no_marks(alloc: Global, places: usize) -> Result<Vec<bool>, AllocError>
     ensures size { IfOk result (λ v. vec_len v ≡ places) }
     ensures marks { IfOk result (λ v. (k : ℕ) → slice_index_or v.items k false ≡ false) }

@@ -37,7 +37,6 @@ fn push_marked<X: Drop>(left: &mut Vec<X>, item: X, mark: bool) -> Result<(), Al
     Ok(())
 }
 
-/// Whether there is a mark at a place.
 fn is_marked(marks: &[bool], place: usize) -> bool
     ensures { result ≡ slice_index_or marks.now place false }
 {

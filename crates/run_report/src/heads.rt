@@ -17,7 +17,6 @@ pub struct Tally {
 }
 
 impl Tally {
-    /// No lines.
     fn none() -> Tally
         ensures { (result.detected ≡ 0) × (result.redundant ≡ 0) × (result.aborted ≡ 0) }
     {
@@ -57,7 +56,7 @@ pub fn tally_of(lines: &FaultLines) -> Tally
     tally
 }
 
-/// How many cycles a test has.
+/// The cycles of a test: the flush, a load and a capture for each pattern, and a last load.
 #[tactic(auto, using(crate::proofs::CycleLemmas::small_product))]
 fn cycles_of(longest: u64, patterns: u64) -> u64
     requires longest { longest ≤ 8000000 }
