@@ -1,6 +1,6 @@
 -- What is done to the values of all machines is done to those of each.
 use Rattle.std.proofs.Common.{◌≡◌, ℕ, suc, zero, ◌+◌, ◌<◌, ◌≤◌, true, false, if◌then◌else◌, Bool, List, [], ◌∷◌, ◌++◌, map, length, get_or, set, take, refl, sym, ◌∙◌, ap, subst, arith}
-use Rattle.std.specs.List.{AllZip, slice_get}
+use Rattle.std.specs.List.{slice_get}
 use Rattle.std.proofs.lemmas.List.{length-map, map-set, take_more}
 use Rattle.std.proofs.lemmas.List.Elements.{All-contains}
 use Rattle.netlist.specs.declared.kinds.Tri.{Tri}

@@ -1,18 +1,17 @@
 -- A cycle that is played by the steps of a plan is each machine's step of its own player.
-use Rattle.std.proofs.Common.{◌≡◌, ℕ, ◌+◌, ◌-◌, ◌<◌, ◌≤◌, Bool, cond, List, [], ◌++◌, map, length, replicate, Option, refl, sym, ◌∙◌, ap, arith}
+use Rattle.std.proofs.Common.{◌≡◌, ℕ, ◌-◌, ◌<◌, ◌≤◌, Bool, cond, List, [], ◌++◌, map, length, replicate, Option, refl, sym, ◌∙◌, ap, arith}
 use Rattle.std.specs.List.{All, slice_get}
 use Rattle.std.proofs.lemmas.List.{length-map, map-append}
 use Rattle.netlist.specs.declared.kinds.Tri.{Tri}
-use Rattle.netlist.specs.declared.kinds.Tri.TheVariants.{X}
 use Rattle.netlist.specs.declared.lines.Fault.{Fault}
 use Rattle.netlist.specs.Conditions.{IsSound}
 use Rattle.netlist.specs.Netlist.{Netlist, cells, signals, IsGateAt}
 use Rattle.netlist.specs.Settled.{Settles, at, next, outs}
-use Rattle.netlist.specs.ThreeValues.{known}
 use Rattle.tri.specs.Settled.{tris}
 use Rattle.scan_play.specs.declared.played.Played.{Played}
 use Rattle.scan_play.specs.Judging.{IsOpen, Judging, judged_in}
-use Rattle.scan_play.specs.inner.Plans.{HasSteps, IsDrivenOnto, IsStepped}
+use Rattle.scan_play.specs.Steps.{HasSteps}
+use Rattle.scan_play.specs.inner.Plans.{IsDrivenOnto, IsStepped}
 use Rattle.scan_play.proofs.PlanLemmas.{planned_driven, shift_planned, shift_step}
 use Rattle.scan_play.proofs.PlanMarks.{steps_known}
 use Rattle.lane_play.specs.declared.packed.Lanes.{Lanes}

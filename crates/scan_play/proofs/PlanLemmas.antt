@@ -27,7 +27,8 @@ use Rattle.scan_play.specs.declared.cycles.Burst.{Burst}
 use Rattle.scan_play.specs.declared.played.Played.{Played}
 use Rattle.scan_play.specs.Bursts.{cycles_of}
 use Rattle.scan_play.specs.Cycles.{IsCycleOf}
-use Rattle.scan_play.specs.inner.Plans.{IsReady, Stays, IsPath, IsPlanned, IsDrivenOnto, AreSettled, IsStepped}
+use Rattle.scan_play.specs.Steps.{IsReady, Stays, IsPath}
+use Rattle.scan_play.specs.inner.Plans.{IsPlanned, IsDrivenOnto, AreSettled, IsStepped}
 use Rattle.scan_play.specs.inner.Steps.{IsStep}
 use Rattle.scan_play.specs.Judging.{IsOpen, Judging, judged_in, or_else}
 use Rattle.scan_play.proofs.PlanMarks.{taken_more}

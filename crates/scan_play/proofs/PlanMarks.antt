@@ -13,7 +13,8 @@ use Rattle.netlist.specs.Settled.{at}
 use Rattle.netlist.specs.ThreeValues.{is_x}
 use Rattle.netlist.proofs.Lists.{contains_head, filter_contains}
 use Rattle.scan_insert.proofs.Loopless.{map_contains}
-use Rattle.scan_play.specs.inner.Plans.{IsReady, AreMarked, AreReady, AreCellsMarked, AreOutputsMarked, HasSteps, IsPath}
+use Rattle.scan_play.specs.Steps.{IsReady, HasSteps, IsPath}
+use Rattle.scan_play.specs.inner.Plans.{AreMarked, AreReady, AreCellsMarked, AreOutputsMarked}
 
 pub marked_set : (xs : List Bool) (i y : ℕ) → slice_get (set xs i true) y ≡ Some true → (y ≡ i) ⊎ (slice_get xs y ≡ Some true)
 marked_set [] i y e = inr e

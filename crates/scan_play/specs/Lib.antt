@@ -6,5 +6,6 @@ pub mod Shifts
 pub mod Vectors
 pub mod Playing
 pub mod Judging
+pub mod Steps
 pub mod Laws
 pub mod inner

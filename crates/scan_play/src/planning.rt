@@ -8,7 +8,8 @@ ghost use Rattle.netlist.specs.Netlist.{Definition as Equation, gates, signals, 
 ghost use Rattle.netlist.specs.Conditions.{IsSound};
 ghost use Rattle.netlist.specs.declared.kinds.Tri.TheVariants.{X};
 ghost use Rattle.netlist.specs.ThreeValues.{is_x};
-ghost use Rattle.scan_play.specs.inner.Plans.{AreCellsMarked, AreMarked, AreOutputsMarked, AreReady, HasSteps, IsPath, IsReady};
+ghost use Rattle.scan_play.specs.Steps.{HasSteps, IsPath, IsReady};
+ghost use Rattle.scan_play.specs.inner.Plans.{AreCellsMarked, AreMarked, AreOutputsMarked, AreReady};
 
 use netlist::{Core, Definition, Netlist, SignalId, Tri};
 use std::alloc::AllocError;

@@ -3,7 +3,8 @@ use Rattle.std.specs.List.{slice_get}
 use Rattle.netlist.specs.declared.kinds.Tri.{Tri}
 use Rattle.netlist.specs.Settled.{Settles}
 use Rattle.tri.specs.Settled.{tris}
-use Rattle.scan_play.specs.inner.Plans.{AreSettled, IsPath}
+use Rattle.scan_play.specs.Steps.{IsPath}
+use Rattle.scan_play.specs.inner.Plans.{AreSettled}
 use Rattle.lane_play.specs.inner.Lanes.{lanes}
 use Rattle.lane_play.proofs.evaluating.evaluate_all.Given as goal
 

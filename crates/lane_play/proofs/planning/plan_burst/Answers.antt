@@ -1,11 +1,9 @@
-use Rattle.std.proofs.Common.{◌≡◌, ◌++◌, List, length, map, sym, ◌∙◌, ap, subst, arith}
-use Rattle.std.proofs.lemmas.List.{length-map}
+use Rattle.std.proofs.Common.{◌++◌, List, length, map, sym, ◌∙◌, ap, subst, arith}
 use Rattle.netlist.specs.declared.kinds.Tri.{Tri}
-use Rattle.netlist.specs.Conditions.{IsSound}
-use Rattle.netlist.specs.Netlist.{Netlist, cells, signals}
+use Rattle.netlist.specs.Netlist.{Netlist, signals}
 use Rattle.netlist.specs.Orders.{IsOrder}
 use Rattle.netlist.specs.Settled.{Settles, at}
-use Rattle.scan_play.specs.inner.Plans.{HasSteps}
+use Rattle.scan_play.specs.Steps.{HasSteps}
 use Rattle.lane_play.specs.declared.packed.Lanes.{Lanes}
 use Rattle.lane_play.specs.inner.Lanes.{always, lanes_rule}
 use Rattle.lane_play.specs.inner.Shifts.{AreCommon}

@@ -3,13 +3,13 @@ use Rattle.std.specs.List.{All}
 use Rattle.std.proofs.lemmas.List.{length-map}
 use Rattle.netlist.specs.Netlist.{Netlist, signals, IsGateAt}
 use Rattle.netlist.specs.Conditions.{IsSound}
-use Rattle.netlist.specs.Settled.{at, outs, next}
+use Rattle.netlist.specs.Settled.{at, next}
 use Rattle.scan_play.specs.Bursts.{cycle_of}
 use Rattle.scan_play.proofs.PlaySteps.{few_outputs}
 use Rattle.lane_play.specs.declared.packed.Lanes.{Lanes}
 use Rattle.lane_play.specs.inner.Lanes.{always, lanes_rule}
 use Rattle.lane_play.proofs.PlayedLemmas.{size_kept}
-use Rattle.lane_play.proofs.ShiftLemmas.{planned_gates, planned_size, shift_steps, still_planned}
+use Rattle.lane_play.proofs.ShiftLemmas.{planned_gates, shift_steps, still_planned}
 use Rattle.lane_play.proofs.shifting.play_shift.Goals as goal
 
 blank : Lanes

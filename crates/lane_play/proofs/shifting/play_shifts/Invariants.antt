@@ -1,5 +1,5 @@
 use Rattle.std.proofs.Common.{◌≡◌, ◌++◌, List, length, take}
-use Rattle.netlist.specs.Netlist.{cells, signals}
+use Rattle.netlist.specs.Netlist.{cells}
 use Rattle.scan_play.specs.Bursts.{cycles_of}
 use Rattle.scan_play.specs.Cycles.{Cycle}
 use Rattle.lane_play.specs.inner.Shifts.{ArePlanned}

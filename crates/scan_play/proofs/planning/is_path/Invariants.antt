@@ -1,7 +1,8 @@
 use Rattle.std.proofs.Common.{◌≡◌, ◌<◌, ℕ, take, get_or}
 use Rattle.std.specs.List.{All, Contains}
 use Rattle.netlist.specs.Netlist.{Definition, gates}
-use Rattle.scan_play.specs.inner.Plans.{AreReady, IsReady}
+use Rattle.scan_play.specs.Steps.{IsReady}
+use Rattle.scan_play.specs.inner.Plans.{AreReady}
 use Rattle.scan_play.proofs.planning.is_path.Given as goal
 
 abbrev pub invariant-loop-gate : goal.invariant-loop-gate

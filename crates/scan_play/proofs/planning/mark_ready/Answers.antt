@@ -1,5 +1,5 @@
 use Rattle.std.proofs.Common.{[], slice_get, length, ap, sym, ◌∙◌, subst, inl, inr, arith, length-append, ◌∷◌}
-use Rattle.scan_play.specs.inner.Plans.{IsReady}
+use Rattle.scan_play.specs.Steps.{IsReady}
 use Rattle.scan_play.proofs.PlanMarks.{marked_push}
 use Rattle.scan_play.proofs.planning.mark_ready.Goals as goal
 

@@ -3,7 +3,7 @@ use Rattle.netlist.specs.declared.kinds.Tri.{Tri}
 use Rattle.netlist.specs.declared.kinds.Tri.TheVariants.{X}
 use Rattle.netlist.specs.Netlist.{Netlist}
 use Rattle.netlist.specs.ThreeValues.{known}
-use Rattle.scan_play.specs.inner.Plans.{HasSteps}
+use Rattle.scan_play.specs.Steps.{HasSteps}
 use Rattle.scan_play.proofs.PlanLemmas.{planned_driven}
 use Rattle.scan_play.proofs.playing.plan_burst.Goals as goal
 

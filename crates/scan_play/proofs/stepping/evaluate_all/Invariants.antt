@@ -2,7 +2,8 @@ use Rattle.std.proofs.Common.{◌≡◌, ℕ, List, [], take, length}
 use Rattle.netlist.specs.declared.kinds.Tri.{Tri}
 use Rattle.netlist.specs.Settled.{Settles}
 use Rattle.tri.specs.Settled.{tris}
-use Rattle.scan_play.specs.inner.Plans.{AreSettled, IsPath}
+use Rattle.scan_play.specs.Steps.{IsPath}
+use Rattle.scan_play.specs.inner.Plans.{AreSettled}
 use Rattle.scan_play.proofs.stepping.evaluate_all.Given as goal
 
 abbrev pub invariant-loop-id : goal.invariant-loop-id
