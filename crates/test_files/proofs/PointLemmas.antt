@@ -17,7 +17,7 @@ use Rattle.fault_universe.specs.Universe.{universe_of}
 use Rattle.fault_collapse.specs.Classes.{AreClasses}
 use Rattle.fault_collapse.specs.Numbers.{Classes}
 use Rattle.certificate.specs.Certificates.{IsNamed}
-use Rattle.certificate.proofs.NamedTrees.{nodes_named}
+use Rattle.good_files.proofs.TreeLemmas.{fitting_named}
 use Rattle.run_report.proofs.PointLemmas.{point_inside}
 use Rattle.list_core.specs.declared.verdicts.Verdict.{Verdict}
 use Rattle.list_core.specs.declared.verdicts.Verdict.TheVariants.{Open, Detected, Redundant, Aborted}
