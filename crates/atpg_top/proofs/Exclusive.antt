@@ -28,9 +28,9 @@ use Rattle.commands.specs.World.{Text}
 use Rattle.commands.specs.Due.{Due, Deliver, Refuse}
 use Rattle.commands.specs.Laws.{AreAlike, IsExclusive}
 use Rattle.commands.specs.declared.ending.Finding.TheVariants.{Fine}
-use Rattle.words.specs.CommandLine.{CommandLine, chaintest, check, diagnose, faults, play, run, scan, sweep, transition}
-use Rattle.words.specs.HoldLists.{Hold}
-use Rattle.words.specs.declared.requests.RunOptions.{RunOptions}
+use Rattle.command_line.specs.CommandLine.{CommandLine, chaintest, check, diagnose, faults, play, run, scan, sweep, transition}
+use Rattle.command_line.specs.HoldLists.{Hold}
+use Rattle.command_line.specs.declared.requests.RunOptions.{RunOptions}
 use Rattle.check_command.specs.Checking as command
 use Rattle.check_command.specs.declared.refusal.CheckRefusal.{CheckRefusal}
 use Rattle.atpg_top.specs.Checks.{check_due, refusal_of, told}

@@ -10,14 +10,14 @@ use Rattle.stil_vectors.specs.FileVectors.{vectors_in}
 use Rattle.stil_vectors.specs.Fitting.{Fits}
 use Rattle.scan_play.specs.declared.played.Played.{Played}
 use Rattle.fail_log.specs.Reading.{IsLogOf}
-use Rattle.words.specs.CommandLine.{CommandLine, chaintest, check, diagnose, faults, play, run, scan, sweep, transition}
+use Rattle.command_line.specs.CommandLine.{CommandLine, chaintest, check, diagnose, faults, play, run, scan, sweep, transition}
 use Rattle.commands.specs.World.{Text}
 use Rattle.commands.specs.Due.{Due, Deliver}
 use Rattle.commands.specs.declared.ending.Finding.TheVariants.{Fine}
-use Rattle.words.specs.HoldLists.{Hold}
-use Rattle.words.specs.declared.requests.RunOptions.{RunOptions}
-use Rattle.test_files.specs.declared.files.TestFiles.{TestFiles}
-use Rattle.test_files.specs.Runs.{IsRun}
+use Rattle.command_line.specs.HoldLists.{Hold}
+use Rattle.command_line.specs.declared.requests.RunOptions.{RunOptions}
+use Rattle.run_files.specs.declared.files.RunFiles.{RunFiles}
+use Rattle.run_files.specs.Runs.{IsRun}
 use Rattle.transition_run.specs.declared.files.TransitionFiles.{TransitionFiles}
 use Rattle.transition_run.specs.Runs.{IsTransitionRun, files_of}
 use Rattle.check_command.specs.Checking.{run_files}
@@ -70,7 +70,7 @@ play_due fault texts = λ d. ⊥
 -- the five texts of a run, and the line with the report's numbers
 abbrev pub run_due : RunOptions → List Hold → List Text → Due Refusal → Type 0
 run_due options named = design_due (λ n. named_holds n named >>= λ holds d.
-    (made : TestFiles) × IsRun n holds options.chains options.limit made × (d ≡ Deliver (texts_made made) (tests_line made.said.counts) Fine))
+    (made : RunFiles) × IsRun n holds options.chains options.limit made × (d ≡ Deliver (texts_made made) (tests_line made.said.counts) Fine))
 
 -- the five texts of a design's slow lines, and the line with the report's numbers
 abbrev pub transition_due : RunOptions → List Text → Due Refusal → Type 0
@@ -95,7 +95,7 @@ diagnose_due chains texts = λ d. ⊥
 
 -- the numbers of a run of the sample netlist, whose test passes
 abbrev pub sweep_due : ℕ → ℕ → List Text → Due Refusal → Type 0
-sweep_due seed gates [] = λ d. (made : TestFiles) × IsSweep (sample gates (words_of seed)) made × (d ≡ Deliver [] (sweep_text made.said) Fine)
+sweep_due seed gates [] = λ d. (made : RunFiles) × IsSweep (sample gates (words_of seed)) made × (d ≡ Deliver [] (sweep_text made.said) Fine)
 sweep_due seed gates texts = λ d. ⊥
 
 -- what is due of the texts that a command line has read

@@ -5,10 +5,10 @@ use Rattle.netlist.specs.Netlist.{Netlist, name_of}
 use Rattle.netlist.specs.Holds.{Holds}
 use Rattle.good_files.specs.GoodFiles.{Files}
 use Rattle.report.specs.declared.counts.ReportCounts.{ReportCounts}
-use Rattle.words.specs.HoldLists.{Hold}
+use Rattle.command_line.specs.HoldLists.{Hold}
 use Rattle.commands.specs.World.{Text}
-use Rattle.test_files.specs.Runs.{files_of}
-use Rattle.test_files.specs.declared.files.TestFiles.{TestFiles}
+use Rattle.run_files.specs.Runs.{files_of}
+use Rattle.run_files.specs.declared.files.RunFiles.{RunFiles}
 
 -- ---- held inputs by name
 
@@ -34,7 +34,7 @@ pub record IsFirstUnknown (n : Netlist) (named : List Hold) (place : ℕ) : Type
 abbrev pub texts_in : Files → List Text
 texts_in files = files.net ∷ files.scan ∷ files.stil ∷ files.certificate ∷ files.report ∷ []
 
-abbrev pub texts_made : TestFiles → List Text
+abbrev pub texts_made : RunFiles → List Text
 texts_made made = texts_in (files_of made)
 
 -- `faults 34 detected 34 redundant 0 aborted 0 patterns 9 cycles 9`, by the counts of a report

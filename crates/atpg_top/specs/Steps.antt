@@ -11,7 +11,7 @@ use Rattle.bench_text.specs.declared.refusal.Names.TheVariants.{Design}
 use Rattle.bench_text.specs.declared.refusal.BenchFault.TheVariants as bench
 use Rattle.fault_universe.specs.Texts.{fault_text}
 use Rattle.fault_universe.specs.Universe.{universe_of}
-use Rattle.words.specs.HoldLists.{Hold}
+use Rattle.command_line.specs.HoldLists.{Hold}
 use Rattle.commands.specs.World.{Text}
 use Rattle.commands.specs.Due.{Due, Refuse}
 use Rattle.atpg_top.specs.Runs.{AreHeldFrom, IsFirstUnknown}

@@ -10,8 +10,8 @@ use Rattle.stil_read.specs.Reading.{StandsFor}
 use Rattle.stil_vectors.specs.FileVectors.{vectors_in}
 use Rattle.stil_write.specs.StilFiles.{StilFile}
 use Rattle.commands.specs.World.{Text}
-use Rattle.test_files.specs.declared.files.TestFiles.{TestFiles}
-use Rattle.test_files.specs.Runs.{IsRun}
+use Rattle.run_files.specs.declared.files.RunFiles.{RunFiles}
+use Rattle.run_files.specs.Runs.{IsRun}
 use Rattle.atpg_top.specs.Plays.{IsPlay}
 
 -- ---- the run
@@ -23,7 +23,7 @@ abbrev pub sweep_limit : ℕ
 sweep_limit = 100
 
 -- a run in one chain, with at most a hundred closed ends a search, no input being held
-abbrev pub IsSweepRun : Netlist → TestFiles → Type 0
+abbrev pub IsSweepRun : Netlist → RunFiles → Type 0
 IsSweepRun n made = IsRun n (none_held n) sweep_chains sweep_limit made
 
 -- The text of a test, read back and played on the scanned netlist, passes.
@@ -33,7 +33,7 @@ pub record IsPlayedBack (n : Netlist) (stil : Text) : Type 0 where
   pub plays : IsPlay (scanned_of n (design_chains n sweep_chains)) None (vectors_in file) Passes
 
 -- a run, and that its test passes
-pub record IsSweep (n : Netlist) (made : TestFiles) : Type 0 where
+pub record IsSweep (n : Netlist) (made : RunFiles) : Type 0 where
   pub run : IsSweepRun n made
   pub played : IsPlayedBack n made.stil.items
 

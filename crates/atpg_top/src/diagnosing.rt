@@ -15,7 +15,7 @@ ghost use Rattle.commands.specs.Names.{texts_of};
 ghost use Rattle.commands.specs.Rows.{CommandRow};
 ghost use Rattle.commands.specs.Worked.{IsWorked};
 ghost use Rattle.commands.specs.World.{world};
-ghost use Rattle.words.specs.CommandLine.{AreWithin};
+ghost use Rattle.command_line.specs.CommandLine.{AreWithin};
 ghost use Rattle.atpg_top.specs.Commands.{diagnose_due};
 ghost use Rattle.atpg_top.specs.Diagnoses.{IsDiagnosis, candidates_line, suspect_line, suspect_lines};
 ghost use Rattle.atpg_top.specs.inner.Cases.{ReadsCase, case_due, diagnosis_due};
@@ -40,7 +40,7 @@ use std::alloc::{AllocError, Global};
 use std::thread::Threads;
 use stil_vectors::{cycle_count, fitting_cycles, vectors};
 use stil_write::StilFile;
-use words::DiagnoseOptions;
+use command_line::DiagnoseOptions;
 
 /// What is diagnosed: the design, the test, and what failed.
 #[derive(Drop)]

@@ -17,7 +17,7 @@
 
 ghost use Rattle.std.specs.Prelude.{◌≡◌, Ok, map};
 ghost use Rattle.std.specs.String.{string_bytes};
-ghost use Rattle.words.specs.CommandLine.{IsInRange, command_line, line_of};
+ghost use Rattle.command_line.specs.CommandLine.{IsInRange, command_line, line_of};
 ghost use Rattle.commands.specs.World.{world};
 ghost use Rattle.atpg_top.specs.Rows.{ErrRow, LineRow, TopRow, held_names};
 ghost use Rattle.atpg_top.specs.inner.Declined.{DeclineRow};
@@ -66,7 +66,7 @@ use std::alloc::Global;
 use std::sync::Wait;
 use std::thread::Threads;
 use sweeping::sweep_sample;
-use words::{Held, Request, WordsRefusal, parse};
+use command_line::{Held, Request, WordsRefusal, parse};
 
 /// Does what was asked.
 fn perform<'a, R: Threads + Wait + Sync, S: Shelf, T: Sink, G: Gate + Sync>(

@@ -9,8 +9,8 @@ ghost use Rattle.commands.specs.Rows.{CommandRow};
 ghost use Rattle.commands.specs.Worked.{IsWorked};
 ghost use Rattle.commands.specs.World.{world};
 ghost use Rattle.commands.specs.declared.ending.Finding.TheVariants.{Fine};
-ghost use Rattle.words.specs.CommandLine.{AreInRange, hold_of};
-ghost use Rattle.test_files.specs.Runs.{IsRun};
+ghost use Rattle.command_line.specs.CommandLine.{AreInRange, hold_of};
+ghost use Rattle.run_files.specs.Runs.{IsRun};
 ghost use Rattle.check_command.specs.Checking.{run_files};
 ghost use Rattle.atpg_top.specs.Commands.{run_due};
 ghost use Rattle.atpg_top.specs.Runs.{tests_line, texts_made};
@@ -30,18 +30,18 @@ use redundancy_cert::Engine;
 use std::alloc::{AllocError, Global};
 use std::sync::Wait;
 use std::thread::Threads;
-use test_files::{Plan, TestFiles, test_files};
-use words::{EngineName, Held, RunOptions};
+use run_files::{Plan, RunFiles, make_files};
+use command_line::{EngineName, Held, RunOptions};
 
 /// What is written and shown of a run.
-fn product_by(alloc: Global, made: TestFiles) -> Result<Product, AllocError>
+fn product_by(alloc: Global, made: RunFiles) -> Result<Product, AllocError>
     ensures texts { IfOk result (λ p. texts_of p.texts.items ≡ texts_made made) }
     ensures count { IfOk result (λ p. length p.texts.items ≡ 5) }
     ensures shown { IfOk result (λ p. p.shown.items ≡ tests_line made.said.counts) }
     ensures fine { IfOk result (λ p. p.finding ≡ Fine) }
 {
     let shown = tests_line(alloc, made.said.counts())?;
-    let TestFiles {
+    let RunFiles {
         net,
         scan,
         stil,
@@ -61,7 +61,7 @@ fn made_by<R: Threads + Wait + Sync, E: Engine + Sync, G: Gate + Sync>(
     engine: &E,
     holds: &Holds,
     gate: &G,
-) -> Result<TestFiles, NoMemory>
+) -> Result<RunFiles, NoMemory>
     requires design { IsDesign core.now }
     requires range { AreInRange options }
     requires held { AreHoldsOf core.now holds.now }
@@ -73,7 +73,7 @@ fn made_by<R: Threads + Wait + Sync, E: Engine + Sync, G: Gate + Sync>(
         limit: options.limit,
         seed: options.seed,
     };
-    test_files(rt, alloc, core, plan, engine, holds, gate)
+    make_files(rt, alloc, core, plan, engine, holds, gate)
 }
 
 /// The five files, as the engine that was asked for finds them.
@@ -84,7 +84,7 @@ pub(crate) fn made_of<R: Threads + Wait + Sync, G: Gate + Sync>(
     options: RunOptions,
     holds: &Holds,
     gate: &G,
-) -> Result<TestFiles, NoMemory>
+) -> Result<RunFiles, NoMemory>
     requires design { IsDesign core.now }
     requires range { AreInRange options }
     requires held { AreHoldsOf core.now holds.now }

@@ -8,7 +8,7 @@ ghost use Rattle.commands.specs.Rows.{CommandRow};
 ghost use Rattle.commands.specs.Worked.{IsWorked};
 ghost use Rattle.commands.specs.World.{world};
 ghost use Rattle.commands.specs.declared.ending.Finding.TheVariants.{Fine};
-ghost use Rattle.words.specs.CommandLine.{AreInRange};
+ghost use Rattle.command_line.specs.CommandLine.{AreInRange};
 ghost use Rattle.transition_run.specs.Runs.{IsTransitionRun, files_of};
 ghost use Rattle.check_command.specs.Checking.{run_files};
 ghost use Rattle.atpg_top.specs.Commands.{transition_due};
@@ -29,7 +29,7 @@ use std::alloc::{AllocError, Global};
 use std::thread::Threads;
 use transition_frames::frames;
 use transition_run::{Plan, TransitionFiles, transition_files};
-use words::{EngineName, RunOptions};
+use command_line::{EngineName, RunOptions};
 
 /// What is written and shown of a test for slow lines.
 fn product_by(alloc: Global, made: TransitionFiles) -> Result<Product, AllocError>

@@ -17,7 +17,7 @@ ghost use Rattle.stil_read.specs.Reading.{StandsFor};
 ghost use Rattle.stil_vectors.specs.FileVectors.{vectors_in};
 ghost use Rattle.stil_vectors.specs.Fitting.{Fits};
 ghost use Rattle.stil_write.specs.StilFiles.{StilFile as File};
-ghost use Rattle.test_files.specs.declared.files.TestFiles.{TestFiles as Made};
+ghost use Rattle.run_files.specs.declared.files.RunFiles.{RunFiles as Made};
 ghost use Rattle.atpg_top.specs.Commands.{sweep_due};
 ghost use Rattle.atpg_top.specs.Plays.{IsPlay};
 ghost use Rattle.atpg_top.specs.Sweeps.{IsPlayedBack, IsSweep, IsSweepRun, number_line, sweep_chains, sweep_text};
@@ -39,10 +39,10 @@ use std::sync::Wait;
 use std::thread::Threads;
 use stil_read::laws::at_most_one;
 use stil_read::{StilFault, read_stil};
-use stil_tests::laws::{file_vectors, files_fit};
+use stil_patterns::laws::{file_vectors, files_fit};
 use stil_write::StilFile;
-use test_files::TestFiles;
-use words::{EngineName, RunOptions};
+use run_files::RunFiles;
+use command_line::{EngineName, RunOptions};
 
 const CHAINS: u32 = 1;
 
@@ -70,7 +70,7 @@ fn run_sample<R: Threads + Wait + Sync, G: Gate + Sync>(
     core: &Core,
     seed: u64,
     gate: &G,
-) -> Result<TestFiles, NoMemory>
+) -> Result<RunFiles, NoMemory>
     requires { IsDesign core.now }
     ensures { IfOk result (IsSweepRun core.now) }
 {
@@ -126,7 +126,7 @@ fn play_passing(alloc: Global, core: &Core, file: &StilFile) -> Result<(), NoMem
 }
 
 /// Reads the test of a run back, and plays it.
-fn play_back(alloc: Global, core: &Core, made: &TestFiles) -> Result<(), NoMemory>
+fn play_back(alloc: Global, core: &Core, made: &RunFiles) -> Result<(), NoMemory>
     requires design { IsDesign core.now }
     requires run { IsSweepRun core.now made.now }
     ensures { OnOk result (IsPlayedBack core.now made.now.stil.items) }

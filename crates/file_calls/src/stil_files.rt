@@ -13,7 +13,7 @@ use cubes::Pattern;
 use netlist::{Core, Holds, Netlist};
 use std::alloc::{AllocError, Global};
 use stil_read::{StilFault, read_stil};
-use stil_tests::{are_patterns, patterns_of, stil_of};
+use stil_patterns::{are_patterns, patterns_of, stil_of};
 use stil_write::write_stil;
 
 /// The cells in so many chains.

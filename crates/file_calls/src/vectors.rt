@@ -9,7 +9,7 @@ use cubes::Pattern;
 use netlist::{Core, Holds, Tri};
 use scan_play::{Burst, Cycle, vectors_of};
 use std::alloc::{AllocError, Global};
-use stil_tests::are_patterns;
+use stil_patterns::are_patterns;
 
 fn letter_of(strobe: Tri) -> u8 {
     match strobe {

@@ -28,7 +28,7 @@ use Rattle.netlist.specs.Settled.{bit_table}
 use Rattle.scan_play.specs.Laws.{moved, GoodPasses, UndetectedPasses, DetectedFails, VectorsFit, NoSequenceDetectsRedundant, SomeRun}
 use Rattle.stil_write.specs.StilFiles.{StilFile}
 use Rattle.stil_vectors.specs.FileVectors.{vectors_in}
-use Rattle.stil_tests.specs.Laws.{FileVectors}
+use Rattle.stil_patterns.specs.Laws.{FileVectors}
 use Rattle.fault_universe.specs.Laws.{FaultsHaveLines}
 use Rattle.fault_universe.specs.Texts.{fault_text}
 use Rattle.fault_universe.specs.Universe.{universe_of}

@@ -4,7 +4,7 @@ use Rattle.netlist.specs.Netlist.{Netlist}
 use Rattle.netlist.specs.Holds.{none_held}
 use Rattle.commands.specs.Due.{Deliver}
 use Rattle.commands.specs.Names.{texts_of}
-use Rattle.words.specs.CommandLine.{hold_of}
+use Rattle.command_line.specs.CommandLine.{hold_of}
 use Rattle.atpg_top.specs.inner.Running.{held_due}
 use Rattle.atpg_top.proofs.HoldLemmas.{held_length}
 use Rattle.atpg_top.proofs.running.run_design.Goals as goal

@@ -2,7 +2,7 @@ use Rattle.std.proofs.Common.{[], ◌∷◌, ap, map}
 use Rattle.commands.specs.Names.{name_of, names_of, texts_of}
 use Rattle.commands.specs.World.{Text, world}
 use Rattle.commands.proofs.CommandLemmas.{command_row}
-use Rattle.words.specs.CommandLine.{hold_of}
+use Rattle.command_line.specs.CommandLine.{hold_of}
 use Rattle.check_command.specs.Checking.{run_files}
 use Rattle.atpg_top.specs.Commands.{run_due}
 use Rattle.atpg_top.proofs.Delivering.{row_at}

@@ -1,6 +1,6 @@
 use Rattle.std.proofs.Common.{map}
 use Rattle.commands.specs.Names.{texts_of}
-use Rattle.words.specs.CommandLine.{hold_of}
+use Rattle.command_line.specs.CommandLine.{hold_of}
 use Rattle.atpg_top.specs.inner.Running.{held_due}
 use Rattle.atpg_top.proofs.RunLemmas.{design_stops, design_works}
 use Rattle.atpg_top.proofs.running.work.Goals as goal
