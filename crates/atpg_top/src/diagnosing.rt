@@ -25,6 +25,7 @@ use crate::fault_list::faults_of;
 use crate::reading::{fitting, log_of, netlist_of, stil_of};
 use crate::refusal::Refusal;
 use bench_text::Names;
+use command_line::DiagnoseOptions;
 use commands::{Ending, FileName, Finding, Product, Stop, deliver, read_in_order};
 use diagnose::{candidates, candidates_tell_the_truth};
 use fail_log::FailLog;
@@ -40,7 +41,6 @@ use std::alloc::{AllocError, Global};
 use std::thread::Threads;
 use stil_vectors::{cycle_count, fitting_cycles, vectors};
 use stil_write::StilFile;
-use command_line::DiagnoseOptions;
 
 /// What is diagnosed: the design, the test, and what failed.
 #[derive(Drop)]

@@ -6,11 +6,11 @@ ghost use Rattle.atpg_top.specs.inner.Answers.{Answers};
 ghost use Rattle.atpg_top.specs.inner.Running.{IsFound};
 
 use crate::refusal::Refusal;
+use command_line::Held;
 use commands::Stop;
 use name_index::NameIndex;
 use netlist::{Core, Holds};
 use std::alloc::Global;
-use command_line::Held;
 
 /// The number of the input of this name.
 fn input_named(index: &NameIndex<'_>, name: &str) -> Option<u32>

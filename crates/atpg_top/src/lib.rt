@@ -47,6 +47,7 @@ mod told_lines;
 
 use chain_testing::test_chains;
 use checking::check_run;
+use command_line::{Held, Request, WordsRefusal, parse};
 use commands::Ending;
 use diagnosing::diagnose_log;
 pub use laws::{
@@ -66,7 +67,6 @@ use std::alloc::Global;
 use std::sync::Wait;
 use std::thread::Threads;
 use sweeping::sweep_sample;
-use command_line::{Held, Request, WordsRefusal, parse};
 
 /// Does what was asked.
 fn perform<'a, R: Threads + Wait + Sync, S: Shelf, T: Sink, G: Gate + Sync>(

@@ -21,17 +21,17 @@ use crate::five_files::{product_of, tests_line};
 use crate::holding::holds_of;
 use crate::refusal::Refusal;
 use check_command::file_names;
+use command_line::{EngineName, Held, RunOptions};
 use commands::{Ending, FileName, Product, Stop, deliver, read_in_order};
 use fan::Fan;
 use netlist::{Core, Holds, Netlist, NoMemory};
 use outside::{Gate, Shelf, Sink};
 use podem::Podem;
 use redundancy_cert::Engine;
+use run_files::{Plan, RunFiles, make_files};
 use std::alloc::{AllocError, Global};
 use std::sync::Wait;
 use std::thread::Threads;
-use run_files::{Plan, RunFiles, make_files};
-use command_line::{EngineName, Held, RunOptions};
 
 /// What is written and shown of a run.
 fn product_by(alloc: Global, made: RunFiles) -> Result<Product, AllocError>

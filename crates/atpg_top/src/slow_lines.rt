@@ -19,6 +19,7 @@ use crate::design::design_of;
 use crate::five_files::{product_of, tests_line};
 use crate::refusal::Refusal;
 use check_command::file_names;
+use command_line::{EngineName, RunOptions};
 use commands::{Ending, FileName, Product, Stop, deliver, read_in_order};
 use fan::Fan;
 use netlist::{Core, Fault, Line, Netlist, NoMemory};
@@ -29,7 +30,6 @@ use std::alloc::{AllocError, Global};
 use std::thread::Threads;
 use transition_frames::frames;
 use transition_run::{Plan, TransitionFiles, transition_files};
-use command_line::{EngineName, RunOptions};
 
 /// What is written and shown of a test for slow lines.
 fn product_by(alloc: Global, made: TransitionFiles) -> Result<Product, AllocError>

@@ -27,22 +27,22 @@ use crate::playing::answer_of;
 use crate::refusal::Refusal;
 use crate::running::made_of;
 use chain_stitch::stitch;
+use command_line::{EngineName, RunOptions};
 use commands::{Ending, Finding, Product, Stop, deliver};
 use net_gen::{generate, samples_are_designs};
 use netlist::{Core, Holds, Netlist, NoMemory};
 use outside::{Gate, Shelf, Sink};
 use report::Report;
+use run_files::RunFiles;
 use scan_insert::insert;
 use scan_play::{Played, vectors_decide};
 use std::alloc::{AllocError, Global};
 use std::sync::Wait;
 use std::thread::Threads;
+use stil_patterns::laws::{file_vectors, files_fit};
 use stil_read::laws::at_most_one;
 use stil_read::{StilFault, read_stil};
-use stil_patterns::laws::{file_vectors, files_fit};
 use stil_write::StilFile;
-use run_files::RunFiles;
-use command_line::{EngineName, RunOptions};
 
 const CHAINS: u32 = 1;
 

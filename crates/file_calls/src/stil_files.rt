@@ -12,8 +12,8 @@ use chain_stitch::{Chains, stitch};
 use cubes::Pattern;
 use netlist::{Core, Holds, Netlist};
 use std::alloc::{AllocError, Global};
-use stil_read::{StilFault, read_stil};
 use stil_patterns::{are_patterns, patterns_of, stil_of};
+use stil_read::{StilFault, read_stil};
 use stil_write::write_stil;
 
 /// The cells in so many chains.

@@ -14,9 +14,9 @@ pub mod laws;
 mod loading;
 mod names;
 mod obeying;
+mod pattern_files;
 mod patterns;
 mod reading;
-mod pattern_files;
 mod words;
 
 pub use applying::push_flush;
@@ -24,5 +24,5 @@ pub use capturing::{push_capture, push_launch};
 pub use loading::{Room, push_load};
 pub use names::{chain_names, input_names, output_names, shift_word};
 pub use obeying::are_patterns;
-pub use patterns::patterns_of;
 pub use pattern_files::stil_of;
+pub use patterns::patterns_of;

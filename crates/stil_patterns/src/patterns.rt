@@ -8,8 +8,8 @@ ghost use Rattle.scan_insert.specs.Scanned.{AreChainsOf};
 ghost use Rattle.stil_patterns.specs.Tests.{IsFileOf};
 
 use crate::obeying::are_patterns;
-use crate::reading::patterns_in;
 use crate::pattern_files::stil_of;
+use crate::reading::patterns_in;
 use chain_stitch::Chains;
 use cubes::Pattern;
 use netlist::{Core, Holds, NoMemory};
