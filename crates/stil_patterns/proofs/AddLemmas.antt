@@ -16,7 +16,7 @@ use Rattle.scan_insert.specs.Names.{output_name}
 use Rattle.scan_play.specs.Vectors.{Response, Responds, flush}
 use Rattle.scan_play.proofs.Applied.{length-next}
 use Rattle.stil_write.specs.StilFiles.{Item, StilFile, Text, Vector, where_chained}
-use Rattle.stil_vectors.specs.RunFiles.{applied_items, capture_item, char_of_value, load_items, shift_word_of, test_file, test_items, text_of_bits, text_of_values}
+use Rattle.stil_vectors.specs.TestFiles.{applied_items, capture_item, char_of_value, load_items, shift_word_of, test_file, test_items, text_of_bits, text_of_values}
 use Rattle.stil_patterns.specs.Tests.{IsFileOf}
 use Rattle.stil_patterns.specs.inner.Added.{AreAll, AreBegun, IsAdded, flush_items}
 

@@ -17,7 +17,7 @@ use Rattle.scan_play.specs.Vectors.{Response, Responds, flush}
 use Rattle.scan_play.proofs.Widths.{cells_count}
 use Rattle.stil_write.specs.StilFiles.{Call, Item, StilFile, Text, Vector, where_chained, words_of}
 use Rattle.stil_vectors.specs.FileVectors.{bit_of, bits_of}
-use Rattle.stil_vectors.specs.RunFiles.{applied_items, capture_item, char_of_bit, load_items, load_words, test_file, test_items, text_of_bits, text_of_values}
+use Rattle.stil_vectors.specs.TestFiles.{applied_items, capture_item, char_of_bit, load_items, load_words, test_file, test_items, text_of_bits, text_of_values}
 use Rattle.stil_patterns.specs.Tests.{IsFileOf}
 use Rattle.stil_patterns.specs.inner.Reading.{cells_in, chain_in, inputs_in, pattern_in, patterns_in, tests_in}
 

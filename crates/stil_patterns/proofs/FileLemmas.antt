@@ -32,7 +32,7 @@ use Rattle.scan_play.specs.Vectors.{Response, Responds, flush}
 use Rattle.stil_write.specs.declared.forms.Form.{Form}
 use Rattle.stil_write.specs.declared.forms.Values.TheVariants as values
 use Rattle.stil_write.specs.StilFiles.{Call, IsCall, IsItem, IsName, IsStilFile, IsWord, Item, StilFile, Text, Vector, call_forms, is_name_byte, is_value, numbered, signals, vector_forms, where_chained}
-use Rattle.stil_vectors.specs.RunFiles.{applied_items, capture_item, char_of_bit, char_of_value, load_items, load_words, shift_word_of, test_file, test_items, text_of_bits, text_of_values}
+use Rattle.stil_vectors.specs.TestFiles.{applied_items, capture_item, char_of_bit, char_of_value, load_items, load_words, shift_word_of, test_file, test_items, text_of_bits, text_of_values}
 use Rattle.stil_vectors.specs.Fitting.{Fits}
 use Rattle.scan_play.proofs.Widths.{scanned_cells_count}
 use Rattle.stil_patterns.specs.Tests.{IsFileOf}

@@ -14,7 +14,7 @@ use Rattle.cubes.specs.Cubes.{Pattern, IsPatternOf}
 use Rattle.scan_insert.specs.Scanned.{AreChainsOf}
 use Rattle.scan_play.specs.Vectors.{Response, Responds}
 use Rattle.stil_write.specs.StilFiles.{Item, StilFile}
-use Rattle.stil_vectors.specs.RunFiles.{test_file}
+use Rattle.stil_vectors.specs.TestFiles.{test_file}
 use Rattle.stil_patterns.specs.Tests.{IsFileOf}
 use Rattle.stil_patterns.specs.Laws.{OneFile, OnePatternList}
 use Rattle.stil_patterns.specs.inner.Reading.{patterns_in}

@@ -9,7 +9,7 @@ use Rattle.cubes.specs.Cubes.{Pattern}
 use Rattle.chain_stitch.specs.Chains.{cells_of}
 use Rattle.scan_play.specs.Vectors.{Response, flush}
 use Rattle.stil_write.specs.StilFiles.{StilFile}
-use Rattle.stil_vectors.specs.RunFiles.{applied_items, capture_item, load_items, test_items}
+use Rattle.stil_vectors.specs.TestFiles.{applied_items, capture_item, load_items, test_items}
 use Rattle.stil_patterns.specs.Laws.{PatternsTakeItems}
 
 zip_long : {X Y : Type 0} (R : X → Y → Type 0) (xs : List X) (ys : List Y) → AllZip R xs ys → length xs ≤ length (zip xs ys)

@@ -8,7 +8,7 @@ use Rattle.netlist.specs.Holds.{Holds}
 use Rattle.std.specs.Prelude.{Option}
 use Rattle.std.proofs.lemmas.Option.{get_or_from_slice_get, slice_get_within}
 use Rattle.stil_write.specs.StilFiles.{Text}
-use Rattle.stil_vectors.specs.RunFiles.{char_of_bit, text_of_bits}
+use Rattle.stil_vectors.specs.TestFiles.{char_of_bit, text_of_bits}
 
 pub char_more : {V : Type 0} (f : V → ℕ) (z : V) (values : List V) (t : ℕ) (so_far after : Text) (v : V) (char : ℕ) → t < length values → so_far ≡ map f (take t values)
     → v ≡ get_or values t z → char ≡ f v → after ≡ so_far ++ char ∷ [] → after ≡ map f (take (t + 1) values)

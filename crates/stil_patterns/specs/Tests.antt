@@ -6,7 +6,7 @@ use Rattle.netlist.specs.Holds.{Holds, AreHoldsOf}
 use Rattle.cubes.specs.Cubes.{Pattern}
 use Rattle.scan_play.specs.Vectors.{Response, Responds}
 use Rattle.stil_write.specs.StilFiles.{StilFile}
-use Rattle.stil_vectors.specs.RunFiles.{test_file}
+use Rattle.stil_vectors.specs.TestFiles.{test_file}
 
 pub record IsFileOf (n : Netlist) (holds : Holds) (chains : List (List ℕ)) (patterns : List Pattern) (f : StilFile) : Type 0 where
   pub held : AreHoldsOf n holds

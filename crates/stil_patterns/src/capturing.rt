@@ -4,7 +4,7 @@ ghost use Rattle.netlist.specs.declared.kinds.Tri.TheVariants.{X};
 ghost use Rattle.netlist.specs.ThreeValues.{known};
 ghost use Rattle.scan_play.specs.Vectors.{Response};
 ghost use Rattle.stil_write.specs.StilFiles.{where_chained};
-ghost use Rattle.stil_vectors.specs.RunFiles.{capture_item, char_of_value, launch_item, text_of_bits, text_of_values};
+ghost use Rattle.stil_vectors.specs.TestFiles.{capture_item, char_of_value, launch_item, text_of_bits, text_of_values};
 
 use crate::loading::Room;
 use crate::words::{push_bits, push_strobes};

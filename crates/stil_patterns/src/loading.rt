@@ -2,7 +2,7 @@
 ghost use Rattle.std.specs.Prelude.{◌≡◌, ◌^◌, ◌<◌, ◌++◌, length, map, OnOk};
 ghost use Rattle.chain_stitch.specs.Chains.{cells_of, longest_of};
 ghost use Rattle.scan_play.specs.Shifts.{by_chain, word_in, word_out};
-ghost use Rattle.stil_vectors.specs.RunFiles.{load_items, text_of_bits, text_of_values};
+ghost use Rattle.stil_vectors.specs.TestFiles.{load_items, text_of_bits, text_of_values};
 
 use crate::words::{set_word_in, set_word_out};
 use chain_stitch::Chains;

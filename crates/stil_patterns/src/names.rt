@@ -5,7 +5,7 @@ ghost use Rattle.netlist.specs.Netlist.{name_of, signals};
 ghost use Rattle.scan_insert.specs.Names.{output_name};
 ghost use Rattle.scan_insert.specs.Scanned.{AreChainsOf};
 ghost use Rattle.stil_write.specs.StilFiles.{where_chained};
-ghost use Rattle.stil_vectors.specs.RunFiles.{char_of_bit, shift_word_of};
+ghost use Rattle.stil_vectors.specs.TestFiles.{char_of_bit, shift_word_of};
 ghost use Rattle.scan_play.specs.Shifts.{held_or_zero};
 
 use crate::words::char_of_bit;

@@ -4,7 +4,7 @@ ghost use Rattle.netlist.specs.ThreeValues.{known};
 ghost use Rattle.netlist.specs.declared.kinds.Tri.TheVariants.{X};
 ghost use Rattle.scan_play.specs.Shifts.{word_in, word_out};
 ghost use Rattle.stil_write.specs.StilFiles.{where_chained};
-ghost use Rattle.stil_vectors.specs.RunFiles.{char_of_bit, char_of_value, text_of_bits, text_of_values};
+ghost use Rattle.stil_vectors.specs.TestFiles.{char_of_bit, char_of_value, text_of_bits, text_of_values};
 
 use netlist::Tri;
 use std::alloc::AllocError;

@@ -18,7 +18,7 @@ use Rattle.scan_play.specs.Vectors.{Response, applied, capture, flush, vectors}
 use Rattle.stil_write.specs.StilFiles.{Call, Item, StilFile, Text, Vector, where_chained}
 use Rattle.stil_vectors.specs.FileVectors.{bit_of, bits_of, call_cycle, call_size, cycles_of_item, has_pulse, together, value_of, values_of, vector_cycle, vectors_in}
 use Rattle.stil_vectors.specs.Laws.{TestVectors}
-use Rattle.stil_vectors.specs.RunFiles.{applied_items, capture_item, char_of_bit, char_of_value, load_items, load_words, shift_word_of, test_file, test_items, text_of_bits, text_of_values}
+use Rattle.stil_vectors.specs.TestFiles.{applied_items, capture_item, char_of_bit, char_of_value, load_items, load_words, shift_word_of, test_file, test_items, text_of_bits, text_of_values}
 use Rattle.stil_vectors.proofs.CallLemmas.{same_cycle}
 use Rattle.stil_vectors.proofs.WidthLemmas.{back_of, drop_more, front_of}
 

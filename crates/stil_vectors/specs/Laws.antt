@@ -9,7 +9,7 @@ use Rattle.scan_play.specs.Cycles.{IsCycleOf}
 use Rattle.stil_write.specs.StilFiles.{IsStilFile, StilFile}
 use Rattle.stil_vectors.specs.FileVectors.{vectors_in}
 use Rattle.stil_vectors.specs.Fitting.{Fits}
-use Rattle.stil_vectors.specs.RunFiles.{test_file}
+use Rattle.stil_vectors.specs.TestFiles.{test_file}
 
 -- a file that fits a netlist has vectors of its widths
 abbrev pub FittingCycles : Type 0

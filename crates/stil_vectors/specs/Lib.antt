@@ -1,4 +1,4 @@
 pub mod FileVectors
 pub mod Fitting
 pub mod Laws
-pub mod RunFiles
+pub mod TestFiles

@@ -9,7 +9,7 @@ use Rattle.cubes.specs.Cubes.{Pattern}
 use Rattle.chain_stitch.specs.Chains.{cells_of}
 use Rattle.scan_play.specs.Vectors.{Response, Responds, flush}
 use Rattle.stil_write.specs.StilFiles.{Item}
-use Rattle.stil_vectors.specs.RunFiles.{applied_items, capture_item, load_items, test_items}
+use Rattle.stil_vectors.specs.TestFiles.{applied_items, capture_item, load_items, test_items}
 
 -- the pattern's load and capture stand behind the others, and its response is what the cells hold
 pub record IsAdded (n : Netlist) (chains : List (List ℕ)) (p : Pattern) (held after : List Tri) (old new : List Item) : Type 0 where

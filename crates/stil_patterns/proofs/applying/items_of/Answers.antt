@@ -4,7 +4,7 @@ use Rattle.netlist.specs.Netlist.{Netlist, Definition, cells, signals}
 use Rattle.netlist.specs.Conditions.{IsSound}
 use Rattle.chain_stitch.specs.Chains.{cells_of}
 use Rattle.stil_write.specs.StilFiles.{Item}
-use Rattle.stil_vectors.specs.RunFiles.{load_items}
+use Rattle.stil_vectors.specs.TestFiles.{load_items}
 use Rattle.stil_patterns.specs.inner.Added.{flush_items}
 use Rattle.scan_play.proofs.Widths.{cells_count}
 use Rattle.scan_play.proofs.ApplyLemmas.{few_cells}

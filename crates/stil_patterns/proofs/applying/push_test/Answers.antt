@@ -3,7 +3,7 @@ use Rattle.netlist.specs.declared.kinds.Tri.{Tri}
 use Rattle.netlist.specs.ThreeValues.{known}
 use Rattle.scan_play.specs.Vectors.{Response}
 use Rattle.stil_write.specs.StilFiles.{Item}
-use Rattle.stil_vectors.specs.RunFiles.{capture_item, load_items}
+use Rattle.stil_vectors.specs.TestFiles.{capture_item, load_items}
 use Rattle.stil_patterns.proofs.AddLemmas.{two_added}
 use Rattle.stil_patterns.proofs.applying.push_test.Goals as goal
 

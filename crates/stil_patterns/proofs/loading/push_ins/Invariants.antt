@@ -1,7 +1,7 @@
 use Rattle.std.proofs.Common.{◌≡◌, ◌++◌, length, map, take}
 use Rattle.chain_stitch.specs.Chains.{cells_of, longest_of}
 use Rattle.scan_play.specs.Shifts.{by_chain, word_in}
-use Rattle.stil_vectors.specs.RunFiles.{text_of_bits}
+use Rattle.stil_vectors.specs.TestFiles.{text_of_bits}
 use Rattle.stil_patterns.proofs.loading.push_ins.Given as goal
 
 abbrev pub invariant-loop-c : goal.invariant-loop-c

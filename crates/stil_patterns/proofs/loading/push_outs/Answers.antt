@@ -4,7 +4,7 @@ use Rattle.chain_stitch.specs.Chains.{longest_of}
 use Rattle.scan_play.specs.Shifts.{by_chain, word_out}
 use Rattle.scan_play.proofs.LoadLemmas.{start_more, start_within, chain_short}
 use Rattle.stil_write.specs.StilFiles.{Text}
-use Rattle.stil_vectors.specs.RunFiles.{text_of_values}
+use Rattle.stil_vectors.specs.TestFiles.{text_of_values}
 use Rattle.stil_patterns.proofs.WordLemmas.{words_more}
 use Rattle.stil_patterns.proofs.loading.push_outs.Goals as goal
 
