@@ -33,18 +33,17 @@ fn launch_cycles(longest: u64, patterns: u64) -> u64
 
 /// The report of these lines, one for each fault, for so many patterns, with this backtrack limit.
 pub fn report_of(
-    alloc: Global,
     netlist: &Netlist,
     chains: &Chains,
     patterns: u32,
     limit: u32,
     lines: FaultLines,
-) -> Result<TransitionReport, NoMemory>
+) -> TransitionReport
     requires chains { AreChainsOf netlist.now chains.now }
     requires lines { length lines ≡ length (universe_of netlist.now) }
     requires few { length lines < 2 ^ 32 }
-    ensures report { IfOk result (IsReportOf netlist.now chains.now patterns limit lines) }
-    ensures sized { IfOk result IsSized }
+    ensures report { IsReportOf netlist.now chains.now patterns limit lines result }
+    ensures sized { IsSized result }
 {
     netlist.sound();
     let faults = lines.len() as u32;
@@ -62,12 +61,12 @@ pub fn report_of(
     );
     let coverage = share_of(faults, tally.detected);
     let efficiency = share_of(faults, tally.detected + tally.redundant);
-    Ok(TransitionReport {
+    TransitionReport {
         counts,
         coverage,
         efficiency,
         lines,
-    })
+    }
 }
 
 fn push_report(out: &mut Vec<u8>, report: &TransitionReport) -> Result<(), AllocError>

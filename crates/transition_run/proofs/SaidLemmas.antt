@@ -1,5 +1,5 @@
--- Answers of two clauses, and how many lines there are.
-use Rattle.std.proofs.Common.{◌≡◌, ℕ, List, length, arith, Result, Ok, Err, IfOk}
+-- How many lines there are.
+use Rattle.std.proofs.Common.{◌≡◌, ℕ, List, length, arith}
 use Rattle.std.specs.List.{zip}
 use Rattle.std.proofs.lemmas.Slice.Zip.{AllZip-long, length-zip}
 use Rattle.netlist.specs.declared.lines.Fault.{Fault}
@@ -7,10 +7,6 @@ use Rattle.netlist.specs.Netlist.{Netlist}
 use Rattle.report.specs.Reports.{Line}
 use Rattle.transition_tests.specs.declared.verdicts.Verdict.{Verdict}
 use Rattle.transition_report.specs.Lines.{AreLines, IsLineOf}
-
-pub if_both : {X E : Type 0} (r : Result X E) (P Q R : X → Type 0) → IfOk r P → IfOk r Q → ((v : X) → P v → Q v → R v) → IfOk r R
-if_both (Ok v) P Q R p q k = k v p q
-if_both (Err e) P Q R p q k = tt
 
 -- a line for each fault
 pub lines_count : (n : Netlist) (chains : List (List ℕ)) (faults : List Fault) (verdicts : List Verdict) (lines : List Line) → length verdicts ≡ length faults

@@ -91,14 +91,13 @@ fn said_of(
     let pins = pin_names(alloc, scanned)?;
     let verdicts = tests.verdicts.as_slice();
     let lines = lines_of(alloc, netlist, chains, &pins, faults, verdicts)?;
-    report_of(
-        alloc,
+    Ok(report_of(
         netlist,
         chains,
         tests.patterns.as_slice().len() as u32,
         limit,
         lines,
-    )
+    ))
 }
 
 /// The texts of these tests.

@@ -4,13 +4,12 @@ use Rattle.fault_universe.specs.Universe.{universe_of}
 use Rattle.report.specs.Reports.{Line}
 use Rattle.transition.proofs.Gathering.{universe_few}
 use Rattle.transition_tests.specs.declared.verdicts.Verdict.{Verdict}
-use Rattle.transition_report.specs.declared.reporting.TransitionReport.{TransitionReport}
 use Rattle.transition_report.specs.Lines.{AreLines, IsInside}
-use Rattle.transition_report.specs.Numbers.{IsReportOf, IsSized}
+use Rattle.transition_report.specs.Numbers.{IsReportOf}
 use Rattle.transition_report.proofs.LeafLemmas.{all_inside}
 use Rattle.transition_run.specs.inner.Written.{IsSaid}
 use Rattle.transition_run.proofs.FileLemmas.{verdicts_count}
-use Rattle.transition_run.proofs.SaidLemmas.{if_both, lines_count}
+use Rattle.transition_run.proofs.SaidLemmas.{lines_count}
 use Rattle.transition_run.proofs.files.said_of.Goals as goal
 
 pub lines_of-requires-clause-size : goal.lines_of-requires-clause-size
@@ -54,11 +53,11 @@ returns c =
     let all : AreLines n chains (universe_of n) tests.verdicts.items lines =
     subst (λ (vs : List Verdict). AreLines n chains (universe_of n) vs lines) c.as_slice-verdicts.ensures.value c.in_ok-lines.ensures in
     let count : length c.as_slice.result.now ≡ length tests.patterns.items = ap length c.as_slice.ensures.value in
-    if_both c.report_of.result (IsReportOf n chains (length c.as_slice.result.now) limit lines) IsSized
-    (IsSaid n chains limit tests.patterns.items tests.verdicts.items) c.report_of.ensures.report c.report_of.ensures.sized
-    (λ (r : TransitionReport) is sized. record {
+    let r = c.report_of.result in
+    let is : IsReportOf n chains (length c.as_slice.result.now) limit lines r = c.report_of.ensures.report in
+    record {
       lines = subst (λ (ls : List Line). AreLines n chains (universe_of n) tests.verdicts.items ls) (sym is.lines_are) all;
       numbers = subst (λ (ls : List Line). IsReportOf n chains (length tests.patterns.items) limit ls r) (sym is.lines_are)
           (subst (λ (k : ℕ). IsReportOf n chains k limit lines r) count is);
-      sized = sized;
-    })
+      sized = c.report_of.ensures.sized;
+    }
