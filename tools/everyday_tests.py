@@ -106,7 +106,7 @@ def test_progress():
         return "ok, but there is no proved build: the line wasn't looked at"
     with tempfile.TemporaryDirectory() as name:
         folder = pathlib.Path(name)
-        subprocess.run([ROOT / "bench/make_circuits.py", "--into", folder, "multiplier:64"], capture_output=True, check=True)
+        subprocess.run([ROOT / "bench/measure/make_circuits.py", "--into", folder, "multiplier:64"], capture_output=True, check=True)
         (folder / "multiplier_64.bench").rename(folder / "long.bench")
         for more, classes in (({"ATPG_PROGRESS": "1", "ATPG_CLASSES": "77"}, "77"), ({"ATPG_PROGRESS": "1"}, "")):
             shown = shown_by(folder, **more)[1]
@@ -241,8 +241,8 @@ def test_explain():
     """The line and what is wrong with it, below what the program says."""
     with tree() as made:
         made.add_rt()
-        (made.root / "bench").mkdir()
-        shutil.copy2(ROOT / "bench/plain_design.py", made.root / "bench")
+        (made.root / "bench/oracle").mkdir(parents=True)
+        shutil.copy2(ROOT / "bench/oracle/plain_design.py", made.root / "bench/oracle")
         shutil.copy2(ROOT / "tools/explain", made.root / "tools")
         for number, (text, wanted) in enumerate(REFUSED):
             path = made.folder / f"{number}.bench"

@@ -9,7 +9,7 @@ import heapq
 import pathlib
 import sys
 
-sys.path.insert(0, str(pathlib.Path(__file__).resolve().parent.parent / "bench"))
+sys.path.insert(0, str(pathlib.Path(__file__).resolve().parent.parent / "bench/oracle"))
 import plain_check  # noqa: E402
 import plain_design as plain  # noqa: E402
 

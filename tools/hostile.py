@@ -6,7 +6,7 @@ import subprocess
 import sys
 
 ROOT = pathlib.Path(__file__).resolve().parent.parent
-sys.path.insert(0, str(ROOT / "bench"))
+sys.path.insert(0, str(ROOT / "bench/measure"))
 from measure import proved_build  # noqa: E402
 
 ENDS = ("net", "scan", "stil", "cert", "rep")
@@ -40,12 +40,12 @@ def left_by(folder, words, environment=None, program=None):
     return Left(done.returncode, done.stdout, done.stderr, contents(folder))
 
 
-def made_run(folder, text, options=(), program=None):
-    """The netlist's text as n.bench and the five files of its run, by name."""
+def made_run(folder, text, options=(), program=None, command="run"):
+    """The netlist's text as n.bench and the five files of its run, or of its test for slow lines, by name."""
     put(folder, {"n.bench": text.encode()})
-    done = left_by(folder, ["run", "n.bench", "P", *options], program=program)
+    done = left_by(folder, [command, "n.bench", "P", *options], program=program)
     if done.status != 0:
-        sys.exit(f"run ended with {done.status}: {done.err.decode(errors='replace')}")
+        sys.exit(f"{command} ended with {done.status}: {done.err.decode(errors='replace')}")
     return done.files
 
 

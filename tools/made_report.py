@@ -12,7 +12,7 @@ import random
 import re
 import sys
 
-sys.path.insert(0, str(pathlib.Path(__file__).resolve().parent.parent / "bench"))
+sys.path.insert(0, str(pathlib.Path(__file__).resolve().parent.parent / "bench/oracle"))
 from fault_list import netlist_of, readers_of  # noqa: E402
 
 

@@ -5,7 +5,7 @@ import html
 import pathlib
 import sys
 
-sys.path.insert(0, str(pathlib.Path(__file__).resolve().parent.parent / "bench"))
+sys.path.insert(0, str(pathlib.Path(__file__).resolve().parent.parent / "bench/oracle"))
 import plain_design as plain  # noqa: E402
 
 MOST_FAULTS = 2_000  # of each kind

@@ -56,7 +56,7 @@ class Design:
         return self.kinds[name] in ("INPUT", "DFF")
 
     def as_plain(self):
-        """The netlist as bench/plain_design.py takes it."""
+        """The netlist as bench/oracle/plain_design.py takes it."""
         points = [(point, self.signal_at(point)) for point in self.points()]
         return PlainNetlist(
             inputs=self.inputs, outputs=self.outputs, cells=[name for name, kind in self.kinds.items() if kind == "DFF"],

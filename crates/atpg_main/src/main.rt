@@ -1,4 +1,8 @@
 //! The program: the real words, files and outputs, handed to `top`.
+//!
+//! Proved: it is safe; it has no contract of its own, so no wrong body of it can be refused.
+//! Tested: that it hands the real words, files and outputs to `top`, by one stored run, `scan` of s27.
+//! Neither: what it says where the words can't be had; the line that shows how far a run is.
 #![tactic(auto)]
 
 mod progress;

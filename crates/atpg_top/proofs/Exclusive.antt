@@ -28,42 +28,47 @@ use Rattle.commands.specs.World.{Text}
 use Rattle.commands.specs.Due.{Due, Deliver, Refuse}
 use Rattle.commands.specs.Laws.{AreAlike, IsExclusive}
 use Rattle.commands.specs.declared.ending.Finding.TheVariants.{Fine}
-use Rattle.words.specs.CommandLine.{CommandLine, chaintest, check, diagnose, faults, play, run, scan, sweep}
-use Rattle.words.specs.HoldLists.{Hold}
-use Rattle.words.specs.declared.requests.RunOptions.{RunOptions}
+use Rattle.command_line.specs.CommandLine.{CommandLine, chaintest, check, diagnose, faults, play, run, scan, sweep, transition}
+use Rattle.command_line.specs.HoldLists.{Hold}
+use Rattle.command_line.specs.declared.requests.RunOptions.{RunOptions}
 use Rattle.check_command.specs.Checking as command
 use Rattle.check_command.specs.declared.refusal.CheckRefusal.{CheckRefusal}
 use Rattle.atpg_top.specs.Checks.{check_due, refusal_of, told}
-use Rattle.atpg_top.specs.Commands.{chaintest_due, diagnose_due, due, faults_due, play_due, run_due, scan_due, sweep_due}
-use Rattle.atpg_top.specs.Runs.{run_line, texts_made}
-use Rattle.atpg_top.specs.inner.Running.{held_due, made_due}
+use Rattle.atpg_top.specs.Commands.{chaintest_due, diagnose_due, due, faults_due, play_due, run_due, scan_due, sweep_due, transition_due}
+use Rattle.transition_run.specs.declared.files.TransitionFiles.{TransitionFiles}
+use Rattle.transition_run.specs.Runs.{files_of}
+use Rattle.atpg_top.specs.Runs.{tests_line, texts_in, texts_made}
+use Rattle.atpg_top.specs.inner.Running.{held_due, made_due, slow_due}
 use Rattle.atpg_top.proofs.HoldLemmas.{holds_single}
 use Rattle.atpg_top.specs.FaultLists.{IsFaultList}
 use Rattle.atpg_top.specs.Plays.{finding_of, played_line}
 use Rattle.atpg_top.specs.Sweeps.{sweep_text}
 use Rattle.atpg_top.specs.Scans.{IsScanProduct}
-use Rattle.atpg_top.specs.Steps.{named_fault, named_holds, netlist, test, value}
+use Rattle.atpg_top.specs.Steps.{design_due, named_fault, named_holds, netlist, test, value}
 use Rattle.atpg_top.specs.ChainTests.{chain_test_text, hardware_of}
 use Rattle.atpg_top.specs.inner.ChainTrials.{bytes_due, fit_due, test_due, told_due}
 use Rattle.atpg_top.specs.inner.Cases as cases
 use Rattle.atpg_top.specs.inner.Trials.{answer_due, fault_due, file_due, trial_due}
+use Rattle.atpg_top.specs.declared.refusal.Refusal.{Refusal}
 use Rattle.atpg_top.specs.declared.refusal.Refusal.TheVariants.{NotLog, NotStil, StilDoesNotFit}
 use Rattle.atpg_top.proofs.PlayLemmas.{known_is_not_x}
 use Rattle.atpg_top.proofs.Single.{IsOneKind, fault_single, given, netlist_single, test_single, then_one, then_one_where, value_single}
 
+-- what is due of a design that stands in one text
+design_exclusive : (rest : Netlist → Due Refusal → Type 0) → ((n : Netlist) → IsSound n → IsOneKind (rest n)) → IsExclusive (design_due rest)
+design_exclusive rest each [] c d p q = absurd p
+design_exclusive rest each (bytes ∷ []) c d p q = then_one_where (netlist Design bytes) rest (netlist_single Design bytes) (λ n is. each n is.1) c d p q
+design_exclusive rest each (bytes ∷ more ∷ others) c d p q = absurd p
+
 scan_exclusive : (chains : ℕ) → IsExclusive (scan_due chains)
-scan_exclusive chains [] c d p q = absurd p
-scan_exclusive chains (bytes ∷ []) c d p q =
-    then_one (netlist Design bytes) (λ n d. (text : Text) × (line : Text) × IsScanProduct n chains text line × (d ≡ Deliver (text ∷ []) line Fine)) (netlist_single Design bytes)
-    (λ n x y a b. given x y (Deliver (a.0 ∷ []) a.1 Fine) (Deliver (b.0 ∷ []) b.1 Fine) a.3 b.3 refl) c d p q
-scan_exclusive chains (bytes ∷ more ∷ others) c d p q = absurd p
+scan_exclusive chains =
+    design_exclusive (λ n d. (text : Text) × (line : Text) × IsScanProduct n chains text line × (d ≡ Deliver (text ∷ []) line Fine))
+    (λ n sound x y a b. given x y (Deliver (a.0 ∷ []) a.1 Fine) (Deliver (b.0 ∷ []) b.1 Fine) a.3 b.3 refl)
 
 faults_exclusive : IsExclusive faults_due
-faults_exclusive [] c d p q = absurd p
-faults_exclusive (bytes ∷ []) c d p q =
-    then_one (netlist Design bytes) (λ n d. (text : Text) × IsFaultList n text × (d ≡ Deliver [] text Fine)) (netlist_single Design bytes)
-    (λ n x y a b. given x y (Deliver [] a.0 Fine) (Deliver [] b.0 Fine) a.2 b.2 refl) c d p q
-faults_exclusive (bytes ∷ more ∷ others) c d p q = absurd p
+faults_exclusive =
+    design_exclusive (λ n d. (text : Text) × IsFaultList n text × (d ≡ Deliver [] text Fine))
+    (λ n sound x y a b. given x y (Deliver [] a.0 Fine) (Deliver [] b.0 Fine) a.2 b.2 refl)
 
 -- ---- `play`: the answer is determined
 
@@ -126,12 +131,16 @@ play_exclusive one fault (net ∷ stil ∷ more ∷ others) c d p q = absurd p
 -- ---- `run`
 
 run_exclusive : (options : RunOptions) (named : List Hold) → IsExclusive (run_due options named)
-run_exclusive options named [] c d p q = absurd p
-run_exclusive options named (bytes ∷ []) c d p q =
-    then_one_where (netlist Design bytes) (held_due options named) (netlist_single Design bytes)
-    (λ n is. then_one (named_holds n named) (made_due options n) (holds_single n is.1 named)
-    (λ holds x y a b. given x y (Deliver (texts_made a.0) (run_line a.0.said) Fine) (Deliver (texts_made b.0) (run_line b.0.said) Fine) a.2 b.2 refl)) c d p q
-run_exclusive options named (bytes ∷ more ∷ others) c d p q = absurd p
+run_exclusive options named =
+    design_exclusive (held_due options named) (λ n sound. then_one (named_holds n named) (made_due options n) (holds_single n sound named)
+    (λ holds x y a b. given x y (Deliver (texts_made a.0) (tests_line a.0.said.counts) Fine) (Deliver (texts_made b.0) (tests_line b.0.said.counts) Fine) a.2 b.2 refl))
+
+-- ---- `transition`
+
+transition_exclusive : (options : RunOptions) → IsExclusive (transition_due options)
+transition_exclusive options =
+    design_exclusive (slow_due options) (λ n sound x y a b. let due : TransitionFiles → Due Refusal = λ made. Deliver (texts_in (files_of made)) (tests_line made.said.counts) Fine in
+    given x y (due a.0) (due b.0) a.2 b.2 refl)
 
 -- ---- `chaintest`
 
@@ -193,3 +202,4 @@ each_exclusive one checks once (check prefix) = check_exclusive checks
 each_exclusive one checks once (sweep seed gates) = sweep_exclusive seed gates
 each_exclusive one checks once (chaintest net stil chains) = chaintest_exclusive one chains
 each_exclusive one checks once (diagnose net stil log options) = diagnose_exclusive one once options.chains
+each_exclusive one checks once (transition net prefix options) = transition_exclusive options

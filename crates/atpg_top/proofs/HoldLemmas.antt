@@ -11,9 +11,9 @@ use Rattle.netlist.specs.Holds.{Holds, none_held}
 use Rattle.bench_text.proofs.Lists.{get_map, got_map}
 use Rattle.fault_universe.proofs.Names.{same_name}
 use Rattle.fault_collapse.proofs.Stems.{input_number}
-use Rattle.words.specs.CommandLine.{hold_of}
-use Rattle.words.specs.HoldLists.{Hold}
-use Rattle.words.specs.declared.holds.Held.{Held}
+use Rattle.command_line.specs.CommandLine.{hold_of}
+use Rattle.command_line.specs.HoldLists.{Hold}
+use Rattle.command_line.specs.declared.holds.Held.{Held}
 use Rattle.atpg_top.specs.Runs.{AreHeldFrom, IsFirstUnknown, IsInputAt}
 use Rattle.atpg_top.specs.Steps.{named_holds}
 use Rattle.atpg_top.specs.declared.refusal.Refusal.{Refusal}

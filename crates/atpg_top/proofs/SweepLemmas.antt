@@ -12,7 +12,7 @@ use Rattle.scan_play.specs.declared.played.Played.{Played}
 use Rattle.scan_play.specs.declared.played.Played.TheVariants.{Passes}
 use Rattle.stil_read.specs.Laws.{AtMostOne}
 use Rattle.stil_read.specs.Reading.{StandsFor}
-use Rattle.stil_tests.specs.Laws.{FileVectors, FilesFit}
+use Rattle.stil_patterns.specs.Laws.{FileVectors, FilesFit}
 use Rattle.stil_vectors.specs.FileVectors.{vectors_in}
 use Rattle.stil_vectors.specs.Fitting.{Fits}
 use Rattle.stil_write.specs.StilFiles.{StilFile}

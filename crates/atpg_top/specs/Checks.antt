@@ -4,8 +4,8 @@ use Rattle.netlist.specs.Conditions.{IsSound}
 use Rattle.netlist.specs.Holds.{Holds}
 use Rattle.netlist.specs.Netlist.{Netlist}
 use Rattle.fault_universe.specs.Universe.{universe_of}
-use Rattle.test_files.specs.declared.files.TestFiles.{TestFiles}
-use Rattle.test_files.specs.Runs.{IsRun}
+use Rattle.run_files.specs.declared.files.RunFiles.{RunFiles}
+use Rattle.run_files.specs.Runs.{IsRun}
 use Rattle.commands.specs.World.{Text}
 use Rattle.commands.specs.declared.ending.Finding.TheVariants.{Fine}
 use Rattle.commands.specs.Due.{Due, Deliver, Refuse}
@@ -33,5 +33,5 @@ check_due texts d = (e : Due CheckRefusal) × command.check_due texts e × (d �
 -- Of the five texts of a run nothing else is due than the line that says how many faults there are.
 abbrev pub RunsPass : Type 0
 RunsPass =
-    (n : Netlist) (holds : Holds) (asked limit : ℕ) (made : TestFiles) → IsSound n → IsRun n holds asked limit made
+    (n : Netlist) (holds : Holds) (asked limit : ℕ) (made : RunFiles) → IsSound n → IsRun n holds asked limit made
     → (d : Due Refusal) → check_due (texts_made made) d → d ≡ Deliver [] (command.checked_line (length (universe_of n))) Fine

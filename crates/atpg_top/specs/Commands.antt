@@ -8,22 +8,22 @@ use Rattle.scan_insert.specs.Scanned.{scanned_of}
 use Rattle.stil_read.specs.Reading.{StandsFor}
 use Rattle.stil_vectors.specs.FileVectors.{vectors_in}
 use Rattle.stil_vectors.specs.Fitting.{Fits}
-use Rattle.scan_insert.specs.Scanned.{scanned_of}
 use Rattle.scan_play.specs.declared.played.Played.{Played}
-use Rattle.good_files.specs.ScanOff.{design_chains}
 use Rattle.fail_log.specs.Reading.{IsLogOf}
-use Rattle.words.specs.CommandLine.{CommandLine, chaintest, check, diagnose, faults, play, run, scan, sweep}
+use Rattle.command_line.specs.CommandLine.{CommandLine, chaintest, check, diagnose, faults, play, run, scan, sweep, transition}
 use Rattle.commands.specs.World.{Text}
 use Rattle.commands.specs.Due.{Due, Deliver}
 use Rattle.commands.specs.declared.ending.Finding.TheVariants.{Fine}
-use Rattle.words.specs.HoldLists.{Hold}
-use Rattle.words.specs.declared.requests.RunOptions.{RunOptions}
-use Rattle.test_files.specs.declared.files.TestFiles.{TestFiles}
-use Rattle.test_files.specs.Runs.{IsRun}
+use Rattle.command_line.specs.HoldLists.{Hold}
+use Rattle.command_line.specs.declared.requests.RunOptions.{RunOptions}
+use Rattle.run_files.specs.declared.files.RunFiles.{RunFiles}
+use Rattle.run_files.specs.Runs.{IsRun}
+use Rattle.transition_run.specs.declared.files.TransitionFiles.{TransitionFiles}
+use Rattle.transition_run.specs.Runs.{IsTransitionRun, files_of}
 use Rattle.check_command.specs.Checking.{run_files}
 use Rattle.atpg_top.specs.Checks.{check_due}
-use Rattle.atpg_top.specs.Steps.{◌>>=◌, named_fault, named_holds, netlist, test, value}
-use Rattle.atpg_top.specs.Runs.{run_line, texts_made}
+use Rattle.atpg_top.specs.Steps.{◌>>=◌, design_due, named_fault, named_holds, netlist, test, value}
+use Rattle.atpg_top.specs.Runs.{tests_line, texts_in, texts_made}
 use Rattle.atpg_top.specs.Scans.{IsScanProduct}
 use Rattle.atpg_top.specs.FaultLists.{IsFaultList}
 use Rattle.atpg_top.specs.ChainTests.{IsChainTest, Strobe, chain_test_text, hardware_of}
@@ -43,24 +43,22 @@ reads (check prefix) = run_files prefix
 reads (sweep seed gates) = []
 reads (chaintest net stil chains) = net ∷ stil ∷ []
 reads (diagnose net stil log options) = net ∷ stil ∷ log ∷ []
+reads (transition net prefix options) = net ∷ []
 
 -- the names of the files that it writes, in order
 abbrev pub writes : CommandLine → List Text
 writes (scan net to chains) = to ∷ []
 writes (run net prefix options holds) = run_files prefix
+writes (transition net prefix options) = run_files prefix
 writes _ = []
 
 -- the scanned netlist's text, and the line that counts cells and chains
 abbrev pub scan_due : ℕ → List Text → Due Refusal → Type 0
-scan_due chains (bytes ∷ []) =
-    netlist Design bytes >>= λ n d.
-    (text : Text) × (line : Text) × IsScanProduct n chains text line × (d ≡ Deliver (text ∷ []) line Fine)
-scan_due chains texts = λ d. ⊥
+scan_due chains = design_due (λ n d. (text : Text) × (line : Text) × IsScanProduct n chains text line × (d ≡ Deliver (text ∷ []) line Fine))
 
 -- the list of faults
 abbrev pub faults_due : List Text → Due Refusal → Type 0
-faults_due (bytes ∷ []) = netlist Design bytes >>= λ n d. (text : Text) × IsFaultList n text × (d ≡ Deliver [] text Fine)
-faults_due texts = λ d. ⊥
+faults_due = design_due (λ n d. (text : Text) × IsFaultList n text × (d ≡ Deliver [] text Fine))
 
 -- the line of what playing the file answers
 abbrev pub play_due : Option Text → List Text → Due Refusal → Type 0
@@ -71,10 +69,13 @@ play_due fault texts = λ d. ⊥
 
 -- the five texts of a run, and the line with the report's numbers
 abbrev pub run_due : RunOptions → List Hold → List Text → Due Refusal → Type 0
-run_due options named (bytes ∷ []) =
-    netlist Design bytes >>= λ n. named_holds n named >>= λ holds d.
-    (made : TestFiles) × IsRun n holds options.chains options.limit made × (d ≡ Deliver (texts_made made) (run_line made.said) Fine)
-run_due options named texts = λ d. ⊥
+run_due options named = design_due (λ n. named_holds n named >>= λ holds d.
+    (made : RunFiles) × IsRun n holds options.chains options.limit made × (d ≡ Deliver (texts_made made) (tests_line made.said.counts) Fine))
+
+-- the five texts of a design's slow lines, and the line with the report's numbers
+abbrev pub transition_due : RunOptions → List Text → Due Refusal → Type 0
+transition_due options = design_due (λ n d.
+    (made : TransitionFiles) × IsTransitionRun n options.chains options.limit made × (d ≡ Deliver (texts_in (files_of made)) (tests_line made.said.counts) Fine))
 
 -- the lines of what the file shows of the scan hardware, the file fitting the scanned netlist
 abbrev pub chaintest_due : ℕ → List Text → Due Refusal → Type 0
@@ -94,7 +95,7 @@ diagnose_due chains texts = λ d. ⊥
 
 -- the numbers of a run of the sample netlist, whose test passes
 abbrev pub sweep_due : ℕ → ℕ → List Text → Due Refusal → Type 0
-sweep_due seed gates [] = λ d. (made : TestFiles) × IsSweep (sample gates (words_of seed)) made × (d ≡ Deliver [] (sweep_text made.said) Fine)
+sweep_due seed gates [] = λ d. (made : RunFiles) × IsSweep (sample gates (words_of seed)) made × (d ≡ Deliver [] (sweep_text made.said) Fine)
 sweep_due seed gates texts = λ d. ⊥
 
 -- what is due of the texts that a command line has read
@@ -107,3 +108,4 @@ due (check prefix) = check_due
 due (sweep seed gates) = sweep_due seed gates
 due (chaintest net stil chains) = chaintest_due chains
 due (diagnose net stil log options) = diagnose_due options.chains
+due (transition net prefix options) = transition_due options

@@ -2,7 +2,7 @@
 use Rattle.std.specs.Prelude.{◌≡◌, List, Some, Ok}
 use Rattle.outside.specs.Causes.{Rose}
 use Rattle.outside.specs.Shelf.{Files}
-use Rattle.words.specs.CommandLine.{CommandLine, command_line}
+use Rattle.command_line.specs.CommandLine.{CommandLine, command_line}
 use Rattle.commands.specs.World.{NoneFailed, Text, World}
 use Rattle.commands.specs.Contents.{Whole, Missing, TooLong, contents_of}
 use Rattle.commands.specs.Due.{Refuse, Deliver}

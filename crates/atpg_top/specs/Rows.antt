@@ -1,7 +1,7 @@
 -- The status of a call of the program, and what it leaves.
 use Rattle.std.specs.Prelude.{◌≡◌, ℕ, Bool, List, [], Option, Result, Ok, Err, map}
-use Rattle.words.specs.CommandLine.{CommandLine, NoLine, bad_hold, bad_words, command_line, run}
-use Rattle.words.specs.HoldLists.{Hold}
+use Rattle.command_line.specs.CommandLine.{CommandLine, NoLine, bad_hold, bad_words, command_line, run}
+use Rattle.command_line.specs.HoldLists.{Hold}
 use Rattle.commands.specs.World.{IsAsBefore, Text, World}
 use Rattle.commands.specs.Rows.{CommandRow}
 use Rattle.commands.specs.declared.ending.Ending.{Ending}

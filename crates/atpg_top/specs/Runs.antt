@@ -1,12 +1,14 @@
--- What `run` and `sweep` say.
-use Rattle.std.specs.Prelude.{ℕ, ◌≡◌, ◌<◌, ◌++◌, List, [], ◌∷◌, Some, codes, decimal, slice_index, slice_set}
+-- What `run`, `transition` and `sweep` say.
+use Rattle.std.specs.Prelude.{ℕ, ◌≡◌, ◌<◌, ◌++◌, List, [], ◌∷◌, Some, codes, decimal, slice_set}
 use Rattle.std.specs.List.{slice_get}
 use Rattle.netlist.specs.Netlist.{Netlist, name_of}
 use Rattle.netlist.specs.Holds.{Holds}
-use Rattle.report.specs.Reports.{Report}
-use Rattle.words.specs.HoldLists.{Hold}
+use Rattle.good_files.specs.GoodFiles.{Files}
+use Rattle.report.specs.declared.counts.ReportCounts.{ReportCounts}
+use Rattle.command_line.specs.HoldLists.{Hold}
 use Rattle.commands.specs.World.{Text}
-use Rattle.test_files.specs.declared.files.TestFiles.{TestFiles}
+use Rattle.run_files.specs.Runs.{files_of}
+use Rattle.run_files.specs.declared.files.RunFiles.{RunFiles}
 
 -- ---- held inputs by name
 
@@ -29,14 +31,14 @@ pub record IsFirstUnknown (n : Netlist) (named : List Hold) (place : ℕ) : Type
 -- ---- what is written and shown
 
 -- the five texts, in the order in which they are written
-abbrev pub texts_made : TestFiles → List Text
-texts_made made = made.net.items ∷ made.scan.items ∷ made.stil.items ∷ made.certificate.items ∷ made.report.items ∷ []
+abbrev pub texts_in : Files → List Text
+texts_in files = files.net ∷ files.scan ∷ files.stil ∷ files.certificate ∷ files.report ∷ []
 
-abbrev pub count_at : Report → ℕ → ℕ
-count_at r place = slice_index r.counts place
+abbrev pub texts_made : RunFiles → List Text
+texts_made made = texts_in (files_of made)
 
--- `faults 34 detected 34 redundant 0 aborted 0 patterns 9 cycles 9`, by the counts of the report
-abbrev pub run_line : Report → Text
-run_line r =
-    codes "faults " ++ (decimal (count_at r 5) ++ (codes " detected " ++ (decimal (count_at r 10) ++ (codes " redundant " ++ (decimal (count_at r 11)
-    ++ (codes " aborted " ++ (decimal (count_at r 12) ++ (codes " patterns " ++ (decimal (count_at r 7) ++ (codes " cycles " ++ (decimal (count_at r 8) ++ codes "\n")))))))))))
+-- `faults 34 detected 34 redundant 0 aborted 0 patterns 9 cycles 9`, by the counts of a report
+abbrev pub tests_line : ReportCounts → Text
+tests_line counts =
+    codes "faults " ++ (decimal counts.faults ++ (codes " detected " ++ (decimal counts.detected ++ (codes " redundant " ++ (decimal counts.redundant
+    ++ (codes " aborted " ++ (decimal counts.aborted ++ (codes " patterns " ++ (decimal counts.patterns ++ (codes " cycles " ++ (decimal counts.cycles ++ codes "\n")))))))))))

@@ -1,5 +1,5 @@
 -- What is due of texts step by step: each step gives a value, or refuses. The first step that refuses decides.
-use Rattle.std.specs.Prelude.{◌≡◌, ◌≢◌, ◌⊎◌, List, Option, Some, None, Result, Ok, Err}
+use Rattle.std.specs.Prelude.{◌≡◌, ◌≢◌, ◌⊎◌, List, [], ◌∷◌, Option, Some, None, Result, Ok, Err}
 use Rattle.std.specs.List.{All, Contains}
 use Rattle.netlist.specs.declared.lines.Fault.{Fault}
 use Rattle.netlist.specs.Netlist.{Netlist}
@@ -7,10 +7,11 @@ use Rattle.netlist.specs.Conditions.{IsSound}
 use Rattle.netlist.specs.Holds.{Holds, none_held}
 use Rattle.bench_text.specs.Reading.{IsRead}
 use Rattle.bench_text.specs.declared.refusal.Names.{Names}
+use Rattle.bench_text.specs.declared.refusal.Names.TheVariants.{Design}
 use Rattle.bench_text.specs.declared.refusal.BenchFault.TheVariants as bench
 use Rattle.fault_universe.specs.Texts.{fault_text}
 use Rattle.fault_universe.specs.Universe.{universe_of}
-use Rattle.words.specs.HoldLists.{Hold}
+use Rattle.command_line.specs.HoldLists.{Hold}
 use Rattle.commands.specs.World.{Text}
 use Rattle.commands.specs.Due.{Due, Refuse}
 use Rattle.atpg_top.specs.Runs.{AreHeldFrom, IsFirstUnknown}
@@ -51,3 +52,8 @@ value StandsFor why bytes (Err r) = (r ≡ why) × ((v : _) → ¬ StandsFor byt
 abbrev pub test : Type 0 → Refusal → Result Unit Refusal → Type 0
 test P why (Ok _) = P
 test P why (Err r) = (r ≡ why) × (¬ P)
+
+-- what is due of one text, by what is due of the design that it stands for
+abbrev pub design_due : (Netlist → Due Refusal → Type 0) → List Text → Due Refusal → Type 0
+design_due rest (bytes ∷ []) = netlist Design bytes >>= rest
+design_due rest texts = λ d. ⊥

@@ -10,10 +10,9 @@ use Rattle.stil_read.specs.Reading.{StandsFor}
 use Rattle.stil_vectors.specs.FileVectors.{vectors_in}
 use Rattle.stil_write.specs.StilFiles.{StilFile}
 use Rattle.commands.specs.World.{Text}
-use Rattle.test_files.specs.declared.files.TestFiles.{TestFiles}
-use Rattle.test_files.specs.Runs.{IsRun}
+use Rattle.run_files.specs.declared.files.RunFiles.{RunFiles}
+use Rattle.run_files.specs.Runs.{IsRun}
 use Rattle.atpg_top.specs.Plays.{IsPlay}
-use Rattle.atpg_top.specs.Runs.{count_at}
 
 -- ---- the run
 
@@ -24,7 +23,7 @@ abbrev pub sweep_limit : ℕ
 sweep_limit = 100
 
 -- a run in one chain, with at most a hundred closed ends a search, no input being held
-abbrev pub IsSweepRun : Netlist → TestFiles → Type 0
+abbrev pub IsSweepRun : Netlist → RunFiles → Type 0
 IsSweepRun n made = IsRun n (none_held n) sweep_chains sweep_limit made
 
 -- The text of a test, read back and played on the scanned netlist, passes.
@@ -34,7 +33,7 @@ pub record IsPlayedBack (n : Netlist) (stil : Text) : Type 0 where
   pub plays : IsPlay (scanned_of n (design_chains n sweep_chains)) None (vectors_in file) Passes
 
 -- a run, and that its test passes
-pub record IsSweep (n : Netlist) (made : TestFiles) : Type 0 where
+pub record IsSweep (n : Netlist) (made : RunFiles) : Type 0 where
   pub run : IsSweepRun n made
   pub played : IsPlayedBack n made.stil.items
 
@@ -47,7 +46,7 @@ number_line word number = word ++ (decimal number ++ codes "\n")
 -- a line for each of nine counts of the report, and one on the test
 abbrev pub sweep_text : Report → Text
 sweep_text r =
-    number_line (codes "gates ") (count_at r 2) ++ (number_line (codes "cells ") (count_at r 3) ++ (number_line (codes "faults ") (count_at r 5)
-    ++ (number_line (codes "classes ") (count_at r 6) ++ (number_line (codes "detected ") (count_at r 10) ++ (number_line (codes "redundant ") (count_at r 11)
-    ++ (number_line (codes "aborted ") (count_at r 12) ++ (number_line (codes "patterns ") (count_at r 7) ++ (number_line (codes "cycles ") (count_at r 8)
+    number_line (codes "gates ") r.counts.gates ++ (number_line (codes "cells ") r.counts.cells ++ (number_line (codes "faults ") r.counts.faults
+    ++ (number_line (codes "classes ") r.counts.classes ++ (number_line (codes "detected ") r.counts.detected ++ (number_line (codes "redundant ") r.counts.redundant
+    ++ (number_line (codes "aborted ") r.counts.aborted ++ (number_line (codes "patterns ") r.counts.patterns ++ (number_line (codes "cycles ") r.counts.cycles
     ++ codes "play ok\n"))))))))

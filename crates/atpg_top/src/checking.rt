@@ -22,7 +22,6 @@ fn refusal_of(refusal: CheckRefusal) -> Refusal
     }
 }
 
-/// The work of `check`.
 #[derive(Clone, Copy, Debug)]
 struct Check;
 

@@ -15,7 +15,7 @@ ghost use Rattle.commands.specs.Names.{texts_of};
 ghost use Rattle.commands.specs.Rows.{CommandRow};
 ghost use Rattle.commands.specs.Worked.{IsWorked};
 ghost use Rattle.commands.specs.World.{world};
-ghost use Rattle.words.specs.CommandLine.{AreWithin};
+ghost use Rattle.command_line.specs.CommandLine.{AreWithin};
 ghost use Rattle.atpg_top.specs.Commands.{diagnose_due};
 ghost use Rattle.atpg_top.specs.Diagnoses.{IsDiagnosis, candidates_line, suspect_line, suspect_lines};
 ghost use Rattle.atpg_top.specs.inner.Cases.{ReadsCase, case_due, diagnosis_due};
@@ -25,6 +25,7 @@ use crate::fault_list::faults_of;
 use crate::reading::{fitting, log_of, netlist_of, stil_of};
 use crate::refusal::Refusal;
 use bench_text::Names;
+use command_line::DiagnoseOptions;
 use commands::{Ending, FileName, Finding, Product, Stop, deliver, read_in_order};
 use diagnose::{candidates, candidates_tell_the_truth};
 use fail_log::FailLog;
@@ -40,7 +41,6 @@ use std::alloc::{AllocError, Global};
 use std::thread::Threads;
 use stil_vectors::{cycle_count, fitting_cycles, vectors};
 use stil_write::StilFile;
-use words::DiagnoseOptions;
 
 /// What is diagnosed: the design, the test, and what failed.
 #[derive(Drop)]
@@ -242,7 +242,6 @@ fn diagnosed<R: Threads + Sync>(
     }
 }
 
-/// The work of `diagnose`.
 fn work<R: Threads + Sync>(
     rt: &R,
     alloc: Global,

@@ -102,7 +102,6 @@ fn put_faults<T: Sink>(
     out.put(text.as_slice())
 }
 
-/// The faults of a design.
 pub fn faults_of(alloc: Global, netlist: &Netlist) -> Result<FaultSet, NoMemory>
     requires { IsDesign netlist.now }
     ensures { IfOk result (λ faults. faults ≡ universe_of netlist.now) }

@@ -1,16 +1,16 @@
 //! Inputs that are held, by their names.
 ghost use Rattle.std.specs.Prelude.{◌≡◌, ◌≤◌, ◌<◌, ◌^◌, length, map};
-ghost use Rattle.words.specs.CommandLine.{hold_of};
+ghost use Rattle.command_line.specs.CommandLine.{hold_of};
 ghost use Rattle.atpg_top.specs.Steps.{named_holds};
 ghost use Rattle.atpg_top.specs.inner.Answers.{Answers};
 ghost use Rattle.atpg_top.specs.inner.Running.{IsFound};
 
 use crate::refusal::Refusal;
+use command_line::Held;
 use commands::Stop;
 use name_index::NameIndex;
 use netlist::{Core, Holds};
 use std::alloc::Global;
-use words::Held;
 
 /// The number of the input of this name.
 fn input_named(index: &NameIndex<'_>, name: &str) -> Option<u32>

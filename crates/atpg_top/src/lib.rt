@@ -4,11 +4,20 @@
 //! Each status has its cause in the contract of `top`, and says what then stands. What a command
 //! line reads, writes and owes is one table (`specs/Commands.antt`); how it can end is the table of
 //! `commands`, the same for all.
+//!
+//! Gives: `top`, the whole program as one call.
+//! Proved: `top`: every status has its cause and says what stands. 0 means, of `scan`: the canonical text of the scanned netlist, which behaves as
+//! the original with scan off; of `faults`: exactly the list of faults with their classes; of `run`: good files of the netlist that was read, with
+//! the run theorem, and the line with their numbers; of `transition`: five files of slow lines that tell the truth; of `chaintest`: each fault of the
+//! scan hardware with what the file shows of it; of `diagnose`: exactly the faults that explain the log; of `sweep`: the numbers of good files of the
+//! sample netlist, whose test passes. 0 or 1 of `play` and `check` mean exactly what the player and the check answer, and hold on the chip from every
+//! power-up state where strobes are known. The laws: what is due of the same texts is alike; statuses exclude each other.
+//! Tested: that `run` heeds its options, by `list_tests` and `cases`.
 #![tactic(auto)]
 
 ghost use Rattle.std.specs.Prelude.{◌≡◌, Ok, map};
 ghost use Rattle.std.specs.String.{string_bytes};
-ghost use Rattle.words.specs.CommandLine.{IsInRange, command_line, line_of};
+ghost use Rattle.command_line.specs.CommandLine.{IsInRange, command_line, line_of};
 ghost use Rattle.commands.specs.World.{world};
 ghost use Rattle.atpg_top.specs.Rows.{ErrRow, LineRow, TopRow, held_names};
 ghost use Rattle.atpg_top.specs.inner.Declined.{DeclineRow};
@@ -21,6 +30,7 @@ mod checking;
 mod design;
 mod diagnosing;
 mod fault_list;
+mod five_files;
 mod holding;
 mod laws;
 mod lines;
@@ -30,12 +40,14 @@ mod reading;
 mod refusal;
 mod running;
 mod scanning;
+mod slow_lines;
 mod status;
 mod sweeping;
 mod told_lines;
 
 use chain_testing::test_chains;
 use checking::check_run;
+use command_line::{Held, Request, WordsRefusal, parse};
 use commands::Ending;
 use diagnosing::diagnose_log;
 pub use laws::{
@@ -49,12 +61,12 @@ use playing::play_test;
 use refusal::Refusal;
 use running::run_netlist;
 use scanning::scan_netlist;
+use slow_lines::test_slow_lines;
 use status::Status;
 use std::alloc::Global;
 use std::sync::Wait;
 use std::thread::Threads;
 use sweeping::sweep_sample;
-use words::{Held, Request, WordsRefusal, parse};
 
 /// Does what was asked.
 fn perform<'a, R: Threads + Wait + Sync, S: Shelf, T: Sink, G: Gate + Sync>(
@@ -107,6 +119,11 @@ fn perform<'a, R: Threads + Wait + Sync, S: Shelf, T: Sink, G: Gate + Sync>(
             log,
             options,
         } => diagnose_log(rt, alloc, shelf, out, net, stil, log, *options),
+        Request::Transition {
+            net,
+            prefix,
+            options,
+        } => test_slow_lines(rt, alloc, shelf, out, net, prefix, *options),
     }
 }
 
@@ -123,7 +140,7 @@ fn decline(refusal: &WordsRefusal) -> Status<'_>
     }
 }
 
-/// The inputs that are to be held.
+/// The inputs that are to be held, which `run` alone may name.
 fn held_in<'a, 'b>(request: &'b Request<'a>) -> &'b [Held<'a>]
     ensures { names_held result.now ≡ held_names (Ok (line_of request.now)) }
 {

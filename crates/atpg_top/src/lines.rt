@@ -7,10 +7,10 @@ ghost use Rattle.atpg_top.specs.Rows.{ErrRow};
 
 use crate::refusal::Refusal;
 use crate::status::Status;
+use command_line::Held;
 use commands::Ending;
 use outside::Sink;
 use status_lines::{say, say_failed_write, say_name, say_netlist, say_text};
-use words::Held;
 
 /// The line of a held input that is none.
 fn say_no_input<E: Sink>(err: &mut E, name: &[u8])

@@ -23,7 +23,6 @@ use std::alloc::{AllocError, Global};
 use stil_vectors::{fitting_cycles, play_file};
 use stil_write::StilFile;
 
-/// What is played on what.
 #[derive(Drop)]
 struct Trial {
     netlist: Netlist,

@@ -1,71 +1,47 @@
 //! `run`: the five files of a file's netlist.
-ghost use Rattle.std.specs.Prelude.{◌≡◌, ◌≤◌, ◌<◌, ◌++◌, ◌∷◌, [], IfOk, OnOk, codes, decimal, length, map};
+ghost use Rattle.std.specs.Prelude.{◌≡◌, ◌≤◌, ◌∷◌, [], IfOk, length, map};
 ghost use Rattle.std.specs.List.{All};
 ghost use Rattle.netlist.specs.Designs.{IsDesign};
 ghost use Rattle.netlist.specs.Holds.{AreHoldsOf};
-ghost use Rattle.report.specs.Reports.{count_of_counts};
 ghost use Rattle.commands.specs.Contents.{most_bytes};
 ghost use Rattle.commands.specs.Names.{texts_of};
 ghost use Rattle.commands.specs.Rows.{CommandRow};
 ghost use Rattle.commands.specs.Worked.{IsWorked};
 ghost use Rattle.commands.specs.World.{world};
 ghost use Rattle.commands.specs.declared.ending.Finding.TheVariants.{Fine};
-ghost use Rattle.words.specs.CommandLine.{AreInRange, hold_of};
-ghost use Rattle.test_files.specs.Runs.{IsRun};
+ghost use Rattle.command_line.specs.CommandLine.{AreInRange, hold_of};
+ghost use Rattle.run_files.specs.Runs.{IsRun};
 ghost use Rattle.check_command.specs.Checking.{run_files};
 ghost use Rattle.atpg_top.specs.Commands.{run_due};
-ghost use Rattle.atpg_top.specs.Runs.{count_at, run_line, texts_made};
+ghost use Rattle.atpg_top.specs.Runs.{tests_line, texts_made};
 ghost use Rattle.atpg_top.specs.inner.Running.{made_due, held_due};
 
 use crate::design::design_of;
+use crate::five_files::{product_of, tests_line};
 use crate::holding::holds_of;
 use crate::refusal::Refusal;
-use commands::{Ending, FileName, Finding, Product, Stop, deliver, read_in_order};
+use check_command::file_names;
+use command_line::{EngineName, Held, RunOptions};
+use commands::{Ending, FileName, Product, Stop, deliver, read_in_order};
 use fan::Fan;
-use itoa::Buffer;
 use netlist::{Core, Holds, Netlist, NoMemory};
 use outside::{Gate, Shelf, Sink};
 use podem::Podem;
 use redundancy_cert::Engine;
-use report::Report;
+use run_files::{Plan, RunFiles, make_files};
 use std::alloc::{AllocError, Global};
 use std::sync::Wait;
 use std::thread::Threads;
-use test_files::{Plan, TestFiles, test_files};
-use words::{EngineName, Held, RunOptions};
 
-/// Adds a word and a number.
-pub(crate) fn push_count(line: &mut Vec<u8>, word: &[u8], count: u64) -> Result<(), AllocError>
-    ensures { OnOk result (line.new.items ≡ line.old.items ++ (word.now ++ decimal count)) }
+/// What is written and shown of a run.
+fn product_by(alloc: Global, made: RunFiles) -> Result<Product, AllocError>
+    ensures texts { IfOk result (λ p. texts_of p.texts.items ≡ texts_made made) }
+    ensures count { IfOk result (λ p. length p.texts.items ≡ 5) }
+    ensures shown { IfOk result (λ p. p.shown.items ≡ tests_line made.said.counts) }
+    ensures fine { IfOk result (λ p. p.finding ≡ Fine) }
 {
-    line.extend_from_slice(word)?;
-    line.extend_from_slice(Buffer::new().format(count).as_bytes())?;
-    Ok(())
-}
-
-/// The line that `run` prints.
-fn line_of(alloc: Global, said: &Report) -> Result<Vec<u8>, AllocError>
-    ensures { IfOk result (λ t. t.items ≡ run_line said.now) }
-{
-    said.sound();
-    let counts = said.counts();
-    let mut line = Vec::new(alloc);
-    push_count(&mut line, b"faults ", counts[5])?;
-    push_count(&mut line, b" detected ", counts[10])?;
-    push_count(&mut line, b" redundant ", counts[11])?;
-    push_count(&mut line, b" aborted ", counts[12])?;
-    push_count(&mut line, b" patterns ", counts[7])?;
-    push_count(&mut line, b" cycles ", counts[8])?;
-    line.extend_from_slice(b"\n")?;
-    Ok(line)
-}
-
-/// The texts in the order in which they are written.
-fn texts_in_order(alloc: Global, made: TestFiles) -> Result<Vec<Vec<u8>>, AllocError>
-    ensures texts { IfOk result (λ v. texts_of v.items ≡ texts_made made) }
-    ensures count { IfOk result (λ v. length v.items ≡ 5) }
-{
-    let TestFiles {
+    let shown = tests_line(alloc, made.said.counts())?;
+    let RunFiles {
         net,
         scan,
         stil,
@@ -73,29 +49,7 @@ fn texts_in_order(alloc: Global, made: TestFiles) -> Result<Vec<Vec<u8>>, AllocE
         report,
         said: _,
     } = made;
-    let mut texts = Vec::new(alloc);
-    texts.push(net)?;
-    texts.push(scan)?;
-    texts.push(stil)?;
-    texts.push(certificate)?;
-    texts.push(report)?;
-    Ok(texts)
-}
-
-/// The product of five files.
-fn product_of(alloc: Global, made: TestFiles) -> Result<Product, AllocError>
-    ensures texts { IfOk result (λ p. texts_of p.texts.items ≡ texts_made made) }
-    ensures count { IfOk result (λ p. length p.texts.items ≡ 5) }
-    ensures shown { IfOk result (λ p. p.shown.items ≡ run_line made.said) }
-    ensures fine { IfOk result (λ p. p.finding ≡ Fine) }
-{
-    let shown = line_of(alloc, &made.said)?;
-    let texts = texts_in_order(alloc, made)?;
-    Ok(Product {
-        texts,
-        shown,
-        finding: Finding::Fine,
-    })
+    product_of(alloc, net, scan, stil, certificate, report, shown)
 }
 
 /// The five files, as this engine finds them.
@@ -107,7 +61,7 @@ fn made_by<R: Threads + Wait + Sync, E: Engine + Sync, G: Gate + Sync>(
     engine: &E,
     holds: &Holds,
     gate: &G,
-) -> Result<TestFiles, NoMemory>
+) -> Result<RunFiles, NoMemory>
     requires design { IsDesign core.now }
     requires range { AreInRange options }
     requires held { AreHoldsOf core.now holds.now }
@@ -119,7 +73,7 @@ fn made_by<R: Threads + Wait + Sync, E: Engine + Sync, G: Gate + Sync>(
         limit: options.limit,
         seed: options.seed,
     };
-    test_files(rt, alloc, core, plan, engine, holds, gate)
+    make_files(rt, alloc, core, plan, engine, holds, gate)
 }
 
 /// The five files, as the engine that was asked for finds them.
@@ -130,7 +84,7 @@ pub(crate) fn made_of<R: Threads + Wait + Sync, G: Gate + Sync>(
     options: RunOptions,
     holds: &Holds,
     gate: &G,
-) -> Result<TestFiles, NoMemory>
+) -> Result<RunFiles, NoMemory>
     requires design { IsDesign core.now }
     requires range { AreInRange options }
     requires held { AreHoldsOf core.now holds.now }
@@ -171,7 +125,7 @@ fn run_design<R: Threads + Wait + Sync, G: Gate + Sync>(
     let Ok(made) = made_of(rt, alloc, &core, options, &holds, gate) else {
         return Err(Stop::NoMemory);
     };
-    match product_of(alloc, made) {
+    match product_by(alloc, made) {
         Ok(product) => Ok(product),
         Err(_) => Err(Stop::NoMemory),
     }
@@ -215,28 +169,7 @@ pub fn run_netlist<'a, R: Threads + Wait + Sync, S: Shelf, T: Sink, G: Gate + Sy
         (world (S.files shelf.new) (S.failures shelf.new) (T.taken out.new) (T.failures out.new)) result }
 {
     let reads = [FileName::of(net)];
-    let writes = [
-        FileName {
-            given: prefix,
-            ending: ".net",
-        },
-        FileName {
-            given: prefix,
-            ending: ".scan",
-        },
-        FileName {
-            given: prefix,
-            ending: ".stil",
-        },
-        FileName {
-            given: prefix,
-            ending: ".cert",
-        },
-        FileName {
-            given: prefix,
-            ending: ".rep",
-        },
-    ];
+    let writes = file_names(prefix);
     let texts = match read_in_order(alloc, shelf, &reads) {
         Ok(texts) => texts,
         Err(ending) => return ending,

@@ -17,31 +17,32 @@ ghost use Rattle.stil_read.specs.Reading.{StandsFor};
 ghost use Rattle.stil_vectors.specs.FileVectors.{vectors_in};
 ghost use Rattle.stil_vectors.specs.Fitting.{Fits};
 ghost use Rattle.stil_write.specs.StilFiles.{StilFile as File};
-ghost use Rattle.test_files.specs.declared.files.TestFiles.{TestFiles as Made};
+ghost use Rattle.run_files.specs.declared.files.RunFiles.{RunFiles as Made};
 ghost use Rattle.atpg_top.specs.Commands.{sweep_due};
 ghost use Rattle.atpg_top.specs.Plays.{IsPlay};
 ghost use Rattle.atpg_top.specs.Sweeps.{IsPlayedBack, IsSweep, IsSweepRun, number_line, sweep_chains, sweep_text};
 
+use crate::five_files::push_count;
 use crate::playing::answer_of;
 use crate::refusal::Refusal;
-use crate::running::{made_of, push_count};
+use crate::running::made_of;
 use chain_stitch::stitch;
+use command_line::{EngineName, RunOptions};
 use commands::{Ending, Finding, Product, Stop, deliver};
 use net_gen::{generate, samples_are_designs};
 use netlist::{Core, Holds, Netlist, NoMemory};
 use outside::{Gate, Shelf, Sink};
 use report::Report;
+use run_files::RunFiles;
 use scan_insert::insert;
 use scan_play::{Played, vectors_decide};
 use std::alloc::{AllocError, Global};
 use std::sync::Wait;
 use std::thread::Threads;
+use stil_patterns::laws::{file_vectors, files_fit};
 use stil_read::laws::at_most_one;
 use stil_read::{StilFault, read_stil};
-use stil_tests::laws::{file_vectors, files_fit};
 use stil_write::StilFile;
-use test_files::TestFiles;
-use words::{EngineName, RunOptions};
 
 const CHAINS: u32 = 1;
 
@@ -69,7 +70,7 @@ fn run_sample<R: Threads + Wait + Sync, G: Gate + Sync>(
     core: &Core,
     seed: u64,
     gate: &G,
-) -> Result<TestFiles, NoMemory>
+) -> Result<RunFiles, NoMemory>
     requires { IsDesign core.now }
     ensures { IfOk result (IsSweepRun core.now) }
 {
@@ -125,7 +126,7 @@ fn play_passing(alloc: Global, core: &Core, file: &StilFile) -> Result<(), NoMem
 }
 
 /// Reads the test of a run back, and plays it.
-fn play_back(alloc: Global, core: &Core, made: &TestFiles) -> Result<(), NoMemory>
+fn play_back(alloc: Global, core: &Core, made: &RunFiles) -> Result<(), NoMemory>
     requires design { IsDesign core.now }
     requires run { IsSweepRun core.now made.now }
     ensures { OnOk result (IsPlayedBack core.now made.now.stil.items) }
@@ -154,18 +155,17 @@ fn push_line(text: &mut Vec<u8>, word: &[u8], number: u64) -> Result<(), AllocEr
 fn text_of(alloc: Global, said: &Report) -> Result<Vec<u8>, AllocError>
     ensures { IfOk result (λ t. t.items ≡ sweep_text said.now) }
 {
-    said.sound();
     let counts = said.counts();
     let mut text = Vec::new(alloc);
-    push_line(&mut text, b"gates ", counts[2])?;
-    push_line(&mut text, b"cells ", counts[3])?;
-    push_line(&mut text, b"faults ", counts[5])?;
-    push_line(&mut text, b"classes ", counts[6])?;
-    push_line(&mut text, b"detected ", counts[10])?;
-    push_line(&mut text, b"redundant ", counts[11])?;
-    push_line(&mut text, b"aborted ", counts[12])?;
-    push_line(&mut text, b"patterns ", counts[7])?;
-    push_line(&mut text, b"cycles ", counts[8])?;
+    push_line(&mut text, b"gates ", counts.gates)?;
+    push_line(&mut text, b"cells ", counts.cells)?;
+    push_line(&mut text, b"faults ", counts.faults)?;
+    push_line(&mut text, b"classes ", counts.classes)?;
+    push_line(&mut text, b"detected ", counts.detected)?;
+    push_line(&mut text, b"redundant ", counts.redundant)?;
+    push_line(&mut text, b"aborted ", counts.aborted)?;
+    push_line(&mut text, b"patterns ", counts.patterns)?;
+    push_line(&mut text, b"cycles ", counts.cycles)?;
     text.extend_from_slice(b"play ok\n")?;
     Ok(text)
 }

@@ -13,7 +13,6 @@ use netlist::{Fault, Netlist, NoMemory};
 use scan_insert::pin_name;
 use std::alloc::{AllocError, Global};
 
-/// How many faults fail.
 fn fail_count(told: &[Option<(u64, u32)>]) -> usize
     ensures value { result ≡ length (filter is_some told.now) }
     ensures within { result ≤ length told.now }

@@ -72,7 +72,7 @@ impl<'a> Draft<'a> {
         self.lines
     }
 
-    /// The number of a name.
+    /// The number of a name, a new one at its first sight.
     fn number(&mut self, name: &'a [u8]) -> Result<usize, AllocError>
         ensures keeps { OnOk result (Keeps self.old self.new) }
         ensures number { IfOk result (λ n. slice_get (names_seen self.new) n ≡ Some name.now) }
@@ -100,7 +100,6 @@ impl<'a> Draft<'a> {
         Ok(numbers)
     }
 
-    /// A definition by numbers.
     fn numbered_definition(
         &mut self,
         alloc: Global,
@@ -162,7 +161,6 @@ impl<'a> Draft<'a> {
         }
     }
 
-    /// Adds an input.
     fn push_input(self, number: usize) -> Result<Draft<'a>, AllocError>
         requires seen { number < length (names_seen self) }
         requires first { list_any (bytes_eq (name_at (names_seen self) number)) (signals_in self) ≡ false }
@@ -197,7 +195,6 @@ impl<'a> Draft<'a> {
         })
     }
 
-    /// Adds an output.
     fn push_output(self, number: usize) -> Result<Draft<'a>, AllocError>
         requires seen { number < length (names_seen self) }
         requires lines { self.lines + 1 < 2 ^ 32 }
@@ -230,7 +227,6 @@ impl<'a> Draft<'a> {
         })
     }
 
-    /// Adds a definition.
     fn push_definition(
         self,
         number: usize,

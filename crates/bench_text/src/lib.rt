@@ -1,5 +1,9 @@
 //! Netlists as .bench text, the format of the ISCAS'89 benchmarks: [`read`] with its refusals, and [`write`], which is canonical.
 //! docs/BENCH.md has the format.
+//!
+//! Gives: `read`, `write`.
+//! Proved: `read` exactly, with every refusal; `write`: the one canonical text; reading it gives an equal netlist.
+//! Neither: time.
 #![tactic(auto)]
 
 mod draft;

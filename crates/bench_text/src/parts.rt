@@ -47,7 +47,7 @@ impl Draft<'_> {
         Ok(ids)
     }
 
-    /// The signals of pins.
+    /// The same in the form that definitions have: up to four pins stand in place.
     fn pin_ids(&self, alloc: Global, numbers: &[usize]) -> Result<SmallVec<SignalId, 4>, AllocError>
         requires seen { list_all (λ n. nat_lt n (length (names_seen self.now))) numbers.now ≡ true }
         requires defined { list_all (λ n. list_any (bytes_eq (name_at (names_seen self.now) n)) (signals_in self.now)) numbers.now ≡ true }
@@ -99,7 +99,6 @@ impl Draft<'_> {
         Ok(equations)
     }
 
-    /// Adds names.
     fn push_names(&self, names: &mut NameTable, numbers: &[usize]) -> Result<(), AllocError>
         requires { list_all (λ n. nat_lt n (length (names_seen self.now))) numbers.now ≡ true }
         ensures { OnOk result (names.new ≡ names.old ++ map (name_at (names_seen self.now)) numbers.now) }
@@ -110,7 +109,6 @@ impl Draft<'_> {
         Ok(())
     }
 
-    /// The names of the signals.
     fn names(&self, alloc: Global) -> Result<NameTable, AllocError>
         ensures { IfOk result (λ t. t ≡ signals_in self.now) }
     {

@@ -33,7 +33,6 @@ impl<'a> Sights<'a> {
         Ok(number)
     }
 
-    /// The name of a number.
     pub fn name(&self, number: usize) -> &'a [u8]
         requires { number < length self.now.names.keys }
         ensures { slice_get (names self.now.names.keys) number ≡ Some result.now }

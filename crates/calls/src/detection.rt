@@ -197,7 +197,6 @@ pub fn push_detected(
     }
 }
 
-/// So many bits.
 fn drawn_bits(alloc: Global, count: usize, random: &mut Pcg32) -> Result<Vec<bool>, AllocError>
     ensures { IfOk result (λ v. length v.items ≡ count) }
 {

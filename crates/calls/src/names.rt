@@ -6,7 +6,6 @@ use fault_universe::signal_count;
 use netlist::{Fault, Kind, Line, Netlist, SignalId};
 use std::alloc::AllocError;
 
-/// The signal of a name.
 pub fn signal(netlist: &Netlist, name: &str) -> Option<SignalId>
     ensures { IfSome result (λ x. x < length (signals netlist.now)) }
 {
@@ -35,7 +34,6 @@ pub fn push_names(to: &mut Vec<u8>, netlist: &Netlist, ids: &[SignalId]) -> Resu
     Ok(())
 }
 
-/// Adds a number.
 pub fn push_number(to: &mut Vec<u8>, number: u32) -> Result<(), AllocError> {
     to.extend_from_slice(itoa::Buffer::new().format(number).as_bytes())
 }
@@ -83,7 +81,6 @@ pub fn stuck(netlist: &Netlist, text: &str) -> Option<Fault> {
     })
 }
 
-/// The word of a kind.
 pub fn word_of(kind: Kind) -> &'static str {
     match kind {
         Kind::And => "AND",
@@ -114,7 +111,6 @@ const KINDS: [Kind; 11] = [
     Kind::Const1,
 ];
 
-/// The kind of a word.
 pub fn kind_of(word: &str) -> Option<Kind> {
     for kind in KINDS {
         if word_of(kind) == word {

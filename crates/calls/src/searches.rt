@@ -28,7 +28,6 @@ pub enum By {
     Fan,
 }
 
-/// What it finds.
 fn found_by(
     by: By,
     alloc: Global,

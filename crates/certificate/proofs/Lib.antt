@@ -6,3 +6,4 @@ pub mod NodeTexts
 pub mod NodeWords
 pub mod FaultTexts
 pub mod LineTexts
+pub mod NamedTrees

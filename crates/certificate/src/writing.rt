@@ -39,7 +39,8 @@ fn push_node(text: &mut Vec<u8>, netlist: &Netlist, node: &Node) -> Result<(), A
     }
 }
 
-fn push_nodes(text: &mut Vec<u8>, netlist: &Netlist, nodes: &[Node]) -> Result<(), AllocError>
+/// Adds the nodes of a tree, each behind a blank.
+pub fn push_nodes(text: &mut Vec<u8>, netlist: &Netlist, nodes: &[Node]) -> Result<(), AllocError>
     requires { All (HasSignal netlist.now) nodes.now }
     ensures { OnOk result (text.new.items ≡ text.old.items ++ flat_map (node_text netlist.now) nodes.now) }
 {

@@ -78,7 +78,6 @@ impl Script {
         self.report.as_slice()
     }
 
-    /// Begins a text.
     fn add_text(&mut self, alloc: Global, name: &str) -> Result<(), AllocError> {
         let name = String::from_str(alloc, name)?;
         self.texts.push(Named {

@@ -102,7 +102,6 @@ pub fn file_names<'a>(prefix: &'a str) -> [FileName<'a>; 5]
     ]
 }
 
-/// The work of `check`.
 #[derive(Clone, Copy, Debug)]
 struct Check;
 

@@ -2,6 +2,11 @@
 //! first clause that is false. [`check_top`] is a whole program that does nothing else.
 //!
 //! It stands on the independent check alone, and on no search, list, lock or worker, so that a buyer of patterns can have it by itself.
+//!
+//! Gives: `check_texts`, `file_names`, `check_prefix`, `check_top`.
+//! Proved: `check_prefix`, `check_top`: 0 and 1 mean exactly what is answered of the five files read, and 0 that they have the run theorem; each
+//! other status has its cause; `good_files_checked`: good files are due nothing but 0.
+//! Tested: that it comes to these answers, by rows of `check_cases`.
 #![tactic(auto)]
 
 mod command;

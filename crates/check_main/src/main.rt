@@ -1,4 +1,8 @@
 //! The program that only checks: the real words, files and outputs, handed to `check_top`.
+//!
+//! Proved: it is safe; it has no contract of its own, so no wrong body of it can be refused.
+//! Tested: that it hands the real words, files and outputs to `check_top`, by one stored run, of s27.
+//! Neither: what it says where the words can't be had.
 #![tactic(auto)]
 
 use check_command::check_top;

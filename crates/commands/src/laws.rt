@@ -13,7 +13,7 @@ pub fn too_long_exactly<W: Work>()
     ensures { (work : W) → TooLongExactly (W.due work) }
 {}
 
-/// The texts are refused.
+/// The texts are refused: the command says why, unless a read failed or memory was refused.
 pub fn refused_exactly<W: Work>()
     ensures { (work : W) → RefusedExactly (W.due work) }
 {}

@@ -3,6 +3,10 @@
 //!
 //! A command says which names it reads and writes and what is due of the texts that it has read;
 //! how it can end, and what it then leaves, is one table for all commands (`CommandRow`).
+//!
+//! Gives: `Work`, `run_command`, `read_in_order`, `deliver`, `put_pieces`.
+//! Proved: `run_command`: reads in order, work, writes in order, output, each ending with its cause and what then stands, want of memory too;
+//! `deliver`: the same for a command whose work may wait; the laws that each ending comes exactly where it should.
 #![tactic(auto)]
 
 mod command;

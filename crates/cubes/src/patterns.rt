@@ -78,7 +78,6 @@ impl Cube {
         &self.cells
     }
 
-    /// An equal one.
     pub fn copy(&self, alloc: Global) -> Result<Cube, AllocError>
         ensures { IfOk result (λ c. c ≡ self.now) }
     {

@@ -142,7 +142,6 @@ impl Tables {
         })
     }
 
-    /// The place of a signal.
     #[inline(always)]
     pub(crate) fn place(&self, id: SignalId) -> usize
         requires { id < length self.now.places.items }

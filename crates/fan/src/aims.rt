@@ -3,15 +3,15 @@ ghost use Rattle.std.specs.Prelude.{◌≡◌};
 ghost use Rattle.pair_sim.specs.Sims.{IsNotBlocked};
 
 use crate::frontier::{FrontGates, frontier};
-use crate::guides::Aim;
-use crate::views::{
-    count_pins, driver, gate_of, has_head, is_inverting, is_own_unknown, is_unknown, may_differ,
-};
+use crate::guides::has_head;
 use head_lines::Role;
 use netlist::{Core, Fault, Kind, SignalId};
 use pair_sim::PairSim;
 use redundancy_cert::Side;
 use std::alloc::{AllocError, Global};
+use testability::{
+    Aim, Effects, count_pins, driver, gate_of, is_inverting, is_own_unknown, is_unknown, may_differ,
+};
 
 /// Asks for a bit on each pin that is X.
 fn ask_all(
@@ -94,12 +94,13 @@ fn let_through(
     Ok(())
 }
 
-/// What may be forced.
+/// What may be forced, in this order: by the fault's line, by what the decisions imply, and by the gate of the D-frontier where there is one alone.
 pub(crate) fn forced_aims(
     alloc: Global,
     core: &Core,
     fault: &Fault,
     roles: &[Role],
+    effects: &Effects,
     labels: &PairSim,
     stack: &[Side],
 ) -> Result<Vec<Aim>, AllocError>
@@ -119,7 +120,7 @@ pub(crate) fn forced_aims(
             imply(core, labels, side.signal, side.bit, &mut aims)?;
         }
     }
-    if let FrontGates::Single(gate) = frontier(core, fault, labels) {
+    if let FrontGates::Single(gate) = frontier(core, fault, effects, labels) {
         let_through(core, labels, gate, &mut aims)?;
     }
     Ok(aims)

@@ -5,17 +5,16 @@ ghost use Rattle.redundancy_cert.specs.Stacks.{path_of_stack};
 ghost use Rattle.fan.specs.Trees.{IsLeftOpen};
 ghost use Rattle.fan.specs.inner.Searching.{IsAt, IsFreeToDecide, IsForcedSeen};
 
-use crate::guides::Aim;
 use crate::standing::look;
 use head_lines::Role;
 use netlist::{Core, Fault, Holds, Point, SignalId, Tri};
 use pair_sim::{PairSim, State};
 use redundancy_cert::Side;
+use testability::Aim;
 
 /// What was seen of signals that may be forced.
 #[derive(Drop)]
 pub enum Seen {
-    /// A test.
     Reached(Point),
     /// The other side of this one is closed.
     ShutBeside(Aim),

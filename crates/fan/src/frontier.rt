@@ -2,12 +2,11 @@
 ghost use Rattle.std.specs.Prelude.{◌≡◌};
 ghost use Rattle.pair_sim.specs.Sims.{IsNotBlocked};
 
-use crate::measures::Measures;
 use crate::paths::Paths;
-use crate::views::{has_effect, may_get_effect, readers, signal_count};
 use netlist::{Core, Fault, Line, SignalId};
 use pair_sim::PairSim;
 use std::alloc::AllocError;
+use testability::{Effects, Measures, may_get_effect, readers, signal_count};
 
 /// The gates of the D-frontier among these readers: the only one so far, or that there are more.
 fn join_frontier(core: &Core, labels: &PairSim, signal: SignalId, start: FrontGates) -> FrontGates
@@ -33,7 +32,6 @@ pub(crate) enum FrontGates {
     More,
 }
 
-/// With a gate more.
 fn with_gate(frontier: FrontGates, gate: SignalId) -> FrontGates {
     match frontier {
         FrontGates::Empty => FrontGates::Single(gate),
@@ -48,8 +46,13 @@ fn with_gate(frontier: FrontGates, gate: SignalId) -> FrontGates {
     }
 }
 
-/// The D-frontier.
-pub(crate) fn frontier(core: &Core, fault: &Fault, labels: &PairSim) -> FrontGates
+/// The D-frontier: the gates with an effect on a pin and none on the output yet.
+pub(crate) fn frontier(
+    core: &Core,
+    fault: &Fault,
+    effects: &Effects,
+    labels: &PairSim,
+) -> FrontGates
     requires same { labels.now.netlist ≡ core.now }
     requires not_blocked { IsNotBlocked labels.now }
 {
@@ -59,9 +62,9 @@ pub(crate) fn frontier(core: &Core, fault: &Fault, labels: &PairSim) -> FrontGat
             found = with_gate(found, *gate);
         }
     }
-    for signal in labels.trail() {
-        if has_effect(core, labels, *signal) {
-            found = join_frontier(core, labels, *signal, found);
+    for number in 0..effects.len() {
+        if let Some(signal) = effects.signal(number) {
+            found = join_frontier(core, labels, signal, found);
         }
     }
     found
@@ -116,6 +119,7 @@ fn nearest_left(
     core: &Core,
     measures: &Measures,
     fault: &Fault,
+    effects: &Effects,
     labels: &PairSim,
     paths: &Paths,
 ) -> Option<SignalId>
@@ -128,9 +132,9 @@ fn nearest_left(
             best = Some(*gate);
         }
     }
-    for signal in labels.trail() {
-        if has_effect(core, labels, *signal) {
-            best = nearer_reader(core, measures, labels, paths, *signal, best);
+    for number in 0..effects.len() {
+        if let Some(signal) = effects.signal(number) {
+            best = nearer_reader(core, measures, labels, paths, signal, best);
         }
     }
     best
@@ -141,6 +145,7 @@ pub(crate) fn nearest(
     core: &Core,
     measures: &Measures,
     fault: &Fault,
+    effects: &Effects,
     labels: &PairSim,
     paths: &mut Paths,
 ) -> Result<Option<SignalId>, AllocError>
@@ -149,7 +154,7 @@ pub(crate) fn nearest(
 {
     paths.begin();
     for _step in 0..signal_count(core) {
-        let Some(gate) = nearest_left(core, measures, fault, labels, paths) else {
+        let Some(gate) = nearest_left(core, measures, fault, effects, labels, paths) else {
             return Ok(None);
         };
         if paths.leads(core, labels, gate)? {

@@ -4,25 +4,25 @@ ghost use Rattle.std.specs.Prelude.{◌≡◌};
 ghost use Rattle.pair_sim.specs.Sims.{IsNotBlocked};
 
 use crate::frontier::nearest;
-use crate::measures::Measures;
 use crate::paths::Paths;
 use crate::tracing::traced;
-use crate::views::{
-    count_pins, driver, gate_of, has_head, is_inverting, is_own_unknown, is_unknown, may_differ,
-    place_of, readers, signal_count,
-};
 use head_lines::Role;
 use netlist::{Core, Fault, Kind, SignalId};
 use pair_sim::PairSim;
 use redundancy_cert::Side;
 use std::alloc::{AllocError, Global};
 use std::collections::BinaryHeap;
+use testability::{
+    Aim, Effects, Measures, count_pins, driver, gate_of, is_inverting, is_own_unknown, is_unknown,
+    may_differ, place_of, readers, signal_count,
+};
 
-/// A signal, and the bit that it should have.
-#[derive(Clone, Copy, Drop)]
-pub struct Aim {
-    pub signal: SignalId,
-    pub bit: bool,
+/// Whether a signal is a head line.
+pub(crate) fn has_head(roles: &[Role], signal: SignalId) -> bool {
+    match roles.get(signal.index()) {
+        None => false,
+        Some(role) => matches!(role, Role::Head),
+    }
 }
 
 /// How often 0 and 1 are wanted of a signal.
@@ -44,7 +44,6 @@ pub(crate) enum Objectives {
 /// Where the backtrace stops before head lines, inputs and cells. All objectives together stop at a stem of which both bits are wanted, too.
 #[derive(Clone, Copy, Drop)]
 pub(crate) enum Stop {
-    /// Nowhere.
     Heads,
     /// At the first fanout stem outside what the fault may reach.
     Stems,
@@ -138,6 +137,7 @@ impl Wants {
 pub(crate) struct GuideRoom {
     wants: Wants,
     paths: Paths,
+    effects: Effects,
 }
 
 impl GuideRoom {
@@ -146,11 +146,12 @@ impl GuideRoom {
         Ok(GuideRoom {
             wants: Wants::of(alloc, core)?,
             paths: Paths::of(alloc, core)?,
+            effects: Effects::new(alloc),
         })
     }
 }
 
-/// What leads the search: measures, how it goes back, and what is wanted.
+/// What leads the search: measures, how it goes back, what is wanted, and the signals with an effect.
 #[derive(Drop)]
 pub(crate) struct Guide<'a> {
     measures: &'a Measures,
@@ -158,6 +159,7 @@ pub(crate) struct Guide<'a> {
     stop: Stop,
     wants: Wants,
     paths: Paths,
+    effects: Effects,
 }
 
 /// Before which others a signal waits: gates from the last to the first in the order of evaluation, then inputs and cells.
@@ -174,6 +176,7 @@ impl<'a> Guide<'a> {
             stop: Stop::Heads,
             wants: room.wants,
             paths: room.paths,
+            effects: room.effects,
         }
     }
 
@@ -182,6 +185,7 @@ impl<'a> Guide<'a> {
         GuideRoom {
             wants: self.wants,
             paths: self.paths,
+            effects: self.effects,
         }
     }
 
@@ -189,6 +193,23 @@ impl<'a> Guide<'a> {
     pub(crate) fn go_back(&mut self, objectives: Objectives, stop: Stop) {
         self.objectives = objectives;
         self.stop = stop;
+    }
+
+    /// The trail of labels has been cut to this length.
+    pub(crate) fn cut(&mut self, length: usize) {
+        self.effects.cut(length);
+    }
+
+    /// Looks at what the trail of labels has gained.
+    pub(crate) fn follow(&mut self, core: &Core, labels: &PairSim) -> Result<(), AllocError>
+        requires same { labels.now.netlist ≡ core.now }
+        requires not_blocked { IsNotBlocked labels.now }
+    {
+        self.effects.follow(core, labels)
+    }
+
+    pub(crate) fn effects(&self) -> &Effects {
+        &self.effects
     }
 
     /// Adds to what is wanted of a signal, if it is X.
@@ -353,7 +374,14 @@ impl<'a> Guide<'a> {
                 self.spread(core, labels, side.signal, votes_for(side.bit, 1))?;
             }
         }
-        match nearest(core, self.measures, fault, labels, &mut self.paths)? {
+        match nearest(
+            core,
+            self.measures,
+            fault,
+            &self.effects,
+            labels,
+            &mut self.paths,
+        )? {
             None => Ok(()),
             Some(gate) => self.want_through(core, labels, gate),
         }
@@ -452,6 +480,7 @@ pub(crate) fn best_aim(
             guide.measures,
             fault,
             roles,
+            &guide.effects,
             labels,
             stack,
             guide.stop,

@@ -1,4 +1,9 @@
 //! The search from the path without decisions.
+//!
+//! As in `podem`, a stack of decisions stands for the tree, and both sides of a decision are looked at. But a turn looks first for a signal of
+//! which one side is closed already, and forces it to the other (`forcing`): FAN's unique implications, told by labels. Else it splits on what
+//! the backtrace wants (`guides`), a head line or a fanout stem sooner than an input. Where the condition for a test is met the head lines are
+//! justified without a decision (`head_lines`), so such a path is a test.
 ghost use Rattle.std.specs.Prelude.{◌≡◌, ◌≤◌, ◌<◌, ◌+◌, ℕ, [], ◌∷◌, length, IfOk, OnOk, MatchOption, if◌then◌else◌};
 ghost use Rattle.std.specs.List.{Contains};
 ghost use Rattle.netlist.specs.Holds.{AreHoldsOf};
@@ -15,13 +20,14 @@ ghost use Rattle.fan.specs.inner.Searching.{undecided, IsAt, IsSearching, MayEnt
 use crate::aims::forced_aims;
 use crate::choosing::choose;
 use crate::forcing::{Seen, find_forced};
-use crate::guides::{Aim, Guide, best_aim};
+use crate::guides::{Guide, best_aim};
 use crate::standing::{go, look};
 use head_lines::{Role, justified_cube};
 use netlist::{Core, Fault, Holds, Point, SignalId};
 use pair_sim::{PairSim, State};
 use redundancy_cert::{Found, Node, Other, Side, Tree, Turn, end_side, whole_tree};
 use std::alloc::{AllocError, Global};
+use testability::Aim;
 
 /// What comes of a turn.
 #[derive(Drop)]
@@ -60,6 +66,7 @@ fn climb(
     core: &Core,
     fault: &Fault,
     holds: &Holds,
+    guide: &mut Guide,
     labels: &mut PairSim,
     stack: &mut Vec<Side>,
     mut done: Vec<Node>,
@@ -71,6 +78,7 @@ fn climb(
 {
     while stack.len() > 0 {
         labels.undo();
+        guide.cut(labels.trail().len());
         match end_side(stack, done)? {
             Turn::Climbed(nodes) => done = nodes,
             Turn::Turned => {
@@ -83,7 +91,6 @@ fn climb(
     Ok(Some(done))
 }
 
-/// The tree of one Closed.
 fn closed_tree(alloc: Global) -> Result<Vec<Node>, AllocError>
     ensures { IfOk result (λ v. v.items ≡ Node.Closed ∷ []) }
 {
@@ -92,7 +99,6 @@ fn closed_tree(alloc: Global) -> Result<Vec<Node>, AllocError>
     Ok(nodes)
 }
 
-/// The tree of a Forced and one Closed.
 fn forced_tree(alloc: Global, signal: SignalId, bit: bool) -> Result<Vec<Node>, AllocError>
     ensures { IfOk result (λ v. v.items ≡ Node.Forced signal bit ∷ Node.Closed ∷ []) }
 {
@@ -106,6 +112,7 @@ fn forced_tree(alloc: Global, signal: SignalId, bit: bool) -> Result<Vec<Node>, 
 fn after_closed(
     alloc: Global,
     core: &Core,
+    guide: &mut Guide,
     fault: &Fault,
     holds: &Holds,
     roles: &[Role],
@@ -123,7 +130,7 @@ fn after_closed(
         State::Test(point) => Ok(Step::Found(point)),
         State::Blocked => {
             let done = forced_tree(alloc, signal, bit)?;
-            match climb(core, fault, holds, labels, stack, done)? {
+            match climb(core, fault, holds, guide, labels, stack, done)? {
                 Some(nodes) => Ok(Step::Done(nodes)),
                 None => Ok(Step::On(true)),
             }
@@ -177,6 +184,7 @@ fn after_going(
 fn split(
     alloc: Global,
     core: &Core,
+    guide: &mut Guide,
     fault: &Fault,
     holds: &Holds,
     roles: &[Role],
@@ -196,7 +204,7 @@ fn split(
     ) {
         State::Test(point) => Ok(Step::Found(point)),
         State::Blocked => after_closed(
-            alloc, core, fault, holds, roles, labels, stack, aim.signal, !aim.bit,
+            alloc, core, guide, fault, holds, roles, labels, stack, aim.signal, !aim.bit,
         ),
         State::Going => after_going(
             core, fault, holds, roles, labels, stack, aim.signal, !aim.bit,
@@ -221,20 +229,22 @@ fn take_turn(
     requires going { IsLeftOpen fault.now core.now holds.now (path_of_stack stack.old.items) }
     ensures { IfOk result (IsStepped fault.now core.now holds.now labels.new stack.old.items stack.new.items (closed_around stack.old.items)) }
 {
-    let aims = forced_aims(alloc, core, fault, roles, labels, stack)?;
+    guide.follow(core, labels)?;
+    let aims = forced_aims(alloc, core, fault, roles, guide.effects(), labels, stack)?;
     match find_forced(core, fault, holds, roles, labels, stack, &aims) {
         Seen::Reached(point) => Ok(Step::Found(point)),
         Seen::ShutBeside(aim) => after_closed(
-            alloc, core, fault, holds, roles, labels, stack, aim.signal, !aim.bit,
+            alloc, core, guide, fault, holds, roles, labels, stack, aim.signal, !aim.bit,
         ),
         Seen::Nothing => {
             let wanted = best_aim(core, guide, fault, roles, labels, stack)?;
-            split(alloc, core, fault, holds, roles, labels, stack, &wanted)
+            split(
+                alloc, core, guide, fault, holds, roles, labels, stack, &wanted,
+            )
         }
     }
 }
 
-/// The tree of one Open.
 fn open_tree(alloc: Global) -> Result<Vec<Node>, AllocError>
     ensures { IfOk result (λ v. v.items ≡ Node.Open ∷ []) }
 {
@@ -318,6 +328,9 @@ pub(crate) fn search_from(
             let tree = closed_tree(alloc)?;
             Ok(Found::Closed(Tree::new(tree)))
         }
-        State::Going => search_on(alloc, core, guide, fault, holds, roles, labels, limit),
+        State::Going => {
+            guide.cut(0);
+            search_on(alloc, core, guide, fault, holds, roles, labels, limit)
+        }
     }
 }

@@ -4,18 +4,17 @@ ghost use Rattle.std.specs.Prelude.{◌≡◌};
 ghost use Rattle.pair_sim.specs.Sims.{IsNotBlocked};
 
 use crate::frontier::nearest;
-use crate::guides::{Aim, Stop};
-use crate::measures::Measures;
+use crate::guides::{Stop, has_head};
 use crate::paths::Paths;
-use crate::views::{
-    count_pins, driver, gate_of, has_head, is_inverting, is_own_unknown, is_unknown, may_differ,
-    place_of, readers, signal_count,
-};
 use head_lines::Role;
 use netlist::{Core, Fault, Kind, SignalId};
 use pair_sim::PairSim;
 use redundancy_cert::Side;
 use std::alloc::AllocError;
+use testability::{
+    Aim, Effects, Measures, count_pins, driver, gate_of, is_inverting, is_own_unknown, is_unknown,
+    may_differ, place_of, readers, signal_count,
+};
 
 /// Which pin of a gate is gone to.
 #[derive(Clone, Copy, Drop)]
@@ -150,6 +149,7 @@ fn objective(
     measures: &Measures,
     fault: &Fault,
     roles: &[Role],
+    effects: &Effects,
     labels: &PairSim,
     stack: &[Side],
     paths: &mut Paths,
@@ -165,7 +165,7 @@ fn objective(
         }));
     }
     let decided = lowest_decided(core, roles, labels, stack);
-    if let Some(gate) = nearest(core, measures, fault, labels, paths)? {
+    if let Some(gate) = nearest(core, measures, fault, effects, labels, paths)? {
         if let Some(pin) = lowest_pin(core, measures, labels, gate) {
             if is_lower(core, pin.signal, &decided) {
                 return Ok(Some(pin));
@@ -217,6 +217,7 @@ pub(crate) fn traced(
     measures: &Measures,
     fault: &Fault,
     roles: &[Role],
+    effects: &Effects,
     labels: &PairSim,
     stack: &[Side],
     stop: Stop,
@@ -225,7 +226,7 @@ pub(crate) fn traced(
     requires same { labels.now.netlist ≡ core.now }
     requires not_blocked { IsNotBlocked labels.now }
 {
-    match objective(core, measures, fault, roles, labels, stack, paths)? {
+    match objective(core, measures, fault, roles, effects, labels, stack, paths)? {
         None => Ok(None),
         Some(aim) => Ok(trace_from(core, measures, roles, labels, stop, aim)),
     }

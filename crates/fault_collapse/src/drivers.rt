@@ -17,7 +17,6 @@ pub(crate) struct Driver {
     pub stem: u32,
 }
 
-/// How many lines the inputs have.
 fn input_line_count(netlist: &Netlist) -> usize
     requires { length (all_lines netlist.now) < 2 ^ 32 }
     ensures { result ≡ length (flat_map (lines_of netlist.now) (take (length netlist.now.inputs) (signals netlist.now))) }

@@ -1,4 +1,9 @@
 //! Classes of faults that no test tells apart, as far as single gates show.
+//!
+//! Gives: `collapse`, `Classes`.
+//! Proved: `collapse`: the least equivalence of joined faults, numbered by first members, one list of classes for a netlist; the laws: equivalent
+//! faults have equal outputs and next states, and are detected alike.
+//! Neither: time.
 #![tactic(auto)]
 
 mod classes;

@@ -45,7 +45,6 @@ pub fn branches(netlist: &Netlist, x: SignalId) -> &[Line]
     if readers.len() >= 2 { readers } else { &[] }
 }
 
-/// How many lines there are.
 fn line_count(netlist: &Netlist) -> usize
     requires { length (all_lines netlist.now) < 2 ^ 30 }
     ensures { result ≡ length (all_lines netlist.now) }
@@ -58,7 +57,7 @@ fn line_count(netlist: &Netlist) -> usize
     count
 }
 
-/// The lines in order.
+/// The lines in order, counted first, so that their table has no room to spare.
 fn lines(alloc: Global, netlist: &Netlist) -> Result<Vec<Line>, AllocError>
     requires { length (all_lines netlist.now) < 2 ^ 30 }
     ensures { IfOk result (λ v. v.items ≡ all_lines netlist.now) }

@@ -18,8 +18,8 @@ fn push_name(text: &mut Vec<u8>, netlist: &Netlist, signal: SignalId) -> Result<
     Ok(())
 }
 
-/// Adds a line's text to a text.
-fn push_line(text: &mut Vec<u8>, netlist: &Netlist, line: &Line) -> Result<(), AllocError>
+/// Adds a line's text to a text, as `pin z 0`.
+pub fn push_line(text: &mut Vec<u8>, netlist: &Netlist, line: &Line) -> Result<(), AllocError>
     requires { signal_of line.now < length (signals netlist.now) }
     ensures { OnOk result (text.new.items ≡ text.old.items ++ line_text netlist.now line.now) }
 {

@@ -128,7 +128,6 @@ fn has_out(netlist: &Netlist, y: SignalId) -> bool
     }
 }
 
-/// Whether the netlist has the line.
 fn has_line(netlist: &Netlist, line: &Line) -> bool
     requires { signal_of line.now < length (signals netlist.now) }
     ensures { IsTrue result ↔ Contains (all_lines netlist.now) line.now }
@@ -141,7 +140,6 @@ fn has_line(netlist: &Netlist, line: &Line) -> bool
     }
 }
 
-/// Whether the netlist of the names has the line.
 fn has_named_line<N: SignalNames>(names: &N, line: &Line) -> bool
     requires { signal_of line.now < length (signals (N.named names.now)) }
     ensures { IsTrue result ↔ Contains (all_lines (N.named names.now)) line.now }

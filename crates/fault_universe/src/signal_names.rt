@@ -6,7 +6,7 @@ use crate::fault_sets::signal_count;
 use name_index::NameIndex;
 use netlist::{Netlist, SignalId};
 
-/// The names of a netlist.
+/// Whoever can find a signal by its name: a netlist goes over its names, an index looks them up.
 pub trait SignalNames {
     ghost use Rattle.netlist.specs.Netlist.{Netlist, name_of, signal_count};
 
@@ -16,7 +16,6 @@ pub trait SignalNames {
     fn netlist(&self) -> &Netlist
         ensures { result.now ≡ named self.now };
 
-    /// The signal of a name.
     fn signal(&self, name: &[u8]) -> Option<SignalId>
         ensures { MatchOption result ((x : ℕ) → x < signal_count (named self.now) → name_of (named self.now) x ≢ name.now) (λ x. (x < signal_count (named self.now)) × (name_of (named self.now) x ≡ name.now)) };
 }

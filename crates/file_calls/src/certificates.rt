@@ -42,7 +42,6 @@ fn push_line(
     Ok(())
 }
 
-/// The lines of trees.
 fn lines_of(
     alloc: Global,
     netlist: &Netlist,

@@ -9,7 +9,6 @@ use std::alloc::{AllocError, Global};
 /// No text of the calls has more bytes.
 const LONGEST: usize = 1_000_000_000;
 
-/// The design of a text.
 pub fn design(alloc: Global, text: &[u8]) -> Result<Netlist, BenchFault>
     ensures { IfOk result IsDesign }
 {

@@ -1,5 +1,7 @@
 //! Reports, certificates and STIL files as data. The input names texts, and has a line for each call with its arguments; the output
 //! repeats the line and has what came of it. README.md has the lines.
+//!
+//! Tested: calls on reports, certificates, vectors and STIL files, as data.
 #![tactic(auto)]
 
 mod certificates;

@@ -6,7 +6,6 @@ use fault_universe::signal_count;
 use netlist::{Line, Netlist, SignalId};
 use std::alloc::AllocError;
 
-/// The signal of a name.
 pub fn signal(netlist: &Netlist, name: &str) -> Option<SignalId>
     ensures { IfSome result (λ x. x < length (signals netlist.now)) }
 {
@@ -26,7 +25,6 @@ pub fn name_of(netlist: &Netlist, id: SignalId) -> &[u8] {
     netlist.name(id)
 }
 
-/// Adds a number.
 pub fn push_number(to: &mut Vec<u8>, number: u32) -> Result<(), AllocError> {
     to.extend_from_slice(itoa::Buffer::new().format(number).as_bytes())
 }

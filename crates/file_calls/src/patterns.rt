@@ -34,7 +34,6 @@ pub fn holds_of(alloc: Global, core: &Core, text: &str) -> Result<Holds, AllocEr
     Ok(holds)
 }
 
-/// Bits from digits.
 fn bits(alloc: Global, digits: &str) -> Result<Vec<bool>, AllocError> {
     digits.bytes().map(|digit| digit == b'1').collect(alloc)
 }

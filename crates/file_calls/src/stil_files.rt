@@ -12,8 +12,8 @@ use chain_stitch::{Chains, stitch};
 use cubes::Pattern;
 use netlist::{Core, Holds, Netlist};
 use std::alloc::{AllocError, Global};
+use stil_patterns::{are_patterns, patterns_of, stil_of};
 use stil_read::{StilFault, read_stil};
-use stil_tests::{are_patterns, patterns_of, stil_of};
 use stil_write::write_stil;
 
 /// The cells in so many chains.
@@ -30,7 +30,6 @@ fn chains_of(alloc: Global, core: &Core, asked: u32) -> Result<Chains, AllocErro
     }
 }
 
-/// Adds bits.
 pub fn push_bits(to: &mut Vec<u8>, bits: &[bool]) -> Result<(), AllocError> {
     for bit in bits {
         to.push(if *bit { b'1' } else { b'0' })?;

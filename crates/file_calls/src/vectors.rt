@@ -9,9 +9,8 @@ use cubes::Pattern;
 use netlist::{Core, Holds, Tri};
 use scan_play::{Burst, Cycle, vectors_of};
 use std::alloc::{AllocError, Global};
-use stil_tests::are_patterns;
+use stil_patterns::are_patterns;
 
-/// The letter of a strobe.
 fn letter_of(strobe: Tri) -> u8 {
     match strobe {
         Tri::Zero => b'L',

@@ -28,7 +28,7 @@ use Rattle.netlist.specs.Settled.{bit_table}
 use Rattle.scan_play.specs.Laws.{moved, GoodPasses, UndetectedPasses, DetectedFails, VectorsFit, NoSequenceDetectsRedundant, SomeRun}
 use Rattle.stil_write.specs.StilFiles.{StilFile}
 use Rattle.stil_vectors.specs.FileVectors.{vectors_in}
-use Rattle.stil_tests.specs.Laws.{FileVectors}
+use Rattle.stil_patterns.specs.Laws.{FileVectors}
 use Rattle.fault_universe.specs.Laws.{FaultsHaveLines}
 use Rattle.fault_universe.specs.Texts.{fault_text}
 use Rattle.fault_universe.specs.Universe.{universe_of}
@@ -70,7 +70,7 @@ read_back law n sound text is =
 -- ---- lines
 
 -- every line is of one of the three kinds
-all_kinds : (lines : List Line) → count_of detected_one lines + count_of redundant_one lines + count_of aborted_one lines ≡ length lines
+pub all_kinds : (lines : List Line) → count_of detected_one lines + count_of redundant_one lines + count_of aborted_one lines ≡ length lines
 all_kinds [] = refl
 all_kinds (l ∷ ls) =
     let d = sum_by-cons (λ (m : Line). detected_one m.outcome) l ls in

@@ -11,7 +11,7 @@ use Rattle.bench_text.specs.declared.refusal.Names.TheVariants.{Design}
 use Rattle.scan_insert.specs.Scanned.{AreChainsOf, scanned_of}
 use Rattle.stil_write.specs.StilFiles.{StilFile}
 use Rattle.stil_read.specs.Reading.{StandsFor}
-use Rattle.stil_tests.specs.Tests.{IsFileOf}
+use Rattle.stil_patterns.specs.Tests.{IsFileOf}
 use Rattle.fault_collapse.specs.Classes.{AreClasses}
 use Rattle.fault_collapse.specs.Numbers.{Classes}
 use Rattle.redundancy_cert.specs.declared.nodes.Node.{Node}

@@ -10,7 +10,7 @@ use scan_play::{
     detected_fails, good_passes, no_sequence_detects_redundant, some_run, undetected_passes,
     vectors_fit,
 };
-use stil_tests::laws::file_vectors;
+use stil_patterns::laws::file_vectors;
 
 /// What good files say comes true on the tester, for every fault.
 pub fn good_files_tell_the_truth()

@@ -1,4 +1,8 @@
 //! Labels by events: the rule of labels for values that settle anew, and what a change of a decision or of the fault leaves to settle.
+//!
+//! Gives: `LabelRule`, `line_place`.
+//! Proved: the laws: at which signal alone a decision or a fault leaves the labels to settle.
+//! Tested: run below `podem` and `word_sim` in `calls`.
 #![tactic(auto)]
 
 mod laws;

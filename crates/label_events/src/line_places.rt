@@ -4,7 +4,7 @@ ghost use Rattle.label_events.specs.Lines.{IsPlaceOf};
 
 use netlist::{Core, Line, SignalId};
 
-/// Where a line enters.
+/// What a line is for the evaluator: part of one signal's equation, or of what is observed and of no equation.
 #[derive(Clone, Copy, Debug, PartialEq, Eq)]
 pub enum LinePlace {
     /// The stem of the signal, or a pin of its gate.

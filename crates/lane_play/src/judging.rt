@@ -168,7 +168,6 @@ fn judge_bit<J: Judge>(
     take_down(sayings, shown, verdicts)
 }
 
-/// What is said at an output.
 #[inline(always)]
 fn judge_output<J: Judge>(
     judge: &J,

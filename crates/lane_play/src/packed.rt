@@ -33,7 +33,7 @@ impl Lanes {
         Lanes { known: 0, value: 0 }
     }
 
-    /// Both are 1.
+    /// AND: known where both are, or where one is known to be 0.
     #[inline(always)]
     pub(crate) fn both(self, other: Lanes) -> Lanes
         ensures { result ≡ both self other }
@@ -46,7 +46,7 @@ impl Lanes {
         }
     }
 
-    /// One or both are 1.
+    /// OR: known where both are, or where one is known to be 1.
     #[inline(always)]
     pub(crate) fn either(self, other: Lanes) -> Lanes
         ensures { result ≡ either self other }
@@ -58,7 +58,7 @@ impl Lanes {
         }
     }
 
-    /// One of the two is 1.
+    /// XOR: known where both are.
     #[inline(always)]
     pub(crate) fn unequal(self, other: Lanes) -> Lanes
         ensures { result ≡ unequal self other }

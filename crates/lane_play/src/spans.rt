@@ -20,7 +20,6 @@ pub(crate) struct Span {
 }
 
 impl Span {
-    /// Whether there is no machine.
     #[inline(always)]
     pub(crate) fn is_empty(self) -> bool
         ensures empty { result ≡ true → self.to ≤ self.from }

@@ -1,4 +1,8 @@
 //! The list of fault classes, with the evidence for each verdict and a journal of all events.
+//!
+//! Gives: `FaultList`, `Claim`, `Over`, `Left`, `Settling`.
+//! Proved: each event of the fault list exactly; whatever events come, every verdict holds, the journal is legal and its replay is the list.
+//! Tested: that it comes to these answers, by rows of `list_calls`.
 #![tactic(auto)]
 
 mod claims;

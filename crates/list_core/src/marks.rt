@@ -7,7 +7,6 @@ use fault_collapse::Classes;
 use netlist::Fault;
 use std::alloc::{AllocError, Global};
 
-/// All classes Open.
 pub(crate) fn all_open(alloc: Global, classes: u32) -> Result<Vec<Verdict>, AllocError>
     ensures { IfOk result (λ v. v.items ≡ replicate classes Open) }
 {
@@ -18,7 +17,6 @@ pub(crate) fn all_open(alloc: Global, classes: u32) -> Result<Vec<Verdict>, Allo
     Ok(verdicts)
 }
 
-/// No class taken.
 pub(crate) fn none_taken(alloc: Global, classes: u32) -> Result<Vec<bool>, AllocError>
     ensures { IfOk result (λ v. v.items ≡ replicate classes false) }
 {
@@ -29,7 +27,6 @@ pub(crate) fn none_taken(alloc: Global, classes: u32) -> Result<Vec<bool>, Alloc
     Ok(taken)
 }
 
-/// The representatives of the classes.
 pub(crate) fn representatives(alloc: Global, classes: &Classes) -> Result<Vec<Fault>, AllocError>
     ensures { IfOk result (λ v. v.items ≡ classes.now.representatives) }
 {

@@ -1,4 +1,8 @@
 //! The names of a netlist, looked up: for readers of texts with many names.
+//!
+//! Gives: `NameIndex`.
+//! Proved: `get`: exactly the signal of a name, or that no signal has it; `netlist`: whose names they are.
+//! Neither: that a name is found in the same time however many there are.
 #![tactic(auto)]
 
 ghost use Rattle.std.specs.Prelude.{◌≡◌, ◌≢◌, ◌<◌, ℕ, IfOk, MatchOption};
@@ -56,7 +60,7 @@ impl<'a> NameIndex<'a> {
         self.netlist
     }
 
-    /// The signal of a name.
+    /// The signal of a name, by one look-up in the table of hashes.
     pub fn get(&self, name: &[u8]) -> Option<SignalId>
         ensures { MatchOption result ((x : ℕ) → x < signal_count self.now → name_of self.now x ≢ name.now) (λ x. (x < signal_count self.now) × (name_of self.now x ≡ name.now)) }
     {

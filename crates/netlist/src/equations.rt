@@ -72,7 +72,6 @@ pub struct Parts {
     pub definitions: Vec<Definition>,
 }
 
-/// Equal definitions.
 fn copy_definitions(
     alloc: Global,
     definitions: &[Definition],

@@ -1,4 +1,7 @@
 //! Netlists with an order of evaluation, and the values that settle on them.
+//!
+//! The order costs a pass over all pins, and many evaluations use it: so it is found once and kept beside the netlist. No result depends on
+//! which order it is, since exactly one assignment settles; so it is no part of the value.
 ghost use Rattle.std.specs.Prelude.{◌≡◌, length, MatchResult, IfOk, OnOk};
 ghost use Rattle.netlist.specs.Netlist.{cells, signals};
 ghost use Rattle.netlist.specs.Orders.{IsOrder, IsSchedule};

@@ -3,7 +3,7 @@ ghost use Rattle.std.specs.Prelude.{◌≡◌};
 ghost use Rattle.netlist.specs.Netlist.{is_flip_flop};
 ghost use Rattle.netlist.specs.Gates.{allows_pins};
 
-/// The most pins of any gate.
+/// More than any cell library has, and few enough that counts over all pins of a netlist fit.
 pub const MOST_PINS: usize = 1024;
 
 /// What a definition computes.
@@ -45,7 +45,7 @@ impl Kind {
     }
 }
 
-/// 0, 1 or unknown.
+/// A value that may be unknown: X stands for either bit.
 #[derive(Clone, Copy, Debug, PartialEq, Eq)]
 pub enum Tri {
     Zero,

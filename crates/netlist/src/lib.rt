@@ -1,4 +1,10 @@
 //! Gate netlists: signals, faults, and the one notion of settled values on which all simulation stands.
+//!
+//! Gives: `Netlist`, `Core`, `Fault`, `Holds`, and the one evaluator, `Core::settle_into`, over any rule (`Logic`).
+//! Proved: a `Netlist` is acyclic and reads nothing undefined; `Netlist::new` refuses exactly, in order, with the least signal; each getter exactly;
+//! `settle_into`, `outs_into` and `next_into` give what settles by any rule, `eval` the settled bits with a line stuck or none; the laws
+//! `holds_everywhere` (induction), `settles_once`, `some_settles`, `settle_alike` (of two rules that keep a relation).
+//! Neither: time.
 #![tactic(auto)]
 
 mod bits;

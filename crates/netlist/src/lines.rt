@@ -13,7 +13,7 @@ pub enum Line {
 }
 
 impl Line {
-    /// Whether it is this line.
+    /// Whether both are one stem, one pin or one output.
     pub fn is(&self, other: &Line) -> bool
         ensures { result ≡ is_line self.now other.now }
     {

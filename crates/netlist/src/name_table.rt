@@ -24,7 +24,7 @@ impl Model for NameTable {
 }
 
 impl NameTable {
-    /// No names.
+    /// No names, and no memory yet.
     pub fn new(alloc: Global) -> NameTable
         ensures { result ≡ [] }
     {

@@ -47,7 +47,7 @@ fn start_ranks(alloc: Global, parts: &Parts) -> Result<Vec<u32>, AllocError>
         .collect(alloc)
 }
 
-/// The counts of pins.
+/// Of each signal how many pins aren't placed yet: at first all.
 fn start_counts(alloc: Global, parts: &Parts) -> Result<Vec<u32>, AllocError>
     requires { All (λ (d : Equation). length d.pins ≤ most_pins) (whole parts.now).definitions }
     ensures { IfOk result (λ counts. counts.items ≡ start_counts (whole parts.now)) }

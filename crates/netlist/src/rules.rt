@@ -1,4 +1,10 @@
 //! The one evaluator, for any rule by which values settle.
+//!
+//! Inputs and cells take what is driven, and then each gate is evaluated once, in an order in which it comes after all that it reads (compiled,
+//! or oblivious, simulation). Bits, three values, words and labels differ only in what a line and a gate make of values, so the loop is written
+//! and proved once, over a trait.
+//!
+//! The alternative, to evaluate only what a change reaches, is `events`, where few values change from one call to the next. Here all are new.
 ghost use Rattle.std.specs.Prelude.{◌≡◌, ◌≢◌, ◌<◌, ◌≤◌, ℕ, List, length, map, IfOk, OnOk};
 ghost use Rattle.std.specs.List.{All, AllPairs};
 ghost use Rattle.netlist.specs.Gates.{most_pins};
@@ -142,7 +148,7 @@ pub(crate) fn settle_into<L: Logic>(
     Ok(())
 }
 
-/// The values that settle.
+/// The same into new buffers, for who evaluates once.
 pub(crate) fn settle<L: Logic>(
     alloc: Global,
     logic: &L,

@@ -18,7 +18,6 @@ impl Model for SignalId {
 }
 
 impl SignalId {
-    /// The place, to index with.
     pub fn index(self) -> usize
         ensures { result ≡ self }
     {

@@ -112,7 +112,7 @@ impl Points {
     }
 }
 
-/// The point of a number.
+/// The point of a number: outputs in order, and then cells.
 pub fn point_at(netlist: &Netlist, number: usize) -> Point
     requires { number < 2 ^ 32 }
     ensures { result ≡ point_of netlist.now number }

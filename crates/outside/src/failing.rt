@@ -4,7 +4,7 @@ ghost use Rattle.std.specs.Prelude.{◌≡◌, ◌==◌, IfOk, find};
 use std::alloc::{AllocError, Global};
 use std::marker::Model;
 
-/// A call that is to fail.
+/// A call of a shelf or a sink in memory that a test wants to fail.
 #[derive(Clone, Copy, Debug, PartialEq, Eq)]
 pub struct FailingCall {
     /// Its number. The first call is 1, and reads and writes are counted together.

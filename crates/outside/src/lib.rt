@@ -15,6 +15,11 @@
 //! | the real outside | [`FolderShelf`] | [`OutSink`] | files: not told; bytes: what the writer tells |
 //! | in memory, fails at given calls | [`MemoryShelf`] | [`MemorySink`] | told |
 //! | in memory, never fails | [`SureShelf`] | [`SureSink`] | told |
+//!
+//! Gives: `Shelf`, `Sink`, `Gate`, over memory, files and standard output.
+//! Proved: each answer of a shelf or a sink has its cause: a content that is told, or a count of failures that rose by one; files and sinks in memory
+//! exactly.
+//! Tested: that real files and standard output hold what was written, by `outside_tests`.
 #![tactic(auto)]
 
 mod failing;

@@ -9,7 +9,6 @@ pub enum ReadRefusal {
     TooLong(u64),
     /// There is no file of that name.
     Missing,
-    /// There is no memory for the bytes.
     NoMemory,
 }
 

@@ -13,3 +13,5 @@ pub mod StateLemmas
 pub mod Faulting
 pub mod Effects
 pub mod Reaching
+pub mod Sure
+pub mod Differing

@@ -34,7 +34,7 @@ impl Model for SimRoom {
     ghost view = { λ r. record { fault = r.fault; stuck = r.labelling.fault; decided = r.labelling.decided.items; levels = r.levels.items; names = r.names.items; events = r.events; level_room = vec_capacity r.levels; name_room = vec_capacity r.names; seen = r.reach.points.seen.items; first = r.reach.points.first.items; numbers = r.reach.points.numbers.items; known = r.reach.known; reached = r.reach.signals.items; reach_room = vec_capacity r.reach.signals } };
 }
 
-/// Some fault of the netlist.
+/// A fault for a room that serves none yet, so that a room always has one.
 fn some_fault(core: &Core) -> Fault
     ensures { IsLineOf core.now result.line }
 {

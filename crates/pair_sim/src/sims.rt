@@ -155,7 +155,6 @@ impl<'a> PairSim<'a> {
         labels
     }
 
-    /// How many decisions there are.
     fn depth(&self) -> usize
         ensures { result ≡ length self.now.path }
     {
@@ -203,7 +202,6 @@ impl<'a> PairSim<'a> {
         self.put(fault);
     }
 
-    /// The label.
     #[inline(always)]
     fn label(&self, signal: SignalId) -> Label
         requires { Contains (signals self.now.netlist) signal }

@@ -1,4 +1,7 @@
 //! Pieces of texts that are spelled byte for byte: what stands before a byte and behind it, and numbers.
+//!
+//! Gives: `number`, `split_at`, `split_at_last`.
+//! Proved: each exactly: the number of digits, the parts of a text at a mark.
 #![tactic(auto)]
 
 ghost use Rattle.std.specs.Prelude.{◌≡◌, ◌≢◌, ◌^◌, ◌<◌, ◌++◌, ◌∷◌, ℕ, IfSome, MatchOption, decimal};

@@ -1,17 +1,18 @@
 //! The engine.
-ghost use Rattle.std.specs.Prelude.{◌≤◌, IfOk, OnOk};
+//!
+//! What guides the search (how dear bits are, where the effect is) is made once for a netlist and kept with the labels from search to search,
+//! since a search is often shorter than that would take.
+ghost use Rattle.std.specs.Prelude.{◌≤◌, IfOk};
 ghost use Rattle.netlist.specs.Holds.{AreHoldsOf};
 ghost use Rattle.redundancy_cert.specs.Evidence.{HasEvidence};
-ghost use Rattle.netlist.specs.Lines.{IsLineOf};
-ghost use Rattle.podem.specs.Sources.{HasSourceEvidence, IsLabelling};
+ghost use Rattle.podem.specs.Sources.{HasSourceEvidence};
 
-use crate::effects::Effects;
-use crate::measures::Measures;
 use crate::searching::search_from;
 use netlist::{Core, Fault, Holds, NoMemory};
 use pair_sim::{PairSim, SimRoom};
 use redundancy_cert::{Engine, Found};
 use std::alloc::Global;
+use testability::{Effects, Measures};
 
 /// A search that decides inputs and cells alone, with what guides it.
 #[derive(Debug, Drop)]
@@ -63,39 +64,6 @@ impl Podem {
             holds,
             &mut effects,
             &mut labels,
-            limit,
-        )
-        .map_err(|_| NoMemory)
-    }
-
-    /// The same with the labels of an earlier search for another fault: no table is made anew, and what the two faults reach is evaluated.
-    pub fn search_again(
-        &self,
-        alloc: Global,
-        core: &Core,
-        labels: &mut PairSim,
-        fault: Fault,
-        limit: u32,
-        holds: &Holds,
-    ) -> Result<Found, NoMemory>
-        requires limit { 1 ≤ limit }
-        requires holds { AreHoldsOf core.now holds.now }
-        requires case { IsLabelling core.now holds.now labels.old }
-        requires line { IsLineOf core.now fault.line }
-        ensures evidence { IfOk result (HasEvidence fault core.now holds.now limit) }
-        ensures sources { IfOk result (HasSourceEvidence fault core.now holds.now limit) }
-        ensures kept { OnOk result (IsLabelling core.now holds.now labels.new) }
-    {
-        labels.aim(fault);
-        let mut effects = Effects::new(alloc);
-        search_from(
-            alloc,
-            core,
-            &self.measures,
-            &fault,
-            holds,
-            &mut effects,
-            labels,
             limit,
         )
         .map_err(|_| NoMemory)

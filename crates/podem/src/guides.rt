@@ -1,19 +1,13 @@
 //! What a decision is made for: an objective, traced back to an input or a cell. Nothing stands on it but the speed of the search.
-ghost use Rattle.std.specs.Prelude.{◌≡◌, length};
-ghost use Rattle.netlist.specs.Netlist.{signals};
+ghost use Rattle.std.specs.Prelude.{◌≡◌};
 ghost use Rattle.pair_sim.specs.Sims.{IsNotBlocked};
 
-use crate::effects::Effects;
-use crate::measures::Measures;
-use netlist::{Core, Fault, Kind, Line, SignalId, Tri};
+use netlist::{Core, Fault, Kind, Line, SignalId};
 use pair_sim::PairSim;
-
-/// A signal, and the bit that it should have.
-#[derive(Clone, Copy)]
-pub(crate) struct Aim {
-    pub signal: SignalId,
-    pub bit: bool,
-}
+use testability::{
+    Aim, Effects, Measures, count_pins, driver, gate_of, is_unknown, may_get_effect, readers,
+    signal_count,
+};
 
 /// A gate that the fault's effect has reached, what it costs to see it, and what lets the effect through.
 #[derive(Clone, Copy)]
@@ -76,73 +70,6 @@ fn salt_of(fault: &Fault) -> u64 {
     mixed((signal.index() as u64) << 32 ^ place << 1 ^ u64::from(fault.value))
 }
 
-/// How many signals there are.
-pub(crate) fn signal_count(core: &Core) -> usize
-    ensures { result ≡ length (signals core.now) }
-{
-    let netlist = core.netlist();
-    netlist.sound();
-    netlist.inputs().len() + netlist.definitions().len()
-}
-
-/// The value of a signal without the fault.
-fn good(core: &Core, labels: &PairSim, signal: SignalId) -> Option<Tri>
-    requires { labels.now.netlist ≡ core.now }
-{
-    core.netlist().sound();
-    if signal.index() >= signal_count(core) {
-        return None;
-    }
-    Some(labels.good(signal))
-}
-
-/// Whether that isn't known.
-fn is_unknown(core: &Core, labels: &PairSim, signal: SignalId) -> bool
-    requires { labels.now.netlist ≡ core.now }
-{
-    matches!(good(core, labels, signal), Some(Tri::X))
-}
-
-/// Whether both values of a signal are known and differ.
-pub(crate) fn has_effect(core: &Core, labels: &PairSim, signal: SignalId) -> bool
-    requires same { labels.now.netlist ≡ core.now }
-    requires not_blocked { IsNotBlocked labels.now }
-{
-    core.netlist().sound();
-    if signal.index() >= signal_count(core) {
-        return false;
-    }
-    match labels.good(signal) {
-        Tri::Zero => matches!(labels.faulty(signal), Tri::One),
-        Tri::One => matches!(labels.faulty(signal), Tri::Zero),
-        Tri::X => false,
-    }
-}
-
-/// Whether the fault may still reach a signal, and doesn't yet.
-fn may_get_effect(core: &Core, labels: &PairSim, signal: SignalId) -> bool
-    requires same { labels.now.netlist ≡ core.now }
-    requires not_blocked { IsNotBlocked labels.now }
-{
-    core.netlist().sound();
-    if signal.index() >= signal_count(core) {
-        return false;
-    }
-    labels.may_differ(signal) && !has_effect(core, labels, signal)
-}
-
-/// The kind and the pins of the gate of a signal; none for an input, a cell and what is no signal.
-fn gate_of(core: &Core, signal: SignalId) -> Option<(Kind, &[SignalId])> {
-    if signal.index() >= signal_count(core) {
-        return None;
-    }
-    let kind = core.netlist().kind(signal)?;
-    if kind.is_flip_flop() {
-        return None;
-    }
-    Some((kind, core.netlist().pins(signal)))
-}
-
 /// Whether a cost is better than the best so far.
 fn is_better(cost: u32, best: &Option<(SignalId, u32)>, dear: bool) -> bool {
     match best {
@@ -191,22 +118,6 @@ fn cheapest_pin(core: &Core, guide: &Guide, labels: &PairSim, pins: &[SignalId])
     })
 }
 
-/// Whether only one of these pins is X, and whether an odd number of the others are 1.
-fn others_of(core: &Core, labels: &PairSim, pins: &[SignalId]) -> (bool, bool)
-    requires { labels.now.netlist ≡ core.now }
-{
-    let mut unknown: u32 = 0;
-    let mut odd = false;
-    for pin in pins {
-        match good(core, labels, *pin) {
-            Some(Tri::X) => unknown = unknown.saturating_add(1),
-            Some(Tri::One) => odd = !odd,
-            _ => {}
-        }
-    }
-    (unknown == 1, odd)
-}
-
 /// A pin of a parity gate, and the bit there: what gives the output its bit where only that pin is X.
 fn parity_pin(
     core: &Core,
@@ -218,8 +129,8 @@ fn parity_pin(
     requires { labels.now.netlist ≡ core.now }
 {
     let aim = cheapest_pin(core, guide, labels, pins)?;
-    let (is_last, odd) = others_of(core, labels, pins);
-    if is_last {
+    let (unknown, odd) = count_pins(core, labels, pins);
+    if unknown == 1 {
         return Some(Aim {
             signal: aim.signal,
             bit: bit != odd,
@@ -259,23 +170,6 @@ fn trace_back(core: &Core, guide: &Guide, labels: &PairSim, start: &Aim) -> Aim
         }
     }
     aim
-}
-
-/// The signal that comes onto a line.
-fn driver(core: &Core, line: &Line) -> SignalId {
-    match line {
-        Line::Stem(x) => *x,
-        Line::Out(x) => *x,
-        Line::Pin(z, k) => {
-            if z.index() >= signal_count(core) {
-                return *z;
-            }
-            match core.netlist().pins(*z).get(*k as usize) {
-                None => *z,
-                Some(x) => *x,
-            }
-        }
-    }
 }
 
 /// What a gate's pin should have so that an effect on another pin goes through.
@@ -320,14 +214,6 @@ fn consider(
         None => best,
         Some(aim) => Some(Front { gate, cost, aim }),
     }
-}
-
-/// The lines that read a signal.
-fn readers<'a>(core: &'a Core, signal: SignalId) -> &'a [Line] {
-    if signal.index() >= signal_count(core) {
-        return &[];
-    }
-    core.netlist().readers(signal)
 }
 
 /// The gates that read a signal with an effect.

@@ -1,10 +1,14 @@
 //! PODEM: a search on inputs and cells. (Goel, An implicit enumeration algorithm to generate tests, 1981.)
+//!
+//! Gives: `Podem`, an `Engine` that decides on inputs and cells.
+//! Proved: each answer is a test with its cube, a tree that shows the fault redundant, or a tree with as many Closed as the backtrack limit; the last
+//! never with a backtrack limit of 2 to the number of sources or more.
+//! Tested: that it comes to these answers, by rows of `calls`, most of them worked out by a plain program from all patterns.
+//! Neither: what guides it; time.
 #![tactic(auto)]
 
-mod effects;
 mod engine;
 mod guides;
-mod measures;
 mod searching;
 
 pub use engine::{Podem, PodemRoom};

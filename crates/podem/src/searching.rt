@@ -1,4 +1,13 @@
 //! The search from the path without decisions.
+//!
+//! Branch and bound over the bits of inputs and cells alone (Goel 1981). The D-algorithm (Roth 1966) decides on inner signals too, and then has
+//! to justify what it decided; here each decision can be had, and whether a path is closed is told by its labels.
+//!
+//! A turn looks at the other side of a decision before it goes to the wanted one. Where that is closed already, the decision is Forced and
+//! takes nothing from the backtrack limit; where it is a test, the search is over.
+//!
+//! The stack of decisions, each with what is known of its other side, stands for the tree at any time (`redundancy_cert::Side`). So nothing is
+//! recursive, and a search that gives up has its tree up to there.
 ghost use Rattle.std.specs.Prelude.{◌≡◌, ◌≤◌, ◌<◌, ◌+◌, ◌^◌, ℕ, [], ◌∷◌, length, IfOk, IfSome, OnOk, MatchOption, IsTrue, map, if◌then◌else◌};
 ghost use Rattle.std.specs.List.{All, Contains};
 ghost use Rattle.netlist.specs.declared.kinds.Tri.TheVariants.{X};
@@ -12,14 +21,13 @@ ghost use Rattle.netlist.specs.Holds.{AreHoldsOf};
 ghost use Rattle.podem.specs.Sources.{all_sources, sources, undecided, value_of, HasSourceEvidence};
 ghost use Rattle.podem.specs.inner.Searching.{IsAt, IsSearching, IsSeen, IsGone, IsKnownAt, MayEnter, MayClimb, IsWhole, IsTestAt, IsStepped, IsChosen, IsOfCase};
 
-use crate::effects::Effects;
-use crate::guides::{Aim, Guide, best_aim, signal_count};
-use crate::measures::Measures;
+use crate::guides::{Guide, best_aim};
 use cubes::Cube;
 use netlist::{Core, Fault, Holds, Point, SignalId, Tri};
 use pair_sim::{PairSim, State};
 use redundancy_cert::{Found, Node, Other, Side, Tree, Turn, end_side, whole_tree};
 use std::alloc::{AllocError, Global};
+use testability::{Aim, Effects, Measures, signal_count};
 
 /// What comes of a turn.
 #[derive(Drop)]

@@ -108,7 +108,7 @@ impl<'a> Checker<'a> {
     }
 }
 
-/// The check of one tree.
+/// The check of one tree, with a checker that is made for it. Who has many trees of a netlist makes one [`Checker`].
 pub fn check_tree(
     alloc: Global,
     core: &Core,

@@ -11,7 +11,6 @@ pub struct Counts {
     pub left_open: u64,
 }
 
-/// One node more is counted.
 pub(crate) fn count_node(counts: &mut Counts, node: &Node)
     requires closed { counts.old.closed < 2 ^ 63 }
     requires left_open { counts.old.left_open < 2 ^ 63 }

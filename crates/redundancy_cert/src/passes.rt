@@ -121,7 +121,7 @@ impl<'a> Pass<'a> {
         })
     }
 
-    /// What always stands.
+    /// A call that does nothing: it tells its caller what the type keeps.
     pub(crate) fn standing(&self)
         ensures { AreStanding self.now }
     {
@@ -209,7 +209,7 @@ impl<'a> Pass<'a> {
         }
     }
 
-    /// Whether the label is closed.
+    /// Whether no pattern that agrees with the decisions tells the fault: a decided bit is contradicted, or nothing observed may differ.
     pub(crate) fn is_closed(&self, fault: &Fault) -> bool
         requires line { IsLineOf self.now.netlist fault.now.line }
         requires stuck { self.now.fault ≡ Some fault.now }

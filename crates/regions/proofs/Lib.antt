@@ -8,3 +8,4 @@ pub mod Faults
 pub mod PathWords
 pub mod TurnedOver
 pub mod TurnedBits
+pub mod ControlWords

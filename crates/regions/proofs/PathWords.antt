@@ -1,18 +1,18 @@
 -- Words of the patterns under which paths are sensitized.
-use Rattle.std.proofs.Common.{◌≡◌, ℕ, zero, suc, ◌+◌, ◌<◌, ◌≤◌, Bool, true, false, ◌&&◌, cond, List, [], ◌∷◌, ◌++◌, map, take, length, get_or, set, refl, sym, ◌∙◌, ap, subst, inl, inr, arith, bit_and, bit_xor}
+use Rattle.std.proofs.Common.{◌≡◌, ℕ, zero, suc, ◌+◌, ◌<◌, ◌≤◌, Bool, true, false, ◌&&◌, cond, List, [], ◌∷◌, ◌++◌, map, take, drop, length, get_or, set, refl, sym, ◌∙◌, ap, subst, inl, inr, arith, bit_and, bit_xor}
 use Rattle.std.specs.List.{All, Contains, list_all}
 use Rattle.std.proofs.lemmas.Bool.{cases_eq, not_from_false}
-use Rattle.std.proofs.lemmas.List.{take_more, map-append, length-map, length-take-le, get_or_default, length-set, get_or-set_same, get_or-set_other}
+use Rattle.std.proofs.lemmas.List.{take-append-drop, take_more, map-append, length-map, length-take-le, get_or_default, length-set, get_or-set_same, get_or-set_other}
 use Rattle.netlist.specs.declared.kinds.Kind.{Kind}
 use Rattle.netlist.specs.declared.lines.Line.TheVariants.{Stem, Pin}
 use Rattle.netlist.specs.Conditions.{IsSound}
 use Rattle.netlist.specs.Lines.{IsLineOf}
-use Rattle.netlist.proofs.Lists.{All-from_contains, filter_contains, contains_filter, contains_map}
+use Rattle.netlist.proofs.Lists.{All-from_contains, filter_contains}
 use Rattle.netlist.specs.Orders.{IsOrder}
-use Rattle.netlist.proofs.Orders.{definition_high, gate_below}
-use Rattle.netlist.proofs.Placed.{same_definition, gate_defined, definition_below, signal_below, input_below}
+use Rattle.netlist.proofs.Orders.{definition_high}
+use Rattle.netlist.proofs.Placed.{same_definition, gate_defined, definition_below, signal_below}
 use Rattle.regions.proofs.Changing.{pin_signal}
-use Rattle.netlist.specs.Netlist.{Definition, Netlist, is_cell, is_gate, is_flip_flop, cells, gates, signals, IsGateAt}
+use Rattle.netlist.specs.Netlist.{Definition, Netlist, is_cell, is_gate, is_flip_flop, gates, signals, IsGateAt}
 use Rattle.netlist.specs.Settled.{at}
 use Rattle.events.specs.Words.{bit_of, ones}
 use Rattle.events.proofs.WordBits.{bit_of_and, bit_of_xor}
@@ -51,13 +51,34 @@ sides_there p (suc k) [] v ne = and_one (p v)
 sides_there p zero (u ∷ us) v ne = all_push p us v
 sides_there p (suc k) (u ∷ us) v ne = ap (λ b. p u && b) (sides_there p k us v (λ e. ne (omega arith))) ∙ sym (and_apart (p u) (list_all p (sides k us)) (p v))
 
--- the pins gone over so far
-abbrev pub AreSides : Kind → List ℕ → ℕ → List ℕ → ℕ → ℕ → Type 0
-AreSides kind pins place values k word = (j : ℕ) → j < 64 → bit_of j word ≡ list_all (is_noncontrolling kind) (sides place (map (bits_at values j) (take k pins)))
+-- values that pass with more values pass without them
+and_keeps : (a b c : Bool) → (b ≡ true → c ≡ true) → (a && b) ≡ true → (a && c) ≡ true
+and_keeps true b c h e = h e
+and_keeps false b c h e = e
 
-module _ (kind : Kind) (pins : List ℕ) (place : ℕ) (values : List ℕ) where
-  pub sides_begin : AreSides kind pins place values 0 ones
-  sides_begin j low = bit_ones j low ∙ sym (ap (list_all (is_noncontrolling kind)) (sides_none place))
+all_first : {V : Type 0} (p : V → Bool) (us vs : List V) → list_all p (us ++ vs) ≡ true → list_all p us ≡ true
+all_first p [] vs e = refl
+all_first p (u ∷ us) vs e = and_keeps (p u) (list_all p (us ++ vs)) (list_all p us) (all_first p us vs) e
+
+sides_first : {V : Type 0} (p : V → Bool) (k : ℕ) (us vs : List V) → list_all p (sides k (us ++ vs)) ≡ true → list_all p (sides k us) ≡ true
+sides_first p zero [] vs e = refl
+sides_first p (suc k) [] vs e = refl
+sides_first p zero (u ∷ us) vs e = all_first p us vs e
+sides_first p (suc k) (u ∷ us) vs e = and_keeps (p u) (list_all p (sides k (us ++ vs))) (list_all p (sides k us)) (sides_first p k us vs) e
+
+and_stays : (a b c : Bool) → (c ≡ true → b ≡ true) → (a && b) ≡ false → (a && c) ≡ false
+and_stays false b c h e = refl
+and_stays true b true h e = sym (h refl) ∙ e
+and_stays true b false h e = refl
+
+-- of some patterns those under which the pins gone over so far pass
+abbrev pub AreSides : Kind → List ℕ → ℕ → List ℕ → ℕ → ℕ → ℕ → Type 0
+AreSides kind pins place values among k word =
+    (j : ℕ) → j < 64 → bit_of j word ≡ (bit_of j among && list_all (is_noncontrolling kind) (sides place (map (bits_at values j) (take k pins))))
+
+module _ (kind : Kind) (pins : List ℕ) (place : ℕ) (values : List ℕ) (among : ℕ) where
+  pub sides_begin : AreSides kind pins place values among 0 among
+  sides_begin j low = sym (ap (λ bs. bit_of j among && list_all (is_noncontrolling kind) bs) (sides_none place) ∙ and_one (bit_of j among))
 
   more : (k x j : ℕ) → k < length pins → x ≡ get_or pins k x → map (bits_at values j) (take (k + 1) pins) ≡ map (bits_at values j) (take k pins) ++ bits_at values j x ∷ []
   more k x j l is =
@@ -67,19 +88,33 @@ module _ (kind : Kind) (pins : List ℕ) (place : ℕ) (values : List ℕ) where
   size : (k j : ℕ) → k < length pins → length (map (bits_at values j) (take k pins)) ≡ k
   size k j l = length-map (take k pins) (bits_at values j) ∙ length-take-le k pins (omega arith)
 
-  pub sides_skip : (k word : ℕ) → k < length pins → k ≡ place → AreSides kind pins place values k word → AreSides kind pins place values (k + 1) word
+  pub sides_skip : (k word : ℕ) → k < length pins → k ≡ place → AreSides kind pins place values among k word → AreSides kind pins place values among (k + 1) word
   sides_skip k word l e h j low =
       let x = get_or pins k 0 in
-      h j low ∙ sym (ap (λ bs. list_all (is_noncontrolling kind) (sides place bs)) (more k x j l (get_or_default pins k 0 x l))
-      ∙ sides_here (is_noncontrolling kind) place (map (bits_at values j) (take k pins)) (bits_at values j x) (size k j l ∙ e))
+      h j low ∙ sym (ap (λ bs. bit_of j among && list_all (is_noncontrolling kind) (sides place bs)) (more k x j l (get_or_default pins k 0 x l))
+      ∙ ap (λ b. bit_of j among && b) (sides_here (is_noncontrolling kind) place (map (bits_at values j) (take k pins)) (bits_at values j x) (size k j l ∙ e)))
 
   pub sides_more : (k word side x value : ℕ) → k < length pins → (k ≡ place → ⊥) → x ≡ get_or pins k x → value ≡ at values 0 x
-      → ((j : ℕ) → j < 64 → bit_of j side ≡ is_noncontrolling kind (bit_of j value)) → AreSides kind pins place values k word → AreSides kind pins place values (k + 1) (bit_and word side)
+      → ((j : ℕ) → j < 64 → bit_of j side ≡ is_noncontrolling kind (bit_of j value)) → AreSides kind pins place values among k word
+      → AreSides kind pins place values among (k + 1) (bit_and word side)
   sides_more k word side x value l ne is value_is s h j low =
+      let passed = list_all (is_noncontrolling kind) (sides place (map (bits_at values j) (take k pins))) in
       bit_of_and word side j ∙ (ap (λ b. b && bit_of j side) (h j low)
-      ∙ (ap (λ b. list_all (is_noncontrolling kind) (sides place (map (bits_at values j) (take k pins))) && b) (s j low ∙ ap (λ v. is_noncontrolling kind (bit_of j v)) value_is)
-      ∙ sym (ap (λ bs. list_all (is_noncontrolling kind) (sides place bs)) (more k x j l is)
-      ∙ sides_there (is_noncontrolling kind) place (map (bits_at values j) (take k pins)) (bits_at values j x) (λ e. ne (sym (size k j l) ∙ e)))))
+      ∙ (ap (λ b. (bit_of j among && passed) && b) (s j low ∙ ap (λ v. is_noncontrolling kind (bit_of j v)) value_is)
+      ∙ (and_apart (bit_of j among) passed (is_noncontrolling kind (bits_at values j x))
+      ∙ sym (ap (λ bs. bit_of j among && list_all (is_noncontrolling kind) (sides place bs)) (more k x j l is)
+      ∙ ap (λ b. bit_of j among && b) (sides_there (is_noncontrolling kind) place (map (bits_at values j) (take k pins)) (bits_at values j x) (λ e. ne (sym (size k j l) ∙ e)))))))
+
+  -- where no pattern is left none comes back
+  pub sides_end : (k word : ℕ) → word ≡ 0 → AreSides kind pins place values among k word
+      → (j : ℕ) → j < 64 → bit_of j 0 ≡ (bit_of j among && list_all (is_noncontrolling kind) (sides place (map (bits_at values j) pins)))
+  sides_end k word e h j low =
+      let f = bits_at values j in
+      let whole : map f (take k pins) ++ map f (drop k pins) ≡ map f pins = sym (map-append f (take k pins) (drop k pins)) ∙ ap (map f) (take-append-drop k pins) in
+      let so_far : (bit_of j among && list_all (is_noncontrolling kind) (sides place (map f (take k pins)))) ≡ false = sym (h j low) ∙ (ap (bit_of j) e ∙ bit_none j low) in
+      bit_none j low ∙ sym (and_stays (bit_of j among) (list_all (is_noncontrolling kind) (sides place (map f (take k pins)))) (list_all (is_noncontrolling kind) (sides place (map f pins)))
+      (λ t. sides_first (is_noncontrolling kind) place (map f (take k pins)) (map f (drop k pins)) (ap (λ bs. list_all (is_noncontrolling kind) (sides place bs)) whole ∙ t))
+      so_far)
 
 -- ---- paths
 
@@ -170,21 +205,30 @@ module _ (n : Netlist) (values heads opens : List ℕ) (are : AreOpen n values h
             ∙ ap (λ b. differ (bit_of j (at values 0 x)) value && b) (o.word_is j low));
       }
 
-  pub reach_pin : (d : Definition) (z k : ℕ) (value : Bool) (excited passes : ℕ) → Contains (gates n) d → d.id ≡ z → z < length (signals n) → k < length d.pins
+  reordered : (d o l : Bool) → ((d && o) && l) ≡ (d && (l && o))
+  reordered false o l = refl
+  reordered true true true = refl
+  reordered true true false = refl
+  reordered true false true = refl
+  reordered true false false = refl
+
+  pub reach_pin : (d : Definition) (z k : ℕ) (value : Bool) (excited word : ℕ) → Contains (gates n) d → d.id ≡ z → z < length (signals n) → k < length d.pins
       → excited ≡ bit_xor (at values 0 (get_or d.pins k 0)) (cond value ones 0)
-      → ((j : ℕ) → j < 64 → bit_of j passes ≡ list_all (is_noncontrolling d.kind) (sides k (map (bits_at values j) d.pins)))
-      → IsReachOf n values (Pin z k) value (get_or heads z 0) (bit_and excited (bit_and passes (get_or opens z 0)))
-  reach_pin d z k value excited passes g id l within e s =
+      → ((j : ℕ) → j < 64 → bit_of j word ≡ (bit_of j (bit_and excited (get_or opens z 0)) && list_all (is_noncontrolling d.kind) (sides k (map (bits_at values j) d.pins))))
+      → IsReachOf n values (Pin z k) value (get_or heads z 0) word
+  reach_pin d z k value excited word g id l within e s =
       let o = are.each z l in
-      let word = get_or opens z 0 in
+      let open' = get_or opens z 0 in
       record {
         path = record { gate = d; place = k } ∷ o.path;
         leads = (record { gate = g; id = id; place = refl; within = within }, o.leads);
         within = o.within;
-        word_is = λ j low. bit_of_and excited (bit_and passes word) j
-            ∙ (ap (λ b. b && bit_of j (bit_and passes word)) (ap (bit_of j) e ∙ excited_is j low (at values 0 (get_or d.pins k 0)) value)
-            ∙ ap (λ b. differ (bit_of j (at values 0 (get_or d.pins k 0))) value && b)
-            (bit_of_and passes word j ∙ (ap (λ b. b && bit_of j word) (s j low) ∙ ap (λ b. list_all (is_noncontrolling d.kind) (sides k (map (bits_at values j) d.pins)) && b) (o.word_is j low))));
+        word_is = λ j low.
+            let passes = list_all (is_noncontrolling d.kind) (sides k (map (bits_at values j) d.pins)) in
+            s j low ∙ (ap (λ b. b && passes) (bit_of_and excited open' j)
+            ∙ (ap (λ b. (b && bit_of j open') && passes) (ap (bit_of j) e ∙ excited_is j low (at values 0 (get_or d.pins k 0)) value)
+            ∙ (reordered (differ (bit_of j (at values 0 (get_or d.pins k 0))) value) (bit_of j open') passes
+            ∙ ap (λ b. differ (bit_of j (at values 0 (get_or d.pins k 0))) value && (passes && b)) (o.word_is j low))));
       }
 
 -- ---- what is read lies within
@@ -195,6 +239,17 @@ module _ (n : Netlist) (sound : IsSound n) where
 
   pub pins_low : (values : List ℕ) → length values ≡ length (signals n) → (d : Definition) → Contains n.definitions d → All (λ x. x < length values) d.pins
   pins_low values size d c = All-from_contains (λ x. x < length values) d.pins (λ x m. subst (λ k. x < k) (sym size) (signal_low x (pin_signal n sound d c x m)))
+
+  pub pin_low : (values : List ℕ) → length values ≡ length (signals n) → (d : Definition) → Contains n.definitions d → (k x : ℕ) → k < length d.pins → x ≡ get_or d.pins k x
+      → x < length values
+  pin_low values size d c k x l is = subst (λ y. y < length values) (sym is) (pins_low values size d c k x l)
+
+  pub gate_low : (x : ℕ) → IsGateAt n x → (length n.inputs ≤ x) × (x < length (signals n))
+  gate_low x w =
+      let c = gate_defined n sound.formed.numbered w.0 w.1 in (
+        subst (λ y. length n.inputs ≤ y) w.2 (definition_high n sound.formed.numbered w.0 c),
+        subst (λ y. y < length (signals n)) w.2 (definition_below n sound.formed.numbered w.0 c),
+      )
 
   pub reader_low : (x z k : ℕ) → IsReadOnlyAt n x z k → (length n.inputs ≤ z) × (z < length (signals n))
   reader_low x z k r =
@@ -234,20 +289,8 @@ module _ (n : Netlist) (sound : IsSound n) where
 pub read_here : (xs : List ℕ) (i z v : ℕ) → i ≡ z → z < length xs → v ≡ get_or xs i v → v ≡ get_or xs z 0
 read_here xs i z v e l is = is ∙ (ap (λ k. get_or xs k v) e ∙ get_or_default xs z v 0 l)
 
--- ---- the signals gone over
+-- ---- the gates gone over
 
 module _ (n m : Netlist) (sound : IsSound m) (same : m ≡ n) where
-  pub order_low : (order : List ℕ) (k x : ℕ) → IsOrder n order → k < length order → x ≡ get_or order k x → x < length (signals m)
-  order_low order k x o l is =
-      gate_below m sound.formed.numbered x (subst (λ (s : Netlist). IsGateAt s x) (sym same) (subst (IsGateAt n) (sym is) (o.members k x l)))
-
-  pub input_low : (ids : List ℕ) (k x : ℕ) → ids ≡ m.inputs → k < length ids → x ≡ get_or ids k x → x < length (signals m)
-  input_low ids k x e l is =
-      let c : Contains ids x = (k, l, sym is) in
-      input_below m sound.formed.numbered x (subst (λ (xs : List ℕ). Contains xs x) e c)
-
-  pub cell_low : (ids : List ℕ) (k x : ℕ) → ids ≡ map (λ (d : Definition). d.id) (cells m) → k < length ids → x ≡ get_or ids k x → x < length (signals m)
-  cell_low ids k x e l is =
-      let c : Contains ids x = (k, l, sym is) in
-      let w = contains_map (λ (d : Definition). d.id) (cells m) x (subst (λ (xs : List ℕ). Contains xs x) e c) in
-      subst (λ y. y < length (signals m)) w.2 (definition_below m sound.formed.numbered w.0 (contains_filter is_cell m.definitions w.0 w.1).0)
+  pub order_gate : (order : List ℕ) (k x : ℕ) → IsOrder n order → k < length order → x ≡ get_or order k x → IsGateAt m x
+  order_gate order k x o l is = subst (λ (s : Netlist). IsGateAt s x) (sym same) (subst (IsGateAt n) (sym is) (o.members k x l))

@@ -3,3 +3,4 @@ pub mod Regions
 pub mod Sensitized
 pub mod Laws
 pub mod Paths
+pub mod inner

@@ -1,7 +1,7 @@
 -- Values settled where the stem of one signal turns its value over.
 -- (Parallel-pattern single fault propagation from the head of a fanout-free region: Antreich and Schulz, Accelerated fault simulation and
 -- fault grading in combinational circuits, 1987.)
-use Rattle.std.specs.Prelude.{ℕ, ◌≡◌, ◌<◌, Bool, not, cond, List, map, bit_xor, if◌then◌else◌}
+use Rattle.std.specs.Prelude.{ℕ, ◌<◌, Bool, not, cond, List, map, bit_xor, if◌then◌else◌}
 use Rattle.netlist.specs.declared.lines.Line.TheVariants.{Stem}
 use Rattle.netlist.specs.Gates.{gate_bit}
 use Rattle.netlist.specs.Netlist.{Netlist}

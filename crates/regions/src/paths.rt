@@ -1,13 +1,16 @@
 //! For each signal the head of its region, and the patterns under which its path to the head is sensitized.
 ghost use Rattle.std.specs.Prelude.{◌≡◌, ◌<◌, ◌≤◌, length, IfOk, IfSome};
+ghost use Rattle.std.specs.List.{Contains};
 ghost use Rattle.netlist.specs.Lines.{IsLineOf};
-ghost use Rattle.netlist.specs.Netlist.{signals};
+ghost use Rattle.netlist.specs.Netlist.{signals, IsGateAt};
 ghost use Rattle.netlist.specs.Conditions.{most_signals};
 ghost use Rattle.regions.specs.Paths.{AreClosed, AreOpen, IsReach, IsReachOf};
+ghost use Rattle.regions.specs.inner.Controlled.{AreControlled};
 
-use crate::passing::{known, passing};
-use crate::readers::{is_flip_flop, only_reader};
-use netlist::{Core, Fault, Line, Netlist, SignalId};
+use crate::controlling::Controlling;
+use crate::passing::{known, noncontrolling, passing};
+use crate::readers::{is_flip_flop, reads_alone};
+use netlist::{Core, Definition, Fault, Line, Netlist, SignalId};
 use std::alloc::{AllocError, Global};
 
 /// A head and a word for each signal.
@@ -29,28 +32,66 @@ fn close(heads: &mut Vec<SignalId>, opens: &mut Vec<u64>)
     }
 }
 
-/// Where one gate's pin alone reads a signal, its path goes on from the gate.
+/// Where this pin alone reads its signal, the signal's path goes on from the gate.
 #[inline(always)]
-fn open_one(
+fn open_pin(
     netlist: &Netlist,
     values: &[u64],
-    id: SignalId,
+    definition: &Definition,
+    place: usize,
+    controlling: Controlling,
     heads: &mut Vec<SignalId>,
     opens: &mut Vec<u64>,
 )
-    requires within { id < length (signals netlist.now) }
+    requires member { Contains netlist.now.definitions definition.now }
+    requires place { place < length definition.now.pins }
+    requires size { length values.now ≡ length (signals netlist.now) }
+    requires controlled { AreControlled definition.now.kind definition.now.pins values.now controlling.one controlling.two }
+    requires open { AreOpen netlist.now values.now heads.old.items opens.old.items }
+    ensures { AreOpen netlist.now values.now heads.new.items opens.new.items }
+{
+    netlist.sound();
+    let pins = definition.pins();
+    let id = pins[place];
+    let gate = definition.id();
+    if !reads_alone(netlist, gate, place, id) {
+        return;
+    }
+    let side = noncontrolling(definition.kind(), values[id.index()]);
+    let passes = controlling.passing(side);
+    opens[id.index()] = opens[gate.index()] & passes;
+    heads[id.index()] = heads[gate.index()];
+}
+
+/// The paths of the signals that the pins of a gate alone read go on from the gate.
+#[inline(always)]
+fn open_gate(
+    netlist: &Netlist,
+    values: &[u64],
+    gate: SignalId,
+    heads: &mut Vec<SignalId>,
+    opens: &mut Vec<u64>,
+)
+    requires gate { IsGateAt netlist.now gate }
     requires size { length values.now ≡ length (signals netlist.now) }
     requires open { AreOpen netlist.now values.now heads.old.items opens.old.items }
     ensures { AreOpen netlist.now values.now heads.new.items opens.new.items }
 {
     netlist.sound();
-    let Some((gate, place)) = only_reader(netlist, id) else {
-        return;
-    };
     let definition = netlist.definition(gate);
-    let word = passing(definition.kind(), definition.pins(), place as usize, values);
-    opens[id.index()] = opens[gate.index()] & word;
-    heads[id.index()] = heads[gate.index()];
+    let pins = definition.pins();
+    let controlling = Controlling::of(definition.kind(), pins, values);
+    for place in 0..pins.len() {
+        open_pin(
+            netlist,
+            values,
+            definition,
+            place,
+            controlling,
+            heads,
+            opens,
+        );
+    }
 }
 
 impl Paths {
@@ -66,7 +107,7 @@ impl Paths {
         Ok(Paths { heads, opens })
     }
 
-    /// The heads and words for these values: one pass back over the gates, and then the inputs and cells.
+    /// The heads and words for these values: one pass back over the gates.
     pub fn open(&mut self, core: &Core, values: &[u64])
         requires size { length values.now ≡ length (signals core.now) }
         requires heads { length self.old.heads.items ≡ length (signals core.now) }
@@ -78,13 +119,7 @@ impl Paths {
         close(&mut self.heads, &mut self.opens);
         let order = core.order();
         for k in (0..order.len()).rev() {
-            open_one(netlist, values, order[k], &mut self.heads, &mut self.opens);
-        }
-        for id in netlist.inputs() {
-            open_one(netlist, values, *id, &mut self.heads, &mut self.opens);
-        }
-        for id in netlist.cells() {
-            open_one(netlist, values, *id, &mut self.heads, &mut self.opens);
+            open_gate(netlist, values, order[k], &mut self.heads, &mut self.opens);
         }
     }
 
@@ -127,9 +162,9 @@ impl Paths {
         }
         let pins = definition.pins();
         let excited = values[pins[place].index()] ^ known(value);
-        let passes = passing(definition.kind(), pins, place, values);
-        let open = passes & self.opens[gate.index()];
-        Some((self.heads[gate.index()], excited & open))
+        let open = excited & self.opens[gate.index()];
+        let word = passing(definition.kind(), pins, place, values, open);
+        Some((self.heads[gate.index()], word))
     }
 
     /// The head that a fault may reach, and the patterns under which it does; none for a line that only an observed point reads.

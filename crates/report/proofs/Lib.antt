@@ -1,4 +1,5 @@
 pub mod ByteLemmas
+pub mod CountLemmas
 pub mod FaultLemmas
 pub mod HoldLemmas
 pub mod LineLemmas

@@ -5,7 +5,8 @@ use Rattle.std.proofs.lemmas.Fmt.{decimal_digit, decimal_injective}
 use Rattle.std.proofs.lemmas.List.{append-nil}
 use Rattle.std.proofs.lemmas.List.Elements.{All-head, All-nil, All-tail}
 use Rattle.plain_text.proofs.Parts.{byte_inside, same_parts}
-use Rattle.report.specs.Texts.{count_line, counts_text, hundredths, share_line}
+use Rattle.report.specs.Texts.{count_line, hundredths, share_line}
+use Rattle.report.specs.inner.Counts.{some_counts}
 use Rattle.report.specs.inner.Lines.{NoneBegins, IsCount, IsShare, count_end, share_end}
 use Rattle.report.proofs.ByteLemmas.{Above, above_append, above_cons, above_lacks, above_less, number_above}
 use Rattle.report.proofs.LineLemmas.{IsLined, IsTold, behind_told, line_told}
@@ -20,51 +21,51 @@ count_told word =
     (line_told IsCount decimal count_end count_lined (λ x y v w e. decimal_injective x y v w e))
 
 pub counts_told : (ws : List (List ℕ)) (cs ds r s : List ℕ) → length cs ≡ length ws → length ds ≡ length ws → All IsCount cs → All IsCount ds
-    → counts_text ws cs ++ r ≡ counts_text ws ds ++ s → (cs ≡ ds) × (r ≡ s)
+    → some_counts ws cs ++ r ≡ some_counts ws ds ++ s → (cs ≡ ds) × (r ≡ s)
 counts_told [] [] [] r s a b v w e = (refl, e)
 counts_told [] [] (d ∷ ds) r s a b v w e = absurd (omega arith)
 counts_told [] (c ∷ cs) ds r s a b v w e = absurd (omega arith)
 counts_told (x ∷ ws) [] ds r s a b v w e = absurd (omega arith)
 counts_told (x ∷ ws) (c ∷ cs) [] r s a b v w e = absurd (omega arith)
 counts_told (x ∷ ws) (c ∷ cs) (d ∷ ds) r s a b v w e =
-    let first = count_told x c d (counts_text ws cs ++ r) (counts_text ws ds ++ s) (All-head IsCount c cs v) (All-head IsCount d ds w)
-    (sym (append_assoc (count_line x c) (counts_text ws cs) r) ∙ (e ∙ append_assoc (count_line x d) (counts_text ws ds) s)) in
+    let first = count_told x c d (some_counts ws cs ++ r) (some_counts ws ds ++ s) (All-head IsCount c cs v) (All-head IsCount d ds w)
+    (sym (append_assoc (count_line x c) (some_counts ws cs) r) ∙ (e ∙ append_assoc (count_line x d) (some_counts ws ds) s)) in
     let others = counts_told ws cs ds r s (omega arith) (omega arith) (All-tail IsCount c cs v) (All-tail IsCount d ds w) first.1 in
     (ap (λ k. k ∷ cs) first.0 ∙ ap (λ ks. d ∷ ks) others.0, others.1)
 
 -- the line of the next word is no count's
 pub no_counts : (ws : List (List ℕ)) (found cs rest r w : List ℕ) → slice_get ws (length found) ≡ Some w → length found < length cs
-    → All IsCount found → All IsCount cs → NoneBegins IsCount (count_line w) rest → counts_text ws found ++ rest ≢ counts_text ws cs ++ r
+    → All IsCount found → All IsCount cs → NoneBegins IsCount (count_line w) rest → some_counts ws found ++ rest ≢ some_counts ws cs ++ r
 no_counts [] found cs rest r w p l v u none e = cc
 no_counts (x ∷ ws) [] [] rest r w p l v u none e = absurd (omega arith)
 no_counts (x ∷ ws) [] (c ∷ cs) rest r w p l v u none e =
     let same : x ≡ w = cc in
-    none c (counts_text ws cs ++ r) (All-head IsCount c cs u)
-    (e ∙ (append_assoc (count_line x c) (counts_text ws cs) r ∙ ap (λ y. count_line y c ++ (counts_text ws cs ++ r)) same))
+    none c (some_counts ws cs ++ r) (All-head IsCount c cs u)
+    (e ∙ (append_assoc (count_line x c) (some_counts ws cs) r ∙ ap (λ y. count_line y c ++ (some_counts ws cs ++ r)) same))
 no_counts (x ∷ ws) (d ∷ found) [] rest r w p l v u none e = absurd (omega arith)
 no_counts (x ∷ ws) (d ∷ found) (c ∷ cs) rest r w p l v u none e =
-    let first = count_told x d c (counts_text ws found ++ rest) (counts_text ws cs ++ r) (All-head IsCount d found v) (All-head IsCount c cs u)
-    (sym (append_assoc (count_line x d) (counts_text ws found) rest) ∙ (e ∙ append_assoc (count_line x c) (counts_text ws cs) r)) in
+    let first = count_told x d c (some_counts ws found ++ rest) (some_counts ws cs ++ r) (All-head IsCount d found v) (All-head IsCount c cs u)
+    (sym (append_assoc (count_line x d) (some_counts ws found) rest) ∙ (e ∙ append_assoc (count_line x c) (some_counts ws cs) r)) in
     no_counts ws found cs rest r w p (omega arith) (All-tail IsCount d found v) (All-tail IsCount c cs u) none first.1
 
 -- one count more
-counts_none : (ws : List (List ℕ)) → counts_text ws [] ≡ []
+counts_none : (ws : List (List ℕ)) → some_counts ws [] ≡ []
 counts_none [] = refl
 counts_none (w ∷ ws) = refl
 
-counts_more : (ws : List (List ℕ)) (cs w : List ℕ) (c : ℕ) → slice_get ws (length cs) ≡ Some w → counts_text ws (cs ++ c ∷ []) ≡ counts_text ws cs ++ count_line w c
+counts_more : (ws : List (List ℕ)) (cs w : List ℕ) (c : ℕ) → slice_get ws (length cs) ≡ Some w → some_counts ws (cs ++ c ∷ []) ≡ some_counts ws cs ++ count_line w c
 counts_more [] cs w c p = cc
 counts_more (x ∷ ws) [] w c p =
     let same : x ≡ w = cc in
     ap (λ t. count_line x c ++ t) (counts_none ws) ∙ (append-nil (count_line x c) ∙ ap (λ y. count_line y c) same)
 counts_more (x ∷ ws) (d ∷ cs) w c p =
-    ap (λ t. count_line x d ++ t) (counts_more ws cs w c p) ∙ sym (append_assoc (count_line x d) (counts_text ws cs) (count_line w c))
+    ap (λ t. count_line x d ++ t) (counts_more ws cs w c p) ∙ sym (append_assoc (count_line x d) (some_counts ws cs) (count_line w c))
 
-pub next_count_read : (ws : List (List ℕ)) (cs ds w text rest after : List ℕ) (c : ℕ) → slice_get ws (length cs) ≡ Some w → text ≡ counts_text ws cs ++ rest
-    → rest ≡ count_line w c ++ after → ds ≡ cs ++ c ∷ [] → text ≡ counts_text ws ds ++ after
+pub next_count_read : (ws : List (List ℕ)) (cs ds w text rest after : List ℕ) (c : ℕ) → slice_get ws (length cs) ≡ Some w → text ≡ some_counts ws cs ++ rest
+    → rest ≡ count_line w c ++ after → ds ≡ cs ++ c ∷ [] → text ≡ some_counts ws ds ++ after
 next_count_read ws cs ds w text rest after c p t e d =
-    t ∙ (ap (λ u. counts_text ws cs ++ u) e ∙ (sym (append_assoc (counts_text ws cs) (count_line w c) after)
-    ∙ ap (λ u. u ++ after) (sym (counts_more ws cs w c p) ∙ ap (counts_text ws) (sym d))))
+    t ∙ (ap (λ u. some_counts ws cs ++ u) e ∙ (sym (append_assoc (some_counts ws cs) (count_line w c) after)
+    ∙ ap (λ u. u ++ after) (sym (counts_more ws cs w c p) ∙ ap (some_counts ws) (sym d))))
 
 -- shares
 hundredths_is : (n : ℕ) → hundredths n ≡ decimal (n / 100) ++ 46 ∷ (48 + n / 10 % 10) ∷ (48 + n % 10) ∷ []

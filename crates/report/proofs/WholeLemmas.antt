@@ -5,12 +5,15 @@ use Rattle.std.specs.List.{All, flat_map}
 use Rattle.std.proofs.lemmas.Bool.{false≢true}
 use Rattle.std.proofs.lemmas.List.{append-nil, append_cancel_left}
 use Rattle.std.proofs.lemmas.List.Elements.{All-head}
+use Rattle.report.specs.declared.counts.ReportCounts.{ReportCounts}
+use Rattle.report.specs.Counts.{AreSmallCounts}
 use Rattle.report.specs.Reports.{Hold, IsFaultText, IsLine, IsReport, Line, Report, at_stem, at_output, at_pin}
-use Rattle.report.specs.Texts.{count_words, counts_text, fault_line, head, hold_line, outcome_text, report_text, share_line}
-use Rattle.report.specs.inner.Lines.{AreCounts, Begins, IsHold, IsShare, NoneBegins, hold_words, fault_words, some_held, version_line}
+use Rattle.report.specs.Texts.{counts_text, fault_line, head, hold_line, outcome_text, report_text, share_line}
+use Rattle.report.specs.inner.Lines.{Begins, IsHold, IsShare, NoneBegins, hold_words, fault_words, some_held, version_line}
 use Rattle.report.proofs.HoldLemmas.{hold_lined, hold_told}
 use Rattle.report.proofs.LineLemmas.{nothing_begins, same_lines}
-use Rattle.report.proofs.NumberLemmas.{counts_told, share_told}
+use Rattle.report.proofs.CountLemmas.{all_counts_told}
+use Rattle.report.proofs.NumberLemmas.{share_told}
 use Rattle.report.proofs.OutcomeLemmas.{fault_lined, fault_told}
 
 pub version_told : (a b : Bool) (r s : List ℕ) → version_line a ++ r ≡ version_line b ++ s → (a ≡ b) × (r ≡ s)
@@ -71,7 +74,7 @@ abbrev pub behind_counts : Report → List ℕ
 behind_counts r = share_line (codes "coverage ") r.coverage ++ behind_coverage r
 
 abbrev pub behind_head : Report → List ℕ
-behind_head r = counts_text count_words r.counts ++ behind_counts r
+behind_head r = counts_text r.counts ++ behind_counts r
 
 pub report_text_is : (r : Report) → report_text r ≡ version_line (some_held r.holds) ++ behind_head r
 report_text_is r = ap (λ t. t ++ behind_head r) (head_is r.holds)
@@ -79,9 +82,9 @@ report_text_is r = ap (λ t. t ++ behind_head r) (head_is r.holds)
 pub after_head : (r : Report) (bytes rest : List ℕ) (held : Bool) → bytes ≡ report_text r → bytes ≡ version_line held ++ rest → (held ≡ some_held r.holds) × (rest ≡ behind_head r)
 after_head r bytes rest held e is = version_told held (some_held r.holds) rest (behind_head r) (sym is ∙ (e ∙ report_text_is r))
 
-pub after_counts : (r : Report) (text rest cs : List ℕ) → IsReport r → text ≡ behind_head r → Begins AreCounts (counts_text count_words) text cs rest
-    → (cs ≡ r.counts) × (rest ≡ behind_counts r)
-after_counts r text rest cs v e is = counts_told count_words cs r.counts rest (behind_counts r) is.0.0 v.size is.0.1 v.small (sym is.1 ∙ e)
+pub after_counts : (r : Report) (text rest : List ℕ) (c : ReportCounts) → IsReport r → text ≡ behind_head r → Begins AreSmallCounts counts_text text c rest
+    → (c ≡ r.counts) × (rest ≡ behind_counts r)
+after_counts r text rest c v e is = all_counts_told c r.counts rest (behind_counts r) is.0 v.counts (sym is.1 ∙ e)
 
 pub after_coverage : (r : Report) (text rest : List ℕ) (n : ℕ) → IsReport r → text ≡ behind_counts r → Begins IsShare (share_line (codes "coverage ")) text n rest
     → (n ≡ r.coverage) × (rest ≡ behind_coverage r)
@@ -95,27 +98,27 @@ after_efficiency r text rest n v e is = share_told (codes "efficiency ") n r.eff
 pub same_report : (r s : Report) → IsReport r → IsReport s → report_text r ≡ report_text s → r ≡ s
 same_report r s v w e =
     let heads = after_head s (report_text r) (behind_head r) (some_held r.holds) e (report_text_is r) in
-    let counts = after_counts s (behind_head r) (behind_counts r) r.counts w heads.1 ((v.size, v.small), refl) in
+    let counts = after_counts s (behind_head r) (behind_counts r) r.counts w heads.1 (v.counts, refl) in
     let coverage = after_coverage s (behind_counts r) (behind_coverage r) r.coverage w counts.1 (v.coverage, refl) in
     let efficiency = after_efficiency s (behind_coverage r) (behind_shares r) r.efficiency w coverage.1 (v.efficiency, refl) in
     let tables = tables_told r.holds (flat_map fault_line r.lines) s.holds s.lines v.holds (no_hold_begins r.lines v.lines) w.holds w.lines efficiency.1 in
     let faults = faults_told r.lines s.lines [] v.lines w.lines no_fault_begins (append-nil (flat_map fault_line r.lines) ∙ tables.1) in
-    ap (λ (k : List ℕ). record { counts = k; coverage = r.coverage; efficiency = r.efficiency; holds = r.holds; lines = r.lines }) counts.0
+    ap (λ (k : ReportCounts). record { counts = k; coverage = r.coverage; efficiency = r.efficiency; holds = r.holds; lines = r.lines }) counts.0
     ∙ (ap (λ (k : ℕ). record { counts = s.counts; coverage = k; efficiency = r.efficiency; holds = r.holds; lines = r.lines }) coverage.0
     ∙ (ap (λ (k : ℕ). record { counts = s.counts; coverage = s.coverage; efficiency = k; holds = r.holds; lines = r.lines }) efficiency.0
     ∙ (ap (λ (hs : List Hold). record { counts = s.counts; coverage = s.coverage; efficiency = s.efficiency; holds = hs; lines = r.lines }) tables.0
     ∙ ap (λ (ls : List Line). record { counts = s.counts; coverage = s.coverage; efficiency = s.efficiency; holds = s.holds; lines = ls }) faults.0)))
 
 -- what was read part by part is a report with this text
-pub whole_found : (bytes a b c d : List ℕ) (held : Bool) (counts : List ℕ) (coverage efficiency : ℕ) (hs : List Hold) (ls : List Line)
-    → bytes ≡ version_line held ++ a → Begins AreCounts (counts_text count_words) a counts b → Begins IsShare (share_line (codes "coverage ")) b coverage c
+pub whole_found : (bytes a b c d : List ℕ) (held : Bool) (counts : ReportCounts) (coverage efficiency : ℕ) (hs : List Hold) (ls : List Line)
+    → bytes ≡ version_line held ++ a → Begins AreSmallCounts counts_text a counts b → Begins IsShare (share_line (codes "coverage ")) b coverage c
     → Begins IsShare (share_line (codes "efficiency ")) c efficiency d
     → All IsHold hs × All IsLine ls × (held ≡ some_held hs) × (d ≡ flat_map hold_line hs ++ flat_map fault_line ls)
     → IsReport (record { counts = counts; coverage = coverage; efficiency = efficiency; holds = hs; lines = ls })
     × (bytes ≡ report_text (record { counts = counts; coverage = coverage; efficiency = efficiency; holds = hs; lines = ls }))
 whole_found bytes a b c d held counts coverage efficiency hs ls v p q r t = (
-  record { size = p.0.0; small = p.0.1; coverage = q.0; efficiency = r.0; holds = t.0; lines = t.1 },
+  record { counts = p.0; coverage = q.0; efficiency = r.0; holds = t.0; lines = t.1 },
   v ∙ (ap (λ h. version_line h ++ a) t.2 ∙ (ap (λ u. u ++ a) (sym (head_is hs))
-      ∙ ap (λ u. head hs ++ u) (p.1 ∙ ap (λ u. counts_text count_words counts ++ u)
+      ∙ ap (λ u. head hs ++ u) (p.1 ∙ ap (λ u. counts_text counts ++ u)
       (q.1 ∙ ap (λ u. share_line (codes "coverage ") coverage ++ u) (r.1 ∙ ap (λ u. share_line (codes "efficiency ") efficiency ++ u) t.3))))),
 )

@@ -4,7 +4,8 @@ use Rattle.std.proofs.lemmas.List.{append-nil}
 use Rattle.std.specs.List.{flat_map, slice_get}
 use Rattle.std.proofs.lemmas.Grind.{flat_map-append}
 use Rattle.report.specs.Reports.{Hold}
-use Rattle.report.specs.Texts.{count_line, counts_text, head}
+use Rattle.report.specs.Texts.{count_line, head}
+use Rattle.report.specs.inner.Counts.{some_counts}
 
 next_take : {X : Type 0} (xs : List X) (k : ℕ) (x : X) → slice_get xs k ≡ Some x → take (suc k) xs ≡ take k xs ++ x ∷ []
 next_take [] k x e = cc
@@ -20,12 +21,12 @@ next_written f xs k x old out new e o n =
     ∙ ap (λ t. old ++ t) (ap (λ t. flat_map f (take k xs) ++ t) (sym (append-nil (f x)))
     ∙ (sym (flat_map-append f (take k xs) (x ∷ [])) ∙ ap (flat_map f) (sym (next_take xs k x e) ∙ ap (λ i. take i xs) (sym one))))))
 
-counts_none : (ws : List (List ℕ)) → counts_text ws [] ≡ []
+counts_none : (ws : List (List ℕ)) → some_counts ws [] ≡ []
 counts_none [] = refl
 counts_none (w ∷ ws) = refl
 
 next_count : (ws : List (List ℕ)) (cs : List ℕ) (k : ℕ) (w : List ℕ) (c : ℕ) → slice_get ws k ≡ Some w → slice_get cs k ≡ Some c
-    → counts_text ws (take (suc k) cs) ≡ counts_text ws (take k cs) ++ count_line w c
+    → some_counts ws (take (suc k) cs) ≡ some_counts ws (take k cs) ++ count_line w c
 next_count [] cs k w c p q = cc
 next_count (v ∷ ws) [] k w c p q = cc
 next_count (v ∷ ws) (d ∷ cs) zero w c p q =
@@ -33,15 +34,15 @@ next_count (v ∷ ws) (d ∷ cs) zero w c p q =
     let f : d ≡ c = cc in
     ap (λ t. count_line v d ++ t) (counts_none ws) ∙ append-nil (count_line v d) ∙ (ap (λ t. count_line t d) e ∙ ap (λ t. count_line w t) f)
 next_count (v ∷ ws) (d ∷ cs) (suc k) w c p q =
-    ap (λ t. count_line v d ++ t) (next_count ws cs k w c p q) ∙ sym (append_assoc (count_line v d) (counts_text ws (take k cs)) (count_line w c))
+    ap (λ t. count_line v d ++ t) (next_count ws cs k w c p q) ∙ sym (append_assoc (count_line v d) (some_counts ws (take k cs)) (count_line w c))
 
 pub next_counts_written : (ws : List (List ℕ)) (cs : List ℕ) (k : ℕ) (w : List ℕ) (c : ℕ) (old out new : List ℕ)
-    → slice_get ws k ≡ Some w → slice_get cs k ≡ Some c → out ≡ old ++ counts_text ws (take k cs) → new ≡ out ++ count_line w c
-    → new ≡ old ++ counts_text ws (take (k + 1) cs)
+    → slice_get ws k ≡ Some w → slice_get cs k ≡ Some c → out ≡ old ++ some_counts ws (take k cs) → new ≡ out ++ count_line w c
+    → new ≡ old ++ some_counts ws (take (k + 1) cs)
 next_counts_written ws cs k w c old out new p q o n =
     let one : k + 1 ≡ suc k = add-one k in
-    n ∙ (ap (λ t. t ++ count_line w c) o ∙ (append_assoc old (counts_text ws (take k cs)) (count_line w c)
-    ∙ ap (λ t. old ++ t) (sym (next_count ws cs k w c p q) ∙ ap (λ i. counts_text ws (take i cs)) (sym one))))
+    n ∙ (ap (λ t. t ++ count_line w c) o ∙ (append_assoc old (some_counts ws (take k cs)) (count_line w c)
+    ∙ ap (λ t. old ++ t) (sym (next_count ws cs k w c p q) ∙ ap (λ i. some_counts ws (take i cs)) (sym one))))
 
 pub first_head : (hs : List Hold) → length hs ≡ 0 → head hs ≡ codes "atpg report 1\n"
 first_head [] e = refl

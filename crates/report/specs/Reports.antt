@@ -3,8 +3,10 @@ use Rattle.std.specs.Prelude.{ℕ, ◌≡◌, ◌<◌, ◌^◌, ◌/◌, ◌++�
 use Rattle.std.specs.List.{All}
 use Rattle.netlist.specs.Names.{is_name_byte}
 use Rattle.fault_universe.specs.Texts.{value_text}
+use Rattle.report.specs.declared.counts.ReportCounts.{ReportCounts}
 use Rattle.report.specs.declared.outcomes.Outcome.{Outcome}
 use Rattle.report.specs.declared.outcomes.Outcome.TheVariants.{Detected, Redundant, Aborted}
+use Rattle.report.specs.Counts.{AreSmallCounts}
 
 -- A line of a fault: its text, what came of it, and where it is detected the name of the pin.
 pub record Line : Type 0 where
@@ -19,14 +21,11 @@ pub record Hold : Type 0 where
 
 -- Fourteen counts, two shares in hundredths of a percent, the inputs that are held, and a line for each fault.
 pub record Report : Type 0 where
-  pub counts : List ℕ
+  pub counts : ReportCounts
   pub coverage : ℕ
   pub efficiency : ℕ
   pub holds : List Hold
   pub lines : List Line
-
-abbrev pub count_of_counts : ℕ
-count_of_counts = 14
 
 -- a name of .bench's bytes, however long
 pub record IsWord (name : List ℕ) : Type 0 where
@@ -67,8 +66,7 @@ pub record IsLine (l : Line) : Type 0 where
 
 -- what every report is
 pub record IsReport (r : Report) : Type 0 where
-  pub size : length r.counts ≡ count_of_counts
-  pub small : All (λ k. k < 2 ^ 64) r.counts
+  pub counts : AreSmallCounts r.counts
   pub coverage : r.coverage / 100 < 2 ^ 64
   pub efficiency : r.efficiency / 100 < 2 ^ 64
   pub holds : All (λ (h : Hold). IsWord h.name) r.holds

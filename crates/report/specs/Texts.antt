@@ -1,14 +1,11 @@
 -- Reports as texts, which stand for them byte for byte.
 use Rattle.std.specs.Prelude.{ℕ, ◌/◌, ◌%◌, if◌then◌else◌, List, [], ◌∷◌, ◌++◌, codes, decimal}
-use Rattle.std.specs.List.{flat_map, zip}
+use Rattle.std.specs.List.{flat_map}
+use Rattle.report.specs.declared.counts.ReportCounts.{ReportCounts}
 use Rattle.report.specs.declared.outcomes.Outcome.{Outcome}
 use Rattle.report.specs.declared.outcomes.Outcome.TheVariants.{Detected, Redundant, Aborted}
+use Rattle.report.specs.Counts.{worded}
 use Rattle.report.specs.Reports.{Line, Hold, Report}
-
--- the words of the counts, in order
-abbrev pub count_words : List (List ℕ)
-count_words = codes "inputs " ∷ codes "outputs " ∷ codes "gates " ∷ codes "cells " ∷ codes "chains " ∷ codes "faults " ∷ codes "classes "
-    ∷ codes "patterns " ∷ codes "cycles " ∷ codes "limit " ∷ codes "detected " ∷ codes "redundant " ∷ codes "aborted " ∷ codes "untested " ∷ []
 
 -- `inputs 5`
 abbrev pub count_line : List ℕ → ℕ → List ℕ
@@ -40,13 +37,13 @@ abbrev pub head : List Hold → List ℕ
 head [] = codes "atpg report 1\n"
 head (h ∷ hs) = codes "atpg report 2\n"
 
-abbrev pub counts_text : List (List ℕ) → List ℕ → List ℕ
-counts_text words counts = flat_map (λ p. count_line p.0 p.1) (zip words counts)
+abbrev pub counts_text : ReportCounts → List ℕ
+counts_text c = flat_map (λ p. count_line p.0 p.1) (worded c)
 
 abbrev pub report_text : Report → List ℕ
 report_text r =
     head r.holds
-    ++ (counts_text count_words r.counts
+    ++ (counts_text r.counts
     ++ (share_line (codes "coverage ") r.coverage
     ++ (share_line (codes "efficiency ") r.efficiency
     ++ (flat_map hold_line r.holds

@@ -26,7 +26,7 @@ impl Model for FaultLines {
     ghost invariant = { λ l. (length l.faults ≡ length l.outcomes.items) × (length l.pins ≡ length l.outcomes.items) };
 }
 
-/// A line, by reference.
+/// A line as it stands in the tables: its fault and its pin are lent.
 #[derive(Clone, Copy)]
 pub struct FaultLine<'a> {
     pub fault: &'a [u8],
@@ -35,7 +35,7 @@ pub struct FaultLine<'a> {
 }
 
 impl FaultLines {
-    /// No lines.
+    /// No lines, and no memory yet.
     pub fn new(alloc: Global) -> FaultLines
         ensures { result ≡ [] }
     {

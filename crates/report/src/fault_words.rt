@@ -51,7 +51,7 @@ fn behind_pin(text: &[u8]) -> Option<&[u8]>
     if is_placed(placed) { Some(rest) } else { None }
 }
 
-/// What stands behind a fault.
+/// What stands behind a fault's text, which is passed over and not looked up.
 fn behind_fault(line: &[u8]) -> Option<&[u8]>
     ensures { MatchOption result ((rest : List ℕ) → FaultBegins line.now rest → ⊥) (λ rest. FaultBegins line.now rest.now) }
 {

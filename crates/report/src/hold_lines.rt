@@ -32,7 +32,7 @@ pub struct HoldLine<'a> {
 }
 
 impl HoldLines {
-    /// No lines.
+    /// No lines, and no memory yet.
     pub fn new(alloc: Global) -> HoldLines
         ensures { result ≡ [] }
     {

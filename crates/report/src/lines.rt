@@ -52,7 +52,6 @@ fn digit(byte: u8) -> Option<u8>
     }
 }
 
-/// Two digits.
 fn two_digits(digits: &[u8]) -> Option<u8>
     ensures { MatchOption result
         ((tens ones : ℕ) → tens < 10 → ones < 10 → digits.now ≢ (48 + tens) ∷ (48 + ones) ∷ [])

@@ -1,42 +1,37 @@
 //! Reports from their text: line by line, each line as it is written.
 ghost use Rattle.std.specs.Prelude.{◌≡◌, ◌≢◌, ◌<◌, ◌++◌, List, IfOk, MatchOption};
 ghost use Rattle.std.specs.List.{All, flat_map};
+ghost use Rattle.report.specs.Counts.{AreSmallCounts};
 ghost use Rattle.report.specs.Reading.{IsReportRead};
 ghost use Rattle.report.specs.Reports.{Hold, Line, Report as Kept, IsLine, IsReport};
-ghost use Rattle.report.specs.Texts.{count_words, counts_text, hold_line, fault_line, report_text};
-ghost use Rattle.report.specs.inner.Lines.{Begins, NoneBegins, AreCounts, IsHold, some_held};
+ghost use Rattle.report.specs.Texts.{counts_text, hold_line, fault_line, report_text};
+ghost use Rattle.report.specs.inner.Lines.{Begins, NoneBegins, IsHold, some_held};
 
+use crate::counts::{COUNTS, ReportCounts, count_word};
 use crate::fault_lines::FaultLines;
 use crate::hold_lines::HoldLines;
 use crate::lines::{count, fault, hold, share, version};
 use crate::reports::Report;
-use crate::writing::count_word;
 use std::alloc::{AllocError, Global};
 
-/// Why there is no report.
 #[derive(Clone, Copy, Debug, PartialEq, Eq)]
 pub enum ReportFault {
     NotReport,
     NoMemory,
 }
 
-/// How many counts a report has.
-const COUNTS: usize = 14;
-
 /// The counts, and what stands behind them.
-fn counts<'a>(alloc: Global, text: &'a [u8]) -> Result<Option<(Vec<u64>, &'a [u8])>, AllocError>
-    ensures { IfOk result (λ o. MatchOption o (NoneBegins AreCounts (counts_text count_words) text.now) (λ p. Begins AreCounts (counts_text count_words) text.now p.0.items p.1.now)) }
+fn counts(text: &[u8]) -> Option<(ReportCounts, &[u8])>
+    ensures { MatchOption result (NoneBegins AreSmallCounts counts_text text.now) (λ p. Begins AreSmallCounts counts_text text.now p.0 p.1.now) }
 {
-    let mut counts = Vec::new(alloc);
+    let mut numbers = [0; COUNTS];
     let mut rest = text;
     for k in 0..COUNTS {
-        let Some((number, after)) = count(count_word(k), rest) else {
-            return Ok(None);
-        };
-        counts.push(number)?;
+        let (number, after) = count(count_word(k), rest)?;
+        numbers[k] = number;
         rest = after;
     }
-    Ok(Some((counts, rest)))
+    Some((ReportCounts::of(numbers), rest))
 }
 
 /// All inputs that are held, and what stands behind their lines.
@@ -94,14 +89,13 @@ fn tables(
     Ok(Some((holds, lines)))
 }
 
-/// The report with this text, if there is one.
 fn report(alloc: Global, bytes: &[u8]) -> Result<Option<Report>, AllocError>
     ensures { IfOk result (λ o. MatchOption o ((r : Kept) → IsReport r → bytes.now ≢ report_text r) (λ r. IsReport r × (bytes.now ≡ report_text r))) }
 {
     let Some((held, behind_head)) = version(bytes) else {
         return Ok(None);
     };
-    let Some((counts, behind_counts)) = counts(alloc, behind_head)? else {
+    let Some((counts, behind_counts)) = counts(behind_head) else {
         return Ok(None);
     };
     let Some((coverage, behind_coverage)) = share(b"coverage ", behind_counts) else {

@@ -1,16 +1,16 @@
 //! Reports.
-ghost use Rattle.std.specs.Prelude.{◌≡◌, ◌<◌, length, slice_index};
+ghost use Rattle.std.specs.Prelude.{◌≡◌};
 ghost use Rattle.report.specs.Reports.{IsReport};
 
+use crate::counts::ReportCounts;
 use crate::fault_lines::FaultLines;
 use crate::hold_lines::HoldLines;
 use std::marker::Model;
 
-/// Fourteen counts (inputs, outputs, gates without cells, cells, chains, faults, classes, patterns, cycles, backtrack limit, detected, redundant,
-/// aborted, untested), coverage and efficiency in hundredths of a percent, the inputs that are held, and a line for each fault.
+/// The counts, coverage and efficiency in hundredths of a percent, the inputs that are held, and a line for each fault.
 #[derive(Drop)]
 pub struct Report {
-    counts: Vec<u64>,
+    counts: ReportCounts,
     coverage: u128,
     efficiency: u128,
     holds: HoldLines,
@@ -22,21 +22,21 @@ impl Model for Report {
 
     ghost Value = { Report };
 
-    ghost view = { λ r. record { counts = r.counts.items; coverage = r.coverage; efficiency = r.efficiency; holds = r.holds; lines = r.lines } };
+    ghost view = { λ r. record { counts = r.counts; coverage = r.coverage; efficiency = r.efficiency; holds = r.holds; lines = r.lines } };
 
-    ghost invariant = { λ r. IsReport (record { counts = r.counts.items; coverage = r.coverage; efficiency = r.efficiency; holds = r.holds; lines = r.lines }) };
+    ghost invariant = { λ r. IsReport (record { counts = r.counts; coverage = r.coverage; efficiency = r.efficiency; holds = r.holds; lines = r.lines }) };
 }
 
 impl Report {
     pub fn new(
-        counts: Vec<u64>,
+        counts: ReportCounts,
         coverage: u128,
         efficiency: u128,
         holds: HoldLines,
         lines: FaultLines,
     ) -> Report
-        requires { IsReport (record { counts = counts.items; coverage = coverage; efficiency = efficiency; holds = holds; lines = lines }) }
-        ensures { result ≡ record { counts = counts.items; coverage = coverage; efficiency = efficiency; holds = holds; lines = lines } }
+        requires { IsReport (record { counts = counts; coverage = coverage; efficiency = efficiency; holds = holds; lines = lines }) }
+        ensures { result ≡ record { counts = counts; coverage = coverage; efficiency = efficiency; holds = holds; lines = lines } }
     {
         Report {
             counts,
@@ -54,10 +54,10 @@ impl Report {
         let _ = &self.counts;
     }
 
-    pub fn counts(&self) -> &[u64]
-        ensures { result.now ≡ self.now.counts }
+    pub fn counts(&self) -> ReportCounts
+        ensures { result ≡ self.now.counts }
     {
-        &self.counts
+        self.counts
     }
 
     pub fn coverage(&self) -> u128

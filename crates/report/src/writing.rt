@@ -1,9 +1,9 @@
 //! Reports as text.
-ghost use Rattle.std.specs.Prelude.{◌≡◌, ◌<◌, ◌≤◌, ◌^◌, ◌/◌, ◌++◌, length, decimal, IfOk, OnOk, slice_get, Some};
+ghost use Rattle.std.specs.Prelude.{◌≡◌, ◌<◌, ◌≤◌, ◌^◌, ◌/◌, ◌++◌, decimal, IfOk, OnOk};
 ghost use Rattle.std.specs.List.{flat_map};
-ghost use Rattle.report.specs.Reports.{count_of_counts};
-ghost use Rattle.report.specs.Texts.{count_line, count_words, counts_text, hundredths, share_line, hold_line, outcome_text, fault_line, head, report_text};
+ghost use Rattle.report.specs.Texts.{count_line, counts_text, hundredths, share_line, hold_line, outcome_text, fault_line, head, report_text};
 
+use crate::counts::{ReportCounts, count_word};
 use crate::fault_lines::FaultLines;
 use crate::hold_lines::HoldLines;
 use crate::outcomes::Outcome;
@@ -44,8 +44,8 @@ fn push_hundredths(out: &mut Vec<u8>, share: u128) -> Result<(), AllocError>
     push_number(out, (share % 10) as u64)
 }
 
-/// `coverage 83.05`
-fn push_share(out: &mut Vec<u8>, word: &[u8], share: u128) -> Result<(), AllocError>
+/// Adds the line of a share, `coverage 83.05`, behind its word.
+pub fn push_share(out: &mut Vec<u8>, word: &[u8], share: u128) -> Result<(), AllocError>
     requires { share / 100 < 2 ^ 64 }
     ensures { OnOk result (out.new.items ≡ out.old.items ++ share_line word.now share) }
 {
@@ -108,7 +108,8 @@ fn push_fault(
     out.extend_from_slice(b"\n")
 }
 
-fn push_faults(out: &mut Vec<u8>, lines: &FaultLines) -> Result<(), AllocError>
+/// Adds the lines of faults.
+pub fn push_faults(out: &mut Vec<u8>, lines: &FaultLines) -> Result<(), AllocError>
     ensures { OnOk result (out.new.items ≡ out.old.items ++ flat_map fault_line lines.now) }
 {
     for k in 0..lines.len() {
@@ -118,35 +119,12 @@ fn push_faults(out: &mut Vec<u8>, lines: &FaultLines) -> Result<(), AllocError>
     Ok(())
 }
 
-/// The word of a count, by its place.
-pub(crate) fn count_word(place: usize) -> &'static [u8]
-    requires { place < count_of_counts }
-    ensures { slice_get count_words place ≡ Some result.now }
+/// Adds the lines of the counts.
+pub fn push_counts(out: &mut Vec<u8>, counts: ReportCounts) -> Result<(), AllocError>
+    ensures { OnOk result (out.new.items ≡ out.old.items ++ counts_text counts) }
 {
-    match place {
-        0 => b"inputs ",
-        1 => b"outputs ",
-        2 => b"gates ",
-        3 => b"cells ",
-        4 => b"chains ",
-        5 => b"faults ",
-        6 => b"classes ",
-        7 => b"patterns ",
-        8 => b"cycles ",
-        9 => b"limit ",
-        10 => b"detected ",
-        11 => b"redundant ",
-        12 => b"aborted ",
-        13 => b"untested ",
-        _ => unreachable!(),
-    }
-}
-
-fn push_counts(out: &mut Vec<u8>, counts: &[u64]) -> Result<(), AllocError>
-    requires { length counts.now ≡ count_of_counts }
-    ensures { OnOk result (out.new.items ≡ out.old.items ++ counts_text count_words counts.now) }
-{
-    for (k, count) in counts.iter().enumerate() {
+    let numbers = counts.to_array();
+    for (k, count) in numbers.iter().enumerate() {
         push_count(out, count_word(k), *count)?;
     }
     Ok(())

@@ -18,16 +18,13 @@ use Rattle.list_core.specs.declared.verdicts.Verdict.TheVariants.{Open, Detected
 use Rattle.list_core.specs.Subjects.{Subject, Represents}
 use Rattle.list_core.specs.States.{State, IsTrueList}
 use Rattle.list_core.specs.Verdicts.{verdict_at, VerdictHolds}
-use Rattle.reverse_compact.specs.Kept.{AreLastDetected, IsNeeded, kept_from, new_place, marked_from}
+use Rattle.reverse_compact.specs.Kept.{AreLastDetected, IsNeeded, is_last_at, kept_from, new_place, marked_from}
 use Rattle.reverse_compact.specs.Finished.{IsFinished, AreFinished}
-use Rattle.reverse_compact.specs.inner.Marks.{is_last_at, last_at, new_verdict, ArePlaces, AreRenamed}
-use Rattle.reverse_compact.proofs.KeepLemmas.{kept_at, source, rises}
+use Rattle.reverse_compact.specs.inner.Marks.{last_at, new_verdict, ArePlaces, AreRenamed}
+use Rattle.reverse_compact.proofs.LastPlaces.{last_kept, marked_by, never_kept, some_marked, some_same}
 
 no_fault : Fault
 no_fault = record { line = Stem 0; value = false }
-
-same_Some : {X : Type 0} (x y : X) → Some x ≡ Some y → x ≡ y
-same_Some x y e = cc
 
 -- ---- where a class is last detected
 
@@ -36,7 +33,7 @@ last_of : (n : Netlist) (ps : List Pattern) (fs : List Fault) (ls : List (Option
 last_of n ps [] [] c f are e = cc
 last_of n ps [] (l ∷ ls) c f are e = elim are [ ]
 last_of n ps (g ∷ fs) [] c f are e = elim are [ ]
-last_of n ps (g ∷ fs) (l ∷ ls) zero f are e = (let P : Fault → Type 0 = λ h. LastDetected n ps h l in subst P (same_Some g f e) are.0)
+last_of n ps (g ∷ fs) (l ∷ ls) zero f are e = (let P : Fault → Type 0 = λ h. LastDetected n ps h l in subst P (some_same g f e) are.0)
 last_of n ps (g ∷ fs) (l ∷ ls) (suc c) f are e = last_of n ps fs ls c f are.1 e
 
 -- two last patterns of one fault are one
@@ -47,54 +44,10 @@ same_last n ps f a b o p x y =
     three : (i j : ℕ) → (i < j) ⊎ ((i ≡ j) ⊎ (j < i))
     three i j = grind arith
 
-or_left : (a b : Bool) → a ≡ true → (a || b) ≡ true
-or_left true b e = refl
-or_left false b e = cc
-
-or_right : (a b : Bool) → b ≡ true → (a || b) ≡ true
-or_right true b e = refl
-or_right false b e = e
-
-or_cases : (a b : Bool) → (a || b) ≡ true → (a ≡ true) ⊎ (b ≡ true)
-or_cases true b e = inl refl
-or_cases false b e = inr e
-
-same_number : (a b : ℕ) → (a == b) ≡ true → a ≡ b
-same_number a b e = grind (arith, nat_tests)
-
-number_same : (a b : ℕ) → a ≡ b → (a == b) ≡ true
-number_same a b e = grind (arith, nat_tests)
-
-here_first : {X : Type 0} (x : X) (xs : List X) → Contains (x ∷ xs) x
-here_first x xs = (0, omega arith, refl)
-
-behind : {X : Type 0} (y : X) (xs : List X) (x : X) → Contains xs x → Contains (y ∷ xs) x
-behind y xs x c = (suc c.0, omega (arith, c.1), c.2)
-
 -- a marked place is needed
 marked_needed : (n : Netlist) (ps : List Pattern) (fs : List Fault) (ls : List (Option (ℕ × Point))) (k : ℕ)
     → AllZip (LastDetected n ps) fs ls → is_last_at ls k ≡ true → IsNeeded n ps fs k
-marked_needed n ps [] [] k are e = cc
-marked_needed n ps [] (l ∷ ls) k are e = elim are [ ]
-marked_needed n ps (f ∷ fs) [] k are e = elim are [ ]
-marked_needed n ps (f ∷ fs) (None ∷ ls) k are e =
-    let rest = marked_needed n ps fs ls k are.1 e in (rest.0, behind f fs rest.0 rest.1, rest.2)
-marked_needed n ps (f ∷ fs) (Some l ∷ ls) k are e =
-    by_case (or_cases (l.0 == k) (is_last_at ls k) e) (λ there. marked_needed n ps fs ls k are.1 there)
-  where
-    by_case : ((l.0 == k) ≡ true) ⊎ (is_last_at ls k ≡ true) → (is_last_at ls k ≡ true → IsNeeded n ps fs k) → IsNeeded n ps (f ∷ fs) k
-    by_case (inl here) rest = (f, here_first f fs, (l.1, (let P : ℕ → Type 0 = λ i. IsLastDetected n ps f i l.1 in subst P (same_number l.0 k here) are.0)))
-    by_case (inr there) rest = (let r = rest there in (r.0, behind f fs r.0 r.1, r.2))
-
--- the place where some class is last detected is marked
-some_marked : (ls : List (Option (ℕ × Point))) (c : ℕ) (l : ℕ × Point) → last_at ls c ≡ Some l → is_last_at ls l.0 ≡ true
-some_marked [] c l e = cc
-some_marked (None ∷ ls) zero l e = cc
-some_marked (Some m ∷ ls) zero l e =
-    let same : m ≡ l = same_Some m l e in
-    or_left (m.0 == l.0) (is_last_at ls l.0) (number_same m.0 l.0 (ap (λ (x : ℕ × Point). x.0) same))
-some_marked (None ∷ ls) (suc c) l e = some_marked ls c l e
-some_marked (Some m ∷ ls) (suc c) l e = or_right (m.0 == l.0) (is_last_at ls l.0) (some_marked ls c l e)
+marked_needed n ps fs ls k are e = marked_by (LastDetected n ps) fs ls k are e
 
 -- a needed place is marked
 needed_marked : (n : Netlist) (ps : List Pattern) (fs : List Fault) (ls : List (Option (ℕ × Point))) (k : ℕ)
@@ -111,65 +64,6 @@ needed_marked n ps fs ls k are need =
         let same : l.0 ≡ k = same_last n ps f l.0 k l.1 o other last in
         (let P : ℕ → Type 0 = λ i. is_last_at ls i ≡ true in subst P same (some_marked ls c l is))
 
--- ---- among the kept patterns
-
-module _ (n : Netlist) (ps : List Pattern) (fs : List Fault) (ls : List (Option (ℕ × Point))) (are : AllZip (LastDetected n ps) fs ls) where
-  -- what is detected among the kept patterns was detected at the place from which the pattern comes
-  earlier : (f : Fault) (q : ℕ) (o : Point) → IsDetectedAt n (kept_from (is_last_at ls) 0 ps) f q o
-      → (k : ℕ) × (is_last_at ls k ≡ true) × (new_place (is_last_at ls) k ≡ q) × IsDetectedAt n ps f k o
-  earlier f q o d =
-      let s = source (is_last_at ls) 0 ps q d.pattern d.at in
-      let w : 0 + s.place ≡ s.place = omega arith in
-      let mark : is_last_at ls s.place ≡ true = (let P : ℕ → Type 0 = λ i. is_last_at ls i ≡ true in subst P w s.mark) in
-      (s.place, mark, s.new, record { pattern = d.pattern; at = s.at; detects = d.detects })
-
-  -- and the other way, at a marked place
-  later : (f : Fault) (k : ℕ) (o : Point) → is_last_at ls k ≡ true → IsDetectedAt n ps f k o → IsDetectedAt n (kept_from (is_last_at ls) 0 ps) f (new_place (is_last_at ls) k) o
-  later f k o mark d =
-      let w : k ≡ 0 + k = omega arith in
-      let here : is_last_at ls (0 + k) ≡ true = (let P : ℕ → Type 0 = λ i. is_last_at ls i ≡ true in subst P w mark) in
-      record { pattern = d.pattern; at = kept_at (is_last_at ls) 0 ps k d.pattern d.at here; detects = d.detects }
-
-  never_kept : (f : Fault) → IsNeverDetected n ps f → IsNeverDetected n (kept_from (is_last_at ls) 0 ps) f
-  never_kept f never q o d = let e = earlier f q o d in never e.0 o e.3
-
-  last_kept : (f : Fault) (k : ℕ) (o : Point) → is_last_at ls k ≡ true → IsLastDetected n ps f k o
-      → IsLastDetected n (kept_from (is_last_at ls) 0 ps) f (new_place (is_last_at ls) k) o
-  last_kept f k o mark last = record {
-    here = later f k o mark last.here;
-    last = λ q p lt d. (
-        let e = earlier f q p d in
-        let up : k < e.0 = rises_back k e.0 (e.1) (omega (arith, lt, e.2)) in
-        last.last e.0 p up e.3
-        );
-    first = λ p before d. (
-        let e = earlier f (new_place (is_last_at ls) k) p d in
-        let same : e.0 ≡ k = one_place e.0 k e.1 mark e.2 in
-        last.first p before (let P : ℕ → Type 0 = λ i. IsDetectedAt n ps f i p in subst P same e.3)
-        );
-  }
-    where
-      three : (i j : ℕ) → (i < j) ⊎ ((i ≡ j) ⊎ (j < i))
-      three i j = grind arith
-
-      rises_back : (i j : ℕ) → is_last_at ls j ≡ true → new_place (is_last_at ls) i < new_place (is_last_at ls) j → i < j
-      rises_back i j mj lt = elim (three i j) [
-        | inl less ↦ less
-        | inr r ↦ elim r [
-          | inl e ↦ (let same : new_place (is_last_at ls) i ≡ new_place (is_last_at ls) j = ap (new_place (is_last_at ls)) e in absurd (omega (arith, lt, same)))
-          | inr more ↦ (let up = rises (is_last_at ls) j i more mj in absurd (omega (arith, lt, up)))
-        ]
-      ]
-
-      one_place : (i j : ℕ) → is_last_at ls i ≡ true → is_last_at ls j ≡ true → new_place (is_last_at ls) i ≡ new_place (is_last_at ls) j → i ≡ j
-      one_place i j mi mj e = elim (three i j) [
-        | inl less ↦ (let up = rises (is_last_at ls) i j less mi in absurd (omega (arith, e, up)))
-        | inr r ↦ elim r [
-          | inl same ↦ same
-          | inr more ↦ (let up = rises (is_last_at ls) j i more mj in absurd (omega (arith, e, up)))
-        ]
-      ]
-
 -- ---- verdicts
 
 -- where nothing detects a class's fault, its verdict speaks of no pattern
@@ -177,7 +71,7 @@ verdict_stays : (j : Subject) (ps kept : List Pattern) (c : ℕ) (f : Fault) (v 
     → VerdictHolds j ps c v → VerdictHolds j kept c v
 verdict_stays j ps kept c f Open rep never held = tt
 verdict_stays j ps kept c f (Detected place point) rep never held =
-    let same : held.fault ≡ f = same_Some held.fault f (sym held.represents ∙ rep) in
+    let same : held.fault ≡ f = some_same held.fault f (sym held.represents ∙ rep) in
     let here : IsDetectedAt j.netlist ps held.fault place point = record { pattern = held.pattern; at = held.at; detects = held.detects } in
     absurd (never place point (let P : Fault → Type 0 = λ g. IsDetectedAt j.netlist ps g place point in subst P same here))
 verdict_stays j ps kept c f (Redundant tree) rep never held = held
@@ -186,15 +80,15 @@ verdict_stays j ps kept c f (Aborted tree) rep never held = held
 module _ (j : Subject) (ps : List Pattern) (ls : List (Option (ℕ × Point))) (are : AreLastDetected j.netlist ps j.classes.representatives ls) where
   verdict_finished : (c : ℕ) (f : Fault) (l : Option (ℕ × Point)) (old : Verdict) → last_at ls c ≡ l → LastDetected j.netlist ps f l
       → IsFinished j (kept_from (is_last_at ls) 0 ps) f old (new_verdict (is_last_at ls) l old)
-  verdict_finished c f None old is never = inr (refl, never_kept j.netlist ps j.classes.representatives ls are f never)
+  verdict_finished c f None old is never = inr (refl, never_kept j.netlist ps (is_last_at ls) f never)
   verdict_finished c f (Some l) old is last =
-      inl (new_place (is_last_at ls) l.0, l.1, refl, last_kept j.netlist ps j.classes.representatives ls are f l.0 l.1 (some_marked ls c l is) last)
+      inl (new_place (is_last_at ls) l.0, l.1, refl, last_kept j.netlist ps (is_last_at ls) f l.0 l.1 (some_marked ls c l is) last)
 
   verdict_holds : (c : ℕ) (f : Fault) (l : Option (ℕ × Point)) (old : Verdict) → last_at ls c ≡ l → LastDetected j.netlist ps f l → Represents j c f
       → VerdictHolds j ps c old → VerdictHolds j (kept_from (is_last_at ls) 0 ps) c (new_verdict (is_last_at ls) l old)
   verdict_holds c f None old is never rep held = verdict_stays j ps (kept_from (is_last_at ls) 0 ps) c f old rep never held
   verdict_holds c f (Some l) old is last rep held =
-      let new = last_kept j.netlist ps j.classes.representatives ls are f l.0 l.1 (some_marked ls c l is) last in
+      let new = last_kept j.netlist ps (is_last_at ls) f l.0 l.1 (some_marked ls c l is) last in
       record { fault = f; represents = rep; pattern = new.here.pattern; at = new.here.at; detects = new.here.detects }
 
 below_or : (a b : ℕ) → (a < b) ⊎ (b ≤ a)

@@ -1,7 +1,8 @@
 -- Elements at marked places.
 use Rattle.std.proofs.Common.{zero, suc, ◌≡◌, ℕ, ◌+◌, ◌-◌, ◌<◌, ◌≤◌, Bool, true, false, cond, List, [], ◌∷◌, ◌++◌, length, get_or, Some, refl, sym, ap, ◌∙◌, subst, arith, below_more}
-use Rattle.std.specs.List.{slice_get}
+use Rattle.std.specs.List.{All, slice_get}
 use Rattle.std.proofs.lemmas.List.{get_or_append_left}
+use Rattle.std.proofs.lemmas.List.Elements.{All-nil, All-cons, All-head, All-tail}
 use Rattle.std.proofs.Math.Seq.{get_or-append_seam}
 use Rattle.reverse_compact.specs.Kept.{kept_from, marked_from, new_place}
 
@@ -114,6 +115,22 @@ pub kept_next : {X : Type 0} (marked : ℕ → Bool) (done : List X) (x : X)
 kept_next marked done x =
     let w : 0 + length done ≡ length done = omega arith in
     kept_behind marked 0 done x ∙ ap (λ i. kept_from marked 0 done ++ cond (marked i) (x ∷ []) []) w
+
+-- what holds of all holds of those that are kept, and they are no more
+pub kept_all : {X : Type 0} (P : X → Type 0) (marked : ℕ → Bool) (k : ℕ) (xs : List X) → All P xs → All P (kept_from marked k xs)
+kept_all P marked k [] h = All-nil P
+kept_all P marked k (x ∷ xs) h =
+    let rest = kept_all P marked (suc k) xs (All-tail P x xs h) in
+    elim (marked k) as (λ (b : Bool). All P (cond b (x ∷ kept_from marked (suc k) xs) (kept_from marked (suc k) xs))) [
+      | true ↦ All-cons P x (kept_from marked (suc k) xs) (All-head P x xs h) rest
+      | false ↦ rest
+    ]
+
+pub kept_few : {X : Type 0} (marked : ℕ → Bool) (k : ℕ) (xs : List X) → length (kept_from marked k xs) ≤ length xs
+kept_few marked k [] = omega arith
+kept_few marked k (x ∷ xs) =
+    let rest = kept_few marked (suc k) xs in
+    elim (marked k) as (λ (b : Bool). length (cond b (x ∷ kept_from marked (suc k) xs) (kept_from marked (suc k) xs)) ≤ suc (length xs)) [ true ↦ omega arith | false ↦ omega arith ]
 
 -- one more value behind others, each of which is what its place asks for
 pub each_more : (f : ℕ → ℕ) (xs ys : List ℕ) (k v : ℕ) → length xs ≡ k → ys ≡ xs ++ v ∷ [] → v ≡ f k → ((i : ℕ) → i < k → get_or xs i 0 ≡ f i)

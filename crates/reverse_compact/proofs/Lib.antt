@@ -1,3 +1,4 @@
 pub mod KeepLemmas
+pub mod LastPlaces
 pub mod MarkLemmas
 pub mod FinishLemmas

@@ -6,7 +6,8 @@ use Rattle.netlist.specs.declared.lines.Point.{Point}
 use Rattle.list_core.specs.declared.verdicts.Verdict.{Verdict}
 use Rattle.list_core.specs.declared.verdicts.Verdict.TheVariants.{Open}
 use Rattle.list_core.specs.Verdicts.{verdict_at}
-use Rattle.reverse_compact.specs.inner.Marks.{is_last_at, last_at, new_verdict}
+use Rattle.reverse_compact.specs.Kept.{is_last_at}
+use Rattle.reverse_compact.specs.inner.Marks.{last_at, new_verdict}
 
 or_assoc : (a b c : Bool) → ((a || b) || c) ≡ (a || (b || c))
 or_assoc true b c = refl

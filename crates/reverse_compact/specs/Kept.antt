@@ -1,6 +1,6 @@
 -- Which patterns are kept. (Static compaction by fault simulation in reverse order: Bushnell and Agrawal, Essentials of Electronic Testing;
 -- here each class is left to the last pattern that detects it.)
-use Rattle.std.specs.Prelude.{ℕ, zero, suc, ◌≡◌, ◌+◌, ◌↔◌, Bool, cond, IsTrue, List, [], ◌∷◌, Option}
+use Rattle.std.specs.Prelude.{ℕ, zero, suc, ◌≡◌, ◌+◌, ◌==◌, ◌||◌, ◌↔◌, Bool, false, cond, IsTrue, List, [], ◌∷◌, Option, Some, None}
 use Rattle.std.specs.List.{AllZip, Contains}
 use Rattle.netlist.specs.declared.lines.Fault.{Fault}
 use Rattle.netlist.specs.declared.lines.Point.{Point}
@@ -11,6 +11,12 @@ use Rattle.word_sim.specs.Hits.{IsLastDetected, LastDetected}
 -- where each of these faults is last detected, if at all
 abbrev pub AreLastDetected : Netlist → List Pattern → List Fault → List (Option (ℕ × Point)) → Type 0
 AreLastDetected n patterns faults last = AllZip (LastDetected n patterns) faults last
+
+-- some fault is last detected at this place
+abbrev pub is_last_at : List (Option (ℕ × Point)) → ℕ → Bool
+is_last_at [] place = false
+is_last_at (None ∷ ls) place = is_last_at ls place
+is_last_at (Some l ∷ ls) place = (l.0 == place) || is_last_at ls place
 
 -- the pattern at this place is the last to detect one of the faults
 abbrev pub IsNeeded : Netlist → List Pattern → List Fault → ℕ → Type 0

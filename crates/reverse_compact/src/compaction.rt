@@ -2,9 +2,9 @@
 ghost use Rattle.std.specs.Prelude.{◌≡◌, ◌+◌, ◌<◌, ◌≤◌, ◌^◌, ◌||◌, ◌∷◌, [], ℕ, Bool, false, IfOk, IfSome, length, slice_index, slice_index_or, slice_set, vec_len};
 ghost use Rattle.std.specs.List.{All};
 ghost use Rattle.list_core.specs.Verdicts.{verdict_at};
-ghost use Rattle.reverse_compact.specs.Kept.{AreLastDetected, new_place};
+ghost use Rattle.reverse_compact.specs.Kept.{AreLastDetected, is_last_at, new_place};
 ghost use Rattle.reverse_compact.specs.Finished.{AreFinished};
-ghost use Rattle.reverse_compact.specs.inner.Marks.{is_last_at, last_at, new_verdict, ArePlaces, AreRenamed};
+ghost use Rattle.reverse_compact.specs.inner.Marks.{last_at, new_verdict, ArePlaces, AreRenamed};
 
 use crate::keeping::{kept, new_places};
 use cubes::Pattern;
@@ -30,7 +30,6 @@ fn mark(marks: &mut Vec<bool>, class: &Option<(u32, Point)>)
     }
 }
 
-/// No marks.
 fn no_marks(alloc: Global, places: usize) -> Result<Vec<bool>, AllocError>
     ensures size { IfOk result (λ v. vec_len v ≡ places) }
     ensures marks { IfOk result (λ v. (k : ℕ) → slice_index_or v.items k false ≡ false) }
@@ -43,7 +42,7 @@ fn no_marks(alloc: Global, places: usize) -> Result<Vec<bool>, AllocError>
 }
 
 /// A mark for each place where some class is last detected.
-fn needed(
+pub fn needed(
     alloc: Global,
     places: usize,
     last: &[Option<(u32, Point)>],

@@ -13,7 +13,7 @@ fn count_on(count: u32, mark: bool) -> u32
 }
 
 /// Where each element will stand once only the marked ones are left.
-pub(crate) fn new_places(alloc: Global, marks: &[bool]) -> Result<Vec<u32>, AllocError>
+pub fn new_places(alloc: Global, marks: &[bool]) -> Result<Vec<u32>, AllocError>
     requires { length marks.now + 1 < 2 ^ 32 }
     ensures size { IfOk result (λ v. vec_len v ≡ length marks.now) }
     ensures each { IfOk result (λ v. (k : ℕ) → k < length marks.now → slice_index v.items k ≡ new_place (λ i. slice_index_or marks.now i false) k) }
@@ -37,7 +37,6 @@ fn push_marked<X: Drop>(left: &mut Vec<X>, item: X, mark: bool) -> Result<(), Al
     Ok(())
 }
 
-/// Whether there is a mark at a place.
 fn is_marked(marks: &[bool], place: usize) -> bool
     ensures { result ≡ slice_index_or marks.now place false }
 {
@@ -45,11 +44,7 @@ fn is_marked(marks: &[bool], place: usize) -> bool
 }
 
 /// The elements at the marked places.
-pub(crate) fn kept<X: Drop>(
-    alloc: Global,
-    items: Vec<X>,
-    marks: &[bool],
-) -> Result<Vec<X>, AllocError>
+pub fn kept<X: Drop>(alloc: Global, items: Vec<X>, marks: &[bool]) -> Result<Vec<X>, AllocError>
     ensures { IfOk result (λ v. v.items ≡ kept_from (λ i. slice_index_or marks.now i false) 0 items.items) }
 {
     let mut left = Vec::new(alloc);

@@ -1,9 +1,13 @@
 //! Compaction in reverse order: only the patterns that are the last to detect some class are kept.
+//!
+//! Gives: `compact`, `Finished`, `needed`, `new_places`, `kept`.
+//! Proved: `compact`: exactly the patterns that are the last to detect some class, each class at its new place, with its first point there; `needed`,
+//! `new_places`, `kept`: marks at the places where some fault is last detected, the new places of marked elements, and these elements.
+//! Tested: run by `run`.
 #![tactic(auto)]
 
 mod compaction;
-mod finishing;
 mod keeping;
 
-pub use compaction::{Finished, compact};
-pub use finishing::finish;
+pub use compaction::{Finished, compact, needed};
+pub use keeping::{kept, new_places};

@@ -1,5 +1,5 @@
--- Cycles are few enough for a number of 64 bits.
-use Rattle.std.proofs.Common.{zero, suc, ◌≡◌, ℕ, ◌+◌, ◌*◌, ◌<◌, ◌≤◌, ◌^◌, List, [], ◌∷◌, length, get_or, Some, refl, sym, ◌∙◌, ap, subst, arith, length-append}
+-- Cycles and shares are few enough for a number of 64 bits.
+use Rattle.std.proofs.Common.{zero, suc, ◌≡◌, ℕ, ◌+◌, ◌*◌, ◌/◌, ◌<◌, ◌≤◌, ◌^◌, List, [], ◌∷◌, length, get_or, Some, refl, sym, ◌∙◌, ap, subst, arith, div-le_self, length-append}
 use Rattle.std.specs.List.{Contains, slice_get}
 use Rattle.std.proofs.lemmas.List.{length-map}
 use Rattle.std.proofs.lemmas.Option.{slice_get_read}
@@ -11,10 +11,17 @@ use Rattle.scan_insert.proofs.Concrete.{are_dealt}
 use Rattle.scan_play.specs.Vectors.{unload_cycle, IsUnloadedAt}
 use Rattle.scan_play.proofs.ApplyLemmas.{few_cells}
 use Rattle.scan_play.proofs.Widths.{cells_count}
+use Rattle.run_report.specs.Heads.{share_of}
 use Rattle.std.proofs.Math.Nat.{mul-le-mul_left, mul-le-mul_right}
 
 pub small_product : (p m : ℕ) → p ≤ 2 ^ 32 → m ≤ 8000001 → p * m ≤ 2 ^ 32 * 8000001
 small_product p m a b = omega (arith, mul-le-mul_left p b, mul-le-mul_right 8000001 a)
+
+pub share_small : (faults count : ℕ) → count ≤ 9000000000 → share_of faults count / 100 < 18446744073709551616
+share_small faults count few =
+    let whole = div-le_self (10000 * count) faults in
+    let part = div-le_self (share_of faults count) 100 in
+    omega (arith, whole, part, few)
 
 -- ---- chains of a netlist
 

@@ -6,6 +6,7 @@ use Rattle.netlist.specs.Holds.{Holds}
 use Rattle.chain_stitch.specs.Chains.{longest_of}
 use Rattle.fault_universe.specs.Universe.{universe_of}
 use Rattle.fault_collapse.specs.Numbers.{Classes}
+use Rattle.report.specs.declared.counts.ReportCounts.{ReportCounts}
 use Rattle.report.specs.declared.outcomes.Outcome.{Outcome}
 use Rattle.report.specs.declared.outcomes.Outcome.TheVariants.{Detected, Redundant, Aborted}
 use Rattle.report.specs.Reports.{Line, Hold, Report}
@@ -35,12 +36,28 @@ count_of one lines = sum_by (λ (l : Line). one l.outcome) lines
 abbrev pub cycle_count : List (List ℕ) → ℕ → ℕ
 cycle_count chains patterns = (patterns + 4) * longest_of chains + patterns
 
--- the counts, from the netlist, its chains, how many faults, classes and patterns there are, the backtrack limit, and the lines
-abbrev pub counts_of : Netlist → List (List ℕ) → ℕ → ℕ → ℕ → ℕ → List Line → List ℕ
-counts_of n chains faults classes patterns limit lines =
-    length n.inputs ∷ length n.outputs ∷ length (gates n) ∷ length (cells n) ∷ length chains ∷ faults ∷ classes ∷ patterns ∷ cycle_count chains patterns ∷ limit
-    ∷ count_of detected_one lines ∷ count_of redundant_one lines ∷ count_of aborted_one lines
-    ∷ (count_of redundant_one lines + count_of aborted_one lines) ∷ []
+-- the counts, from the netlist, its chains, how many faults, classes, patterns and cycles there are, the backtrack limit, and the lines
+abbrev pub counts_with : Netlist → List (List ℕ) → ℕ → ℕ → ℕ → ℕ → ℕ → List Line → ReportCounts
+counts_with n chains faults classes patterns cycles limit lines = record {
+  inputs = length n.inputs;
+  outputs = length n.outputs;
+  gates = length (gates n);
+  cells = length (cells n);
+  chains = length chains;
+  faults = faults;
+  classes = classes;
+  patterns = patterns;
+  cycles = cycles;
+  limit = limit;
+  detected = count_of detected_one lines;
+  redundant = count_of redundant_one lines;
+  aborted = count_of aborted_one lines;
+  untested = count_of redundant_one lines + count_of aborted_one lines;
+}
+
+-- the same in the cycles of a test of stuck lines
+abbrev pub counts_of : Netlist → List (List ℕ) → ℕ → ℕ → ℕ → ℕ → List Line → ReportCounts
+counts_of n chains faults classes patterns limit lines = counts_with n chains faults classes patterns (cycle_count chains patterns) limit lines
 
 -- so many of all faults, in hundredths of a percent, rounded down
 abbrev pub share_of : ℕ → ℕ → ℕ

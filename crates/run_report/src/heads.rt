@@ -1,14 +1,12 @@
 //! The numbers above the lines of a report.
-ghost use Rattle.std.specs.Prelude.{◌≡◌, ◌+◌, ◌-◌, ◌*◌, ◌<◌, ◌≤◌, ◌^◌, length, IfOk};
-ghost use Rattle.std.specs.List.{All};
+ghost use Rattle.std.specs.Prelude.{◌≡◌, ◌+◌, ◌-◌, ◌*◌, ◌<◌, ◌≤◌, ◌^◌};
 ghost use Rattle.scan_insert.specs.Scanned.{AreChainsOf};
-ghost use Rattle.run_report.specs.Heads.{aborted_one, count_of, counts_of, cycle_count, detected_one, redundant_one, share_of};
+ghost use Rattle.run_report.specs.Heads.{aborted_one, count_of, counts_of, counts_with, detected_one, redundant_one, share_of};
 ghost use Rattle.run_report.specs.inner.Tallies.{AreTallied};
 
 use chain_stitch::Chains;
 use netlist::Netlist;
-use report::{FaultLines, Outcome};
-use std::alloc::{AllocError, Global};
+use report::{FaultLines, Outcome, ReportCounts};
 
 /// How many lines are of each kind.
 #[derive(Clone, Copy, Debug, PartialEq, Eq)]
@@ -19,7 +17,6 @@ pub struct Tally {
 }
 
 impl Tally {
-    /// No lines.
     fn none() -> Tally
         ensures { (result.detected ≡ 0) × (result.redundant ≡ 0) × (result.aborted ≡ 0) }
     {
@@ -59,7 +56,7 @@ pub fn tally_of(lines: &FaultLines) -> Tally
     tally
 }
 
-/// How many cycles a test has.
+/// The cycles of a test: the flush, a load and a capture for each pattern, and a last load.
 #[tactic(auto, using(crate::proofs::CycleLemmas::small_product))]
 fn cycles_of(longest: u64, patterns: u64) -> u64
     requires longest { longest ≤ 8000000 }
@@ -69,9 +66,42 @@ fn cycles_of(longest: u64, patterns: u64) -> u64
     (patterns + 4) * longest + patterns
 }
 
-/// The counts of a report: of a netlist and its chains, of so many faults, classes and patterns, with this backtrack limit, and of its lines.
+/// The counts of a report: of a netlist and its chains, of so many faults, classes, patterns and cycles, with this backtrack limit, and of its lines.
+pub fn counts_with(
+    netlist: &Netlist,
+    chains: &Chains,
+    faults: u32,
+    classes: u32,
+    patterns: u32,
+    cycles: u64,
+    limit: u64,
+    lines: &FaultLines,
+) -> ReportCounts
+    ensures { result ≡ counts_with netlist.now chains.now faults classes patterns cycles limit lines.now }
+{
+    netlist.sound();
+    let tally = tally_of(lines);
+    let cells = netlist.cells().len();
+    ReportCounts {
+        inputs: netlist.inputs().len() as u64,
+        outputs: netlist.outputs().len() as u64,
+        gates: (netlist.definitions().len() - cells) as u64,
+        cells: cells as u64,
+        chains: chains.count() as u64,
+        faults: faults as u64,
+        classes: classes as u64,
+        patterns: patterns as u64,
+        cycles,
+        limit,
+        detected: tally.detected,
+        redundant: tally.redundant,
+        aborted: tally.aborted,
+        untested: tally.redundant + tally.aborted,
+    }
+}
+
+/// The counts of the report of a test of stuck lines.
 pub fn counts_of(
-    alloc: Global,
     netlist: &Netlist,
     chains: &Chains,
     faults: u32,
@@ -79,31 +109,15 @@ pub fn counts_of(
     patterns: u32,
     limit: u64,
     lines: &FaultLines,
-) -> Result<Vec<u64>, AllocError>
-    requires chains { AreChainsOf netlist.now chains.now }
-    ensures counts { IfOk result (λ v. v.items ≡ counts_of netlist.now chains.now faults classes patterns limit lines.now) }
-    ensures small { IfOk result (λ v. All (λ k. k < 2 ^ 64) v.items) }
+) -> ReportCounts
+    requires { AreChainsOf netlist.now chains.now }
+    ensures { result ≡ counts_of netlist.now chains.now faults classes patterns limit lines.now }
 {
     netlist.sound();
-    let tally = tally_of(lines);
-    let cells = netlist.cells().len();
-    let counts = [
-        netlist.inputs().len() as u64,
-        netlist.outputs().len() as u64,
-        (netlist.definitions().len() - cells) as u64,
-        cells as u64,
-        chains.count() as u64,
-        faults as u64,
-        classes as u64,
-        patterns as u64,
-        cycles_of(chains.longest() as u64, patterns as u64),
-        limit,
-        tally.detected,
-        tally.redundant,
-        tally.aborted,
-        tally.redundant + tally.aborted,
-    ];
-    Vec::from_slice(alloc, &counts)
+    let cycles = cycles_of(chains.longest() as u64, patterns as u64);
+    counts_with(
+        netlist, chains, faults, classes, patterns, cycles, limit, lines,
+    )
 }
 
 /// So many of all faults, in hundredths of a percent, rounded down.

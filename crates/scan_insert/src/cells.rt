@@ -45,7 +45,7 @@ fn stems(
     Ok(stems)
 }
 
-/// A gate in its place.
+/// A gate as the scanned netlist has it: its signal and its pins by their new numbers.
 pub(crate) fn moved_gate(
     alloc: Global,
     gate: &Definition,

@@ -1,4 +1,9 @@
 //! Scan insertion: each cell of a netlist becomes a scan cell, and nothing else that the netlist does changes.
+//!
+//! Gives: `insert`, `Scanned`, `pin_name`.
+//! Proved: `insert`, `site_of`, `pin_name` exactly; the laws: the scanned netlist is sound, behaves as the original with scan off, and shifts with
+//! scan on, for each fault at its site or none.
+//! Neither: time.
 #![tactic(auto)]
 
 mod cells;

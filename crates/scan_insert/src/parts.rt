@@ -85,7 +85,6 @@ fn push_definitions(
     Ok(())
 }
 
-/// The definitions of the scanned netlist.
 fn scanned_definitions(
     alloc: Global,
     netlist: &Netlist,

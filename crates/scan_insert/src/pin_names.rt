@@ -18,7 +18,6 @@ fn joined(alloc: Global, prefix: &[u8], name: &[u8]) -> Result<Vec<u8>, AllocErr
     Ok(text)
 }
 
-/// Whether a signal is an input.
 fn is_input(netlist: &Netlist, signal: SignalId) -> bool
     requires { IsSound netlist.now }
     ensures { result ≡ list_any (λ x. x == signal) netlist.now.inputs }

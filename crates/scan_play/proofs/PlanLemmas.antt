@@ -27,7 +27,7 @@ use Rattle.scan_play.specs.declared.cycles.Burst.{Burst}
 use Rattle.scan_play.specs.declared.played.Played.{Played}
 use Rattle.scan_play.specs.Bursts.{cycles_of}
 use Rattle.scan_play.specs.Cycles.{IsCycleOf}
-use Rattle.scan_play.specs.Steps.{IsReady, Stays, IsPath}
+use Rattle.scan_play.specs.Steps.{IsReady, Stays, AreOrderedSteps}
 use Rattle.scan_play.specs.inner.Plans.{IsPlanned, IsDrivenOnto, AreSettled, IsStepped}
 use Rattle.scan_play.specs.inner.Steps.{IsStep}
 use Rattle.scan_play.specs.Judging.{IsOpen, Judging, judged_in, or_else}
@@ -86,7 +86,7 @@ module _ (f : Option Fault) (n : Netlist) (numbered : IsNumbered n) (base inputs
       ap (on_pins (tris f) g.id 0) (map_agree (at values X) settled g.pins
       (All-from_contains (λ x. at values X x ≡ settled x) g.pins (λ x c. h x (All-contains (IsReady n base done) g.pins x ready c))))
 
-  pub step_settled : (steps : List ℕ) (m x : ℕ) (old new : List Tri) → IsPath n base steps → m < length steps → x ≡ get_or steps m x → length old ≡ length (signals n)
+  pub step_settled : (steps : List ℕ) (m x : ℕ) (old new : List Tri) → AreOrderedSteps n base steps → m < length steps → x ≡ get_or steps m x → length old ≡ length (signals n)
       → IsEvaluated (tris f) n x old new → AreSettled n base (take m steps) settled old → AreSettled n base (take (m + 1) steps) settled new
   step_settled steps m x old new path l is size made h y ready =
       let w = path.are_gates m 0 l in

@@ -13,7 +13,7 @@ use Rattle.netlist.specs.Settled.{at}
 use Rattle.netlist.specs.ThreeValues.{is_x}
 use Rattle.netlist.proofs.Lists.{contains_head, filter_contains}
 use Rattle.scan_insert.proofs.Loopless.{map_contains}
-use Rattle.scan_play.specs.Steps.{IsReady, HasSteps, IsPath}
+use Rattle.scan_play.specs.Steps.{IsReady, HasSteps, AreOrderedSteps}
 use Rattle.scan_play.specs.inner.Plans.{AreMarked, AreReady, AreCellsMarked, AreOutputsMarked}
 
 pub marked_set : (xs : List Bool) (i y : ℕ) → slice_get (set xs i true) y ≡ Some true → (y ≡ i) ⊎ (slice_get xs y ≡ Some true)
@@ -124,7 +124,7 @@ all_more P xs i x l is h p = subst (All P) (sym (take_more xs i x l ∙ ap (λ y
 
 -- all that is read at the end is ready
 pub has_steps : (n net : Netlist) (strobe base : List Tri) (steps chosen : List ℕ) (ready at_cells at_outputs : List Bool) → net ≡ n → chosen ≡ steps
-    → IsPath net base chosen × AreReady net base chosen ready → at_cells ≡ ready → AreCellsMarked net at_cells → at_outputs ≡ ready → AreOutputsMarked net strobe at_outputs → HasSteps n strobe base steps
+    → AreOrderedSteps net base chosen × AreReady net base chosen ready → at_cells ≡ ready → AreCellsMarked net at_cells → at_outputs ≡ ready → AreOutputsMarked net strobe at_outputs → HasSteps n strobe base steps
 has_steps n net strobe base steps chosen ready at_cells at_outputs there same path c cells_marked o outputs_marked =
     let made : HasSteps net strobe base chosen = record {
       path = path.0;

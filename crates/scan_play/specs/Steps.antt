@@ -17,12 +17,12 @@ abbrev pub IsReady : Netlist → List Tri → List ℕ → ℕ → Type 0
 IsReady n base done x = Contains n.inputs x ⊎ (Contains (map (λ (d : Definition). d.id) (cells n)) x ⊎ (Stays n base x ⊎ Contains done x))
 
 -- gates, each of which reads only what is ready when it is evaluated
-pub record IsPath (n : Netlist) (base : List Tri) (steps : List ℕ) : Type 0 where
+pub record AreOrderedSteps (n : Netlist) (base : List Tri) (steps : List ℕ) : Type 0 where
   pub are_gates : All (IsGateAt n) steps
   pub reads : (m : ℕ) (g : Definition) → m < length steps → Contains (gates n) g → g.id ≡ slice_index steps m → All (IsReady n base (take m steps)) g.pins
 
 -- what evaluating these gates makes ready: all that the cells and the strobed outputs read
 pub record HasSteps (n : Netlist) (strobe base : List Tri) (steps : List ℕ) : Type 0 where
-  pub path : IsPath n base steps
+  pub path : AreOrderedSteps n base steps
   pub cells_ready : All (λ (d : Definition). All (IsReady n base steps) d.pins) (cells n)
   pub outputs_ready : (k : ℕ) → k < length n.outputs → slice_get strobe k ≢ Some X → IsReady n base steps (slice_index n.outputs k)

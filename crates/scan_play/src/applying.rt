@@ -140,7 +140,6 @@ pub fn flush_bursts(
     Ok(bursts)
 }
 
-/// The bursts of the vectors of patterns.
 fn vector_bursts(
     alloc: Global,
     core: &Core,

@@ -26,7 +26,7 @@ impl Model for Cycle {
 /// Cycles one behind the other, in which all inputs but the last few keep their bits, and all outputs but as many their strobes.
 #[derive(Drop)]
 pub struct Burst {
-    /// What stays.
+    /// The bits of the inputs that keep them, and so the strobes and the pulse.
     pub drive: Vec<bool>,
     pub strobe: Vec<Tri>,
     pub pulse: bool,
@@ -110,7 +110,7 @@ impl Burst {
         Ok(())
     }
 
-    /// A cycle of the burst.
+    /// One cycle written out, for who wants it by itself: a player reads the burst.
     pub fn cycle(&self, alloc: Global, t: usize) -> Result<Cycle, AllocError>
         requires { t < self.now.count }
         ensures { IfOk result (λ c. c ≡ cycle_of self.now t) }

@@ -6,7 +6,7 @@ pub fn some_run<V>()
     ensures { SomeRun V }
 {}
 
-/// There is one run from a state.
+/// From a state there is no more than one run.
 pub fn runs_once<V>()
     ensures { RunsOnce V }
 {}

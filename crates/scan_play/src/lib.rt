@@ -1,4 +1,11 @@
 //! The tester: the vectors of a test, a player of vectors in three values, and the laws that join them to patterns.
+//!
+//! Gives: `vectors_of`, `play`, `play_before`, `Judge`, `Vectors`.
+//! Proved: `vectors_of` exactly; `play` exactly, `play_before` up to where any judge of strobes stops it; the laws: from every power-up state the
+//! good netlist passes, one with an undetected fault passes, one with a detected fault fails in its cycle at its output; no sequence shows a
+//! redundant fault.
+//! Tested: that `vectors_of` and `play` come to these answers, by rows of `file_calls` and `cases`.
+//! Neither: time.
 #![tactic(auto)]
 
 mod applying;

@@ -107,7 +107,6 @@ fn shift_drive(alloc: Global, inputs: u32, holds: &Holds) -> Result<Vec<bool>, A
     Ok(drive)
 }
 
-/// Strobes of nothing.
 pub fn no_strobes(alloc: Global, count: usize) -> Result<Vec<Tri>, AllocError>
     ensures { IfOk result (λ v. v.items ≡ replicate count X) }
 {

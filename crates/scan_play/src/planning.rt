@@ -8,7 +8,7 @@ ghost use Rattle.netlist.specs.Netlist.{Definition as Equation, gates, signals, 
 ghost use Rattle.netlist.specs.Conditions.{IsSound};
 ghost use Rattle.netlist.specs.declared.kinds.Tri.TheVariants.{X};
 ghost use Rattle.netlist.specs.ThreeValues.{is_x};
-ghost use Rattle.scan_play.specs.Steps.{HasSteps, IsPath, IsReady};
+ghost use Rattle.scan_play.specs.Steps.{HasSteps, AreOrderedSteps, IsReady};
 ghost use Rattle.scan_play.specs.inner.Plans.{AreCellsMarked, AreMarked, AreOutputsMarked, AreReady};
 
 use netlist::{Core, Definition, Netlist, SignalId, Tri};
@@ -233,7 +233,7 @@ fn is_path(netlist: &Netlist, base: &[Tri], steps: &[SignalId], ready: &mut Vec<
     requires sound { IsSound netlist.now }
     requires gates { All (IsGateAt netlist.now) steps.now }
     requires ready { AreReady netlist.now base.now [] ready.old.items }
-    ensures { result ≡ true → IsPath netlist.now base.now steps.now × AreReady netlist.now base.now steps.now ready.new.items }
+    ensures { result ≡ true → AreOrderedSteps netlist.now base.now steps.now × AreReady netlist.now base.now steps.now ready.new.items }
 {
     for gate in steps {
         if !reads_marked(netlist, *gate, ready) {

@@ -30,7 +30,6 @@ struct Bench {
     pins: Vec<Tri>,
 }
 
-/// Plays one cycle.
 fn play_cycle<J: Judge>(
     core: &Core,
     rule: &Tris,

@@ -72,7 +72,7 @@ impl<J: About, T: Ledger, S: Ledger, P: Ledger, U: Ledger> Locked<J, T, S, P, U>
         }
     }
 
-    /// Reserves and publishes.
+    /// Room is made first, so that where memory is refused nothing is published.
     pub fn publish(
         &mut self,
         share: &mut Share<T, S, P, U>,
@@ -166,7 +166,7 @@ fn join_all<T: Ledger, S: Ledger, P: Ledger, U: Ledger>(
     }
 }
 
-/// The numbers of events.
+/// How many events of each kind the journal has: the sums of what the shares counted.
 #[derive(Clone, Copy, PartialEq, Eq, Debug)]
 pub struct Events {
     pub takes: u64,

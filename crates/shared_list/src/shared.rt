@@ -1,4 +1,12 @@
 //! The list behind one lock.
+//!
+//! One mutex over the whole list, and a word beside it from which classes are drawn with no lock (`draws`). Each call is one hold, so every run
+//! of many workers is a sequence of holds, and the list's invariant is all that one has to keep. A search takes far longer than a hold, and
+//! patterns come 64 at a time. A lock for each class, or a list for each worker that is joined at the end, would need a rule for classes that
+//! two workers settle.
+//!
+//! A contract can't say what others did to a locked value meanwhile. Ledgers do: a share counts its holder's events, the books under the lock
+//! have the sums, and these are the numbers of the journal's events.
 ghost use Rattle.std.specs.Prelude.{◌≡◌, ℕ, ◌+◌, ◌-◌, ◌^◌, ◌<◌, ◌≤◌, true, false, [], length, sum_by, IfOk, OnOk, OnErr, IfErr, vec_len};
 ghost use Rattle.list_core.specs.Subjects.{class_count};
 ghost use Rattle.list_core.specs.Batches.{IsTrueBatch};

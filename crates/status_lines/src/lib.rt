@@ -1,4 +1,7 @@
 //! What a program tells its user of how it ends, a line each: a netlist that is refused, a file that can't be had or written.
+//!
+//! Gives: `say`, `say_text`, `say_netlist`, `say_name`, `say_failed_write`.
+//! Proved: each: the line on the error output, or a prefix of it where that failed or was refused memory.
 #![tactic(auto)]
 
 mod lines;

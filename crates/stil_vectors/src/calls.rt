@@ -94,7 +94,6 @@ fn all_outs(
     Ok(outs)
 }
 
-/// Strobes of nothing.
 fn no_strobes(alloc: Global, count: usize) -> Result<Vec<Tri>, AllocError>
     ensures { IfOk result (λ v. v.items ≡ replicate count X) }
 {
@@ -105,7 +104,7 @@ fn no_strobes(alloc: Global, count: usize) -> Result<Vec<Tri>, AllocError>
     Ok(strobes)
 }
 
-/// The cycles of a call.
+/// The cycles of a call, as many as its words have characters, in one burst.
 pub(crate) fn call_burst(alloc: Global, file: &StilFile, place: usize) -> Result<Burst, AllocError>
     requires item { place < length file.now.items }
     requires call { item_at file.now.items place ≡ Call (words_of (item_at file.now.items place)) }

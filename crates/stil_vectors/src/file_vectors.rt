@@ -51,7 +51,6 @@ fn has_pulse(items: &Items, place: usize, chains: usize, clock: usize) -> bool
     word[0] == b'P'
 }
 
-/// The cycle of a vector.
 fn vector_burst(alloc: Global, file: &StilFile, place: usize) -> Result<Burst, AllocError>
     requires item { place < length file.now.items }
     requires vector { item_at file.now.items place ≡ Vector (words_of (item_at file.now.items place)) }
@@ -75,7 +74,6 @@ fn vector_burst(alloc: Global, file: &StilFile, place: usize) -> Result<Burst, A
     })
 }
 
-/// The cycles of an item.
 fn item_burst(alloc: Global, file: &StilFile, place: usize) -> Result<Burst, AllocError>
     requires { place < length file.now.items }
     ensures { IfOk result (λ b. cycles_of b ≡ cycles_of_item file.now (item_at file.now.items place)) }

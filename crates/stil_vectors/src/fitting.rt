@@ -59,7 +59,7 @@ fn are_outputs(alloc: Global, netlist: &Netlist, names: &Texts) -> Result<bool, 
     Ok(true)
 }
 
-/// Whether a file fits a netlist.
+/// Whether a file's signals are the pins of a netlist, name by name. The names have to be made, so it takes memory.
 pub fn fits(alloc: Global, file: &StilFile, netlist: &Netlist) -> Result<bool, NoMemory>
     ensures { IfOk result (λ yes. MatchBool yes (Fits file.now netlist.now) (Fits file.now netlist.now → ⊥)) }
 {

@@ -1,4 +1,10 @@
 //! What a STIL file does on a tester, and the file of a test.
+//!
+//! Gives: `vectors`, `fits`, `play_file`, `cycle_count`.
+//! Proved: `vectors`: exactly what a file does cycle by cycle; `fits` exactly; `play_file` plays a file that fits exactly; the file of a test, as it
+//! is defined, has the test's vectors.
+//! Tested: that `fits` and `play_file` (and `vectors` below it) come to these answers, by rows of `cases`.
+//! Neither: time.
 #![tactic(auto)]
 
 mod calls;

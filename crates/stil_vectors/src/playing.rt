@@ -12,7 +12,6 @@ use scan_play::{Played, play};
 use std::alloc::Global;
 use stil_write::{ItemKind, StilFile};
 
-/// How many cycles an item has.
 fn cycles_at(file: &StilFile, place: usize) -> usize
     requires { place < length file.now.items }
     ensures { result ≡ length (cycles_of_item file.now (item_at file.now.items place)) }

@@ -22,7 +22,6 @@ fn is_name_byte(b: u8) -> bool
     b >= 33 && b <= 126 && !(b == b'"' || b == b'\'')
 }
 
-/// Whether a text is a name.
 fn is_name(text: &[u8]) -> bool
     ensures { MatchBool result (IsName text.now) (IsName text.now → ⊥) }
 {
@@ -37,7 +36,6 @@ fn is_name(text: &[u8]) -> bool
     true
 }
 
-/// Whether all texts are names.
 fn are_names(texts: &Texts) -> bool
     ensures { MatchBool result (All IsName texts.now) (All IsName texts.now → ⊥) }
 {

@@ -34,7 +34,6 @@ fn is_value(values: Values, b: u8) -> bool
     }
 }
 
-/// Whether a word has this form.
 pub(crate) fn is_word(form: Form, word: &[u8]) -> bool
     ensures { MatchBool result (IsWord form word.now) (IsWord form word.now → ⊥) }
 {

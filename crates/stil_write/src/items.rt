@@ -42,7 +42,7 @@ impl Model for Items {
 }
 
 impl Items {
-    /// No items.
+    /// No items, and no memory yet.
     pub fn new(alloc: Global) -> Items
         ensures { result ≡ [] }
     {

@@ -1,4 +1,9 @@
 //! STIL files of the project's profile: the value and its text.
+//!
+//! Gives: `write_stil`, `StilFile`.
+//! Proved: `write_stil`: the one text of a file; a `StilFile` is always sound.
+//! Tested: that it comes to a text, by rows of `calls`.
+//! Neither: time.
 #![tactic(auto)]
 
 mod checking;

@@ -8,7 +8,6 @@ use crate::texts::Texts;
 use itoa::Buffer;
 use std::alloc::AllocError;
 
-/// Adds a number.
 fn push_number(out: &mut Vec<u8>, number: usize) -> Result<(), AllocError>
     ensures { OnOk result (out.new.items ≡ out.old.items ++ decimal number) }
 {
@@ -182,7 +181,6 @@ fn opening(kind: ItemKind) -> &'static [u8]
     }
 }
 
-/// Adds an item.
 pub(crate) fn push_item(
     out: &mut Vec<u8>,
     called: &Texts,

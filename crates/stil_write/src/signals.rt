@@ -47,7 +47,6 @@ pub fn numbered(alloc: Global, stem: &[u8], chains: usize) -> Result<Texts, Allo
     Ok(names)
 }
 
-/// The clock, where there are chains.
 pub(crate) fn clock(alloc: Global, chains: usize) -> Result<Texts, AllocError>
     ensures { IfOk result (λ names. names ≡ where_chained chains (codes "SC__ck")) }
 {
@@ -70,7 +69,7 @@ pub(crate) fn signals(alloc: Global, parts: &StilParts) -> Result<Texts, AllocEr
     Ok(names)
 }
 
-/// What a call assigns to.
+/// What a call of the load assigns to, in order: the scan inputs, and then the scan outputs.
 pub fn called(alloc: Global, chains: usize) -> Result<Texts, AllocError>
     ensures { IfOk result (λ names. names ≡ called chains) }
 {
@@ -80,7 +79,7 @@ pub fn called(alloc: Global, chains: usize) -> Result<Texts, AllocError>
     Ok(names)
 }
 
-/// What a vector assigns to.
+/// What a vector assigns to, in order: the group of inputs, the scan inputs, the clock, the group of outputs, the scan outputs.
 pub fn assigned(alloc: Global, chains: usize) -> Result<Texts, AllocError>
     ensures { IfOk result (λ names. names ≡ assigned chains) }
 {

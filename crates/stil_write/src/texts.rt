@@ -24,7 +24,7 @@ impl Model for Texts {
 }
 
 impl Texts {
-    /// No texts.
+    /// No texts, and no memory yet.
     pub fn new(alloc: Global) -> Texts
         ensures { result ≡ [] }
     {

@@ -112,7 +112,6 @@ fn shift_words(alloc: Global, file: &StilFile) -> Result<Texts, AllocError>
     Ok(words)
 }
 
-/// The vector of a shift as an item.
 fn shift_item(alloc: Global, file: &StilFile) -> Result<Items, AllocError>
     ensures { IfOk result (λ items. items ≡ Vector (shift_words file.now) ∷ []) }
 {

@@ -111,7 +111,6 @@ fn tell_all(
     Ok(())
 }
 
-/// Nothing is told.
 fn none_told(alloc: Global, count: usize) -> Result<Vec<Option<(u32, Point)>>, AllocError>
     ensures { IfOk result (λ v. v.items ≡ replicate count None) }
 {

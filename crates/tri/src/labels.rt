@@ -19,7 +19,6 @@ pub struct Label {
     pub may_differ: bool,
 }
 
-/// Whether the value is this bit.
 pub fn is_known_as(bit: bool, value: Tri) -> bool
     ensures { result ≡ is_known_as bit value }
 {

@@ -1,4 +1,8 @@
 //! Three values: 0, 1 and X, where X stands for either bit. What gates make of them, and the labels that decisions put on signals.
+//!
+//! Gives: `gate`, `Tri` and its rule, `Label` and its rule.
+//! Proved: `gate`: 0 or 1 exactly where every choice of the Xs gives that bit; the laws: three values are above bits, labels above patterns; under a
+//! closed label no agreeing pattern tells the fault.
 #![tactic(auto)]
 
 mod gates;

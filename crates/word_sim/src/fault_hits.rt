@@ -182,7 +182,6 @@ pub(crate) fn find_hits(
     )
 }
 
-/// The hits of one batch.
 fn hits_of_batch(
     alloc: Global,
     core: &Core,

@@ -39,7 +39,6 @@ pub(crate) struct Groups {
     pub latest: Vec<u32>,
 }
 
-/// The reach of each fault.
 fn reach_all(
     netlist: &Netlist,
     paths: &Paths,

@@ -148,7 +148,6 @@ fn tell_part(
     Ok(())
 }
 
-/// Nothing is told.
 fn none_told(alloc: Global, count: usize) -> Result<Vec<Option<(u32, Point)>>, AllocError>
     ensures { IfOk result (λ v. v.items ≡ replicate count None) }
 {

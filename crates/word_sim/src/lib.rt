@@ -1,4 +1,10 @@
 //! Sixty-four patterns at a time, and what they detect.
+//!
+//! Gives: `good64`, `hits`, `last_tells`, `Simulator`, `Batch`, `Hit`.
+//! Proved: each exactly: the words of up to 64 patterns, which given faults they detect, by which last pattern, at which first point; `last_tells`:
+//! of any number of patterns; a `Simulator` serves many batches.
+//! Tested: that it comes to these answers, by rows of `calls`, most of them worked out by a plain program from all patterns.
+//! Neither: how faults are grouped; time.
 #![tactic(auto)]
 
 mod batches;

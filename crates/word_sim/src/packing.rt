@@ -8,14 +8,13 @@ ghost use Rattle.word_sim.specs.inner.Packed.{bits_in, ArePacked, IsColumn, IsUs
 use cubes::Pattern;
 use std::alloc::{AllocError, Global};
 
-/// A part of a pattern.
+/// Which part of a pattern is packed: both are by the same code.
 #[derive(Clone, Copy, Debug, PartialEq, Eq)]
 pub(crate) enum Part {
     Inputs,
     Cells,
 }
 
-/// The bits of a part.
 fn bits_in(part: Part, pattern: &Pattern) -> &[bool]
     ensures { result.now ≡ bits_in part pattern.now }
 {

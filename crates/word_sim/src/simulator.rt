@@ -57,7 +57,6 @@ impl<'a> Simulator<'a> {
         Simulator::made(alloc, core).map_err(|_| NoMemory)
     }
 
-    /// What one batch detects.
     pub(crate) fn batch_hits(
         &mut self,
         alloc: Global,

@@ -9,7 +9,7 @@ use netlist::{Core, NoMemory, SignalId};
 use std::alloc::{AllocError, Global};
 use std::marker::Model;
 
-/// A word for each signal.
+/// A word for each signal, of which bit j is its bit under pattern j.
 #[derive(Drop)]
 pub struct Words {
     words: Vec<u64>,

@@ -68,7 +68,6 @@ fn work_in<J: About, T: Ledger, S: Ledger, P: Ledger, U: Ledger, E: Engine, G: G
     .is_err();
 }
 
-/// A job for each share.
 fn jobs_of<T: Ledger, S: Ledger, P: Ledger, U: Ledger>(
     alloc: Global,
     shares: Vec<Share<T, S, P, U>>,

@@ -1,4 +1,8 @@
 //! What a worker does.
+//!
+//! It claims a class, searches with no lock held, and keeps the cubes of its tests. With 64 of them it merges and fills them, simulates the
+//! patterns over all classes that are left, and publishes patterns and hits in one hold: what a pattern detects beside its own class is never
+//! searched (fault dropping). To publish each test at once would drop classes sooner, but simulate one pattern where a word has room for 64.
 ghost use Rattle.std.specs.Prelude.{◌≡◌, ◌≤◌, ◌<◌, true, IfOk, OnOk, vec_len};
 ghost use Rattle.std.specs.List.{All};
 ghost use Rattle.netlist.specs.Holds.{AreHoldsOf};

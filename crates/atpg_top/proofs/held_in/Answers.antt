@@ -1,7 +1,7 @@
 use Rattle.std.proofs.Common.{◌∙◌, ap, sym}
 use Rattle.netlist.proofs.Lists.{map_map}
-use Rattle.words.specs.CommandLine.{hold_of}
-use Rattle.words.specs.HoldLists.{Hold}
+use Rattle.command_line.specs.CommandLine.{hold_of}
+use Rattle.command_line.specs.HoldLists.{Hold}
 use Rattle.atpg_top.specs.inner.Held.{names_held}
 use Rattle.atpg_top.proofs.held_in.Goals as goal
 

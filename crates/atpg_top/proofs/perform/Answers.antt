@@ -20,6 +20,9 @@ returns-in-ChainTest g c = rw c.in-ChainTest.is c.test_chains.ensures
 pub returns-in-Diagnose : goal.returns-in-Diagnose
 returns-in-Diagnose g c = rw c.in-Diagnose.is c.diagnose_log.ensures
 
+pub returns-in-Transition : goal.returns-in-Transition
+returns-in-Transition g c = rw c.in-Transition.is c.test_slow_lines.ensures
+
 pub returns-in-Check : goal.returns-in-Check
 returns-in-Check g c = rw c.in-Check.is c.check_run.ensures
 

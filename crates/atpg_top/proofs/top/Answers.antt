@@ -1,9 +1,9 @@
 use Rattle.std.proofs.Common.{◌≡◌, ◌∙◌, List, Ok, ap, subst, sym}
 use Rattle.std.specs.Prelude.{Result, IfOk, map}
 use Rattle.std.specs.String.{string_bytes}
-use Rattle.words.specs.CommandLine.{command_line, line_of}
-use Rattle.words.specs.declared.WordsRefusal.{WordsRefusal}
-use Rattle.words.specs.declared.requests.Request.{Request}
+use Rattle.command_line.specs.CommandLine.{command_line, line_of}
+use Rattle.command_line.specs.declared.WordsRefusal.{WordsRefusal}
+use Rattle.command_line.specs.declared.requests.Request.{Request}
 use Rattle.commands.specs.World.{Text}
 use Rattle.atpg_top.specs.Rows.{ErrRow, held_names}
 use Rattle.atpg_top.specs.declared.status.Status.TheVariants.{Command}

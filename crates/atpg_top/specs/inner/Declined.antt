@@ -1,7 +1,7 @@
 -- Words that are no request.
 use Rattle.std.specs.Prelude.{⊤}
-use Rattle.words.specs.declared.WordsRefusal.{WordsRefusal}
-use Rattle.words.specs.declared.WordsRefusal.TheVariants as words
+use Rattle.command_line.specs.declared.WordsRefusal.{WordsRefusal}
+use Rattle.command_line.specs.declared.WordsRefusal.TheVariants as words
 use Rattle.commands.specs.declared.ending.Ending.TheVariants as ending
 use Rattle.atpg_top.specs.declared.status.Status.{Status}
 use Rattle.atpg_top.specs.declared.status.Status.TheVariants as status

@@ -1,6 +1,6 @@
 -- The inputs that are to be held.
 use Rattle.std.specs.Prelude.{List, map}
-use Rattle.words.specs.declared.holds.Held.{Held}
+use Rattle.command_line.specs.declared.holds.Held.{Held}
 use Rattle.commands.specs.World.{Text}
 
 abbrev pub names_held : List Held → List Text

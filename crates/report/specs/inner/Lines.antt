@@ -1,7 +1,6 @@
 -- Texts that begin with a line, or with some lines.
-use Rattle.std.specs.Prelude.{ℕ, ◌≡◌, ◌≢◌, ◌/◌, ◌^◌, ◌<◌, ◌++◌, ◌∷◌, [], Bool, true, false, List, codes, decimal, length}
-use Rattle.std.specs.List.{All}
-use Rattle.report.specs.Reports.{Hold, Line, IsWord, count_of_counts}
+use Rattle.std.specs.Prelude.{ℕ, ◌≡◌, ◌≢◌, ◌/◌, ◌^◌, ◌<◌, ◌++◌, ◌∷◌, [], Bool, true, false, List, codes, decimal}
+use Rattle.report.specs.Reports.{Hold, Line, IsWord}
 use Rattle.report.specs.Texts.{hundredths, outcome_text}
 
 -- the text is what stands for this value, and then the rest
@@ -14,9 +13,6 @@ NoneBegins {X} valid line text = (x : X) (rest : List ℕ) → valid x → text 
 
 abbrev pub IsCount : ℕ → Type 0
 IsCount count = count < 2 ^ 64
-
-abbrev pub AreCounts : List ℕ → Type 0
-AreCounts counts = (length counts ≡ count_of_counts) × All IsCount counts
 
 abbrev pub IsShare : ℕ → Type 0
 IsShare share = share / 100 < 2 ^ 64

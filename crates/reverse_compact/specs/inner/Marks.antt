@@ -1,16 +1,10 @@
--- Marks at the places where some class is last detected, and verdicts by new places.
-use Rattle.std.specs.Prelude.{ℕ, ◌≡◌, ◌<◌, ◌==◌, ◌||◌, Bool, false, List, [], ◌∷◌, length, slice_index, slice_index_or, Option, Some, None}
+-- Verdicts by the new places of patterns.
+use Rattle.std.specs.Prelude.{ℕ, ◌≡◌, ◌<◌, Bool, List, length, slice_index, slice_index_or, Option, Some, None}
 use Rattle.netlist.specs.declared.lines.Point.{Point}
 use Rattle.list_core.specs.declared.verdicts.Verdict.{Verdict}
 use Rattle.list_core.specs.declared.verdicts.Verdict.TheVariants.{Detected}
 use Rattle.list_core.specs.Verdicts.{verdict_at}
 use Rattle.reverse_compact.specs.Kept.{new_place}
-
--- some class is last detected at this place
-abbrev pub is_last_at : List (Option (ℕ × Point)) → ℕ → Bool
-is_last_at [] place = false
-is_last_at (None ∷ ls) place = is_last_at ls place
-is_last_at (Some l ∷ ls) place = (l.0 == place) || is_last_at ls place
 
 abbrev pub last_at : List (Option (ℕ × Point)) → ℕ → Option (ℕ × Point)
 last_at ls class = slice_index_or ls class None

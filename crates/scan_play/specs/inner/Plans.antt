@@ -9,7 +9,7 @@ use Rattle.netlist.specs.Netlist.{Definition, Netlist, cells, signals, IsGateAt}
 use Rattle.netlist.specs.Settled.{Settles, at}
 use Rattle.netlist.specs.ThreeValues.{known}
 use Rattle.tri.specs.Settled.{tris}
-use Rattle.scan_play.specs.Steps.{HasSteps, IsPath, IsReady, Stays}
+use Rattle.scan_play.specs.Steps.{HasSteps, AreOrderedSteps, IsReady, Stays}
 
 -- the table says that each of these signals is ready
 abbrev pub AreMarked : List Bool → List ℕ → Type 0
@@ -48,5 +48,5 @@ AreSettled n base done settled values = (x : ℕ) → IsReady n base done x → 
 -- evaluating gates on a path keeps the values what settles
 pub record IsStepped (f : Option Fault) (n : Netlist) (steps : List ℕ) (old new : List Tri) : Type 0 where
   pub size : length new ≡ length old
-  pub keeps : (base inputs state : List Tri) (settled : ℕ → Tri) → IsPath n base steps → Settles (tris f) n inputs state settled
+  pub keeps : (base inputs state : List Tri) (settled : ℕ → Tri) → AreOrderedSteps n base steps → Settles (tris f) n inputs state settled
       → AreSettled n base [] settled old → AreSettled n base steps settled new

@@ -3,8 +3,8 @@ use Rattle.std.proofs.lemmas.List.{length-map, take_all}
 use Rattle.std.proofs.lemmas.Option.{slice_get_within}
 use Rattle.netlist.specs.Netlist.{Netlist}
 use Rattle.netlist.specs.Holds.{Holds, none_held}
-use Rattle.words.specs.CommandLine.{hold_of}
-use Rattle.words.specs.declared.holds.Held.{Held}
+use Rattle.command_line.specs.CommandLine.{hold_of}
+use Rattle.command_line.specs.declared.holds.Held.{Held}
 use Rattle.atpg_top.specs.Runs.{AreHeldFrom}
 use Rattle.atpg_top.specs.inner.Running.{IsFound}
 use Rattle.atpg_top.proofs.HoldLemmas.{held_next, unknown_here}

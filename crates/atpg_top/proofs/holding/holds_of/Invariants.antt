@@ -1,6 +1,6 @@
 use Rattle.std.proofs.Common.{◌≡◌, length, map, take}
 use Rattle.netlist.specs.Holds.{none_held}
-use Rattle.words.specs.CommandLine.{hold_of}
+use Rattle.command_line.specs.CommandLine.{hold_of}
 use Rattle.atpg_top.specs.Runs.{AreHeldFrom}
 use Rattle.atpg_top.proofs.holding.holds_of.Given as goal
 

@@ -1,5 +1,5 @@
 use Rattle.std.proofs.Common.{◌∙◌, ap}
-use Rattle.test_files.specs.Runs.{files_of}
+use Rattle.run_files.specs.Runs.{files_of}
 use Rattle.atpg_top.specs.Checks.{told}
 use Rattle.atpg_top.proofs.laws.runs_pass.Goals as goal
 

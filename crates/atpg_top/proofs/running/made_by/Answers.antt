@@ -1,4 +1,4 @@
 use Rattle.atpg_top.proofs.running.made_by.Goals as goal
 
 pub returns : goal.returns
-returns g c = c.test_files.ensures
+returns g c = c.make_files.ensures

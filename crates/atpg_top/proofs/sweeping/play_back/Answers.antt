@@ -12,7 +12,7 @@ use Rattle.stil_vectors.specs.FileVectors.{vectors_in}
 use Rattle.stil_vectors.specs.Fitting.{Fits}
 use Rattle.stil_write.specs.StilFiles.{StilFile}
 use Rattle.good_files.specs.ScanOff.{design_chains}
-use Rattle.test_files.specs.Runs.{files_of}
+use Rattle.run_files.specs.Runs.{files_of}
 use Rattle.atpg_top.specs.Plays.{IsPlay}
 use Rattle.atpg_top.specs.Sweeps.{sweep_chains, sweep_limit}
 use Rattle.atpg_top.proofs.SweepLemmas.{fits, on_ok, passes}

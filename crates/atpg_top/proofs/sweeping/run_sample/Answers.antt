@@ -2,8 +2,8 @@ use Rattle.std.proofs.Common.{None, arith, subst, ◌∙◌, ap, length}
 use Rattle.std.proofs.lemmas.List.{length-map}
 use Rattle.std.proofs.lemmas.Result.{IfOk-weaker}
 use Rattle.netlist.specs.Holds.{Holds}
-use Rattle.test_files.specs.declared.files.TestFiles.{TestFiles}
-use Rattle.test_files.specs.Runs.{IsRun}
+use Rattle.run_files.specs.declared.files.RunFiles.{RunFiles}
+use Rattle.run_files.specs.Runs.{IsRun}
 use Rattle.atpg_top.specs.Sweeps.{IsSweepRun, sweep_chains, sweep_limit}
 use Rattle.atpg_top.proofs.sweeping.run_sample.Goals as goal
 

@@ -1,27 +1,35 @@
-use Rattle.std.proofs.Common.{◌≡◌, ◌∷◌, [], Some, ap, arith, length, length-append, subst, sym, ◌∙◌}
-use Rattle.std.specs.List.{slice_get}
-use Rattle.report.specs.Texts.{count_words}
-use Rattle.report.specs.inner.Lines.{IsCount}
-use Rattle.report.proofs.LineLemmas.{next_valid}
-use Rattle.report.proofs.NumberLemmas.{next_count_read, no_counts}
+use Rattle.std.proofs.Common.{ℕ, List, Option, Bor, MatchOption, sym, subst, ◌∙◌, arith}
+use Rattle.std.proofs.lemmas.List.{length-set}
+use Rattle.report.specs.declared.counts.ReportCounts.{ReportCounts}
+use Rattle.report.specs.Counts.{AreSmallCounts}
+use Rattle.report.specs.Texts.{counts_text}
+use Rattle.report.specs.inner.Lines.{Begins, NoneBegins}
+use Rattle.report.proofs.CountLemmas.{counts_found, next_count, next_small, no_next_count}
 use Rattle.report.proofs.reading.counts.Goals as goal
 
-pub returns-in_default : goal.returns-in_default
-returns-in_default c = λ cs r v e.
-    let found = c.loop-k.counts.items in
-    let word : slice_get count_words (length found) ≡ Some c.count_word.result.now =
-    subst (λ k. slice_get count_words k ≡ Some c.count_word.result.now) (sym c.loop-k.invariant.size) c.count_word.ensures in
-    no_counts count_words found cs c.loop-k.rest.now r c.count_word.result.now word (omega (arith, v.0, c.loop-k.invariant.size, c.loop-k-test.true))
-    c.loop-k.invariant.small v.1 c.in_default.ensures (sym c.loop-k.invariant.read ∙ e)
+pub returns-in_err-number : goal.returns-in_err-number
+returns-in_err-number c =
+    let i = c.loop-k.invariant in
+    subst (λ (o : Option (ReportCounts × Bor (List ℕ))).
+    MatchOption o (NoneBegins AreSmallCounts counts_text c.args.text.now) (λ p. Begins AreSmallCounts counts_text c.args.text.now p.0 p.1.now)) (sym c.from_residual.ensures)
+    (no_next_count c.loop-k.numbers i.size c.loop-k.k c.args.text.now c.loop-k.rest.now i.read i.small c.loop-k-test.true c.count_word.result.now c.count_word.ensures
+    c.in_err-number.ensures)
 
 pub loop-k-preserved : goal.loop-k-preserved
 loop-k-preserved c =
-    let found = c.loop-k.counts.items in
-    let word : slice_get count_words (length found) ≡ Some c.count_word.result.now =
-    subst (λ k. slice_get count_words k ≡ Some c.count_word.result.now) (sym c.loop-k.invariant.size) c.count_word.ensures in
+    let i = c.loop-k.invariant in
+    let numbers = c.loop-k.numbers in
+    let k = c.loop-k.k in
+    let word = c.count_word.result.now in
+    let number = c.in_ok-number.number in
+    let after = c.in_ok-number.after.now in
     record {
-      read = next_count_read count_words found c.push.new.self.items c.count_word.result.now c.args.text.now c.loop-k.rest.now c.in-Some.after.now c.in-Some.number
-          word c.loop-k.invariant.read c.in-Some.ensures.1 c.in_ok-push.ensures.items;
-      size = omega (arith, ap length c.in_ok-push.ensures.items, length-append found (c.in-Some.number ∷ []), c.loop-k.invariant.size);
-      small = next_valid IsCount found c.push.new.self.items c.in-Some.number c.loop-k.invariant.small c.in-Some.ensures.0 c.in_ok-push.ensures.items;
+      read = next_count numbers i.size k c.args.text.now c.loop-k.rest.now i.read i.small c.loop-k-test.true word c.count_word.ensures number after c.in_ok-number.ensures;
+      size = length-set numbers k number ∙ i.size;
+      small = next_small numbers i.size k c.args.text.now c.loop-k.rest.now i.read i.small c.loop-k-test.true word c.count_word.ensures number after c.in_ok-number.ensures;
     }
+
+pub returns : goal.returns
+returns c =
+    let i = c.loop-k.invariant in
+    counts_found c.loop-k.numbers i.size c.loop-k.k c.args.text.now c.loop-k.rest.now i.read i.small c.loop-k-test.false c.of.result c.of.ensures

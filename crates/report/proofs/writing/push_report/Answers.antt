@@ -1,7 +1,8 @@
 use Rattle.std.proofs.Common.{◌++◌, ◌∙◌, ℕ, List, ap, codes}
 use Rattle.std.specs.List.{flat_map}
+use Rattle.report.specs.declared.counts.ReportCounts.{ReportCounts}
 use Rattle.report.specs.Reports.{Line, Hold}
-use Rattle.report.specs.Texts.{head, counts_text, count_words, share_line, hold_line, fault_line}
+use Rattle.report.specs.Texts.{head, counts_text, share_line, hold_line, fault_line}
 use Rattle.report.proofs.WriteLemmas.{six_parts}
 use Rattle.report.proofs.writing.push_report.Goals as goal
 
@@ -14,10 +15,10 @@ returns c =
     let z = c.push_share.new.out.items in
     let u = c.push_share-2.new.out.items in
     let v = c.push_holds.new.out.items in
-    six_parts old (head r.holds) (counts_text count_words r.counts) (share_line (codes "coverage ") r.coverage) (share_line (codes "efficiency ") r.efficiency)
+    six_parts old (head r.holds) (counts_text r.counts) (share_line (codes "coverage ") r.coverage) (share_line (codes "efficiency ") r.efficiency)
     (flat_map hold_line r.holds) (flat_map fault_line r.lines) x y z u v c.push_faults.new.out.items
     (c.in_ok-push_head.ensures ∙ ap (λ (h : List Hold). old ++ head h) c.holds.ensures)
-    (c.in_ok-push_counts.ensures ∙ ap (λ (k : List ℕ). x ++ counts_text count_words k) c.counts.ensures)
+    (c.in_ok-push_counts.ensures ∙ ap (λ (k : ReportCounts). x ++ counts_text k) c.counts.ensures)
     (c.in_ok-push_share.ensures ∙ ap (λ (k : ℕ). y ++ share_line (codes "coverage ") k) c.coverage.ensures)
     (c.in_ok-push_share-2.ensures ∙ ap (λ (k : ℕ). z ++ share_line (codes "efficiency ") k) c.efficiency.ensures)
     (c.in_ok-push_holds.ensures ∙ ap (λ (h : List Hold). u ++ flat_map hold_line h) c.holds-2.ensures)

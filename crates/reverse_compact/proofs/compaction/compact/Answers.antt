@@ -3,7 +3,8 @@ use Rattle.std.specs.Prelude.{IfSome}
 use Rattle.std.specs.List.{All}
 use Rattle.netlist.specs.declared.lines.Point.{Point}
 use Rattle.list_core.specs.declared.verdicts.Verdict.{Verdict}
-use Rattle.reverse_compact.specs.inner.Marks.{is_last_at, AreRenamed}
+use Rattle.reverse_compact.specs.Kept.{is_last_at}
+use Rattle.reverse_compact.specs.inner.Marks.{AreRenamed}
 use Rattle.reverse_compact.proofs.FinishLemmas.{last_within, same_count, are_finished, places_of_last, kept_of_last}
 use Rattle.reverse_compact.proofs.compaction.compact.Goals as goal
 

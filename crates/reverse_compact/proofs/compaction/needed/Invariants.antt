@@ -1,5 +1,5 @@
 use Rattle.std.proofs.Common.{◌≡◌, ℕ, false, get_or, take, vec_len}
-use Rattle.reverse_compact.specs.inner.Marks.{is_last_at}
+use Rattle.reverse_compact.specs.Kept.{is_last_at}
 use Rattle.reverse_compact.proofs.compaction.needed.Given as goal
 
 abbrev pub invariant-loop-class : goal.invariant-loop-class

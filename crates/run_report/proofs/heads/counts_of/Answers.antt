@@ -1,43 +1,15 @@
-use Rattle.std.proofs.Common.{◌≡◌, ◌<◌, ◌+◌, ◌*◌, ℕ, List, length, subst, sym, ◌∙◌, ap, arith}
-use Rattle.std.specs.List.{All}
-use Rattle.std.proofs.lemmas.List.{length-map}
-use Rattle.std.proofs.lemmas.Result.{IfOk-weaker}
-use Rattle.netlist.specs.Netlist.{Definition, cells}
-use Rattle.run_report.specs.Heads.{counts_of, cycle_count}
+use Rattle.std.proofs.Common.{◌≡◌, ℕ, ◌+◌, ◌*◌, ◌∙◌, ap, arith}
+use Rattle.run_report.specs.Heads.{counts_with, cycle_count}
 use Rattle.run_report.proofs.CycleLemmas.{longest_small}
-use Rattle.run_report.proofs.ListLemmas.{all_counts, counts_small, gates_and_cells}
 use Rattle.run_report.proofs.heads.counts_of.Goals as goal
 
-pub overflow_sub-counts : goal.overflow_sub-counts
-overflow_sub-counts c =
-    let n = c.args.netlist.now in
-    omega (arith, gates_and_cells n, ap length c.cells-cells.ensures, length-map (cells n) (λ (d : Definition). d.id), ap length c.definitions.ensures)
+pub cycles_of-cycles-requires-clause-longest : goal.cycles_of-cycles-requires-clause-longest
+cycles_of-cycles-requires-clause-longest c = omega (arith, c.longest.ensures, longest_small c.args.netlist.now c.args.chains.now c.sound.ensures c.requires)
 
-pub cycles_of-requires-clause-longest : goal.cycles_of-requires-clause-longest
-cycles_of-requires-clause-longest c = omega (arith, c.longest.ensures, longest_small c.args.netlist.now c.args.chains.now c.sound.ensures c.requires.chains)
-
-pub returns-clause-counts : goal.returns-clause-counts
-returns-clause-counts c =
-    let n = c.args.netlist.now in
-    let t = c.tally_of-tally.ensures.kinds in
-    let same = all_counts n c.args.chains.now c.args.faults c.args.classes c.args.patterns c.args.limit c.args.lines.now
-    (length c.inputs.result.now) (length c.outputs.result.now) (length c.definitions.result.now) (length c.cells-cells.result.now) c.count.result c.longest.result c.cycles_of.result
-    c.tally_of-tally.result.detected c.tally_of-tally.result.redundant c.tally_of-tally.result.aborted
-    (ap length c.inputs.ensures) (ap length c.outputs.ensures) (ap length c.definitions.ensures) (ap length c.cells-cells.ensures ∙ length-map (cells n) (λ (d : Definition). d.id))
-    c.count.ensures c.cycles_of.ensures c.longest.ensures t.detected t.redundant t.aborted in
-    IfOk-weaker c.from_slice.result (λ v. v.items ≡ _) (λ v. v.items ≡ counts_of n c.args.chains.now c.args.faults c.args.classes c.args.patterns c.args.limit c.args.lines.now)
-    (λ v e. e ∙ same) c.from_slice.ensures.items
-
-pub returns-clause-small : goal.returns-clause-small
-returns-clause-small c =
+pub returns : goal.returns
+returns c =
     let n = c.args.netlist.now in
     let chains = c.args.chains.now in
-    let t = c.tally_of-tally.ensures.kinds in
-    let fits = c.tally_of-tally.ensures.fits in
-    let counts = counts_of n chains c.args.faults c.args.classes c.args.patterns c.args.limit c.args.lines.now in
-    let cycles : cycle_count chains c.args.patterns ≡ c.cycles_of.result = sym (c.cycles_of.ensures ∙ ap (λ m. (c.args.patterns + 4) * m + c.args.patterns) c.longest.ensures) in
-    let all = counts_small n c.sound.ensures chains c.args.faults c.args.classes c.args.patterns c.args.limit c.args.lines.now
-    (omega (arith, c.count.type_inv, c.count.ensures)) (omega (arith, c.ranges.faults.fits)) (omega (arith, c.ranges.classes.fits)) (omega (arith, c.ranges.patterns.fits))
-    (omega (arith, c.cycles_of.type_inv, cycles)) (omega (arith, c.ranges.limit.fits)) (omega (arith, fits, t.detected, t.redundant, t.aborted)) in
-    IfOk-weaker c.from_slice.result (λ v. v.items ≡ counts) (λ v. All (λ k. k < 18446744073709551616) v.items)
-    (λ v e. subst (λ (ks : List ℕ). All (λ k. k < 18446744073709551616) ks) (sym e) all) (returns-clause-counts c)
+    let cycles : c.cycles_of-cycles.result ≡ cycle_count chains c.args.patterns =
+    c.cycles_of-cycles.ensures ∙ ap (λ m. (c.args.patterns + 4) * m + c.args.patterns) c.longest.ensures in
+    c.counts_with.ensures ∙ ap (λ (k : ℕ). counts_with n chains c.args.faults c.args.classes c.args.patterns k c.args.limit c.args.lines.now) cycles

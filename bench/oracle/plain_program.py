@@ -1,0 +1,281 @@
+"""The program over files in memory, by plain programs apart from the crates: in which order a command reads, works, writes and shows, how it
+ends, and what then stands (docs/PROGRAM.md).
+
+What a search finds isn't said here: a run is told its five texts by who asks. Where nobody can say what comes, the answer is Unknown.
+"""
+import re
+from typing import NamedTuple
+
+import plain_check
+import plain_design as plain
+import plain_transition
+from fault_list import fault_list
+from plain_chains import chain_test
+from plain_check import ENDS
+from plain_play import site_of, unmet
+from plain_stil import Walk, cycles_in, is_stil, signals
+
+MOST_BYTES = 67_108_864
+MOST_LINES = 100_000  # of a netlist that the plain reader is given
+READ = {"scan": 1, "faults": 1, "run": 1, "transition": 1, "play": 2, "chaintest": 2, "diagnose": 3, "sweep": 0}
+NAME = r"[!$-&*+\--<>-~]+"  # bytes of .bench's names
+HELD = re.compile(f"{NAME}=[01](,{NAME}=[01])*")
+LOG = re.compile(rf"atpg fail log 1\n((0|[1-9]\d*) {NAME}\n)*")
+
+
+class Unknown(Exception):
+    """A run of which this program can't say what comes."""
+
+
+class Refused(Exception):
+    """A command that ends without writing: the status, and the pieces of its line."""
+
+
+class Begun(str):
+    """A text of which only the beginning is known."""
+
+    def __getitem__(self, part):
+        if part.stop > len(self):
+            raise Unknown
+        return str(self)[part]
+
+
+class Due(NamedTuple):
+    """What a command writes, what it shows, and its status where nothing fails."""
+
+    texts: list
+    shown: str
+    status: int = 0
+
+
+class Fails(NamedTuple):
+    """Of the shelf, the output and the error output the calls that fail, and how many bytes each keeps."""
+
+    shelf: dict
+    out: dict
+    err: dict
+
+
+class Ended(NamedTuple):
+    status: int
+    out: str
+    err: str
+    files: dict
+
+
+class Calls:
+    """Calls, of which some fail."""
+
+    def __init__(self, fails):
+        self.made, self.fails = 0, fails
+
+    def next(self):
+        """How many bytes the next call keeps, where it fails."""
+        self.made += 1
+        return self.fails.get(self.made)
+
+
+def parts_of(words):
+    """The command with what it is given by place, and its options."""
+    places, options, rest = [], {}, iter(words[1:])
+    for word in rest:
+        name, has_value, value = word.partition("=")
+        if word.startswith("--"):
+            options[name] = value if has_value else next(rest)
+        else:
+            places.append(word)
+    return places[0], places[1:], options
+
+
+def netlist_of(text, is_design=True):
+    if text.count("\n") > MOST_LINES:
+        raise Unknown
+    try:
+        return plain.read(text.encode("latin-1"), is_design)
+    except plain.Refusal as refusal:
+        raise Refused(3, "netlist line ", str(refusal.args[0]), ": ", refusal.args[1], "\n") from None
+
+
+def asked_chains(options):
+    return int(options.get("--chains", "1"))
+
+
+def scanned_of(netlist, options):
+    return plain.scanned(netlist, plain.chains_of(netlist.cells, asked_chains(options)))
+
+
+def cycles_that_fit(stil, scanned):
+    """The cycles of a STIL file that fits the netlist."""
+    tokens = plain.stil_tokens(stil.encode("latin-1"))
+    walk = Walk(tokens[tokens.index(b"Signals"):])
+    inputs, chains, outputs = signals(walk)
+    inputs += [f"SC__si{c}" for c in range(chains)]
+    outputs += [f"SC__so{c}" for c in range(chains)]
+    if inputs != scanned.inputs or outputs != plain.pin_names(scanned) or bool(chains) != bool(scanned.cells):
+        raise Refused(4, "stil does not fit\n")
+    return cycles_in(stil.encode("latin-1"))
+
+
+def need_stil(text):
+    if not is_stil(text.encode("latin-1")):
+        raise Refused(4, "not a stil file\n")
+
+
+def is_log(text):
+    return LOG.fullmatch(text) is not None and all(int(line.split(" ")[0]) < 2**64 for line in text.split("\n")[1:-1])
+
+
+def scan(texts, options):
+    netlist = netlist_of(texts[0])
+    chains = plain.chains_of(netlist.cells, asked_chains(options))
+    return Due([plain.canonical(plain.scanned(netlist, chains)).decode()], f"cells {len(netlist.cells)} chains {len(chains)}\n")
+
+
+def faults(texts, _):
+    netlist_of(texts[0])
+    return Due([], "".join(line + "\n" for line in fault_list(texts[0])))
+
+
+def play(texts, options):
+    scanned = netlist_of(texts[0], is_design=False)
+    fault = None
+    if "--fault" in options:
+        line, _, stuck = options["--fault"].rpartition("/")
+        if stuck not in ("0", "1") or (line, int(stuck)) not in plain.universe(scanned):
+            raise Refused(2, "no such fault\n")
+        fault = line, int(stuck)
+    need_stil(texts[1])
+    for cycle, pin, unknown in unmet(scanned, cycles_that_fit(texts[1], scanned), fault):
+        return Due([], f"{'unknown' if unknown else 'fails'} at cycle {cycle} signal {pin}\n", 1)
+    return Due([], "passes\n")
+
+
+def chaintest(texts, options):
+    netlist = netlist_of(texts[0])
+    need_stil(texts[1])
+    return Due([], chain_test(netlist, asked_chains(options), cycles_that_fit(texts[1], scanned_of(netlist, options))))
+
+
+def diagnose(texts, options):
+    """The faults with which exactly what the log says fails, by a plain player."""
+    netlist = netlist_of(texts[0])
+    need_stil(texts[1])
+    if not is_log(texts[2]):
+        raise Refused(4, "not a fail log\n")
+    scanned = scanned_of(netlist, options)
+    cycles = cycles_that_fit(texts[1], scanned)
+    failures = {(*line.split(" "), False) for line in texts[2].split("\n")[1:-1]}
+    found = [
+        f"{line}/{stuck}"
+        for line, stuck in plain.universe(netlist)
+        if {(str(cycle), pin, unknown) for cycle, pin, unknown in unmet(scanned, cycles, site_of(netlist, (line, stuck)))} == failures
+    ]
+    return Due([], "".join(line + "\n" for line in [f"candidates {len(found)}"] + found))
+
+
+def check(texts, _):
+    netlist_of(texts[0])
+    if isinstance(texts[2], Begun):
+        raise Unknown
+    status, line = plain_check.check({end: text.encode("latin-1") for end, text in zip(ENDS, texts)})
+    if status > 1:
+        raise Refused(status, line + "\n")
+    return Due([], line + "\n", status)
+
+
+def run(texts, options, runs):
+    """The texts of a run, of those that are told: by its netlist and its options."""
+    netlist = netlist_of(texts[0])
+    for item in options.get("--hold", "").split(",") if "--hold" in options else []:
+        if item[:-2] not in netlist.inputs:
+            raise Refused(2, "no such input: ", item[:-2], "\n")
+    made = runs.get((texts[0], *sorted(options.items())))
+    if made is None:
+        raise Unknown
+    number = dict(line.split(" ") for line in made[4].split("\n")[1:15])
+    return Due(made, " ".join(f"{word} {number[word]}" for word in ("faults", "detected", "redundant", "aborted", "patterns", "cycles")) + "\n")
+
+
+def transition(texts, options):
+    """The texts of a test for slow lines. Every search comes to an end where the backtrack limit is that of all bits of the signals on which it
+    splits. The patterns are known where the tests of each fault are those of one cube, which is what a search that decides no more than it
+    needs finds. The searches choose the trees."""
+    netlist = netlist_of(texts[0])
+    limit, sources = int(options.get("--limit", "100")), len(netlist.inputs + netlist.cells)
+    if sources > plain_transition.MOST_SOURCES:
+        raise Unknown
+    if limit < 2 ** (plain_transition.most_places(netlist) if options.get("--engine") == "fan" else sources):
+        raise Unknown
+    chains = plain.chains_of(netlist.cells, asked_chains(options))
+    tests = plain_transition.tests_of(netlist)
+    detected = sum(bool(each) for each in tests)
+    totals = f"faults {len(tests)} detected {detected} redundant {len(tests) - detected} aborted 0"
+    cubes = [plain_transition.cube_of(each) for each in tests if each]
+    if None not in cubes:
+        patterns = plain_transition.filled(netlist, cubes, int(options.get("--seed", "1")))
+        situation = plain_transition.kept(netlist, chains, patterns)
+        stil = plain_transition.stil_of(netlist, chains, situation.patterns).decode()
+        report = plain_transition.report_of(situation, limit)
+        shown = f"{totals} patterns {len(situation.patterns)} cycles {situation.cycles()}\n"
+    else:
+        stil, report, shown = Begun("STIL 1.0;\n"), Begun("atpg transition 1\n"), Begun(totals)
+    made = [plain.canonical(netlist).decode(), plain.canonical(plain.scanned(netlist, chains)).decode(), stil]
+    return Due(made + [Begun("atpg transition certificate 1\n"), report], shown)
+
+
+WORK = {"scan": scan, "faults": faults, "play": play, "chaintest": chaintest, "diagnose": diagnose, "transition": transition, "check": check}
+
+
+def is_hold_list(told):
+    names = [item[:-2] for item in told.split(",")]
+    return HELD.fullmatch(told) is not None and len(set(names)) == len(names)
+
+
+def read_in_order(command, given, files, shelf):
+    """The texts that the command reads, up to the first that can't be had."""
+    for name, end in [(given[0], f".{end}") for end in ENDS] if command == "check" else [(name, "") for name in given[:READ[command]]]:
+        if shelf.next() is not None:
+            raise Refused(5, "read failed: ", name, end, "\n")
+        if name + end not in files:
+            raise Refused(7, "no such file: ", name, end, "\n")
+        if files[name + end] is None:
+            raise Unknown
+        if len(files[name + end]) > MOST_BYTES:
+            raise Refused(8, "too long: ", name, end, "\n")
+        yield files[name + end]
+
+
+def written(command, given, due, files, shelf):
+    """Writes in order, up to the first that fails."""
+    names = [(given[1], f".{end}") for end in ENDS] if command in ("run", "transition") else [(name, "") for name in given[1:]]
+    for (name, end), text in zip(names, due.texts):
+        kept = shelf.next()
+        files[name + end] = text if kept is None else text[:kept]
+        if kept is not None:
+            raise Refused(6, "write failed: ", name, end, "\n")
+
+
+def ending(words, files, fails, runs):
+    """How a run of the words ends; a file of None is one of which nobody knows what it holds."""
+    command, given, options = parts_of(words)
+    shelf, files, shown = Calls(fails.shelf), dict(files), ""
+    try:
+        if "--hold" in options and not is_hold_list(options["--hold"]):
+            raise Refused(2, "bad hold\n")
+        texts = list(read_in_order(command, given, files, shelf))
+        due = run(texts, options, runs) if command == "run" else WORK[command](texts, options)
+        written(command, given, due, files, shelf)
+        kept = fails.out.get(1)
+        shown = due.shown if kept is None else due.shown[:kept]
+        if kept is not None:
+            raise Refused(6, "write failed: -\n")
+        return Ended(due.status, shown, "", files)
+    except Refused as refused:
+        status, *pieces = refused.args
+    said, err = "", Calls(fails.err)
+    for piece in pieces:
+        kept = err.next()
+        said += piece[:kept]
+        if kept is not None:
+            break
+    return Ended(status, shown, said, files)

@@ -1,0 +1,347 @@
+#!/usr/bin/env python3
+"""Slow lines by launch on capture, by a plain program apart from the crates, for small designs.
+
+    bench/oracle/plain_transition.py PREFIX     tries all that the five files of `atpg transition` say: PREFIX.net, .scan, .stil, .cert and .rep
+    bench/oracle/plain_transition.py --all NET  counts by all patterns how many transition faults there are tests for
+
+It prints how many faults there are, or the first thing that is false, and ends with 1. It plays the test with each slow line from some power-up
+states (all of up to three cells), and tries all patterns where there are up to 12 inputs and cells.
+"""
+import itertools
+import pathlib
+import random
+import re
+import sys
+
+import plain_check
+import plain_design as plain
+from plain_check import ENDS, NotText
+from plain_stil import is_stil
+from sample_netlist import Pcg32
+
+MOST_SOURCES = 12
+SLOW = ("rise", "fall")  # of a line that is slow to leave 0, or 1
+FAULT = re.compile(r"((?:stem|out) \S+|pin \S+ \d+) (rise|fall) ")
+
+
+class False_(Exception):
+    """What is false."""
+
+
+def need(holds, *what):
+    if not holds:
+        raise False_(" ".join(map(str, what)))
+
+
+def fault_text(fault):
+    return f"{fault[0]} {SLOW[fault[1]]}"
+
+
+# What detects a transition fault.
+
+def signal_of(netlist, line):
+    """The signal whose value a line carries."""
+    kind, name, *place = line.split(" ")
+    return netlist.pins[name][int(place[0])] if kind == "pin" else name
+
+
+def second_of(netlist, sources, points):
+    """Inputs stay, and cells hold what they took."""
+    return {name: sources[name] for name in netlist.inputs} | dict(zip(netlist.cells, points[len(netlist.outputs):]))
+
+
+class Launches:
+    """Patterns, bit j of each word being that of pattern j, in both frames."""
+
+    def __init__(self, netlist, sources, ones):
+        self.netlist, self.ones = netlist, ones
+        self.first, points = plain.settled(netlist, sources, ones)
+        self.sources = second_of(netlist, sources, points)
+        _, self.good = plain.settled(netlist, self.sources, ones)
+
+    def detections(self, fault):
+        """For each observed point the patterns that detect the fault there."""
+        line, old = fault
+        launched = self.first[signal_of(self.netlist, line)] ^ (0 if old else self.ones)
+        _, faulty = plain.settled(self.netlist, self.sources, self.ones, fault)
+        return [(a ^ b) & launched for a, b in zip(self.good, faulty)]
+
+
+def packed(netlist, patterns):
+    sources = {name: sum(pattern[name] << j for j, pattern in enumerate(patterns)) for name in netlist.inputs + netlist.cells}
+    return Launches(netlist, sources, (1 << len(patterns)) - 1)
+
+
+def all_patterns(netlist):
+    names = netlist.inputs + netlist.cells
+    return [dict(zip(names, bits)) for bits in itertools.product((0, 1), repeat=len(names))]
+
+
+def tests_of(netlist):
+    """For each transition fault the patterns, of all that there are, that detect it."""
+    patterns = all_patterns(netlist)
+    launches = packed(netlist, patterns)
+    found = []
+    for fault in plain.universe(netlist):
+        word = 0
+        for each in launches.detections(fault):
+            word |= each
+        found.append([pattern for j, pattern in enumerate(patterns) if word >> j & 1])
+    return found
+
+
+# The two frames, and the stuck-at fault that makes a line slow there.
+
+def frames(netlist, fault):
+    line, old = fault
+    kind, name, *place = line.split(" ")
+    slow = signal_of(netlist, line)
+    first = {x: f"SC__1_{x}" for x in netlist.signals} | {x: x for x in netlist.inputs + netlist.cells}
+    second = {x: f"SC__2_{x}" for x in netlist.signals} | {x: x for x in netlist.inputs}
+
+    def read(branch, x):
+        """What a reader in the second frame reads."""
+        return "SC__g" if x == slow and (kind == "stem" or branch == line) else second[x]
+
+    definitions = []
+    for z, gate, pins in netlist.definitions:
+        if gate == "DFF":
+            definitions += [(z, "DFF", [read(f"pin {z} 0", pins[0])]), (second[z], "BUFF", [first[pins[0]]])]
+        else:
+            definitions += [(first[z], gate, [first[x] for x in pins]),
+                            (second[z], gate, [read(f"pin {z} {k}", x) for k, x in enumerate(pins)])]
+    tie, hold, late = ("CONST0", "AND", "OR") if old else ("CONST1", "OR", "AND")
+    definitions += [("SC__e", tie, []), ("SC__h", hold, [first[slow], "SC__e"]), ("SC__g", late, [second[slow], "SC__h"])]
+    outputs = [read(f"out {y}", y) for y in netlist.outputs]
+    return plain.Netlist(netlist.inputs, outputs, definitions), ("stem SC__e", old)
+
+
+def reached(netlist, starts):
+    """What is reached from these signals over at least one gate."""
+    found, waiting = set(), list(starts)
+    while waiting:
+        signal = waiting.pop()
+        more = [z for z, gate, pins in netlist.definitions if gate != "DFF" and signal in pins and z not in found]
+        found.update(more)
+        waiting += more
+    return found
+
+
+def most_places(netlist):
+    """The most signals on which a search of FAN may split, over all slow lines: head lines, fanout stems, and inputs and cells that are bound."""
+    most = 0
+    for fault in plain.universe(netlist):
+        two, (line, _) = frames(netlist, fault)
+        readers, ties = plain.readers_of(two), [x for x in two.signals if two.kind.get(x) in ("CONST0", "CONST1")]
+        stems = {x for x in two.signals if len(readers[x]) >= 2}
+        bound = {signal_of(two, line), *ties} | reached(two, [signal_of(two, line), *ties, *stems])
+        into = {x for z, gate, pins in two.definitions if gate == "DFF" or z in bound for x in pins} | set(two.outputs)
+        most = max(most, len(stems | (into - bound) | (bound & {*two.inputs, *two.cells})))
+    return most
+
+
+# The test.
+
+def items_of(netlist, chains, patterns):
+    """For each pattern a capture that strobes nothing, and one that strobes."""
+    captured = []
+    for pattern, (_, cells) in zip(patterns, plain.capture_of(netlist, patterns)):
+        behind = {name: pattern[name] for name in netlist.inputs} | cells
+        outs, cells = plain.capture_of(netlist, [behind])[0]
+        captured.append(([plain.vector_of(netlist, pattern, [2] * len(outs)), plain.vector_of(netlist, behind, outs)], cells))
+    return plain.items_of(netlist, chains, patterns, captured)
+
+
+def stil_of(netlist, chains, patterns):
+    return plain.stil_text(netlist, chains, {}, items_of(netlist, chains, patterns))
+
+
+def patterns_of(tokens, netlist, chains):
+    """Patterns whose file has these tokens; None where there are none such. It takes candidates and compares the whole text."""
+    start = tokens.index(b"Pattern")
+    pi = plain_check.words_after(tokens[start:], b"SC__pi")
+    loads = [plain_check.words_after(tokens[start:], f"SC__si{c}".encode()) for c in range(len(chains))]
+    patterns = []
+    for p, word in enumerate(pi[::2]):
+        pattern = dict(zip(netlist.inputs, map(int, word)))
+        for chain, words in zip(chains, loads):
+            # three flush loads, then for each pattern its load and two vectors
+            pattern |= {cell: int(bit) for cell, bit in zip(chain, words[3 + 3 * p][::-1])}
+        patterns.append(pattern)
+    return patterns if plain.stil_tokens(stil_of(netlist, chains, patterns)) == tokens else None
+
+
+def failing(scanned, cycles, state, fault=None):
+    """The strobes that fail in the run from a power-up state, with a line that is slow behind a launch, or none: cycles and pins."""
+    line, old = fault if fault else (None, 0)
+    pins, fails, before = plain.pin_names(scanned), [], None
+    for number, (drive, strobe, pulse) in enumerate(cycles):
+        sources = dict(zip(scanned.inputs, map(int, drive))) | state
+        is_capture = not sources["SC__se"] if scanned.cells else True
+        is_slow = fault is not None and is_capture and before == old
+        values, points = plain.settled(scanned, sources, 1, fault if is_slow else None)
+        fails += [(number, pin) for pin, bit, wanted in zip(pins, points, strobe) if wanted != "X" and bit != "LH".index(wanted)]
+        is_launch = is_capture and (bool(scanned.cells) or number % 2 == 0)
+        before = values[signal_of(scanned, line)] if fault and is_launch else None
+        if pulse:
+            state = dict(zip(scanned.cells, points[len(scanned.outputs):]))
+    return fails
+
+
+def power_ups(cells):
+    if len(cells) <= 3:
+        return [dict(zip(cells, bits)) for bits in itertools.product((0, 1), repeat=len(cells))]
+    rng = random.Random(1)
+    return [dict.fromkeys(cells, 0), dict.fromkeys(cells, 1)] + [{cell: rng.randrange(2) for cell in cells} for _ in range(2)]
+
+
+def site_of(netlist, line):
+    words = line.split(" ")
+    return f"pin SC__a_{words[1]} 0" if words[0] == "pin" and words[1] in netlist.cells else line
+
+
+# The files.
+
+class SlowLines(plain_check.Situation):
+    """What follows of a design, its chains and patterns: each fault is a class of its own."""
+
+    def __init__(self, netlist, chains, patterns):
+        self.netlist, self.chains, self.held, self.patterns = netlist, chains, {}, patterns
+        self.faults = plain.universe(netlist)
+        self.representatives = list(range(len(self.faults)))
+        self.launches = packed(netlist, patterns)
+        self.last = [self.last_detector(fault) for fault in self.faults]
+
+    def last_detector(self, fault):
+        words = self.launches.detections(fault)
+        last = max(word.bit_length() for word in words) - 1
+        return None if last < 0 else (last, next(k for k, word in enumerate(words) if word >> last & 1))
+
+    def detected(self, last):
+        pattern, point = last
+        longest = max((len(chain) for chain in self.chains), default=0)
+        begin, step, count = 3 * longest, longest + 2, len(self.netlist.outputs)
+        if point < count:
+            return "detected", pattern, begin + pattern * step + longest + 1, plain.pin_names(self.netlist)[point]
+        cell = self.netlist.cells[point - count]
+        number = next(c for c, chain in enumerate(self.chains) if cell in chain)
+        chain = self.chains[number]
+        return "detected", pattern, begin + (pattern + 1) * step + len(chain) - 1 - chain.index(cell), f"SC__so{number}"
+
+    def cycles(self):
+        return (len(self.patterns) + 4) * max((len(chain) for chain in self.chains), default=0) + 2 * len(self.patterns)
+
+    def head(self, said, limit):
+        return super().head(said, limit) | {"cycles": self.cycles()}
+
+
+def cube_of(tests):
+    """The bits that all tests of a fault have, where its tests are all patterns that have these; else None."""
+    cube = {name: bit for name, bit in tests[0].items() if all(test[name] == bit for test in tests)}
+    return cube if len(tests) == 2 ** (len(tests[0]) - len(cube)) else None
+
+
+def filled(netlist, cubes, seed):
+    """Cubes merged in order, each with the first that it doesn't contradict, and filled by the lowest bits of drawn words."""
+    results, words = [], Pcg32(seed, 0)
+    for cube in cubes:
+        fitting = next((result for result in results if all(result.get(name, bit) == bit for name, bit in cube.items())), None)
+        if fitting is None:
+            results.append(dict(cube))
+        else:
+            fitting.update(cube)
+    return [{name: cube[name] if name in cube else words.next_u32() & 1 for name in netlist.inputs + netlist.cells} for cube in results]
+
+
+def kept(netlist, chains, patterns):
+    """What follows of the patterns that are the last to detect some fault."""
+    return SlowLines(netlist, chains, plain_check.kept_patterns(SlowLines(netlist, chains, patterns)))
+
+
+def report_of(situation, limit):
+    """The report's text, where each fault that isn't detected is redundant."""
+    said = [(fault_text(fault), situation.detected(last) if last else ("redundant",)) for fault, last in zip(situation.faults, situation.last)]
+    head = situation.head(said, limit)
+    lines = ["atpg transition 1"] + [f"{word} {head[word]}" for word in plain_check.COUNTS]
+    lines += [f"{word} {plain_check.percent(head[word])}" for word in ("coverage", "efficiency")]
+    lines += [" ".join(str(each) for each in (fault, *verdict)) for fault, verdict in said]
+    return "".join(line + "\n" for line in lines)
+
+
+def read_report(text):
+    """The head and what is said of each fault: but for its first line and the faults' texts it is a report of stuck lines."""
+    lines = text.decode("latin-1").split("\n")
+    need(lines[0] == "atpg transition 1", "the report's first line")
+    need(all(FAULT.match(line) for line in lines[17:-1]), "a line of the report")
+    stuck = [FAULT.sub(lambda match: f"{match[1]}/{SLOW.index(match[2])} ", line) for line in lines[17:]]
+    head, _, said = plain_check.read_report("\n".join(["atpg report 1"] + lines[1:17] + stuck).encode("latin-1"))
+    texts = [FAULT.match(line)[0].rstrip() for line in lines[17:-1]]
+    return head, [(text, verdict) for text, (_, verdict) in zip(texts, said)]
+
+
+def try_trees(text, situation, said, limit):
+    """Each fault that isn't detected has a tree that fits on its two frames, with the ends that it needs; and there are no others."""
+    lines = text.decode("latin-1").split("\n")
+    need(lines[0] == "atpg transition certificate 1" and lines[-1] == "", "the certificate's first line")
+    left = [(fault, verdict[0]) for fault, (_, verdict) in zip(situation.faults, said) if verdict[0] != "detected"]
+    need(len(lines) - 2 == len(left), "how many trees there are")
+    for line, (fault, verdict) in zip(lines[1:], left):
+        need(line.startswith(fault_text(fault) + " "), "the tree of", fault_text(fault))
+        netlist, stuck = frames(situation.netlist, fault)
+        nodes = plain_check.nodes_of(line[len(fault_text(fault)) + 1:].split(" "), set(netlist.signals))
+        counts = plain_check.counts_of(netlist, stuck, nodes, {})
+        need(counts is not None and (counts[1] == 0 if verdict == "redundant" else counts[0] == limit and counts[1] > 0), "the tree of", fault_text(fault))
+
+
+def try_on_tester(situation, said):
+    """The good netlist passes; a detected fault fails where it is said, and a fault that no pattern detects nowhere."""
+    netlist, chains = situation.netlist, situation.chains
+    scanned = plain.scanned(netlist, chains)
+    cycles = list(plain.cycles_of(netlist, chains, items_of(netlist, chains, situation.patterns)))
+    need(len(cycles) == situation.cycles(), "the cycles of the file")
+    for state in power_ups(scanned.cells):
+        need(not failing(scanned, cycles, state), "the good netlist passes")
+        for (line, old), (text, verdict) in zip(situation.faults, said):
+            fails = failing(scanned, cycles, state, (site_of(netlist, line), old))
+            need(verdict[2:] in fails if verdict[0] == "detected" else not fails, "on the tester:", text)
+
+
+def try_files(files):
+    """How many faults there are, where nothing is false."""
+    netlist = plain.read(files["net"])
+    need(plain.canonical(netlist) == files["net"], ".net is the canonical text")
+    head, said = read_report(files["rep"])
+    chains = plain.chains_of(netlist.cells, head["chains"])
+    need(plain.canonical(plain.scanned(netlist, chains)) == files["scan"], ".scan is the scanned netlist")
+    need(is_stil(files["stil"]), ".stil is a STIL file")
+    patterns = patterns_of(plain.stil_tokens(files["stil"]), netlist, chains)
+    need(patterns is not None, ".stil is the file of patterns")
+    situation = SlowLines(netlist, chains, patterns)
+    need({last[0] for last in situation.last if last} == set(range(len(patterns))), "each pattern is needed")
+    need([text for text, _ in said] == [fault_text(fault) for fault in situation.faults], "each fault stands once")
+    for last, (text, verdict) in zip(situation.last, said):
+        need(verdict == situation.detected(last) if last else verdict[0] != "detected", "of", text)
+    need(head == situation.head(said, head["limit"]), "the numbers of the report")
+    try_trees(files["cert"], situation, said, head["limit"])
+    try_on_tester(situation, said)
+    if len(netlist.inputs + netlist.cells) <= MOST_SOURCES:
+        for tests, (text, verdict) in zip(tests_of(netlist), said):
+            need(not tests or verdict[0] != "redundant", "redundant:", text)
+    return len(said)
+
+
+def main():
+    *options, path = sys.argv[1:]
+    if options == ["--all"]:
+        tests = tests_of(plain.read(pathlib.Path(path).read_bytes()))
+        detected = sum(bool(each) for each in tests)
+        print(f"faults {len(tests)} detected {detected} redundant {len(tests) - detected}")
+        return
+    try:
+        print(f"tried {try_files(plain_check.read_files(pathlib.Path(path)))} faults")
+    except (False_, NotText, plain.Refusal) as what:
+        sys.exit(f"false: {what or 'a text outside its grammar'}")
+
+
+if __name__ == "__main__":
+    main()

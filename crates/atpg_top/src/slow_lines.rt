@@ -1,0 +1,179 @@
+//! `transition`: the five files of the slow lines of a file's netlist.
+ghost use Rattle.std.specs.Prelude.{◌≡◌, ◌≤◌, ◌∷◌, [], IfOk, length};
+ghost use Rattle.std.specs.List.{All};
+ghost use Rattle.netlist.specs.Designs.{IsDesign};
+ghost use Rattle.commands.specs.Contents.{most_bytes};
+ghost use Rattle.commands.specs.Names.{texts_of};
+ghost use Rattle.commands.specs.Rows.{CommandRow};
+ghost use Rattle.commands.specs.Worked.{IsWorked};
+ghost use Rattle.commands.specs.World.{world};
+ghost use Rattle.commands.specs.declared.ending.Finding.TheVariants.{Fine};
+ghost use Rattle.command_line.specs.CommandLine.{AreInRange};
+ghost use Rattle.transition_run.specs.Runs.{IsTransitionRun, files_of};
+ghost use Rattle.check_command.specs.Checking.{run_files};
+ghost use Rattle.atpg_top.specs.Commands.{transition_due};
+ghost use Rattle.atpg_top.specs.Runs.{tests_line, texts_in};
+ghost use Rattle.atpg_top.specs.inner.Running.{slow_due};
+
+use crate::design::design_of;
+use crate::five_files::{product_of, tests_line};
+use crate::refusal::Refusal;
+use check_command::file_names;
+use command_line::{EngineName, RunOptions};
+use commands::{Ending, FileName, Product, Stop, deliver, read_in_order};
+use fan::Fan;
+use netlist::{Core, Fault, Line, Netlist, NoMemory};
+use outside::{Shelf, Sink};
+use podem::Podem;
+use redundancy_cert::Engine;
+use std::alloc::{AllocError, Global};
+use std::thread::Threads;
+use transition_frames::frames;
+use transition_run::{Plan, TransitionFiles, transition_files};
+
+/// What is written and shown of a test for slow lines.
+fn product_by(alloc: Global, made: TransitionFiles) -> Result<Product, AllocError>
+    ensures texts { IfOk result (λ p. texts_of p.texts.items ≡ texts_in (files_of made)) }
+    ensures count { IfOk result (λ p. length p.texts.items ≡ 5) }
+    ensures shown { IfOk result (λ p. p.shown.items ≡ tests_line made.said.counts) }
+    ensures fine { IfOk result (λ p. p.finding ≡ Fine) }
+{
+    let shown = tests_line(alloc, made.said.counts)?;
+    let TransitionFiles {
+        net,
+        scan,
+        stil,
+        certificate,
+        report,
+        said: _,
+    } = made;
+    product_of(alloc, net, scan, stil, certificate, report, shown)
+}
+
+/// The two frames of a design with its first input slow to rise. The frames of every slow line have the same signals, so what guides a search
+/// is measured once, here.
+fn some_frames(alloc: Global, netlist: &Netlist) -> Result<Core, NoMemory>
+    requires { IsDesign netlist.now }
+{
+    netlist.sound();
+    let fault = Fault {
+        line: Line::Stem(netlist.inputs()[0]),
+        value: false,
+    };
+    let (two, _) = frames(alloc, netlist, fault)?;
+    match Core::of(alloc, two) {
+        Ok(core) => Ok(core),
+        Err(_) => Err(NoMemory),
+    }
+}
+
+/// The five files, as this engine finds them.
+fn made_by<R: Threads + Sync, E: Engine + Sync>(
+    rt: &R,
+    alloc: Global,
+    core: &Core,
+    options: RunOptions,
+    engine: &E,
+) -> Result<TransitionFiles, NoMemory>
+    requires design { IsDesign core.now }
+    requires range { AreInRange options }
+    ensures { IfOk result (IsTransitionRun core.now options.chains options.limit) }
+{
+    let plan = Plan {
+        chains: options.chains,
+        workers: options.workers,
+        limit: options.limit,
+        seed: options.seed,
+    };
+    transition_files(rt, alloc, core, plan, engine)
+}
+
+/// The five files, as the engine that was asked for finds them.
+fn made_of<R: Threads + Sync>(
+    rt: &R,
+    alloc: Global,
+    core: &Core,
+    options: RunOptions,
+) -> Result<TransitionFiles, NoMemory>
+    requires design { IsDesign core.now }
+    requires range { AreInRange options }
+    ensures { IfOk result (IsTransitionRun core.now options.chains options.limit) }
+{
+    let guide = some_frames(alloc, core.netlist())?;
+    match options.engine {
+        EngineName::Podem => {
+            let podem = Podem::of(alloc, &guide)?;
+            made_by(rt, alloc, core, options, &podem)
+        }
+        EngineName::Fan => {
+            let fan = Fan::of(alloc, &guide)?;
+            made_by(rt, alloc, core, options, &fan)
+        }
+    }
+}
+
+/// What `transition` makes of a design.
+fn test_design<R: Threads + Sync>(
+    rt: &R,
+    alloc: Global,
+    netlist: Netlist,
+    options: RunOptions,
+) -> Result<Product, Stop<Refusal>>
+    requires design { IsDesign netlist }
+    requires range { AreInRange options }
+    ensures { IsWorked (slow_due options netlist) 5 result }
+{
+    let Ok(core) = Core::of(alloc, netlist) else {
+        return Err(Stop::NoMemory);
+    };
+    let Ok(made) = made_of(rt, alloc, &core, options) else {
+        return Err(Stop::NoMemory);
+    };
+    match product_by(alloc, made) {
+        Ok(product) => Ok(product),
+        Err(_) => Err(Stop::NoMemory),
+    }
+}
+
+/// The work of `transition`.
+fn work<R: Threads + Sync>(
+    rt: &R,
+    alloc: Global,
+    texts: Vec<Vec<u8>>,
+    options: RunOptions,
+) -> Result<Product, Stop<Refusal>>
+    requires count { length texts.items ≡ 1 }
+    requires within { All (λ text. length text ≤ most_bytes) (texts_of texts.items) }
+    requires range { AreInRange options }
+    ensures { IsWorked (transition_due options (texts_of texts.items)) 5 result }
+{
+    match design_of(alloc, texts) {
+        Ok(netlist) => test_design(rt, alloc, netlist, options),
+        Err(stop) => Err(stop),
+    }
+}
+
+/// Writes the five files of the slow lines of the netlist of the file `net` under names that begin with `prefix`.
+pub fn test_slow_lines<'a, R: Threads + Sync, S: Shelf, T: Sink>(
+    rt: &R,
+    alloc: Global,
+    shelf: &mut S,
+    out: &mut T,
+    net: &'a str,
+    prefix: &'a str,
+    options: RunOptions,
+) -> Ending<'a, Refusal>
+    requires { AreInRange options }
+    ensures { CommandRow (net.now ∷ []) (run_files prefix.now) (transition_due options)
+        (world (S.files shelf.old) (S.failures shelf.old) (T.taken out.old) (T.failures out.old))
+        (world (S.files shelf.new) (S.failures shelf.new) (T.taken out.new) (T.failures out.new)) result }
+{
+    let reads = [FileName::of(net)];
+    let writes = file_names(prefix);
+    let texts = match read_in_order(alloc, shelf, &reads) {
+        Ok(texts) => texts,
+        Err(ending) => return ending,
+    };
+    let worked = work(rt, alloc, texts, options);
+    deliver(alloc, shelf, out, &writes, worked)
+}

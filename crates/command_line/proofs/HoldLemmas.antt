@@ -1,0 +1,95 @@
+-- The list of held inputs, item by item.
+use denote.Ref.{Bor}
+use Rattle.std.proofs.Common.{◌≡◌, ℕ, suc, ◌+◌, ◌<◌, Bool, true, false, List, [], ◌∷◌, ◌++◌, drop, map, length, Option, Some, None, refl, sym, ap, ◌∙◌, add-one, append_assoc, drop-cons, get_or, option_map, lit<}
+use Rattle.std.specs.Prelude.{◌==◌, ◌&&◌, ◌||◌, not, if◌then◌else◌, option_and_then}
+use Rattle.std.specs.List.{list_any, slice_split}
+use Rattle.std.specs.Str.{bytes_eq}
+use Rattle.std.proofs.lemmas.List.{map_push}
+use Rattle.std.proofs.lemmas.Str.Pattern.{IsSplitOnceResult, split_parts}
+use Rattle.clap.proofs.CutLemmas.{slice_split-Lacks, slice_split-at}
+use Rattle.clap.specs.Words.{Text}
+use Rattle.command_line.specs.CommandLine.{hold_of}
+use Rattle.command_line.specs.declared.holds.Held.{Held}
+use Rattle.command_line.specs.HoldLists.{Hold, are_new, hold_in, holds_in, holds_of, if_distinct, with_hold}
+
+-- what the items are, behind those that are done
+abbrev pub after : List Hold → Option (List Hold) → Option (List Hold)
+after done holds = option_map (λ hs. done ++ hs) holds
+
+moved : (done : List Hold) (h : Hold) (rest : Option (List Hold)) → after done (with_hold (Some h) rest) ≡ after (done ++ h ∷ []) rest
+moved done h None = refl
+moved done h (Some hs) = ap Some (sym (append_assoc done (h ∷ []) hs))
+
+pub one_more : (all : Option (List Hold)) (done : List Hold) (items : List Text) (item : Text) (more : List Text) (h : Hold) → all ≡ after done (holds_of items)
+    → items ≡ item ∷ more → Some h ≡ hold_in item → all ≡ after (done ++ h ∷ []) (holds_of more)
+one_more all done items item more h e split is =
+    e ∙ ap (λ (ts : List Text). after done (holds_of ts)) split ∙ ap (λ (o : Option Hold). after done (with_hold o (holds_of more))) (sym is) ∙ moved done h (holds_of more)
+
+pub one_bad : (all : Option (List Hold)) (done : List Hold) (items : List Text) (item : Text) (more : List Text) → all ≡ after done (holds_of items)
+    → items ≡ item ∷ more → None ≡ hold_in item → all ≡ None
+one_bad all done items item more e split is =
+    e ∙ ap (λ (ts : List Text). after done (holds_of ts)) split ∙ ap (λ (o : Option Hold). after done (with_hold o (holds_of more))) (sym is)
+
+-- a list of such items, whose names are distinct or not
+pub checked : (text : Text) (holds : List Hold) (distinct : Bool) → holds_of (slice_split (λ b. b == 44) text) ≡ Some holds → distinct ≡ are_new [] (map (λ h. h.0) holds)
+    → holds_in text ≡ (if distinct then Some holds else None)
+checked text holds distinct e d = ap (option_and_then if_distinct) e ∙ ap (λ (b : Bool). if b then Some holds else None) (sym d)
+
+pub none_checked : (text : Text) → holds_of (slice_split (λ b. b == 44) text) ≡ None → holds_in text ≡ None
+none_checked text e = ap (option_and_then if_distinct) e
+
+abbrev pub texts_in : List (Bor Text) → List Text
+texts_in keys = map (λ (key : Bor Text). key.now) keys
+
+any_texts : (p : Text → Bool) (keys : List (Bor Text)) → list_any (λ (key : Bor Text). p key.now) keys ≡ list_any p (texts_in keys)
+any_texts p [] = refl
+any_texts p (key ∷ keys) = ap (λ b. p key.now || b) (any_texts p keys)
+
+not_true : (b : Bool) → not b ≡ true → b ≡ false
+not_true true e = cc
+not_true false e = refl
+
+-- a comma is there: the first item and the others
+pub split_at_comma : (text : Text) (item more : Bor Text) → IsSplitOnceResult 44 text (Some (item, more))
+    → (slice_split (λ b. b == 44) text ≡ item.now ∷ slice_split (λ b. b == 44) more.now)
+split_at_comma text item more is =
+    let parts = split_parts 44 text (Some (item, more)) is (lit< tt) in
+    ap (slice_split (λ b. b == 44)) parts.0 ∙ slice_split-at 44 item.now more.now parts.1
+
+-- none is there: one item
+pub one_item : (text : Text) → IsSplitOnceResult 44 text None → slice_split (λ b. b == 44) text ≡ text ∷ []
+one_item text is = slice_split-Lacks 44 text (split_parts 44 text None is (lit< tt))
+
+abbrev pub names : List Held → List Text
+names holds = map (λ h. h.0) (map hold_of holds)
+
+-- the name at a place, against those before it
+module _ (holds : List Held) (i : ℕ) (d : Held) (within : i < length holds) (keys : List (Bor Text)) where
+  abbrev x : Bor Text
+  x = (get_or holds i d).name
+
+  abbrev Among : Bool
+  Among = list_any (λ (key : Bor Text). bytes_eq x.now key.now) keys
+
+  here : names (drop i holds) ≡ x.now ∷ names (drop (suc i) holds)
+  here = ap names (drop-cons holds i d within)
+
+  among : list_any (bytes_eq x.now) (texts_in keys) ≡ Among
+  among = sym (any_texts (bytes_eq x.now) keys)
+
+  abbrev Rest : Bool → List Text → Bool
+  Rest found before = not found && are_new before (names (drop (suc i) holds))
+
+  opened : are_new (texts_in keys) (names (drop i holds)) ≡ Rest Among (texts_in keys ++ x.now ∷ [])
+  opened = ap (are_new (texts_in keys)) here ∙ ap (λ (b : Bool). Rest b (texts_in keys ++ x.now ∷ [])) among
+
+  pub stands_twice : (all : Bool) → all ≡ are_new (texts_in keys) (names (drop i holds)) → not Among ≡ false → false ≡ all
+  stands_twice all e twice = sym (e ∙ opened ∙ ap (λ (b : Bool). b && are_new (texts_in keys ++ x.now ∷ []) (names (drop (suc i) holds))) twice)
+
+  pub is_new : (all : Bool) (more : List (Bor Text)) → all ≡ are_new (texts_in keys) (names (drop i holds)) → not Among ≡ true
+      → more ≡ (if Among then keys else keys ++ x ∷ []) → all ≡ are_new (texts_in more) (names (drop (i + 1) holds))
+  is_new all more e new m =
+      let pushed : more ≡ keys ++ x ∷ [] = m ∙ ap (λ (b : Bool). if b then keys else keys ++ x ∷ []) (not_true Among new) in
+      let grown : texts_in keys ++ x.now ∷ [] ≡ texts_in more = sym (map_push (λ (key : Bor Text). key.now) keys x) ∙ ap texts_in (sym pushed) in
+      rw add-one (e ∙ opened ∙ ap (λ (b : Bool). b && are_new (texts_in keys ++ x.now ∷ []) (names (drop (suc i) holds))) new
+      ∙ ap (λ (l : List Text). are_new l (names (drop (suc i) holds))) grown)

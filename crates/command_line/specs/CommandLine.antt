@@ -1,0 +1,195 @@
+-- What a command line asks for.
+use Rattle.std.specs.Prelude.{◌≤◌, ⊤, ℕ, Bool, true, List, [], ◌∷◌, Option, Some, None, if◌then◌else◌, codes, map}
+use Rattle.std.specs.Prelude.{Result, Ok, Err, option_and_then, option_map}
+use Rattle.std.specs.Option.{ok_or}
+use Rattle.std.specs.Str.{bytes_eq}
+use Rattle.clap.specs.Words.{Kinds, Row, Text, first_of, subcommand_of}
+use Rattle.clap.specs.Faults.{fault_of}
+use Rattle.command_line.specs.Numbers.{number_in}
+use Rattle.command_line.specs.HoldLists.{Hold, holds_in}
+use Rattle.command_line.specs.Table.{command_table, least_gates, most_chains, most_gates, most_limit, most_seed, most_workers}
+use Rattle.command_line.specs.declared.holds.Held.{Held}
+use Rattle.command_line.specs.declared.requests.EngineName.{EngineName}
+use Rattle.command_line.specs.declared.requests.EngineName.TheVariants.{Podem, Fan}
+use Rattle.command_line.specs.declared.requests.RunOptions.{RunOptions}
+use Rattle.command_line.specs.declared.requests.DiagnoseOptions.{DiagnoseOptions}
+use Rattle.command_line.specs.declared.requests.Request.{Request}
+use Rattle.command_line.specs.declared.requests.Request.TheVariants as request
+
+pub data CommandLine : Type 0 where
+  -- the netlist's file, the file to write, and how many chains at most
+  scan : Text → Text → ℕ → CommandLine
+  -- the netlist's file
+  faults : Text → CommandLine
+  -- the netlist's file, what the names of the files written begin with, the numbers, and the inputs that are held
+  run : Text → Text → RunOptions → List Hold → CommandLine
+  -- the netlist's file, the STIL file, and the text of a fault
+  play : Text → Text → Option Text → CommandLine
+  -- what the names of the files read begin with
+  check : Text → CommandLine
+  -- the seed of a sample netlist, and its gates
+  sweep : ℕ → ℕ → CommandLine
+  -- the netlist's file, the STIL file, and how many chains at most
+  chaintest : Text → Text → ℕ → CommandLine
+  -- the design's file, the STIL file, the file of the tester's log, and the numbers
+  diagnose : Text → Text → Text → DiagnoseOptions → CommandLine
+  -- the netlist's file, what the names of the files written begin with, and the numbers
+  transition : Text → Text → RunOptions → CommandLine
+
+-- Why words are no command line: by `clap`'s rule, or the form or range of a value; or, all else being in order, by the list of held inputs.
+pub data NoLine : Type 0 where
+  bad_words : NoLine
+  bad_hold : NoLine
+
+-- the number that an option's text writes, or `default` where the option isn't there
+abbrev pub number_given : ℕ → ℕ → ℕ → Option Text → Option ℕ
+number_given default low high None = Some default
+number_given default low high (Some text) = number_in low high text
+
+abbrev pub number_at : Text → ℕ → ℕ → ℕ → List Row → Option ℕ
+number_at name default low high rows = number_given default low high (first_of name rows)
+
+-- the number that must be there
+abbrev pub number_of : Text → ℕ → ℕ → List Row → Option ℕ
+number_of name low high rows = option_and_then (number_in low high) (first_of name rows)
+
+abbrev pub scan_of : List Row → Option CommandLine
+scan_of rows = option_and_then (λ net. option_and_then (λ out.
+    option_map (λ chains. scan net out chains) (number_at (codes "chains") 1 1 most_chains rows))
+    (first_of (codes "OUT") rows)) (first_of (codes "NET") rows)
+
+abbrev pub faults_of : List Row → Option CommandLine
+faults_of rows = option_map (λ net. faults net) (first_of (codes "NET") rows)
+
+-- the engine of this name, `podem` where none is given
+abbrev pub engine_given : Option Text → Option EngineName
+engine_given None = Some Podem
+engine_given (Some text) =
+    if bytes_eq text (codes "podem") then Some Podem
+    else if bytes_eq text (codes "fan") then Some Fan
+    else None
+
+-- the engine of a command that searches, with its numbers, 1, 1, 100 and 1 where they aren't given
+abbrev pub options_of : EngineName → List Row → Option RunOptions
+options_of engine rows = option_and_then (λ chains. option_and_then (λ workers. option_and_then (λ limit.
+    option_map (λ seed. record { engine = engine; chains = chains; workers = workers; limit = limit; seed = seed })
+    (number_at (codes "seed") 1 0 most_seed rows))
+    (number_at (codes "limit") 100 1 most_limit rows))
+    (number_at (codes "workers") 1 1 most_workers rows))
+    (number_at (codes "chains") 1 1 most_chains rows)
+
+-- the netlist's file, what the names of the files written begin with, and the engine and the numbers
+abbrev pub Search : Type 0
+Search = Text × Text × RunOptions
+
+-- what `run` and `transition` are given alike
+abbrev pub search_of : List Row → Option Search
+search_of rows = option_and_then (λ engine. option_and_then (λ net. option_and_then (λ prefix.
+    option_map (λ options. (net, prefix, options)) (options_of engine rows))
+    (first_of (codes "PREFIX") rows)) (first_of (codes "NET") rows)) (engine_given (first_of (codes "engine") rows))
+
+abbrev pub holds_given : Option Text → Option (List Hold)
+holds_given None = Some []
+holds_given (Some text) = holds_in text
+
+abbrev pub run_where : Option Search → Option (List Hold) → Result CommandLine NoLine
+run_where (Some s) (Some holds) = Ok (run s.0 s.1 s.2 holds)
+run_where (Some s) None = Err bad_hold
+run_where None _ = Err bad_words
+
+abbrev pub run_of : List Row → Result CommandLine NoLine
+run_of rows = run_where (search_of rows) (holds_given (first_of (codes "hold") rows))
+
+abbrev pub transition_of : List Row → Option CommandLine
+transition_of rows = option_map (λ s. transition s.0 s.1 s.2) (search_of rows)
+
+abbrev pub play_of : List Row → Option CommandLine
+play_of rows = option_and_then (λ net. option_map (λ stil. play net stil (first_of (codes "fault") rows))
+    (first_of (codes "STIL") rows)) (first_of (codes "NET") rows)
+
+abbrev pub check_of : List Row → Option CommandLine
+check_of rows = option_map (λ prefix. check prefix) (first_of (codes "PREFIX") rows)
+
+abbrev pub sweep_of : List Row → Option CommandLine
+sweep_of rows = option_and_then (λ seed. option_map (λ gates. sweep seed gates)
+    (number_of (codes "GATES") least_gates most_gates rows)) (number_of (codes "SEED") 0 most_seed rows)
+
+abbrev pub chaintest_of : List Row → Option CommandLine
+chaintest_of rows = option_and_then (λ net. option_and_then (λ stil.
+    option_map (λ chains. chaintest net stil chains) (number_at (codes "chains") 1 1 most_chains rows))
+    (first_of (codes "STIL") rows)) (first_of (codes "NET") rows)
+
+abbrev pub diagnose_of : List Row → Option CommandLine
+diagnose_of rows = option_and_then (λ net. option_and_then (λ stil. option_and_then (λ log. option_and_then (λ chains.
+    option_map (λ workers. diagnose net stil log (record { chains = chains; workers = workers }))
+    (number_at (codes "workers") 1 1 most_workers rows))
+    (number_at (codes "chains") 1 1 most_chains rows))
+    (first_of (codes "LOG") rows)) (first_of (codes "STIL") rows)) (first_of (codes "NET") rows)
+
+-- a command whose values have their form and are in their range, or bad words
+abbrev pub line_from : Option CommandLine → Result CommandLine NoLine
+line_from line = ok_or line bad_words
+
+-- what a command asks for, by its name and the rows of values that `clap`'s rule gives for it
+unfoldable pub line_by : Text → List Row → Result CommandLine NoLine
+line_by name rows =
+    if bytes_eq name (codes "scan") then line_from (scan_of rows)
+    else if bytes_eq name (codes "faults") then line_from (faults_of rows)
+    else if bytes_eq name (codes "run") then run_of rows
+    else if bytes_eq name (codes "play") then line_from (play_of rows)
+    else if bytes_eq name (codes "check") then line_from (check_of rows)
+    else if bytes_eq name (codes "sweep") then line_from (sweep_of rows)
+    else if bytes_eq name (codes "chaintest") then line_from (chaintest_of rows)
+    else if bytes_eq name (codes "diagnose") then line_from (diagnose_of rows)
+    else if bytes_eq name (codes "transition") then line_from (transition_of rows)
+    else Err bad_words
+
+abbrev pub line_at : Option (Text × List Row) → Result CommandLine NoLine
+line_at None = Err bad_words
+line_at (Some p) = line_by p.0 p.1
+
+-- where no step of the parse fails, what the command asks for
+abbrev pub line_where_taken : Kinds → Option (Text × List Row) → Result CommandLine NoLine
+line_where_taken [] command = line_at command
+line_where_taken (k ∷ ks) command = Err bad_words
+
+-- the words are a command line: `clap`'s rule for simple commands takes them, no step of the parse
+-- failing, and each value of the command that it names has its form and is in its range
+unfoldable pub command_line : List Text → Result CommandLine NoLine
+command_line words =
+    line_where_taken (fault_of command_table words) (subcommand_of command_table words)
+
+-- an input's name, and the bit at which it is held
+abbrev pub hold_of : Held → Hold
+hold_of held = (held.name.now, held.bit)
+
+-- the command line that a request is
+abbrev pub line_of : Request → CommandLine
+line_of (request.Scan net out chains) = scan net.now out.now chains
+line_of (request.Faults net) = faults net.now
+line_of (request.Run net prefix options holds) = run net.now prefix.now options (map hold_of holds.items)
+line_of (request.Play net stil fault) = play net.now stil.now (option_map (λ t. t.now) fault)
+line_of (request.Check prefix) = check prefix.now
+line_of (request.Sweep seed gates) = sweep seed gates
+line_of (request.ChainTest net stil chains) = chaintest net.now stil.now chains
+line_of (request.Diagnose net stil log options) = diagnose net.now stil.now log.now options
+line_of (request.Transition net prefix options) = transition net.now prefix.now options
+
+pub record AreInRange (options : RunOptions) : Type 0 where
+  pub chains : (1 ≤ options.chains) × (options.chains ≤ most_chains)
+  pub workers : (1 ≤ options.workers) × (options.workers ≤ most_workers)
+  pub limit : (1 ≤ options.limit) × (options.limit ≤ most_limit)
+
+pub record AreWithin (options : DiagnoseOptions) : Type 0 where
+  pub chains : (1 ≤ options.chains) × (options.chains ≤ most_chains)
+  pub workers : (1 ≤ options.workers) × (options.workers ≤ most_workers)
+
+-- each number of a request is in its range
+abbrev pub IsInRange : Request → Type 0
+IsInRange (request.Scan net out chains) = (1 ≤ chains) × (chains ≤ most_chains)
+IsInRange (request.Run net prefix options holds) = AreInRange options
+IsInRange (request.Sweep seed gates) = (least_gates ≤ gates) × (gates ≤ most_gates)
+IsInRange (request.ChainTest net stil chains) = (1 ≤ chains) × (chains ≤ most_chains)
+IsInRange (request.Diagnose net stil log options) = AreWithin options
+IsInRange (request.Transition net prefix options) = AreInRange options
+IsInRange _ = ⊤

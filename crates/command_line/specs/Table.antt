@@ -1,0 +1,111 @@
+-- The table of commands, in the terms of `clap`: what a parse reads of a command.
+use Rattle.std.specs.Prelude.{ℕ, ◌++◌, true, false, List, [], ◌∷◌, Some, codes}
+use Rattle.clap.specs.Words.{App, Rule, Shape, Text, new_rule}
+use Rattle.clap.specs.Simple.{new_shape}
+use Rattle.clap.specs.declared.builder.value_parser.ValueParser.TheVariants.{Unsigned}
+
+-- a value that must be there, known by its place
+abbrev pub required : Text → Rule
+required id = record (new_rule id) { required = true }
+
+-- `--name text` or `--name=text`
+abbrev pub text_option : Text → Rule
+text_option name = record (new_rule name) { long = Some name }
+
+-- `--name number` or `--name=number`, from low to high. `clap` takes a plus and zeros in front
+-- of a number, so what its rule takes is read once more, by `number_in`
+abbrev pub number_option : Text → ℕ → ℕ → Rule
+number_option name low high = record (text_option name) { parser = Some (Unsigned low high) }
+
+-- a number that must be there, known by its place, from low to high
+abbrev pub required_number : Text → ℕ → ℕ → Rule
+required_number id low high = record (required id) { parser = Some (Unsigned low high) }
+
+-- a command, by its name and its arguments
+abbrev pub command : Text → List Rule → Shape
+command name rules = record (new_shape name) { rules = rules }
+
+abbrev pub most_chains : ℕ
+most_chains = 256
+
+abbrev pub most_workers : ℕ
+most_workers = 64
+
+-- the greatest backtrack limit: the most ends that a search may close
+abbrev pub most_limit : ℕ
+most_limit = 100000
+
+-- the most that a seed can be, 2 ^ 64 - 1
+abbrev pub most_seed : ℕ
+most_seed = 18446744073709551615
+
+abbrev pub least_gates : ℕ
+least_gates = 16
+
+abbrev pub most_gates : ℕ
+most_gates = 20000
+
+-- scan NET OUT [--chains C]
+abbrev pub scan_command : Shape
+scan_command = command (codes "scan")
+    (required (codes "NET") ∷ required (codes "OUT") ∷ number_option (codes "chains") 1 most_chains ∷ [])
+
+-- faults NET
+abbrev pub faults_command : Shape
+faults_command = command (codes "faults") (required (codes "NET") ∷ [])
+
+-- what `run` and `transition` have alike: NET PREFIX [--chains C] [--workers N] [--limit L] [--seed S] [--engine E]
+abbrev pub search_rules : List Rule
+search_rules =
+    required (codes "NET") ∷ required (codes "PREFIX") ∷ number_option (codes "chains") 1 most_chains
+    ∷ number_option (codes "workers") 1 most_workers ∷ number_option (codes "limit") 1 most_limit
+    ∷ number_option (codes "seed") 0 most_seed ∷ text_option (codes "engine") ∷ []
+
+-- run NET PREFIX .. [--hold LIST]
+abbrev pub run_command : Shape
+run_command = command (codes "run") (search_rules ++ text_option (codes "hold") ∷ [])
+
+-- play NET STIL [--fault F]
+abbrev pub play_command : Shape
+play_command = command (codes "play") (required (codes "NET") ∷ required (codes "STIL") ∷ text_option (codes "fault") ∷ [])
+
+-- check PREFIX
+abbrev pub check_command : Shape
+check_command = command (codes "check") (required (codes "PREFIX") ∷ [])
+
+-- sweep SEED GATES
+abbrev pub sweep_command : Shape
+sweep_command = command (codes "sweep")
+    (required_number (codes "SEED") 0 most_seed ∷ required_number (codes "GATES") least_gates most_gates ∷ [])
+
+-- chaintest NET STIL [--chains C]
+abbrev pub chaintest_command : Shape
+chaintest_command = command (codes "chaintest")
+    (required (codes "NET") ∷ required (codes "STIL") ∷ number_option (codes "chains") 1 most_chains ∷ [])
+
+-- diagnose NET STIL LOG [--chains C] [--workers N]
+abbrev pub diagnose_command : Shape
+diagnose_command = command (codes "diagnose")
+    (required (codes "NET") ∷ required (codes "STIL") ∷ required (codes "LOG") ∷ number_option (codes "chains") 1 most_chains
+    ∷ number_option (codes "workers") 1 most_workers ∷ [])
+
+-- transition NET PREFIX ..
+abbrev pub transition_command : Shape
+transition_command = command (codes "transition") search_rules
+
+-- the program, before its commands: it has a version and needs a command, and `help` is none
+abbrev pub program : App
+program = record {
+  top = record (new_shape (codes "atpg")) {
+    disable_help_subcommand = true;
+    has_version = true;
+    subcommand_required = true;
+  };
+  subs = [];
+}
+
+unfoldable pub command_table : App
+command_table = record {
+  top = record program.top { is_leaf = false };
+  subs = scan_command ∷ faults_command ∷ run_command ∷ play_command ∷ check_command ∷ sweep_command ∷ chaintest_command ∷ diagnose_command ∷ transition_command ∷ [];
+}

@@ -1,0 +1,5 @@
+pub mod Errors
+pub mod Held
+pub mod Padding
+pub mod SearchTable
+pub mod Searches

@@ -1,0 +1,117 @@
+//! The command line: what the program's words ask for, exactly by `clap`'s rule over a table of
+//! commands.
+//!
+//! `commands` builds the table for `clap`, `values` reads single values, `requests` makes of what
+//! `clap` found a request.
+//!
+//! Gives: `parse`, `Request`.
+//! Proved: `parse`: exactly the request that clap's rule gives over the table, with exactly the list of held inputs, or why there is none.
+//! Tested: clap's texts.
+#![tactic(auto)]
+
+ghost use Rattle.std.specs.Prelude.{◌≡◌, Ok, IfOk, IfErr, map};
+ghost use Rattle.std.specs.String.{string_bytes};
+ghost use Rattle.clap.specs.Words.{FailsBy, kind_of, subcommand_of, subcommand_rows_of};
+ghost use Rattle.clap.specs.Faults.{fault_of};
+ghost use Rattle.command_line.specs.Table.{command_table};
+ghost use Rattle.command_line.specs.CommandLine.{IsInRange, command_line, line_of};
+ghost use Rattle.command_line.specs.Refusals.{IsCause};
+ghost use Rattle.command_line.specs.inner.Errors.{BecomesRefusal, IsBadWords, IsMadeOf};
+
+mod commands;
+mod holds;
+mod requests;
+mod values;
+
+use clap::error::ErrorKind;
+use clap::{ArgMatches, Error};
+use commands::table;
+pub use holds::Held;
+pub use requests::{DiagnoseOptions, EngineName, Request, RunOptions};
+use requests::{NoRequest, request_of};
+use std::alloc::Global;
+
+/// Why the words are no request.
+#[derive(Debug, Drop)]
+pub enum WordsRefusal {
+    /// They are no command line of the table. The text is for the user, its last line ended: what
+    /// is wrong and how to get help, or the help or version that was asked for.
+    BadWords(String),
+    /// They would be one, but for the list of held inputs.
+    BadHold,
+    NoMemory,
+}
+
+// Of numbers that `clap` takes and the table doesn't, as `+5` and `05`.
+const BAD_NUMBER: &str = "\
+error: a number is written in decimal digits, without a sign or a leading zero
+
+For more information, try '--help'.
+";
+
+// Of engines that aren't there.
+const BAD_ENGINE: &str = "\
+error: the engine is podem or fan
+
+For more information, try '--help'.
+";
+
+fn matches<'a>(alloc: Global, words: &'a [String]) -> Result<ArgMatches<'a>, Error>
+    ensures rows { IfOk result (λ m. subcommand_rows_of m
+        ≡ subcommand_of command_table (map string_bytes words.entry.now)) }
+    ensures kinds { FailsBy (fault_of command_table (map string_bytes words.entry.now)) result }
+{
+    let table = table(alloc)?;
+    table.try_get_matches_from(words)
+}
+
+fn refusal(alloc: Global, error: &Error) -> WordsRefusal
+    ensures { IsMadeOf (kind_of error.now) result }
+{
+    match format!(in alloc; "{error}") {
+        Ok(text) => match error.kind() {
+            ErrorKind::OutOfMemory => WordsRefusal::NoMemory,
+            _ => WordsRefusal::BadWords(text),
+        },
+        Err(_) => WordsRefusal::NoMemory,
+    }
+}
+
+// The words are no command line, and this is the text for the user.
+fn bad_words(alloc: Global, text: &str) -> WordsRefusal
+    ensures { IsBadWords result }
+{
+    match String::from_str(alloc, text) {
+        Ok(text) => WordsRefusal::BadWords(text),
+        Err(_) => WordsRefusal::NoMemory,
+    }
+}
+
+// Why values make no request.
+fn refusal_of(alloc: Global, none: NoRequest) -> WordsRefusal
+    ensures { BecomesRefusal none result }
+{
+    match none {
+        NoRequest::BadNumber => bad_words(alloc, BAD_NUMBER),
+        NoRequest::BadEngine => bad_words(alloc, BAD_ENGINE),
+        NoRequest::BadHold => WordsRefusal::BadHold,
+        NoRequest::NoMemory => WordsRefusal::NoMemory,
+    }
+}
+
+/// What the words ask for. The first word is the program's name.
+pub fn parse<'a>(alloc: Global, words: &'a [String]) -> Result<Request<'a>, WordsRefusal>
+    ensures request { IfOk result (λ request.
+        command_line (map string_bytes words.entry.now) ≡ Ok (line_of request)) }
+    ensures in_range { IfOk result IsInRange }
+    ensures refusal { IfErr result (IsCause (map string_bytes words.entry.now)) }
+{
+    let found = match matches(alloc, words) {
+        Ok(found) => found,
+        Err(error) => return Err(refusal(alloc, &error)),
+    };
+    match request_of(alloc, &found) {
+        Ok(request) => Ok(request),
+        Err(none) => Err(refusal_of(alloc, none)),
+    }
+}

@@ -1,0 +1,375 @@
+//! The request that a command and its values make.
+ghost use Rattle.std.specs.Prelude.{◌≡◌, IfOk, IfSome, codes, option_map};
+ghost use Rattle.clap.specs.Words.{first_of, found_of, rows_of, subcommand_rows_of};
+ghost use Rattle.command_line.specs.CommandLine.{
+  AreInRange,
+  IsInRange,
+  chaintest_of,
+  check_of,
+  diagnose_of,
+  engine_given,
+  faults_of,
+  holds_given,
+  line_at,
+  line_by,
+  line_from,
+  line_of,
+  options_of,
+  play_of,
+  run_of,
+  scan_of,
+  search_of,
+  sweep_of,
+  transition_of,
+};
+ghost use Rattle.command_line.specs.inner.Errors.{IsAsked};
+ghost use Rattle.command_line.specs.inner.Held.{AreHeld};
+ghost use Rattle.command_line.specs.inner.Searches.{IsSearch};
+
+use crate::commands::{LEAST_GATES, MOST_CHAINS, MOST_GATES, MOST_LIMIT, MOST_WORKERS};
+use crate::holds::{Held, holds_in};
+use crate::values::{number_of, number_or, text};
+use clap::ArgMatches;
+use std::alloc::Global;
+
+/// A search that there is.
+#[derive(Clone, Copy, Debug, PartialEq, Eq)]
+pub enum EngineName {
+    Podem,
+    Fan,
+}
+
+/// The engine and the numbers of `run` and of `transition`.
+#[derive(Clone, Copy, Debug, PartialEq, Eq)]
+pub struct RunOptions {
+    pub engine: EngineName,
+    /// How many chains at most.
+    pub chains: u32,
+    pub workers: u32,
+    /// The backtrack limit: how many ends a search may close before it gives up.
+    pub limit: u32,
+    /// What the bits that no search asks for are drawn from.
+    pub seed: u64,
+}
+
+/// The numbers of `diagnose`.
+#[derive(Clone, Copy, Debug, PartialEq, Eq)]
+pub struct DiagnoseOptions {
+    /// How many chains at most.
+    pub chains: u32,
+    pub workers: u32,
+}
+
+/// What the words ask the program to do.
+#[derive(Debug, Drop)]
+pub enum Request<'a> {
+    /// Write to the file `out` the netlist of the file `net` with scan cells in at most `chains`
+    /// chains.
+    Scan {
+        net: &'a str,
+        out: &'a str,
+        chains: u32,
+    },
+    /// Print the list of faults of the netlist of the file `net`, each with its class.
+    Faults {
+        net: &'a str,
+    },
+    /// Search tests for the netlist of the file `net`, its inputs of these names held, and write
+    /// the files whose names begin with `prefix`.
+    Run {
+        net: &'a str,
+        prefix: &'a str,
+        options: RunOptions,
+        holds: Vec<Held<'a>>,
+    },
+    /// Play the file `stil` on the netlist of the file `net`, with the fault of this text or none.
+    Play {
+        net: &'a str,
+        stil: &'a str,
+        fault: Option<&'a str>,
+    },
+    /// Check the files whose names begin with `prefix`.
+    Check {
+        prefix: &'a str,
+    },
+    /// Search tests for a sample netlist of so many gates, and play them.
+    Sweep {
+        seed: u64,
+        gates: u32,
+    },
+    /// Say what the file `stil` shows of the faults in the scan hardware of the netlist of the file
+    /// `net`, scanned in at most `chains` chains.
+    ChainTest {
+        net: &'a str,
+        stil: &'a str,
+        chains: u32,
+    },
+    /// List the faults of the netlist of the file `net` that explain what failed, by the file `log`,
+    /// when the file `stil` was played on the chip.
+    Diagnose {
+        net: &'a str,
+        stil: &'a str,
+        log: &'a str,
+        options: DiagnoseOptions,
+    },
+    /// Search tests for the slow lines of the netlist of the file `net`, and write the files whose
+    /// names begin with `prefix`.
+    Transition {
+        net: &'a str,
+        prefix: &'a str,
+        options: RunOptions,
+    },
+}
+
+// What `run` and `transition` are given alike.
+#[derive(Clone, Copy, Debug)]
+struct SearchLine<'a> {
+    net: &'a str,
+    prefix: &'a str,
+    options: RunOptions,
+}
+
+/// Why the values of a command make no request.
+#[derive(Clone, Copy, Debug)]
+pub(crate) enum NoRequest {
+    BadNumber,
+    BadEngine,
+    BadHold,
+    NoMemory,
+}
+
+fn scan<'a>(found: &ArgMatches<'a>) -> Option<Request<'a>>
+    ensures line { option_map line_of result ≡ scan_of (rows_of (found_of found.now)) }
+    ensures in_range { IfSome result IsInRange }
+{
+    let net = text(found, "NET")?;
+    let out = text(found, "OUT")?;
+    let chains = number_or(found, "chains", 1, 1, MOST_CHAINS)?;
+    Some(Request::Scan {
+        net,
+        out,
+        chains: chains as u32,
+    })
+}
+
+fn faults<'a>(found: &ArgMatches<'a>) -> Option<Request<'a>>
+    ensures line { option_map line_of result ≡ faults_of (rows_of (found_of found.now)) }
+    ensures in_range { IfSome result IsInRange }
+{
+    let net = text(found, "NET")?;
+    Some(Request::Faults { net })
+}
+
+fn play<'a>(found: &ArgMatches<'a>) -> Option<Request<'a>>
+    ensures line { option_map line_of result ≡ play_of (rows_of (found_of found.now)) }
+    ensures in_range { IfSome result IsInRange }
+{
+    let net = text(found, "NET")?;
+    let stil = text(found, "STIL")?;
+    let fault = text(found, "fault");
+    Some(Request::Play { net, stil, fault })
+}
+
+fn check<'a>(found: &ArgMatches<'a>) -> Option<Request<'a>>
+    ensures line { option_map line_of result ≡ check_of (rows_of (found_of found.now)) }
+    ensures in_range { IfSome result IsInRange }
+{
+    let prefix = text(found, "PREFIX")?;
+    Some(Request::Check { prefix })
+}
+
+fn sweep<'a>(found: &ArgMatches<'a>) -> Option<Request<'a>>
+    ensures line { option_map line_of result ≡ sweep_of (rows_of (found_of found.now)) }
+    ensures in_range { IfSome result IsInRange }
+{
+    let seed = number_of(found, "SEED", 0, u64::MAX)?;
+    let gates = number_of(found, "GATES", LEAST_GATES, MOST_GATES)?;
+    Some(Request::Sweep {
+        seed,
+        gates: gates as u32,
+    })
+}
+
+fn chaintest<'a>(found: &ArgMatches<'a>) -> Option<Request<'a>>
+    ensures line { option_map line_of result ≡ chaintest_of (rows_of (found_of found.now)) }
+    ensures in_range { IfSome result IsInRange }
+{
+    let net = text(found, "NET")?;
+    let stil = text(found, "STIL")?;
+    let chains = number_or(found, "chains", 1, 1, MOST_CHAINS)?;
+    Some(Request::ChainTest {
+        net,
+        stil,
+        chains: chains as u32,
+    })
+}
+
+fn diagnose<'a>(found: &ArgMatches<'a>) -> Option<Request<'a>>
+    ensures line { option_map line_of result ≡ diagnose_of (rows_of (found_of found.now)) }
+    ensures in_range { IfSome result IsInRange }
+{
+    let net = text(found, "NET")?;
+    let stil = text(found, "STIL")?;
+    let log = text(found, "LOG")?;
+    let chains = number_or(found, "chains", 1, 1, MOST_CHAINS)?;
+    let workers = number_or(found, "workers", 1, 1, MOST_WORKERS)?;
+    let options = DiagnoseOptions {
+        chains: chains as u32,
+        workers: workers as u32,
+    };
+    Some(Request::Diagnose {
+        net,
+        stil,
+        log,
+        options,
+    })
+}
+
+fn options(found: &ArgMatches<'_>, engine: EngineName) -> Option<RunOptions>
+    ensures value { result ≡ options_of engine (rows_of (found_of found.now)) }
+    ensures in_range { IfSome result AreInRange }
+{
+    let chains = number_or(found, "chains", 1, 1, MOST_CHAINS)?;
+    let workers = number_or(found, "workers", 1, 1, MOST_WORKERS)?;
+    let limit = number_or(found, "limit", 100, 1, MOST_LIMIT)?;
+    let seed = number_or(found, "seed", 1, 0, u64::MAX)?;
+    Some(RunOptions {
+        engine,
+        chains: chains as u32,
+        workers: workers as u32,
+        limit: limit as u32,
+        seed,
+    })
+}
+
+// The engine, if it is one that there is.
+fn engine(found: &ArgMatches<'_>) -> Option<EngineName>
+    ensures { result ≡ engine_given (first_of (codes "engine") (rows_of (found_of found.now))) }
+{
+    match text(found, "engine") {
+        Some("podem") => Some(EngineName::Podem),
+        Some("fan") => Some(EngineName::Fan),
+        Some(_) => None,
+        None => Some(EngineName::Podem),
+    }
+}
+
+// The inputs that are held.
+fn holds<'a>(alloc: Global, found: &ArgMatches<'a>) -> Result<Vec<Held<'a>>, NoRequest>
+    ensures { AreHeld (holds_given (first_of (codes "hold") (rows_of (found_of found.now)))) result }
+{
+    match text(found, "hold") {
+        Some(list) => holds_in(alloc, list),
+        None => Ok(Vec::new(alloc)),
+    }
+}
+
+// What a command that searches is given, or what is in the way.
+fn search_line<'a>(found: &ArgMatches<'a>) -> Result<SearchLine<'a>, NoRequest>
+    ensures value { IsSearch (search_of (rows_of (found_of found.now))) result }
+    ensures in_range { IfOk result (λ line. AreInRange line.options) }
+{
+    let Some(engine) = engine(found) else {
+        return Err(NoRequest::BadEngine);
+    };
+    let Some(net) = text(found, "NET") else {
+        return Err(NoRequest::BadNumber);
+    };
+    let Some(prefix) = text(found, "PREFIX") else {
+        return Err(NoRequest::BadNumber);
+    };
+    match options(found, engine) {
+        Some(options) => Ok(SearchLine {
+            net,
+            prefix,
+            options,
+        }),
+        None => Err(NoRequest::BadNumber),
+    }
+}
+
+fn run<'a>(alloc: Global, found: &ArgMatches<'a>) -> Result<Request<'a>, NoRequest>
+    ensures line { IsAsked (run_of (rows_of (found_of found.now))) result }
+    ensures in_range { IfOk result IsInRange }
+{
+    let line = match search_line(found) {
+        Ok(line) => line,
+        Err(none) => return Err(none),
+    };
+    match holds(alloc, found) {
+        Ok(holds) => Ok(Request::Run {
+            net: line.net,
+            prefix: line.prefix,
+            options: line.options,
+            holds,
+        }),
+        Err(none) => Err(none),
+    }
+}
+
+fn transition<'a>(found: &ArgMatches<'a>) -> Result<Request<'a>, NoRequest>
+    ensures line { IsAsked (line_from (transition_of (rows_of (found_of found.now)))) result }
+    ensures in_range { IfOk result IsInRange }
+{
+    match search_line(found) {
+        Ok(line) => Ok(Request::Transition {
+            net: line.net,
+            prefix: line.prefix,
+            options: line.options,
+        }),
+        Err(none) => Err(none),
+    }
+}
+
+// A request, or a number is in the way: `clap` has seen to the rest.
+fn taken<'a>(request: Option<Request<'a>>) -> Result<Request<'a>, NoRequest>
+    ensures line { IsAsked (line_from (option_map line_of request.entry)) result }
+    ensures in_range { IfSome request.entry IsInRange → IfOk result IsInRange }
+{
+    request.ok_or(NoRequest::BadNumber)
+}
+
+// The command that was used, by its name, and what was found of its arguments.
+fn command<'b, 'a>(found: &'b ArgMatches<'a>) -> Option<(&'a str, &'b ArgMatches<'a>)>
+    ensures { option_map (λ p. (p.0.now, rows_of (found_of p.1.now))) result
+        ≡ subcommand_rows_of found.now }
+{
+    found.subcommand()
+}
+
+// What the command of this name asks for, by what was found of its arguments.
+fn request_by<'a>(
+    alloc: Global,
+    name: &str,
+    found: &ArgMatches<'a>,
+) -> Result<Request<'a>, NoRequest>
+    ensures line { IsAsked (line_by name.now (rows_of (found_of found.now))) result }
+    ensures in_range { IfOk result IsInRange }
+{
+    match name {
+        "scan" => taken(scan(found)),
+        "faults" => taken(faults(found)),
+        "run" => run(alloc, found),
+        "play" => taken(play(found)),
+        "check" => taken(check(found)),
+        "sweep" => taken(sweep(found)),
+        "chaintest" => taken(chaintest(found)),
+        "diagnose" => taken(diagnose(found)),
+        "transition" => transition(found),
+        _ => Err(NoRequest::BadNumber),
+    }
+}
+
+/// What was asked for, or why nothing was.
+pub(crate) fn request_of<'a>(
+    alloc: Global,
+    found: &ArgMatches<'a>,
+) -> Result<Request<'a>, NoRequest>
+    ensures line { IsAsked (line_at (subcommand_rows_of found.now)) result }
+    ensures in_range { IfOk result IsInRange }
+{
+    match command(found) {
+        Some(used) => request_by(alloc, used.0, used.1),
+        None => Err(NoRequest::BadNumber),
+    }
+}

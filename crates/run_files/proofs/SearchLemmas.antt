@@ -1,0 +1,88 @@
+-- The verdicts of a finished list.
+use Rattle.std.proofs.Common.{◌≡◌, ℕ, zero, suc, ◌<◌, ◌≤◌, inl, inr, Bool, false, true≢false, List, [], ◌∷◌, length, get_or, Some, refl, sym, ◌∙◌, ap, subst, arith}
+use Rattle.std.specs.List.{All}
+use Rattle.std.proofs.lemmas.Bool.{cases_order}
+use Rattle.std.proofs.lemmas.Option.{slice_get-get_or, slice_get_within}
+use Rattle.netlist.specs.Netlist.{Netlist}
+use Rattle.fault_universe.specs.Universe.{universe_of}
+use Rattle.fault_collapse.specs.Classes.{AreClasses}
+use Rattle.fault_collapse.specs.Numbers.{Classes}
+use Rattle.netlist.specs.declared.lines.Fault.{Fault}
+use Rattle.netlist.specs.Detection.{Detects}
+use Rattle.cubes.specs.Cubes.{Pattern, IsPatternOf}
+use Rattle.redundancy_cert.specs.Fits.{Fits}
+use Rattle.word_sim.specs.Hits.{IsNeverDetected}
+use Rattle.reverse_compact.proofs.KeepLemmas.{kept_all}
+use Rattle.reverse_compact.specs.Finished.{AreFinished}
+use Rattle.worker.specs.Working.{NoneOpen}
+use Rattle.list_core.specs.Subjects.{Subject, Represents}
+use Rattle.list_core.specs.States.{State, IsTrueList}
+use Rattle.list_core.specs.declared.verdicts.Verdict.{Verdict}
+use Rattle.list_core.specs.declared.verdicts.Verdict.TheVariants.{Open, Detected, Redundant, Aborted}
+use Rattle.list_core.specs.Verdicts.{VerdictHolds, is_open, verdict_at}
+use Rattle.run_files.specs.inner.Verdicts.{AreVerdicts, IsVerdict}
+
+same_fault : (j : Subject) (class : ℕ) (f g : Fault) → Represents j class f → Represents j class g → f ≡ g
+same_fault j class f g p q = let both : Some f ≡ Some g = sym p ∙ q in cc
+
+-- a verdict that holds of a class that no kept pattern detects
+held : (j : Subject) (kept : List Pattern) (class : ℕ) (f : Fault) → Represents j class f → IsNeverDetected j.netlist kept f
+    → (v : Verdict) → is_open v ≡ false → VerdictHolds j kept class v → IsVerdict j.netlist j.holds j.limit kept f v
+held j kept class f represents never Open shut holds = absurd (true≢false shut)
+held j kept class f represents never (Detected place point) shut holds =
+    let same = same_fault j class holds.fault f holds.represents represents in
+    absurd (never place point (record { pattern = holds.pattern; at = holds.at; detects = subst (λ g. Detects j.netlist g holds.pattern.inputs holds.pattern.cells point) same holds.detects }))
+held j kept class f represents never (Redundant tree) shut holds =
+    let same = same_fault j class holds.0.fault f holds.0.represents represents in
+    (never, subst (λ g. Fits g j.netlist j.holds tree) same holds.0.fits, holds.1)
+held j kept class f represents never (Aborted tree) shut holds =
+    let same = same_fault j class holds.0.fault f holds.0.represents represents in
+    (never, subst (λ g. Fits g j.netlist j.holds tree) same holds.0.fits, holds.1, holds.2)
+
+pub verdicts_of : (j : Subject) (s : State) (kept : List Pattern) (verdicts : List Verdict) → IsTrueList j s → NoneOpen s.verdicts → AreFinished j s kept verdicts
+    → AreVerdicts j.netlist j.holds j.classes j.limit kept verdicts
+verdicts_of j s kept verdicts list shut done = record {
+  count = done.count ∙ list.count;
+  obey =
+      let P : List Pattern → Type 0 = λ ps. All (IsPatternOf j.netlist j.holds) ps in
+      subst P (sym done.are_kept.are) (kept_all (IsPatternOf j.netlist j.holds) done.are_kept.needed 0 s.patterns list.patterns);
+  each = λ class f represents. elim (done.each class f represents) [
+    | inl found ↦ subst (IsVerdict j.netlist j.holds j.limit kept f) (sym found.2) found.3
+    | inr stays ↦
+        let within = slice_get_within j.classes.representatives class f represents in
+        let closed : is_open (verdict_at verdicts class) ≡ false = ap is_open stays.0 ∙ shut class (omega (arith, within, list.count)) in
+        held j kept class f represents stays.1 (verdict_at verdicts class) closed (done.hold class)
+  ];
+}
+
+-- ---- few classes
+
+module _ (n : Netlist) (classes : Classes) (are : AreClasses n classes) where
+  -- classes are no more than the faults before the first member of the last
+  later : (k : ℕ) → (lt : k < length classes.representatives) → k ≤ (are.first k lt).place
+  later zero lt = omega arith
+  later (suc k) lt =
+      let before : k < length classes.representatives = omega arith in
+      let low = later k before in
+      let a = are.first k before in
+      let b = are.first (suc k) lt in
+      elim (cases_order a.place b.place) [
+        | inl same ↦ let e = sym a.member ∙ (ap (λ i. get_or classes.numbers i 0) same ∙ b.member) in absurd (omega arith)
+        | inr o ↦ elim o [
+          | inl lower ↦ omega arith
+          | inr higher ↦ let e = a.earlier b.place higher in let m = b.member in absurd (omega arith)
+        ]
+      ]
+
+  by_count : (blank : Fault) (k : ℕ) → length classes.representatives ≡ k → length classes.representatives ≤ length (universe_of n)
+  by_count blank zero e = omega arith
+  by_count blank (suc k) e =
+      let lt : k < length classes.representatives = omega arith in
+      let first = are.first k lt in
+      let g = get_or classes.representatives k blank in
+      let at = slice_get_within (universe_of n) first.place g (first.representative g (slice_get-get_or classes.representatives k blank lt)) in
+      let low = later k lt in
+      omega arith
+
+  pub few_classes : (blank : Fault) → length classes.representatives ≤ length (universe_of n)
+  few_classes blank = by_count blank (length classes.representatives) refl

@@ -1,0 +1,35 @@
+-- What is written of verdicts comes true.
+use Rattle.std.specs.Prelude.{ℕ, ◌≤◌, List}
+use Rattle.netlist.specs.Conditions.{IsSound}
+use Rattle.netlist.specs.Designs.{IsDesign}
+use Rattle.netlist.specs.Netlist.{Netlist}
+use Rattle.netlist.specs.Holds.{Holds, AreHoldsOf}
+use Rattle.cubes.specs.Cubes.{Pattern}
+use Rattle.fault_collapse.specs.Classes.{AreClasses}
+use Rattle.fault_collapse.specs.Numbers.{Classes}
+use Rattle.list_core.specs.declared.verdicts.Verdict.{Verdict}
+use Rattle.good_files.specs.GoodFiles.{AreGoodFiles, most_limit}
+use Rattle.good_files.specs.ScanOff.{design_chains}
+use Rattle.run_files.specs.declared.files.RunFiles.{RunFiles}
+use Rattle.run_files.specs.Runs.{IsRun, files_of}
+use Rattle.run_files.specs.inner.Verdicts.{AreVerdicts}
+use Rattle.run_files.specs.inner.Written.{IsWritten}
+
+-- what the texts are made of
+pub record IsFinishedRun (n : Netlist) (holds : Holds) (asked limit : ℕ) (classes : Classes) (patterns : List Pattern) (verdicts : List Verdict) (made : RunFiles) : Type 0 where
+  pub some : 1 ≤ asked
+  pub limit_is : (1 ≤ limit) × (limit ≤ most_limit)
+  pub held : AreHoldsOf n holds
+  pub are_classes : AreClasses n classes
+  pub found : AreVerdicts n holds classes limit patterns verdicts
+  pub written : IsWritten n holds (design_chains n asked) classes limit patterns verdicts made
+
+abbrev pub WrittenIsGood : Type 0
+WrittenIsGood =
+    (n : Netlist) (holds : Holds) (asked limit : ℕ) (classes : Classes) (patterns : List Pattern) (verdicts : List Verdict) (made : RunFiles)
+    → IsSound n → IsDesign n → IsFinishedRun n holds asked limit classes patterns verdicts made → AreGoodFiles n holds asked limit (files_of made)
+
+abbrev pub WrittenIsRun : Type 0
+WrittenIsRun =
+    (n : Netlist) (holds : Holds) (asked limit : ℕ) (classes : Classes) (patterns : List Pattern) (verdicts : List Verdict) (made : RunFiles)
+    → IsSound n → IsDesign n → IsFinishedRun n holds asked limit classes patterns verdicts made → IsRun n holds asked limit made

@@ -1,0 +1,24 @@
+-- The report of lines.
+use Rattle.std.specs.Prelude.{ℕ, ◌≡◌, ◌+◌, List, length}
+use Rattle.netlist.specs.Netlist.{Netlist}
+use Rattle.netlist.specs.Holds.{Holds}
+use Rattle.cubes.specs.Cubes.{Pattern}
+use Rattle.fault_universe.specs.Universe.{universe_of}
+use Rattle.fault_collapse.specs.Numbers.{Classes}
+use Rattle.list_core.specs.declared.verdicts.Verdict.{Verdict}
+use Rattle.report.specs.Reports.{Line, Report}
+use Rattle.run_files.specs.inner.Outcomes.{AreLines}
+use Rattle.run_report.specs.Heads.{count_of, counts_of, detected_one, holds_named, redundant_one, share_of}
+
+-- its lines, the held inputs, and the numbers that follow
+pub record IsReported (n : Netlist) (chains : List (List ℕ)) (holds : Holds) (faults classes patterns limit : ℕ) (lines : List Line) (r : Report) : Type 0 where
+  pub lines_are : r.lines ≡ lines
+  pub held : r.holds ≡ holds_named n holds
+  pub counts : r.counts ≡ counts_of n chains faults classes patterns limit lines
+  pub coverage : r.coverage ≡ share_of faults (count_of detected_one lines)
+  pub efficiency : r.efficiency ≡ share_of faults (count_of detected_one lines + count_of redundant_one lines)
+
+-- the report of verdicts
+pub record IsSaid (n : Netlist) (chains : List (List ℕ)) (holds : Holds) (classes : Classes) (limit : ℕ) (patterns : List Pattern) (verdicts : List Verdict) (r : Report) : Type 0 where
+  pub lines : AreLines n chains classes.numbers verdicts (length (universe_of n)) r.lines
+  pub numbers : IsReported n chains holds (length (universe_of n)) (length classes.representatives) (length patterns) limit r.lines r

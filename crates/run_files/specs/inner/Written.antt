@@ -1,0 +1,34 @@
+-- The texts of verdicts and patterns.
+use Rattle.std.specs.Prelude.{ℕ, ◌≡◌, List}
+use Rattle.netlist.specs.Netlist.{Netlist}
+use Rattle.netlist.specs.Holds.{Holds}
+use Rattle.cubes.specs.Cubes.{Pattern}
+use Rattle.bench_text.specs.Canonical.{canonical}
+use Rattle.scan_insert.specs.Scanned.{scanned_of}
+use Rattle.stil_write.specs.StilFiles.{IsStilFile, StilFile}
+use Rattle.stil_write.specs.Texts.{stil_text}
+use Rattle.stil_patterns.specs.Tests.{IsFileOf}
+use Rattle.fault_collapse.specs.Numbers.{Classes}
+use Rattle.certificate.specs.Certificates.{certificate_text}
+use Rattle.report.specs.Reports.{IsReport}
+use Rattle.report.specs.Texts.{report_text}
+use Rattle.list_core.specs.declared.verdicts.Verdict.{Verdict}
+use Rattle.run_files.specs.declared.files.RunFiles.{RunFiles}
+use Rattle.run_files.specs.inner.Reports.{IsSaid}
+use Rattle.run_files.specs.inner.Verdicts.{leaves_of}
+
+-- the text of the file that applies these patterns
+pub record IsTestText (n : Netlist) (holds : Holds) (chains : List (List ℕ)) (patterns : List Pattern) (text : List ℕ) : Type 0 where
+  pub file : StilFile
+  pub is_file : IsStilFile file
+  pub of_patterns : IsFileOf n holds chains patterns file
+  pub text_is : text ≡ stil_text file
+
+pub record IsWritten (n : Netlist) (holds : Holds) (chains : List (List ℕ)) (classes : Classes) (limit : ℕ) (patterns : List Pattern) (verdicts : List Verdict) (made : RunFiles) : Type 0 where
+  pub net : made.net.items ≡ canonical n
+  pub scan : made.scan.items ≡ canonical (scanned_of n chains)
+  pub stil : IsTestText n holds chains patterns made.stil.items
+  pub certificate : made.certificate.items ≡ certificate_text n (leaves_of classes.representatives verdicts)
+  pub report : made.report.items ≡ report_text made.said
+  pub is_report : IsReport made.said
+  pub said : IsSaid n chains holds classes limit patterns verdicts made.said

@@ -1,0 +1,200 @@
+//! From a design to its five files.
+ghost use Rattle.std.specs.Prelude.{◌≡◌, ◌<◌, ◌≤◌, ◌^◌, IfOk, length};
+ghost use Rattle.std.specs.List.{All};
+ghost use Rattle.netlist.specs.Designs.{IsDesign};
+ghost use Rattle.cubes.specs.Cubes.{IsPatternOf};
+ghost use Rattle.netlist.specs.Holds.{AreHoldsOf};
+ghost use Rattle.scan_insert.specs.Scanned.{AreChainsOf, scanned_of};
+ghost use Rattle.run_report.specs.Subjects.{IsSubjectOf};
+ghost use Rattle.good_files.specs.GoodFiles.{most_limit};
+ghost use Rattle.good_files.specs.ScanOff.{design_chains};
+ghost use Rattle.run_files.specs.Runs.{IsRun};
+ghost use Rattle.run_files.specs.inner.Written.{IsTestText, IsWritten};
+ghost use Rattle.run_files.specs.inner.Verdicts.{AreVerdicts};
+ghost use Rattle.run_files.specs.inner.Reports.{IsSaid};
+
+use crate::leaves::leaves_of;
+use crate::lines::lines_of;
+use crate::reporting::report_of;
+use crate::searching::search;
+use crate::stitching::stitched;
+use crate::truth::written_is_run;
+use bench_text::write;
+use certificate::write_trees;
+use chain_stitch::Chains;
+use cubes::Pattern;
+use fault_universe::faults_have_signals;
+use netlist::{Core, Holds, Netlist, NoMemory};
+use outside::Gate;
+use redundancy_cert::Engine;
+use report::{Report, write_report};
+use reverse_compact::Finished;
+use run_report::{Subject, pin_names, subject_of};
+use scan_insert::insert;
+use std::alloc::Global;
+use std::sync::Wait;
+use std::thread::Threads;
+use stil_patterns::stil_of;
+use stil_write::write_stil;
+
+/// How a run goes: at most so many chains, so many workers, at most so many closed ends a search,
+/// and the seed of the bits that cubes leave open.
+#[derive(Clone, Copy, Debug)]
+pub struct Plan {
+    pub chains: u32,
+    pub workers: u32,
+    pub limit: u32,
+    pub seed: u64,
+}
+
+/// The texts of a run, and its report as a value.
+#[derive(Drop)]
+pub struct RunFiles {
+    pub net: Vec<u8>,
+    pub scan: Vec<u8>,
+    pub stil: Vec<u8>,
+    pub certificate: Vec<u8>,
+    pub report: Vec<u8>,
+    pub said: Report,
+}
+
+/// The test of these patterns as text.
+fn stil_text(
+    alloc: Global,
+    core: &Core,
+    chains: &Chains,
+    patterns: &[Pattern],
+    holds: &Holds,
+) -> Result<Vec<u8>, NoMemory>
+    requires design { IsDesign core.now }
+    requires holds { AreHoldsOf core.now holds.now }
+    requires chains { AreChainsOf core.now chains.now }
+    requires patterns { All (IsPatternOf core.now holds.now) patterns.now }
+    ensures { IfOk result (λ text. IsTestText core.now holds.now chains.now patterns.now text.items) }
+{
+    let file = stil_of(alloc, core, chains, patterns, holds)?;
+    file.sound();
+    write_stil(alloc, &file).map_err(|_| NoMemory)
+}
+
+/// What the report says of these verdicts.
+fn said_of(
+    alloc: Global,
+    netlist: &Netlist,
+    scanned: &Netlist,
+    chains: &Chains,
+    subject: &Subject,
+    found: &Finished,
+    limit: u32,
+    holds: &Holds,
+) -> Result<Report, NoMemory>
+    requires chains { AreChainsOf netlist.now chains.now }
+    requires scanned { scanned.now ≡ scanned_of netlist.now chains.now }
+    requires subject { IsSubjectOf netlist.now subject.now }
+    requires held { AreHoldsOf netlist.now holds.now }
+    requires verdicts { AreVerdicts netlist.now holds.now subject.now.classes limit found.now.patterns.items found.now.verdicts.items }
+    requires few { length found.now.patterns.items < 2 ^ 32 }
+    ensures { IfOk result (IsSaid netlist.now chains.now holds.now subject.now.classes limit found.now.patterns.items found.now.verdicts.items) }
+{
+    netlist.sound();
+    let pins = pin_names(alloc, scanned)?;
+    let lines = lines_of(
+        alloc,
+        netlist,
+        chains,
+        &pins,
+        &subject.faults,
+        &subject.classes,
+        found.verdicts.as_slice(),
+    )?;
+    report_of(
+        alloc,
+        netlist,
+        chains,
+        subject.faults.len(),
+        subject.classes.count(),
+        found.patterns.as_slice().len() as u32,
+        limit,
+        holds,
+        lines,
+    )
+}
+
+/// The texts of these verdicts and patterns.
+fn texts_of(
+    alloc: Global,
+    core: &Core,
+    plan: Plan,
+    holds: &Holds,
+    chains: &Chains,
+    subject: &Subject,
+    found: Finished,
+) -> Result<RunFiles, NoMemory>
+    requires design { IsDesign core.now }
+    requires some { 1 ≤ plan.chains }
+    requires held { AreHoldsOf core.now holds.now }
+    requires chains { chains.now ≡ design_chains core.now plan.chains }
+    requires subject { IsSubjectOf core.now subject.now }
+    requires verdicts { AreVerdicts core.now holds.now subject.now.classes plan.limit found.patterns.items found.verdicts.items }
+    requires few { length found.patterns.items < 2 ^ 32 }
+    ensures { IfOk result (IsWritten core.now holds.now (design_chains core.now plan.chains) subject.now.classes plan.limit found.patterns.items found.verdicts.items) }
+{
+    let netlist = core.netlist();
+    netlist.sound();
+    faults_have_signals();
+    let scanned = insert(alloc, netlist, chains)?;
+    let said = said_of(
+        alloc,
+        netlist,
+        scanned.netlist(),
+        chains,
+        subject,
+        &found,
+        plan.limit,
+        holds,
+    )?;
+    said.sound();
+    let Finished { patterns, verdicts } = found;
+    let stil = stil_text(alloc, core, chains, patterns.as_slice(), holds)?;
+    let leaves = leaves_of(alloc, subject.classes.representatives(), verdicts)?;
+    let certificate = write_trees(alloc, core, leaves.as_slice())?;
+    let net = write(alloc, netlist)?;
+    let scan = write(alloc, scanned.netlist())?;
+    let report = write_report(alloc, &said)?;
+    Ok(RunFiles {
+        net,
+        scan,
+        stil,
+        certificate,
+        report,
+        said,
+    })
+}
+
+/// Makes the five files of a design: workers search and compact, and all texts are written. Whatever the number of workers and the
+/// order in which they come, what the files say comes true.
+pub fn make_files<R: Threads + Wait + Sync, E: Engine + Sync, G: Gate + Sync>(
+    rt: &R,
+    alloc: Global,
+    core: &Core,
+    plan: Plan,
+    engine: &E,
+    holds: &Holds,
+    gate: &G,
+) -> Result<RunFiles, NoMemory>
+    requires design { IsDesign core.now }
+    requires some { 1 ≤ plan.chains }
+    requires limit { (1 ≤ plan.limit) × (plan.limit ≤ most_limit) }
+    requires workers { (0 < plan.workers) × (plan.workers ≤ 64) }
+    requires held { AreHoldsOf core.now holds.now }
+    ensures { IfOk result (IsRun core.now holds.now plan.chains plan.limit) }
+{
+    let netlist = core.netlist();
+    netlist.sound();
+    let chains = stitched(alloc, netlist, plan.chains)?;
+    let subject = subject_of(alloc, netlist)?;
+    let found = search(rt, alloc, core, &subject.classes, plan, engine, gate, holds)?;
+    let files = texts_of(alloc, core, plan, holds, &chains, &subject, found)?;
+    written_is_run();
+    Ok(files)
+}

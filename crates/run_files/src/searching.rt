@@ -1,0 +1,124 @@
+//! The search, by workers, and the compaction of what they found.
+ghost use Rattle.std.specs.Prelude.{◌≡◌, ◌+◌, ◌<◌, ◌≤◌, ◌^◌, IfOk, length};
+ghost use Rattle.std.specs.List.{All};
+ghost use Rattle.netlist.specs.declared.lines.Fault.{Fault as FaultOf};
+ghost use Rattle.netlist.specs.Designs.{IsDesign};
+ghost use Rattle.netlist.specs.Lines.{IsLineOf};
+ghost use Rattle.netlist.specs.Holds.{AreHoldsOf};
+ghost use Rattle.fault_collapse.specs.Classes.{AreClasses};
+ghost use Rattle.list_core.specs.Subjects.{HaveLines, class_count};
+ghost use Rattle.reverse_compact.specs.Finished.{AreFinished};
+ghost use Rattle.run_files.specs.inner.Verdicts.{AreVerdicts};
+
+use crate::files::Plan;
+use fault_collapse::Classes;
+use fault_universe::{faults_have_lines, few_faults};
+use list_core::{About, FaultList};
+use netlist::{Core, Holds, NoMemory};
+use outside::Gate;
+use redundancy_cert::Engine;
+use reverse_compact::{Finished, compact};
+use std::alloc::Global;
+use std::marker::Brand;
+use std::sync::Wait;
+use std::thread::Threads;
+use worker::{last_tells_beside, run_all};
+
+/// The list compacted: each worker goes over a part of the classes for the last pattern that detects each.
+fn finish_beside<J: About, R: Threads + Sync>(
+    rt: &R,
+    alloc: Global,
+    core: &Core,
+    classes: &Classes,
+    list: FaultList<J>,
+    workers: u32,
+) -> Result<Finished, NoMemory>
+    requires core { core.now ≡ J.subject.netlist }
+    requires classes { classes.now ≡ J.subject.classes }
+    requires lines { HaveLines J.subject }
+    requires few { length list.patterns + 64 ≤ 2 ^ 32 }
+    requires workers { 0 < workers }
+    ensures { IfOk result (λ f. AreFinished J.subject list f.patterns.items f.verdicts.items) }
+{
+    list.true_list();
+    let last = last_tells_beside(
+        rt,
+        alloc,
+        core,
+        classes.representatives(),
+        list.patterns(),
+        workers,
+    )?;
+    compact(alloc, list, &last)
+}
+
+/// The search under a name for what the list is about.
+fn search_named<J: About + Send + Sync, E: Engine + Sync, G: Gate + Sync, R: Threads + Wait + Sync>(
+    rt: &R,
+    alloc: Global,
+    core: &Core,
+    classes: &Classes,
+    plan: Plan,
+    engine: &E,
+    gate: &G,
+    holds: &Holds,
+) -> Result<Finished, NoMemory>
+    requires core { core.now ≡ J.subject.netlist }
+    requires classes { classes.now ≡ J.subject.classes }
+    requires few { class_count J.subject ≤ 2052000000 }
+    requires limit { (plan.limit ≡ J.subject.limit) × (1 ≤ plan.limit) }
+    requires holds { (holds.now ≡ J.subject.holds) × AreHoldsOf core.now holds.now }
+    requires lines { HaveLines J.subject }
+    requires workers { (0 < plan.workers) × (plan.workers ≤ 64) }
+    ensures verdicts { IfOk result (λ f. AreVerdicts core.now holds.now classes.now plan.limit f.patterns.items f.verdicts.items) }
+    ensures few { IfOk result (λ f. length f.patterns.items < 2 ^ 32) }
+{
+    let list = FaultList::<J>::new(alloc, core, classes, plan.limit, holds)?;
+    let list = run_all(
+        rt,
+        alloc,
+        list,
+        core,
+        engine,
+        gate,
+        plan.workers,
+        plan.seed,
+        holds,
+    )?;
+    finish_beside(rt, alloc, core, classes, list, plan.workers)
+}
+
+/// Classes are few, and each representative stands on a line of the netlist.
+fn represented(core: &Core, classes: &Classes)
+    requires design { IsDesign core.now }
+    requires classes { AreClasses core.now classes.now }
+    ensures few { length classes.now.representatives ≤ 2052000000 }
+    ensures lines { All (λ (f : FaultOf). IsLineOf core.now f.line) classes.now.representatives }
+{
+    core.netlist().sound();
+    few_faults();
+    faults_have_lines();
+}
+
+/// Verdicts for all classes, by so many workers, and the patterns that are kept.
+pub(crate) fn search<E: Engine + Sync, G: Gate + Sync, R: Threads + Wait + Sync>(
+    rt: &R,
+    alloc: Global,
+    core: &Core,
+    classes: &Classes,
+    plan: Plan,
+    engine: &E,
+    gate: &G,
+    holds: &Holds,
+) -> Result<Finished, NoMemory>
+    requires design { IsDesign core.now }
+    requires classes { AreClasses core.now classes.now }
+    requires limit { 1 ≤ plan.limit }
+    requires held { AreHoldsOf core.now holds.now }
+    requires workers { (0 < plan.workers) × (plan.workers ≤ 64) }
+    ensures verdicts { IfOk result (λ f. AreVerdicts core.now holds.now classes.now plan.limit f.patterns.items f.verdicts.items) }
+    ensures few { IfOk result (λ f. length f.patterns.items < 2 ^ 32) }
+{
+    represented(core, classes);
+    search_named::<Brand, E, G, R>(rt, alloc, core, classes, plan, engine, gate, holds)
+}

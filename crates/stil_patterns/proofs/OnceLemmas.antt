@@ -1,0 +1,78 @@
+-- One file for patterns, and one list of patterns for a file.
+use Rattle.std.proofs.Common.{◌≡◌, ◌∙◌, ℕ, suc, Bool, List, [], ◌∷◌, ◌++◌, ap, sym, refl, subst, length, map, arith, None}
+use Rattle.std.specs.List.{All, AllZip, Contains, flat_map, zip}
+use Rattle.std.proofs.lemmas.List.Elements.{All-contains}
+use Rattle.netlist.specs.declared.lines.Line.TheVariants.{Out}
+use Rattle.netlist.specs.Netlist.{Definition, Netlist, cells, is_cell, signals}
+use Rattle.netlist.specs.Conditions.{IsSound}
+use Rattle.netlist.specs.Holds.{Holds}
+use Rattle.netlist.specs.Settled.{Rule, Settles, bits, next, on_pins, outs, pins_of}
+use Rattle.netlist.proofs.Alike.{settles_once}
+use Rattle.std.specs.Bool.{beq}
+use Rattle.netlist.proofs.Lists.{contains_filter, decides_beq}
+use Rattle.cubes.specs.Cubes.{Pattern, IsPatternOf}
+use Rattle.scan_insert.specs.Scanned.{AreChainsOf}
+use Rattle.scan_play.specs.Vectors.{Response, Responds}
+use Rattle.stil_write.specs.StilFiles.{Item, StilFile}
+use Rattle.stil_vectors.specs.TestFiles.{test_file}
+use Rattle.stil_patterns.specs.Tests.{IsFileOf}
+use Rattle.stil_patterns.specs.Laws.{OneFile, OnePatternList}
+use Rattle.stil_patterns.specs.inner.Reading.{patterns_in}
+use Rattle.stil_patterns.proofs.BackLemmas.{file_back}
+use Rattle.stil_patterns.proofs.NameLemmas.{map_agree}
+
+flat_agree : {X Y : Type 0} (f g : X → List Y) (xs : List X) → ((x : X) → Contains xs x → f x ≡ g x) → flat_map f xs ≡ flat_map g xs
+flat_agree f g [] h = refl
+flat_agree f g (x ∷ xs) h =
+    ap (λ ys. ys ++ flat_map f xs) (h x (0, omega arith, refl)) ∙ ap (λ ys. g x ++ ys) (flat_agree f g xs (λ y c. h y (suc c.0, (let k = c.1 in omega (arith, k)), c.2)))
+
+response : List Bool → List Bool → Response
+response outputs cells = record { outputs = outputs; cells = cells }
+
+same_response : (r s : Response) → r.outputs ≡ s.outputs → r.cells ≡ s.cells → r ≡ s
+unfolding response
+same_response r s o c = ap (λ x. response x r.cells) o ∙ ap (response s.outputs) c
+
+responds_once : (n : Netlist) → IsSound n → (p : Pattern) (r s : Response) → Responds n None p r → Responds n None p s → r ≡ s
+responds_once n sound p r s h k =
+    let rule = bits None in
+    let same : (x : ℕ) → Contains (signals n) x → h.values x ≡ k.values x = λ x c. settles_once beq decides_beq rule n p.inputs p.cells h.values k.values sound.closed sound.acyclic h.settles k.settles x c in
+    same_response r s
+    (h.outputs ∙ (map_agree (λ x. rule.line (Out x) (h.values x)) (λ x. rule.line (Out x) (k.values x)) n.outputs
+    (λ x c. ap (rule.line (Out x)) (same x (All-contains (Contains (signals n)) n.outputs x sound.closed.outputs c))) ∙ sym k.outputs))
+    (h.cells ∙ (flat_agree (pins_of rule h.values) (pins_of rule k.values) (cells n)
+    (λ d c. ap (on_pins rule d.id 0) (map_agree h.values k.values d.pins
+    (λ x m. same x (All-contains (Contains (signals n)) d.pins x
+    (All-contains (λ (e : Definition). All (Contains (signals n)) e.pins) n.definitions d sound.closed.pins (contains_filter is_cell n.definitions d c).0) m)))) ∙ sym k.cells))
+
+all_once : (n : Netlist) → IsSound n → (ps : List Pattern) (rs ss : List Response) → AllZip (Responds n None) ps rs → AllZip (Responds n None) ps ss → rs ≡ ss
+all_once n sound [] [] [] h k = refl
+all_once n sound [] [] (s ∷ ss) h k = absurd k
+all_once n sound [] (r ∷ rs) ss h k = absurd h
+all_once n sound (p ∷ ps) [] ss h k = absurd h
+all_once n sound (p ∷ ps) (r ∷ rs) [] h k = absurd k
+all_once n sound (p ∷ ps) (r ∷ rs) (s ∷ ss) h k = ap (λ x. x ∷ rs) (responds_once n sound p r s h.0 k.0) ∙ ap (λ xs. s ∷ xs) (all_once n sound ps rs ss h.1 k.1)
+
+pub one_file : OneFile
+one_file n holds chains patterns f g sound h k =
+    h.is ∙ (ap (λ (rs : List Response). test_file n holds chains (zip patterns rs)) (all_once n sound patterns h.responses k.responses h.respond k.respond) ∙ sym k.is)
+
+pub one_pattern_list : OnePatternList
+one_pattern_list n holds chains patterns others f sound are obey also h k =
+    sym (file_back n holds chains patterns f are obey h) ∙ file_back n holds chains others f are also k
+
+-- ---- patterns that were read
+
+read_is : (n : Netlist) (holds : Holds) (chains : List (List ℕ)) (f : StilFile) (items : List Item) (read ps : List Pattern) (inputs : ℕ) → AreChainsOf n chains → read ≡ patterns_in chains inputs items → inputs ≡ length n.inputs
+    → items ≡ f.items → All (IsPatternOf n holds) ps → IsFileOf n holds chains ps f → read ≡ ps
+read_is n holds chains f items read ps inputs are is e i obey h =
+    is ∙ (ap (λ k. patterns_in chains k items) e ∙ (ap (λ (xs : List Item). patterns_in chains (length n.inputs) xs) i ∙ file_back n holds chains ps f are obey h))
+
+pub none_obey : (n : Netlist) (holds : Holds) (chains : List (List ℕ)) (f : StilFile) (items : List Item) (read : List Pattern) (inputs : ℕ) → AreChainsOf n chains → read ≡ patterns_in chains inputs items → inputs ≡ length n.inputs
+    → items ≡ f.items → (All (IsPatternOf n holds) read → ⊥) → (ps : List Pattern) → All (IsPatternOf n holds) ps → IsFileOf n holds chains ps f → ⊥
+none_obey n holds chains f items read inputs are is e i none ps obey h = none (subst (All (IsPatternOf n holds)) (sym (read_is n holds chains f items read ps inputs are is e i obey h)) obey)
+
+pub none_has : (n : Netlist) (holds : Holds) (chains : List (List ℕ)) (f own : StilFile) (items : List Item) (read : List Pattern) (inputs : ℕ) → IsSound n → AreChainsOf n chains → read ≡ patterns_in chains inputs items → inputs ≡ length n.inputs
+    → items ≡ f.items → IsFileOf n holds chains read own → (own ≡ f → ⊥) → (ps : List Pattern) → All (IsPatternOf n holds) ps → IsFileOf n holds chains ps f → ⊥
+none_has n holds chains f own items read inputs sound are is e i made none ps obey h =
+    none (one_file n holds chains read own f sound made (subst (λ (qs : List Pattern). IsFileOf n holds chains qs f) (sym (read_is n holds chains f items read ps inputs are is e i obey h)) h))

@@ -1,0 +1,12 @@
+use Rattle.std.proofs.Common.{◌++◌, ◌∷◌, [], ◌∙◌, ap, List, replicate}
+use Rattle.netlist.specs.declared.kinds.Tri.TheVariants.{X}
+use Rattle.stil_write.specs.StilFiles.{Text}
+use Rattle.stil_vectors.specs.TestFiles.{char_of_value}
+use Rattle.stil_patterns.proofs.AddLemmas.{unstrobed}
+use Rattle.stil_patterns.proofs.capturing.push_no_strobes.Goals as goal
+
+pub returns : goal.returns
+returns c =
+    c.in_ok-push.ensures.ok
+    ∙ ap (λ (w : Text). c.args.room.now.words ++ w ∷ [])
+    (c.deref.ensures.value ∙ (c.in_ok-push_unstrobed.ensures ∙ (ap (λ (w : Text). w ++ replicate c.args.outputs (char_of_value X)) c.clear.ensures.items ∙ unstrobed c.args.outputs)))

@@ -1,0 +1,7 @@
+use Rattle.std.proofs.Common.{◌≡◌, ◌++◌, replicate}
+use Rattle.netlist.specs.declared.kinds.Tri.TheVariants.{X}
+use Rattle.stil_vectors.specs.TestFiles.{char_of_value}
+use Rattle.stil_patterns.proofs.capturing.push_unstrobed.Given as goal
+
+abbrev pub invariant-loop : goal.invariant-loop
+invariant-loop l = l.word.items ≡ l.fn.word.items ++ replicate l.counter (char_of_value X)

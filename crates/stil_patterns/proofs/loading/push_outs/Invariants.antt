@@ -1,0 +1,11 @@
+use Rattle.std.proofs.Common.{◌≡◌, ◌++◌, length, map, take}
+use Rattle.chain_stitch.specs.Chains.{cells_of, longest_of}
+use Rattle.scan_play.specs.Shifts.{by_chain, word_out}
+use Rattle.stil_vectors.specs.TestFiles.{text_of_values}
+use Rattle.stil_patterns.proofs.loading.push_outs.Given as goal
+
+abbrev pub invariant-loop-c : goal.invariant-loop-c
+invariant-loop-c l = record {
+  start_is : l.start ≡ length (cells_of (take l.c l.chains));
+  made : l.room.words ≡ l.initial.room.words ++ map text_of_values (map (word_out (longest_of l.chains)) (by_chain (take l.c l.chains) l.held));
+}

@@ -1,0 +1,12 @@
+use Rattle.std.proofs.Common.{◌<◌, ◌∙◌, ap, length, arith}
+use Rattle.std.specs.Prelude.{slice_index}
+use Rattle.std.proofs.lemmas.List.{take_all}
+use Rattle.scan_insert.specs.Names.{output_name}
+use Rattle.stil_vectors.proofs.FitLemmas.{output_at, output_small}
+use Rattle.stil_patterns.proofs.WordLemmas.{named_more}
+use Rattle.stil_patterns.proofs.names.output_names.Goals as goal
+
+pub overflow_cast-place : goal.overflow_cast-place
+overflow_cast-place c =
+    let small = output_small c.args.netlist.now c.loop-place.place c.outputs-place-end.result.now c.sound.ensures c.outputs-place-end.ensures c.loop-place-test.true in
+    omega (arith, small)

@@ -1,0 +1,10 @@
+use Rattle.std.proofs.Common.{subst}
+use Rattle.netlist.specs.Conditions.{IsSound}
+use Rattle.stil_write.specs.Parts.{file_of}
+use Rattle.stil_patterns.proofs.FileLemmas.{test_is_file}
+use Rattle.stil_patterns.proofs.pattern_files.stil_of.Goals as goal
+
+pub new-requires : goal.new-requires
+new-requires c =
+    test_is_file c.args.core.now c.args.holds.now c.args.chains.now c.args.patterns.now (file_of c.in_ok-parts.parts) (subst IsSound c.netlist.ensures c.sound.ensures)
+    c.requires.design c.requires.chains c.requires.patterns c.in_ok-parts.ensures

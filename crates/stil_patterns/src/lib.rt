@@ -1,0 +1,28 @@
+//! The STIL file of a test, from its patterns and back.
+//!
+//! Gives: `stil_of`, `patterns_of`, `are_patterns`.
+//! Proved: `stil_of`: exactly the file of patterns; `patterns_of`: exactly the patterns that obey the held inputs and of which a file is that; the
+//! laws: their vectors, that it fits the scanned netlist, read back as itself, one file, one list, an item at least for each pattern.
+//! Tested: that it comes to these answers, by rows of `calls`.
+//! Neither: time.
+#![tactic(auto)]
+
+mod applying;
+mod capturing;
+mod flushing;
+pub mod laws;
+mod loading;
+mod names;
+mod obeying;
+mod pattern_files;
+mod patterns;
+mod reading;
+mod words;
+
+pub use applying::push_flush;
+pub use capturing::{push_capture, push_launch};
+pub use loading::{Room, push_load};
+pub use names::{chain_names, input_names, output_names, shift_word};
+pub use obeying::are_patterns;
+pub use pattern_files::stil_of;
+pub use patterns::patterns_of;

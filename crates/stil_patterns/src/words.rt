@@ -1,0 +1,96 @@
+//! Words: bits and strobes as characters.
+ghost use Rattle.std.specs.Prelude.{◌≡◌, ◌-◌, ◌≤◌, ◌<◌, ◌++◌, false, length, map, replicate, slice_index_or, OnOk};
+ghost use Rattle.netlist.specs.ThreeValues.{known};
+ghost use Rattle.netlist.specs.declared.kinds.Tri.TheVariants.{X};
+ghost use Rattle.scan_play.specs.Shifts.{word_in, word_out};
+ghost use Rattle.stil_write.specs.StilFiles.{where_chained};
+ghost use Rattle.stil_vectors.specs.TestFiles.{char_of_bit, char_of_value, text_of_bits, text_of_values};
+
+use netlist::Tri;
+use std::alloc::AllocError;
+use tri::known;
+
+pub(crate) fn char_of_bit(bit: bool) -> u8
+    ensures { result ≡ char_of_bit bit }
+{
+    if bit { b'1' } else { b'0' }
+}
+
+/// The character of a strobe.
+pub(crate) fn char_of_value(value: Tri) -> u8
+    ensures { result ≡ char_of_value value }
+{
+    match value {
+        Tri::Zero => b'L',
+        Tri::One => b'H',
+        Tri::X => b'X',
+    }
+}
+
+pub(crate) fn push_bits(word: &mut Vec<u8>, bits: &[bool]) -> Result<(), AllocError>
+    ensures { OnOk result (word.new.items ≡ word.old.items ++ text_of_bits bits.now) }
+{
+    for bit in bits {
+        word.push(char_of_bit(*bit))?;
+    }
+    Ok(())
+}
+
+/// Adds strobes for these bits.
+pub(crate) fn push_strobes(word: &mut Vec<u8>, bits: &[bool]) -> Result<(), AllocError>
+    ensures { OnOk result (word.new.items ≡ word.old.items ++ text_of_values (map known bits.now)) }
+{
+    for bit in bits {
+        word.push(char_of_value(known(*bit)))?;
+    }
+    Ok(())
+}
+
+/// Character t of the word of m characters that brings these bits to a chain.
+fn bit_in(own: &[bool], m: usize, t: usize) -> bool
+    requires within { t < m }
+    requires short { length own.now ≤ m }
+    ensures { result ≡ slice_index_or (word_in m own.now) t false }
+{
+    let place = m - 1 - t;
+    if place < own.len() {
+        return own[place];
+    }
+    false
+}
+
+/// Character t of the word of m characters that comes out of a chain that holds this.
+fn value_out(own: &[Tri], m: usize, t: usize) -> Tri
+    requires within { t < m }
+    requires short { length own.now ≤ m }
+    ensures { result ≡ slice_index_or (word_out m own.now) t X }
+{
+    if t < own.len() {
+        return own[own.len() - 1 - t];
+    }
+    Tri::X
+}
+
+/// Puts the word that brings these bits to a chain in the place of another.
+pub(crate) fn set_word_in(word: &mut Vec<u8>, own: &[bool], m: usize) -> Result<(), AllocError>
+    requires { length own.now ≤ m }
+    ensures { OnOk result (word.new.items ≡ text_of_bits (word_in m own.now)) }
+{
+    word.clear();
+    for t in 0..m {
+        word.push(char_of_bit(bit_in(own, m, t)))?;
+    }
+    Ok(())
+}
+
+/// Puts the word that comes out of a chain that holds this in the place of another.
+pub(crate) fn set_word_out(word: &mut Vec<u8>, own: &[Tri], m: usize) -> Result<(), AllocError>
+    requires { length own.now ≤ m }
+    ensures { OnOk result (word.new.items ≡ text_of_values (word_out m own.now)) }
+{
+    word.clear();
+    for t in 0..m {
+        word.push(char_of_value(value_out(own, m, t)))?;
+    }
+    Ok(())
+}

@@ -1,5 +1,0 @@
-use Rattle.stil_tests.proofs.OnceLemmas.{one_pattern_list}
-use Rattle.stil_tests.proofs.laws.one_pattern_list.Goals as goal
-
-pub returns : goal.returns
-returns c = one_pattern_list

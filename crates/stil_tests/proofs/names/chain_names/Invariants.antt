@@ -1,6 +1,0 @@
-use Rattle.std.proofs.Common.{◌≡◌, map, take}
-use Rattle.netlist.specs.Netlist.{name_of}
-use Rattle.stil_tests.proofs.names.chain_names.Given as goal
-
-abbrev pub invariant-loop-c : goal.invariant-loop-c
-invariant-loop-c l = l.all.items ≡ map (map (name_of l.netlist)) (take l.c l.chains)

@@ -1,6 +1,0 @@
-use Rattle.std.proofs.Common.{◌≡◌, ◌++◌, map, take}
-use Rattle.netlist.specs.Netlist.{name_of}
-use Rattle.stil_tests.proofs.names.push_names.Given as goal
-
-abbrev pub invariant-loop-id : goal.invariant-loop-id
-invariant-loop-id l = l.names ≡ l.fn.names ++ map (name_of l.netlist) (take l.id-index l.ids)

@@ -1,7 +1,0 @@
-use Rattle.std.proofs.Common.{◌≡◌, take}
-use Rattle.stil_write.specs.StilFiles.{item_at, words_of}
-use Rattle.stil_tests.specs.inner.Reading.{cells_in}
-use Rattle.stil_tests.proofs.reading.cells_in.Given as goal
-
-abbrev pub invariant-loop-c : goal.invariant-loop-c
-invariant-loop-c l = l.cells.items ≡ cells_in (take l.c l.chains) (words_of (item_at l.items l.place))

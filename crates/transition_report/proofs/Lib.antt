@@ -1,0 +1,4 @@
+pub mod NameLemmas
+pub mod LeafLemmas
+pub mod SeenLemmas
+pub mod LineLemmas

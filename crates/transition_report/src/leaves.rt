@@ -1,0 +1,63 @@
+//! The trees of the transition faults that no pattern detects.
+ghost use Rattle.std.specs.Prelude.{◌≡◌, ◌≤◌, ◌^◌, ◌<◌, ◌++◌, ◌∷◌, [], IfOk, OnOk, length};
+ghost use Rattle.redundancy_cert.specs.declared.nodes.Node.{Node};
+ghost use Rattle.transition_report.specs.Lines.{leaf_at, leaves_of};
+
+use fault_universe::FaultSet;
+use netlist::{Fault, NoMemory};
+use redundancy_cert::Tree;
+use std::alloc::{AllocError, Global};
+use transition_tests::Verdict;
+
+fn push_leaf(leaves: &mut Vec<(Fault, Tree)>, fault: Fault, tree: Tree) -> Result<(), AllocError>
+    ensures { OnOk result (leaves.new.items ≡ leaves.old.items ++ (fault, tree) ∷ []) }
+{
+    leaves.push((fault, tree))?;
+    Ok(())
+}
+
+/// Adds the tree of a fault, where no pattern detects it.
+fn add_leaf(
+    leaves: &mut Vec<(Fault, Tree)>,
+    fault: Fault,
+    verdict: Verdict,
+) -> Result<(), AllocError>
+    ensures { OnOk result (leaves.new.items ≡ leaves.old.items ++ leaf_at fault verdict) }
+{
+    match verdict {
+        Verdict::Detected(_, _) => Ok(()),
+        Verdict::Redundant(tree) => push_leaf(leaves, fault, tree),
+        Verdict::Aborted(tree) => push_leaf(leaves, fault, tree),
+    }
+}
+
+fn leaves_within(
+    alloc: Global,
+    faults: &FaultSet,
+    verdicts: Vec<Verdict>,
+) -> Result<Vec<(Fault, Tree)>, AllocError>
+    requires size { length verdicts.items ≤ length faults.now }
+    requires few { length faults.now < 2 ^ 32 }
+    ensures { IfOk result (λ v. v.items ≡ leaves_of faults.now verdicts.items) }
+{
+    let mut leaves = Vec::new(alloc);
+    let mut place = 0u32;
+    for verdict in verdicts {
+        add_leaf(&mut leaves, faults.fault(place), verdict)?;
+        place += 1;
+    }
+    Ok(leaves)
+}
+
+/// Each such tree beside its fault, in the order of faults.
+pub fn leaves_of(
+    alloc: Global,
+    faults: &FaultSet,
+    verdicts: Vec<Verdict>,
+) -> Result<Vec<(Fault, Tree)>, NoMemory>
+    requires size { length verdicts.items ≤ length faults.now }
+    requires few { length faults.now < 2 ^ 32 }
+    ensures { IfOk result (λ v. v.items ≡ leaves_of faults.now verdicts.items) }
+{
+    leaves_within(alloc, faults, verdicts).map_err(|_| NoMemory)
+}

@@ -1,0 +1,32 @@
+//! What the tester sees of a point by launch on capture. A launch is a cycle more for each pattern up to this one, and all else is as for stuck
+//! lines: so a point is seen where it would be seen there, and so many cycles later.
+ghost use Rattle.std.specs.Prelude.{◌≡◌, map};
+ghost use Rattle.scan_insert.specs.Names.{output_name};
+ghost use Rattle.scan_insert.specs.Scanned.{AreChainsOf, scanned_of};
+ghost use Rattle.run_report.specs.Strobes.{IsPointOf};
+ghost use Rattle.transition_report.specs.Lines.{IsSeenBehind};
+
+use chain_stitch::Chains;
+use netlist::{NameTable, Netlist, Point};
+use run_report::{Sight, sight_of};
+
+/// Where the tester sees a point for the pattern at a place. `pins` has the names of the pins at the scanned netlist's outputs.
+pub(crate) fn sight_behind<'a>(
+    netlist: &Netlist,
+    chains: &Chains,
+    pins: &'a NameTable,
+    place: u32,
+    point: Point,
+) -> Sight<'a>
+    requires chains { AreChainsOf netlist.now chains.now }
+    requires pins { pins.now ≡ map (output_name (scanned_of netlist.now chains.now)) (scanned_of netlist.now chains.now).outputs }
+    requires point { IsPointOf netlist.now point }
+    ensures { IsSeenBehind netlist.now chains.now place point result.cycle result.pin.now }
+{
+    netlist.sound();
+    let sight = sight_of(netlist, chains, pins, place, point);
+    Sight {
+        cycle: sight.cycle + place as u64 + 1,
+        pin: sight.pin,
+    }
+}

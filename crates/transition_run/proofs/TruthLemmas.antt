@@ -1,0 +1,194 @@
+-- What is written of verdicts comes true.
+use Rattle.std.proofs.Common.{◌≡◌, ℕ, zero, suc, ◌<◌, ◌≤◌, inl, inr, Bool, List, [], ◌∷◌, ◌++◌, length, map, get_or, Some, None, refl, sym, ◌∙◌, ap, ap₂, subst, arith}
+use Rattle.std.specs.List.{All, AllZip, Contains, slice_get, zip}
+use Rattle.std.proofs.lemmas.List.{length-map}
+use Rattle.std.proofs.lemmas.List.Elements.{Contains-append_right}
+use Rattle.std.proofs.lemmas.Option.{slice_get-get_or}
+use Rattle.netlist.specs.declared.lines.Fault.{Fault}
+use Rattle.netlist.specs.declared.lines.Point.{Point}
+use Rattle.netlist.specs.Conditions.{IsSound}
+use Rattle.netlist.specs.Designs.{IsDesign}
+use Rattle.netlist.specs.Lines.{IsLineOf as IsNetlistLine}
+use Rattle.netlist.specs.Netlist.{Netlist}
+use Rattle.netlist.proofs.Lists.{contains_head}
+use Rattle.cubes.specs.Cubes.{Pattern}
+use Rattle.scan_insert.specs.Laws.{ScannedIsSound}
+use Rattle.scan_insert.specs.Scanned.{AreChainsOf}
+use Rattle.scan_play.specs.Cycles.{Cycle}
+use Rattle.stil_read.specs.Laws.{WrittenStands}
+use Rattle.stil_read.specs.Reading.{StandsFor}
+use Rattle.stil_vectors.specs.FileVectors.{vectors_in}
+use Rattle.fault_universe.specs.Laws.{FaultsHaveLines}
+use Rattle.fault_universe.specs.Universe.{universe_of}
+use Rattle.fault_universe.proofs.Elements.{contains_at}
+use Rattle.redundancy_cert.specs.declared.nodes.Node.{Node}
+use Rattle.report.specs.declared.outcomes.Outcome.{Outcome}
+use Rattle.report.specs.Reports.{Line}
+use Rattle.good_files.proofs.Truth.{all_kinds}
+use Rattle.transition_frames.specs.Transition.{DetectsTransition}
+use Rattle.transition.specs.Detections.{LastTransition}
+use Rattle.transition.specs.Laws.{ClosedTreeHasNoTransition}
+use Rattle.transition_play.specs.LaunchVectors.{AreLaunchVectors}
+use Rattle.transition_play.specs.Laws.{DetectedFailsSlowly, GoodPassesLaunches, LaunchVectorsFit, SomeSlowRun, UndetectedPassesSlowly}
+use Rattle.transition_files.specs.Laws.{LaunchFileVectors}
+use Rattle.transition_tests.specs.declared.verdicts.Verdict.{Verdict}
+use Rattle.transition_tests.specs.declared.verdicts.Verdict.TheVariants.{Detected, Redundant, Aborted}
+use Rattle.transition_tests.specs.Verdicts.{AreTests, IsVerdict}
+use Rattle.transition_report.specs.Lines.{IsLineOf, IsOutcomeOf, leaf_at, leaves_of}
+use Rattle.transition_report.specs.Texts.{transition_text}
+use Rattle.transition_run.specs.declared.files.TransitionFiles.{TransitionFiles}
+use Rattle.transition_run.specs.Runs.{files_of}
+use Rattle.transition_run.specs.Theorem.{AreUndetected, ComesTrue, TransitionTheorem}
+use Rattle.transition_run.specs.inner.Written.{IsWritten}
+
+-- the laws that are cited
+pub record Laws : Type 0 where
+  pub stands : WrittenStands
+  pub lines : FaultsHaveLines
+  pub sound : ScannedIsSound
+  pub closed : ClosedTreeHasNoTransition
+  pub vectors : LaunchFileVectors
+  pub fit : LaunchVectorsFit
+  pub good : GoodPassesLaunches
+  pub detected : DetectedFailsSlowly
+  pub undetected : UndetectedPassesSlowly
+  pub run : SomeSlowRun
+
+-- ---- verdicts, lines and trees, place by place
+
+module _ (n : Netlist) (chains : List (List ℕ)) (limit : ℕ) (patterns : List Pattern) where
+  -- the verdict at a place is true of the fault, the line says it, and its tree stands among the trees
+  record IsAt (f : Fault) (line : Line) (trees : List (Fault × List Node)) : Type 0 where
+    verdict : Verdict
+    is : IsVerdict n limit patterns f verdict
+    said : IsLineOf n chains (f, verdict) line
+    stands : (tree : List Node) → leaf_at f verdict ≡ (f, tree) ∷ [] → Contains trees (f, tree)
+
+  first_at : (g f : Fault) (v : Verdict) (l line : Line) (rest : List (Fault × List Node)) → Some g ≡ Some f → Some l ≡ Some line
+      → IsVerdict n limit patterns g v → IsLineOf n chains (g, v) l → IsAt f line (leaf_at g v ++ rest)
+  first_at g f v l line rest fault text is said =
+      let same : g ≡ f = cc in
+      let same_line : l ≡ line = cc in
+      subst (λ (h : Fault). IsAt h line (leaf_at g v ++ rest)) same (subst (λ (m : Line). IsAt g m (leaf_at g v ++ rest)) same_line (record {
+        verdict = v;
+        is = is;
+        said = said;
+        stands = λ tree leaf.
+            subst (λ (ls : List (Fault × List Node)). Contains (ls ++ rest) (g, tree)) (sym leaf) (contains_head (g, tree) rest);
+      }))
+
+  later_at : (f : Fault) (line : Line) (first rest : List (Fault × List Node)) → IsAt f line rest → IsAt f line (first ++ rest)
+  later_at f line first rest at = record {
+    verdict = at.verdict;
+    is = at.is;
+    said = at.said;
+    stands = λ tree leaf. Contains-append_right first rest (f, tree) (at.stands tree leaf);
+  }
+
+  at_place : (fs : List Fault) (vs : List Verdict) (lines : List Line) → AllZip (IsVerdict n limit patterns) fs vs → AllZip (IsLineOf n chains) (zip fs vs) lines
+      → (k : ℕ) (f : Fault) (line : Line) → slice_get fs k ≡ Some f → slice_get lines k ≡ Some line → IsAt f line (leaves_of fs vs)
+  at_place [] vs lines are said k f line p q = cc
+  at_place (g ∷ fs) [] lines are said k f line p q = elim are [ ]
+  at_place (g ∷ fs) (v ∷ vs) [] are said k f line p q = elim said [ ]
+  at_place (g ∷ fs) (v ∷ vs) (l ∷ lines) are said zero f line p q = first_at g f v l line (leaves_of fs vs) p q are.0 said.0
+  at_place (g ∷ fs) (v ∷ vs) (l ∷ lines) are said (suc k) f line p q =
+      later_at f line (leaf_at g v) (leaves_of fs vs) (at_place fs vs lines are.1 said.1 k f line p q)
+
+  -- each fault has its line
+  once : (fs : List Fault) (vs : List Verdict) (lines : List Line) → AllZip (IsVerdict n limit patterns) fs vs → AllZip (IsLineOf n chains) (zip fs vs) lines
+      → map (λ (l : Line). l.fault) lines ≡ map (transition_text n) fs
+  once [] [] [] are said = refl
+  once [] [] (l ∷ lines) are said = elim said [ ]
+  once [] (v ∷ vs) lines are said = elim are [ ]
+  once (f ∷ fs) [] lines are said = elim are [ ]
+  once (f ∷ fs) (v ∷ vs) [] are said = elim said [ ]
+  once (f ∷ fs) (v ∷ vs) (l ∷ lines) are said = ap₂ (λ (t : List ℕ) ts. t ∷ ts) said.0.names_it (once fs vs lines are.1 said.1)
+
+  left_by : (f : Fault) (v : Verdict) (fs : List Fault) (vs : List Verdict) → IsVerdict n limit patterns f v
+      → AreUndetected n patterns fs (map (λ (p : Fault × List Node). p.0) (leaves_of fs vs))
+      → AreUndetected n patterns (f ∷ fs) (map (λ (p : Fault × List Node). p.0) (leaf_at f v ++ leaves_of fs vs))
+  left_by f (Detected place point) fs vs is rest = inl ((place, point, is), rest)
+  left_by f (Redundant tree) fs vs is rest = inr (is.0, (map (λ (p : Fault × List Node). p.0) (leaves_of fs vs), refl, rest))
+  left_by f (Aborted tree) fs vs is rest = inr (is.0, (map (λ (p : Fault × List Node). p.0) (leaves_of fs vs), refl, rest))
+
+  -- those faults have trees that no pattern detects
+  left : (fs : List Fault) (vs : List Verdict) → AllZip (IsVerdict n limit patterns) fs vs
+      → AreUndetected n patterns fs (map (λ (p : Fault × List Node). p.0) (leaves_of fs vs))
+  left [] vs are = refl
+  left (f ∷ fs) [] are = elim are [ ]
+  left (f ∷ fs) (v ∷ vs) are = left_by f v fs vs are.0 (left fs vs are.1)
+
+-- ---- on the tester
+
+-- what a test and its cycles are
+record IsTested (n : Netlist) (chains : List (List ℕ)) (patterns : List Pattern) (cycles : List Cycle) : Type 0 where
+  sound : IsSound n
+  design : IsDesign n
+  dealt : AreChainsOf n chains
+  vectors : AreLaunchVectors n chains patterns cycles
+
+never_at : (n : Netlist) (patterns : List Pattern) (f : Fault) → LastTransition n patterns f None
+    → All (λ (p : Pattern). (point : Point) → ¬ DetectsTransition n f p.inputs p.cells point) patterns
+never_at n patterns f never k d lt = λ point t. never k point (record { pattern = get_or patterns k d; at = slice_get-get_or patterns k d lt; detects = t })
+
+comes_true : Laws → (n : Netlist) (chains : List (List ℕ)) (limit : ℕ) (patterns : List Pattern) (trees : List (Fault × List Node)) (cycles : List Cycle)
+    → IsTested n chains patterns cycles → (f : Fault) → IsNetlistLine n f.line → (v : Verdict) → IsVerdict n limit patterns f v
+    → ((tree : List Node) → leaf_at f v ≡ (f, tree) ∷ [] → Contains trees (f, tree)) → (o : Outcome) (pin : List ℕ) → IsOutcomeOf n chains v o pin
+    → ComesTrue n chains limit patterns trees cycles f o pin
+comes_true laws n chains limit patterns trees cycles are f line (Detected place point) is stands o pin said =
+    let output = said.2.0 in
+    subst (λ (w : Outcome). ComesTrue n chains limit patterns trees cycles f w pin) (sym said.1) (
+      point,
+      output,
+      is,
+      said.2.1,
+      said.2.2,
+      laws.detected n chains patterns cycles f place is.here.pattern point said.0 output are.sound are.dealt are.vectors line is.here.at is.here.detects said.2.1,
+    )
+comes_true laws n chains limit patterns trees cycles are f line (Redundant tree) is stands o pin said =
+    subst (λ (w : Outcome). ComesTrue n chains limit patterns trees cycles f w pin) (sym said.0)
+    (tree, (stands tree refl, is.1), is.2, λ inputs state point. laws.closed n f tree are.sound are.design line is.1 is.2 inputs state point)
+comes_true laws n chains limit patterns trees cycles are f line (Aborted tree) is stands o pin said =
+    subst (λ (w : Outcome). ComesTrue n chains limit patterns trees cycles f w pin) (sym said.0) (
+      tree,
+      (stands tree refl, is.1),
+      is.2,
+      is.3,
+      is.0,
+      laws.undetected n chains patterns cycles f are.sound are.dealt are.vectors line (never_at n patterns f is.0),
+    )
+
+pub truth : Laws → (n : Netlist) (chains : List (List ℕ)) (limit : ℕ) (patterns : List Pattern) (verdicts : List Verdict) (made : TransitionFiles)
+    → IsSound n → IsDesign n → AreChainsOf n chains → AreTests n limit patterns verdicts → IsWritten n chains limit patterns verdicts made
+    → TransitionTheorem n chains limit (files_of made)
+truth laws n chains limit patterns verdicts made sound design dealt tests w =
+    let file = w.stil.file in
+    let cycles = vectors_in file in
+    let lines = made.said.lines in
+    let vectors = laws.vectors n chains patterns file w.stil.of_patterns in
+    let named = once n chains limit patterns (universe_of n) verdicts lines tests.each w.said.lines in
+    record {
+      patterns = patterns;
+      file = file;
+      said = made.said;
+      trees = leaves_of (universe_of n) verdicts;
+      net_is = w.net;
+      scan_is = w.scan;
+      stil_is = subst (λ (t : List ℕ). StandsFor t file) (sym w.stil.text_is) (laws.stands file w.stil.is_file);
+      certificate_is = w.certificate;
+      report_is = w.report;
+      is_file_of = w.stil.of_patterns;
+      needed = tests.needed;
+      passes = laws.good n chains patterns cycles sound dealt vectors;
+      runs = λ f state size. laws.run n chains cycles f state (laws.sound n chains sound design dealt) size (laws.fit n chains patterns cycles sound dealt vectors);
+      once = named;
+      comes_true = λ place f line at said.
+          let here = at_place n chains limit patterns (universe_of n) verdicts lines tests.each w.said.lines place f line at said in
+          comes_true laws n chains limit patterns (leaves_of (universe_of n) verdicts) cycles
+          (record { sound = sound; design = design; dealt = dealt; vectors = vectors }) f
+          (laws.lines n f sound (contains_at (universe_of n) place f at)) here.verdict here.is here.stands line.outcome line.pin here.said.outcome;
+      left = left n chains limit patterns (universe_of n) verdicts tests.each;
+      all = all_kinds lines
+          ∙ (sym (length-map lines (λ (l : Line). l.fault)) ∙ (ap length named ∙ length-map (universe_of n) (transition_text n)));
+      numbers = w.said.numbers;
+    }

@@ -1,0 +1,49 @@
+use Rattle.std.proofs.Common.{◌≡◌, ℕ, ◌<◌, List, length, refl, subst, sym, ◌∙◌, ap, arith}
+use Rattle.std.proofs.lemmas.List.{length-map}
+use Rattle.netlist.specs.Conditions.{IsSound}
+use Rattle.netlist.specs.Netlist.{Definition, Netlist, cells}
+use Rattle.netlist.proofs.Settling.{cells_distinct}
+use Rattle.scan_play.proofs.ApplyLemmas.{few_cells}
+use Rattle.scan_insert.specs.Scanned.{cell_ids}
+use Rattle.fault_universe.specs.Universe.{universe_of}
+use Rattle.good_files.specs.ScanOff.{design_chains}
+use Rattle.transition.specs.Searches.{AreFound}
+use Rattle.transition_run.specs.inner.Written.{IsWritten}
+use Rattle.transition_run.proofs.FileLemmas.{are_chains, dealt}
+use Rattle.transition_run.proofs.files.transition_files.Goals as goal
+
+pub stitch-requires-clause-few : goal.stitch-requires-clause-few
+stitch-requires-clause-few g c =
+    let n = c.netlist-netlist.result.now in
+    omega (arith, few_cells n c.sound.ensures, ap length c.cells.ensures, length-map (cells n) (λ (d : Definition). d.id))
+
+pub stitch-requires-clause-distinct : goal.stitch-requires-clause-distinct
+stitch-requires-clause-distinct g c =
+    cells_distinct c.netlist-netlist.result.now c.sound.ensures.formed.numbered c.cells.result.now c.cells.ensures
+
+pub tests_of-requires-clause-found : goal.tests_of-requires-clause-found
+tests_of-requires-clause-found g c =
+    subst (λ (m : Netlist). AreFound m c.args.plan.limit (universe_of m) c.in_ok-found.found.items) c.netlist-netlist.ensures c.in_ok-found.ensures
+
+pub texts_of-requires-clause-chains : goal.texts_of-requires-clause-chains
+texts_of-requires-clause-chains g c =
+    let n = c.args.core.now in
+    are_chains n c.args.plan.chains c.in_ok-chains.chains c.requires.some
+    (dealt n c.args.plan.chains c.cells.result.now c.in_ok-chains.chains (c.cells.ensures ∙ ap cell_ids c.netlist-netlist.ensures) c.in_ok-chains.ensures)
+
+pub returns : goal.returns
+returns g c =
+    let n = c.args.core.now in
+    let asked = c.args.plan.chains in
+    let limit = c.args.plan.limit in
+    let tests = c.in_ok-tests.tests in
+    let files = c.in_ok-files.files in
+    let same : c.in_ok-chains.chains ≡ design_chains n asked =
+    dealt n asked c.cells.result.now c.in_ok-chains.chains (c.cells.ensures ∙ ap cell_ids c.netlist-netlist.ensures) c.in_ok-chains.ensures in
+    let written = subst (λ (cs : List (List ℕ)). IsWritten n cs limit tests.patterns.items tests.verdicts.items files) same c.in_ok-files.ensures in
+    record {
+      report_is = c.in_ok-files.ensures.report;
+      truth = c.written_tells_the_truth.ensures n (design_chains n asked) limit tests.patterns.items tests.verdicts.items files
+          (subst IsSound c.netlist-netlist.ensures c.sound.ensures) c.requires.design (are_chains n asked (design_chains n asked) c.requires.some refl)
+          c.in_ok-tests.ensures.tests written;
+    }

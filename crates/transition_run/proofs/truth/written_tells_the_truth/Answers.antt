@@ -1,0 +1,16 @@
+use Rattle.transition_run.proofs.TruthLemmas.{truth}
+use Rattle.transition_run.proofs.truth.written_tells_the_truth.Goals as goal
+
+pub returns : goal.returns
+returns c = truth (record {
+  stands = c.written_stands.ensures;
+  lines = c.faults_have_lines.ensures;
+  sound = c.scanned_is_sound.ensures;
+  closed = c.closed_tree_has_no_transition.ensures;
+  vectors = c.launch_file_vectors.ensures;
+  fit = c.launch_vectors_fit.ensures;
+  good = c.good_passes_launches.ensures;
+  detected = c.detected_fails_slowly.ensures;
+  undetected = c.undetected_passes_slowly.ensures;
+  run = c.some_slow_run.ensures;
+})

@@ -1,0 +1,37 @@
+-- The texts of patterns and verdicts.
+use Rattle.std.specs.Prelude.{ℕ, ◌≡◌, List, length}
+use Rattle.netlist.specs.Netlist.{Netlist}
+use Rattle.cubes.specs.Cubes.{Pattern}
+use Rattle.bench_text.specs.Canonical.{canonical}
+use Rattle.scan_insert.specs.Scanned.{scanned_of}
+use Rattle.stil_write.specs.StilFiles.{IsStilFile, StilFile}
+use Rattle.stil_write.specs.Texts.{stil_text}
+use Rattle.fault_universe.specs.Universe.{universe_of}
+use Rattle.transition_files.specs.LaunchFiles.{IsLaunchFileOf}
+use Rattle.transition_tests.specs.declared.verdicts.Verdict.{Verdict}
+use Rattle.transition_report.specs.declared.reporting.TransitionReport.{TransitionReport}
+use Rattle.transition_report.specs.Lines.{AreLines, leaves_of}
+use Rattle.transition_report.specs.Numbers.{IsReportOf, IsSized}
+use Rattle.transition_report.specs.Texts.{transition_certificate, transition_report_text}
+use Rattle.transition_run.specs.declared.files.TransitionFiles.{TransitionFiles}
+
+-- the text of the file that applies these patterns
+pub record IsLaunchText (n : Netlist) (chains : List (List ℕ)) (patterns : List Pattern) (text : List ℕ) : Type 0 where
+  pub file : StilFile
+  pub is_file : IsStilFile file
+  pub of_patterns : IsLaunchFileOf n chains patterns file
+  pub text_is : text ≡ stil_text file
+
+-- the report of these verdicts
+pub record IsSaid (n : Netlist) (chains : List (List ℕ)) (limit : ℕ) (patterns : List Pattern) (verdicts : List Verdict) (r : TransitionReport) : Type 0 where
+  pub lines : AreLines n chains (universe_of n) verdicts r.lines
+  pub numbers : IsReportOf n chains (length patterns) limit r.lines r
+  pub sized : IsSized r
+
+pub record IsWritten (n : Netlist) (chains : List (List ℕ)) (limit : ℕ) (patterns : List Pattern) (verdicts : List Verdict) (made : TransitionFiles) : Type 0 where
+  pub net : made.net.items ≡ canonical n
+  pub scan : made.scan.items ≡ canonical (scanned_of n chains)
+  pub stil : IsLaunchText n chains patterns made.stil.items
+  pub certificate : made.certificate.items ≡ transition_certificate n (leaves_of (universe_of n) verdicts)
+  pub report : made.report.items ≡ transition_report_text made.said
+  pub said : IsSaid n chains limit patterns verdicts made.said

@@ -1,0 +1,175 @@
+//! From a design to the five files of its transition faults. Searches come first, each on two frames of its own, and then one simulation of all
+//! patterns: there is no list that workers share, and so no lock.
+ghost use Rattle.std.specs.Prelude.{◌≡◌, ◌<◌, ◌≤◌, ◌^◌, IfOk, length};
+ghost use Rattle.std.specs.List.{All};
+ghost use Rattle.netlist.specs.Designs.{IsDesign};
+ghost use Rattle.netlist.specs.Holds.{none_held};
+ghost use Rattle.cubes.specs.Cubes.{IsPatternOf};
+ghost use Rattle.scan_insert.specs.Scanned.{AreChainsOf, scanned_of};
+ghost use Rattle.fault_universe.specs.Universe.{universe_of};
+ghost use Rattle.transition_tests.specs.Verdicts.{AreTests};
+ghost use Rattle.transition_run.specs.Runs.{IsTransitionRun};
+ghost use Rattle.transition_run.specs.inner.Written.{IsLaunchText, IsSaid, IsWritten};
+
+use crate::truth::written_tells_the_truth;
+use bench_text::write;
+use chain_stitch::{Chains, stitch};
+use cubes::Pattern;
+use fault_universe::{FaultSet, faults_have_lines, faults_have_signals, few_faults, universe};
+use netlist::{Core, Netlist, NoMemory};
+use redundancy_cert::Engine;
+use run_report::pin_names;
+use scan_insert::insert;
+use std::alloc::Global;
+use std::thread::Threads;
+use stil_write::write_stil;
+use transition::search_all;
+use transition_files::stil2_of;
+use transition_report::{
+    TransitionReport, leaves_of, lines_of, report_of, write_certificate, write_report,
+};
+use transition_tests::{Tests, tests_of};
+
+/// How a run goes: at most so many chains, so many workers, at most so many closed ends a search,
+/// and the seed of the bits that cubes leave open.
+#[derive(Clone, Copy, Debug)]
+pub struct Plan {
+    pub chains: u32,
+    pub workers: u32,
+    pub limit: u32,
+    pub seed: u64,
+}
+
+/// The texts of a run, and its report as a value.
+#[derive(Drop)]
+pub struct TransitionFiles {
+    pub net: Vec<u8>,
+    pub scan: Vec<u8>,
+    pub stil: Vec<u8>,
+    pub certificate: Vec<u8>,
+    pub report: Vec<u8>,
+    pub said: TransitionReport,
+}
+
+/// The test of these patterns as text.
+fn stil_text(
+    alloc: Global,
+    core: &Core,
+    chains: &Chains,
+    patterns: &[Pattern],
+) -> Result<Vec<u8>, NoMemory>
+    requires design { IsDesign core.now }
+    requires chains { AreChainsOf core.now chains.now }
+    requires patterns { All (IsPatternOf core.now (none_held core.now)) patterns.now }
+    ensures { IfOk result (λ text. IsLaunchText core.now chains.now patterns.now text.items) }
+{
+    let file = stil2_of(alloc, core, chains, patterns)?;
+    file.sound();
+    write_stil(alloc, &file).map_err(|_| NoMemory)
+}
+
+/// What the report says of these tests.
+fn said_of(
+    alloc: Global,
+    netlist: &Netlist,
+    scanned: &Netlist,
+    chains: &Chains,
+    faults: &FaultSet,
+    tests: &Tests,
+    limit: u32,
+) -> Result<TransitionReport, NoMemory>
+    requires design { IsDesign netlist.now }
+    requires chains { AreChainsOf netlist.now chains.now }
+    requires scanned { scanned.now ≡ scanned_of netlist.now chains.now }
+    requires faults { faults.now ≡ universe_of netlist.now }
+    requires tests { AreTests netlist.now limit tests.now.patterns.items tests.now.verdicts.items }
+    requires few { length tests.now.patterns.items < 2 ^ 32 }
+    ensures { IfOk result (IsSaid netlist.now chains.now limit tests.now.patterns.items tests.now.verdicts.items) }
+{
+    netlist.sound();
+    few_faults();
+    let pins = pin_names(alloc, scanned)?;
+    let verdicts = tests.verdicts.as_slice();
+    let lines = lines_of(alloc, netlist, chains, &pins, faults, verdicts)?;
+    Ok(report_of(
+        netlist,
+        chains,
+        tests.patterns.as_slice().len() as u32,
+        limit,
+        lines,
+    ))
+}
+
+/// The texts of these tests.
+fn texts_of(
+    alloc: Global,
+    core: &Core,
+    chains: &Chains,
+    faults: &FaultSet,
+    tests: Tests,
+    limit: u32,
+) -> Result<TransitionFiles, NoMemory>
+    requires design { IsDesign core.now }
+    requires chains { AreChainsOf core.now chains.now }
+    requires faults { faults.now ≡ universe_of core.now }
+    requires tests { AreTests core.now limit tests.patterns.items tests.verdicts.items }
+    requires few { length tests.patterns.items < 2 ^ 32 }
+    ensures { IfOk result (IsWritten core.now chains.now limit tests.patterns.items tests.verdicts.items) }
+{
+    let netlist = core.netlist();
+    netlist.sound();
+    few_faults();
+    faults_have_lines();
+    faults_have_signals();
+    let scanned = insert(alloc, netlist, chains)?;
+    let said = said_of(
+        alloc,
+        netlist,
+        scanned.netlist(),
+        chains,
+        faults,
+        &tests,
+        limit,
+    )?;
+    let Tests { patterns, verdicts } = tests;
+    let stil = stil_text(alloc, core, chains, patterns.as_slice())?;
+    let leaves = leaves_of(alloc, faults, verdicts)?;
+    let certificate = write_certificate(alloc, netlist, leaves.as_slice())?;
+    let net = write(alloc, netlist)?;
+    let scan = write(alloc, scanned.netlist())?;
+    let report = write_report(alloc, &said)?;
+    Ok(TransitionFiles {
+        net,
+        scan,
+        stil,
+        certificate,
+        report,
+        said,
+    })
+}
+
+/// Makes the five files of a design's transition faults. Whatever the number of workers, what the files say comes true.
+pub fn transition_files<R: Threads + Sync, E: Engine + Sync>(
+    rt: &R,
+    alloc: Global,
+    core: &Core,
+    plan: Plan,
+    engine: &E,
+) -> Result<TransitionFiles, NoMemory>
+    requires design { IsDesign core.now }
+    requires some { 1 ≤ plan.chains }
+    requires limit { 1 ≤ plan.limit }
+    requires workers { (0 < plan.workers) × (plan.workers ≤ 64) }
+    ensures { IfOk result (IsTransitionRun core.now plan.chains plan.limit) }
+{
+    let netlist = core.netlist();
+    netlist.sound();
+    few_faults();
+    let chains = stitch(alloc, netlist.cells(), plan.chains)?;
+    let faults = universe(alloc, netlist)?;
+    let found = search_all(rt, alloc, netlist, engine, plan.limit, plan.workers)?;
+    let tests = tests_of(alloc, core, &faults, found, plan.limit, plan.seed)?;
+    let files = texts_of(alloc, core, &chains, &faults, tests, plan.limit)?;
+    written_tells_the_truth();
+    Ok(files)
+}

@@ -1,0 +1,141 @@
+-- The cubes of tests, and patterns that have their bits.
+use Rattle.std.proofs.Common.{◌≡◌, ℕ, zero, suc, ◌+◌, ◌-◌, ◌<◌, ◌≤◌, ◌^◌, inl, inr, Bool, true, false, List, [], ◌∷◌, ◌++◌, length, get_or, take, take_all, refl, sym, ◌∙◌, ap, subst, arith}
+use Rattle.std.specs.List.{All, AllPairs, AllZip, Contains}
+use Rattle.std.proofs.lemmas.Bool.{cases_lt}
+use Rattle.std.proofs.lemmas.List.{get_or-append_right, get_or_past, length-map, take_more}
+use Rattle.std.proofs.lemmas.Slice.Zip.{AllZip-long, all_zipped_more}
+use Rattle.std.proofs.lemmas.List.Elements.{All-nil, All-cons, All-contains}
+use Rattle.netlist.specs.declared.kinds.Tri.{Tri}
+use Rattle.netlist.specs.declared.kinds.Tri.TheVariants.{Zero, One, X}
+use Rattle.netlist.specs.declared.lines.Fault.{Fault}
+use Rattle.netlist.specs.Holds.{none_held}
+use Rattle.netlist.specs.Netlist.{Netlist, cells}
+use Rattle.netlist.specs.ThreeValues.{known, allows, AreAllowed}
+use Rattle.netlist.proofs.Lists.{contains_head, contains_tail}
+use Rattle.cubes.specs.Cubes.{Cube, Pattern, AgreesWith, HasBitsOf, HaveSameWidths, IsCubeOf}
+use Rattle.cubes.proofs.RowLemmas.{bit_left, bit_right, known_is_no_x, row_left}
+use Rattle.fault_universe.specs.Universe.{fault_limit}
+use Rattle.redundancy_cert.specs.declared.engine.Found.{Found}
+use Rattle.redundancy_cert.specs.declared.engine.Found.TheVariants.{Test, Closed, Partial}
+use Rattle.transition_frames.specs.Frames.{frames_of, in_first}
+use Rattle.transition_frames.proofs.Framed.{cells_framed}
+use Rattle.transition.specs.Searches.{AreFound, HasFrameEvidence}
+use Rattle.transition_tests.specs.inner.Cubes.{cube_of, cubes_in, HasAgreeing}
+
+-- ---- the cubes of answers
+
+-- cubes of one netlist have the same widths
+pub same_widths : (n : Netlist) (cubes : List Cube) → All (IsCubeOf n (none_held n)) cubes → AllPairs HaveSameWidths cubes
+same_widths n cubes all i j d a b =
+    let x = all i d (omega arith) in
+    let y = all j d b in
+    record { inputs = x.inputs ∙ sym y.inputs; cells = x.cells ∙ sym y.cells }
+
+-- a cube of the two frames is one of the netlist
+frame_cube : (n : Netlist) (f : Fault) (c : Cube) → IsCubeOf (frames_of n f) (none_held (frames_of n f)) c → IsCubeOf n (none_held n) c
+frame_cube n f c is = record {
+  inputs = is.inputs;
+  cells = is.cells ∙ (ap length (cells_framed n f) ∙ length-map (cells n) (in_first n f));
+  held = is.held;
+}
+
+pub all_cubes : (n : Netlist) (limit : ℕ) (faults : List Fault) (found : List Found) → AreFound n limit faults found → All (IsCubeOf n (none_held n)) (cubes_in found)
+all_cubes n limit [] [] are = All-nil (IsCubeOf n (none_held n))
+all_cubes n limit [] (x ∷ xs) are = elim are [ ]
+all_cubes n limit (f ∷ fs) [] are = elim are [ ]
+all_cubes n limit (f ∷ fs) (Test c o ∷ xs) are = All-cons (IsCubeOf n (none_held n)) c (cubes_in xs) (frame_cube n f c are.0.is_cube) (all_cubes n limit fs xs are.1)
+all_cubes n limit (f ∷ fs) (Closed t ∷ xs) are = all_cubes n limit fs xs are.1
+all_cubes n limit (f ∷ fs) (Partial t ∷ xs) are = all_cubes n limit fs xs are.1
+
+pub few_cubes : (found : List Found) → length (cubes_in found) ≤ length found
+few_cubes [] = omega arith
+few_cubes (Test c o ∷ xs) = let rest = few_cubes xs in omega arith
+few_cubes (Closed t ∷ xs) = let rest = few_cubes xs in omega arith
+few_cubes (Partial t ∷ xs) = let rest = few_cubes xs in omega arith
+
+-- patterns are no more than cubes, and so than faults
+pub few_patterns : (n : Netlist) (limit : ℕ) (faults : List Fault) (found : List Found) (cubes : List Cube) (patterns : List Pattern) → AreFound n limit faults found
+    → length faults < fault_limit → cubes ≡ cubes_in found → length patterns ≤ length cubes → length patterns + 64 ≤ 2 ^ 32
+few_patterns n limit faults found cubes patterns are few is fewer =
+    let size = AllZip-long (HasFrameEvidence n limit) faults found are in
+    let count = few_cubes found in
+    let same = ap length is in
+    omega arith
+
+-- the cubes of the other answers stand among all
+pub other_cube : (x : Found) (xs : List Found) (c : Cube) → Contains (cubes_in xs) c → Contains (cubes_in (x ∷ xs)) c
+other_cube (Test d o) xs c is = contains_tail d c (cubes_in xs) is
+other_cube (Closed t) xs c is = is
+other_cube (Partial t) xs c is = is
+
+-- ---- bits of a part
+
+allowed_one : (c r : Tri) (b : Bool) → ((bit : Bool) → c ≡ known bit → r ≡ known bit) → allows r b ≡ true → allows c b ≡ true
+allowed_one X r b part h = refl
+allowed_one Zero r b part h = let same : r ≡ Zero = part false refl in subst (λ (v : Tri). allows v b ≡ true) same h
+allowed_one One r b part h = let same : r ≡ One = part true refl in subst (λ (v : Tri). allows v b ≡ true) same h
+
+allowed_part : (cs rs : List Tri) (bits : List Bool) → length rs ≡ length cs → ((k : ℕ) (bit : Bool) → get_or cs k X ≡ known bit → get_or rs k X ≡ known bit)
+    → AreAllowed rs bits → AreAllowed cs bits
+allowed_part [] [] bits size part h = h
+allowed_part [] (r ∷ rs) bits size part h = absurd (omega arith)
+allowed_part (c ∷ cs) [] bits size part h = absurd (omega arith)
+allowed_part (c ∷ cs) (r ∷ rs) [] size part h = elim h [ ]
+allowed_part (c ∷ cs) (r ∷ rs) (b ∷ bits) size part h =
+    (allowed_one c r b (λ bit e. part zero bit e) h.0, allowed_part cs rs bits (omega arith) (λ k bit e. part (suc k) bit e) h.1)
+
+bit_within : (xs : List Tri) (k : ℕ) (b : Bool) → get_or xs k X ≡ known b → k < length xs
+bit_within xs k b e = elim (cases_lt k (length xs)) [ inl lt ↦ lt | inr past ↦ absurd (known_is_no_x b (sym (get_or_past xs k X past) ∙ e)) ]
+
+behind_all : (xs ys : List Tri) (k : ℕ) → get_or (xs ++ ys) (length xs + k) X ≡ get_or ys k X
+behind_all xs ys k =
+    let le : length xs ≤ length xs + k = omega arith in
+    let same : length xs + k - length xs ≡ k = omega arith in
+    get_or-append_right xs ys (length xs) (length xs + k) X refl le ∙ ap (λ i. get_or ys i X) same
+
+-- a pattern with the bits of a cube has those of each cube whose bits that one has
+pub part_agrees : (p : Pattern) (r c : Cube) → HaveSameWidths r c → HasBitsOf r c → AgreesWith p r → AgreesWith p c
+part_agrees p r c same has agrees = record {
+  inputs = allowed_part c.inputs r.inputs p.inputs same.inputs
+      (λ k b e.
+      let size = same.inputs in
+      let within = bit_within c.inputs k b e in
+      sym (row_left r.inputs r.cells k (omega arith)) ∙ has k b (bit_left c.inputs c.cells k b e))
+      agrees.inputs;
+  cells = allowed_part c.cells r.cells p.cells same.cells
+      (λ k b e.
+      sym (behind_all r.inputs r.cells k)
+      ∙ (ap (λ (i : ℕ). get_or (r.inputs ++ r.cells) (i + k) X) same.inputs ∙ has (length c.inputs + k) b (bit_right c.inputs c.cells k b e)))
+      agrees.cells;
+}
+
+-- ---- each cube has a pattern
+
+-- one cube more is filled
+pub agree_more : (cubes : List Cube) (old new : List Pattern) (k : ℕ) (c : Cube) (p : Pattern) → k < length cubes → c ≡ get_or cubes k c → AgreesWith p c
+    → AllZip AgreesWith old (take k cubes) → new ≡ old ++ p ∷ [] → AllZip AgreesWith new (take (k + 1) cubes)
+agree_more cubes old new k c p lt is agrees before added =
+    let taken : take k cubes ++ c ∷ [] ≡ take (k + 1) cubes = sym (take_more cubes k c lt ∙ ap (λ (x : Cube). take k cubes ++ x ∷ []) (sym is)) in
+    subst (λ (ps : List Pattern). AllZip AgreesWith ps (take (k + 1) cubes)) (sym added)
+    (subst (λ (cs : List Cube). AllZip AgreesWith (old ++ p ∷ []) cs) taken (all_zipped_more AgreesWith old (take k cubes) p c before agrees))
+
+pub agree_all : (cubes : List Cube) (patterns : List Pattern) (k : ℕ) → length cubes ≤ k → AllZip AgreesWith patterns (take k cubes) → AllZip AgreesWith patterns cubes
+agree_all cubes patterns k le are = subst (λ (cs : List Cube). AllZip AgreesWith patterns cs) (take_all k cubes le) are
+
+paired_at : {A B : Type 0} (R : A → B → Type 0) (xs : List A) (ys : List B) (k : ℕ) (y : B) → AllZip R xs ys → k < length ys → get_or ys k y ≡ y
+    → (x : A) × Contains xs x × R x y
+paired_at R [] [] k y z lt e = absurd (omega arith)
+paired_at R [] (b ∷ ys) k y z lt e = elim z [ ]
+paired_at R (a ∷ xs) [] k y z lt e = elim z [ ]
+paired_at R (a ∷ xs) (b ∷ ys) zero y z lt e = (a, contains_head a xs, subst (λ w. R a w) e z.0)
+paired_at R (a ∷ xs) (b ∷ ys) (suc k) y z lt e = let r = paired_at R xs ys k y z.1 (omega arith) e in (r.0, contains_tail a r.0 xs r.1, r.2)
+
+pub agreeing : (n : Netlist) (cubes merged : List Cube) (patterns : List Pattern) → All (IsCubeOf n (none_held n)) cubes → All (IsCubeOf n (none_held n)) merged
+    → ((c : Cube) → Contains cubes c → (r : Cube) × Contains merged r × HasBitsOf r c) → AllZip AgreesWith patterns merged
+    → (c : Cube) → Contains cubes c → HasAgreeing patterns c
+agreeing n cubes merged patterns fit fits kept agree c is =
+    let r = kept c is in
+    let p = paired_at AgreesWith patterns merged r.1.0 r.0 agree r.1.1 r.1.2 in
+    let wide = All-contains (IsCubeOf n (none_held n)) cubes c fit is in
+    let wider = All-contains (IsCubeOf n (none_held n)) merged r.0 fits r.1 in
+    (p.0, p.1, part_agrees p.0 r.0 c (record { inputs = wider.inputs ∙ sym wide.inputs; cells = wider.cells ∙ sym wide.cells }) r.2 p.2)

@@ -1,0 +1,3 @@
+pub mod CubeLemmas
+pub mod EndLemmas
+pub mod TestLemmas

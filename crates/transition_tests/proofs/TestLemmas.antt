@@ -1,0 +1,157 @@
+-- What comes of the faults is true of the patterns that are kept.
+use Rattle.std.proofs.Common.{◌≡◌, ℕ, zero, suc, ◌+◌, ◌<◌, ◌≤◌, Bool, true, List, [], ◌∷◌, length, get_or, Option, Some, None, refl, sym, ◌∙◌, subst, arith}
+use Rattle.std.specs.Prelude.{IfSome}
+use Rattle.std.specs.List.{All, AllZip, Contains, slice_get}
+use Rattle.std.proofs.lemmas.List.Elements.{All-nil, All-cons, All-head, All-tail}
+use Rattle.std.proofs.lemmas.Option.{slice_get_read, slice_get_within, slice_get-get_or}
+use Rattle.netlist.specs.declared.lines.Fault.{Fault}
+use Rattle.netlist.specs.declared.lines.Point.{Point}
+use Rattle.netlist.specs.Conditions.{IsSound}
+use Rattle.netlist.specs.Holds.{none_held}
+use Rattle.netlist.specs.Lines.{IsLineOf}
+use Rattle.netlist.specs.Netlist.{Netlist}
+use Rattle.netlist.proofs.Lists.{contains_head}
+use Rattle.cubes.specs.Cubes.{Cube, Pattern, IsPatternOf}
+use Rattle.redundancy_cert.specs.declared.engine.Found.{Found}
+use Rattle.redundancy_cert.specs.declared.engine.Found.TheVariants.{Test, Closed, Partial}
+use Rattle.reverse_compact.specs.Kept.{is_last_at, kept_from, marked_from, new_place}
+use Rattle.reverse_compact.specs.inner.Marks.{last_at}
+use Rattle.reverse_compact.proofs.KeepLemmas.{kept_all, kept_few, source}
+use Rattle.reverse_compact.proofs.LastPlaces.{last_kept, marked_by, never_kept, some_marked}
+use Rattle.fault_universe.specs.Universe.{universe_of}
+use Rattle.transition_frames.specs.Frames.{frames_of, frame_fault}
+use Rattle.transition.specs.Detections.{IsLastTransition, LastTransition}
+use Rattle.transition.specs.Searches.{AreFound, HasFrameEvidence}
+use Rattle.transition.proofs.Answering.{test_detects_transition}
+use Rattle.transition.proofs.LastTold.{to_frames, from_frames}
+use Rattle.transition_tests.specs.declared.verdicts.Verdict.{Verdict}
+use Rattle.transition_tests.specs.Verdicts.{AreTests, IsNeeded, IsVerdict}
+use Rattle.transition_tests.specs.inner.Cubes.{cubes_in, HasAgreeing}
+use Rattle.transition_tests.specs.inner.Ends.{AreEnds, IsEnd, IsTold}
+use Rattle.transition_tests.proofs.CubeLemmas.{other_cube}
+
+-- ---- where a test was found, some pattern detects
+
+module _ (n : Netlist) (sound : IsSound n) (limit : ℕ) (patterns : List Pattern) where
+  told_one : (f : Fault) (x : Found) (last : Option (ℕ × Point)) → IsLineOf n f.line → HasFrameEvidence n limit f x → LastTransition n patterns f last
+      → ((c : Cube) → Contains (cubes_in (x ∷ [])) c → HasAgreeing patterns c) → IsTold x last
+  told_one f x (Some l) line evidence is agree = tt
+  told_one f (Test c o) None line evidence never agree =
+      let p = agree c (contains_head c []) in
+      never p.1.0 o (record {
+        pattern = p.0;
+        at = slice_get_read patterns (length patterns) p.1.0 p.0 refl p.1.1 (sym p.1.2);
+        detects = test_detects_transition n f c o p.0 sound line evidence p.2;
+      })
+  told_one f (Closed t) None line evidence is agree = tt
+  told_one f (Partial t) None line evidence is agree = tt
+
+  first_cube : (x : Found) (xs : List Found) (c : Cube) → Contains (cubes_in (x ∷ [])) c → Contains (cubes_in (x ∷ xs)) c
+  first_cube (Test d o) xs c is = only (Test d o) d xs c is
+    where
+      only : (x : Found) (d : Cube) (xs : List Found) (c : Cube) → Contains (d ∷ []) c → Contains (d ∷ cubes_in xs) c
+      only x d xs c (k, lt, e) =
+          let first : k ≡ zero = omega arith in
+          (zero, omega arith, subst (λ (i : ℕ). get_or (d ∷ []) i c ≡ c) first e)
+  first_cube (Closed t) xs c is = absurd (let lt = is.1 in omega arith)
+  first_cube (Partial t) xs c is = absurd (let lt = is.1 in omega arith)
+
+  pub all_told : (faults : List Fault) (found : List Found) (lasts : List (Option (ℕ × Point))) → All (λ (f : Fault). IsLineOf n f.line) faults
+      → AreFound n limit faults found → AllZip (LastTransition n patterns) faults lasts → ((c : Cube) → Contains (cubes_in found) c → HasAgreeing patterns c)
+      → AllZip IsTold found lasts
+  all_told [] [] [] lines are is agree = tt
+  all_told [] [] (l ∷ lasts) lines are is agree = elim is [ ]
+  all_told [] (x ∷ found) lasts lines are is agree = elim are [ ]
+  all_told (f ∷ faults) [] lasts lines are is agree = elim are [ ]
+  all_told (f ∷ faults) (x ∷ found) [] lines are is agree = elim is [ ]
+  all_told (f ∷ faults) (x ∷ found) (l ∷ lasts) lines are is agree = (
+    told_one f x l (All-head (λ (g : Fault). IsLineOf n g.line) f faults lines) are.0 is.0 (λ c c_is. agree c (first_cube x found c c_is)),
+    all_told faults found lasts (All-tail (λ (g : Fault). IsLineOf n g.line) f faults lines) are.1 is.1 (λ c c_is. agree c (other_cube x found c c_is)),
+  )
+
+-- each last place is one of the patterns
+pub last_within : (n : Netlist) (patterns : List Pattern) (faults : List Fault) (lasts : List (Option (ℕ × Point))) → AllZip (LastTransition n patterns) faults lasts
+    → All (λ (l : Option (ℕ × Point)). IfSome l (λ p. p.0 < length patterns)) lasts
+last_within n patterns [] [] are = All-nil (λ (l : Option (ℕ × Point)). IfSome l (λ p. p.0 < length patterns))
+last_within n patterns [] (l ∷ lasts) are = elim are [ ]
+last_within n patterns (f ∷ faults) [] are = elim are [ ]
+last_within n patterns (f ∷ faults) (None ∷ lasts) are =
+    All-cons (λ (m : Option (ℕ × Point)). IfSome m (λ p. p.0 < length patterns)) None lasts tt (last_within n patterns faults lasts are.1)
+last_within n patterns (f ∷ faults) (Some l ∷ lasts) are =
+    All-cons (λ (m : Option (ℕ × Point)). IfSome m (λ p. p.0 < length patterns)) (Some l) lasts
+    (slice_get_within patterns l.0 are.0.here.pattern are.0.here.at) (last_within n patterns faults lasts are.1)
+
+-- ---- among the patterns that are kept
+
+module _ (n : Netlist) (sound : IsSound n) (limit : ℕ) (patterns : List Pattern) (marked : ℕ → Bool) where
+  kept_last : (f : Fault) (k : ℕ) (o : Point) → IsLineOf n f.line → marked k ≡ true → IsLastTransition n patterns f k o
+      → IsLastTransition n (kept_from marked 0 patterns) f (new_place marked k) o
+  kept_last f k o line mark is =
+      let before = last_kept (frames_of n f) patterns marked (frame_fault n f) k o mark (record {
+        here = to_frames n sound patterns f line k o is.here;
+        last = λ later q lt t. is.last later q lt (from_frames n sound patterns f line later q t);
+        first = λ q lt t. is.first q lt (from_frames n sound patterns f line k q t);
+      }) in
+      let left = kept_from marked 0 patterns in
+      record {
+        here = from_frames n sound left f line (new_place marked k) o before.here;
+        last = λ later q lt t. before.last later q lt (to_frames n sound left f line later q t);
+        first = λ q lt t. before.first q lt (to_frames n sound left f line (new_place marked k) q t);
+      }
+
+  kept_never : (f : Fault) → IsLineOf n f.line → LastTransition n patterns f None → LastTransition n (kept_from marked 0 patterns) f None
+  kept_never f line never place q t =
+      never_kept (frames_of n f) patterns marked (frame_fault n f) (λ p o d. never p o (from_frames n sound patterns f line p o d)) place q
+      (to_frames n sound (kept_from marked 0 patterns) f line place q t)
+
+  verdict_is : (f : Fault) (x : Found) (last : Option (ℕ × Point)) (v : Verdict) → IsLineOf n f.line → HasFrameEvidence n limit f x → LastTransition n patterns f last
+      → ((l : ℕ × Point) → last ≡ Some l → marked l.0 ≡ true) → IsEnd (new_place marked) x last v → IsVerdict n limit (kept_from marked 0 patterns) f v
+  verdict_is f x (Some l) v line evidence is mark end =
+      subst (IsVerdict n limit (kept_from marked 0 patterns) f) (sym end) (kept_last f l.0 l.1 line (mark l refl) is)
+  verdict_is f (Test c o) None v line evidence never mark end = elim end [ ]
+  verdict_is f (Closed t) None v line evidence never mark end =
+      subst (IsVerdict n limit (kept_from marked 0 patterns) f) (sym end) (kept_never f line never, evidence.0, evidence.1)
+  verdict_is f (Partial t) None v line evidence never mark end =
+      subst (IsVerdict n limit (kept_from marked 0 patterns) f) (sym end) (kept_never f line never, evidence.0, evidence.1, evidence.2)
+
+  verdicts_are : (faults : List Fault) (found : List Found) (lasts : List (Option (ℕ × Point))) (vs : List Verdict) → All (λ (f : Fault). IsLineOf n f.line) faults
+      → AreFound n limit faults found → AllZip (LastTransition n patterns) faults lasts → ((c : ℕ) (l : ℕ × Point) → last_at lasts c ≡ Some l → marked l.0 ≡ true)
+      → AreEnds (new_place marked) found lasts vs → AllZip (IsVerdict n limit (kept_from marked 0 patterns)) faults vs
+  verdicts_are [] [] [] [] lines are is mark ends = tt
+  verdicts_are [] [] [] (v ∷ vs) lines are is mark ends = elim ends [ ]
+  verdicts_are [] [] (l ∷ lasts) vs lines are is mark ends = elim is [ ]
+  verdicts_are [] (x ∷ found) lasts vs lines are is mark ends = elim are [ ]
+  verdicts_are (f ∷ faults) [] lasts vs lines are is mark ends = elim are [ ]
+  verdicts_are (f ∷ faults) (x ∷ found) [] vs lines are is mark ends = elim is [ ]
+  verdicts_are (f ∷ faults) (x ∷ found) (l ∷ lasts) [] lines are is mark ends = elim ends [ ]
+  verdicts_are (f ∷ faults) (x ∷ found) (l ∷ lasts) (v ∷ vs) lines are is mark ends = (
+    verdict_is f x l v (All-head (λ (g : Fault). IsLineOf n g.line) f faults lines) are.0 is.0 (λ w e. mark zero w e) ends.0,
+    verdicts_are faults found lasts vs (All-tail (λ (g : Fault). IsLineOf n g.line) f faults lines) are.1 is.1 (λ c w e. mark (suc c) w e) ends.1,
+  )
+
+-- each pattern that is kept is needed
+needed_at : (n : Netlist) (sound : IsSound n) (patterns : List Pattern) (faults : List Fault) (lasts : List (Option (ℕ × Point)))
+    → ((f : Fault) → Contains faults f → IsLineOf n f.line) → AllZip (LastTransition n patterns) faults lasts
+    → (place : ℕ) (p : Pattern) → slice_get (kept_from (is_last_at lasts) 0 patterns) place ≡ Some p → IsNeeded n faults (kept_from (is_last_at lasts) 0 patterns) place
+needed_at n sound patterns faults lasts lines are place p at =
+    let marked : ℕ → Bool = is_last_at lasts in
+    let s = source marked 0 patterns place p at in
+    let start : 0 + s.place ≡ s.place = omega arith in
+    let mark : marked s.place ≡ true = subst (λ (i : ℕ). marked i ≡ true) start s.mark in
+    let by = marked_by (LastTransition n patterns) faults lasts s.place are mark in
+    let last = kept_last n sound 0 patterns marked by.0 s.place by.2.0 (lines by.0 by.1) mark by.2.1 in
+    (by.0, by.1, (by.2.0, subst (λ (k : ℕ). IsLastTransition n (kept_from marked 0 patterns) by.0 k by.2.0) s.new last))
+
+pub tests_are : (n : Netlist) (sound : IsSound n) (limit : ℕ) (patterns : List Pattern) (found : List Found) (lasts : List (Option (ℕ × Point))) (kept : List Pattern) (vs : List Verdict)
+    → All (IsPatternOf n (none_held n)) patterns → ((f : Fault) → Contains (universe_of n) f → IsLineOf n f.line) → All (λ (f : Fault). IsLineOf n f.line) (universe_of n)
+    → AreFound n limit (universe_of n) found → AllZip (LastTransition n patterns) (universe_of n) lasts
+    → kept ≡ kept_from (is_last_at lasts) 0 patterns → AreEnds (new_place (is_last_at lasts)) found lasts vs → AreTests n limit kept vs
+tests_are n sound limit patterns found lasts kept vs obey lines all are is kept_is ends =
+    subst (λ (ps : List Pattern). AreTests n limit ps vs) (sym kept_is) (record {
+      obey = kept_all (IsPatternOf n (none_held n)) (is_last_at lasts) 0 patterns obey;
+      needed = λ place lt.
+          let left = kept_from (is_last_at lasts) 0 patterns in
+          let nothing : Pattern = record { inputs = []; cells = [] } in
+          needed_at n sound patterns (universe_of n) lasts lines is place (get_or left place nothing) (slice_get-get_or left place nothing lt);
+      each = verdicts_are n sound limit patterns (is_last_at lasts) (universe_of n) found lasts vs all are is (some_marked lasts) ends;
+    })

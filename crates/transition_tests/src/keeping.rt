@@ -1,0 +1,105 @@
+//! The patterns that are the last to detect some transition fault, and what so comes of each fault. A pattern that detects what a later one does
+//! too is dropped, as in compaction in reverse order; there is no collapsing, since two transition faults of a gate's lines rarely are one.
+ghost use Rattle.std.specs.Prelude.{◌≡◌, ◌+◌, ◌≤◌, ◌<◌, ◌^◌, ℕ, length, slice_index, IfOk, IfSome};
+ghost use Rattle.std.specs.List.{All, AllZip};
+ghost use Rattle.netlist.specs.Designs.{IsDesign};
+ghost use Rattle.fault_universe.specs.Universe.{universe_of};
+ghost use Rattle.reverse_compact.specs.Kept.{is_last_at, kept_from, new_place};
+ghost use Rattle.transition.specs.Searches.{AreFound};
+ghost use Rattle.transition_tests.specs.Verdicts.{AreTests};
+ghost use Rattle.transition_tests.specs.inner.Ends.{AreEnds, IsEnd, IsTold};
+
+use crate::filling::{cubes_of, patterns_of};
+use crate::verdicts::{Tests, Verdict};
+use cubes::Pattern;
+use fault_universe::FaultSet;
+use netlist::{Core, NoMemory, Point};
+use redundancy_cert::Found;
+use reverse_compact::{kept, needed, new_places};
+use std::alloc::{AllocError, Global};
+use transition::last_tells2;
+
+/// What comes of a fault: where it is last detected, by the new place of that pattern, or else what the search answered.
+fn verdict_of(answer: Found, last: &Option<(u32, Point)>, places: &[u32]) -> Verdict
+    requires told { IsTold answer last.now }
+    requires within { IfSome last.now (λ l. l.0 < length places.now) }
+    ensures { IsEnd (λ k. slice_index places.now k) answer last.now result }
+{
+    if let Some((place, point)) = last {
+        return Verdict::Detected(places[*place as usize], *point);
+    }
+    match answer {
+        Found::Test(_, _) => unreachable!(),
+        Found::Closed(tree) => Verdict::Redundant(tree),
+        Found::Partial(tree) => Verdict::Aborted(tree),
+    }
+}
+
+/// What comes of each fault.
+fn verdicts_of(
+    alloc: Global,
+    found: Vec<Found>,
+    last: &[Option<(u32, Point)>],
+    places: &[u32],
+) -> Result<Vec<Verdict>, AllocError>
+    requires told { AllZip IsTold found.items last.now }
+    requires within { All (λ l. IfSome l (λ p. p.0 < length places.now)) last.now }
+    ensures { IfOk result (λ v. AreEnds (λ k. slice_index places.now k) found.items last.now v.items) }
+{
+    let mut verdicts = Vec::new(alloc);
+    let mut fault = 0usize;
+    for answer in found {
+        verdicts.push(verdict_of(answer, &last[fault], places))?;
+        fault += 1;
+    }
+    Ok(verdicts)
+}
+
+/// The patterns that are the last to detect some fault, and what comes of each fault.
+fn keep(
+    alloc: Global,
+    patterns: Vec<Pattern>,
+    last: &[Option<(u32, Point)>],
+    found: Vec<Found>,
+) -> Result<Tests, AllocError>
+    requires told { AllZip IsTold found.items last.now }
+    requires within { All (λ l. IfSome l (λ p. p.0 < length patterns.items)) last.now }
+    requires few { length patterns.items + 1 < 2 ^ 32 }
+    ensures patterns { IfOk result (λ t. t.patterns.items ≡ kept_from (is_last_at last.now) 0 patterns.items) }
+    ensures verdicts { IfOk result (λ t. AreEnds (new_place (is_last_at last.now)) found.items last.now t.verdicts.items) }
+{
+    let marks = needed(alloc, patterns.len(), last)?;
+    let places = new_places(alloc, &marks)?;
+    let verdicts = verdicts_of(alloc, found, last, &places)?;
+    let patterns = kept(alloc, patterns, &marks)?;
+    Ok(Tests { patterns, verdicts })
+}
+
+/// Tests of a design's transition faults from what the searches found of each: their cubes merged in the order of faults and filled from this
+/// seed, and of the patterns those that are the last to detect some fault.
+pub fn tests_of(
+    alloc: Global,
+    core: &Core,
+    faults: &FaultSet,
+    found: Vec<Found>,
+    limit: u32,
+    seed: u64,
+) -> Result<Tests, NoMemory>
+    requires design { IsDesign core.now }
+    requires faults { faults.now ≡ universe_of core.now }
+    requires found { AreFound core.now limit (universe_of core.now) found.items }
+    ensures tests { IfOk result (λ t. AreTests core.now limit t.patterns.items t.verdicts.items) }
+    ensures few { IfOk result (λ t. length t.patterns.items < 2 ^ 32) }
+{
+    let _ = limit;
+    core.netlist().sound();
+    let Ok(cubes) = cubes_of(alloc, &found) else {
+        return Err(NoMemory);
+    };
+    let patterns = patterns_of(alloc, core, &cubes, seed)?;
+    let last = last_tells2(alloc, core, faults, &patterns)?;
+    let Ok(tests) = keep(alloc, patterns, &last, found) else {
+        return Err(NoMemory);
+    };
+    Ok(tests)
+}

@@ -1,4 +1,0 @@
-pub mod Errors
-pub mod Held
-pub mod Padding
-pub mod RunTable
