@@ -9,6 +9,7 @@ ghost use Rattle.redundancy_cert.specs.Trees.{closed_count};
 ghost use Rattle.redundancy_cert.specs.Stacks.{other_nodes, path_of_stack, closed_around};
 ghost use Rattle.redundancy_cert.specs.Evidence.{HasEvidence};
 ghost use Rattle.head_lines.specs.HeadLines.{IsPlace, AreRoles};
+ghost use Rattle.head_lines.specs.Rooms.{CanServeWants};
 ghost use Rattle.fan.specs.Trees.{IsLeftOpen, HasEvidenceOnPlaces};
 ghost use Rattle.fan.specs.inner.Searching.{undecided, IsAt, IsSearching, MayEnter, MayClimb, IsWhole, IsStepped, IsChosen, IsOfCase, IsForcedSeen};
 
@@ -17,7 +18,7 @@ use crate::choosing::choose;
 use crate::forcing::{Seen, find_forced};
 use crate::guides::{Guide, best_aim};
 use crate::standing::{go, look};
-use head_lines::{Role, justified_cube};
+use head_lines::{Role, WantRoom, justified_cube};
 use netlist::{Core, Fault, Holds, Point, SignalId};
 use pair_sim::{PairSim, State};
 use redundancy_cert::{Found, Node, Other, Side, Tree, Turn, end_side, whole_tree};
@@ -266,22 +267,25 @@ fn search_on(
     holds: &Holds,
     roles: &[Role],
     labels: &mut PairSim,
+    wants: &mut WantRoom,
     limit: u32,
 ) -> Result<Found, AllocError>
     requires start { labels.old ≡ sim core.now fault.now holds.now [] }
     requires fit { AreHoldsOf core.now holds.now }
     requires roles { AreRoles fault.now core.now holds.now roles.now }
     requires going { IsLeftOpen fault.now core.now holds.now [] }
+    requires wants { CanServeWants core.now wants.old }
     ensures evidence { IfOk result (HasEvidence fault.now core.now holds.now limit) }
     ensures places { IfOk result (HasEvidenceOnPlaces fault.now core.now holds.now limit) }
     ensures kept { OnOk result (IsOfCase fault.now core.now holds.now labels.new) }
+    ensures wants { OnOk result (CanServeWants core.now wants.new) }
 {
     let mut stack = Vec::new(alloc);
     let mut closed: u32 = 0;
     while closed < limit {
         match take_turn(alloc, core, guide, fault, holds, roles, labels, &mut stack)? {
             Step::Found(point) => {
-                let cube = justified_cube(alloc, core, fault, holds, roles, labels, &point)?;
+                let cube = justified_cube(alloc, core, fault, holds, roles, labels, &point, wants)?;
                 return Ok(Found::Test(cube, point));
             }
             Step::Done(nodes) => return Ok(Found::Closed(Tree::new(nodes))),
@@ -302,12 +306,14 @@ pub(crate) fn search_from(
     holds: &Holds,
     roles: &[Role],
     labels: &mut PairSim,
+    wants: &mut WantRoom,
     limit: u32,
 ) -> Result<Found, AllocError>
     requires start { labels.old ≡ sim core.now fault.now holds.now [] }
     requires fit { AreHoldsOf core.now holds.now }
     requires roles { AreRoles fault.now core.now holds.now roles.now }
     requires some { 1 ≤ limit }
+    requires wants { CanServeWants core.now wants.old }
     ensures evidence { IfOk result (HasEvidence fault.now core.now holds.now limit) }
 
     // On places alone: no Partial for a limit of 2 to their number, and no Open where the condition for a test is met.
@@ -315,11 +321,12 @@ pub(crate) fn search_from(
 
     // The labels are those of some path.
     ensures kept { OnOk result (IsOfCase fault.now core.now holds.now labels.new) }
+    ensures wants { OnOk result (CanServeWants core.now wants.new) }
 {
     core.netlist().sound();
     match labels.state() {
         State::Test(point) => {
-            let cube = justified_cube(alloc, core, fault, holds, roles, labels, &point)?;
+            let cube = justified_cube(alloc, core, fault, holds, roles, labels, &point, wants)?;
             Ok(Found::Test(cube, point))
         }
         State::Blocked => {
@@ -328,7 +335,9 @@ pub(crate) fn search_from(
         }
         State::Going => {
             guide.cut(0);
-            search_on(alloc, core, guide, fault, holds, roles, labels, limit)
+            search_on(
+                alloc, core, guide, fault, holds, roles, labels, wants, limit,
+            )
         }
     }
 }
