@@ -4,11 +4,9 @@ use Rattle.std.specs.List.{Contains, filter}
 use Rattle.netlist.specs.declared.kinds.Tri.{Tri}
 use Rattle.netlist.specs.declared.lines.Fault.{Fault}
 use Rattle.netlist.specs.Holds.{Holds}
-use Rattle.netlist.specs.Lines.{IsLineOf}
 use Rattle.netlist.specs.Netlist.{Definition, Netlist, cells}
 use Rattle.tri.specs.Labels.{good_of, held_value}
 use Rattle.tri.specs.Paths.{Path, decisions, IsClosedPath, IsGoingPath}
-use Rattle.pair_sim.specs.Sims.{Sim}
 use Rattle.cubes.specs.Cubes.{Cube}
 use Rattle.redundancy_cert.specs.declared.nodes.Node.{Node}
 use Rattle.redundancy_cert.specs.declared.nodes.Node.TheVariants.{Closed, Open, Split, Forced}
@@ -61,9 +59,3 @@ abbrev pub HasSourceEvidence : Fault → Netlist → Holds → ℕ → Found →
 HasSourceEvidence f n holds limit (Test cube point) = Unit {0}
 HasSourceEvidence f n holds limit (Complete tree) = IsSourceTree f n holds tree
 HasSourceEvidence f n holds limit (Partial tree) = IsSourceTree f n holds tree × (limit < 2 ^ length (sources n holds))
-
--- labels of a fault on a line of this netlist, under these held inputs
-pub record IsLabelling (n : Netlist) (holds : Holds) (s : Sim) : Type 0 where
-  pub netlist : s.netlist ≡ n
-  pub holds_are : s.holds ≡ holds
-  pub line : IsLineOf n s.fault.line

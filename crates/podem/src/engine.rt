@@ -1,9 +1,8 @@
 //! The engine.
-ghost use Rattle.std.specs.Prelude.{◌≤◌, IfOk, OnOk};
+ghost use Rattle.std.specs.Prelude.{◌≤◌, IfOk};
 ghost use Rattle.netlist.specs.Holds.{AreHoldsOf};
 ghost use Rattle.redundancy_cert.specs.Evidence.{HasEvidence};
-ghost use Rattle.netlist.specs.Lines.{IsLineOf};
-ghost use Rattle.podem.specs.Sources.{HasSourceEvidence, IsLabelling};
+ghost use Rattle.podem.specs.Sources.{HasSourceEvidence};
 
 use crate::searching::search_from;
 use netlist::{Core, Fault, Holds, NoMemory};
@@ -62,39 +61,6 @@ impl Podem {
             holds,
             &mut effects,
             &mut labels,
-            limit,
-        )
-        .map_err(|_| NoMemory)
-    }
-
-    /// The same with the labels of an earlier search for another fault: no table is made anew, and what the two faults reach is evaluated.
-    pub fn search_again(
-        &self,
-        alloc: Global,
-        core: &Core,
-        labels: &mut PairSim,
-        fault: Fault,
-        limit: u32,
-        holds: &Holds,
-    ) -> Result<Found, NoMemory>
-        requires limit { 1 ≤ limit }
-        requires holds { AreHoldsOf core.now holds.now }
-        requires case { IsLabelling core.now holds.now labels.old }
-        requires line { IsLineOf core.now fault.line }
-        ensures evidence { IfOk result (HasEvidence fault core.now holds.now limit) }
-        ensures sources { IfOk result (HasSourceEvidence fault core.now holds.now limit) }
-        ensures kept { OnOk result (IsLabelling core.now holds.now labels.new) }
-    {
-        labels.aim(fault);
-        let mut effects = Effects::new(alloc);
-        search_from(
-            alloc,
-            core,
-            &self.measures,
-            &fault,
-            holds,
-            &mut effects,
-            labels,
             limit,
         )
         .map_err(|_| NoMemory)

@@ -1,15 +1,14 @@
-//! `search MODE PATH LIMIT`: a search for a test of each class's first member, without simulation in between.
+//! `search MODE PATH LIMIT podem|fan`: a search for a test of each class's first member, without simulation in between.
 ghost use Rattle.std.specs.Prelude.{◌≤◌};
 ghost use Rattle.netlist.specs.Holds.{AreHoldsOf};
 ghost use Rattle.fault_collapse.specs.Classes.{AreClasses};
-ghost use Rattle.podem.specs.Sources.{IsLabelling};
 
 use crate::netlists::representative;
+use fan::Fan;
 use fault_collapse::Classes;
 use netlist::{Core, Holds, NoMemory, Tri};
-use pair_sim::PairSim;
 use podem::Podem;
-use redundancy_cert::{Found, Node};
+use redundancy_cert::{Engine, Found, Node};
 use std::alloc::Global;
 
 /// What became of the faults.
@@ -77,28 +76,35 @@ fn count(ends: &mut Ends, found: &Found) {
     }
 }
 
-/// Searches for a test of each class's first member, with the same labels.
-fn search_each(
+/// Searches for a test of each class's first member, all in one room.
+fn search_each<E: Engine>(
     alloc: Global,
     core: &Core,
-    podem: &Podem,
+    engine: &E,
     classes: &Classes,
-    labels: &mut PairSim,
     limit: u32,
     holds: &Holds,
 ) -> Result<Ends, NoMemory>
     requires classes { AreClasses core.now classes.now }
     requires limit { 1 ≤ limit }
     requires holds { AreHoldsOf core.now holds.now }
-    requires case { IsLabelling core.now holds.now labels.old }
 {
     let mut ends = Ends::none();
+    let mut room = engine.room(alloc, core, holds)?;
     for class in 0..classes.count() {
         let fault = representative(core, classes, class);
-        let found = podem.search_again(alloc, core, labels, fault, limit, holds)?;
+        let (found, kept) = engine.search_in(alloc, room, core, fault, limit, holds)?;
+        room = kept;
         count(&mut ends, &found);
     }
     Ok(ends)
+}
+
+/// What searches.
+#[derive(Clone, Copy)]
+pub enum By {
+    Podem,
+    Fan,
 }
 
 /// Searches for a test of each class's first member.
@@ -107,16 +113,21 @@ pub fn search_all(
     core: &Core,
     classes: &Classes,
     limit: u32,
+    by: By,
 ) -> Result<Ends, NoMemory>
     requires classes { AreClasses core.now classes.now }
     requires limit { 1 ≤ limit }
 {
-    if classes.count() == 0 {
-        return Ok(Ends::none());
-    }
     let holds = Holds::none(alloc, core)?;
-    let podem = Podem::of(alloc, core)?;
-    let first = representative(core, classes, 0);
-    let mut labels = PairSim::new(alloc, core, first, &holds)?;
-    search_each(alloc, core, &podem, classes, &mut labels, limit, &holds)
+    match by {
+        By::Podem => search_each(
+            alloc,
+            core,
+            &Podem::of(alloc, core)?,
+            classes,
+            limit,
+            &holds,
+        ),
+        By::Fan => search_each(alloc, core, &Fan::of(alloc, core)?, classes, limit, &holds),
+    }
 }
