@@ -10,13 +10,13 @@ ghost use Rattle.fan.specs.Trees.{HasEvidenceOnPlaces};
 ghost use Rattle.fan.specs.inner.Searching.{IsOfCase};
 
 use crate::guides::{Guide, GuideRoom, Objectives, Stop};
-use crate::measures::Measures;
 use crate::searching::search_from;
 use head_lines::{Role, RoleRoom, roles_of};
 use netlist::{Core, Fault, Holds, NoMemory};
 use pair_sim::{PairSim, SimRoom};
 use redundancy_cert::{Engine, Found};
 use std::alloc::{AllocError, Global};
+use testability::Measures;
 
 /// As many Closed the first attempt may take before the search begins anew.
 const FEW: u32 = 16;
