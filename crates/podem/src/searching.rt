@@ -18,7 +18,7 @@ use netlist::{Core, Fault, Holds, Point, SignalId, Tri};
 use pair_sim::{PairSim, State};
 use redundancy_cert::{Found, Node, Other, Side, Tree, Turn, end_side, whole_tree};
 use std::alloc::{AllocError, Global};
-use testability::{Aim, Effects, Measures, signal_count};
+use testability::{Aim, Effects, signal_count};
 
 /// What comes of a turn.
 #[derive(Drop)]
@@ -440,7 +440,7 @@ fn search_on(
 pub(crate) fn search_from(
     alloc: Global,
     core: &Core,
-    measures: &Measures,
+    guide: &Guide,
     fault: &Fault,
     holds: &Holds,
     effects: &mut Effects,
@@ -469,8 +469,7 @@ pub(crate) fn search_from(
         }
         State::Going => {
             effects.cut(0);
-            let guide = Guide::new(measures, fault);
-            search_on(alloc, core, &guide, fault, holds, effects, labels, limit)
+            search_on(alloc, core, guide, fault, holds, effects, labels, limit)
         }
     }
 }
