@@ -227,7 +227,7 @@ fn take_turn(
     requires going { IsLeftOpen fault.now core.now holds.now (path_of_stack stack.old.items) }
     ensures { IfOk result (IsStepped fault.now core.now holds.now labels.new stack.old.items stack.new.items (closed_around stack.old.items)) }
 {
-    guide.follow(core, labels)?;
+    guide.follow(core, fault, labels)?;
     let aims = forced_aims(alloc, core, fault, roles, guide.effects(), labels, stack)?;
     match find_forced(core, fault, holds, roles, labels, stack, &aims) {
         Seen::Reached(point) => Ok(Step::Found(point)),
@@ -334,7 +334,7 @@ pub(crate) fn search_from(
             Ok(Found::Closed(Tree::new(tree)))
         }
         State::Going => {
-            guide.cut(0);
+            guide.begin();
             search_on(
                 alloc, core, guide, fault, holds, roles, labels, wants, limit,
             )

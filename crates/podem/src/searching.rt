@@ -328,7 +328,7 @@ fn take_turn(
     ensures { IfOk result (IsStepped fault.now core.now holds.now labels.new stack.old.items stack.new.items (closed_around stack.old.items)) }
 {
     core.netlist().sound();
-    effects.follow(core, labels)?;
+    effects.follow(core, fault, labels)?;
     let aim = choose(core, guide, fault, holds, effects, labels, stack);
     match look(labels, aim.signal, !aim.bit) {
         State::Test(point) => Ok(Step::Found(point)),
@@ -468,7 +468,7 @@ pub(crate) fn search_from(
             Ok(Found::Closed(Tree::new(tree)))
         }
         State::Going => {
-            effects.cut(0);
+            effects.begin();
             search_on(alloc, core, guide, fault, holds, effects, labels, limit)
         }
     }
