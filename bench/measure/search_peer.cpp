@@ -1,10 +1,25 @@
 // A plain PODEM of the same kind as crates/podem, to compare with: labels of a path by events with a trail, both sides of each decision
-// looked at, decisions on inputs and cells, guided by SCOAP's measures. It takes the same decisions, so its counts are those of `timings`.
+// looked at, decisions on inputs and cells, guided by SCOAP's measures, up to three attempts. It takes the same decisions, so its counts are those
+// of `timings`.
 //
 //     clang++ -O2 -std=c++20 -o search_peer bench/measure/search_peer.cpp && ./search_peer FILE.bench LIMIT
 #include "search_peer.hpp"
 
 // ---- the search
+
+// the finisher of SplitMix64
+static u64 mixed(u64 z) {
+    z = (z ^ (z >> 30)) * 0xbf58476d1ce4e5b9ull;
+    z = (z ^ (z >> 27)) * 0x94d049bb133111ebull;
+    return z ^ (z >> 31);
+}
+static u64 salt_of(const Fault& f) {
+    u64 place = f.sort == 0 ? 0 : f.sort == 2 ? 1 : (u64)f.pin + 2;
+    return mixed((u64)f.signal << 32 ^ place << 1 ^ (u64)f.value);
+}
+
+// which pin the backtrace goes to: the one that is needed, one by a hash, or the lowest
+enum Pick { Needed, Any, Lowest };
 
 struct Search {
     const Netlist& n;
@@ -13,20 +28,29 @@ struct Search {
     Counts& counts;
     struct Side { u32 signal; bool bit; bool tried; size_t mark; u64 nodes; };  // nodes: decisions in the other side's tree
     std::vector<Side> stack;
+    Pick pick = Needed;
+    u64 salt = 0;
 
     Tri good(u32 x) const { return sim.labels[x].good; }
     u32 driver() const { return sim.fault.sort == 1 ? n.pin(sim.fault.signal, sim.fault.pin) : sim.fault.signal; }
 
     struct Aim { u32 signal = NONE; bool bit = false; };
 
-    // the pin that is X with the least or the greatest cost of the bit
-    u32 pin_by_cost(u32 x, bool bit, bool dear) const {
-        u32 best = NONE, best_cost = 0;
+    bool cheap(u32 p) const { return m.one[p] == m.zero[p] ? mixed(salt ^ p) & 1 : m.one[p] < m.zero[p]; }
+    u64 weight(u32 p, bool bit, bool dear) const {
+        if (pick == Any) return mixed(salt ^ p);
+        if (pick == Lowest) return n.is_gate(p) ? n.place[p] + 1 : 0;
+        return dear ? ~0u - m.of(p, bit) : m.of(p, bit);
+    }
+    // the pin that is X to go to for a bit, which is wanted of one pin, or of all if it is dear
+    u32 pin_for(u32 x, bool bit, bool dear) const {
+        u32 best = NONE;
+        u64 least = 0;
         for (u32 k = 0; k < n.pin_count(x); k++) {
             u32 p = n.pin(x, k);
             if (good(p) != X) continue;
-            u32 cost = m.of(p, bit);
-            if (best == NONE || (dear ? cost > best_cost : cost < best_cost)) best = p, best_cost = cost;
+            u64 own = weight(p, bit, dear);
+            if (best == NONE || own < least) best = p, least = own;
         }
         return best;
     }
@@ -44,18 +68,18 @@ struct Search {
             if (aim.signal == NONE || cost < best) aim.signal = p, best = cost;
         }
         if (aim.signal == NONE) return aim;
-        aim.bit = unknown == 1 ? bit != odd : m.one[aim.signal] < m.zero[aim.signal];
+        aim.bit = unknown == 1 ? bit != odd : cheap(aim.signal);
         return aim;
     }
     Aim step_back(Aim a) const {
         switch (n.kind[a.signal]) {
-            case And: return {pin_by_cost(a.signal, a.bit, a.bit), a.bit};
-            case Nand: return {pin_by_cost(a.signal, !a.bit, !a.bit), !a.bit};
-            case Or: return {pin_by_cost(a.signal, a.bit, !a.bit), a.bit};
-            case Nor: return {pin_by_cost(a.signal, !a.bit, a.bit), !a.bit};
+            case And: return {pin_for(a.signal, a.bit, a.bit), a.bit};
+            case Nand: return {pin_for(a.signal, !a.bit, !a.bit), !a.bit};
+            case Or: return {pin_for(a.signal, a.bit, !a.bit), a.bit};
+            case Nor: return {pin_for(a.signal, !a.bit, a.bit), !a.bit};
             case Xor: case Xnor: return parity_pin(a.signal, a.bit);
-            case Not: return {pin_by_cost(a.signal, !a.bit, false), !a.bit};
-            case Buff: return {pin_by_cost(a.signal, a.bit, false), a.bit};
+            case Not: return {pin_for(a.signal, !a.bit, false), !a.bit};
+            case Buff: return {pin_for(a.signal, a.bit, false), a.bit};
             default: return {};
         }
     }
@@ -69,8 +93,8 @@ struct Search {
     // what a gate's pin should have so that an effect on another pin goes through
     Aim through(u32 x) const {
         switch (n.kind[x]) {
-            case And: case Nand: return {pin_by_cost(x, true, true), true};
-            case Or: case Nor: return {pin_by_cost(x, false, true), false};
+            case And: case Nand: return {pin_for(x, true, true), true};
+            case Or: case Nor: return {pin_for(x, false, true), false};
             case Xor: case Xnor: {
                 Aim a;
                 u32 best = 0;
@@ -78,7 +102,7 @@ struct Search {
                     u32 p = n.pin(x, k);
                     if (good(p) != X) continue;
                     u32 cost = std::min(m.zero[p], m.one[p]);
-                    if (a.signal == NONE || cost < best) a = {p, m.one[p] < m.zero[p]}, best = cost;
+                    if (a.signal == NONE || cost < best) a = {p, cheap(p)}, best = cost;
                 }
                 return a;
             }
@@ -129,7 +153,9 @@ struct Search {
         return s;
     }
     // 0: a test, 1: redundant, 2: given up
-    int run(u64 limit) {
+    int run(Pick how, u64 limit, bool last) {
+        pick = how, salt = salt_of(sim.fault);
+        stack.clear();
         State s = sim.state();
         if (s != Going) return s == Test ? 0 : 1;
         u64 closed = 0;
@@ -161,7 +187,7 @@ struct Search {
                 stack.pop_back();
             }
         }
-        for (auto& side : stack) counts.tree += side.nodes + 1;
+        for (auto& side : stack) counts.tree += last ? side.nodes + 1 : 0;
         return 2;
     }
 };
@@ -176,10 +202,17 @@ int main(int argc, char** argv) {
     auto begin = std::chrono::steady_clock::now();
     Measures m(n);
     Sim sim(n);
+    constexpr u64 few = 16;
+    Search search{n, m, sim, counts, {}};
     for (auto& f : faults) {
-        sim.aim(f);
-        Search search{n, m, sim, counts, {}};
-        int end = search.run(limit);
+        int end = 2;
+        for (Pick how : {Needed, Any, Lowest}) {
+            bool last = how == Lowest;
+            if (!last && limit <= few) continue;
+            sim.aim(f);
+            end = search.run(last && limit <= few ? Needed : how, last ? limit : few, last);
+            if (end != 2) break;
+        }
         (end == 0 ? counts.tests : end == 1 ? counts.closed : counts.aborted)++;
         if (end == 0) for (u8 d : sim.decided) counts.decided += d != X;
         if (list && end) printf("%d sort %d signal %u pin %u value %d\n", end, f.sort, f.signal, f.pin, f.value);

@@ -6,12 +6,13 @@ ghost use Rattle.netlist.specs.Holds.{AreHoldsOf};
 ghost use Rattle.pair_sim.specs.Sims.{sim};
 ghost use Rattle.redundancy_cert.specs.Evidence.{HasEvidence};
 ghost use Rattle.head_lines.specs.HeadLines.{AreRoles};
+ghost use Rattle.head_lines.specs.Rooms.{CanServeWants};
 ghost use Rattle.fan.specs.Trees.{HasEvidenceOnPlaces};
 ghost use Rattle.fan.specs.inner.Searching.{IsOfCase};
 
 use crate::guides::{Guide, GuideRoom, Objectives, Stop};
 use crate::searching::search_from;
-use head_lines::{Role, RoleRoom, roles_of};
+use head_lines::{Role, RoleRoom, WantRoom, roles_of};
 use netlist::{Core, Fault, Holds, NoMemory};
 use pair_sim::{PairSim, SimRoom};
 use redundancy_cert::{Engine, Found};
@@ -30,11 +31,12 @@ pub struct Fan {
     measures: Measures,
 }
 
-/// What a search leaves to the next one: its labels, the roles of signals, and the room of its guide.
+/// What a search leaves to the next one: its labels, the roles of signals, and the rooms of what is wanted of them and of its guide.
 #[derive(Drop)]
 pub struct FanRoom {
     labels: SimRoom,
     roles: RoleRoom,
+    wants: WantRoom,
     guide: GuideRoom,
 }
 
@@ -47,6 +49,7 @@ fn short_attempt(
     holds: &Holds,
     roles: &[Role],
     labels: &mut PairSim,
+    wants: &mut WantRoom,
     few: u32,
     limit: u32,
 ) -> Result<Option<Found>, AllocError>
@@ -54,15 +57,17 @@ fn short_attempt(
     requires some { 1 ≤ few }
     requires fit { AreHoldsOf core.now holds.now }
     requires roles { AreRoles fault.now core.now holds.now roles.now }
+    requires wants { CanServeWants core.now wants.old }
     ensures evidence { IfOk result (λ o. IfSome o (HasEvidence fault.now core.now holds.now limit)) }
     ensures places { IfOk result (λ o. IfSome o (HasEvidenceOnPlaces fault.now core.now holds.now limit)) }
     ensures kept { OnOk result (IsOfCase fault.now core.now holds.now labels.new) }
     ensures back { IfOk result (λ o. o ≡ None → labels.new ≡ sim core.now fault.now holds.now []) }
+    ensures wants { OnOk result (CanServeWants core.now wants.new) }
 {
     if limit <= few {
         return Ok(None);
     }
-    match search_from(alloc, core, guide, fault, holds, roles, labels, few)? {
+    match search_from(alloc, core, guide, fault, holds, roles, labels, wants, few)? {
         Found::Test(cube, point) => Ok(Some(Found::Test(cube, point))),
         Found::Closed(tree) => Ok(Some(Found::Closed(tree))),
         Found::Partial(_) => {
@@ -81,36 +86,41 @@ fn attempts(
     holds: &Holds,
     roles: &[Role],
     labels: &mut PairSim,
+    wants: &mut WantRoom,
     limit: u32,
 ) -> Result<Found, AllocError>
     requires start { labels.old ≡ sim core.now fault.now holds.now [] }
     requires some { 1 ≤ limit }
     requires fit { AreHoldsOf core.now holds.now }
     requires roles { AreRoles fault.now core.now holds.now roles.now }
+    requires wants { CanServeWants core.now wants.old }
     ensures evidence { IfOk result (HasEvidence fault.now core.now holds.now limit) }
     ensures places { IfOk result (HasEvidenceOnPlaces fault.now core.now holds.now limit) }
     ensures kept { OnOk result (IsOfCase fault.now core.now holds.now labels.new) }
+    ensures wants { OnOk result (CanServeWants core.now wants.new) }
 {
     guide.go_back(Objectives::One, Stop::Heads);
     if let Some(found) = short_attempt(
-        alloc, core, guide, fault, holds, roles, labels, FEW, limit,
+        alloc, core, guide, fault, holds, roles, labels, wants, FEW, limit,
     )? {
         return Ok(found);
     }
     guide.go_back(Objectives::All, Stop::Stems);
     if let Some(found) = short_attempt(
-        alloc, core, guide, fault, holds, roles, labels, MORE, limit,
+        alloc, core, guide, fault, holds, roles, labels, wants, MORE, limit,
     )? {
         return Ok(found);
     }
     guide.go_back(Objectives::One, Stop::Stems);
     if let Some(found) = short_attempt(
-        alloc, core, guide, fault, holds, roles, labels, MORE, limit,
+        alloc, core, guide, fault, holds, roles, labels, wants, MORE, limit,
     )? {
         return Ok(found);
     }
     guide.go_back(Objectives::All, Stop::Heads);
-    search_from(alloc, core, guide, fault, holds, roles, labels, limit)
+    search_from(
+        alloc, core, guide, fault, holds, roles, labels, wants, limit,
+    )
 }
 
 impl Fan {
@@ -149,6 +159,9 @@ impl Fan {
         let Ok(roles) = roles_of(alloc, core, &fault, holds) else {
             return Err(NoMemory);
         };
+        let Ok(mut wants) = WantRoom::of(alloc, core) else {
+            return Err(NoMemory);
+        };
         attempts(
             alloc,
             core,
@@ -157,6 +170,7 @@ impl Fan {
             holds,
             &roles,
             &mut labels,
+            &mut wants,
             limit,
         )
         .map_err(|_| NoMemory)
@@ -167,11 +181,11 @@ impl Engine for Fan {
     ghost use Rattle.netlist.specs.Netlist.{Netlist};
     ghost use Rattle.netlist.specs.Holds.{Holds};
     ghost use Rattle.pair_sim.specs.Rooms.{CanServeLabels};
-    ghost use Rattle.head_lines.specs.Rooms.{CanServeRoles};
+    ghost use Rattle.head_lines.specs.Rooms.{CanServeRoles, CanServeWants};
 
     type Room = FanRoom;
 
-    ghost serves = { λ (n : Netlist) (holds : Holds) r. CanServeLabels n holds r.labels × CanServeRoles n holds r.roles };
+    ghost serves = { λ (n : Netlist) (holds : Holds) r. CanServeLabels n holds r.labels × CanServeRoles n holds r.roles × CanServeWants n r.wants };
 
     fn search(
         &self,
@@ -191,10 +205,14 @@ impl Engine for Fan {
         let Ok(roles) = RoleRoom::of(alloc, core, holds) else {
             return Err(NoMemory);
         };
+        let Ok(wants) = WantRoom::of(alloc, core) else {
+            return Err(NoMemory);
+        };
         let labels = SimRoom::new(alloc, core, holds)?;
         Ok(FanRoom {
             labels,
             roles,
+            wants,
             guide,
         })
     }
@@ -213,6 +231,7 @@ impl Engine for Fan {
             return Err(NoMemory);
         };
         let mut labels = PairSim::in_room(room.labels, core, fault, holds);
+        let mut wants = room.wants;
         let mut guide = Guide::of(&self.measures, room.guide);
         match attempts(
             alloc,
@@ -222,6 +241,7 @@ impl Engine for Fan {
             holds,
             roles.roles(),
             &mut labels,
+            &mut wants,
             limit,
         ) {
             Ok(found) => Ok((
@@ -229,6 +249,7 @@ impl Engine for Fan {
                 FanRoom {
                     labels: labels.into_room(),
                     roles,
+                    wants,
                     guide: guide.into_room(),
                 },
             )),

@@ -195,17 +195,27 @@ impl<'a> Guide<'a> {
         self.stop = stop;
     }
 
+    /// Another search begins.
+    pub(crate) fn begin(&mut self) {
+        self.effects.begin();
+    }
+
     /// The trail of labels has been cut to this length.
     pub(crate) fn cut(&mut self, length: usize) {
         self.effects.cut(length);
     }
 
     /// Looks at what the trail of labels has gained.
-    pub(crate) fn follow(&mut self, core: &Core, labels: &PairSim) -> Result<(), AllocError>
+    pub(crate) fn follow(
+        &mut self,
+        core: &Core,
+        fault: &Fault,
+        labels: &PairSim,
+    ) -> Result<(), AllocError>
         requires same { labels.now.netlist ≡ core.now }
         requires not_blocked { IsNotBlocked labels.now }
     {
-        self.effects.follow(core, labels)
+        self.effects.follow(core, fault, labels)
     }
 
     pub(crate) fn effects(&self) -> &Effects {

@@ -14,6 +14,7 @@ ghost use Rattle.redundancy_cert.specs.Trees.{closed_count};
 ghost use Rattle.redundancy_cert.specs.Stacks.{other_nodes, path_of_stack, closed_around};
 ghost use Rattle.redundancy_cert.specs.Evidence.{HasEvidence};
 ghost use Rattle.head_lines.specs.HeadLines.{IsPlace, AreRoles};
+ghost use Rattle.head_lines.specs.Rooms.{CanServeWants};
 ghost use Rattle.fan.specs.Trees.{IsLeftOpen, HasEvidenceOnPlaces};
 ghost use Rattle.fan.specs.inner.Searching.{undecided, IsAt, IsSearching, MayEnter, MayClimb, IsWhole, IsStepped, IsChosen, IsOfCase, IsForcedSeen};
 
@@ -22,7 +23,7 @@ use crate::choosing::choose;
 use crate::forcing::{Seen, find_forced};
 use crate::guides::{Guide, best_aim};
 use crate::standing::{go, look};
-use head_lines::{Role, justified_cube};
+use head_lines::{Role, WantRoom, justified_cube};
 use netlist::{Core, Fault, Holds, Point, SignalId};
 use pair_sim::{PairSim, State};
 use redundancy_cert::{Found, Node, Other, Side, Tree, Turn, end_side, whole_tree};
@@ -229,7 +230,7 @@ fn take_turn(
     requires going { IsLeftOpen fault.now core.now holds.now (path_of_stack stack.old.items) }
     ensures { IfOk result (IsStepped fault.now core.now holds.now labels.new stack.old.items stack.new.items (closed_around stack.old.items)) }
 {
-    guide.follow(core, labels)?;
+    guide.follow(core, fault, labels)?;
     let aims = forced_aims(alloc, core, fault, roles, guide.effects(), labels, stack)?;
     match find_forced(core, fault, holds, roles, labels, stack, &aims) {
         Seen::Reached(point) => Ok(Step::Found(point)),
@@ -268,22 +269,25 @@ fn search_on(
     holds: &Holds,
     roles: &[Role],
     labels: &mut PairSim,
+    wants: &mut WantRoom,
     limit: u32,
 ) -> Result<Found, AllocError>
     requires start { labels.old ≡ sim core.now fault.now holds.now [] }
     requires fit { AreHoldsOf core.now holds.now }
     requires roles { AreRoles fault.now core.now holds.now roles.now }
     requires going { IsLeftOpen fault.now core.now holds.now [] }
+    requires wants { CanServeWants core.now wants.old }
     ensures evidence { IfOk result (HasEvidence fault.now core.now holds.now limit) }
     ensures places { IfOk result (HasEvidenceOnPlaces fault.now core.now holds.now limit) }
     ensures kept { OnOk result (IsOfCase fault.now core.now holds.now labels.new) }
+    ensures wants { OnOk result (CanServeWants core.now wants.new) }
 {
     let mut stack = Vec::new(alloc);
     let mut closed: u32 = 0;
     while closed < limit {
         match take_turn(alloc, core, guide, fault, holds, roles, labels, &mut stack)? {
             Step::Found(point) => {
-                let cube = justified_cube(alloc, core, fault, holds, roles, labels, &point)?;
+                let cube = justified_cube(alloc, core, fault, holds, roles, labels, &point, wants)?;
                 return Ok(Found::Test(cube, point));
             }
             Step::Done(nodes) => return Ok(Found::Closed(Tree::new(nodes))),
@@ -304,12 +308,14 @@ pub(crate) fn search_from(
     holds: &Holds,
     roles: &[Role],
     labels: &mut PairSim,
+    wants: &mut WantRoom,
     limit: u32,
 ) -> Result<Found, AllocError>
     requires start { labels.old ≡ sim core.now fault.now holds.now [] }
     requires fit { AreHoldsOf core.now holds.now }
     requires roles { AreRoles fault.now core.now holds.now roles.now }
     requires some { 1 ≤ limit }
+    requires wants { CanServeWants core.now wants.old }
     ensures evidence { IfOk result (HasEvidence fault.now core.now holds.now limit) }
 
     // On places alone: no Partial for a limit of 2 to their number, and no Open where the condition for a test is met.
@@ -317,11 +323,12 @@ pub(crate) fn search_from(
 
     // The labels are those of some path.
     ensures kept { OnOk result (IsOfCase fault.now core.now holds.now labels.new) }
+    ensures wants { OnOk result (CanServeWants core.now wants.new) }
 {
     core.netlist().sound();
     match labels.state() {
         State::Test(point) => {
-            let cube = justified_cube(alloc, core, fault, holds, roles, labels, &point)?;
+            let cube = justified_cube(alloc, core, fault, holds, roles, labels, &point, wants)?;
             Ok(Found::Test(cube, point))
         }
         State::Blocked => {
@@ -329,8 +336,10 @@ pub(crate) fn search_from(
             Ok(Found::Closed(Tree::new(tree)))
         }
         State::Going => {
-            guide.cut(0);
-            search_on(alloc, core, guide, fault, holds, roles, labels, limit)
+            guide.begin();
+            search_on(
+                alloc, core, guide, fault, holds, roles, labels, wants, limit,
+            )
         }
     }
 }

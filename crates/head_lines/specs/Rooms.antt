@@ -1,12 +1,13 @@
--- Roles that are kept from fault to fault.
-use Rattle.std.specs.Prelude.{ℕ, ◌≡◌, ◌⊎◌, false, List, length}
+-- What is kept from fault to fault: roles, and the bits that are wanted of signals.
+use Rattle.std.specs.Prelude.{ℕ, ◌≡◌, ◌⊎◌, Bool, false, List, [], length, Option, None, slice_index_or}
 use Rattle.std.specs.List.{Contains}
 use Rattle.netlist.specs.declared.lines.Line.TheVariants.{Out}
 use Rattle.netlist.specs.declared.lines.Fault.{Fault}
 use Rattle.netlist.specs.Holds.{Holds}
-use Rattle.netlist.specs.Netlist.{Netlist}
+use Rattle.netlist.specs.Netlist.{Netlist, signals}
 use Rattle.head_lines.specs.declared.roles.Role.{Role}
 use Rattle.head_lines.specs.declared.room.RoleRoom.{RoleRoom}
+use Rattle.head_lines.specs.declared.wants.WantRoom.{WantRoom}
 use Rattle.head_lines.specs.HeadLines.{role_at, AreRoles}
 
 -- a fault at no signal's line: what is bound for it is bound for each fault
@@ -22,3 +23,12 @@ pub record CanServeRoles (n : Netlist) (holds : Holds) (r : RoleRoom) : Type 0 w
   pub base_are : AreRoles nowhere n holds r.base.items
   pub size : length r.roles.items ≡ length r.base.items
   pub beside : AreBeside r.base.items r.roles.items r.changed.items
+
+-- no bit is wanted of any signal, and none waits
+pub record AreNoWants (n : Netlist) (row : List (Option Bool)) (queue : List ℕ) : Type 0 where
+  pub size : length row ≡ length (signals n)
+  pub none : (x : ℕ) → slice_index_or row x None ≡ None
+  pub empty : queue ≡ []
+
+abbrev pub CanServeWants : Netlist → WantRoom → Type 0
+CanServeWants n r = AreNoWants n r.wants.items r.queue.items

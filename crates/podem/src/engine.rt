@@ -1,17 +1,18 @@
-//! The engine.
-//!
-//! What guides the search (how dear bits are, where the effect is) is made once for a netlist and kept with the labels from search to search,
-//! since a search is often shorter than that would take.
-ghost use Rattle.std.specs.Prelude.{◌≤◌, IfOk};
+//! The engine: up to three attempts, each a whole search, of which the last alone may give up. They differ in the pin that the backtrace goes to, so
+//! what one misses another may find; a fault that is redundant mostly stays so dear to all of them.
+ghost use Rattle.std.specs.Prelude.{◌≡◌, ◌≤◌, [], None, IfOk, IfSome, OnOk};
 ghost use Rattle.netlist.specs.Holds.{AreHoldsOf};
+ghost use Rattle.pair_sim.specs.Sims.{sim};
 ghost use Rattle.redundancy_cert.specs.Evidence.{HasEvidence};
 ghost use Rattle.podem.specs.Sources.{HasSourceEvidence};
+ghost use Rattle.podem.specs.inner.Searching.{IsOfCase};
 
+use crate::guides::{Guide, Pick};
 use crate::searching::search_from;
 use netlist::{Core, Fault, Holds, NoMemory};
 use pair_sim::{PairSim, SimRoom};
 use redundancy_cert::{Engine, Found};
-use std::alloc::Global;
+use std::alloc::{AllocError, Global};
 use testability::{Effects, Measures};
 
 /// A search that decides inputs and cells alone, with what guides it.
@@ -25,6 +26,77 @@ pub struct Podem {
 pub struct PodemRoom {
     labels: SimRoom,
     effects: Effects,
+}
+
+/// As many Closed an attempt may take before the search begins anew.
+const FEW: u32 = 16;
+
+/// A short search, if its answer is more than that it gave up; if not, its decisions are taken back.
+fn short_attempt(
+    alloc: Global,
+    core: &Core,
+    guide: &Guide,
+    fault: &Fault,
+    holds: &Holds,
+    effects: &mut Effects,
+    labels: &mut PairSim,
+    limit: u32,
+) -> Result<Option<Found>, AllocError>
+    requires start { labels.old ≡ sim core.now fault.now holds.now [] }
+    requires fit { AreHoldsOf core.now holds.now }
+    ensures evidence { IfOk result (λ o. IfSome o (HasEvidence fault.now core.now holds.now limit)) }
+    ensures sources { IfOk result (λ o. IfSome o (HasSourceEvidence fault.now core.now holds.now limit)) }
+    ensures kept { OnOk result (IsOfCase fault.now core.now holds.now labels.new) }
+    ensures back { IfOk result (λ o. o ≡ None → labels.new ≡ sim core.now fault.now holds.now []) }
+{
+    if limit <= FEW {
+        return Ok(None);
+    }
+    match search_from(alloc, core, guide, fault, holds, effects, labels, FEW)? {
+        Found::Test(cube, point) => Ok(Some(Found::Test(cube, point))),
+        Found::Closed(tree) => Ok(Some(Found::Closed(tree))),
+        Found::Partial(_) => {
+            labels.undo_all();
+            Ok(None)
+        }
+    }
+}
+
+/// The attempts, one after the other.
+fn attempts(
+    alloc: Global,
+    core: &Core,
+    measures: &Measures,
+    fault: &Fault,
+    holds: &Holds,
+    effects: &mut Effects,
+    labels: &mut PairSim,
+    limit: u32,
+) -> Result<Found, AllocError>
+    requires start { labels.old ≡ sim core.now fault.now holds.now [] }
+    requires some { 1 ≤ limit }
+    requires fit { AreHoldsOf core.now holds.now }
+    ensures evidence { IfOk result (HasEvidence fault.now core.now holds.now limit) }
+    ensures sources { IfOk result (HasSourceEvidence fault.now core.now holds.now limit) }
+    ensures kept { OnOk result (IsOfCase fault.now core.now holds.now labels.new) }
+{
+    let needed = Guide::new(measures, fault, Pick::Needed);
+    if let Some(found) = short_attempt(
+        alloc, core, &needed, fault, holds, effects, labels, limit,
+    )? {
+        return Ok(found);
+    }
+    let any = Guide::new(measures, fault, Pick::Any);
+    if let Some(found) = short_attempt(alloc, core, &any, fault, holds, effects, labels, limit)? {
+        return Ok(found);
+    }
+    let last = if limit <= FEW {
+        Pick::Needed
+    } else {
+        Pick::Lowest
+    };
+    let guide = Guide::new(measures, fault, last);
+    search_from(alloc, core, &guide, fault, holds, effects, labels, limit)
 }
 
 impl Podem {
@@ -56,7 +128,7 @@ impl Podem {
             return Err(NoMemory);
         };
         let mut effects = Effects::new(alloc);
-        search_from(
+        attempts(
             alloc,
             core,
             &self.measures,
@@ -105,7 +177,7 @@ impl Engine for Podem {
     ) -> Result<(Found, PodemRoom), NoMemory> {
         let mut labels = PairSim::in_room(room.labels, core, fault, holds);
         let mut effects = room.effects;
-        match search_from(
+        match attempts(
             alloc,
             core,
             &self.measures,

@@ -5,8 +5,8 @@ ghost use Rattle.pair_sim.specs.Sims.{IsNotBlocked};
 use netlist::{Core, Fault, Kind, Line, SignalId};
 use pair_sim::PairSim;
 use testability::{
-    Aim, Effects, Measures, count_pins, driver, gate_of, is_unknown, may_get_effect, readers,
-    signal_count,
+    Aim, Effects, Measures, count_pins, driver, gate_of, is_unknown, may_get_effect, place_of,
+    readers, signal_count,
 };
 
 /// A gate that the fault's effect has reached, what it costs to see it, and what lets the effect through.
@@ -17,18 +17,31 @@ struct Front {
     aim: Aim,
 }
 
-/// What guides the search for one fault: what bits cost, and what is wanted where both cost alike.
+/// Which pin the backtrace goes to.
+#[derive(Clone, Copy)]
+pub(crate) enum Pick {
+    /// Where one pin decides the easiest, and where all have to have the bit the hardest.
+    Needed,
+    /// One by a hash of fault and signal.
+    Any,
+    /// The lowest in the order of evaluation: what is low is decided by little.
+    Lowest,
+}
+
+/// What guides the search for one fault: what bits cost, what is wanted where both cost alike, and which pin the backtrace goes to.
 #[derive(Clone, Copy)]
 pub(crate) struct Guide<'a> {
     measures: &'a Measures,
     salt: u64,
+    pick: Pick,
 }
 
 impl<'a> Guide<'a> {
-    pub(crate) fn new(measures: &'a Measures, fault: &Fault) -> Guide<'a> {
+    pub(crate) fn new(measures: &'a Measures, fault: &Fault, pick: Pick) -> Guide<'a> {
         Guide {
             measures,
             salt: salt_of(fault),
+            pick,
         }
     }
 
@@ -45,6 +58,16 @@ impl<'a> Guide<'a> {
             return is_odd(mixed(self.salt ^ signal.index() as u64));
         }
         one < zero
+    }
+
+    /// What is least at the pin that is gone to, where a bit is wanted of one pin, or of all if it is dear.
+    fn weight(&self, core: &Core, pin: SignalId, bit: bool, dear: bool) -> u64 {
+        let cost = self.cost(pin, bit);
+        match self.pick {
+            Pick::Needed => u64::from(if dear { u32::MAX - cost } else { cost }),
+            Pick::Any => mixed(self.salt ^ pin.index() as u64),
+            Pick::Lowest => place_of(core, pin),
+        }
     }
 }
 
@@ -70,16 +93,16 @@ fn salt_of(fault: &Fault) -> u64 {
     mixed((signal.index() as u64) << 32 ^ place << 1 ^ u64::from(fault.value))
 }
 
-/// Whether a cost is better than the best so far.
-fn is_better(cost: u32, best: &Option<(SignalId, u32)>, dear: bool) -> bool {
+/// Whether a weight is less than the least so far.
+fn is_better(weight: u64, best: &Option<(SignalId, u64)>) -> bool {
     match best {
         None => true,
-        Some((_, least)) => { if dear { cost > *least } else { cost < *least } }
+        Some((_, least)) => weight < *least,
     }
 }
 
-/// The pin that is X for which a bit costs least, or most.
-fn pin_by_cost(
+/// The pin that is X to go to for a bit, which is wanted of one pin, or of all if it is dear.
+fn pin_for(
     core: &Core,
     guide: &Guide,
     labels: &PairSim,
@@ -91,9 +114,9 @@ fn pin_by_cost(
 {
     let mut best = None;
     for pin in pins {
-        let cost = guide.cost(*pin, bit);
-        if is_unknown(core, labels, *pin) && is_better(cost, &best, dear) {
-            best = Some((*pin, cost));
+        let weight = guide.weight(core, *pin, bit, dear);
+        if is_unknown(core, labels, *pin) && is_better(weight, &best) {
+            best = Some((*pin, weight));
         }
     }
     let (signal, _) = best?;
@@ -106,8 +129,8 @@ fn cheapest_pin(core: &Core, guide: &Guide, labels: &PairSim, pins: &[SignalId])
 {
     let mut best = None;
     for pin in pins {
-        let cost = guide.cost(*pin, guide.cheap_bit(*pin));
-        if is_unknown(core, labels, *pin) && is_better(cost, &best, false) {
+        let cost = u64::from(guide.cost(*pin, guide.cheap_bit(*pin)));
+        if is_unknown(core, labels, *pin) && is_better(cost, &best) {
             best = Some((*pin, cost));
         }
     }
@@ -139,21 +162,20 @@ fn parity_pin(
     Some(aim)
 }
 
-/// One step back from an aim: a pin of its gate, and the bit there. Where one pin decides the easiest is taken, and where all have to have
-/// the bit the hardest.
+/// One step back from an aim: a pin of its gate, and the bit there.
 fn step_back(core: &Core, guide: &Guide, labels: &PairSim, aim: &Aim) -> Option<Aim>
     requires { labels.now.netlist ≡ core.now }
 {
     let (kind, pins) = gate_of(core, aim.signal)?;
     match kind {
-        Kind::And => pin_by_cost(core, guide, labels, pins, aim.bit, aim.bit),
-        Kind::Nand => pin_by_cost(core, guide, labels, pins, !aim.bit, !aim.bit),
-        Kind::Or => pin_by_cost(core, guide, labels, pins, aim.bit, !aim.bit),
-        Kind::Nor => pin_by_cost(core, guide, labels, pins, !aim.bit, aim.bit),
+        Kind::And => pin_for(core, guide, labels, pins, aim.bit, aim.bit),
+        Kind::Nand => pin_for(core, guide, labels, pins, !aim.bit, !aim.bit),
+        Kind::Or => pin_for(core, guide, labels, pins, aim.bit, !aim.bit),
+        Kind::Nor => pin_for(core, guide, labels, pins, !aim.bit, aim.bit),
         Kind::Xor => parity_pin(core, guide, labels, pins, aim.bit),
         Kind::Xnor => parity_pin(core, guide, labels, pins, !aim.bit),
-        Kind::Not => pin_by_cost(core, guide, labels, pins, !aim.bit, false),
-        Kind::Buff => pin_by_cost(core, guide, labels, pins, aim.bit, false),
+        Kind::Not => pin_for(core, guide, labels, pins, !aim.bit, false),
+        Kind::Buff => pin_for(core, guide, labels, pins, aim.bit, false),
         Kind::Dff | Kind::Const0 | Kind::Const1 => None,
     }
 }
@@ -178,8 +200,8 @@ fn through(core: &Core, guide: &Guide, labels: &PairSim, gate: SignalId) -> Opti
 {
     let (kind, pins) = gate_of(core, gate)?;
     match kind {
-        Kind::And | Kind::Nand => pin_by_cost(core, guide, labels, pins, true, true),
-        Kind::Or | Kind::Nor => pin_by_cost(core, guide, labels, pins, false, true),
+        Kind::And | Kind::Nand => pin_for(core, guide, labels, pins, true, true),
+        Kind::Or | Kind::Nor => pin_for(core, guide, labels, pins, false, true),
         Kind::Xor | Kind::Xnor => cheapest_pin(core, guide, labels, pins),
         _ => None,
     }

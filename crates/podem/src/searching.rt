@@ -27,7 +27,7 @@ use netlist::{Core, Fault, Holds, Point, SignalId, Tri};
 use pair_sim::{PairSim, State};
 use redundancy_cert::{Found, Node, Other, Side, Tree, Turn, end_side, whole_tree};
 use std::alloc::{AllocError, Global};
-use testability::{Aim, Effects, Measures, signal_count};
+use testability::{Aim, Effects, signal_count};
 
 /// What comes of a turn.
 #[derive(Drop)]
@@ -337,7 +337,7 @@ fn take_turn(
     ensures { IfOk result (IsStepped fault.now core.now holds.now labels.new stack.old.items stack.new.items (closed_around stack.old.items)) }
 {
     core.netlist().sound();
-    effects.follow(core, labels)?;
+    effects.follow(core, fault, labels)?;
     let aim = choose(core, guide, fault, holds, effects, labels, stack);
     match look(labels, aim.signal, !aim.bit) {
         State::Test(point) => Ok(Step::Found(point)),
@@ -449,7 +449,7 @@ fn search_on(
 pub(crate) fn search_from(
     alloc: Global,
     core: &Core,
-    measures: &Measures,
+    guide: &Guide,
     fault: &Fault,
     holds: &Holds,
     effects: &mut Effects,
@@ -477,9 +477,8 @@ pub(crate) fn search_from(
             Ok(Found::Closed(Tree::new(tree)))
         }
         State::Going => {
-            effects.cut(0);
-            let guide = Guide::new(measures, fault);
-            search_on(alloc, core, &guide, fault, holds, effects, labels, limit)
+            effects.begin();
+            search_on(alloc, core, guide, fault, holds, effects, labels, limit)
         }
     }
 }
