@@ -1,14 +1,13 @@
 -- What `chaintest` reads, tests and says.
-use Rattle.std.proofs.Common.{◌≡◌, ◌∙◌, ◌<◌, ◌≤◌, ◌+◌, ◌-◌, inl, inr, ℕ, zero, suc, Bool, true, false, cond, List, [], ◌∷◌, ◌++◌, Option, Some, None, Result, Ok, Err, Vec, refl, sym, subst, ap, ap₂, arith, length, get_or, take, is_some, is_none, append_assoc, append-nil}
+use Rattle.std.proofs.Common.{◌≡◌, ◌∙◌, ◌<◌, ◌≤◌, ◌+◌, ◌-◌, inl, inr, ℕ, zero, suc, List, [], ◌∷◌, ◌++◌, Some, None, Result, Ok, Err, Vec, refl, sym, subst, ap, ap₂, arith, length, get_or, take, is_some, is_none, append_assoc, append-nil}
 use Rattle.std.specs.List.{All, AllZip, Contains, filter, flat_map, zip}
-use Rattle.std.specs.Prelude.{IfSome, not, slice_get}
+use Rattle.std.specs.Prelude.{not, slice_get}
 use Rattle.std.specs.declared.alloc.Global.{Global}
 use Rattle.std.proofs.lemmas.List.{take_all}
 use Rattle.std.proofs.lemmas.Slice.Zip.{length-zip}
 use Rattle.std.proofs.lemmas.List.Elements.{All-nil, All-cons}
 use Rattle.netlist.specs.Lines.{signal_of}
 use Rattle.netlist.specs.Conditions.{IsSound}
-use Rattle.netlist.specs.Designs.{IsDesign}
 use Rattle.netlist.specs.Netlist.{Netlist, signals}
 use Rattle.netlist.specs.declared.lines.Fault.{Fault}
 use Rattle.netlist.proofs.Lists.{All-from_contains, contains_filter}
@@ -19,31 +18,29 @@ use Rattle.chain_test.specs.Laws.{FlushFails}
 use Rattle.fault_universe.specs.Laws.{FaultsHaveSignals}
 use Rattle.fault_universe.specs.Universe.{universe_of}
 use Rattle.good_files.specs.ScanOff.{design_chains}
-use Rattle.scan_insert.specs.Scanned.{Insertion, insertion_of, scanned_of, sites_of}
+use Rattle.scan_insert.specs.Scanned.{Insertion, scanned_of, sites_of}
 use Rattle.scan_play.specs.Cycles.{Cycle, IsCycleOf}
-use Rattle.scan_play.specs.Passing.{FailsAt}
 use Rattle.stil_read.specs.Reading.{StandsFor}
 use Rattle.stil_vectors.specs.FileVectors.{vectors_in}
-use Rattle.stil_vectors.specs.Fitting.{Fits}
 use Rattle.stil_write.specs.StilFiles.{StilFile}
 use Rattle.commands.specs.Names.{texts_of}
 use Rattle.commands.specs.World.{Text}
-use Rattle.commands.specs.Due.{Due, Deliver, Refuse}
+use Rattle.commands.specs.Due.{Deliver, Refuse}
 use Rattle.commands.specs.Worked.{IsWorked}
 use Rattle.commands.specs.declared.product.Product.{Product}
 use Rattle.commands.specs.declared.product.Stop.{Stop}
 use Rattle.commands.specs.declared.product.Stop.TheVariants as stop
 use Rattle.commands.specs.declared.ending.Finding.TheVariants.{Fine}
-use Rattle.atpg_top.specs.ChainTests.{IsChainTest, IsTold, Strobe, chain_test_text, hardware_of, told_counts, told_line}
+use Rattle.atpg_top.specs.ChainTests.{IsTold, Strobe, chain_test_text, hardware_of, told_counts}
 use Rattle.atpg_top.specs.Commands.{chaintest_due}
-use Rattle.atpg_top.specs.Steps.{◌>>=◌, netlist, test, value}
+use Rattle.atpg_top.specs.Steps.{netlist, value}
 use Rattle.atpg_top.specs.declared.chain_testing.ChainTrial.{ChainTrial}
 use Rattle.atpg_top.specs.declared.chain_testing.Hardware.{Hardware}
 use Rattle.atpg_top.specs.declared.refusal.Refusal.{Refusal}
-use Rattle.atpg_top.specs.declared.refusal.Refusal.TheVariants.{NotStil, StilDoesNotFit}
+use Rattle.atpg_top.specs.declared.refusal.Refusal.TheVariants.{NotStil}
 use Rattle.atpg_top.specs.inner.Answers.{Answers}
-use Rattle.atpg_top.specs.inner.ChainTrials.{IsChainTrial, IsHardwareOf, IsOutput, IsTestText, ReadsChainTrial, bytes_due, counts_text, fit_due, test_due, text_due, told_due}
-use Rattle.atpg_top.proofs.PlayLemmas.{stopped, strobed_within, then_worked, two_texts}
+use Rattle.atpg_top.specs.inner.ChainTrials.{IsChainTrial, IsHardwareOf, IsOutput, ReadsChainTrial, bytes_due, counts_text, test_due, text_due, told_due}
+use Rattle.atpg_top.proofs.PlayLemmas.{strobed_within, then_worked, two_texts}
 
 -- ---- counts
 

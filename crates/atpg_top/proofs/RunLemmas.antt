@@ -1,5 +1,5 @@
 -- What is due of one text, by what is due of the design that it stands for.
-use Rattle.std.proofs.Common.{◌≡◌, inl, inr, ℕ, List, [], ◌∷◌, Result, Ok, Err, refl}
+use Rattle.std.proofs.Common.{inl, inr, ℕ, List, [], ◌∷◌, Result, Ok, Err, refl}
 use Rattle.netlist.specs.Netlist.{Netlist}
 use Rattle.commands.specs.Due.{Due}
 use Rattle.commands.specs.World.{Text}

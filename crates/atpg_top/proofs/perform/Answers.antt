@@ -1,5 +1,4 @@
-use Rattle.std.proofs.Common.{[], refl, sym}
-use Rattle.commands.proofs.CommandLemmas.{nothing_read}
+use Rattle.std.proofs.Common.{sym}
 use Rattle.atpg_top.proofs.perform.Goals as goal
 
 pub returns-in-Scan : goal.returns-in-Scan

@@ -4,8 +4,6 @@ use Rattle.std.proofs.lemmas.Result.{IfOk-weaker}
 use Rattle.chain_test.specs.FirstWrong.{IsFirstWrong}
 use Rattle.scan_play.specs.Cycles.{Cycle, IsCycleOf}
 use Rattle.stil_vectors.specs.FileVectors.{vectors_in}
-use Rattle.atpg_top.specs.ChainTests.{IsTold}
-use Rattle.atpg_top.specs.inner.ChainTrials.{IsOutput}
 use Rattle.atpg_top.proofs.ChainTestLemmas.{all_outputs, all_told}
 use Rattle.atpg_top.proofs.chain_testing.told_of.Goals as goal
 
