@@ -3,6 +3,7 @@ pub mod Sources
 pub mod Bits
 pub mod Levels
 pub mod Placing
+pub mod Calling
 pub mod Sites
 pub mod Fans
 pub mod Definitions

@@ -1,7 +1,7 @@
 -- One gate more has settled.
 use Rattle.std.proofs.Common.{◌≡◌, ℕ, ◌+◌, ◌<◌, ◌≤◌, ◌≢◌, Bool, true, false, List, [], ◌∷◌, ◌++◌, length, get_or, set, refl, sym, ◌∙◌, ap, subst, inl, inr, eqb, arith, append_assoc}
 use Rattle.std.specs.List.{Contains, list_any}
-use Rattle.std.proofs.lemmas.Bool.{cases_eq, cases_lt, both_ways, or_parts, or_from, or_right, or_cases, eqb-false, ne_eqb}
+use Rattle.std.proofs.lemmas.Bool.{cases_eq, cases_lt, cases_Bool, both_ways, or_parts, or_from, or_cases, eqb-false, ne_eqb}
 use Rattle.std.proofs.lemmas.List.{append-nil, length-set, get_or-set_same, get_or-set_other, get_or_past}
 use Rattle.std.proofs.lemmas.List.Elements.{Contains-push_cases}
 use Rattle.netlist.specs.declared.lines.Line.TheVariants.{Stem}
@@ -15,11 +15,11 @@ use Rattle.netlist.proofs.Placed.{gate_defined, definition_below, input_below}
 use Rattle.netlist.proofs.Settling.{zip_kept}
 use Rattle.events.specs.declared.trails.Change.{Change}
 use Rattle.events.specs.Agendas.{marked, IsFirst, AreClear}
-use Rattle.events.specs.inner.Placing.{waiting, is_pin_at, Calls}
-use Rattle.events.specs.inner.Running.{IsMade, StaysSame, Turns, Takes, AreUnderway, Resettles, PutsSource}
+use Rattle.events.specs.inner.Placing.{waiting, is_pin_at}
+use Rattle.events.specs.inner.Running.{CallsTurned, IsMade, StaysSame, Turns, Takes, AreUnderway, Resettles, PutsSource}
 use Rattle.events.specs.Trails.{AreChanges}
-use Rattle.events.proofs.Sources.{source_step_settles}
-use Rattle.events.proofs.Steps.{step_settles, none_waits}
+use Rattle.events.proofs.Sources.{source_step_settles, source_turn_settles}
+use Rattle.events.proofs.Steps.{step_settles, turn_settles, none_waits}
 use Rattle.netlist.proofs.Orders.{place_of, place_there, reads_above}
 use Rattle.events.proofs.Placing.{gate_at_place, read_called, called_reads, marked_set}
 use Rattle.events.proofs.Changes.{none_changed, one_changed, both_changes}
@@ -115,13 +115,13 @@ module _ {V : Type 0} (rule : Rule V) (n : Netlist) (sound : IsSound n) (order p
   }
 
   -- what doesn't wait after the readers are called didn't wait before
-  called_kept : Calls (readers_of n id) places (set before p false) after → (q : ℕ) → marked after q ≡ false → marked (set before p false) q ≡ false
-  called_kept calls q f = elim (cases_lt q (length (set before p false))) [
-    | inl l ↦ (or_parts (marked (set before p false) q) (list_any (is_pin_at places q) (readers_of n id)) (sym (calls.each q l) ∙ f)).0
-    | inr past ↦ get_or_past (set before p false) q false past
+  called_kept : CallsTurned rule n (readers_of n id) places values new (set before p false) after → (q : ℕ) → marked after q ≡ false → marked (set before p false) q ≡ false
+  called_kept calls q f = elim (cases_Bool (marked (set before p false) q)) [
+    | inl m ↦ absurd (both_ways (marked after q) f (calls.kept q m))
+    | inr none ↦ none
   ]
 
-  turns : Turns n places id v values new (set before p false) after trail' trail'' → AreUnderway rule n places old new marks after trail trail'' (p + 1)
+  turns : Turns rule n places id v values new (set before p false) after trail' trail'' → AreUnderway rule n places old new marks after trail trail'' (p + 1)
   turns t =
       let values_size : length values ≡ length old = so_far.are_changes.size in
       let within : id < length values = subst (λ k. id < k) (sym (values_size ∙ size)) id_low in
@@ -131,7 +131,7 @@ module _ {V : Type 0} (rule : Rule V) (n : Netlist) (sound : IsSound n) (order p
         bounded = let l = p_low in omega arith;
         later = λ q m. elim (cases_lt q (length (set before p false))) [
           | inr past ↦ absurd (let s = t.calls.size in both_ways (marked after q) (get_or_past after q false (omega arith)) m)
-          | inl l ↦ elim (or_cases (marked (set before p false) q) (list_any (is_pin_at places q) (readers_of n id)) (sym (t.calls.each q l) ∙ m)) [
+          | inl l ↦ elim (or_cases (marked (set before p false) q) (list_any (is_pin_at places q) (readers_of n id)) (t.calls.only q l m)) [
             | inl was ↦ left_later q was
             | inr called ↦
                 let w = called_reads places q id n called in
@@ -143,17 +143,15 @@ module _ {V : Type 0} (rule : Rule V) (n : Netlist) (sound : IsSound n) (order p
                 omega arith
           ]
         ];
-        settles = λ inputs state d start. step_settles rule n inputs state (at values d) (at new d) (waiting before places) (waiting after places) gate.0 sound gate.1
+        settles = λ inputs state d start. turn_settles rule n inputs state (at values d) (at new d) (waiting before places) (waiting after places) gate.0 sound gate.1
             record {
               value = ap (λ vs. at vs d gate.0.id) t.values ∙ (ap (at (set values id v) d) gate.2 ∙ (get_or-set_same values id v d within ∙ value gate.0 d gate.1 gate.2));
               others = λ x ne. ap (λ vs. at vs d x) t.values ∙ get_or-set_other values id x v d (λ e. ne (e ∙ sym gate.2));
               waiting = λ x l ne f. kept x l (λ e. ne (e ∙ sym gate.2)) (called_kept t.calls (get_or places x 0) f);
-              readers = λ e c r f.
-                  let l = (place_of n sound.formed.numbered order ordered places h e c).0 in
-                  absurd (both_ways (marked after (get_or places e.id 0)) f
-                  (t.calls.each (get_or places e.id 0) (omega arith)
-                  ∙ or_right (marked (set before p false) (get_or places e.id 0)) (list_any (is_pin_at places (get_or places e.id 0)) (readers_of n id))
-                  (read_called places (get_or places e.id 0) id n e (gate_defined n sound.formed.numbered e c) refl (subst (λ x. Contains e.pins x) gate.2 r))));
+              readers = λ e c r f. elim (t.calls.called e c (read_called places (get_or places e.id 0) id n e (gate_defined n sound.formed.numbered e c) refl (subst (λ x. Contains e.pins x) gate.2 r))) [
+                | inl m ↦ absurd (both_ways (marked after (get_or places e.id 0)) f m)
+                | inr same ↦ same d
+              ];
             }
             (so_far.settles inputs state d start);
         changes = so_far.changes ++ t.change ∷ [];
@@ -172,7 +170,7 @@ module _ {V : Type 0} (rule : Rule V) (n : Netlist) (sound : IsSound n) (order p
         ];
       }
 
-  pub one_more : Takes n places id v values new (set before p false) after trail' trail'' → AreUnderway rule n places old new marks after trail trail'' (p + 1)
+  pub one_more : Takes rule n places id v values new (set before p false) after trail' trail'' → AreUnderway rule n places old new marks after trail trail'' (p + 1)
   one_more takes = elim takes.does [
     | inl s ↦ stays s
     | inr t ↦ turns t
@@ -207,26 +205,24 @@ module _ {V : Type 0} (rule : Rule V) (n : Netlist) (sound : IsSound n) (order p
     behind = λ c m. absurd (contains_nil c m);
   }
 
-  source_turns : Turns n places id v old new marks after trail trail' → PutsSource rule n places id v old new marks after trail trail'
+  source_turns : Turns rule n places id v old new marks after trail trail' → PutsSource rule n places id v old new marks after trail trail'
   source_turns t =
       let within : id < length old = subst (λ k. id < k) (sym size) low in
       record {
         size = t.calls.size;
-        settles = λ inputs state d driven start. source_step_settles rule n inputs state (at old d) (at new d) (also (waiting marks places) id) (waiting after places) id v sound
+        settles = λ inputs state d driven start. source_turn_settles rule n inputs state (at old d) (at new d) (also (waiting marks places) id) (waiting after places) id v sound
             record {
               source = no_gate;
               value = ap (λ vs. at vs d id) t.values ∙ get_or-set_same old id v d within;
               others = λ y ne. ap (λ vs. at vs d y) t.values ∙ get_or-set_other old id y v d ne;
-              waiting = λ y l ne f. apart y ne (elim (cases_lt (get_or places y 0) (length marks)) [
-                | inl m ↦ (or_parts (marked marks (get_or places y 0)) (list_any (is_pin_at places (get_or places y 0)) (readers_of n id)) (sym (t.calls.each (get_or places y 0) m) ∙ f)).0
-                | inr past ↦ get_or_past marks (get_or places y 0) false past
+              waiting = λ y l ne f. apart y ne (elim (cases_Bool (marked marks (get_or places y 0))) [
+                | inl m ↦ absurd (both_ways (marked after (get_or places y 0)) f (t.calls.kept (get_or places y 0) m))
+                | inr none ↦ none
               ]);
-              readers = λ e c r f.
-                  let l = (place_of n sound.formed.numbered order ordered places h e c).0 in
-                  absurd (both_ways (marked after (get_or places e.id 0)) f
-                  (t.calls.each (get_or places e.id 0) (omega arith)
-                  ∙ or_right (marked marks (get_or places e.id 0)) (list_any (is_pin_at places (get_or places e.id 0)) (readers_of n id))
-                  (read_called places (get_or places e.id 0) id n e (gate_defined n sound.formed.numbered e c) refl r)));
+              readers = λ e c r f. elim (t.calls.called e c (read_called places (get_or places e.id 0) id n e (gate_defined n sound.formed.numbered e c) refl r)) [
+                | inl m ↦ absurd (both_ways (marked after (get_or places e.id 0)) f m)
+                | inr same ↦ same d
+              ];
             }
             driven start;
         changes = t.change ∷ [];
@@ -244,7 +240,7 @@ module _ {V : Type 0} (rule : Rule V) (n : Netlist) (sound : IsSound n) (order p
         ];
       }
 
-  pub source_takes : Takes n places id v old new marks after trail trail' → PutsSource rule n places id v old new marks after trail trail'
+  pub source_takes : Takes rule n places id v old new marks after trail trail' → PutsSource rule n places id v old new marks after trail trail'
   source_takes takes = elim takes.does [
     | inl s ↦ source_stays s
     | inr t ↦ source_turns t

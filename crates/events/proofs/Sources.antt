@@ -8,10 +8,12 @@ use Rattle.netlist.specs.declared.lines.Fault.{Fault}
 use Rattle.netlist.specs.Netlist.{Definition, Netlist, is_cell, cells, gates}
 use Rattle.netlist.specs.Conditions.{IsSound}
 use Rattle.netlist.specs.Settled.{Rule, Table, with_fault, is_line, on_pins, pins_of}
-use Rattle.netlist.proofs.Lists.{contains_filter, contains_head, contains_tail, map_agree, All-from_contains}
+use Rattle.netlist.proofs.Lists.{contains_filter, contains_head, contains_tail}
 use Rattle.netlist.proofs.Placed.{input_below, definition_below, gate_defined}
 use Rattle.events.specs.Waiting.{SettlesBut, IsSourceStep, IsDrivenTo, AgreeAt}
 use Rattle.events.specs.Stuck.{is_at, IsObservedOnly}
+use Rattle.events.specs.inner.Running.{IsSourceTurn}
+use Rattle.events.proofs.Steps.{kept_pins, same_given, each_given}
 
 zip_both : {X Y : Type 0} (R Q S : X → Y → Type 0) (xs : List X) (ys : List Y) → ((x : X) (y : Y) → Contains xs x → R x y → Q x y → S x y) → AllZip R xs ys → AllZip Q xs ys → AllZip S xs ys
 zip_both R Q S [] [] h a b = tt
@@ -20,9 +22,9 @@ zip_both R Q S (x ∷ xs) [] h a b = absurd a
 zip_both R Q S (x ∷ xs) (y ∷ ys) h a b = (h x y (contains_head x xs) a.0 b.0, zip_both R Q S xs ys (λ z w c. h z w (contains_tail x z xs c)) a.1 b.1)
 
 module _ {V : Type 0} (rule : Rule V) (n : Netlist) (inputs state : List V) (a b : ℕ → V) (before after : ℕ → Bool) (x : ℕ) (v : V)
-    (sound : IsSound n) (step : IsSourceStep n x v a b before after) (driven : IsDrivenTo rule n inputs state x v) where
-  pub source_step_settles : SettlesBut before rule n inputs state a → SettlesBut after rule n inputs state b
-  source_step_settles h = record {
+    (sound : IsSound n) where
+  pub source_turn_settles : IsSourceTurn rule n x v a b before after → IsDrivenTo rule n inputs state x v → SettlesBut before rule n inputs state a → SettlesBut after rule n inputs state b
+  source_turn_settles step driven h = record {
     inputs_driven = zip_both (λ y w. before y ≡ false → a y ≡ rule.line (Stem y) w) (λ y w. y ≡ x → v ≡ rule.line (Stem x) w) (λ y w. after y ≡ false → b y ≡ rule.line (Stem y) w)
         n.inputs inputs
         (λ y w c old new f. elim (cases_eq y x) [
@@ -37,12 +39,17 @@ module _ {V : Type 0} (rule : Rule V) (n : Netlist) (inputs state : List V) (a b
         ]) h.cells_driven driven.from_state;
     gates_done = λ d c f.
         let ne = step.source d c in
-        let pins : map b d.pins ≡ map a d.pins = map_agree b a d.pins (All-from_contains (λ y. b y ≡ a y) d.pins (λ y r. elim (cases_eq y x) [
-          | inl e ↦ ap b e ∙ (step.readers d c (subst (λ z. Contains d.pins z) e r) f ∙ sym (ap a e))
-          | inr other ↦ step.others y other
-        ])) in
         step.others d.id ne ∙ (h.gates_done d c (step.waiting d.id (definition_below n sound.formed.numbered d (gate_defined n sound.formed.numbered d c)) ne f)
-        ∙ ap (λ vs. rule.line (Stem d.id) (rule.gate d (on_pins rule d.id 0 vs))) (sym pins));
+        ∙ sym (each_given rule a b x d step.others (λ r. step.readers d c r f)));
+  }
+
+  pub source_step_settles : IsSourceStep n x v a b before after → IsDrivenTo rule n inputs state x v → SettlesBut before rule n inputs state a → SettlesBut after rule n inputs state b
+  source_step_settles step = source_turn_settles record {
+    source = step.source;
+    value = step.value;
+    others = step.others;
+    waiting = step.waiting;
+    readers = λ d c r f. same_given rule a b d (kept_pins a b x d.pins step.others (λ m. step.readers d c m f));
   }
 
 -- ---- a stuck line

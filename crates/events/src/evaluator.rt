@@ -15,6 +15,7 @@ use crate::resettling::{resettle, touch};
 use crate::rooms::EventRoom;
 use crate::tables::Tables;
 use crate::trails::{Change, undo};
+use crate::watches::Watches;
 use netlist::{Core, Fault, Line, SignalId};
 use std::alloc::{AllocError, Global};
 use std::marker::Model;
@@ -25,6 +26,7 @@ pub struct Events<'a, V> {
     core: &'a Core,
     tables: Tables,
     agenda: Agenda,
+    watches: Watches,
     trail: Vec<Change<V>>,
     values: Vec<V>,
 }
@@ -58,11 +60,13 @@ impl<'a, V: Copy + Drop> Events<'a, V> {
         core.netlist().sound();
         let tables = Tables::of(alloc, core)?;
         let agenda = Agenda::new(alloc, tables.order.len())?;
+        let watches = Watches::of(alloc, core.netlist())?;
         let trail = Vec::with_capacity(alloc, values.len() + 1 + room)?;
         Ok(Events {
             core,
             tables,
             agenda,
+            watches,
             trail,
             values,
         })
@@ -76,12 +80,14 @@ impl<'a, V: Copy + Drop> Events<'a, V> {
             core: _,
             tables,
             agenda,
+            watches,
             trail,
             values,
         } = self;
         EventRoom {
             tables,
             agenda,
+            watches,
             trail,
             values,
         }
@@ -95,6 +101,7 @@ impl<'a, V: Copy + Drop> Events<'a, V> {
         let EventRoom {
             tables,
             agenda,
+            watches,
             trail,
             values,
         } = room;
@@ -102,6 +109,7 @@ impl<'a, V: Copy + Drop> Events<'a, V> {
             core,
             tables,
             agenda,
+            watches,
             trail,
             values,
         }
@@ -165,6 +173,7 @@ impl<'a, V: Copy + Drop> Events<'a, V> {
             id,
             driven,
             &mut self.agenda,
+            &mut self.watches,
             &mut self.trail,
             &mut self.values,
         );
@@ -173,6 +182,7 @@ impl<'a, V: Copy + Drop> Events<'a, V> {
             netlist,
             &self.tables,
             &mut self.agenda,
+            &mut self.watches,
             &mut self.trail,
             &mut self.values,
         );
@@ -266,6 +276,7 @@ impl<'a, V: Copy + Drop> Events<'a, V> {
             netlist,
             &self.tables,
             &mut self.agenda,
+            &mut self.watches,
             &mut self.trail,
             &mut self.values,
         );

@@ -26,6 +26,7 @@ mod resettling;
 mod rooms;
 mod tables;
 mod trails;
+mod watches;
 mod words;
 
 pub use agendas::Agenda;

@@ -2,13 +2,15 @@
 use crate::agendas::Agenda;
 use crate::tables::Tables;
 use crate::trails::Change;
+use crate::watches::Watches;
 use std::marker::Model;
 
-/// The tables, the agenda, the values and the trail of an evaluator, for later use with the same netlist.
+/// The tables, the agenda, what is watched, the values and the trail of an evaluator, for later use with the same netlist.
 #[derive(Drop)]
 pub struct EventRoom<V> {
     pub(crate) tables: Tables,
     pub(crate) agenda: Agenda,
+    pub(crate) watches: Watches,
     pub(crate) trail: Vec<Change<V>>,
     pub(crate) values: Vec<V>,
 }

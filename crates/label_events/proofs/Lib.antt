@@ -1,3 +1,4 @@
 pub mod Changing
 pub mod Reading
 pub mod Places
+pub mod Hiding

@@ -8,6 +8,7 @@
 mod laws;
 mod line_places;
 mod rule;
+mod watched;
 
 pub use laws::{decision_changes, fault_changes, fault_changes_nothing, source_is_driven};
 pub use line_places::{LinePlace, line_place};

@@ -1,13 +1,16 @@
 //! Labels as a rule by which values settle anew: each gate's pins are gone over once.
-ghost use Rattle.std.specs.Prelude.{◌≡◌, List, [], ◌∷◌};
-ghost use Rattle.tri.specs.Labels.{labels};
+ghost use Rattle.std.specs.Prelude.{◌≡◌, ◌<◌, ℕ, List, [], ◌∷◌, length, slice_index, IfSome, IsFalse};
+ghost use Rattle.std.specs.List.{All};
+ghost use Rattle.netlist.specs.Settled.{at};
+ghost use Rattle.tri.specs.Labels.{labels, on_line};
 ghost use Rattle.tri.specs.Labelling.{decided_in};
 ghost use Rattle.tri.specs.declared.labels.Label.{Label as LabelOf};
 ghost use Rattle.label_events.specs.Gathered.{AreOnPins};
 
+use crate::watched::{controlled, controls, hides_label};
 use events::Comparing;
-use netlist::{Definition, Kind, Line, Logic, SignalId};
-use tri::{Label, Labelling, Together, gate_label, label_of, on_line};
+use netlist::{Definition, Kind, Line, Logic, SignalId, Tri};
+use tri::{Label, Labelling, Together, gate_label, known, label_of, on_line};
 
 /// Labels under a fault, or none, and decisions.
 #[derive(Clone, Copy)]
@@ -44,6 +47,50 @@ impl OnPins {
             good: self.good.with(label.good),
             faulty: self.faulty.with(label.faulty),
             may_differ: label.may_differ || self.may_differ,
+        }
+    }
+}
+
+/// The label of a signal.
+#[inline(always)]
+fn label_at(values: &[Label], id: SignalId) -> Label
+    requires { id < length values.now }
+    ensures { (d : LabelOf) → result ≡ at values.now d id }
+{
+    values[id.index()]
+}
+
+impl LabelRule<'_> {
+    /// The label on a pin of the gate.
+    fn on_pin(&self, gate: &Definition, place: u32, values: &[Label]) -> Option<Label>
+        requires below { All (λ x. x < length values.now) gate.now.pins }
+        ensures within { IfSome result (λ l. place < length gate.now.pins) }
+        ensures label { IfSome result (λ l. (d : LabelOf) → l ≡ on_line self.now.labelling.now.fault (Line.Pin gate.now.id place) (at values.now d (slice_index gate.now.pins place))) }
+    {
+        let pins = gate.pins();
+        if place as usize >= pins.len() {
+            return None;
+        }
+        let label = label_at(values, pins[place as usize]);
+        Some(self.line(&Line::Pin(gate.id(), place), label))
+    }
+
+    /// Whether a stuck pin of the gate reads the signal.
+    fn is_stuck_reader(&self, gate: &Definition, id: SignalId) -> bool
+        ensures { IsFalse result → (k : ℕ) (l : LabelOf) → k < length gate.now.pins → slice_index gate.now.pins k ≡ id → on_line self.now.labelling.now.fault (Line.Pin gate.now.id k) l ≡ l }
+    {
+        let Some(fault) = &self.labelling.fault else {
+            return false;
+        };
+        let Line::Pin(reader, place) = &fault.line else {
+            return false;
+        };
+        if reader.index() != gate.id().index() {
+            return false;
+        }
+        match gate.pins().get(*place as usize) {
+            None => false,
+            Some(pin) => pin.index() == id.index(),
         }
     }
 }
@@ -91,5 +138,55 @@ impl Comparing for LabelRule<'_> {
             on_pins.may_differ,
         );
         self.line(&Line::Stem(id), label)
+    }
+
+    #[inline(always)]
+    fn tells_by_pins(&self) -> bool {
+        true
+    }
+
+    fn hides(
+        &self,
+        gate: &Definition,
+        place: u32,
+        id: SignalId,
+        value: Label,
+        values: &[Label],
+    ) -> bool {
+        let Some(label) = self.on_pin(gate, place, values) else {
+            return false;
+        };
+        if gate.pins()[place as usize].index() == id.index() {
+            return false;
+        }
+        if self.is_stuck_reader(gate, id) {
+            return false;
+        }
+        hides_label(gate.kind(), label, label_at(values, id), value)
+    }
+
+    fn told(&self, gate: &Definition, place: u32, values: &[Label]) -> Option<Label> {
+        let label = self.on_pin(gate, place, values)?;
+        let id = gate.id();
+        if self.labelling.decision(id).is_some() {
+            return None;
+        }
+        if !controls(gate.kind(), label.good) || !controls(gate.kind(), label.faulty) {
+            return None;
+        }
+        let bit = known(controlled(gate.kind()));
+        Some(self.line(&Line::Stem(id), label_of(None, bit, bit, false)))
+    }
+
+    fn watched(&self, gate: &Definition, values: &[Label]) -> u32 {
+        let pins = gate.pins();
+        let count = pins.len();
+        for k in (0..count).rev() {
+            let label = self.line(&Line::Pin(gate.id(), k as u32), values[pins[k].index()]);
+            if label.good == Tri::X && label.faulty == Tri::X {
+                return k as u32;
+            }
+        }
+        0
     }
 }

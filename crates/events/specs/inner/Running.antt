@@ -1,18 +1,46 @@
 -- How values settle anew, gate by gate.
-use Rattle.std.specs.Prelude.{ℕ, ◌+◌, ◌≡◌, ◌≢◌, ◌<◌, ◌≤◌, ◌⊎◌, Bool, List, [], ◌∷◌, ◌++◌, length, slice_index, slice_set, IsTrue}
-use Rattle.std.specs.List.{All, Contains}
+use Rattle.std.specs.Prelude.{ℕ, ◌+◌, ◌≡◌, ◌≢◌, ◌<◌, ◌≤◌, ◌⊎◌, ◌||◌, Bool, List, [], ◌∷◌, ◌++◌, length, slice_index, slice_set, IsTrue, IsFalse}
+use Rattle.std.specs.List.{All, Contains, list_any}
+use Rattle.netlist.specs.declared.lines.Line.{Line}
 use Rattle.netlist.specs.Netlist.{Definition, Netlist, gates, signals, also}
 use Rattle.netlist.specs.Readers.{readers_of}
 use Rattle.netlist.specs.Settled.{Rule, Settles, at}
 use Rattle.events.specs.declared.trails.Change.{Change}
 use Rattle.events.specs.Agendas.{marked, AreClear}
-use Rattle.events.specs.inner.Placing.{waiting, Calls, AreTables}
+use Rattle.events.specs.inner.Placing.{waiting, is_pin_at, AreTables}
 use Rattle.events.specs.Trails.{AreChanges}
 use Rattle.events.specs.Waiting.{SettlesBut, IsDrivenTo, given}
 
 -- the value is what the gate of this signal makes
 abbrev pub IsMade : {V : Type 0} → Rule V → Netlist → ℕ → List V → V → Type 0
 IsMade {V} rule n id values v = (g : Definition) (d : V) → Contains (gates n) g → g.id ≡ id → v ≡ given rule (at values d) g
+
+-- the gate makes the same of the new values as of the old ones
+abbrev pub MakesSame : {V : Type 0} → Rule V → Definition → List V → List V → Type 0
+MakesSame {V} rule g old new = (d : V) → given rule (at new d) g ≡ given rule (at old d) g
+
+-- the gates that have pins among these lines are marked too, but for some that make the same of the new values as of the old ones
+pub record CallsTurned {V : Type 0} (rule : Rule V) (n : Netlist) (lines : List Line) (places : List ℕ) (old new : List V) (marks marks' : List Bool) : Type 0 where
+  pub size : length marks' ≡ length marks
+  pub kept : (q : ℕ) → IsTrue (marked marks q) → IsTrue (marked marks' q)
+  pub only : (q : ℕ) → q < length marks → IsTrue (marked marks' q) → IsTrue (marked marks q || list_any (is_pin_at places q) lines)
+  pub called : (g : Definition) → Contains (gates n) g → IsTrue (list_any (is_pin_at places (slice_index places g.id)) lines)
+      → IsTrue (marked marks' (slice_index places g.id)) ⊎ MakesSame rule g old new
+
+-- The gate is evaluated, and each gate that reads it waits, or makes what it made.
+pub record IsTurn {V : Type 0} (rule : Rule V) (n : Netlist) (g : Definition) (a b : ℕ → V) (before after : ℕ → Bool) : Type 0 where
+  pub value : b g.id ≡ given rule a g
+  pub others : (x : ℕ) → x ≢ g.id → b x ≡ a x
+  pub waiting : (x : ℕ) → x < length (signals n) → x ≢ g.id → IsFalse (after x) → IsFalse (before x)
+  pub readers : (d : Definition) → Contains (gates n) d → Contains d.pins g.id → IsFalse (after d.id) → given rule b d ≡ given rule a d
+
+-- the same of an input or a cell that takes a value
+pub record IsSourceTurn {V : Type 0} (rule : Rule V) (n : Netlist) (x : ℕ) (v : V) (a b : ℕ → V) (before after : ℕ → Bool) : Type 0 where
+  pub source : (d : Definition) → Contains (gates n) d → d.id ≢ x
+  pub value : b x ≡ v
+  pub others : (y : ℕ) → y ≢ x → b y ≡ a y
+  pub waiting : (y : ℕ) → y < length (signals n) → y ≢ x → IsFalse (after y) → IsFalse (before y)
+  pub readers : (d : Definition) → Contains (gates n) d → Contains d.pins x → IsFalse (after d.id) → given rule b d ≡ given rule a d
 
 -- a signal has the value that it had
 pub record StaysSame {V : Type 0} (id : ℕ) (v : V) (old new : List V) (marks marks' : List Bool) (trail trail' : List (Change V)) : Type 0 where
@@ -21,19 +49,19 @@ pub record StaysSame {V : Type 0} (id : ℕ) (v : V) (old new : List V) (marks m
   pub marks_are : marks' ≡ marks
   pub trail_is : trail' ≡ trail
 
--- a signal has another value: its old one is on the trail, and its readers are called
-pub record Turns {V : Type 0} (n : Netlist) (places : List ℕ) (id : ℕ) (v : V) (old new : List V) (marks marks' : List Bool) (trail trail' : List (Change V)) : Type 0 where
+-- a signal has another value: its old one is on the trail, and its readers are called that don't make the same
+pub record Turns {V : Type 0} (rule : Rule V) (n : Netlist) (places : List ℕ) (id : ℕ) (v : V) (old new : List V) (marks marks' : List Bool) (trail trail' : List (Change V)) : Type 0 where
   pub change : Change V
   pub signal : change.signal ≡ id
   pub before : (d : V) → change.before ≡ at old d id
   pub differs : v ≢ change.before
   pub values : new ≡ slice_set old id v
-  pub calls : Calls (readers_of n id) places marks marks'
+  pub calls : CallsTurned rule n (readers_of n id) places old new marks marks'
   pub trail_is : trail' ≡ trail ++ change ∷ []
 
 -- a signal takes a value
-pub record Takes {V : Type 0} (n : Netlist) (places : List ℕ) (id : ℕ) (v : V) (old new : List V) (marks marks' : List Bool) (trail trail' : List (Change V)) : Type 0 where
-  pub does : StaysSame id v old new marks marks' trail trail' ⊎ Turns n places id v old new marks marks' trail trail'
+pub record Takes {V : Type 0} (rule : Rule V) (n : Netlist) (places : List ℕ) (id : ℕ) (v : V) (old new : List V) (marks marks' : List Bool) (trail trail' : List (Change V)) : Type 0 where
+  pub does : StaysSame id v old new marks marks' trail trail' ⊎ Turns rule n places id v old new marks marks' trail trail'
 
 -- values that settled but for some places, after what stands before a place is evaluated
 pub record AreUnderway {V : Type 0} (rule : Rule V) (n : Netlist) (places : List ℕ) (old new : List V) (marks marks' : List Bool) (trail trail' : List (Change V)) (below : ℕ) : Type 0 where

@@ -1,4 +1,4 @@
-use Rattle.std.proofs.Common.{◌≡◌, ◌≤◌, ◌<◌, ap, sym, subst, ◌∙◌, length}
+use Rattle.std.proofs.Common.{◌≡◌, ◌≤◌, ◌<◌, ap, sym, subst, ◌∙◌, length, refl}
 use Rattle.netlist.specs.Netlist.{Definition, signals}
 use Rattle.netlist.specs.Settled.{at}
 use Rattle.netlist.proofs.Placed.{definition_below, gate_defined, same_definition}
@@ -35,3 +35,16 @@ returns g c = λ f d gate same.
     c.made.ensures d
     ∙ ap (λ (e : Definition). given (g.L.Logic.rule c.args.rule.now) (at c.args.values.now d) e)
     (definition_is c.definition-definition.result.now c.args.id c.kind.result c.pins.result.now (sym c.definition-definition.ensures.same) c.kind.ensures c.pins.ensures ∙ one)
+
+pub made_wide-requires-clause-below : goal.made_wide-requires-clause-below
+made_wide-requires-clause-below g c =
+    pins_within c.args.netlist.now c.requires.sound.formed.numbered c.requires.sound.closed c.definition-definition.result.now c.definition-definition.ensures.member
+    c.definition-definition.result.now.pins (length c.args.values.now) refl c.requires.size
+
+pub returns-then-is_wide : goal.returns-then-is_wide
+returns-then-is_wide g c = λ f d gate same.
+    let n = c.args.netlist.now in
+    let numbered = c.requires.sound.formed.numbered in
+    let one : c.definition-definition.result.now ≡ f =
+    same_definition n numbered c.definition-definition.result.now f c.definition-definition.ensures.member (gate_defined n numbered f gate) (c.definition-definition.ensures.same ∙ sym same) in
+    c.made_wide.ensures d ∙ ap (λ (e : Definition). given (g.L.Logic.rule c.args.rule.now) (at c.args.values.now d) e) one

@@ -61,7 +61,7 @@ loop-place-preserved g c =
           c.args.trail.now.items c.loop-place.trail.items c.take_value.new.trail.items c.loop-place.below c.in-Some.place c.index-id.result.now c.made-value.result
           c.requires.size m c.loop-place.invariant.0 first here
           (λ f d gate same. c.made-value.ensures f d gate same ∙ ap (λ vs. given (g.L.Logic.rule c.args.rule.now) (at vs d) f) c.deref.ensures.value)
-          (subst (λ (marks : List Bool). Takes n places c.index-id.result.now c.made-value.result c.loop-place.values.items c.take_value.new.values.items marks c.take_value.new.agenda
+          (subst (λ (marks : List Bool). Takes (g.L.Logic.rule c.args.rule.now) n places c.index-id.result.now c.made-value.result c.loop-place.values.items c.take_value.new.values.items marks c.take_value.new.agenda
           c.loop-place.trail.items c.take_value.new.trail.items) taken c.take_value.ensures.takes),
       omega arith,
       omega arith,
