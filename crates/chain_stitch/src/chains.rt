@@ -77,7 +77,7 @@ fn place_of(cells: usize, count: u32, at: u32) -> (u32, u32)
     }
 }
 
-fn deal(alloc: Global, cells: &[SignalId], count: u32) -> Result<Chains, AllocError>
+fn deal(alloc: Global, cells: &[SignalId], count: u32) -> Result<Chains, NoMemory>
     requires few { length cells.now < 2 ^ 32 }
     requires distinct { AllPairs (λ x y. x ≢ y) cells.now }
     requires enough { count ≤ length cells.now }
@@ -101,7 +101,7 @@ pub fn stitch(alloc: Global, cells: &[SignalId], asked: u32) -> Result<Chains, N
     ensures { IfOk result (λ chains. chains ≡ chains_of cells.now asked) }
 {
     let count = asked.min(cells.len() as u32);
-    deal(alloc, cells, count).map_err(|_| NoMemory)
+    deal(alloc, cells, count)
 }
 
 impl Chains {
