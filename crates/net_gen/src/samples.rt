@@ -54,9 +54,7 @@ pub fn generate(alloc: Global, seed: u64, gates: u32) -> Result<Netlist, NoMemor
     requires most { gates ≤ most_gates }
     ensures { IfOk result (λ netlist. netlist ≡ sample gates (words_from_seed seed)) }
 {
-    let Ok(parts) = draw_parts(alloc, gates, &mut Lcg64Xsh32::new(seed, 54)) else {
-        return Err(NoMemory);
-    };
+    let parts = draw_parts(alloc, gates, &mut Lcg64Xsh32::new(seed, 54))?;
     match Netlist::new(alloc, parts) {
         Ok(netlist) => Ok(netlist),
         // A sample is never refused for what it is.
