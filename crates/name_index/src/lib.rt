@@ -49,7 +49,7 @@ impl<'a> NameIndex<'a> {
     pub fn of(alloc: Global, netlist: &'a Netlist) -> Result<NameIndex<'a>, NoMemory>
         ensures { IfOk result (λ index. index ≡ netlist.now) }
     {
-        let names = names_of(alloc, netlist).map_err(|_| NoMemory)?;
+        let names = names_of(alloc, netlist)?;
         Ok(NameIndex { netlist, names })
     }
 
