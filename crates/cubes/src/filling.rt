@@ -36,12 +36,8 @@ pub fn fill<R: Rng>(alloc: Global, cube: &Cube, rng: &mut R) -> Result<Pattern, 
     ensures fits { IfOk result (λ p. (n : Netlist) (holds : Holds) → IsCubeOf n holds cube.now → IsPatternOf n holds p) }
     ensures refused { OnErr result (R.stream rng.new ≡ R.stream rng.old) }
 {
-    let Ok(mut inputs) = Vec::with_capacity(alloc, cube.inputs().len()) else {
-        return Err(NoMemory);
-    };
-    let Ok(mut cells) = Vec::with_capacity(alloc, cube.cells().len()) else {
-        return Err(NoMemory);
-    };
+    let mut inputs = Vec::with_capacity(alloc, cube.inputs().len())?;
+    let mut cells = Vec::with_capacity(alloc, cube.cells().len())?;
     fill_values(cube.inputs(), rng, &mut inputs);
     fill_values(cube.cells(), rng, &mut cells);
     Ok(Pattern::new(inputs, cells))

@@ -53,7 +53,7 @@ pub fn merge(alloc: Global, cubes: &[Cube]) -> Result<Vec<Cube>, NoMemory>
 {
     let mut results = Vec::new(alloc);
     for cube in cubes {
-        add(alloc, &mut results, cube).map_err(|_| NoMemory)?;
+        add(alloc, &mut results, cube)?;
     }
     Ok(results)
 }
