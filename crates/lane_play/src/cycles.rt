@@ -49,18 +49,6 @@ pub(crate) fn read_drive(burst: &Burst, t: usize, drive: &mut Vec<Lanes>) -> Res
     Ok(())
 }
 
-/// What the outputs are strobed for in a cycle.
-pub(crate) fn read_strobe(burst: &Burst, t: usize, strobe: &mut Vec<Tri>) -> Result<(), AllocError>
-    requires { t < burst.now.count }
-    ensures { OnOk result (strobe.new.items ≡ (cycle_of burst.now t).strobe) }
-{
-    strobe.clear();
-    strobe.extend_from_slice(&burst.strobe)?;
-    let start = t * burst.width;
-    strobe.extend_from_slice(&burst.outs[start..start + burst.width])?;
-    Ok(())
-}
-
 /// The cells take their next values, where the clock has a pulse.
 pub(crate) fn tick(
     core: &Core,
@@ -100,7 +88,7 @@ fn play_cycle<J: Judge>(
     let netlist = core.netlist();
     netlist.sound();
     read_drive(burst, t, &mut bench.drive)?;
-    read_strobe(burst, t, &mut bench.strobe)?;
+    burst.read_strobe(t, &mut bench.strobe)?;
     settle_into(
         rule,
         netlist,

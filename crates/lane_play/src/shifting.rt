@@ -7,7 +7,7 @@ ghost use Rattle.scan_play.specs.Cycles.{Cycle, IsCycleOf};
 ghost use Rattle.lane_play.specs.inner.Shifts.{ArePlanned};
 ghost use Rattle.lane_play.specs.inner.Steps.{ArePlayed, AreSteps};
 
-use crate::cycles::{Bench, read_drive, read_strobe, tick};
+use crate::cycles::{Bench, read_drive, tick};
 use crate::evaluating::{drive_sources, evaluate_all};
 use crate::judging::{Verdicts, judge_row};
 use crate::stuck::Stuck;
@@ -38,7 +38,7 @@ fn play_shift<J: Judge>(
     let netlist = core.netlist();
     netlist.sound();
     read_drive(burst, t, &mut bench.drive)?;
-    read_strobe(burst, t, &mut bench.strobe)?;
+    burst.read_strobe(t, &mut bench.strobe)?;
     drive_sources(rule, netlist, &bench.drive, &bench.state, &mut bench.values);
     evaluate_all(rule, netlist, steps, &mut bench.values);
     core.outs_into(rule, &bench.values, &mut bench.shown)?;

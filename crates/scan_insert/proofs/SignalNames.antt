@@ -113,14 +113,14 @@ decimal_bytes = decimal_by_steps (λ c bytes. All (λ b. IsTrue (is_name_byte b)
     (λ d l. All-cons (λ b. IsTrue (is_name_byte b)) (48 + d) [] (digit_byte d l) (All-nil _))
     (λ d bytes h k. All-push (λ b. IsTrue (is_name_byte b)) bytes (48 + d % 10) k (digit_byte (d % 10) (omega arith)))
 
-all_bytes : (bytes : List ℕ) → list_all is_name_byte bytes ≡ true → All (λ b. IsTrue (is_name_byte b)) bytes
+pub all_bytes : (bytes : List ℕ) → list_all is_name_byte bytes ≡ true → All (λ b. IsTrue (is_name_byte b)) bytes
 all_bytes [] e = All-nil _
 all_bytes (b ∷ bs) e =
     let p = and_parts (is_name_byte b) (list_all is_name_byte bs) e in
     All-cons (λ x. IsTrue (is_name_byte x)) b bs p.0 (all_bytes bs p.1)
 
 -- a name with six bytes before it
-prefixed : (prefix name : List ℕ) → length prefix ≡ 6 → list_all is_name_byte prefix ≡ true → length name ≤ 255 → All (λ b. IsTrue (is_name_byte b)) name → IsName (prefix ++ name)
+pub prefixed : (prefix name : List ℕ) → length prefix ≡ 6 → list_all is_name_byte prefix ≡ true → length name ≤ 255 → All (λ b. IsTrue (is_name_byte b)) name → IsName (prefix ++ name)
 prefixed prefix name six bytes short h = record {
   some = omega (arith, length-append prefix name);
   short = omega (arith, length-append prefix name);
@@ -156,7 +156,7 @@ module _ (n : Netlist) (sound : IsSound n) (design : IsDesign n) where
   tag_is (Chosen q) v = refl
   tag_is (Held q) v = refl
 
-  same_signal : (x y : ℕ) → x < length n.names → y < length n.names → name_of n x ≡ name_of n y → x ≡ y
+  pub same_signal : (x y : ℕ) → x < length n.names → y < length n.names → name_of n x ≡ name_of n y → x ≡ y
   same_signal x y v w e = elim (cases_order x y) [
     | inl same ↦ same
     | inr r ↦ elim r [

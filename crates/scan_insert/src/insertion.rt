@@ -48,8 +48,8 @@ impl Scanned {
     }
 }
 
-/// A netlist of parts in which nothing is to be refused.
-fn netlist_of(alloc: Global, parts: Parts) -> Result<Netlist, NoMemory>
+/// A netlist of parts in which nothing is to be refused. It is refused for want of memory alone.
+pub fn netlist_of(alloc: Global, parts: Parts) -> Result<Netlist, NoMemory>
     requires { IsSound (whole parts) }
     ensures { IfOk result (λ n. n ≡ whole parts) }
 {

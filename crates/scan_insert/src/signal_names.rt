@@ -11,7 +11,7 @@ use netlist::{Definition, NameTable, Netlist, SignalId};
 use std::alloc::{AllocError, Global};
 
 /// Adds a name of two parts, which are put together in `scratch`.
-fn push_joined(
+pub fn push_joined(
     names: &mut NameTable,
     scratch: &mut Vec<u8>,
     prefix: &[u8],
@@ -26,7 +26,7 @@ fn push_joined(
 }
 
 /// Adds the names of the inputs.
-fn push_inputs(netlist: &Netlist, names: &mut NameTable) -> Result<(), AllocError>
+pub fn push_inputs(netlist: &Netlist, names: &mut NameTable) -> Result<(), AllocError>
     requires { IsSound netlist.now }
     ensures { OnOk result (names.new ≡ names.old ++ map (name_of netlist.now) netlist.now.inputs) }
 {

@@ -1,5 +1,5 @@
 -- The vectors of a test on a netlist that shifts and captures, for any table of values.
-use Rattle.std.proofs.Common.{◌≡◌, ℕ, ◌-◌, ◌%◌, ◌<◌, nat_le, Bool, false, not, List, [], ◌∷◌, ◌++◌, map, length, replicate, Option, refl, sym, ◌∙◌, ap, subst, arith, length-append}
+use Rattle.std.proofs.Common.{◌≡◌, ℕ, ◌-◌, ◌%◌, ◌<◌, nat_le, Bool, false, not, List, [], ◌∷◌, ◌++◌, map, length, replicate, Option, None, refl, sym, ◌∙◌, ap, subst, arith, length-append}
 use Rattle.std.specs.List.{All, AllZip, flat_map}
 use Rattle.std.proofs.lemmas.List.{length-map, length-replicate, append_assoc, append-nil}
 use Rattle.std.proofs.lemmas.List.Elements.{All-head, All-tail}
@@ -46,6 +46,9 @@ length-pins rule a (d ∷ ds) h =
 
 pub length-next : {V : Type 0} (rule : Rule V) (n : Netlist) (a : ℕ → V) → IsSound n → length (next rule n a) ≡ length (cells n)
 length-next rule n a sound = length-pins rule a (cells n) (one_pin n sound.closed)
+
+pub taken_count : (n : Netlist) (p : Pattern) (r : Response) → IsSound n → Responds n None p r → length r.cells ≡ length (cells n)
+taken_count n p r sound h = ap length h.cells ∙ length-next (bits None) n h.values sound
 
 pub length-flush : (chains : List (List ℕ)) → length (flush chains) ≡ length (cells_of chains)
 length-flush [] = refl

@@ -1,16 +1,13 @@
 -- The vectors of patterns as they are made.
-use Rattle.std.proofs.Common.{◌≡◌, ℕ, ◌+◌, ◌<◌, ◌≤◌, ◌≢◌, Bool, false, true, List, [], ◌∷◌, ◌++◌, map, length, get_or, take, replicate, None, refl, sym, ◌∙◌, ap, subst, arith}
-use Rattle.std.specs.List.{AllZip, zip}
-use Rattle.std.proofs.lemmas.List.{length-map, length-replicate, append_assoc, append-nil, take_all, take_more}
+use Rattle.std.proofs.Common.{◌≡◌, ℕ, ◌+◌, ◌<◌, ◌≤◌, ◌≢◌, Bool, false, true, List, [], ◌∷◌, ◌++◌, map, length, get_or, take, replicate, None, refl, sym, ◌∙◌, ap, arith}
+use Rattle.std.proofs.lemmas.List.{append_assoc, append-nil}
 use Rattle.std.proofs.lemmas.Grind.{flat_map-append}
 use Rattle.netlist.specs.declared.kinds.Tri.{Tri}
 use Rattle.netlist.specs.declared.kinds.Tri.TheVariants.{X}
 use Rattle.netlist.specs.Netlist.{Netlist, is_cell, cells}
 use Rattle.netlist.specs.Holds.{Holds, AreHoldsOf}
 use Rattle.netlist.specs.Conditions.{IsSound}
-use Rattle.netlist.specs.Settled.{bits}
 use Rattle.netlist.proofs.Placed.{signals_length}
-use Rattle.netlist.proofs.Alike.{zip_append}
 use Rattle.netlist.specs.ThreeValues.{known}
 use Rattle.cubes.specs.Cubes.{Pattern}
 use Rattle.chain_stitch.specs.Chains.{cells_of}
@@ -20,36 +17,49 @@ use Rattle.scan_play.specs.Cycles.{Cycle}
 use Rattle.scan_play.specs.Shifts.{load}
 use Rattle.scan_play.specs.Vectors.{Response, Responds, capture, applied, vectors, AreVectors}
 use Rattle.scan_play.specs.Bursts.{cycles_of, all_cycles}
-use Rattle.scan_play.specs.inner.Applied.{IsApplied, IsBegun, flushing}
-use Rattle.scan_play.proofs.Applied.{length-next}
+use Rattle.scan_play.specs.inner.Applied.{IsApplied, IsBegun, flushing, plain_cycle}
+use Rattle.scan_play.proofs.Applied.{taken_count}
+use Rattle.scan_play.proofs.TestLists.{none_applied, one_applied, all_applied}
 
 pub few_cells : (n : Netlist) → IsSound n → length (cells n) ≤ 8000000
 few_cells n sound = omega (arith, filter_le is_cell n.definitions, signals_length n, sound.sized.small)
 
--- ---- a capture
+-- ---- a cycle with scan off
 
-capture_scanned : (chains : List (List ℕ)) (p : Pattern) (r : Response) → length chains ≢ 0
-    → ◌≡◌ {A = Cycle} (record { drive = p.inputs ++ false ∷ replicate (length chains) false; strobe = map known r.outputs ++ replicate (length chains) X; pulse = true }) (capture chains p r)
-capture_scanned [] p r h = absurd (h refl)
-capture_scanned (chain ∷ chains) p r h = refl
+cycle_with : Bool → List Bool → List Tri → Cycle
+cycle_with pulse drive strobe = record { drive = drive; strobe = strobe; pulse = pulse }
 
-clocked : List Bool → List Tri → Cycle
-clocked d s = record { drive = d; strobe = s; pulse = true }
+chained : (chains : List (List ℕ)) (inputs : List Bool) (strobes : List Tri) → length chains ≢ 0
+    → cycle_with true (inputs ++ false ∷ replicate (length chains) false) (strobes ++ replicate (length chains) X) ≡ plain_cycle chains inputs strobes
+unfolding cycle_with
+chained [] inputs strobes h = absurd (h refl)
+chained (chain ∷ chains) inputs strobes h = refl
 
-pub capture_made : (chains : List (List ℕ)) (p : Pattern) (r : Response) (count done : ℕ) (inputs drive0 drive1 drive : List Bool) (outputs : List Bool) (strobe0 strobe1 strobe : List Tri)
-    → count ≡ length chains → count ≢ 0 → count ≡ done → inputs ≡ p.inputs → drive0 ≡ inputs → drive1 ≡ drive0 ++ false ∷ [] → drive ≡ drive1 ++ replicate count false
-    → r.outputs ≡ outputs → strobe0 ≡ [] → strobe1 ≡ strobe0 ++ map known outputs → strobe ≡ strobe1 ++ replicate done X
-    → ◌≡◌ {A = Cycle} (record { drive = drive; strobe = strobe; pulse = true }) (capture chains p r)
-unfolding clocked
-capture_made chains p r count done inputs drive0 drive1 drive outputs strobe0 strobe1 strobe many some all i d0 d1 d o s0 s1 s =
-    let driven : drive ≡ p.inputs ++ false ∷ replicate (length chains) false =
-    d ∙ (ap (λ x. x ++ replicate count false) (d1 ∙ ap (λ x. x ++ false ∷ []) (d0 ∙ i))
-    ∙ (append_assoc p.inputs (false ∷ []) (replicate count false) ∙ ap (λ k. p.inputs ++ false ∷ replicate k false) many)) in
-    let strobed : strobe ≡ map known r.outputs ++ replicate (length chains) X =
-    s ∙ (ap (λ x. x ++ replicate done X) (s1 ∙ (ap (λ x. x ++ map known outputs) s0 ∙ ap (map known) (sym o)))
-    ∙ ap (λ k. map known r.outputs ++ replicate k X) (sym all ∙ many)) in
-    ap (λ x. clocked x strobe) driven ∙ (ap (clocked (p.inputs ++ false ∷ replicate (length chains) false)) strobed
-    ∙ capture_scanned chains p r (λ e. some (many ∙ e)))
+unchained : (chains : List (List ℕ)) (inputs : List Bool) (strobes : List Tri) → length chains ≡ 0 → cycle_with false inputs strobes ≡ plain_cycle chains inputs strobes
+unfolding cycle_with
+unchained [] inputs strobes e = refl
+unchained (chain ∷ chains) inputs strobes e = absurd (omega (arith, e))
+
+pub plain_made : (chains : List (List ℕ)) (count done : ℕ) (inputs drive0 drive1 drive : List Bool) (strobe0 strobe : List Tri)
+    → count ≡ length chains → count ≢ 0 → count ≡ done → drive0 ≡ inputs → drive1 ≡ drive0 ++ false ∷ [] → drive ≡ drive1 ++ replicate count false → strobe ≡ strobe0 ++ replicate done X
+    → ◌≡◌ {A = Cycle} (record { drive = drive; strobe = strobe; pulse = true }) (plain_cycle chains inputs strobe0)
+unfolding cycle_with
+plain_made chains count done inputs drive0 drive1 drive strobe0 strobe many some all d0 d1 d s =
+    let driven : drive ≡ inputs ++ false ∷ replicate (length chains) false =
+    d ∙ (ap (λ x. x ++ replicate count false) (d1 ∙ ap (λ x. x ++ false ∷ []) d0)
+    ∙ (append_assoc inputs (false ∷ []) (replicate count false) ∙ ap (λ k. inputs ++ false ∷ replicate k false) many)) in
+    let strobed : strobe ≡ strobe0 ++ replicate (length chains) X = s ∙ ap (λ k. strobe0 ++ replicate k X) (sym all ∙ many) in
+    ap (λ x. cycle_with true x strobe) driven ∙ (ap (cycle_with true (inputs ++ false ∷ replicate (length chains) false)) strobed
+    ∙ chained chains inputs strobe0 (λ e. some (many ∙ e)))
+
+pub plain_unclocked : (chains : List (List ℕ)) (inputs drive : List Bool) (strobe : List Tri) → length chains ≡ 0 → drive ≡ inputs
+    → ◌≡◌ {A = Cycle} (record { drive = drive; strobe = strobe; pulse = false }) (plain_cycle chains inputs strobe)
+unfolding cycle_with
+plain_unclocked chains inputs drive strobe none d = ap (λ x. cycle_with false x strobe) d ∙ unchained chains inputs strobe none
+
+pub capture_plain : (chains : List (List ℕ)) (p : Pattern) (r : Response) → plain_cycle chains p.inputs (map known r.outputs) ≡ capture chains p r
+capture_plain [] p r = refl
+capture_plain (chain ∷ chains) p r = refl
 
 -- ---- bursts
 
@@ -66,58 +76,19 @@ two_bursts old middle new b c bs cs m n e f =
 
 module _ (n : Netlist) (holds : Holds) (chains : List (List ℕ)) where
   pub begun : (cycles : List Cycle) (held : List Tri) (count : ℕ) → count ≡ length (cells_of chains) → cycles ≡ flushing n holds chains → held ≡ replicate count X → IsBegun n holds chains [] cycles held
-  begun cycles held count e c h = record {
-    tests = [];
-    respond = tt;
-    whole = λ rest. ap (λ x. x ++ applied n holds chains held rest) c ∙ ap (λ x. flushing n holds chains ++ applied n holds chains x rest) (h ∙ ap (λ k. replicate k X) e);
-    size = ap length h ∙ (length-replicate count X ∙ e);
-  }
+  begun cycles held count e c h = none_applied (Responds n None) (applied n holds chains) (vectors n holds chains) (length (cells_of chains)) (flushing n holds chains) cycles held count (λ rest. refl) e c h
 
   pub begun_more : (sound : IsSound n) (count : length (cells n) ≡ length (cells_of chains)) (ps : List Pattern) (i : ℕ) (p : Pattern) (old new : List Burst) (held after : List Tri)
       → i < length ps → p ≡ get_or ps i p → IsBegun n holds chains (take i ps) (all_cycles old) held → IsApplied n holds chains p held after old new → IsBegun n holds chains (take (i + 1) ps) (all_cycles new) after
   begun_more sound count ps i p old new held after l is h one =
-      let test : Pattern × Response = (p, one.response) in
-      let R : Pattern → Pattern × Response → Type 0 = λ q t. (t.0 ≡ q) × Responds n None q t.1 in
-      record {
-        tests = h.tests ++ test ∷ [];
-        respond = subst (λ qs. AllZip R qs (h.tests ++ test ∷ [])) (sym (take_more ps i p l ∙ ap (λ q. take i ps ++ q ∷ []) (sym is)))
-            (zip_append R (take i ps) (p ∷ []) h.tests (test ∷ []) h.respond ((refl, one.responds), tt));
-        whole = λ rest.
-            let shown = load n holds chains p.cells held ++ capture chains p one.response ∷ [] in
-            let on = applied n holds chains (map known one.response.cells) rest in
-            ap (λ x. x ++ applied n holds chains after rest) one.cycles
-            ∙ (ap (λ x. all_cycles old ++ shown ++ applied n holds chains x rest) one.taken
-            ∙ (append_assoc (all_cycles old) shown on
-            ∙ (ap (λ x. all_cycles old ++ x) (append_assoc (load n holds chains p.cells held) (capture chains p one.response ∷ []) on)
-            ∙ (h.whole (test ∷ rest) ∙ ap (vectors n holds chains) (sym (append_assoc h.tests (test ∷ []) rest))))));
-        size = ap length one.taken ∙ (length-map one.response.cells known ∙ (ap length one.responds.cells ∙ (length-next (bits None) n one.responds.values sound ∙ count)));
-      }
+      let loads = load n holds chains p.cells held in
+      let captures = capture chains p one.response ∷ [] in
+      one_applied (Responds n None) (applied n holds chains) (vectors n holds chains) (length (cells_of chains)) ps i p one.response (loads ++ captures) (all_cycles old) (all_cycles new) held after
+      (λ rest. append_assoc loads captures (applied n holds chains (map known one.response.cells) rest)) l is h one.responds (taken_count n p one.response sound one.responds ∙ count) one.cycles one.taken
 
-  seconds : List (Pattern × Response) → List Response
-  seconds tests = map (λ (t : Pattern × Response). t.1) tests
-
-  all_respond : (ps : List Pattern) (tests : List (Pattern × Response)) → AllZip (λ q (t : Pattern × Response). (t.0 ≡ q) × Responds n None q t.1) ps tests
-      → AllZip (Responds n None) ps (seconds tests) × (zip ps (seconds tests) ≡ tests)
-  unfolding seconds
-  all_respond [] [] h = (tt, refl)
-  all_respond [] (t ∷ ts) h = absurd h
-  all_respond (p ∷ ps) [] h = absurd h
-  all_respond (p ∷ ps) (t ∷ ts) h =
-      let rest = all_respond ps ts h.1 in
-      let here : ◌≡◌ {A = Pattern × Response} (p, t.1) t = ap (λ (q : Pattern). (q, t.1)) (sym h.0.0) in
-      ((h.0.1, rest.0), ap (λ x. x ∷ zip ps (seconds ts)) here ∙ ap (λ xs. t ∷ xs) rest.1)
-
-  pub begun_done : (ps : List Pattern) (i : ℕ) (old new : List Burst) (b : Burst) (held : List Tri) (zeros : List Bool) (count : ℕ) → length ps ≤ i → count ≡ length (cells_of chains)
-      → zeros ≡ replicate count false → new ≡ old ++ b ∷ [] → cycles_of b ≡ load n holds chains zeros held → IsBegun n holds chains (take i ps) (all_cycles old) held → AreHoldsOf n holds → AreVectors n holds chains ps (all_cycles new)
-  begun_done ps i old new b held zeros count l many z pushed made h fit =
-      let whole = take_all i ps l in
-      let r = all_respond ps h.tests (subst (λ qs. AllZip (λ q (t : Pattern × Response). (t.0 ≡ q) × Responds n None q t.1) qs h.tests) whole h.respond) in
-      record {
-        held = fit;
-        responses = seconds h.tests;
-        respond = r.0;
-        are =
-            one_burst old new b (load n holds chains zeros held) pushed made
-            ∙ (ap (λ (x : List Bool). all_cycles old ++ load n holds chains x held) (z ∙ ap (λ k. replicate k false) many)
-            ∙ (h.whole [] ∙ ap (vectors n holds chains) (append-nil h.tests ∙ sym r.1)));
-      }
+  pub begun_done : (ps : List Pattern) (i : ℕ) (old new : List Burst) (b : Burst) (held : List Tri) → length ps ≤ i → new ≡ old ++ b ∷ []
+      → cycles_of b ≡ load n holds chains (replicate (length (cells_of chains)) false) held → IsBegun n holds chains (take i ps) (all_cycles old) held → AreHoldsOf n holds → AreVectors n holds chains ps (all_cycles new)
+  begun_done ps i old new b held l pushed made h fit =
+      let last = load n holds chains (replicate (length (cells_of chains)) false) held in
+      let r = all_applied (Responds n None) (applied n holds chains) (vectors n holds chains) (length (cells_of chains)) ps i (all_cycles old) (all_cycles new) held l (one_burst old new b last pushed made) h in
+      record { held = fit; responses = r.0; respond = r.1; are = r.2 }

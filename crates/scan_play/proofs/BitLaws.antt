@@ -35,6 +35,7 @@ use Rattle.scan_play.proofs.Widths.{cells_count, valid_fault, no_fault}
 use Rattle.scan_play.proofs.Bridge.{bridge}
 use Rattle.scan_play.proofs.Instances.{bits_above}
 use Rattle.scan_play.proofs.Places.{response_at, strobe_of_point}
+use Rattle.scan_play.proofs.TestLists.{both_at}
 
 unfoldable pub Allows : Tri → Bool → Type 0
 Allows s b = IsTrue (allows s b)
@@ -255,27 +256,6 @@ detected_bits n f p r own (Cell q) sound h g t =
     (ap length left ∙ (length-next (bits None) n t.good sound ∙ sym (ap length right ∙ length-next (bits (Some f)) n t.faulty sound)))
     (λ e. t.differs (ap (λ xs. slice_get xs q) (sym left) ∙ (e ∙ ap (λ xs. slice_get xs q) right)))
 
--- the two responses to a pattern of the list
-both_at : (n : Netlist) (f : Fault) (ps : List Pattern) (rs owns : List Response) (p : ℕ) (pattern : Pattern) → AllZip (Responds n None) ps rs → AllZip (Responds n (Some f)) ps owns
-    → slice_get ps p ≡ Some pattern
-    → (r own : Response) × (slice_get (zip ps rs) p ≡ Some (pattern, r)) × (slice_get (zip ps owns) p ≡ Some (pattern, own)) × Responds n None pattern r × Responds n (Some f) pattern own
-both_at n f [] rs owns p pattern h k e = cc
-both_at n f (q ∷ ps) [] owns p pattern h k e = absurd h
-both_at n f (q ∷ ps) (r ∷ rs) [] p pattern h k e = absurd k
-both_at n f (q ∷ ps) (r ∷ rs) (own ∷ owns) zero pattern h k e =
-    let same : q ≡ pattern = some_same q pattern e in (
-      r,
-      own,
-      ap (λ (x : Pattern). Some (x, r)) same,
-      ap (λ (x : Pattern). Some (x, own)) same,
-      subst (λ (x : Pattern). Responds n None x r) same h.0,
-      subst (λ (x : Pattern). Responds n (Some f) x own) same k.0,
-    )
-  where
-    some_same : (x y : Pattern) → Some x ≡ Some y → x ≡ y
-    some_same x y e = cc
-both_at n f (q ∷ ps) (r ∷ rs) (own ∷ owns) (suc p) pattern h k e = both_at n f ps rs owns p pattern h.1 k.1 e
-
 pub detected_fails : (n : Netlist) (holds : Holds) (chains : List (List ℕ)) (patterns : List Pattern) (cycles : List Cycle) (f : Fault) (p : ℕ) (pattern : Pattern) (point : Point) (c o : ℕ)
     → IsSound n → AreChainsOf n chains → AreVectors n holds chains patterns cycles → IsLineOf n f.line
     → slice_get patterns p ≡ Some pattern → Detects n f pattern.inputs pattern.cells point → IsStrobedAt n chains p point c o
@@ -286,7 +266,7 @@ detected_fails n holds chains patterns cycles f p pattern point c o sound are v 
     let g = fault_at (sites_of n chains) (Some f) in
     let count = cells_count n chains are in
     let owns = own_responses n (Some f) sound patterns v.responses v.respond in
-    let both = both_at n f patterns v.responses owns.0 p pattern v.respond owns.1 at_p in
+    let both = both_at (Responds n None) (Responds n (Some f)) patterns v.responses owns.0 p pattern v.respond owns.1 at_p in
     let bit = detected_bits n f pattern both.0 both.1 point sound both.4 both.5 t in
     let good : strobe_at (vectors n holds chains (zip patterns v.responses)) c o ≡ known bit.0 =
     strobe_of_point n holds chains (zip patterns v.responses) p (pattern, both.0) point c o bit.0 sound are both.2

@@ -20,7 +20,7 @@ enough f items count width w is e h =
     let same : count * width ≡ count * w = ap (λ k. count * k) e in
     omega arith
 
-map_numbers : (f g : ℕ → Cycle) (first count : ℕ) → ((t : ℕ) → t < count → f (first + t) ≡ g (first + t)) → map f (numbers_from first count) ≡ map g (numbers_from first count)
+pub map_numbers : (f g : ℕ → Cycle) (first count : ℕ) → ((t : ℕ) → t < count → f (first + t) ≡ g (first + t)) → map f (numbers_from first count) ≡ map g (numbers_from first count)
 map_numbers f g first zero h = refl
 map_numbers f g first (suc count) h =
     let none : first + 0 ≡ first = omega arith in
@@ -35,7 +35,7 @@ column_width z word chains values t = length-column z (map word (by_chain chains
 cycle : List Bool → List Tri → Bool → Cycle
 cycle d s p = record { drive = d; strobe = s; pulse = p }
 
-same_cycle : (d d' : List Bool) (s s' : List Tri) (p p' : Bool) → d ≡ d' → s ≡ s' → p ≡ p' → ◌≡◌ {A = Cycle} (record { drive = d; strobe = s; pulse = p }) (record { drive = d'; strobe = s'; pulse = p' })
+pub same_cycle : (d d' : List Bool) (s s' : List Tri) (p p' : Bool) → d ≡ d' → s ≡ s' → p ≡ p' → ◌≡◌ {A = Cycle} (record { drive = d; strobe = s; pulse = p }) (record { drive = d'; strobe = s'; pulse = p' })
 unfolding cycle
 same_cycle d d' s s' p p' x y z = ap (λ u. cycle u s p) x ∙ (ap (λ u. cycle d' u p) y ∙ ap (cycle d' s') z)
 

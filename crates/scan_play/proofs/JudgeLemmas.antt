@@ -1,19 +1,12 @@
 -- What is first said of a run, and of which places nothing is said.
-use Rattle.std.proofs.Common.{◌≡◌, ℕ, suc, zero, ◌+◌, ◌<◌, ◌⊎◌, List, [], ◌∷◌, get_or, Option, Some, None, slice_get, refl, sym, ◌∙◌, ap, subst, inl, inr, arith}
+use Rattle.std.proofs.Common.{◌≡◌, ℕ, suc, zero, ◌+◌, ◌<◌, ◌⊎◌, List, [], ◌∷◌, get_or, Some, None, slice_get, refl, sym, ◌∙◌, ap, subst, inl, inr, arith}
 use Rattle.netlist.specs.declared.kinds.Tri.{Tri}
 use Rattle.netlist.specs.declared.kinds.Tri.TheVariants.{X}
 use Rattle.scan_play.specs.declared.played.Played.{Played}
 use Rattle.scan_play.specs.Cycles.{Cycle}
 use Rattle.scan_play.specs.Passing.{strobe_at, shown_at}
-use Rattle.scan_play.specs.Judging.{IsOpen, Judging, judged, judged_in, played_or_else}
-
-or_none : (x y : Option Played) → played_or_else x y ≡ None → (x ≡ None) × (y ≡ None)
-or_none None y e = (refl, e)
-or_none (Some p) y e = cc
-
-or_cases : (x y : Option Played) (p : Played) → played_or_else x y ≡ Some p → (x ≡ Some p) ⊎ ((x ≡ None) × (y ≡ Some p))
-or_cases None y p e = inr (refl, e)
-or_cases (Some q) y p e = inl e
+use Rattle.scan_play.specs.Judging.{IsOpen, Judging, judged, judged_in}
+use Rattle.scan_play.proofs.PlayLemmas.{or_none, or_cases}
 
 some_same : (x y : Tri) → Some x ≡ Some y → x ≡ y
 some_same x y e = cc

@@ -15,6 +15,7 @@ pub mod PlayLemmas
 pub mod PlaySteps
 pub mod LoadLemmas
 pub mod BurstLemmas
+pub mod TestLists
 pub mod ApplyLemmas
 pub mod PlanMarks
 pub mod PlanLemmas

@@ -14,9 +14,9 @@ use Rattle.netlist.specs.Conditions.{IsSound}
 use Rattle.netlist.proofs.Settling.{cells_distinct}
 use Rattle.netlist.specs.ThreeValues.{known}
 use Rattle.cubes.specs.Cubes.{Pattern}
-use Rattle.chain_stitch.specs.Chains.{cells_of, longest_of}
+use Rattle.chain_stitch.specs.Chains.{IsAt, cells_of, longest_of}
 use Rattle.scan_insert.specs.Names.{numbers_from}
-use Rattle.scan_insert.specs.Scanned.{AreChainsOf}
+use Rattle.scan_insert.specs.Scanned.{AreChainsOf, cell_ids}
 use Rattle.scan_insert.proofs.Numbers.{length-numbers_from}
 use Rattle.scan_insert.proofs.Concrete.{are_dealt}
 use Rattle.scan_play.specs.Cycles.{Cycle}
@@ -237,6 +237,25 @@ pub capture_strobe : (chains : List (List ℕ)) (p : Pattern) (r : Response) (k 
 capture_strobe [] p r k b e = ap (λ (x : List Tri). get_or x k X) (sym (append-nil (map known r.outputs))) ∙ known_at r.outputs [] k b e
 capture_strobe (chain ∷ chains) p r k b e = known_at r.outputs (replicate (length (chain ∷ chains)) X) k b e
 
+-- A cell's bit comes to the scan output within the load, where it is strobed.
+module _ (n : Netlist) (chains : List (List ℕ)) (q cell chain place : ℕ) (sound : IsSound n) (are : AreChainsOf n chains) (is_cell : slice_get (cell_ids n) q ≡ Some cell) (is_at : IsAt chains cell chain place) where
+  pub unloaded_early : length is_at.chain_cells - 1 - place < longest_of chains
+  unloaded_early =
+      let l : place < length is_at.chain_cells = below_of is_at.chain_cells place cell is_at.has_cell in
+      let long : length is_at.chain_cells ≤ longest_of chains = longest_above chains chain is_at.chain_cells is_at.has_chain in
+      omega arith
+
+  pub unloaded_bit : (bits : List Bool) (o : ℕ) (b : Bool) → length bits ≡ length (cells_of chains) → o ≡ length n.outputs + chain → slice_get bits q ≡ Some b
+      → get_or (load_row n chains (map known bits) (length is_at.chain_cells - 1 - place)) o X ≡ known b
+  unloaded_bit bits o b size at is =
+      let all = (are_dealt n chains are).all in
+      let held = map known bits in
+      let apart : AllPairs (λ x y. x ≢ y) (cells_of chains) = cells_distinct n sound.formed.numbered (cells_of chains) all in
+      let here : slice_get (cells_of chains) q ≡ Some cell = ap (λ (xs : List ℕ). slice_get xs q) all ∙ is_cell in
+      ap (λ j. get_or (load_row n chains held (length is_at.chain_cells - 1 - place)) j X) at
+      ∙ (scan_strobe n chains held chain place cell q is_at.chain_cells apart (length-map bits known ∙ size) is_at.has_chain is_at.has_cell here
+      ∙ (ap (λ (x : List Tri). get_or x q X) (sym (append-nil held)) ∙ known_at bits [] q b is))
+
 -- The vectors strobe the response's bit where the point is strobed.
 pub strobe_of_point : (n : Netlist) (holds : Holds) (chains : List (List ℕ)) (tests : List (Pattern × Response)) (p : ℕ) (test : Pattern × Response) (point : Point) (c o : ℕ) (b : Bool)
     → IsSound n → AreChainsOf n chains → slice_get tests p ≡ Some test → length test.1.cells ≡ length (cells_of chains) → IsStrobedAt n chains p point c o
@@ -248,16 +267,8 @@ strobe_of_point n holds chains tests p test (Output k) c o b sound are e size at
     ∙ (ap (λ j. get_or (capture chains test.0 test.1).strobe j X) at.1 ∙ capture_strobe chains test.0 test.1 k b is)
 strobe_of_point n holds chains tests p test (Cell q) c o b sound are e size at is =
     let m = longest_of chains in
-    let all = (are_dealt n chains are).all in
-    let chain = at.is_at.chain_cells in
-    let t = length chain - 1 - at.place in
-    let held = map known test.1.cells in
-    let l : at.place < length chain = below_of chain at.place at.cell at.is_at.has_cell in
-    let long : length chain ≤ m = longest_above chains at.chain chain at.is_at.has_chain in
-    let apart : AllPairs (λ x y. x ≢ y) (cells_of chains) = cells_distinct n sound.formed.numbered (cells_of chains) all in
-    let place : slice_get (cells_of chains) q ≡ Some at.cell = ap (λ (xs : List ℕ). slice_get xs q) all ∙ at.is_cell in
+    let t = length at.is_at.chain_cells - 1 - at.place in
+    let early = unloaded_early n chains q at.cell at.chain at.place sound are at.is_cell at.is_at in
     ap (λ r. get_or r o X) (behind_flush n holds chains tests c ((p + 1) * (m + 1) + t) (omega (arith, at.cycle_is))
-    ∙ unload_row n holds chains (replicate (length (cells_of chains)) X) tests p test e t ((p + 1) * (m + 1) + t) (omega arith) refl)
-    ∙ (ap (λ j. get_or (load_row n chains held t) j X) at.output_is
-    ∙ (scan_strobe n chains held at.chain at.place at.cell q chain apart (length-map test.1.cells known ∙ size) at.is_at.has_chain at.is_at.has_cell place
-    ∙ (ap (λ (x : List Tri). get_or x q X) (sym (append-nil held)) ∙ known_at test.1.cells [] q b is)))
+    ∙ unload_row n holds chains (replicate (length (cells_of chains)) X) tests p test e t ((p + 1) * (m + 1) + t) early refl)
+    ∙ unloaded_bit n chains q at.cell at.chain at.place sound are at.is_cell at.is_at test.1.cells o b size at.output_is is

@@ -139,11 +139,11 @@ cases_option : (x : Option Played) → (x ≡ None) ⊎ ((p : Played) × (x ≡ 
 cases_option None = inl refl
 cases_option (Some p) = inr (p, refl)
 
-or_none : (x y : Option Played) → played_or_else x y ≡ None → (x ≡ None) × (y ≡ None)
+pub or_none : (x y : Option Played) → played_or_else x y ≡ None → (x ≡ None) × (y ≡ None)
 or_none None y e = (refl, e)
 or_none (Some p) y e = cc
 
-or_cases : (x y : Option Played) (p : Played) → played_or_else x y ≡ Some p → (x ≡ Some p) ⊎ ((x ≡ None) × (y ≡ Some p))
+pub or_cases : (x y : Option Played) (p : Played) → played_or_else x y ≡ Some p → (x ≡ Some p) ⊎ ((x ≡ None) × (y ≡ Some p))
 or_cases None y p e = inr (refl, e)
 or_cases (Some q) y p e = inl e
 

@@ -1,6 +1,7 @@
 //! The vectors of patterns.
 ghost use Rattle.std.specs.Prelude.{◌≡◌, ◌++◌, ◌∷◌, [], ◌<◌, ◌^◌, not, map, length, replicate, false, None, IfOk, OnOk};
 ghost use Rattle.std.specs.List.{All};
+ghost use Rattle.netlist.specs.Conditions.{IsSound};
 ghost use Rattle.netlist.specs.Netlist.{cells};
 ghost use Rattle.netlist.specs.Holds.{AreHoldsOf};
 ghost use Rattle.netlist.specs.declared.kinds.Tri.TheVariants.{X};
@@ -11,18 +12,18 @@ ghost use Rattle.scan_play.specs.Shifts.{load};
 ghost use Rattle.scan_play.specs.Vectors.{Response, Responds, flush, capture, AreVectors};
 ghost use Rattle.scan_play.specs.Bursts.{cycles_of, all_cycles};
 ghost use Rattle.cubes.specs.Cubes.{IsPatternOf};
-ghost use Rattle.scan_play.specs.inner.Applied.{IsApplied, flushing};
+ghost use Rattle.scan_play.specs.inner.Applied.{IsApplied, flushing, plain_cycle};
 
-use crate::cycles::{Burst, Vectors, push_known};
+use crate::cycles::{Burst, Vectors, push_known, strobes_of};
 use crate::flushing::{complement, flush, push_zeros};
-use crate::loading::{load, no_strobes};
+use crate::loading::{load, no_strobes, zero_load};
 use chain_stitch::Chains;
 use cubes::Pattern;
 use netlist::{Bits, Core, Holds, Netlist, NoMemory, Tri};
 use std::alloc::{AllocError, Global};
 
 /// One cycle as a burst.
-pub fn single(alloc: Global, drive: Vec<bool>, strobe: Vec<Tri>, pulse: bool) -> Burst
+fn single(alloc: Global, drive: Vec<bool>, strobe: Vec<Tri>, pulse: bool) -> Burst
     ensures { cycles_of result ≡ record { drive = drive.items; strobe = strobe.items; pulse = pulse } ∷ [] }
 {
     Burst {
@@ -36,18 +37,16 @@ pub fn single(alloc: Global, drive: Vec<bool>, strobe: Vec<Tri>, pulse: bool) ->
     }
 }
 
-/// A capture, which strobes these outputs.
-pub fn capture(
+/// A cycle with scan off, in which the functional inputs have these bits and the functional outputs these strobes.
+pub fn plain(
     alloc: Global,
     chains: &Chains,
-    pattern: &Pattern,
-    outputs: &[bool],
+    inputs: &[bool],
+    mut strobe: Vec<Tri>,
 ) -> Result<Burst, AllocError>
-    ensures { IfOk result (λ b. (r : Response) → r.outputs ≡ outputs.now → cycles_of b ≡ capture chains.now pattern.now r ∷ []) }
+    ensures { IfOk result (λ b. cycles_of b ≡ plain_cycle chains.now inputs.now strobe.items ∷ []) }
 {
-    let mut drive = Vec::from_slice(alloc, pattern.inputs())?;
-    let mut strobe = Vec::new(alloc);
-    push_known(outputs, &mut strobe)?;
+    let mut drive = Vec::from_slice(alloc, inputs)?;
     let count = chains.count() as usize;
     if count == 0 {
         return Ok(single(alloc, drive, strobe, false));
@@ -58,6 +57,20 @@ pub fn capture(
         strobe.push(Tri::X)?;
     }
     Ok(single(alloc, drive, strobe, true))
+}
+
+/// A capture, which strobes these outputs.
+pub fn capture(
+    alloc: Global,
+    chains: &Chains,
+    pattern: &Pattern,
+    outputs: &[bool],
+) -> Result<Burst, AllocError>
+    ensures { IfOk result (λ b. (r : Response) → r.outputs ≡ outputs.now → cycles_of b ≡ capture chains.now pattern.now r ∷ []) }
+{
+    let strobe = strobes_of(alloc, outputs)?;
+    let captured = plain(alloc, chains, pattern.inputs(), strobe)?;
+    Ok(captured)
 }
 
 /// The fault-free response to a pattern.
@@ -123,21 +136,29 @@ pub fn flush_bursts(
 {
     let first = flush(alloc, chains)?;
     let second = complement(alloc, &first)?;
-    let mut third = Vec::new(alloc);
-    push_zeros(cells, &mut third)?;
     let idle = no_strobes(alloc, cells)?;
-    let mut held_first = Vec::new(alloc);
-    push_known(&first, &mut held_first)?;
-    let mut held_second = Vec::new(alloc);
-    push_known(&second, &mut held_second)?;
+    let held_first = strobes_of(alloc, &first)?;
+    let held_second = strobes_of(alloc, &second)?;
     let mut bursts = Vec::new(alloc);
     let one = load(alloc, netlist, chains, &first, &idle, holds)?;
     bursts.push(one)?;
     let two = load(alloc, netlist, chains, &second, &held_first, holds)?;
     bursts.push(two)?;
-    let three = load(alloc, netlist, chains, &third, &held_second, holds)?;
+    let three = zero_load(alloc, netlist, chains, &held_second, holds)?;
     bursts.push(three)?;
     Ok(bursts)
+}
+
+/// How many cells the chains have: those of the netlist, and not many.
+pub fn cell_count(core: &Core, chains: &Chains) -> usize
+    requires { AreChainsOf core.now chains.now }
+    ensures count { result ≡ length (cells_of chains.now) }
+    ensures cells { length (cells core.now) ≡ length (cells_of chains.now) }
+    ensures few { length (cells core.now) < 2 ^ 32 }
+    ensures sound { IsSound core.now }
+{
+    core.netlist().sound();
+    core.netlist().cells().len()
 }
 
 fn vector_bursts(
@@ -152,16 +173,13 @@ fn vector_bursts(
     requires patterns { All (IsPatternOf core.now holds.now) patterns.now }
     ensures { IfOk result (λ v. AreVectors core.now holds.now chains.now patterns.now (all_cycles v.items)) }
 {
-    core.netlist().sound();
-    let cells = core.netlist().cells().len();
+    let cells = cell_count(core, chains);
     let mut bursts = flush_bursts(alloc, core.netlist(), chains, cells, holds)?;
     let mut held = no_strobes(alloc, cells)?;
     for pattern in patterns {
         push_test(alloc, core, chains, pattern, &mut held, &mut bursts, holds)?;
     }
-    let mut zeros = Vec::new(alloc);
-    push_zeros(cells, &mut zeros)?;
-    let last = load(alloc, core.netlist(), chains, &zeros, &held, holds)?;
+    let last = zero_load(alloc, core.netlist(), chains, &held, holds)?;
     bursts.push(last)?;
     Ok(bursts)
 }

@@ -83,6 +83,16 @@ pub fn push_known(bits: &[bool], values: &mut Vec<Tri>) -> Result<(), AllocError
     Ok(())
 }
 
+/// Strobes for these bits.
+pub fn strobes_of(alloc: Global, bits: &[bool]) -> Result<Vec<Tri>, AllocError>
+    ensures strobes { IfOk result (λ v. v.items ≡ map known bits.now) }
+    ensures size { IfOk result (λ v. length v.items ≡ length bits.now) }
+{
+    let mut strobes = Vec::new(alloc);
+    push_known(bits, &mut strobes)?;
+    Ok(strobes)
+}
+
 impl Burst {
     ghost use Rattle.scan_play.specs.Bursts.{cycle_of};
 
@@ -99,7 +109,7 @@ impl Burst {
     }
 
     /// What the outputs are strobed for in a cycle.
-    pub(crate) fn read_strobe(&self, t: usize, strobe: &mut Vec<Tri>) -> Result<(), AllocError>
+    pub fn read_strobe(&self, t: usize, strobe: &mut Vec<Tri>) -> Result<(), AllocError>
         requires { t < self.now.count }
         ensures { OnOk result (strobe.new.items ≡ (cycle_of self.now t).strobe) }
     {

@@ -19,16 +19,16 @@ mod played;
 mod playing;
 mod stepping;
 
-pub use applying::{capture, flush_bursts, respond, single, vectors_of};
-pub use cycles::{Burst, Cycle, Vectors, push_known};
-pub use flushing::push_zeros;
+pub use applying::{capture, cell_count, flush_bursts, plain, respond, vectors_of};
+pub use cycles::{Burst, Cycle, Vectors, push_known, strobes_of};
+pub use flushing::{complement, flush};
 pub use judging::{Judge, Strict};
 pub use laws::{
     detected_fails, good_passes, no_sequence_detects_redundant, play_tells_the_truth, runs_once,
     some_run, strobes_known, three_values_above_runs, undetected_passes, vectors_counted,
     vectors_decide, vectors_fit, vectors_obey,
 };
-pub use loading::{load, no_strobes};
+pub use loading::{bit_in, load, no_strobes, value_out, zero_load};
 pub use planning::Plan;
 pub use played::Played;
 pub use playing::{play, play_before};

@@ -9,12 +9,13 @@ ghost use Rattle.scan_play.specs.Shifts.{by_chain, column, word_in, word_out, he
 ghost use Rattle.scan_play.specs.Bursts.{cycles_of};
 
 use crate::cycles::Burst;
+use crate::flushing::push_zeros;
 use chain_stitch::Chains;
 use netlist::{Holds, Netlist, Tri};
 use std::alloc::{AllocError, Global};
 
 /// Character t of the word of m characters that brings these bits to a chain.
-fn bit_in(own: &[bool], m: usize, t: usize) -> bool
+pub fn bit_in(own: &[bool], m: usize, t: usize) -> bool
     requires within { t < m }
     requires short { length own.now ≤ m }
     ensures { result ≡ slice_index_or (word_in m own.now) t false }
@@ -27,7 +28,7 @@ fn bit_in(own: &[bool], m: usize, t: usize) -> bool
 }
 
 /// Character t of the word of m characters that comes out of a chain that holds this.
-fn value_out(own: &[Tri], m: usize, t: usize) -> Tri
+pub fn value_out(own: &[Tri], m: usize, t: usize) -> Tri
     requires within { t < m }
     requires short { length own.now ≤ m }
     ensures { result ≡ slice_index_or (word_out m own.now) t X }
@@ -176,4 +177,23 @@ pub fn load(
         outs,
         count,
     })
+}
+
+/// A load of 0s, which strobes what the cells should hold before.
+pub fn zero_load(
+    alloc: Global,
+    netlist: &Netlist,
+    chains: &Chains,
+    held: &[Tri],
+    holds: &Holds,
+) -> Result<Burst, AllocError>
+    requires holds { AreHoldsOf netlist.now holds.now }
+    requires held { length held.now ≡ length (cells_of chains.now) }
+    requires few { length held.now < 2 ^ 32 }
+    ensures { IfOk result (λ b. cycles_of b ≡ load netlist.now holds.now chains.now (replicate (length (cells_of chains.now)) false) held.now) }
+{
+    let mut zeros = Vec::new(alloc);
+    push_zeros(held.len(), &mut zeros)?;
+    let last = load(alloc, netlist, chains, &zeros, held, holds)?;
+    Ok(last)
 }

@@ -11,14 +11,13 @@ ghost use Rattle.scan_play.specs.Vectors.{Responds, flush};
 ghost use Rattle.stil_patterns.specs.inner.Added.{AreAll, IsAdded, flush_items};
 
 use crate::capturing::push_capture;
-use crate::flushing::{complement, flush};
-use crate::loading::{Room, push_load};
+use crate::loading::{Room, push_load, push_zero_load};
 use chain_stitch::Chains;
 use cubes::Pattern;
 use netlist::{Bits, Core, Holds, Netlist, Tri};
+use scan_play::{cell_count, complement, flush, push_known, strobes_of};
 use std::alloc::{AllocError, Global};
 use stil_write::Items;
-use tri::known;
 
 /// Room for the values of all signals and of a gate's pins, and for a response.
 #[derive(Drop)]
@@ -41,16 +40,6 @@ fn bench_of(alloc: Global, netlist: &Netlist) -> Result<Bench, AllocError>
         outputs: Vec::new(alloc),
         cells: Vec::new(alloc),
     })
-}
-
-/// Adds these bits as values.
-fn push_known(bits: &[bool], values: &mut Vec<Tri>) -> Result<(), AllocError>
-    ensures { OnOk result (values.new.items ≡ values.old.items ++ map known bits.now) }
-{
-    for bit in bits {
-        values.push(known(*bit))?;
-    }
-    Ok(())
 }
 
 /// The fault-free response to a pattern.
@@ -115,15 +104,12 @@ pub fn push_flush(
 {
     let first = flush(alloc, chains)?;
     let second = complement(alloc, &first)?;
-    let zeros = vec![in alloc; false; cells]?;
-    let mut held = vec![in alloc; Tri::X; cells]?;
-    push_load(items, room, chains, &first, &held)?;
-    held.clear();
-    push_known(&first, &mut held)?;
-    push_load(items, room, chains, &second, &held)?;
-    held.clear();
-    push_known(&second, &mut held)?;
-    push_load(items, room, chains, &zeros, &held)?;
+    let idle = vec![in alloc; Tri::X; cells]?;
+    let held_first = strobes_of(alloc, &first)?;
+    let held_second = strobes_of(alloc, &second)?;
+    push_load(items, room, chains, &first, &idle)?;
+    push_load(items, room, chains, &second, &held_first)?;
+    push_zero_load(alloc, items, room, chains, &held_second)?;
     Ok(())
 }
 
@@ -139,20 +125,17 @@ pub(crate) fn items_of(
     requires patterns { All (IsPatternOf core.now holds.now) patterns.now }
     ensures { IfOk result (λ items. AreAll core.now chains.now patterns.now items) }
 {
-    let netlist = core.netlist();
-    netlist.sound();
-    let cells = netlist.cells().len();
+    let cells = cell_count(core, chains);
     let mut items = Items::new(alloc);
     let mut room = Room::new(alloc);
     push_flush(alloc, &mut items, &mut room, chains, cells)?;
     let mut held = vec![in alloc; Tri::X; cells]?;
-    let mut bench = bench_of(alloc, netlist)?;
+    let mut bench = bench_of(alloc, core.netlist())?;
     for pattern in patterns {
         push_test(
             &mut items, &mut room, core, chains, pattern, &mut held, &mut bench,
         )?;
     }
-    let zeros = vec![in alloc; false; cells]?;
-    push_load(&mut items, &mut room, chains, &zeros, &held)?;
+    push_zero_load(alloc, &mut items, &mut room, chains, &held)?;
     Ok(items)
 }

@@ -9,7 +9,6 @@
 
 mod applying;
 mod capturing;
-mod flushing;
 pub mod laws;
 mod loading;
 mod names;
@@ -21,8 +20,7 @@ mod words;
 
 pub use applying::push_flush;
 pub use capturing::{push_capture, push_launch};
-pub use loading::{Room, push_load};
-pub use names::{chain_names, input_names, output_names, shift_word};
+pub use loading::{Room, push_load, push_zero_load};
 pub use obeying::are_patterns;
-pub use pattern_files::stil_of;
+pub use pattern_files::{parts_with, stil_of};
 pub use patterns::patterns_of;

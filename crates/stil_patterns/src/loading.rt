@@ -1,5 +1,5 @@
 //! Calls that load the chains.
-ghost use Rattle.std.specs.Prelude.{◌≡◌, ◌^◌, ◌<◌, ◌++◌, length, map, OnOk};
+ghost use Rattle.std.specs.Prelude.{◌≡◌, ◌^◌, ◌<◌, ◌++◌, false, length, map, replicate, OnOk};
 ghost use Rattle.chain_stitch.specs.Chains.{cells_of, longest_of};
 ghost use Rattle.scan_play.specs.Shifts.{by_chain, word_in, word_out};
 ghost use Rattle.stil_vectors.specs.TestFiles.{load_items, text_of_bits, text_of_values};
@@ -80,5 +80,22 @@ pub fn push_load(
     push_ins(room, chains, bits)?;
     push_outs(room, chains, held)?;
     items.push(ItemKind::Call, &room.words)?;
+    Ok(())
+}
+
+/// Adds a load of 0s, which strobes what the cells should hold before.
+pub fn push_zero_load(
+    alloc: Global,
+    items: &mut Items,
+    room: &mut Room,
+    chains: &Chains,
+    held: &[Tri],
+) -> Result<(), AllocError>
+    requires held { length held.now ≡ length (cells_of chains.now) }
+    requires few { length held.now < 2 ^ 32 }
+    ensures { OnOk result (items.new ≡ items.old ++ load_items chains.now (replicate (length (cells_of chains.now)) false) held.now) }
+{
+    let zeros = vec![in alloc; false; held.len()]?;
+    push_load(items, room, chains, &zeros, held)?;
     Ok(())
 }

@@ -27,7 +27,11 @@ fn push_names(names: &mut Texts, netlist: &Netlist, ids: &[SignalId]) -> Result<
 }
 
 /// The inputs, and the scan enable where there are chains.
-pub fn input_names(alloc: Global, netlist: &Netlist, chains: usize) -> Result<Texts, AllocError>
+pub(crate) fn input_names(
+    alloc: Global,
+    netlist: &Netlist,
+    chains: usize,
+) -> Result<Texts, AllocError>
     ensures { IfOk result (λ names. names ≡ map (name_of netlist.now) netlist.now.inputs ++ where_chained chains (codes "SC__se")) }
 {
     netlist.sound();
@@ -40,7 +44,7 @@ pub fn input_names(alloc: Global, netlist: &Netlist, chains: usize) -> Result<Te
 }
 
 /// What the tester calls the outputs: one that is an input too has a name of its own.
-pub fn output_names(alloc: Global, netlist: &Netlist) -> Result<Texts, NoMemory>
+pub(crate) fn output_names(alloc: Global, netlist: &Netlist) -> Result<Texts, NoMemory>
     ensures { IfOk result (λ names. names ≡ map (output_name netlist.now) netlist.now.outputs) }
 {
     netlist.sound();
@@ -52,7 +56,7 @@ pub fn output_names(alloc: Global, netlist: &Netlist) -> Result<Texts, NoMemory>
     Ok(names)
 }
 
-pub fn chain_names(
+pub(crate) fn chain_names(
     alloc: Global,
     netlist: &Netlist,
     chains: &Chains,
@@ -78,7 +82,7 @@ fn idle_char(held: Option<bool>) -> u8
 }
 
 /// What the inputs have while the chains shift; nothing without chains.
-pub fn shift_word(
+pub(crate) fn shift_word(
     alloc: Global,
     inputs: usize,
     holds: &Holds,

@@ -1,11 +1,12 @@
 //! The file of patterns.
-ghost use Rattle.std.specs.Prelude.{IfOk};
+ghost use Rattle.std.specs.Prelude.{◌≡◌, IfOk};
 ghost use Rattle.std.specs.List.{All};
 ghost use Rattle.netlist.specs.Designs.{IsDesign};
 ghost use Rattle.netlist.specs.Holds.{AreHoldsOf};
 ghost use Rattle.cubes.specs.Cubes.{IsPatternOf};
 ghost use Rattle.scan_insert.specs.Scanned.{AreChainsOf};
 ghost use Rattle.stil_write.specs.Parts.{file_of};
+ghost use Rattle.stil_vectors.specs.TestFiles.{file_with};
 ghost use Rattle.stil_patterns.specs.Tests.{IsFileOf};
 
 use crate::applying::items_of;
@@ -14,20 +15,19 @@ use chain_stitch::Chains;
 use cubes::Pattern;
 use netlist::{Core, Holds, NoMemory};
 use std::alloc::Global;
-use stil_write::{StilFile, StilParts};
+use stil_write::{Items, StilFile, StilParts};
 
-/// The parts of the patterns' file.
-fn parts_of(
+/// The parts of a file of these items.
+pub fn parts_with(
     alloc: Global,
     core: &Core,
     chains: &Chains,
-    patterns: &[Pattern],
     holds: &Holds,
+    items: Items,
 ) -> Result<StilParts, NoMemory>
     requires holds { AreHoldsOf core.now holds.now }
     requires chains { AreChainsOf core.now chains.now }
-    requires patterns { All (IsPatternOf core.now holds.now) patterns.now }
-    ensures { IfOk result (λ parts. IsFileOf core.now holds.now chains.now patterns.now (file_of parts)) }
+    ensures { IfOk result (λ parts. file_of parts ≡ file_with core.now holds.now chains.now items) }
 {
     let netlist = core.netlist();
     netlist.sound();
@@ -43,9 +43,6 @@ fn parts_of(
     let Ok(word) = shift_word(alloc, inputs, holds, chains) else {
         return Err(NoMemory);
     };
-    let Ok(items) = items_of(alloc, core, chains, patterns, holds) else {
-        return Err(NoMemory);
-    };
     Ok(StilParts {
         pi,
         po,
@@ -53,6 +50,26 @@ fn parts_of(
         shift_word: word,
         items,
     })
+}
+
+/// The parts of the patterns' file.
+fn parts_of(
+    alloc: Global,
+    core: &Core,
+    chains: &Chains,
+    patterns: &[Pattern],
+    holds: &Holds,
+) -> Result<StilParts, NoMemory>
+    requires holds { AreHoldsOf core.now holds.now }
+    requires chains { AreChainsOf core.now chains.now }
+    requires patterns { All (IsPatternOf core.now holds.now) patterns.now }
+    ensures { IfOk result (λ parts. IsFileOf core.now holds.now chains.now patterns.now (file_of parts)) }
+{
+    let Ok(items) = items_of(alloc, core, chains, patterns, holds) else {
+        return Err(NoMemory);
+    };
+    let parts = parts_with(alloc, core, chains, holds, items)?;
+    Ok(parts)
 }
 
 /// The file of patterns, which strobes the responses of the fault-free netlist. It is refused for want of memory alone.

@@ -1,12 +1,12 @@
 //! Words: bits and strobes as characters.
-ghost use Rattle.std.specs.Prelude.{◌≡◌, ◌-◌, ◌≤◌, ◌<◌, ◌++◌, false, length, map, replicate, slice_index_or, OnOk};
+ghost use Rattle.std.specs.Prelude.{◌≡◌, ◌≤◌, ◌++◌, length, map, OnOk};
 ghost use Rattle.netlist.specs.ThreeValues.{known};
-ghost use Rattle.netlist.specs.declared.kinds.Tri.TheVariants.{X};
 ghost use Rattle.scan_play.specs.Shifts.{word_in, word_out};
 ghost use Rattle.stil_write.specs.StilFiles.{where_chained};
 ghost use Rattle.stil_vectors.specs.TestFiles.{char_of_bit, char_of_value, text_of_bits, text_of_values};
 
 use netlist::Tri;
+use scan_play::{bit_in, value_out};
 use std::alloc::AllocError;
 use tri::known;
 
@@ -44,31 +44,6 @@ pub(crate) fn push_strobes(word: &mut Vec<u8>, bits: &[bool]) -> Result<(), Allo
         word.push(char_of_value(known(*bit)))?;
     }
     Ok(())
-}
-
-/// Character t of the word of m characters that brings these bits to a chain.
-fn bit_in(own: &[bool], m: usize, t: usize) -> bool
-    requires within { t < m }
-    requires short { length own.now ≤ m }
-    ensures { result ≡ slice_index_or (word_in m own.now) t false }
-{
-    let place = m - 1 - t;
-    if place < own.len() {
-        return own[place];
-    }
-    false
-}
-
-/// Character t of the word of m characters that comes out of a chain that holds this.
-fn value_out(own: &[Tri], m: usize, t: usize) -> Tri
-    requires within { t < m }
-    requires short { length own.now ≤ m }
-    ensures { result ≡ slice_index_or (word_out m own.now) t X }
-{
-    if t < own.len() {
-        return own[own.len() - 1 - t];
-    }
-    Tri::X
 }
 
 /// Puts the word that brings these bits to a chain in the place of another.

@@ -1,7 +1,7 @@
 -- The cycles of a call.
-use Rattle.std.proofs.Common.{◌≡◌, ◌∙◌, ◌+◌, ◌*◌, ◌<◌, ◌≤◌, ℕ, zero, suc, Bool, true, false, List, [], ◌∷◌, ◌++◌, ap, sym, refl, subst, length, take, drop, map, get_or, arith, replicate, length-append}
+use Rattle.std.proofs.Common.{◌≡◌, ◌∙◌, ◌+◌, ◌*◌, ◌<◌, ◌≤◌, ℕ, zero, suc, Bool, true, false, List, [], ◌∷◌, ◌++◌, ap, sym, refl, subst, length, take, drop, map, arith, replicate, length-append}
 use Rattle.std.specs.Prelude.{Some, slice_get, ⊤}
-use Rattle.std.specs.List.{All, AllZip, flat_map}
+use Rattle.std.specs.List.{All, flat_map}
 use Rattle.std.proofs.lemmas.List.{length-replicate, length-take, length-drop}
 use Rattle.std.proofs.lemmas.Option.{get_or_from_slice_get}
 use Rattle.std.proofs.lemmas.Slice.Zip.{AllZip-long}
@@ -13,28 +13,13 @@ use Rattle.scan_play.specs.Cycles.{Cycle}
 use Rattle.scan_play.specs.Bursts.{cycle_at}
 use Rattle.scan_play.specs.Shifts.{column}
 use Rattle.scan_play.proofs.BurstLemmas.{enough}
+use Rattle.scan_play.proofs.BurstLemmas.{map_numbers, same_cycle}
 use Rattle.scan_play.proofs.LoadLemmas.{row_of_flat}
 use Rattle.stil_write.specs.declared.forms.Form.{Form}
 use Rattle.stil_write.specs.declared.forms.CharKind.TheVariants as values
 use Rattle.stil_write.specs.StilFiles.{Call, IsStilCall, IsItem, IsStilFile, IsWord, Item, StilFile, Vector, call_forms, item_at}
 use Rattle.stil_vectors.specs.FileVectors.{driven_bit, bits_of, call_cycle, call_size, cycles_of_item, strobed_value, values_of}
 use Rattle.stil_vectors.proofs.CharLemmas.{all_at, length-chars, zip_all}
-
-map_numbers : (f g : ℕ → Cycle) (first count : ℕ) → ((t : ℕ) → t < count → f (first + t) ≡ g (first + t)) → map f (numbers_from first count) ≡ map g (numbers_from first count)
-map_numbers f g first zero h = refl
-map_numbers f g first (suc count) h =
-    let none : first + 0 ≡ first = omega arith in
-    let here : f first ≡ g first = subst (λ k. f k ≡ g k) none (h 0 (omega arith)) in
-    let on : (t : ℕ) → t < count → f (first + 1 + t) ≡ g (first + 1 + t) = λ t l.
-    let at : first + suc t ≡ first + 1 + t = omega arith in subst (λ k. f k ≡ g k) at (h (suc t) (omega (arith, l))) in
-    ap (λ x. x ∷ map f (numbers_from (first + 1) count)) here ∙ ap (λ xs. g first ∷ xs) (map_numbers f g (first + 1) count on)
-
-cycle : List Bool → List Tri → Bool → Cycle
-cycle d s p = record { drive = d; strobe = s; pulse = p }
-
-pub same_cycle : (d d' : List Bool) (s s' : List Tri) (p p' : Bool) → d ≡ d' → s ≡ s' → p ≡ p' → ◌≡◌ {A = Cycle} (record { drive = d; strobe = s; pulse = p }) (record { drive = d'; strobe = s'; pulse = p' })
-unfolding cycle
-same_cycle d d' s s' p p' x y z = ap (λ u. cycle u s p) x ∙ (ap (λ u. cycle d' u p) y ∙ ap (cycle d' s') z)
 
 -- what stays and what changes, cycle by cycle
 pub burst_cycles : (drive d : List Bool) (strobe s : List Tri) (pulse : Bool) (width count : ℕ) (ins : List Bool) (outs : List Tri) (fin : ℕ → List Bool) (fout : ℕ → List Tri)

@@ -1,7 +1,7 @@
 -- The vectors of a test's file are those of the test.
-use Rattle.std.proofs.Common.{◌≡◌, ◌∙◌, ◌+◌, ◌-◌, ◌<◌, ◌≤◌, ℕ, zero, suc, max, Bool, true, false, List, [], ◌∷◌, ◌++◌, ap, sym, refl, subst, append_assoc, append-nil, length, take, drop, map, get_or, arith, replicate, reverse, length-append, not}
+use Rattle.std.proofs.Common.{◌≡◌, ◌∙◌, ◌+◌, ◌-◌, ◌≤◌, ℕ, zero, suc, Bool, true, false, List, [], ◌∷◌, ◌++◌, ap, refl, append_assoc, append-nil, length, take, drop, map, get_or, arith, replicate, reverse, length-append, not}
 use Rattle.std.specs.Prelude.{codes, ◌==◌}
-use Rattle.std.specs.List.{flat_map, zip}
+use Rattle.std.specs.List.{flat_map}
 use Rattle.std.proofs.lemmas.List.{length-replicate, length-map, length-reverse, length-take, map-append}
 use Rattle.std.proofs.lemmas.List.Concat.{flat_map-append}
 use Rattle.plain_text.specs.Texts.{Text}
@@ -16,11 +16,13 @@ use Rattle.scan_insert.specs.Names.{numbers_from, output_name}
 use Rattle.scan_play.specs.Cycles.{Cycle}
 use Rattle.scan_play.specs.Shifts.{by_chain, column, idle_inputs, load, shift, word_in, word_out}
 use Rattle.scan_play.specs.Vectors.{Response, applied, capture, flush, vectors}
-use Rattle.stil_write.specs.StilFiles.{Call, Item, StilFile, Vector, where_chained}
-use Rattle.stil_vectors.specs.FileVectors.{driven_bit, bits_of, call_cycle, call_size, cycles_of_item, has_pulse, together, strobed_value, values_of, vector_cycle, vectors_in}
+use Rattle.scan_play.specs.inner.Applied.{plain_cycle}
+use Rattle.scan_play.proofs.ApplyLemmas.{capture_plain}
+use Rattle.scan_play.proofs.BurstLemmas.{same_cycle}
+use Rattle.stil_write.specs.StilFiles.{Item, StilFile, Vector, where_chained}
+use Rattle.stil_vectors.specs.FileVectors.{driven_bit, bits_of, call_cycle, call_size, cycles_of_item, has_pulse, together, strobed_value, values_of}
 use Rattle.stil_vectors.specs.Laws.{TestVectors}
-use Rattle.stil_vectors.specs.TestFiles.{applied_items, capture_item, char_of_bit, char_of_value, load_items, load_words, shift_word_of, test_file, test_items, text_of_bits, text_of_values}
-use Rattle.stil_vectors.proofs.CallLemmas.{same_cycle}
+use Rattle.stil_vectors.specs.TestFiles.{applied_items, capture_item, char_of_bit, char_of_value, load_items, load_words, shift_word_of, test_file, text_of_bits, text_of_values}
 use Rattle.stil_vectors.proofs.WidthLemmas.{back_of, drop_more, front_of}
 
 -- ---- characters
@@ -139,15 +141,6 @@ capture_words n pi po = pi ∷ (replicate n (codes "0") ++ (where_chained n (cod
 abbrev pub vector_words : List (List ℕ) → List Bool → List Tri → List Text
 vector_words chains inputs strobes = capture_words (length chains) (text_of_bits (inputs ++ where_chained (length chains) false)) (text_of_values strobes)
 
--- a cycle with scan off that strobes these values
-abbrev pub plain_cycle : List (List ℕ) → List Bool → List Tri → Cycle
-plain_cycle [] inputs strobes = record { drive = inputs; strobe = strobes; pulse = false }
-plain_cycle (chain ∷ chains) inputs strobes = record {
-  drive = inputs ++ false ∷ replicate (length (chain ∷ chains)) false;
-  strobe = strobes ++ replicate (length (chain ∷ chains)) X;
-  pulse = true;
-}
-
 vector_made : (chains : List (List ℕ)) (inputs : List Bool) (strobes : List Tri) → vector_by (length chains) (vector_words chains inputs strobes) ≡ plain_cycle chains inputs strobes
 vector_made [] inputs strobes =
     same_cycle _ _ _ _ _ _
@@ -177,10 +170,6 @@ vector_made (chain ∷ chains) inputs strobes =
 pub vector_vectors : (chains : List (List ℕ)) (f : StilFile) (inputs : List Bool) (strobes : List Tri) → length f.chains ≡ length chains
     → cycles_of_item f (Vector (vector_words chains inputs strobes)) ≡ plain_cycle chains inputs strobes ∷ []
 vector_vectors chains f inputs strobes e = ap (λ c. c ∷ []) (ap (λ k. vector_by k (vector_words chains inputs strobes)) e ∙ vector_made chains inputs strobes)
-
-capture_plain : (chains : List (List ℕ)) (p : Pattern) (r : Response) → plain_cycle chains p.inputs (map known r.outputs) ≡ capture chains p r
-capture_plain [] p r = refl
-capture_plain (chain ∷ chains) p r = refl
 
 pub capture_vectors : (chains : List (List ℕ)) (f : StilFile) (p : Pattern) (r : Response) → length f.chains ≡ length chains → cycles_of_item f (capture_item chains p r) ≡ capture chains p r ∷ []
 capture_vectors chains f p r e = vector_vectors chains f p.inputs (map known r.outputs) e ∙ ap (λ c. c ∷ []) (capture_plain chains p r)

@@ -23,7 +23,8 @@ use Rattle.stil_write.specs.StilFiles.{Call, IsItem, IsStilFile, IsWord, Item, S
 use Rattle.stil_write.proofs.ItemLemmas.{length-numbered}
 use Rattle.stil_vectors.specs.FileVectors.{IsPulsed, bits_of, has_pulse, call_cycle, cycles_of_item, together, values_of, vector_cycle, vectors_in}
 use Rattle.stil_vectors.specs.Fitting.{FitsNetlist, IsCycleFor}
-use Rattle.stil_vectors.proofs.CallLemmas.{CallWords, call_item, call_words, same_cycle}
+use Rattle.scan_play.proofs.BurstLemmas.{same_cycle}
+use Rattle.stil_vectors.proofs.CallLemmas.{CallWords, call_item, call_words}
 use Rattle.stil_vectors.proofs.CharLemmas.{length-chars, take_at, zip_has}
 
 -- ---- the words of a vector

@@ -66,11 +66,15 @@ abbrev pub shift_word_of : Holds → List (List ℕ) → Text
 shift_word_of holds [] = []
 shift_word_of holds (chain ∷ chains) = text_of_bits (idle_inputs holds ++ true ∷ [])
 
-abbrev pub test_file : Netlist → Holds → List (List ℕ) → List (Pattern × Response) → StilFile
-test_file n holds chains tests = record {
+-- A file of items whose signals, chains and idle inputs are a netlist's.
+abbrev pub file_with : Netlist → Holds → List (List ℕ) → List Item → StilFile
+file_with n holds chains items = record {
   pi = map (name_of n) n.inputs ++ where_chained (length chains) (codes "SC__se");
   po = map (output_name n) n.outputs;
   chains = map (map (name_of n)) chains;
   shift_word = shift_word_of holds chains;
-  items = test_items chains tests;
+  items = items;
 }
+
+abbrev pub test_file : Netlist → Holds → List (List ℕ) → List (Pattern × Response) → StilFile
+test_file n holds chains tests = file_with n holds chains (test_items chains tests)

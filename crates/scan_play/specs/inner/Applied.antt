@@ -1,5 +1,5 @@
 -- One test as it is applied.
-use Rattle.std.specs.Prelude.{ℕ, ◌≡◌, false, not, List, [], ◌∷◌, ◌++◌, map, length, replicate, None}
+use Rattle.std.specs.Prelude.{ℕ, ◌≡◌, Bool, true, false, not, List, [], ◌∷◌, ◌++◌, map, length, replicate, None}
 use Rattle.std.specs.List.{AllZip}
 use Rattle.netlist.specs.declared.kinds.Tri.{Tri}
 use Rattle.netlist.specs.Netlist.{Netlist}
@@ -28,9 +28,24 @@ flushing n holds chains =
     ++ load n holds chains (map not (flush chains)) (map known (flush chains))
     ++ load n holds chains (replicate (length (cells_of chains)) false) (map known (map not (flush chains)))
 
--- The cycles so far apply these patterns; then the cells hold what the next load has to strobe.
-pub record IsBegun (n : Netlist) (holds : Holds) (chains : List (List ℕ)) (patterns : List Pattern) (cycles : List Cycle) (held : List Tri) : Type 0 where
+-- What stands so far, cycles or items of a file, applies these patterns to so many cells; then these hold what the next load has to strobe.
+-- `answers` says what a response to a pattern is, `on` what the tests to come add, `all` what those of the whole list come to.
+pub record AreApplied {E : Type 0} (answers : Pattern → Response → Type 0) (on : List Tri → List (Pattern × Response) → List E) (all : List (Pattern × Response) → List E)
+    (cells : ℕ) (patterns : List Pattern) (made : List E) (held : List Tri) : Type 0 where
   pub tests : List (Pattern × Response)
-  pub respond : AllZip (λ p (test : Pattern × Response). (test.0 ≡ p) × Responds n None p test.1) patterns tests
-  pub whole : (rest : List (Pattern × Response)) → cycles ++ applied n holds chains held rest ≡ vectors n holds chains (tests ++ rest)
-  pub size : length held ≡ length (cells_of chains)
+  pub respond : AllZip (λ p (test : Pattern × Response). (test.0 ≡ p) × answers p test.1) patterns tests
+  pub whole : (rest : List (Pattern × Response)) → made ++ on held rest ≡ all (tests ++ rest)
+  pub size : length held ≡ cells
+
+-- the cycles so far
+abbrev pub IsBegun : Netlist → Holds → List (List ℕ) → List Pattern → List Cycle → List Tri → Type 0
+IsBegun n holds chains patterns cycles held = AreApplied (Responds n None) (applied n holds chains) (vectors n holds chains) (length (cells_of chains)) patterns cycles held
+
+-- A cycle with scan off: these bits at the functional inputs and strobes at the functional outputs, 0s and none at the others; a pulse where there are chains.
+abbrev pub plain_cycle : List (List ℕ) → List Bool → List Tri → Cycle
+plain_cycle [] inputs strobes = record { drive = inputs; strobe = strobes; pulse = false }
+plain_cycle (chain ∷ chains) inputs strobes = record {
+  drive = inputs ++ false ∷ replicate (length (chain ∷ chains)) false;
+  strobe = strobes ++ replicate (length (chain ∷ chains)) X;
+  pulse = true;
+}

@@ -8,6 +8,7 @@ use Rattle.netlist.specs.ThreeValues.{known}
 use Rattle.cubes.specs.Cubes.{Pattern}
 use Rattle.chain_stitch.specs.Chains.{cells_of}
 use Rattle.scan_play.specs.Vectors.{Response, Responds, flush}
+use Rattle.scan_play.specs.inner.Applied.{AreApplied}
 use Rattle.stil_write.specs.StilFiles.{Item}
 use Rattle.stil_vectors.specs.TestFiles.{applied_items, capture_item, load_items, test_items}
 
@@ -18,12 +19,9 @@ pub record IsAdded (n : Netlist) (chains : List (List ℕ)) (p : Pattern) (held 
   pub items : new ≡ old ++ (load_items chains p.cells held ++ capture_item chains p response ∷ [])
   pub taken : after ≡ map known response.cells
 
--- The items so far apply these patterns; then the cells hold what the next load has to strobe.
-pub record AreBegun (n : Netlist) (chains : List (List ℕ)) (patterns : List Pattern) (items : List Item) (held : List Tri) : Type 0 where
-  pub tests : List (Pattern × Response)
-  pub respond : AllZip (λ p (test : Pattern × Response). (test.0 ≡ p) × Responds n None p test.1) patterns tests
-  pub whole : (rest : List (Pattern × Response)) → items ++ applied_items chains held rest ≡ test_items chains (tests ++ rest)
-  pub size : length held ≡ length (cells_of chains)
+-- the items so far
+abbrev pub AreBegun : Netlist → List (List ℕ) → List Pattern → List Item → List Tri → Type 0
+AreBegun n chains patterns items held = AreApplied (Responds n None) (applied_items chains) (test_items chains) (length (cells_of chains)) patterns items held
 
 -- the three loads that flush the chains
 abbrev pub flush_items : List (List ℕ) → List Item

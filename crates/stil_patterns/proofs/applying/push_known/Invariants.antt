@@ -1,6 +1,0 @@
-use Rattle.std.proofs.Common.{◌≡◌, ◌++◌, map, take}
-use Rattle.netlist.specs.ThreeValues.{known}
-use Rattle.stil_patterns.proofs.applying.push_known.Given as goal
-
-abbrev pub invariant-loop-bit : goal.invariant-loop-bit
-invariant-loop-bit l = l.values.items ≡ l.initial.values.items ++ map known (take l.bit-index l.bits)

@@ -1,0 +1,8 @@
+use Rattle.stil_write.specs.Parts.{file_of}
+use Rattle.stil_patterns.proofs.AddLemmas.{filed}
+use Rattle.stil_patterns.proofs.pattern_files.parts_of.Goals as goal
+
+pub returns : goal.returns
+returns c =
+    filed c.args.core.now c.args.holds.now c.args.chains.now c.args.patterns.now c.in-Ok.items (file_of c.in_ok-parts.parts)
+    c.requires.holds c.in-Ok.ensures c.in_ok-parts.ensures
