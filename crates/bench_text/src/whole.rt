@@ -13,6 +13,7 @@ ghost use Rattle.bench_text.specs.inner.Drafted.{names_seen, notes_in, signals_i
 use crate::draft::Draft;
 use crate::numbered::Numbered;
 use crate::refusal::{BenchKind, BenchRefusal, Names};
+use netlist::{MOST_DESIGN_SIGNALS, MOST_SIGNALS};
 
 impl Names {
     /// How many signals a text may have.
@@ -20,8 +21,8 @@ impl Names {
         ensures { result ≡ most_in_text self }
     {
         match self {
-            Names::Design => 1_000_000,
-            Names::Scanned => 8_000_000,
+            Names::Design => MOST_DESIGN_SIGNALS,
+            Names::Scanned => MOST_SIGNALS,
         }
     }
 }
