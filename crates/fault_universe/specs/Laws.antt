@@ -4,6 +4,7 @@ use Rattle.std.specs.List.{slice_get, Contains}
 use Rattle.netlist.specs.declared.lines.Fault.{Fault}
 use Rattle.netlist.specs.Netlist.{Netlist, signals}
 use Rattle.netlist.specs.Conditions.{IsSound}
+use Rattle.netlist.specs.Designs.{most_design_signals}
 use Rattle.netlist.specs.Gates.{most_pins}
 use Rattle.fault_universe.specs.Universe.{universe_of}
 use Rattle.fault_universe.specs.Texts.{fault_text}
@@ -18,6 +19,10 @@ TextsDiffer =
 -- at most so many for each signal: its stem, a branch for each pin of its definition, and one for an output, each at 0 and at 1
 abbrev pub faults_a_signal : ℕ
 faults_a_signal = 2 * (most_pins + 2)
+
+-- and so the most that a design has
+abbrev pub most_design_faults : ℕ
+most_design_faults = faults_a_signal * most_design_signals
 
 abbrev pub FewFaults : Type 0
 FewFaults = (n : Netlist) → IsSound n → length (universe_of n) ≤ faults_a_signal * length (signals n)

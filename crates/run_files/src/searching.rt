@@ -7,6 +7,7 @@ ghost use Rattle.netlist.specs.Designs.{IsDesign};
 ghost use Rattle.netlist.specs.Lines.{IsLineOf};
 ghost use Rattle.netlist.specs.Holds.{AreHoldsOf};
 ghost use Rattle.fault_collapse.specs.Classes.{AreClasses};
+ghost use Rattle.fault_universe.specs.Laws.{most_design_faults};
 ghost use Rattle.list_core.specs.Subjects.{HaveLines, class_count};
 ghost use Rattle.reverse_compact.specs.Finished.{AreFinished};
 ghost use Rattle.run_files.specs.inner.Verdicts.{AreVerdicts};
@@ -66,7 +67,7 @@ fn search_named<J: About + Send + Sync, E: Engine + Sync, G: Gate + Sync, R: Thr
 ) -> Result<Finished, NoMemory>
     requires core { core.now ≡ J.subject.netlist }
     requires classes { classes.now ≡ J.subject.classes }
-    requires few { class_count J.subject ≤ 2052000000 }
+    requires few { class_count J.subject ≤ most_design_faults }
     requires limit { (plan.limit ≡ J.subject.limit) × (1 ≤ plan.limit) }
     requires holds { (holds.now ≡ J.subject.holds) × AreHoldsOf core.now holds.now }
     requires lines { HaveLines J.subject }
@@ -93,7 +94,7 @@ fn search_named<J: About + Send + Sync, E: Engine + Sync, G: Gate + Sync, R: Thr
 fn represented(core: &Core, classes: &Classes)
     requires design { IsDesign core.now }
     requires classes { AreClasses core.now classes.now }
-    ensures few { length classes.now.representatives ≤ 2052000000 }
+    ensures few { length classes.now.representatives ≤ most_design_faults }
     ensures lines { All (λ (f : FaultOf). IsLineOf core.now f.line) classes.now.representatives }
 {
     core.netlist().sound();

@@ -1,7 +1,7 @@
 //! Scan insertion.
 ghost use Rattle.std.specs.Prelude.{◌≡◌, ◌<◌, ◌≤◌, [], length, IfOk};
 ghost use Rattle.netlist.specs.Conditions.{IsSound, whole};
-ghost use Rattle.netlist.specs.Designs.{IsDesign};
+ghost use Rattle.netlist.specs.Designs.{IsDesign, most_design_signals};
 ghost use Rattle.netlist.specs.Netlist.{signals};
 ghost use Rattle.scan_insert.specs.Scanned.{AreChainsOf, insertion_of, line_at};
 ghost use Rattle.netlist.specs.Lines.{signal_of};
@@ -83,7 +83,7 @@ fn scan(alloc: Global, netlist: &Netlist, chains: &Chains) -> Result<Scanned, No
 /// A netlist without cells, which stays as it is.
 fn unchanged(alloc: Global, netlist: &Netlist) -> Result<Scanned, NoMemory>
     requires sound { IsSound netlist.now }
-    requires small { length (signals netlist.now) ≤ 1000000 }
+    requires small { length (signals netlist.now) ≤ most_design_signals }
     ensures { IfOk result (λ s. s ≡ insertion_of netlist.now []) }
 {
     let count = netlist.inputs().len() + netlist.definitions().len();

@@ -2,6 +2,7 @@
 ghost use Rattle.std.specs.Prelude.{◌≡◌, ◌++◌, ◌+◌, ◌*◌, ◌<◌, ◌≤◌, length, map, IfOk, OnOk};
 ghost use Rattle.netlist.specs.Netlist.{Definition as Equation, signals};
 ghost use Rattle.netlist.specs.Conditions.{IsSound};
+ghost use Rattle.netlist.specs.Designs.{most_design_signals};
 ghost use Rattle.scan_insert.specs.Scanned.{own_site, sites_from, first_definition};
 
 use netlist::{Definition, Netlist, SignalId};
@@ -29,7 +30,7 @@ pub(crate) fn own_sites(
     count: usize,
 ) -> Result<Vec<Site>, AllocError>
     requires sound { IsSound netlist.now }
-    requires small { length (signals netlist.now) ≤ 1000000 }
+    requires small { length (signals netlist.now) ≤ most_design_signals }
     requires all { count ≡ length (signals netlist.now) }
     ensures { IfOk result (λ v. v.items ≡ map own_site (signals netlist.now)) }
 {
@@ -88,7 +89,7 @@ pub(crate) fn moved_sites(
     netlist: &Netlist,
     chains: u32,
 ) -> Result<Vec<Site>, AllocError>
-    requires small { length (signals netlist.now) ≤ 1000000 }
+    requires small { length (signals netlist.now) ≤ most_design_signals }
     requires few { chains ≤ 1000000 }
     ensures { IfOk result (λ v. v.items ≡ map own_site netlist.now.inputs ++ sites_from (first_definition netlist.now chains) netlist.now.definitions) }
 {
