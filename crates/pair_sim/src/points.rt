@@ -62,7 +62,11 @@ fn see(sight: PointsSight, k: u32, label: &Label) -> PointsSight
 }
 
 /// What the outputs tell.
-pub(crate) fn sight_at_outputs(netlist: &Netlist, fault: &Option<Fault>, values: &[Label]) -> PointsSight
+pub(crate) fn sight_at_outputs(
+    netlist: &Netlist,
+    fault: &Option<Fault>,
+    values: &[Label],
+) -> PointsSight
     requires sound { IsSound netlist.now }
     requires size { length values.now ≡ length (signals netlist.now) }
     ensures { (path : Decisions) → IsSight (outs (labels fault.now path) netlist.now (at values.now blank)) result }
@@ -78,7 +82,11 @@ pub(crate) fn sight_at_outputs(netlist: &Netlist, fault: &Option<Fault>, values:
 }
 
 /// What the cells' pins tell.
-pub(crate) fn sight_at_cells(netlist: &Netlist, fault: &Option<Fault>, values: &[Label]) -> PointsSight
+pub(crate) fn sight_at_cells(
+    netlist: &Netlist,
+    fault: &Option<Fault>,
+    values: &[Label],
+) -> PointsSight
     requires sound { IsSound netlist.now }
     requires size { length values.now ≡ length (signals netlist.now) }
     ensures { (path : Decisions) → IsSight (next (labels fault.now path) netlist.now (at values.now blank)) result }

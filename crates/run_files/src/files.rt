@@ -193,7 +193,16 @@ pub fn make_files<R: Threads + Wait + Sync, E: Engine + Sync, G: Gate + Sync>(
     netlist.sound();
     let chains = stitched(alloc, netlist, plan.chains)?;
     let subject = subject_of(alloc, netlist)?;
-    let found = search(rt, alloc, core, &subject.classes, plan, engine, stage, holds)?;
+    let found = search(
+        rt,
+        alloc,
+        core,
+        &subject.classes,
+        plan,
+        engine,
+        stage,
+        holds,
+    )?;
     let files = texts_of(alloc, core, plan, holds, &chains, &subject, found)?;
     written_is_run();
     Ok(files)
