@@ -1,5 +1,6 @@
 -- The items of a file as they are added, test by test.
 use Rattle.std.proofs.Common.{◌≡◌, ◌∙◌, ◌+◌, ◌<◌, ◌≤◌, ℕ, zero, suc, min, Bool, false, not, List, [], ◌∷◌, ◌++◌, ap, sym, refl, append_assoc, length, map, take, get_or, arith, codes, replicate, None}
+use Rattle.plain_text.specs.Texts.{Text}
 use Rattle.netlist.specs.declared.kinds.Tri.{Tri}
 use Rattle.netlist.specs.declared.kinds.Tri.TheVariants.{X}
 use Rattle.netlist.specs.Netlist.{Netlist, cells, name_of}
@@ -12,7 +13,7 @@ use Rattle.scan_insert.specs.Names.{output_name}
 use Rattle.scan_play.specs.Vectors.{Response, Responds, flush}
 use Rattle.scan_play.proofs.Applied.{taken_count}
 use Rattle.scan_play.proofs.TestLists.{none_applied, one_applied, all_applied}
-use Rattle.stil_write.specs.StilFiles.{Item, StilFile, Text, where_chained}
+use Rattle.stil_write.specs.StilFiles.{Item, StilFile, where_chained}
 use Rattle.stil_vectors.specs.TestFiles.{applied_items, capture_item, char_of_value, file_with, load_items, shift_word_of, test_items, text_of_values}
 use Rattle.stil_patterns.specs.Tests.{IsFileOf}
 use Rattle.stil_patterns.specs.inner.Added.{AreAll, AreBegun, IsAdded, flush_items}
