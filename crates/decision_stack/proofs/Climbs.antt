@@ -1,5 +1,5 @@
 -- The way back over decisions that are done with.
-use Rattle.std.proofs.Common.{◌≡◌, ◌≢◌, ℕ, ◌+◌, List, [], ◌∷◌, ◌++◌, length, length-append, append_assoc, append-nil, get_or, refl, sym, ◌∙◌, ap, subst, arith}
+use Rattle.std.proofs.Common.{◌-◌, ◌++◌, ◌+◌, ◌≡◌, ◌≢◌, ℕ, List, [], ◌∷◌, length, length-append, append_assoc, append-nil, get_or, refl, sym, ◌∙◌, ap, subst, arith}
 use Rattle.std.proofs.lemmas.List.{get_or-append-add}
 use Rattle.std.proofs.lemmas.List.Elements.{All-nil, All-cons, All-head, All-tail}
 use Rattle.netlist.specs.declared.lines.Fault.{Fault}
@@ -113,11 +113,13 @@ module _ (f : Fault) (n : Netlist) (holds : Holds) where
         free = subst (AreFree f n holds []) (sym t.is) (free-append [] t.front t.next b.0.free (subst (IsUnknown f n holds (path_of_stack t.front)) (sym t.signal) b.1));
       }
 
--- the last side of a stack
-pub last_is : (front : List Side) (next r : Side) (new : List Side) (k : ℕ) → new ≡ front ++ next ∷ [] → k + 1 ≡ length new → r ≡ get_or new k r → r ≡ next
-last_is front next r new k e l is =
-    let size : k ≡ length front + 0 = (let a = ap length e in let b = length-append front (next ∷ []) in omega arith) in
-    is ∙ (ap (λ (ss : List Side). get_or ss k r) e ∙ (ap (λ j. get_or (front ++ next ∷ []) j r) size ∙ get_or-append-add front (next ∷ []) 0 r))
+-- the last side after a turn
+pub last_is : {done : List Node} {stack stack' : List Side} (t : IsTurned done stack stack') (r : Side) (m : ℕ) → m ≡ length stack' → r ≡ get_or stack' (m - 1) r → r ≡ t.next
+last_is {done} {stack} {stack'} t r m l is =
+    let a = ap length t.is in
+    let b = length-append t.front (t.next ∷ []) in
+    let place : m - 1 ≡ length t.front + 0 = omega arith in
+    is ∙ (ap (λ (ss : List Side). get_or ss (m - 1) r) t.is ∙ (ap (λ j. get_or (t.front ++ t.next ∷ []) j r) place ∙ get_or-append-add t.front (t.next ∷ []) 0 r))
 
 pub path_length : (f : Fault) (n : Netlist) (holds : Holds) (s : Sim) (stack : List Side) → s ≡ sim n f holds (path_of_stack stack) → length s.path ≡ length stack
 path_length f n holds s stack e = ap (λ (r : Sim). length r.path) e ∙ (let h = length-stack_onto [] stack in omega arith)

@@ -1,5 +1,5 @@
 -- What a search answers at its ends, and why it ends.
-use Rattle.std.proofs.Common.{◌≡◌, ℕ, ◌+◌, ◌-◌, ◌*◌, ◌<◌, ◌≤◌, ◌⊎◌, Bool, true, false, cond, List, [], ◌∷◌, length, refl, sym, ap, subst, inl, inr, arith}
+use Rattle.std.proofs.Common.{◌≡◌, ℕ, ◌+◌, ◌-◌, ◌*◌, ◌^◌, ◌<◌, ◌≤◌, ◌⊎◌, Bool, true, false, cond, List, [], ◌∷◌, length, refl, sym, ap, subst, inl, inr, arith}
 use Rattle.std.proofs.Math.Nat.{mul-le-mul_right}
 use Rattle.std.proofs.lemmas.Bool.{both_ways}
 use Rattle.std.specs.Option.{is_none}
@@ -17,43 +17,44 @@ use Rattle.redundancy_cert.specs.Fits.{Fits}
 use Rattle.redundancy_cert.specs.Stacks.{whole, path_of_stack, StandsBelow, closed_around}
 use Rattle.redundancy_cert.proofs.StackLemmas.{open_stands, whole_stands, closed_whole, open_whole}
 use Rattle.decision_stack.specs.declared.turns.Step.TheVariants.{On}
-use Rattle.decision_stack.specs.Standing.{AsksFit, SearchesAt, IsClosedTree}
+use Rattle.decision_stack.specs.Standing.{AsksFit, SplitsAmong, SearchesAt, IsClosedTree}
 use Rattle.decision_stack.specs.Turns.{undecided, IsTurnFrom}
+use Rattle.decision_stack.proofs.Bounds.{limit_small}
 
-pub one_tree : (P : Place → Type 0) (nodes : List Node) → StandsBelow P [] nodes → IsOneTree nodes
-one_tree P nodes w = (w.0, w.1)
+module _ {P : Place → Type 0} {f : Fault} {n : Netlist} {holds : Holds} where
+  tree_fits : AsksFit P f n holds → {nodes : List Node} → StandsBelow P [] nodes → Fits f n holds nodes
+  tree_fits fit w = (w.0, w.1, λ k d i. fit _ (w.2 k d i))
 
-module _ (P : Place → Type 0) (f : Fault) (n : Netlist) (holds : Holds) where
-  pub tree_fits : AsksFit P f n holds → (nodes : List Node) → StandsBelow P [] nodes → Fits f n holds nodes
-  tree_fits fit nodes w = (w.0, w.1, λ k d i. fit _ (w.2 k d i))
+  -- ---- the search gives up: its tree has an Open, and so more ends than Closed
 
-  -- ---- the search gives up
+  partial_tree : {s : Sim} {stack : List Side} {closed : ℕ} {nodes : List Node} → SearchesAt P f n holds s stack closed → nodes ≡ whole stack (Open ∷ []) → StandsBelow P [] nodes
+  partial_tree {s} {stack} w e = subst (StandsBelow P []) (sym e) (whole_stands P [] stack (Open ∷ []) w.is.around (open_stands P (path_of_stack stack) w.going))
 
-  pub partial_tree : (s : Sim) (stack : List Side) (closed : ℕ) (nodes : List Node) → SearchesAt P f n holds s stack closed → nodes ≡ whole stack (Open ∷ [])
-      → StandsBelow P [] nodes
-  partial_tree s stack closed nodes w e = subst (StandsBelow P []) (sym e) (whole_stands P [] stack (Open ∷ []) w.is.around (open_stands P (path_of_stack stack) w.going))
+  pub one_tree : {s : Sim} {stack : List Side} {closed : ℕ} {nodes : List Node} → SearchesAt P f n holds s stack closed → nodes ≡ whole stack (Open ∷ []) → IsOneTree nodes
+  one_tree w e = let t = partial_tree w e in (t.0, t.1)
 
-  pub partial_evidence : AsksFit P f n holds → (s : Sim) (stack : List Side) (closed limit : ℕ) (nodes : List Node) → SearchesAt P f n holds s stack closed → nodes ≡ whole stack (Open ∷ [])
-      → limit ≤ closed → closed ≤ limit → Fits f n holds nodes × (closed_count nodes ≡ limit) × (1 ≤ open_count nodes)
-  partial_evidence fit s stack closed limit nodes w e a b = (
-    tree_fits fit nodes (partial_tree s stack closed nodes w e),
-    (let g = ap closed_count e in let h = closed_whole stack (Open ∷ []) in let k = w.counted in omega arith),
-    (let g = ap open_count e in let h = open_whole stack (Open ∷ []) in omega arith),
-  )
+  pub gave_up : AsksFit P f n holds → {s : Sim} {stack : List Side} {closed limit : ℕ} {nodes : List Node} → SearchesAt P f n holds s stack closed → nodes ≡ whole stack (Open ∷ [])
+      → limit ≤ closed → closed ≤ limit
+      → (Fits f n holds nodes × (closed_count nodes ≡ limit) × (1 ≤ open_count nodes)) × StandsBelow P [] nodes × ((ids : List ℕ) → SplitsAmong P ids → limit < 2 ^ length ids)
+  gave_up fit {s} {stack} {closed} {limit} {nodes} w e a b =
+      let tree = partial_tree w e in
+      let exact : closed_count nodes ≡ limit = (let g = ap closed_count e in let h = closed_whole stack (Open ∷ []) in let k = w.counted in omega arith) in
+      let some : 1 ≤ open_count nodes = (let g = ap open_count e in let h = open_whole stack (Open ∷ []) in omega arith) in
+      ((tree_fits fit tree, exact, some), tree, λ ids among. limit_small P f n holds fit ids among nodes limit tree exact some)
 
   -- ---- the tree is whole
 
-  pub whole_evidence : AsksFit P f n holds → (nodes : List Node) (closed limit : ℕ) → IsClosedTree P nodes closed → closed ≤ limit
+  pub whole_evidence : AsksFit P f n holds → {nodes : List Node} {closed limit : ℕ} → IsClosedTree P nodes closed → closed ≤ limit
       → Fits f n holds nodes × (open_count nodes ≡ 0) × (closed_count nodes ≤ limit)
-  whole_evidence fit nodes closed limit w l = (tree_fits fit nodes w.tree_is, w.none_open, (let c = w.counted in omega arith))
+  whole_evidence fit w l = (tree_fits fit w.tree_is, w.none_open, (let c = w.counted in omega arith))
 
   -- ---- the search ends: of the Closed that are left, and then of undecided signals there are fewer after each turn
 
-  pub ends : (T : Sim → Point → Type 0) (stack stack' : List Side) (new : Sim) (more : Bool) (limit closed add : ℕ) → closed < limit → closed ≡ closed_around stack → add ≡ cond more 1 0
+  pub ends : (T : Sim → Point → Type 0) (stack stack' : List Side) (new : Sim) (more : Bool) {limit closed add : ℕ} → closed < limit → closed ≡ closed_around stack → add ≡ cond more 1 0
       → IsTurnFrom P T f n holds stack (closed_around stack) new stack' (On more)
       → (limit - (closed + add)) * (length (signals n) + 1) + undecided (path_of_stack stack') (signals n)
       < (limit - closed) * (length (signals n) + 1) + undecided (path_of_stack stack) (signals n)
-  ends T stack stack' new more limit closed add l c r w =
+  ends T stack stack' new more {limit} {closed} {add} l c r w =
       smaller limit closed (closed + add) (length (signals n)) (undecided (path_of_stack stack) (signals n)) (undecided (path_of_stack stack') (signals n)) l
       (undecided_many (path_of_stack stack') (signals n))
       (step_cases more closed add (undecided (path_of_stack stack) (signals n)) (undecided (path_of_stack stack') (signals n)) r w.1)

@@ -22,7 +22,7 @@ use Rattle.redundancy_cert.proofs.StackLemmas.{stack_onto-append, closed_around-
 use Rattle.decision_stack.specs.declared.turns.Step.{Step}
 use Rattle.decision_stack.specs.declared.turns.Step.TheVariants.{Found, Done, On}
 use Rattle.decision_stack.specs.Climbing.{AreFree, IsAtEnd, with_side, IsBack, AreAllEnded, IsStepBack}
-use Rattle.decision_stack.specs.Standing.{AsksFit, StandsAt, SearchesAt, MayDecide, MayPush, MayEnd, IsClosedTree}
+use Rattle.decision_stack.specs.Standing.{AsksFit, SearchesAt, MayDecide, MayPush, MayEnd, IsClosedTree}
 use Rattle.decision_stack.specs.Turns.{undecided, IsOfCase, IsTurnFrom}
 use Rattle.decision_stack.proofs.Bounds.{undecided_less}
 use Rattle.decision_stack.proofs.Climbs.{tried_open}
@@ -30,6 +30,11 @@ use Rattle.decision_stack.proofs.Climbs.{tried_open}
 -- labels of a path
 pub of_case : (f : Fault) (n : Netlist) (holds : Holds) (s : Sim) (path : Path) → s ≡ sim n f holds path → IsOfCase f n holds s
 of_case f n holds s path e = e ∙ ap (sim n f holds) (sym (ap (λ (r : Sim). r.path) e))
+
+pub started : {P : Place → Type 0} {f : Fault} {n : Netlist} {holds : Holds} {s : Sim} {stack : List Side} → s ≡ sim n f holds [] → stack ≡ [] → P (record { path = []; node = Open })
+    → SearchesAt P f n holds s stack 0
+started {P} {f} {n} {holds} {s} a e g = subst (λ (ss : List Side). SearchesAt P f n holds s ss 0) (sym e)
+    (record { is = record { at = a; around = tt; searched = refl }; going = g; counted = refl })
 
 -- ---- two parts of a stack
 
@@ -60,13 +65,6 @@ module _ (P : Place → Type 0) (f : Fault) (n : Netlist) (holds : Holds) where
       free x b Untried k = (fit (record { path = p; node = Split x }) k).1
       free x b (Searched t) k = (fit (record { path = p; node = Split x }) k).1
       free x b Shut k = (fit (record { path = p; node = Forced x b }) k).1
-
-  pub at_end : AsksFit P f n holds → (s : Sim) (stack : List Side) → StandsAt P f n holds s stack → IsAtEnd f n holds s stack
-  at_end fit s stack w = record { at = w.at; free = free_around fit [] stack w.around }
-
-  pub started : (s : Sim) (stack : List Side) → s ≡ sim n f holds [] → stack ≡ [] → P (record { path = []; node = Open }) → SearchesAt P f n holds s stack 0
-  started s stack a e g = subst (λ (ss : List Side). SearchesAt P f n holds s ss 0) (sym e)
-      (record { is = record { at = a; around = tt; searched = refl }; going = g; counted = refl })
 
   -- ---- one decision more
 
@@ -193,49 +191,62 @@ module _ (P : Place → Type 0) (f : Fault) (n : Netlist) (holds : Holds) where
   end_turn T s new stack stack' done (Ok step) one w a t = stepped_back T s new stack stack' done step one w t a
   end_turn T s new stack stack' done (Err e) one w a t = tt
 
--- ---- what a turn sees of both sides of a signal
+-- ---- how a turn ends, by what was seen of both sides of a signal
 
 not_not : (b : Bool) → b ≡ not (not b)
 not_not true = refl
 not_not false = refl
 
-module _ (P : Place → Type 0) (f : Fault) (n : Netlist) (holds : Holds) (s : Sim) (stack : List Side) (x : ℕ) (w : MayDecide P f n holds s stack x) where
+module _ {P : Place → Type 0} {f : Fault} {n : Netlist} {holds : Holds} {s : Sim} {stack : List Side} {x : ℕ} (w : MayDecide P f n holds s stack x) where
   -- what is seen of a side, of the stack
   pub seen : (Q : Fault → Netlist → Holds → Path → Type 0) (b : Bool) → Q s.fault s.netlist s.holds ((x, b) ∷ s.path) → Q f n holds ((x, b) ∷ path_of_stack stack)
   seen Q b h = subst (λ (r : Sim). Q r.fault r.netlist r.holds ((x, b) ∷ r.path)) w.is.at h
 
-  pub is_free : IsUnknown s.fault s.netlist s.holds s.path x
-  is_free = subst (λ (r : Sim). IsUnknown r.fault r.netlist r.holds r.path x) (sym w.is.at) w.free
+  -- labels that came back
+  pub end_there : AsksFit P f n holds → (s' : Sim) → s' ≡ s → IsAtEnd s'.fault s'.netlist s'.holds s' stack
+  end_there fit s' e = subst (λ (r : Sim). IsAtEnd r.fault r.netlist r.holds s' stack) (sym (e ∙ w.is.at))
+      (record { at = e ∙ w.is.at; free = free_around P f n holds fit [] stack w.is.around })
 
-  pub still : (new : Sim) → new ≡ s → MayDecide P f n holds new stack x
-  still new e = subst (λ (r : Sim). MayDecide P f n holds r stack x) (sym e) w
+  pub free_there : (s' : Sim) → s' ≡ s → IsUnknown s'.fault s'.netlist s'.holds s'.path x
+  free_there s' e = subst (λ (r : Sim). IsUnknown r.fault r.netlist r.holds r.path x) (sym (e ∙ w.is.at)) w.free
 
-  -- one side is closed: the other is forced, and gone on with
-  pub push_this : (b : Bool) → IsClosedPath f n holds ((x, not b) ∷ path_of_stack stack) → P (record { path = (x, b) ∷ path_of_stack stack; node = Open })
-      → MayPush P f n holds s stack x b Shut
-  push_this b shut going = record { is = w.is; free = w.free; fits = w.forced b shut; stands = tt; searched = refl; going = going }
+  forced_side : (b : Bool) → IsClosedPath f n holds ((x, not b) ∷ path_of_stack stack) → P (record { path = (x, b) ∷ path_of_stack stack; node = Open }) → MayPush P f n holds s stack x b Shut
+  forced_side b shut going = record { is = w.is; free = w.free; fits = w.forced b shut; stands = tt; searched = refl; going = going }
 
-  pub push_other : (b : Bool) → IsClosedPath f n holds ((x, b) ∷ path_of_stack stack) → P (record { path = (x, not b) ∷ path_of_stack stack; node = Open })
-      → MayPush P f n holds s stack x (not b) Shut
-  push_other b shut going = push_this (not b) (subst (λ c. IsClosedPath f n holds ((x, c) ∷ path_of_stack stack)) (not_not b) shut) going
+  -- both sides are closed
+  pub both_closed : {E : Type 0} (T : Sim → Point → Type 0) (b : Bool) (s' new : Sim) (stack' : List Side) (r : Result Step E) → s' ≡ s
+      → P (record { path = (x, b) ∷ path_of_stack stack; node = Closed }) → IsClosedPath s.fault s.netlist s.holds ((x, not b) ∷ s.path)
+      → OnOk r (IsAtEnd s'.fault s'.netlist s'.holds new stack') → IfOk r (IsStepBack (Forced x b ∷ Closed ∷ []) stack stack')
+      → IfOk r (IsTurnFrom P T f n holds stack (closed_around stack) new stack')
+  both_closed T b s' new stack' r e this other a t = end_turn P f n holds T s new stack stack' (Forced x b ∷ Closed ∷ []) r refl (record {
+    is = w.is;
+    stands = forced_stands P (path_of_stack stack) x b (Closed ∷ []) (w.forced b (seen IsClosedPath (not b) other)) (closed_stands P ((x, b) ∷ path_of_stack stack) this);
+    closed = refl;
+  }) (subst (λ (q : Sim). OnOk r (IsAtEnd q.fault q.netlist q.holds new stack')) (e ∙ w.is.at) a) t
 
-  -- both sides may be gone on with
-  pub push_split : (b : Bool) → P (record { path = path_of_stack stack; node = Split x }) → P (record { path = (x, b) ∷ path_of_stack stack; node = Open })
-      → P (record { path = (x, not b) ∷ path_of_stack stack; node = Open }) → MayPush P f n holds s stack x (not b) Untried
-  push_split b split other going = record {
+  -- this side is closed, and the other was gone to
+  pub this_closed : {E : Type 0} (T : Sim → Point → Type 0) (b : Bool) (new : Sim) (stack' : List Side) (r : Result Step E)
+      → IsClosedPath f n holds ((x, b) ∷ path_of_stack stack) → P (record { path = (x, not b) ∷ path_of_stack stack; node = Open }) → new ≡ assigned s x (not b)
+      → IfOk r (λ step. (step ≡ On false) × (stack' ≡ with_side stack x (not b) Shut)) → IfOk r (IsTurnFrom P T f n holds stack (closed_around stack) new stack')
+  this_closed T b new stack' r shut going a h = push_turn P f n holds T s new stack stack' x (not b) Shut r refl
+      (forced_side (not b) (subst (λ c. IsClosedPath f n holds ((x, c) ∷ path_of_stack stack)) (not_not b) shut) going) a h
+
+  -- the other side is closed, and this one was gone to after that
+  pub other_closed : {E : Type 0} (T : Sim → Point → Type 0) (b : Bool) (s' new : Sim) (stack' : List Side) (r : Result Step E) → s' ≡ s
+      → P (record { path = (x, b) ∷ path_of_stack stack; node = Open }) → IsClosedPath s.fault s.netlist s.holds ((x, not b) ∷ s.path) → new ≡ assigned s' x b
+      → IfOk r (λ step. (step ≡ On false) × (stack' ≡ with_side stack x b Shut)) → IfOk r (IsTurnFrom P T f n holds stack (closed_around stack) new stack')
+  other_closed T b s' new stack' r e going other a h = push_turn P f n holds T s new stack stack' x b Shut r refl
+      (forced_side b (seen IsClosedPath (not b) other) going) (a ∙ ap (λ (q : Sim). assigned q x b) e) h
+
+  -- both may be gone on with, and the other was gone to
+  pub both_going : {E : Type 0} (T : Sim → Point → Type 0) (b : Bool) (new : Sim) (stack' : List Side) (r : Result Step E) → P (record { path = path_of_stack stack; node = Split x })
+      → P (record { path = (x, b) ∷ path_of_stack stack; node = Open }) → P (record { path = (x, not b) ∷ path_of_stack stack; node = Open }) → new ≡ assigned s x (not b)
+      → IfOk r (λ step. (step ≡ On false) × (stack' ≡ with_side stack x (not b) Untried)) → IfOk r (IsTurnFrom P T f n holds stack (closed_around stack) new stack')
+  both_going T b new stack' r split this other a h = push_turn P f n holds T s new stack stack' x (not b) Untried r refl (record {
     is = w.is;
     free = w.free;
     fits = split;
-    stands = open_stands P ((x, not (not b)) ∷ path_of_stack stack) (subst (λ c. P (record { path = (x, c) ∷ path_of_stack stack; node = Open })) (not_not b) other);
+    stands = open_stands P ((x, not (not b)) ∷ path_of_stack stack) (subst (λ c. P (record { path = (x, c) ∷ path_of_stack stack; node = Open })) (not_not b) this);
     searched = refl;
-    going = going;
-  }
-
-  -- both sides are closed
-  pub both_closed : (b : Bool) → P (record { path = (x, b) ∷ path_of_stack stack; node = Closed }) → IsClosedPath f n holds ((x, not b) ∷ path_of_stack stack)
-      → MayEnd P f n holds s stack (Forced x b ∷ Closed ∷ [])
-  both_closed b this other = record {
-    is = w.is;
-    stands = forced_stands P (path_of_stack stack) x b (Closed ∷ []) (w.forced b other) (closed_stands P ((x, b) ∷ path_of_stack stack) this);
-    closed = refl;
-  }
+    going = other;
+  }) a h

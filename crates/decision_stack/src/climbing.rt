@@ -2,7 +2,6 @@
 ghost use Rattle.std.specs.Prelude.{IfOk, OnOk, MatchOption};
 ghost use Rattle.decision_stack.specs.Climbing.{IsAtEnd, IsBack, AreAllEnded};
 
-use netlist::{Core, Fault, Holds};
 use pair_sim::PairSim;
 use redundancy_cert::{Node, Side, Turn, end_side};
 use std::alloc::AllocError;
@@ -10,16 +9,13 @@ use testability::Effects;
 
 /// The search of the path's end is done with this tree: goes on at the last side that is untried, or gives the whole tree.
 pub fn climb(
-    core: &Core,
-    fault: &Fault,
-    holds: &Holds,
     effects: &mut Effects,
     labels: &mut PairSim,
     stack: &mut Vec<Side>,
     mut done: Vec<Node>,
 ) -> Result<Option<Vec<Node>>, AllocError>
-    requires { IsAtEnd fault.now core.now holds.now labels.old stack.old.items }
-    ensures end { OnOk result (IsAtEnd fault.now core.now holds.now labels.new stack.new.items) }
+    requires { IsAtEnd labels.old.fault labels.old.netlist labels.old.holds labels.old stack.old.items }
+    ensures end { OnOk result (IsAtEnd labels.old.fault labels.old.netlist labels.old.holds labels.new stack.new.items) }
     ensures tree { IfOk result (λ tree. MatchOption tree
         (IsBack done.items stack.old.items stack.new.items)
         (λ nodes. AreAllEnded done.items stack.old.items stack.new.items nodes.items)) }

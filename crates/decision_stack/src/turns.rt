@@ -4,7 +4,7 @@ ghost use Rattle.decision_stack.specs.Climbing.{IsAtEnd, with_side, IsStepBack};
 
 use crate::climbing::climb;
 use crate::trees::forced_tree;
-use netlist::{Core, Fault, Holds, Point, SignalId};
+use netlist::{Point, SignalId};
 use pair_sim::PairSim;
 use redundancy_cert::{Node, Other, Side};
 use std::alloc::{AllocError, Global};
@@ -44,21 +44,18 @@ pub fn push(
 /// A turn that sees both sides of a signal closed, this bit's and the other: the path ends here.
 pub fn close_both(
     alloc: Global,
-    core: &Core,
-    fault: &Fault,
-    holds: &Holds,
     effects: &mut Effects,
     labels: &mut PairSim,
     stack: &mut Vec<Side>,
     signal: SignalId,
     bit: bool,
 ) -> Result<Step, AllocError>
-    requires { IsAtEnd fault.now core.now holds.now labels.old stack.old.items }
-    ensures end { OnOk result (IsAtEnd fault.now core.now holds.now labels.new stack.new.items) }
+    requires { IsAtEnd labels.old.fault labels.old.netlist labels.old.holds labels.old stack.old.items }
+    ensures end { OnOk result (IsAtEnd labels.old.fault labels.old.netlist labels.old.holds labels.new stack.new.items) }
     ensures step { IfOk result (IsStepBack (Node.Forced signal bit ∷ Node.Closed ∷ []) stack.old.items stack.new.items) }
 {
     let done = forced_tree(alloc, signal, bit)?;
-    match climb(core, fault, holds, effects, labels, stack, done)? {
+    match climb(effects, labels, stack, done)? {
         Some(nodes) => Ok(Step::Done(nodes)),
         None => Ok(Step::On(true)),
     }

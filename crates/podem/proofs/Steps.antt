@@ -17,7 +17,8 @@ use Rattle.redundancy_cert.specs.declared.stacks.Side.{Side}
 use Rattle.redundancy_cert.specs.Stacks.{path_of_stack}
 use Rattle.pair_sim.specs.Sims.{Sim, sim, assigned, HasGood}
 use Rattle.decision_stack.specs.Standing.{MayDecide}
-use Rattle.decision_stack.specs.Turns.{undecided}
+use Rattle.decision_stack.specs.Turns.{undecided, IsOfCase}
+use Rattle.decision_stack.proofs.Standing.{of_case}
 use Rattle.podem.specs.Sources.{all_sources, sources, PlaceInSources}
 use Rattle.podem.specs.inner.Searching.{IsAt, IsChosen, IsKnownAt, IsTestAt, OnSources}
 use Rattle.podem.proofs.Turns.{going_open, only_sources, none_only, known_decided}
@@ -33,7 +34,7 @@ one_more_source n holds x b p h k y c e =
     ] in
     step (eqb y x) refl e
 
-module _ (f : Fault) (n : Netlist) (holds : Holds) (sound : IsSound n) (s : Sim) (stack : List Side) (x : ℕ) (w : IsChosen f n holds s stack x) where
+module _ {f : Fault} {n : Netlist} {holds : Holds} {s : Sim} {stack : List Side} {x : ℕ} (sound : IsSound n) (w : IsChosen f n holds s stack x) where
   on_sources : OnSources n holds (path_of_stack stack)
   on_sources = only_sources f n holds stack [] (none_only f n holds) w.is.around
 
@@ -51,6 +52,9 @@ module _ (f : Fault) (n : Netlist) (holds : Holds) (sound : IsSound n) (s : Sim)
 
   pub may_decide : MayDecide (PlaceInSources f n holds) f n holds s stack x
   may_decide = record { is = w.is; free = w.free; forced = λ b shut. ((going_open f n holds sound (path_of_stack stack) w.going, w.free, shut), w.source) }
+
+pub tested_case : {f : Fault} {n : Netlist} {holds : Holds} {s : Sim} {point : Point} → IsTestAt f n holds s point → IsOfCase f n holds s
+tested_case {f} {n} {holds} {s} w = of_case f n holds s w.path w.at
 
 -- where no source is X the search can't go on
 none_left : (path : Path) (ids : List ℕ) → All (λ x. is_none (decisions path x) ≡ false) ids → undecided path ids ≡ 0

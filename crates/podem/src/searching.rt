@@ -189,9 +189,7 @@ fn after_closed(
     core.netlist().sound();
     match go(labels, signal, !bit) {
         State::Test(point) => Ok(Step::Found(point)),
-        State::Blocked => close_both(
-            alloc, core, fault, holds, effects, labels, stack, signal, bit,
-        ),
+        State::Blocked => close_both(alloc, effects, labels, stack, signal, bit),
         State::Going => push(stack, signal, !bit, Other::Shut),
     }
 }

@@ -1,4 +1,4 @@
-use Rattle.std.proofs.Common.{◌≡◌, ◌-◌, List, [], ◌∷◌, length, length-append, refl, ap, sym, ◌∙◌, subst, arith}
+use Rattle.std.proofs.Common.{◌≡◌, List, [], ◌∷◌, length, refl, ap, sym, ◌∙◌, subst, arith}
 use Rattle.redundancy_cert.specs.declared.stacks.Side.{Side}
 use Rattle.redundancy_cert.specs.declared.stacks.Turn.{Turn}
 use Rattle.redundancy_cert.specs.Stacks.{IsClimbOrTurn, IsTurned}
@@ -13,7 +13,7 @@ empty (s ∷ ss) e = absurd (omega (arith, e))
 
 pub undo-requires : goal.undo-requires
 undo-requires c =
-    let a = path_length c.args.fault.now c.args.core.now c.args.holds.now c.loop-labels.labels c.loop-labels.stack.items c.loop-labels.invariant.end.at in
+    let a = path_length c.args.labels.now.fault c.args.labels.now.netlist c.args.labels.now.holds c.loop-labels.labels c.loop-labels.stack.items c.loop-labels.invariant.end.at in
     let v = c.loop-labels.stack.ok.0 in
     let l = c.loop-labels-test.true in
     omega arith
@@ -27,7 +27,7 @@ loop-labels-preserved c =
     let stack' = c.end_side.new.stack.items in
     let t = subst (λ (t : Turn). IsClimbOrTurn c.loop-labels.done.items stack stack' t) c.in-Climbed.is c.in_ok-nodes.ensures in
     record {
-      end = climbed_end c.args.fault.now c.args.core.now c.args.holds.now c.loop-labels.labels c.undo.new.self stack stack' c.loop-labels.done.items c.in-Climbed.nodes.items
+      end = climbed_end c.args.labels.now.fault c.args.labels.now.netlist c.args.labels.now.holds c.loop-labels.labels c.undo.new.self stack stack' c.loop-labels.done.items c.in-Climbed.nodes.items
           c.loop-labels.invariant.end c.undo.ensures t;
       ended = one_ended c.args.stack.now.items c.args.done.items stack stack' c.loop-labels.done.items c.in-Climbed.nodes.items c.loop-labels.invariant.ended t;
     }
@@ -38,11 +38,10 @@ assign-requires c =
     let stack = c.loop-labels.stack.items in
     let stack' = c.end_side.new.stack.items in
     let t : IsTurned c.loop-labels.done.items stack stack' = subst (λ (u : Turn). IsClimbOrTurn c.loop-labels.done.items stack stack' u) c.in-Turned.is c.in_ok-nodes.ensures in
-    let last : c.index-last.result.now ≡ t.next =
-    last_is t.front t.next c.index-last.result.now stack' (c.len-in-Turned.result - 1) t.is
-    (let v = c.end_side.new.stack.ok.0 in let e = c.len-in-Turned.ensures in let h = ap length t.is in let k = length-append t.front (t.next ∷ []) in omega arith) c.index-last.ensures in
+    let last : c.index-last.result.now ≡ t.next = last_is t c.index-last.result.now c.len-in-Turned.result
+    (let v = c.end_side.new.stack.ok.0 in let e = c.len-in-Turned.ensures in omega arith) c.index-last.ensures in
     subst (λ (r : Side). IsUnknown s'.fault s'.netlist s'.holds s'.path r.signal) (sym last)
-    (turn_free c.args.fault.now c.args.core.now c.args.holds.now c.loop-labels.labels s' stack stack' c.loop-labels.done.items c.loop-labels.invariant.end c.undo.ensures t)
+    (turn_free c.args.labels.now.fault c.args.labels.now.netlist c.args.labels.now.holds c.loop-labels.labels s' stack stack' c.loop-labels.done.items c.loop-labels.invariant.end c.undo.ensures t)
 
 pub returns-in-Turned-clause-end : goal.returns-in-Turned-clause-end
 returns-in-Turned-clause-end c =
@@ -50,10 +49,9 @@ returns-in-Turned-clause-end c =
     let stack = c.loop-labels.stack.items in
     let stack' = c.end_side.new.stack.items in
     let t : IsTurned c.loop-labels.done.items stack stack' = subst (λ (u : Turn). IsClimbOrTurn c.loop-labels.done.items stack stack' u) c.in-Turned.is c.in_ok-nodes.ensures in
-    let last : c.index-last.result.now ≡ t.next =
-    last_is t.front t.next c.index-last.result.now stack' (c.len-in-Turned.result - 1) t.is
-    (let v = c.end_side.new.stack.ok.0 in let e = c.len-in-Turned.ensures in let h = ap length t.is in let k = length-append t.front (t.next ∷ []) in omega arith) c.index-last.ensures in
-    turned_end c.args.fault.now c.args.core.now c.args.holds.now c.loop-labels.labels s' c.assign.new.self stack stack' c.loop-labels.done.items
+    let last : c.index-last.result.now ≡ t.next = last_is t c.index-last.result.now c.len-in-Turned.result
+    (let v = c.end_side.new.stack.ok.0 in let e = c.len-in-Turned.ensures in omega arith) c.index-last.ensures in
+    turned_end c.args.labels.now.fault c.args.labels.now.netlist c.args.labels.now.holds c.loop-labels.labels s' c.assign.new.self stack stack' c.loop-labels.done.items
     c.loop-labels.invariant.end c.undo.ensures t (c.assign.ensures ∙ ap (λ (r : Side). assigned s' r.signal r.bit) last)
 
 pub returns-in-Turned-clause-tree : goal.returns-in-Turned-clause-tree

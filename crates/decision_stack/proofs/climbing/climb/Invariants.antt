@@ -5,7 +5,7 @@ use Rattle.decision_stack.proofs.climbing.climb.Given as goal
 
 abbrev pub invariant-loop-labels : goal.invariant-loop-labels
 invariant-loop-labels l = record {
-  end : IsAtEnd l.fault l.core l.holds l.labels l.stack.items;
+  end : IsAtEnd l.initial.labels.fault l.initial.labels.netlist l.initial.labels.holds l.labels l.stack.items;
   ended : HaveEnded l.initial.stack.items l.initial.done.items l.stack.items l.done.items;
 }
 

@@ -1,10 +1,7 @@
-use Rattle.std.proofs.Common.{◌∷◌, [], not, refl, subst}
+use Rattle.std.proofs.Common.{not, subst}
 use Rattle.netlist.specs.Conditions.{IsSound}
-use Rattle.tri.specs.Paths.{IsClosedPath, IsGoingPath}
-use Rattle.redundancy_cert.specs.declared.nodes.Node.TheVariants.{Closed, Forced}
-use Rattle.redundancy_cert.specs.declared.stacks.Other.TheVariants.{Shut}
-use Rattle.decision_stack.proofs.Standing.{at_end, still, seen, both_closed, end_turn, push_other, push_turn}
-use Rattle.podem.specs.Sources.{PlaceInSources}
+use Rattle.tri.specs.Paths.{IsGoingPath}
+use Rattle.decision_stack.proofs.Standing.{seen, end_there, both_closed, this_closed}
 use Rattle.podem.specs.inner.Searching.{IsTestAt}
 use Rattle.podem.proofs.Turns.{source_fits}
 use Rattle.podem.proofs.Steps.{test_there, may_decide}
@@ -12,52 +9,20 @@ use Rattle.podem.proofs.searching.after_closed.Goals as goal
 
 pub returns-in-Test : goal.returns-in-Test
 returns-in-Test c =
-    let n = c.args.core.now in
-    let sound : IsSound n = subst IsSound c.netlist.ensures c.sound.ensures in
-    test_there c.args.fault.now n c.args.holds.now sound c.args.labels.now c.args.stack.now.items c.args.signal c.requires.chosen
-    c.go.new.labels (not c.args.bit) c.in-Test.point c.in-Test.ensures.0 c.in-Test.ensures.1
+    test_there (subst IsSound c.netlist.ensures c.sound.ensures) c.requires.chosen c.go.new.labels (not c.args.bit) c.in-Test.point c.in-Test.ensures.0 c.in-Test.ensures.1
 
 pub close_both-requires : goal.close_both-requires
 close_both-requires c =
-    let f = c.args.fault.now in
-    let n = c.args.core.now in
-    let holds = c.args.holds.now in
-    let s = c.args.labels.now in
-    let s' = c.go.new.labels in
-    let stack = c.args.stack.now.items in
-    let x = c.args.signal in
-    let sound : IsSound n = subst IsSound c.netlist.ensures c.sound.ensures in
-    let w = may_decide f n holds sound s stack x c.requires.chosen in
-    let w' = still (PlaceInSources f n holds) f n holds s stack x w s' c.in-Blocked.ensures.0 in
-    at_end (PlaceInSources f n holds) f n holds (source_fits f n holds sound) s' stack w'.is
+    let sound : IsSound c.args.core.now = subst IsSound c.netlist.ensures c.sound.ensures in
+    end_there (may_decide sound c.requires.chosen) (source_fits c.args.fault.now c.args.core.now c.args.holds.now sound) c.go.new.labels c.in-Blocked.ensures.0
 
 pub returns-in-Blocked : goal.returns-in-Blocked
 returns-in-Blocked c =
-    let f = c.args.fault.now in
-    let n = c.args.core.now in
-    let holds = c.args.holds.now in
-    let s = c.args.labels.now in
-    let s' = c.go.new.labels in
-    let stack = c.args.stack.now.items in
-    let x = c.args.signal in
-    let sound : IsSound n = subst IsSound c.netlist.ensures c.sound.ensures in
-    let w = may_decide f n holds sound s stack x c.requires.chosen in
-    let w' = still (PlaceInSources f n holds) f n holds s stack x w s' c.in-Blocked.ensures.0 in
-    let other = seen (PlaceInSources f n holds) f n holds s stack x w IsClosedPath (not c.args.bit) c.in-Blocked.ensures.1 in
-    end_turn (PlaceInSources f n holds) f n holds (IsTestAt f n holds) s' c.close_both.new.labels stack c.close_both.new.stack.items (Forced x c.args.bit ∷ Closed ∷ []) c.close_both.result refl
-    (both_closed (PlaceInSources f n holds) f n holds s' stack x w' c.args.bit c.requires.closed other) c.close_both.ensures.end c.close_both.ensures.step
+    both_closed (may_decide (subst IsSound c.netlist.ensures c.sound.ensures) c.requires.chosen) (IsTestAt c.args.fault.now c.args.core.now c.args.holds.now) c.args.bit c.go.new.labels c.close_both.new.labels c.close_both.new.stack.items c.close_both.result
+    c.in-Blocked.ensures.0 c.requires.closed c.in-Blocked.ensures.1 c.close_both.ensures.end c.close_both.ensures.step
 
 pub returns-in-Going : goal.returns-in-Going
 returns-in-Going c =
-    let f = c.args.fault.now in
-    let n = c.args.core.now in
-    let holds = c.args.holds.now in
-    let s = c.args.labels.now in
-    let s' = c.go.new.labels in
-    let stack = c.args.stack.now.items in
-    let x = c.args.signal in
-    let sound : IsSound n = subst IsSound c.netlist.ensures c.sound.ensures in
-    let w = may_decide f n holds sound s stack x c.requires.chosen in
-    let going = seen (PlaceInSources f n holds) f n holds s stack x w IsGoingPath (not c.args.bit) c.in-Going.ensures.1 in
-    push_turn (PlaceInSources f n holds) f n holds (IsTestAt f n holds) s s' stack c.push.new.stack.items x (not c.args.bit) Shut c.push.result refl
-    (push_other (PlaceInSources f n holds) f n holds s stack x w c.args.bit c.requires.closed going) c.in-Going.ensures.0 c.push.ensures
+    let w = may_decide (subst IsSound c.netlist.ensures c.sound.ensures) c.requires.chosen in
+    this_closed w (IsTestAt c.args.fault.now c.args.core.now c.args.holds.now) c.args.bit c.go.new.labels c.push.new.stack.items c.push.result
+    c.requires.closed (seen w IsGoingPath (not c.args.bit) c.in-Going.ensures.1) c.in-Going.ensures.0 c.push.ensures
