@@ -6,13 +6,13 @@ use Rattle.netlist.specs.declared.lines.Fault.{Fault}
 use Rattle.netlist.specs.Holds.{Holds}
 use Rattle.netlist.specs.Netlist.{Netlist}
 use Rattle.tri.specs.Paths.{Path, IsUnknown}
-use Rattle.pair_sim.specs.Sims.{Sim, sim, assigned, undone}
+use Rattle.pair_sim.specs.Sims.{Sim, sim, assigned, backtracked}
 use Rattle.redundancy_cert.specs.declared.nodes.Node.{Node}
 use Rattle.redundancy_cert.specs.declared.stacks.Other.{Other}
 use Rattle.redundancy_cert.specs.declared.stacks.Other.TheVariants.{Untried, Searched, Shut}
 use Rattle.redundancy_cert.specs.declared.stacks.Side.{Side}
 use Rattle.redundancy_cert.specs.Trees.{open_count}
-use Rattle.redundancy_cert.specs.Stacks.{other_nodes, wrapped, whole, stack_onto, path_of_stack, open_around, searched_open, searched_open_around, IsTurned, IsClimbed}
+use Rattle.redundancy_cert.specs.Stacks.{other_nodes, wrapped, stack_tree, stack_onto, path_of_stack, open_around, searched_open, searched_open_around, IsTurned, IsClimbed}
 use Rattle.redundancy_cert.proofs.StackLemmas.{stack_onto-append, length-stack_onto}
 use Rattle.decision_stack.specs.Climbing.{AreFree, IsAtEnd, AreTried, IsBack, AreAllEnded}
 
@@ -42,7 +42,7 @@ pub record HaveEnded (old : List Side) (first : List Node) (stack : List Side) (
   pub ended : List Side
   pub was : old ≡ stack ++ ended
   pub tried : AreTried ended
-  pub is : done ≡ whole ended first
+  pub is : done ≡ stack_tree ended first
 
 pub none_ended : (old : List Side) (first : List Node) → HaveEnded old first old first
 none_ended old first = record { ended = []; was = sym (append-nil old); tried = All-nil (λ (r : Side). r.other ≢ Untried); is = refl }
@@ -68,7 +68,7 @@ back old first stack stack' done w t = record {
 pub all_ended : (old : List Side) (first : List Node) (stack : List Side) (done : List Node) → HaveEnded old first stack done → stack ≡ [] → AreAllEnded first old stack done
 all_ended old first stack done w e =
     let same : old ≡ w.ended = w.was ∙ ap (λ (ss : List Side). ss ++ w.ended) e in
-    record { tried = subst AreTried (sym same) w.tried; none = e; is = w.is ∙ ap (λ (ss : List Side). whole ss first) (sym same) }
+    record { tried = subst AreTried (sym same) w.tried; none = e; is = w.is ∙ ap (λ (ss : List Side). stack_tree ss first) (sym same) }
 
 -- ---- labels
 
@@ -81,29 +81,29 @@ module _ (f : Fault) (n : Netlist) (holds : Holds) where
   free-front p [] s h = (tt, h.0)
   free-front p (r ∷ ss) s h = let w = free-front ((r.signal, r.bit) ∷ p) ss s h.1 in ((h.0, w.0), w.1)
 
-  before : (s s' : Sim) (front : List Side) (last : Side) (stack : List Side) → IsAtEnd f n holds s stack → stack ≡ front ++ last ∷ [] → s' ≡ undone s
+  before : (s s' : Sim) (front : List Side) (last : Side) (stack : List Side) → IsAtEnd f n holds s stack → stack ≡ front ++ last ∷ [] → s' ≡ backtracked s
       → IsAtEnd f n holds s' front × IsUnknown f n holds (path_of_stack front) last.signal
   before s s' front last stack w e u =
       let free = free-front [] front last (subst (AreFree f n holds []) e w.free) in (
         record {
-          at = u ∙ (ap undone w.at ∙ ap (λ p. undone (sim n f holds p)) (ap path_of_stack e ∙ stack_onto-append [] front last));
+          at = u ∙ (ap backtracked w.at ∙ ap (λ p. backtracked (sim n f holds p)) (ap path_of_stack e ∙ stack_onto-append [] front last));
           free = free.0;
         },
         free.1,
       )
 
   -- a step back
-  pub climbed_end : (s s' : Sim) (stack stack' : List Side) (done tree : List Node) → IsAtEnd f n holds s stack → s' ≡ undone s → IsClimbed done stack stack' tree → IsAtEnd f n holds s' stack'
+  pub climbed_end : (s s' : Sim) (stack stack' : List Side) (done tree : List Node) → IsAtEnd f n holds s stack → s' ≡ backtracked s → IsClimbed done stack stack' tree → IsAtEnd f n holds s' stack'
   climbed_end s s' stack stack' done tree w u t = (before s s' stack' t.last stack w t.was u).0
 
   -- the signal of a turn is X before it
-  pub turn_free : (s s' : Sim) (stack stack' : List Side) (done : List Node) → IsAtEnd f n holds s stack → s' ≡ undone s → (t : IsTurned done stack stack')
+  pub turn_free : (s s' : Sim) (stack stack' : List Side) (done : List Node) → IsAtEnd f n holds s stack → s' ≡ backtracked s → (t : IsTurned done stack stack')
       → IsUnknown s'.fault s'.netlist s'.holds s'.path t.next.signal
   turn_free s s' stack stack' done w u t =
       let b = before s s' t.front t.last stack w t.was u in
       subst (λ (r : Sim). IsUnknown r.fault r.netlist r.holds r.path t.next.signal) (sym b.0.at) (subst (IsUnknown f n holds (path_of_stack t.front)) (sym t.signal) b.1)
 
-  pub turned_end : (s s' new : Sim) (stack stack' : List Side) (done : List Node) → IsAtEnd f n holds s stack → s' ≡ undone s → (t : IsTurned done stack stack')
+  pub turned_end : (s s' new : Sim) (stack stack' : List Side) (done : List Node) → IsAtEnd f n holds s stack → s' ≡ backtracked s → (t : IsTurned done stack stack')
       → new ≡ assigned s' t.next.signal t.next.bit → IsAtEnd f n holds new stack'
   turned_end s s' new stack stack' done w u t a =
       let b = before s s' t.front t.last stack w t.was u in

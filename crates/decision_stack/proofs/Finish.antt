@@ -14,7 +14,7 @@ use Rattle.redundancy_cert.specs.declared.nodes.Node.TheVariants.{Open}
 use Rattle.redundancy_cert.specs.declared.stacks.Side.{Side}
 use Rattle.redundancy_cert.specs.Trees.{Place, closed_count, open_count, IsOneTree}
 use Rattle.redundancy_cert.specs.Fits.{Fits}
-use Rattle.redundancy_cert.specs.Stacks.{whole, path_of_stack, StandsBelow, closed_around}
+use Rattle.redundancy_cert.specs.Stacks.{stack_tree, path_of_stack, StandsBelow, closed_around}
 use Rattle.redundancy_cert.proofs.StackLemmas.{open_stands, whole_stands, closed_whole, open_whole}
 use Rattle.decision_stack.specs.declared.turns.Step.TheVariants.{On}
 use Rattle.decision_stack.specs.Standing.{AsksFit, SplitsAmong, SearchesAt, IsClosedTree}
@@ -27,13 +27,13 @@ module _ {P : Place → Type 0} {f : Fault} {n : Netlist} {holds : Holds} where
 
   -- ---- the search gives up: its tree has an Open, and so more ends than Closed
 
-  partial_tree : {s : Sim} {stack : List Side} {closed : ℕ} {nodes : List Node} → SearchesAt P f n holds s stack closed → nodes ≡ whole stack (Open ∷ []) → StandsBelow P [] nodes
+  partial_tree : {s : Sim} {stack : List Side} {closed : ℕ} {nodes : List Node} → SearchesAt P f n holds s stack closed → nodes ≡ stack_tree stack (Open ∷ []) → StandsBelow P [] nodes
   partial_tree {s} {stack} w e = subst (StandsBelow P []) (sym e) (whole_stands P [] stack (Open ∷ []) w.is.around (open_stands P (path_of_stack stack) w.going))
 
-  pub one_tree : {s : Sim} {stack : List Side} {closed : ℕ} {nodes : List Node} → SearchesAt P f n holds s stack closed → nodes ≡ whole stack (Open ∷ []) → IsOneTree nodes
+  pub one_tree : {s : Sim} {stack : List Side} {closed : ℕ} {nodes : List Node} → SearchesAt P f n holds s stack closed → nodes ≡ stack_tree stack (Open ∷ []) → IsOneTree nodes
   one_tree w e = let t = partial_tree w e in (t.0, t.1)
 
-  pub gave_up : AsksFit P f n holds → {s : Sim} {stack : List Side} {closed limit : ℕ} {nodes : List Node} → SearchesAt P f n holds s stack closed → nodes ≡ whole stack (Open ∷ [])
+  pub gave_up : AsksFit P f n holds → {s : Sim} {stack : List Side} {closed limit : ℕ} {nodes : List Node} → SearchesAt P f n holds s stack closed → nodes ≡ stack_tree stack (Open ∷ [])
       → limit ≤ closed → closed ≤ limit
       → (Fits f n holds nodes × (closed_count nodes ≡ limit) × (1 ≤ open_count nodes)) × StandsBelow P [] nodes × ((ids : List ℕ) → SplitsAmong P ids → limit < 2 ^ length ids)
   gave_up fit {s} {stack} {closed} {limit} {nodes} w e a b =

@@ -17,7 +17,7 @@ use Rattle.redundancy_cert.specs.declared.stacks.Other.{Other}
 use Rattle.redundancy_cert.specs.declared.stacks.Other.TheVariants.{Untried, Searched, Shut}
 use Rattle.redundancy_cert.specs.declared.stacks.Side.{Side}
 use Rattle.redundancy_cert.specs.Trees.{Tree, ClosedEnd, OpenEnd, SplitOn, ForcedTo, preorder, Place, places, closed_count, open_count}
-use Rattle.redundancy_cert.specs.Stacks.{other_nodes, node_of, whole, stack_onto, path_of_stack, StandsBelow, StandsAround, closed_around, searched_open_around}
+use Rattle.redundancy_cert.specs.Stacks.{other_nodes, node_of, stack_tree, stack_onto, path_of_stack, StandsBelow, StandsAround, closed_around, searched_open_around}
 use Rattle.redundancy_cert.proofs.StackLemmas.{stack_onto-append, closed_around-append, searched_open_around-append, around-append, closed_stands, open_stands, forced_stands, whole_stands, closed_whole, open_whole, turned_stands, turned_closed, turned_open}
 use Rattle.decision_stack.specs.declared.turns.Step.{Step}
 use Rattle.decision_stack.specs.declared.turns.Step.TheVariants.{Found, Done, On}
@@ -135,9 +135,9 @@ module _ (P : Place → Type 0) (f : Fault) (n : Netlist) (holds : Holds) where
   went_back s new stack stack' done w t a =
       let parts = around-both [] t.kept t.ended (subst (StandsAround P []) t.was w.is.around) in
       let path : path_of_stack stack ≡ stack_onto (path_of_stack t.kept) t.ended = ap path_of_stack t.was ∙ stack_onto-both [] t.kept t.ended in
-      let tree : StandsBelow P (path_of_stack t.kept) (whole t.ended done) =
+      let tree : StandsBelow P (path_of_stack t.kept) (stack_tree t.ended done) =
       whole_stands P (path_of_stack t.kept) t.ended done parts.1 (subst (λ q. StandsBelow P q done) path w.stands) in
-      let both = turned_stands P [] (whole t.ended done) t.kept stack' t.turned parts.0 tree in
+      let both = turned_stands P [] (stack_tree t.ended done) t.kept stack' t.turned parts.0 tree in
       let opens = open_whole t.ended done in
       let tried = tried_open t.ended t.tried in
       let was_open = ap searched_open_around t.was in
@@ -145,13 +145,13 @@ module _ (P : Place → Type 0) (f : Fault) (n : Netlist) (holds : Holds) where
       let none = w.is.searched in
       let none_done = w.closed in
       let kept_none : searched_open_around t.kept ≡ 0 = omega arith in
-      let tree_none : open_count (whole t.ended done) ≡ 0 = omega arith in
+      let tree_none : open_count (stack_tree t.ended done) ≡ 0 = omega arith in
       let closes = closed_whole t.ended done in
       let was_closed = ap closed_around t.was in
       let both_closed = closed_around-both t.kept t.ended in
-      let turned = turned_closed (whole t.ended done) t.kept stack' t.turned in
+      let turned = turned_closed (stack_tree t.ended done) t.kept stack' t.turned in
       record {
-        is = record { at = a; around = both.0; searched = turned_open (whole t.ended done) t.kept stack' t.turned kept_none tree_none };
+        is = record { at = a; around = both.0; searched = turned_open (stack_tree t.ended done) t.kept stack' t.turned kept_none tree_none };
         going = at_open (path_of_stack stack') both.1;
         counted = omega arith;
       }

@@ -11,7 +11,7 @@ use Rattle.redundancy_cert.specs.declared.nodes.Node.{Node}
 use Rattle.redundancy_cert.specs.declared.stacks.Other.{Other}
 use Rattle.redundancy_cert.specs.declared.stacks.Other.TheVariants.{Untried}
 use Rattle.redundancy_cert.specs.declared.stacks.Side.{Side}
-use Rattle.redundancy_cert.specs.Stacks.{whole, path_of_stack, IsTurned}
+use Rattle.redundancy_cert.specs.Stacks.{stack_tree, path_of_stack, IsTurned}
 use Rattle.decision_stack.specs.declared.turns.Step.{Step}
 use Rattle.decision_stack.specs.declared.turns.Step.TheVariants.{Found, Done, On}
 
@@ -40,13 +40,13 @@ pub record IsBack (done : List Node) (old new : List Side) : Type 0 where
   pub ended : List Side
   pub was : old ≡ kept ++ ended
   pub tried : AreTried ended
-  pub turned : IsTurned (whole ended done) kept new
+  pub turned : IsTurned (stack_tree ended done) kept new
 
 -- the path has ended with this tree, and no side was untried: the tree is whole
 pub record AreAllEnded (done : List Node) (old new : List Side) (tree : List Node) : Type 0 where
   pub tried : AreTried old
   pub none : new ≡ []
-  pub is : tree ≡ whole old done
+  pub is : tree ≡ stack_tree old done
 
 -- a turn in which the path has ended with this tree
 abbrev pub IsStepBack : List Node → List Side → List Side → Step → Type 0

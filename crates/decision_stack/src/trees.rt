@@ -1,6 +1,6 @@
 //! Small trees, and the tree of a search that gives up.
 ghost use Rattle.std.specs.Prelude.{◌≡◌, [], ◌∷◌, IfOk};
-ghost use Rattle.redundancy_cert.specs.Stacks.{whole};
+ghost use Rattle.redundancy_cert.specs.Stacks.{stack_tree};
 
 use netlist::SignalId;
 use redundancy_cert::{Node, Side, whole_tree};
@@ -40,7 +40,7 @@ fn open_tree(alloc: Global) -> Result<Vec<Node>, AllocError>
 
 /// The tree of a search that gives up: the end of its path is Open.
 pub fn tree_so_far(alloc: Global, stack: Vec<Side>) -> Result<Vec<Node>, AllocError>
-    ensures { IfOk result (λ v. v.items ≡ whole stack.items (Node.Open ∷ [])) }
+    ensures { IfOk result (λ v. v.items ≡ stack_tree stack.items (Node.Open ∷ [])) }
 {
     let open = open_tree(alloc)?;
     whole_tree(alloc, stack, open)
