@@ -12,7 +12,7 @@ use Rattle.netlist.specs.Netlist.{Definition, Netlist, is_cell, is_gate, cells, 
 use Rattle.netlist.specs.Conditions.{IsSound}
 use Rattle.netlist.specs.ThreeValues.{known}
 use Rattle.netlist.proofs.Lists.{contains_filter, any_true, any_from}
-use Rattle.netlist.proofs.Placed.{same_definition, signal_below, signal_cases}
+use Rattle.netlist.proofs.Placed.{same_definition, signal_below, signal_cases, signal_from}
 use Rattle.netlist.proofs.Orders.{input_low}
 use Rattle.netlist.proofs.Settling.{above_inputs}
 use Rattle.netlist.proofs.SomeSettled.{some_settled}
@@ -30,9 +30,10 @@ use Rattle.head_lines.specs.HeadLines.{IsUpward, IsReached, IsConstant, IsBound,
 use Rattle.head_lines.proofs.GateTests.{no_gate_low}
 use Rattle.head_lines.proofs.Inner.{input_own}
 use Rattle.head_lines.proofs.Ends.{met_there}
+use Rattle.head_lines.proofs.Readers.{get_or_any}
 use Rattle.fan.specs.Trees.{IsLeftOpen}
 use Rattle.fan.specs.inner.Searching.{IsAt, IsEndPlace, IsFreeEnd, IsNoFreeEnd, IsSplit}
-use Rattle.fan.proofs.Placing.{place_may, head_place, source_place}
+use Rattle.fan.proofs.Placing.{places_may, head_place, source_place}
 use Rattle.fan.proofs.Turns.{all_on, none_on}
 
 -- ---- ends
@@ -67,6 +68,14 @@ module _ (n : Netlist) (sound : IsSound n) where
       | inr w ↦ absurd (ng w)
     ]
   ]
+
+-- the role that is read of a signal
+pub role_read : {n : Netlist} → IsSound n → (roles : List Role) → length roles ≡ length (signals n) → (i x : ℕ) (r : Role) → i ≡ x → x < length (signals n) → get_or roles i Bound ≡ r
+    → Contains (signals n) x × (role_at roles x ≡ r)
+role_read {n} sound roles size i x r e l h = (
+  signal_from n sound.formed.numbered x l,
+  get_or_any roles x Inner Bound (let d = size in omega arith) ∙ (ap (λ j. get_or roles j Bound) (sym e) ∙ h),
+)
 
 -- a role tells whether a signal is such an end
 pub ends_by_role : (f : Fault) (n : Netlist) (holds : Holds) → IsSound n → (roles : List Role) → AreRoles f n holds roles → (x : ℕ) → Contains (signals n) x
@@ -182,13 +191,12 @@ pub some_end : (f : Fault) (n : Netlist) (holds : Holds) → IsSound n → (role
 some_end f n holds sound roles are s stack is going none =
     let path : Path = path_of_stack stack in
     let l = labels_there f n holds sound (decisions path) in
-    let may = place_may f n holds (λ x. is_bound_role (role_at roles x)) (λ x. is_head_role (role_at roles x)) are.marks in
     let told : (x : ℕ) → Contains (signals n) x → IsHead f n holds x ⊎ (IsSource n x × IsBound f n holds x) → (l.0 x).good ≡ X → ⊥ =
     λ x c end e.
     let w = none x (signal_below n sound.formed.numbered x c) end in
     let g : HasGood (sim n f holds path) x w.0 = subst (λ (r : Sim). HasGood r x w.0) is.at w.1 in
     w.2 (sym g.good ∙ (ap (λ (m : Label). m.good) (labels_once (Some f) (decisions path) n holds sound g.label l.0 g.are l.1 x c) ∙ e)) in
     let met = met_there f n holds sound (λ x. is_bound_role (role_at roles x)) (λ x. is_head_role (role_at roles x)) are.marks path
-    (all_on f n holds may stack [] (none_on f n holds) is.around) l.0 l.1 told
+    (all_on f n holds (places_may f n holds roles are) stack [] (none_on f n holds) is.around) l.0 l.1 told
     (λ c. going.0 (record { label = l.0; are = l.1; closed = c })) in
     going.1 met.0 met.1

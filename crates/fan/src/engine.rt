@@ -8,7 +8,7 @@ ghost use Rattle.redundancy_cert.specs.Evidence.{HasEvidence};
 ghost use Rattle.head_lines.specs.HeadLines.{AreRoles};
 ghost use Rattle.head_lines.specs.Rooms.{CanServeWants};
 ghost use Rattle.fan.specs.Trees.{HasEvidenceOnPlaces};
-ghost use Rattle.fan.specs.inner.Searching.{IsOfCase};
+ghost use Rattle.decision_stack.specs.Turns.{IsOfCase};
 
 use crate::guides::{Guide, GuideRoom, Objectives, Stop};
 use crate::searching::search_from;

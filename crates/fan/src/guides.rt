@@ -159,7 +159,7 @@ pub(crate) struct Guide<'a> {
     stop: Stop,
     wants: Wants,
     paths: Paths,
-    effects: Effects,
+    pub(crate) effects: Effects,
 }
 
 /// Before which others a signal waits: gates from the last to the first in the order of evaluation, then inputs and cells.
@@ -200,11 +200,6 @@ impl<'a> Guide<'a> {
         self.effects.begin();
     }
 
-    /// The trail of labels has been cut to this length.
-    pub(crate) fn cut(&mut self, length: usize) {
-        self.effects.cut(length);
-    }
-
     /// Looks at what the trail of labels has gained.
     pub(crate) fn follow(
         &mut self,
@@ -216,10 +211,6 @@ impl<'a> Guide<'a> {
         requires not_blocked { IsNotBlocked labels.now }
     {
         self.effects.follow(core, fault, labels)
-    }
-
-    pub(crate) fn effects(&self) -> &Effects {
-        &self.effects
     }
 
     /// Adds to what is wanted of a signal, if it is X.

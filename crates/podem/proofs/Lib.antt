@@ -1,7 +1,6 @@
 pub mod Owns
-pub mod Bounds
 pub mod Ends
 pub mod Tests
 pub mod Turns
 pub mod Steps
-pub mod Finish
+pub mod Values

@@ -1,4 +1,4 @@
--- What a turn sees of both sides of a source.
+-- What a turn decides, and that something is left to decide.
 use Rattle.std.proofs.Common.{◌≡◌, ℕ, ◌+◌, Bool, true, false, not, cond, map, List, [], ◌∷◌, Some, eqb, refl, sym, ◌∙◌, ap, subst, arith}
 use Rattle.std.proofs.lemmas.Bool.{eqb-true}
 use Rattle.std.specs.Option.{is_none}
@@ -11,18 +11,16 @@ use Rattle.netlist.specs.declared.lines.Point.{Point}
 use Rattle.netlist.specs.Netlist.{Definition, Netlist, cells}
 use Rattle.netlist.specs.Conditions.{IsSound}
 use Rattle.netlist.proofs.Lists.{All-from_contains}
-use Rattle.tri.specs.Paths.{Path, decisions, IsClosedPath, IsUnknown, IsTestPath, IsGoingPath}
-use Rattle.redundancy_cert.specs.declared.nodes.Node.{Node}
-use Rattle.redundancy_cert.specs.declared.nodes.Node.TheVariants.{Closed, Split, Forced}
-use Rattle.redundancy_cert.specs.declared.stacks.Other.TheVariants.{Untried, Shut}
+use Rattle.tri.specs.Paths.{Path, decisions, IsUnknown, IsTestPath, IsGoingPath}
+use Rattle.redundancy_cert.specs.declared.nodes.Node.TheVariants.{Split}
 use Rattle.redundancy_cert.specs.declared.stacks.Side.{Side}
-use Rattle.redundancy_cert.specs.Trees.{open_count}
-use Rattle.redundancy_cert.specs.Fits.{NodeFits}
-use Rattle.redundancy_cert.specs.Stacks.{path_of_stack, StandsBelow}
-use Rattle.redundancy_cert.proofs.StackLemmas.{closed_stands, open_stands, forced_stands}
+use Rattle.redundancy_cert.specs.Stacks.{path_of_stack}
 use Rattle.pair_sim.specs.Sims.{Sim, sim, assigned, HasGood}
-use Rattle.podem.specs.Sources.{all_sources, sources, undecided, PlaceInSources}
-use Rattle.podem.specs.inner.Searching.{IsAt, IsChosen, IsKnownAt, MayEnter, MayClimb, IsTestAt, OnSources}
+use Rattle.decision_stack.specs.Standing.{MayDecide}
+use Rattle.decision_stack.specs.Turns.{undecided, IsOfCase}
+use Rattle.decision_stack.proofs.Standing.{of_case}
+use Rattle.podem.specs.Sources.{all_sources, sources, PlaceInSources}
+use Rattle.podem.specs.inner.Searching.{IsAt, IsChosen, IsKnownAt, IsTestAt, OnSources}
 use Rattle.podem.proofs.Turns.{going_open, only_sources, none_only, known_decided}
 use Rattle.podem.proofs.Ends.{not_going}
 use Rattle.podem.proofs.Owns.{source_signal, any_source, free_is_source}
@@ -36,10 +34,7 @@ one_more_source n holds x b p h k y c e =
     ] in
     step (eqb y x) refl e
 
-module _ (f : Fault) (n : Netlist) (holds : Holds) (sound : IsSound n) (s : Sim) (stack : List Side) (x : ℕ) (w : IsChosen f n holds s stack x) where
-  here : NodeFits f n holds (path_of_stack stack) (Split x)
-  here = (going_open f n holds sound (path_of_stack stack) w.going, w.free)
-
+module _ {f : Fault} {n : Netlist} {holds : Holds} {s : Sim} {stack : List Side} {x : ℕ} (sound : IsSound n) (w : IsChosen f n holds s stack x) where
   on_sources : OnSources n holds (path_of_stack stack)
   on_sources = only_sources f n holds stack [] (none_only f n holds) w.is.around
 
@@ -51,53 +46,15 @@ module _ (f : Fault) (n : Netlist) (holds : Holds) (sound : IsSound n) (s : Sim)
     only = one_more_source n holds x b (path_of_stack stack) on_sources w.source;
   }
 
-  pub same_chosen : (new : Sim) → new ≡ s → IsChosen f n holds new stack x
-  same_chosen new e = subst (λ (r : Sim). IsChosen f n holds r stack x) (sym e) w
+  -- it may be split on, or forced where one side is closed
+  pub split : PlaceInSources f n holds (record { path = path_of_stack stack; node = Split x })
+  split = ((going_open f n holds sound (path_of_stack stack) w.going, w.free), w.source)
 
-  pub seen_closed : (b : Bool) → IsClosedPath s.fault s.netlist s.holds ((x, b) ∷ s.path) → IsClosedPath f n holds ((x, b) ∷ path_of_stack stack)
-  seen_closed b h = subst (λ (r : Sim). IsClosedPath r.fault r.netlist r.holds ((x, b) ∷ r.path)) w.is.at h
+  pub may_decide : MayDecide (PlaceInSources f n holds) f n holds s stack x
+  may_decide = record { is = w.is; free = w.free; forced = λ b shut. ((going_open f n holds sound (path_of_stack stack) w.going, w.free, shut), w.source) }
 
-  pub seen_going : (b : Bool) → IsGoingPath s.fault s.netlist s.holds ((x, b) ∷ s.path) → IsGoingPath f n holds ((x, b) ∷ path_of_stack stack)
-  seen_going b h = subst (λ (r : Sim). IsGoingPath r.fault r.netlist r.holds ((x, b) ∷ r.path)) w.is.at h
-
-  pub is_free : IsUnknown s.fault s.netlist s.holds s.path x
-  is_free = subst (λ (r : Sim). IsUnknown r.fault r.netlist r.holds r.path x) (sym w.is.at) w.free
-
-  -- one side is closed: the other one is forced, and gone on with
-  pub enter_forced : (b : Bool) → IsClosedPath f n holds ((x, not b) ∷ path_of_stack stack) → IsGoingPath f n holds ((x, b) ∷ path_of_stack stack) → MayEnter f n holds s stack x b Shut
-  enter_forced b shut going = record {
-    is = w.is;
-    source = w.source;
-    free = w.free;
-    fits = ((here.0, here.1, shut), w.source);
-    stands = tt;
-    searched = refl;
-    going = going;
-  }
-
-  -- both sides may be gone on with
-  pub enter_beside_open : (b : Bool) → IsGoingPath f n holds ((x, not b) ∷ path_of_stack stack) → IsGoingPath f n holds ((x, b) ∷ path_of_stack stack)
-      → MayEnter f n holds s stack x b Untried
-  enter_beside_open b other going = record {
-    is = w.is;
-    source = w.source;
-    free = w.free;
-    fits = (here, w.source);
-    stands = open_stands (PlaceInSources f n holds) ((x, not b) ∷ path_of_stack stack) other;
-    searched = refl;
-    going = going;
-  }
-
-  -- both sides are closed
-  pub both_closed : (b : Bool) (done : List Node) → done ≡ Forced x b ∷ Closed ∷ [] → IsClosedPath f n holds ((x, b) ∷ path_of_stack stack)
-      → IsClosedPath f n holds ((x, not b) ∷ path_of_stack stack) → MayClimb f n holds s stack done
-  both_closed b done e this other = record {
-    is = w.is;
-    stands = subst (StandsBelow (PlaceInSources f n holds) (path_of_stack stack)) (sym e)
-        (forced_stands (PlaceInSources f n holds) (path_of_stack stack) x b (Closed ∷ []) ((here.0, here.1, other), w.source)
-        (closed_stands (PlaceInSources f n holds) ((x, b) ∷ path_of_stack stack) this));
-    closed = ap open_count e;
-  }
+pub tested_case : {f : Fault} {n : Netlist} {holds : Holds} {s : Sim} {point : Point} → IsTestAt f n holds s point → IsOfCase f n holds s
+tested_case {f} {n} {holds} {s} w = of_case f n holds s w.path w.at
 
 -- where no source is X the search can't go on
 none_left : (path : Path) (ids : List ℕ) → All (λ x. is_none (decisions path x) ≡ false) ids → undecided path ids ≡ 0

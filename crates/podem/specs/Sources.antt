@@ -1,5 +1,5 @@
 -- Decisions on inputs and cells alone. (PODEM: Goel, An implicit enumeration algorithm to generate tests, 1981.)
-use Rattle.std.specs.Prelude.{ℕ, ◌≡◌, ◌+◌, ◌^◌, ◌<◌, Bool, List, [], ◌∷◌, ◌++◌, map, length, Option, None, is_none, slice_index_or, if◌then◌else◌}
+use Rattle.std.specs.Prelude.{ℕ, ◌^◌, ◌<◌, Bool, List, [], ◌++◌, map, length, Option, None, is_none, slice_index_or}
 use Rattle.std.specs.List.{Contains, filter}
 use Rattle.netlist.specs.declared.kinds.Tri.{Tri}
 use Rattle.netlist.specs.declared.lines.Fault.{Fault}
@@ -27,11 +27,6 @@ held holds x = slice_index_or holds x None
 -- what may be decided: the inputs that aren't held, then the cells
 abbrev pub sources : Netlist → Holds → List ℕ
 sources n holds = filter (λ x. is_none (held holds x)) n.inputs ++ map (λ (d : Definition). d.id) (cells n)
-
--- how many of these signals aren't decided
-abbrev pub undecided : Path → List ℕ → ℕ
-undecided path [] = 0
-undecided path (x ∷ xs) = (if is_none (decisions path x) then 1 else 0) + undecided path xs
 
 -- the value of a source under held inputs and a path, and those of all of them
 abbrev pub value_of : Holds → Path → ℕ → Tri

@@ -5,7 +5,7 @@ ghost use Rattle.netlist.specs.Holds.{AreHoldsOf};
 ghost use Rattle.pair_sim.specs.Sims.{sim};
 ghost use Rattle.redundancy_cert.specs.Evidence.{HasEvidence};
 ghost use Rattle.podem.specs.Sources.{HasSourceEvidence};
-ghost use Rattle.podem.specs.inner.Searching.{IsOfCase};
+ghost use Rattle.decision_stack.specs.Turns.{IsOfCase};
 
 use crate::guides::{Guide, Pick};
 use crate::searching::search_from;

@@ -6,39 +6,28 @@
 //! A turn looks at the other side of a decision before it goes to the wanted one. Where that is closed already, the decision is Forced and
 //! takes nothing from the backtrack limit; where it is a test, the search is over.
 //!
-//! The stack of decisions, each with what is known of its other side, stands for the tree at any time (`redundancy_cert::Side`). So nothing is
-//! recursive, and a search that gives up has its tree up to there.
-ghost use Rattle.std.specs.Prelude.{◌≡◌, ◌≤◌, ◌<◌, ◌+◌, ◌^◌, ℕ, [], ◌∷◌, length, IfOk, IfSome, OnOk, MatchOption, IsTrue, map, if◌then◌else◌};
+//! The decisions are a stack that stands for the tree at any time (`decision_stack`).
+ghost use Rattle.std.specs.Prelude.{◌≡◌, ◌≤◌, ◌<◌, [], ◌∷◌, length, IfOk, IfSome, OnOk, MatchOption, IsTrue, map};
 ghost use Rattle.std.specs.List.{All, Contains};
 ghost use Rattle.netlist.specs.declared.kinds.Tri.TheVariants.{X};
 ghost use Rattle.netlist.specs.Netlist.{signals};
 ghost use Rattle.tri.specs.Paths.{IsUnknown, IsClosedPath, IsGoingPath};
 ghost use Rattle.pair_sim.specs.Sims.{sim, HasGood, IsFree};
-ghost use Rattle.redundancy_cert.specs.Trees.{closed_count};
-ghost use Rattle.redundancy_cert.specs.Stacks.{other_nodes, path_of_stack, closed_around};
+ghost use Rattle.redundancy_cert.specs.Stacks.{path_of_stack};
 ghost use Rattle.redundancy_cert.specs.Evidence.{HasEvidence, IsTestCube};
 ghost use Rattle.netlist.specs.Holds.{AreHoldsOf};
-ghost use Rattle.podem.specs.Sources.{all_sources, sources, undecided, value_of, HasSourceEvidence};
-ghost use Rattle.podem.specs.inner.Searching.{IsAt, IsSearching, IsSeen, IsGone, IsKnownAt, MayEnter, MayClimb, IsWhole, IsTestAt, IsStepped, IsChosen, IsOfCase};
+ghost use Rattle.decision_stack.specs.Turns.{IsOfCase};
+ghost use Rattle.podem.specs.Sources.{all_sources, sources, value_of, HasSourceEvidence};
+ghost use Rattle.podem.specs.inner.Searching.{IsAt, IsSeen, IsGone, IsKnownAt, IsTestAt, IsStepped, IsChosen};
 
 use crate::guides::{Guide, best_aim};
 use cubes::Cube;
+use decision_stack::{Step, close_both, closed_tree, one_if, push, tree_so_far};
 use netlist::{Core, Fault, Holds, Point, SignalId, Tri};
 use pair_sim::{PairSim, State};
-use redundancy_cert::{Found, Node, Other, Side, Tree, Turn, end_side, whole_tree};
+use redundancy_cert::{Found, Other, Side, Tree};
 use std::alloc::{AllocError, Global};
 use testability::{Aim, Effects, signal_count};
-
-/// What comes of a turn.
-#[derive(Drop)]
-pub enum Step {
-    /// The simulation is at a test.
-    Found(Point),
-    /// The tree is whole.
-    Done(Vec<Node>),
-    /// The search goes on; whether there is one Closed more.
-    On(bool),
-}
 
 /// Looks at a side, and comes back unless it's a test.
 fn look(labels: &mut PairSim, signal: SignalId, bit: bool) -> State
@@ -80,57 +69,6 @@ fn first_free(labels: &PairSim, ids: &[SignalId]) -> Option<SignalId>
         }
     }
     None
-}
-
-/// Puts a decision onto the stack, and goes there.
-fn enter(
-    core: &Core,
-    fault: &Fault,
-    holds: &Holds,
-    labels: &mut PairSim,
-    stack: &mut Vec<Side>,
-    signal: SignalId,
-    bit: bool,
-    other: Other,
-) -> Result<(), AllocError>
-    requires { MayEnter fault.now core.now holds.now labels.old stack.old.items signal bit other }
-    ensures searching { OnOk result (IsSearching fault.now core.now holds.now labels.new stack.new.items
-        (closed_around stack.old.items + closed_count (other_nodes other))) }
-    ensures fewer { OnOk result (undecided (path_of_stack stack.new.items) (sources core.now holds.now) < undecided (path_of_stack stack.old.items) (sources core.now holds.now)) }
-{
-    stack.push(Side { signal, bit, other })?;
-    labels.assign(signal, bit);
-    Ok(())
-}
-
-/// The search of the path's end is done with this tree: goes on at the last side that is untried, or gives the whole tree.
-fn climb(
-    core: &Core,
-    fault: &Fault,
-    holds: &Holds,
-    effects: &mut Effects,
-    labels: &mut PairSim,
-    stack: &mut Vec<Side>,
-    mut done: Vec<Node>,
-) -> Result<Option<Vec<Node>>, AllocError>
-    requires { MayClimb fault.now core.now holds.now labels.old stack.old.items done.items }
-    ensures { IfOk result (λ tree. MatchOption tree
-        (IsSearching fault.now core.now holds.now labels.new stack.new.items (closed_around stack.old.items + closed_count done.items))
-        (λ nodes. IsWhole fault.now core.now holds.now nodes.items (closed_around stack.old.items + closed_count done.items) × IsOfCase fault.now core.now holds.now labels.new)) }
-{
-    while stack.len() > 0 {
-        labels.undo();
-        effects.cut(labels.trail().len());
-        match end_side(stack, done)? {
-            Turn::Climbed(nodes) => done = nodes,
-            Turn::Turned => {
-                let last = &stack[stack.len() - 1];
-                labels.assign(last.signal, last.bit);
-                return Ok(None);
-            }
-        }
-    }
-    Ok(Some(done))
 }
 
 /// A source that is X: while the search may go on there is one.
@@ -232,25 +170,6 @@ fn choose(
     }
 }
 
-/// The tree of one Closed.
-fn closed_tree(alloc: Global) -> Result<Vec<Node>, AllocError>
-    ensures { IfOk result (λ v. v.items ≡ Node.Closed ∷ []) }
-{
-    let mut nodes = Vec::new(alloc);
-    nodes.push(Node::Closed)?;
-    Ok(nodes)
-}
-
-/// The tree of a Forced and one Closed.
-fn forced_tree(alloc: Global, signal: SignalId, bit: bool) -> Result<Vec<Node>, AllocError>
-    ensures { IfOk result (λ v. v.items ≡ Node.Forced signal bit ∷ Node.Closed ∷ []) }
-{
-    let mut nodes = Vec::new(alloc);
-    nodes.push(Node::Forced(signal, bit))?;
-    nodes.push(Node::Closed)?;
-    Ok(nodes)
-}
-
 /// A turn where this side is closed: goes to the other one.
 fn after_closed(
     alloc: Global,
@@ -265,32 +184,18 @@ fn after_closed(
 ) -> Result<Step, AllocError>
     requires chosen { IsChosen fault.now core.now holds.now labels.old stack.old.items signal }
     requires closed { IsClosedPath fault.now core.now holds.now ((signal, bit) ∷ path_of_stack stack.old.items) }
-    ensures { IfOk result (IsStepped fault.now core.now holds.now labels.new stack.old.items stack.new.items (closed_around stack.old.items)) }
+    ensures { IfOk result (IsStepped fault.now core.now holds.now stack.old.items labels.new stack.new.items) }
 {
     core.netlist().sound();
     match go(labels, signal, !bit) {
         State::Test(point) => Ok(Step::Found(point)),
-        State::Blocked => {
-            let done = forced_tree(alloc, signal, bit)?;
-            match climb(core, fault, holds, effects, labels, stack, done)? {
-                Some(nodes) => Ok(Step::Done(nodes)),
-                None => Ok(Step::On(true)),
-            }
-        }
-        State::Going => {
-            stack.push(Side {
-                signal,
-                bit: !bit,
-                other: Other::Shut,
-            })?;
-            Ok(Step::On(false))
-        }
+        State::Blocked => close_both(alloc, effects, labels, stack, signal, bit),
+        State::Going => push(stack, signal, !bit, Other::Shut),
     }
 }
 
 /// A turn where this side may be gone on with: goes to the other one, and to this one where that is closed.
 fn after_going(
-    alloc: Global,
     core: &Core,
     fault: &Fault,
     holds: &Holds,
@@ -301,23 +206,16 @@ fn after_going(
 ) -> Result<Step, AllocError>
     requires chosen { IsChosen fault.now core.now holds.now labels.old stack.old.items signal }
     requires going { IsGoingPath fault.now core.now holds.now ((signal, bit) ∷ path_of_stack stack.old.items) }
-    ensures { IfOk result (IsStepped fault.now core.now holds.now labels.new stack.old.items stack.new.items (closed_around stack.old.items)) }
+    ensures { IfOk result (IsStepped fault.now core.now holds.now stack.old.items labels.new stack.new.items) }
 {
     core.netlist().sound();
     match go(labels, signal, !bit) {
         State::Test(point) => Ok(Step::Found(point)),
         State::Blocked => {
-            enter(core, fault, holds, labels, stack, signal, bit, Other::Shut)?;
-            Ok(Step::On(false))
+            labels.assign(signal, bit);
+            push(stack, signal, bit, Other::Shut)
         }
-        State::Going => {
-            stack.push(Side {
-                signal,
-                bit: !bit,
-                other: Other::Untried,
-            })?;
-            Ok(Step::On(false))
-        }
+        State::Going => push(stack, signal, !bit, Other::Untried),
     }
 }
 
@@ -334,7 +232,7 @@ fn take_turn(
 ) -> Result<Step, AllocError>
     requires at { IsAt fault.now core.now holds.now labels.old stack.old.items }
     requires going { IsGoingPath fault.now core.now holds.now (path_of_stack stack.old.items) }
-    ensures { IfOk result (IsStepped fault.now core.now holds.now labels.new stack.old.items stack.new.items (closed_around stack.old.items)) }
+    ensures { IfOk result (IsStepped fault.now core.now holds.now stack.old.items labels.new stack.new.items) }
 {
     core.netlist().sound();
     effects.follow(core, fault, labels)?;
@@ -344,9 +242,7 @@ fn take_turn(
         State::Blocked => after_closed(
             alloc, core, fault, holds, effects, labels, stack, aim.signal, !aim.bit,
         ),
-        State::Going => after_going(
-            alloc, core, fault, holds, labels, stack, aim.signal, !aim.bit,
-        ),
+        State::Going => after_going(core, fault, holds, labels, stack, aim.signal, !aim.bit),
     }
 }
 
@@ -392,21 +288,6 @@ fn cube_there(
     Ok(Cube::new(inputs, cells))
 }
 
-/// The tree of one Open.
-fn open_tree(alloc: Global) -> Result<Vec<Node>, AllocError>
-    ensures { IfOk result (λ v. v.items ≡ Node.Open ∷ []) }
-{
-    let mut nodes = Vec::new(alloc);
-    nodes.push(Node::Open)?;
-    Ok(nodes)
-}
-
-fn one_if(more: bool) -> u32
-    ensures { result ≡ (if more then 1 else 0) }
-{
-    if more { 1 } else { 0 }
-}
-
 /// The search from the path without decisions, where it may go on.
 fn search_on(
     alloc: Global,
@@ -440,8 +321,7 @@ fn search_on(
             Step::On(more) => closed += one_if(more),
         }
     }
-    let open = open_tree(alloc)?;
-    let nodes = whole_tree(alloc, stack, open)?;
+    let nodes = tree_so_far(alloc, stack)?;
     Ok(Found::Partial(Tree::new(nodes)))
 }
 

@@ -8,7 +8,7 @@ use Rattle.netlist.specs.Conditions.{IsSound}
 use Rattle.pair_sim.specs.Sims.{Sim}
 use Rattle.podem.specs.Sources.{all_sources, value_of}
 use Rattle.podem.proofs.Owns.{source_signal}
-use Rattle.podem.proofs.Finish.{good_value}
+use Rattle.podem.proofs.Values.{good_value}
 use Rattle.podem.proofs.searching.source_values.Goals as goal
 
 pub good-requires : goal.good-requires

@@ -1,0 +1,4 @@
+pub mod Bounds
+pub mod Climbs
+pub mod Finish
+pub mod Standing
