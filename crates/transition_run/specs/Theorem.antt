@@ -26,14 +26,11 @@ use Rattle.transition.specs.Detections.{IsLastTransition, LastTransition}
 use Rattle.transition_play.specs.LaunchVectors.{IsStrobedBehind}
 use Rattle.transition_play.specs.SlowPassing.{FailsSlowlyAt, PassesSlowly, RunsSlowly}
 use Rattle.transition_files.specs.LaunchFiles.{IsLaunchFileOf}
+use Rattle.transition_tests.specs.Batches.{IsDetected}
 use Rattle.transition_tests.specs.Verdicts.{FitsFrames, IsNeeded}
 use Rattle.transition_report.specs.declared.reporting.TransitionReport.{TransitionReport}
 use Rattle.transition_report.specs.Numbers.{IsReportOf}
 use Rattle.transition_report.specs.Texts.{transition_certificate, transition_report_text, transition_text}
-
--- some pattern of the list detects the transition fault
-abbrev pub IsDetected : Netlist → List Pattern → Fault → Type 0
-IsDetected n patterns f = (place : ℕ) × (point : Point) × IsLastTransition n patterns f place point
 
 -- those of the faults that no pattern detects, in order
 abbrev pub AreUndetected : Netlist → List Pattern → List Fault → List Fault → Type 0
