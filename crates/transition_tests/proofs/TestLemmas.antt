@@ -1,5 +1,5 @@
 -- What comes of the faults is true of the patterns that are kept.
-use Rattle.std.proofs.Common.{◌≡◌, ℕ, zero, suc, ◌+◌, ◌<◌, ◌≤◌, Bool, true, false, not, map, List, [], ◌∷◌, ◌++◌, length, get_or, Option, Some, None, refl, sym, ◌∙◌, subst, arith}
+use Rattle.std.proofs.Common.{◌≡◌, ℕ, zero, suc, ◌+◌, ◌<◌, Bool, true, false, not, map, List, [], ◌∷◌, ◌++◌, length, get_or, Option, Some, None, refl, sym, subst, arith}
 use Rattle.std.specs.Prelude.{IfSome}
 use Rattle.std.specs.List.{All, AllZip, Contains, slice_get}
 use Rattle.std.specs.Option.{is_some}
@@ -15,9 +15,9 @@ use Rattle.netlist.proofs.Lists.{contains_head}
 use Rattle.cubes.specs.Cubes.{Cube, Pattern, IsPatternOf}
 use Rattle.redundancy_cert.specs.declared.engine.Found.{Found}
 use Rattle.redundancy_cert.specs.declared.engine.Found.TheVariants.{Test, Closed, Partial}
-use Rattle.reverse_compact.specs.Kept.{is_last_at, kept_from, marked_from, new_place}
+use Rattle.reverse_compact.specs.Kept.{is_last_at, kept_from, new_place}
 use Rattle.reverse_compact.specs.inner.Marks.{last_at}
-use Rattle.reverse_compact.proofs.KeepLemmas.{kept_all, kept_few, source}
+use Rattle.reverse_compact.proofs.KeepLemmas.{kept_all, source}
 use Rattle.reverse_compact.proofs.LastPlaces.{last_kept, marked_by, never_kept, some_marked}
 use Rattle.fault_universe.specs.Universe.{universe_of}
 use Rattle.transition_frames.specs.Frames.{frames_of, frame_fault}

@@ -1,4 +1,4 @@
-use Rattle.std.proofs.Common.{◌≡◌, ℕ, Bool, List, length, map, not, subst, sym, ◌∙◌, ap, arith, Option}
+use Rattle.std.proofs.Common.{ℕ, Bool, List, length, map, not, subst, sym, ◌∙◌, ap, arith, Option}
 use Rattle.std.specs.List.{AllZip}
 use Rattle.std.specs.Option.{is_some}
 use Rattle.netlist.specs.declared.lines.Fault.{Fault}

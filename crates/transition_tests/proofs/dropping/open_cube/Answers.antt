@@ -1,4 +1,4 @@
-use Rattle.std.proofs.Common.{◌≡◌, ◌∙◌, ap, length, map}
+use Rattle.std.proofs.Common.{◌∙◌, ap, length, map}
 use Rattle.std.proofs.lemmas.List.{length-map, length-replicate}
 use Rattle.netlist.specs.declared.kinds.Tri.TheVariants.{X}
 use Rattle.netlist.specs.Netlist.{Definition, Netlist, cells}

@@ -1,4 +1,3 @@
-use Rattle.std.proofs.Common.{ap, arith}
 use Rattle.transition_tests.proofs.CubeLemmas.{agreeing_behind, all_behind, behind_count}
 use Rattle.transition_tests.proofs.filling.patterns_of.Goals as goal
 

@@ -1,6 +1,5 @@
-use Rattle.std.proofs.Common.{◌≡◌, ◌<◌, ℕ, List, length, refl, subst, sym, ◌∙◌, ap, arith, Option}
+use Rattle.std.proofs.Common.{◌≡◌, ℕ, List, length, refl, subst, sym, ◌∙◌, ap, arith, Option}
 use Rattle.std.specs.List.{All, AllZip, Contains}
-use Rattle.std.specs.Prelude.{IfSome}
 use Rattle.std.proofs.lemmas.List.Elements.{All-contains}
 use Rattle.netlist.specs.declared.lines.Fault.{Fault}
 use Rattle.netlist.specs.declared.lines.Point.{Point}
@@ -11,13 +10,11 @@ use Rattle.cubes.specs.Cubes.{Cube, Pattern, IsCubeOf}
 use Rattle.word_sim.specs.Words.{HasWidthsOf}
 use Rattle.word_sim.proofs.WidthLemmas.{widths}
 use Rattle.fault_universe.specs.Universe.{universe_of}
-use Rattle.redundancy_cert.specs.declared.engine.Found.{Found}
-use Rattle.reverse_compact.specs.Kept.{is_last_at, kept_from, new_place}
+use Rattle.reverse_compact.specs.Kept.{is_last_at}
 use Rattle.reverse_compact.proofs.KeepLemmas.{kept_few}
 use Rattle.transition.specs.Detections.{LastTransition}
 use Rattle.transition.proofs.Gathering.{universe_few, universe_lines}
 use Rattle.transition_tests.specs.inner.Cubes.{cubes_in, HasAgreeing}
-use Rattle.transition_tests.specs.inner.Ends.{AreEnds, IsTold}
 use Rattle.transition_tests.proofs.CubeLemmas.{all_cubes, few_patterns}
 use Rattle.transition_tests.proofs.TestLemmas.{all_known, all_told, last_within, tests_are}
 use Rattle.transition_tests.proofs.keeping.tests_of.Goals as goal
