@@ -198,8 +198,8 @@ def run(texts, options, runs):
 
 def transition(texts, options):
     """The texts of a test for slow lines. Every search comes to an end where the backtrack limit is that of all bits of the signals on which it
-    splits. The patterns are known where the tests of each fault are those of one cube, which is what a search that decides no more than it
-    needs finds. The searches choose the trees."""
+    splits. A batch of drawn patterns comes first. The patterns are known where the tests of each fault that the batch leaves are those of one cube,
+    which is what a search that decides no more than it needs finds. The searches choose the trees."""
     netlist = netlist_of(texts[0])
     limit, sources = int(options.get("--limit", "100")), len(netlist.inputs + netlist.cells)
     if sources > plain_transition.MOST_SOURCES:
@@ -210,10 +210,12 @@ def transition(texts, options):
     tests = plain_transition.tests_of(netlist)
     detected = sum(bool(each) for each in tests)
     totals = f"faults {len(tests)} detected {detected} redundant {len(tests) - detected} aborted 0"
-    cubes = [plain_transition.cube_of(each) for each in tests if each]
+    seed = int(options.get("--seed", "1"))
+    batch = plain_transition.batch_of(netlist, seed)
+    last = plain_transition.SlowLines(netlist, chains, batch).last
+    cubes = [plain_transition.cube_of(each) for each, known in zip(tests, last) if each and known is None]
     if None not in cubes:
-        patterns = plain_transition.filled(netlist, cubes, int(options.get("--seed", "1")))
-        situation = plain_transition.kept(netlist, chains, patterns)
+        situation = plain_transition.kept(netlist, chains, batch + plain_transition.filled(netlist, cubes, seed))
         stil = plain_transition.stil_of(netlist, chains, situation.patterns).decode()
         report = plain_transition.report_of(situation, limit)
         shown = f"{totals} patterns {len(situation.patterns)} cycles {situation.cycles()}\n"

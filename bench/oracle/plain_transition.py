@@ -20,6 +20,7 @@ from plain_stil import is_stil
 from sample_netlist import Pcg32
 
 MOST_SOURCES = 12
+BATCH = 64
 SLOW = ("rise", "fall")  # of a line that is slow to leave 0, or 1
 FAULT = re.compile(r"((?:stem|out) \S+|pin \S+ \d+) (rise|fall) ")
 
@@ -239,6 +240,12 @@ def cube_of(tests):
     """The bits that all tests of a fault have, where its tests are all patterns that have these; else None."""
     cube = {name: bit for name, bit in tests[0].items() if all(test[name] == bit for test in tests)}
     return cube if len(tests) == 2 ** (len(tests[0]) - len(cube)) else None
+
+
+def batch_of(netlist, seed):
+    """The patterns that are drawn before any search: one word a bit, in order."""
+    words = Pcg32(seed, 1)
+    return [{name: words.next_u32() & 1 for name in netlist.inputs + netlist.cells} for _ in range(BATCH)]
 
 
 def filled(netlist, cubes, seed):

@@ -26,20 +26,17 @@ use Rattle.transition.specs.Detections.{IsLastTransition, LastTransition}
 use Rattle.transition_play.specs.LaunchVectors.{IsStrobedBehind}
 use Rattle.transition_play.specs.SlowPassing.{FailsSlowlyAt, PassesSlowly, RunsSlowly}
 use Rattle.transition_files.specs.LaunchFiles.{IsLaunchFileOf}
+use Rattle.transition_tests.specs.Batches.{IsDetected}
 use Rattle.transition_tests.specs.Verdicts.{FitsFrames, IsNeededForTransitions}
 use Rattle.transition_report.specs.declared.reporting.TransitionReport.{TransitionReport}
 use Rattle.transition_report.specs.Numbers.{IsReportOf}
 use Rattle.transition_report.specs.Texts.{transition_certificate, transition_report_text, transition_text}
 
--- some pattern of the list detects the transition fault
-abbrev pub IsDetectedTransition : Netlist → List Pattern → Fault → Type 0
-IsDetectedTransition n patterns f = (place : ℕ) × (point : Point) × IsLastTransition n patterns f place point
-
 -- those of the faults that no pattern detects, in order
 abbrev pub AreUndetectedTransitions : Netlist → List Pattern → List Fault → List Fault → Type 0
 AreUndetectedTransitions n patterns [] left = left ≡ []
 AreUndetectedTransitions n patterns (f ∷ fs) left =
-    (IsDetectedTransition n patterns f × AreUndetectedTransitions n patterns fs left)
+    (IsDetected n patterns f × AreUndetectedTransitions n patterns fs left)
     ⊎ (LastTransition n patterns f None × ((rest : List Fault) × (left ≡ f ∷ rest) × AreUndetectedTransitions n patterns fs rest))
 
 module _ (n : Netlist) (chains : List (List ℕ)) (limit : ℕ) (patterns : List Pattern) (trees : List (Fault × List Node)) (cycles : List Cycle) where

@@ -1,5 +1,5 @@
-//! From a design to the five files of its transition faults. Searches come first, each on two frames of its own, and then one simulation of all
-//! patterns: there is no list that workers share, and so no lock.
+//! From a design to the five files of its transition faults. A batch of drawn patterns drops most faults that can be detected; the others are
+//! searched, each on two frames of its own, and then all patterns are simulated: there is no list that workers share, and so no lock.
 ghost use Rattle.std.specs.Prelude.{◌≡◌, ◌<◌, ◌≤◌, ◌^◌, IfOk, length};
 ghost use Rattle.std.specs.List.{All};
 ghost use Rattle.limits.specs.Limits.{most_workers};
@@ -24,12 +24,12 @@ use scan_insert::insert;
 use std::alloc::Global;
 use std::thread::Threads;
 use stil_write::write_stil;
-use transition::search_all;
+use transition::search_left;
 use transition_files::stil2_of;
 use transition_report::{
     TransitionReport, leaves_of, lines_of, report_of, write_certificate, write_report,
 };
-use transition_tests::{Tests, tests_of};
+use transition_tests::{Tests, batch_of, left_by, tests_of};
 
 /// How a run goes: at most so many chains, so many workers, at most so many closed ends a search,
 /// and the seed of the bits that cubes leave open.
@@ -149,6 +149,42 @@ fn texts_of(
     })
 }
 
+/// Tests of these faults: drawn patterns, searches for what they leave, and of all patterns those that are needed.
+fn slow_tests<R: Threads + Sync, E: Engine + Sync>(
+    rt: &R,
+    alloc: Global,
+    core: &Core,
+    faults: &FaultSet,
+    plan: TransitionPlan,
+    engine: &E,
+) -> Result<Tests, NoMemory>
+    requires design { IsDesign core.now }
+    requires faults { faults.now ≡ universe_of core.now }
+    requires limit { 1 ≤ plan.limit }
+    requires workers { 0 < plan.workers }
+    ensures tests { IfOk result (λ t. AreTests core.now plan.limit t.patterns.items t.verdicts.items) }
+    ensures few { IfOk result (λ t. length t.patterns.items < 2 ^ 32) }
+{
+    let netlist = core.netlist();
+    netlist.sound();
+    let batch = batch_of(alloc, core, plan.seed)?;
+    let left = left_by(alloc, core, faults, batch.as_slice())?;
+    let marks = left.as_slice();
+    let found = search_left(
+        rt,
+        alloc,
+        netlist,
+        engine,
+        faults,
+        marks,
+        plan.limit,
+        plan.workers,
+    )?;
+    tests_of(
+        alloc, core, faults, batch, marks, found, plan.limit, plan.seed,
+    )
+}
+
 /// Makes the five files of a design's transition faults. Whatever the number of workers, what the files say comes true.
 pub fn transition_files<R: Threads + Sync, E: Engine + Sync>(
     rt: &R,
@@ -168,8 +204,7 @@ pub fn transition_files<R: Threads + Sync, E: Engine + Sync>(
     few_faults();
     let chains = stitch(alloc, netlist.cells(), plan.chains)?;
     let faults = universe(alloc, netlist)?;
-    let found = search_all(rt, alloc, netlist, engine, plan.limit, plan.workers)?;
-    let tests = tests_of(alloc, core, &faults, found, plan.limit, plan.seed)?;
+    let tests = slow_tests(rt, alloc, core, &faults, plan, engine)?;
     let files = texts_of(alloc, core, &chains, &faults, tests, plan.limit)?;
     written_tells_the_truth();
     Ok(files)

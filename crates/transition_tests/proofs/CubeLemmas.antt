@@ -1,10 +1,10 @@
 -- The cubes of tests, and patterns that have their bits.
-use Rattle.std.proofs.Common.{◌≡◌, ℕ, zero, suc, ◌+◌, ◌-◌, ◌<◌, ◌≤◌, ◌^◌, inl, inr, Bool, true, false, List, [], ◌∷◌, ◌++◌, length, get_or, take, take_all, refl, sym, ◌∙◌, ap, subst, arith}
-use Rattle.std.specs.List.{All, AllPairs, AllZip, Contains}
+use Rattle.std.proofs.Common.{◌≡◌, ℕ, zero, suc, ◌+◌, ◌-◌, ◌<◌, ◌≤◌, ◌^◌, inl, inr, Bool, true, false, List, [], ◌∷◌, ◌++◌, length, map, length-append, get_or, take, take_all, Option, Some, None, refl, sym, ◌∙◌, ap, subst, arith}
+use Rattle.std.specs.List.{All, AllPairs, AllZip, Contains, slice_get}
 use Rattle.std.proofs.lemmas.Bool.{cases_lt}
 use Rattle.std.proofs.lemmas.List.{get_or-append_right, get_or_past, length-map, take_more}
-use Rattle.std.proofs.lemmas.Slice.Zip.{AllZip-long, all_zipped_more}
-use Rattle.std.proofs.lemmas.List.Elements.{All-nil, All-cons, All-contains}
+use Rattle.std.proofs.lemmas.Slice.Zip.{all_zipped_more}
+use Rattle.std.proofs.lemmas.List.Elements.{All-nil, All-cons, All-append, All-contains, Contains-append_right}
 use Rattle.netlist.specs.declared.kinds.Tri.{Tri}
 use Rattle.netlist.specs.declared.kinds.Tri.TheVariants.{Zero, One, X}
 use Rattle.netlist.specs.declared.lines.Fault.{Fault}
@@ -12,15 +12,15 @@ use Rattle.netlist.specs.Holds.{none_held}
 use Rattle.netlist.specs.Netlist.{Netlist, cells}
 use Rattle.netlist.specs.ThreeValues.{known, allows, AreAllowed}
 use Rattle.netlist.proofs.Lists.{contains_head, contains_tail}
-use Rattle.cubes.specs.Cubes.{Cube, Pattern, AgreesWith, HasBitsOf, HaveSameWidths, IsCubeOf}
+use Rattle.cubes.specs.Cubes.{Cube, Pattern, AgreesWith, HasBitsOf, HaveSameWidths, IsCubeOf, IsPatternOf}
 use Rattle.cubes.proofs.RowLemmas.{bit_left, bit_right, known_is_no_x, row_left}
 use Rattle.fault_universe.specs.Universe.{fault_limit}
 use Rattle.redundancy_cert.specs.declared.engine.Found.{Found}
 use Rattle.redundancy_cert.specs.declared.engine.Found.TheVariants.{Test, Closed, Partial}
 use Rattle.transition_frames.specs.Frames.{frames_of, in_first}
 use Rattle.transition_frames.proofs.Framed.{cells_framed}
-use Rattle.transition.specs.Searches.{AreFound, HasFrameEvidence}
-use Rattle.transition_tests.specs.inner.Cubes.{cube_of, cubes_in, HasAgreeing}
+use Rattle.transition_tests.specs.inner.Answers.{IsKnown}
+use Rattle.transition_tests.specs.inner.Cubes.{cubes_in, HasAgreeing}
 
 -- ---- the cubes of answers
 
@@ -39,34 +39,38 @@ frame_cube n f c is = record {
   held = is.held;
 }
 
-pub all_cubes : (n : Netlist) (limit : ℕ) (faults : List Fault) (found : List Found) → AreFound n limit faults found → All (IsCubeOf n (none_held n)) (cubes_in found)
-all_cubes n limit [] [] are = All-nil (IsCubeOf n (none_held n))
-all_cubes n limit [] (x ∷ xs) are = elim are [ ]
-all_cubes n limit (f ∷ fs) [] are = elim are [ ]
-all_cubes n limit (f ∷ fs) (Test c o ∷ xs) are = All-cons (IsCubeOf n (none_held n)) c (cubes_in xs) (frame_cube n f c are.0.is_cube) (all_cubes n limit fs xs are.1)
-all_cubes n limit (f ∷ fs) (Closed t ∷ xs) are = all_cubes n limit fs xs are.1
-all_cubes n limit (f ∷ fs) (Partial t ∷ xs) are = all_cubes n limit fs xs are.1
+pub all_cubes : (n : Netlist) (limit : ℕ) (batch : List Pattern) (faults : List Fault) (found : List (Option Found)) → AllZip (IsKnown n limit batch) faults found
+    → All (IsCubeOf n (none_held n)) (cubes_in found)
+all_cubes n limit batch [] [] are = All-nil (IsCubeOf n (none_held n))
+all_cubes n limit batch [] (x ∷ xs) are = elim are [ ]
+all_cubes n limit batch (f ∷ fs) [] are = elim are [ ]
+all_cubes n limit batch (f ∷ fs) (None ∷ xs) are = all_cubes n limit batch fs xs are.1
+all_cubes n limit batch (f ∷ fs) (Some (Test c o) ∷ xs) are =
+    All-cons (IsCubeOf n (none_held n)) c (cubes_in xs) (frame_cube n f c are.0.is_cube) (all_cubes n limit batch fs xs are.1)
+all_cubes n limit batch (f ∷ fs) (Some (Closed t) ∷ xs) are = all_cubes n limit batch fs xs are.1
+all_cubes n limit batch (f ∷ fs) (Some (Partial t) ∷ xs) are = all_cubes n limit batch fs xs are.1
 
-pub few_cubes : (found : List Found) → length (cubes_in found) ≤ length found
+pub few_cubes : (found : List (Option Found)) → length (cubes_in found) ≤ length found
 few_cubes [] = omega arith
-few_cubes (Test c o ∷ xs) = let rest = few_cubes xs in omega arith
-few_cubes (Closed t ∷ xs) = let rest = few_cubes xs in omega arith
-few_cubes (Partial t ∷ xs) = let rest = few_cubes xs in omega arith
+few_cubes (None ∷ xs) = let rest = few_cubes xs in omega arith
+few_cubes (Some (Test c o) ∷ xs) = let rest = few_cubes xs in omega arith
+few_cubes (Some (Closed t) ∷ xs) = let rest = few_cubes xs in omega arith
+few_cubes (Some (Partial t) ∷ xs) = let rest = few_cubes xs in omega arith
 
--- patterns are no more than cubes, and so than faults
-pub few_patterns : (n : Netlist) (limit : ℕ) (faults : List Fault) (found : List Found) (cubes : List Cube) (patterns : List Pattern) → AreFound n limit faults found
-    → length faults < fault_limit → cubes ≡ cubes_in found → length patterns ≤ length cubes → length patterns + 64 ≤ 2 ^ 32
-few_patterns n limit faults found cubes patterns are few is fewer =
-    let size = AllZip-long (HasFrameEvidence n limit) faults found are in
+-- behind the batch patterns are no more than cubes, and so than faults
+pub few_patterns : (faults : List Fault) (found : List (Option Found)) (cubes : List Cube) (batch patterns : List Pattern) → length found ≡ length faults
+    → length faults < fault_limit → cubes ≡ cubes_in found → length batch ≤ 64 → length patterns ≤ length batch + length cubes → length patterns + 64 ≤ 2 ^ 32
+few_patterns faults found cubes batch patterns size few is small fewer =
     let count = few_cubes found in
     let same = ap length is in
     omega arith
 
 -- the cubes of the other answers stand among all
-pub other_cube : (x : Found) (xs : List Found) (c : Cube) → Contains (cubes_in xs) c → Contains (cubes_in (x ∷ xs)) c
-other_cube (Test d o) xs c is = contains_tail d c (cubes_in xs) is
-other_cube (Closed t) xs c is = is
-other_cube (Partial t) xs c is = is
+pub other_cube : (x : Option Found) (xs : List (Option Found)) (c : Cube) → Contains (cubes_in xs) c → Contains (cubes_in (x ∷ xs)) c
+other_cube None xs c is = is
+other_cube (Some (Test d o)) xs c is = contains_tail d c (cubes_in xs) is
+other_cube (Some (Closed t)) xs c is = is
+other_cube (Some (Partial t)) xs c is = is
 
 -- ---- bits of a part
 
@@ -139,3 +143,33 @@ agreeing n cubes merged patterns fit fits kept agree c is =
     let wide = All-contains (IsCubeOf n (none_held n)) cubes c fit is in
     let wider = All-contains (IsCubeOf n (none_held n)) merged r.0 fits r.1 in
     (p.0, p.1, part_agrees p.0 r.0 c (record { inputs = wider.inputs ∙ sym wide.inputs; cells = wider.cells ∙ sym wide.cells }) r.2 p.2)
+
+-- ---- behind a batch
+
+pub all_behind : (n : Netlist) (batch filled patterns : List Pattern) → All (IsPatternOf n (none_held n)) batch → All (IsPatternOf n (none_held n)) filled
+    → patterns ≡ batch ++ filled → All (IsPatternOf n (none_held n)) patterns
+all_behind n batch filled patterns obey obeys is =
+    subst (λ (ps : List Pattern). All (IsPatternOf n (none_held n)) ps) (sym is) (All-append (IsPatternOf n (none_held n)) batch filled obey obeys)
+
+pub agreeing_behind : (batch filled patterns : List Pattern) (c : Cube) → patterns ≡ batch ++ filled → HasAgreeing filled c → HasAgreeing patterns c
+agreeing_behind batch filled patterns c is has =
+    (has.0, subst (λ (ps : List Pattern). Contains ps has.0) (sym is) (Contains-append_right batch filled has.0 has.1), has.2)
+
+pub behind_count : (batch filled patterns : List Pattern) (k : ℕ) → patterns ≡ batch ++ filled → length filled ≤ k → length patterns ≤ length batch + k
+behind_count batch filled patterns k is few = omega (arith, ap length is, length-append batch filled, few)
+
+-- ---- a batch of drawn patterns
+
+none_obeyed : {X : Type 0} (xs : List X) (k : ℕ) (b : Bool) → slice_get (map (λ _. None) xs) k ≡ Some (Some b) → ⊥
+none_obeyed [] k b e = cc
+none_obeyed (x ∷ xs) zero b e = cc
+none_obeyed (x ∷ xs) (suc k) b e = none_obeyed xs k b e
+
+-- values of the netlist's widths are a cube of it, where no input is held
+pub open_is_cube : (n : Netlist) (c : Cube) (inputs state : List Tri) → c ≡ record { inputs = inputs; cells = state } → length inputs ≡ length n.inputs → length state ≡ length (cells n)
+    → IsCubeOf n (none_held n) c
+open_is_cube n c inputs state is wide high = subst (IsCubeOf n (none_held n)) (sym is) (record {
+  inputs = wide;
+  cells = high;
+  held = λ k b e. absurd (none_obeyed n.inputs k b e);
+})

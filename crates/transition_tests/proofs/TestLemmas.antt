@@ -1,7 +1,8 @@
 -- What comes of the faults is true of the patterns that are kept.
-use Rattle.std.proofs.Common.{◌≡◌, ℕ, zero, suc, ◌+◌, ◌<◌, ◌≤◌, Bool, true, List, [], ◌∷◌, length, get_or, Option, Some, None, refl, sym, ◌∙◌, subst, arith}
+use Rattle.std.proofs.Common.{◌≡◌, ℕ, zero, suc, ◌+◌, ◌<◌, Bool, true, false, not, map, List, [], ◌∷◌, ◌++◌, length, get_or, Option, Some, None, refl, sym, subst, arith}
 use Rattle.std.specs.Prelude.{IfSome}
 use Rattle.std.specs.List.{All, AllZip, Contains, slice_get}
+use Rattle.std.specs.Option.{is_some}
 use Rattle.std.proofs.lemmas.List.Elements.{All-nil, All-cons, All-head, All-tail}
 use Rattle.std.proofs.lemmas.Option.{slice_get_read, slice_get_within, slice_get-get_or}
 use Rattle.netlist.specs.declared.lines.Fault.{Fault}
@@ -14,50 +15,95 @@ use Rattle.netlist.proofs.Lists.{contains_head}
 use Rattle.cubes.specs.Cubes.{Cube, Pattern, IsPatternOf}
 use Rattle.redundancy_cert.specs.declared.engine.Found.{Found}
 use Rattle.redundancy_cert.specs.declared.engine.Found.TheVariants.{Test, Closed, Partial}
-use Rattle.reverse_compact.specs.Kept.{is_last_at, kept_from, marked_from, new_place}
+use Rattle.reverse_compact.specs.Kept.{is_last_at, kept_from, new_place}
 use Rattle.reverse_compact.specs.inner.Marks.{last_at}
-use Rattle.reverse_compact.proofs.KeepLemmas.{kept_all, kept_few, source}
+use Rattle.reverse_compact.proofs.KeepLemmas.{kept_all, source}
 use Rattle.reverse_compact.proofs.LastPlaces.{last_kept, marked_by, never_kept, some_marked}
 use Rattle.fault_universe.specs.Universe.{universe_of}
 use Rattle.transition_frames.specs.Frames.{frames_of, frame_fault}
 use Rattle.transition.specs.Detections.{IsLastTransition, LastTransition}
-use Rattle.transition.specs.Searches.{AreFound, HasFrameEvidence}
+use Rattle.transition.specs.Searches.{AreFoundWhereLeft, IsFoundIfLeft}
 use Rattle.transition.proofs.Answering.{test_detects_transition}
 use Rattle.transition.proofs.LastTold.{to_frames, from_frames}
 use Rattle.transition_tests.specs.declared.verdicts.TransitionVerdict.{TransitionVerdict}
+use Rattle.transition_tests.specs.Batches.{AreLeftBy, IsLeftBy}
 use Rattle.transition_tests.specs.Verdicts.{AreTests, IsNeededForTransitions, IsVerdict}
-use Rattle.transition_tests.specs.inner.Cubes.{cubes_in, HasAgreeing}
+use Rattle.transition_tests.specs.inner.Answers.{IsKnown}
+use Rattle.transition_tests.specs.inner.Cubes.{BeginsWith, cubes_in, HasAgreeing}
 use Rattle.transition_tests.specs.inner.Ends.{AreEnds, IsEnd, IsTold}
 use Rattle.transition_tests.proofs.CubeLemmas.{other_cube}
 
--- ---- where a test was found, some pattern detects
+-- ---- which faults a batch leaves
 
-module _ (n : Netlist) (sound : IsSound n) (limit : ℕ) (patterns : List Pattern) where
-  told_one : (f : Fault) (x : Found) (last : Option (ℕ × Point)) → IsLineOf n f.line → HasFrameEvidence n limit f x → LastTransition n patterns f last
+pub left_where_none : (n : Netlist) (batch : List Pattern) (faults : List Fault) (lasts : List (Option (ℕ × Point))) → AllZip (LastTransition n batch) faults lasts
+    → AreLeftBy n batch faults (map (λ (l : Option (ℕ × Point)). not (is_some l)) lasts)
+left_where_none n batch [] [] are = tt
+left_where_none n batch [] (l ∷ lasts) are = elim are [ ]
+left_where_none n batch (f ∷ faults) [] are = elim are [ ]
+left_where_none n batch (f ∷ faults) (None ∷ lasts) are = (are.0, left_where_none n batch faults lasts are.1)
+left_where_none n batch (f ∷ faults) (Some l ∷ lasts) are = ((l.0, l.1, are.0), left_where_none n batch faults lasts are.1)
+
+-- ---- what is known of faults, once those that a batch leaves were searched
+
+module _ (n : Netlist) (limit : ℕ) (batch : List Pattern) where
+  known_one : (f : Fault) (left : Bool) (x : Option Found) → IsLeftBy n batch f left → IsFoundIfLeft n limit f left x → IsKnown n limit batch f x
+  known_one f true (Some x) by is = is
+  known_one f true None by is = elim is [ ]
+  known_one f false x by is = subst (IsKnown n limit batch f) (sym is) by
+
+  pub all_known : (faults : List Fault) (left : List Bool) (found : List (Option Found)) → AreLeftBy n batch faults left → AreFoundWhereLeft n limit faults left found
+      → AllZip (IsKnown n limit batch) faults found
+  all_known [] left [] by are = tt
+  all_known [] left (x ∷ found) by are = absurd (let size = are.size in omega arith)
+  all_known (f ∷ faults) [] found by are = elim by [ ]
+  all_known (f ∷ faults) (b ∷ left) [] by are = absurd (let size = are.size in omega arith)
+  all_known (f ∷ faults) (b ∷ left) (x ∷ found) by are = (
+    known_one f b x by.0 (are.each zero f refl),
+    all_known faults left found by.1 (record { size = let size = are.size in omega arith; each = λ k g at. are.each (suc k) g at }),
+  )
+
+-- ---- where a test was found, or the batch detects, some pattern detects
+
+-- a pattern of the batch has its place among all
+at_front : (xs ys : List Pattern) (k : ℕ) (p : Pattern) → slice_get xs k ≡ Some p → slice_get (xs ++ ys) k ≡ Some p
+at_front [] ys k p e = cc
+at_front (x ∷ xs) ys zero p e = e
+at_front (x ∷ xs) ys (suc k) p e = at_front xs ys k p e
+
+module _ (n : Netlist) (sound : IsSound n) (limit : ℕ) (batch patterns : List Pattern) (begins : BeginsWith batch patterns) where
+  told_one : (f : Fault) (x : Option Found) (last : Option (ℕ × Point)) → IsLineOf n f.line → IsKnown n limit batch f x → LastTransition n patterns f last
       → ((c : Cube) → Contains (cubes_in (x ∷ [])) c → HasAgreeing patterns c) → IsTold x last
-  told_one f x (Some l) line evidence is agree = tt
-  told_one f (Test c o) None line evidence never agree =
+  told_one f x (Some l) line known is agree = tt
+  told_one f None None line known never agree =
+      let here = known.2.here in
+      never known.0 known.1 (record {
+        pattern = here.pattern;
+        at = subst (λ (ps : List Pattern). slice_get ps known.0 ≡ Some here.pattern) (sym begins.1) (at_front batch begins.0 known.0 here.pattern here.at);
+        detects = here.detects;
+      })
+  told_one f (Some (Test c o)) None line evidence never agree =
       let p = agree c (contains_head c []) in
       never p.1.0 o (record {
         pattern = p.0;
         at = slice_get_read patterns (length patterns) p.1.0 p.0 refl p.1.1 (sym p.1.2);
         detects = test_detects_transition n f c o p.0 sound line evidence p.2;
       })
-  told_one f (Closed t) None line evidence is agree = tt
-  told_one f (Partial t) None line evidence is agree = tt
+  told_one f (Some (Closed t)) None line evidence is agree = tt
+  told_one f (Some (Partial t)) None line evidence is agree = tt
 
-  first_cube : (x : Found) (xs : List Found) (c : Cube) → Contains (cubes_in (x ∷ [])) c → Contains (cubes_in (x ∷ xs)) c
-  first_cube (Test d o) xs c is = only (Test d o) d xs c is
+  first_cube : (x : Option Found) (xs : List (Option Found)) (c : Cube) → Contains (cubes_in (x ∷ [])) c → Contains (cubes_in (x ∷ xs)) c
+  first_cube None xs c is = absurd (let lt = is.1 in omega arith)
+  first_cube (Some (Test d o)) xs c is = only d xs c is
     where
-      only : (x : Found) (d : Cube) (xs : List Found) (c : Cube) → Contains (d ∷ []) c → Contains (d ∷ cubes_in xs) c
-      only x d xs c (k, lt, e) =
+      only : (d : Cube) (xs : List (Option Found)) (c : Cube) → Contains (d ∷ []) c → Contains (d ∷ cubes_in xs) c
+      only d xs c (k, lt, e) =
           let first : k ≡ zero = omega arith in
           (zero, omega arith, subst (λ (i : ℕ). get_or (d ∷ []) i c ≡ c) first e)
-  first_cube (Closed t) xs c is = absurd (let lt = is.1 in omega arith)
-  first_cube (Partial t) xs c is = absurd (let lt = is.1 in omega arith)
+  first_cube (Some (Closed t)) xs c is = absurd (let lt = is.1 in omega arith)
+  first_cube (Some (Partial t)) xs c is = absurd (let lt = is.1 in omega arith)
 
-  pub all_told : (faults : List Fault) (found : List Found) (lasts : List (Option (ℕ × Point))) → All (λ (f : Fault). IsLineOf n f.line) faults
-      → AreFound n limit faults found → AllZip (LastTransition n patterns) faults lasts → ((c : Cube) → Contains (cubes_in found) c → HasAgreeing patterns c)
+  pub all_told : (faults : List Fault) (found : List (Option Found)) (lasts : List (Option (ℕ × Point))) → All (λ (f : Fault). IsLineOf n f.line) faults
+      → AllZip (IsKnown n limit batch) faults found → AllZip (LastTransition n patterns) faults lasts → ((c : Cube) → Contains (cubes_in found) c → HasAgreeing patterns c)
       → AllZip IsTold found lasts
   all_told [] [] [] lines are is agree = tt
   all_told [] [] (l ∷ lasts) lines are is agree = elim is [ ]
@@ -83,7 +129,7 @@ last_within n patterns (f ∷ faults) (Some l ∷ lasts) are =
 
 -- ---- among the patterns that are kept
 
-module _ (n : Netlist) (sound : IsSound n) (limit : ℕ) (patterns : List Pattern) (marked : ℕ → Bool) where
+module _ (n : Netlist) (sound : IsSound n) (limit : ℕ) (batch patterns : List Pattern) (marked : ℕ → Bool) where
   kept_last : (f : Fault) (k : ℕ) (o : Point) → IsLineOf n f.line → marked k ≡ true → IsLastTransition n patterns f k o
       → IsLastTransition n (kept_from marked 0 patterns) f (new_place marked k) o
   kept_last f k o line mark is =
@@ -104,18 +150,19 @@ module _ (n : Netlist) (sound : IsSound n) (limit : ℕ) (patterns : List Patter
       never_kept (frames_of n f) patterns marked (frame_fault n f) (λ p o d. never p o (from_frames n sound patterns f line p o d)) place q
       (to_frames n sound (kept_from marked 0 patterns) f line place q t)
 
-  verdict_is : (f : Fault) (x : Found) (last : Option (ℕ × Point)) (v : TransitionVerdict) → IsLineOf n f.line → HasFrameEvidence n limit f x → LastTransition n patterns f last
+  verdict_is : (f : Fault) (x : Option Found) (last : Option (ℕ × Point)) (v : TransitionVerdict) → IsLineOf n f.line → IsKnown n limit batch f x → LastTransition n patterns f last
       → ((l : ℕ × Point) → last ≡ Some l → marked l.0 ≡ true) → IsEnd (new_place marked) x last v → IsVerdict n limit (kept_from marked 0 patterns) f v
   verdict_is f x (Some l) v line evidence is mark end =
       subst (IsVerdict n limit (kept_from marked 0 patterns) f) (sym end) (kept_last f l.0 l.1 line (mark l refl) is)
-  verdict_is f (Test c o) None v line evidence never mark end = elim end [ ]
-  verdict_is f (Closed t) None v line evidence never mark end =
+  verdict_is f None None v line known never mark end = elim end [ ]
+  verdict_is f (Some (Test c o)) None v line evidence never mark end = elim end [ ]
+  verdict_is f (Some (Closed t)) None v line evidence never mark end =
       subst (IsVerdict n limit (kept_from marked 0 patterns) f) (sym end) (kept_never f line never, evidence.0, evidence.1)
-  verdict_is f (Partial t) None v line evidence never mark end =
+  verdict_is f (Some (Partial t)) None v line evidence never mark end =
       subst (IsVerdict n limit (kept_from marked 0 patterns) f) (sym end) (kept_never f line never, evidence.0, evidence.1, evidence.2)
 
-  verdicts_are : (faults : List Fault) (found : List Found) (lasts : List (Option (ℕ × Point))) (vs : List TransitionVerdict) → All (λ (f : Fault). IsLineOf n f.line) faults
-      → AreFound n limit faults found → AllZip (LastTransition n patterns) faults lasts → ((c : ℕ) (l : ℕ × Point) → last_at lasts c ≡ Some l → marked l.0 ≡ true)
+  verdicts_are : (faults : List Fault) (found : List (Option Found)) (lasts : List (Option (ℕ × Point))) (vs : List TransitionVerdict) → All (λ (f : Fault). IsLineOf n f.line) faults
+      → AllZip (IsKnown n limit batch) faults found → AllZip (LastTransition n patterns) faults lasts → ((c : ℕ) (l : ℕ × Point) → last_at lasts c ≡ Some l → marked l.0 ≡ true)
       → AreEnds (new_place marked) found lasts vs → AllZip (IsVerdict n limit (kept_from marked 0 patterns)) faults vs
   verdicts_are [] [] [] [] lines are is mark ends = tt
   verdicts_are [] [] [] (v ∷ vs) lines are is mark ends = elim ends [ ]
@@ -139,19 +186,19 @@ needed_at n sound patterns faults lasts lines are place p at =
     let start : 0 + s.place ≡ s.place = omega arith in
     let mark : marked s.place ≡ true = subst (λ (i : ℕ). marked i ≡ true) start s.mark in
     let by = marked_by (LastTransition n patterns) faults lasts s.place are mark in
-    let last = kept_last n sound 0 patterns marked by.0 s.place by.2.0 (lines by.0 by.1) mark by.2.1 in
+    let last = kept_last n sound 0 patterns patterns marked by.0 s.place by.2.0 (lines by.0 by.1) mark by.2.1 in
     (by.0, by.1, (by.2.0, subst (λ (k : ℕ). IsLastTransition n (kept_from marked 0 patterns) by.0 k by.2.0) s.new last))
 
-pub tests_are : (n : Netlist) (sound : IsSound n) (limit : ℕ) (patterns : List Pattern) (found : List Found) (lasts : List (Option (ℕ × Point))) (kept : List Pattern) (vs : List TransitionVerdict)
+pub tests_are : (n : Netlist) (sound : IsSound n) (limit : ℕ) (batch patterns : List Pattern) (found : List (Option Found)) (lasts : List (Option (ℕ × Point))) (kept : List Pattern) (vs : List TransitionVerdict)
     → All (IsPatternOf n (none_held n)) patterns → ((f : Fault) → Contains (universe_of n) f → IsLineOf n f.line) → All (λ (f : Fault). IsLineOf n f.line) (universe_of n)
-    → AreFound n limit (universe_of n) found → AllZip (LastTransition n patterns) (universe_of n) lasts
+    → AllZip (IsKnown n limit batch) (universe_of n) found → AllZip (LastTransition n patterns) (universe_of n) lasts
     → kept ≡ kept_from (is_last_at lasts) 0 patterns → AreEnds (new_place (is_last_at lasts)) found lasts vs → AreTests n limit kept vs
-tests_are n sound limit patterns found lasts kept vs obey lines all are is kept_is ends =
+tests_are n sound limit batch patterns found lasts kept vs obey lines all are is kept_is ends =
     subst (λ (ps : List Pattern). AreTests n limit ps vs) (sym kept_is) (record {
       obey = kept_all (IsPatternOf n (none_held n)) (is_last_at lasts) 0 patterns obey;
       needed = λ place lt.
           let left = kept_from (is_last_at lasts) 0 patterns in
           let nothing : Pattern = record { inputs = []; cells = [] } in
           needed_at n sound patterns (universe_of n) lasts lines is place (get_or left place nothing) (slice_get-get_or left place nothing lt);
-      each = verdicts_are n sound limit patterns (is_last_at lasts) (universe_of n) found lasts vs all are is (some_marked lasts) ends;
+      each = verdicts_are n sound limit batch patterns (is_last_at lasts) (universe_of n) found lasts vs all are is (some_marked lasts) ends;
     })

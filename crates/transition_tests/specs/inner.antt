@@ -1,3 +1,4 @@
 -- What the contracts of private functions cite.
+pub mod Answers
 pub mod Cubes
 pub mod Ends

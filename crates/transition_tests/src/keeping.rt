@@ -5,7 +5,10 @@ ghost use Rattle.std.specs.List.{All, AllZip};
 ghost use Rattle.netlist.specs.Designs.{IsDesign};
 ghost use Rattle.fault_universe.specs.Universe.{universe_of};
 ghost use Rattle.reverse_compact.specs.Kept.{is_last_at, kept_from, new_place};
-ghost use Rattle.transition.specs.Searches.{AreFound};
+ghost use Rattle.netlist.specs.Holds.{none_held};
+ghost use Rattle.cubes.specs.Cubes.{IsPatternOf};
+ghost use Rattle.transition.specs.Searches.{AreFoundWhereLeft};
+ghost use Rattle.transition_tests.specs.Batches.{AreLeftBy};
 ghost use Rattle.transition_tests.specs.Verdicts.{AreTests};
 ghost use Rattle.transition_tests.specs.inner.Ends.{AreEnds, IsEnd, IsTold};
 
@@ -20,7 +23,7 @@ use std::alloc::{AllocError, Global};
 use transition::last_tells2;
 
 /// What comes of a fault: where it is last detected, by the new place of that pattern, or else what the search answered.
-fn verdict_of(answer: Found, last: &Option<(u32, Point)>, places: &[u32]) -> TransitionVerdict
+fn verdict_of(answer: Option<Found>, last: &Option<(u32, Point)>, places: &[u32]) -> TransitionVerdict
     requires told { IsTold answer last.now }
     requires within { IfSome last.now (λ l. l.0 < length places.now) }
     ensures { IsEnd (λ k. slice_index places.now k) answer last.now result }
@@ -29,16 +32,16 @@ fn verdict_of(answer: Found, last: &Option<(u32, Point)>, places: &[u32]) -> Tra
         return TransitionVerdict::Detected(places[*place as usize], *point);
     }
     match answer {
-        Found::Test(_, _) => unreachable!(),
-        Found::Closed(tree) => TransitionVerdict::Redundant(tree),
-        Found::Partial(tree) => TransitionVerdict::Aborted(tree),
+        None | Some(Found::Test(_, _)) => unreachable!(),
+        Some(Found::Closed(tree)) => TransitionVerdict::Redundant(tree),
+        Some(Found::Partial(tree)) => TransitionVerdict::Aborted(tree),
     }
 }
 
 /// What comes of each fault.
 fn verdicts_of(
     alloc: Global,
-    found: Vec<Found>,
+    found: Vec<Option<Found>>,
     last: &[Option<(u32, Point)>],
     places: &[u32],
 ) -> Result<Vec<TransitionVerdict>, AllocError>
@@ -60,7 +63,7 @@ fn keep(
     alloc: Global,
     patterns: Vec<Pattern>,
     last: &[Option<(u32, Point)>],
-    found: Vec<Found>,
+    found: Vec<Option<Found>>,
 ) -> Result<Tests, AllocError>
     requires told { AllZip IsTold found.items last.now }
     requires within { All (λ l. IfSome l (λ p. p.0 < length patterns.items)) last.now }
@@ -75,28 +78,34 @@ fn keep(
     Ok(Tests { patterns, verdicts })
 }
 
-/// Tests of a design's transition faults from what the searches found of each: their cubes merged in the order of faults and filled from this
-/// seed, and of the patterns those that are the last to detect some fault.
+/// Tests of a design's transition faults from what the searches found of those that a batch of patterns leaves: behind the batch their cubes, merged
+/// in the order of faults and filled from this seed, and of all patterns those that are the last to detect some fault.
 pub fn tests_of(
     alloc: Global,
     core: &Core,
     faults: &FaultSet,
-    found: Vec<Found>,
+    batch: Vec<Pattern>,
+    left: &[bool],
+    found: Vec<Option<Found>>,
     limit: u32,
     seed: u64,
 ) -> Result<Tests, NoMemory>
     requires design { IsDesign core.now }
     requires faults { faults.now ≡ universe_of core.now }
-    requires found { AreFound core.now limit (universe_of core.now) found.items }
+    requires batch { All (IsPatternOf core.now (none_held core.now)) batch.items }
+    requires count { length batch.items ≤ 64 }
+    requires left { AreLeftBy core.now batch.items (universe_of core.now) left.now }
+    requires found { AreFoundWhereLeft core.now limit (universe_of core.now) left.now found.items }
     ensures tests { IfOk result (λ t. AreTests core.now limit t.patterns.items t.verdicts.items) }
     ensures few { IfOk result (λ t. length t.patterns.items < 2 ^ 32) }
 {
     let _ = limit;
+    let _ = left;
     core.netlist().sound();
     let Ok(cubes) = cubes_of(alloc, &found) else {
         return Err(NoMemory);
     };
-    let patterns = patterns_of(alloc, core, &cubes, seed)?;
+    let patterns = patterns_of(alloc, core, batch, &cubes, seed)?;
     let last = last_tells2(alloc, core, faults, &patterns)?;
     let Ok(tests) = keep(alloc, patterns, &last, found) else {
         return Err(NoMemory);

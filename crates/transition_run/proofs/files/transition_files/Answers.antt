@@ -7,7 +7,6 @@ use Rattle.scan_play.proofs.ApplyLemmas.{few_cells}
 use Rattle.scan_insert.specs.Scanned.{cell_ids}
 use Rattle.fault_universe.specs.Universe.{universe_of}
 use Rattle.good_files.specs.ScanOff.{design_chains}
-use Rattle.transition.specs.Searches.{AreFound}
 use Rattle.transition_run.specs.inner.Written.{IsWritten}
 use Rattle.transition_run.proofs.FileLemmas.{are_chains, dealt}
 use Rattle.transition_run.proofs.files.transition_files.Goals as goal
@@ -21,9 +20,8 @@ pub stitch-requires-clause-distinct : goal.stitch-requires-clause-distinct
 stitch-requires-clause-distinct g c =
     cells_distinct c.netlist-netlist.result.now c.sound.ensures.formed.numbered c.cells.result.now c.cells.ensures
 
-pub tests_of-requires-clause-found : goal.tests_of-requires-clause-found
-tests_of-requires-clause-found g c =
-    subst (λ (m : Netlist). AreFound m c.args.plan.limit (universe_of m) c.in_ok-found.found.items) c.netlist-netlist.ensures c.in_ok-found.ensures
+pub slow_tests-requires-clause-faults : goal.slow_tests-requires-clause-faults
+slow_tests-requires-clause-faults g c = c.in_ok-faults.ensures ∙ ap universe_of c.netlist-netlist.ensures
 
 pub texts_of-requires-clause-chains : goal.texts_of-requires-clause-chains
 texts_of-requires-clause-chains g c =

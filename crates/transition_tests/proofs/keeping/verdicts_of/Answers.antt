@@ -1,4 +1,4 @@
-use Rattle.std.proofs.Common.{◌≡◌, ◌++◌, ◌∷◌, [], ℕ, List, length, get_or, None, sym, ◌∙◌, ap, arith, append_assoc, length-append}
+use Rattle.std.proofs.Common.{◌≡◌, ◌++◌, ◌∷◌, [], ℕ, List, get_or, Option, None, sym, ◌∙◌, ap, arith, append_assoc, length-append}
 use Rattle.std.proofs.lemmas.List.{get_or_default}
 use Rattle.redundancy_cert.specs.declared.engine.Found.{Found}
 use Rattle.transition_tests.proofs.EndLemmas.{ends_all, ends_more, told_at}
@@ -8,14 +8,14 @@ pub bounds-last-fault : goal.bounds-last-fault
 bounds-last-fault c =
     let i = c.loop-answer.invariant in
     let t = told_at c.args.found.items c.loop-answer.yielded c.next.new.self.rest.items c.in-Some.answer c.args.last.now c.loop-answer.fault c.requires.told
-    (sym (ap (λ (xs : List Found). c.loop-answer.yielded ++ xs) c.in-Some.ensures.steps.0) ∙ i.left) i.count in
+    (sym (ap (λ (xs : List (Option Found)). c.loop-answer.yielded ++ xs) c.in-Some.ensures.steps.0) ∙ i.left) i.count in
     t.0
 
 pub verdict_of-requires-clause-told : goal.verdict_of-requires-clause-told
 verdict_of-requires-clause-told c =
     let i = c.loop-answer.invariant in
     let t = told_at c.args.found.items c.loop-answer.yielded c.next.new.self.rest.items c.in-Some.answer c.args.last.now c.loop-answer.fault c.requires.told
-    (sym (ap (λ (xs : List Found). c.loop-answer.yielded ++ xs) c.in-Some.ensures.steps.0) ∙ i.left) i.count in
+    (sym (ap (λ (xs : List (Option Found)). c.loop-answer.yielded ++ xs) c.in-Some.ensures.steps.0) ∙ i.left) i.count in
     t.1
 
 pub loop-answer-preserved : goal.loop-answer-preserved
@@ -25,7 +25,7 @@ loop-answer-preserved c =
     let last = c.args.last.now in
     let done = c.loop-answer.yielded in
     let next : c.loop-answer.yielded ++ c.in-Some.answer ∷ c.next.new.self.rest.items ≡ c.args.found.items =
-    sym (ap (λ (xs : List Found). c.loop-answer.yielded ++ xs) c.in-Some.ensures.steps.0) ∙ i.left in
+    sym (ap (λ (xs : List (Option Found)). c.loop-answer.yielded ++ xs) c.in-Some.ensures.steps.0) ∙ i.left in
     let t = told_at c.args.found.items done c.next.new.self.rest.items c.in-Some.answer last k c.requires.told next i.count in
     record {
       count = simp length-append (omega (arith, i.count));

@@ -1,0 +1,13 @@
+-- What is known of a fault before all patterns are simulated.
+use Rattle.std.specs.Prelude.{ℕ, List, Option, Some, None}
+use Rattle.netlist.specs.declared.lines.Fault.{Fault}
+use Rattle.netlist.specs.Netlist.{Netlist}
+use Rattle.cubes.specs.Cubes.{Pattern}
+use Rattle.redundancy_cert.specs.declared.engine.Found.{Found}
+use Rattle.transition.specs.Searches.{HasFrameEvidence}
+use Rattle.transition_tests.specs.Batches.{IsDetected}
+
+-- what its search answered, or without a search that some pattern of the batch detects it
+abbrev pub IsKnown : Netlist → ℕ → List Pattern → Fault → Option Found → Type 0
+IsKnown n limit batch f (Some found) = HasFrameEvidence n limit f found
+IsKnown n limit batch f None = IsDetected n batch f

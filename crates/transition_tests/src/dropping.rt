@@ -1,0 +1,95 @@
+//! Faults that drawn patterns detect aren't searched: most of those that can be detected are so by 64 patterns, in a fraction of the time of their searches.
+ghost use Rattle.std.specs.Prelude.{◌≡◌, ◌≤◌, length, map, IfOk, not};
+ghost use Rattle.std.specs.List.{All};
+ghost use Rattle.std.specs.Option.{is_some};
+ghost use Rattle.netlist.specs.Designs.{IsDesign};
+ghost use Rattle.netlist.specs.Holds.{none_held};
+ghost use Rattle.cubes.specs.Cubes.{IsCubeOf, IsPatternOf};
+ghost use Rattle.fault_universe.specs.Universe.{universe_of};
+ghost use Rattle.transition_tests.specs.Batches.{AreLeftBy};
+
+use cubes::{Cube, Pattern, fill};
+use fault_universe::FaultSet;
+use netlist::{Core, NoMemory, Point, Tri};
+use rand_core::Rng;
+use rand_pcg::Lcg64Xsh32;
+use std::alloc::{AllocError, Global};
+use transition::last_tells2;
+
+/// How many patterns are drawn: as many as one word of a simulation has.
+const BATCH: usize = 64;
+
+/// The stream of the drawn patterns. Cubes are filled from stream 0.
+const BATCH_STREAM: u64 = 1;
+
+/// A cube that leaves each bit open.
+fn open_cube(alloc: Global, core: &Core) -> Result<Cube, AllocError>
+    ensures { IfOk result (IsCubeOf core.now (none_held core.now)) }
+{
+    let netlist = core.netlist();
+    let inputs = vec![in alloc; Tri::X; netlist.inputs().len()]?;
+    let cells = vec![in alloc; Tri::X; netlist.cells().len()]?;
+    Ok(Cube::new(inputs, cells))
+}
+
+/// A batch of patterns, each drawn as a whole.
+fn drawn<N: Rng>(
+    alloc: Global,
+    core: &Core,
+    blank: &Cube,
+    rng: &mut N,
+) -> Result<Vec<Pattern>, NoMemory>
+    requires { IsCubeOf core.now (none_held core.now) blank.now }
+    ensures obey { IfOk result (λ v. All (IsPatternOf core.now (none_held core.now)) v.items) }
+    ensures count { IfOk result (λ v. length v.items ≤ 64) }
+{
+    let _ = core;
+    let mut patterns = Vec::new(alloc);
+    for _done in 0..BATCH {
+        let pattern = fill(alloc, blank, rng)?;
+        let Ok(()) = patterns.push(pattern) else {
+            return Err(NoMemory);
+        };
+    }
+    Ok(patterns)
+}
+
+/// The patterns that are drawn from a seed before any fault is searched.
+pub fn batch_of(alloc: Global, core: &Core, seed: u64) -> Result<Vec<Pattern>, NoMemory>
+    ensures obey { IfOk result (λ v. All (IsPatternOf core.now (none_held core.now)) v.items) }
+    ensures count { IfOk result (λ v. length v.items ≤ 64) }
+{
+    let Ok(open) = open_cube(alloc, core) else {
+        return Err(NoMemory);
+    };
+    let mut rng = Lcg64Xsh32::new(seed, BATCH_STREAM);
+    drawn(alloc, core, &open, &mut rng)
+}
+
+/// Whether each fault is left, by where it is last detected.
+fn undetected(alloc: Global, last: &[Option<(u32, Point)>]) -> Result<Vec<bool>, AllocError>
+    ensures { IfOk result (λ v. v.items ≡ map (λ l. not (is_some l)) last.now) }
+{
+    last.iter().map(|l| l.is_none()).collect(alloc)
+}
+
+/// Which faults no pattern of the batch detects: those that are left to be searched.
+pub fn left_by(
+    alloc: Global,
+    core: &Core,
+    faults: &FaultSet,
+    batch: &[Pattern],
+) -> Result<Vec<bool>, NoMemory>
+    requires design { IsDesign core.now }
+    requires faults { faults.now ≡ universe_of core.now }
+    requires obey { All (IsPatternOf core.now (none_held core.now)) batch.now }
+    requires count { length batch.now ≤ 64 }
+    ensures { IfOk result (λ v. AreLeftBy core.now batch.now (universe_of core.now) v.items) }
+{
+    core.netlist().sound();
+    let last = last_tells2(alloc, core, faults, batch)?;
+    let Ok(left) = undetected(alloc, &last) else {
+        return Err(NoMemory);
+    };
+    Ok(left)
+}
