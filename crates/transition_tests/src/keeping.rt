@@ -23,7 +23,11 @@ use std::alloc::{AllocError, Global};
 use transition::last_tells2;
 
 /// What comes of a fault: where it is last detected, by the new place of that pattern, or else what the search answered.
-fn verdict_of(answer: Option<Found>, last: &Option<(u32, Point)>, places: &[u32]) -> TransitionVerdict
+fn verdict_of(
+    answer: Option<Found>,
+    last: &Option<(u32, Point)>,
+    places: &[u32],
+) -> TransitionVerdict
     requires told { IsTold answer last.now }
     requires within { IfSome last.now (λ l. l.0 < length places.now) }
     ensures { IsEnd (λ k. slice_index places.now k) answer last.now result }
