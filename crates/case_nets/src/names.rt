@@ -7,7 +7,7 @@ use fault_universe::signal_count;
 use netlist::{Fault, Line, Netlist, SignalId};
 use std::alloc::AllocError;
 
-/// The signal of a name.
+/// None where no signal has the name.
 pub fn signal(netlist: &Netlist, name: &str) -> Option<SignalId>
     ensures { IfSome result (λ x. x < length (signals netlist.now)) }
 {
