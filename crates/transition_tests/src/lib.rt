@@ -1,6 +1,6 @@
 //! Tests for slow lines: what the searches found, merged, filled and simulated; the patterns that are needed, and a verdict for each fault.
 //!
-//! Gives: `tests_of`, `Tests`, `Verdict`.
+//! Gives: `tests_of`, `Tests`, `TransitionVerdict`.
 //! Proved: `tests_of`: patterns of the netlist, each the last to detect some transition fault, and a verdict for each fault with its evidence: its
 //! last pattern and first point, or its tree.
 //! Tested: run by `transition`.
@@ -12,4 +12,4 @@ mod keeping;
 mod verdicts;
 
 pub use keeping::tests_of;
-pub use verdicts::{Tests, Verdict};
+pub use verdicts::{Tests, TransitionVerdict};
