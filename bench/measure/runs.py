@@ -1,4 +1,5 @@
 """What the benches of whole runs share: circuits, a command's seconds and memory, and the files of a run."""
+import math
 import os
 import re
 import subprocess
@@ -79,3 +80,8 @@ def numbers_of(printed):
     if match is None:
         sys.exit(f"no line of a run: {printed[:300]}")
     return [int(each) for each in match.groups()]
+
+
+def power_from(other, gates, seconds):
+    """The power of the gates by which the time grows from another netlist's, which is its gates and seconds; nothing without one."""
+    return "" if other is None else f"{math.log(seconds / other[1]) / math.log(gates / other[0]):.2f}"

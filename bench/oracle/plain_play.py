@@ -4,17 +4,6 @@ import plain_design as plain
 from plain_check import X, tri_gate
 
 
-def cycles_of(netlist, chains, items):
-    """Each cycle's drives of the scanned netlist's inputs, strobes of its outputs, and whether there is a pulse."""
-    count, inputs, outputs = len(chains), len(netlist.inputs), len(netlist.outputs)
-    for item in items:
-        if item[0] == "call":
-            for t in range(len(item[1][0])):
-                yield "0" * inputs + "1" + "".join(word[t] for word in item[1]), "X" * outputs + "".join(word[t] for word in item[2]), True
-        else:
-            yield item[1] + "0" * (count + 1 if chains else 0), item[2] + "X" * count, bool(chains)
-
-
 def unmet(scanned, cycles, fault):
     """The strobes that aren't met, in order: cycle, pin, and whether nothing is known there."""
     line, stuck = fault if fault else (None, X)

@@ -1,5 +1,5 @@
 //! The evaluator by events beside evaluation from scratch.
-ghost use Rattle.std.specs.Prelude.{◌≡◌, ◌<◌, [], IfOk, length};
+ghost use Rattle.std.specs.Prelude.{◌≡◌, ◌<◌, IfOk, length};
 ghost use Rattle.std.specs.List.{All};
 ghost use Rattle.netlist.specs.Designs.{IsDesign};
 ghost use Rattle.netlist.specs.Lines.{IsLineOf};
@@ -7,8 +7,8 @@ ghost use Rattle.netlist.specs.Netlist.{cells};
 ghost use Rattle.netlist.specs.declared.lines.Fault.{Fault as FaultOf};
 
 use crate::faults::all_faults;
-use crate::names::push_number;
-use crate::nets::core_of;
+use case_nets::core_of;
+use case_text::push_number;
 use events::{Events, Words};
 use netlist::{Core, Fault, Netlist};
 use rand_core::Rng;

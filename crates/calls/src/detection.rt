@@ -1,5 +1,5 @@
 //! Where faults are last detected.
-ghost use Rattle.std.specs.Prelude.{◌≡◌, ℕ, IfOk, IfSome, OnOk, length};
+ghost use Rattle.std.specs.Prelude.{ℕ, IfOk, OnOk};
 ghost use Rattle.std.specs.List.{All};
 ghost use Rattle.netlist.specs.Designs.{IsDesign};
 ghost use Rattle.netlist.specs.Lines.{IsLineOf};
@@ -7,51 +7,14 @@ ghost use Rattle.netlist.specs.declared.lines.Fault.{Fault as FaultOf};
 ghost use Rattle.word_sim.specs.Words.{HasWidthsOf};
 
 use crate::faults::{all_faults, listed};
-use crate::names::push_number;
-use crate::nets::{bits, core_of};
-use crate::trees::cut;
-use case_text::checksum;
+use case_nets::{core_of, drawn, patterns_of};
+use case_text::{checksum, push_number};
 use cubes::Pattern;
 use netlist::{Core, Fault, Netlist, Point};
-use rand_core::Rng;
 use rand_pcg::Pcg32;
 use std::alloc::{AllocError, Global};
 use word_sim::{Hit, hits, last_tells};
 
-/// The pattern of a text, `-` for no bits; nothing where it isn't as wide as the netlist.
-fn pattern_of(alloc: Global, core: &Core, text: &str) -> Result<Option<Pattern>, AllocError>
-    ensures { IfOk result (λ p. IfSome p (HasWidthsOf core.now)) }
-{
-    let (inputs, cells) = text.split_once('/').unwrap_or((text, ""));
-    let inputs = bits(alloc, inputs)?;
-    let cells = bits(alloc, cells)?;
-    if inputs.len() != core.netlist().inputs().len() {
-        return Ok(None);
-    }
-    if cells.len() != core.netlist().cells().len() {
-        return Ok(None);
-    }
-    Ok(Some(Pattern::new(inputs, cells)))
-}
-
-/// The patterns of a text, parted by blanks, up to the first one that isn't as wide as the netlist.
-pub fn patterns_of(alloc: Global, core: &Core, text: &str) -> Result<Vec<Pattern>, AllocError>
-    ensures { IfOk result (λ v. All (HasWidthsOf core.now) v.items) }
-{
-    let mut patterns = Vec::new(alloc);
-    let mut rest = text;
-    for _ in 0..text.len() {
-        let (word, more) = cut(rest);
-        let Some(pattern) = pattern_of(alloc, core, word)? else {
-            return Ok(patterns);
-        };
-        patterns.push(pattern)?;
-        rest = more;
-    }
-    Ok(patterns)
-}
-
-/// Adds where a fault is last detected.
 fn push_found(to: &mut Vec<u8>, found: Option<(u32, Point)>) -> Result<(), AllocError> {
     let Some((pattern, point)) = found else {
         return to.extend_from_slice(b"never\n");
@@ -86,7 +49,6 @@ fn push_hits(to: &mut Vec<u8>, count: usize, hits: &[Hit]) -> Result<(), AllocEr
     Ok(())
 }
 
-/// The first name of a text, and the text behind it.
 fn cut_name(text: &str) -> (&str, &str) {
     text.split_once(", ").unwrap_or((text, ""))
 }
@@ -116,7 +78,6 @@ fn faults_of(alloc: Global, netlist: &Netlist, text: &str) -> Result<Vec<Fault>,
     Ok(faults)
 }
 
-/// Faults with their places.
 fn placed(alloc: Global, core: &Core, faults: &[Fault]) -> Result<Vec<(u32, Fault)>, AllocError>
     requires { All (λ (f : FaultOf). IsLineOf core.now f.line) faults.now }
     ensures { IfOk result (λ v. All (λ (g : ℕ × FaultOf). IsLineOf core.now g.1.line) v.items) }
@@ -131,38 +92,28 @@ fn placed(alloc: Global, core: &Core, faults: &[Fault]) -> Result<Vec<(u32, Faul
     Ok(classes)
 }
 
-/// `hits FAULTS: PATTERNS`: for each fault the last pattern of one batch that detects it, and its first point.
-fn push_batch(
+/// Adds for each fault the last pattern that detects it, and its first point: of one batch, or of all patterns.
+fn push_said(
     to: &mut Vec<u8>,
     alloc: Global,
     core: &Core,
     faults: &[Fault],
     patterns: &[Pattern],
+    is_batch: bool,
 ) -> Result<(), AllocError>
     requires wide { All (HasWidthsOf core.now) patterns.now }
     requires lines { All (λ (f : FaultOf). IsLineOf core.now f.line) faults.now }
 {
-    if patterns.len() > 64 {
-        return to.extend_from_slice(b"more than 64 patterns\n");
+    if is_batch {
+        if patterns.len() > 64 {
+            return to.extend_from_slice(b"more than 64 patterns\n");
+        }
+        let classes = placed(alloc, core, faults)?;
+        return match hits(alloc, core, patterns, &classes) {
+            Ok(hits) => push_hits(to, faults.len(), &hits),
+            Err(_) => Err(AllocError),
+        };
     }
-    let classes = placed(alloc, core, faults)?;
-    match hits(alloc, core, patterns, &classes) {
-        Ok(hits) => push_hits(to, faults.len(), &hits),
-        Err(_) => Err(AllocError),
-    }
-}
-
-/// `last FAULTS: PATTERNS`: the same by all patterns.
-fn push_last(
-    to: &mut Vec<u8>,
-    alloc: Global,
-    core: &Core,
-    faults: &[Fault],
-    patterns: &[Pattern],
-) -> Result<(), AllocError>
-    requires wide { All (HasWidthsOf core.now) patterns.now }
-    requires lines { All (λ (f : FaultOf). IsLineOf core.now f.line) faults.now }
-{
     if patterns.len() > 1_000_000 {
         return to.extend_from_slice(b"more than 1000000 patterns\n");
     }
@@ -190,33 +141,9 @@ pub fn push_detected(
         return to.extend_from_slice(b"no fault\n");
     }
     let patterns = patterns_of(alloc, &core, texts)?;
-    if is_batch {
-        push_batch(to, alloc, &core, &faults, &patterns)
-    } else {
-        push_last(to, alloc, &core, &faults, &patterns)
-    }
+    push_said(to, alloc, &core, &faults, &patterns, is_batch)
 }
 
-fn drawn_bits(alloc: Global, count: usize, random: &mut Pcg32) -> Result<Vec<bool>, AllocError>
-    ensures { IfOk result (λ v. length v.items ≡ count) }
-{
-    let mut bits = Vec::with_capacity(alloc, count)?;
-    for _done in 0..count {
-        bits.push(random.next_u32() % 2 == 1)?;
-    }
-    Ok(bits)
-}
-
-/// A pattern for a netlist.
-fn drawn(alloc: Global, core: &Core, random: &mut Pcg32) -> Result<Pattern, AllocError>
-    ensures { IfOk result (HasWidthsOf core.now) }
-{
-    let inputs = drawn_bits(alloc, core.netlist().inputs().len(), random)?;
-    let cells = drawn_bits(alloc, core.netlist().cells().len(), random)?;
-    Ok(Pattern::new(inputs, cells))
-}
-
-/// So many patterns.
 fn all_drawn(
     alloc: Global,
     core: &Core,
@@ -248,11 +175,7 @@ pub fn push_drawn(
     let faults = all_faults(alloc, netlist)?;
     let patterns = all_drawn(alloc, &core, count, &mut Pcg32::new(seed, 54))?;
     let mut said = Vec::new(alloc);
-    if is_batch {
-        push_batch(&mut said, alloc, &core, &faults, &patterns)?;
-    } else {
-        push_last(&mut said, alloc, &core, &faults, &patterns)?;
-    }
+    push_said(&mut said, alloc, &core, &faults, &patterns, is_batch)?;
     push_number(to, checksum(&said))?;
     to.push(b'\n')?;
     Ok(())

@@ -3,15 +3,14 @@ ghost use Rattle.std.specs.Prelude.{◌≤◌};
 ghost use Rattle.netlist.specs.Holds.{AreHoldsOf};
 
 use crate::names::stuck;
-use crate::nets::core_of;
-use crate::trees::{cut, holds_of};
+use case_nets::{core_of, holds_of};
+use case_text::{cut, small};
 use fan::Fan;
 use netlist::{Core, Fault, Holds, Netlist, NoMemory};
 use podem::Podem;
 use redundancy_cert::Found;
 use std::alloc::{AllocError, Global};
 
-/// The word of what a search found.
 fn word_of(found: Result<Found, NoMemory>) -> Result<&'static str, AllocError> {
     match found {
         Ok(Found::Test(_, _)) => Ok("test\n"),
@@ -21,7 +20,6 @@ fn word_of(found: Result<Found, NoMemory>) -> Result<&'static str, AllocError> {
     }
 }
 
-/// Which engine searches.
 #[derive(Clone, Copy)]
 pub enum By {
     Podem,
@@ -60,7 +58,6 @@ pub fn push_search(
     let Some(fault) = stuck(core.netlist(), fault) else {
         return to.extend_from_slice(b"no fault\n");
     };
-    let limit: u32 = limit.parse().unwrap_or(1);
-    let found = found_by(by, alloc, &core, fault, limit.max(1), &holds);
+    let found = found_by(by, alloc, &core, fault, small(limit).max(1), &holds);
     to.extend_from_slice(word_of(found)?.as_bytes())
 }

@@ -1,86 +1,18 @@
 //! Trees of decisions, checked against a fault.
-ghost use Rattle.std.specs.Prelude.{IfOk, IfSome};
+ghost use Rattle.std.specs.Prelude.{IfOk};
 ghost use Rattle.std.specs.List.{All};
 ghost use Rattle.netlist.specs.Holds.{AreHoldsOf};
 ghost use Rattle.netlist.specs.Lines.{IsLineOf};
 ghost use Rattle.redundancy_cert.specs.Trees.{DecidesSignal};
 
 use crate::faults::listed;
-use crate::names::signal;
-use crate::nets::core_of;
+use case_nets::{core_of, holds_of, nodes_of, signal};
+use case_text::cut;
 use certificate::is_one_tree;
 use netlist::{Core, Fault, Holds, Netlist};
 use redundancy_cert::{Counts, Node, Tree, TreeFault, check_tree};
 use std::alloc::{AllocError, Global};
 
-/// The first word of a text and the rest.
-pub fn cut(text: &str) -> (&str, &str) {
-    text.split_once(' ').unwrap_or((text, ""))
-}
-
-/// The node that a text begins with.
-fn node_of(netlist: &Netlist, text: &str) -> Option<Node>
-    ensures { IfSome result (DecidesSignal netlist.now) }
-{
-    netlist.sound();
-    let (word, rest) = cut(text);
-    let (name, bit) = cut(rest);
-    match word {
-        "!" => Some(Node::Closed),
-        "?" => Some(Node::Open),
-        "S" => Some(Node::Split(signal(netlist, name)?)),
-        "F" => Some(Node::Forced(signal(netlist, name)?, bit.starts_with('1'))),
-        _ => None,
-    }
-}
-
-/// What stands behind the node that a text begins with.
-fn behind<'a>(node: &Node, text: &'a str) -> &'a str {
-    let (_, rest) = cut(text);
-    match node {
-        Node::Closed | Node::Open => rest,
-        Node::Split(_) => cut(rest).1,
-        Node::Forced(_, _) => cut(cut(rest).1).1,
-    }
-}
-
-/// The nodes of a text, up to the first word that begins none.
-fn nodes_of(alloc: Global, netlist: &Netlist, text: &str) -> Result<Vec<Node>, AllocError>
-    ensures { IfOk result (λ nodes. All (DecidesSignal netlist.now) nodes.items) }
-{
-    let mut nodes = Vec::new(alloc);
-    let mut rest = text;
-    for _ in 0..text.len() {
-        let Some(node) = node_of(netlist, rest) else {
-            return Ok(nodes);
-        };
-        nodes.push(node)?;
-        rest = behind(&node, rest);
-    }
-    Ok(nodes)
-}
-
-/// `a=1` holds an input at a bit; any other text holds none.
-pub fn holds_of(alloc: Global, core: &Core, text: &str) -> Result<Holds, AllocError>
-    ensures { IfOk result (AreHoldsOf core.now) }
-{
-    let Ok(mut holds) = Holds::none(alloc, core) else {
-        return Err(AllocError);
-    };
-    let netlist = core.netlist();
-    let Some((name, bit)) = text.split_once('=') else {
-        return Ok(holds);
-    };
-    let Some(id) = signal(netlist, name) else {
-        return Ok(holds);
-    };
-    if id.index() < netlist.inputs().len() {
-        holds.set(id.0, bit == "1");
-    }
-    Ok(holds)
-}
-
-/// Adds what the check of a tree answers.
 fn push_checked(to: &mut Vec<u8>, checked: Result<Counts, TreeFault>) -> Result<(), AllocError> {
     let mut digits = itoa::Buffer::new();
     match checked {
@@ -100,7 +32,6 @@ fn push_checked(to: &mut Vec<u8>, checked: Result<Counts, TreeFault>) -> Result<
     Ok(())
 }
 
-/// Checks nodes against a fault.
 fn push_nodes(
     to: &mut Vec<u8>,
     alloc: Global,

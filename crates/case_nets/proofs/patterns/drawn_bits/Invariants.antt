@@ -1,5 +1,5 @@
 use Rattle.std.proofs.Common.{◌≡◌, length}
-use Rattle.calls.proofs.detection.drawn_bits.Given as goal
+use Rattle.case_nets.proofs.patterns.drawn_bits.Given as goal
 
 abbrev pub invariant-loop-done : goal.invariant-loop-done
 invariant-loop-done l = length l.bits.items ≡ l._done

@@ -1,0 +1,34 @@
+//! Words and numbers of a line.
+use itoa::Buffer;
+use std::alloc::AllocError;
+
+/// The first word of a text, and what stands behind its blank.
+pub fn cut(text: &str) -> (&str, &str) {
+    text.split_once(' ').unwrap_or((text, ""))
+}
+
+/// A number; 0 where there is none.
+pub fn number(word: &str) -> u64 {
+    word.parse().unwrap_or(0)
+}
+
+/// A number of 32 bits; 0 where there is none.
+pub fn small(word: &str) -> u32 {
+    word.parse().unwrap_or(0)
+}
+
+/// Adds a number in decimal digits.
+pub fn push_number(to: &mut Vec<u8>, number: u32) -> Result<(), AllocError> {
+    to.extend_from_slice(Buffer::new().format(number).as_bytes())
+}
+
+/// Adds a word and numbers, a blank before each, and ends the line.
+pub fn push_numbers(to: &mut Vec<u8>, word: &[u8], numbers: &[u32]) -> Result<(), AllocError> {
+    to.extend_from_slice(word)?;
+    for number in numbers {
+        to.push(b' ')?;
+        push_number(to, *number)?;
+    }
+    to.push(b'\n')?;
+    Ok(())
+}
