@@ -6,11 +6,13 @@ use Rattle.std.proofs.lemmas.Bool.{cases_Bool, cases_lt, both_ways, and_parts, a
 use Rattle.std.proofs.lemmas.List.Folds.{list_any_more}
 use Rattle.std.proofs.lemmas.List.Elements.{Contains-push, Contains-push_cases, Contains-append_left}
 use Rattle.std.proofs.lemmas.List.{take_more}
+use Rattle.std.proofs.lemmas.Map.Views.{any-filter_same}
 use Rattle.std.proofs.lemmas.Nat.Bits.{bit_at-zero}
+use Rattle.netlist.proofs.Lists.{filter_contains, contains_filter}
 use Rattle.events.specs.declared.trails.Change.{Change}
 use Rattle.events.specs.Words.{bit_of}
 use Rattle.events.proofs.WordBits.{bit_of_and, bit_of_or}
-use Rattle.word_sim.specs.inner.Differences.{shows, IsFirstShown, AreShown, IsSole}
+use Rattle.word_sim.specs.inner.Differences.{seen_of, shows, IsFirstShown, AreShown, IsSole}
 use Rattle.word_sim.proofs.HighestBits.{highest}
 
 none_some : {X : Type 0} (x : X) → ◌≡◌ {A = Option X} None (Some x) → ⊥
@@ -98,6 +100,31 @@ module _ (first : List ℕ) (count : ℕ) (values : List ℕ) (changes : List (C
             × ((i' : ℕ) → w.0 < i' → i' < 64 → bit_of i' used ≡ true → list_any (shows first count values i') changes ≡ false)) (same_pair (k, c) (i, d) e)
             (top.0, parts.1, sym (are k top.0) ∙ parts.0, h, λ i' l low u. sym (both_bits i' low u) ∙ top.2 i' l);
       }
+
+-- changes that points don't read show nothing
+module _ (first : List ℕ) (count : ℕ) (values : List ℕ) (changes : List (Change ℕ)) where
+  is_seen : (j : ℕ) (c : Change ℕ) → shows first count values j c ≡ true → ltb (get_or first c.signal 0) count ≡ true
+  is_seen j c s = (and_parts (ltb (get_or first c.signal 0) count) (bit_of j (bit_xor c.before (get_or values c.signal 0))) s).0
+
+  pub any_seen : (j : ℕ) → list_any (shows first count values j) (seen_of first count changes) ≡ list_any (shows first count values j) changes
+  any_seen j = any-filter_same (shows first count values j) (λ (c : Change ℕ). ltb (get_or first c.signal 0) count) true (is_seen j) changes
+
+  first_seen : (j c : ℕ) → IsFirstShown first count values j (seen_of first count changes) c → IsFirstShown first count values j changes c
+  first_seen j c h = record {
+    lower = λ d m s. h.lower d (filter_contains (λ (e : Change ℕ). ltb (get_or first e.signal 0) count) changes d m (is_seen j d s)) s;
+    some = elim h.some [
+      | inl none ↦ inl none
+      | inr w ↦ inr (w.0, (contains_filter (λ (e : Change ℕ). ltb (get_or first e.signal 0) count) changes w.0 w.1).0, w.2, w.3)
+    ];
+  }
+
+  pub seen_shown : (used : ℕ) (found : Option (ℕ × ℕ)) → AreShown first count values used (seen_of first count changes) found → AreShown first count values used changes found
+  seen_shown used found h = record {
+    none = λ e j l u. sym (any_seen j) ∙ h.none e j l u;
+    some = λ j c e.
+        let s = h.some j c e in
+        (s.0, s.1, sym (any_seen j) ∙ s.2, first_seen j c s.3, λ i l low u. sym (any_seen i) ∙ s.4 i l low u);
+  }
 
 -- the same of one word that differs
 pub none_differing : (word used number : ℕ) → bit_and word used ≡ 0 → IsSole word used number None

@@ -23,11 +23,12 @@ use Rattle.regions.specs.Sensitized.{reaches}
 use Rattle.regions.proofs.Changing.{zip_length}
 use Rattle.regions.proofs.GateBits.{bit_none, bit_not_word}
 use Rattle.regions.proofs.Faults.{observed_by_head, left_alone}
-use Rattle.word_sim.specs.inner.Differences.{AreDifferences, AreShown}
+use Rattle.word_sim.specs.inner.Differences.{AreDifferences, AreShown, seen_of}
 use Rattle.word_sim.specs.inner.Groups.{IsFound, CanTell}
 use Rattle.word_sim.specs.inner.Packed.{AreGoodFor, IsUsed}
 use Rattle.observed_points.specs.Points.{points, point_of, ArePoints}
 use Rattle.word_sim.proofs.FaultFound.{small_found}
+use Rattle.word_sim.proofs.Found.{seen_shown}
 use Rattle.observed_points.proofs.ObservedPoints.{line_in, signal_in, observed_in}
 use Rattle.observed_points.proofs.LineReads.{unread}
 use Rattle.word_sim.proofs.StuckPoints.{differ_same, stuck_differences}
@@ -159,13 +160,14 @@ module _ (n : Netlist) (sound : IsSound n) (f : Fault) (line : IsLineOf n f.line
     (seen first numbers : List ℕ) (are : ArePoints n seen first numbers) (h mask : ℕ) (new : List ℕ) (trail : List (Change ℕ)) (reach : Option (ℕ × ℕ))
     (can : CanTell n patterns f h mask new trail reach) where
   pub told_one : (end' word : ℕ) → reach ≡ Some (end', word) → end' ≡ h → bit_and (bit_and used word) (bit_xor mask ones) ≡ 0
-      → (first' : List ℕ) (count : ℕ) (values' : List ℕ) (trail' : List (Change ℕ)) → first' ≡ first → count ≡ length seen → values' ≡ new → trail' ≡ trail
+      → (first' : List ℕ) (count : ℕ) (values' : List ℕ) (trail' : List (Change ℕ)) → first' ≡ first → count ≡ length seen → values' ≡ new → trail' ≡ seen_of first (length seen) trail
       → (found : Option (ℕ × ℕ)) → AreShown first' count values' (bit_and used word) trail' found → IsFound n patterns f found
   told_one end' word is same none first' count values' trail' first_is count_is values_are trail_is found shown =
       let reached : IsReach n can.values f end' word = subst (λ r. IfSome r (λ (w : ℕ × ℕ). IsReach n can.values f w.0 w.1)) is can.reaches in
       shown_found n sound f line patterns can.values can.good used is_used h mask word (subst (λ k. IsReach n can.values f k word) same reached) (mask_within used word mask none)
       seen first numbers are can.size new trail can.changed can.over found
-      (subst (λ vs. AreShown first (length seen) vs (bit_and used word) trail found) values_are
+      (seen_shown first (length seen) new trail (bit_and used word) found
+      (subst (λ vs. AreShown first (length seen) vs (bit_and used word) (seen_of first (length seen) trail) found) values_are
       (subst (λ cs. AreShown first (length seen) values' (bit_and used word) cs found) trail_is
       (subst (λ k. AreShown first k values' (bit_and used word) trail' found) count_is
-      (subst (λ fs. AreShown fs count values' (bit_and used word) trail' found) first_is shown))))
+      (subst (λ fs. AreShown fs count values' (bit_and used word) trail' found) first_is shown)))))

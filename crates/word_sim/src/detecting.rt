@@ -1,11 +1,11 @@
 //! The last of up to 64 patterns that detects a fault, and the first point at which it does.
-ghost use Rattle.std.specs.Prelude.{◌≡◌, ◌⊎◌, ◌<◌, ◌≤◌, ◌^◌, ◌==◌, ◌&&◌, [], ℕ, IsTrue, length, List, Option, slice_index, IfSome, if◌then◌else◌};
+ghost use Rattle.std.specs.Prelude.{◌≡◌, ◌⊎◌, ◌<◌, ◌≤◌, ◌^◌, ◌==◌, ◌&&◌, [], ℕ, IsTrue, length, List, Option, slice_index, IfSome, OnOk, if◌then◌else◌};
 ghost use Rattle.std.specs.List.{All, list_any};
 ghost use Rattle.netlist.specs.Lines.{IsLineOf};
 ghost use Rattle.netlist.specs.Netlist.{Netlist as Equations, signals};
 ghost use Rattle.events.specs.declared.trails.Change.{Change as ChangeOf};
 ghost use Rattle.events.specs.Words.{bit_of, ones};
-ghost use Rattle.word_sim.specs.inner.Differences.{shows, AreShown, IsFirstShown, IsSole};
+ghost use Rattle.word_sim.specs.inner.Differences.{seen_of, shows, AreShown, IsFirstShown, IsSole};
 ghost use Rattle.cubes.specs.Cubes.{Pattern as Bits};
 ghost use Rattle.word_sim.specs.Hits.{LastDetected, LastMarked};
 ghost use Rattle.word_sim.specs.inner.Packed.{AreGoodFor, IsMarked, IsUsed};
@@ -16,6 +16,7 @@ use cubes::Pattern;
 use events::{Change, Events, Words};
 use netlist::Fault;
 use observed_points::Points;
+use std::alloc::AllocError;
 
 /// The patterns that tell a change apart at a point.
 #[inline(always)]
@@ -30,6 +31,25 @@ fn shown(change: &Change<u64>, values: &[u64], first: &[u32], count: usize) -> u
     } else {
         0
     }
+}
+
+/// The changes of signals that are read at points, in place of what was listed.
+pub(crate) fn list_seen(
+    trail: &[Change<u64>],
+    first: &[u32],
+    count: usize,
+    seen: &mut Vec<Change<u64>>,
+) -> Result<(), AllocError>
+    requires { All (λ (c : ChangeOf ℕ). c.signal < length first.now) trail.now }
+    ensures { OnOk result (seen.new.items ≡ seen_of first.now count trail.now) }
+{
+    seen.clear();
+    for change in trail {
+        if (first[change.signal.index()] as usize) < count {
+            seen.push(*change)?;
+        }
+    }
+    Ok(())
 }
 
 /// The patterns that tell some change apart at a point.

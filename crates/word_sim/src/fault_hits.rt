@@ -16,7 +16,7 @@ use crate::detecting::last_of;
 use crate::groups::{Groups, Reach, Told, tell_from};
 use crate::packing::{Part, packed, used_bits};
 use cubes::Pattern;
-use events::{Events, Words};
+use events::{Change, Events, Words};
 use netlist::{Core, Fault, Netlist, NoMemory};
 use observed_points::{Points, point_at};
 use std::alloc::{AllocError, Global};
@@ -93,6 +93,7 @@ fn found_of(
     links: &[u32],
     faults: &[(u32, Fault)],
     k: usize,
+    seen: &mut Vec<Change<u64>>,
     told: &mut Vec<Told>,
 ) -> Option<(u32, usize)>
     requires points { ArePoints events.old.netlist points.now.seen.items points.now.first.items points.now.numbers.items }
@@ -110,7 +111,7 @@ fn found_of(
 {
     if told[k].is_none() {
         tell_from(
-            events, points, patterns, used, reaches, links, faults, k, told,
+            events, points, patterns, used, reaches, links, faults, k, seen, told,
         );
     }
     match told[k] {
@@ -126,6 +127,7 @@ fn hits_of_groups(
     points: &Points,
     reaches: &[Reach],
     links: &[u32],
+    seen: &mut Vec<Change<u64>>,
     told: &mut Vec<Told>,
     patterns: &[Pattern],
     faults: &[(u32, Fault)],
@@ -144,7 +146,7 @@ fn hits_of_groups(
     let mut hits = Vec::with_capacity(alloc, faults.len())?;
     for k in 0..faults.len() {
         let found = found_of(
-            events, points, patterns, used, reaches, links, faults, k, told,
+            events, points, patterns, used, reaches, links, faults, k, seen, told,
         );
         push_hit(events.core().netlist(), faults[k].0, found, &mut hits)?;
     }
@@ -176,6 +178,7 @@ pub(crate) fn find_hits(
         points,
         &groups.reaches,
         &groups.links,
+        &mut groups.seen,
         &mut groups.told,
         patterns,
         faults,

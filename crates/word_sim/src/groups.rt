@@ -7,13 +7,13 @@ ghost use Rattle.netlist.specs.declared.lines.Fault.{Fault as FaultOf};
 ghost use Rattle.events.specs.Words.{bit_of};
 ghost use Rattle.regions.specs.Paths.{AreOpen};
 ghost use Rattle.observed_points.specs.Points.{ArePoints};
-ghost use Rattle.word_sim.specs.inner.Differences.{shows};
+ghost use Rattle.word_sim.specs.inner.Differences.{seen_of, shows};
 ghost use Rattle.word_sim.specs.inner.Groups.{AreReaches, AreTold, CanTell, CanTellAll, HasRoom, IsToldOf};
 ghost use Rattle.word_sim.specs.inner.Packed.{AreGoodFor, IsUsed};
 
-use crate::detecting::{all_shown, last_among};
+use crate::detecting::{all_shown, last_among, list_seen};
 use cubes::Pattern;
-use events::Events;
+use events::{Change, Events};
 use netlist::{Core, Fault, Netlist, SignalId};
 use observed_points::Points;
 use regions::{Paths, turn};
@@ -35,6 +35,8 @@ pub(crate) struct Groups {
     pub links: Vec<u32>,
     /// Of each fault of the batch.
     pub told: Vec<Told>,
+    /// The changes from a head that points read.
+    pub seen: Vec<Change<u64>>,
     /// For each signal the first fault that may reach it as a head, of those that are linked.
     pub latest: Vec<u32>,
 }
@@ -96,6 +98,7 @@ impl Groups {
             reaches: Vec::new(alloc),
             links: Vec::new(alloc),
             told: Vec::new(alloc),
+            seen: Vec::new(alloc),
             latest,
         })
     }
@@ -151,6 +154,7 @@ fn tell_one(
     used: u64,
     head: SignalId,
     mask: u64,
+    seen: &[Change<u64>],
     all: u64,
     fault: &Fault,
     reach: &Reach,
@@ -159,7 +163,8 @@ fn tell_one(
     requires used { IsUsed (length patterns.now) used }
     requires line { IsLineOf events.now.netlist fault.now.line }
     requires turned { CanTell events.now.netlist patterns.now fault.now head mask events.now.values events.now.trail reach.now }
-    requires all { (j : ℕ) → j < 64 → bit_of j all ≡ list_any (shows points.now.first.items (length points.now.seen.items) events.now.values j) events.now.trail }
+    requires seen { seen.now ≡ seen_of points.now.first.items (length points.now.seen.items) events.now.trail }
+    requires all { (j : ℕ) → j < 64 → bit_of j all ≡ list_any (shows points.now.first.items (length points.now.seen.items) events.now.values j) seen.now }
     ensures { IsToldOf events.now.netlist patterns.now fault.now result }
 {
     let _ = patterns;
@@ -173,7 +178,7 @@ fn tell_one(
         return None;
     }
     let found = last_among(
-        events.trail(),
+        seen,
         events.values(),
         &points.first,
         points.seen.len(),
@@ -183,7 +188,7 @@ fn tell_one(
     Some(found)
 }
 
-/// Goes over the faults with the same head, from one fault on.
+/// Goes over the faults with the same head, from one fault on. Where there is no memory for a list, nothing is told.
 fn tell_chain(
     events: &Events<'_, u64>,
     points: &Points,
@@ -195,6 +200,7 @@ fn tell_chain(
     links: &[u32],
     faults: &[(u32, Fault)],
     start: usize,
+    seen: &mut Vec<Change<u64>>,
     told: &mut Vec<Told>,
 )
     requires points { ArePoints events.now.netlist points.now.seen.items points.now.first.items points.now.numbers.items }
@@ -204,12 +210,11 @@ fn tell_chain(
     requires told { AreTold events.now.netlist patterns.now faults.now told.old.items }
     ensures { AreTold events.now.netlist patterns.now faults.now told.new.items }
 {
-    let all = all_shown(
-        events.trail(),
-        events.values(),
-        &points.first,
-        points.seen.len(),
-    );
+    let count = points.seen.len();
+    let Ok(()) = list_seen(events.trail(), &points.first, count, seen) else {
+        return;
+    };
+    let all = all_shown(seen, events.values(), &points.first, count);
     let mut k = start;
     for _step in 0..reaches.len() {
         if k >= reaches.len() || k >= links.len() || k >= faults.len() {
@@ -222,6 +227,7 @@ fn tell_chain(
             used,
             head,
             mask,
+            seen,
             all,
             &faults[k].1,
             &reaches[k],
@@ -244,6 +250,7 @@ pub(crate) fn tell_from(
     links: &[u32],
     faults: &[(u32, Fault)],
     start: usize,
+    seen: &mut Vec<Change<u64>>,
     told: &mut Vec<Told>,
 )
     requires points { ArePoints events.old.netlist points.now.seen.items points.now.first.items points.now.numbers.items }
@@ -264,7 +271,7 @@ pub(crate) fn tell_from(
     let mask = mask_from(reaches, links, start);
     turn(events, head, mask);
     tell_chain(
-        events, points, patterns, used, head, mask, reaches, links, faults, start, told,
+        events, points, patterns, used, head, mask, reaches, links, faults, start, seen, told,
     );
     events.undo(0);
 }

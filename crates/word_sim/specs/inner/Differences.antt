@@ -1,12 +1,16 @@
 -- Where words with a fault differ from those without, at observed points.
 use Rattle.std.specs.Prelude.{ℕ, ◌≡◌, ◌<◌, ◌≤◌, ◌⊎◌, ◌&&◌, nat_lt, Bool, true, false, List, Option, Some, None, slice_index, bit_xor}
-use Rattle.std.specs.List.{Contains, list_any}
+use Rattle.std.specs.List.{Contains, filter, list_any}
 use Rattle.events.specs.declared.trails.Change.{Change}
 use Rattle.events.specs.Words.{bit_of}
 
 -- the change shows at a point, under pattern j
 abbrev pub shows : List ℕ → ℕ → List ℕ → ℕ → Change ℕ → Bool
 shows first count values j c = nat_lt (slice_index first c.signal) count && bit_of j (bit_xor c.before (slice_index values c.signal))
+
+-- the changes of signals that points read
+abbrev pub seen_of : List ℕ → ℕ → List (Change ℕ) → List (Change ℕ)
+seen_of first count changes = filter (λ (c : Change ℕ). nat_lt (slice_index first c.signal) count) changes
 
 -- the first point at which one of these changes shows, or the count
 pub record IsFirstShown (first : List ℕ) (count : ℕ) (values : List ℕ) (j : ℕ) (changes : List (Change ℕ)) (c : ℕ) : Type 0 where
