@@ -34,17 +34,15 @@ same_widths n holds cubes all i j d a b =
     record { inputs = x.inputs ∙ sym y.inputs; cells = x.cells ∙ sym y.cells }
 
 -- the faults of the classes that were left stand on lines
-pub lines_of_left : (j : Subject) (n : Netlist) (left : List (ℕ × Fault)) → n ≡ j.netlist → HaveLines j
-    → All (λ (p : ℕ × Fault). RepresentsIn j p.0 p.1) left → All (λ (p : ℕ × Fault). IsLineOf n p.1.line) left
-lines_of_left j n left e lines reps k d lt =
+pub lines_of_left : (j : Subject) (left : List (ℕ × Fault)) → HaveLines j
+    → All (λ (p : ℕ × Fault). RepresentsIn j p.0 p.1) left → All (λ (p : ℕ × Fault). IsLineOf j.netlist p.1.line) left
+lines_of_left j left lines reps k d lt =
     let faults : List Fault = j.classes.representatives in
     let place : ℕ = (get_or left k d).0 in
     let fault : Fault = (get_or left k d).1 in
     let there = reps k d lt in
     let P : Fault → Type 0 = λ f. IsLineOf j.netlist f.line in
-    let Q : Netlist → Type 0 = λ m. IsLineOf m fault.line in
-    let stands : P fault = subst P (get_or_from_slice_get faults place fault fault there) (lines place fault (slice_get_within faults place fault there)) in
-    subst Q (sym e) stands
+    subst P (get_or_from_slice_get faults place fault fault there) (lines place fault (slice_get_within faults place fault there))
 
 -- and so does that of a class that was handed out
 pub line_of_class : (j : Subject) (n : Netlist) (class : ℕ) (f g : Fault) → n ≡ j.netlist → HaveLines j → RepresentsIn j class f → g ≡ f → IsLineOf n g.line
@@ -103,22 +101,14 @@ hits_once n ps (g ∷ gs) hits rising (inr (h, rest, is, class, last, more)) =
     subst (AllPairs (λ (x y : Hit). x.class ≢ y.class)) (sym is)
     (AllPairs-cons (λ (x y : Hit). x.class ≢ y.class) h rest apart (hits_once n ps gs rest (pairs_tail (λ (p q : ℕ × Fault). p.0 < q.0) g gs rising) more))
 
--- the netlist and the held inputs at hand are those of the list
-pub true_batch : (j : Subject) (n : Netlist) (holds : Holds) (ps : List Pattern) (left : List (ℕ × Fault)) (hits : List Hit)
-    → n ≡ j.netlist → holds ≡ j.holds → All (IsPatternOf n holds) ps
+pub true_batch : (j : Subject) (ps : List Pattern) (left : List (ℕ × Fault)) (hits : List Hit) → All (IsPatternOf j.netlist j.holds) ps
     → All (λ (p : ℕ × Fault). RepresentsIn j p.0 p.1) left → AllPairs (λ (p q : ℕ × Fault). p.0 < q.0) left
-    → AreHits n ps left hits → IsTrueBatch j (record { patterns = ps; hits = hits })
-true_batch j n holds ps left hits e f are reps rising h =
-    let same : AreHits j.netlist ps left hits = (let P : Netlist → Type 0 = λ m. AreHits m ps left hits in subst P e h) in
-    record {
-      patterns = (
-          let P : Netlist → Type 0 = λ m. All (IsPatternOf m j.holds) ps in
-          let Q : Holds → Type 0 = λ k. All (IsPatternOf n k) ps in
-          subst P e (subst Q f are)
-          );
-      hits = hits_true j ps left hits reps same;
-      once = hits_once j.netlist ps left hits rising same;
-    }
+    → AreHits j.netlist ps left hits → IsTrueBatch j (record { patterns = ps; hits = hits })
+true_batch j ps left hits are reps rising h = record {
+  patterns = are;
+  hits = hits_true j ps left hits reps h;
+  once = hits_once j.netlist ps left hits rising h;
+}
 
 -- ---- what a search found may settle the claim
 
@@ -151,27 +141,29 @@ only : {A : Type 0} (P : A → Type 0) (x : A) → P x → All P (x ∷ [])
 only P x h zero d lt = h
 only P x h (suc k) d lt = absurd (omega (arith, lt))
 
-pub single_true : (j : Subject) (n : Netlist) (holds : Holds) (f : Fault) (c : Cube) (p : Pattern) (o : Point) (class : ℕ) → n ≡ j.netlist → holds ≡ j.holds → RepresentsIn j class f
-    → IsTestCube f n holds c o → AgreesWith p c → IsPatternOf n holds p
+pub single_true : (j : Subject) (f : Fault) (c : Cube) (p : Pattern) (o : Point) (class : ℕ) → RepresentsIn j class f
+    → IsTestCube f j.netlist j.holds c o → AgreesWith p c → IsPatternOf j.netlist j.holds p
     → IsTrueBatch j (record { patterns = p ∷ []; hits = record { class = class; pattern = 0; point = o } ∷ [] })
-single_true j n holds f c p o class en eh rep test agrees is =
-    let w : IsPatternOf j.netlist j.holds p = (
-    let P : Netlist → Type 0 = λ m. IsPatternOf m j.holds p in
-    let Q : Holds → Type 0 = λ k. IsPatternOf n k p in
-    subst P en (subst Q eh is)
-    ) in
+single_true j f c p o class rep test agrees is =
     let h : Hit = record { class = class; pattern = 0; point = o } in
     record {
-      patterns = only (IsPatternOf j.netlist j.holds) p w;
+      patterns = only (IsPatternOf j.netlist j.holds) p is;
       hits = only (IsTrueHit j (p ∷ [])) h (record {
         fault = f;
         represents = rep;
         pattern = p;
         at = refl;
-        detects = (let P : Netlist → Type 0 = λ m. Detects m f p.inputs p.cells o in subst P en (test.detects p agrees));
+        detects = test.detects p agrees;
       });
       once = λ i k d less lt. absurd (omega (arith, less, lt));
     }
+
+-- the netlist and the held inputs at hand are those of the list
+pub cubes_there : (j : Subject) (n : Netlist) (holds : Holds) (cubes : List Cube) → n ≡ j.netlist → holds ≡ j.holds → All (IsCubeOf n holds) cubes → All (IsCubeOf j.netlist j.holds) cubes
+cubes_there j n holds cubes e f are =
+    let P : Netlist → Type 0 = λ m. All (IsCubeOf m j.holds) cubes in
+    let Q : Holds → Type 0 = λ k. All (IsCubeOf n k) cubes in
+    subst P e (subst Q f are)
 
 -- a share that is told that there is no class has ended
 pub ended_by_none : (classes : ℕ) (before after : Tally) → IsNone classes before after → after.ended ≡ true

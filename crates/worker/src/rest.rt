@@ -21,22 +21,16 @@ use word_sim::{Batch, Hit};
 /// The cube, filled, with its hit of the claim's class.
 fn single<J: About, N: Rng>(
     alloc: Global,
-    core: &Core,
     claim: &Claim<J>,
     cube: &Cube,
     point: Point,
     rng: &mut N,
-    holds: &Holds,
 ) -> Result<Batch, NoMemory>
-    requires core { core.now ≡ J.subject.netlist }
-    requires held { (holds.now ≡ J.subject.holds) × AreHoldsOf core.now holds.now }
-    requires test { IsTestCube claim.now.fault core.now holds.now cube.now point }
+    requires { IsTestCube claim.now.fault J.subject.netlist J.subject.holds cube.now point }
     ensures true_batch { IfOk result (IsTrueBatch J.subject) }
     ensures one { IfOk result (λ b. length b.patterns ≡ 1) }
     ensures hits { IfOk result (λ b. b.hits ≡ record { class = claim.now.class; pattern = 0; point = point } ∷ []) }
 {
-    let _ = core;
-    let _ = holds;
     let pattern = fill(alloc, cube, rng)?;
     let mut patterns = Vec::new(alloc);
     add(&mut patterns, pattern)?;
@@ -80,7 +74,7 @@ fn work_one<J: About, E: Engine, N: Rng>(
     };
     match engine.search(alloc, core, claim.fault(), claim.limit(), holds)? {
         Found::Test(cube, point) => {
-            let batch = single(alloc, core, &claim, &cube, point, rng, holds)?;
+            let batch = single(alloc, &claim, &cube, point, rng)?;
             list.reserve(1, 2)?;
             list.publish(worker, batch);
         }

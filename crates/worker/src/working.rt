@@ -73,12 +73,10 @@ pub fn work<J: About, T: Ledger, S: Ledger, P: Ledger, U: Ledger, E: Engine, G: 
                         alloc,
                         shared,
                         share,
-                        core,
                         &mut simulator,
                         stage,
                         &mut rng,
                         &cubes,
-                        holds,
                     )?;
                     cubes.clear();
                 }
@@ -96,11 +94,9 @@ pub fn work<J: About, T: Ledger, S: Ledger, P: Ledger, U: Ledger, E: Engine, G: 
         alloc,
         shared,
         share,
-        core,
         &mut simulator,
         stage,
         &mut rng,
         &cubes,
-        holds,
     )
 }

@@ -2,14 +2,15 @@ use Rattle.std.proofs.Common.{◌≡◌, ◌∙◌, ap, arith, rules, true}
 use Rattle.std.proofs.lemmas.List.Elements.{All-push}
 use Rattle.cubes.specs.Cubes.{IsCubeOf}
 use Rattle.shared_list.specs.Tally.{Tally}
-use Rattle.worker.proofs.WorkLemmas.{closed_settles, ended_by_none, partial_settles, test_is_cube, whatever_comes}
+use Rattle.worker.proofs.WorkLemmas.{closed_settles, cubes_there, ended_by_none, partial_settles, test_is_cube, whatever_comes}
 use Rattle.worker.proofs.working.work.Goals.{in-None, in-Some+in-None-take}
 use Rattle.worker.proofs.working.work.Goals as goal
 
 pub publish_cubes-requires-clause-wide : goal.publish_cubes-requires-clause-wide
 publish_cubes-requires-clause-wide g c =
-    rw (c.deref.ensures.value, c.in_ok-add-in-Test.ensures.items) (All-push (IsCubeOf c.args.core.now c.args.holds.now) c.loop.cubes.items c.in-Test.cube c.loop.invariant.wide
-    (test_is_cube c.fault.result c.args.core.now c.args.holds.now c.limit.result c.in_ok-found.found c.in-Test.cube c.in-Test.field-1 c.in_ok-found.ensures.evidence c.in-Test.is))
+    cubes_there g.J.About.subject c.args.core.now c.args.holds.now c.deref.result.now c.requires.core c.requires.held.0
+    (rw (c.deref.ensures.value, c.in_ok-add-in-Test.ensures.items) (All-push (IsCubeOf c.args.core.now c.args.holds.now) c.loop.cubes.items c.in-Test.cube c.loop.invariant.wide
+    (test_is_cube c.fault.result c.args.core.now c.args.holds.now c.limit.result c.in_ok-found.found c.in-Test.cube c.in-Test.field-1 c.in_ok-found.ensures.evidence c.in-Test.is)))
 
 pub loop-preserved-else-len-eq64 : goal.loop-preserved-else-len-eq64
 loop-preserved-else-len-eq64 g c =
@@ -34,7 +35,8 @@ settle-requires-in-Partial-clause-fits g c =
     c.in_ok-found.ensures.evidence c.in-Partial.is c.fault.ensures.fault c.requires.core c.requires.held.0 c.limit.ensures
 
 pub publish_cubes-requires-2-clause-wide : goal.publish_cubes-requires-2-clause-wide
-publish_cubes-requires-2-clause-wide g c = rw c.deref-2.ensures.value c.loop.invariant.wide
+publish_cubes-requires-2-clause-wide g c =
+    cubes_there g.J.About.subject c.args.core.now c.args.holds.now c.deref-2.result.now c.requires.core c.requires.held.0 (rw c.deref-2.ensures.value c.loop.invariant.wide)
 
 pub returns-clause-ended : goal.returns-clause-ended
 returns-clause-ended g c =
