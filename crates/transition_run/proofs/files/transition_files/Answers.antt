@@ -21,7 +21,7 @@ stitch-requires-clause-distinct g c =
     cells_distinct c.netlist-netlist.result.now c.sound.ensures.formed.numbered c.cells.result.now c.cells.ensures
 
 pub slow_tests-requires-clause-faults : goal.slow_tests-requires-clause-faults
-slow_tests-requires-clause-faults g c = c.in_ok-faults.ensures ∙ ap universe_of c.netlist-netlist.ensures
+slow_tests-requires-clause-faults g c κs within = c.in_ok-faults.ensures ∙ ap universe_of c.netlist-netlist.ensures
 
 pub texts_of-requires-clause-chains : goal.texts_of-requires-clause-chains
 texts_of-requires-clause-chains g c =
