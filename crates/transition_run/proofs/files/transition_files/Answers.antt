@@ -1,7 +1,7 @@
-use Rattle.std.proofs.Common.{◌≡◌, ℕ, ◌<◌, List, length, refl, subst, sym, ◌∙◌, ap, arith}
+use Rattle.std.proofs.Common.{◌≡◌, ℕ, List, length, refl, subst, ◌∙◌, ap, arith}
 use Rattle.std.proofs.lemmas.List.{length-map}
 use Rattle.netlist.specs.Conditions.{IsSound}
-use Rattle.netlist.specs.Netlist.{Definition, Netlist, cells}
+use Rattle.netlist.specs.Netlist.{Definition, cells}
 use Rattle.netlist.proofs.Settling.{cells_distinct}
 use Rattle.scan_play.proofs.ApplyLemmas.{few_cells}
 use Rattle.scan_insert.specs.Scanned.{cell_ids}
