@@ -23,21 +23,8 @@ ghost use Rattle.command_line.specs.inner.SearchTable.{with_search};
 
 use clap::builder::ValueParser;
 use clap::{Arg, Command};
+use limits::{FEWEST_GATES, MOST_CHAINS, MOST_GATES, MOST_LIMIT, MOST_WORKERS};
 use std::alloc::{AllocError, Global};
-
-/// The most chains that may be asked for.
-pub(crate) const MOST_CHAINS: u64 = 256;
-
-/// The most workers that may be asked for.
-pub(crate) const MOST_WORKERS: u64 = 64;
-
-/// The greatest backtrack limit that may be asked for.
-pub(crate) const MOST_LIMIT: u64 = 100_000;
-
-/// The gates of a sample netlist, at least and at most.
-pub(crate) const LEAST_GATES: u64 = 16;
-
-pub(crate) const MOST_GATES: u64 = 20_000;
 
 // The command with one more argument.
 fn with_argument<'a>(command: Command<'a>, argument: Arg<'a>) -> Result<Command<'a>, AllocError>
@@ -218,7 +205,7 @@ fn sweep<'a>(alloc: Global) -> Result<Command<'a>, AllocError>
     let help = "What the netlist and free bits are drawn from";
     let command = with_required_number(alloc, command, "SEED", 0, u64::MAX, help)?;
     let help = "How many gates, 16 to 20000";
-    with_required_number(alloc, command, "GATES", LEAST_GATES, MOST_GATES, help)
+    with_required_number(alloc, command, "GATES", FEWEST_GATES, MOST_GATES, help)
 }
 
 fn chaintest<'a>(alloc: Global) -> Result<Command<'a>, AllocError>

@@ -26,10 +26,10 @@ ghost use Rattle.command_line.specs.inner.Errors.{IsAsked};
 ghost use Rattle.command_line.specs.inner.Held.{AreHeld};
 ghost use Rattle.command_line.specs.inner.Searches.{IsSearch};
 
-use crate::commands::{LEAST_GATES, MOST_CHAINS, MOST_GATES, MOST_LIMIT, MOST_WORKERS};
 use crate::holds::{Held, holds_in};
 use crate::values::{number_of, number_or, text};
 use clap::ArgMatches;
+use limits::{FEWEST_GATES, MOST_CHAINS, MOST_GATES, MOST_LIMIT, MOST_WORKERS};
 use std::alloc::Global;
 
 /// A search that there is.
@@ -183,7 +183,7 @@ fn sweep<'a>(found: &ArgMatches<'a>) -> Option<Request<'a>>
     ensures in_range { IfSome result IsInRange }
 {
     let seed = number_of(found, "SEED", 0, u64::MAX)?;
-    let gates = number_of(found, "GATES", LEAST_GATES, MOST_GATES)?;
+    let gates = number_of(found, "GATES", FEWEST_GATES, MOST_GATES)?;
     Some(Request::Sweep {
         seed,
         gates: gates as u32,

@@ -1,7 +1,8 @@
 -- A fill agrees with its cube, and keeps its widths and held bits.
-use Rattle.std.proofs.Common.{◌≡◌, ℕ, zero, suc, Bool, true, false, List, [], ◌∷◌, refl, sym, ◌∙◌, ap, subst, Some}
-use Rattle.std.specs.List.{slice_get}
-use Rattle.std.proofs.lemmas.Slice.Zip.{AllZip-long}
+use Rattle.std.proofs.Common.{◌≡◌, ℕ, zero, suc, ◌+◌, ◌<◌, ◌≤◌, Bool, true, false, List, [], ◌∷◌, ◌++◌, length, take, get_or, refl, sym, ◌∙◌, ap, subst, Some}
+use Rattle.std.specs.List.{AllZip, slice_get}
+use Rattle.std.proofs.lemmas.List.{take_more}
+use Rattle.std.proofs.lemmas.Slice.Zip.{AllZip-long, all_zipped_more}
 use Rattle.rand_core.specs.Stream.{Stream, next_u32}
 use Rattle.netlist.specs.declared.kinds.Tri.{Tri}
 use Rattle.netlist.specs.declared.kinds.Tri.TheVariants.{Zero, One, X}
@@ -45,3 +46,11 @@ fill_fits n holds c p agrees fits = record {
   cells = AllZip-long _ c.cells p.cells agrees.cells ∙ fits.cells;
   obeys = λ k b at. bit_allowed c.inputs p.inputs agrees.inputs k b (fits.held k b at);
 }
+
+-- one cube more is filled
+pub agree_more : (cubes : List Cube) (old new : List Pattern) (k : ℕ) (c : Cube) (p : Pattern) → k < length cubes → c ≡ get_or cubes k c → AgreesWith p c
+    → AllZip AgreesWith old (take k cubes) → new ≡ old ++ p ∷ [] → AllZip AgreesWith new (take (k + 1) cubes)
+agree_more cubes old new k c p lt is agrees before added =
+    let taken : take k cubes ++ c ∷ [] ≡ take (k + 1) cubes = sym (take_more cubes k c lt ∙ ap (λ (x : Cube). take k cubes ++ x ∷ []) (sym is)) in
+    subst (λ (ps : List Pattern). AllZip AgreesWith ps (take (k + 1) cubes)) (sym added)
+    (subst (λ (cs : List Cube). AllZip AgreesWith (old ++ p ∷ []) cs) taken (all_zipped_more AgreesWith old (take k cubes) p c before agrees))

@@ -1,5 +1,6 @@
 //! Cubes filled to patterns.
 ghost use Rattle.std.specs.Prelude.{◌≡◌, ◌+◌, ◌≤◌, ◌++◌, length, IfOk, OnOk, OnErr, vec_len, vec_capacity};
+ghost use Rattle.std.specs.List.{All, AllZip};
 ghost use Rattle.netlist.specs.Netlist.{Netlist};
 ghost use Rattle.netlist.specs.Holds.{Holds};
 ghost use Rattle.cubes.specs.Cubes.{AgreesWith, IsCubeOf, IsPatternOf};
@@ -44,4 +45,23 @@ pub fn fill<R: Rng>(alloc: Global, cube: &Cube, rng: &mut R) -> Result<Pattern, 
     fill_values(cube.inputs(), rng, &mut inputs);
     fill_values(cube.cells(), rng, &mut cells);
     Ok(Pattern::new(inputs, cells))
+}
+
+/// A pattern for each cube, filled one after the other.
+pub fn fill_all<R: Rng>(
+    alloc: Global,
+    cubes: &[Cube],
+    rng: &mut R,
+) -> Result<Vec<Pattern>, NoMemory>
+    ensures agree { IfOk result (λ v. AllZip AgreesWith v.items cubes.now) }
+    ensures fit { IfOk result (λ v. (n : Netlist) (holds : Holds) → All (IsCubeOf n holds) cubes.now → All (IsPatternOf n holds) v.items) }
+{
+    let mut patterns = Vec::new(alloc);
+    for cube in cubes {
+        let pattern = fill(alloc, cube, rng)?;
+        let Ok(()) = patterns.push(pattern) else {
+            return Err(NoMemory);
+        };
+    }
+    Ok(patterns)
 }

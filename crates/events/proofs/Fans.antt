@@ -8,8 +8,8 @@ use Rattle.netlist.specs.declared.lines.Line.{Line}
 use Rattle.netlist.specs.declared.lines.Line.TheVariants.{Stem, Pin, Out}
 use Rattle.netlist.specs.Netlist.{Netlist, signals}
 use Rattle.netlist.specs.Readers.{readers_of}
-use Rattle.netlist.specs.inner.Rows.{rows}
-use Rattle.netlist.proofs.BufferRows.{rows_count, pushed_rows, pushed_ends}
+use Rattle.rows.specs.Rows.{rows}
+use Rattle.rows.proofs.Buffers.{rows_count, pushed_rows, pushed_ends}
 use Rattle.events.specs.Agendas.{marked}
 use Rattle.events.specs.inner.Placing.{is_pin_at, called, AreFans, AreFansUpTo, Calls, Marks}
 use Rattle.events.proofs.Placing.{marked_set}

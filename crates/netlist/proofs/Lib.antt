@@ -16,7 +16,6 @@ pub mod Alike
 pub mod Observed
 pub mod OrderExists
 pub mod SomeSettled
-pub mod BufferRows
 pub mod CountingSort
 pub mod ReaderTables
 pub mod ReadingLists

@@ -7,8 +7,11 @@ use Rattle.netlist.specs.Netlist.{Netlist, signals}
 abbrev pub is_reserved : List ℕ → Bool
 is_reserved name = starts_with nat_eq name (codes "SC__")
 
--- no more than 1,000,000 signals, and names of no more than 255 bytes that don't begin with `SC__`
+abbrev pub most_design_signals : ℕ
+most_design_signals = 1000000
+
+-- names of no more than 255 bytes that don't begin with `SC__`
 pub record IsDesign (n : Netlist) : Type 0 where
-  pub small : length (signals n) ≤ 1000000
+  pub small : length (signals n) ≤ most_design_signals
   pub short : All (λ name. length name ≤ 255) n.names
   pub unreserved : All (λ name. is_reserved name ≡ false) n.names

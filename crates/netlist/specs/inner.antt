@@ -2,6 +2,5 @@
 pub mod Kept
 pub mod Placed
 pub mod Readings
-pub mod Rows
 pub mod Settling
 pub mod Sorting

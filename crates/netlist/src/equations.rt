@@ -3,15 +3,11 @@ ghost use Rattle.std.specs.Prelude.{◌≡◌, IfOk};
 ghost use Rattle.netlist.specs.Conditions.{whole};
 
 use crate::kinds::Kind;
-use crate::name_table::NameTable;
 use crate::signals::SignalId;
+use rows::Texts;
 use smallvec::SmallVec;
 use std::alloc::{AllocError, Global};
 use std::marker::Model;
-
-/// Memory was refused.
-#[derive(Clone, Copy, Debug, PartialEq, Eq)]
-pub struct NoMemory;
 
 /// A signal and what drives it.
 #[derive(Drop)]
@@ -66,7 +62,7 @@ impl Definition {
 /// The parts of a netlist: `names` has the name of signal 0, 1 and so on, and then those of names that are read and not defined.
 #[derive(Drop)]
 pub struct Parts {
-    pub names: NameTable,
+    pub names: Texts,
     pub inputs: Vec<SignalId>,
     pub outputs: Vec<SignalId>,
     pub definitions: Vec<Definition>,

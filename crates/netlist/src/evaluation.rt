@@ -9,9 +9,9 @@ ghost use Rattle.netlist.specs.Settled.{Settles, at, outs, next};
 ghost use Rattle.netlist.specs.Evaluated.{AreSettledBits};
 
 use crate::bits::Bits;
-use crate::equations::NoMemory;
 use crate::lines::Fault;
 use crate::netlists::Netlist;
+use crate::no_memory::NoMemory;
 use crate::observing::{next_into, outs_into};
 use crate::rules::{Logic, settle, settle_into};
 use crate::schedules::{Schedule, places_of};
@@ -172,7 +172,7 @@ impl Core {
         requires state { length state.now ≡ length (cells self.now) }
         ensures { IfOk result (λ v. AreSettledBits self.now fault inputs.now state.now v.signals.items v.outputs.items v.cells.items) }
     {
-        settled_bits(alloc, self, &Bits { fault }, inputs, state).map_err(|_| NoMemory)
+        settled_bits(alloc, self, &Bits { fault }, inputs, state)
     }
 }
 
@@ -183,7 +183,7 @@ fn settled_bits(
     rule: &Bits,
     inputs: &[bool],
     state: &[bool],
-) -> Result<Values, AllocError>
+) -> Result<Values, NoMemory>
     requires inputs { length inputs.now ≡ length core.now.inputs }
     requires state { length state.now ≡ length (cells core.now) }
     ensures { IfOk result (λ v. AreSettledBits core.now rule.now.fault inputs.now state.now v.signals.items v.outputs.items v.cells.items) }

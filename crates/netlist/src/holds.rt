@@ -2,8 +2,8 @@
 ghost use Rattle.std.specs.Prelude.{◌≡◌, ◌<◌, length, IfOk, Some, slice_get, slice_set};
 ghost use Rattle.netlist.specs.Holds.{none_held};
 
-use crate::equations::NoMemory;
 use crate::evaluation::Core;
+use crate::no_memory::NoMemory;
 use std::alloc::Global;
 use std::marker::Model;
 
@@ -26,10 +26,8 @@ impl Holds {
     pub fn none(alloc: Global, core: &Core) -> Result<Holds, NoMemory>
         ensures { IfOk result (λ h. h ≡ none_held core.now) }
     {
-        let bits = core.netlist().inputs().iter().map(|_| None).collect(alloc);
-        Ok(Holds {
-            bits: bits.map_err(|_| NoMemory)?,
-        })
+        let bits = core.netlist().inputs().iter().map(|_| None).collect(alloc)?;
+        Ok(Holds { bits })
     }
 
     /// Holds an input at a bit.

@@ -1,6 +1,6 @@
 //! Gate netlists: signals, faults, and the one notion of settled values on which all simulation stands.
 //!
-//! Gives: `Netlist`, `Core`, `Fault`, `Holds`, and the one evaluator, `Core::settle_into`, over any rule (`Logic`).
+//! Gives: `Netlist`, `Core`, `Fault`, `Holds`, `NoMemory`, and the one evaluator, `Core::settle_into`, over any rule (`Logic`).
 //! Proved: a `Netlist` is acyclic and reads nothing undefined; `Netlist::new` refuses exactly, in order, with the least signal; each getter exactly;
 //! `settle_into`, `outs_into` and `next_into` give what settles by any rule, `eval` the settled bits with a line stuck or none; the laws
 //! `holds_everywhere` (induction), `settles_once`, `some_settles`, `settle_alike` (of two rules that keep a relation).
@@ -14,25 +14,25 @@ mod holds;
 mod kinds;
 mod laws;
 mod lines;
-mod name_table;
 mod netlists;
+mod no_memory;
 mod observing;
 mod order;
 mod readings;
-mod rows;
 mod rules;
 mod schedules;
 mod signals;
 
 pub use bits::Bits;
-pub use equations::{Definition, NoMemory, Parts};
+pub use equations::{Definition, Parts};
 pub use evaluation::{Core, Values};
 pub use holds::Holds;
 pub use kinds::{Kind, MOST_PINS, Tri};
 pub use laws::{holds_everywhere, settle_alike, settles_once, some_settles};
 pub use lines::{Fault, Line, Point};
-pub use name_table::NameTable;
-pub use netlists::{MOST_SIGNALS, NetRefusal, Netlist};
+pub use netlists::{MOST_DESIGN_SIGNALS, MOST_SIGNALS, NetRefusal, Netlist};
+pub use no_memory::NoMemory;
+pub use rows::Texts as NameTable;
 pub use rules::Logic;
 pub use schedules::Schedule;
 pub use signals::SignalId;

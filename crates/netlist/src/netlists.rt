@@ -8,9 +8,10 @@ ghost use Rattle.netlist.specs.Readers.{readers_of};
 ghost use Rattle.netlist.specs.inner.Sorting.{AreReaders};
 ghost use Rattle.netlist.specs.Conditions.{IsWellFormed, IsSound, IsCause, whole};
 
-use crate::equations::{Definition, NoMemory, Parts};
+use crate::equations::{Definition, Parts};
 use crate::kinds::Kind;
 use crate::lines::Line;
+use crate::no_memory::NoMemory;
 use crate::order::{Sorting, first_left, sort};
 use crate::readings::ReaderTable;
 use crate::signals::SignalId;
@@ -19,6 +20,9 @@ use std::marker::Model;
 
 /// The most signals of any netlist.
 pub const MOST_SIGNALS: usize = 8_000_000;
+
+/// The most signals of a netlist that may be scanned.
+pub const MOST_DESIGN_SIGNALS: usize = 1_000_000;
 
 /// Why parts are refused: the first cause in this order, with the least signal.
 #[derive(Clone, Copy, Debug, PartialEq, Eq)]
@@ -122,8 +126,8 @@ impl Netlist {
         }
     }
 
-    /// An equal netlist, or the want of memory as it came.
-    fn copied(&self, alloc: Global) -> Result<Netlist, AllocError>
+    /// An equal netlist.
+    pub fn copy(&self, alloc: Global) -> Result<Netlist, NoMemory>
         ensures { IfOk result (λ n. n ≡ self.now) }
     {
         Ok(Netlist {
@@ -132,13 +136,6 @@ impl Netlist {
             table: self.table.copy(alloc)?,
             order: self.order.clone()?,
         })
-    }
-
-    /// An equal netlist.
-    pub fn copy(&self, alloc: Global) -> Result<Netlist, NoMemory>
-        ensures { IfOk result (λ n. n ≡ self.now) }
-    {
-        self.copied(alloc).map_err(|_| NoMemory)
     }
 
     /// The gates, each after the gates that it reads.

@@ -1,4 +1,3 @@
-mod RowLemmas
 mod LoopLemmas
 mod PieceLemmas
 mod FormLemmas

@@ -23,12 +23,6 @@ pub flat_more : {X : Type 0} (f : X → List ℕ) (xs : List X) (i : ℕ) (x : X
 flat_more f xs i x before so_far after h e a =
     a ∙ ap (λ l. l ++ f x) e ∙ flat_map_more f before (take i xs) x ∙ ap (λ l. before ++ flat_map f l) (sym (take_at xs i x h))
 
--- the elements themselves
-pub append_more : {X : Type 0} (xs : List X) (i : ℕ) (x : X) (before so_far after : List X) → slice_get xs i ≡ Some x
-    → so_far ≡ before ++ take i xs → after ≡ so_far ++ x ∷ [] → after ≡ before ++ take (i + 1) xs
-append_more xs i x before so_far after h e a =
-    a ∙ ap (λ l. l ++ x ∷ []) e ∙ append_assoc before (take i xs) (x ∷ []) ∙ ap (λ l. before ++ l) (sym (take_at xs i x h))
-
 -- one list behind another
 pub behind : {X : Type 0} (before so_far after x y : List X) → so_far ≡ before ++ x → after ≡ so_far ++ y → after ≡ before ++ (x ++ y)
 behind before so_far after x y e a = a ∙ ap (λ t. t ++ y) e ∙ append_assoc before x y

@@ -8,8 +8,8 @@ use crate::forms::{Form, Values, are_words, is_word, set_call_forms, vector_form
 use crate::items::{ItemKind, Items};
 use crate::parts::StilParts;
 use crate::signals::signals;
-use crate::texts::Texts;
 use indexmap::IndexSet;
+use rows::Texts;
 use std::alloc::{AllocError, Global};
 
 /// The most bytes that a name has.

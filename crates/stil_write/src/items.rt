@@ -2,8 +2,7 @@
 ghost use Rattle.std.specs.Prelude.{◌≡◌, ◌<◌, ◌==◌, ◌∷◌, [], ◌++◌, length, OnOk, slice_get, Some};
 ghost use Rattle.stil_write.specs.StilFiles.{item_at, item_of, kind_of, words_of};
 
-use crate::rows::span;
-use crate::texts::Texts;
+use rows::{Texts, span};
 use std::alloc::{AllocError, Global};
 use std::marker::Model;
 
@@ -33,7 +32,7 @@ impl Model for Items {
 
     ghost Value = { List Item };
 
-    ghost use Rattle.stil_write.specs.inner.Rows.{rows, AreEnds};
+    ghost use Rattle.rows.specs.Rows.{rows, AreEnds};
     ghost use Rattle.stil_write.specs.inner.Listed.{listed, AreListed};
 
     ghost view = { λ t. listed t.kinds.items (rows 0 t.words t.ends.items) };
@@ -70,7 +69,7 @@ impl Items {
     /// Room that the items' lines will do with, mostly.
     pub(crate) fn text_room(&self) -> usize {
         self.words
-            .room()
+            .byte_count()
             .saturating_add(self.words.len().saturating_mul(WORD_ROOM))
             .saturating_add(self.ends.len().saturating_mul(LINE_ROOM))
     }

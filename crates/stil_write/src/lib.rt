@@ -12,13 +12,11 @@ mod items;
 mod laws;
 mod parts;
 mod pieces;
-mod rows;
 mod signals;
-mod texts;
 mod writer;
 
 pub use items::{ItemKind, Items};
 pub use parts::{StilFile, StilParts};
+pub use rows::Texts;
 pub use signals::{assigned, called, numbered};
-pub use texts::Texts;
 pub use writer::write_stil;

@@ -4,7 +4,7 @@ ghost use Rattle.stil_write.specs.Parts.{file_of};
 ghost use Rattle.stil_write.specs.StilFiles.{IsStilFile};
 
 use crate::items::Items;
-use crate::texts::Texts;
+use rows::Texts;
 use std::marker::Model;
 
 /// What a block takes beside names, and what a name takes beside its bytes.
@@ -86,10 +86,14 @@ impl StilFile {
 
     /// Room that the text will do with, mostly.
     pub(crate) fn text_room(&self) -> usize {
-        let mut room = self.parts.pi.room().saturating_add(self.parts.po.room());
+        let mut room = self
+            .parts
+            .pi
+            .byte_count()
+            .saturating_add(self.parts.po.byte_count());
         for chain in &self.parts.chains {
             room = room
-                .saturating_add(chain.room())
+                .saturating_add(chain.byte_count())
                 .saturating_add(BLOCK_ROOM)
                 .saturating_add(chain.len().saturating_mul(NAME_ROOM));
         }

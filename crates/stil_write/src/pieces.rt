@@ -4,8 +4,8 @@ ghost use Rattle.stil_write.specs.StilFiles.{item_at, words_of, kind_of};
 ghost use Rattle.stil_write.specs.Pieces.{assignment, assignments, chain_block, chain_blocks, chain_head, expression, group_line, item_line, item_text, joined, opening, quoted, signal_line, signal_lines, targets, waveform_line, waveform_lines};
 
 use crate::items::{ItemKind, Items};
-use crate::texts::Texts;
 use itoa::Buffer;
+use rows::Texts;
 use std::alloc::AllocError;
 
 fn push_number(out: &mut Vec<u8>, number: usize) -> Result<(), AllocError>

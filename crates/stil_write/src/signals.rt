@@ -5,8 +5,8 @@ ghost use Rattle.stil_write.specs.Parts.{file_of};
 ghost use Rattle.stil_write.specs.Texts.{assigned, called};
 
 use crate::parts::StilParts;
-use crate::texts::Texts;
 use itoa::Buffer;
+use rows::Texts;
 use std::alloc::{AllocError, Global};
 
 /// Adds a name for each of so many chains.

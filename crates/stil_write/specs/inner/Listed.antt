@@ -2,7 +2,7 @@
 use Rattle.std.specs.Prelude.{ℕ, ◌≡◌, List, [], ◌∷◌, length}
 use Rattle.stil_write.specs.declared.items.ItemKind.{ItemKind}
 use Rattle.stil_write.specs.StilFiles.{Item, Text, item_of}
-use Rattle.stil_write.specs.inner.Rows.{AreEnds}
+use Rattle.rows.specs.Rows.{AreEnds}
 
 abbrev pub listed : List ItemKind → List (List Text) → List Item
 listed [] rows = []

@@ -1,6 +1,6 @@
 use Rattle.std.proofs.Common.{◌≡◌, ◌<◌, List, ℕ, [], length, get_or, sym, ap, ◌∙◌, subst}
-use Rattle.netlist.specs.inner.Rows.{rows}
-use Rattle.netlist.proofs.BufferRows.{rows_count}
+use Rattle.rows.specs.Rows.{rows}
+use Rattle.rows.proofs.Buffers.{rows_count}
 use Rattle.events.proofs.tables.Fans.row.Goals as goal
 
 pub row-requires-clause-within : goal.row-requires-clause-within
