@@ -18,7 +18,7 @@ const AFTER: &str = "\x1b[K\r\x1b[1A";
 /// All below the cursor goes.
 const GONE: &str = "\x1b[J";
 
-/// A gate that counts claims and batches, and shows them where it was asked to.
+/// A stage that counts claims and batches, and shows them where it was asked to.
 ///
 /// A worker claims each class that it searches. A class that is detected by a pattern of another is
 /// never claimed, so the claims end below the number of all classes.

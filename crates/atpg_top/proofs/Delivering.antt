@@ -1,9 +1,10 @@
 -- What is due of the texts that were read.
 use Rattle.std.proofs.Common.{◌≡◌, inl, ℕ, List, [], ◌∷◌, Option, Ok, refl, subst}
+use Rattle.plain_text.specs.Texts.{Text}
 use Rattle.netlist.specs.Netlist.{Netlist}
 use Rattle.outside.specs.Shelf.{Files}
-use Rattle.commands.specs.Contents.{AreRead}
-use Rattle.commands.specs.World.{Text, World}
+use Rattle.commands.specs.Contents.{FilesHold}
+use Rattle.commands.specs.World.{World}
 use Rattle.commands.specs.Due.{Due, Deliver}
 use Rattle.commands.specs.Rows.{CommandRow}
 use Rattle.commands.specs.declared.ending.Finding.{Finding}
@@ -33,5 +34,5 @@ row_at reads names writes files due a b e same also row =
     subst (λ (ws : List Text). CommandRow names ws due a b e) also (subst (λ (rs : List Text). CommandRow rs writes due a b e) same row)
 
 -- one file is read, its name being this
-pub read_as : (files : Option Files) (given name : Text) (texts : List Text) → given ≡ name → AreRead files (given ∷ []) texts → AreRead files (name ∷ []) texts
-read_as files given name texts same are = subst (λ (t : Text). AreRead files (t ∷ []) texts) same are
+pub read_as : (files : Option Files) (given name : Text) (texts : List Text) → given ≡ name → FilesHold files (given ∷ []) texts → FilesHold files (name ∷ []) texts
+read_as files given name texts same are = subst (λ (t : Text). FilesHold files (t ∷ []) texts) same are

@@ -3,6 +3,7 @@ use Rattle.std.proofs.Common.{◌≡◌, ◌∙◌, ◌<◌, inl, inr, ℕ, List
 use Rattle.std.specs.List.{All}
 use Rattle.std.specs.declared.alloc.Global.{Global}
 use Rattle.std.proofs.lemmas.Option.{slice_get-get_or}
+use Rattle.plain_text.specs.Texts.{Text}
 use Rattle.netlist.specs.Netlist.{Netlist}
 use Rattle.netlist.specs.declared.lines.Fault.{Fault}
 use Rattle.bench_text.specs.declared.refusal.Names.TheVariants.{Design}
@@ -16,7 +17,6 @@ use Rattle.fail_log.specs.Failures.{Failing}
 use Rattle.fail_log.specs.Reading.{IsLogOf}
 use Rattle.diagnose.specs.Candidates.{AreCandidates}
 use Rattle.commands.specs.Names.{texts_of}
-use Rattle.commands.specs.World.{Text}
 use Rattle.commands.specs.Worked.{IsWorked}
 use Rattle.commands.specs.declared.product.Product.{Product}
 use Rattle.commands.specs.declared.product.Stop.{Stop}

@@ -1,7 +1,8 @@
 -- A call with a command line has the row of its command.
 use Rattle.std.proofs.Common.{◌≡◌, ◌∙◌, List, Result, Ok, Err, sym, subst}
+use Rattle.plain_text.specs.Texts.{Text}
 use Rattle.command_line.specs.CommandLine.{CommandLine, NoLine, bad_hold, bad_words, command_line}
-use Rattle.commands.specs.World.{Text, World}
+use Rattle.commands.specs.World.{World}
 use Rattle.commands.specs.declared.ending.Ending.{Ending}
 use Rattle.atpg_top.specs.Laws.{EndsBy}
 use Rattle.atpg_top.specs.Rows.{LineRow, TopRow, WordsRow}

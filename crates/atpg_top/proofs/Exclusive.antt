@@ -1,6 +1,7 @@
 -- What a command owes for the same texts is alike.
 use Rattle.std.proofs.Common.{◌≡◌, ◌∙◌, inl, inr, ℕ, Bool, true, false, List, [], ◌∷◌, Option, Some, refl, sym, ap, subst}
 use Rattle.std.specs.Prelude.{not}
+use Rattle.plain_text.specs.Texts.{Text}
 use Rattle.netlist.specs.Conditions.{IsSound}
 use Rattle.netlist.specs.Netlist.{Netlist}
 use Rattle.netlist.specs.ThreeValues.{known}
@@ -10,7 +11,7 @@ use Rattle.netlist.specs.declared.lines.Fault.{Fault}
 use Rattle.bench_text.specs.declared.refusal.Names.TheVariants.{Design, Scanned}
 use Rattle.scan_play.specs.Cycles.{Cycle}
 use Rattle.scan_play.specs.Passing.{shown_at, strobe_at}
-use Rattle.scan_play.specs.Playing.{IsMet, IsPlayed, PlaysAs}
+use Rattle.scan_play.specs.Playing.{IsStrobeMet, IsPlayed, PlaysAs}
 use Rattle.scan_play.specs.declared.played.Played.{Played}
 use Rattle.scan_play.specs.declared.played.Played.TheVariants.{Passes, Fails, Unknown}
 use Rattle.scan_play.proofs.Instances.{same_tri, decides_tri}
@@ -20,28 +21,27 @@ use Rattle.stil_read.specs.Reading.{StandsFor}
 use Rattle.stil_vectors.specs.FileVectors.{vectors_in}
 use Rattle.good_files.specs.ScanOff.{design_chains}
 use Rattle.scan_insert.specs.Scanned.{scanned_of}
-use Rattle.stil_vectors.specs.Fitting.{Fits}
+use Rattle.stil_vectors.specs.Fitting.{FitsNetlist}
 use Rattle.stil_write.specs.StilFiles.{StilFile}
 use Rattle.fail_log.specs.Laws.{OneLog}
 use Rattle.fail_log.specs.Reading.{IsLogOf}
-use Rattle.commands.specs.World.{Text}
 use Rattle.commands.specs.Due.{Due, Deliver, Refuse}
 use Rattle.commands.specs.Laws.{AreAlike, IsExclusive}
 use Rattle.commands.specs.declared.ending.Finding.TheVariants.{Fine}
 use Rattle.command_line.specs.CommandLine.{CommandLine, chaintest, check, diagnose, faults, play, run, scan, sweep, transition}
-use Rattle.command_line.specs.HoldLists.{Hold}
+use Rattle.command_line.specs.HoldLists.{HoldItem}
 use Rattle.command_line.specs.declared.requests.RunOptions.{RunOptions}
 use Rattle.check_command.specs.Checking as command
 use Rattle.check_command.specs.declared.refusal.CheckRefusal.{CheckRefusal}
 use Rattle.atpg_top.specs.Checks.{check_due, refusal_of, told}
 use Rattle.atpg_top.specs.Commands.{chaintest_due, diagnose_due, due, faults_due, play_due, run_due, scan_due, sweep_due, transition_due}
 use Rattle.transition_run.specs.declared.files.TransitionFiles.{TransitionFiles}
-use Rattle.transition_run.specs.Runs.{files_of}
+use Rattle.transition_run.specs.Runs.{transition_files_of}
 use Rattle.atpg_top.specs.Runs.{tests_line, texts_in, texts_made}
 use Rattle.atpg_top.specs.inner.Running.{held_due, made_due, slow_due}
 use Rattle.atpg_top.proofs.HoldLemmas.{holds_single}
 use Rattle.atpg_top.specs.FaultLists.{IsFaultList}
-use Rattle.atpg_top.specs.Plays.{finding_of, played_line}
+use Rattle.atpg_top.specs.Plays.{played_finding, played_line}
 use Rattle.atpg_top.specs.Sweeps.{sweep_text}
 use Rattle.atpg_top.specs.Scans.{IsScanProduct}
 use Rattle.atpg_top.specs.Steps.{design_due, named_fault, named_holds, netlist, test, value}
@@ -81,15 +81,15 @@ not_shown true v o s k x = let e : Some (known true) ≡ Some X = subst (λ (w :
 not_shown false v o s k x = let e : Some (known false) ≡ Some X = subst (λ (w : Tri). Some w ≡ Some X) k (sym s ∙ x) in cc
 
 module _ (cycles : List Cycle) (shown : List (List Tri)) where
-  fails_unmet : (c o : ℕ) → IsMet cycles shown c o → IsPlayed cycles shown (Fails c o) → ⊥
+  fails_unmet : (c o : ℕ) → IsStrobeMet cycles shown c o → IsPlayed cycles shown (Fails c o) → ⊥
   fails_unmet c o (inl x) fails = known_is_not_x fails.1.0 (strobe_at cycles c o) x fails.1.1
   fails_unmet c o (inr s) fails = bits_differ fails.1.0 (strobe_at cycles c o) (shown_at shown c o) s fails.1.1 fails.1.2
 
-  unknown_unmet : (c o : ℕ) → IsMet cycles shown c o → IsPlayed cycles shown (Unknown c o) → ⊥
+  unknown_unmet : (c o : ℕ) → IsStrobeMet cycles shown c o → IsPlayed cycles shown (Unknown c o) → ⊥
   unknown_unmet c o (inl x) fails = known_is_not_x fails.1.0 (strobe_at cycles c o) x fails.1.1
   unknown_unmet c o (inr s) fails = not_shown fails.1.0 (strobe_at cycles c o) (shown_at shown c o) s fails.1.1 fails.1.2
 
-  one_finding : (a b : Played) → IsPlayed cycles shown a → IsPlayed cycles shown b → finding_of a ≡ finding_of b
+  one_finding : (a b : Played) → IsPlayed cycles shown a → IsPlayed cycles shown b → played_finding a ≡ played_finding b
   one_finding Passes Passes p q = refl
   one_finding Passes (Fails c o) p q = absurd (fails_unmet c o (p c o) q)
   one_finding Passes (Unknown c o) p q = absurd (unknown_unmet c o (p c o) q)
@@ -101,18 +101,18 @@ module _ (cycles : List Cycle) (shown : List (List Tri)) where
   one_finding (Unknown c o) (Unknown d u) p q = refl
 
 module _ (n : Netlist) (sound : IsSound n) where
-  play_once : (f : Option Fault) (cycles : List Cycle) (a b : Played) → PlaysAs n f cycles a → PlaysAs n f cycles b → finding_of a ≡ finding_of b
+  play_once : (f : Option Fault) (cycles : List Cycle) (a b : Played) → PlaysAs n f cycles a → PlaysAs n f cycles b → played_finding a ≡ played_finding b
   play_once f cycles a b p q =
       let same = runs_once same_tri decides_tri _ f n sound.closed sound.acyclic _ cycles p.0 q.0 p.1 q.1 in
       one_finding cycles q.0 a b (subst (λ s. IsPlayed cycles s a) same p.2) q.2
 
   answer_once : (f : Option Fault) (file : StilFile) → IsOneKind (answer_due n f file)
   answer_once f file c d p q =
-      given c d (Deliver [] (played_line n p.0) (finding_of p.0)) (Deliver [] (played_line n q.0) (finding_of q.0)) p.2 q.2
+      given c d (Deliver [] (played_line n p.0) (played_finding p.0)) (Deliver [] (played_line n q.0) (played_finding q.0)) p.2 q.2
       (play_once f (vectors_in file) p.0 q.0 p.1.plays q.1.plays)
 
   trial_once : (f : Option Fault) (file : StilFile) → IsOneKind (trial_due n f file)
-  trial_once f file = then_one (test (Fits file n) StilDoesNotFit) (λ _. answer_due n f file) (test_single (Fits file n) StilDoesNotFit) (λ _. answer_once f file)
+  trial_once f file = then_one (test (FitsNetlist file n) StilDoesNotFit) (λ _. answer_due n f file) (test_single (FitsNetlist file n) StilDoesNotFit) (λ _. answer_once f file)
 
   file_once : AtMostOne → (f : Option Fault) (stil : Text) → IsOneKind (file_due stil n f)
   file_once one f stil = then_one (value StandsFor NotStil stil) (trial_due n f) (value_single StandsFor NotStil stil (one stil)) (λ file. trial_once f file)
@@ -130,7 +130,7 @@ play_exclusive one fault (net ∷ stil ∷ more ∷ others) c d p q = absurd p
 
 -- ---- `run`
 
-run_exclusive : (options : RunOptions) (named : List Hold) → IsExclusive (run_due options named)
+run_exclusive : (options : RunOptions) (named : List HoldItem) → IsExclusive (run_due options named)
 run_exclusive options named =
     design_exclusive (held_due options named) (λ n sound. then_one (named_holds n named) (made_due options n) (holds_single n sound named)
     (λ holds x y a b. given x y (Deliver (texts_made a.0) (tests_line a.0.said.counts) Fine) (Deliver (texts_made b.0) (tests_line b.0.said.counts) Fine) a.2 b.2 refl))
@@ -139,7 +139,7 @@ run_exclusive options named =
 
 transition_exclusive : (options : RunOptions) → IsExclusive (transition_due options)
 transition_exclusive options =
-    design_exclusive (slow_due options) (λ n sound x y a b. let due : TransitionFiles → Due Refusal = λ made. Deliver (texts_in (files_of made)) (tests_line made.said.counts) Fine in
+    design_exclusive (slow_due options) (λ n sound x y a b. let due : TransitionFiles → Due Refusal = λ made. Deliver (texts_in (transition_files_of made)) (tests_line made.said.counts) Fine in
     given x y (due a.0) (due b.0) a.2 b.2 refl)
 
 -- ---- `chaintest`
@@ -151,7 +151,7 @@ told_once n chains file c d p q =
 
 fit_once : (n : Netlist) (chains : List (List ℕ)) (file : StilFile) → IsOneKind (fit_due n chains file)
 fit_once n chains file =
-    then_one (test (Fits file (scanned_of n chains)) StilDoesNotFit) (λ _. told_due n chains file) (test_single (Fits file (scanned_of n chains)) StilDoesNotFit) (λ _. told_once n chains file)
+    then_one (test (FitsNetlist file (scanned_of n chains)) StilDoesNotFit) (λ _. told_due n chains file) (test_single (FitsNetlist file (scanned_of n chains)) StilDoesNotFit) (λ _. told_once n chains file)
 
 chaintest_exclusive : AtMostOne → (asked : ℕ) → IsExclusive (chaintest_due asked)
 chaintest_exclusive one asked [] c d p q = absurd p
@@ -169,7 +169,7 @@ told_alike (Refuse r) (Deliver texts shown finding) alike = absurd alike
 told_alike (Deliver texts shown finding) (Refuse s) alike = absurd alike
 told_alike (Deliver texts shown finding) (Deliver others also found) alike = alike
 
-check_exclusive : IsExclusive command.check_due → IsExclusive check_due
+check_exclusive : IsExclusive command.five_texts_due → IsExclusive check_due
 check_exclusive checks texts c d p q = given c d (told p.0) (told q.0) p.2 q.2 (told_alike p.0 q.0 (checks texts p.0 q.0 p.1 q.1))
 
 -- ---- `diagnose`
@@ -182,7 +182,7 @@ diagnose_exclusive one once chains (net ∷ stil ∷ log ∷ []) c d p q =
     then_one (netlist Design net) (cases.test_due chains stil log) (netlist_single Design net)
     (λ n. then_one (value StandsFor NotStil stil) (cases.log_due chains log n) (value_single StandsFor NotStil stil (one stil))
     (λ file. then_one (value IsLogOf NotLog log) (cases.case_due chains n file) (value_single IsLogOf NotLog log (once log))
-    (λ failures. let fits = Fits file (scanned_of n (design_chains n chains)) in
+    (λ failures. let fits = FitsNetlist file (scanned_of n (design_chains n chains)) in
     then_one (test fits StilDoesNotFit) (λ _. cases.diagnosis_due chains n file failures) (test_single fits StilDoesNotFit)
     (λ u x y a b. given x y (Deliver [] a.0 Fine) (Deliver [] b.0 Fine) a.2 b.2 refl)))) c d p q
 diagnose_exclusive one once chains (net ∷ stil ∷ log ∷ more ∷ others) c d p q = absurd p
@@ -193,7 +193,7 @@ sweep_exclusive : (seed gates : ℕ) → IsExclusive (sweep_due seed gates)
 sweep_exclusive seed gates [] c d p q = given c d (Deliver [] (sweep_text p.0.said) Fine) (Deliver [] (sweep_text q.0.said) Fine) p.2 q.2 refl
 sweep_exclusive seed gates (bytes ∷ others) c d p q = absurd p
 
-pub each_exclusive : AtMostOne → IsExclusive command.check_due → OneLog → (line : CommandLine) → IsExclusive (due line)
+pub each_exclusive : AtMostOne → IsExclusive command.five_texts_due → OneLog → (line : CommandLine) → IsExclusive (due line)
 each_exclusive one checks once (scan net to chains) = scan_exclusive chains
 each_exclusive one checks once (faults net) = faults_exclusive
 each_exclusive one checks once (play net stil fault) = play_exclusive one fault

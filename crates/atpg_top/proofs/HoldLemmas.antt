@@ -12,7 +12,7 @@ use Rattle.bench_text.proofs.Lists.{get_map, got_map}
 use Rattle.fault_universe.proofs.Names.{same_name}
 use Rattle.fault_collapse.proofs.Stems.{input_number}
 use Rattle.command_line.specs.CommandLine.{hold_of}
-use Rattle.command_line.specs.HoldLists.{Hold}
+use Rattle.command_line.specs.HoldLists.{HoldItem}
 use Rattle.command_line.specs.declared.holds.Held.{Held}
 use Rattle.atpg_top.specs.Runs.{AreHeldFrom, IsFirstUnknown, IsInputAt}
 use Rattle.atpg_top.specs.Steps.{named_holds}
@@ -21,9 +21,9 @@ use Rattle.atpg_top.specs.declared.refusal.Refusal.TheVariants as refusal
 use Rattle.atpg_top.proofs.Single.{IsSingle}
 
 -- each of the names is an input's
-all_inputs : (n : Netlist) (named : List Hold) (holds x : Holds) → AreHeldFrom n holds named x → (j : ℕ) (h : Hold) → slice_get named j ≡ Some h → (k : ℕ) × IsInputAt n k h.0
+all_inputs : (n : Netlist) (named : List HoldItem) (holds x : Holds) → AreHeldFrom n holds named x → (j : ℕ) (h : HoldItem) → slice_get named j ≡ Some h → (k : ℕ) × IsInputAt n k h.0
 all_inputs n [] holds x p j h at = cc
-all_inputs n (g ∷ named) holds x p zero h at = let same : g ≡ h = cc in (p.0, subst (λ (e : Hold). IsInputAt n p.0 e.0) same p.1)
+all_inputs n (g ∷ named) holds x p zero h at = let same : g ≡ h = cc in (p.0, subst (λ (e : HoldItem). IsInputAt n p.0 e.0) same p.1)
 all_inputs n (g ∷ named) holds x p (suc j) h at = all_inputs n named (set holds p.0 (Some g.1)) x p.2 j h at
 
 module _ (n : Netlist) (sound : IsSound n) where
@@ -62,13 +62,13 @@ module _ (n : Netlist) (sound : IsSound n) where
       let a = input_is k p.0 p.1 in
       none p.0 (omega (arith, a.0, a.1)) p.2
 
-  held_once : (named : List Hold) (holds x y : Holds) → AreHeldFrom n holds named x → AreHeldFrom n holds named y → x ≡ y
+  held_once : (named : List HoldItem) (holds x y : Holds) → AreHeldFrom n holds named x → AreHeldFrom n holds named y → x ≡ y
   held_once [] holds x y p q = p ∙ sym q
   held_once (h ∷ named) holds x y p q =
       let same = input_once p.0 q.0 h.0 p.1 q.1 in
       held_once named (set holds p.0 (Some h.1)) x y p.2 (subst (λ k. AreHeldFrom n (set holds k (Some h.1)) named y) (sym same) q.2)
 
-  holds_apart : (named : List Hold) (x : Holds) (r : Refusal) → named_holds n named (Ok x) → named_holds n named (Err r) → ⊥
+  holds_apart : (named : List HoldItem) (x : Holds) (r : Refusal) → named_holds n named (Ok x) → named_holds n named (Err r) → ⊥
   holds_apart named x (refusal.NoSuchInput place) p q = let w = all_inputs n named (none_held n) x p place q.hold q.at in q.unknown w.0 w.1
   holds_apart named x (refusal.Netlist r) p q = q
   holds_apart named x refusal.NoSuchFault p q = q
@@ -78,7 +78,7 @@ module _ (n : Netlist) (sound : IsSound n) where
   holds_apart named x refusal.NotLog p q = q
   holds_apart named x refusal.StilDoesNotFit p q = q
 
-  first_once : (named : List Hold) (i j : ℕ) → IsFirstUnknown n named i → IsFirstUnknown n named j → i ≡ j
+  first_once : (named : List HoldItem) (i j : ℕ) → IsFirstUnknown n named i → IsFirstUnknown n named j → i ≡ j
   first_once named i j p q = elim (cases_order i j) [
     | inl same ↦ same
     | inr o ↦ elim o [
@@ -87,7 +87,7 @@ module _ (n : Netlist) (sound : IsSound n) where
     ]
   ]
 
-  refusals_once : (named : List Hold) (r s : Refusal) → named_holds n named (Err r) → named_holds n named (Err s) → r ≡ s
+  refusals_once : (named : List HoldItem) (r s : Refusal) → named_holds n named (Err r) → named_holds n named (Err s) → r ≡ s
   refusals_once named (refusal.NoSuchInput i) (refusal.NoSuchInput j) p q = ap (λ k. refusal.NoSuchInput k) (first_once named i j p q)
   refusals_once named (refusal.NoSuchInput i) (refusal.Netlist s) p q = absurd q
   refusals_once named (refusal.NoSuchInput i) refusal.NoSuchFault p q = absurd q
@@ -105,7 +105,7 @@ module _ (n : Netlist) (sound : IsSound n) where
   refusals_once named refusal.StilDoesNotFit s p q = absurd p
 
   -- the step answers one thing alone
-  pub holds_single : (named : List Hold) → IsSingle (named_holds n named)
+  pub holds_single : (named : List HoldItem) → IsSingle (named_holds n named)
   holds_single named = record {
     value = λ x y p q. held_once named (none_held n) x y p q;
     refusal = refusals_once named;
@@ -113,7 +113,7 @@ module _ (n : Netlist) (sound : IsSound n) where
   }
 
 -- one name more
-pub held_more : (n : Netlist) (named : List Hold) (h : Hold) (holds x : Holds) (k : ℕ) → AreHeldFrom n holds named x → IsInputAt n k h.0
+pub held_more : (n : Netlist) (named : List HoldItem) (h : HoldItem) (holds x : Holds) (k : ℕ) → AreHeldFrom n holds named x → IsInputAt n k h.0
     → AreHeldFrom n holds (named ++ h ∷ []) (set x k (Some h.1))
 held_more n [] h holds x k p at = (k, at, ap (λ (xs : Holds). set xs k (Some h.1)) p)
 held_more n (g ∷ named) h holds x k p at = (p.0, p.1, held_more n named h (set holds p.0 (Some g.1)) x k p.2 at)
@@ -123,7 +123,7 @@ pub held_next : (n : Netlist) (named : List Held) (j : ℕ) (d : Held) (holds x 
     → IsInputAt n k (get_or named j d).name.now → AreHeldFrom n holds (map hold_of (take (j + 1) named)) (set x k (Some (get_or named j d).bit))
 held_next n named j d holds x k lt so_far at =
     let one = held_more n (map hold_of (take j named)) (hold_of (get_or named j d)) holds x k so_far at in
-    subst (λ (hs : List Hold). AreHeldFrom n holds hs (set x k (Some (get_or named j d).bit))) (sym (ap (λ (i : ℕ). map hold_of (take i named)) (add-one j) ∙ (ap (map hold_of) (take-suc named j d lt) ∙ map-append hold_of (take j named) (get_or named j d ∷ [])))) one
+    subst (λ (hs : List HoldItem). AreHeldFrom n holds hs (set x k (Some (get_or named j d).bit))) (sym (ap (λ (i : ℕ). map hold_of (take i named)) (add-one j) ∙ (ap (map hold_of) (take-suc named j d lt) ∙ map-append hold_of (take j named) (get_or named j d ∷ [])))) one
 
 not_below_zero : (i : ℕ) → i < 0 → ⊥
 not_below_zero i lt = omega (arith, lt)
@@ -143,11 +143,11 @@ unknown_here n named j d x lt so_far none = record {
   at = get_map hold_of named j (get_or named j d) (slice_get-get_or named j d lt);
   unknown = none;
   before = λ i h less at. let m = got_map hold_of named i h at in
-      let here = get_map hold_of (take j named) i m.0 (slice_get_take named j i less ∙ m.1) ∙ ap (λ (g : Hold). Some g) m.2 in
+      let here = get_map hold_of (take j named) i m.0 (slice_get_take named j i less ∙ m.1) ∙ ap (λ (g : HoldItem). Some g) m.2 in
       all_inputs n (map hold_of (take j named)) (none_held n) x so_far i h here;
 }
 
 -- as many as there were
-pub held_length : (n : Netlist) (named : List Hold) (holds x : Holds) → AreHeldFrom n holds named x → length x ≡ length holds
+pub held_length : (n : Netlist) (named : List HoldItem) (holds x : Holds) → AreHeldFrom n holds named x → length x ≡ length holds
 held_length n [] holds x p = ap length p
 held_length n (h ∷ named) holds x p = held_length n named (set holds p.0 (Some h.1)) x p.2 ∙ length-set holds p.0 (Some h.1)

@@ -5,6 +5,7 @@ use Rattle.std.specs.declared.alloc.Global.{Global}
 use Rattle.std.proofs.Math.ListN.{get_or-eq_default}
 use Rattle.std.proofs.lemmas.Bool.{cases_lt}
 use Rattle.std.proofs.lemmas.List.Elements.{All-head, All-tail}
+use Rattle.plain_text.specs.Texts.{Text}
 use Rattle.netlist.specs.Netlist.{Netlist}
 use Rattle.netlist.specs.ThreeValues.{known}
 use Rattle.netlist.specs.declared.kinds.Tri.{Tri}
@@ -20,7 +21,6 @@ use Rattle.scan_play.specs.declared.played.Played.TheVariants.{Passes, Fails, Un
 use Rattle.stil_read.specs.Reading.{StandsFor}
 use Rattle.stil_write.specs.StilFiles.{StilFile}
 use Rattle.commands.specs.Names.{texts_of}
-use Rattle.commands.specs.World.{Text}
 use Rattle.commands.specs.Due.{Due}
 use Rattle.commands.specs.Worked.{IsWorked}
 use Rattle.commands.specs.declared.product.Product.{Product}

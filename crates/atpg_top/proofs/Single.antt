@@ -2,6 +2,7 @@
 use Rattle.std.proofs.Common.{◌≡◌, ◌∙◌, inl, inr, Option, Some, None, Ok, Err, refl, sym, subst, ap}
 use Rattle.std.specs.Prelude.{Result}
 use Rattle.std.proofs.lemmas.List.Elements.{All-contains}
+use Rattle.plain_text.specs.Texts.{Text}
 use Rattle.netlist.specs.Conditions.{IsSound}
 use Rattle.netlist.specs.Netlist.{Netlist}
 use Rattle.netlist.specs.declared.lines.Fault.{Fault}
@@ -10,7 +11,6 @@ use Rattle.fault_universe.specs.Texts.{fault_text}
 use Rattle.fault_universe.specs.Universe.{universe_of}
 use Rattle.fault_universe.proofs.LineTexts.{same_fault}
 use Rattle.fault_universe.proofs.Members.{line_written, member_line}
-use Rattle.commands.specs.World.{Text}
 use Rattle.commands.specs.Due.{Due, Refuse}
 use Rattle.commands.specs.Laws.{AreAlike}
 use Rattle.atpg_top.specs.Steps.{◌>>=◌, named_fault, netlist, test, value}

@@ -1,6 +1,7 @@
 -- The test of good files, read back and played, and the lines that `sweep` shows.
 use Rattle.std.proofs.Common.{◌≡◌, ◌∙◌, ◌++◌, ℕ, None, Result, Ok, Err, ap, append_assoc, subst, sym}
 use Rattle.std.specs.Prelude.{OnOk}
+use Rattle.plain_text.specs.Texts.{Text}
 use Rattle.netlist.specs.Conditions.{IsSound}
 use Rattle.netlist.specs.Designs.{IsDesign}
 use Rattle.netlist.specs.Holds.{Holds}
@@ -14,11 +15,10 @@ use Rattle.stil_read.specs.Laws.{AtMostOne}
 use Rattle.stil_read.specs.Reading.{StandsFor}
 use Rattle.stil_patterns.specs.Laws.{FileVectors, FilesFit}
 use Rattle.stil_vectors.specs.FileVectors.{vectors_in}
-use Rattle.stil_vectors.specs.Fitting.{Fits}
+use Rattle.stil_vectors.specs.Fitting.{FitsNetlist}
 use Rattle.stil_write.specs.StilFiles.{StilFile}
-use Rattle.good_files.specs.GoodFiles.{AreGoodFiles, Files}
+use Rattle.good_files.specs.GoodFiles.{AreGoodFiles, FiveFiles}
 use Rattle.good_files.specs.ScanOff.{design_chains}
-use Rattle.commands.specs.World.{Text}
 
 -- ---- the test
 
@@ -26,14 +26,14 @@ pub on_ok : {A E : Type 0} {P Q : Type 0} (r : Result A E) → (P → Q) → OnO
 on_ok (Ok x) f p = f p
 on_ok (Err e) f p = tt
 
-module _ (n : Netlist) (holds : Holds) (asked limit : ℕ) (files : Files) (sound : IsSound n) (design : IsDesign n) (good : AreGoodFiles n holds asked limit files) where
+module _ (n : Netlist) (holds : Holds) (asked limit : ℕ) (files : FiveFiles) (sound : IsSound n) (design : IsDesign n) (good : AreGoodFiles n holds asked limit files) where
   -- the text stands for one file
   read_as : AtMostOne → (file : StilFile) → StandsFor files.stil file → file ≡ good.file
   read_as one file stands = one files.stil file good.file stands good.stil_is
 
-  pub fits : AtMostOne → FilesFit → (file : StilFile) → StandsFor files.stil file → Fits file (scanned_of n (design_chains n asked))
+  pub fits : AtMostOne → FilesFit → (file : StilFile) → StandsFor files.stil file → FitsNetlist file (scanned_of n (design_chains n asked))
   fits one law file stands =
-      subst (λ (f : StilFile). Fits f (scanned_of n (design_chains n asked))) (sym (read_as one file stands))
+      subst (λ (f : StilFile). FitsNetlist f (scanned_of n (design_chains n asked))) (sym (read_as one file stands))
       (law n holds (design_chains n asked) good.patterns good.file sound design good.dealt good.is_file_of)
 
   pub passes : AtMostOne → FileVectors → VectorsDecide → (file : StilFile) → StandsFor files.stil file

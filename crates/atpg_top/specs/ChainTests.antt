@@ -1,6 +1,7 @@
 -- What `chaintest` says of a design, its chains and the cycles of a STIL file.
 use Rattle.std.specs.Prelude.{ℕ, ◌++◌, List, Option, Some, None, IfSome, codes, decimal, is_none, is_some, length}
 use Rattle.std.specs.List.{AllZip, filter, flat_map, zip}
+use Rattle.plain_text.specs.Texts.{Text}
 use Rattle.netlist.specs.declared.lines.Fault.{Fault}
 use Rattle.netlist.specs.Netlist.{Netlist}
 use Rattle.fault_universe.specs.Texts.{fault_text}
@@ -12,7 +13,6 @@ use Rattle.scan_play.specs.Passing.{FailsAt}
 use Rattle.chain_test.specs.FirstWrong.{IsFirstWrong}
 use Rattle.chain_test.specs.Hardware.{hardware_faults}
 use Rattle.chain_test.specs.Laws.{FlushFailsIn}
-use Rattle.commands.specs.World.{Text}
 
 -- a cycle and an output, or nothing
 abbrev pub Strobe : Type 0

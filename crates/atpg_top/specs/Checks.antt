@@ -1,12 +1,12 @@
 -- What is due of `check`, in the words of this program's refusals.
 use Rattle.std.specs.Prelude.{ℕ, ◌≡◌, List, [], length}
+use Rattle.plain_text.specs.Texts.{Text}
 use Rattle.netlist.specs.Conditions.{IsSound}
 use Rattle.netlist.specs.Holds.{Holds}
 use Rattle.netlist.specs.Netlist.{Netlist}
 use Rattle.fault_universe.specs.Universe.{universe_of}
 use Rattle.run_files.specs.declared.files.RunFiles.{RunFiles}
 use Rattle.run_files.specs.Runs.{IsRun}
-use Rattle.commands.specs.World.{Text}
 use Rattle.commands.specs.declared.ending.Finding.TheVariants.{Fine}
 use Rattle.commands.specs.Due.{Due, Deliver, Refuse}
 use Rattle.check_command.specs.Checking as command
@@ -28,7 +28,7 @@ told (Deliver texts shown finding) = Deliver texts shown finding
 
 -- how many faults were checked, or the first clause that is false
 abbrev pub check_due : List Text → Due Refusal → Type 0
-check_due texts d = (e : Due CheckRefusal) × command.check_due texts e × (d ≡ told e)
+check_due texts d = (e : Due CheckRefusal) × command.five_texts_due texts e × (d ≡ told e)
 
 -- Of the five texts of a run nothing else is due than the line that says how many faults there are.
 abbrev pub RunsPass : Type 0

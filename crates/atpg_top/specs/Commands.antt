@@ -1,25 +1,25 @@
 -- The commands: for each command line the files that it reads, in order, those that it writes, and what is due of the texts read.
 -- A command to come is an entry in each.
 use Rattle.std.specs.Prelude.{◌≡◌, ℕ, List, [], ◌∷◌, Option}
-use Rattle.net_gen.specs.Samples.{sample, words_of}
+use Rattle.plain_text.specs.Texts.{Text}
+use Rattle.net_gen.specs.Samples.{sample, words_from_seed}
 use Rattle.bench_text.specs.declared.refusal.Names.TheVariants.{Design, Scanned}
 use Rattle.good_files.specs.ScanOff.{design_chains}
 use Rattle.scan_insert.specs.Scanned.{scanned_of}
 use Rattle.stil_read.specs.Reading.{StandsFor}
 use Rattle.stil_vectors.specs.FileVectors.{vectors_in}
-use Rattle.stil_vectors.specs.Fitting.{Fits}
+use Rattle.stil_vectors.specs.Fitting.{FitsNetlist}
 use Rattle.scan_play.specs.declared.played.Played.{Played}
 use Rattle.fail_log.specs.Reading.{IsLogOf}
 use Rattle.command_line.specs.CommandLine.{CommandLine, chaintest, check, diagnose, faults, play, run, scan, sweep, transition}
-use Rattle.commands.specs.World.{Text}
 use Rattle.commands.specs.Due.{Due, Deliver}
 use Rattle.commands.specs.declared.ending.Finding.TheVariants.{Fine}
-use Rattle.command_line.specs.HoldLists.{Hold}
+use Rattle.command_line.specs.HoldLists.{HoldItem}
 use Rattle.command_line.specs.declared.requests.RunOptions.{RunOptions}
 use Rattle.run_files.specs.declared.files.RunFiles.{RunFiles}
 use Rattle.run_files.specs.Runs.{IsRun}
 use Rattle.transition_run.specs.declared.files.TransitionFiles.{TransitionFiles}
-use Rattle.transition_run.specs.Runs.{IsTransitionRun, files_of}
+use Rattle.transition_run.specs.Runs.{IsTransitionRun, transition_files_of}
 use Rattle.check_command.specs.Checking.{run_files}
 use Rattle.atpg_top.specs.Checks.{check_due}
 use Rattle.atpg_top.specs.Steps.{◌>>=◌, design_due, named_fault, named_holds, netlist, test, value}
@@ -27,7 +27,7 @@ use Rattle.atpg_top.specs.Runs.{tests_line, texts_in, texts_made}
 use Rattle.atpg_top.specs.Scans.{IsScanProduct}
 use Rattle.atpg_top.specs.FaultLists.{IsFaultList}
 use Rattle.atpg_top.specs.ChainTests.{IsChainTest, Strobe, chain_test_text, hardware_of}
-use Rattle.atpg_top.specs.Plays.{IsPlay, finding_of, played_line}
+use Rattle.atpg_top.specs.Plays.{IsPlay, played_finding, played_line}
 use Rattle.atpg_top.specs.Diagnoses.{IsDiagnosis}
 use Rattle.atpg_top.specs.Sweeps.{IsSweep, sweep_text}
 use Rattle.atpg_top.specs.declared.refusal.Refusal.{Refusal}
@@ -63,24 +63,24 @@ faults_due = design_due (λ n d. (text : Text) × IsFaultList n text × (d ≡ D
 -- the line of what playing the file answers
 abbrev pub play_due : Option Text → List Text → Due Refusal → Type 0
 play_due fault (net ∷ stil ∷ []) =
-    netlist Scanned net >>= λ n. named_fault n fault >>= λ f. value StandsFor NotStil stil >>= λ file. test (Fits file n) StilDoesNotFit >>= λ _ d.
-    (answer : Played) × IsPlay n f (vectors_in file) answer × (d ≡ Deliver [] (played_line n answer) (finding_of answer))
+    netlist Scanned net >>= λ n. named_fault n fault >>= λ f. value StandsFor NotStil stil >>= λ file. test (FitsNetlist file n) StilDoesNotFit >>= λ _ d.
+    (answer : Played) × IsPlay n f (vectors_in file) answer × (d ≡ Deliver [] (played_line n answer) (played_finding answer))
 play_due fault texts = λ d. ⊥
 
 -- the five texts of a run, and the line with the report's numbers
-abbrev pub run_due : RunOptions → List Hold → List Text → Due Refusal → Type 0
+abbrev pub run_due : RunOptions → List HoldItem → List Text → Due Refusal → Type 0
 run_due options named = design_due (λ n. named_holds n named >>= λ holds d.
     (made : RunFiles) × IsRun n holds options.chains options.limit made × (d ≡ Deliver (texts_made made) (tests_line made.said.counts) Fine))
 
 -- the five texts of a design's slow lines, and the line with the report's numbers
 abbrev pub transition_due : RunOptions → List Text → Due Refusal → Type 0
 transition_due options = design_due (λ n d.
-    (made : TransitionFiles) × IsTransitionRun n options.chains options.limit made × (d ≡ Deliver (texts_in (files_of made)) (tests_line made.said.counts) Fine))
+    (made : TransitionFiles) × IsTransitionRun n options.chains options.limit made × (d ≡ Deliver (texts_in (transition_files_of made)) (tests_line made.said.counts) Fine))
 
 -- the lines of what the file shows of the scan hardware, the file fitting the scanned netlist
 abbrev pub chaintest_due : ℕ → List Text → Due Refusal → Type 0
 chaintest_due asked (net ∷ stil ∷ []) =
-    netlist Design net >>= λ n. value StandsFor NotStil stil >>= λ file. test (Fits file (scanned_of n (design_chains n asked))) StilDoesNotFit >>= λ _ d.
+    netlist Design net >>= λ n. value StandsFor NotStil stil >>= λ file. test (FitsNetlist file (scanned_of n (design_chains n asked))) StilDoesNotFit >>= λ _ d.
     (told : List Strobe) × IsChainTest n (design_chains n asked) (vectors_in file) told
     × (d ≡ Deliver [] (chain_test_text (scanned_of n (design_chains n asked)) (hardware_of n (design_chains n asked)) told) Fine)
 chaintest_due asked texts = λ d. ⊥
@@ -89,13 +89,13 @@ chaintest_due asked texts = λ d. ⊥
 abbrev pub diagnose_due : ℕ → List Text → Due Refusal → Type 0
 diagnose_due chains (net ∷ stil ∷ log ∷ []) =
     netlist Design net >>= λ n. value StandsFor NotStil stil >>= λ file. value IsLogOf NotLog log >>= λ failures.
-    test (Fits file (scanned_of n (design_chains n chains))) StilDoesNotFit >>= λ _ d.
+    test (FitsNetlist file (scanned_of n (design_chains n chains))) StilDoesNotFit >>= λ _ d.
     (text : Text) × IsDiagnosis n (design_chains n chains) (vectors_in file) failures text × (d ≡ Deliver [] text Fine)
 diagnose_due chains texts = λ d. ⊥
 
 -- the numbers of a run of the sample netlist, whose test passes
 abbrev pub sweep_due : ℕ → ℕ → List Text → Due Refusal → Type 0
-sweep_due seed gates [] = λ d. (made : RunFiles) × IsSweep (sample gates (words_of seed)) made × (d ≡ Deliver [] (sweep_text made.said) Fine)
+sweep_due seed gates [] = λ d. (made : RunFiles) × IsSweep (sample gates (words_from_seed seed)) made × (d ≡ Deliver [] (sweep_text made.said) Fine)
 sweep_due seed gates texts = λ d. ⊥
 
 -- what is due of the texts that a command line has read

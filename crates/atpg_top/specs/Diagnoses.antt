@@ -1,6 +1,7 @@
 -- What `diagnose` says of a design, the cycles of a STIL file and a tester's log.
 use Rattle.std.specs.Prelude.{ℕ, ◌≡◌, ◌++◌, List, [], Option, Some, None, codes, decimal, length}
 use Rattle.std.specs.List.{flat_map, slice_get}
+use Rattle.plain_text.specs.Texts.{Text}
 use Rattle.netlist.specs.declared.lines.Fault.{Fault}
 use Rattle.netlist.specs.Netlist.{Netlist}
 use Rattle.fault_universe.specs.Texts.{fault_text}
@@ -10,7 +11,6 @@ use Rattle.scan_play.specs.Cycles.{Cycle}
 use Rattle.fail_log.specs.Failures.{Failing}
 use Rattle.diagnose.specs.Candidates.{AreCandidates}
 use Rattle.diagnose.specs.Laws.{TellTheTruth}
-use Rattle.commands.specs.World.{Text}
 
 -- `candidates 2`
 abbrev pub candidates_line : ℕ → Text

@@ -1,12 +1,13 @@
 -- The statuses exclude each other, so that "only where" in each row is "exactly where": by what the files hold, the status is one of few.
 use Rattle.std.specs.Prelude.{◌≡◌, List, Some, Ok}
+use Rattle.plain_text.specs.Texts.{Text}
 use Rattle.outside.specs.Causes.{Rose}
 use Rattle.outside.specs.Shelf.{Files}
 use Rattle.command_line.specs.CommandLine.{CommandLine, command_line}
-use Rattle.commands.specs.World.{NoneFailed, Text, World}
+use Rattle.commands.specs.World.{NoneFailed, World}
 use Rattle.commands.specs.Contents.{Whole, Missing, TooLong, contents_of}
 use Rattle.commands.specs.Due.{Refuse, Deliver}
-use Rattle.commands.specs.Laws.{IsEnded, IsExclusive, IsFailure, IsMissing, IsRefused, IsTooLong, OrFails}
+use Rattle.commands.specs.Laws.{IsEnded, IsExclusive, IsFailure, IsMissing, IsRefusedFor, IsTooLong, OrFails}
 use Rattle.commands.specs.declared.ending.Finding.{Finding}
 use Rattle.commands.specs.declared.ending.Ending.{Ending}
 use Rattle.atpg_top.specs.Commands.{due, reads}
@@ -21,7 +22,7 @@ EndsBy P (status.Command e) = P e
 EndsBy P _ = ⊥
 
 -- a call with a command line over files that are told
-pub record IsCall (words : List Text) (line : CommandLine) (files : Files) (a b : World) (s : Status) : Type 0 where
+pub record IsTopCall (words : List Text) (line : CommandLine) (files : Files) (a b : World) (s : Status) : Type 0 where
   pub taken : command_line words ≡ Ok line
   pub told : a.files ≡ Some files
   pub row : TopRow words a b s
@@ -33,20 +34,20 @@ EachExclusive = (line : CommandLine) → IsExclusive (due line)
 -- the first file that can't be had isn't there: status 7 with its name
 abbrev pub MissingExactly : Type 0
 MissingExactly =
-    (words : List Text) (line : CommandLine) (files : Files) (a b : World) (s : Status) (name : Text) → IsCall words line files a b s
+    (words : List Text) (line : CommandLine) (files : Files) (a b : World) (s : Status) (name : Text) → IsTopCall words line files a b s
     → contents_of files (reads line) ≡ Missing name → EndsBy (OrFails (IsMissing name) a b) s
 
 -- the first file that can't be had is too long: status 8 with its name
 abbrev pub TooLongExactly : Type 0
 TooLongExactly =
-    (words : List Text) (line : CommandLine) (files : Files) (a b : World) (s : Status) (name : Text) → IsCall words line files a b s
+    (words : List Text) (line : CommandLine) (files : Files) (a b : World) (s : Status) (name : Text) → IsTopCall words line files a b s
     → contents_of files (reads line) ≡ TooLong name → EndsBy (OrFails (IsTooLong name) a b) s
 
 -- the texts are refused: the refusal's status
 abbrev pub RefusedExactly : Type 0
 RefusedExactly =
-    (words : List Text) (line : CommandLine) (files : Files) (a b : World) (s : Status) (texts : List Text) (r : Refusal) → IsCall words line files a b s
-    → contents_of files (reads line) ≡ Whole texts → due line texts (Refuse r) → EndsBy (OrFails (IsRefused r) a b) s
+    (words : List Text) (line : CommandLine) (files : Files) (a b : World) (s : Status) (texts : List Text) (r : Refusal) → IsTopCall words line files a b s
+    → contents_of files (reads line) ≡ Whole texts → due line texts (Refuse r) → EndsBy (OrFails (IsRefusedFor r) a b) s
 
 -- A call of the shelf or the output failed: status 5 or 6, which says whose.
 abbrev pub FailedExactly : Type 0
@@ -58,6 +59,6 @@ FailedExactly =
 abbrev pub NothingElse : Type 0
 NothingElse =
     (words : List Text) (line : CommandLine) (files : Files) (a b : World) (s : Status) (texts made : List Text) (shown : Text) (finding : Finding)
-    → IsCall words line files a b s
+    → IsTopCall words line files a b s
     → contents_of files (reads line) ≡ Whole texts → due line texts (Deliver made shown finding)
     → ¬ Rose a.shelf_failures b.shelf_failures → ¬ Rose a.out_failures b.out_failures → EndsBy (OrFails (IsEnded finding) a b) s

@@ -1,7 +1,7 @@
 -- The numbers of the statuses and their lines on the error output.
 use Rattle.std.specs.Prelude.{◌++◌, ℕ, List, [], codes, slice_index_or}
-use Rattle.commands.specs.World.{Text}
-use Rattle.commands.specs.Names.{name_of}
+use Rattle.plain_text.specs.Texts.{Text}
+use Rattle.commands.specs.Names.{file_name_of}
 use Rattle.commands.specs.declared.ending.Finding.TheVariants.{Fine, Differs}
 use Rattle.commands.specs.declared.ending.Ending.{Ending}
 use Rattle.commands.specs.declared.ending.Ending.TheVariants.{Ended, Refused, ReadFailed, WriteFailed, Missing, TooLong, Memory}
@@ -31,10 +31,10 @@ ending_code (Missing name) = 7
 ending_code (TooLong name) = 8
 ending_code Memory = 9
 
-abbrev pub code_of : Status → ℕ
-code_of (BadWords text) = 2
-code_of BadHold = 2
-code_of (Command ending) = ending_code ending
+abbrev pub status_code : Status → ℕ
+status_code (BadWords text) = 2
+status_code BadHold = 2
+status_code (Command ending) = ending_code ending
 
 -- the names are those of the inputs that are to be held
 abbrev pub refusal_line : List Text → Refusal → Text
@@ -51,14 +51,14 @@ refusal_line names StilDoesNotFit = codes "stil does not fit\n"
 abbrev pub ending_line : List Text → Ending Refusal → Text
 ending_line names (Ended finding) = []
 ending_line names (Refused refusal) = refusal_line names refusal
-ending_line names (ReadFailed name) = codes "read failed: " ++ (name_of name ++ codes "\n")
+ending_line names (ReadFailed name) = codes "read failed: " ++ (file_name_of name ++ codes "\n")
 ending_line names (WriteFailed failure) = failure_line failure
-ending_line names (Missing name) = codes "no such file: " ++ (name_of name ++ codes "\n")
-ending_line names (TooLong name) = codes "too long: " ++ (name_of name ++ codes "\n")
+ending_line names (Missing name) = codes "no such file: " ++ (file_name_of name ++ codes "\n")
+ending_line names (TooLong name) = codes "too long: " ++ (file_name_of name ++ codes "\n")
 ending_line names Memory = codes "out of memory\n"
 
 -- the line of a status; that of bad words is the parser's text
-abbrev pub line_of : List Text → Status → Text
-line_of names (BadWords text) = text.now
-line_of names BadHold = codes "bad hold\n"
-line_of names (Command ending) = ending_line names ending
+abbrev pub status_line : List Text → Status → Text
+status_line names (BadWords text) = text.now
+status_line names BadHold = codes "bad hold\n"
+status_line names (Command ending) = ending_line names ending

@@ -1,5 +1,6 @@
 -- What `play` says of a netlist, with a fault or none, and the cycles of a STIL file.
 use Rattle.std.specs.Prelude.{ℕ, ◌++◌, List, Option, codes, decimal}
+use Rattle.plain_text.specs.Texts.{Text}
 use Rattle.netlist.specs.declared.lines.Fault.{Fault}
 use Rattle.netlist.specs.Netlist.{Netlist}
 use Rattle.scan_insert.specs.Names.{pin_name_of}
@@ -8,7 +9,6 @@ use Rattle.scan_play.specs.declared.played.Played.TheVariants as played
 use Rattle.scan_play.specs.Cycles.{Cycle}
 use Rattle.scan_play.specs.Passing as test
 use Rattle.scan_play.specs.Playing.{PlaysAs}
-use Rattle.commands.specs.World.{Text}
 use Rattle.commands.specs.declared.ending.Finding.{Finding}
 use Rattle.commands.specs.declared.ending.Finding.TheVariants.{Fine, Differs}
 
@@ -21,9 +21,9 @@ played_line n played.Passes = codes "passes\n"
 played_line n (played.Fails cycle output) = codes "fails" ++ strobe_text n cycle output
 played_line n (played.Unknown cycle output) = codes "unknown" ++ strobe_text n cycle output
 
-abbrev pub finding_of : Played → Finding
-finding_of played.Passes = Fine
-finding_of _ = Differs
+abbrev pub played_finding : Played → Finding
+played_finding played.Passes = Fine
+played_finding _ = Differs
 
 -- From every power-up state of the cells the netlist passes, or it fails at this strobe. An unknown strobe tells nothing of them.
 abbrev pub HoldsFromPowerUp : Netlist → Option Fault → List Cycle → Played → Type 0

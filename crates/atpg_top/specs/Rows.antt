@@ -1,14 +1,15 @@
 -- The status of a call of the program, and what it leaves.
 use Rattle.std.specs.Prelude.{◌≡◌, ℕ, Bool, List, [], Option, Result, Ok, Err, map}
+use Rattle.plain_text.specs.Texts.{Text}
 use Rattle.command_line.specs.CommandLine.{CommandLine, NoLine, bad_hold, bad_words, command_line, run}
-use Rattle.command_line.specs.HoldLists.{Hold}
-use Rattle.commands.specs.World.{IsAsBefore, Text, World}
+use Rattle.command_line.specs.HoldLists.{HoldItem}
+use Rattle.commands.specs.World.{IsAsBefore, World}
 use Rattle.commands.specs.Rows.{CommandRow}
 use Rattle.commands.specs.declared.ending.Ending.{Ending}
 use Rattle.commands.specs.declared.ending.Ending.TheVariants as ending
 use Rattle.status_lines.specs.Lines.{IsSaid}
 use Rattle.atpg_top.specs.Commands.{due, reads, writes}
-use Rattle.atpg_top.specs.Lines.{line_of}
+use Rattle.atpg_top.specs.Lines.{status_line}
 use Rattle.atpg_top.specs.declared.refusal.Refusal.{Refusal}
 use Rattle.atpg_top.specs.declared.status.Status.{Status}
 use Rattle.atpg_top.specs.declared.status.Status.TheVariants as status
@@ -30,10 +31,10 @@ TopRow given a b (status.Command e) = WordsRow (command_line given) a b e
 
 -- the names of the inputs that a command line wants held
 abbrev pub held_names : Result CommandLine NoLine → List Text
-held_names (Ok (run net prefix options holds)) = map (λ (h : Hold). h.0) holds
+held_names (Ok (run net prefix options holds)) = map (λ (h : HoldItem). h.0) holds
 held_names _ = []
 
 -- The error output gains the line of the status. Where the command did its work it is left alone.
 abbrev pub ErrRow : Bool → List Text → Status → Option Text → ℕ → Option Text → ℕ → Type 0
 ErrRow takes_memory names (status.Command (ending.Ended finding)) a f b g = (b ≡ a) × (g ≡ f)
-ErrRow takes_memory names s a f b g = IsSaid takes_memory (line_of names s) a f b g
+ErrRow takes_memory names s a f b g = IsSaid takes_memory (status_line names s) a f b g

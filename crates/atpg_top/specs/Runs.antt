@@ -1,12 +1,12 @@
 -- What `run`, `transition` and `sweep` say.
 use Rattle.std.specs.Prelude.{ℕ, ◌≡◌, ◌<◌, ◌++◌, List, [], ◌∷◌, Some, codes, decimal, slice_set}
 use Rattle.std.specs.List.{slice_get}
+use Rattle.plain_text.specs.Texts.{Text}
 use Rattle.netlist.specs.Netlist.{Netlist, name_of}
 use Rattle.netlist.specs.Holds.{Holds}
-use Rattle.good_files.specs.GoodFiles.{Files}
+use Rattle.good_files.specs.GoodFiles.{FiveFiles}
 use Rattle.report.specs.declared.counts.ReportCounts.{ReportCounts}
-use Rattle.command_line.specs.HoldLists.{Hold}
-use Rattle.commands.specs.World.{Text}
+use Rattle.command_line.specs.HoldLists.{HoldItem}
 use Rattle.run_files.specs.Runs.{files_of}
 use Rattle.run_files.specs.declared.files.RunFiles.{RunFiles}
 
@@ -17,21 +17,21 @@ abbrev pub IsInputAt : Netlist → ℕ → Text → Type 0
 IsInputAt n k name = (x : ℕ) × (slice_get n.inputs k ≡ Some x) × (name_of n x ≡ name)
 
 -- one after the other the input of each name is held at its bit
-abbrev pub AreHeldFrom : Netlist → Holds → List Hold → Holds → Type 0
+abbrev pub AreHeldFrom : Netlist → Holds → List HoldItem → Holds → Type 0
 AreHeldFrom n holds [] held = held ≡ holds
 AreHeldFrom n holds (h ∷ named) held = (k : ℕ) × IsInputAt n k h.0 × AreHeldFrom n (slice_set holds k (Some h.1)) named held
 
 -- the first that names no input stands at this place
-pub record IsFirstUnknown (n : Netlist) (named : List Hold) (place : ℕ) : Type 0 where
-  pub hold : Hold
+pub record IsFirstUnknown (n : Netlist) (named : List HoldItem) (place : ℕ) : Type 0 where
+  pub hold : HoldItem
   pub at : slice_get named place ≡ Some hold
   pub unknown : (k : ℕ) → ¬ IsInputAt n k hold.0
-  pub before : (j : ℕ) (h : Hold) → j < place → slice_get named j ≡ Some h → (k : ℕ) × IsInputAt n k h.0
+  pub before : (j : ℕ) (h : HoldItem) → j < place → slice_get named j ≡ Some h → (k : ℕ) × IsInputAt n k h.0
 
 -- ---- what is written and shown
 
 -- the five texts, in the order in which they are written
-abbrev pub texts_in : Files → List Text
+abbrev pub texts_in : FiveFiles → List Text
 texts_in files = files.net ∷ files.scan ∷ files.stil ∷ files.certificate ∷ files.report ∷ []
 
 abbrev pub texts_made : RunFiles → List Text

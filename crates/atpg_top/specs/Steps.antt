@@ -1,6 +1,7 @@
 -- What is due of texts step by step: each step gives a value, or refuses. The first step that refuses decides.
 use Rattle.std.specs.Prelude.{◌≡◌, ◌≢◌, ◌⊎◌, List, [], ◌∷◌, Option, Some, None, Result, Ok, Err}
 use Rattle.std.specs.List.{All, Contains}
+use Rattle.plain_text.specs.Texts.{Text}
 use Rattle.netlist.specs.declared.lines.Fault.{Fault}
 use Rattle.netlist.specs.Netlist.{Netlist}
 use Rattle.netlist.specs.Conditions.{IsSound}
@@ -11,8 +12,7 @@ use Rattle.bench_text.specs.declared.refusal.Names.TheVariants.{Design}
 use Rattle.bench_text.specs.declared.refusal.BenchFault.TheVariants as bench
 use Rattle.fault_universe.specs.Texts.{fault_text}
 use Rattle.fault_universe.specs.Universe.{universe_of}
-use Rattle.command_line.specs.HoldLists.{Hold}
-use Rattle.commands.specs.World.{Text}
+use Rattle.command_line.specs.HoldLists.{HoldItem}
 use Rattle.commands.specs.Due.{Due, Refuse}
 use Rattle.atpg_top.specs.Runs.{AreHeldFrom, IsFirstUnknown}
 use Rattle.atpg_top.specs.declared.refusal.Refusal.{Refusal}
@@ -38,7 +38,7 @@ named_fault n (Some text) (Ok (Some f)) = Contains (universe_of n) f × (fault_t
 named_fault n (Some text) (Err r) = (r ≡ refusal.NoSuchFault) × All (λ f. fault_text n f ≢ text) (universe_of n)
 
 -- the inputs that are held, where each name is an input's; else refused for the first that isn't
-abbrev pub named_holds : Netlist → List Hold → Result Holds Refusal → Type 0
+abbrev pub named_holds : Netlist → List HoldItem → Result Holds Refusal → Type 0
 named_holds n named (Ok holds) = AreHeldFrom n (none_held n) named holds
 named_holds n named (Err (refusal.NoSuchInput place)) = IsFirstUnknown n named place
 named_holds n named (Err _) = ⊥

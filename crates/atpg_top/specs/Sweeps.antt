@@ -1,5 +1,6 @@
 -- What `sweep` makes of a sample netlist, and says of it.
 use Rattle.std.specs.Prelude.{ℕ, ◌++◌, codes, decimal, None}
+use Rattle.plain_text.specs.Texts.{Text}
 use Rattle.netlist.specs.Netlist.{Netlist}
 use Rattle.netlist.specs.Holds.{none_held}
 use Rattle.scan_insert.specs.Scanned.{scanned_of}
@@ -9,7 +10,6 @@ use Rattle.report.specs.Reports.{Report}
 use Rattle.stil_read.specs.Reading.{StandsFor}
 use Rattle.stil_vectors.specs.FileVectors.{vectors_in}
 use Rattle.stil_write.specs.StilFiles.{StilFile}
-use Rattle.commands.specs.World.{Text}
 use Rattle.run_files.specs.declared.files.RunFiles.{RunFiles}
 use Rattle.run_files.specs.Runs.{IsRun}
 use Rattle.atpg_top.specs.Plays.{IsPlay}

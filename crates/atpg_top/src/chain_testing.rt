@@ -8,7 +8,7 @@ ghost use Rattle.netlist.specs.declared.lines.Fault.{Fault as Stuck};
 ghost use Rattle.good_files.specs.ScanOff.{design_chains};
 ghost use Rattle.scan_insert.specs.Scanned.{insertion_of};
 ghost use Rattle.stil_vectors.specs.FileVectors.{vectors_in};
-ghost use Rattle.stil_vectors.specs.Fitting.{Fits};
+ghost use Rattle.stil_vectors.specs.Fitting.{FitsNetlist};
 ghost use Rattle.commands.specs.Contents.{most_bytes};
 ghost use Rattle.commands.specs.Rows.{CommandRow};
 ghost use Rattle.commands.specs.Worked.{IsWorked};
@@ -93,7 +93,7 @@ fn told_of(
     faults: &[Fault],
     file: &StilFile,
 ) -> Result<Vec<Option<(u64, u32)>>, NoMemory>
-    requires { Fits file.now core.now }
+    requires { FitsNetlist file.now core.now }
     ensures told { IfOk result (λ told. AllZip (IsTold core.now (vectors_in file.now)) faults.now told.items) }
     ensures outputs { IfOk result (λ told. All (IsOutput core.now) told.items) }
 {
@@ -111,7 +111,7 @@ fn told_of(
 
 /// The text of what the file shows of the scan hardware.
 fn test_text(alloc: Global, hardware: &Hardware, file: &StilFile) -> Result<Vec<u8>, NoMemory>
-    requires fits { Fits file.now hardware.now.scanned.netlist }
+    requires fits { FitsNetlist file.now hardware.now.scanned.netlist }
     requires signals { All (λ (f : Stuck). signal_of f.line < length (signals hardware.now.scanned.netlist)) hardware.now.faults.items }
     ensures { IfOk result (λ text. IsTestText hardware.now file.now text.items) }
 {
@@ -126,7 +126,7 @@ fn test_text(alloc: Global, hardware: &Hardware, file: &StilFile) -> Result<Vec<
 
 /// What the file, which fits, shows of the scan hardware of the design.
 fn tested(alloc: Global, hardware: &Hardware, file: &StilFile) -> Result<Product, Stop<Refusal>>
-    requires fits { Fits file.now hardware.now.scanned.netlist }
+    requires fits { FitsNetlist file.now hardware.now.scanned.netlist }
     requires signals { All (λ (f : Stuck). signal_of f.line < length (signals hardware.now.scanned.netlist)) hardware.now.faults.items }
     ensures { IsWorked (text_due hardware.now file.now) 0 result }
 {

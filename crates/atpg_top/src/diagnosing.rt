@@ -1,6 +1,7 @@
 //! `diagnose`: the faults of a file's netlist that explain what failed on the tester.
 ghost use Rattle.std.specs.Prelude.{◌≡◌, ◌≤◌, ◌<◌, ◌^◌, ◌++◌, ◌∷◌, [], IfOk, OnOk, Some, length};
 ghost use Rattle.std.specs.List.{All};
+ghost use Rattle.limits.specs.Limits.{most_workers};
 ghost use Rattle.netlist.specs.Designs.{IsDesign};
 ghost use Rattle.netlist.specs.Lines.{signal_of};
 ghost use Rattle.netlist.specs.Netlist.{signals};
@@ -8,7 +9,7 @@ ghost use Rattle.fault_universe.specs.Universe.{universe_of};
 ghost use Rattle.scan_insert.specs.Scanned.{insertion_of};
 ghost use Rattle.good_files.specs.ScanOff.{design_chains};
 ghost use Rattle.stil_vectors.specs.FileVectors.{vectors_in};
-ghost use Rattle.stil_vectors.specs.Fitting.{Fits};
+ghost use Rattle.stil_vectors.specs.Fitting.{FitsNetlist};
 ghost use Rattle.diagnose.specs.Candidates.{AreCandidates, IsScannedDesign};
 ghost use Rattle.commands.specs.Contents.{most_bytes};
 ghost use Rattle.commands.specs.Names.{texts_of};
@@ -102,8 +103,8 @@ fn suspects<R: Threads + Sync>(
     workers: u32,
 ) -> Result<Vec<u32>, NoMemory>
     requires design { IsScannedDesign scanned.now faults.now classes.now }
-    requires fits { Fits case.now.file scanned.now.netlist }
-    requires workers { (1 ≤ workers) × (workers ≤ 64) }
+    requires fits { FitsNetlist case.now.file scanned.now.netlist }
+    requires workers { (1 ≤ workers) × (workers ≤ most_workers) }
     ensures { IfOk result (λ found. AreCandidates scanned.now faults.now (vectors_in case.now.file) case.now.log found.items) }
 {
     case.file.sound();
@@ -167,7 +168,7 @@ fn diagnosis<R: Threads + Sync>(
     requires design { IsDesign case.now.netlist }
     requires range { AreWithin options }
     requires scanned { scanned.now ≡ insertion_of case.now.netlist (design_chains case.now.netlist options.chains) }
-    requires fits { Fits case.now.file scanned.now.netlist }
+    requires fits { FitsNetlist case.now.file scanned.now.netlist }
     ensures { IfOk result (λ text. IsDiagnosis case.now.netlist (design_chains case.now.netlist options.chains) (vectors_in case.now.file) case.now.log text.items) }
 {
     case.netlist.sound();
@@ -193,7 +194,7 @@ fn product_of<R: Threads + Sync>(
     requires design { IsDesign case.now.netlist }
     requires range { AreWithin options }
     requires scanned { scanned.now ≡ insertion_of case.now.netlist (design_chains case.now.netlist options.chains) }
-    requires fits { Fits case.now.file scanned.now.netlist }
+    requires fits { FitsNetlist case.now.file scanned.now.netlist }
     ensures { IsWorked (diagnosis_due options.chains case.now.netlist case.now.file case.now.log) 0 result }
 {
     match diagnosis(rt, alloc, scanned, case, options) {

@@ -6,7 +6,7 @@ ghost use Rattle.netlist.specs.Netlist.{signals};
 ghost use Rattle.fault_universe.specs.Universe.{universe_of};
 ghost use Rattle.netlist.specs.Lines.{signal_of};
 ghost use Rattle.fault_collapse.specs.Classes.{AreClasses};
-ghost use Rattle.atpg_top.specs.FaultLists.{counts_line, fault_line, fault_lines};
+ghost use Rattle.atpg_top.specs.FaultLists.{counts_line, listed_fault_line, fault_lines};
 ghost use Rattle.commands.specs.Pieces.{PutsText};
 ghost use Rattle.atpg_top.specs.inner.Pieces.{PutsFaultList, PutsPiece};
 
@@ -44,7 +44,7 @@ fn push_fault(
     class: u32,
 ) -> Result<(), AllocError>
     requires { signal_of fault.line < length (signals netlist.now) }
-    ensures { OnOk result (text.new.items ≡ text.old.items ++ fault_line netlist.now fault class) }
+    ensures { OnOk result (text.new.items ≡ text.old.items ++ listed_fault_line netlist.now fault class) }
 {
     push_text(text, netlist, fault)?;
     text.extend_from_slice(b" class ")?;
@@ -75,7 +75,7 @@ fn put_fault<T: Sink>(
 ) -> Result<(), WriteRefusal>
     requires { signal_of fault.line < length (signals netlist.now) }
     ensures { PutsPiece (T.taken out.old) (T.failures out.old) (T.taken out.new) (T.failures out.new)
-        (piece.old.items ++ fault_line netlist.now fault class) piece.new.items result }
+        (piece.old.items ++ listed_fault_line netlist.now fault class) piece.new.items result }
 {
     push_fault(piece, netlist, fault, class).map_err(|_| WriteRefusal::NoMemory)?;
     put_piece(out, piece)

@@ -17,12 +17,12 @@
 
 ghost use Rattle.std.specs.Prelude.{◌≡◌, Ok, map};
 ghost use Rattle.std.specs.String.{string_bytes};
-ghost use Rattle.command_line.specs.CommandLine.{IsInRange, command_line, line_of};
+ghost use Rattle.command_line.specs.CommandLine.{IsInRange, command_line, command_line_of};
 ghost use Rattle.commands.specs.World.{world};
 ghost use Rattle.atpg_top.specs.Rows.{ErrRow, LineRow, TopRow, held_names};
 ghost use Rattle.atpg_top.specs.inner.Declined.{DeclineRow};
 ghost use Rattle.atpg_top.specs.inner.Held.{names_held};
-ghost use Rattle.atpg_top.specs.Lines.{code_of};
+ghost use Rattle.atpg_top.specs.Lines.{status_code};
 ghost use Rattle.atpg_top.specs.declared.status.Status.{Status};
 
 mod chain_testing;
@@ -74,11 +74,11 @@ fn perform<'a, R: Threads + Wait + Sync, S: Shelf, T: Sink, G: Gate + Sync>(
     alloc: Global,
     shelf: &mut S,
     out: &mut T,
-    gate: &G,
+    stage: &G,
     request: &Request<'a>,
 ) -> Ending<'a, Refusal>
     requires { IsInRange request.now }
-    ensures { LineRow (line_of request.now)
+    ensures { LineRow (command_line_of request.now)
         (world (S.files shelf.old) (S.failures shelf.old) (T.taken out.old) (T.failures out.old))
         (world (S.files shelf.new) (S.failures shelf.new) (T.taken out.new) (T.failures out.new)) result }
 {
@@ -100,7 +100,7 @@ fn perform<'a, R: Threads + Wait + Sync, S: Shelf, T: Sink, G: Gate + Sync>(
             alloc,
             shelf,
             out,
-            gate,
+            stage,
             net,
             prefix,
             *options,
@@ -108,7 +108,7 @@ fn perform<'a, R: Threads + Wait + Sync, S: Shelf, T: Sink, G: Gate + Sync>(
         ),
         Request::Check { prefix } => check_run(alloc, shelf, out, prefix),
         Request::Sweep { seed, gates } => {
-            sweep_sample(rt, alloc, shelf, out, gate, *seed, *gates)
+            sweep_sample(rt, alloc, shelf, out, stage, *seed, *gates)
         }
         Request::ChainTest { net, stil, chains } => {
             test_chains(alloc, shelf, out, net, stil, *chains)
@@ -142,7 +142,7 @@ fn decline(refusal: &WordsRefusal) -> Status<'_>
 
 /// The inputs that are to be held, which `run` alone may name.
 fn held_in<'a, 'b>(request: &'b Request<'a>) -> &'b [Held<'a>]
-    ensures { names_held result.now ≡ held_names (Ok (line_of request.now)) }
+    ensures { names_held result.now ≡ held_names (Ok (command_line_of request.now)) }
 {
     match request {
         Request::Run { holds, .. } => holds.as_slice(),
@@ -152,7 +152,7 @@ fn held_in<'a, 'b>(request: &'b Request<'a>) -> &'b [Held<'a>]
 
 /// Says how the call ends, and answers the status's number. The inputs are those that are to be held.
 fn end<E: Sink>(err: &mut E, status: &Status<'_>, holds: &[Held<'_>]) -> u8
-    ensures code { result ≡ code_of status.now }
+    ensures code { result ≡ status_code status.now }
     ensures told { ErrRow E.takes_memory (names_held holds.now) status.now (E.taken err.old) (E.failures err.old) (E.taken err.new) (E.failures err.new) }
 {
     tell(err, status, holds);
@@ -168,9 +168,9 @@ pub fn top<R: Threads + Wait + Sync, S: Shelf, T: Sink, E: Sink, G: Gate + Sync>
     shelf: &mut S,
     out: &mut T,
     err: &mut E,
-    gate: &G,
+    stage: &G,
 ) -> u8
-    ensures { (s : Status) × (result ≡ code_of s)
+    ensures { (s : Status) × (result ≡ status_code s)
         × TopRow (map string_bytes words.now)
         (world (S.files shelf.old) (S.failures shelf.old) (T.taken out.old) (T.failures out.old))
         (world (S.files shelf.new) (S.failures shelf.new) (T.taken out.new) (T.failures out.new)) s
@@ -179,7 +179,7 @@ pub fn top<R: Threads + Wait + Sync, S: Shelf, T: Sink, E: Sink, G: Gate + Sync>
     let parsed = parse(alloc, words);
     match &parsed {
         Ok(request) => {
-            let ending = perform(rt, alloc, shelf, out, gate, request);
+            let ending = perform(rt, alloc, shelf, out, stage, request);
             end(err, &Status::Command(ending), held_in(request))
         }
         Err(refusal) => {

@@ -5,9 +5,9 @@ ghost use Rattle.commands.specs.Rows.{CommandRow};
 ghost use Rattle.commands.specs.Worked.{IsWorked};
 ghost use Rattle.commands.specs.World.{world};
 ghost use Rattle.stil_vectors.specs.FileVectors.{vectors_in};
-ghost use Rattle.stil_vectors.specs.Fitting.{Fits};
+ghost use Rattle.stil_vectors.specs.Fitting.{FitsNetlist};
 ghost use Rattle.atpg_top.specs.Commands.{play_due};
-ghost use Rattle.atpg_top.specs.Plays.{IsPlay, finding_of, played_line, strobe_text};
+ghost use Rattle.atpg_top.specs.Plays.{IsPlay, played_finding, played_line, strobe_text};
 ghost use Rattle.atpg_top.specs.inner.Trials.{IsShown, ReadsTrial, answer_due, trial_due};
 
 use crate::reading::{fault_of, fitting, netlist_of, stil_of};
@@ -65,7 +65,7 @@ pub(crate) fn answer_of(
     fault: Option<Fault>,
     file: &StilFile,
 ) -> Result<Played, NoMemory>
-    requires { Fits file.now core.now }
+    requires { FitsNetlist file.now core.now }
     ensures plays { IfOk result (IsPlay core.now fault (vectors_in file.now)) }
     ensures shown { IfOk result (IsShown core.now) }
 {
@@ -77,7 +77,7 @@ pub(crate) fn answer_of(
 }
 
 fn finding_of(answer: Played) -> Finding
-    ensures { result ≡ finding_of answer }
+    ensures { result ≡ played_finding answer }
 {
     match answer {
         Played::Passes => Finding::Fine,
@@ -142,7 +142,7 @@ fn played(
     fault: Option<Fault>,
     file: &StilFile,
 ) -> Result<Product, Stop<Refusal>>
-    requires { Fits file.now netlist }
+    requires { FitsNetlist file.now netlist }
     ensures { IsWorked (answer_due netlist fault file.now) 0 result }
 {
     let Ok(core) = Core::of(alloc, netlist) else {

@@ -3,7 +3,7 @@ ghost use Rattle.std.specs.Prelude.{◌≤◌, IfOk, length, option_map};
 ghost use Rattle.bench_text.specs.Reading.{IsReadAs};
 ghost use Rattle.netlist.specs.Conditions.{IsSound};
 ghost use Rattle.stil_read.specs.Reading.{StandsFor};
-ghost use Rattle.stil_vectors.specs.Fitting.{Fits};
+ghost use Rattle.stil_vectors.specs.Fitting.{FitsNetlist};
 ghost use Rattle.fail_log.specs.Reading.{IsLogOf};
 ghost use Rattle.commands.specs.Contents.{most_bytes};
 ghost use Rattle.atpg_top.specs.Steps.{named_fault, netlist, test, value};
@@ -73,7 +73,7 @@ pub fn log_of(alloc: Global, text: &[u8]) -> Result<FailLog, Stop<Refusal>>
 
 /// That the file fits the netlist.
 pub fn fitting(alloc: Global, file: &StilFile, netlist: &Netlist) -> Result<(), Stop<Refusal>>
-    ensures { Answers (test (Fits file.now netlist.now) Refusal.StilDoesNotFit) result }
+    ensures { Answers (test (FitsNetlist file.now netlist.now) Refusal.StilDoesNotFit) result }
 {
     match fits(alloc, file, netlist) {
         Ok(true) => Ok(()),

@@ -28,7 +28,7 @@ use netlist::{Core, Holds, Netlist, NoMemory};
 use outside::{Gate, Shelf, Sink};
 use podem::Podem;
 use redundancy_cert::Engine;
-use run_files::{Plan, RunFiles, make_files};
+use run_files::{RunFiles, RunPlan, make_files};
 use std::alloc::{AllocError, Global};
 use std::sync::Wait;
 use std::thread::Threads;
@@ -60,20 +60,20 @@ fn made_by<R: Threads + Wait + Sync, E: Engine + Sync, G: Gate + Sync>(
     options: RunOptions,
     engine: &E,
     holds: &Holds,
-    gate: &G,
+    stage: &G,
 ) -> Result<RunFiles, NoMemory>
     requires design { IsDesign core.now }
     requires range { AreInRange options }
     requires held { AreHoldsOf core.now holds.now }
     ensures { IfOk result (IsRun core.now holds.now options.chains options.limit) }
 {
-    let plan = Plan {
+    let plan = RunPlan {
         chains: options.chains,
         workers: options.workers,
         limit: options.limit,
         seed: options.seed,
     };
-    make_files(rt, alloc, core, plan, engine, holds, gate)
+    make_files(rt, alloc, core, plan, engine, holds, stage)
 }
 
 /// The five files, as the engine that was asked for finds them.
@@ -83,7 +83,7 @@ pub(crate) fn made_of<R: Threads + Wait + Sync, G: Gate + Sync>(
     core: &Core,
     options: RunOptions,
     holds: &Holds,
-    gate: &G,
+    stage: &G,
 ) -> Result<RunFiles, NoMemory>
     requires design { IsDesign core.now }
     requires range { AreInRange options }
@@ -93,11 +93,11 @@ pub(crate) fn made_of<R: Threads + Wait + Sync, G: Gate + Sync>(
     match options.engine {
         EngineName::Podem => {
             let podem = Podem::of(alloc, core)?;
-            made_by(rt, alloc, core, options, &podem, holds, gate)
+            made_by(rt, alloc, core, options, &podem, holds, stage)
         }
         EngineName::Fan => {
             let fan = Fan::of(alloc, core)?;
-            made_by(rt, alloc, core, options, &fan, holds, gate)
+            made_by(rt, alloc, core, options, &fan, holds, stage)
         }
     }
 }
@@ -109,7 +109,7 @@ fn run_design<R: Threads + Wait + Sync, G: Gate + Sync>(
     netlist: Netlist,
     options: RunOptions,
     named: &[Held<'_>],
-    gate: &G,
+    stage: &G,
 ) -> Result<Product, Stop<Refusal>>
     requires design { IsDesign netlist }
     requires range { AreInRange options }
@@ -122,7 +122,7 @@ fn run_design<R: Threads + Wait + Sync, G: Gate + Sync>(
         Ok(holds) => holds,
         Err(stop) => return Err(stop),
     };
-    let Ok(made) = made_of(rt, alloc, &core, options, &holds, gate) else {
+    let Ok(made) = made_of(rt, alloc, &core, options, &holds, stage) else {
         return Err(Stop::NoMemory);
     };
     match product_by(alloc, made) {
@@ -138,7 +138,7 @@ fn work<R: Threads + Wait + Sync, G: Gate + Sync>(
     texts: Vec<Vec<u8>>,
     options: RunOptions,
     named: &[Held<'_>],
-    gate: &G,
+    stage: &G,
 ) -> Result<Product, Stop<Refusal>>
     requires count { length texts.items ≡ 1 }
     requires within { All (λ text. length text ≤ most_bytes) (texts_of texts.items) }
@@ -146,7 +146,7 @@ fn work<R: Threads + Wait + Sync, G: Gate + Sync>(
     ensures { IsWorked (run_due options (map hold_of named.now) (texts_of texts.items)) 5 result }
 {
     match design_of(alloc, texts) {
-        Ok(netlist) => run_design(rt, alloc, netlist, options, named, gate),
+        Ok(netlist) => run_design(rt, alloc, netlist, options, named, stage),
         Err(stop) => Err(stop),
     }
 }
@@ -157,7 +157,7 @@ pub fn run_netlist<'a, R: Threads + Wait + Sync, S: Shelf, T: Sink, G: Gate + Sy
     alloc: Global,
     shelf: &mut S,
     out: &mut T,
-    gate: &G,
+    stage: &G,
     net: &'a str,
     prefix: &'a str,
     options: RunOptions,
@@ -174,6 +174,6 @@ pub fn run_netlist<'a, R: Threads + Wait + Sync, S: Shelf, T: Sink, G: Gate + Sy
         Ok(texts) => texts,
         Err(ending) => return ending,
     };
-    let worked = work(rt, alloc, texts, options, named, gate);
+    let worked = work(rt, alloc, texts, options, named, stage);
     deliver(alloc, shelf, out, &writes, worked)
 }

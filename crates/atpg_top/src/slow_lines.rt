@@ -9,7 +9,7 @@ ghost use Rattle.commands.specs.Worked.{IsWorked};
 ghost use Rattle.commands.specs.World.{world};
 ghost use Rattle.commands.specs.declared.ending.Finding.TheVariants.{Fine};
 ghost use Rattle.command_line.specs.CommandLine.{AreInRange};
-ghost use Rattle.transition_run.specs.Runs.{IsTransitionRun, files_of};
+ghost use Rattle.transition_run.specs.Runs.{IsTransitionRun, transition_files_of};
 ghost use Rattle.check_command.specs.Checking.{run_files};
 ghost use Rattle.atpg_top.specs.Commands.{transition_due};
 ghost use Rattle.atpg_top.specs.Runs.{tests_line, texts_in};
@@ -29,11 +29,11 @@ use redundancy_cert::Engine;
 use std::alloc::{AllocError, Global};
 use std::thread::Threads;
 use transition_frames::frames;
-use transition_run::{Plan, TransitionFiles, transition_files};
+use transition_run::{TransitionFiles, TransitionPlan, transition_files};
 
 /// What is written and shown of a test for slow lines.
 fn product_by(alloc: Global, made: TransitionFiles) -> Result<Product, AllocError>
-    ensures texts { IfOk result (λ p. texts_of p.texts.items ≡ texts_in (files_of made)) }
+    ensures texts { IfOk result (λ p. texts_of p.texts.items ≡ texts_in (transition_files_of made)) }
     ensures count { IfOk result (λ p. length p.texts.items ≡ 5) }
     ensures shown { IfOk result (λ p. p.shown.items ≡ tests_line made.said.counts) }
     ensures fine { IfOk result (λ p. p.finding ≡ Fine) }
@@ -79,7 +79,7 @@ fn made_by<R: Threads + Sync, E: Engine + Sync>(
     requires range { AreInRange options }
     ensures { IfOk result (IsTransitionRun core.now options.chains options.limit) }
 {
-    let plan = Plan {
+    let plan = TransitionPlan {
         chains: options.chains,
         workers: options.workers,
         limit: options.limit,

@@ -1,6 +1,6 @@
 //! How a call ends: the statuses and their numbers.
 ghost use Rattle.std.specs.Prelude.{◌≡◌};
-ghost use Rattle.atpg_top.specs.Lines.{code_of, ending_code, refusal_code};
+ghost use Rattle.atpg_top.specs.Lines.{status_code, ending_code, refusal_code};
 
 use crate::refusal::Refusal;
 use commands::{Ending, Finding};
@@ -49,7 +49,7 @@ fn ending_code(ending: &Ending<'_, Refusal>) -> u8
 impl Status<'_> {
     /// The number that the program ends with.
     pub fn code(&self) -> u8
-        ensures { result ≡ code_of self.now }
+        ensures { result ≡ status_code self.now }
     {
         match self {
             Status::BadWords { .. } => 2,

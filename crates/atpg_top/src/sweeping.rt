@@ -3,10 +3,11 @@
 //! No file is read or written. The texts of a run are good, so it is proved, and no answer, that the test is read back and that
 //! the scanned netlist passes it.
 ghost use Rattle.std.specs.Prelude.{◌≡◌, ◌≤◌, ◌++◌, [], IfOk, None, OnOk, length};
+ghost use Rattle.limits.specs.Limits.{fewest_gates, most_gates};
 ghost use Rattle.commands.specs.Rows.{CommandRow};
 ghost use Rattle.commands.specs.Worked.{IsWorked};
 ghost use Rattle.commands.specs.World.{world};
-ghost use Rattle.net_gen.specs.Samples.{fewest_gates, most_gates, sample, words_of};
+ghost use Rattle.net_gen.specs.Samples.{sample, words_from_seed};
 ghost use Rattle.netlist.specs.Designs.{IsDesign};
 ghost use Rattle.scan_insert.specs.Scanned.{scanned_of};
 ghost use Rattle.scan_play.specs.Playing.{PlaysAs};
@@ -15,7 +16,7 @@ ghost use Rattle.scan_play.specs.declared.played.Played.TheVariants.{Passes};
 ghost use Rattle.good_files.specs.ScanOff.{design_chains};
 ghost use Rattle.stil_read.specs.Reading.{StandsFor};
 ghost use Rattle.stil_vectors.specs.FileVectors.{vectors_in};
-ghost use Rattle.stil_vectors.specs.Fitting.{Fits};
+ghost use Rattle.stil_vectors.specs.Fitting.{FitsNetlist};
 ghost use Rattle.stil_write.specs.StilFiles.{StilFile as File};
 ghost use Rattle.run_files.specs.declared.files.RunFiles.{RunFiles as Made};
 ghost use Rattle.atpg_top.specs.Commands.{sweep_due};
@@ -52,7 +53,7 @@ const LIMIT: u32 = 100;
 fn sample_core(alloc: Global, seed: u64, gates: u32) -> Result<Core, NoMemory>
     requires least { fewest_gates ≤ gates }
     requires most { gates ≤ most_gates }
-    ensures sample { IfOk result (λ core. core ≡ sample gates (words_of seed)) }
+    ensures sample { IfOk result (λ core. core ≡ sample gates (words_from_seed seed)) }
     ensures design { IfOk result IsDesign }
 {
     samples_are_designs();
@@ -69,7 +70,7 @@ fn run_sample<R: Threads + Wait + Sync, G: Gate + Sync>(
     alloc: Global,
     core: &Core,
     seed: u64,
-    gate: &G,
+    stage: &G,
 ) -> Result<RunFiles, NoMemory>
     requires { IsDesign core.now }
     ensures { IfOk result (IsSweepRun core.now) }
@@ -82,7 +83,7 @@ fn run_sample<R: Threads + Wait + Sync, G: Gate + Sync>(
         engine: EngineName::Podem,
     };
     let holds = Holds::none(alloc, core)?;
-    made_of(rt, alloc, core, options, &holds, gate)
+    made_of(rt, alloc, core, options, &holds, stage)
 }
 
 /// The scanned netlist of a design, in one chain.
@@ -114,7 +115,7 @@ fn read_back(alloc: Global, text: &[u8]) -> Result<StilFile, NoMemory>
 
 /// Plays a file on a netlist that passes it.
 fn play_passing(alloc: Global, core: &Core, file: &StilFile) -> Result<(), NoMemory>
-    requires fits { Fits file.now core.now }
+    requires fits { FitsNetlist file.now core.now }
     requires passes { (answer : PlayedOf) → PlaysAs core.now None (vectors_in file.now) answer → answer ≡ Passes }
     ensures { OnOk result (IsPlay core.now None (vectors_in file.now) Passes) }
 {
@@ -176,14 +177,14 @@ fn swept<R: Threads + Wait + Sync, G: Gate + Sync>(
     alloc: Global,
     seed: u64,
     gates: u32,
-    gate: &G,
+    stage: &G,
 ) -> Result<Vec<u8>, NoMemory>
     requires least { fewest_gates ≤ gates }
     requires most { gates ≤ most_gates }
-    ensures { IfOk result (λ text. (made : Made) × IsSweep (sample gates (words_of seed)) made × (text.items ≡ sweep_text made.said)) }
+    ensures { IfOk result (λ text. (made : Made) × IsSweep (sample gates (words_from_seed seed)) made × (text.items ≡ sweep_text made.said)) }
 {
     let core = sample_core(alloc, seed, gates)?;
-    let made = run_sample(rt, alloc, &core, seed, gate)?;
+    let made = run_sample(rt, alloc, &core, seed, stage)?;
     play_back(alloc, &core, &made)?;
     match text_of(alloc, &made.said) {
         Ok(text) => Ok(text),
@@ -197,13 +198,13 @@ fn work<R: Threads + Wait + Sync, G: Gate + Sync>(
     alloc: Global,
     seed: u64,
     gates: u32,
-    gate: &G,
+    stage: &G,
 ) -> Result<Product, Stop<Refusal>>
     requires least { fewest_gates ≤ gates }
     requires most { gates ≤ most_gates }
     ensures { IsWorked (sweep_due seed gates []) 0 result }
 {
-    match swept(rt, alloc, seed, gates, gate) {
+    match swept(rt, alloc, seed, gates, stage) {
         Ok(shown) => Ok(Product {
             texts: Vec::new(alloc),
             shown,
@@ -219,7 +220,7 @@ pub fn sweep_sample<'a, R: Threads + Wait + Sync, S: Shelf, T: Sink, G: Gate + S
     alloc: Global,
     shelf: &mut S,
     out: &mut T,
-    gate: &G,
+    stage: &G,
     seed: u64,
     gates: u32,
 ) -> Ending<'a, Refusal>
@@ -229,6 +230,6 @@ pub fn sweep_sample<'a, R: Threads + Wait + Sync, S: Shelf, T: Sink, G: Gate + S
         (world (S.files shelf.old) (S.failures shelf.old) (T.taken out.old) (T.failures out.old))
         (world (S.files shelf.new) (S.failures shelf.new) (T.taken out.new) (T.failures out.new)) result }
 {
-    let worked = work(rt, alloc, seed, gates, gate);
+    let worked = work(rt, alloc, seed, gates, stage);
     deliver(alloc, shelf, out, &[], worked)
 }

@@ -13,7 +13,7 @@ use Rattle.bench_text.specs.declared.refusal.BenchFault.{BenchFault}
 use Rattle.bench_text.specs.Bytes.{code, lines}
 use Rattle.bench_text.specs.Tokens.{Token, Word, Open, Close, Comma, Equals, tokens}
 use Rattle.bench_text.specs.Forms.{Statement, Nothing, Input, Output, Definition}
-use Rattle.bench_text.specs.Refusals.{names_of, is_short, says, line_refusal, holds, has_reserved_name}
+use Rattle.bench_text.specs.Refusals.{statement_names, is_short, says, line_refusal, holds, has_reserved_name}
 use Rattle.bench_text.specs.Said.{statements_of}
 use Rattle.bench_text.specs.Texts.{statement_on, statements, inputs_of, definitions_of, signals_of, first_refusal}
 use Rattle.bench_text.specs.Whole.{whole_refusal, or_else, notes, refusal}
@@ -29,7 +29,7 @@ abbrev IsFree : List ℕ → Type 0
 IsFree x = (length x ≤ 255) × (is_reserved x ≡ false)
 
 abbrev HasFreeNames : Statement → Type 0
-HasFreeNames s = AllByRecursion IsFree (names_of s)
+HasFreeNames s = AllByRecursion IsFree (statement_names s)
 
 -- the words of a line are short
 short-words : (ts : List Token) → list_all (is_short Design) ts ≡ true → AllByRecursion (Words (λ w. length w ≤ 255)) ts
@@ -66,7 +66,7 @@ module _ (before : List (List ℕ)) (line : List ℕ) (fine : line_refusal Desig
       let s = reads-it Design before line fine in
       let it = says-that Design before line fine in
       let short = statement-named (λ w. length w ≤ 255) (tokens (code line)) s.0 s.2 (short-words (tokens (code line)) s.1) in
-      subst (λ (o : Option Statement). HasFreeNames (unwrap_or o Nothing)) (sym it) (free-names (names_of s.0) short (ap (holds (has_reserved_name Design)) (sym it) ∙ none_reserved))
+      subst (λ (o : Option Statement). HasFreeNames (unwrap_or o Nothing)) (sym it) (free-names (statement_names s.0) short (ap (holds (has_reserved_name Design)) (sym it) ∙ none_reserved))
 
 lines-free : (earlier : List Statement) (ls : List (List ℕ)) → first_refusal Design earlier ls ≡ None → AllByRecursion HasFreeNames (map (statement_on Design) ls)
 unfolding first_refusal

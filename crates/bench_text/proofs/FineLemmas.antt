@@ -15,7 +15,7 @@ use Rattle.bench_text.specs.Bytes.{code, is_allowed}
 use Rattle.bench_text.specs.Tokens.{Token, Word, Open, Close, Comma, Equals, is_word_byte, tokens}
 use Rattle.bench_text.specs.Keywords.{is_keyword, kind_of}
 use Rattle.bench_text.specs.Forms.{Statement, Nothing, Input, Output, Definition, closed_name, pins, more_pins, definition, statement}
-use Rattle.bench_text.specs.Refusals.{names_of, longest, is_short, says, line_refusal, holds, has_unknown_gate, has_bad_pins}
+use Rattle.bench_text.specs.Refusals.{statement_names, longest, is_short, says, line_refusal, holds, has_unknown_gate, has_bad_pins}
 use Rattle.bench_text.specs.inner.OneLine.{gate_refusal}
 use Rattle.bench_text.specs.Said.{notes_from, statements_of}
 use Rattle.bench_text.specs.Texts.{statement_on, signals_of, at_line, first_refusal}
@@ -25,7 +25,7 @@ use Rattle.bench_text.proofs.Runs.{either, take-run_yes, take-run_no}
 use Rattle.bench_text.proofs.NameLemmas.{tokens-named}
 
 pub record IsFine (s : Statement) : Type 0 where
-  pub names : AllByRecursion IsName (names_of s)
+  pub names : AllByRecursion IsName (statement_names s)
   pub gate : gate_refusal s ≡ None
 
 -- the bytes of names
@@ -130,11 +130,11 @@ module _ (P : List ℕ → Type 0) where
   pins-named (Comma ∷ ts) xs e h = cc
   pins-named (Equals ∷ ts) xs e h = cc
 
-  mapped-definition : (z : List ℕ) (gate : Option Kind) (o : Option (List (List ℕ))) (s : Statement) → option_map (λ ys. Definition z gate ys) o ≡ Some s → P z → ((ys : List (List ℕ)) → o ≡ Some ys → AllByRecursion P ys) → AllByRecursion P (names_of s)
+  mapped-definition : (z : List ℕ) (gate : Option Kind) (o : Option (List (List ℕ))) (s : Statement) → option_map (λ ys. Definition z gate ys) o ≡ Some s → P z → ((ys : List (List ℕ)) → o ≡ Some ys → AllByRecursion P ys) → AllByRecursion P (statement_names s)
   mapped-definition z gate None s e h k = cc
-  mapped-definition z gate (Some ys) s e h k = let t : Definition z gate ys ≡ s = cc in subst (λ x. AllByRecursion P (names_of x)) t (h, k ys refl)
+  mapped-definition z gate (Some ys) s e h k = let t : Definition z gate ys ≡ s = cc in subst (λ x. AllByRecursion P (statement_names x)) t (h, k ys refl)
 
-  definition-named : (z : List ℕ) (ts : List Token) (s : Statement) → definition z ts ≡ Some s → P z → AllByRecursion (Words P) ts → AllByRecursion P (names_of s)
+  definition-named : (z : List ℕ) (ts : List Token) (s : Statement) → definition z ts ≡ Some s → P z → AllByRecursion (Words P) ts → AllByRecursion P (statement_names s)
   unfolding definition
   definition-named z [] s e p h = cc
   definition-named z (Word g ∷ []) s e p h = cc
@@ -148,22 +148,22 @@ module _ (P : List ℕ → Type 0) where
   definition-named z (Comma ∷ ts) s e p h = cc
   definition-named z (Equals ∷ ts) s e p h = cc
 
-  mapped-input : (o : Option (List ℕ)) (s : Statement) → option_map (λ x. Input x) o ≡ Some s → ((x : List ℕ) → o ≡ Some x → P x) → AllByRecursion P (names_of s)
+  mapped-input : (o : Option (List ℕ)) (s : Statement) → option_map (λ x. Input x) o ≡ Some s → ((x : List ℕ) → o ≡ Some x → P x) → AllByRecursion P (statement_names s)
   mapped-input None s e k = cc
-  mapped-input (Some x) s e k = let t : Input x ≡ s = cc in subst (λ y. AllByRecursion P (names_of y)) t (k x refl, tt)
+  mapped-input (Some x) s e k = let t : Input x ≡ s = cc in subst (λ y. AllByRecursion P (statement_names y)) t (k x refl, tt)
 
-  mapped-output : (o : Option (List ℕ)) (s : Statement) → option_map (λ x. Output x) o ≡ Some s → ((x : List ℕ) → o ≡ Some x → P x) → AllByRecursion P (names_of s)
+  mapped-output : (o : Option (List ℕ)) (s : Statement) → option_map (λ x. Output x) o ≡ Some s → ((x : List ℕ) → o ≡ Some x → P x) → AllByRecursion P (statement_names s)
   mapped-output None s e k = cc
-  mapped-output (Some x) s e k = let t : Output x ≡ s = cc in subst (λ y. AllByRecursion P (names_of y)) t (k x refl, tt)
+  mapped-output (Some x) s e k = let t : Output x ≡ s = cc in subst (λ y. AllByRecursion P (statement_names y)) t (k x refl, tt)
 
-  port-cases : (a b : Bool) (o : Option (List ℕ)) (s : Statement) → cond a (option_map (λ x. Input x) o) (cond b (option_map (λ x. Output x) o) None) ≡ Some s → ((x : List ℕ) → o ≡ Some x → P x) → AllByRecursion P (names_of s)
+  port-cases : (a b : Bool) (o : Option (List ℕ)) (s : Statement) → cond a (option_map (λ x. Input x) o) (cond b (option_map (λ x. Output x) o) None) ≡ Some s → ((x : List ℕ) → o ≡ Some x → P x) → AllByRecursion P (statement_names s)
   port-cases true b o s e k = mapped-input o s e k
   port-cases false true o s e k = mapped-output o s e k
   port-cases false false o s e k = cc
 
-  pub statement-named : (ts : List Token) (s : Statement) → statement ts ≡ Some s → AllByRecursion (Words P) ts → AllByRecursion P (names_of s)
+  pub statement-named : (ts : List Token) (s : Statement) → statement ts ≡ Some s → AllByRecursion (Words P) ts → AllByRecursion P (statement_names s)
   unfolding statement
-  statement-named [] s e h = let t : Nothing ≡ s = cc in subst (λ y. AllByRecursion P (names_of y)) t tt
+  statement-named [] s e h = let t : Nothing ≡ s = cc in subst (λ y. AllByRecursion P (statement_names y)) t tt
   statement-named (Word w ∷ []) s e h = cc
   statement-named (Word w ∷ Word v ∷ ts) s e h = cc
   statement-named (Word w ∷ Open ∷ ts) s e h =

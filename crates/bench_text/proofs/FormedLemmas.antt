@@ -9,14 +9,14 @@ use Rattle.std.proofs.lemmas.Bool.{false≢true}
 use Rattle.netlist.specs.Gates.{allows_pins}
 use Rattle.netlist.specs.Names.{IsName}
 use Rattle.netlist.specs.Netlist.{Netlist, Definition as Equation, signals}
-use Rattle.netlist.specs.Conditions.{IsWellFormed, IsRead}
+use Rattle.netlist.specs.Conditions.{IsWellFormed, HasReader}
 use Rattle.bench_text.specs.declared.refusal.BenchKind.{BenchKind}
 use Rattle.bench_text.specs.declared.refusal.BenchKind.TheVariants.{BadPins}
 use Rattle.bench_text.specs.Forms.{Statement, Nothing, Input, Output, Definition}
 use Rattle.bench_text.specs.Texts.{inputs_of, definitions_of, signals_of, output}
 use Rattle.bench_text.specs.Sights.{with_name, distinct}
 use Rattle.bench_text.specs.inner.NewNames.{AreDistinct}
-use Rattle.bench_text.specs.Whole.{outputs_of, reads, reads_from}
+use Rattle.bench_text.specs.Whole.{outputs_of, read_names, reads_from}
 use Rattle.bench_text.specs.Netlists.{id_of, equation, netlist_of}
 use Rattle.bench_text.proofs.Lists.{both_true, all_append, same_name, name_same, some_same, got_push, get_back, got_map, get_map, only_place, index-all, some-any}
 use Rattle.bench_text.proofs.Runs.{either}
@@ -72,19 +72,19 @@ all-fold : (p : List ℕ → Bool) (xs ys : List (List ℕ)) → list_all p ys �
 all-fold p [] ys h k = h
 all-fold p (x ∷ xs) ys h k = let q = both_true (p x) (list_all p xs) k in all-fold p xs (with_name ys x) (all-if p (list_any (bytes_eq x) ys) ys x h q.0) q.1
 
-output-read : (p : List ℕ → Bool) (s : Statement) → list_all p (reads s) ≡ true → list_all p (output s) ≡ true
+output-read : (p : List ℕ → Bool) (s : Statement) → list_all p (read_names s) ≡ true → list_all p (output s) ≡ true
 output-read p Nothing h = refl
 output-read p (Input x) h = refl
 output-read p (Output x) h = h
 output-read p (Definition z gate pins) h = refl
 
-outputs-read : (p : List ℕ → Bool) (ss : List Statement) → list_all (λ s. list_all p (reads s)) ss ≡ true → list_all p (outputs_of ss) ≡ true
+outputs-read : (p : List ℕ → Bool) (ss : List Statement) → list_all (λ s. list_all p (read_names s)) ss ≡ true → list_all p (outputs_of ss) ≡ true
 outputs-read p [] h = refl
 outputs-read p (s ∷ ss) h =
-    let q = both_true (list_all p (reads s)) (list_all (λ x. list_all p (reads x)) ss) h in
+    let q = both_true (list_all p (read_names s)) (list_all (λ x. list_all p (read_names x)) ss) h in
     all_append p (output s) (outputs_of ss) (output-read p s q.0) (outputs-read p ss q.1)
 
-pub outputs-known : (p : List ℕ → Bool) (ss : List Statement) → list_all (λ s. list_all p (reads s)) ss ≡ true → list_all p (distinct (outputs_of ss)) ≡ true
+pub outputs-known : (p : List ℕ → Bool) (ss : List Statement) → list_all (λ s. list_all p (read_names s)) ss ≡ true → list_all p (distinct (outputs_of ss)) ≡ true
 outputs-known p ss h = all-fold p (outputs_of ss) [] refl (outputs-read p ss h)
 
 pub all-got-true : {A : Type 0} (p : A → Bool) (xs : List A) → list_all p xs ≡ true → (k : ℕ) (x : A) → slice_get xs k ≡ Some x → p x ≡ true
@@ -202,7 +202,7 @@ module _ (ss : List Statement) (apart : AreDistinct (signals_of ss)) (fine : All
     outs-known : list_all (λ x. list_any (bytes_eq x) sig) outs ≡ true
     outs-known = outputs-known (λ x. list_any (bytes_eq x) sig) ss known
 
-    pub read-within : (x : ℕ) → IsRead n x → x < length sig
+    pub read-within : (x : ℕ) → HasReader n x → x < length sig
     read-within x (inl p) =
         let pins = got-all (λ (d : Equation). AllByRecursion (λ y. y < length sig) d.pins) n.definitions
         (index-all (λ (d : Equation). AllByRecursion (λ y. y < length sig) d.pins) n.definitions (definition-pins sig apart ss known)) (contains-got n.definitions p.0 p.1).0 p.0 (contains-got n.definitions p.0 p.1).1 in

@@ -13,7 +13,7 @@ use Rattle.bench_text.proofs.TokenLemmas.{not_word}
 use Rattle.netlist.specs.Gates.{allows_pins}
 use Rattle.bench_text.specs.Forms.{Statement, Nothing, Input, Output, Definition, statement}
 use Rattle.netlist.specs.Designs.{is_reserved}
-use Rattle.bench_text.specs.Refusals.{longest, is_short, names_of, says}
+use Rattle.bench_text.specs.Refusals.{longest, is_short, statement_names, says}
 use Rattle.bench_text.specs.inner.OneLine.{own_refusal, gate_refusal}
 use Rattle.bench_text.specs.declared.statement.Statement.{Statement as Borrowed}
 use Rattle.bench_text.specs.declared.statement.Statement.TheVariants as borrowed
@@ -189,6 +189,6 @@ pub short_line : (reading : Names) (bs : List ℕ) → length bs ≤ longest rea
 short_line reading bs h = short_all reading (length bs) (tokens bs) h (words-within bs)
 
 pub reserved-definition : (said : Borrowed) (z : Bor (List ℕ)) (gate : Option Kind) (pins : SmallVec (Bor (List ℕ))) (items : List (Bor (List ℕ))) (r : Bool) →
-    said ≡ borrowed.Definition z gate pins → r ≡ list_any (λ x. is_reserved x.now) items → items ≡ pins.items → is_reserved z.now ≡ false → r ≡ list_any is_reserved (names_of (statement_of said))
+    said ≡ borrowed.Definition z gate pins → r ≡ list_any (λ x. is_reserved x.now) items → items ≡ pins.items → is_reserved z.now ≡ false → r ≡ list_any is_reserved (statement_names (statement_of said))
 reserved-definition said z gate pins items r i e d h =
     rw i (rw h (e ∙ ap (list_any (λ (x : Bor (List ℕ)). is_reserved x.now)) d ∙ list_any-names is_reserved pins.items))

@@ -16,7 +16,7 @@ use Rattle.bench_text.specs.inner.OneLine.{own_refusal}
 use Rattle.bench_text.specs.Said.{Said, note_at, notes_from, statements_of}
 use Rattle.bench_text.specs.Texts.{statement_on, input, defined, inputs_of, definitions_of, signals_of, first_refusal}
 use Rattle.bench_text.specs.inner.NewNames.{AreDistinct}
-use Rattle.bench_text.specs.Whole.{outputs_of, reads_from, most_signals, refusal_at, whole_refusal}
+use Rattle.bench_text.specs.Whole.{outputs_of, reads_from, most_in_text, refusal_at, whole_refusal}
 use Rattle.bench_text.proofs.Plain.{is_plain, IsRun}
 use Rattle.bench_text.proofs.Lists.{both_true, list_any-append, flat_map-push, get_front, get_back, false_if}
 use Rattle.bench_text.proofs.RefusalLemmas.{refusal-none, said-says}
@@ -191,9 +191,9 @@ all-found p (x ∷ xs) h = let q = both_true (p x) (list_all p xs) h in rw (q.0,
 pub zero_false : (n : ℕ) → 0 < n → (n == 0) ≡ false
 zero_false n h = grind (arith, nat_tests)
 
-pub whole-fine : (reading : Names) (all : List Said) → length (signals_of (statements_of all)) ≤ most_signals reading → 0 < length (inputs_of (statements_of all)) → 0 < length (outputs_of (statements_of all))
+pub whole-fine : (reading : Names) (all : List Said) → length (signals_of (statements_of all)) ≤ most_in_text reading → 0 < length (inputs_of (statements_of all)) → 0 < length (outputs_of (statements_of all))
     → list_all (λ (s : Said). reads_from (signals_of (statements_of all)) s.statement) all ≡ true → whole_refusal reading all ≡ None
 unfolding whole_refusal
 whole-fine reading all a b c e =
-    rw (lt_false (most_signals reading) (length (signals_of (statements_of all))) a, zero_false (length (inputs_of (statements_of all))) b, zero_false (length (outputs_of (statements_of all))) c)
+    rw (lt_false (most_in_text reading) (length (signals_of (statements_of all))) a, zero_false (length (inputs_of (statements_of all))) b, zero_false (length (outputs_of (statements_of all))) c)
     (ap (option_map (λ (s : Said). refusal_at s.line Undefined)) (all-found (λ (s : Said). reads_from (signals_of (statements_of all)) s.statement) all e))

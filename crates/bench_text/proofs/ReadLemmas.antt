@@ -8,7 +8,7 @@ use Rattle.netlist.specs.declared.equations.Parts.{Parts}
 use Rattle.netlist.specs.declared.netlists.NetRefusal.{NetRefusal}
 use Rattle.netlist.specs.declared.netlists.NetRefusal.TheVariants as net
 use Rattle.netlist.specs.Netlist.{Netlist, signals, IsOnLoop}
-use Rattle.netlist.specs.Conditions.{whole, IsWellFormed, IsSound, IsCause, IsRead as IsNeeded}
+use Rattle.netlist.specs.Conditions.{whole, IsWellFormed, IsSound, IsCause, HasReader as IsNeeded}
 use Rattle.bench_text.specs.declared.refusal.Names.{Names}
 use Rattle.bench_text.specs.declared.refusal.BenchRefusal.{BenchRefusal}
 use Rattle.bench_text.specs.declared.refusal.BenchFault.{BenchFault}

@@ -12,7 +12,7 @@ use Rattle.netlist.specs.declared.kinds.Kind.TheVariants.{And, Nand, Or, Nor, Xo
 use Rattle.netlist.specs.Gates.{allows_pins}
 use Rattle.netlist.specs.Names.{IsName}
 use Rattle.netlist.specs.Netlist.{Netlist, Definition as Equation, signals}
-use Rattle.netlist.specs.Conditions.{IsSound, IsRead}
+use Rattle.netlist.specs.Conditions.{IsSound, HasReader}
 use Rattle.bench_text.specs.declared.refusal.Names.{Names}
 use Rattle.bench_text.specs.declared.refusal.Names.TheVariants.{Design, Scanned}
 use Rattle.bench_text.specs.declared.refusal.BenchKind.TheVariants.{BadPins}
@@ -21,7 +21,7 @@ use Rattle.bench_text.specs.Tokens.{Word, Comma, Equals, tokens}
 use Rattle.bench_text.specs.Keywords.{word}
 use Rattle.bench_text.specs.Forms.{Statement, Input, Output, Definition}
 use Rattle.netlist.specs.Designs.{is_reserved}
-use Rattle.bench_text.specs.Refusals.{longest, is_short, has_reserved_name, names_of}
+use Rattle.bench_text.specs.Refusals.{longest, is_short, has_reserved_name, statement_names}
 use Rattle.bench_text.specs.inner.OneLine.{gate_refusal}
 use Rattle.bench_text.specs.Said.{Said, note_at, notes_from, statements_of}
 use Rattle.bench_text.specs.Texts.{statement_on, statements, input, defined, output, inputs_of, definitions_of, signals_of, first_refusal}
@@ -31,7 +31,7 @@ use Rattle.bench_text.specs.Whole.{outputs_of, reads_from, whole_refusal, or_els
 use Rattle.bench_text.specs.Netlists.{id_of, equation, netlist_of}
 use Rattle.bench_text.specs.Reading.{netlist_in}
 use Rattle.bench_text.specs.Canonical.{port_line, further, pin_list, definition_line, equation_line, canonical_lines, canonical}
-use Rattle.bench_text.specs.Laws.{is_free, Fits}
+use Rattle.bench_text.specs.Laws.{is_free, IsReadable}
 use Rattle.bench_text.proofs.Plain.{is_plain, IsRun, Says}
 use Rattle.bench_text.proofs.Lists.{list_all-map, all_append, index-all, get_front, get_back, got_map, some-any, some_same, name_same, false_if}
 use Rattle.bench_text.proofs.LineLemmas.{says-it, own_refusal-gate, le_true}
@@ -157,7 +157,7 @@ module _ (reading : Names) where
       let says = says-it reading line (ap (λ l. list_all (is_short reading) (tokens l)) (plain-code line plain) ∙ short) (Some s) it.1 in
       record { plain = plain; says = says; own = own_refusal-gate reading line s it.0 says ∙ fine; free = free; something = something }
 
-  none-reserved : (xs : List (List ℕ)) → AllByRecursion (λ x. IsTrue (is_free reading x)) xs → (s : Statement) → names_of s ≡ xs → has_reserved_name reading s ≡ false
+  none-reserved : (xs : List (List ℕ)) → AllByRecursion (λ x. IsTrue (is_free reading x)) xs → (s : Statement) → statement_names s ≡ xs → has_reserved_name reading s ≡ false
   none-reserved xs h s e = by reading h
     where
       free-none : (ys : List (List ℕ)) → AllByRecursion (λ x. IsTrue (is_free Design x)) ys → list_any is_reserved ys ≡ false
@@ -194,7 +194,7 @@ once-named names apart xs below once i j y e f =
     let same : a.0 ≡ b.0 = apart a.0 b.0 y (at_name names a.0 p ∙ ap (λ z. Some z) a.2) (at_name names b.0 q ∙ ap (λ z. Some z) b.2) in
     places-once xs once i j b.0 (a.1 ∙ ap (λ z. Some z) same) b.1
 
-module _ (reading : Names) (n : Netlist) (s : IsSound n) (f : Fits reading n) where
+module _ (reading : Names) (n : Netlist) (s : IsSound n) (f : IsReadable reading n) where
   abbrev name : ℕ → List ℕ
   name x = name_at n.names x
 
@@ -205,7 +205,7 @@ module _ (reading : Names) (n : Netlist) (s : IsSound n) (f : Fits reading n) wh
   signal-is : (k : ℕ) → k < length (signals n) → slice_get (signals n) k ≡ Some k
   signal-is k h = slice_get-get_or (signals n) k 0 h ∙ ap (λ x. Some x) (s.formed.numbered k h)
 
-  needed-there : (x : ℕ) → IsRead n x → Contains (signals n) x
+  needed-there : (x : ℕ) → HasReader n x → Contains (signals n) x
   needed-there x (inl p) =
       let d = contains-got n.definitions p.0 p.1 in
       let i = contains-got p.0.pins x p.2 in
@@ -215,7 +215,7 @@ module _ (reading : Names) (n : Netlist) (s : IsSound n) (f : Fits reading n) wh
   name-signal : (x : ℕ) → x < length n.names → x < length (signals n)
   name-signal x h = by (s.formed.used x h)
     where
-      by : Contains (signals n) x ⊎ IsRead n x → x < length (signals n)
+      by : Contains (signals n) x ⊎ HasReader n x → x < length (signals n)
       by (inl c) = signal-below n s.formed.numbered x c
       by (inr r) = signal-below n s.formed.numbered x (needed-there x r)
 

@@ -18,7 +18,7 @@ use Rattle.bench_text.specs.Said.{Said, statements_of}
 use Rattle.bench_text.specs.Texts.{inputs_of, signals_of}
 use Rattle.bench_text.specs.Sights.{name_at}
 use Rattle.bench_text.specs.inner.Numbered.{spelling_of, spelling_of_entry, input_numbers, output_numbers, with_number, IsDraft}
-use Rattle.bench_text.specs.Whole.{outputs_of, reads_from, most_signals, refusal_at, whole_refusal}
+use Rattle.bench_text.specs.Whole.{outputs_of, reads_from, most_in_text, refusal_at, whole_refusal}
 use Rattle.bench_text.proofs.Lists.{list_all-map}
 use Rattle.bench_text.proofs.Runs.{either}
 use Rattle.bench_text.proofs.Walks.{find-map, find-here, find-ends}
@@ -69,13 +69,13 @@ module _ (names : List (List ℕ)) (roles : List Role) (es : List Entry) (ins de
   output_count = omega (arith, ap length (outputs-spelled names es), length-map (output_numbers es) (name_at names))
 
   module _ (reading : Names) where
-    pub whole-too_many : (n : ℕ) → n ≡ length (signals_of (statements_of all)) → most_signals reading < n → whole_refusal reading all ≡ Some (refusal_at 0 TooMany)
+    pub whole-too_many : (n : ℕ) → n ≡ length (signals_of (statements_of all)) → most_in_text reading < n → whole_refusal reading all ≡ Some (refusal_at 0 TooMany)
     unfolding whole_refusal
-    whole-too_many n e h = rw (lt_true (most_signals reading) (length (signals_of (statements_of all))) (omega (arith, e, h))) refl
+    whole-too_many n e h = rw (lt_true (most_in_text reading) (length (signals_of (statements_of all))) (omega (arith, e, h))) refl
 
-    module _ (n : ℕ) (e : n ≡ length (signals_of (statements_of all))) (few : n ≤ most_signals reading) where
-      small : nat_lt (most_signals reading) (length (signals_of (statements_of all))) ≡ false
-      small = lt_false (most_signals reading) (length (signals_of (statements_of all))) (omega (arith, e, few))
+    module _ (n : ℕ) (e : n ≡ length (signals_of (statements_of all))) (few : n ≤ most_in_text reading) where
+      small : nat_lt (most_in_text reading) (length (signals_of (statements_of all))) ≡ false
+      small = lt_false (most_in_text reading) (length (signals_of (statements_of all))) (omega (arith, e, few))
 
       pub whole-no_input : length ins ≡ 0 → whole_refusal reading all ≡ Some (refusal_at 0 NoInput)
       unfolding whole_refusal
@@ -153,14 +153,14 @@ positive : (n : ℕ) → (n == 0) ≡ false → 0 < n
 positive n h = grind (arith, nat_tests)
 
 pub whole-none : (reading : Names) (all : List Said) → whole_refusal reading all ≡ None
-    → (length (signals_of (statements_of all)) ≤ most_signals reading) × (0 < length (inputs_of (statements_of all))) × (0 < length (outputs_of (statements_of all)))
+    → (length (signals_of (statements_of all)) ≤ most_in_text reading) × (0 < length (inputs_of (statements_of all))) × (0 < length (outputs_of (statements_of all)))
     × (list_all (λ (s : Said). reads_from (signals_of (statements_of all)) s.statement) all ≡ true)
 unfolding whole_refusal
 whole-none reading all h =
-    let p = four (nat_lt (most_signals reading) (length (signals_of (statements_of all)))) (length (inputs_of (statements_of all)) == 0) (length (outputs_of (statements_of all)) == 0)
+    let p = four (nat_lt (most_in_text reading) (length (signals_of (statements_of all)))) (length (inputs_of (statements_of all)) == 0) (length (outputs_of (statements_of all)) == 0)
     (refusal_at 0 TooMany) (refusal_at 0 NoInput) (refusal_at 0 NoOutput) (λ (s : Said). refusal_at s.line Undefined) (find (λ (s : Said). not (reads_from (signals_of (statements_of all)) s.statement)) all) h in
     (few_signals _ _ p.0, positive _ p.1, positive _ p.2, find-none (λ (s : Said). reads_from (signals_of (statements_of all)) s.statement) all p.3)
 
-pub most-most : (reading : Names) → most_signals reading ≤ 8000000
+pub most-most : (reading : Names) → most_in_text reading ≤ 8000000
 most-most Design = omega arith
 most-most Scanned = omega arith

@@ -4,7 +4,7 @@ ghost use Rattle.std.specs.Prelude.{◌≡◌, ◌==◌, ◌<◌, ◌≤◌, ◌
 ghost use Rattle.bench_text.specs.Bytes.{lines};
 ghost use Rattle.bench_text.specs.inner.LineRead.{put_at};
 ghost use Rattle.bench_text.specs.inner.LinesRead.{AreLinesRead};
-ghost use Rattle.bench_text.specs.Whole.{most_signals};
+ghost use Rattle.bench_text.specs.Whole.{most_in_text};
 
 use crate::draft::Draft;
 use crate::refusal::{BenchFault, BenchRefusal, LineRefusal, Names};
@@ -47,7 +47,7 @@ fn first_line(bytes: &[u8]) -> (&[u8], &[u8])
 impl Names {
     /// For how many names room is made: one a line, and no more than there may be signals.
     fn names_expected(self, text: &[u8]) -> usize
-        ensures { result ≤ most_signals self }
+        ensures { result ≤ most_in_text self }
     {
         memchr_iter(b'\n', text).count().min(self.most_signals())
     }

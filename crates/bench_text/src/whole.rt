@@ -7,7 +7,7 @@ ghost use Rattle.std.specs.Str.{bytes_eq};
 ghost use Rattle.bench_text.specs.Said.{Said};
 ghost use Rattle.bench_text.specs.Sights.{name_at};
 ghost use Rattle.bench_text.specs.inner.Numbered.{are_below, spelling_of};
-ghost use Rattle.bench_text.specs.Whole.{reads_from, most_signals, refusal_at, whole_refusal};
+ghost use Rattle.bench_text.specs.Whole.{reads_from, most_in_text, refusal_at, whole_refusal};
 ghost use Rattle.bench_text.specs.inner.Drafted.{names_seen, notes_in, signals_in};
 
 use crate::draft::Draft;
@@ -17,7 +17,7 @@ use crate::refusal::{BenchKind, BenchRefusal, Names};
 impl Names {
     /// How many signals a text may have.
     pub fn most_signals(self) -> usize
-        ensures { result ≡ most_signals self }
+        ensures { result ≡ most_in_text self }
     {
         match self {
             Names::Design => 1_000_000,

@@ -12,7 +12,7 @@ use Rattle.plain_text.proofs.Parts.{byte_inside, same_parts}
 use Rattle.redundancy_cert.specs.declared.nodes.Node.{Node}
 use Rattle.redundancy_cert.specs.declared.nodes.Node.TheVariants.{Closed, Open, Split, Forced}
 use Rattle.redundancy_cert.specs.Trees.{IsOneTree}
-use Rattle.certificate.specs.Certificates.{node_text, tree_line, HasSignal, IsCertificate, IsEvidence, IsRefused, NoCertificate}
+use Rattle.certificate.specs.Certificates.{node_text, tree_line, HasSignal, IsCertificate, IsEvidence, IsCertFault, NoCertificate}
 use Rattle.certificate.specs.declared.reading.CertFault.{CertFault}
 use Rattle.certificate.specs.declared.reading.CertFault.TheVariants.{NotCertificate, NoMemory}
 use Rattle.certificate.specs.inner.Parts.{AreNodes, IsFaultAt, IsLineOf, IsNodeAt, NoFaultAt, NoNodeAt}
@@ -23,7 +23,7 @@ use Rattle.certificate.proofs.NodeTexts.{node_ends, node_size, node_some, same_n
 use Rattle.certificate.proofs.VisibleBytes.{has_no, name_has_no}
 
 -- why a part is refused is why the whole is
-pub refused_more : {A B : Type 0} → (A → B) → (fault : CertFault) → IsRefused A fault → IsRefused B fault
+pub refused_more : {A B : Type 0} → (A → B) → (fault : CertFault) → IsCertFault A fault → IsCertFault B fault
 refused_more f NotCertificate r = f r
 refused_more f NoMemory r = tt
 

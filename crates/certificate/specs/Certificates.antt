@@ -52,6 +52,6 @@ abbrev pub NoCertificate : Netlist → List ℕ → Type 0
 NoCertificate n bytes = (trees : List (Fault × List Node)) → ¬ IsCertificate n bytes trees
 
 -- why a reader answers NotCertificate; want of memory may come at any time
-abbrev pub IsRefused : Type 0 → CertFault → Type 0
-IsRefused none NotCertificate = none
-IsRefused none NoMemory = ⊤
+abbrev pub IsCertFault : Type 0 → CertFault → Type 0
+IsCertFault none NotCertificate = none
+IsCertFault none NoMemory = ⊤

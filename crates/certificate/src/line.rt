@@ -2,7 +2,7 @@
 ghost use Rattle.std.specs.Prelude.{List, MatchOption, MatchResult};
 ghost use Rattle.netlist.specs.declared.lines.Fault.{Fault};
 ghost use Rattle.redundancy_cert.specs.declared.nodes.Node.{Node};
-ghost use Rattle.certificate.specs.Certificates.{IsRefused};
+ghost use Rattle.certificate.specs.Certificates.{IsCertFault};
 ghost use Rattle.certificate.specs.inner.Parts.{AreNodes, IsFaultAt, NoFaultAt, IsLineOf};
 ghost use Rattle.certificate.specs.inner.Words.{IsEnd};
 ghost use Rattle.redundancy_cert.specs.Trees.{IsOneTree};
@@ -34,7 +34,7 @@ fn fault_at<'a>(names: &NameIndex, line: &'a [u8]) -> Option<(Fault, &'a [u8])>
 /// The nodes that a text stands for.
 fn read_nodes(alloc: Global, names: &NameIndex, text: &[u8]) -> Result<Vec<Node>, CertFault>
     requires { IsEnd text.now }
-    ensures { MatchResult result (λ nodes. AreNodes names.now text.now nodes.items) (IsRefused ((nodes : List Node) → ¬ AreNodes names.now text.now nodes)) }
+    ensures { MatchResult result (λ nodes. AreNodes names.now text.now nodes.items) (IsCertFault ((nodes : List Node) → ¬ AreNodes names.now text.now nodes)) }
 {
     names.netlist().sound();
     let mut nodes = Vec::new(alloc);
@@ -54,7 +54,7 @@ fn read_nodes(alloc: Global, names: &NameIndex, text: &[u8]) -> Result<Vec<Node>
 /// The tree that a text stands for.
 fn read_tree(alloc: Global, names: &NameIndex, text: &[u8]) -> Result<Tree, CertFault>
     requires { IsEnd text.now }
-    ensures { MatchResult result (λ tree. AreNodes names.now text.now tree × IsOneTree tree) (IsRefused ((nodes : List Node) → AreNodes names.now text.now nodes → ¬ IsOneTree nodes)) }
+    ensures { MatchResult result (λ tree. AreNodes names.now text.now tree × IsOneTree tree) (IsCertFault ((nodes : List Node) → AreNodes names.now text.now nodes → ¬ IsOneTree nodes)) }
 {
     names.netlist().sound();
     let nodes = read_nodes(alloc, names, text)?;
@@ -71,7 +71,7 @@ pub(crate) fn read_line(
     names: &NameIndex,
     line: &[u8],
 ) -> Result<(Fault, Tree), CertFault>
-    ensures { MatchResult result (IsLineOf names.now line.now) (IsRefused ((p : Fault × List Node) → ¬ IsLineOf names.now line.now p)) }
+    ensures { MatchResult result (IsLineOf names.now line.now) (IsCertFault ((p : Fault × List Node) → ¬ IsLineOf names.now line.now p)) }
 {
     names.netlist().sound();
     let Some(fault) = fault_at(names, line) else {

@@ -1,6 +1,6 @@
 //! Certificates from their text.
 ghost use Rattle.std.specs.Prelude.{◌++◌, codes, MatchResult};
-ghost use Rattle.certificate.specs.Certificates.{IsCertificate, NoCertificate, IsRefused};
+ghost use Rattle.certificate.specs.Certificates.{IsCertificate, NoCertificate, IsCertFault};
 
 use crate::line::read_line;
 use name_index::NameIndex;
@@ -22,7 +22,7 @@ fn read_lines(
     names: &NameIndex,
     lines: &[u8],
 ) -> Result<Vec<(Fault, Tree)>, CertFault>
-    ensures { MatchResult result (λ trees. IsCertificate names.now (codes "atpg certificate 1\n" ++ lines.now) trees.items) (IsRefused (NoCertificate names.now (codes "atpg certificate 1\n" ++ lines.now))) }
+    ensures { MatchResult result (λ trees. IsCertificate names.now (codes "atpg certificate 1\n" ++ lines.now) trees.items) (IsCertFault (NoCertificate names.now (codes "atpg certificate 1\n" ++ lines.now))) }
 {
     names.netlist().sound();
     let mut trees = Vec::new(alloc);
@@ -42,7 +42,7 @@ fn read_lines(
 
 /// The trees whose certificate the bytes are, in the order of its lines; `NotCertificate` exactly where they are none.
 pub fn read_trees(alloc: Global, core: &Core, bytes: &[u8]) -> Result<Vec<(Fault, Tree)>, CertFault>
-    ensures { MatchResult result (λ trees. IsCertificate core.now bytes.now trees.items) (IsRefused (NoCertificate core.now bytes.now)) }
+    ensures { MatchResult result (λ trees. IsCertificate core.now bytes.now trees.items) (IsCertFault (NoCertificate core.now bytes.now)) }
 {
     let Some(lines) = bytes.strip_prefix(b"atpg certificate 1\n") else {
         return Err(CertFault::NotCertificate);

@@ -2,13 +2,13 @@
 use Rattle.std.proofs.Common.{◌≡◌, inl, inr, [], ◌∷◌, Ok, Err, refl, sym, ap, subst}
 use Rattle.commands.specs.Due.{Due, Deliver, Refuse}
 use Rattle.commands.specs.Laws.{AreAlike, IsExclusive}
-use Rattle.good_files.specs.GoodFiles.{Files}
+use Rattle.good_files.specs.GoodFiles.{FiveFiles}
 use Rattle.file_clauses.specs.declared.answers.Checked.{Checked}
 use Rattle.file_clauses.specs.declared.answers.Checked.TheVariants.{Faults, False}
 use Rattle.file_clauses.specs.declared.answers.CheckFault.{CheckFault}
 use Rattle.file_clauses.specs.declared.answers.CheckFault.TheVariants as fault
-use Rattle.file_clauses.specs.Laws.{AnswersAgree, AreAlike as AreAlikeAnswers}
-use Rattle.check_command.specs.Checking.{answer_line, check_due, fault_of, files_due, finding_of}
+use Rattle.file_clauses.specs.Laws.{AnswersAgree, AreAlikeAnswers}
+use Rattle.check_command.specs.Checking.{answer_line, five_texts_due, fault_of, files_due, checked_finding}
 use Rattle.check_command.specs.declared.refusal.CheckRefusal.{CheckRefusal}
 use Rattle.check_command.specs.declared.refusal.CheckRefusal.TheVariants as refusal
 
@@ -16,7 +16,7 @@ use Rattle.check_command.specs.declared.refusal.CheckRefusal.TheVariants as refu
 given : (c d x y : Due CheckRefusal) → c ≡ x → d ≡ y → AreAlike x y → AreAlike c d
 given c d x y is also h = subst (λ (z : Due CheckRefusal). AreAlike z d) (sym is) (subst (λ (z : Due CheckRefusal). AreAlike x z) (sym also) h)
 
-same_finding : (a b : Checked) → AreAlikeAnswers (Ok a) (Ok b) → finding_of a ≡ finding_of b
+same_finding : (a b : Checked) → AreAlikeAnswers (Ok a) (Ok b) → checked_finding a ≡ checked_finding b
 same_finding (Faults m) (Faults k) alike = refl
 same_finding (Faults m) (False c) alike = absurd alike
 same_finding (False c) (Faults k) alike = absurd alike
@@ -56,22 +56,22 @@ same_refusal refusal.NotReport refusal.NotStil alike = ap told_by alike
 same_refusal refusal.NotReport refusal.NotCertificate alike = ap told_by alike
 same_refusal refusal.NotReport refusal.NotReport alike = refl
 
-module _ (agree : AnswersAgree) (files : Files) where
+module _ (agree : AnswersAgree) (files : FiveFiles) where
   alike : (c d : Due CheckRefusal) → files_due files c → files_due files d → AreAlike c d
   alike c d (inl p) (inl q) =
-      given c d (Deliver [] (answer_line p.0) (finding_of p.0)) (Deliver [] (answer_line q.0) (finding_of q.0)) p.2 q.2
+      given c d (Deliver [] (answer_line p.0) (checked_finding p.0)) (Deliver [] (answer_line q.0) (checked_finding q.0)) p.2 q.2
       (same_finding p.0 q.0 (agree files (Ok p.0) (Ok q.0) p.1 q.1))
   alike c d (inl p) (inr q) = absurd (not_behind p.0 q.0 (agree files (Ok p.0) (Err (fault_of q.0)) p.1 q.1))
   alike c d (inr p) (inl q) = absurd (not_behind q.0 p.0 (agree files (Ok q.0) (Err (fault_of p.0)) q.1 p.1))
   alike c d (inr p) (inr q) =
       given c d (Refuse p.0) (Refuse q.0) p.2 q.2 (same_refusal p.0 q.0 (agree files (Err (fault_of p.0)) (Err (fault_of q.0)) p.1 q.1))
 
-pub check_exclusive : AnswersAgree → IsExclusive check_due
+pub check_exclusive : AnswersAgree → IsExclusive five_texts_due
 check_exclusive agree [] c d p q = absurd p
 check_exclusive agree (net ∷ []) c d p q = absurd p
 check_exclusive agree (net ∷ scan ∷ []) c d p q = absurd p
 check_exclusive agree (net ∷ scan ∷ stil ∷ []) c d p q = absurd p
 check_exclusive agree (net ∷ scan ∷ stil ∷ certificate ∷ []) c d p q = absurd p
 check_exclusive agree (net ∷ scan ∷ stil ∷ certificate ∷ report ∷ []) c d p q =
-    let files : Files = record { net = net; scan = scan; stil = stil; certificate = certificate; report = report } in alike agree files c d p q
+    let files : FiveFiles = record { net = net; scan = scan; stil = stil; certificate = certificate; report = report } in alike agree files c d p q
 check_exclusive agree (net ∷ scan ∷ stil ∷ certificate ∷ report ∷ more ∷ others) c d p q = absurd p

@@ -1,6 +1,6 @@
 -- What `check` reads, and what is due of the texts.
 use Rattle.std.specs.Prelude.{ℕ, ◌≡◌, ◌⊎◌, ◌++◌, List, [], ◌∷◌, Ok, codes, decimal, length, map}
-use Rattle.commands.specs.World.{Text}
+use Rattle.plain_text.specs.Texts.{Text}
 use Rattle.commands.specs.Due.{Due, Deliver, Refuse}
 use Rattle.commands.specs.declared.ending.Finding.{Finding}
 use Rattle.commands.specs.declared.ending.Finding.TheVariants.{Fine, Differs}
@@ -12,7 +12,7 @@ use Rattle.file_clauses.specs.declared.answers.CheckFault.{CheckFault}
 use Rattle.file_clauses.specs.declared.answers.CheckFault.TheVariants as fault
 use Rattle.file_clauses.specs.Checks.{IsOutside}
 use Rattle.file_clauses.specs.Laws.{IsWholeAnswer}
-use Rattle.good_files.specs.GoodFiles.{AreGoodFiles, Files}
+use Rattle.good_files.specs.GoodFiles.{AreGoodFiles, FiveFiles}
 use Rattle.netlist.specs.Conditions.{IsSound}
 use Rattle.netlist.specs.Holds.{Holds}
 use Rattle.netlist.specs.Netlist.{Netlist}
@@ -42,9 +42,9 @@ abbrev pub answer_line : Checked → Text
 answer_line (Faults count) = checked_line count
 answer_line (False clause) = clause_line clause
 
-abbrev pub finding_of : Checked → Finding
-finding_of (Faults count) = Fine
-finding_of (False clause) = Differs
+abbrev pub checked_finding : Checked → Finding
+checked_finding (Faults count) = Fine
+checked_finding (False clause) = Differs
 
 -- ---- what is due
 
@@ -56,20 +56,20 @@ fault_of refusal.NotCertificate = fault.NotCertificate
 fault_of refusal.NotReport = fault.NotReport
 
 -- the line of what is answered of five texts, which are good where that is how many faults there are; or the refusal of the first outside its grammar
-abbrev pub files_due : Files → Due CheckRefusal → Type 0
+abbrev pub files_due : FiveFiles → Due CheckRefusal → Type 0
 files_due files d =
-    ((answer : Checked) × IsWholeAnswer files (Ok answer) × (d ≡ Deliver [] (answer_line answer) (finding_of answer)))
+    ((answer : Checked) × IsWholeAnswer files (Ok answer) × (d ≡ Deliver [] (answer_line answer) (checked_finding answer)))
     ⊎ ((why : CheckRefusal) × IsOutside files (fault_of why) × (d ≡ Refuse why))
 
-abbrev pub check_due : List Text → Due CheckRefusal → Type 0
-check_due (net ∷ scan ∷ stil ∷ certificate ∷ report ∷ []) =
+abbrev pub five_texts_due : List Text → Due CheckRefusal → Type 0
+five_texts_due (net ∷ scan ∷ stil ∷ certificate ∷ report ∷ []) =
     files_due (record { net = net; scan = scan; stil = stil; certificate = certificate; report = report })
-check_due texts = λ d. ⊥
+five_texts_due texts = λ d. ⊥
 
 -- ---- the law
 
 -- Of good files, whoever made them, nothing else is due than the line that says how many faults there are.
 abbrev pub GoodFilesChecked : Type 0
 GoodFilesChecked =
-    (n : Netlist) (holds : Holds) (asked limit : ℕ) (files : Files) → IsSound n → AreGoodFiles n holds asked limit files
+    (n : Netlist) (holds : Holds) (asked limit : ℕ) (files : FiveFiles) → IsSound n → AreGoodFiles n holds asked limit files
     → (d : Due CheckRefusal) → files_due files d → d ≡ Deliver [] (checked_line (length (universe_of n))) Fine

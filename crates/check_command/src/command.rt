@@ -2,11 +2,11 @@
 ghost use Rattle.std.specs.Prelude.{◌≡◌, ◌≤◌, [], length};
 ghost use Rattle.std.specs.List.{All};
 ghost use Rattle.commands.specs.Contents.{most_bytes};
-ghost use Rattle.commands.specs.Names.{names_of, texts_of};
+ghost use Rattle.commands.specs.Names.{file_names_of, texts_of};
 ghost use Rattle.commands.specs.Rows.{CommandRow};
 ghost use Rattle.commands.specs.Worked.{IsWorked};
 ghost use Rattle.commands.specs.World.{world};
-ghost use Rattle.check_command.specs.Checking.{check_due, run_files};
+ghost use Rattle.check_command.specs.Checking.{five_texts_due, run_files};
 ghost use Rattle.check_command.specs.inner.Answers.{IsAnswered, answer_due};
 
 use crate::lines::{finding_of, line_of};
@@ -58,7 +58,7 @@ fn product_of(alloc: Global, answer: &Checked) -> Result<Product, Stop<CheckRefu
 pub fn check_texts(alloc: Global, texts: Vec<Vec<u8>>) -> Result<Product, Stop<CheckRefusal>>
     requires count { length texts.items ≡ 5 }
     requires within { All (λ text. length text ≤ most_bytes) (texts_of texts.items) }
-    ensures { IsWorked (check_due (texts_of texts.items)) 0 result }
+    ensures { IsWorked (five_texts_due (texts_of texts.items)) 0 result }
 {
     let net = texts[0].as_slice();
     let scan = texts[1].as_slice();
@@ -76,7 +76,7 @@ pub fn check_texts(alloc: Global, texts: Vec<Vec<u8>>) -> Result<Product, Stop<C
 
 /// The names of the five files of a prefix, in the order in which they are read.
 pub fn file_names<'a>(prefix: &'a str) -> [FileName<'a>; 5]
-    ensures { names_of result ≡ run_files prefix.entry.now }
+    ensures { file_names_of result ≡ run_files prefix.entry.now }
 {
     [
         FileName {
@@ -114,7 +114,7 @@ impl Work for Check {
 
     ghost writes = { λ _. 0 };
 
-    ghost due = { λ _. check_due };
+    ghost due = { λ _. five_texts_due };
 
     fn work(&self, alloc: Global, texts: Vec<Vec<u8>>) -> Result<Product, Stop<CheckRefusal>> {
         check_texts(alloc, texts)
@@ -128,7 +128,7 @@ pub fn check_prefix<'a, S: Shelf, T: Sink>(
     out: &mut T,
     prefix: &'a str,
 ) -> Ending<'a, CheckRefusal>
-    ensures { CommandRow (run_files prefix.now) [] check_due
+    ensures { CommandRow (run_files prefix.now) [] five_texts_due
         (world (S.files shelf.old) (S.failures shelf.old) (T.taken out.old) (T.failures out.old))
         (world (S.files shelf.new) (S.failures shelf.new) (T.taken out.new) (T.failures out.new)) result }
 {

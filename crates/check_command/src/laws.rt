@@ -1,12 +1,12 @@
 //! Laws of the command: functions that do nothing, whose contracts are the laws.
 ghost use Rattle.commands.specs.Laws.{IsExclusive};
-ghost use Rattle.check_command.specs.Checking.{GoodFilesChecked, check_due};
+ghost use Rattle.check_command.specs.Checking.{GoodFilesChecked, five_texts_due};
 
 use file_clauses::{answers_agree, good_files_pass};
 
 /// What is due of the same five texts is alike: the same refusal, or the same finding.
 pub fn check_exclusive()
-    ensures { IsExclusive check_due }
+    ensures { IsExclusive five_texts_due }
 {
     answers_agree();
 }

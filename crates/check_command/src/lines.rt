@@ -1,6 +1,6 @@
 //! The line that a check shows.
 ghost use Rattle.std.specs.Prelude.{◌≡◌, ◌++◌, IfOk, OnOk, codes, decimal};
-ghost use Rattle.check_command.specs.Checking.{answer_line, checked_line, clause_line, finding_of};
+ghost use Rattle.check_command.specs.Checking.{answer_line, checked_line, clause_line, checked_finding};
 
 use commands::Finding;
 use file_clauses::{Checked, Clause};
@@ -54,7 +54,7 @@ pub(crate) fn line_of(alloc: Global, answer: &Checked) -> Result<Vec<u8>, AllocE
 
 /// What an answer comes to.
 pub(crate) fn finding_of(answer: &Checked) -> Finding
-    ensures { result ≡ finding_of answer.now }
+    ensures { result ≡ checked_finding answer.now }
 {
     match answer {
         Checked::Faults(_) => Finding::Fine,

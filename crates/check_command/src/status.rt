@@ -1,7 +1,7 @@
 //! How the program that only checks ends: the statuses, their numbers and their lines.
 ghost use Rattle.std.specs.Prelude.{◌≡◌};
 ghost use Rattle.status_lines.specs.Lines.{IsSaid};
-ghost use Rattle.check_command.specs.Top.{ErrRow, code_of, ending_code, refusal_code, refusal_line};
+ghost use Rattle.check_command.specs.Top.{CheckErrRow, check_status_code, check_ending_code, check_refusal_code, check_refusal_line};
 
 use crate::refusal::CheckRefusal;
 use commands::{Ending, Finding};
@@ -18,7 +18,7 @@ pub enum CheckStatus<'a> {
 }
 
 fn refusal_code(refusal: &CheckRefusal) -> u8
-    ensures { result ≡ refusal_code refusal.now }
+    ensures { result ≡ check_refusal_code refusal.now }
 {
     match refusal {
         CheckRefusal::Netlist(_) => 3,
@@ -29,7 +29,7 @@ fn refusal_code(refusal: &CheckRefusal) -> u8
 }
 
 fn ending_code(ending: &Ending<'_, CheckRefusal>) -> u8
-    ensures { result ≡ ending_code ending.now }
+    ensures { result ≡ check_ending_code ending.now }
 {
     match ending {
         Ending::Ended(Finding::Fine) => 0,
@@ -46,7 +46,7 @@ fn ending_code(ending: &Ending<'_, CheckRefusal>) -> u8
 impl CheckStatus<'_> {
     /// The number that the program ends with.
     pub fn code(&self) -> u8
-        ensures { result ≡ code_of self.now }
+        ensures { result ≡ check_status_code self.now }
     {
         match self {
             CheckStatus::BadWords => 2,
@@ -56,7 +56,7 @@ impl CheckStatus<'_> {
 }
 
 fn say_refusal<E: Sink>(err: &mut E, refusal: &CheckRefusal)
-    ensures { IsSaid E.takes_memory (refusal_line refusal.now) (E.taken err.old) (E.failures err.old) (E.taken err.new) (E.failures err.new) }
+    ensures { IsSaid E.takes_memory (check_refusal_line refusal.now) (E.taken err.old) (E.failures err.old) (E.taken err.new) (E.failures err.new) }
 {
     match refusal {
         CheckRefusal::Netlist(why) => say_netlist(err, why),
@@ -68,7 +68,7 @@ fn say_refusal<E: Sink>(err: &mut E, refusal: &CheckRefusal)
 
 /// Says how the call ends; nothing where the files were checked.
 pub(crate) fn tell<E: Sink>(err: &mut E, status: &CheckStatus<'_>)
-    ensures { ErrRow E.takes_memory status.now (E.taken err.old) (E.failures err.old) (E.taken err.new) (E.failures err.new) }
+    ensures { CheckErrRow E.takes_memory status.now (E.taken err.old) (E.failures err.old) (E.taken err.new) (E.failures err.new) }
 {
     match status {
         CheckStatus::BadWords => say_text(err, b"usage: atpg-check PREFIX\n"),

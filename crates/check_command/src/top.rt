@@ -2,7 +2,7 @@
 ghost use Rattle.std.specs.Prelude.{◌≡◌, map, option_map};
 ghost use Rattle.std.specs.String.{string_bytes};
 ghost use Rattle.commands.specs.World.{world};
-ghost use Rattle.check_command.specs.Top.{ErrRow, TopRow, code_of, prefix_in};
+ghost use Rattle.check_command.specs.Top.{CheckErrRow, CheckTopRow, check_status_code, prefix_in};
 ghost use Rattle.check_command.specs.declared.status.CheckStatus.{CheckStatus};
 
 use crate::command::check_prefix;
@@ -23,8 +23,8 @@ fn prefix_of(words: &[String]) -> Option<&str>
 
 /// Says how the call ends, and answers the status's number.
 fn end<E: Sink>(err: &mut E, status: &CheckStatus<'_>) -> u8
-    ensures code { result ≡ code_of status.now }
-    ensures told { ErrRow E.takes_memory status.now (E.taken err.old) (E.failures err.old) (E.taken err.new) (E.failures err.new) }
+    ensures code { result ≡ check_status_code status.now }
+    ensures told { CheckErrRow E.takes_memory status.now (E.taken err.old) (E.failures err.old) (E.taken err.new) (E.failures err.new) }
 {
     tell(err, status);
     status.code()
@@ -39,11 +39,11 @@ pub fn check_top<S: Shelf, T: Sink, E: Sink>(
     out: &mut T,
     err: &mut E,
 ) -> u8
-    ensures { (s : CheckStatus) × (result ≡ code_of s)
-        × TopRow (map string_bytes words.now)
+    ensures { (s : CheckStatus) × (result ≡ check_status_code s)
+        × CheckTopRow (map string_bytes words.now)
         (world (S.files shelf.old) (S.failures shelf.old) (T.taken out.old) (T.failures out.old))
         (world (S.files shelf.new) (S.failures shelf.new) (T.taken out.new) (T.failures out.new)) s
-        × ErrRow E.takes_memory s (E.taken err.old) (E.failures err.old) (E.taken err.new) (E.failures err.new) }
+        × CheckErrRow E.takes_memory s (E.taken err.old) (E.failures err.old) (E.taken err.new) (E.failures err.new) }
 {
     match prefix_of(words) {
         Some(prefix) => {

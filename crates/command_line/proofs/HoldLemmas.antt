@@ -10,28 +10,28 @@ use Rattle.clap.proofs.CutLemmas.{slice_split-Lacks, slice_split-at}
 use Rattle.clap.specs.Words.{Text}
 use Rattle.command_line.specs.CommandLine.{hold_of}
 use Rattle.command_line.specs.declared.holds.Held.{Held}
-use Rattle.command_line.specs.HoldLists.{Hold, are_new, hold_in, holds_in, holds_of, if_distinct, with_hold}
+use Rattle.command_line.specs.HoldLists.{HoldItem, are_new, hold_in, holds_in, holds_of, if_distinct, with_hold}
 
 -- what the items are, behind those that are done
-abbrev pub after : List Hold → Option (List Hold) → Option (List Hold)
+abbrev pub after : List HoldItem → Option (List HoldItem) → Option (List HoldItem)
 after done holds = option_map (λ hs. done ++ hs) holds
 
-moved : (done : List Hold) (h : Hold) (rest : Option (List Hold)) → after done (with_hold (Some h) rest) ≡ after (done ++ h ∷ []) rest
+moved : (done : List HoldItem) (h : HoldItem) (rest : Option (List HoldItem)) → after done (with_hold (Some h) rest) ≡ after (done ++ h ∷ []) rest
 moved done h None = refl
 moved done h (Some hs) = ap Some (sym (append_assoc done (h ∷ []) hs))
 
-pub one_more : (all : Option (List Hold)) (done : List Hold) (items : List Text) (item : Text) (more : List Text) (h : Hold) → all ≡ after done (holds_of items)
+pub one_more : (all : Option (List HoldItem)) (done : List HoldItem) (items : List Text) (item : Text) (more : List Text) (h : HoldItem) → all ≡ after done (holds_of items)
     → items ≡ item ∷ more → Some h ≡ hold_in item → all ≡ after (done ++ h ∷ []) (holds_of more)
 one_more all done items item more h e split is =
-    e ∙ ap (λ (ts : List Text). after done (holds_of ts)) split ∙ ap (λ (o : Option Hold). after done (with_hold o (holds_of more))) (sym is) ∙ moved done h (holds_of more)
+    e ∙ ap (λ (ts : List Text). after done (holds_of ts)) split ∙ ap (λ (o : Option HoldItem). after done (with_hold o (holds_of more))) (sym is) ∙ moved done h (holds_of more)
 
-pub one_bad : (all : Option (List Hold)) (done : List Hold) (items : List Text) (item : Text) (more : List Text) → all ≡ after done (holds_of items)
+pub one_bad : (all : Option (List HoldItem)) (done : List HoldItem) (items : List Text) (item : Text) (more : List Text) → all ≡ after done (holds_of items)
     → items ≡ item ∷ more → None ≡ hold_in item → all ≡ None
 one_bad all done items item more e split is =
-    e ∙ ap (λ (ts : List Text). after done (holds_of ts)) split ∙ ap (λ (o : Option Hold). after done (with_hold o (holds_of more))) (sym is)
+    e ∙ ap (λ (ts : List Text). after done (holds_of ts)) split ∙ ap (λ (o : Option HoldItem). after done (with_hold o (holds_of more))) (sym is)
 
 -- a list of such items, whose names are distinct or not
-pub checked : (text : Text) (holds : List Hold) (distinct : Bool) → holds_of (slice_split (λ b. b == 44) text) ≡ Some holds → distinct ≡ are_new [] (map (λ h. h.0) holds)
+pub checked : (text : Text) (holds : List HoldItem) (distinct : Bool) → holds_of (slice_split (λ b. b == 44) text) ≡ Some holds → distinct ≡ are_new [] (map (λ h. h.0) holds)
     → holds_in text ≡ (if distinct then Some holds else None)
 checked text holds distinct e d = ap (option_and_then if_distinct) e ∙ ap (λ (b : Bool). if b then Some holds else None) (sym d)
 

@@ -3,11 +3,12 @@ use Rattle.std.specs.Prelude.{◌≤◌, ⊤, ℕ, Bool, true, List, [], ◌∷�
 use Rattle.std.specs.Prelude.{Result, Ok, Err, option_and_then, option_map}
 use Rattle.std.specs.Option.{ok_or}
 use Rattle.std.specs.Str.{bytes_eq}
+use Rattle.limits.specs.Limits.{most_chains, most_workers, most_limit, fewest_gates, most_gates}
 use Rattle.clap.specs.Words.{Kinds, Row, Text, first_of, subcommand_of}
 use Rattle.clap.specs.Faults.{fault_of}
 use Rattle.command_line.specs.Numbers.{number_in}
-use Rattle.command_line.specs.HoldLists.{Hold, holds_in}
-use Rattle.command_line.specs.Table.{command_table, least_gates, most_chains, most_gates, most_limit, most_seed, most_workers}
+use Rattle.command_line.specs.HoldLists.{HoldItem, holds_in}
+use Rattle.command_line.specs.Table.{command_table, most_seed}
 use Rattle.command_line.specs.declared.holds.Held.{Held}
 use Rattle.command_line.specs.declared.requests.EngineName.{EngineName}
 use Rattle.command_line.specs.declared.requests.EngineName.TheVariants.{Podem, Fan}
@@ -22,7 +23,7 @@ pub data CommandLine : Type 0 where
   -- the netlist's file
   faults : Text → CommandLine
   -- the netlist's file, what the names of the files written begin with, the numbers, and the inputs that are held
-  run : Text → Text → RunOptions → List Hold → CommandLine
+  run : Text → Text → RunOptions → List HoldItem → CommandLine
   -- the netlist's file, the STIL file, and the text of a fault
   play : Text → Text → Option Text → CommandLine
   -- what the names of the files read begin with
@@ -58,8 +59,8 @@ scan_of rows = option_and_then (λ net. option_and_then (λ out.
     option_map (λ chains. scan net out chains) (number_at (codes "chains") 1 1 most_chains rows))
     (first_of (codes "OUT") rows)) (first_of (codes "NET") rows)
 
-abbrev pub faults_of : List Row → Option CommandLine
-faults_of rows = option_map (λ net. faults net) (first_of (codes "NET") rows)
+abbrev pub faults_line_of : List Row → Option CommandLine
+faults_line_of rows = option_map (λ net. faults net) (first_of (codes "NET") rows)
 
 -- the engine of this name, `podem` where none is given
 abbrev pub engine_given : Option Text → Option EngineName
@@ -88,11 +89,11 @@ search_of rows = option_and_then (λ engine. option_and_then (λ net. option_and
     option_map (λ options. (net, prefix, options)) (options_of engine rows))
     (first_of (codes "PREFIX") rows)) (first_of (codes "NET") rows)) (engine_given (first_of (codes "engine") rows))
 
-abbrev pub holds_given : Option Text → Option (List Hold)
+abbrev pub holds_given : Option Text → Option (List HoldItem)
 holds_given None = Some []
 holds_given (Some text) = holds_in text
 
-abbrev pub run_where : Option Search → Option (List Hold) → Result CommandLine NoLine
+abbrev pub run_where : Option Search → Option (List HoldItem) → Result CommandLine NoLine
 run_where (Some s) (Some holds) = Ok (run s.0 s.1 s.2 holds)
 run_where (Some s) None = Err bad_hold
 run_where None _ = Err bad_words
@@ -112,7 +113,7 @@ check_of rows = option_map (λ prefix. check prefix) (first_of (codes "PREFIX") 
 
 abbrev pub sweep_of : List Row → Option CommandLine
 sweep_of rows = option_and_then (λ seed. option_map (λ gates. sweep seed gates)
-    (number_of (codes "GATES") least_gates most_gates rows)) (number_of (codes "SEED") 0 most_seed rows)
+    (number_of (codes "GATES") fewest_gates most_gates rows)) (number_of (codes "SEED") 0 most_seed rows)
 
 abbrev pub chaintest_of : List Row → Option CommandLine
 chaintest_of rows = option_and_then (λ net. option_and_then (λ stil.
@@ -134,7 +135,7 @@ line_from line = ok_or line bad_words
 unfoldable pub line_by : Text → List Row → Result CommandLine NoLine
 line_by name rows =
     if bytes_eq name (codes "scan") then line_from (scan_of rows)
-    else if bytes_eq name (codes "faults") then line_from (faults_of rows)
+    else if bytes_eq name (codes "faults") then line_from (faults_line_of rows)
     else if bytes_eq name (codes "run") then run_of rows
     else if bytes_eq name (codes "play") then line_from (play_of rows)
     else if bytes_eq name (codes "check") then line_from (check_of rows)
@@ -144,13 +145,13 @@ line_by name rows =
     else if bytes_eq name (codes "transition") then line_from (transition_of rows)
     else Err bad_words
 
-abbrev pub line_at : Option (Text × List Row) → Result CommandLine NoLine
-line_at None = Err bad_words
-line_at (Some p) = line_by p.0 p.1
+abbrev pub command_line_at : Option (Text × List Row) → Result CommandLine NoLine
+command_line_at None = Err bad_words
+command_line_at (Some p) = line_by p.0 p.1
 
 -- where no step of the parse fails, what the command asks for
 abbrev pub line_where_taken : Kinds → Option (Text × List Row) → Result CommandLine NoLine
-line_where_taken [] command = line_at command
+line_where_taken [] command = command_line_at command
 line_where_taken (k ∷ ks) command = Err bad_words
 
 -- the words are a command line: `clap`'s rule for simple commands takes them, no step of the parse
@@ -160,20 +161,20 @@ command_line words =
     line_where_taken (fault_of command_table words) (subcommand_of command_table words)
 
 -- an input's name, and the bit at which it is held
-abbrev pub hold_of : Held → Hold
+abbrev pub hold_of : Held → HoldItem
 hold_of held = (held.name.now, held.bit)
 
 -- the command line that a request is
-abbrev pub line_of : Request → CommandLine
-line_of (request.Scan net out chains) = scan net.now out.now chains
-line_of (request.Faults net) = faults net.now
-line_of (request.Run net prefix options holds) = run net.now prefix.now options (map hold_of holds.items)
-line_of (request.Play net stil fault) = play net.now stil.now (option_map (λ t. t.now) fault)
-line_of (request.Check prefix) = check prefix.now
-line_of (request.Sweep seed gates) = sweep seed gates
-line_of (request.ChainTest net stil chains) = chaintest net.now stil.now chains
-line_of (request.Diagnose net stil log options) = diagnose net.now stil.now log.now options
-line_of (request.Transition net prefix options) = transition net.now prefix.now options
+abbrev pub command_line_of : Request → CommandLine
+command_line_of (request.Scan net out chains) = scan net.now out.now chains
+command_line_of (request.Faults net) = faults net.now
+command_line_of (request.Run net prefix options holds) = run net.now prefix.now options (map hold_of holds.items)
+command_line_of (request.Play net stil fault) = play net.now stil.now (option_map (λ t. t.now) fault)
+command_line_of (request.Check prefix) = check prefix.now
+command_line_of (request.Sweep seed gates) = sweep seed gates
+command_line_of (request.ChainTest net stil chains) = chaintest net.now stil.now chains
+command_line_of (request.Diagnose net stil log options) = diagnose net.now stil.now log.now options
+command_line_of (request.Transition net prefix options) = transition net.now prefix.now options
 
 pub record AreInRange (options : RunOptions) : Type 0 where
   pub chains : (1 ≤ options.chains) × (options.chains ≤ most_chains)
@@ -188,7 +189,7 @@ pub record AreWithin (options : DiagnoseOptions) : Type 0 where
 abbrev pub IsInRange : Request → Type 0
 IsInRange (request.Scan net out chains) = (1 ≤ chains) × (chains ≤ most_chains)
 IsInRange (request.Run net prefix options holds) = AreInRange options
-IsInRange (request.Sweep seed gates) = (least_gates ≤ gates) × (gates ≤ most_gates)
+IsInRange (request.Sweep seed gates) = (fewest_gates ≤ gates) × (gates ≤ most_gates)
 IsInRange (request.ChainTest net stil chains) = (1 ≤ chains) × (chains ≤ most_chains)
 IsInRange (request.Diagnose net stil log options) = AreWithin options
 IsInRange (request.Transition net prefix options) = AreInRange options

@@ -1,5 +1,6 @@
 -- The table of commands, in the terms of `clap`: what a parse reads of a command.
 use Rattle.std.specs.Prelude.{ℕ, ◌++◌, true, false, List, [], ◌∷◌, Some, codes}
+use Rattle.limits.specs.Limits.{most_chains, most_workers, most_limit, fewest_gates, most_gates}
 use Rattle.clap.specs.Words.{App, Rule, Shape, Text, new_rule}
 use Rattle.clap.specs.Simple.{new_shape}
 use Rattle.clap.specs.declared.builder.value_parser.ValueParser.TheVariants.{Unsigned}
@@ -25,25 +26,9 @@ required_number id low high = record (required id) { parser = Some (Unsigned low
 abbrev pub command : Text → List Rule → Shape
 command name rules = record (new_shape name) { rules = rules }
 
-abbrev pub most_chains : ℕ
-most_chains = 256
-
-abbrev pub most_workers : ℕ
-most_workers = 64
-
--- the greatest backtrack limit: the most ends that a search may close
-abbrev pub most_limit : ℕ
-most_limit = 100000
-
 -- the most that a seed can be, 2 ^ 64 - 1
 abbrev pub most_seed : ℕ
 most_seed = 18446744073709551615
-
-abbrev pub least_gates : ℕ
-least_gates = 16
-
-abbrev pub most_gates : ℕ
-most_gates = 20000
 
 -- scan NET OUT [--chains C]
 abbrev pub scan_command : Shape
@@ -76,7 +61,7 @@ check_command = command (codes "check") (required (codes "PREFIX") ∷ [])
 -- sweep SEED GATES
 abbrev pub sweep_command : Shape
 sweep_command = command (codes "sweep")
-    (required_number (codes "SEED") 0 most_seed ∷ required_number (codes "GATES") least_gates most_gates ∷ [])
+    (required_number (codes "SEED") 0 most_seed ∷ required_number (codes "GATES") fewest_gates most_gates ∷ [])
 
 -- chaintest NET STIL [--chains C]
 abbrev pub chaintest_command : Shape

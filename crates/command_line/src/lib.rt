@@ -14,8 +14,8 @@ ghost use Rattle.std.specs.String.{string_bytes};
 ghost use Rattle.clap.specs.Words.{FailsBy, kind_of, subcommand_of, subcommand_rows_of};
 ghost use Rattle.clap.specs.Faults.{fault_of};
 ghost use Rattle.command_line.specs.Table.{command_table};
-ghost use Rattle.command_line.specs.CommandLine.{IsInRange, command_line, line_of};
-ghost use Rattle.command_line.specs.Refusals.{IsCause};
+ghost use Rattle.command_line.specs.CommandLine.{IsInRange, command_line, command_line_of};
+ghost use Rattle.command_line.specs.Refusals.{IsWordsCause};
 ghost use Rattle.command_line.specs.inner.Errors.{BecomesRefusal, IsBadWords, IsMadeOf};
 
 mod commands;
@@ -102,9 +102,9 @@ fn refusal_of(alloc: Global, none: NoRequest) -> WordsRefusal
 /// What the words ask for. The first word is the program's name.
 pub fn parse<'a>(alloc: Global, words: &'a [String]) -> Result<Request<'a>, WordsRefusal>
     ensures request { IfOk result (λ request.
-        command_line (map string_bytes words.entry.now) ≡ Ok (line_of request)) }
+        command_line (map string_bytes words.entry.now) ≡ Ok (command_line_of request)) }
     ensures in_range { IfOk result IsInRange }
-    ensures refusal { IfErr result (IsCause (map string_bytes words.entry.now)) }
+    ensures refusal { IfErr result (IsWordsCause (map string_bytes words.entry.now)) }
 {
     let found = match matches(alloc, words) {
         Ok(found) => found,

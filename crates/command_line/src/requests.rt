@@ -8,12 +8,12 @@ ghost use Rattle.command_line.specs.CommandLine.{
   check_of,
   diagnose_of,
   engine_given,
-  faults_of,
+  faults_line_of,
   holds_given,
-  line_at,
+  command_line_at,
   line_by,
   line_from,
-  line_of,
+  command_line_of,
   options_of,
   play_of,
   run_of,
@@ -139,7 +139,7 @@ pub(crate) enum NoRequest {
 }
 
 fn scan<'a>(found: &ArgMatches<'a>) -> Option<Request<'a>>
-    ensures line { option_map line_of result ≡ scan_of (rows_of (found_of found.now)) }
+    ensures line { option_map command_line_of result ≡ scan_of (rows_of (found_of found.now)) }
     ensures in_range { IfSome result IsInRange }
 {
     let net = text(found, "NET")?;
@@ -153,7 +153,7 @@ fn scan<'a>(found: &ArgMatches<'a>) -> Option<Request<'a>>
 }
 
 fn faults<'a>(found: &ArgMatches<'a>) -> Option<Request<'a>>
-    ensures line { option_map line_of result ≡ faults_of (rows_of (found_of found.now)) }
+    ensures line { option_map command_line_of result ≡ faults_line_of (rows_of (found_of found.now)) }
     ensures in_range { IfSome result IsInRange }
 {
     let net = text(found, "NET")?;
@@ -161,7 +161,7 @@ fn faults<'a>(found: &ArgMatches<'a>) -> Option<Request<'a>>
 }
 
 fn play<'a>(found: &ArgMatches<'a>) -> Option<Request<'a>>
-    ensures line { option_map line_of result ≡ play_of (rows_of (found_of found.now)) }
+    ensures line { option_map command_line_of result ≡ play_of (rows_of (found_of found.now)) }
     ensures in_range { IfSome result IsInRange }
 {
     let net = text(found, "NET")?;
@@ -171,7 +171,7 @@ fn play<'a>(found: &ArgMatches<'a>) -> Option<Request<'a>>
 }
 
 fn check<'a>(found: &ArgMatches<'a>) -> Option<Request<'a>>
-    ensures line { option_map line_of result ≡ check_of (rows_of (found_of found.now)) }
+    ensures line { option_map command_line_of result ≡ check_of (rows_of (found_of found.now)) }
     ensures in_range { IfSome result IsInRange }
 {
     let prefix = text(found, "PREFIX")?;
@@ -179,7 +179,7 @@ fn check<'a>(found: &ArgMatches<'a>) -> Option<Request<'a>>
 }
 
 fn sweep<'a>(found: &ArgMatches<'a>) -> Option<Request<'a>>
-    ensures line { option_map line_of result ≡ sweep_of (rows_of (found_of found.now)) }
+    ensures line { option_map command_line_of result ≡ sweep_of (rows_of (found_of found.now)) }
     ensures in_range { IfSome result IsInRange }
 {
     let seed = number_of(found, "SEED", 0, u64::MAX)?;
@@ -191,7 +191,7 @@ fn sweep<'a>(found: &ArgMatches<'a>) -> Option<Request<'a>>
 }
 
 fn chaintest<'a>(found: &ArgMatches<'a>) -> Option<Request<'a>>
-    ensures line { option_map line_of result ≡ chaintest_of (rows_of (found_of found.now)) }
+    ensures line { option_map command_line_of result ≡ chaintest_of (rows_of (found_of found.now)) }
     ensures in_range { IfSome result IsInRange }
 {
     let net = text(found, "NET")?;
@@ -205,7 +205,7 @@ fn chaintest<'a>(found: &ArgMatches<'a>) -> Option<Request<'a>>
 }
 
 fn diagnose<'a>(found: &ArgMatches<'a>) -> Option<Request<'a>>
-    ensures line { option_map line_of result ≡ diagnose_of (rows_of (found_of found.now)) }
+    ensures line { option_map command_line_of result ≡ diagnose_of (rows_of (found_of found.now)) }
     ensures in_range { IfSome result IsInRange }
 {
     let net = text(found, "NET")?;
@@ -323,7 +323,7 @@ fn transition<'a>(found: &ArgMatches<'a>) -> Result<Request<'a>, NoRequest>
 
 // A request, or a number is in the way: `clap` has seen to the rest.
 fn taken<'a>(request: Option<Request<'a>>) -> Result<Request<'a>, NoRequest>
-    ensures line { IsAsked (line_from (option_map line_of request.entry)) result }
+    ensures line { IsAsked (line_from (option_map command_line_of request.entry)) result }
     ensures in_range { IfSome request.entry IsInRange → IfOk result IsInRange }
 {
     request.ok_or(NoRequest::BadNumber)
@@ -365,7 +365,7 @@ pub(crate) fn request_of<'a>(
     alloc: Global,
     found: &ArgMatches<'a>,
 ) -> Result<Request<'a>, NoRequest>
-    ensures line { IsAsked (line_at (subcommand_rows_of found.now)) result }
+    ensures line { IsAsked (command_line_at (subcommand_rows_of found.now)) result }
     ensures in_range { IfOk result IsInRange }
 {
     match command(found) {

@@ -1,8 +1,9 @@
 -- A command's row, put together of its reads, its work and what became of it.
 use Rattle.std.proofs.Common.{◌≡◌, inl, inr, ℕ, List, [], Option, Some, None, Result, Ok, Err, ap₂, refl, sym, subst, arith}
+use Rattle.plain_text.specs.Texts.{Text}
 use Rattle.outside.specs.Shelf.{Files}
-use Rattle.commands.specs.World.{Text, World, world}
-use Rattle.commands.specs.Contents.{AreRead}
+use Rattle.commands.specs.World.{World, world}
+use Rattle.commands.specs.Contents.{FilesHold}
 use Rattle.commands.specs.Names.{texts_of}
 use Rattle.commands.specs.Due.{Due, Deliver}
 use Rattle.commands.specs.Delivered.{DeliveryRow, ProductRow}
@@ -17,7 +18,7 @@ use Rattle.commands.specs.declared.product.Stop.{Stop}
 use Rattle.commands.specs.declared.product.Stop.TheVariants as stop
 
 -- a command that reads nothing has read it
-pub nothing_read : (files : Option Files) → AreRead files [] []
+pub nothing_read : (files : Option Files) → FilesHold files [] []
 nothing_read None = record { count = refl; within = λ k d below. absurd (omega arith); told = tt }
 nothing_read (Some c) = record { count = refl; within = λ k d below. absurd (omega arith); told = refl }
 
@@ -33,7 +34,7 @@ module _ {R : Type 0} (reads writes : List Text) (due : List Text → Due R → 
   unread_row files f now g taken h (ending.TooLong n) why same = (why.0, why.1, ((same, refl), (why.2, refl)))
   unread_row files f now g taken h ending.Memory why same = inl ((same, refl), (why, refl))
 
-  module _ (a b : World) (texts : List Text) (read : AreRead a.files reads texts) where
+  module _ (a b : World) (texts : List Text) (read : FilesHold a.files reads texts) where
     product_row : (p : Product) → due texts (Deliver (texts_of p.texts.items) p.shown.items p.finding) → (e : Ending R) → ProductRow writes p a b e
         → CommandRow reads writes due a b e
     product_row p is (ending.Ended finding) row =
@@ -59,7 +60,7 @@ module _ {R : Type 0} (reads writes : List Text) (due : List Text → Due R → 
 
   -- the same, the shelf being as it was before the reads
   pub command_row : (files : Option Files) (f : ℕ) (now : Option Files) (g : ℕ) (taken : Option Text) (h : ℕ) (b : World) (texts : List Text)
-      (count : ℕ) (worked : Result Product (Stop R)) (e : Ending R) → AreRead files reads texts → now ≡ files → g ≡ f
+      (count : ℕ) (worked : Result Product (Stop R)) (e : Ending R) → FilesHold files reads texts → now ≡ files → g ≡ f
       → IsWorked (due texts) count worked → DeliveryRow writes worked (world now g taken h) b e → CommandRow reads writes due (world files f taken h) b e
   command_row files f now g taken h b texts count worked e read same none is row =
       let before : world now g taken h ≡ world files f taken h = ap₂ (λ (x : Option Files) (k : ℕ). world x k taken h) same none in

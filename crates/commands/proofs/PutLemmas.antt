@@ -4,12 +4,13 @@ use Rattle.std.proofs.lemmas.List.{take-append-drop}
 use Rattle.std.proofs.lemmas.Grind.{flat_map-append}
 use Rattle.std.proofs.lemmas.Option.{slice_get-get_or}
 use Rattle.std.proofs.Math.Seq.{take-append_seam}
+use Rattle.plain_text.specs.Texts.{Text}
 use denote.Ref.{Bor}
 use Rattle.outside.specs.Causes.{HasWriteCause}
 use Rattle.outside.specs.Sink.{Puts}
 use Rattle.outside.specs.declared.refusal.WriteRefusal.{WriteRefusal}
 use Rattle.outside.specs.declared.refusal.WriteRefusal.TheVariants as write
-use Rattle.commands.specs.World.{Text, Grows, GrowsInPart}
+use Rattle.commands.specs.World.{Grows, GrowsInPart}
 use Rattle.commands.specs.Pieces.{IsPut, PutsText, Waits, join}
 use Rattle.commands.proofs.ReadLemmas.{take_get}
 

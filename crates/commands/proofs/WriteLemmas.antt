@@ -6,11 +6,11 @@ use Rattle.std.specs.Str.{bytes_eq}
 use Rattle.std.specs.declared.alloc.Global.{Global}
 use Rattle.std.proofs.lemmas.List.{take_all}
 use Rattle.std.proofs.lemmas.Option.{slice_get-map, slice_get-get_or}
-use Rattle.outside.specs.Shelf.{Files, Holds, SameFiles}
+use Rattle.plain_text.specs.Texts.{Text}
+use Rattle.outside.specs.Shelf.{Files, GainsFile, SameFiles}
 use Rattle.outside.specs.Told.{Both}
-use Rattle.commands.specs.World.{Text}
 use Rattle.commands.specs.Written.{AreFirstWritten, AreWritten, AreWrittenUpTo, LeavesFiles, with_file, with_files}
-use Rattle.commands.specs.Names.{name_of, names_of, texts_of}
+use Rattle.commands.specs.Names.{file_name_of, file_names_of, texts_of}
 use Rattle.commands.specs.declared.names.FileName.{FileName}
 use Rattle.commands.specs.inner.Steps.{NotWritten, StopsWriting}
 use Rattle.commands.specs.declared.ending.Ending.{Ending}
@@ -28,9 +28,9 @@ zip_get (a ∷ xs) (b ∷ ys) zero x y e f = cc
 zip_get (a ∷ xs) (b ∷ ys) (suc i) x y e f = zip_get xs ys i x y e f
 
 pub file_here : (names : List FileName) (texts : List (Vec ℕ Global)) (i : ℕ) (d : FileName) (v : Vec ℕ Global) → i < length names → length texts ≡ length names
-    → slice_get (zip (names_of names) (texts_of texts)) i ≡ Some (name_of (get_or names i d), (get_or texts i v).items)
+    → slice_get (zip (file_names_of names) (texts_of texts)) i ≡ Some (file_name_of (get_or names i d), (get_or texts i v).items)
 file_here names texts i d v h same =
-    zip_get (names_of names) (texts_of texts) i _ _ (name_here names i d h)
+    zip_get (file_names_of names) (texts_of texts) i _ _ (name_here names i d h)
     (let k : i < length texts = omega arith in slice_get-map _ texts i ∙ ap (option_map (λ (w : Vec ℕ Global). w.items)) (slice_get-get_or texts i v k))
 
 pub length-zip_le : {X Y : Type 0} (xs : List X) (ys : List Y) → length (zip xs ys) ≤ length xs
@@ -45,7 +45,7 @@ with_files-append : (files : Files) (ps : List (Text × Text)) (p : Text × Text
 with_files-append files [] p q = refl
 with_files-append files (x ∷ ps) p q = with_files-append (with_file files x) ps p q
 
-one_more : (ps : List (Text × Text)) (name bytes : Text) (a b c : Files) → AreWritten ps a b → Holds b name bytes c
+one_more : (ps : List (Text × Text)) (name bytes : Text) (a b c : Files) → AreWritten ps a b → GainsFile b name bytes c
     → AreWritten (ps ++ (name, bytes) ∷ []) a c
 one_more ps name bytes a b c before after q =
     after q ∙ ap (λ (v : Option Text). if bytes_eq name q then Some bytes else v) (before q) ∙ sym (with_files-append a ps (name, bytes) q)
@@ -76,30 +76,30 @@ first_written all i a b c before same =
     (λ x y z p q. (i, λ name. q name ∙ p name)) (leaves_both (take i all) a b before) same
 
 module _ (names : List FileName) (texts : List (Vec ℕ Global)) (i : ℕ) (d : FileName) (v : Vec ℕ Global) (h : i < length names) (same : length texts ≡ length names)
-    (a b c : Option Files) (before : LeavesFiles (take i (zip (names_of names) (texts_of texts))) a b) where
+    (a b c : Option Files) (before : LeavesFiles (take i (zip (file_names_of names) (texts_of texts))) a b) where
   abbrev all : List (Text × Text)
-  all = zip (names_of names) (texts_of texts)
+  all = zip (file_names_of names) (texts_of texts)
 
   abbrev file : Text × Text
-  file = (name_of (get_or names i d), (get_or texts i v).items)
+  file = (file_name_of (get_or names i d), (get_or texts i v).items)
 
   here : slice_get all i ≡ Some file
   here = file_here names texts i d v h same
 
-  pub step_written : Both b c (λ old new. Holds old file.0 file.1 new) → LeavesFiles (take (i + 1) all) a c
+  pub step_written : Both b c (λ old new. GainsFile old file.0 file.1 new) → LeavesFiles (take (i + 1) all) a c
   step_written wrote =
       rw (take_get all i file here) (both_leaves (take i all) file a c
-      (both_both (AreWritten (take i all)) (λ old new. Holds old file.0 file.1 new) (AreWritten (take i all ++ file ∷ [])) a b c
+      (both_both (AreWritten (take i all)) (λ old new. GainsFile old file.0 file.1 new) (AreWritten (take i all ++ file ∷ [])) a b c
       (λ x y z p q. one_more (take i all) file.0 file.1 x y z p q) (leaves_both (take i all) a b before) wrote))
 
-  failed : (n : FileName) → name_of n ≡ file.0 → Both b c (λ old new. (kept : ℕ) × Holds old file.0 (take kept file.1) new) → Both a c (AreWrittenUpTo all (name_of n))
+  failed : (n : FileName) → file_name_of n ≡ file.0 → Both b c (λ old new. (kept : ℕ) × GainsFile old file.0 (take kept file.1) new) → Both a c (AreWrittenUpTo all (file_name_of n))
   failed n is wrote =
-      rw is (both_both (AreWritten (take i all)) (λ old new. (kept : ℕ) × Holds old file.0 (take kept file.1) new) (AreWrittenUpTo all file.0) a b c
+      rw is (both_both (AreWritten (take i all)) (λ old new. (kept : ℕ) × GainsFile old file.0 (take kept file.1) new) (AreWrittenUpTo all file.0) a b c
       (λ x y z p q. record { place = i; text = file.1; kept = q.0; here = here; written = one_more (take i all) file.0 (take q.0 file.1) x y z p q.1 })
       (leaves_both (take i all) a b before) wrote)
 
   pub step_stopped : {R : Type 0} (f f-now g : ℕ) (e : Ending R) → f-now ≡ f → NotWritten file.0 file.1 b f-now c g e
-      → StopsWriting (names_of names) (texts_of texts) a f c g e
+      → StopsWriting (file_names_of names) (texts_of texts) a f c g e
   step_stopped f f-now g (ending.WriteFailed (failure.File n)) failures why = (subst (λ n. Rose n g) failures why.1, failed n why.0 why.2)
   step_stopped f f-now g (ending.WriteFailed failure.Output) failures why = absurd why
   step_stopped f f-now g ending.Memory failures why = (first_written all i a b c before why.0, why.1 ∙ failures)

@@ -1,11 +1,12 @@
 -- Each ending comes exactly where it should, but for a failed read or write and want of memory.
 -- So each "only where" of the rows is "exactly where".
 use Rattle.std.specs.Prelude.{◌≡◌, ⊤, List, Some}
+use Rattle.plain_text.specs.Texts.{Text}
 use Rattle.outside.specs.Causes.{Rose}
 use Rattle.outside.specs.Shelf.{Files}
-use Rattle.commands.specs.World.{NoneFailed, OutFailed, ShelfFailed, Text, World}
+use Rattle.commands.specs.World.{NoneFailed, OutFailed, ShelfFailed, World}
 use Rattle.commands.specs.Contents.{Whole, Missing, TooLong, contents_of}
-use Rattle.commands.specs.Names.{name_of}
+use Rattle.commands.specs.Names.{file_name_of}
 use Rattle.commands.specs.Due.{Due, Refuse, Deliver}
 use Rattle.commands.specs.Rows.{CommandRow}
 use Rattle.commands.specs.declared.ending.Finding.{Finding}
@@ -23,16 +24,16 @@ abbrev pub IsExclusive : {R : Type 0} → (List Text → Due R → Type 0) → T
 IsExclusive due = (texts : List Text) (c d : Due _) → due texts c → due texts d → AreAlike c d
 
 abbrev pub IsMissing : {R : Type 0} → Text → Ending R → Type 0
-IsMissing name (ending.Missing n) = name_of n ≡ name
+IsMissing name (ending.Missing n) = file_name_of n ≡ name
 IsMissing name _ = ⊥
 
 abbrev pub IsTooLong : {R : Type 0} → Text → Ending R → Type 0
-IsTooLong name (ending.TooLong n) = name_of n ≡ name
+IsTooLong name (ending.TooLong n) = file_name_of n ≡ name
 IsTooLong name _ = ⊥
 
-abbrev pub IsRefused : {R : Type 0} → R → Ending R → Type 0
-IsRefused r (ending.Refused s) = r ≡ s
-IsRefused r _ = ⊥
+abbrev pub IsRefusedFor : {R : Type 0} → R → Ending R → Type 0
+IsRefusedFor r (ending.Refused s) = r ≡ s
+IsRefusedFor r _ = ⊥
 
 abbrev pub IsEnded : {R : Type 0} → Finding → Ending R → Type 0
 IsEnded finding (ending.Ended found) = finding ≡ found
@@ -73,7 +74,7 @@ module _ {R : Type 0} (due : List Text → Due R → Type 0) where
   abbrev pub RefusedExactly : Type 0
   RefusedExactly =
       (reads writes : List Text) (files : Files) (a b : World) (e : Ending R) (texts : List Text) (r : R) → IsCall reads writes due files a b e
-      → contents_of files reads ≡ Whole texts → IsExclusive due → due texts (Refuse r) → OrFails (IsRefused r) a b e
+      → contents_of files reads ≡ Whole texts → IsExclusive due → due texts (Refuse r) → OrFails (IsRefusedFor r) a b e
 
   -- a call of the shelf or the output failed: the command says whose
   abbrev pub FailedExactly : Type 0

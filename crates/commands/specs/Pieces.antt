@@ -1,11 +1,12 @@
 -- A text that is put on a sink in pieces.
 use Rattle.std.specs.Prelude.{◌≡◌, ◌++◌, ℕ, List, Option, Result, Ok, Err}
 use Rattle.std.specs.List.{flat_map}
+use Rattle.plain_text.specs.Texts.{Text}
 use denote.Ref.{Bor}
 use Rattle.outside.specs.Causes.{HasWriteCause}
 use Rattle.outside.specs.Told.{Both}
 use Rattle.outside.specs.declared.refusal.WriteRefusal.{WriteRefusal}
-use Rattle.commands.specs.World.{Text, Grows, GrowsInPart}
+use Rattle.commands.specs.World.{Grows, GrowsInPart}
 
 -- the text that the pieces make
 abbrev pub join : List (Bor Text) → Text

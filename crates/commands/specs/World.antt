@@ -1,11 +1,9 @@
 -- What a call of the program sees of the outside, before and after.
 use Rattle.std.specs.Prelude.{◌≡◌, ◌++◌, ℕ, List, Option, take}
+use Rattle.plain_text.specs.Texts.{Text}
 use Rattle.outside.specs.Causes.{Rose}
 use Rattle.outside.specs.Shelf.{Files}
 use Rattle.outside.specs.Told.{Both}
-
-abbrev pub Text : Type 0
-Text = List ℕ
 
 -- the files, what the output has taken, and how many calls of each have failed
 pub record World : Type 0 where

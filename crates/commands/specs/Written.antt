@@ -2,9 +2,9 @@
 use Rattle.std.specs.Prelude.{◌≡◌, ◌++◌, ℕ, List, [], ◌∷◌, Option, Some, if◌then◌else◌, take}
 use Rattle.std.specs.List.{slice_get}
 use Rattle.std.specs.Str.{bytes_eq}
+use Rattle.plain_text.specs.Texts.{Text}
 use Rattle.outside.specs.Shelf.{Files}
 use Rattle.outside.specs.Told.{Both}
-use Rattle.commands.specs.World.{Text}
 
 -- the files with this text under this name
 abbrev pub with_file : Files → Text × Text → Files

@@ -1,8 +1,9 @@
 //! A command from its reads to its output.
 ghost use Rattle.std.specs.Prelude.{◌≡◌, ◌≤◌, ℕ, List, length};
 ghost use Rattle.std.specs.List.{All};
-ghost use Rattle.commands.specs.World.{Text, world};
-ghost use Rattle.commands.specs.Names.{names_of, texts_of};
+ghost use Rattle.plain_text.specs.Texts.{Text};
+ghost use Rattle.commands.specs.World.{world};
+ghost use Rattle.commands.specs.Names.{file_names_of, texts_of};
 ghost use Rattle.commands.specs.Contents.{most_bytes};
 ghost use Rattle.commands.specs.Due.{Due};
 ghost use Rattle.commands.specs.Worked.{IsWorked};
@@ -54,7 +55,7 @@ pub fn run_command<'a, S: Shelf, T: Sink, W: Work>(
     requires can { W.can_work work.now }
     requires reads { length reads.now ≡ W.reads work.now }
     requires writes { length writes.now ≡ W.writes work.now }
-    ensures { CommandRow (names_of reads.now) (names_of writes.now) (W.due work.now)
+    ensures { CommandRow (file_names_of reads.now) (file_names_of writes.now) (W.due work.now)
         (world (S.files shelf.old) (S.failures shelf.old) (T.taken out.old) (T.failures out.old))
         (world (S.files shelf.new) (S.failures shelf.new) (T.taken out.new) (T.failures out.new)) result }
 {

@@ -1,7 +1,7 @@
 //! The end of a command: what its work made is written and shown.
 ghost use Rattle.std.specs.Prelude.{◌≡◌, IfOk, length};
 ghost use Rattle.commands.specs.World.{world};
-ghost use Rattle.commands.specs.Names.{names_of};
+ghost use Rattle.commands.specs.Names.{file_names_of};
 ghost use Rattle.commands.specs.Delivered.{DeliveryRow, ProductRow};
 
 use crate::ending::{Ending, WriteFailure};
@@ -20,7 +20,7 @@ fn deliver_product<'a, S: Shelf, T: Sink, R>(
     product: &Product,
 ) -> Ending<'a, R>
     requires { length product.now.texts.items ≡ length writes.now }
-    ensures { ProductRow (names_of writes.now) product.now
+    ensures { ProductRow (file_names_of writes.now) product.now
         (world (S.files shelf.old) (S.failures shelf.old) (T.taken out.old) (T.failures out.old))
         (world (S.files shelf.new) (S.failures shelf.new) (T.taken out.new) (T.failures out.new)) result }
 {
@@ -44,7 +44,7 @@ pub fn deliver<'a, S: Shelf, T: Sink, R>(
     worked: Result<Product, Stop<R>>,
 ) -> Ending<'a, R>
     requires { IfOk worked (λ p. length p.texts.items ≡ length writes.now) }
-    ensures { DeliveryRow (names_of writes.now) worked
+    ensures { DeliveryRow (file_names_of writes.now) worked
         (world (S.files shelf.old) (S.failures shelf.old) (T.taken out.old) (T.failures out.old))
         (world (S.files shelf.new) (S.failures shelf.new) (T.taken out.new) (T.failures out.new)) result }
 {

@@ -1,5 +1,5 @@
 //! Several files, read in order.
-ghost use Rattle.commands.specs.Names.{name_of, names_of};
+ghost use Rattle.commands.specs.Names.{file_name_of, file_names_of};
 ghost use Rattle.commands.specs.Reads.{ReadRow};
 ghost use Rattle.commands.specs.inner.Steps.{FileRow};
 
@@ -17,7 +17,7 @@ fn read_file<'a, S: Shelf, R>(
     shelf: &mut S,
     name: &FileName<'a>,
 ) -> Result<Vec<u8>, Ending<'a, R>>
-    ensures { FileRow (name_of name.now) (S.files shelf.old) (S.failures shelf.old) (S.files shelf.new) (S.failures shelf.new) result }
+    ensures { FileRow (file_name_of name.now) (S.files shelf.old) (S.failures shelf.old) (S.files shelf.new) (S.failures shelf.new) result }
 {
     let Ok(whole) = name.whole(alloc) else {
         return Err(Ending::Memory);
@@ -37,7 +37,7 @@ pub fn read_in_order<'a, S: Shelf, R>(
     shelf: &mut S,
     names: &[FileName<'a>],
 ) -> Result<Vec<Vec<u8>>, Ending<'a, R>>
-    ensures { ReadRow (names_of names.now) (S.files shelf.old) (S.failures shelf.old) (S.files shelf.new) (S.failures shelf.new) result }
+    ensures { ReadRow (file_names_of names.now) (S.files shelf.old) (S.failures shelf.old) (S.files shelf.new) (S.failures shelf.new) result }
 {
     let mut texts = Vec::new(alloc);
     for name in names {

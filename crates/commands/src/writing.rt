@@ -1,6 +1,6 @@
 //! Several files, written in order.
 ghost use Rattle.std.specs.Prelude.{◌≡◌, length};
-ghost use Rattle.commands.specs.Names.{name_of, names_of, texts_of};
+ghost use Rattle.commands.specs.Names.{file_name_of, file_names_of, texts_of};
 ghost use Rattle.commands.specs.inner.Steps.{WriteRow, WrittenRow};
 
 use crate::ending::{Ending, WriteFailure};
@@ -15,7 +15,7 @@ fn write_file<'a, S: Shelf, R>(
     name: &FileName<'a>,
     text: &[u8],
 ) -> Result<(), Ending<'a, R>>
-    ensures { WrittenRow (name_of name.now) text.now (S.files shelf.old) (S.failures shelf.old) (S.files shelf.new) (S.failures shelf.new) result }
+    ensures { WrittenRow (file_name_of name.now) text.now (S.files shelf.old) (S.failures shelf.old) (S.files shelf.new) (S.failures shelf.new) result }
 {
     let Ok(whole) = name.whole(alloc) else {
         return Err(Ending::Memory);
@@ -35,7 +35,7 @@ pub(crate) fn write_in_order<'a, S: Shelf, R>(
     texts: &[Vec<u8>],
 ) -> Result<(), Ending<'a, R>>
     requires { length texts.now ≡ length names.now }
-    ensures { WriteRow (names_of names.now) (texts_of texts.now) (S.files shelf.old) (S.failures shelf.old) (S.files shelf.new) (S.failures shelf.new) result }
+    ensures { WriteRow (file_names_of names.now) (texts_of texts.now) (S.files shelf.old) (S.failures shelf.old) (S.files shelf.new) (S.failures shelf.new) result }
 {
     for (i, name) in names.iter().enumerate() {
         match write_file(alloc, shelf, name, texts[i].as_slice()) {

@@ -12,17 +12,17 @@ use Rattle.netlist.proofs.Lists.{contains_cases, contains_head, contains_nil}
 use Rattle.fault_universe.specs.Universe.{all_lines}
 use Rattle.fault_universe.proofs.Members.{line_pin}
 use Rattle.fault_universe.proofs.Readers.{IsPinOf, pin_reads, reader_cases}
-use Rattle.fault_collapse.specs.Joined.{line_at}
+use Rattle.fault_collapse.specs.Joined.{line_at_pin}
 use Rattle.fault_collapse.specs.inner.Merging.{IsReadBy}
 
 few_step : (n : Netlist) (x z k : ℕ) (b : Bool) → leb 2 (length (readers_of n x)) ≡ b → length (readers_of n x) < 2 → cond b (Pin z k) (Stem x) ≡ Stem x
 few_step n x z k true e l = let h : 2 ≤ length (readers_of n x) = leb-true 2 (length (readers_of n x)) e in absurd (omega arith)
 few_step n x z k false e l = refl
 
-pub stem_at : (n : Netlist) (x z k : ℕ) → length (readers_of n x) < 2 → line_at n x z k ≡ Stem x
+pub stem_at : (n : Netlist) (x z k : ℕ) → length (readers_of n x) < 2 → line_at_pin n x z k ≡ Stem x
 stem_at n x z k l = few_step n x z k (leb 2 (length (readers_of n x))) refl l
 
-pub branch_at : (n : Netlist) (x z k : ℕ) → 2 ≤ length (readers_of n x) → line_at n x z k ≡ Pin z k
+pub branch_at : (n : Netlist) (x z k : ℕ) → 2 ≤ length (readers_of n x) → line_at_pin n x z k ≡ Pin z k
 branch_at n x z k l = ap (λ b. cond b (Pin z k) (Stem x)) (le-leb 2 (length (readers_of n x)) l)
 
 -- what a pin reads, from the definition that has it

@@ -26,8 +26,8 @@ output_value Const0 v = None
 output_value Const1 v = None
 
 -- the line at pin k of z, which reads x: a branch, or the stem x itself where nothing else reads x
-abbrev pub line_at : Netlist → ℕ → ℕ → ℕ → Line
-line_at n x z k = if nat_le 2 (length (readers_of n x)) then Pin z k else Stem x
+abbrev pub line_at_pin : Netlist → ℕ → ℕ → ℕ → Line
+line_at_pin n x z k = if nat_le 2 (length (readers_of n x)) then Pin z k else Stem x
 
 -- a fault at a pin of a gate, and the fault at the gate's output that it makes
 pub record IsJoined (n : Netlist) (f g : Fault) : Type 0 where
@@ -36,7 +36,7 @@ pub record IsJoined (n : Netlist) (f g : Fault) : Type 0 where
   pub signal : ℕ
   pub member : Contains n.definitions gate
   pub pin : slice_get gate.pins place ≡ Some signal
-  pub input : f.line ≡ line_at n signal gate.id place
+  pub input : f.line ≡ line_at_pin n signal gate.id place
   pub output : g.line ≡ Stem gate.id
   pub values : output_value gate.kind f.value ≡ Some g.value
 

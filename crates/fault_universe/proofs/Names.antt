@@ -6,7 +6,7 @@ use Rattle.std.proofs.lemmas.List.{get_or_default}
 use Rattle.std.proofs.lemmas.List.Elements.{All-contains, All-get_or, All-weaker}
 use Rattle.std.proofs.lemmas.Option.{get_or_from_slice_get}
 use Rattle.netlist.specs.Netlist.{Definition, Netlist, signals}
-use Rattle.netlist.specs.Conditions.{IsNumbered, IsRead, IsSound}
+use Rattle.netlist.specs.Conditions.{IsNumbered, HasReader, IsSound}
 use Rattle.netlist.specs.Names.{IsName, is_name_byte}
 use Rattle.netlist.proofs.Placed.{signal_below}
 use Rattle.netlist.specs.Netlist.{name_of}
@@ -15,7 +15,7 @@ pub is_signal : (n : Netlist) → IsNumbered n → (x : ℕ) → x < length (sig
 is_signal n numbered x l = (x, l, get_or_default (signals n) x x 0 l ∙ numbered x l)
 
 module _ (n : Netlist) (sound : IsSound n) where
-  read_is_signal : (x : ℕ) → IsRead n x → Contains (signals n) x
+  read_is_signal : (x : ℕ) → HasReader n x → Contains (signals n) x
   read_is_signal x r = elim r [
     | inl p ↦ All-contains (Contains (signals n)) p.0.pins x (All-contains (λ (d : Definition). All (Contains (signals n)) d.pins) n.definitions p.0 sound.closed.pins p.1) p.2
     | inr o ↦ All-contains (Contains (signals n)) n.outputs x sound.closed.outputs o

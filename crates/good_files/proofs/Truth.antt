@@ -18,7 +18,7 @@ use Rattle.netlist.specs.Detection.{Detects, IsRedundant}
 use Rattle.cubes.specs.Cubes.{Pattern}
 use Rattle.bench_text.specs.declared.refusal.Names.TheVariants.{Scanned}
 use Rattle.bench_text.specs.Canonical.{canonical}
-use Rattle.bench_text.specs.Laws.{CanonicalTextIsRead, Fits, is_free}
+use Rattle.bench_text.specs.Laws.{CanonicalTextIsRead, IsReadable, is_free}
 use Rattle.bench_text.specs.Reading.{IsRead}
 use Rattle.scan_insert.specs.Laws.{ScanBehaves, ScannedIsSound}
 use Rattle.scan_insert.specs.Scanned.{AreChainsOf, scanned_of}
@@ -47,7 +47,7 @@ use Rattle.run_report.specs.Outcomes.{Test, IsFirstTree, IsTrueOf, AreTrueLines}
 use Rattle.run_report.specs.Heads.{count_of, detected_one, redundant_one, aborted_one}
 use Rattle.run_report.proofs.ClassLemmas.{equivalent}
 use Rattle.run_report.proofs.ListLemmas.{one_kind}
-use Rattle.good_files.specs.GoodFiles.{AreGoodFiles, Files, test_of}
+use Rattle.good_files.specs.GoodFiles.{AreGoodFiles, FiveFiles, test_of}
 use Rattle.good_files.specs.RunTheorem.{ComesTrue, RunTheorem}
 use Rattle.good_files.specs.ScanOff.{design_chains}
 use Rattle.good_files.proofs.Chains.{behaves}
@@ -55,7 +55,7 @@ use Rattle.good_files.proofs.Chains.{behaves}
 -- ---- the scanned netlist's text
 
 -- any netlist is read as a scanned one from its canonical text
-fits_scanned : (n : Netlist) → IsSound n → Fits Scanned n
+fits_scanned : (n : Netlist) → IsSound n → IsReadable Scanned n
 fits_scanned n sound = record {
   short = All-weaker IsName (λ (x : List ℕ). length x ≤ 261) (λ x name. name.short) n.names sound.formed.names;
   free = All-weaker IsName (λ (x : List ℕ). IsTrue (is_free Scanned x)) (λ x name. refl) n.names sound.formed.names;
@@ -160,7 +160,7 @@ comes_true laws t cycles are f g line same Aborted pin said =
       laws.undetected t.netlist t.holds t.chains t.patterns cycles f are.sound are.dealt are.vectors line (never_at t.netlist t.patterns f left.never),
     )
 
-pub truth : Laws → (n : Netlist) (holds : Holds) (asked limit : ℕ) (files : Files) → IsSound n → IsDesign n → AreGoodFiles n holds asked limit files
+pub truth : Laws → (n : Netlist) (holds : Holds) (asked limit : ℕ) (files : FiveFiles) → IsSound n → IsDesign n → AreGoodFiles n holds asked limit files
     → RunTheorem n holds (design_chains n asked) limit files
 truth laws n holds asked limit files sound design good =
     let chains = design_chains n asked in

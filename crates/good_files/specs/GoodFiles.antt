@@ -1,6 +1,8 @@
 -- The five files of a run, and when they are good, whoever made them.
 use Rattle.std.specs.Prelude.{ℕ, ◌≡◌, ◌≤◌, List, map, Ok}
 use Rattle.std.specs.List.{All}
+use Rattle.limits.specs.Limits.{most_limit}
+use Rattle.plain_text.specs.Texts.{Text}
 use Rattle.netlist.specs.declared.lines.Fault.{Fault}
 use Rattle.netlist.specs.Netlist.{Netlist}
 use Rattle.netlist.specs.Holds.{Holds, AreHoldsOf}
@@ -22,20 +24,13 @@ use Rattle.run_report.specs.Outcomes.{Test, AreTrueLines, AreUndetected}
 use Rattle.run_report.specs.Heads.{HasHead, holds_named}
 use Rattle.good_files.specs.ScanOff.{design_chains}
 
-abbrev pub Text : Type 0
-Text = List ℕ
-
 -- the netlist, the scanned netlist, the test, the certificate and the report
-pub record Files : Type 0 where
+pub record FiveFiles : Type 0 where
   pub net : Text
   pub scan : Text
   pub stil : Text
   pub certificate : Text
   pub report : Text
-
--- the most closed ends that a search may be allowed
-abbrev pub most_limit : ℕ
-most_limit = 100000
 
 -- a test of a netlist with these inputs held, at most so many chains, and this backtrack limit
 abbrev pub test_of : Netlist → Holds → ℕ → ℕ → List Pattern → List (Fault × List Node) → Test
@@ -45,7 +40,7 @@ test_of n holds asked limit patterns trees =
 -- The first file stands for the netlist, the second is the canonical text of the scanned one, and the third stands for the file of some patterns,
 -- all of which obey the held inputs. The report has for each fault a line that is true, and the numbers that follow;
 -- the certificate has a tree for each class that no pattern detects, in order, and no other.
-pub record AreGoodFiles (n : Netlist) (holds : Holds) (asked limit : ℕ) (files : Files) : Type 0 where
+pub record AreGoodFiles (n : Netlist) (holds : Holds) (asked limit : ℕ) (files : FiveFiles) : Type 0 where
   pub patterns : List Pattern
   pub trees : List (Fault × List Node)
   pub classes : Classes

@@ -4,12 +4,12 @@ use Rattle.netlist.specs.Conditions.{IsSound}
 use Rattle.netlist.specs.Designs.{IsDesign}
 use Rattle.netlist.specs.Netlist.{Netlist}
 use Rattle.netlist.specs.Holds.{Holds}
-use Rattle.good_files.specs.GoodFiles.{Files, AreGoodFiles}
+use Rattle.good_files.specs.GoodFiles.{FiveFiles, AreGoodFiles}
 use Rattle.good_files.specs.RunTheorem.{RunTheorem}
 use Rattle.good_files.specs.ScanOff.{design_chains}
 
 -- Good files tell the truth.
 abbrev pub GoodFilesTellTheTruth : Type 0
 GoodFilesTellTheTruth =
-    (n : Netlist) (holds : Holds) (asked limit : ℕ) (files : Files) → IsSound n → IsDesign n → AreGoodFiles n holds asked limit files
+    (n : Netlist) (holds : Holds) (asked limit : ℕ) (files : FiveFiles) → IsSound n → IsDesign n → AreGoodFiles n holds asked limit files
     → RunTheorem n holds (design_chains n asked) limit files

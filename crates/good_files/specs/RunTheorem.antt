@@ -28,7 +28,7 @@ use Rattle.report.specs.declared.outcomes.Outcome.TheVariants.{Detected, Redunda
 use Rattle.report.specs.Reports.{Line, Report}
 use Rattle.report.specs.Texts.{report_text}
 use Rattle.run_report.specs.Heads.{count_of, detected_one, redundant_one, aborted_one}
-use Rattle.good_files.specs.GoodFiles.{Files}
+use Rattle.good_files.specs.GoodFiles.{FiveFiles}
 use Rattle.good_files.specs.ScanOff.{BehavesWithScanOff}
 
 module _ (n : Netlist) (holds : Holds) (chains : List (List ℕ)) (limit : ℕ) (trees : List (Fault × List Node)) (cycles : List Cycle) where
@@ -58,7 +58,7 @@ module _ (n : Netlist) (holds : Holds) (chains : List (List ℕ)) (limit : ℕ) 
 -- The second file, read as a scanned netlist, is the scanned netlist. With scan off that behaves as the original. The STIL file, read back,
 -- passes on the good scanned netlist, and from each power-up state there is a run, with each fault and with none. The report has each fault of
 -- the universe once, in order, and what it says comes true; detected, redundant and aborted faults are all of them.
-pub record RunTheorem (n : Netlist) (holds : Holds) (chains : List (List ℕ)) (limit : ℕ) (files : Files) : Type 0 where
+pub record RunTheorem (n : Netlist) (holds : Holds) (chains : List (List ℕ)) (limit : ℕ) (files : FiveFiles) : Type 0 where
   pub file : StilFile
   pub said : Report
   pub trees : List (Fault × List Node)

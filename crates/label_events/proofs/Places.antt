@@ -12,7 +12,7 @@ use Rattle.netlist.proofs.Lists.{contains_filter, filter_contains}
 use Rattle.netlist.proofs.Placed.{same_definition, definition_below}
 use Rattle.netlist.proofs.Settling.{above_inputs}
 use Rattle.netlist.proofs.WellFormed.{one_pin}
-use Rattle.label_events.specs.Lines.{IsInner, IsRead}
+use Rattle.label_events.specs.Lines.{IsInner, IsPointLine}
 
 is_false : (b : Bool) → (b ≡ true → ⊥) → b ≡ false
 is_false true h = absurd (h refl)
@@ -56,7 +56,7 @@ module _ (n : Netlist) (sound : IsSound n) (z k : ℕ) (line : Line) (is : line 
           both_ways (is_flip_flop d.kind) gate (subst (λ (x : Definition). is_flip_flop x.kind ≡ true) same m.1));
     })
 
-    pub pin_read : (pins : List ℕ) (p : ℕ) → is_flip_flop d.kind ≡ true → pins ≡ d.pins → p ≡ get_or pins 0 p → IsRead n line p
+    pub pin_read : (pins : List ℕ) (p : ℕ) → is_flip_flop d.kind ≡ true → pins ≡ d.pins → p ≡ get_or pins 0 p → IsPointLine n line p
     unfolding w
     pin_read pins p cell e first =
         let in_cells : Contains (cells n) d = filter_contains is_cell n.definitions d c cell in
@@ -65,7 +65,7 @@ module _ (n : Netlist) (sound : IsSound n) (z k : ℕ) (line : Line) (is : line 
         let same : w.0 ≡ d = same_definition n sound.formed.numbered w.0 d w.1 c (w.2 ∙ sym id) in
         let place : k ≡ 0 = (let l : k < length d.pins = subst (λ (x : Definition). k < length x.pins) same w.3 in omega arith) in
         let cell_same : (x : Definition) → Contains n.definitions x → x.id ≡ z → x ≡ d = λ x cx ex. same_definition n sound.formed.numbered x d cx c (ex ∙ sym id) in
-        subst (λ l. IsRead n l p) (sym is) (record {
+        subst (λ l. IsPointLine n l p) (sym is) (record {
           off = λ y. (
             refl,
             λ g cg eg j. is_false (eqb z y && eqb k j) (λ h.

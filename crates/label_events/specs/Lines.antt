@@ -22,15 +22,15 @@ pub record IsInner (n : Netlist) (line : Line) (x : ℕ) : Type 0 where
   pub pins : (d : Definition) → Contains (cells n) d → IsFalse (is_line line (Pin d.id 0))
 
 -- a stem or a pin of no signal; by it an observed point reads this signal
-pub record IsRead (n : Netlist) (line : Line) (x : ℕ) : Type 0 where
+pub record IsPointLine (n : Netlist) (line : Line) (x : ℕ) : Type 0 where
   pub off : (y : ℕ) → IsOff n line y
   pub outputs : (y : ℕ) → IsTrue (is_line line (Out y)) → y ≡ x
   pub pins : (d : Definition) → Contains (cells n) d → IsTrue (is_line line (Pin d.id 0)) → All (λ y. y ≡ x) d.pins
   pub point : (Contains n.outputs x × IsTrue (is_line line (Out x))) ⊎ ((d : Definition) × Contains (cells n) d × Contains d.pins x × IsTrue (is_line line (Pin d.id 0)))
 
-abbrev pub IsPlaceOf : Netlist → Line → LinePlace → Type 0
-IsPlaceOf n line (Signal x) = IsInner n line x
-IsPlaceOf n line (Point x) = IsRead n line x
+abbrev pub IsLinePlace : Netlist → Line → LinePlace → Type 0
+IsLinePlace n line (Signal x) = IsInner n line x
+IsLinePlace n line (Point x) = IsPointLine n line x
 
 -- two faults, or one and none, do the same on every line but this one
 abbrev pub AreSameOff : Line → Option Fault → Option Fault → Type 0

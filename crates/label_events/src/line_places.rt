@@ -1,6 +1,6 @@
 //! Where a line enters: the equation of one signal, or what an observed point reads.
 ghost use Rattle.netlist.specs.Lines.{IsLineOf};
-ghost use Rattle.label_events.specs.Lines.{IsPlaceOf};
+ghost use Rattle.label_events.specs.Lines.{IsLinePlace};
 
 use netlist::{Core, Line, SignalId};
 
@@ -16,7 +16,7 @@ pub enum LinePlace {
 /// Where a line of the netlist enters.
 pub fn line_place(core: &Core, line: &Line) -> LinePlace
     requires { IsLineOf core.now line.now }
-    ensures { IsPlaceOf core.now line.now result }
+    ensures { IsLinePlace core.now line.now result }
 {
     let netlist = core.netlist();
     netlist.sound();

@@ -20,7 +20,7 @@ use Rattle.scan_play.specs.declared.cycles.Burst.{Burst}
 use Rattle.scan_play.specs.declared.played.Played.{Played}
 use Rattle.scan_play.specs.Bursts.{all_cycles, cycle_of, cycles_of}
 use Rattle.scan_play.specs.Cycles.{Cycle, IsCycleOf}
-use Rattle.scan_play.specs.Judging.{IsJudged, Judging, judged_in, or_else}
+use Rattle.scan_play.specs.Judging.{IsJudged, Judging, judged_in, played_or_else}
 use Rattle.scan_play.specs.inner.Steps.{IsStep, PlaysOn}
 use Rattle.scan_play.proofs.PlayLemmas.{judged_as, plays_found, plays_nothing, plays_step, plays_then}
 use Rattle.scan_play.proofs.PlaySteps.{length-cycles_of, step_from}
@@ -88,7 +88,7 @@ module _ (J : Judging) (faults : List Fault) (n : Netlist) where
   some_state f cs start state after p size h = record { size = size; outcome = h.outcome }
 
   one_more : (f : Option Fault) (cs : List Cycle) (cycle : Cycle) (start state after : List Tri) (old new said : Option Played) → PlaysOn J f n cs 0 start state old
-      → IsStep J f n state after cycle (0 + length cs) said → new ≡ or_else old said → PlaysOn J f n (cs ++ cycle ∷ []) 0 start after new
+      → IsStep J f n state after cycle (0 + length cs) said → new ≡ played_or_else old said → PlaysOn J f n (cs ++ cycle ∷ []) 0 start after new
   one_more f cs cycle start state after None new said h step e =
       subst (PlaysOn J f n (cs ++ cycle ∷ []) 0 start after) (sym e)
       (plays_then J f n cs (cycle ∷ []) 0 start state after said h (plays_step J f n cycle (0 + length cs) state after said step))

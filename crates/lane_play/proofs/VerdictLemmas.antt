@@ -10,7 +10,7 @@ use Rattle.netlist.specs.ThreeValues.{known}
 use Rattle.events.specs.Words.{bit_of, ones}
 use Rattle.events.proofs.WordBits.{bit_of_and, bit_of_or}
 use Rattle.scan_play.specs.declared.played.Played.{Played}
-use Rattle.scan_play.specs.Judging.{Judging, judged_in, or_else}
+use Rattle.scan_play.specs.Judging.{Judging, judged_in, played_or_else}
 use Rattle.scan_play.proofs.PlayLemmas.{judged_more}
 use Rattle.lane_play.specs.declared.packed.Lanes.{Lanes}
 use Rattle.lane_play.specs.inner.Lanes.{lane, lanes, one_at}
@@ -99,17 +99,17 @@ said_as z o x say a b c One = b
 said_as z o x say a b c X = c
 
 pub said_alike : (say say' : Tri → Option Played) (shown : Lanes) (old new : List (Option Played)) → ((v : Tri) → say v ≡ say' v) → AreSaid say shown old new → AreSaid say' shown old new
-said_alike say say' shown old new same h = record { size = h.size; each = λ k l. h.each k l ∙ ap (or_else (found_at old k)) (same (lane k shown)) }
+said_alike say say' shown old new same h = record { size = h.size; each = λ k l. h.each k l ∙ ap (played_or_else (found_at old k)) (same (lane k shown)) }
 
-or_none : (x : Option Played) → x ≡ or_else x None
+or_none : (x : Option Played) → x ≡ played_or_else x None
 or_none None = refl
 or_none (Some p) = refl
 
 -- nothing is said
 pub silent : (say : Tri → Option Played) (shown : Lanes) (found : List (Option Played)) → ((v : Tri) → say v ≡ None) → AreSaid say shown found found
-silent say shown found none = record { size = refl; each = λ k l. or_none (found_at found k) ∙ ap (or_else (found_at found k)) (sym (none (lane k shown))) }
+silent say shown found none = record { size = refl; each = λ k l. or_none (found_at found k) ∙ ap (played_or_else (found_at found k)) (sym (none (lane k shown))) }
 
-stays : (x y : Option Played) → (not (is_open y) && is_open x) ≡ false → x ≡ or_else x y
+stays : (x y : Option Played) → (not (is_open y) && is_open x) ≡ false → x ≡ played_or_else x y
 stays None None e = refl
 stays None (Some q) e = absurd (both_ways true e refl)
 stays (Some p) y e = refl
@@ -128,21 +128,21 @@ untold say shown found told left few t h none = record {
 -- so far the first m machines had it said
 pub record IsTakenDown (say : Tri → Option Played) (shown : Lanes) (m : ℕ) (old new : List (Option Played)) : Type 0 where
   pub size : length new ≡ length old
-  pub done : (k : ℕ) → k < m → k < length old → found_at new k ≡ or_else (found_at old k) (say (lane k shown))
+  pub done : (k : ℕ) → k < m → k < length old → found_at new k ≡ played_or_else (found_at old k) (say (lane k shown))
   pub others : (k : ℕ) → m ≤ k → found_at new k ≡ found_at old k
 
 pub none_down : (say : Tri → Option Played) (shown : Lanes) (old : List (Option Played)) → IsTakenDown say shown 0 old old
 none_down say shown old = record { size = refl; done = λ k l m. absurd (omega (arith, l)); others = λ k l. refl }
 
 pub one_down : (say : Tri → Option Played) (shown : Lanes) (m : ℕ) (old new : List (Option Played)) (item said put : Option Played) → m < length new → item ≡ get_or new m item
-    → said ≡ say (lane m shown) → put ≡ or_else item said → IsTakenDown say shown m old new → IsTakenDown say shown (m + 1) old (set new m put)
+    → said ≡ say (lane m shown) → put ≡ played_or_else item said → IsTakenDown say shown m old new → IsTakenDown say shown (m + 1) old (set new m put)
 one_down say shown m old new item said put l is s p h = record {
   size = length-set new m put ∙ h.size;
   done = λ k low inside. elim (cases_eq k m) [
     | inl e ↦
         ap (found_at (set new m put)) e ∙ (get_or-set_same new m put None l
-        ∙ (p ∙ (ap (λ x. or_else x said) (is ∙ (get_or_default new m item None l ∙ (h.others m (omega arith) ∙ ap (found_at old) (sym e))))
-        ∙ (ap (or_else (found_at old k)) (s ∙ ap (λ i. say (lane i shown)) (sym e))))))
+        ∙ (p ∙ (ap (λ x. played_or_else x said) (is ∙ (get_or_default new m item None l ∙ (h.others m (omega arith) ∙ ap (found_at old) (sym e))))
+        ∙ (ap (played_or_else (found_at old k)) (s ∙ ap (λ i. say (lane i shown)) (sym e))))))
     | inr ne ↦ get_or-set_other new m k put None ne ∙ h.done k (omega (arith, low, ne)) inside
   ];
   others = λ k high. get_or-set_other new m k put None (λ e. omega (arith, high, e)) ∙ h.others k (omega (arith, high));
@@ -153,7 +153,7 @@ all_down say shown m old new all h = record { size = h.size; each = λ k l. h.do
 
 -- ---- what is said in a cycle
 
-or_assoc : (x y z : Option Played) → or_else x (or_else y z) ≡ or_else (or_else x y) z
+or_assoc : (x y z : Option Played) → played_or_else x (played_or_else y z) ≡ played_or_else (played_or_else x y) z
 or_assoc None y z = refl
 or_assoc (Some p) y z = refl
 
@@ -161,7 +161,7 @@ or_assoc (Some p) y z = refl
 pub record AreJudgedUpTo (says : Judging) (cycle o : ℕ) (strobes : List Tri) (shown : List Lanes) (old new : List (Option Played)) : Type 0 where
   pub size : length new ≡ length old
   pub each : (k : ℕ) → k < length old
-      → or_else (found_at old k) (judged_in says cycle 0 strobes (lanes k shown)) ≡ or_else (found_at new k) (judged_in says cycle o (drop o strobes) (drop o (lanes k shown)))
+      → played_or_else (found_at old k) (judged_in says cycle 0 strobes (lanes k shown)) ≡ played_or_else (found_at new k) (judged_in says cycle o (drop o strobes) (drop o (lanes k shown)))
 
 pub none_judged : (says : Judging) (cycle : ℕ) (strobes : List Tri) (shown : List Lanes) (old : List (Option Played)) → AreJudgedUpTo says cycle 0 strobes shown old old
 none_judged says cycle strobes shown old = record { size = refl; each = λ k l. refl }
@@ -179,9 +179,9 @@ one_judged says cycle o strobes shown old new new' d e l same said h =
           let wide : length strobes ≡ length row = same ∙ sym (length-map shown (lane k)) in
           let value : lane k v ≡ get_or row o (lane k v) = sym (get_or-map (lane k) shown o e (lane k v) inner) in
           h.each k inside
-          ∙ (ap (or_else (found_at new k)) (judged_more says cycle o strobes row s (lane k v) l wide (get_or_default strobes o d s l) value)
+          ∙ (ap (played_or_else (found_at new k)) (judged_more says cycle o strobes row s (lane k v) l wide (get_or_default strobes o d s l) value)
           ∙ (or_assoc (found_at new k) (says cycle o s (lane k v)) (judged_in says cycle (o + 1) (drop (o + 1) strobes) (drop (o + 1) row))
-          ∙ ap (λ x. or_else x (judged_in says cycle (o + 1) (drop (o + 1) strobes) (drop (o + 1) row))) (sym (said.each k (let z = h.size in omega (arith, inside))))));
+          ∙ ap (λ x. played_or_else x (judged_in says cycle (o + 1) (drop (o + 1) strobes) (drop (o + 1) row))) (sym (said.each k (let z = h.size in omega (arith, inside))))));
     }
 
 nothing_left : {Y : Type 0} (ys : List Y) (o : ℕ) → length ys ≤ o → drop o ys ≡ []
@@ -195,5 +195,5 @@ pub all_judged : (says : Judging) (cycle o : ℕ) (strobes : List Tri) (shown : 
 all_judged says cycle o strobes shown old new all h = record {
   size = h.size;
   each = λ k l.
-      sym (h.each k l ∙ (ap (λ ss. or_else (found_at new k) (judged_in says cycle o ss (drop o (lanes k shown)))) (nothing_left strobes o all) ∙ sym (or_none (found_at new k))));
+      sym (h.each k l ∙ (ap (λ ss. played_or_else (found_at new k) (judged_in says cycle o ss (drop o (lanes k shown)))) (nothing_left strobes o all) ∙ sym (or_none (found_at new k))));
 }

@@ -5,7 +5,7 @@
 ghost use Rattle.std.specs.Prelude.{◌≡◌, ◌≢◌, ◌&&◌, ◌^◌, ◌<◌, ◌≤◌, ℕ, None, IfOk, length, not, replicate};
 ghost use Rattle.netlist.specs.declared.kinds.Tri.TheVariants.{Zero, One, X};
 ghost use Rattle.events.specs.Words.{bit_of};
-ghost use Rattle.scan_play.specs.Judging.{or_else};
+ghost use Rattle.scan_play.specs.Judging.{played_or_else};
 ghost use Rattle.lane_play.specs.inner.Lanes.{lane};
 ghost use Rattle.lane_play.specs.inner.Verdicts.{AreJudgedIn, AreLeft, AreSaid, is_open, said_of};
 
@@ -83,7 +83,7 @@ struct Sayings {
 
 /// What is said where something is, and nothing before.
 fn first_of(one: Option<Played>, other: Option<Played>) -> Option<Played>
-    ensures { result ≡ or_else one other }
+    ensures { result ≡ played_or_else one other }
 {
     match one {
         Some(said) => Some(said),

@@ -21,7 +21,7 @@ use Rattle.list_core.specs.Subjects.{Subject, class_count, DetectsClass}
 use Rattle.word_sim.specs.Hits.{Batch}
 use Rattle.list_core.specs.Batches.{IsTrueHit, IsTrueBatch}
 use Rattle.list_core.specs.Verdicts.{verdict_at, open_one, VerdictHolds, AllHold, is_undetected}
-use Rattle.list_core.specs.Journal.{take_one, publish_one, is_taken, Kind, kind_of, kind_at, can_be_hit, Replay, step, replay_from, replay}
+use Rattle.list_core.specs.Journal.{take_one, publish_one, is_taken, Kind, verdict_kind, kind_at, can_be_hit, Replay, step, replay_from, replay}
 use Rattle.list_core.specs.States.{State, IsTrueList, published, replayed, hit_one, entry_of, hit_verdicts, hit_entries, undetected_from, free_one, mark_at}
 use Rattle.list_core.proofs.ListLemmas.{frees-one_less, if_true, both, get_more, get_behind, is_taken-append, untaken-push}
 use Rattle.list_core.proofs.EventLemmas.{legal_more, hold_set, none_marked, all_free}
@@ -77,9 +77,9 @@ hits_hold j ps batch (h ∷ hs) vs n are all =
 
 -- the replay of the entries
 abbrev after : List Verdict → ℕ → ℕ → Replay
-after vs all old = record { kinds = map kind_of vs; patterns = all; fresh = old }
+after vs all old = record { kinds = map verdict_kind vs; patterns = all; fresh = old }
 
-kinds_agree : (v : Verdict) → can_be_hit (kind_of v) ≡ is_undetected v
+kinds_agree : (v : Verdict) → can_be_hit (verdict_kind v) ≡ is_undetected v
 kinds_agree Open = refl
 kinds_agree (Detected p o) = refl
 kinds_agree (Redundant t) = refl
@@ -87,10 +87,10 @@ kinds_agree (Aborted t) = refl
 
 hit_step : (vs : List Verdict) (all old c p : ℕ) (o : Point) → c < length vs → is_undetected (verdict_at vs c) ≡ true → old ≤ p → p < all → step (after vs all old) (Hit c p o) ≡ Some (after (set vs c (Detected p o)) all old)
 hit_step vs all old c p o lt may low high =
-    let len : c < length (map kind_of vs) = omega (arith, length-map vs kind_of) in
-    let can : can_be_hit (kind_at (map kind_of vs) c) ≡ true = ap can_be_hit (get_or-map kind_of vs c Open) ∙ (kinds_agree (verdict_at vs c) ∙ may) in
-    if_true _ _ _ (both _ _ (both _ _ (both _ _ (lt-ltb c (length (map kind_of vs)) len) can) (le-leb old p low)) (lt-ltb p all high))
-    ∙ ap (λ (k : List Kind). Some (record { kinds = k; patterns = all; fresh = old })) (sym (map-set kind_of vs c (Detected p o)))
+    let len : c < length (map verdict_kind vs) = omega (arith, length-map vs verdict_kind) in
+    let can : can_be_hit (kind_at (map verdict_kind vs) c) ≡ true = ap can_be_hit (get_or-map verdict_kind vs c Open) ∙ (kinds_agree (verdict_at vs c) ∙ may) in
+    if_true _ _ _ (both _ _ (both _ _ (both _ _ (lt-ltb c (length (map verdict_kind vs)) len) can) (le-leb old p low)) (lt-ltb p all high))
+    ∙ ap (λ (k : List Kind). Some (record { kinds = k; patterns = all; fresh = old })) (sym (map-set verdict_kind vs c (Detected p o)))
 
 pub replay_from-append : (r : Option Replay) (es fs : List Entry) → replay_from r (es ++ fs) ≡ replay_from (replay_from r es) fs
 replay_from-append r [] fs = refl

@@ -16,7 +16,7 @@ use Rattle.word_sim.specs.declared.batches.Hit.{Hit as HitOf}
 use Rattle.list_core.specs.declared.verdicts.Entry.TheVariants.{Take, Settle as SettleEntry, Publish as PublishEntry}
 use Rattle.list_core.specs.declared.verdicts.Verdict.{Verdict}
 use Rattle.list_core.specs.declared.verdicts.Verdict.TheVariants.{Open, Detected, Redundant, Aborted}
-use Rattle.list_core.specs.Subjects.{Subject, class_count, Represents}
+use Rattle.list_core.specs.Subjects.{Subject, class_count, RepresentsIn}
 use Rattle.word_sim.specs.Hits.{Batch}
 use Rattle.list_core.specs.Batches.{IsTrueHit, IsTrueBatch}
 use Rattle.list_core.specs.Verdicts.{verdict_at, is_undetected, VerdictHolds}
@@ -75,7 +75,7 @@ nothing_behind (x ∷ xs) = ap (λ ys. x ∷ ys) (nothing_behind xs)
 open_becomes : (v w : Verdict) → v ≡ Open → MayBecome v w
 open_becomes v w e = let P : Verdict → Type 0 = λ x. MayBecome x w in subst P (sym e) tt
 
-settled_within : (j : Subject) (s : State) (c : ℕ) (f : Fault) → IsTrueList j s → Represents j c f → c < length s.verdicts
+settled_within : (j : Subject) (s : State) (c : ℕ) (f : Fault) → IsTrueList j s → RepresentsIn j c f → c < length s.verdicts
 settled_within j s c f h rep = omega (arith, h.count, slice_get_within j.classes.representatives c f rep)
 
 -- one event

@@ -9,7 +9,7 @@ use Rattle.word_sim.specs.declared.batches.Hit.{Hit}
 use Rattle.list_core.specs.declared.verdicts.Entry.{Entry}
 use Rattle.list_core.specs.declared.verdicts.Verdict.{Verdict}
 use Rattle.list_core.specs.declared.verdicts.Verdict.TheVariants.{Open, Detected, Redundant, Aborted}
-use Rattle.list_core.specs.Subjects.{Subject, class_count, Represents}
+use Rattle.list_core.specs.Subjects.{Subject, class_count, RepresentsIn}
 use Rattle.word_sim.specs.Hits.{Batch}
 use Rattle.list_core.specs.Batches.{IsTrueBatch}
 use Rattle.list_core.specs.Verdicts.{verdict_at}
@@ -27,7 +27,7 @@ pub data Event : Type 0 where
 abbrev pub MayCome : Subject → State → Event → Type 0
 MayCome j s (Enter worker class) = (class < class_count j) × (may_enter s class ≡ true)
 MayCome j s (Claim worker class) = (class < class_count j) × (verdict_at s.verdicts class ≡ Open) × (s.claims < class_count j)
-MayCome j s (Settle worker class tree) = (verdict_at s.verdicts class ≡ Open) × (f : Fault) × Represents j class f × MaySettle j f tree
+MayCome j s (Settle worker class tree) = (verdict_at s.verdicts class ≡ Open) × (f : Fault) × RepresentsIn j class f × MaySettle j f tree
 MayCome j s (Publish worker batch) = IsTrueBatch j batch
 MayCome j s (Reserve patterns entries) = ⊤
 

@@ -16,7 +16,7 @@ use Rattle.cubes.specs.Cubes.{IsPatternOf}
 use Rattle.list_core.specs.Subjects.{Subject, class_count}
 use Rattle.word_sim.specs.Hits.{Batch}
 use Rattle.list_core.specs.Verdicts.{verdict_at, is_open, is_undetected, open_one, AllHold}
-use Rattle.list_core.specs.Journal.{take_one, is_taken, kind_of, Replay, replay}
+use Rattle.list_core.specs.Journal.{take_one, is_taken, verdict_kind, Replay, replay}
 
 -- For each class its verdict, the patterns, and the journal; beside them which classes the journal has a Take of,
 -- how many claims by number there were, and the spare room.
@@ -96,7 +96,7 @@ pub record MaySettle (j : Subject) (fault : Fault) (tree : List Node) : Type 0 w
 
 -- what the journal's replay is
 abbrev pub replayed : State → ℕ → Replay
-replayed s fresh = record { kinds = map kind_of s.verdicts; patterns = length s.patterns; fresh = fresh }
+replayed s fresh = record { kinds = map verdict_kind s.verdicts; patterns = length s.patterns; fresh = fresh }
 
 -- the classes from k on that are Open or Aborted, in order
 abbrev pub undetected_from : ℕ → List Verdict → List ℕ

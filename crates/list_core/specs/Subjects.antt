@@ -27,13 +27,13 @@ abbrev pub HaveLines : Subject → Type 0
 HaveLines j = All (λ (f : Fault). IsLineOf j.netlist f.line) j.classes.representatives
 
 -- the fault is the class's representative
-abbrev pub Represents : Subject → ℕ → Fault → Type 0
-Represents j class fault = slice_get j.classes.representatives class ≡ Some fault
+abbrev pub RepresentsIn : Subject → ℕ → Fault → Type 0
+RepresentsIn j class fault = slice_get j.classes.representatives class ≡ Some fault
 
 -- the pattern at this place detects the class's representative at the point
 pub record DetectsClass (j : Subject) (patterns : List Pattern) (class place : ℕ) (point : Point) : Type 0 where
   pub fault : Fault
-  pub represents : Represents j class fault
+  pub represents : RepresentsIn j class fault
   pub pattern : Pattern
   pub at : slice_get patterns place ≡ Some pattern
   pub detects : Detects j.netlist fault pattern.inputs pattern.cells point
@@ -41,5 +41,5 @@ pub record DetectsClass (j : Subject) (patterns : List Pattern) (class place : �
 -- the tree fits the class's representative
 pub record FitsClass (j : Subject) (class : ℕ) (nodes : List Node) : Type 0 where
   pub fault : Fault
-  pub represents : Represents j class fault
+  pub represents : RepresentsIn j class fault
   pub fits : Fits fault j.netlist j.holds nodes

@@ -42,20 +42,20 @@ open_one (Detected place point) = 0
 open_one (Redundant tree) = 0
 open_one (Aborted tree) = 0
 
-abbrev pub detected_one : Verdict → ℕ
-detected_one Open = 0
-detected_one (Detected place point) = 1
-detected_one (Redundant tree) = 0
-detected_one (Aborted tree) = 0
+abbrev pub detected_class_one : Verdict → ℕ
+detected_class_one Open = 0
+detected_class_one (Detected place point) = 1
+detected_class_one (Redundant tree) = 0
+detected_class_one (Aborted tree) = 0
 
-abbrev pub redundant_one : Verdict → ℕ
-redundant_one Open = 0
-redundant_one (Detected place point) = 0
-redundant_one (Redundant tree) = 1
-redundant_one (Aborted tree) = 0
+abbrev pub redundant_class_one : Verdict → ℕ
+redundant_class_one Open = 0
+redundant_class_one (Detected place point) = 0
+redundant_class_one (Redundant tree) = 1
+redundant_class_one (Aborted tree) = 0
 
-abbrev pub aborted_one : Verdict → ℕ
-aborted_one Open = 0
-aborted_one (Detected place point) = 0
-aborted_one (Redundant tree) = 0
-aborted_one (Aborted tree) = 1
+abbrev pub aborted_class_one : Verdict → ℕ
+aborted_class_one Open = 0
+aborted_class_one (Detected place point) = 0
+aborted_class_one (Redundant tree) = 0
+aborted_class_one (Aborted tree) = 1

@@ -3,7 +3,7 @@ ghost use Rattle.std.specs.Prelude.{◌≡◌, ◌↔◌, ◌≢◌, ℕ, ◌+�
 ghost use Rattle.std.specs.List.{All, slice_get};
 ghost use Rattle.netlist.specs.declared.lines.Fault.{Fault as FaultOf};
 ghost use Rattle.redundancy_cert.specs.Trees.{open_count};
-ghost use Rattle.list_core.specs.Subjects.{Subject, class_count, Represents};
+ghost use Rattle.list_core.specs.Subjects.{Subject, class_count, RepresentsIn};
 ghost use Rattle.list_core.specs.Batches.{IsTrueBatch};
 ghost use Rattle.list_core.specs.Verdicts.{verdict_at, is_open};
 ghost use Rattle.list_core.specs.Journal.{is_taken};

@@ -88,11 +88,11 @@ impl MeetingEngine {
 }
 
 impl Engine for MeetingEngine {
-    ghost use Rattle.podem.specs.Rooms.{CanServe};
+    ghost use Rattle.podem.specs.Rooms.{CanServePodem};
 
     type Room = PodemRoom;
 
-    ghost serves = { CanServe };
+    ghost serves = { CanServePodem };
 
     fn search(
         &self,

@@ -6,7 +6,7 @@ use Rattle.std.proofs.lemmas.List.{append-nil, map-append}
 use Rattle.rand_core.specs.Stream.{Stream}
 use Rattle.netlist.specs.declared.kinds.Kind.TheVariants.{Dff}
 use Rattle.netlist.specs.Netlist.{Definition}
-use Rattle.net_gen.specs.Samples.{word, rest, drawn_gate, after_gate, drawn_gates, after_gates, drawn_cells, names_of}
+use Rattle.net_gen.specs.Samples.{first_word, rest, drawn_gate, after_gate, drawn_gates, after_gates, drawn_cells, lettered_names}
 
 pub range-append : (a n m : ℕ) → range_with_len a (n + m) ≡ range_with_len a n ++ range_with_len (a + n) m
 range-append a zero m =
@@ -23,16 +23,16 @@ range_more a n = range-append a n 1
 pub ids_more : (first k : ℕ) (done done' : List ℕ) (x : ℕ) → x ≡ first + k → done' ≡ done ++ (x ∷ []) → done ≡ range_with_len first k → done' ≡ range_with_len first (k + 1)
 ids_more first k done done' x is more h = more ∙ (ap (λ xs. xs ++ (x ∷ [])) h ∙ (ap (λ y. range_with_len first k ++ (y ∷ [])) is ∙ sym (range_more first k)))
 
-pub names_more : (letter k : ℕ) → names_of letter (k + 1) ≡ names_of letter k ++ ((letter ∷ decimal k) ∷ [])
+pub names_more : (letter k : ℕ) → lettered_names letter (k + 1) ≡ lettered_names letter k ++ ((letter ∷ decimal k) ∷ [])
 names_more letter k =
     let f : ℕ → List ℕ = λ j. letter ∷ decimal j in
-    ap (map f) (range_more 0 k) ∙ (map-append f (range_with_len 0 k) ((0 + k) ∷ []) ∙ ap (λ j. names_of letter k ++ (f j ∷ [])) (zero-add k))
+    ap (map f) (range_more 0 k) ∙ (map-append f (range_with_len 0 k) ((0 + k) ∷ []) ∙ ap (λ j. lettered_names letter k ++ (f j ∷ [])) (zero-add k))
 
-pub name_added : (letter k : ℕ) (start old new : List (List ℕ)) (name : List ℕ) → name ≡ letter ∷ decimal k → new ≡ old ++ (name ∷ []) → old ≡ start ++ names_of letter k
-    → new ≡ start ++ names_of letter (k + 1)
+pub name_added : (letter k : ℕ) (start old new : List (List ℕ)) (name : List ℕ) → name ≡ letter ∷ decimal k → new ≡ old ++ (name ∷ []) → old ≡ start ++ lettered_names letter k
+    → new ≡ start ++ lettered_names letter (k + 1)
 name_added letter k start old new name is more h =
-    more ∙ (ap (λ xs. xs ++ (name ∷ [])) h ∙ (ap (λ y. (start ++ names_of letter k) ++ (y ∷ [])) is
-    ∙ (append_assoc start (names_of letter k) ((letter ∷ decimal k) ∷ []) ∙ ap (λ xs. start ++ xs) (sym (names_more letter k)))))
+    more ∙ (ap (λ xs. xs ++ (name ∷ [])) h ∙ (ap (λ y. (start ++ lettered_names letter k) ++ (y ∷ [])) is
+    ∙ (append_assoc start (lettered_names letter k) ((letter ∷ decimal k) ∷ []) ∙ ap (λ xs. start ++ xs) (sym (names_more letter k)))))
 
 -- ---- gates
 
@@ -78,13 +78,13 @@ after_gates_last count j words all l h =
 -- ---- cells
 
 pub cells_more : (count id first gates k : ℕ) (words words' : Stream) (done done' all : List Definition) (cell : Definition) → k < count
-    → cell ≡ record { id = id + k; kind = Dff; pins = (first + word words % gates) ∷ [] } → words' ≡ rest words → done' ≡ done ++ (cell ∷ [])
+    → cell ≡ record { id = id + k; kind = Dff; pins = (first + first_word words % gates) ∷ [] } → words' ≡ rest words → done' ≡ done ++ (cell ∷ [])
     → done ++ drawn_cells (count - k) (id + k) first gates words ≡ all → done' ++ drawn_cells (count - (k + 1)) (id + (k + 1)) first gates words' ≡ all
 cells_more count id first gates k words words' done done' all cell l is left more h =
     let c : ℕ = count - (k + 1) in
     let e : count - k ≡ suc c = omega arith in
     let i : (id + k) + 1 ≡ id + (k + 1) = omega arith in
-    let g : Definition = record { id = id + k; kind = Dff; pins = (first + word words % gates) ∷ [] } in
+    let g : Definition = record { id = id + k; kind = Dff; pins = (first + first_word words % gates) ∷ [] } in
     let w : Stream = rest words in
     ap (λ xs. xs ++ drawn_cells c (id + (k + 1)) first gates words') more
     ∙ (ap (λ (x : Definition). (done ++ (x ∷ [])) ++ drawn_cells c (id + (k + 1)) first gates words') is

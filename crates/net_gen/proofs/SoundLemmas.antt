@@ -20,10 +20,10 @@ use Rattle.netlist.specs.Names.{is_name_byte, IsName}
 use Rattle.netlist.specs.Netlist.{Definition, Netlist, is_gate, gates, signals, IsLoop}
 use Rattle.netlist.specs.declared.netlists.NetRefusal.{NetRefusal}
 use Rattle.netlist.specs.declared.netlists.NetRefusal.TheVariants.{TooMany, NoInput, NoOutput, Undefined, Loop, NoMemory}
-use Rattle.netlist.specs.Conditions.{IsCause, IsRead, IsWellFormed, IsClosed, IsSound}
+use Rattle.netlist.specs.Conditions.{IsCause, HasReader, IsWellFormed, IsClosed, IsSound}
 use Rattle.netlist.specs.Designs.{is_reserved, IsDesign}
 use Rattle.netlist.proofs.Lists.{contains_filter, All-from_contains}
-use Rattle.net_gen.specs.Samples.{word, rest, kind_of, is_inverter, drawn_pins, drawn_gate, after_gate, drawn_gates, after_gates, drawn_cells, names_of, sample_of, sample}
+use Rattle.net_gen.specs.Samples.{first_word, rest, sampled_kind, is_inverter, drawn_pins, drawn_gate, after_gate, drawn_gates, after_gates, drawn_cells, lettered_names, sample_of, sample}
 use Rattle.net_gen.proofs.DrawLemmas.{range-append}
 
 -- ---- ids in a row
@@ -67,9 +67,9 @@ All-along P Q xs f h k d l = f _ (h k d l)
 
 pins_below : (kind : Kind) (id : ℕ) (words : Stream) → 0 < id → All (λ x. x < id) (drawn_pins kind id words)
 pins_below kind id words some =
-    let p : (i : Bool) → All (λ x. x < id) (if i then word words % id ∷ [] else word words % id ∷ word (rest words) % id ∷ []) = elim [
-      | true ↦ All-cons (λ x. x < id) _ [] (mod_below (word words) id some) (All-nil _)
-      | false ↦ All-cons (λ x. x < id) _ (word (rest words) % id ∷ []) (mod_below (word words) id some) (All-cons (λ x. x < id) _ [] (mod_below (word (rest words)) id some) (All-nil _))
+    let p : (i : Bool) → All (λ x. x < id) (if i then first_word words % id ∷ [] else first_word words % id ∷ first_word (rest words) % id ∷ []) = elim [
+      | true ↦ All-cons (λ x. x < id) _ [] (mod_below (first_word words) id some) (All-nil _)
+      | false ↦ All-cons (λ x. x < id) _ (first_word (rest words) % id ∷ []) (mod_below (first_word words) id some) (All-cons (λ x. x < id) _ [] (mod_below (first_word (rest words)) id some) (All-nil _))
     ] in
     p (is_inverter kind)
 
@@ -78,17 +78,17 @@ pick P true x y p q = p
 pick P false x y p q = q
 
 -- what holds of each kind that is drawn
-drawn_kind : (P : Kind → Type 0) → P And → P Nand → P Or → P Nor → P Xor → P Xnor → P Not → (k : ℕ) → P (kind_of k)
+drawn_kind : (P : Kind → Type 0) → P And → P Nand → P Or → P Nor → P Xor → P Xnor → P Not → (k : ℕ) → P (sampled_kind k)
 drawn_kind P a b c d e f g k =
     pick P (k == 0) And _ a (pick P (k == 1) Nand _ b (pick P (k == 2) Or _ c (pick P (k == 3) Nor _ d (pick P (k == 4) Xor _ e (pick P (k == 5) Xnor Not f g)))))
 
 fine_gate : (id total : ℕ) (words : Stream) → 0 < id → id < total → IsFine total (drawn_gate id words)
 fine_gate id total words some less =
-    let kind : Kind = kind_of (word words % 7) in
+    let kind : Kind = sampled_kind (first_word words % 7) in
     let below : All (λ x. x < id) (drawn_pins kind id (rest words)) = pins_below kind id (rest words) some in
     record {
       pins = All-along (λ x. x < id) (λ x. x < total) (drawn_pins kind id (rest words)) (λ x l. omega arith) below;
-      allowed = drawn_kind (λ k. IsTrue (allows_pins k (length (drawn_pins k id (rest words))))) refl refl refl refl refl refl refl (word words % 7);
+      allowed = drawn_kind (λ k. IsTrue (allows_pins k (length (drawn_pins k id (rest words))))) refl refl refl refl refl refl refl (first_word words % 7);
       below = λ e. below;
     }
 
@@ -101,10 +101,10 @@ fine_gates (suc count) id total words some less =
 fine_cells : (count id first g total : ℕ) (words : Stream) → 0 < g → first + g ≤ total → All (IsFine total) (drawn_cells count id first g words)
 fine_cells zero id first g total words some less = All-nil (IsFine total)
 fine_cells (suc count) id first g total words some less =
-    let low = mod_below (word words) g some in
-    All-cons (IsFine total) (record { id = id; kind = Dff; pins = (first + word words % g) ∷ [] }) (drawn_cells count (id + 1) first g (rest words))
+    let low = mod_below (first_word words) g some in
+    All-cons (IsFine total) (record { id = id; kind = Dff; pins = (first + first_word words % g) ∷ [] }) (drawn_cells count (id + 1) first g (rest words))
     (record {
-      pins = All-cons (λ x. x < total) (first + word words % g) [] (omega arith) (All-nil (λ x. x < total));
+      pins = All-cons (λ x. x < total) (first + first_word words % g) [] (omega arith) (All-nil (λ x. x < total));
       allowed = refl;
       below = λ e. absurd (both_ways false refl e);
     })
@@ -130,33 +130,33 @@ numbered_name letter k h l =
       bytes = All-cons (λ b. IsTrue (is_name_byte b)) letter (decimal k) h (digits_are_name_bytes (decimal k) (decimal_is_IsNumeral k l).0.1);
     }
 
-name_at : (letter count k : ℕ) (d : List ℕ) → k < length (names_of letter count) → (k < count) × (get_or (names_of letter count) k d ≡ letter ∷ decimal k)
+name_at : (letter count k : ℕ) (d : List ℕ) → k < length (lettered_names letter count) → (k < count) × (get_or (lettered_names letter count) k d ≡ letter ∷ decimal k)
 name_at letter count k d l =
     let f : ℕ → List ℕ = λ j. letter ∷ decimal j in
-    let size : length (names_of letter count) ≡ count = length-map-range_with_len f 0 count in
+    let size : length (lettered_names letter count) ≡ count = length-map-range_with_len f 0 count in
     let same : length (range_with_len 0 count) ≡ count = length-range_with_len 0 count in
     let below : k < count = omega arith in
     (below, get_or-map f (range_with_len 0 count) k 0 d (omega arith) ∙ ap f (get_or-range_with_len 0 count k 0 below ∙ zero-add k))
 
-all_named : (letter count : ℕ) → is_name_byte letter ≡ true → count < 2 ^ 64 → All IsName (names_of letter count)
+all_named : (letter count : ℕ) → is_name_byte letter ≡ true → count < 2 ^ 64 → All IsName (lettered_names letter count)
 all_named letter count h small k d l =
     let at = name_at letter count k d l in
     let low = at.0 in
     subst IsName (sym at.1) (numbered_name letter k h (omega arith))
 
-short_names : (letter count : ℕ) → count < 2 ^ 64 → All (λ name. length name ≤ 255) (names_of letter count)
+short_names : (letter count : ℕ) → count < 2 ^ 64 → All (λ name. length name ≤ 255) (lettered_names letter count)
 short_names letter count small k d l =
     let at = name_at letter count k d l in
     let low = at.0 in
     let size : length (decimal k) ≤ 20 = length-decimal-le 20 k (omega arith) (omega arith) (omega arith) in
     subst (λ (name : List ℕ). length name ≤ 255) (sym at.1) (omega arith)
 
-unreserved_names : (letter count : ℕ) → ((digits : List ℕ) → is_reserved (letter ∷ digits) ≡ false) → All (λ name. is_reserved name ≡ false) (names_of letter count)
+unreserved_names : (letter count : ℕ) → ((digits : List ℕ) → is_reserved (letter ∷ digits) ≡ false) → All (λ name. is_reserved name ≡ false) (lettered_names letter count)
 unreserved_names letter count h k d l =
     let at = name_at letter count k d l in
     subst (λ (name : List ℕ). is_reserved name ≡ false) (sym at.1) (h (decimal k))
 
-names_distinct : (letter count : ℕ) → count < 2 ^ 64 → AllPairs (λ x y. x ≢ y) (names_of letter count)
+names_distinct : (letter count : ℕ) → count < 2 ^ 64 → AllPairs (λ x y. x ≢ y) (lettered_names letter count)
 names_distinct letter count small i j d less l e =
     let p = name_at letter count i d (omega arith) in
     let q = name_at letter count j d l in
@@ -166,8 +166,8 @@ names_distinct letter count small i j d less l e =
     let numbers = decimal_injective i j (omega arith) (omega arith) digits in
     omega arith
 
-names_differ : (a n b m : ℕ) → a ≢ b → (i j : ℕ) (d : List ℕ) → i < length (names_of a n) → j < length (names_of b m)
-    → get_or (names_of a n) i d ≢ get_or (names_of b m) j d
+names_differ : (a n b m : ℕ) → a ≢ b → (i j : ℕ) (d : List ℕ) → i < length (lettered_names a n) → j < length (lettered_names b m)
+    → get_or (lettered_names a n) i d ≢ get_or (lettered_names b m) j d
 names_differ a n b m differ i j d l k e =
     let p = name_at a n i d l in
     let q = name_at b m j d k in
@@ -217,11 +217,11 @@ module _ (c g : ℕ) (words : Stream) (least : 16 ≤ g) (most : g ≤ 20000) (f
 
   many_names : length (sample_of c g words).names ≡ 8 + (c + g)
   many_names =
-      let a : length (names_of 105 8) ≡ 8 = length-map-range_with_len (λ j. 105 ∷ decimal j) 0 8 in
-      let b : length (names_of 113 c) ≡ c = length-map-range_with_len (λ j. 113 ∷ decimal j) 0 c in
-      let e : length (names_of 103 g) ≡ g = length-map-range_with_len (λ j. 103 ∷ decimal j) 0 g in
-      let p = length-append (names_of 105 8) (names_of 113 c ++ names_of 103 g) in
-      let q = length-append (names_of 113 c) (names_of 103 g) in
+      let a : length (lettered_names 105 8) ≡ 8 = length-map-range_with_len (λ j. 105 ∷ decimal j) 0 8 in
+      let b : length (lettered_names 113 c) ≡ c = length-map-range_with_len (λ j. 113 ∷ decimal j) 0 c in
+      let e : length (lettered_names 103 g) ≡ g = length-map-range_with_len (λ j. 103 ∷ decimal j) 0 g in
+      let p = length-append (lettered_names 105 8) (lettered_names 113 c ++ lettered_names 103 g) in
+      let q = length-append (lettered_names 113 c) (lettered_names 103 g) in
       omega arith
 
   all_fine : All (IsFine (8 + (c + g))) (sample_of c g words).definitions
@@ -236,7 +236,7 @@ module _ (c g : ℕ) (words : Stream) (least : 16 ≤ g) (most : g ≤ 20000) (f
   output_below : (x : ℕ) → Contains (sample_of c g words).outputs x → x < 8 + (c + g)
   output_below x h = omega (arith, (in_range (c + g) 8 x h).1)
 
-  read_below : (x : ℕ) → IsRead (sample_of c g words) x → x < 8 + (c + g)
+  read_below : (x : ℕ) → HasReader (sample_of c g words) x → x < 8 + (c + g)
   read_below x r = elim r [
     | inl w ↦ All-contains (λ y. y < 8 + (c + g)) w.0.pins x (fine_at w.0 w.1).pins w.2
     | inr h ↦ output_below x h
@@ -244,16 +244,16 @@ module _ (c g : ℕ) (words : Stream) (least : 16 ≤ g) (most : g ≤ 20000) (f
 
   all_distinct : AllPairs (λ x y. x ≢ y) (sample_of c g words).names
   all_distinct =
-      AllPairs-append (λ x y. x ≢ y) (names_of 105 8) (names_of 113 c ++ names_of 103 g) (names_distinct 105 8 (omega arith))
-      (AllPairs-append (λ x y. x ≢ y) (names_of 113 c) (names_of 103 g) (names_distinct 113 c (omega arith)) (names_distinct 103 g (omega arith))
+      AllPairs-append (λ x y. x ≢ y) (lettered_names 105 8) (lettered_names 113 c ++ lettered_names 103 g) (names_distinct 105 8 (omega arith))
+      (AllPairs-append (λ x y. x ≢ y) (lettered_names 113 c) (lettered_names 103 g) (names_distinct 113 c (omega arith)) (names_distinct 103 g (omega arith))
       (names_differ 113 c 103 g (λ e. omega arith)))
       (λ i j d l k e.
-      let size = length-append (names_of 113 c) (names_of 103 g) in
-      elim (cases_lt j (length (names_of 113 c))) [
-        | inl low ↦ names_differ 105 8 113 c (λ h. omega arith) i j d l low (e ∙ get_or_append_left (names_of 113 c) (names_of 103 g) d j low)
+      let size = length-append (lettered_names 113 c) (lettered_names 103 g) in
+      elim (cases_lt j (length (lettered_names 113 c))) [
+        | inl low ↦ names_differ 105 8 113 c (λ h. omega arith) i j d l low (e ∙ get_or_append_left (lettered_names 113 c) (lettered_names 103 g) d j low)
         | inr high ↦
-            names_differ 105 8 103 g (λ h. omega arith) i (j - length (names_of 113 c)) d l (omega arith)
-            (e ∙ get_or-append_right (names_of 113 c) (names_of 103 g) (length (names_of 113 c)) j d refl high)
+            names_differ 105 8 103 g (λ h. omega arith) i (j - length (lettered_names 113 c)) d l (omega arith)
+            (e ∙ get_or-append_right (lettered_names 113 c) (lettered_names 103 g) (length (lettered_names 113 c)) j d refl high)
       ])
 
   formed : IsWellFormed (sample_of c g words)
@@ -265,8 +265,8 @@ module _ (c g : ℕ) (words : Stream) (least : 16 ≤ g) (most : g ≤ 20000) (f
         named = λ x h. omega (arith, signal_below x h);
         read_named = λ x r. omega (arith, read_below x r);
         used = λ x l. inl (has_signal x (omega arith));
-        names = All-append IsName (names_of 105 8) (names_of 113 c ++ names_of 103 g) (all_named 105 8 refl (omega arith))
-            (All-append IsName (names_of 113 c) (names_of 103 g) (all_named 113 c refl (omega arith)) (all_named 103 g refl (omega arith)));
+        names = All-append IsName (lettered_names 105 8) (lettered_names 113 c ++ lettered_names 103 g) (all_named 105 8 refl (omega arith))
+            (All-append IsName (lettered_names 113 c) (lettered_names 103 g) (all_named 113 c refl (omega arith)) (all_named 103 g refl (omega arith)));
         distinct = all_distinct;
         once = range_distinct (c + g) 8;
         allowed = All-along (IsFine (8 + (c + g))) (λ (d : Definition). IsTrue (allows_pins d.kind (length d.pins))) (sample_of c g words).definitions (λ d h. h.allowed) all_fine;
@@ -308,10 +308,10 @@ module _ (c g : ℕ) (words : Stream) (least : 16 ≤ g) (most : g ≤ 20000) (f
       let size = many_signals in
       record {
         small = omega arith;
-        short = All-append (λ name. length name ≤ 255) (names_of 105 8) (names_of 113 c ++ names_of 103 g) (short_names 105 8 (omega arith))
-            (All-append (λ name. length name ≤ 255) (names_of 113 c) (names_of 103 g) (short_names 113 c (omega arith)) (short_names 103 g (omega arith)));
-        unreserved = All-append (λ name. is_reserved name ≡ false) (names_of 105 8) (names_of 113 c ++ names_of 103 g) (unreserved_names 105 8 (λ ds. refl))
-            (All-append (λ name. is_reserved name ≡ false) (names_of 113 c) (names_of 103 g) (unreserved_names 113 c (λ ds. refl)) (unreserved_names 103 g (λ ds. refl)));
+        short = All-append (λ name. length name ≤ 255) (lettered_names 105 8) (lettered_names 113 c ++ lettered_names 103 g) (short_names 105 8 (omega arith))
+            (All-append (λ name. length name ≤ 255) (lettered_names 113 c) (lettered_names 103 g) (short_names 113 c (omega arith)) (short_names 103 g (omega arith)));
+        unreserved = All-append (λ name. is_reserved name ≡ false) (lettered_names 105 8) (lettered_names 113 c ++ lettered_names 103 g) (unreserved_names 105 8 (λ ds. refl))
+            (All-append (λ name. is_reserved name ≡ false) (lettered_names 113 c) (lettered_names 103 g) (unreserved_names 113 c (λ ds. refl)) (unreserved_names 103 g (λ ds. refl)));
       }
 
 pub sample_sound : (g : ℕ) (words : Stream) → 16 ≤ g → g ≤ 20000 → IsSound (sample g words)
@@ -322,7 +322,7 @@ sample_design g words least most = design (g / 8) g words least most (omega arit
 
 -- ---- why it may be refused
 
-read_is_signal : (n : Netlist) → IsSound n → (x : ℕ) → IsRead n x → Contains (signals n) x
+read_is_signal : (n : Netlist) → IsSound n → (x : ℕ) → HasReader n x → Contains (signals n) x
 read_is_signal n s x r = elim r [
   | inl w ↦ All-contains (Contains (signals n)) w.0.pins x (All-contains (λ (d : Definition). All (Contains (signals n)) d.pins) n.definitions w.0 s.closed.pins w.1) w.2
   | inr h ↦ All-contains (Contains (signals n)) n.outputs x s.closed.outputs h

@@ -1,9 +1,10 @@
 -- What every sample netlist is.
 use Rattle.std.specs.Prelude.{ℕ, ◌≤◌}
+use Rattle.limits.specs.Limits.{fewest_gates, most_gates}
 use Rattle.rand_core.specs.Stream.{Stream}
 use Rattle.netlist.specs.Conditions.{IsSound}
 use Rattle.netlist.specs.Designs.{IsDesign}
-use Rattle.net_gen.specs.Samples.{fewest_gates, most_gates, sample}
+use Rattle.net_gen.specs.Samples.{sample}
 
 -- It meets all that is asked of a netlist; so it has no loop.
 abbrev pub SamplesAreSound : Type 0

@@ -9,23 +9,16 @@ use Rattle.netlist.specs.declared.kinds.Kind.{Kind}
 use Rattle.netlist.specs.declared.kinds.Kind.TheVariants.{And, Nand, Or, Nor, Xor, Xnor, Not, Buff, Dff, Const0, Const1}
 use Rattle.netlist.specs.Netlist.{Definition, Netlist}
 
--- how many gates a sample may have
-abbrev pub fewest_gates : ℕ
-fewest_gates = 16
-
-abbrev pub most_gates : ℕ
-most_gates = 20000
-
 -- the next word, and the words behind it
-abbrev pub word : Stream → ℕ
-word words = (next_u32 words).0
+abbrev pub first_word : Stream → ℕ
+first_word words = (next_u32 words).0
 
 abbrev pub rest : Stream → Stream
 rest words = (next_u32 words).1
 
 -- AND, NAND, OR, NOR, XOR, XNOR, NOT
-abbrev pub kind_of : ℕ → Kind
-kind_of k =
+abbrev pub sampled_kind : ℕ → Kind
+sampled_kind k =
     if k == 0 then And else (if k == 1 then Nand else (if k == 2 then Or else (if k == 3 then Nor else (if k == 4 then Xor else (if k == 5 then Xnor else Not)))))
 
 abbrev pub is_inverter : Kind → Bool
@@ -44,7 +37,7 @@ is_inverter Const1 = false
 -- the pins of a gate among the signals 0 to id - 1: one of a NOT, two of any other
 abbrev pub drawn_pins : Kind → ℕ → Stream → List ℕ
 drawn_pins kind id words =
-    if is_inverter kind then word words % id ∷ [] else word words % id ∷ word (rest words) % id ∷ []
+    if is_inverter kind then first_word words % id ∷ [] else first_word words % id ∷ first_word (rest words) % id ∷ []
 
 abbrev pub after_pins : Kind → Stream → Stream
 after_pins kind words = if is_inverter kind then rest words else rest (rest words)
@@ -52,10 +45,10 @@ after_pins kind words = if is_inverter kind then rest words else rest (rest word
 -- a gate: first its kind is drawn, then its pins
 abbrev pub drawn_gate : ℕ → Stream → Definition
 drawn_gate id words =
-    record { id = id; kind = kind_of (word words % 7); pins = drawn_pins (kind_of (word words % 7)) id (rest words) }
+    record { id = id; kind = sampled_kind (first_word words % 7); pins = drawn_pins (sampled_kind (first_word words % 7)) id (rest words) }
 
 abbrev pub after_gate : Stream → Stream
-after_gate words = after_pins (kind_of (word words % 7)) (rest words)
+after_gate words = after_pins (sampled_kind (first_word words % 7)) (rest words)
 
 -- so many gates, with the ids from this one on
 abbrev pub drawn_gates : ℕ → ℕ → Stream → List Definition
@@ -70,17 +63,17 @@ after_gates (suc count) words = after_gates count (after_gate words)
 abbrev pub drawn_cells : ℕ → ℕ → ℕ → ℕ → Stream → List Definition
 drawn_cells zero id first gates words = []
 drawn_cells (suc count) id first gates words =
-    record { id = id; kind = Dff; pins = (first + word words % gates) ∷ [] } ∷ drawn_cells count (id + 1) first gates (rest words)
+    record { id = id; kind = Dff; pins = (first + first_word words % gates) ∷ [] } ∷ drawn_cells count (id + 1) first gates (rest words)
 
 -- a letter before each number below the count
-abbrev pub names_of : ℕ → ℕ → List (List ℕ)
-names_of letter count = map (λ k. letter ∷ decimal k) (range_with_len 0 count)
+abbrev pub lettered_names : ℕ → ℕ → List (List ℕ)
+lettered_names letter count = map (λ k. letter ∷ decimal k) (range_with_len 0 count)
 
 -- Inputs i0 to i7, cells q0 and so on, gates g0 and so on; the last eight gates are the outputs.
 -- The gates are drawn first, and then what the cells take. The cells are defined before the gates.
 abbrev pub sample_of : ℕ → ℕ → Stream → Netlist
 sample_of cells gates words = record {
-  names = names_of 105 8 ++ (names_of 113 cells ++ names_of 103 gates);
+  names = lettered_names 105 8 ++ (lettered_names 113 cells ++ lettered_names 103 gates);
   inputs = range_with_len 0 8;
   outputs = range_with_len (cells + gates) 8;
   definitions = drawn_cells cells 8 (8 + cells) gates (after_gates gates words) ++ drawn_gates gates (8 + cells) words;
@@ -91,5 +84,5 @@ abbrev pub sample : ℕ → Stream → Netlist
 sample gates words = sample_of (gates / 8) gates words
 
 -- the words of the generator of a seed, on stream 54 (O'Neill, PCG: XSH RR 64/32)
-abbrev pub words_of : ℕ → Stream
-words_of seed = stream_of (steps_u32 pcg32) (started 64 multiplier_64 seed (increment_of 64 54))
+abbrev pub words_from_seed : ℕ → Stream
+words_from_seed seed = stream_of (steps_u32 pcg32) (started 64 multiplier_64 seed (increment_of 64 54))

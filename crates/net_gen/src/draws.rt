@@ -1,6 +1,6 @@
 //! Gates and cells drawn from words.
 ghost use Rattle.std.specs.Prelude.{◌≡◌, ◌+◌, ◌%◌, ◌^◌, ◌<◌, [], ◌∷◌, IfOk, OnOk};
-ghost use Rattle.net_gen.specs.Samples.{kind_of, drawn_pins, after_pins, drawn_gate, after_gate, drawn_gates, after_gates, drawn_cells, word, rest};
+ghost use Rattle.net_gen.specs.Samples.{sampled_kind, drawn_pins, after_pins, drawn_gate, after_gate, drawn_gates, after_gates, drawn_cells, first_word, rest};
 
 use netlist::{Definition, Kind, SignalId};
 use rand_core::Rng;
@@ -9,7 +9,7 @@ use std::alloc::{AllocError, Global};
 
 /// The kind of a number drawn below 7.
 fn kind_of(number: u32) -> Kind
-    ensures { result ≡ kind_of number }
+    ensures { result ≡ sampled_kind number }
 {
     match number {
         0 => Kind::And,
@@ -81,7 +81,7 @@ fn draw_cell<R: Rng>(
 ) -> Result<Definition, AllocError>
     requires some { 0 < gates }
     requires fits { first + gates < 2 ^ 32 }
-    ensures cell { IfOk result (λ cell. cell ≡ record { id = id; kind = Kind.Dff; pins = (first + word (R.stream rng.old) % gates) ∷ [] }) }
+    ensures cell { IfOk result (λ cell. cell ≡ record { id = id; kind = Kind.Dff; pins = (first + first_word (R.stream rng.old) % gates) ∷ [] }) }
     ensures left { OnOk result (R.stream rng.new ≡ rest (R.stream rng.old)) }
 {
     let mut pins = SmallVec::new(alloc);

@@ -1,6 +1,6 @@
 //! The names of a sample netlist.
 ghost use Rattle.std.specs.Prelude.{◌≡◌, ◌++◌, OnOk, IfOk};
-ghost use Rattle.net_gen.specs.Samples.{names_of};
+ghost use Rattle.net_gen.specs.Samples.{lettered_names};
 
 use itoa::Buffer;
 use netlist::NameTable;
@@ -13,7 +13,7 @@ fn add_names(
     letter: u8,
     count: u32,
 ) -> Result<(), AllocError>
-    ensures { OnOk result (names.new ≡ names.old ++ names_of letter count) }
+    ensures { OnOk result (names.new ≡ names.old ++ lettered_names letter count) }
 {
     for number in 0..count {
         let mut buffer = Buffer::new();
@@ -27,7 +27,7 @@ fn add_names(
 
 /// The names of inputs, cells and gates.
 pub(crate) fn all_names(alloc: Global, cells: u32, gates: u32) -> Result<NameTable, AllocError>
-    ensures { IfOk result (λ names. names ≡ names_of 105 8 ++ (names_of 113 cells ++ names_of 103 gates)) }
+    ensures { IfOk result (λ names. names ≡ lettered_names 105 8 ++ (lettered_names 113 cells ++ lettered_names 103 gates)) }
 {
     let mut names = NameTable::new(alloc);
     let mut text = Vec::new(alloc);

@@ -1,8 +1,9 @@
 //! Sample netlists.
 ghost use Rattle.std.specs.Prelude.{◌≡◌, ◌+◌, ◌^◌, ◌<◌, ◌≤◌, IfOk};
 ghost use Rattle.std.specs.List.{range_with_len};
+ghost use Rattle.limits.specs.Limits.{fewest_gates, most_gates};
 ghost use Rattle.netlist.specs.Conditions.{whole};
-ghost use Rattle.net_gen.specs.Samples.{fewest_gates, most_gates, sample, words_of};
+ghost use Rattle.net_gen.specs.Samples.{sample, words_from_seed};
 ghost use Rattle.net_gen.specs.Laws.{SamplesAreDesigns, SamplesAreSound};
 
 use crate::draws::{draw_cells, draw_gates};
@@ -51,7 +52,7 @@ fn draw_parts<R: Rng>(alloc: Global, gates: u32, rng: &mut R) -> Result<Parts, A
 pub fn generate(alloc: Global, seed: u64, gates: u32) -> Result<Netlist, NoMemory>
     requires least { fewest_gates ≤ gates }
     requires most { gates ≤ most_gates }
-    ensures { IfOk result (λ netlist. netlist ≡ sample gates (words_of seed)) }
+    ensures { IfOk result (λ netlist. netlist ≡ sample gates (words_from_seed seed)) }
 {
     let Ok(parts) = draw_parts(alloc, gates, &mut Lcg64Xsh32::new(seed, 54)) else {
         return Err(NoMemory);

@@ -6,13 +6,13 @@ use Rattle.netlist.specs.declared.kinds.Kind.{Kind}
 use Rattle.netlist.specs.declared.kinds.Kind.TheVariants.{And, Nand, Or, Nor, Xor, Xnor, Not, Buff, Dff, Const0, Const1}
 use Rattle.netlist.specs.Gates.{allows_pins}
 use Rattle.netlist.specs.Netlist.{Definition, Netlist, cells, is_cell, is_flip_flop, signals}
-use Rattle.netlist.specs.Conditions.{IsWellFormed, IsClosed, IsRead, IsSound, IsUndefined}
+use Rattle.netlist.specs.Conditions.{IsWellFormed, IsClosed, HasReader, IsSound, IsUndefined}
 use Rattle.netlist.proofs.Lists.{All-from_contains, contains_filter}
 use Rattle.std.proofs.lemmas.List.Elements.{All-contains}
 use Rattle.netlist.proofs.Placed.{signal_below, signal_from}
 
 -- what is read is defined
-pub read_is_signal : (n : Netlist) → IsClosed n → (x : ℕ) → IsRead n x → Contains (signals n) x
+pub read_is_signal : (n : Netlist) → IsClosed n → (x : ℕ) → HasReader n x → Contains (signals n) x
 read_is_signal n closed x read = elim read [
   | inl pin ↦ All-contains (Contains (signals n)) pin.0.pins x (All-contains (λ (d : Definition). All (Contains (signals n)) d.pins) n.definitions pin.0 closed.pins pin.1) pin.2
   | inr out ↦ All-contains (Contains (signals n)) n.outputs x closed.outputs out
@@ -20,7 +20,7 @@ read_is_signal n closed x read = elim read [
 
 module _ (n : Netlist) (formed : IsWellFormed n) where
   -- where no name is left over, all that is read is defined
-  pub all_defined : length n.names ≤ length (signals n) → (x : ℕ) → IsRead n x → Contains (signals n) x
+  pub all_defined : length n.names ≤ length (signals n) → (x : ℕ) → HasReader n x → Contains (signals n) x
   all_defined few x read = signal_from n formed.numbered x (let l = formed.read_named x read in omega arith)
 
   pub closed_of : length n.names ≤ length (signals n) → IsClosed n

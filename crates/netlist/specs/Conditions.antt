@@ -17,14 +17,14 @@ abbrev pub IsNumbered : Netlist → Type 0
 IsNumbered n = EachIndex (signals n) (λ k. slice_index (signals n) k ≡ k)
 
 -- a pin or an output reads it
-abbrev pub IsRead : Netlist → ℕ → Type 0
-IsRead n x = ((d : Definition) × Contains n.definitions d × Contains d.pins x) ⊎ Contains n.outputs x
+abbrev pub HasReader : Netlist → ℕ → Type 0
+HasReader n x = ((d : Definition) × Contains n.definitions d × Contains d.pins x) ⊎ Contains n.outputs x
 
 pub record IsWellFormed (n : Netlist) : Type 0 where
   pub numbered : IsNumbered n
   pub named : (x : ℕ) → Contains (signals n) x → x < length n.names
-  pub read_named : (x : ℕ) → IsRead n x → x < length n.names
-  pub used : (x : ℕ) → x < length n.names → Contains (signals n) x ⊎ IsRead n x
+  pub read_named : (x : ℕ) → HasReader n x → x < length n.names
+  pub used : (x : ℕ) → x < length n.names → Contains (signals n) x ⊎ HasReader n x
   pub names : All IsName n.names
   pub distinct : AllPairs (λ x y. x ≢ y) n.names
   pub once : AllPairs (λ x y. x ≢ y) n.outputs
@@ -47,7 +47,7 @@ pub record IsSized (n : Netlist) : Type 0 where
 
 -- it is read, and it is neither an input nor defined
 abbrev pub IsUndefined : Netlist → ℕ → Type 0
-IsUndefined n x = IsRead n x × ¬ Contains (signals n) x
+IsUndefined n x = HasReader n x × ¬ Contains (signals n) x
 
 -- what every netlist is
 pub record IsSound (n : Netlist) : Type 0 where

@@ -70,3 +70,7 @@ IsOnLoop n z = (set : ℕ → Bool) × IsLoop n set × IsTrue (set z)
 -- no such set has a member
 abbrev pub IsAcyclic : Netlist → Type 0
 IsAcyclic n = (z : ℕ) → ¬ IsOnLoop n z
+
+-- the definition of these parts
+abbrev pub define : ℕ → Kind → List ℕ → Definition
+define z kind pins = record { id = z; kind = kind; pins = pins }

@@ -16,7 +16,7 @@ pub struct Bits {
 
 /// What the bits on the pins are together.
 #[derive(Drop)]
-struct Together {
+struct BitsTogether {
     all: bool,
     some: bool,
     odd: bool,
@@ -24,7 +24,7 @@ struct Together {
 }
 
 /// What the bits on the pins of a gate are together.
-fn gather(pins: &[bool]) -> Together
+fn gather(pins: &[bool]) -> BitsTogether
     ensures all { result.all ≡ conjunction pins.now }
     ensures some { result.some ≡ disjunction pins.now }
     ensures odd { result.odd ≡ parity pins.now }
@@ -41,7 +41,7 @@ fn gather(pins: &[bool]) -> Together
         odd = bit != odd;
         first = bit;
     }
-    Together {
+    BitsTogether {
         all,
         some,
         odd,

@@ -26,8 +26,8 @@ pub record SinkInMemory : Type 0 where
   pub failures : ℕ
 
 -- the files of these names and bytes, put one after another: of two with one name the last stays
-abbrev pub files_of : List (Bor (List ℕ) × Bor (List ℕ)) → FileMap
-files_of files = fold (λ put file. map.insert put file.0.now file.1.now) map.empty files
+abbrev pub file_map_of : List (Bor (List ℕ) × Bor (List ℕ)) → FileMap
+file_map_of files = fold (λ put file. map.insert put file.0.now file.1.now) map.empty files
 
 -- a write fails where the plan says so, with a prefix of the planned length under the name; else the name holds all the bytes
 abbrev pub WritesAsPlanned : Option FailingCall → FileMap → FileMap → List ℕ → List ℕ → Result Unit WriteRefusal → Type 0

@@ -30,8 +30,8 @@ IsWithin max (Err (read.TooLong n)) = n ≡ max + 1
 IsWithin max (Err _) = ⊤
 
 -- the new files have these bytes under the name, and under each other name what the old ones have
-abbrev pub Holds : Files → List ℕ → List ℕ → Files → Type 0
-Holds old name bytes new =
+abbrev pub GainsFile : Files → List ℕ → List ℕ → Files → Type 0
+GainsFile old name bytes new =
     (other : List ℕ) → new other ≡ (if bytes_eq name other then Some bytes else old other)
 
 abbrev pub SameFiles : Files → Files → Type 0
@@ -39,8 +39,8 @@ SameFiles old new = (name : List ℕ) → new name ≡ old name
 
 -- the name holds the bytes; after a failed write a prefix of them; and after want of memory what it held
 abbrev pub WritesFile : Files → Files → List ℕ → List ℕ → Result Unit WriteRefusal → Type 0
-WritesFile old new name bytes (Ok _) = Holds old name bytes new
-WritesFile old new name bytes (Err write.Failed) = (kept : ℕ) × Holds old name (take kept bytes) new
+WritesFile old new name bytes (Ok _) = GainsFile old name bytes new
+WritesFile old new name bytes (Err write.Failed) = (kept : ℕ) × GainsFile old name (take kept bytes) new
 WritesFile old new name bytes (Err write.NoMemory) = SameFiles old new
 
 -- what a write makes of the files, where they are told

@@ -11,15 +11,15 @@ pub enum Stage {
 
 /// Where a worker passes between its steps.
 ///
-/// A gate sees nothing of the product and changes nothing in it. It may hold the worker: a type
+/// A stage sees nothing of the product and changes nothing in it. It may hold the worker: a type
 /// whose parameter is bound by `Wait` may block in `at`, so that a test can bring workers together.
-/// The trait asks for no handle, and who calls a gate needs none.
+/// The trait asks for no handle, and who calls a stage needs none.
 pub trait Gate {
     /// Worker number `worker` is here, and holds no lock.
     fn at(&self, worker: u32, stage: Stage);
 }
 
-/// A gate that lets each worker pass at once.
+/// A stage that lets each worker pass at once.
 #[derive(Clone, Copy, Debug, Default, PartialEq, Eq)]
 pub struct OpenGate;
 

@@ -32,7 +32,7 @@ impl Model for MemoryShelf {
 
 impl MemoryShelf {
     ghost use Rattle.std.specs.FinMap as map;
-    ghost use Rattle.outside.specs.Memory.{files_of};
+    ghost use Rattle.outside.specs.Memory.{file_map_of};
 
     /// A shelf with these files, given as names and bytes, where of two with one name the last
     /// stays. The calls in `failing` fail.
@@ -41,7 +41,7 @@ impl MemoryShelf {
         files: &[(&str, &[u8])],
         failing: &[FailingCall],
     ) -> Result<MemoryShelf, AllocError>
-        ensures { IfOk result (λ shelf. shelf ≡ record { files = files_of files.now; plan = begun failing.now; failures = 0 }) }
+        ensures { IfOk result (λ shelf. shelf ≡ record { files = file_map_of files.now; plan = begun failing.now; failures = 0 }) }
     {
         Ok(MemoryShelf {
             files: StoredFiles::with_files(alloc, files)?,

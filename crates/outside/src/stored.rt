@@ -1,7 +1,7 @@
 //! Files in memory.
 ghost use Rattle.std.specs.Prelude.{◌≡◌, ◌≢◌, OnOk, OnErr, IfOk, Err};
 ghost use Rattle.std.specs.Option.{option_copied};
-ghost use Rattle.outside.specs.Shelf.{Holds, IsWithin, Tells};
+ghost use Rattle.outside.specs.Shelf.{GainsFile, IsWithin, Tells};
 
 use crate::ReadRefusal;
 use indexmap::IndexMap;
@@ -26,7 +26,7 @@ impl Model for StoredFiles {
 
 impl StoredFiles {
     ghost use Rattle.std.specs.FinMap as map;
-    ghost use Rattle.outside.specs.Memory.{files_of};
+    ghost use Rattle.outside.specs.Memory.{file_map_of};
 
     pub(crate) fn new(alloc: Global) -> StoredFiles
         ensures { result ≡ map.empty }
@@ -41,7 +41,7 @@ impl StoredFiles {
         alloc: Global,
         files: &[(&str, &[u8])],
     ) -> Result<StoredFiles, AllocError>
-        ensures { IfOk result (λ stored. stored ≡ files_of files.now) }
+        ensures { IfOk result (λ stored. stored ≡ file_map_of files.now) }
     {
         let mut stored = StoredFiles::new(alloc);
         for &(name, bytes) in files {
@@ -67,7 +67,7 @@ impl StoredFiles {
 
     pub(crate) fn put(&mut self, alloc: Global, name: &str, bytes: &[u8]) -> Result<(), AllocError>
         ensures ok { OnOk result (self.new ≡ map.insert self.old name.now bytes.now) }
-        ensures holds { OnOk result (Holds (map.get self.old) name.now bytes.now (map.get self.new)) }
+        ensures holds { OnOk result (GainsFile (map.get self.old) name.now bytes.now (map.get self.new)) }
         ensures err { OnErr result (self.new ≡ self.old) }
     {
         let name = String::from_str(alloc, name)?;

@@ -25,12 +25,12 @@ impl Model for SureShelf {
 
 impl SureShelf {
     ghost use Rattle.std.specs.FinMap as map;
-    ghost use Rattle.outside.specs.Memory.{files_of};
+    ghost use Rattle.outside.specs.Memory.{file_map_of};
 
     /// A shelf with these files, given as names and bytes, where of two with one name the last
     /// stays.
     pub fn new(alloc: Global, files: &[(&str, &[u8])]) -> Result<SureShelf, AllocError>
-        ensures { IfOk result (λ shelf. shelf ≡ files_of files.now) }
+        ensures { IfOk result (λ shelf. shelf ≡ file_map_of files.now) }
     {
         Ok(SureShelf {
             files: StoredFiles::with_files(alloc, files)?,

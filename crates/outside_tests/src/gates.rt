@@ -1,4 +1,4 @@
-//! A gate may hold a worker: one at which two of them meet.
+//! A stage may hold a worker: one at which two of them meet.
 
 use outside::{Gate, OpenGate, Stage};
 use std::sync::atomic::{AtomicU64, Ordering};
@@ -6,7 +6,7 @@ use std::sync::{Barrier, Wait};
 use std::test::Fail;
 use std::thread;
 
-/// A gate at which workers meet.
+/// A stage at which workers meet.
 #[derive(Drop)]
 struct Meeting<'a, R: Wait> {
     rt: &'a R,
@@ -22,15 +22,15 @@ impl<R: Wait> Gate for Meeting<'_, R> {
 }
 
 // As a worker calls it: with no handle.
-fn pass<G: Gate>(gate: &G, worker: u32) {
-    gate.at(worker, Stage::Claimed);
-    gate.at(worker, Stage::Published);
+fn pass<G: Gate>(stage: &G, worker: u32) {
+    stage.at(worker, Stage::Claimed);
+    stage.at(worker, Stage::Published);
 }
 
 #[test]
 fn a_gate_may_hold_a_worker(rt: HostRuntime) -> Result<(), Fail> {
     pass(&OpenGate, 0);
-    let gate = Meeting {
+    let stage = Meeting {
         rt: &rt,
         arrived: AtomicU64::new(0),
         all: Barrier::new(2),
@@ -38,12 +38,12 @@ fn a_gate_may_hold_a_worker(rt: HostRuntime) -> Result<(), Fail> {
     let (first, second) = thread::join(
         &rt,
         || {
-            pass(&gate, 0);
-            gate.arrived.load(Ordering::SeqCst)
+            pass(&stage, 0);
+            stage.arrived.load(Ordering::SeqCst)
         },
         || {
-            pass(&gate, 1);
-            gate.arrived.load(Ordering::SeqCst)
+            pass(&stage, 1);
+            stage.arrived.load(Ordering::SeqCst)
         },
     );
     assert_eq!(rt; (first, second), (4, 4));

@@ -17,7 +17,7 @@ use Rattle.netlist.proofs.WellFormed.{one_pin}
 use Rattle.netlist.specs.Settled.{Rule, pins_of}
 use Rattle.tri.specs.declared.labels.Label.{Label}
 use Rattle.tri.specs.Paths.{has_effect, HaveNoEffect, IsFirstEffect}
-use Rattle.pair_sim.specs.declared.points.Sight.TheVariants.{Same}
+use Rattle.pair_sim.specs.declared.points.PointsSight.TheVariants.{Same}
 use Rattle.pair_sim.specs.inner.Points.{IsSight}
 
 get_front : {A : Type 0} (xs ys : List A) (k : ℕ) (v : A) → slice_get xs k ≡ Some v → (k < length xs) × (slice_get (xs ++ ys) k ≡ Some v)

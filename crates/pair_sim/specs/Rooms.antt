@@ -12,7 +12,7 @@ use Rattle.pair_sim.specs.inner.Stored.{IsStored}
 
 -- the fault of the last search, the rule of its labels, its decisions, the signals that changed, the labels themselves, and the observed points
 -- with those that the fault may reach
-pub record Room : Type 0 where
+pub record LabelRoom : Type 0 where
   pub fault : Fault
   pub stuck : Option Fault
   pub decided : List (Option Bool)
@@ -29,7 +29,7 @@ pub record Room : Type 0 where
   pub reach_room : ℕ
 
 -- the room was left by labels of this netlist under these held inputs
-pub record CanServeLabels (n : Netlist) (holds : Holds) (r : Room) : Type 0 where
+pub record CanServeLabels (n : Netlist) (holds : Holds) (r : LabelRoom) : Type 0 where
   pub line : IsLineOf n r.fault.line
   pub serves : CanServe n r.events
   pub stored : IsStored r.fault holds r.stuck r.decided r.levels r.names (standing_in n r.events) r.level_room r.name_room

@@ -29,8 +29,8 @@ abbrev pub without_last : Path → Path
 without_last [] = []
 without_last (d ∷ ds) = ds
 
-abbrev pub undone : Sim → Sim
-undone s = record s { path = without_last s.path }
+abbrev pub backtracked : Sim → Sim
+backtracked s = record s { path = without_last s.path }
 
 -- the labels of the path
 abbrev pub AreLabelsOf : Sim → (ℕ → Label) → Type 0

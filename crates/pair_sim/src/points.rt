@@ -16,7 +16,7 @@ use tri::{Label, on_line};
 
 /// What points tell.
 #[derive(Clone, Copy)]
-pub(crate) enum Sight {
+pub(crate) enum PointsSight {
     /// The first point whose two values are known and differ.
     Effect(u32),
     /// There is none, and some point may differ.
@@ -37,38 +37,38 @@ pub(crate) fn has_effect(label: &Label) -> bool
 }
 
 /// One point more, which is number k.
-fn see(sight: Sight, k: u32, label: &Label) -> Sight
+fn see(sight: PointsSight, k: u32, label: &Label) -> PointsSight
     ensures { (labels : List LabelOf) → length labels ≡ k → IsSight labels sight → IsSight (labels ++ label.now ∷ []) result }
 {
     match sight {
-        Sight::Effect(first) => Sight::Effect(first),
-        Sight::Differs => {
+        PointsSight::Effect(first) => PointsSight::Effect(first),
+        PointsSight::Differs => {
             if has_effect(label) {
-                Sight::Effect(k)
+                PointsSight::Effect(k)
             } else {
-                Sight::Differs
+                PointsSight::Differs
             }
         }
-        Sight::Same => {
+        PointsSight::Same => {
             if has_effect(label) {
-                Sight::Effect(k)
+                PointsSight::Effect(k)
             } else if label.may_differ {
-                Sight::Differs
+                PointsSight::Differs
             } else {
-                Sight::Same
+                PointsSight::Same
             }
         }
     }
 }
 
 /// What the outputs tell.
-pub(crate) fn sight_at_outputs(netlist: &Netlist, fault: &Option<Fault>, values: &[Label]) -> Sight
+pub(crate) fn sight_at_outputs(netlist: &Netlist, fault: &Option<Fault>, values: &[Label]) -> PointsSight
     requires sound { IsSound netlist.now }
     requires size { length values.now ≡ length (signals netlist.now) }
     ensures { (path : Decisions) → IsSight (outs (labels fault.now path) netlist.now (at values.now blank)) result }
 {
     let outputs = netlist.outputs();
-    let mut sight = Sight::Same;
+    let mut sight = PointsSight::Same;
     for k in 0..outputs.len() {
         let x = outputs[k];
         let label = on_line(fault, &Line::Out(x), values[x.index()]);
@@ -78,13 +78,13 @@ pub(crate) fn sight_at_outputs(netlist: &Netlist, fault: &Option<Fault>, values:
 }
 
 /// What the cells' pins tell.
-pub(crate) fn sight_at_cells(netlist: &Netlist, fault: &Option<Fault>, values: &[Label]) -> Sight
+pub(crate) fn sight_at_cells(netlist: &Netlist, fault: &Option<Fault>, values: &[Label]) -> PointsSight
     requires sound { IsSound netlist.now }
     requires size { length values.now ≡ length (signals netlist.now) }
     ensures { (path : Decisions) → IsSight (next (labels fault.now path) netlist.now (at values.now blank)) result }
 {
     let cells = netlist.cells();
-    let mut sight = Sight::Same;
+    let mut sight = PointsSight::Same;
     for k in 0..cells.len() {
         let cell = cells[k];
         let pin = netlist.definition(cell).pins()[0];
@@ -111,16 +111,16 @@ pub(crate) fn state_of(
         return State::Blocked;
     }
     match sight_at_outputs(netlist, fault, values) {
-        Sight::Effect(k) => State::Test(Point::Output(k)),
-        Sight::Differs => match sight_at_cells(netlist, fault, values) {
-            Sight::Effect(k) => State::Test(Point::Cell(k)),
-            Sight::Differs => State::Going,
-            Sight::Same => State::Going,
+        PointsSight::Effect(k) => State::Test(Point::Output(k)),
+        PointsSight::Differs => match sight_at_cells(netlist, fault, values) {
+            PointsSight::Effect(k) => State::Test(Point::Cell(k)),
+            PointsSight::Differs => State::Going,
+            PointsSight::Same => State::Going,
         },
-        Sight::Same => match sight_at_cells(netlist, fault, values) {
-            Sight::Effect(k) => State::Test(Point::Cell(k)),
-            Sight::Differs => State::Going,
-            Sight::Same => State::Blocked,
+        PointsSight::Same => match sight_at_cells(netlist, fault, values) {
+            PointsSight::Effect(k) => State::Test(Point::Cell(k)),
+            PointsSight::Differs => State::Going,
+            PointsSight::Same => State::Blocked,
         },
     }
 }

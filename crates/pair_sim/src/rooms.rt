@@ -25,9 +25,9 @@ pub struct SimRoom {
 }
 
 impl Model for SimRoom {
-    ghost use Rattle.pair_sim.specs.Rooms.{Room};
+    ghost use Rattle.pair_sim.specs.Rooms.{LabelRoom};
 
-    ghost Value = { Room };
+    ghost Value = { LabelRoom };
 
     ghost use Rattle.std.specs.Prelude.{vec_capacity};
 

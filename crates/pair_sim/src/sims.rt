@@ -6,7 +6,7 @@ ghost use Rattle.netlist.specs.Conditions.{IsSound};
 ghost use Rattle.netlist.specs.Lines.{IsLineOf};
 ghost use Rattle.netlist.specs.Netlist.{signals};
 ghost use Rattle.pair_sim.specs.Rooms.{CanServeLabels};
-ghost use Rattle.pair_sim.specs.Sims.{sim, assigned, undone, HasGood, HasOwn, HasFaulty, MayDiffer, HasLabel, IsNotBlocked, IsState, IsFree, IsContradictedSim, AreChangedSignals};
+ghost use Rattle.pair_sim.specs.Sims.{sim, assigned, backtracked, HasGood, HasOwn, HasFaulty, MayDiffer, HasLabel, IsNotBlocked, IsState, IsFree, IsContradictedSim, AreChangedSignals};
 
 use crate::levels::{Level, is_contradicted};
 use crate::points::state_of;
@@ -280,7 +280,7 @@ impl<'a> PairSim<'a> {
     /// Takes the last decision back.
     pub fn undo(&mut self)
         requires { 0 < length self.old.path }
-        ensures { self.new ≡ undone self.old }
+        ensures { self.new ≡ backtracked self.old }
     {
         self.events.core().netlist().sound();
         let Some(level) = self.levels.pop() else {

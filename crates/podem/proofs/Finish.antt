@@ -16,7 +16,7 @@ use Rattle.redundancy_cert.specs.declared.nodes.Node.TheVariants.{Closed, Open}
 use Rattle.redundancy_cert.specs.declared.stacks.Side.{Side}
 use Rattle.redundancy_cert.specs.Trees.{closed_count, open_count, IsOneTree}
 use Rattle.redundancy_cert.specs.Fits.{Fits}
-use Rattle.redundancy_cert.specs.Stacks.{whole, path_of_stack}
+use Rattle.redundancy_cert.specs.Stacks.{stack_tree, path_of_stack}
 use Rattle.redundancy_cert.proofs.StackLemmas.{open_stands, closed_stands, whole_stands, closed_whole, open_whole}
 use Rattle.pair_sim.specs.Sims.{Sim, sim, HasGood}
 use Rattle.podem.specs.Sources.{all_sources, sources, undecided, value_of, PlaceInSources, IsSourceTree}
@@ -27,7 +27,7 @@ use Rattle.pair_sim.proofs.Free.{good_is}
 use Rattle.podem.proofs.Turns.{source_tree_fits}
 
 module _ (f : Fault) (n : Netlist) (holds : Holds) where
-  pub partial_tree : (s : Sim) (stack : List Side) (closed : ℕ) (nodes : List Node) → IsSearching f n holds s stack closed → nodes ≡ whole stack (Open ∷ [])
+  pub partial_tree : (s : Sim) (stack : List Side) (closed : ℕ) (nodes : List Node) → IsSearching f n holds s stack closed → nodes ≡ stack_tree stack (Open ∷ [])
       → IsSourceTree f n holds nodes × (closed_count nodes ≡ closed) × (1 ≤ open_count nodes)
   partial_tree s stack closed nodes w e = (
     subst (IsSourceTree f n holds) (sym e) (whole_stands (PlaceInSources f n holds) [] stack (Open ∷ []) w.is.around (open_stands (PlaceInSources f n holds) (path_of_stack stack) w.going)),

@@ -22,7 +22,7 @@ use Rattle.redundancy_cert.specs.Trees.{Tree, ClosedEnd, OpenEnd, SplitOn, Force
 use Rattle.redundancy_cert.specs.Fits.{NodeFits, Fits}
 use Rattle.redundancy_cert.specs.Stacks.{other_nodes, node_of, stack_onto, path_of_stack, StandsBelow, StandsAround, closed_around, searched_open_around, IsTurned, IsClimbed}
 use Rattle.redundancy_cert.proofs.StackLemmas.{stack_onto-append, closed_around-append, searched_open_around-append, around-append, around-last, length-stack_onto, turned_stands, climbed_stands, turned_closed, turned_open, climbed_open, climbed_closed}
-use Rattle.pair_sim.specs.Sims.{Sim, sim, assigned, undone, HasGood}
+use Rattle.pair_sim.specs.Sims.{Sim, sim, assigned, backtracked, HasGood}
 use Rattle.podem.specs.Sources.{sources, undecided, PlaceInSources, IsSourceTree}
 use Rattle.podem.specs.inner.Searching.{IsSearching, MayEnter, MayClimb, IsWhole, OnSources, IsOfCase}
 use Rattle.podem.proofs.Bounds.{undecided_less, free_source}
@@ -82,13 +82,13 @@ module _ (f : Fault) (n : Netlist) (holds : Holds) where
       no_forced : Forced x b ∷ preorder t ≡ Open ∷ [] → ⊥
       no_forced q = cc
 
-  undone_at : (s s' : Sim) (front : List Side) (last : Side) (stack : List Side) → s ≡ sim n f holds (path_of_stack stack) → stack ≡ front ++ last ∷ [] → s' ≡ undone s
+  undone_at : (s s' : Sim) (front : List Side) (last : Side) (stack : List Side) → s ≡ sim n f holds (path_of_stack stack) → stack ≡ front ++ last ∷ [] → s' ≡ backtracked s
       → s' ≡ sim n f holds (path_of_stack front)
   undone_at s s' front last stack at e u =
-      u ∙ (ap undone at ∙ ap (λ p. undone (sim n f holds p)) (ap path_of_stack e ∙ stack_onto-append [] front last))
+      u ∙ (ap backtracked at ∙ ap (λ p. backtracked (sim n f holds p)) (ap path_of_stack e ∙ stack_onto-append [] front last))
 
   -- THE TURN: from the end of one side to the other one
-  pub turned : (s s' new : Sim) (stack stack' : List Side) (done : List Node) → MayClimb f n holds s stack done → s' ≡ undone s → (t : IsTurned done stack stack')
+  pub turned : (s s' new : Sim) (stack stack' : List Side) (done : List Node) → MayClimb f n holds s stack done → s' ≡ backtracked s → (t : IsTurned done stack stack')
       → new ≡ assigned s' t.next.signal t.next.bit → IsSearching f n holds new stack' (closed_around stack + closed_count done)
   turned s s' new stack stack' done w u t a =
       let both = turned_stands (PlaceInSources f n holds) [] done stack stack' t w.is.around w.stands in
@@ -105,7 +105,7 @@ module _ (f : Fault) (n : Netlist) (holds : Holds) where
       }
 
   -- the signal of a turn is X before it
-  pub turn_free : (s s' : Sim) (stack stack' : List Side) (done : List Node) → MayClimb f n holds s stack done → s' ≡ undone s → (t : IsTurned done stack stack')
+  pub turn_free : (s s' : Sim) (stack stack' : List Side) (done : List Node) → MayClimb f n holds s stack done → s' ≡ backtracked s → (t : IsTurned done stack stack')
       → IsUnknown s'.fault s'.netlist s'.holds s'.path t.next.signal
   turn_free s s' stack stack' done w u t =
       let back : s' ≡ sim n f holds (path_of_stack t.front) = undone_at s s' t.front t.last stack w.is.at t.was u in
@@ -116,7 +116,7 @@ module _ (f : Fault) (n : Netlist) (holds : Holds) where
       subst (λ (r : Sim). IsUnknown r.fault r.netlist r.holds r.path t.next.signal) (sym back)
       (subst (λ x. IsUnknown f n holds (path_of_stack t.front) x) (sym t.signal) split.0.1)
 
-  pub climbed : (s s' : Sim) (stack stack' : List Side) (done tree : List Node) → MayClimb f n holds s stack done → s' ≡ undone s → IsClimbed done stack stack' tree
+  pub climbed : (s s' : Sim) (stack stack' : List Side) (done tree : List Node) → MayClimb f n holds s stack done → s' ≡ backtracked s → IsClimbed done stack stack' tree
       → MayClimb f n holds s' stack' tree × (closed_around stack' + closed_count tree ≡ closed_around stack + closed_count done)
   climbed s s' stack stack' done tree w u t =
       let both = climbed_stands (PlaceInSources f n holds) [] done stack stack' tree t w.is.around w.stands in

@@ -5,5 +5,5 @@ use Rattle.pair_sim.specs.Rooms.{CanServeLabels}
 use Rattle.podem.specs.declared.engine.PodemRoom.{PodemRoom}
 
 -- its labels are as those of a room of the simulation
-abbrev pub CanServe : Netlist → Holds → PodemRoom → Type 0
-CanServe n holds r = CanServeLabels n holds r.labels
+abbrev pub CanServePodem : Netlist → Holds → PodemRoom → Type 0
+CanServePodem n holds r = CanServeLabels n holds r.labels

@@ -143,11 +143,11 @@ impl Podem {
 }
 
 impl Engine for Podem {
-    ghost use Rattle.podem.specs.Rooms.{CanServe};
+    ghost use Rattle.podem.specs.Rooms.{CanServePodem};
 
     type Room = PodemRoom;
 
-    ghost serves = { CanServe };
+    ghost serves = { CanServePodem };
 
     fn search(
         &self,

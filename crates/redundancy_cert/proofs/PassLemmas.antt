@@ -17,7 +17,7 @@ use Rattle.std.proofs.lemmas.Bool.{both_ways, ltb-true, ltb-false}
 use Rattle.netlist.specs.ThreeValues.{known}
 use Rattle.netlist.proofs.Placed.{signal_below, signal_from}
 use Rattle.events.specs.declared.trails.Change.{Change}
-use Rattle.label_events.specs.Lines.{IsInner, IsRead}
+use Rattle.label_events.specs.Lines.{IsInner, IsPointLine}
 use Rattle.label_events.proofs.Changing.{fault_changes_nothing, same_off_back}
 use Rattle.redundancy_cert.specs.inner.Tallies.{contradicts}
 use Rattle.redundancy_cert.specs.inner.Passing.{Labelled, AreStanding, IsKept, no_label}
@@ -51,7 +51,7 @@ module _ (p : Labelled) (marks : List Bool) (d c : ℕ) (trail : List (Change La
       step (nat_lt 0 d) refl
 
   module _ (stuck : p.fault ≡ Some f) (decided : decided_in p.decided ≡ decisions path) where
-    pub observed_read : (x i : ℕ) (vs : List Label) (v : Bool) → IsRead p.netlist f.line x → i ≡ x → vs ≡ p.values → v ≡ is_known_as f.value (get_or vs i no_label).good
+    pub observed_read : (x i : ℕ) (vs : List Label) (v : Bool) → IsPointLine p.netlist f.line x → i ≡ x → vs ≡ p.values → v ≡ is_known_as f.value (get_or vs i no_label).good
         → MatchBool (not v) (IsUnobserved f (decisions path) p.netlist (at p.values no_label) → ⊥) (IsUnobserved f (decisions path) p.netlist (at p.values no_label))
     observed_read x i vs v read ix vp is =
         let value : v ≡ is_known_as f.value (at p.values no_label x).good = is ∙ (ap (λ (us : List Label). is_known_as f.value (get_or us i no_label).good) vp ∙ ap (λ j. is_known_as f.value (get_or p.values j no_label).good) ix) in

@@ -19,7 +19,7 @@ use Rattle.netlist.proofs.WellFormed.{one_pin}
 use Rattle.tri.specs.declared.labels.Label.{Label}
 use Rattle.tri.specs.Labels.{Decisions, is_known_as, on_line, labels, source_label, held_value, AreLabels, IsUnobserved}
 use Rattle.tri.proofs.LabelLemmas.{mapped_zip}
-use Rattle.label_events.specs.Lines.{IsInner, IsRead}
+use Rattle.label_events.specs.Lines.{IsInner, IsPointLine}
 use Rattle.redundancy_cert.specs.inner.Tallies.{count_pairs, shows}
 use Rattle.redundancy_cert.specs.inner.Passing.{AreObserved, no_label}
 use Rattle.redundancy_cert.proofs.TallyLemmas.{count_none, count_some}
@@ -175,7 +175,7 @@ module _ (f : Fault) (path : Decisions) (n : Netlist) (sound : IsSound n) (marks
 -- ---- a line that a point reads: it alone may differ
 
 module _ (f : Fault) (path : Decisions) (n : Netlist) (sound : IsSound n) (l : ℕ → Label) (same : (y : ℕ) → Contains (signals n) y → (l y).may_differ ≡ false)
-    (x : ℕ) (read : IsRead n f.line x) where
+    (x : ℕ) (read : IsPointLine n f.line x) where
   pub known_unseen : is_known_as f.value (l x).good ≡ true → IsUnobserved f path n l
   known_unseen is = unobserved_from f path n sound l
       (λ y c. differs_on f (Out y) (l y)

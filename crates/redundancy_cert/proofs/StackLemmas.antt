@@ -9,12 +9,12 @@ use Rattle.redundancy_cert.specs.declared.stacks.Other.{Other}
 use Rattle.redundancy_cert.specs.declared.stacks.Other.TheVariants.{Untried, Searched, Shut}
 use Rattle.redundancy_cert.specs.declared.stacks.Side.{Side}
 use Rattle.redundancy_cert.specs.Trees.{ClosedEnd, OpenEnd, SplitOn, ForcedTo, preorder, Place, places, closed_count, open_count}
-use Rattle.redundancy_cert.specs.Stacks.{other_nodes, node_of, wrapped, whole, stack_onto, StandsBelow, OtherStands, StandsAround, closed_around, open_around, searched_open, searched_open_around, IsTurned, IsClimbed}
+use Rattle.redundancy_cert.specs.Stacks.{other_nodes, node_of, wrapped, stack_tree, stack_onto, StandsBelow, OtherStands, StandsAround, closed_around, open_around, searched_open, searched_open_around, IsTurned, IsClimbed}
 use Rattle.redundancy_cert.proofs.Redundant.{closed_count-append, open_count-append}
 
 -- ---- one decision more at the end
 
-pub whole-append : (ss : List Side) (s : Side) (nodes : List Node) → whole (ss ++ s ∷ []) nodes ≡ whole ss (wrapped s nodes)
+pub whole-append : (ss : List Side) (s : Side) (nodes : List Node) → stack_tree (ss ++ s ∷ []) nodes ≡ stack_tree ss (wrapped s nodes)
 whole-append [] s nodes = refl
 whole-append (r ∷ ss) s nodes = ap (wrapped r) (whole-append ss s nodes)
 
@@ -83,10 +83,10 @@ module _ (P : Place → Type 0) where
   wrapped_stands p s nodes h o a = wrapped_by p s.signal s.bit s.other nodes h o a
 
   -- THE TREE OF A STACK stands if the stack does, and what is at the end of its path
-  pub whole_stands : (p : Path) (ss : List Side) (nodes : List Node) → StandsAround P p ss → StandsBelow P (stack_onto p ss) nodes → StandsBelow P p (whole ss nodes)
+  pub whole_stands : (p : Path) (ss : List Side) (nodes : List Node) → StandsAround P p ss → StandsBelow P (stack_onto p ss) nodes → StandsBelow P p (stack_tree ss nodes)
   whole_stands p [] nodes h a = a
   whole_stands p (s ∷ ss) nodes h a =
-      wrapped_stands p s (whole ss nodes) h.0 h.1 (whole_stands ((s.signal, s.bit) ∷ p) ss nodes h.2 a)
+      wrapped_stands p s (stack_tree ss nodes) h.0 h.1 (whole_stands ((s.signal, s.bit) ∷ p) ss nodes h.2 a)
 
 -- ---- counts
 
@@ -108,13 +108,13 @@ open_wrapped x false Untried nodes = let h = open_count-append nodes (Open ∷ [
 open_wrapped x false (Searched t) nodes = let h = open_count-append nodes t.items in omega arith
 open_wrapped x false Shut nodes = let h = open_count-append nodes [] in omega arith
 
-pub closed_whole : (ss : List Side) (nodes : List Node) → closed_count (whole ss nodes) ≡ closed_around ss + closed_count nodes
+pub closed_whole : (ss : List Side) (nodes : List Node) → closed_count (stack_tree ss nodes) ≡ closed_around ss + closed_count nodes
 closed_whole [] nodes = omega arith
-closed_whole (s ∷ ss) nodes = let h = closed_whole ss nodes in let g = closed_wrapped s.signal s.bit s.other (whole ss nodes) in omega arith
+closed_whole (s ∷ ss) nodes = let h = closed_whole ss nodes in let g = closed_wrapped s.signal s.bit s.other (stack_tree ss nodes) in omega arith
 
-pub open_whole : (ss : List Side) (nodes : List Node) → open_count (whole ss nodes) ≡ open_around ss + open_count nodes
+pub open_whole : (ss : List Side) (nodes : List Node) → open_count (stack_tree ss nodes) ≡ open_around ss + open_count nodes
 open_whole [] nodes = omega arith
-open_whole (s ∷ ss) nodes = let h = open_whole ss nodes in let g = open_wrapped s.signal s.bit s.other (whole ss nodes) in omega arith
+open_whole (s ∷ ss) nodes = let h = open_whole ss nodes in let g = open_wrapped s.signal s.bit s.other (stack_tree ss nodes) in omega arith
 
 -- ---- THE TURN: the tree of the stack stays the same
 
@@ -132,14 +132,14 @@ sides x b o y c q ds s e u d k =
     ∙ (flip b ds ∙ sym (ap (λ (p : Other). cond b (other_nodes p ++ ds) (ds ++ other_nodes p)) u))) in
     ap (λ r. r ∷ cond c (other_nodes q ++ Open ∷ []) ((Open ∷ []) ++ other_nodes q)) node ∙ ap (λ ns. node_of x b o ∷ ns) below
 
-pub turned_same : (done : List Node) (old new : List Side) → IsTurned done old new → whole new (Open ∷ []) ≡ whole old done
+pub turned_same : (done : List Node) (old new : List Side) → IsTurned done old new → stack_tree new (Open ∷ []) ≡ stack_tree old done
 turned_same done old new t =
-    ap (λ ss. whole ss (Open ∷ [])) t.is ∙ (whole-append t.front t.next (Open ∷ [])
-    ∙ (ap (whole t.front) (sides t.last.signal t.last.bit t.last.other t.next.signal t.next.bit t.next.other done t.signal t.bit t.untried t.searched t.split)
-    ∙ (sym (whole-append t.front t.last done) ∙ ap (λ ss. whole ss done) (sym t.was))))
+    ap (λ ss. stack_tree ss (Open ∷ [])) t.is ∙ (whole-append t.front t.next (Open ∷ [])
+    ∙ (ap (stack_tree t.front) (sides t.last.signal t.last.bit t.last.other t.next.signal t.next.bit t.next.other done t.signal t.bit t.untried t.searched t.split)
+    ∙ (sym (whole-append t.front t.last done) ∙ ap (λ ss. stack_tree ss done) (sym t.was))))
 
-pub climbed_same : (done : List Node) (old new : List Side) (tree : List Node) → IsClimbed done old new tree → whole new tree ≡ whole old done
-climbed_same done old new tree w = ap (whole new) w.is ∙ (sym (whole-append new w.last done) ∙ ap (λ ss. whole ss done) (sym w.was))
+pub climbed_same : (done : List Node) (old new : List Side) (tree : List Node) → IsClimbed done old new tree → stack_tree new tree ≡ stack_tree old done
+climbed_same done old new tree w = ap (stack_tree new) w.is ∙ (sym (whole-append new w.last done) ∙ ap (λ ss. stack_tree ss done) (sym w.was))
 
 not_not : (b : Bool) → not (not b) ≡ b
 not_not true = refl

@@ -30,9 +30,9 @@ abbrev pub wrapped : Side → List Node → List Node
 wrapped s nodes = node_of s.signal s.bit s.other ∷ (if s.bit then other_nodes s.other ++ nodes else nodes ++ other_nodes s.other)
 
 -- THE TREE OF A STACK, where these nodes stand at the end of its path
-abbrev pub whole : List Side → List Node → List Node
-whole [] nodes = nodes
-whole (s ∷ ss) nodes = wrapped s (whole ss nodes)
+abbrev pub stack_tree : List Side → List Node → List Node
+stack_tree [] nodes = nodes
+stack_tree (s ∷ ss) nodes = wrapped s (stack_tree ss nodes)
 
 -- the decisions of a stack, onto a path
 abbrev pub stack_onto : Path → List Side → Path

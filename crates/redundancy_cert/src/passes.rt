@@ -16,7 +16,7 @@ ghost use Rattle.tri.specs.Labels.{IsUnobserved};
 ghost use Rattle.label_events.specs.Lines.{AreSameOff};
 
 use crate::observed::observed_marks;
-use crate::tallies::{Tally, contradicts, counted, recount};
+use crate::tallies::{LabelTally, contradicts, counted, recount};
 use events::Events;
 use label_events::{LabelRule, LinePlace, line_place};
 use netlist::{Core, Fault, Holds, Line, SignalId, Tri};
@@ -31,7 +31,7 @@ pub(crate) struct Pass<'a> {
     labelling: Labelling,
     events: Events<'a, Label>,
     observed: Vec<bool>,
-    counts: Tally,
+    counts: LabelTally,
 }
 
 impl<'a> Model for Pass<'a> {
@@ -63,9 +63,9 @@ fn resettle(
     labelling: &Labelling,
     id: SignalId,
     observed: &[bool],
-    counts: Tally,
+    counts: LabelTally,
     holds: &Holds,
-) -> Tally
+) -> LabelTally
     requires within { id < length (signals events.old.netlist) }
     requires trail { events.old.trail ≡ [] }
     requires observed { length observed.now ≡ length (signals events.old.netlist) }
@@ -114,7 +114,7 @@ impl<'a> Pass<'a> {
             labelling,
             events,
             observed,
-            counts: Tally {
+            counts: LabelTally {
                 differing: 0,
                 contradicted: 0,
             },

@@ -12,7 +12,7 @@ use tri::{Label, is_known_as};
 
 /// How many signals are observed and may differ, and how many decided bits are the other ones than what the pins tell.
 #[derive(Clone, Copy)]
-pub(crate) struct Tally {
+pub(crate) struct LabelTally {
     pub differing: usize,
     pub contradicted: usize,
 }
@@ -43,8 +43,8 @@ fn follow(
     decision: Option<bool>,
     before: Label,
     after: Label,
-    counts: Tally,
-) -> Tally
+    counts: LabelTally,
+) -> LabelTally
     requires differing { tally (shows observed before) ≤ counts.differing + tally (shows observed after) }
     requires contradicted { tally (contradicts decision before) ≤ counts.contradicted + tally (contradicts decision after) }
     requires few_differing { counts.differing < 2 ^ 62 }
@@ -52,7 +52,7 @@ fn follow(
     ensures differing { result.differing + tally (shows observed before) ≡ counts.differing + tally (shows observed after) }
     ensures contradicted { result.contradicted + tally (contradicts decision before) ≡ counts.contradicted + tally (contradicts decision after) }
 {
-    Tally {
+    LabelTally {
         differing: counted(
             counts.differing,
             observed && before.may_differ,
@@ -72,8 +72,8 @@ pub(crate) fn recount(
     decided: &[Option<bool>],
     values: &[Label],
     changes: &[Change<Label>],
-    counts: Tally,
-) -> Tally
+    counts: LabelTally,
+) -> LabelTally
     requires observed { length observed.now ≡ length values.now }
     requires decided { length decided.now ≡ length values.now }
     requires small { length values.now < 2 ^ 32 }

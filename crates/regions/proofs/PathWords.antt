@@ -17,7 +17,7 @@ use Rattle.netlist.specs.Settled.{at}
 use Rattle.events.specs.Words.{bit_of, ones}
 use Rattle.events.proofs.WordBits.{bit_of_and, bit_of_xor}
 use Rattle.regions.proofs.GateBits.{bit_none, bit_ones}
-use Rattle.regions.specs.Paths.{bits_at, IsOpen, AreOpen, AreClosed, IsReadOnlyAt, IsReachOf}
+use Rattle.regions.specs.Paths.{bits_at, HasOpenPath, AreOpen, AreClosed, IsReadOnlyAt, IsReachOf}
 use Rattle.regions.specs.Regions.{IsPath}
 use Rattle.regions.specs.Sensitized.{sides, is_noncontrolling, lets_pass, is_sensitized, differ}
 
@@ -119,11 +119,11 @@ module _ (kind : Kind) (pins : List ℕ) (place : ℕ) (values : List ℕ) (amon
 -- ---- paths
 
 module _ (n : Netlist) (values : List ℕ) where
-  pub closed : (x : ℕ) → x < length (signals n) → IsOpen n values x x ones
+  pub closed : (x : ℕ) → x < length (signals n) → HasOpenPath n values x x ones
   closed x l = record { path = []; leads = refl; within = l; word_is = bit_ones }
 
-  pub opened : (x z k h word passes : ℕ) → (r : IsReadOnlyAt n x z k) → IsOpen n values z h word
-      → ((j : ℕ) → j < 64 → bit_of j passes ≡ lets_pass (bits_at values j) r.pin) → IsOpen n values x h (bit_and word passes)
+  pub opened : (x z k h word passes : ℕ) → (r : IsReadOnlyAt n x z k) → HasOpenPath n values z h word
+      → ((j : ℕ) → j < 64 → bit_of j passes ≡ lets_pass (bits_at values j) r.pin) → HasOpenPath n values x h (bit_and word passes)
   opened x z k h word passes r o s = record {
     path = r.pin ∷ o.path;
     leads = (r.only, subst (λ y. IsPath n y o.path h) (sym r.id) o.leads);
@@ -138,7 +138,7 @@ module _ (n : Netlist) (values : List ℕ) where
     swap false false = refl
 
   -- one signal's path is another
-  pub open_set : (heads opens : List ℕ) (x h word : ℕ) → x < length (signals n) → AreOpen n values heads opens → IsOpen n values x h word
+  pub open_set : (heads opens : List ℕ) (x h word : ℕ) → x < length (signals n) → AreOpen n values heads opens → HasOpenPath n values x h word
       → AreOpen n values (set heads x h) (set opens x word)
   open_set heads opens x h word l a o = record {
     heads_size = length-set heads x h ∙ a.heads_size;
@@ -147,12 +147,12 @@ module _ (n : Netlist) (values : List ℕ) where
       | inl e ↦
           let i : x < length heads = subst (λ k. x < k) (sym a.heads_size) l in
           let j : x < length opens = subst (λ k. x < k) (sym a.opens_size) l in
-          subst (λ z. IsOpen n values z (get_or (set heads x h) z 0) (get_or (set opens x word) z 0)) (sym e)
-          (subst (λ k. IsOpen n values x k (get_or (set opens x word) x 0)) (sym (get_or-set_same heads x h 0 i))
-          (subst (λ w. IsOpen n values x h w) (sym (get_or-set_same opens x word 0 j)) o))
+          subst (λ z. HasOpenPath n values z (get_or (set heads x h) z 0) (get_or (set opens x word) z 0)) (sym e)
+          (subst (λ k. HasOpenPath n values x k (get_or (set opens x word) x 0)) (sym (get_or-set_same heads x h 0 i))
+          (subst (λ w. HasOpenPath n values x h w) (sym (get_or-set_same opens x word 0 j)) o))
       | inr ne ↦
-          subst (λ k. IsOpen n values y k (get_or (set opens x word) y 0)) (sym (get_or-set_other heads x y h 0 ne))
-          (subst (λ w. IsOpen n values y (get_or heads y 0) w) (sym (get_or-set_other opens x y word 0 ne)) (a.each y m))
+          subst (λ k. HasOpenPath n values y k (get_or (set opens x word) y 0)) (sym (get_or-set_other heads x y h 0 ne))
+          (subst (λ w. HasOpenPath n values y (get_or heads y 0) w) (sym (get_or-set_other opens x y word 0 ne)) (a.each y m))
     ];
   }
 
@@ -179,7 +179,7 @@ closed_open n values size heads opens e h = record {
   opens_size = h.opens_size ∙ e;
   each = λ x l.
       let m : x < size = omega arith in
-      subst (λ k. IsOpen n values x k (get_or opens x 0)) (sym (h.heads_are x m)) (subst (λ w. IsOpen n values x x w) (sym (h.opens_are x m)) (closed n values x l));
+      subst (λ k. HasOpenPath n values x k (get_or opens x 0)) (sym (h.heads_are x m)) (subst (λ w. HasOpenPath n values x x w) (sym (h.opens_are x m)) (closed n values x l));
 }
 
 -- ---- what a fault reaches
@@ -268,7 +268,7 @@ module _ (n : Netlist) (sound : IsSound n) where
       let same : d ≡ r.pin.gate = same_definition n sound.formed.numbered d r.pin.gate c (gate_defined n sound.formed.numbered r.pin.gate r.only.gate) (id ∙ sym r.id) in
       open_set n values heads opens x h (bit_and word passes) l a
       (opened n values x z k h word passes r
-      (subst (λ y. IsOpen n values z y word) (sym f) (subst (λ w. IsOpen n values z (get_or heads z 0) w) (sym e) (a.each z low.1)))
+      (subst (λ y. HasOpenPath n values z y word) (sym f) (subst (λ w. HasOpenPath n values z (get_or heads z 0) w) (sym e) (a.each z low.1)))
       (λ j m. s j m ∙ (ap (λ (g : Definition). list_all (is_noncontrolling g.kind) (sides k (map (bits_at values j) g.pins))) same
       ∙ ap (λ i. list_all (is_noncontrolling r.pin.gate.kind) (sides i (map (bits_at values j) r.pin.gate.pins))) (sym r.place))))
 

@@ -6,7 +6,7 @@ use Rattle.std.proofs.lemmas.Fmt.{decimal_by_steps}
 use Rattle.std.proofs.lemmas.List.Elements.{All-append, All-cons, All-head, All-nil, All-tail, All-weaker}
 use Rattle.netlist.specs.Names.{is_name_byte}
 use Rattle.fault_universe.specs.Texts.{value_text}
-use Rattle.report.specs.Reports.{IsWord}
+use Rattle.report.specs.Reports.{IsBenchWord}
 
 abbrev pub Above : ℕ → List ℕ → Type 0
 Above low = All (λ b. low < b)
@@ -50,11 +50,11 @@ test_by_all test [] h = refl
 test_by_all test (x ∷ xs) h =
     and_from (test x) (list_all test xs) (All-head (λ b. test b ≡ true) x xs h) (test_by_all test xs (All-tail (λ b. test b ≡ true) x xs h))
 
-pub word_by_test : (text : List ℕ) (told : Bool) → 0 < length text → told ≡ list_all is_name_byte text → (told ≡ true) ↔ IsWord text
+pub word_by_test : (text : List ℕ) (told : Bool) → 0 < length text → told ≡ list_all is_name_byte text → (told ≡ true) ↔ IsBenchWord text
 word_by_test text told some e =
     ((λ t. record { some = some; bytes = all_by_test is_name_byte text (sym e ∙ t) }), (λ w. e ∙ test_by_all is_name_byte text w.bytes))
 
-pub no_word_empty : (text : List ℕ) → length text ≡ 0 → (false ≡ true) ↔ IsWord text
+pub no_word_empty : (text : List ℕ) → length text ≡ 0 → (false ≡ true) ↔ IsBenchWord text
 no_word_empty text none = ((λ t. absurd (false≢true t)), (λ w. let some = w.some in absurd (omega arith)))
 
 -- what follows from what an answer says
@@ -62,7 +62,7 @@ pub option_weaker : {A : Type 0} (o : Option A) {P P' : Type 0} {Q Q' : A → Ty
 option_weaker None f g h = f h
 option_weaker (Some x) f g h = g x h
 
-pub word_above : (name : List ℕ) → IsWord name → Above 32 name
+pub word_above : (name : List ℕ) → IsBenchWord name → Above 32 name
 word_above name w = All-weaker (λ b. is_name_byte b ≡ true) (λ b. 32 < b) name_byte_above name w.bytes
 
 pub value_above : (value : Bool) → Above 32 (value_text value)

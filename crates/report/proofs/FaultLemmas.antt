@@ -5,7 +5,7 @@ use Rattle.std.proofs.lemmas.List.{append_cancel_left, append_cancel_right}
 use Rattle.plain_text.proofs.Parts.{byte_inside, same_parts}
 use Rattle.fault_universe.specs.Texts.{value_text}
 use Rattle.fault_universe.proofs.LineTexts.{same_ends}
-use Rattle.report.specs.Reports.{IsFaultText, IsNamedFault, IsPinFault, IsWord, at_stem, at_output, at_pin}
+use Rattle.report.specs.Reports.{IsFaultText, IsNamedFault, IsPinFault, IsBenchWord, at_stem, at_output, at_pin}
 use Rattle.report.specs.inner.Faults.{FaultBegins, IsNamed, IsPlaced, NamedBegins, PinBegins, begins_stem, begins_output, begins_pin}
 use Rattle.report.proofs.ByteLemmas.{Above, above_append, above_by_test, above_lacks, above_less, number_above, value_above, word_above}
 
@@ -23,12 +23,12 @@ named_lacks text n = above_lacks 32 32 text (omega arith) (named_above text n)
 placed_lacks : (text : List ℕ) → IsPlaced text → All (λ b. b ≢ 32) text
 placed_lacks text n = above_lacks 32 32 text (omega arith) (placed_above text n)
 
-word_lacks : (text : List ℕ) → IsWord text → All (λ b. b ≢ 32) text
+word_lacks : (text : List ℕ) → IsBenchWord text → All (λ b. b ≢ 32) text
 word_lacks text w = above_lacks 32 32 text (omega arith) (word_above text w)
 
 -- whether a text is a name, or a number, and then a value
-pub same_named : (text name : List ℕ) → ((value : _) × (text ≡ name ++ value_text value)) → IsNamed text → IsWord name
-same_named text name v n = subst IsWord (same_ends n.name name n.value v.0 (sym n.text_is ∙ v.1)).0 n.word
+pub same_named : (text name : List ℕ) → ((value : _) × (text ≡ name ++ value_text value)) → IsNamed text → IsBenchWord name
+same_named text name v n = subst IsBenchWord (same_ends n.name name n.value v.0 (sym n.text_is ∙ v.1)).0 n.word
 
 pub same_placed : (text front : List ℕ) → ((value : _) × (text ≡ front ++ value_text value)) → IsPlaced text → (k : ℕ) × (k < 2 ^ 64) × (front ≡ decimal k)
 same_placed text front v n = (n.place, n.small, sym (same_ends (decimal n.place) front n.value v.0 (sym n.text_is ∙ v.1)).0)
@@ -51,8 +51,8 @@ module _ (text front rest : List ℕ) (lacks : All (λ b. b ≢ 32) front) (is :
   pub pin_parts : (more : List ℕ) (b : PinBegins text more) → (front ≡ b.name) × (rest ≡ b.placed ++ 32 ∷ more)
   pin_parts more b = same_parts 32 front b.name rest (b.placed ++ 32 ∷ more) lacks (word_lacks b.name b.word) (sym is ∙ b.text_is)
 
-  pub other_pin_name : (IsWord front → ⊥) → (more : List ℕ) → PinBegins text more → ⊥
-  other_pin_name none more b = none (subst IsWord (sym (pin_parts more b).0) b.word)
+  pub other_pin_name : (IsBenchWord front → ⊥) → (more : List ℕ) → PinBegins text more → ⊥
+  other_pin_name none more b = none (subst IsBenchWord (sym (pin_parts more b).0) b.word)
 
   pub no_second_blank : All (λ b. b ≢ 32) rest → (more : List ℕ) → PinBegins text more → ⊥
   no_second_blank none more b = byte_inside 32 b.placed more (subst (All (λ b. b ≢ 32)) (pin_parts more b).1 none)
@@ -65,7 +65,7 @@ module _ (text front rest : List ℕ) (lacks : All (λ b. b ≢ 32) front) (is :
     pub other_placed : (IsPlaced placed → ⊥) → (more : List ℕ) → PinBegins text more → ⊥
     other_placed none more b = none (subst IsPlaced (sym (placed_parts more b).0) b.is_placed)
 
-    pub pin_found : IsWord front → IsPlaced placed → PinBegins text after
+    pub pin_found : IsBenchWord front → IsPlaced placed → PinBegins text after
     pin_found w p = record { name = front; placed = placed; word = w; is_placed = p; text_is = is ∙ ap (λ t. front ++ 32 ∷ t) parts }
 
 named_once : (text r s : List ℕ) → NamedBegins text r → NamedBegins text s → r ≡ s

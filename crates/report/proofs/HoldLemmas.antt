@@ -1,7 +1,7 @@
 -- Lines of held inputs.
 use Rattle.std.proofs.Common.{◌≡◌, ◌≢◌, ℕ, Bool, true, false, List, [], ◌∷◌, ◌++◌, ◌+◌, length, get_or, refl, sym, ◌∙◌, ap, subst, codes, append_assoc, arith, length-append}
 use Rattle.std.proofs.lemmas.List.{append_cancel_left, append_cancel_right, get_or-append-add}
-use Rattle.report.specs.Reports.{Hold, IsWord}
+use Rattle.report.specs.Reports.{Hold, IsBenchWord}
 use Rattle.report.specs.Texts.{hold_line}
 use Rattle.report.specs.inner.Lines.{IsHold, bit_text, hold_words}
 use Rattle.report.proofs.ByteLemmas.{Above, above_append, above_by_test, above_lacks, above_less, word_above}
@@ -15,7 +15,7 @@ hold_end : (name : List ℕ) (bit : Bool) → hold_line (record { name = name; b
 hold_end name false = ap (λ t. codes "hold " ++ t) (sym (append_assoc name (codes " 0") (10 ∷ [])))
 hold_end name true = ap (λ t. codes "hold " ++ t) (sym (append_assoc name (codes " 1") (10 ∷ [])))
 
-hold_above : (name : List ℕ) (bit : Bool) → IsWord name → Above 31 (hold_words (record { name = name; bit = bit }))
+hold_above : (name : List ℕ) (bit : Bool) → IsBenchWord name → Above 31 (hold_words (record { name = name; bit = bit }))
 hold_above name bit w =
     above_append 31 (codes "hold ") (name ++ bit_text bit) (above_by_test 31 (codes "hold ") refl)
     (above_append 31 name (bit_text bit) (above_less 32 31 name (omega arith) (word_above name w)) (bit_above bit))
@@ -38,11 +38,11 @@ same_bits xs ys true true e = (append_cancel_right xs ys (codes " 1") e, refl)
 same_bits xs ys false true e = absurd (other_bits xs ys e)
 same_bits xs ys true false e = absurd (other_bits ys xs (sym e))
 
-pub other_name : (line words name : List ℕ) (bit : Bool) → line ≡ codes "hold " ++ words → words ≡ name ++ bit_text bit → (IsWord name → ⊥)
+pub other_name : (line words name : List ℕ) (bit : Bool) → line ≡ codes "hold " ++ words → words ≡ name ++ bit_text bit → (IsBenchWord name → ⊥)
     → (h : Hold) → IsHold h → line ≢ hold_words h
 other_name line words name bit l is none h v e =
     let same = append_cancel_left (codes "hold ") words (h.name ++ bit_text h.bit) (sym l ∙ e) in
-    none (subst IsWord (same_bits h.name name h.bit bit (sym same ∙ is)).0 v)
+    none (subst IsBenchWord (same_bits h.name name h.bit bit (sym same ∙ is)).0 v)
 
 hold_same : (h k : Hold) → IsHold h → IsHold k → hold_words h ≡ hold_words k → h ≡ k
 hold_same h k v w e =

@@ -5,7 +5,7 @@ use Rattle.std.proofs.Math.Seq.{take-append_seam}
 use Rattle.std.proofs.lemmas.Fmt.{decimal_injective}
 use Rattle.std.proofs.lemmas.List.{append_cancel_left}
 use Rattle.plain_text.proofs.Parts.{byte_inside, same_parts}
-use Rattle.report.specs.Reports.{IsFaultText, IsLine, IsOutcome, IsWord, Line}
+use Rattle.report.specs.Reports.{IsFaultText, IsLine, IsOutcome, IsBenchWord, Line}
 use Rattle.report.specs.Texts.{fault_line, outcome_text}
 use Rattle.report.specs.declared.outcomes.Outcome.{Outcome}
 use Rattle.report.specs.declared.outcomes.Outcome.TheVariants.{Aborted, Detected, Redundant}
@@ -28,7 +28,7 @@ number_parts text front after lacks is k rest l e = same_parts 32 front (decimal
 
 -- two numbers and a pin
 module _ (text first after : List ℕ) (lacks : All (λ b. b ≢ 32) first) (is : text ≡ first ++ 32 ∷ after) where
-  pub no_second : All (λ b. b ≢ 32) after → (p k : ℕ) (pin : List ℕ) → p < 2 ^ 64 → k < 2 ^ 64 → IsWord pin → text ≢ decimal p ++ 32 ∷ (decimal k ++ 32 ∷ pin)
+  pub no_second : All (λ b. b ≢ 32) after → (p k : ℕ) (pin : List ℕ) → p < 2 ^ 64 → k < 2 ^ 64 → IsBenchWord pin → text ≢ decimal p ++ 32 ∷ (decimal k ++ 32 ∷ pin)
   no_second none p k pin i j v e = no_blank after none k pin j (number_parts text first after lacks is p (decimal k ++ 32 ∷ pin) i e).1
 
   module _ (second last : List ℕ) (lacking : All (λ b. b ≢ 32) second) (parts : after ≡ second ++ 32 ∷ last) where
@@ -38,14 +38,14 @@ module _ (text first after : List ℕ) (lacks : All (λ b. b ≢ 32) first) (is 
         let others = number_parts after second last lacking parts k pin j front.1 in
         (front.0, others.0, others.1)
 
-    pub other_pattern : ((k : ℕ) → k < 2 ^ 64 → first ≢ decimal k) → (p k : ℕ) (pin : List ℕ) → p < 2 ^ 64 → k < 2 ^ 64 → IsWord pin → text ≢ decimal p ++ 32 ∷ (decimal k ++ 32 ∷ pin)
+    pub other_pattern : ((k : ℕ) → k < 2 ^ 64 → first ≢ decimal k) → (p k : ℕ) (pin : List ℕ) → p < 2 ^ 64 → k < 2 ^ 64 → IsBenchWord pin → text ≢ decimal p ++ 32 ∷ (decimal k ++ 32 ∷ pin)
     other_pattern none p k pin i j v e = none p i (place_parts p k pin i j e).0
 
-    pub other_cycle : ((k : ℕ) → k < 2 ^ 64 → second ≢ decimal k) → (p k : ℕ) (pin : List ℕ) → p < 2 ^ 64 → k < 2 ^ 64 → IsWord pin → text ≢ decimal p ++ 32 ∷ (decimal k ++ 32 ∷ pin)
+    pub other_cycle : ((k : ℕ) → k < 2 ^ 64 → second ≢ decimal k) → (p k : ℕ) (pin : List ℕ) → p < 2 ^ 64 → k < 2 ^ 64 → IsBenchWord pin → text ≢ decimal p ++ 32 ∷ (decimal k ++ 32 ∷ pin)
     other_cycle none p k pin i j v e = none k j (place_parts p k pin i j e).1
 
-    pub other_pin : (IsWord last → ⊥) → (p k : ℕ) (pin : List ℕ) → p < 2 ^ 64 → k < 2 ^ 64 → IsWord pin → text ≢ decimal p ++ 32 ∷ (decimal k ++ 32 ∷ pin)
-    other_pin none p k pin i j v e = none (subst IsWord (sym (place_parts p k pin i j e).2) v)
+    pub other_pin : (IsBenchWord last → ⊥) → (p k : ℕ) (pin : List ℕ) → p < 2 ^ 64 → k < 2 ^ 64 → IsBenchWord pin → text ≢ decimal p ++ 32 ∷ (decimal k ++ 32 ∷ pin)
+    other_pin none p k pin i j v e = none (subst IsBenchWord (sym (place_parts p k pin i j e).2) v)
 
 -- the parts of what came of a fault
 detected_same : (p q c d : ℕ) (x y : List ℕ) → p < 2 ^ 64 → q < 2 ^ 64 → c < 2 ^ 64 → d < 2 ^ 64
@@ -100,7 +100,7 @@ not_detected text none p c pin v e =
     none (decimal p ++ 32 ∷ (decimal c ++ 32 ∷ pin)) (append_cancel_left (32 ∷ []) text (codes "detected " ++ (decimal p ++ 32 ∷ (decimal c ++ 32 ∷ pin))) e)
 
 pub no_place : (text place : List ℕ) → text ≡ codes "detected " ++ place
-    → ((p c : ℕ) (pin : List ℕ) → p < 2 ^ 64 → c < 2 ^ 64 → IsWord pin → place ≢ decimal p ++ 32 ∷ (decimal c ++ 32 ∷ pin))
+    → ((p c : ℕ) (pin : List ℕ) → p < 2 ^ 64 → c < 2 ^ 64 → IsBenchWord pin → place ≢ decimal p ++ 32 ∷ (decimal c ++ 32 ∷ pin))
     → (p c : ℕ) (pin : List ℕ) → IsOutcome (Detected p c) pin → 32 ∷ text ≢ outcome_text (Detected p c) pin
 no_place text place is none p c pin v e =
     none p c pin v.0 v.1 v.2

@@ -28,7 +28,7 @@ pub record Report : Type 0 where
   pub lines : List Line
 
 -- a name of .bench's bytes, however long
-pub record IsWord (name : List ℕ) : Type 0 where
+pub record IsBenchWord (name : List ℕ) : Type 0 where
   pub some : 0 < length name
   pub bytes : All (λ b. IsTrue (is_name_byte b)) name
 
@@ -36,7 +36,7 @@ pub record IsWord (name : List ℕ) : Type 0 where
 pub record IsNamedFault (kind text : List ℕ) : Type 0 where
   pub name : List ℕ
   pub value : Bool
-  pub word : IsWord name
+  pub word : IsBenchWord name
   pub text_is : text ≡ kind ++ (name ++ value_text value)
 
 -- `pin z 3/1`
@@ -44,7 +44,7 @@ pub record IsPinFault (text : List ℕ) : Type 0 where
   pub name : List ℕ
   pub place : ℕ
   pub value : Bool
-  pub word : IsWord name
+  pub word : IsBenchWord name
   pub small : place < 2 ^ 64
   pub text_is : text ≡ codes "pin " ++ (name ++ (codes " " ++ (decimal place ++ value_text value)))
 
@@ -56,7 +56,7 @@ pub data IsFaultText : List ℕ → Type 0 where
 
 -- a pin is named exactly where the fault is detected
 abbrev pub IsOutcome : Outcome → List ℕ → Type 0
-IsOutcome (Detected pattern cycle) pin = (pattern < 2 ^ 64) × (cycle < 2 ^ 64) × IsWord pin
+IsOutcome (Detected pattern cycle) pin = (pattern < 2 ^ 64) × (cycle < 2 ^ 64) × IsBenchWord pin
 IsOutcome Redundant pin = pin ≡ []
 IsOutcome Aborted pin = pin ≡ []
 
@@ -69,5 +69,5 @@ pub record IsReport (r : Report) : Type 0 where
   pub counts : AreSmallCounts r.counts
   pub coverage : r.coverage / 100 < 2 ^ 64
   pub efficiency : r.efficiency / 100 < 2 ^ 64
-  pub holds : All (λ (h : Hold). IsWord h.name) r.holds
+  pub holds : All (λ (h : Hold). IsBenchWord h.name) r.holds
   pub lines : All IsLine r.lines

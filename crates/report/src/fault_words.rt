@@ -1,6 +1,6 @@
 //! The line of a fault, word by word.
 ghost use Rattle.std.specs.Prelude.{◌≡◌, ◌≢◌, ◌<◌, ◌^◌, ◌++◌, ◌∷◌, ◌↔◌, ℕ, List, IsTrue, MatchOption, codes, decimal};
-ghost use Rattle.report.specs.Reports.{Line, IsLine, IsOutcome, IsWord};
+ghost use Rattle.report.specs.Reports.{Line, IsLine, IsOutcome, IsBenchWord};
 ghost use Rattle.report.specs.Texts.{outcome_text};
 ghost use Rattle.report.specs.declared.outcomes.Outcome.{Outcome};
 ghost use Rattle.report.specs.inner.Faults.{IsNamed, IsPlaced, NamedBegins, PinBegins, FaultBegins};
@@ -70,8 +70,8 @@ fn behind_fault(line: &[u8]) -> Option<&[u8]>
 /// `1 1 y`
 fn place_in(text: &[u8]) -> Option<(u64, u64, &[u8])>
     ensures { MatchOption result
-        ((pattern cycle : ℕ) (pin : List ℕ) → pattern < 2 ^ 64 → cycle < 2 ^ 64 → IsWord pin → text.now ≢ decimal pattern ++ 32 ∷ (decimal cycle ++ 32 ∷ pin))
-        (λ p. (p.0 < 2 ^ 64) × (p.1 < 2 ^ 64) × IsWord p.2.now × (text.now ≡ decimal p.0 ++ 32 ∷ (decimal p.1 ++ 32 ∷ p.2.now))) }
+        ((pattern cycle : ℕ) (pin : List ℕ) → pattern < 2 ^ 64 → cycle < 2 ^ 64 → IsBenchWord pin → text.now ≢ decimal pattern ++ 32 ∷ (decimal cycle ++ 32 ∷ pin))
+        (λ p. (p.0 < 2 ^ 64) × (p.1 < 2 ^ 64) × IsBenchWord p.2.now × (text.now ≡ decimal p.0 ++ 32 ∷ (decimal p.1 ++ 32 ∷ p.2.now))) }
 {
     let (first, after) = split_at(text, b' ')?;
     let (second, pin) = split_at(after, b' ')?;

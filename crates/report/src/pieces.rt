@@ -3,7 +3,7 @@ ghost use Rattle.std.specs.Prelude.{◌≡◌, ◌≢◌, ◌<◌, ◌+◌, ◌^
 ghost use Rattle.std.specs.List.{list_all};
 ghost use Rattle.netlist.specs.Names.{is_name_byte};
 ghost use Rattle.fault_universe.specs.Texts.{value_text};
-ghost use Rattle.report.specs.Reports.{IsWord};
+ghost use Rattle.report.specs.Reports.{IsBenchWord};
 ghost use Rattle.report.specs.inner.Lines.{bit_text};
 
 /// What stands behind a word at the front.
@@ -42,7 +42,7 @@ fn are_name_bytes(text: &[u8]) -> bool
 
 /// Whether the text is a name, however long.
 pub fn is_word(text: &[u8]) -> bool
-    ensures { IsTrue result ↔ IsWord text.now }
+    ensures { IsTrue result ↔ IsBenchWord text.now }
 {
     if text.is_empty() {
         return false;

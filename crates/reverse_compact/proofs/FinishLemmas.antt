@@ -15,7 +15,7 @@ use Rattle.cubes.specs.Cubes.{Pattern}
 use Rattle.word_sim.specs.Hits.{IsDetectedAt, IsLastDetected, IsNeverDetected, LastDetected}
 use Rattle.list_core.specs.declared.verdicts.Verdict.{Verdict}
 use Rattle.list_core.specs.declared.verdicts.Verdict.TheVariants.{Open, Detected, Redundant, Aborted}
-use Rattle.list_core.specs.Subjects.{Subject, Represents}
+use Rattle.list_core.specs.Subjects.{Subject, RepresentsIn}
 use Rattle.list_core.specs.States.{State, IsTrueList}
 use Rattle.list_core.specs.Verdicts.{verdict_at, VerdictHolds}
 use Rattle.reverse_compact.specs.Kept.{AreLastDetected, IsNeeded, is_last_at, kept_from, new_place, marked_from}
@@ -67,7 +67,7 @@ needed_marked n ps fs ls k are need =
 -- ---- verdicts
 
 -- where nothing detects a class's fault, its verdict speaks of no pattern
-verdict_stays : (j : Subject) (ps kept : List Pattern) (c : ℕ) (f : Fault) (v : Verdict) → Represents j c f → IsNeverDetected j.netlist ps f
+verdict_stays : (j : Subject) (ps kept : List Pattern) (c : ℕ) (f : Fault) (v : Verdict) → RepresentsIn j c f → IsNeverDetected j.netlist ps f
     → VerdictHolds j ps c v → VerdictHolds j kept c v
 verdict_stays j ps kept c f Open rep never held = tt
 verdict_stays j ps kept c f (Detected place point) rep never held =
@@ -84,7 +84,7 @@ module _ (j : Subject) (ps : List Pattern) (ls : List (Option (ℕ × Point))) (
   verdict_finished c f (Some l) old is last =
       inl (new_place (is_last_at ls) l.0, l.1, refl, last_kept j.netlist ps (is_last_at ls) f l.0 l.1 (some_marked ls c l is) last)
 
-  verdict_holds : (c : ℕ) (f : Fault) (l : Option (ℕ × Point)) (old : Verdict) → last_at ls c ≡ l → LastDetected j.netlist ps f l → Represents j c f
+  verdict_holds : (c : ℕ) (f : Fault) (l : Option (ℕ × Point)) (old : Verdict) → last_at ls c ≡ l → LastDetected j.netlist ps f l → RepresentsIn j c f
       → VerdictHolds j ps c old → VerdictHolds j (kept_from (is_last_at ls) 0 ps) c (new_verdict (is_last_at ls) l old)
   verdict_holds c f None old is never rep held = verdict_stays j ps (kept_from (is_last_at ls) 0 ps) c f old rep never held
   verdict_holds c f (Some l) old is last rep held =
@@ -123,7 +123,7 @@ are_finished j s ls kept new list are named is =
         let Q : Verdict → Type 0 = λ v. VerdictHolds j (kept_from (is_last_at ls) 0 s.patterns) c v in
         let inside : c < length j.classes.representatives = omega (arith, within, list.count) in
         let f = get_or j.classes.representatives c no_fault in
-        let rep : Represents j c f = slice_get-get_or j.classes.representatives c no_fault inside in
+        let rep : RepresentsIn j c f = slice_get-get_or j.classes.representatives c no_fault inside in
         subst Q (sym (named.each c within))
         (verdict_holds j s.patterns ls are c f (last_at ls c) (verdict_at s.verdicts c) refl (last_of j.netlist s.patterns j.classes.representatives ls c f are rep) rep (list.hold c))
     at_class c (inr past) =

@@ -6,7 +6,7 @@ use Rattle.cubes.specs.Cubes.{Pattern}
 use Rattle.word_sim.specs.Hits.{IsLastDetected, IsNeverDetected}
 use Rattle.list_core.specs.declared.verdicts.Verdict.{Verdict}
 use Rattle.list_core.specs.declared.verdicts.Verdict.TheVariants.{Detected}
-use Rattle.list_core.specs.Subjects.{Subject, Represents}
+use Rattle.list_core.specs.Subjects.{Subject, RepresentsIn}
 use Rattle.list_core.specs.States.{State}
 use Rattle.list_core.specs.Verdicts.{verdict_at, AllHold}
 use Rattle.reverse_compact.specs.Kept.{AreKept}
@@ -21,5 +21,5 @@ IsFinished j kept f old new =
 pub record AreFinished (j : Subject) (s : State) (kept : List Pattern) (verdicts : List Verdict) : Type 0 where
   pub are_kept : AreKept j.netlist j.classes.representatives s.patterns kept
   pub count : length verdicts ≡ length s.verdicts
-  pub each : (class : ℕ) (f : Fault) → Represents j class f → IsFinished j kept f (verdict_at s.verdicts class) (verdict_at verdicts class)
+  pub each : (class : ℕ) (f : Fault) → RepresentsIn j class f → IsFinished j kept f (verdict_at s.verdicts class) (verdict_at verdicts class)
   pub hold : AllHold j kept verdicts

@@ -8,7 +8,7 @@ use Rattle.netlist.specs.Holds.{Holds}
 use Rattle.cubes.specs.Cubes.{Pattern}
 use Rattle.bench_text.specs.declared.refusal.Names.TheVariants.{Design}
 use Rattle.bench_text.specs.Canonical.{canonical}
-use Rattle.bench_text.specs.Laws.{CanonicalTextIsRead, Fits, is_free}
+use Rattle.bench_text.specs.Laws.{CanonicalTextIsRead, IsReadable, is_free}
 use Rattle.bench_text.specs.Reading.{IsRead}
 use Rattle.stil_read.specs.Laws.{WrittenStands}
 use Rattle.stil_read.specs.Reading.{StandsFor}
@@ -28,7 +28,7 @@ unreserved : (b : Bool) → b ≡ false → IsTrue (not b)
 unreserved b e = ap not e
 
 -- a design is read from its canonical text
-design_fits : (n : Netlist) → IsDesign n → Fits Design n
+design_fits : (n : Netlist) → IsDesign n → IsReadable Design n
 design_fits n design = record {
   short = design.short;
   free = All-weaker (λ (x : List ℕ). is_reserved x ≡ false) (λ (x : List ℕ). IsTrue (is_free Design x)) (λ x e. unreserved (is_reserved x) e) n.names design.unreserved;

@@ -15,18 +15,18 @@ use Rattle.word_sim.specs.Hits.{IsNeverDetected}
 use Rattle.reverse_compact.proofs.KeepLemmas.{kept_all}
 use Rattle.reverse_compact.specs.Finished.{AreFinished}
 use Rattle.worker.specs.Working.{NoneOpen}
-use Rattle.list_core.specs.Subjects.{Subject, Represents}
+use Rattle.list_core.specs.Subjects.{Subject, RepresentsIn}
 use Rattle.list_core.specs.States.{State, IsTrueList}
 use Rattle.list_core.specs.declared.verdicts.Verdict.{Verdict}
 use Rattle.list_core.specs.declared.verdicts.Verdict.TheVariants.{Open, Detected, Redundant, Aborted}
 use Rattle.list_core.specs.Verdicts.{VerdictHolds, is_open, verdict_at}
 use Rattle.run_files.specs.inner.Verdicts.{AreVerdicts, IsVerdict}
 
-same_fault : (j : Subject) (class : ℕ) (f g : Fault) → Represents j class f → Represents j class g → f ≡ g
+same_fault : (j : Subject) (class : ℕ) (f g : Fault) → RepresentsIn j class f → RepresentsIn j class g → f ≡ g
 same_fault j class f g p q = let both : Some f ≡ Some g = sym p ∙ q in cc
 
 -- a verdict that holds of a class that no kept pattern detects
-held : (j : Subject) (kept : List Pattern) (class : ℕ) (f : Fault) → Represents j class f → IsNeverDetected j.netlist kept f
+held : (j : Subject) (kept : List Pattern) (class : ℕ) (f : Fault) → RepresentsIn j class f → IsNeverDetected j.netlist kept f
     → (v : Verdict) → is_open v ≡ false → VerdictHolds j kept class v → IsVerdict j.netlist j.holds j.limit kept f v
 held j kept class f represents never Open shut holds = absurd (true≢false shut)
 held j kept class f represents never (Detected place point) shut holds =

@@ -5,11 +5,11 @@ use Rattle.netlist.specs.Holds.{Holds}
 use Rattle.bench_text.specs.Canonical.{canonical}
 use Rattle.report.specs.Texts.{report_text}
 use Rattle.run_files.specs.declared.files.RunFiles.{RunFiles}
-use Rattle.good_files.specs.GoodFiles.{AreGoodFiles, Files}
+use Rattle.good_files.specs.GoodFiles.{AreGoodFiles, FiveFiles}
 use Rattle.good_files.specs.RunTheorem.{RunTheorem}
 use Rattle.good_files.specs.ScanOff.{design_chains}
 
-abbrev pub files_of : RunFiles → Files
+abbrev pub files_of : RunFiles → FiveFiles
 files_of f = record { net = f.net.items; scan = f.scan.items; stil = f.stil.items; certificate = f.certificate.items; report = f.report.items }
 
 -- Five good files, the netlist's in its canonical text, and what they say comes true. The report is at hand too.

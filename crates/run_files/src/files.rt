@@ -1,12 +1,12 @@
 //! From a design to its five files.
 ghost use Rattle.std.specs.Prelude.{◌≡◌, ◌<◌, ◌≤◌, ◌^◌, IfOk, length};
 ghost use Rattle.std.specs.List.{All};
+ghost use Rattle.limits.specs.Limits.{most_limit};
 ghost use Rattle.netlist.specs.Designs.{IsDesign};
 ghost use Rattle.cubes.specs.Cubes.{IsPatternOf};
 ghost use Rattle.netlist.specs.Holds.{AreHoldsOf};
 ghost use Rattle.scan_insert.specs.Scanned.{AreChainsOf, scanned_of};
 ghost use Rattle.run_report.specs.Subjects.{IsSubjectOf};
-ghost use Rattle.good_files.specs.GoodFiles.{most_limit};
 ghost use Rattle.good_files.specs.ScanOff.{design_chains};
 ghost use Rattle.run_files.specs.Runs.{IsRun};
 ghost use Rattle.run_files.specs.inner.Written.{IsTestText, IsWritten};
@@ -40,7 +40,7 @@ use stil_write::write_stil;
 /// How a run goes: at most so many chains, so many workers, at most so many closed ends a search,
 /// and the seed of the bits that cubes leave open.
 #[derive(Clone, Copy, Debug)]
-pub struct Plan {
+pub struct RunPlan {
     pub chains: u32,
     pub workers: u32,
     pub limit: u32,
@@ -124,7 +124,7 @@ fn said_of(
 fn texts_of(
     alloc: Global,
     core: &Core,
-    plan: Plan,
+    plan: RunPlan,
     holds: &Holds,
     chains: &Chains,
     subject: &Subject,
@@ -177,10 +177,10 @@ pub fn make_files<R: Threads + Wait + Sync, E: Engine + Sync, G: Gate + Sync>(
     rt: &R,
     alloc: Global,
     core: &Core,
-    plan: Plan,
+    plan: RunPlan,
     engine: &E,
     holds: &Holds,
-    gate: &G,
+    stage: &G,
 ) -> Result<RunFiles, NoMemory>
     requires design { IsDesign core.now }
     requires some { 1 ≤ plan.chains }
@@ -193,7 +193,7 @@ pub fn make_files<R: Threads + Wait + Sync, E: Engine + Sync, G: Gate + Sync>(
     netlist.sound();
     let chains = stitched(alloc, netlist, plan.chains)?;
     let subject = subject_of(alloc, netlist)?;
-    let found = search(rt, alloc, core, &subject.classes, plan, engine, gate, holds)?;
+    let found = search(rt, alloc, core, &subject.classes, plan, engine, stage, holds)?;
     let files = texts_of(alloc, core, plan, holds, &chains, &subject, found)?;
     written_is_run();
     Ok(files)

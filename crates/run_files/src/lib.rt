@@ -1,6 +1,6 @@
 //! The five files of a run: from a design to its scanned netlist, the test, the certificate and the report.
 //!
-//! Gives: `make_files`, `Plan`, `RunFiles`.
+//! Gives: `make_files`, `RunPlan`, `RunFiles`.
 //! Proved: `make_files`: good files of a design, with the run theorem, for every number of workers and interleaving, searched by any engine that
 //! keeps the trait's contract.
 //! Tested: run by `run`.
@@ -15,4 +15,4 @@ mod searching;
 mod stitching;
 mod truth;
 
-pub use files::{Plan, RunFiles, make_files};
+pub use files::{RunFiles, RunPlan, make_files};

@@ -6,7 +6,7 @@ ghost use Rattle.netlist.specs.Lines.{IsLineOf, signal_of};
 ghost use Rattle.scan_insert.specs.Names.{output_name};
 ghost use Rattle.scan_insert.specs.Scanned.{AreChainsOf, scanned_of};
 ghost use Rattle.fault_universe.specs.Universe.{universe_of};
-ghost use Rattle.report.specs.Reports.{IsOutcome, IsWord};
+ghost use Rattle.report.specs.Reports.{IsOutcome, IsBenchWord};
 ghost use Rattle.run_files.specs.inner.Outcomes.{AreLines, IsAdded, IsOutcomeOf};
 ghost use Rattle.run_files.specs.inner.Verdicts.{IsInside};
 
@@ -34,7 +34,7 @@ fn said_of<'a>(
 ) -> Said<'a>
     requires chains { AreChainsOf netlist.now chains.now }
     requires pins { pins.now ≡ map (output_name (scanned_of netlist.now chains.now)) (scanned_of netlist.now chains.now).outputs }
-    requires words { All IsWord pins.now }
+    requires words { All IsBenchWord pins.now }
     requires verdict { IsInside netlist.now verdict.now }
     ensures outcome { IsOutcomeOf netlist.now chains.now verdict.now result.outcome result.pin.now }
     ensures sound { IsOutcome result.outcome result.pin.now }
@@ -71,7 +71,7 @@ fn add_line(
 ) -> Result<FaultLines, AllocError>
     requires chains { AreChainsOf netlist.now chains.now }
     requires pins { pins.now ≡ map (output_name (scanned_of netlist.now chains.now)) (scanned_of netlist.now chains.now).outputs }
-    requires words { All IsWord pins.now }
+    requires words { All IsBenchWord pins.now }
     requires verdict { IsInside netlist.now verdict.now }
     requires line { IsLineOf netlist.now fault.line }
     requires signal { signal_of fault.line < length (signals netlist.now) }
@@ -95,7 +95,7 @@ fn lines_within(
 ) -> Result<FaultLines, AllocError>
     requires chains { AreChainsOf netlist.now chains.now }
     requires pins { pins.now ≡ map (output_name (scanned_of netlist.now chains.now)) (scanned_of netlist.now chains.now).outputs }
-    requires words { All IsWord pins.now }
+    requires words { All IsBenchWord pins.now }
     requires universe { faults.now ≡ universe_of netlist.now }
     requires size { length classes.now.numbers ≡ length (universe_of netlist.now) }
     requires within { All (λ class. class < length verdicts.now) classes.now.numbers }
@@ -134,7 +134,7 @@ pub(crate) fn lines_of(
 ) -> Result<FaultLines, NoMemory>
     requires chains { AreChainsOf netlist.now chains.now }
     requires pins { pins.now ≡ map (output_name (scanned_of netlist.now chains.now)) (scanned_of netlist.now chains.now).outputs }
-    requires words { All IsWord pins.now }
+    requires words { All IsBenchWord pins.now }
     requires universe { faults.now ≡ universe_of netlist.now }
     requires size { length classes.now.numbers ≡ length (universe_of netlist.now) }
     requires within { All (λ class. class < length verdicts.now) classes.now.numbers }

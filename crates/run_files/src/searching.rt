@@ -1,6 +1,7 @@
 //! The search, by workers, and the compaction of what they found.
 ghost use Rattle.std.specs.Prelude.{◌≡◌, ◌+◌, ◌<◌, ◌≤◌, ◌^◌, IfOk, length};
 ghost use Rattle.std.specs.List.{All};
+ghost use Rattle.limits.specs.Limits.{most_workers};
 ghost use Rattle.netlist.specs.declared.lines.Fault.{Fault as FaultOf};
 ghost use Rattle.netlist.specs.Designs.{IsDesign};
 ghost use Rattle.netlist.specs.Lines.{IsLineOf};
@@ -10,7 +11,7 @@ ghost use Rattle.list_core.specs.Subjects.{HaveLines, class_count};
 ghost use Rattle.reverse_compact.specs.Finished.{AreFinished};
 ghost use Rattle.run_files.specs.inner.Verdicts.{AreVerdicts};
 
-use crate::files::Plan;
+use crate::files::RunPlan;
 use fault_collapse::Classes;
 use fault_universe::{faults_have_lines, few_faults};
 use list_core::{About, FaultList};
@@ -58,9 +59,9 @@ fn search_named<J: About + Send + Sync, E: Engine + Sync, G: Gate + Sync, R: Thr
     alloc: Global,
     core: &Core,
     classes: &Classes,
-    plan: Plan,
+    plan: RunPlan,
     engine: &E,
-    gate: &G,
+    stage: &G,
     holds: &Holds,
 ) -> Result<Finished, NoMemory>
     requires core { core.now ≡ J.subject.netlist }
@@ -69,7 +70,7 @@ fn search_named<J: About + Send + Sync, E: Engine + Sync, G: Gate + Sync, R: Thr
     requires limit { (plan.limit ≡ J.subject.limit) × (1 ≤ plan.limit) }
     requires holds { (holds.now ≡ J.subject.holds) × AreHoldsOf core.now holds.now }
     requires lines { HaveLines J.subject }
-    requires workers { (0 < plan.workers) × (plan.workers ≤ 64) }
+    requires workers { (0 < plan.workers) × (plan.workers ≤ most_workers) }
     ensures verdicts { IfOk result (λ f. AreVerdicts core.now holds.now classes.now plan.limit f.patterns.items f.verdicts.items) }
     ensures few { IfOk result (λ f. length f.patterns.items < 2 ^ 32) }
 {
@@ -80,7 +81,7 @@ fn search_named<J: About + Send + Sync, E: Engine + Sync, G: Gate + Sync, R: Thr
         list,
         core,
         engine,
-        gate,
+        stage,
         plan.workers,
         plan.seed,
         holds,
@@ -106,19 +107,19 @@ pub(crate) fn search<E: Engine + Sync, G: Gate + Sync, R: Threads + Wait + Sync>
     alloc: Global,
     core: &Core,
     classes: &Classes,
-    plan: Plan,
+    plan: RunPlan,
     engine: &E,
-    gate: &G,
+    stage: &G,
     holds: &Holds,
 ) -> Result<Finished, NoMemory>
     requires design { IsDesign core.now }
     requires classes { AreClasses core.now classes.now }
     requires limit { 1 ≤ plan.limit }
     requires held { AreHoldsOf core.now holds.now }
-    requires workers { (0 < plan.workers) × (plan.workers ≤ 64) }
+    requires workers { (0 < plan.workers) × (plan.workers ≤ most_workers) }
     ensures verdicts { IfOk result (λ f. AreVerdicts core.now holds.now classes.now plan.limit f.patterns.items f.verdicts.items) }
     ensures few { IfOk result (λ f. length f.patterns.items < 2 ^ 32) }
 {
     represented(core, classes);
-    search_named::<Brand, E, G, R>(rt, alloc, core, classes, plan, engine, gate, holds)
+    search_named::<Brand, E, G, R>(rt, alloc, core, classes, plan, engine, stage, holds)
 }

@@ -1,7 +1,7 @@
 //! The pins at a netlist's outputs.
 ghost use Rattle.std.specs.Prelude.{◌≡◌, ◌<◌, ◌++◌, ◌∷◌, [], length, map, IfOk, OnOk};
 ghost use Rattle.std.specs.List.{All};
-ghost use Rattle.report.specs.Reports.{IsWord};
+ghost use Rattle.report.specs.Reports.{IsBenchWord};
 ghost use Rattle.scan_insert.specs.Names.{output_name, pin_name_of};
 
 use netlist::{NameTable, Netlist, NoMemory};
@@ -25,7 +25,7 @@ fn add_pin(
 /// The name of the pin at each output.
 pub fn pin_names(alloc: Global, netlist: &Netlist) -> Result<NameTable, NoMemory>
     ensures names { IfOk result (λ names. names ≡ map (output_name netlist.now) netlist.now.outputs) }
-    ensures words { IfOk result (λ names. All IsWord names) }
+    ensures words { IfOk result (λ names. All IsBenchWord names) }
 {
     netlist.sound();
     let mut names = NameTable::new(alloc);

@@ -9,12 +9,12 @@ use Rattle.netlist.specs.declared.kinds.Kind.TheVariants.{And, Or, Not, Buff}
 use Rattle.netlist.specs.declared.lines.Line.{Line}
 use Rattle.netlist.specs.declared.lines.Line.TheVariants.{Stem, Pin, Out}
 use Rattle.netlist.specs.declared.lines.Fault.{Fault}
-use Rattle.netlist.specs.Netlist.{Definition, Netlist, is_cell, is_gate, cells, gates, signals, IsAcyclic}
+use Rattle.netlist.specs.Netlist.{Definition, Netlist, is_cell, is_gate, cells, gates, signals, IsAcyclic, define}
 use Rattle.netlist.specs.Conditions.{IsNumbered, IsClosed}
 use Rattle.netlist.specs.Settled.{Table, Settles, stuck, with_fault, on_pins, pins_of, outs, next}
 use Rattle.netlist.proofs.Lists.{all_left, all_right, all_flat_map, all_filter, All-from_contains, contains_head, contains_tail, contains_filter, map_agree, map_map}
 use Rattle.netlist.proofs.WellFormed.{one_pin}
-use Rattle.scan_insert.specs.Scan.{Naming, define, scan_cell, scan_definition, show_last, scanned}
+use Rattle.scan_insert.specs.Scan.{Naming, scan_cell, scan_definition, show_last, scanned}
 use Rattle.netlist.specs.Lines.{IsFaultOf}
 use Rattle.scan_insert.specs.Laws.{Multiplexes}
 use Rattle.scan_insert.proofs.Namings.{Origin, Original, Enable, EnableNot, ScanIn, ScanOut, Captured, Shifted, Chosen, Held, IsNaming, named_fault}

@@ -4,16 +4,16 @@ use Rattle.std.specs.List.{All, Contains, filter, flat_map, zip}
 use Rattle.std.proofs.lemmas.List.{length-map, get_or-map, map-append, take-map}
 use Rattle.std.proofs.lemmas.List.Elements.{All-head, All-tail, All-contains, Contains-append_left, Contains-append_right}
 use Rattle.netlist.specs.declared.kinds.Kind.TheVariants.{And, Or, Not, Buff, Dff}
-use Rattle.netlist.specs.Netlist.{Definition, Netlist, is_cell, is_gate, cells, name_of, signals}
+use Rattle.netlist.specs.Netlist.{Definition, Netlist, is_cell, is_gate, cells, name_of, signals, define}
 use Rattle.netlist.specs.Conditions.{IsSound}
 use Rattle.netlist.proofs.Lists.{All-from_contains, contains_head, contains_tail, contains_filter, filter_contains, contains_map, map_agree, map_map}
 use Rattle.chain_stitch.specs.Chains.{cells_of}
 use Rattle.scan_insert.specs.declared.sites.Site.{Site}
 use Rattle.scan_insert.specs.Names.{names_of, numbers_from}
-use Rattle.scan_insert.specs.Scan.{Naming, define, scan_cell, scan_definition, show_last, scanned}
+use Rattle.scan_insert.specs.Scan.{Naming, scan_cell, scan_definition, show_last, scanned}
 use Rattle.scan_insert.specs.Scanned.{befores, last_of, first_scan_out, naming_of, scanned_of}
 use Rattle.scan_insert.proofs.Namings.{Origin, Original, Enable, EnableNot, ScanIn, ScanOut, Captured, Shifted, Chosen, Held}
-use Rattle.scan_insert.specs.Named.{equation, named, names_before, cell_equations, scan_equations, show_equations, HasScanNames, ScannedByNames, HasSiteNames, SitesHaveNames}
+use Rattle.scan_insert.specs.Named.{named_equation, named, names_before, cell_equations, scan_equations, show_equations, HasScanNames, ScannedByNames, HasSiteNames, SitesHaveNames}
 use Rattle.scan_insert.proofs.Chained.{contains_last}
 use Rattle.scan_insert.proofs.Concrete.{AreDealt, are_dealt, some_chain, gates_pins, is_numbered, ins_length, outs_length}
 use Rattle.scan_insert.proofs.Loopless.{defined_signal}
@@ -59,21 +59,21 @@ names_of_befores name n held base c input (chain ∷ chains) e h k =
 five_equations : (name a b d h q on off before : List ℕ) (read read' : List (List ℕ))
     → a ≡ codes "SC__a_" ++ name → b ≡ codes "SC__b_" ++ name → d ≡ codes "SC__d_" ++ name → h ≡ codes "SC__s_" ++ name → q ≡ name
     → on ≡ codes "SC__se" → off ≡ codes "SC__nse" → read ≡ read'
-    → equation a And (read ++ off ∷ []) ∷ equation b And (before ∷ on ∷ []) ∷ equation d Or (a ∷ b ∷ []) ∷ equation h Dff (d ∷ []) ∷ equation q Buff (h ∷ []) ∷ []
+    → named_equation a And (read ++ off ∷ []) ∷ named_equation b And (before ∷ on ∷ []) ∷ named_equation d Or (a ∷ b ∷ []) ∷ named_equation h Dff (d ∷ []) ∷ named_equation q Buff (h ∷ []) ∷ []
     ≡ cell_equations name read' before
 five_equations name a b d h q on off before read read' ea eb ed eh eq eon eoff eread =
-    let one : (x : List ℕ) (y : List (List ℕ)) (z : List ℕ) → a ≡ x → read ≡ y → off ≡ z → equation a And (read ++ off ∷ []) ≡ equation x And (y ++ z ∷ []) =
-    λ x y z e f g. ap (λ w. equation w And (read ++ off ∷ [])) e ∙ (ap (λ w. equation x And (w ++ off ∷ [])) f ∙ ap (λ w. equation x And (y ++ w ∷ [])) g) in
+    let one : (x : List ℕ) (y : List (List ℕ)) (z : List ℕ) → a ≡ x → read ≡ y → off ≡ z → named_equation a And (read ++ off ∷ []) ≡ named_equation x And (y ++ z ∷ []) =
+    λ x y z e f g. ap (λ w. named_equation w And (read ++ off ∷ [])) e ∙ (ap (λ w. named_equation x And (w ++ off ∷ [])) f ∙ ap (λ w. named_equation x And (y ++ w ∷ [])) g) in
     let r1 = one (codes "SC__a_" ++ name) read' (codes "SC__nse") ea eread eoff in
-    let r2 : equation b And (before ∷ on ∷ []) ≡ equation (codes "SC__b_" ++ name) And (before ∷ codes "SC__se" ∷ []) =
-    ap (λ w. equation w And (before ∷ on ∷ [])) eb ∙ ap (λ w. equation (codes "SC__b_" ++ name) And (before ∷ w ∷ [])) eon in
-    let r3 : equation d Or (a ∷ b ∷ []) ≡ equation (codes "SC__d_" ++ name) Or ((codes "SC__a_" ++ name) ∷ (codes "SC__b_" ++ name) ∷ []) =
-    ap (λ w. equation w Or (a ∷ b ∷ [])) ed
-    ∙ (ap (λ w. equation (codes "SC__d_" ++ name) Or (w ∷ b ∷ [])) ea ∙ ap (λ w. equation (codes "SC__d_" ++ name) Or ((codes "SC__a_" ++ name) ∷ w ∷ [])) eb) in
-    let r4 : equation h Dff (d ∷ []) ≡ equation (codes "SC__s_" ++ name) Dff ((codes "SC__d_" ++ name) ∷ []) =
-    ap (λ w. equation w Dff (d ∷ [])) eh ∙ ap (λ w. equation (codes "SC__s_" ++ name) Dff (w ∷ [])) ed in
-    let r5 : equation q Buff (h ∷ []) ≡ equation name Buff ((codes "SC__s_" ++ name) ∷ []) =
-    ap (λ w. equation w Buff (h ∷ [])) eq ∙ ap (λ w. equation name Buff (w ∷ [])) eh in
+    let r2 : named_equation b And (before ∷ on ∷ []) ≡ named_equation (codes "SC__b_" ++ name) And (before ∷ codes "SC__se" ∷ []) =
+    ap (λ w. named_equation w And (before ∷ on ∷ [])) eb ∙ ap (λ w. named_equation (codes "SC__b_" ++ name) And (before ∷ w ∷ [])) eon in
+    let r3 : named_equation d Or (a ∷ b ∷ []) ≡ named_equation (codes "SC__d_" ++ name) Or ((codes "SC__a_" ++ name) ∷ (codes "SC__b_" ++ name) ∷ []) =
+    ap (λ w. named_equation w Or (a ∷ b ∷ [])) ed
+    ∙ (ap (λ w. named_equation (codes "SC__d_" ++ name) Or (w ∷ b ∷ [])) ea ∙ ap (λ w. named_equation (codes "SC__d_" ++ name) Or ((codes "SC__a_" ++ name) ∷ w ∷ [])) eb) in
+    let r4 : named_equation h Dff (d ∷ []) ≡ named_equation (codes "SC__s_" ++ name) Dff ((codes "SC__d_" ++ name) ∷ []) =
+    ap (λ w. named_equation w Dff (d ∷ [])) eh ∙ ap (λ w. named_equation (codes "SC__s_" ++ name) Dff (w ∷ [])) ed in
+    let r5 : named_equation q Buff (h ∷ []) ≡ named_equation name Buff ((codes "SC__s_" ++ name) ∷ []) =
+    ap (λ w. named_equation w Buff (h ∷ [])) eq ∙ ap (λ w. named_equation name Buff (w ∷ [])) eh in
     cc
 
 -- ---- a netlist with cells
@@ -141,11 +141,11 @@ module _ (n : Netlist) (sound : IsSound n) (chain : List ℕ) (rest : List (List
       let s : Naming = naming_of n (chain ∷ rest) in
       let here = stands n (length (chain ∷ rest)) in
       let read : map name (map s.stem d.pins ++ s.enable_not ∷ []) ≡ map name (map s.stem d.pins) ++ name s.enable_not ∷ [] = map-append name (map s.stem d.pins) (s.enable_not ∷ []) in
-      ap (λ ps. equation (name (s.pins d.id)) And ps
-      ∷ equation (name (s.shifted d.id)) And (name (s.before d.id) ∷ name s.enable ∷ [])
-      ∷ equation (name (s.chosen d.id)) Or (name (s.pins d.id) ∷ name (s.shifted d.id) ∷ [])
-      ∷ equation (name (s.held d.id)) Dff (name (s.chosen d.id) ∷ [])
-      ∷ equation (name (s.stem d.id)) Buff (name (s.held d.id) ∷ []) ∷ []) read
+      ap (λ ps. named_equation (name (s.pins d.id)) And ps
+      ∷ named_equation (name (s.shifted d.id)) And (name (s.before d.id) ∷ name s.enable ∷ [])
+      ∷ named_equation (name (s.chosen d.id)) Or (name (s.pins d.id) ∷ name (s.shifted d.id) ∷ [])
+      ∷ named_equation (name (s.held d.id)) Dff (name (s.chosen d.id) ∷ [])
+      ∷ named_equation (name (s.stem d.id)) Buff (name (s.held d.id) ∷ []) ∷ []) read
       ∙ five_equations (name_of n d.id) (name (s.pins d.id)) (name (s.shifted d.id)) (name (s.chosen d.id)) (name (s.held d.id)) (name (s.stem d.id))
       (name s.enable) (name s.enable_not) (name (s.before d.id)) (map name (map s.stem d.pins)) (map (name_of n) d.pins)
       (of_cell d c 0 (Captured d.id) (omega arith) refl) (of_cell d c 1 (Shifted d.id) (omega arith) refl) (of_cell d c 2 (Chosen d.id) (omega arith) refl)
@@ -173,8 +173,8 @@ module _ (n : Netlist) (sound : IsSound n) (chain : List ℕ) (rest : List (List
             (cell_named d (filter_contains is_cell n.definitions d own is) ∙ ap (cell_equations (name_of n d.id) (map (name_of n) d.pins)) first)
             ∙ ap (λ r. cell_equations (name_of n d.id) (map (name_of n) d.pins) (get_or bs 0 []) ++ r) (definitions_named (drop 1 bs) ds others later)
         | false ↦ λ is h.
-            let same : equation (name (s.stem d.id)) d.kind (map name (map s.stem d.pins)) ≡ named n d =
-            ap (λ x. equation x d.kind (map name (map s.stem d.pins))) (stem_name d.id (defined_signal n d own)) ∙ ap (equation (name_of n d.id) d.kind) (pins_named d own) in
+            let same : named_equation (name (s.stem d.id)) d.kind (map name (map s.stem d.pins)) ≡ named n d =
+            ap (λ x. named_equation x d.kind (map name (map s.stem d.pins))) (stem_name d.id (defined_signal n d own)) ∙ ap (named_equation (name_of n d.id) d.kind) (pins_named d own) in
             ap (λ x. x ∷ map (named S) (flat_map (scan_definition s) ds)) same ∙ ap (λ r. named n d ∷ r) (definitions_named bs ds others h)
       ] in
       map-append (named S) (scan_definition s d) (flat_map (scan_definition s) ds) ∙ step (is_cell d) refl e
@@ -189,10 +189,10 @@ module _ (n : Netlist) (sound : IsSound n) (chain : List ℕ) (rest : List (List
       let shown : name first ≡ codes "SC__so" ++ decimal c = ap name e ∙ out_name c (omega arith) in
       let last : name (s.held (last_of q)) ≡ codes "SC__s_" ++ name_of n (last_of q) =
       held_name (last_of q) (among (last_of q) (Contains-append_left q (cells_of qs) (last_of q) (contains_last q (All-head (λ (x : List ℕ). 0 < length x) q qs filled)))) in
-      let here : equation (name first) Buff (name (s.held (last_of q)) ∷ []) ≡ equation (codes "SC__so" ++ decimal c) Buff ((codes "SC__s_" ++ name_of n (last_of q)) ∷ []) =
-      ap (λ x. equation x Buff (name (s.held (last_of q)) ∷ [])) shown ∙ ap (λ x. equation (codes "SC__so" ++ decimal c) Buff (x ∷ [])) last in
+      let here : named_equation (name first) Buff (name (s.held (last_of q)) ∷ []) ≡ named_equation (codes "SC__so" ++ decimal c) Buff ((codes "SC__s_" ++ name_of n (last_of q)) ∷ []) =
+      ap (λ x. named_equation x Buff (name (s.held (last_of q)) ∷ [])) shown ∙ ap (λ x. named_equation (codes "SC__so" ++ decimal c) Buff (x ∷ [])) last in
       ap (λ x. x ∷ map (named (scanned s n)) (map show_last (zip (numbers_from (first + 1) (length qs)) (map (λ (x : List ℕ). s.held (last_of x)) qs)))) here
-      ∙ ap (λ r. equation (codes "SC__so" ++ decimal c) Buff ((codes "SC__s_" ++ name_of n (last_of q)) ∷ []) ∷ r)
+      ∙ ap (λ r. named_equation (codes "SC__so" ++ decimal c) Buff ((codes "SC__s_" ++ name_of n (last_of q)) ∷ []) ∷ r)
       (shows_named (c + 1) (first + 1) qs (omega arith) (omega arith) (λ x m. among x (Contains-append_right q (cells_of qs) x m)) (All-tail (λ (x : List ℕ). 0 < length x) q qs filled))
 
   befores_named : map (λ (d : Definition). name ((naming_of n (chain ∷ rest)).before d.id)) (cells n) ≡ names_before n 0 (chain ∷ rest)
@@ -225,10 +225,10 @@ module _ (n : Netlist) (sound : IsSound n) (chain : List ℕ) (rest : List (List
             (ap (map name) (out_numbers n sound.formed.numbered chain rest)
             ∙ numbered_names name (λ c. codes "SC__so" ++ decimal c) (first_scan_out n count) 0 (first_scan_out n count) count (omega arith) (λ k l. out_name k (omega arith))));
         definitions =
-            let off : equation (name s.enable_not) Not (name s.enable ∷ []) ≡ equation (codes "SC__nse") Not (codes "SC__se" ∷ []) =
-            ap (λ x. equation x Not (name s.enable ∷ [])) (name_at EnableNot here.enable_not) ∙ ap (λ x. equation (codes "SC__nse") Not (x ∷ [])) (name_at Enable here.enable) in
+            let off : named_equation (name s.enable_not) Not (name s.enable ∷ []) ≡ named_equation (codes "SC__nse") Not (codes "SC__se" ∷ []) =
+            ap (λ x. named_equation x Not (name s.enable ∷ [])) (name_at EnableNot here.enable_not) ∙ ap (λ x. named_equation (codes "SC__nse") Not (x ∷ [])) (name_at Enable here.enable) in
             ap (λ x. x ∷ map (named S) (made ++ map show_last s.scan_out)) off
-            ∙ ap (λ r. equation (codes "SC__nse") Not (codes "SC__se" ∷ []) ∷ r)
+            ∙ ap (λ r. named_equation (codes "SC__nse") Not (codes "SC__se" ∷ []) ∷ r)
             (map-append (named S) made (map show_last s.scan_out)
             ∙ (ap (λ r. r ++ map (named S) (map show_last s.scan_out)) (definitions_named (names_before n 0 (chain ∷ rest)) n.definitions (λ d c. c) befores_named)
             ∙ ap (λ r. scan_equations n (names_before n 0 (chain ∷ rest)) n.definitions ++ r)

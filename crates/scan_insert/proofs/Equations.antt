@@ -4,8 +4,8 @@ use Rattle.std.specs.List.{filter, flat_map}
 use Rattle.std.proofs.lemmas.List.{append-nil}
 use Rattle.std.proofs.lemmas.List.Elements.{filter-append}
 use Rattle.netlist.specs.declared.kinds.Kind.TheVariants.{Dff}
-use Rattle.netlist.specs.Netlist.{Definition, Netlist, is_cell, cells}
-use Rattle.scan_insert.specs.Scan.{Naming, define, scan_cell, scan_definition, show_last, scanned}
+use Rattle.netlist.specs.Netlist.{Definition, Netlist, is_cell, cells, define}
+use Rattle.scan_insert.specs.Scan.{Naming, scan_cell, scan_definition, show_last, scanned}
 
 unfoldable pub held_cell : Naming → Definition → Definition
 held_cell s d = define (s.held d.id) Dff (s.chosen d.id ∷ [])

@@ -11,7 +11,7 @@ use Rattle.netlist.specs.Gates.{allows_pins}
 use Rattle.netlist.specs.Names.{IsName}
 use Rattle.netlist.specs.declared.netlists.NetRefusal.{NetRefusal}
 use Rattle.netlist.specs.declared.netlists.NetRefusal.TheVariants.{TooMany, NoInput, NoOutput, Undefined, Loop, NoMemory}
-use Rattle.netlist.specs.Conditions.{IsRead, IsWellFormed, IsClosed, IsSized, IsSound, IsCause}
+use Rattle.netlist.specs.Conditions.{HasReader, IsWellFormed, IsClosed, IsSized, IsSound, IsCause}
 use Rattle.netlist.proofs.Lists.{All-from_contains, contains_head, contains_tail, contains_cases, contains_filter, filter_contains, contains_map}
 use Rattle.netlist.proofs.Placed.{signal_below, signal_from, signals_length}
 use Rattle.netlist.proofs.WellFormed.{one_pin}
@@ -259,7 +259,7 @@ module _ (n : Netlist) (sound : IsSound n) (chain : List ℕ) (rest : List (List
         let numbers : i ≡ j = sym (at i Enable w) ∙ (ap (number s) one ∙ at j Enable v) in
         omega arith)
 
-    read_there : (x : ℕ) → IsRead (scanned (naming_of n (chain ∷ rest)) n) x → Contains (signals (scanned (naming_of n (chain ∷ rest)) n)) x
+    read_there : (x : ℕ) → HasReader (scanned (naming_of n (chain ∷ rest)) n) x → Contains (signals (scanned (naming_of n (chain ∷ rest)) n)) x
     read_there x r =
         let s : Naming = naming_of n (chain ∷ rest) in
         elim r [

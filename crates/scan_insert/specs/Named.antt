@@ -17,12 +17,12 @@ pub record Equation : Type 0 where
   pub kind : Kind
   pub pins : List (List ℕ)
 
-abbrev pub equation : List ℕ → Kind → List (List ℕ) → Equation
-equation name kind pins = record { name = name; kind = kind; pins = pins }
+abbrev pub named_equation : List ℕ → Kind → List (List ℕ) → Equation
+named_equation name kind pins = record { name = name; kind = kind; pins = pins }
 
 -- the equation of a definition
 abbrev pub named : Netlist → Definition → Equation
-named n d = equation (name_of n d.id) d.kind (map (name_of n) d.pins)
+named n d = named_equation (name_of n d.id) d.kind (map (name_of n) d.pins)
 
 -- what each cell takes when it shifts, chain by chain: the first one its chain's scan input, and each other one what the cell before it holds
 abbrev pub names_before : Netlist → ℕ → List (List ℕ) → List (List ℕ)
@@ -33,11 +33,11 @@ names_before n c (chain ∷ chains) =
 -- a scan cell in the place of `name = DFF(read)`
 abbrev pub cell_equations : List ℕ → List (List ℕ) → List ℕ → List Equation
 cell_equations name read before =
-    equation (codes "SC__a_" ++ name) And (read ++ codes "SC__nse" ∷ [])
-    ∷ equation (codes "SC__b_" ++ name) And (before ∷ codes "SC__se" ∷ [])
-    ∷ equation (codes "SC__d_" ++ name) Or ((codes "SC__a_" ++ name) ∷ (codes "SC__b_" ++ name) ∷ [])
-    ∷ equation (codes "SC__s_" ++ name) Dff ((codes "SC__d_" ++ name) ∷ [])
-    ∷ equation name Buff ((codes "SC__s_" ++ name) ∷ [])
+    named_equation (codes "SC__a_" ++ name) And (read ++ codes "SC__nse" ∷ [])
+    ∷ named_equation (codes "SC__b_" ++ name) And (before ∷ codes "SC__se" ∷ [])
+    ∷ named_equation (codes "SC__d_" ++ name) Or ((codes "SC__a_" ++ name) ∷ (codes "SC__b_" ++ name) ∷ [])
+    ∷ named_equation (codes "SC__s_" ++ name) Dff ((codes "SC__d_" ++ name) ∷ [])
+    ∷ named_equation name Buff ((codes "SC__s_" ++ name) ∷ [])
     ∷ []
 
 -- every definition in its place, a cell as a scan cell that takes the next of these names when it shifts
@@ -50,13 +50,13 @@ scan_equations n befores (d ∷ ds) = cond (is_cell d)
 -- each scan output shows what its chain's last cell holds
 abbrev pub show_equations : Netlist → ℕ → List (List ℕ) → List Equation
 show_equations n c [] = []
-show_equations n c (chain ∷ chains) = equation (codes "SC__so" ++ decimal c) Buff ((codes "SC__s_" ++ name_of n (last_of chain)) ∷ []) ∷ show_equations n (c + 1) chains
+show_equations n c (chain ∷ chains) = named_equation (codes "SC__so" ++ decimal c) Buff ((codes "SC__s_" ++ name_of n (last_of chain)) ∷ []) ∷ show_equations n (c + 1) chains
 
 pub record HasScanNames (n : Netlist) (chains : List (List ℕ)) (s : Netlist) : Type 0 where
   pub inputs : map (name_of s) s.inputs ≡ map (name_of n) n.inputs ++ codes "SC__se" ∷ map (λ c. codes "SC__si" ++ decimal c) (numbers_from 0 (length chains))
   pub outputs : map (name_of s) s.outputs ≡ map (name_of n) n.outputs ++ map (λ c. codes "SC__so" ++ decimal c) (numbers_from 0 (length chains))
   pub definitions : map (named s) s.definitions
-      ≡ equation (codes "SC__nse") Not (codes "SC__se" ∷ []) ∷ scan_equations n (names_before n 0 chains) n.definitions ++ show_equations n 0 chains
+      ≡ named_equation (codes "SC__nse") Not (codes "SC__se" ∷ []) ∷ scan_equations n (names_before n 0 chains) n.definitions ++ show_equations n 0 chains
 
 -- The scanned netlist of a netlist with cells, in names: five equations a cell, its complement of the enable and its scan outputs; the others stay.
 abbrev pub ScannedByNames : Type 0

@@ -4,7 +4,7 @@ use Rattle.std.specs.Prelude.{ℕ, cond, List, [], ◌∷◌, ◌++◌, map}
 use Rattle.std.specs.List.{flat_map}
 use Rattle.netlist.specs.declared.kinds.Kind.{Kind}
 use Rattle.netlist.specs.declared.kinds.Kind.TheVariants.{And, Or, Not, Buff, Dff}
-use Rattle.netlist.specs.Netlist.{Definition, Netlist, is_cell}
+use Rattle.netlist.specs.Netlist.{Definition, Netlist, is_cell, define}
 
 -- the signals of the scanned netlist
 pub record Naming : Type 0 where
@@ -19,9 +19,6 @@ pub record Naming : Type 0 where
   pub chosen : ℕ → ℕ  -- the one of the two that the cell takes
   pub held : ℕ → ℕ  -- what it holds
   pub before : ℕ → ℕ  -- what it takes when it shifts
-
-abbrev pub define : ℕ → Kind → List ℕ → Definition
-define z kind pins = record { id = z; kind = kind; pins = pins }
 
 abbrev pub scan_cell : Naming → Definition → List Definition
 scan_cell s q =

@@ -1,8 +1,9 @@
 //! Definitions in the scanned netlist.
 ghost use Rattle.std.specs.Prelude.{◌≡◌, ◌++◌, ◌∷◌, [], ◌+◌, ◌<◌, ◌≤◌, length, map, IfOk, OnOk};
 ghost use Rattle.std.specs.List.{All};
+ghost use Rattle.netlist.specs.Netlist.{define};
 ghost use Rattle.netlist.specs.Gates.{allows_pins};
-ghost use Rattle.scan_insert.specs.Scan.{define, scan_cell};
+ghost use Rattle.scan_insert.specs.Scan.{scan_cell};
 ghost use Rattle.scan_insert.specs.inner.Made.{stem_at, naming_at};
 
 use crate::sites::{Site, after};

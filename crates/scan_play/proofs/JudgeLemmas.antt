@@ -5,13 +5,13 @@ use Rattle.netlist.specs.declared.kinds.Tri.TheVariants.{X}
 use Rattle.scan_play.specs.declared.played.Played.{Played}
 use Rattle.scan_play.specs.Cycles.{Cycle}
 use Rattle.scan_play.specs.Passing.{strobe_at, shown_at}
-use Rattle.scan_play.specs.Judging.{IsOpen, Judging, judged, judged_in, or_else}
+use Rattle.scan_play.specs.Judging.{IsOpen, Judging, judged, judged_in, played_or_else}
 
-or_none : (x y : Option Played) → or_else x y ≡ None → (x ≡ None) × (y ≡ None)
+or_none : (x y : Option Played) → played_or_else x y ≡ None → (x ≡ None) × (y ≡ None)
 or_none None y e = (refl, e)
 or_none (Some p) y e = cc
 
-or_cases : (x y : Option Played) (p : Played) → or_else x y ≡ Some p → (x ≡ Some p) ⊎ ((x ≡ None) × (y ≡ Some p))
+or_cases : (x y : Option Played) (p : Played) → played_or_else x y ≡ Some p → (x ≡ Some p) ⊎ ((x ≡ None) × (y ≡ Some p))
 or_cases None y p e = inr (refl, e)
 or_cases (Some q) y p e = inl e
 

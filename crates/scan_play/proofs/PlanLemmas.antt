@@ -30,7 +30,7 @@ use Rattle.scan_play.specs.Cycles.{IsCycleOf}
 use Rattle.scan_play.specs.Steps.{IsReady, Stays, AreOrderedSteps}
 use Rattle.scan_play.specs.inner.Plans.{IsPlanned, IsDrivenOnto, AreSettled, IsStepped}
 use Rattle.scan_play.specs.inner.Steps.{IsStep}
-use Rattle.scan_play.specs.Judging.{IsOpen, Judging, judged_in, or_else}
+use Rattle.scan_play.specs.Judging.{IsOpen, Judging, judged_in, played_or_else}
 use Rattle.scan_play.proofs.PlanMarks.{taken_more}
 use Rattle.scan_play.proofs.PlaySteps.{cycle_fits}
 use Rattle.scan_play.proofs.RunLaws.{next_length}
@@ -144,7 +144,7 @@ judged_alike J opens c o (s ∷ ss) (v ∷ vs) (w ∷ ws) e h =
       | inl x ↦ open_strobe s x
       | inr same ↦ ap (J c o s) same
     ] in
-    ap (λ x. or_else x (judged_in J c (o + 1) ss vs)) here ∙ ap (or_else (J c o s w)) rest
+    ap (λ x. played_or_else x (judged_in J c (o + 1) ss vs)) here ∙ ap (played_or_else (J c o s w)) rest
   where
     some_same : (x y : Tri) → Some x ≡ Some y → x ≡ y
     some_same x y e = cc

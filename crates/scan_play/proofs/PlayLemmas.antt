@@ -16,8 +16,8 @@ use Rattle.scan_play.specs.declared.played.Played.TheVariants.{Passes, Fails, Un
 use Rattle.scan_play.specs.Cycles.{Cycle, IsCycleOf}
 use Rattle.scan_play.specs.Runs.{Runs}
 use Rattle.scan_play.specs.Passing.{strobe_at, shown_at}
-use Rattle.scan_play.specs.Playing.{IsMet, AreMetBefore, IsPlayed, PlaysAs}
-use Rattle.scan_play.specs.Judging.{IsJudged, Judging, judged, judged_in, or_else}
+use Rattle.scan_play.specs.Playing.{IsStrobeMet, AreMetBefore, IsPlayed, PlaysAs}
+use Rattle.scan_play.specs.Judging.{IsJudged, Judging, judged, judged_in, played_or_else}
 use Rattle.scan_play.specs.inner.Unmet.{unmet_by, or_passes}
 use Rattle.scan_play.specs.inner.Steps.{IsStep, PlaysOn}
 use Rattle.scan_play.proofs.RunLaws.{some_run}
@@ -25,7 +25,7 @@ use Rattle.scan_play.proofs.RunLaws.{some_run}
 -- ---- a row
 
 pub judged_more : (J : Judging) (c o : ℕ) (ss vs : List Tri) (s v : Tri) → o < length ss → length ss ≡ length vs → s ≡ get_or ss o s → v ≡ get_or vs o v
-    → judged_in J c o (drop o ss) (drop o vs) ≡ or_else (J c o s v) (judged_in J c (o + 1) (drop (o + 1) ss) (drop (o + 1) vs))
+    → judged_in J c o (drop o ss) (drop o vs) ≡ played_or_else (J c o s v) (judged_in J c (o + 1) (drop (o + 1) ss) (drop (o + 1) vs))
 judged_more J c o ss vs s v l e is is' =
     let one : drop o ss ≡ s ∷ drop (o + 1) ss = drop_more ss o s l ∙ ap (λ x. x ∷ drop (o + 1) ss) (sym is) in
     let two : drop o vs ≡ v ∷ drop (o + 1) vs = drop_more vs o v (omega (arith, l, e)) ∙ ap (λ x. x ∷ drop (o + 1) vs) (sym is') in
@@ -40,8 +40,8 @@ module _ (J : Judging) (f : Option Fault) (n : Netlist) where
     outcome = λ rest shown run. (shown, run, ap (λ k. judged J k rest shown) (omega arith));
   }
 
-  or_some : (p : Played) (x y : Option Played) → x ≡ Some p → or_else x y ≡ Some p
-  or_some p x y e = ap (λ z. or_else z y) e
+  or_some : (p : Played) (x y : Option Played) → x ≡ Some p → played_or_else x y ≡ Some p
+  or_some p x y e = ap (λ z. played_or_else z y) e
 
   step_outcome : (cycle : Cycle) (number : ℕ) (state after : List Tri) (found : Option Played) → IsStep J f n state after cycle number found
       → (rest : List Cycle) (shown : List (List Tri)) → Runs tri_table f n state (cycle ∷ rest) shown
@@ -51,7 +51,7 @@ module _ (J : Judging) (f : Option Fault) (n : Netlist) where
   step_outcome cycle number state after found step rest [] run = absurd run
   step_outcome cycle number state after None step rest (row ∷ rows) run =
       let t = step.outcome row run.0 run.1 in
-      (rows, subst (λ (s : List Tri). Runs tri_table f n s rest rows) t.1 run.2, ap (λ x. or_else x (judged J (number + 1) rest rows)) t.0)
+      (rows, subst (λ (s : List Tri). Runs tri_table f n s rest rows) t.1 run.2, ap (λ x. played_or_else x (judged J (number + 1) rest rows)) t.0)
   step_outcome cycle number state after (Some p) step rest (row ∷ rows) run =
       let t = step.outcome row run.0 run.1 in
       or_some p (judged_in J number 0 cycle.strobe row) (judged J (number + 1) rest rows) t.0
@@ -139,11 +139,11 @@ cases_option : (x : Option Played) → (x ≡ None) ⊎ ((p : Played) × (x ≡ 
 cases_option None = inl refl
 cases_option (Some p) = inr (p, refl)
 
-or_none : (x y : Option Played) → or_else x y ≡ None → (x ≡ None) × (y ≡ None)
+or_none : (x y : Option Played) → played_or_else x y ≡ None → (x ≡ None) × (y ≡ None)
 or_none None y e = (refl, e)
 or_none (Some p) y e = cc
 
-or_cases : (x y : Option Played) (p : Played) → or_else x y ≡ Some p → (x ≡ Some p) ⊎ ((x ≡ None) × (y ≡ Some p))
+or_cases : (x y : Option Played) (p : Played) → played_or_else x y ≡ Some p → (x ≡ Some p) ⊎ ((x ≡ None) × (y ≡ Some p))
 or_cases None y p e = inr (refl, e)
 or_cases (Some q) y p e = inl e
 
@@ -181,7 +181,7 @@ row_found c o (s ∷ ss) (v ∷ vs) p e = elim (or_cases (unmet_by c o s v) (jud
 abbrev AreWide : List Cycle → List (List Tri) → Type 0
 AreWide cycles shown = AllZip (λ (c : Cycle) (row : List Tri). length c.strobe ≡ length row) cycles shown
 
-all_met : (c : ℕ) (cycles : List Cycle) (shown : List (List Tri)) → AreWide cycles shown → judged unmet_by c cycles shown ≡ None → (k o : ℕ) → IsMet cycles shown k o
+all_met : (c : ℕ) (cycles : List Cycle) (shown : List (List Tri)) → AreWide cycles shown → judged unmet_by c cycles shown ≡ None → (k o : ℕ) → IsStrobeMet cycles shown k o
 all_met c [] shown w e k o = inl refl
 all_met c (x ∷ xs) [] w e k o = absurd w
 all_met c (x ∷ xs) (row ∷ rows) w e zero o = row_all_met c 0 x.strobe row w.0 (or_none (judged_in unmet_by c 0 x.strobe row) (judged unmet_by (c + 1) xs rows) e).0 o
@@ -206,7 +206,7 @@ found_at c (x ∷ xs) (row ∷ rows) p w e = elim (or_cases (judged_in unmet_by 
             (subst (λ k. IsUnmetAt c k (get_or x.strobe r.place X) (slice_get row r.place) p) (omega arith) r.outcome);
         before = λ k o l. elim l [
           | inl less ↦ absurd (omega (arith, less))
-          | inr here ↦ subst (λ j. IsMet (x ∷ xs) (row ∷ rows) j o) (sym here.0) (r.before o here.1)
+          | inr here ↦ subst (λ j. IsStrobeMet (x ∷ xs) (row ∷ rows) j o) (sym here.0) (r.before o here.1)
         ];
       }
   | inr h ↦

@@ -20,7 +20,7 @@ use Rattle.tri.proofs.Choices.{no, known_allows_itself}
 use Rattle.scan_play.specs.Cycles.{Cycle, IsCycleOf}
 use Rattle.scan_play.specs.Runs.{Ticks, Runs}
 use Rattle.scan_play.specs.Passing.{shown_at}
-use Rattle.scan_play.specs.Playing.{IsMet}
+use Rattle.scan_play.specs.Playing.{IsStrobeMet}
 use Rattle.scan_play.specs.Laws.{PlayTells}
 use Rattle.scan_play.proofs.Shifting.{zip_length}
 use Rattle.scan_play.proofs.Applied.{length-pins}
@@ -146,7 +146,7 @@ pub run_row_length : (f : Option Fault) (n : Netlist) (state : List Tri) (c : Cy
 run_row_length f n state c row after t = ap length t.shows ∙ length-map n.outputs _
 
 all_met : (f : Option Fault) (n : Netlist) (state : List Tri) (cycles : List Cycle) (shown : List (List Tri)) (bit_shown : List (List Bool)) → All (IsCycleOf n) cycles
-    → Runs tri_table f n state cycles shown → ((c o : ℕ) → IsMet cycles shown c o) → AllZip AreAllowed shown bit_shown
+    → Runs tri_table f n state cycles shown → ((c o : ℕ) → IsStrobeMet cycles shown c o) → AllZip AreAllowed shown bit_shown
     → AllZip (λ (c : Cycle) bs. AreAllowed c.strobe bs) cycles bit_shown
 all_met f n state [] [] [] fit run met h = tt
 all_met f n state [] [] (b ∷ bs) fit run met h = absurd h

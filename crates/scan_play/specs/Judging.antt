@@ -16,21 +16,21 @@ Judging = ℕ → ℕ → Tri → Tri → Option Played
 abbrev pub IsOpen : Judging → Type 0
 IsOpen says = (c o : ℕ) (v : Tri) → says c o X v ≡ None
 
-abbrev pub or_else : Option Played → Option Played → Option Played
-or_else (Some p) q = Some p
-or_else None q = q
+abbrev pub played_or_else : Option Played → Option Played → Option Played
+played_or_else (Some p) q = Some p
+played_or_else None q = q
 
 -- of a row, from output o on
 abbrev pub judged_in : Judging → ℕ → ℕ → List Tri → List Tri → Option Played
 judged_in says c o [] vs = None
 judged_in says c o (s ∷ ss) [] = None
-judged_in says c o (s ∷ ss) (v ∷ vs) = or_else (says c o s v) (judged_in says c (o + 1) ss vs)
+judged_in says c o (s ∷ ss) (v ∷ vs) = played_or_else (says c o s v) (judged_in says c (o + 1) ss vs)
 
 -- from cycle c on
 abbrev pub judged : Judging → ℕ → List Cycle → List (List Tri) → Option Played
 judged says c [] shown = None
 judged says c (x ∷ xs) [] = None
-judged says c (x ∷ xs) (row ∷ rows) = or_else (judged_in says c 0 x.strobe row) (judged says (c + 1) xs rows)
+judged says c (x ∷ xs) (row ∷ rows) = played_or_else (judged_in says c 0 x.strobe row) (judged says (c + 1) xs rows)
 
 -- what is first said of the run in three values
 pub record IsJudged (says : Judging) (n : Netlist) (f : Option Fault) (cycles : List Cycle) (found : Option Played) : Type 0 where

@@ -13,16 +13,16 @@ use Rattle.scan_play.specs.Runs.{Runs}
 use Rattle.scan_play.specs.Passing.{strobe_at, shown_at}
 
 -- nothing is strobed at this place, or what is shown is known and equal
-abbrev pub IsMet : List Cycle → List (List Tri) → ℕ → ℕ → Type 0
-IsMet cycles shown c o = (strobe_at cycles c o ≡ X) ⊎ (shown_at shown c o ≡ Some (strobe_at cycles c o))
+abbrev pub IsStrobeMet : List Cycle → List (List Tri) → ℕ → ℕ → Type 0
+IsStrobeMet cycles shown c o = (strobe_at cycles c o ≡ X) ⊎ (shown_at shown c o ≡ Some (strobe_at cycles c o))
 
 -- each place before this one, by cycle and then by output, is met
 abbrev pub AreMetBefore : List Cycle → List (List Tri) → ℕ → ℕ → Type 0
-AreMetBefore cycles shown c o = (c' o' : ℕ) → (c' < c) ⊎ ((c' ≡ c) × (o' < o)) → IsMet cycles shown c' o'
+AreMetBefore cycles shown c o = (c' o' : ℕ) → (c' < c) ⊎ ((c' ≡ c) × (o' < o)) → IsStrobeMet cycles shown c' o'
 
 -- The first strobe that isn't known and equal decides.
 abbrev pub IsPlayed : List Cycle → List (List Tri) → Played → Type 0
-IsPlayed cycles shown Passes = (c o : ℕ) → IsMet cycles shown c o
+IsPlayed cycles shown Passes = (c o : ℕ) → IsStrobeMet cycles shown c o
 IsPlayed cycles shown (Fails c o) =
     AreMetBefore cycles shown c o × ((b : Bool) × (strobe_at cycles c o ≡ known b) × (shown_at shown c o ≡ Some (known (not b))))
 IsPlayed cycles shown (Unknown c o) =

@@ -8,7 +8,7 @@ ghost use Rattle.list_core.specs.States.{IsPublished, State, may_enter, entered,
 ghost use Rattle.list_core.specs.declared.verdicts.Verdict.TheVariants.{Open};
 ghost use Rattle.shared_list.specs.Tally.{Tally, took, gave, spent};
 
-use crate::share::{Parts, Share};
+use crate::share::{LedgerParts, Share};
 use list_core::{About, Claim, Entry, FaultList, Over, Settling};
 use netlist::NoMemory;
 use redundancy_cert::Tree;
@@ -23,7 +23,7 @@ pub(crate) struct Locked<J: About, T: Ledger, S: Ledger, P: Ledger, U: Ledger> {
     pub settles: Book<S>,
     pub publishes: Book<P>,
     pub unspent: Book<U>,
-    pub rest: Parts<T, S, P, U>,
+    pub rest: LedgerParts<T, S, P, U>,
     ghost rest_parts: { (rest.takes.parts ≡ 0) × (rest.settles.parts ≡ 0) × (rest.publishes.parts ≡ 0) × (rest.unspent.parts ≡ 0) },
     ghost rest_amounts: { (rest.takes.amount ≡ 0) × (rest.settles.amount ≡ 0) × (rest.publishes.amount ≡ 0) × (rest.unspent.amount ≡ 0) },
     ghost no_claims: { list.claims ≡ 0 },
@@ -153,7 +153,7 @@ fn events_of(journal: &[Entry]) -> Events
 }
 
 fn join_all<T: Ledger, S: Ledger, P: Ledger, U: Ledger>(
-    rest: &mut Parts<T, S, P, U>,
+    rest: &mut LedgerParts<T, S, P, U>,
     shares: Vec<Share<T, S, P, U>>,
 )
     requires parts { (rest.old.takes.parts ≡ 0) × (rest.old.settles.parts ≡ 0) × (rest.old.publishes.parts ≡ 0) × (rest.old.unspent.parts ≡ 0) }

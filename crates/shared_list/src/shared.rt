@@ -8,6 +8,7 @@
 //! A contract can't say what others did to a locked value meanwhile. Ledgers do: a share counts its holder's events, the books under the lock
 //! have the sums, and these are the numbers of the journal's events.
 ghost use Rattle.std.specs.Prelude.{◌≡◌, ℕ, ◌+◌, ◌-◌, ◌^◌, ◌<◌, ◌≤◌, true, false, [], length, sum_by, IfOk, OnOk, OnErr, IfErr, vec_len};
+ghost use Rattle.limits.specs.Limits.{most_workers};
 ghost use Rattle.list_core.specs.Subjects.{class_count};
 ghost use Rattle.list_core.specs.Batches.{IsTrueBatch};
 ghost use Rattle.list_core.specs.Journal.{take_one, settle_one, publish_one};
@@ -17,7 +18,7 @@ ghost use Rattle.shared_list.specs.Outcomes.{IsDraw, IsNone};
 
 use crate::draws::{Drawer, Word, another, open};
 use crate::locked::{Events, Locked};
-use crate::share::{Parts, Share};
+use crate::share::{LedgerParts, Share};
 use list_core::{About, Claim, FaultList, Left, Over, Settling};
 use netlist::NoMemory;
 use redundancy_cert::Tree;
@@ -60,7 +61,7 @@ impl<J: About, T: Ledger, S: Ledger, P: Ledger, U: Ledger> Shared<J, T, S, P, U>
         unspent: Blank,
     ) -> Result<(Shared<J, T, S, P, U>, Vec<Share<T, S, P, U>>), NoMemory>
         requires empty { list.journal ≡ [] }
-        requires workers { (0 < workers) × (workers ≤ 64) }
+        requires workers { (0 < workers) × (workers ≤ most_workers) }
         requires takes { (takes.name ≡ T.name) × (takes.parts ≡ T.parts) × (T.parts ≡ workers) }
         requires settles { (settles.name ≡ S.name) × (settles.parts ≡ S.parts) × (S.parts ≡ workers) }
         requires publishes { (publishes.name ≡ P.name) × (publishes.parts ≡ P.parts) × (P.parts ≡ workers) }
@@ -83,7 +84,7 @@ impl<J: About, T: Ledger, S: Ledger, P: Ledger, U: Ledger> Shared<J, T, S, P, U>
         unspent: Blank,
     ) -> Result<(Shared<J, T, S, P, U>, Vec<Share<T, S, P, U>>), AllocError>
         requires empty { list.journal ≡ [] }
-        requires workers { (0 < workers) × (workers ≤ 64) }
+        requires workers { (0 < workers) × (workers ≤ most_workers) }
         requires takes { (takes.name ≡ T.name) × (takes.parts ≡ T.parts) × (T.parts ≡ workers) }
         requires settles { (settles.name ≡ S.name) × (settles.parts ≡ S.parts) × (S.parts ≡ workers) }
         requires publishes { (publishes.name ≡ P.name) × (publishes.parts ≡ P.parts) × (P.parts ≡ workers) }
@@ -98,7 +99,7 @@ impl<J: About, T: Ledger, S: Ledger, P: Ledger, U: Ledger> Shared<J, T, S, P, U>
         let (settle_book, settle_parts) = settles.open::<S>();
         let (publish_book, publish_parts) = publishes.open::<P>();
         let (unspent_book, unspent_parts) = unspent.open::<U>();
-        let mut rest = Parts {
+        let mut rest = LedgerParts {
             takes: take_parts,
             settles: settle_parts,
             publishes: publish_parts,
@@ -202,7 +203,7 @@ impl<J: About, T: Ledger, S: Ledger, P: Ledger, U: Ledger> Shared<J, T, S, P, U>
 /// A share for each worker.
 fn cut_all<T: Ledger, S: Ledger, P: Ledger, U: Ledger>(
     alloc: Global,
-    rest: &mut Parts<T, S, P, U>,
+    rest: &mut LedgerParts<T, S, P, U>,
     word: &Word,
     seat: &mut Drawer,
     workers: u32,

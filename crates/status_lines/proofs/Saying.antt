@@ -1,10 +1,10 @@
 -- The line of a status, as it is put in pieces.
 use Rattle.std.proofs.Common.{◌≡◌, inl, inr, ℕ, Bool, List, [], ◌∷◌, ◌++◌, Option, Result, Ok, Err, refl, ap, sym, subst, append_assoc}
 use Rattle.std.specs.Prelude.{IsTrue}
+use Rattle.plain_text.specs.Texts.{Text}
 use denote.Ref.{Bor}
 use Rattle.outside.specs.declared.refusal.WriteRefusal.{WriteRefusal}
 use Rattle.outside.specs.declared.refusal.WriteRefusal.TheVariants as write
-use Rattle.commands.specs.World.{Text}
 use Rattle.commands.specs.Pieces.{PutsText, join}
 use Rattle.status_lines.specs.Lines.{IsSaid}
 

@@ -1,11 +1,12 @@
 -- The lines of the error output that all programs have.
 use Rattle.std.specs.Prelude.{◌≡◌, ◌⊎◌, ◌++◌, ℕ, Bool, IsTrue, Option, codes, decimal}
+use Rattle.plain_text.specs.Texts.{Text}
 use Rattle.outside.specs.Causes.{Rose}
 use Rattle.bench_text.specs.declared.refusal.BenchKind.{BenchKind}
 use Rattle.bench_text.specs.declared.refusal.BenchKind.TheVariants.{BadByte, BadLine, UnknownGate, BadPins, DefinedTwice, Reserved, TooMany, NoInput, NoOutput, Undefined, Loop}
 use Rattle.bench_text.specs.declared.refusal.BenchRefusal.{BenchRefusal}
-use Rattle.commands.specs.World.{Grows, GrowsInPart, Text}
-use Rattle.commands.specs.Names.{name_of}
+use Rattle.commands.specs.World.{Grows, GrowsInPart}
+use Rattle.commands.specs.Names.{file_name_of}
 use Rattle.commands.specs.declared.ending.WriteFailure.{WriteFailure}
 use Rattle.commands.specs.declared.ending.WriteFailure.TheVariants.{File, Output}
 
@@ -27,7 +28,7 @@ abbrev pub netlist_line : BenchRefusal → Text
 netlist_line refusal = codes "netlist line " ++ (decimal refusal.line ++ (codes ": " ++ (kind_name refusal.kind ++ codes "\n")))
 
 abbrev pub failure_line : WriteFailure → Text
-failure_line (File name) = codes "write failed: " ++ (name_of name ++ codes "\n")
+failure_line (File name) = codes "write failed: " ++ (file_name_of name ++ codes "\n")
 failure_line Output = codes "write failed: -\n"
 
 -- A sink that may take memory or not has gained the line, or a prefix of it where it failed or was refused memory.

@@ -1,7 +1,7 @@
 //! The lines of the error output that all programs of this repository have, put in pieces, so that none asks for memory: what the
 //! user is told can't turn a status into another.
 ghost use Rattle.std.specs.Prelude.{◌≡◌, ◌++◌, codes};
-ghost use Rattle.commands.specs.Names.{name_of};
+ghost use Rattle.commands.specs.Names.{file_name_of};
 ghost use Rattle.commands.specs.Pieces.{join};
 ghost use Rattle.status_lines.specs.Lines.{IsSaid, failure_line, kind_name, netlist_line};
 
@@ -60,7 +60,7 @@ pub fn say_netlist<E: Sink>(err: &mut E, refusal: &BenchRefusal)
 
 /// A line that names a file.
 pub fn say_name<E: Sink>(err: &mut E, what: &[u8], name: &FileName<'_>)
-    ensures { IsSaid E.takes_memory (what.now ++ (name_of name.now ++ codes "\n")) (E.taken err.old) (E.failures err.old) (E.taken err.new) (E.failures err.new) }
+    ensures { IsSaid E.takes_memory (what.now ++ (file_name_of name.now ++ codes "\n")) (E.taken err.old) (E.failures err.old) (E.taken err.new) (E.failures err.new) }
 {
     let pieces = [
         what,

@@ -2,6 +2,7 @@
 use Rattle.std.proofs.Common.{◌≡◌, ◌∙◌, ◌+◌, ◌<◌, ◌≤◌, ℕ, zero, suc, min, Bool, false, not, List, [], ◌∷◌, ◌++◌, ap, sym, refl, subst, append_assoc, append-nil, length, map, take, get_or, arith, codes, replicate, None}
 use Rattle.std.specs.List.{AllZip, zip}
 use Rattle.std.proofs.lemmas.List.{length-map, length-replicate, take_all, take_more}
+use Rattle.plain_text.specs.Texts.{Text}
 use Rattle.netlist.specs.declared.kinds.Tri.{Tri}
 use Rattle.netlist.specs.declared.kinds.Tri.TheVariants.{X}
 use Rattle.netlist.specs.Netlist.{Netlist, cells, name_of}
@@ -15,7 +16,7 @@ use Rattle.chain_stitch.specs.Chains.{cells_of}
 use Rattle.scan_insert.specs.Names.{output_name}
 use Rattle.scan_play.specs.Vectors.{Response, Responds, flush}
 use Rattle.scan_play.proofs.Applied.{length-next}
-use Rattle.stil_write.specs.StilFiles.{Item, StilFile, Text, Vector, where_chained}
+use Rattle.stil_write.specs.StilFiles.{Item, StilFile, Vector, where_chained}
 use Rattle.stil_vectors.specs.TestFiles.{applied_items, capture_item, char_of_value, load_items, shift_word_of, test_file, test_items, text_of_bits, text_of_values}
 use Rattle.stil_patterns.specs.Tests.{IsFileOf}
 use Rattle.stil_patterns.specs.inner.Added.{AreAll, AreBegun, IsAdded, flush_items}

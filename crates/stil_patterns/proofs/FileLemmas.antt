@@ -6,6 +6,7 @@ use Rattle.std.proofs.lemmas.List.{length-map, length-replicate, length-reverse,
 use Rattle.std.proofs.lemmas.Option.{slice_get-get_or}
 use Rattle.std.proofs.lemmas.List.Elements.{All-append, All-cons, All-drop, All-filter, All-head, All-map, All-nil, All-tail, All-take, All-contains, All-weaker}
 use Rattle.std.proofs.lemmas.List.Quantifiers.{all_pairs_remove}
+use Rattle.plain_text.specs.Texts.{Text}
 use Rattle.netlist.specs.declared.kinds.Tri.{Tri}
 use Rattle.netlist.specs.declared.kinds.Tri.TheVariants.{Zero, One, X}
 use Rattle.netlist.specs.Netlist.{Definition, Netlist, cells, is_cell, name_of}
@@ -30,10 +31,10 @@ use Rattle.scan_insert.proofs.TesterNames.{tester_names_differ}
 use Rattle.scan_play.specs.Shifts.{by_chain, held_or_zero, idle_inputs, word_in, word_out}
 use Rattle.scan_play.specs.Vectors.{Response, Responds, flush}
 use Rattle.stil_write.specs.declared.forms.Form.{Form}
-use Rattle.stil_write.specs.declared.forms.Values.TheVariants as values
-use Rattle.stil_write.specs.StilFiles.{Call, IsCall, IsItem, IsName, IsStilFile, IsWord, Item, StilFile, Text, Vector, call_forms, is_name_byte, is_value, numbered, signals, vector_forms, where_chained}
+use Rattle.stil_write.specs.declared.forms.CharKind.TheVariants as values
+use Rattle.stil_write.specs.StilFiles.{Call, IsStilCall, IsItem, IsStilName, IsStilFile, IsWord, Item, StilFile, Vector, call_forms, is_stil_name_byte, is_value, numbered, declared_signals, vector_forms, where_chained}
 use Rattle.stil_vectors.specs.TestFiles.{applied_items, capture_item, char_of_bit, char_of_value, load_items, load_words, shift_word_of, test_file, test_items, text_of_bits, text_of_values}
-use Rattle.stil_vectors.specs.Fitting.{Fits}
+use Rattle.stil_vectors.specs.Fitting.{FitsNetlist}
 use Rattle.scan_play.proofs.Widths.{scanned_cells_count}
 use Rattle.stil_patterns.specs.Tests.{IsFileOf}
 use Rattle.stil_patterns.specs.Laws.{FilesFit}
@@ -102,7 +103,7 @@ zip_outs m (chain ∷ chains) held h =
       zip_outs m chains (drop (length chain) held) (omega (arith, h)),
     )
 
-call_is : (chain : List ℕ) (rest : List (List ℕ)) (bits : List Bool) (held : List Tri) → 0 < length chain → IsCall (length (chain ∷ rest)) (load_words (chain ∷ rest) bits held)
+call_is : (chain : List ℕ) (rest : List (List ℕ)) (bits : List Bool) (held : List Tri) → 0 < length chain → IsStilCall (length (chain ∷ rest)) (load_words (chain ∷ rest) bits held)
 call_is chain rest bits held some =
     let chains = chain ∷ rest in
     let m = longest_of chains in (
@@ -118,7 +119,7 @@ pub load_are : (f : StilFile) (chains : List (List ℕ)) (bits : List Bool) (hel
 load_are f [] bits held e some = All-nil (IsItem f)
 load_are f (chain ∷ rest) bits held e some =
     All-cons (IsItem f) (Call (load_words (chain ∷ rest) bits held)) []
-    (subst (λ k. IsCall k (load_words (chain ∷ rest) bits held)) (sym e) (call_is chain rest bits held (All-head (λ (q : List ℕ). 0 < length q) chain rest some))) (All-nil (IsItem f))
+    (subst (λ k. IsStilCall k (load_words (chain ∷ rest) bits held)) (sym e) (call_is chain rest bits held (All-head (λ (q : List ℕ). 0 < length q) chain rest some))) (All-nil (IsItem f))
 
 -- ---- captures
 
@@ -201,7 +202,7 @@ without_or true true y h = h
 without_or true false y h = refl
 without_or false x y h = h
 
-is_byte : (b : ℕ) → IsTrue (bench.is_name_byte b) → IsTrue (is_name_byte b)
+is_byte : (b : ℕ) → IsTrue (bench.is_name_byte b) → IsTrue (is_stil_name_byte b)
 is_byte b h =
     let p = nat_le 33 b && nat_le b 126 in
     without_or p (b == 34 || b == 39) (b == 35)
@@ -211,32 +212,32 @@ is_byte b h =
     (without_or p (b == 34 || b == 39 || b == 35 || b == 40 || b == 41 || b == 44) (b == 61) h))))
 
 abbrev AreBytes : Text → Type 0
-AreBytes name = All (λ b. IsTrue (is_name_byte b)) name
+AreBytes name = All (λ b. IsTrue (is_stil_name_byte b)) name
 
-own_name : (s : Netlist) → IsSound s → (x : ℕ) → x < length (net.signals s) → IsName (name_of s x)
+own_name : (s : Netlist) → IsSound s → (x : ℕ) → x < length (net.signals s) → IsStilName (name_of s x)
 own_name s sound x l =
     let is = sound.formed.names x [] (sound.formed.named x (x, l, get_or_default (net.signals s) x x 0 l ∙ sound.formed.numbered x l)) in
-    record { some = is.some; short = is.short; bytes = All-weaker (λ b. IsTrue (bench.is_name_byte b)) (λ b. IsTrue (is_name_byte b)) is_byte (name_of s x) is.bytes }
+    record { some = is.some; short = is.short; bytes = All-weaker (λ b. IsTrue (bench.is_name_byte b)) (λ b. IsTrue (is_stil_name_byte b)) is_byte (name_of s x) is.bytes }
 
 abbrev all_of : List ℕ → Bool
 all_of [] = true
-all_of (b ∷ bs) = is_name_byte b && all_of bs
+all_of (b ∷ bs) = is_stil_name_byte b && all_of bs
 
 both : (a b : Bool) → IsTrue (a && b) → IsTrue a × IsTrue b
 both true b h = (refl, h)
 both false b h = absurd (cc)
 
 are_bytes : (name : Text) → IsTrue (all_of name) → AreBytes name
-are_bytes [] h = All-nil (λ b. IsTrue (is_name_byte b))
+are_bytes [] h = All-nil (λ b. IsTrue (is_stil_name_byte b))
 are_bytes (b ∷ bs) h =
-    let two = both (is_name_byte b) (all_of bs) h in
-    All-cons (λ b. IsTrue (is_name_byte b)) b bs two.0 (are_bytes bs two.1)
+    let two = both (is_stil_name_byte b) (all_of bs) h in
+    All-cons (λ b. IsTrue (is_stil_name_byte b)) b bs two.0 (are_bytes bs two.1)
 
 pin_bytes : (b : Bool) (name : Text) → AreBytes name → AreBytes (cond b (codes "SC__o_" ++ name) name)
-pin_bytes true name h = All-append (λ b. IsTrue (is_name_byte b)) (codes "SC__o_") name (are_bytes (codes "SC__o_") refl) h
+pin_bytes true name h = All-append (λ b. IsTrue (is_stil_name_byte b)) (codes "SC__o_") name (are_bytes (codes "SC__o_") refl) h
 pin_bytes false name h = h
 
-names_ok : (s : Netlist) → IsSound s → HasTesterNames s → All IsName (tester_names s)
+names_ok : (s : Netlist) → IsSound s → HasTesterNames s → All IsStilName (tester_names s)
 names_ok s sound names =
     let pins : AreBytes (codes "SC__ck") = are_bytes (codes "SC__ck") refl in
     let bytes : All AreBytes (tester_names s) =
@@ -249,13 +250,13 @@ names_ok s sound names =
     (outputs_within s sound (length (net.signals s)) refl)))) in
     λ k d l. record { some = names.some k d l; short = names.short k d l; bytes = bytes k d l }
 
-cell_names_ok : (n : Netlist) (chains : List (List ℕ)) → IsSound n → AreChainsOf n chains → All (All IsName) (map (map (name_of n)) chains)
+cell_names_ok : (n : Netlist) (chains : List (List ℕ)) → IsSound n → AreChainsOf n chains → All (All IsStilName) (map (map (name_of n)) chains)
 cell_names_ok n chains sound are =
     let all : cells_of chains ≡ cell_ids n = ap cells_of are.are ∙ stitched_cells (cell_ids n) are.asked are.some in
     let below : All (λ x. x < length (net.signals n)) (cells_of chains) = cells_below n sound.formed.numbered (cells_of chains) (length (net.signals n)) all refl in
-    All-map (All IsName) (map (name_of n)) chains
-    (λ c d l. All-map IsName (name_of n) (get_or chains c d)
-    (All-weaker (λ x. x < length (net.signals n)) (λ x. IsName (name_of n x)) (own_name n sound) (get_or chains c d)
+    All-map (All IsStilName) (map (name_of n)) chains
+    (λ c d l. All-map IsStilName (name_of n) (get_or chains c d)
+    (All-weaker (λ x. x < length (net.signals n)) (λ x. IsStilName (name_of n x)) (own_name n sound) (get_or chains c d)
     (cells_of_chain (λ x. x < length (net.signals n)) chains c (get_or chains c d) below (slice_get-get_or chains c d l))))
 
 pub filled : (n : Netlist) (chains : List (List ℕ)) → AreChainsOf n chains → All (λ (chain : List ℕ). 0 < length chain) chains
@@ -288,12 +289,12 @@ module _ (n : Netlist) (sound : IsSound n) (design : IsDesign n) (are : AreChain
   none_within : length ins < length (tester_names n)
   none_within = let a = length-append ins (codes "SC__ck" ∷ pins) in omega (arith, a)
 
-  none_names : All IsName ((ins ++ []) ++ ([] ++ ([] ++ (pins ++ []))))
+  none_names : All IsStilName ((ins ++ []) ++ ([] ++ ([] ++ (pins ++ []))))
   none_names =
       let all = names_ok n sound tested in
-      let front : All IsName (take (length ins) (tester_names n)) = All-take IsName (length ins) (tester_names n) all in
-      let back : All IsName (drop (suc (length ins)) (tester_names n)) = All-drop IsName (suc (length ins)) (tester_names n) all in
-      subst (All IsName) unclocked (All-append IsName (take (length ins) (tester_names n)) (drop (suc (length ins)) (tester_names n)) front back)
+      let front : All IsStilName (take (length ins) (tester_names n)) = All-take IsStilName (length ins) (tester_names n) all in
+      let back : All IsStilName (drop (suc (length ins)) (tester_names n)) = All-drop IsStilName (suc (length ins)) (tester_names n) all in
+      subst (All IsStilName) unclocked (All-append IsStilName (take (length ins) (tester_names n)) (drop (suc (length ins)) (tester_names n)) front back)
 
   none_made : (holds : Holds) (ps : List Pattern) (rs : List Response) → All (IsPatternOf n holds) ps → AllZip (Responds n None) ps rs → IsStilFile (test_file n holds [] (zip ps rs))
   none_made holds ps rs patterns respond =
@@ -307,7 +308,7 @@ module _ (n : Netlist) (sound : IsSound n) (design : IsDesign n) (are : AreChain
         outputs = omega (arith, o, shown);
         cells = All-nil (λ (chain : List Text). 1 ≤ length chain);
         names = none_names;
-        cell_names = All-nil (All IsName);
+        cell_names = All-nil (All IsStilName);
         distinct = subst (AllPairs (λ x y. x ≢ y)) unclocked (all_pairs_remove (λ (x y : Text). x ≢ y) (tester_names n) (length ins) none_within tested.distinct);
         shift = (refl, All-nil (λ b. IsTrue (is_value values.Bits b)));
         items = items_are f [] refl (All-nil (λ (chain : List ℕ). 0 < length chain)) (length n.inputs) (length n.outputs) (omega (arith, i)) (sym o) (zip ps rs) (shaped n holds ps rs patterns respond);
@@ -325,7 +326,7 @@ module _ (n : Netlist) (sound : IsSound n) (design : IsDesign n) (chain : List �
       let size = length-map (cells n) (λ (d : Definition). d.id) in
       omega (arith, count, size)
 
-  all_signals : (holds : Holds) (tests : List (Pattern × Response)) → signals (test_file n holds (chain ∷ rest) tests) ≡ tester_names s
+  all_signals : (holds : Holds) (tests : List (Pattern × Response)) → declared_signals (test_file n holds (chain ∷ rest) tests) ≡ tester_names s
   all_signals holds tests =
       let k = length (chain ∷ rest) in
       let ins = map (name_of n) n.inputs in
@@ -355,7 +356,7 @@ module _ (n : Netlist) (sound : IsSound n) (design : IsDesign n) (chain : List �
         outputs = omega (arith, o, shown);
         cells = All-map (λ (q : List Text). 1 ≤ length q) (map (name_of n)) (chain ∷ rest)
             (All-weaker (λ (q : List ℕ). 0 < length q) (λ (q : List ℕ). 1 ≤ length (map (name_of n) q)) (λ q l. (let m = length-map q (name_of n) in omega (arith, m, l))) (chain ∷ rest) some);
-        names = subst (All IsName) (sym (all_signals holds (zip ps rs))) (names_ok s (scanned_is_sound n (chain ∷ rest) sound design are) tested);
+        names = subst (All IsStilName) (sym (all_signals holds (zip ps rs))) (names_ok s (scanned_is_sound n (chain ∷ rest) sound design are) tested);
         cell_names = cell_names_ok n (chain ∷ rest) sound are;
         distinct = subst (AllPairs (λ x y. x ≢ y)) (sym (all_signals holds (zip ps rs))) tested.distinct;
         shift = word_of_bits (length f.pi) (idle_inputs holds ++ true ∷ []) idle;
@@ -373,7 +374,7 @@ test_is_file n holds chains patterns f sound design are obey h = subst IsStilFil
 
 -- ---- it fits the scanned netlist
 
-fits_none : (n : Netlist) (holds : Holds) (tests : List (Pattern × Response)) → AreChainsOf n [] → Fits (test_file n holds [] tests) n
+fits_none : (n : Netlist) (holds : Holds) (tests : List (Pattern × Response)) → AreChainsOf n [] → FitsNetlist (test_file n holds [] tests) n
 fits_none n holds tests are =
     let count = ap length are.are ∙ stitched_count (cell_ids n) are.asked are.some in
     let size = length-map (cells n) (λ (d : Definition). d.id) in
@@ -385,7 +386,7 @@ fits_none n holds tests are =
     }
 
 fits_some : (n : Netlist) (holds : Holds) (chain : List ℕ) (rest : List (List ℕ)) (tests : List (Pattern × Response)) → IsSound n → IsDesign n → AreChainsOf n (chain ∷ rest)
-    → Fits (test_file n holds (chain ∷ rest) tests) (scanned_of n (chain ∷ rest))
+    → FitsNetlist (test_file n holds (chain ∷ rest) tests) (scanned_of n (chain ∷ rest))
 fits_some n holds chain rest tests sound design are =
     let some = some_cells n sound design chain rest are in
     let ins = map (name_of n) n.inputs in
@@ -399,9 +400,9 @@ fits_some n holds chain rest tests sound design are =
       chains = ((λ e. absurd (omega (arith, e))), (λ e. absurd (omega (arith, e, same, some))));
     }
 
-fits_made : (n : Netlist) (holds : Holds) (chains : List (List ℕ)) (tests : List (Pattern × Response)) → IsSound n → IsDesign n → AreChainsOf n chains → Fits (test_file n holds chains tests) (scanned_of n chains)
+fits_made : (n : Netlist) (holds : Holds) (chains : List (List ℕ)) (tests : List (Pattern × Response)) → IsSound n → IsDesign n → AreChainsOf n chains → FitsNetlist (test_file n holds chains tests) (scanned_of n chains)
 fits_made n holds [] tests sound design are = fits_none n holds tests are
 fits_made n holds (chain ∷ rest) tests sound design are = fits_some n holds chain rest tests sound design are
 
 pub files_fit : FilesFit
-files_fit n holds chains patterns f sound design are h = subst (λ (g : StilFile). Fits g (scanned_of n chains)) (sym h.is) (fits_made n holds chains (zip patterns h.responses) sound design are)
+files_fit n holds chains patterns f sound design are h = subst (λ (g : StilFile). FitsNetlist g (scanned_of n chains)) (sym h.is) (fits_made n holds chains (zip patterns h.responses) sound design are)

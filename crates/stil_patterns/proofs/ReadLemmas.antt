@@ -1,9 +1,10 @@
 -- Patterns as they are read, word by word.
 use Rattle.std.proofs.Common.{◌≡◌, ◌∙◌, ◌+◌, ◌-◌, ◌*◌, ◌<◌, ◌≤◌, ◌==◌, ℕ, zero, suc, min, Bool, true, false, List, [], ◌∷◌, ◌++◌, ap, sym, refl, subst, append_assoc, append-nil, length, map, take, drop, get_or, arith, reverse, Some, slice_get}
 use Rattle.std.proofs.lemmas.List.{drop_more, get_or-drop, get_or-map, get_or-reverse, length-drop, length-map, length-reverse, take_min, take_more}
+use Rattle.plain_text.specs.Texts.{Text}
 use Rattle.cubes.specs.Cubes.{Pattern}
-use Rattle.stil_write.specs.StilFiles.{Item, Text, Vector, item_at, words_of}
-use Rattle.stil_vectors.specs.FileVectors.{bit_of, bits_of}
+use Rattle.stil_write.specs.StilFiles.{Item, Vector, item_at, words_of}
+use Rattle.stil_vectors.specs.FileVectors.{driven_bit, bits_of}
 use Rattle.stil_patterns.specs.inner.Reading.{cells_in, chain_in, pattern_in, tests_in}
 
 -- ---- characters
@@ -12,27 +13,27 @@ pub chain_more : (word : Text) (k b : ℕ) (old found new : List Bool) → k < l
     → new ≡ old ++ take (k + 1) (reverse (bits_of word))
 chain_more word k b old found new l is h pushed =
     let bits = bits_of word in
-    let size : length bits ≡ length word = length-map word bit_of in
+    let size : length bits ≡ length word = length-map word driven_bit in
     let back : length (reverse bits) ≡ length bits = length-reverse bits in
     let at : get_or (reverse bits) k false ≡ (b == 49) =
-    get_or-reverse bits k false (omega (arith, size, l)) ∙ (ap (λ n. get_or bits (n - 1 - k) false) size ∙ (get_or-map bit_of word (length word - 1 - k) 0 false (omega (arith, l)) ∙ ap bit_of (sym is))) in
+    get_or-reverse bits k false (omega (arith, size, l)) ∙ (ap (λ n. get_or bits (n - 1 - k) false) size ∙ (get_or-map driven_bit word (length word - 1 - k) 0 false (omega (arith, l)) ∙ ap driven_bit (sym is))) in
     pushed ∙ (ap (λ (x : List Bool). x ++ (b == 49) ∷ []) h ∙ (append_assoc old (take k (reverse bits)) ((b == 49) ∷ [])
     ∙ ap (λ (x : List Bool). old ++ x) (ap (λ v. take k (reverse bits) ++ v ∷ []) (sym at) ∙ sym (take_more (reverse bits) k false (omega (arith, back, size, l))))))
 
 pub chain_end : (word : Text) (count k : ℕ) (old found : List Bool) → k ≡ min count (length word) → found ≡ old ++ take k (reverse (bits_of word)) → found ≡ old ++ chain_in count word
 chain_end word count k old found e h =
     let bits = bits_of word in
-    let size : length (reverse bits) ≡ length word = length-reverse bits ∙ length-map word bit_of in
+    let size : length (reverse bits) ≡ length word = length-reverse bits ∙ length-map word driven_bit in
     h ∙ ap (λ (x : List Bool). old ++ x) (ap (λ n. take n (reverse bits)) (e ∙ ap (min count) (sym size)) ∙ take_min count (reverse bits))
 
 pub inputs_more : (word : Text) (k b : ℕ) (found new : List Bool) → k < length word → b ≡ get_or word k 0 → found ≡ take k (bits_of word) → new ≡ found ++ (b == 49) ∷ [] → new ≡ take (k + 1) (bits_of word)
 inputs_more word k b found new l is h pushed =
-    let size : length (bits_of word) ≡ length word = length-map word bit_of in
-    let at : get_or (bits_of word) k false ≡ (b == 49) = get_or-map bit_of word k 0 false l ∙ ap bit_of (sym is) in
+    let size : length (bits_of word) ≡ length word = length-map word driven_bit in
+    let at : get_or (bits_of word) k false ≡ (b == 49) = get_or-map driven_bit word k 0 false l ∙ ap driven_bit (sym is) in
     pushed ∙ (ap (λ (x : List Bool). x ++ (b == 49) ∷ []) h ∙ (ap (λ v. take k (bits_of word) ++ v ∷ []) (sym at) ∙ sym (take_more (bits_of word) k false (omega (arith, size, l)))))
 
 pub inputs_end : (word : Text) (count k : ℕ) (found : List Bool) → k ≡ min count (length word) → found ≡ take k (bits_of word) → found ≡ take count (bits_of word)
-inputs_end word count k found e h = h ∙ (ap (λ n. take n (bits_of word)) (e ∙ ap (min count) (sym (length-map word bit_of))) ∙ take_min count (bits_of word))
+inputs_end word count k found e h = h ∙ (ap (λ n. take n (bits_of word)) (e ∙ ap (min count) (sym (length-map word driven_bit))) ∙ take_min count (bits_of word))
 
 -- ---- chains
 

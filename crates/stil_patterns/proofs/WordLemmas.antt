@@ -7,7 +7,7 @@ use Rattle.scan_play.specs.Shifts.{held_or_zero, idle_inputs}
 use Rattle.netlist.specs.Holds.{Holds}
 use Rattle.std.specs.Prelude.{Option}
 use Rattle.std.proofs.lemmas.Option.{get_or_from_slice_get, slice_get_within}
-use Rattle.stil_write.specs.StilFiles.{Text}
+use Rattle.plain_text.specs.Texts.{Text}
 use Rattle.stil_vectors.specs.TestFiles.{char_of_bit, text_of_bits}
 
 pub char_more : {V : Type 0} (f : V → ℕ) (z : V) (values : List V) (t : ℕ) (so_far after : Text) (v : V) (char : ℕ) → t < length values → so_far ≡ map f (take t values)

@@ -12,7 +12,7 @@ use Rattle.stil_write.specs.StilFiles.{StilFile}
 use Rattle.stil_write.specs.Texts.{stil_text}
 use Rattle.stil_read.specs.Reading.{StandsFor}
 use Rattle.stil_vectors.specs.FileVectors.{vectors_in}
-use Rattle.stil_vectors.specs.Fitting.{Fits}
+use Rattle.stil_vectors.specs.Fitting.{FitsNetlist}
 use Rattle.stil_patterns.specs.Tests.{IsFileOf}
 
 -- The file of patterns has their vectors.
@@ -47,7 +47,7 @@ OnePatternList =
 abbrev pub FilesFit : Type 0
 FilesFit =
     (n : Netlist) (holds : Holds) (chains : List (List ℕ)) (patterns : List Pattern) (f : StilFile)
-    → IsSound n → IsDesign n → AreChainsOf n chains → IsFileOf n holds chains patterns f → Fits f (scanned_of n chains)
+    → IsSound n → IsDesign n → AreChainsOf n chains → IsFileOf n holds chains patterns f → FitsNetlist f (scanned_of n chains)
 
 -- The file of patterns has at least as many items as there are patterns.
 abbrev pub PatternsTakeItems : Type 0

@@ -4,10 +4,11 @@ use Rattle.std.specs.Prelude.{◌==◌, ◌&&◌, ◌||◌, not, nat_le, codes, 
 use Rattle.std.specs.Fmt.{digits, digits_onto, digit_glyph}
 use Rattle.std.specs.List.{All, AllZip}
 use Rattle.std.proofs.lemmas.List.Elements.{All-head, All-tail}
+use Rattle.plain_text.specs.Texts.{Text}
 use Rattle.stil_write.specs.declared.forms.Form.{Form}
-use Rattle.stil_write.specs.declared.forms.Values.{Values}
-use Rattle.stil_write.specs.declared.forms.Values.TheVariants as values
-use Rattle.stil_write.specs.StilFiles.{IsName, IsWord, Text, is_name_byte, is_value, numbered, where_chained}
+use Rattle.stil_write.specs.declared.forms.CharKind.{CharKind}
+use Rattle.stil_write.specs.declared.forms.CharKind.TheVariants as values
+use Rattle.stil_write.specs.StilFiles.{IsStilName, IsWord, is_stil_name_byte, is_value, numbered, where_chained}
 use Rattle.stil_read.specs.declared.bytes.Class.{Class}
 use Rattle.stil_read.specs.declared.bytes.Class.TheVariants as class
 use Rattle.stil_read.specs.Tokens.{class_of}
@@ -25,7 +26,7 @@ neither true b e = cc
 neither false true e = cc
 neither false false e = (refl, refl)
 
-no_quotes : (b : ℕ) → is_name_byte b ≡ true → ((b == 34) ≡ false) × ((b == 39) ≡ false)
+no_quotes : (b : ℕ) → is_stil_name_byte b ≡ true → ((b == 34) ≡ false) × ((b == 39) ≡ false)
 no_quotes b e = neither (b == 34) (b == 39) ((both (nat_le 33 b && nat_le b 126) (not (b == 34 || b == 39)) e).1)
 
 -- it has no single quote
@@ -37,20 +38,20 @@ abbrev pub AreUnquoted : List Text → Type 0
 AreUnquoted [] = ⊤
 AreUnquoted (name ∷ names) = IsUnquoted name × AreUnquoted names
 
-bytes_quotable : (bs : Text) → All (λ b. IsTrue (is_name_byte b)) bs → IsQuotable bs × IsUnquoted bs
+bytes_quotable : (bs : Text) → All (λ b. IsTrue (is_stil_name_byte b)) bs → IsQuotable bs × IsUnquoted bs
 bytes_quotable [] h = (tt, tt)
 bytes_quotable (b ∷ bs) h =
-    let first = no_quotes b (All-head (λ x. IsTrue (is_name_byte x)) b bs h) in
-    let rest = bytes_quotable bs (All-tail (λ x. IsTrue (is_name_byte x)) b bs h) in
+    let first = no_quotes b (All-head (λ x. IsTrue (is_stil_name_byte x)) b bs h) in
+    let rest = bytes_quotable bs (All-tail (λ x. IsTrue (is_stil_name_byte x)) b bs h) in
     ((first.0, rest.0), (first.1, rest.1))
 
-pub names_quotable : (names : List Text) → All IsName names → AreQuotable names
+pub names_quotable : (names : List Text) → All IsStilName names → AreQuotable names
 names_quotable [] h = tt
-names_quotable (name ∷ names) h = ((bytes_quotable name (All-head IsName name names h).bytes).0, names_quotable names (All-tail IsName name names h))
+names_quotable (name ∷ names) h = ((bytes_quotable name (All-head IsStilName name names h).bytes).0, names_quotable names (All-tail IsStilName name names h))
 
-pub names_unquoted : (names : List Text) → All IsName names → AreUnquoted names
+pub names_unquoted : (names : List Text) → All IsStilName names → AreUnquoted names
 names_unquoted [] h = tt
-names_unquoted (name ∷ names) h = ((bytes_quotable name (All-head IsName name names h).bytes).1, names_unquoted names (All-tail IsName name names h))
+names_unquoted (name ∷ names) h = ((bytes_quotable name (All-head IsStilName name names h).bytes).1, names_unquoted names (All-tail IsStilName name names h))
 
 pub quotable-append : (x y : Text) → IsQuotable x → IsQuotable y → IsQuotable (x ++ y)
 quotable-append [] y h k = k
@@ -191,14 +192,14 @@ pub value_letters : (class_of 48 ≡ class.Letter) × (class_of 49 ≡ class.Let
 unfolding class_of
 value_letters = (refl, refl, refl, refl, refl, refl, refl)
 
-value_class : (v : Values) (b : ℕ) → is_value v b ≡ true → class_of b ≡ class.Letter
+value_class : (v : CharKind) (b : ℕ) → is_value v b ≡ true → class_of b ≡ class.Letter
 value_class values.Bits b e = letters_of (b == 48) (b == 49) (class_of b ≡ class.Letter) e (letter_at b 48 value_letters.0) (letter_at b 49 value_letters.1)
 value_class values.Pulses b e = letters_of (b == 48) (b == 80) (class_of b ≡ class.Letter) e (letter_at b 48 value_letters.0) (letter_at b 80 value_letters.2)
 value_class values.Strobes b e =
     letters_of (b == 72 || b == 76) (b == 88) (class_of b ≡ class.Letter) e
     (λ f. letters_of (b == 72) (b == 76) (class_of b ≡ class.Letter) f (letter_at b 72 value_letters.3) (letter_at b 76 value_letters.4)) (letter_at b 88 value_letters.5)
 
-word_letters : (v : Values) (word : Text) → All (λ b. IsTrue (is_value v b)) word → AreLetters word
+word_letters : (v : CharKind) (word : Text) → All (λ b. IsTrue (is_value v b)) word → AreLetters word
 word_letters v [] h = tt
 word_letters v (b ∷ bs) h = (value_class v b (All-head (λ x. IsTrue (is_value v x)) b bs h), word_letters v bs (All-tail (λ x. IsTrue (is_value v x)) b bs h))
 

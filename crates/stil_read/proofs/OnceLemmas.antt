@@ -1,7 +1,8 @@
 -- The same tokens have one reading.
 use Rattle.std.proofs.Common.{◌≡◌, ◌∙◌, ◌≤◌, ◌<◌, ℕ, zero, suc, List, [], ◌∷◌, ◌++◌, ap, sym, refl, subst, length, arith}
 use Rattle.std.specs.Prelude.{Option, None, Some, codes, map}
-use Rattle.stil_write.specs.StilFiles.{Item, StilFile, Text}
+use Rattle.plain_text.specs.Texts.{Text}
+use Rattle.stil_write.specs.StilFiles.{Item, StilFile}
 use Rattle.stil_write.specs.Pieces.{quoted}
 use Rattle.stil_write.specs.Texts.{assigned, called, head_text}
 use Rattle.stil_read.specs.Tokens.{Spelled, Token, tokens}

@@ -3,7 +3,8 @@ use Rattle.std.proofs.Common.{◌≡◌, ◌∙◌, ◌+◌, ◌≤◌, ◌<◌,
 use Rattle.std.specs.Prelude.{◌==◌, ◌&&◌, codes, Some, None, if◌then◌else◌, ⊤}
 use Rattle.std.specs.List.{flat_map}
 use Rattle.std.specs.Str.{bytes_eq}
-use Rattle.stil_write.specs.StilFiles.{StilFile, Text, clock, numbered, scan_inputs, scan_outputs, where_chained}
+use Rattle.plain_text.specs.Texts.{Text}
+use Rattle.stil_write.specs.StilFiles.{StilFile, clock, numbered, scan_inputs, scan_outputs, where_chained}
 use Rattle.stil_write.specs.Pieces.{chain_end, chain_head, expression, group_line, joined, quoted, signal_line, signal_lines, waveform_line, waveform_lines}
 use Rattle.stil_write.specs.Texts.{burst_text, clock_form, drive_form, groups_text, procedures_head, strobe_form, timing_head, timing_text}
 use Rattle.stil_read.specs.declared.bytes.Class.TheVariants as class

@@ -1,6 +1,7 @@
 -- Reading as a whole.
 use Rattle.std.proofs.Common.{◌≡◌, ◌∙◌, ap, sym, refl, subst}
-use Rattle.stil_write.specs.StilFiles.{IsStilFile, StilFile, Text}
+use Rattle.plain_text.specs.Texts.{Text}
+use Rattle.stil_write.specs.StilFiles.{IsStilFile, StilFile}
 use Rattle.stil_write.specs.Texts.{stil_text}
 use Rattle.stil_read.specs.Laws.{AtMostOne, WrittenStands}
 use Rattle.stil_read.specs.Reading.{StandsFor}

@@ -1,6 +1,6 @@
 -- Signals of one kind, one after the other.
 use Rattle.std.proofs.Common.{◌≡◌, ◌∙◌, List, [], ◌∷◌, ◌++◌, ap, sym, refl, append_assoc, append-nil}
-use Rattle.stil_write.specs.StilFiles.{Text}
+use Rattle.plain_text.specs.Texts.{Text}
 use Rattle.stil_write.specs.Pieces.{quoted}
 use Rattle.stil_read.specs.Tokens.{Token, Spelled, tokens}
 use Rattle.stil_read.specs.inner.Signals.{AreSignals, NoSignal, signal_tokens}

@@ -2,13 +2,14 @@
 use Rattle.std.proofs.Common.{◌≡◌, ℕ, zero, suc, ◌+◌, ◌≤◌, ◌<◌, Bool, true, false, List, [], ◌∷◌, ◌++◌, length, length-append, refl, ap, sym, subst, arith}
 use Rattle.std.specs.Prelude.{◌==◌, if◌then◌else◌, Option, Some, None, map}
 use Rattle.std.specs.List.{flat_map}
-use Rattle.stil_write.specs.StilFiles.{Item, StilFile, Text}
+use Rattle.plain_text.specs.Texts.{Text}
+use Rattle.stil_write.specs.StilFiles.{Item, StilFile}
 use Rattle.stil_write.specs.Pieces.{quoted}
 use Rattle.stil_write.specs.Texts.{assigned, called, head_text}
 use Rattle.stil_read.specs.declared.bytes.Class.{Class}
 use Rattle.stil_read.specs.declared.bytes.Class.TheVariants as class
 use Rattle.stil_read.specs.Laws.{ItemsTakeBytes}
-use Rattle.stil_read.specs.Tokens.{Token, Spelled, Stray, Place, Between, InWord, BehindSlash, InQuotes, InLine, InBlock, BehindStar, Turn, behind, behind_slash, behind_star, class_of, first_byte, go, in_block, in_word, last_tokens, tokens, tokens_from, turn}
+use Rattle.stil_read.specs.Tokens.{Token, Spelled, Stray, LexState, Between, InWord, BehindSlash, InQuotes, InLine, InBlock, BehindStar, Turn, behind, behind_slash, behind_star, class_of, first_byte, go, in_block, in_word, last_tokens, tokens, tokens_from, turn}
 use Rattle.stil_read.specs.inner.Grammar.{AreChains, AreDeclared, ArePattern, IsShifted, IsSpelt, cells_word, clock_tokens, input_kind, items_head, output_kind, pattern_word, scan_input_kind, shift_head, vector_word}
 use Rattle.stil_read.specs.inner.Items.{item_tokens}
 use Rattle.stil_read.specs.inner.Signals.{AreSignals, signal_tokens}
@@ -20,7 +21,7 @@ use Rattle.stil_read.proofs.TokenLemmas.{at_end, step_from}
 -- ---- tokens and bytes
 
 -- a token is begun
-abbrev begun : Place → ℕ
+abbrev begun : LexState → ℕ
 begun Between = 0
 begun (InWord word) = 1
 begun (BehindSlash word) = 1
@@ -75,7 +76,7 @@ either_few true t u most p q = p
 either_few false t u most p q = q
 
 -- a byte ends or begins one token more at most
-turn_few : (place : Place) (b : ℕ) → weight (turn place b) ≤ 1 + begun place
+turn_few : (place : LexState) (b : ℕ) → weight (turn place b) ≤ 1 + begun place
 turn_few Between b = first_few (class_of b) b
 turn_few (InWord word) b = word_few (class_of b) word b
 turn_few (BehindSlash word) b = slash_few (class_of b) word b
@@ -85,10 +86,10 @@ turn_few InLine b = either_few (b == 10) (go Between) (go InLine) 1 (omega arith
 turn_few InBlock b = block_few (class_of b)
 turn_few BehindStar b = star_few (class_of b)
 
-last_few : (place : Place) → length (last_tokens place) ≤ begun place
+last_few : (place : LexState) → length (last_tokens place) ≤ begun place
 last_few = elim [ Between ↦ omega arith | InWord word ↦ omega arith | BehindSlash word ↦ omega arith | InQuotes quote text ↦ omega arith | InLine ↦ omega arith | InBlock ↦ omega arith | BehindStar ↦ omega arith ]
 
-tokens_few : (bytes : Text) (place : Place) → length (tokens_from place bytes) ≤ length bytes + begun place
+tokens_few : (bytes : Text) (place : LexState) → length (tokens_from place bytes) ≤ length bytes + begun place
 tokens_few [] place = omega (arith, ap length (at_end place), last_few place)
 tokens_few (b ∷ bs) place =
     let t = turn place b in

@@ -5,9 +5,10 @@ use Rattle.std.specs.List.{All, flat_map}
 use Rattle.std.specs.Str.{bytes_eq}
 use Rattle.std.proofs.lemmas.List.{length-map}
 use Rattle.std.proofs.lemmas.List.Elements.{All-cons, All-head, All-nil, All-tail, All-weaker}
+use Rattle.plain_text.specs.Texts.{Text}
 use Rattle.stil_write.specs.declared.forms.Form.{Form}
-use Rattle.stil_write.specs.declared.forms.Values.TheVariants as values
-use Rattle.stil_write.specs.StilFiles.{Call, IsItem, IsName, IsStilFile, Item, StilFile, Text, Vector, call_forms, clock, kind_of, numbered, scan_inputs, scan_outputs, signals, vector_forms, where_chained, words_of}
+use Rattle.stil_write.specs.declared.forms.CharKind.TheVariants as values
+use Rattle.stil_write.specs.StilFiles.{Call, IsItem, IsStilName, IsStilFile, Item, StilFile, Vector, call_forms, clock, item_kind, numbered, scan_inputs, scan_outputs, declared_signals, vector_forms, where_chained, words_of}
 use Rattle.stil_write.specs.Pieces.{HasTargets, assignments, chain_block, chain_blocks, chain_end, chain_head, item_line, item_text, joined, quoted, signal_lines, targets}
 use Rattle.stil_write.specs.Texts.{assigned, burst_text, called, groups_text, head_text, pattern_text, procedures_by, procedures_head, shift_words, signals_text, stil_text, structures_text, timing_text}
 use Rattle.stil_write.proofs.ItemLemmas.{have_targets, length-numbered}
@@ -403,17 +404,17 @@ no_length : {X : Type 0} (xs : List X) → length xs ≡ 0 → xs ≡ []
 no_length [] h = refl
 no_length (x ∷ xs) h = absurd (omega (arith, h))
 
-cells_quotable : (chains : List (List Text)) → All (All IsName) chains → AllQuotable chains
+cells_quotable : (chains : List (List Text)) → All (All IsStilName) chains → AllQuotable chains
 cells_quotable [] h = tt
-cells_quotable (cells ∷ chains) h = (names_quotable cells (All-head (All IsName) cells chains h), cells_quotable chains (All-tail (All IsName) cells chains h))
+cells_quotable (cells ∷ chains) h = (names_quotable cells (All-head (All IsStilName) cells chains h), cells_quotable chains (All-tail (All IsStilName) cells chains h))
 
-pi_names : (f : StilFile) → IsStilFile f → All IsName f.pi
-pi_names f h = all_front IsName f.pi (scan_inputs f ++ (clock f ++ (f.po ++ scan_outputs f))) h.names
+pi_names : (f : StilFile) → IsStilFile f → All IsStilName f.pi
+pi_names f h = all_front IsStilName f.pi (scan_inputs f ++ (clock f ++ (f.po ++ scan_outputs f))) h.names
 
-po_names : (f : StilFile) → IsStilFile f → All IsName f.po
+po_names : (f : StilFile) → IsStilFile f → All IsStilName f.po
 po_names f h =
-    all_front IsName f.po (scan_outputs f) (all_back IsName (clock f) (f.po ++ scan_outputs f) (all_back IsName (scan_inputs f) (clock f ++ (f.po ++ scan_outputs f))
-    (all_back IsName f.pi (scan_inputs f ++ (clock f ++ (f.po ++ scan_outputs f))) h.names)))
+    all_front IsStilName f.po (scan_outputs f) (all_back IsStilName (clock f) (f.po ++ scan_outputs f) (all_back IsStilName (scan_inputs f) (clock f ++ (f.po ++ scan_outputs f))
+    (all_back IsStilName f.pi (scan_inputs f ++ (clock f ++ (f.po ++ scan_outputs f))) h.names)))
 
 abbrev file_with : List Text → List Text → List (List Text) → Text → List Item → StilFile
 file_with pi po chains word items = record { pi = pi; po = po; chains = chains; shift_word = word; items = items }

@@ -5,7 +5,7 @@ use Rattle.std.specs.List.{prefix_len}
 use Rattle.std.proofs.lemmas.Bool.Decides.{nat_tests}
 use Rattle.stil_read.specs.declared.bytes.Class.{Class}
 use Rattle.stil_read.specs.declared.bytes.Class.TheVariants as class
-use Rattle.stil_read.specs.Tokens.{Token, Spelled, Stray, Place, Between, InWord, BehindSlash, InQuotes, InLine, InBlock, BehindStar, Turn, first_byte, in_word, behind_slash, behind_star, in_block, behind, class_of, ended, go, turn, last_tokens, tokens_from, tokens}
+use Rattle.stil_read.specs.Tokens.{Token, Spelled, Stray, LexState, Between, InWord, BehindSlash, InQuotes, InLine, InBlock, BehindStar, Turn, first_byte, in_word, behind_slash, behind_star, in_block, behind, class_of, ended_word, go, turn, last_tokens, tokens_from, tokens}
 use Rattle.stil_read.specs.inner.Shown.{IsFirst, begins_gap, ends_block, gap_by, goes_on, is_opener, opens_comment, word_by, word_len}
 
 either : (b : Bool) → (b ≡ true) ⊎ (b ≡ false)
@@ -22,11 +22,11 @@ not_equal m n h = ⊎_elim (λ (t : (m == n) ≡ true). absurd (h (is_equal m n 
 abbrev after_turn : Turn → List ℕ → List Token
 after_turn t bs = t.ends ++ tokens_from t.place bs
 
-pub step_from : (place : Place) (b : ℕ) (bs : List ℕ) → tokens_from place (b ∷ bs) ≡ after_turn (turn place b) bs
+pub step_from : (place : LexState) (b : ℕ) (bs : List ℕ) → tokens_from place (b ∷ bs) ≡ after_turn (turn place b) bs
 unfolding tokens_from
 step_from place b bs = refl
 
-pub at_end : (place : Place) → tokens_from place [] ≡ last_tokens place
+pub at_end : (place : LexState) → tokens_from place [] ≡ last_tokens place
 unfolding tokens_from
 at_end place = refl
 
@@ -69,7 +69,7 @@ pub line_more_at : (all rest : List ℕ) (b : ℕ) (bs : List ℕ) → tokens_fr
 line_more_at all rest b bs e f h = e ∙ ap (tokens_from InLine) f ∙ step_from InLine b bs ∙ (rw (not_equal b 10 h) refl)
 
 -- where a comment stands behind a byte of this class
-abbrev pub block_place : Class → Place
+abbrev pub block_place : Class → LexState
 block_place class.Star = BehindStar
 block_place kind = InBlock
 
@@ -162,11 +162,11 @@ slash_on class.Other word b bs is h = slash_turn b bs class.Other is word ∙ sy
 
 -- a comment ends the word before it
 comment_by : (kind : Class) (word : List ℕ) (b : ℕ) (bs : List ℕ) → class_of b ≡ kind → is_opener kind ≡ true
-    → tokens_from (BehindSlash word) (b ∷ bs) ≡ ended word ++ tokens_from (BehindSlash []) (b ∷ bs)
+    → tokens_from (BehindSlash word) (b ∷ bs) ≡ ended_word word ++ tokens_from (BehindSlash []) (b ∷ bs)
 comment_by class.Slash word b bs is h =
-    slash_turn b bs class.Slash is word ∙ ap (λ t. t ++ tokens_from InLine bs) (append-nil (ended word)) ∙ ap (λ t. ended word ++ t) (sym (slash_turn b bs class.Slash is []))
+    slash_turn b bs class.Slash is word ∙ ap (λ t. t ++ tokens_from InLine bs) (append-nil (ended_word word)) ∙ ap (λ t. ended_word word ++ t) (sym (slash_turn b bs class.Slash is []))
 comment_by class.Star word b bs is h =
-    slash_turn b bs class.Star is word ∙ ap (λ t. t ++ tokens_from InBlock bs) (append-nil (ended word)) ∙ ap (λ t. ended word ++ t) (sym (slash_turn b bs class.Star is []))
+    slash_turn b bs class.Star is word ∙ ap (λ t. t ++ tokens_from InBlock bs) (append-nil (ended_word word)) ∙ ap (λ t. ended_word word ++ t) (sym (slash_turn b bs class.Star is []))
 comment_by class.Gap word b bs is h = cc
 comment_by class.Mark word b bs is h = cc
 comment_by class.Quote word b bs is h = cc

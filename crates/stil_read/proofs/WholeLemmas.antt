@@ -1,15 +1,15 @@
 -- Texts one behind the other.
 use Rattle.std.proofs.Common.{◌≡◌, ◌∙◌, ℕ, List, [], ◌∷◌, ◌++◌, ap, sym, refl, append_assoc, append-nil}
-use Rattle.stil_read.specs.Tokens.{Place, Token, Between, turn, tokens, tokens_from}
+use Rattle.stil_read.specs.Tokens.{LexState, Token, Between, turn, tokens, tokens_from}
 use Rattle.stil_read.specs.inner.Whole.{IsWhole, WholeThenRest, WholeTogether, place_after}
 use Rattle.stil_read.proofs.TokenLemmas.{step_from, at_end}
 
 -- what a text ends, without what is open at its end
-unfoldable ends_of : Place → List ℕ → List Token
+unfoldable ends_of : LexState → List ℕ → List Token
 ends_of place [] = []
 ends_of place (b ∷ bs) = (turn place b).ends ++ ends_of (turn place b).place bs
 
-then_rest : (text rest : List ℕ) (place : Place) → tokens_from place (text ++ rest) ≡ ends_of place text ++ tokens_from (place_after place text) rest
+then_rest : (text rest : List ℕ) (place : LexState) → tokens_from place (text ++ rest) ≡ ends_of place text ++ tokens_from (place_after place text) rest
 unfolding ends_of place_after
 then_rest [] rest place = refl
 then_rest (b ∷ bs) rest place =
@@ -25,7 +25,7 @@ pub whole_then_rest : WholeThenRest
 whole_then_rest text rest whole =
     then_rest text rest Between ∙ ap (λ place. ends_of Between text ++ tokens_from place rest) whole ∙ ap (λ ts. ts ++ tokens rest) (sym (whole_ends text whole))
 
-after_both : (text more : List ℕ) (place : Place) → place_after place (text ++ more) ≡ place_after (place_after place text) more
+after_both : (text more : List ℕ) (place : LexState) → place_after place (text ++ more) ≡ place_after (place_after place text) more
 unfolding place_after
 after_both [] more place = refl
 after_both (b ∷ bs) more place = after_both bs more (turn place b).place

@@ -1,7 +1,7 @@
 -- The tokens of written lines.
 use Rattle.std.proofs.Common.{◌≡◌, ◌∙◌, ℕ, false, [], ◌∷◌, ◌++◌, ap, sym, refl, append_assoc, append-nil}
 use Rattle.std.specs.Prelude.{◌==◌, codes}
-use Rattle.stil_write.specs.StilFiles.{Text}
+use Rattle.plain_text.specs.Texts.{Text}
 use Rattle.stil_write.specs.Pieces.{assignment, assignments, quoted, signal_line, signal_lines}
 use Rattle.stil_read.specs.declared.bytes.Class.TheVariants as class
 use Rattle.stil_read.specs.Tokens.{InQuotes, InWord, Spelled, class_of, tokens, tokens_from}

@@ -1,6 +1,7 @@
 -- Laws of reading.
 use Rattle.std.specs.Prelude.{◌≡◌, ◌≤◌, length}
-use Rattle.stil_write.specs.StilFiles.{StilFile, IsStilFile, Text}
+use Rattle.plain_text.specs.Texts.{Text}
+use Rattle.stil_write.specs.StilFiles.{StilFile, IsStilFile}
 use Rattle.stil_write.specs.Texts.{stil_text}
 use Rattle.stil_read.specs.Reading.{StandsFor}
 

@@ -1,6 +1,6 @@
 //! The block of signals.
 ghost use Rattle.std.specs.Prelude.{◌≡◌, ◌≢◌, ◌++◌, ℕ, List, IfOk, MatchOption};
-ghost use Rattle.stil_write.specs.StilFiles.{Text};
+ghost use Rattle.plain_text.specs.Texts.{Text};
 ghost use Rattle.stil_read.specs.Tokens.{Token as Piece, tokens};
 ghost use Rattle.stil_read.specs.inner.Grammar.{AreDeclared, clock_tokens};
 

@@ -5,6 +5,7 @@ use Rattle.std.specs.List.{All, AllZip, flat_map}
 use Rattle.std.proofs.lemmas.List.{length-replicate, length-take, length-drop}
 use Rattle.std.proofs.lemmas.Option.{get_or_from_slice_get}
 use Rattle.std.proofs.lemmas.Slice.Zip.{AllZip-long}
+use Rattle.plain_text.specs.Texts.{Text}
 use Rattle.netlist.specs.declared.kinds.Tri.{Tri}
 use Rattle.netlist.specs.declared.kinds.Tri.TheVariants.{X}
 use Rattle.scan_insert.specs.Names.{numbers_from}
@@ -14,9 +15,9 @@ use Rattle.scan_play.specs.Shifts.{column}
 use Rattle.scan_play.proofs.BurstLemmas.{enough}
 use Rattle.scan_play.proofs.LoadLemmas.{row_of_flat}
 use Rattle.stil_write.specs.declared.forms.Form.{Form}
-use Rattle.stil_write.specs.declared.forms.Values.TheVariants as values
-use Rattle.stil_write.specs.StilFiles.{Call, IsCall, IsItem, IsStilFile, IsWord, Item, StilFile, Text, Vector, call_forms, item_at}
-use Rattle.stil_vectors.specs.FileVectors.{bit_of, bits_of, call_cycle, call_size, cycles_of_item, value_of, values_of}
+use Rattle.stil_write.specs.declared.forms.CharKind.TheVariants as values
+use Rattle.stil_write.specs.StilFiles.{Call, IsStilCall, IsItem, IsStilFile, IsWord, Item, StilFile, Vector, call_forms, item_at}
+use Rattle.stil_vectors.specs.FileVectors.{driven_bit, bits_of, call_cycle, call_size, cycles_of_item, strobed_value, values_of}
 use Rattle.stil_vectors.proofs.CharLemmas.{all_at, length-chars, zip_all}
 
 map_numbers : (f g : ℕ → Cycle) (first count : ℕ) → ((t : ℕ) → t < count → f (first + t) ≡ g (first + t)) → map f (numbers_from first count) ≡ map g (numbers_from first count)
@@ -74,7 +75,7 @@ pub record CallWords (n : ℕ) (words : List Text) (size : ℕ) : Type 0 where
   pub some : 1 ≤ length words
   pub long : All (λ (word : Text). length word ≡ size) words
 
-pub call_words : (n : ℕ) (words : List Text) → IsCall n words → (size : ℕ) × CallWords n words size
+pub call_words : (n : ℕ) (words : List Text) → IsStilCall n words → (size : ℕ) × CallWords n words size
 call_words n words h =
     let size = h.0 in
     let bits : Form = record { values = values.Bits; size = size } in
@@ -93,7 +94,7 @@ call_words n words h =
       },
     )
 
-pub call_item : (f : StilFile) (i : ℕ) (words : List Text) → IsStilFile f → i < length f.items → item_at f.items i ≡ Call words → IsCall (length f.chains) words
+pub call_item : (f : StilFile) (i : ℕ) (words : List Text) → IsStilFile f → i < length f.items → item_at f.items i ≡ Call words → IsStilCall (length f.chains) words
 call_item f i words h l e = subst (IsItem f) e (h.items i (Vector []) l)
 
 -- character t of words that are all longer
@@ -115,16 +116,16 @@ call_cycles f item words first drive strobe width count ins outs ei ef n ed es e
     let few = length-take width words in
     let more = length-drop width words in
     burst_cycles drive (bits_of f.shift_word) strobe (replicate (length f.po) X) true width count ins outs (column false (map bits_of (take width words))) (column X (map values_of (drop width words))) ed es eins eouts
-    (λ t. (let k = length-chars bit_of false (take width words) t in omega (arith, k, few, n, ew))) (λ t. (let k = length-chars value_of X (drop width words) t in omega (arith, k, more, n, ew)))
+    (λ t. (let k = length-chars driven_bit false (take width words) t in omega (arith, k, few, n, ew))) (λ t. (let k = length-chars strobed_value X (drop width words) t in omega (arith, k, more, n, ew)))
     ∙ ap (λ w. map (λ t. (let c : Cycle = record { drive = bits_of f.shift_word ++ column false (map bits_of (take w words)) t; strobe = replicate (length f.po) X ++ column X (map values_of (drop w words)) t; pulse = true } in c)) (numbers_from 0 count)) ew
     ∙ ap (λ k. map (call_cycle f words) (numbers_from 0 k)) (ec ∙ sym (first_size words first ef)) ∙ ap (cycles_of_item f) (sym ei)
 
 pub ins_enough : (words : List Text) (ins : List Bool) (count width : ℕ) → width ≤ length words → ins ≡ flat_map (column false (map bits_of (take width words))) (numbers_from 0 count) → count * width ≤ length ins
 ins_enough words ins count width l e =
     let few = length-take width words in
-    enough (column false (map bits_of (take width words))) ins count width width e refl (λ t. (let k = length-chars bit_of false (take width words) t in omega (arith, k, few, l)))
+    enough (column false (map bits_of (take width words))) ins count width width e refl (λ t. (let k = length-chars driven_bit false (take width words) t in omega (arith, k, few, l)))
 
 pub outs_enough : (words : List Text) (outs : List Tri) (count width : ℕ) → length words ≡ width + width → outs ≡ flat_map (column X (map values_of (drop width words))) (numbers_from 0 count) → count * width ≤ length outs
 outs_enough words outs count width l e =
     let more = length-drop width words in
-    enough (column X (map values_of (drop width words))) outs count width width e refl (λ t. (let k = length-chars value_of X (drop width words) t in omega (arith, k, more, l)))
+    enough (column X (map values_of (drop width words))) outs count width width e refl (λ t. (let k = length-chars strobed_value X (drop width words) t in omega (arith, k, more, l)))

@@ -11,12 +11,13 @@ use Rattle.std.proofs.lemmas.Map.Made.{IsDistinct-from_AllPairs}
 use Rattle.std.proofs.lemmas.Map.Steps.{length-le_from_distinct_below}
 use Rattle.std.proofs.lemmas.Slice.Eq.{bytes_eq-Decides}
 use Rattle.std.proofs.lemmas.Option.{get_or_from_slice_get, slice_get-get_or}
+use Rattle.plain_text.specs.Texts.{Text}
 use Rattle.netlist.specs.Conditions.{IsSound, most_signals}
 use Rattle.netlist.specs.Netlist.{Netlist, cells, name_of, signals}
 use Rattle.netlist.proofs.Placed.{input_below, signal_below}
 use Rattle.scan_insert.specs.Names.{output_name}
-use Rattle.stil_write.specs.StilFiles.{StilFile, Text, scan_inputs, scan_outputs}
-use Rattle.stil_vectors.specs.Fitting.{Fits}
+use Rattle.stil_write.specs.StilFiles.{StilFile, scan_inputs, scan_outputs}
+use Rattle.stil_vectors.specs.Fitting.{FitsNetlist}
 use Rattle.stil_vectors.proofs.CharLemmas.{take_at}
 
 pub names_more : {X Y : Type 0} (f : X → Y) (xs : List X) (names : List Y) (i : ℕ) (x : X) (name : Y) → slice_get xs i ≡ Some x → slice_get names i ≡ Some name → name ≡ f x → take i names ≡ map f (take i xs)
@@ -59,13 +60,13 @@ output_at n place l = slice_get-get_or n.outputs place 0 l
 -- ---- files that fit
 
 pub does_fit : (f : StilFile) (n : Netlist) (ins outs : List Text) → ins ≡ f.pi ++ scan_inputs f → outs ≡ f.po ++ scan_outputs f → ins ≡ map (name_of n) n.inputs → outs ≡ map (output_name n) n.outputs
-    → ((length f.chains ≡ 0) ↔ (length (cells n) ≡ 0)) → Fits f n
+    → ((length f.chains ≡ 0) ↔ (length (cells n) ≡ 0)) → FitsNetlist f n
 does_fit f n ins outs ei eo i o c = record { inputs = sym ei ∙ i; outputs = sym eo ∙ o; chains = c }
 
-pub other_inputs : (f : StilFile) (n : Netlist) (ins : List Text) → ins ≡ f.pi ++ scan_inputs f → (ins ≡ map (name_of n) n.inputs → ⊥) → Fits f n → ⊥
+pub other_inputs : (f : StilFile) (n : Netlist) (ins : List Text) → ins ≡ f.pi ++ scan_inputs f → (ins ≡ map (name_of n) n.inputs → ⊥) → FitsNetlist f n → ⊥
 other_inputs f n ins e none h = none (e ∙ h.inputs)
 
-pub other_outputs : (f : StilFile) (n : Netlist) (outs : List Text) → outs ≡ f.po ++ scan_outputs f → (outs ≡ map (output_name n) n.outputs → ⊥) → Fits f n → ⊥
+pub other_outputs : (f : StilFile) (n : Netlist) (outs : List Text) → outs ≡ f.po ++ scan_outputs f → (outs ≡ map (output_name n) n.outputs → ⊥) → FitsNetlist f n → ⊥
 other_outputs f n outs e none h = none (e ∙ h.outputs)
 
 -- ---- texts compared

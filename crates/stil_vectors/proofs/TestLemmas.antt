@@ -4,6 +4,7 @@ use Rattle.std.specs.Prelude.{codes, ◌==◌}
 use Rattle.std.specs.List.{flat_map, zip}
 use Rattle.std.proofs.lemmas.List.{length-replicate, length-map, length-reverse, length-take, map-append}
 use Rattle.std.proofs.lemmas.List.Concat.{flat_map-append}
+use Rattle.plain_text.specs.Texts.{Text}
 use Rattle.netlist.specs.declared.kinds.Tri.{Tri}
 use Rattle.netlist.specs.declared.kinds.Tri.TheVariants.{Zero, One, X}
 use Rattle.netlist.specs.Holds.{Holds}
@@ -15,8 +16,8 @@ use Rattle.scan_insert.specs.Names.{numbers_from, output_name}
 use Rattle.scan_play.specs.Cycles.{Cycle}
 use Rattle.scan_play.specs.Shifts.{by_chain, column, idle_inputs, load, shift, word_in, word_out}
 use Rattle.scan_play.specs.Vectors.{Response, applied, capture, flush, vectors}
-use Rattle.stil_write.specs.StilFiles.{Call, Item, StilFile, Text, Vector, where_chained}
-use Rattle.stil_vectors.specs.FileVectors.{bit_of, bits_of, call_cycle, call_size, cycles_of_item, has_pulse, together, value_of, values_of, vector_cycle, vectors_in}
+use Rattle.stil_write.specs.StilFiles.{Call, Item, StilFile, Vector, where_chained}
+use Rattle.stil_vectors.specs.FileVectors.{driven_bit, bits_of, call_cycle, call_size, cycles_of_item, has_pulse, together, strobed_value, values_of, vector_cycle, vectors_in}
 use Rattle.stil_vectors.specs.Laws.{TestVectors}
 use Rattle.stil_vectors.specs.TestFiles.{applied_items, capture_item, char_of_bit, char_of_value, load_items, load_words, shift_word_of, test_file, test_items, text_of_bits, text_of_values}
 use Rattle.stil_vectors.proofs.CallLemmas.{same_cycle}
@@ -24,11 +25,11 @@ use Rattle.stil_vectors.proofs.WidthLemmas.{back_of, drop_more, front_of}
 
 -- ---- characters
 
-bit_back : (b : Bool) → bit_of (char_of_bit b) ≡ b
+bit_back : (b : Bool) → driven_bit (char_of_bit b) ≡ b
 bit_back true = refl
 bit_back false = refl
 
-value_back : (v : Tri) → value_of (char_of_value v) ≡ v
+value_back : (v : Tri) → strobed_value (char_of_value v) ≡ v
 value_back Zero = refl
 value_back One = refl
 value_back X = refl
@@ -164,12 +165,12 @@ vector_made (chain ∷ chains) inputs strobes =
     let behind : drop (n + 1) words ≡ codes "P" ∷ rest = ap (λ k. drop k words) one ∙ back_of n zeros (codes "P" ∷ rest) (length-replicate n (codes "0")) in
     let back : drop (n + 1 + 1) words ≡ rest = drop_more (n + 1) 1 words ∙ ap (drop 1) behind in
     let driven : bits_of (together (take (n + 1) words)) ≡ inputs ++ false ∷ replicate n false =
-    ap (λ (ws : List Text). bits_of (together ws)) front ∙ ap (λ (t : Text). bits_of (pi ++ t)) (together_copies n 48) ∙ map-append bit_of pi (replicate n 48)
-    ∙ ap (λ (x : List Bool). x ++ bits_of (replicate n 48)) (bits_back (inputs ++ false ∷ [])) ∙ ap (λ (x : List Bool). (inputs ++ false ∷ []) ++ x) (map_copies bit_of n 48)
+    ap (λ (ws : List Text). bits_of (together ws)) front ∙ ap (λ (t : Text). bits_of (pi ++ t)) (together_copies n 48) ∙ map-append driven_bit pi (replicate n 48)
+    ∙ ap (λ (x : List Bool). x ++ bits_of (replicate n 48)) (bits_back (inputs ++ false ∷ [])) ∙ ap (λ (x : List Bool). (inputs ++ false ∷ []) ++ x) (map_copies driven_bit n 48)
     ∙ append_assoc inputs (false ∷ []) (replicate n false) in
     let strobed : values_of (together (drop (n + 1 + 1) words)) ≡ strobes ++ replicate n X =
-    ap (λ (ws : List Text). values_of (together ws)) back ∙ ap (λ (t : Text). values_of (po ++ t)) (together_copies n 88) ∙ map-append value_of po (replicate n 88)
-    ∙ ap (λ (x : List Tri). x ++ values_of (replicate n 88)) (values_back strobes) ∙ ap (λ (x : List Tri). strobes ++ x) (map_copies value_of n 88) in
+    ap (λ (ws : List Text). values_of (together ws)) back ∙ ap (λ (t : Text). values_of (po ++ t)) (together_copies n 88) ∙ map-append strobed_value po (replicate n 88)
+    ∙ ap (λ (x : List Tri). x ++ values_of (replicate n 88)) (values_back strobes) ∙ ap (λ (x : List Tri). strobes ++ x) (map_copies strobed_value n 88) in
     let pulsed : has_pulse n words ≡ true = ap (λ (w : Text). get_or w 0 0 == 80) (got_behind n (codes "0") (codes "P") rest) in
     same_cycle _ _ _ _ _ _ driven strobed pulsed
 

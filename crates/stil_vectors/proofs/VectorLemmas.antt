@@ -7,6 +7,7 @@ use Rattle.std.proofs.lemmas.List.Concat.{flat_map-append}
 use Rattle.std.proofs.lemmas.List.Elements.{All-append, All-cons, All-head, All-nil, All-tail}
 use Rattle.std.proofs.lemmas.Option.{get_or_from_slice_get, slice_get-get_or}
 use Rattle.std.proofs.lemmas.Slice.Zip.{AllZip-long}
+use Rattle.plain_text.specs.Texts.{Text}
 use Rattle.netlist.specs.declared.kinds.Tri.{Tri}
 use Rattle.netlist.specs.declared.kinds.Tri.TheVariants.{X}
 use Rattle.netlist.specs.Netlist.{Netlist, name_of}
@@ -17,11 +18,11 @@ use Rattle.scan_play.specs.declared.cycles.Burst.{Burst}
 use Rattle.stil_write.specs.declared.items.ItemKind.{ItemKind}
 use Rattle.stil_write.specs.declared.items.ItemKind.TheVariants as kind
 use Rattle.stil_write.specs.declared.forms.Form.{Form}
-use Rattle.stil_write.specs.declared.forms.Values.TheVariants as values
-use Rattle.stil_write.specs.StilFiles.{Call, IsItem, IsStilFile, IsWord, Item, StilFile, Text, Vector, call_forms, clock, item_at, item_of, kind_of, scan_inputs, scan_outputs, vector_forms, where_chained, words_of}
+use Rattle.stil_write.specs.declared.forms.CharKind.TheVariants as values
+use Rattle.stil_write.specs.StilFiles.{Call, IsItem, IsStilFile, IsWord, Item, StilFile, Vector, call_forms, clock, item_at, item_of, item_kind, scan_inputs, scan_outputs, vector_forms, where_chained, words_of}
 use Rattle.stil_write.proofs.ItemLemmas.{length-numbered}
 use Rattle.stil_vectors.specs.FileVectors.{IsPulsed, bits_of, has_pulse, call_cycle, cycles_of_item, together, values_of, vector_cycle, vectors_in}
-use Rattle.stil_vectors.specs.Fitting.{Fits, IsCycleFor}
+use Rattle.stil_vectors.specs.Fitting.{FitsNetlist, IsCycleFor}
 use Rattle.stil_vectors.proofs.CallLemmas.{CallWords, call_item, call_words, same_cycle}
 use Rattle.stil_vectors.proofs.CharLemmas.{length-chars, take_at, zip_has}
 
@@ -73,7 +74,7 @@ pulsed f words a = pulsed_by (length f.chains) (record { values = values.Bits; s
 pub vector_item : (f : StilFile) (i : ℕ) (words : List Text) → IsStilFile f → i < length f.items → item_at f.items i ≡ Vector words → AllZip IsWord (vector_forms f) words
 vector_item f i words h l e = subst (IsItem f) e (h.items i (Vector []) l)
 
-pub item_by_kind : (item : Item) → item ≡ item_of (kind_of item) (words_of item)
+pub item_by_kind : (item : Item) → item ≡ item_of (item_kind item) (words_of item)
 item_by_kind (Call words) = refl
 item_by_kind (Vector words) = refl
 
@@ -111,13 +112,13 @@ vector_facts f items i h e l c =
     let a = vector_item f i (words_of (item_at f.items i)) h l c in
     subst (λ is. VectorFacts f (words_of (item_at is i))) (sym e) (record { count = vector_words f (words_of (item_at f.items i)) a; pulse = pulsed f (words_of (item_at f.items i)) a })
 
-pub is_call : (items all : List Item) (i : ℕ) (k : ItemKind) → items ≡ all → k ≡ kind_of (item_at items i) → k ≡ kind.Call → item_at all i ≡ Call (words_of (item_at all i))
+pub is_call : (items all : List Item) (i : ℕ) (k : ItemKind) → items ≡ all → k ≡ item_kind (item_at items i) → k ≡ kind.Call → item_at all i ≡ Call (words_of (item_at all i))
 is_call items all i k e f g =
-    item_by_kind (item_at all i) ∙ ap (λ (j : ItemKind). item_of j (words_of (item_at all i))) (ap (λ is. kind_of (item_at is i)) (sym e) ∙ sym f ∙ g)
+    item_by_kind (item_at all i) ∙ ap (λ (j : ItemKind). item_of j (words_of (item_at all i))) (ap (λ is. item_kind (item_at is i)) (sym e) ∙ sym f ∙ g)
 
-pub is_vector : (items all : List Item) (i : ℕ) (k : ItemKind) → items ≡ all → k ≡ kind_of (item_at items i) → k ≡ kind.Vector → item_at all i ≡ Vector (words_of (item_at all i))
+pub is_vector : (items all : List Item) (i : ℕ) (k : ItemKind) → items ≡ all → k ≡ item_kind (item_at items i) → k ≡ kind.Vector → item_at all i ≡ Vector (words_of (item_at all i))
 is_vector items all i k e f g =
-    item_by_kind (item_at all i) ∙ ap (λ (j : ItemKind). item_of j (words_of (item_at all i))) (ap (λ is. kind_of (item_at is i)) (sym e) ∙ sym f ∙ g)
+    item_by_kind (item_at all i) ∙ ap (λ (j : ItemKind). item_of j (words_of (item_at all i))) (ap (λ is. item_kind (item_at is i)) (sym e) ∙ sym f ∙ g)
 
 -- ---- the clock's word
 

@@ -4,17 +4,18 @@ use Rattle.std.specs.Prelude.{codes, slice_index_or}
 use Rattle.std.specs.List.{All, AllZip, flat_map}
 use Rattle.std.proofs.lemmas.List.{length-replicate, length-take, length-drop, length-map, drop_at, take-append-le, take_all}
 use Rattle.std.proofs.lemmas.List.Elements.{All-append, All-cons, All-head, All-nil, All-tail, All-weaker}
+use Rattle.plain_text.specs.Texts.{Text}
 use Rattle.netlist.specs.declared.kinds.Tri.{Tri}
 use Rattle.netlist.specs.declared.kinds.Tri.TheVariants.{X}
 use Rattle.netlist.specs.Netlist.{Netlist, name_of}
 use Rattle.scan_insert.specs.Names.{numbers_from, output_name}
 use Rattle.scan_play.specs.Cycles.{Cycle, IsCycleOf}
 use Rattle.stil_write.specs.declared.forms.Form.{Form}
-use Rattle.stil_write.specs.declared.forms.Values.TheVariants as values
-use Rattle.stil_write.specs.StilFiles.{Call, IsItem, IsStilFile, IsWord, Item, StilFile, Text, Vector, clock, scan_inputs, scan_outputs, shift_size, vector_forms, where_chained}
+use Rattle.stil_write.specs.declared.forms.CharKind.TheVariants as values
+use Rattle.stil_write.specs.StilFiles.{Call, IsItem, IsStilFile, IsWord, Item, StilFile, Vector, clock, scan_inputs, scan_outputs, shift_size, vector_forms, where_chained}
 use Rattle.stil_write.proofs.ItemLemmas.{length-numbered}
-use Rattle.stil_vectors.specs.FileVectors.{bit_of, bits_of, call_cycle, call_size, cycles_of_item, together, value_of, values_of, vector_cycle, vectors_in}
-use Rattle.stil_vectors.specs.Fitting.{Fits, IsCycleFor}
+use Rattle.stil_vectors.specs.FileVectors.{driven_bit, bits_of, call_cycle, call_size, cycles_of_item, together, strobed_value, values_of, vector_cycle, vectors_in}
+use Rattle.stil_vectors.specs.Fitting.{FitsNetlist, IsCycleFor}
 use Rattle.stil_vectors.specs.Laws.{FittingCycles}
 use Rattle.stil_vectors.proofs.CallLemmas.{call_words}
 use Rattle.stil_vectors.proofs.CharLemmas.{length-chars}
@@ -96,11 +97,11 @@ call_wide f words h c t =
     let count = k.count in
     let chained = c.2 in
     let shifted = h.shift.0 ∙ shift_len n (length f.pi) chained in
-    let bits = length-map f.shift_word bit_of in
+    let bits = length-map f.shift_word driven_bit in
     let few = length-take n words in
     let more = length-drop n words in
-    let ins = length-chars bit_of false (take n words) t in
-    let outs = length-chars value_of X (drop n words) t in
+    let ins = length-chars driven_bit false (take n words) t in
+    let outs = length-chars strobed_value X (drop n words) t in
     let xs = length-replicate (length f.po) X in
     let d = length-append (bits_of f.shift_word) (map (λ (word : List _). slice_index_or word t false) (map bits_of (take n words))) in
     let s = length-append (replicate (length f.po) X) (map (λ (word : List _). slice_index_or word t X) (map values_of (drop n words))) in
@@ -127,8 +128,8 @@ vector_wide f words h a =
     let ss = ap sizes back in
     let ones = sizes-ones n bit refl in
     let strobes = sizes-ones n strobe refl in
-    let bits = length-map (together (take (n + 1) words)) bit_of in
-    let vals = length-map (together (drop (n + 1 + c) words)) value_of in
+    let bits = length-map (together (take (n + 1) words)) driven_bit in
+    let vals = length-map (together (drop (n + 1 + c) words)) strobed_value in
     record { drive = omega (arith, d, ds, ones, bits); strobe = omega (arith, s, ss, strobes, vals) }
 
 item_wide : (f : StilFile) (item : Item) → IsStilFile f → IsItem f item → All (IsCycleFor f) (cycles_of_item f item)

@@ -1,26 +1,27 @@
 -- What a STIL file does on a tester: each vector is one cycle, and a call is a cycle for each character of its words.
 use Rattle.std.specs.Prelude.{ℕ, zero, suc, ◌≡◌, ◌≤◌, ◌+◌, ◌==◌, Some, slice_get, Bool, true, false, if◌then◌else◌, List, [], ◌∷◌, ◌++◌, length, map, take, drop, replicate, slice_index, slice_index_or}
 use Rattle.std.specs.List.{flat_map}
+use Rattle.plain_text.specs.Texts.{Text}
 use Rattle.netlist.specs.declared.kinds.Tri.{Tri}
 use Rattle.netlist.specs.declared.kinds.Tri.TheVariants.{Zero, One, X}
 use Rattle.scan_insert.specs.Names.{numbers_from}
 use Rattle.scan_play.specs.Cycles.{Cycle}
 use Rattle.scan_play.specs.Shifts.{column}
-use Rattle.stil_write.specs.StilFiles.{Call, Item, StilFile, Text, Vector, clock}
+use Rattle.stil_write.specs.StilFiles.{Call, Item, StilFile, Vector, clock}
 
 -- 0 and 1 drive
-abbrev pub bit_of : ℕ → Bool
-bit_of b = b == 49
+abbrev pub driven_bit : ℕ → Bool
+driven_bit b = b == 49
 
 -- H and L strobe high and low, and X nothing
-abbrev pub value_of : ℕ → Tri
-value_of b = if b == 72 then One else (if b == 76 then Zero else X)
+abbrev pub strobed_value : ℕ → Tri
+strobed_value b = if b == 72 then One else (if b == 76 then Zero else X)
 
 abbrev pub bits_of : Text → List Bool
-bits_of word = map bit_of word
+bits_of word = map driven_bit word
 
 abbrev pub values_of : Text → List Tri
-values_of word = map value_of word
+values_of word = map strobed_value word
 
 -- Cycle t of a call: the inputs have the word of a shift, and each scan input and scan output character t of its word.
 abbrev pub call_cycle : StilFile → List Text → ℕ → Cycle

@@ -6,7 +6,7 @@ use Rattle.scan_play.specs.Cycles.{Cycle}
 use Rattle.stil_write.specs.StilFiles.{StilFile, scan_inputs, scan_outputs}
 
 -- The inputs and the scan inputs are the netlist's inputs, the outputs and the scan outputs the pins of its outputs, in order, and there are chains exactly where there are cells.
-pub record Fits (f : StilFile) (n : Netlist) : Type 0 where
+pub record FitsNetlist (f : StilFile) (n : Netlist) : Type 0 where
   pub inputs : f.pi ++ scan_inputs f ≡ map (name_of n) n.inputs
   pub outputs : f.po ++ scan_outputs f ≡ map (output_name n) n.outputs
   pub chains : (length f.chains ≡ 0) ↔ (length (cells n) ≡ 0)

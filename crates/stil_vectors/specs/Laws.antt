@@ -8,12 +8,12 @@ use Rattle.scan_play.specs.Vectors.{Response, vectors}
 use Rattle.scan_play.specs.Cycles.{IsCycleOf}
 use Rattle.stil_write.specs.StilFiles.{IsStilFile, StilFile}
 use Rattle.stil_vectors.specs.FileVectors.{vectors_in}
-use Rattle.stil_vectors.specs.Fitting.{Fits}
+use Rattle.stil_vectors.specs.Fitting.{FitsNetlist}
 use Rattle.stil_vectors.specs.TestFiles.{test_file}
 
 -- a file that fits a netlist has vectors of its widths
 abbrev pub FittingCycles : Type 0
-FittingCycles = (f : StilFile) (n : Netlist) → IsStilFile f → Fits f n → All (IsCycleOf n) (vectors_in f)
+FittingCycles = (f : StilFile) (n : Netlist) → IsStilFile f → FitsNetlist f n → All (IsCycleOf n) (vectors_in f)
 
 -- The file of a test has the vectors of the test.
 abbrev pub TestVectors : Type 0

@@ -1,6 +1,7 @@
 -- The file of a test: calls that flush the chains, then each pattern loaded and captured, and what was captured unloaded.
 use Rattle.std.specs.Prelude.{ℕ, ◌≡◌, Bool, true, false, not, List, [], ◌∷◌, ◌++◌, codes, length, map, replicate}
 use Rattle.std.specs.List.{AllZip, zip}
+use Rattle.plain_text.specs.Texts.{Text}
 use Rattle.netlist.specs.declared.kinds.Tri.{Tri}
 use Rattle.netlist.specs.declared.kinds.Tri.TheVariants.{Zero, One, X}
 use Rattle.netlist.specs.Holds.{Holds, AreHoldsOf}
@@ -11,7 +12,7 @@ use Rattle.chain_stitch.specs.Chains.{cells_of, longest_of}
 use Rattle.scan_insert.specs.Names.{output_name}
 use Rattle.scan_play.specs.Shifts.{by_chain, idle_inputs, word_in, word_out}
 use Rattle.scan_play.specs.Vectors.{Response, flush}
-use Rattle.stil_write.specs.StilFiles.{Call, Item, StilFile, Text, Vector, where_chained}
+use Rattle.stil_write.specs.StilFiles.{Call, Item, StilFile, Vector, where_chained}
 
 abbrev pub char_of_bit : Bool → ℕ
 char_of_bit false = 48

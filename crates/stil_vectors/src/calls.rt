@@ -5,7 +5,7 @@ ghost use Rattle.netlist.specs.declared.kinds.Tri.TheVariants.{X};
 ghost use Rattle.scan_insert.specs.Names.{numbers_from};
 ghost use Rattle.scan_play.specs.Bursts.{cycles_of};
 ghost use Rattle.scan_play.specs.Shifts.{column};
-ghost use Rattle.stil_write.specs.StilFiles.{IsCall, Call, item_at, words_of};
+ghost use Rattle.stil_write.specs.StilFiles.{IsStilCall, Call, item_at, words_of};
 ghost use Rattle.stil_vectors.specs.FileVectors.{bits_of, call_size, cycles_of_item, values_of};
 
 use crate::characters::{bit_of, push_bits, value_of};

@@ -1,20 +1,20 @@
 //! The characters of words as bits and strobes.
 ghost use Rattle.std.specs.Prelude.{◌≡◌, ◌++◌, map, OnOk};
-ghost use Rattle.stil_vectors.specs.FileVectors.{bit_of, bits_of, value_of, values_of};
+ghost use Rattle.stil_vectors.specs.FileVectors.{driven_bit, bits_of, strobed_value, values_of};
 
 use netlist::Tri;
 use std::alloc::AllocError;
 
 /// The bit for which a character stands.
 pub(crate) fn bit_of(b: u8) -> bool
-    ensures { result ≡ bit_of b }
+    ensures { result ≡ driven_bit b }
 {
     b == b'1'
 }
 
 /// The strobe for which a character stands.
 pub(crate) fn value_of(b: u8) -> Tri
-    ensures { result ≡ value_of b }
+    ensures { result ≡ strobed_value b }
 {
     match b {
         b'H' => Tri::One,

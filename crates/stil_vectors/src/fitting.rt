@@ -3,7 +3,7 @@ ghost use Rattle.std.specs.Prelude.{◌≡◌, ◌+◌, ◌<◌, ◌++◌, IfOk,
 ghost use Rattle.netlist.specs.Netlist.{name_of, signals};
 ghost use Rattle.scan_insert.specs.Names.{output_name};
 ghost use Rattle.stil_write.specs.StilFiles.{numbered};
-ghost use Rattle.stil_vectors.specs.Fitting.{Fits};
+ghost use Rattle.stil_vectors.specs.Fitting.{FitsNetlist};
 
 use netlist::{Netlist, NoMemory};
 use scan_insert::pin_name;
@@ -61,7 +61,7 @@ fn are_outputs(alloc: Global, netlist: &Netlist, names: &Texts) -> Result<bool, 
 
 /// Whether a file's signals are the pins of a netlist, name by name. The names have to be made, so it takes memory.
 pub fn fits(alloc: Global, file: &StilFile, netlist: &Netlist) -> Result<bool, NoMemory>
-    ensures { IfOk result (λ yes. MatchBool yes (Fits file.now netlist.now) (Fits file.now netlist.now → ⊥)) }
+    ensures { IfOk result (λ yes. MatchBool yes (FitsNetlist file.now netlist.now) (FitsNetlist file.now netlist.now → ⊥)) }
 {
     let chains = file.chains().len();
     if (chains == 0) != netlist.cells().is_empty() {

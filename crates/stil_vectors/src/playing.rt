@@ -3,7 +3,7 @@ ghost use Rattle.std.specs.Prelude.{◌≡◌, ◌^◌, ◌<◌, ◌≤◌, IfOk
 ghost use Rattle.scan_play.specs.Playing.{PlaysAs};
 ghost use Rattle.stil_write.specs.StilFiles.{item_at};
 ghost use Rattle.stil_vectors.specs.FileVectors.{cycles_of_item, vectors_in};
-ghost use Rattle.stil_vectors.specs.Fitting.{Fits};
+ghost use Rattle.stil_vectors.specs.Fitting.{FitsNetlist};
 
 use crate::file_vectors::vectors;
 use crate::laws::fitting_cycles;
@@ -46,7 +46,7 @@ pub fn play_file(
     fault: Option<Fault>,
     file: &StilFile,
 ) -> Result<Played, NoMemory>
-    requires { Fits file.now core.now }
+    requires { FitsNetlist file.now core.now }
     ensures { IfOk result (λ played. PlaysAs core.now fault (vectors_in file.now) played) }
 {
     file.sound();

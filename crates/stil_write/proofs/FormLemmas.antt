@@ -4,9 +4,10 @@ use Rattle.std.specs.Prelude.{◌==◌, Some, slice_get, MatchBool}
 use Rattle.std.specs.List.{AllZip}
 use Rattle.std.proofs.lemmas.List.{take_all}
 use Rattle.std.proofs.lemmas.Slice.Zip.{all_zipped_more}
+use Rattle.plain_text.specs.Texts.{Text}
 use Rattle.stil_write.specs.declared.forms.Form.{Form}
-use Rattle.stil_write.specs.declared.forms.Values.TheVariants as values
-use Rattle.stil_write.specs.StilFiles.{IsCall, IsItem, IsItemBy, IsWord, Item, StilFile, Text, call_forms, vector_forms}
+use Rattle.stil_write.specs.declared.forms.CharKind.TheVariants as values
+use Rattle.stil_write.specs.StilFiles.{IsStilCall, IsItem, IsItemBy, IsWord, Item, StilFile, call_forms, vector_forms}
 use Rattle.stil_write.proofs.LoopLemmas.{take_at}
 
 pub zip_more : {A B : Type 0} (R : A → B → Type 0) (xs : List A) (ys : List B) (i : ℕ) (x : A) (y : B) → slice_get xs i ≡ Some x → slice_get ys i ≡ Some y
@@ -36,7 +37,7 @@ call_some (suc k) size [] h n a = a
 call_some (suc k) size (w ∷ words) h n a = omega arith
 
 pub other_size : (chains size : ℕ) (forms : List Form) (words : List Text) (word : Text) → 1 ≤ chains → slice_get words 0 ≡ Some word → size ≡ length word → forms ≡ call_forms chains size
-    → (AllZip IsWord forms words → ⊥) → IsCall chains words → ⊥
+    → (AllZip IsWord forms words → ⊥) → IsStilCall chains words → ⊥
 other_size chains size forms words word h g e f none call =
     let s : size ≡ call.0 = e ∙ call_size chains call.0 words word h g call.3 in
     none (subst (λ l. AllZip IsWord l words) (sym f) (subst (λ m. AllZip IsWord (call_forms chains m) words) (sym s) call.3))

@@ -6,11 +6,12 @@ use Rattle.std.proofs.lemmas.List.{length-replicate, length-take, length-drop, g
 use Rattle.std.proofs.lemmas.Option.{slice_get-get_or, get_or_from_slice_get}
 use Rattle.std.proofs.lemmas.List.Elements.{All-weaker}
 use Rattle.std.proofs.lemmas.Slice.Zip.{AllZip-long}
+use Rattle.plain_text.specs.Texts.{Text}
 use Rattle.stil_write.specs.declared.items.ItemKind.{ItemKind}
 use Rattle.stil_write.specs.declared.items.ItemKind.TheVariants as kind
 use Rattle.stil_write.specs.declared.forms.Form.{Form}
-use Rattle.stil_write.specs.declared.forms.Values.TheVariants as values
-use Rattle.stil_write.specs.StilFiles.{Call, IsItem, IsStilFile, IsWord, Item, StilFile, Text, Vector, call_forms, item_at, item_of, kind_of, numbered, vector_forms, where_chained, words_of}
+use Rattle.stil_write.specs.declared.forms.CharKind.TheVariants as values
+use Rattle.stil_write.specs.StilFiles.{Call, IsItem, IsStilFile, IsWord, Item, StilFile, Vector, call_forms, item_at, item_of, item_kind, numbered, vector_forms, where_chained, words_of}
 use Rattle.stil_write.specs.Pieces.{HasTargets}
 use Rattle.stil_write.specs.Texts.{assigned, called}
 use Rattle.stil_write.specs.inner.Listed.{AreListed, listed}
@@ -40,7 +41,7 @@ listed_at (k ∷ kinds) [] i d words n e = absurd (cc)
 listed_at (k ∷ kinds) (r ∷ rows) zero d words n e = let s : r ≡ words = cc in ap (item_of k) s
 listed_at (k ∷ kinds) (r ∷ rows) (suc i) d words n e = listed_at kinds rows i d words (omega arith) e
 
-kind_is : (k : ItemKind) (words : List Text) → kind_of (item_of k words) ≡ k
+kind_is : (k : ItemKind) (words : List Text) → item_kind (item_of k words) ≡ k
 kind_is kind.Call words = refl
 kind_is kind.Vector words = refl
 
@@ -65,9 +66,9 @@ item_in kinds words ends items i d are e l =
     ∙ listed_at kinds (rows 0 words ends) i d (take (stop ends i - start ends i) (drop (start ends i) words)) (are.counts ∙ sym (rows_count 0 words ends)) (row_at 0 words ends i l)
 
 pub kind_in : (kinds : List ItemKind) (words : List Text) (ends : List ℕ) (items : List Item) (i : ℕ) (d : ItemKind) → AreListed kinds words ends → listed kinds (rows 0 words ends) ≡ items → i < length ends
-    → get_or kinds i d ≡ kind_of (item_at items i)
+    → get_or kinds i d ≡ item_kind (item_at items i)
 kind_in kinds words ends items i d are e l =
-    sym (ap kind_of (item_in kinds words ends items i d are e l) ∙ kind_is (get_or kinds i d) (take (stop ends i - start ends i) (drop (start ends i) words)))
+    sym (ap item_kind (item_in kinds words ends items i d are e l) ∙ kind_is (get_or kinds i d) (take (stop ends i - start ends i) (drop (start ends i) words)))
 
 pub words_in : (kinds : List ItemKind) (words : List Text) (ends : List ℕ) (items : List Item) (i : ℕ) → AreListed kinds words ends → listed kinds (rows 0 words ends) ≡ items → i < length ends
     → words_of (item_at items i) ≡ take (stop ends i - start ends i) (drop (start ends i) words)

@@ -5,7 +5,7 @@ use Rattle.std.specs.List.{flat_map}
 use Rattle.std.proofs.lemmas.List.{length-take, take_all}
 use Rattle.std.proofs.lemmas.List.Concat.{flat_map-append}
 use Rattle.std.proofs.lemmas.Option.{slice_get_within}
-use Rattle.stil_write.specs.StilFiles.{Text}
+use Rattle.plain_text.specs.Texts.{Text}
 use Rattle.stil_write.specs.Pieces.{assignment, assignments, chain_block, chain_blocks, joined, quoted}
 use Rattle.stil_write.proofs.LoopLemmas.{take_at}
 

@@ -2,7 +2,8 @@
 use Rattle.std.proofs.Common.{◌≡◌, ℕ, zero, suc, min, List, [], ◌∷◌, ◌++◌, length, refl, sym, ap, ◌∙◌, arith, replicate, length-append}
 use Rattle.std.specs.Prelude.{codes}
 use Rattle.std.proofs.lemmas.List.{length-replicate}
-use Rattle.stil_write.specs.StilFiles.{Item, StilFile, Text, Vector, item_at, kind_of, numbered, where_chained, words_of}
+use Rattle.plain_text.specs.Texts.{Text}
+use Rattle.stil_write.specs.StilFiles.{Item, StilFile, Vector, item_at, item_kind, numbered, where_chained, words_of}
 use Rattle.stil_write.specs.Pieces.{item_text, targets}
 use Rattle.stil_write.specs.Texts.{assigned, called, procedures_by, procedures_head, shift_words}
 use Rattle.stil_write.proofs.ItemLemmas.{length-chained, length-numbered}
@@ -43,9 +44,9 @@ shift_targets f =
     omega (arith, first, second, h, third, fourth, i, o, k)
 
 pub shift_item_targets : (f : StilFile) (items : List Item) (ins outs : List Text) → items ≡ Vector (shift_words f) ∷ [] → outs ≡ assigned (length f.chains)
-    → length (words_of (item_at items 0)) ≡ length (targets ins outs (kind_of (item_at items 0)))
+    → length (words_of (item_at items 0)) ≡ length (targets ins outs (item_kind (item_at items 0)))
 shift_item_targets f items ins outs e a =
-    ap (λ is. length (words_of (item_at is 0))) e ∙ shift_targets f ∙ ap length (sym a) ∙ ap (λ is. length (targets ins outs (kind_of (item_at is 0)))) (sym e)
+    ap (λ is. length (words_of (item_at is 0))) e ∙ shift_targets f ∙ ap length (sym a) ∙ ap (λ is. length (targets ins outs (item_kind (item_at is 0)))) (sym e)
 
 pub procedures_some : (n : ℕ) (f : StilFile) → (n ≡ 0 → ⊥) → procedures_by n f ≡ procedures_head ++ (item_text (called (length f.chains)) (assigned (length f.chains)) (Vector (shift_words f)) ++ codes "    }\n  }\n}\n")
 procedures_some zero f h = absurd (h refl)

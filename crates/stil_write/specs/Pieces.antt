@@ -1,9 +1,10 @@
 -- The lines of a STIL text.
 use Rattle.std.specs.Prelude.{ℕ, ◌≡◌, ◌+◌, List, [], ◌∷◌, ◌++◌, codes, decimal, length}
 use Rattle.std.specs.List.{flat_map, zip}
+use Rattle.plain_text.specs.Texts.{Text}
 use Rattle.stil_write.specs.declared.items.ItemKind.{ItemKind}
 use Rattle.stil_write.specs.declared.items.ItemKind.TheVariants as kind
-use Rattle.stil_write.specs.StilFiles.{Text, Item, kind_of, words_of}
+use Rattle.stil_write.specs.StilFiles.{Item, item_kind, words_of}
 
 abbrev pub quoted : Text → Text
 quoted name = codes "\"" ++ (name ++ codes "\"")
@@ -70,11 +71,11 @@ targets called assigned kind.Call = called
 targets called assigned kind.Vector = assigned
 
 abbrev pub item_text : List Text → List Text → Item → Text
-item_text called assigned item = opening (kind_of item) ++ (assignments (targets called assigned (kind_of item)) (words_of item) ++ codes "}\n")
+item_text called assigned item = opening (item_kind item) ++ (assignments (targets called assigned (item_kind item)) (words_of item) ++ codes "}\n")
 
 abbrev pub item_line : List Text → List Text → Item → Text
 item_line called assigned item = codes "  " ++ item_text called assigned item
 
 -- an item has a word for each target
 abbrev pub HasTargets : List Text → List Text → Item → Type 0
-HasTargets called assigned item = length (words_of item) ≡ length (targets called assigned (kind_of item))
+HasTargets called assigned item = length (words_of item) ≡ length (targets called assigned (item_kind item))

@@ -1,7 +1,8 @@
 -- The one way in which a STIL file is written.
 use Rattle.std.specs.Prelude.{ℕ, zero, suc, List, [], ◌∷◌, ◌++◌, codes, length, replicate}
 use Rattle.std.specs.List.{flat_map}
-use Rattle.stil_write.specs.StilFiles.{Text, StilFile, Vector, clock, numbered, scan_inputs, scan_outputs, where_chained}
+use Rattle.plain_text.specs.Texts.{Text}
+use Rattle.stil_write.specs.StilFiles.{StilFile, Vector, clock, numbered, scan_inputs, scan_outputs, where_chained}
 use Rattle.stil_write.specs.Pieces.{chain_blocks, group_line, item_line, item_text, signal_lines, waveform_lines}
 
 abbrev pub head_text : Text

@@ -2,9 +2,9 @@
 ghost use Rattle.std.specs.Prelude.{◌≡◌, ◌≢◌, ◌≤◌, ◌<◌, length, IfOk, MatchBool};
 ghost use Rattle.std.specs.List.{All, AllPairs};
 ghost use Rattle.stil_write.specs.Parts.{file_of};
-ghost use Rattle.stil_write.specs.StilFiles.{IsCall, IsItem, IsItemBy, IsName, IsShiftWord, IsStilFile, is_name_byte, item_at, signals, words_of};
+ghost use Rattle.stil_write.specs.StilFiles.{IsStilCall, IsItem, IsItemBy, IsStilName, IsShiftWord, IsStilFile, is_stil_name_byte, item_at, declared_signals, words_of};
 
-use crate::forms::{Form, Values, are_words, is_word, set_call_forms, vector_forms};
+use crate::forms::{CharKind, Form, are_words, is_word, set_call_forms, vector_forms};
 use crate::items::{ItemKind, Items};
 use crate::parts::StilParts;
 use crate::signals::signals;
@@ -17,13 +17,13 @@ const LONGEST_NAME: usize = 261;
 
 /// Whether a byte may stand in a name.
 fn is_name_byte(b: u8) -> bool
-    ensures { result ≡ is_name_byte b }
+    ensures { result ≡ is_stil_name_byte b }
 {
     b >= 33 && b <= 126 && !(b == b'"' || b == b'\'')
 }
 
 fn is_name(text: &[u8]) -> bool
-    ensures { MatchBool result (IsName text.now) (IsName text.now → ⊥) }
+    ensures { MatchBool result (IsStilName text.now) (IsStilName text.now → ⊥) }
 {
     if text.is_empty() || text.len() > LONGEST_NAME {
         return false;
@@ -37,7 +37,7 @@ fn is_name(text: &[u8]) -> bool
 }
 
 fn are_names(texts: &Texts) -> bool
-    ensures { MatchBool result (All IsName texts.now) (All IsName texts.now → ⊥) }
+    ensures { MatchBool result (All IsStilName texts.now) (All IsStilName texts.now → ⊥) }
 {
     for place in 0..texts.len() {
         if !is_name(texts.get(place)) {
@@ -63,7 +63,7 @@ fn are_distinct(alloc: Global, texts: &Texts) -> Result<bool, AllocError>
 
 /// Whether each chain has cells, and all of them names.
 fn are_chains(chains: &[Texts]) -> bool
-    ensures { MatchBool result (All (λ chain. 1 ≤ length chain) chains.now × All (All IsName) chains.now) (All (λ chain. 1 ≤ length chain) chains.now × All (All IsName) chains.now → ⊥) }
+    ensures { MatchBool result (All (λ chain. 1 ≤ length chain) chains.now × All (All IsStilName) chains.now) (All (λ chain. 1 ≤ length chain) chains.now × All (All IsStilName) chains.now → ⊥) }
 {
     for chain in chains {
         if chain.is_empty() || !are_names(chain) {
@@ -81,7 +81,7 @@ fn is_call(
     place: usize,
 ) -> Result<bool, AllocError>
     requires { place < length items.now }
-    ensures { IfOk result (λ yes. MatchBool yes (IsCall chains (words_of (item_at items.now place))) (IsCall chains (words_of (item_at items.now place)) → ⊥)) }
+    ensures { IfOk result (λ yes. MatchBool yes (IsStilCall chains (words_of (item_at items.now place))) (IsStilCall chains (words_of (item_at items.now place)) → ⊥)) }
 {
     if chains == 0 || items.word_count(place) == 0 {
         return Ok(false);
@@ -136,7 +136,7 @@ fn is_shift_word(parts: &StilParts) -> bool
     };
     is_word(
         Form {
-            values: Values::Bits,
+            values: CharKind::Bits,
             size,
         },
         &parts.shift_word,

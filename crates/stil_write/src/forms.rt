@@ -10,7 +10,7 @@ use std::alloc::{AllocError, Global};
 
 /// What the characters of a word stand for.
 #[derive(Clone, Copy, Debug, PartialEq, Eq)]
-pub enum Values {
+pub enum CharKind {
     Bits,
     Pulses,
     Strobes,
@@ -19,18 +19,18 @@ pub enum Values {
 /// The characters of a word and their number.
 #[derive(Clone, Copy, Debug, PartialEq, Eq)]
 pub struct Form {
-    pub values: Values,
+    pub values: CharKind,
     pub size: usize,
 }
 
 /// Whether a character stands for a value of this kind.
-fn is_value(values: Values, b: u8) -> bool
+fn is_value(values: CharKind, b: u8) -> bool
     ensures { result ≡ is_value values b }
 {
     match values {
-        Values::Bits => b == b'0' || b == b'1',
-        Values::Pulses => b == b'0' || b == b'P',
-        Values::Strobes => b == b'H' || b == b'L' || b == b'X',
+        CharKind::Bits => b == b'0' || b == b'1',
+        CharKind::Pulses => b == b'0' || b == b'P',
+        CharKind::Strobes => b == b'H' || b == b'L' || b == b'X',
     }
 }
 
@@ -87,7 +87,7 @@ pub(crate) fn set_call_forms(
         forms,
         chains,
         Form {
-            values: Values::Bits,
+            values: CharKind::Bits,
             size,
         },
     )?;
@@ -95,7 +95,7 @@ pub(crate) fn set_call_forms(
         forms,
         chains,
         Form {
-            values: Values::Strobes,
+            values: CharKind::Strobes,
             size,
         },
     )
@@ -107,15 +107,15 @@ pub(crate) fn vector_forms(alloc: Global, parts: &StilParts) -> Result<Vec<Form>
 {
     let chains = parts.chains.len();
     let bit = Form {
-        values: Values::Bits,
+        values: CharKind::Bits,
         size: 1,
     };
     let pulse = Form {
-        values: Values::Pulses,
+        values: CharKind::Pulses,
         size: 1,
     };
     let strobe = Form {
-        values: Values::Strobes,
+        values: CharKind::Strobes,
         size: 1,
     };
     let mut forms = Vec::new(alloc);

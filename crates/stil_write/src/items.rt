@@ -1,6 +1,6 @@
 //! The items of a pattern in three buffers.
 ghost use Rattle.std.specs.Prelude.{◌≡◌, ◌<◌, ◌==◌, ◌∷◌, [], ◌++◌, length, OnOk, slice_get, Some};
-ghost use Rattle.stil_write.specs.StilFiles.{item_at, item_of, kind_of, words_of};
+ghost use Rattle.stil_write.specs.StilFiles.{item_at, item_of, item_kind, words_of};
 
 use rows::{Texts, span};
 use std::alloc::{AllocError, Global};
@@ -77,7 +77,7 @@ impl Items {
     /// What the item at a place does.
     pub fn kind(&self, place: usize) -> ItemKind
         requires { place < length self.now }
-        ensures { result ≡ kind_of (item_at self.now place) }
+        ensures { result ≡ item_kind (item_at self.now place) }
     {
         self.kinds[place]
     }

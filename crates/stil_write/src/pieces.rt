@@ -1,6 +1,6 @@
 //! The lines of a STIL text.
 ghost use Rattle.std.specs.Prelude.{◌≡◌, ◌++◌, ◌<◌, length, OnOk, codes, decimal};
-ghost use Rattle.stil_write.specs.StilFiles.{item_at, words_of, kind_of};
+ghost use Rattle.stil_write.specs.StilFiles.{item_at, words_of, item_kind};
 ghost use Rattle.stil_write.specs.Pieces.{assignment, assignments, chain_block, chain_blocks, chain_head, expression, group_line, item_line, item_text, joined, opening, quoted, signal_line, signal_lines, targets, waveform_line, waveform_lines};
 
 use crate::items::{ItemKind, Items};
@@ -189,7 +189,7 @@ pub(crate) fn push_item(
     place: usize,
 ) -> Result<(), AllocError>
     requires item { place < length items.now }
-    requires words { length (words_of (item_at items.now place)) ≡ length (targets called.now assigned.now (kind_of (item_at items.now place))) }
+    requires words { length (words_of (item_at items.now place)) ≡ length (targets called.now assigned.now (item_kind (item_at items.now place))) }
     ensures { OnOk result (out.new.items ≡ out.old.items ++ item_text called.now assigned.now (item_at items.now place)) }
 {
     let kind = items.kind(place);

@@ -1,6 +1,6 @@
 //! The names of a file's signals.
 ghost use Rattle.std.specs.Prelude.{◌≡◌, ◌++◌, ◌∷◌, [], codes, length, IfOk, OnOk};
-ghost use Rattle.stil_write.specs.StilFiles.{numbered, signals, where_chained};
+ghost use Rattle.stil_write.specs.StilFiles.{numbered, declared_signals, where_chained};
 ghost use Rattle.stil_write.specs.Parts.{file_of};
 ghost use Rattle.stil_write.specs.Texts.{assigned, called};
 
@@ -57,7 +57,7 @@ pub(crate) fn clock(alloc: Global, chains: usize) -> Result<Texts, AllocError>
 
 /// All signals in the order in which they are declared.
 pub(crate) fn signals(alloc: Global, parts: &StilParts) -> Result<Texts, AllocError>
-    ensures { IfOk result (λ names. names ≡ signals (file_of parts.now)) }
+    ensures { IfOk result (λ names. names ≡ declared_signals (file_of parts.now)) }
 {
     let chains = parts.chains.len();
     let mut names = Texts::new(alloc);

@@ -15,17 +15,17 @@ use Rattle.certificate.proofs.NamedTrees.{nodes_named}
 use Rattle.run_report.proofs.PointLemmas.{point_inside}
 use Rattle.transition_frames.specs.Frames.{frames_of, frame_fault}
 use Rattle.transition_frames.proofs.Soundness.{frames_sound}
-use Rattle.transition_tests.specs.declared.verdicts.Verdict.{Verdict}
-use Rattle.transition_tests.specs.declared.verdicts.Verdict.TheVariants.{Detected, Redundant, Aborted}
+use Rattle.transition_tests.specs.declared.verdicts.TransitionVerdict.{TransitionVerdict}
+use Rattle.transition_tests.specs.declared.verdicts.TransitionVerdict.TheVariants.{Detected, Redundant, Aborted}
 use Rattle.transition_tests.specs.Verdicts.{IsVerdict}
 use Rattle.transition_report.specs.Lines.{IsInside, leaf_at, leaves_of}
-use Rattle.transition_report.specs.Texts.{IsNamed}
+use Rattle.transition_report.specs.Texts.{IsNamedInFrames}
 
 pub leaves_none : (fs : List Fault) → leaves_of fs [] ≡ []
 leaves_none [] = refl
 leaves_none (f ∷ fs) = refl
 
-leaves_next : (fs : List Fault) (vs : List Verdict) (f : Fault) (v : Verdict) → slice_get fs (length vs) ≡ Some f
+leaves_next : (fs : List Fault) (vs : List TransitionVerdict) (f : Fault) (v : TransitionVerdict) → slice_get fs (length vs) ≡ Some f
     → leaves_of fs (vs ++ v ∷ []) ≡ leaves_of fs vs ++ leaf_at f v
 leaves_next [] vs f v at = cc
 leaves_next (g ∷ fs) [] f v at =
@@ -35,7 +35,7 @@ leaves_next (g ∷ fs) (w ∷ vs) f v at =
     ap (λ ls. leaf_at g w ++ ls) (leaves_next fs vs f v at) ∙ sym (append_assoc (leaf_at g w) (leaves_of fs vs) (leaf_at f v))
 
 -- one more tree
-pub leaves_more : (fs : List Fault) (vs : List Verdict) (f : Fault) (v : Verdict) (k : ℕ) (old new : List (Fault × List Node)) → k ≡ length vs → slice_get fs k ≡ Some f
+pub leaves_more : (fs : List Fault) (vs : List TransitionVerdict) (f : Fault) (v : TransitionVerdict) (k : ℕ) (old new : List (Fault × List Node)) → k ≡ length vs → slice_get fs k ≡ Some f
     → old ≡ leaves_of fs vs → new ≡ old ++ leaf_at f v → new ≡ leaves_of fs (vs ++ v ∷ [])
 leaves_more fs vs f v k old new count at before after =
     after ∙ (ap (λ ls. ls ++ leaf_at f v) before ∙ sym (leaves_next fs vs f v (ap (slice_get fs) (sym count) ∙ at)))
@@ -44,32 +44,32 @@ leaves_more fs vs f v k old new count at before after =
 
 module _ (n : Netlist) (sound : IsSound n) (design : IsDesign n) (limit : ℕ) (patterns : List Pattern) where
   tree_named : (f : Fault) (tree : List Node) → IsLineOf n f.line → signal_of f.line < length (signals n)
-      → Fits (frame_fault n f) (frames_of n f) (none_held n) tree → All (IsNamed n) ((f, tree) ∷ [])
+      → Fits (frame_fault n f) (frames_of n f) (none_held n) tree → All (IsNamedInFrames n) ((f, tree) ∷ [])
   tree_named f tree line low fits =
-      All-cons (IsNamed n) (f, tree) []
+      All-cons (IsNamedInFrames n) (f, tree) []
       (record { line = line; signal = low; nodes = nodes_named (frames_of n f) (frames_sound n sound design f line) (frame_fault n f) (none_held n) tree fits })
-      (All-nil (IsNamed n))
+      (All-nil (IsNamedInFrames n))
 
-  leaf_named : (f : Fault) (v : Verdict) → IsLineOf n f.line → signal_of f.line < length (signals n) → IsVerdict n limit patterns f v → All (IsNamed n) (leaf_at f v)
-  leaf_named f (Detected place point) line low is = All-nil (IsNamed n)
+  leaf_named : (f : Fault) (v : TransitionVerdict) → IsLineOf n f.line → signal_of f.line < length (signals n) → IsVerdict n limit patterns f v → All (IsNamedInFrames n) (leaf_at f v)
+  leaf_named f (Detected place point) line low is = All-nil (IsNamedInFrames n)
   leaf_named f (Redundant tree) line low is = tree_named f tree line low is.1
   leaf_named f (Aborted tree) line low is = tree_named f tree line low is.1
 
-  pub leaves_named : (fs : List Fault) (vs : List Verdict) → All (λ (f : Fault). IsLineOf n f.line × (signal_of f.line < length (signals n))) fs
-      → AllZip (IsVerdict n limit patterns) fs vs → All (IsNamed n) (leaves_of fs vs)
-  leaves_named [] vs lines are = All-nil (IsNamed n)
+  pub leaves_named : (fs : List Fault) (vs : List TransitionVerdict) → All (λ (f : Fault). IsLineOf n f.line × (signal_of f.line < length (signals n))) fs
+      → AllZip (IsVerdict n limit patterns) fs vs → All (IsNamedInFrames n) (leaves_of fs vs)
+  leaves_named [] vs lines are = All-nil (IsNamedInFrames n)
   leaves_named (f ∷ fs) [] lines are = elim are [ ]
   leaves_named (f ∷ fs) (v ∷ vs) lines are =
       let P : Fault → Type 0 = λ g. IsLineOf n g.line × (signal_of g.line < length (signals n)) in
       let here = All-head P f fs lines in
-      All-append (IsNamed n) (leaf_at f v) (leaves_of fs vs) (leaf_named f v here.0 here.1 are.0) (leaves_named fs vs (All-tail P f fs lines) are.1)
+      All-append (IsNamedInFrames n) (leaf_at f v) (leaves_of fs vs) (leaf_named f v here.0 here.1 are.0) (leaves_named fs vs (All-tail P f fs lines) are.1)
 
-  inside : (f : Fault) (v : Verdict) → IsVerdict n limit patterns f v → IsInside n v
+  inside : (f : Fault) (v : TransitionVerdict) → IsVerdict n limit patterns f v → IsInside n v
   inside f (Detected place point) is = point_inside n sound f is.here.pattern.inputs _ point is.here.detects.detects
   inside f (Redundant tree) is = tt
   inside f (Aborted tree) is = tt
 
-  pub all_inside : (fs : List Fault) (vs : List Verdict) → AllZip (IsVerdict n limit patterns) fs vs → All (IsInside n) vs
+  pub all_inside : (fs : List Fault) (vs : List TransitionVerdict) → AllZip (IsVerdict n limit patterns) fs vs → All (IsInside n) vs
   all_inside [] [] are = All-nil (IsInside n)
   all_inside [] (v ∷ vs) are = elim are [ ]
   all_inside (f ∷ fs) [] are = elim are [ ]

@@ -7,31 +7,31 @@ use Rattle.std.proofs.lemmas.Slice.Zip.{all_zipped_more, get_or-zip, length-zip}
 use Rattle.netlist.specs.declared.lines.Fault.{Fault}
 use Rattle.netlist.specs.Netlist.{Netlist}
 use Rattle.report.specs.Reports.{Line}
-use Rattle.transition_tests.specs.declared.verdicts.Verdict.{Verdict}
-use Rattle.transition_report.specs.Lines.{AreLines, IsLineOf}
+use Rattle.transition_tests.specs.declared.verdicts.TransitionVerdict.{TransitionVerdict}
+use Rattle.transition_report.specs.Lines.{AreLines, IsVerdictLine}
 use Rattle.transition_report.specs.inner.Parts.{IsAdded}
 
-pub lines_more : (n : Netlist) (chains : List (List ℕ)) (faults : List Fault) (verdicts : List Verdict) (k : ℕ) (f : Fault) (v : Verdict) (old new : List Line)
+pub lines_more : (n : Netlist) (chains : List (List ℕ)) (faults : List Fault) (verdicts : List TransitionVerdict) (k : ℕ) (f : Fault) (v : TransitionVerdict) (old new : List Line)
     → slice_get faults k ≡ Some f → k < length verdicts → v ≡ get_or verdicts k v → IsAdded n chains f v old new
-    → AllZip (IsLineOf n chains) (take k (zip faults verdicts)) old → AllZip (IsLineOf n chains) (take (k + 1) (zip faults verdicts)) new
+    → AllZip (IsVerdictLine n chains) (take k (zip faults verdicts)) old → AllZip (IsVerdictLine n chains) (take (k + 1) (zip faults verdicts)) new
 lines_more n chains faults verdicts k f v old new at lt is added are =
     let pairs = zip faults verdicts in
     let low : k < length faults = slice_get_within faults k f at in
     let pair : get_or pairs k (f, v) ≡ (f, v) =
-    get_or-zip faults verdicts k (f, v) low lt ∙ ap₂ (λ (g : Fault) (w : Verdict). (g, w)) (get_or_from_slice_get faults k f f at) (sym is) in
+    get_or-zip faults verdicts k (f, v) low lt ∙ ap₂ (λ (g : Fault) (w : TransitionVerdict). (g, w)) (get_or_from_slice_get faults k f f at) (sym is) in
     let within : k < length pairs = omega (arith, length-zip faults verdicts, low, lt) in
     let taken : take k pairs ++ (f, v) ∷ [] ≡ take (k + 1) pairs =
-    sym (take_more pairs k (f, v) within ∙ ap (λ (p : Fault × Verdict). take k pairs ++ p ∷ []) pair) in
-    subst (λ (ls : List Line). AllZip (IsLineOf n chains) (take (k + 1) pairs) ls) (sym added.behind)
-    (subst (λ (ps : List (Fault × Verdict)). AllZip (IsLineOf n chains) ps (old ++ added.line ∷ [])) taken
-    (all_zipped_more (IsLineOf n chains) (take k pairs) old (f, v) added.line are added.is_line))
+    sym (take_more pairs k (f, v) within ∙ ap (λ (p : Fault × TransitionVerdict). take k pairs ++ p ∷ []) pair) in
+    subst (λ (ls : List Line). AllZip (IsVerdictLine n chains) (take (k + 1) pairs) ls) (sym added.behind)
+    (subst (λ (ps : List (Fault × TransitionVerdict)). AllZip (IsVerdictLine n chains) ps (old ++ added.line ∷ [])) taken
+    (all_zipped_more (IsVerdictLine n chains) (take k pairs) old (f, v) added.line are added.is_line))
 
-pub lines_all : (n : Netlist) (chains : List (List ℕ)) (faults : List Fault) (verdicts : List Verdict) (k : ℕ) (lines : List Line) → length faults ≤ k
-    → AllZip (IsLineOf n chains) (take k (zip faults verdicts)) lines → AreLines n chains faults verdicts lines
+pub lines_all : (n : Netlist) (chains : List (List ℕ)) (faults : List Fault) (verdicts : List TransitionVerdict) (k : ℕ) (lines : List Line) → length faults ≤ k
+    → AllZip (IsVerdictLine n chains) (take k (zip faults verdicts)) lines → AreLines n chains faults verdicts lines
 lines_all n chains faults verdicts k lines le are =
     let pairs = zip faults verdicts in
     let whole : take k pairs ≡ pairs = take_all k pairs (omega (arith, length-zip faults verdicts, le)) in
-    subst (λ (ps : List (Fault × Verdict)). AllZip (IsLineOf n chains) ps lines) whole are
+    subst (λ (ps : List (Fault × TransitionVerdict)). AllZip (IsVerdictLine n chains) ps lines) whole are
 
 pub five_parts : (old a b c d e x y z u w : List ℕ) → x ≡ old ++ a → y ≡ x ++ b → z ≡ y ++ c → u ≡ z ++ d → w ≡ u ++ e
     → w ≡ old ++ (a ++ (b ++ (c ++ (d ++ e))))

@@ -10,7 +10,7 @@ use Rattle.redundancy_cert.specs.declared.nodes.Node.TheVariants.{Closed, Open, 
 use Rattle.certificate.specs.Certificates.{HasSignal, node_text}
 use Rattle.transition_frames.specs.Frames.{frames_of}
 use Rattle.transition_frames.proofs.Numbered.{frames_count}
-use Rattle.transition_report.specs.Texts.{IsNamed, transition_text, tree_line}
+use Rattle.transition_report.specs.Texts.{IsNamedInFrames, transition_text, transition_tree_line}
 
 module _ (n : Netlist) (f g : Fault) where
   same_node : (node : Node) → node_text (frames_of n f) node ≡ node_text (frames_of n g) node
@@ -34,13 +34,13 @@ module _ (n : Netlist) (f g : Fault) where
 
 -- by the frames of one fault, and each by its own
 pub same_lines : (n : Netlist) (f : Fault) (trees : List (Fault × List Node))
-    → flat_map (tree_line n (frames_of n f)) trees ≡ flat_map (λ (p : Fault × List Node). tree_line n (frames_of n p.0) p) trees
+    → flat_map (transition_tree_line n (frames_of n f)) trees ≡ flat_map (λ (p : Fault × List Node). transition_tree_line n (frames_of n p.0) p) trees
 same_lines n f [] = refl
 same_lines n f (p ∷ trees) =
     ap₂ (λ (x y : List ℕ). x ++ y) (ap (λ (t : List ℕ). transition_text n p.0 ++ (t ++ codes "\n")) (same_nodes n f p.0 p.1)) (same_lines n f trees)
 
-pub all_named : (n : Netlist) (f : Fault) (trees : List (Fault × List Node)) → All (IsNamed n) trees
+pub all_named : (n : Netlist) (f : Fault) (trees : List (Fault × List Node)) → All (IsNamedInFrames n) trees
     → All (λ (p : Fault × List Node). (signal_of p.0.line < length (signals n)) × All (HasSignal (frames_of n f)) p.1) trees
 all_named n f trees named =
-    All-weaker (IsNamed n) (λ (p : Fault × List Node). (signal_of p.0.line < length (signals n)) × All (HasSignal (frames_of n f)) p.1)
+    All-weaker (IsNamedInFrames n) (λ (p : Fault × List Node). (signal_of p.0.line < length (signals n)) × All (HasSignal (frames_of n f)) p.1)
     (λ p is. (is.signal, All-weaker (HasSignal (frames_of n p.0)) (HasSignal (frames_of n f)) (same_signal n p.0 f) p.1 is.nodes)) trees named

@@ -12,8 +12,8 @@ use Rattle.report.specs.declared.outcomes.Outcome.TheVariants as outcome
 use Rattle.report.specs.Reports.{Line}
 use Rattle.run_report.specs.Strobes.{IsPointOf}
 use Rattle.transition_play.specs.LaunchVectors.{IsStrobedBehind}
-use Rattle.transition_tests.specs.declared.verdicts.Verdict.{Verdict}
-use Rattle.transition_tests.specs.declared.verdicts.Verdict.TheVariants.{Detected, Redundant, Aborted}
+use Rattle.transition_tests.specs.declared.verdicts.TransitionVerdict.{TransitionVerdict}
+use Rattle.transition_tests.specs.declared.verdicts.TransitionVerdict.TheVariants.{Detected, Redundant, Aborted}
 use Rattle.transition_report.specs.Texts.{transition_text}
 
 -- the tester sees a point of this pattern, by launch on capture, in this cycle at this pin
@@ -21,35 +21,35 @@ abbrev pub IsSeenBehind : Netlist → List (List ℕ) → ℕ → Point → ℕ 
 IsSeenBehind n chains place point cycle pin = (output : ℕ) × IsStrobedBehind n chains place point cycle output × (pin ≡ pin_name_of (scanned_of n chains) output)
 
 -- The pattern's place, and where the tester sees the point; or that no pattern detects it, by a tree without or with an open end.
-abbrev pub IsOutcomeOf : Netlist → List (List ℕ) → Verdict → Outcome → List ℕ → Type 0
+abbrev pub IsOutcomeOf : Netlist → List (List ℕ) → TransitionVerdict → Outcome → List ℕ → Type 0
 IsOutcomeOf n chains (Detected place point) o pin =
     (cycle : ℕ) × (o ≡ outcome.Detected place cycle) × IsSeenBehind n chains place point cycle pin
 IsOutcomeOf n chains (Redundant tree) o pin = (o ≡ outcome.Redundant) × (pin ≡ [])
 IsOutcomeOf n chains (Aborted tree) o pin = (o ≡ outcome.Aborted) × (pin ≡ [])
 
 -- the line of a fault with this verdict
-pub record IsLineOf (n : Netlist) (chains : List (List ℕ)) (p : Fault × Verdict) (l : Line) : Type 0 where
+pub record IsVerdictLine (n : Netlist) (chains : List (List ℕ)) (p : Fault × TransitionVerdict) (l : Line) : Type 0 where
   pub names_it : l.fault ≡ transition_text n p.0
   pub outcome : IsOutcomeOf n chains p.1 l.outcome l.pin
 
 -- the lines of these faults, by their verdicts, in order
-abbrev pub AreLines : Netlist → List (List ℕ) → List Fault → List Verdict → List Line → Type 0
-AreLines n chains faults verdicts lines = AllZip (IsLineOf n chains) (zip faults verdicts) lines
+abbrev pub AreLines : Netlist → List (List ℕ) → List Fault → List TransitionVerdict → List Line → Type 0
+AreLines n chains faults verdicts lines = AllZip (IsVerdictLine n chains) (zip faults verdicts) lines
 
 -- the point of a verdict is one of the netlist
-abbrev pub IsInside : Netlist → Verdict → Type 0
+abbrev pub IsInside : Netlist → TransitionVerdict → Type 0
 IsInside n (Detected place point) = IsPointOf n point
 IsInside n (Redundant tree) = ⊤
 IsInside n (Aborted tree) = ⊤
 
 -- the tree of a fault that no pattern detects
-abbrev pub leaf_at : Fault → Verdict → List (Fault × List Node)
+abbrev pub leaf_at : Fault → TransitionVerdict → List (Fault × List Node)
 leaf_at f (Detected place point) = []
 leaf_at f (Redundant tree) = (f, tree) ∷ []
 leaf_at f (Aborted tree) = (f, tree) ∷ []
 
 -- the trees of all such faults, each beside its fault, in order
-abbrev pub leaves_of : List Fault → List Verdict → List (Fault × List Node)
+abbrev pub leaves_of : List Fault → List TransitionVerdict → List (Fault × List Node)
 leaves_of [] verdicts = []
 leaves_of (f ∷ fs) [] = []
 leaves_of (f ∷ fs) (v ∷ vs) = leaf_at f v ++ leaves_of fs vs

@@ -19,6 +19,6 @@ pub record IsReportOf (n : Netlist) (chains : List (List ℕ)) (patterns limit :
   pub efficiency : r.efficiency ≡ share_of (length (universe_of n)) (count_of detected_one lines + count_of redundant_one lines)
 
 -- shares that can be written
-pub record IsSized (r : TransitionReport) : Type 0 where
+pub record HasWritableShares (r : TransitionReport) : Type 0 where
   pub coverage : r.coverage / 100 < 2 ^ 64
   pub efficiency : r.efficiency / 100 < 2 ^ 64

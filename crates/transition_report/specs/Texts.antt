@@ -22,14 +22,14 @@ abbrev pub transition_text : Netlist → Fault → List ℕ
 transition_text n f = line_text n f.line ++ slow_text f.value
 
 -- a fault, and the nodes of a tree in preorder, by the names of these two frames
-abbrev pub tree_line : Netlist → Netlist → Fault × List Node → List ℕ
-tree_line n two p = transition_text n p.0 ++ (flat_map (node_text two) p.1 ++ codes "\n")
+abbrev pub transition_tree_line : Netlist → Netlist → Fault × List Node → List ℕ
+transition_tree_line n two p = transition_text n p.0 ++ (flat_map (node_text two) p.1 ++ codes "\n")
 
 abbrev pub transition_certificate : Netlist → List (Fault × List Node) → List ℕ
-transition_certificate n trees = codes "atpg transition certificate 1\n" ++ flat_map (λ (p : Fault × List Node). tree_line n (frames_of n p.0) p) trees
+transition_certificate n trees = codes "atpg transition certificate 1\n" ++ flat_map (λ (p : Fault × List Node). transition_tree_line n (frames_of n p.0) p) trees
 
 -- a line of the netlist, and a tree of decisions on signals of its two frames
-pub record IsNamed (n : Netlist) (p : Fault × List Node) : Type 0 where
+pub record IsNamedInFrames (n : Netlist) (p : Fault × List Node) : Type 0 where
   pub line : IsLineOf n p.0.line
   pub signal : signal_of p.0.line < length (signals n)
   pub nodes : All (HasSignal (frames_of n p.0)) p.1

@@ -7,7 +7,7 @@ ghost use Rattle.netlist.specs.Designs.{IsDesign};
 ghost use Rattle.netlist.specs.Lines.{signal_of};
 ghost use Rattle.netlist.specs.Netlist.{signals};
 ghost use Rattle.certificate.specs.Certificates.{HasSignal};
-ghost use Rattle.transition_report.specs.Texts.{transition_text, tree_line, transition_certificate, IsNamed};
+ghost use Rattle.transition_report.specs.Texts.{transition_text, transition_tree_line, transition_certificate, IsNamedInFrames};
 
 use certificate::push_nodes;
 use fault_universe::push_line;
@@ -40,7 +40,7 @@ fn push_tree(
 ) -> Result<(), AllocError>
     requires signal { signal_of fault.line < length (signals netlist.now) }
     requires nodes { All (HasSignal two.now) tree.now }
-    ensures { OnOk result (text.new.items ≡ text.old.items ++ tree_line netlist.now two.now (fault, tree.now)) }
+    ensures { OnOk result (text.new.items ≡ text.old.items ++ transition_tree_line netlist.now two.now (fault, tree.now)) }
 {
     push_fault(text, netlist, fault)?;
     push_nodes(text, two, tree.nodes())?;
@@ -55,7 +55,7 @@ fn push_trees(
     trees: &[(Fault, Tree)],
 ) -> Result<(), AllocError>
     requires { All (λ (p : FaultOf × List Node). (signal_of p.0.line < length (signals netlist.now)) × All (HasSignal two.now) p.1) trees.now }
-    ensures { OnOk result (text.new.items ≡ text.old.items ++ flat_map (tree_line netlist.now two.now) trees.now) }
+    ensures { OnOk result (text.new.items ≡ text.old.items ++ flat_map (transition_tree_line netlist.now two.now) trees.now) }
 {
     for pair in trees {
         push_tree(text, netlist, two, pair.0, &pair.1)?;
@@ -70,7 +70,7 @@ pub fn write_certificate(
     trees: &[(Fault, Tree)],
 ) -> Result<Vec<u8>, NoMemory>
     requires design { IsDesign netlist.now }
-    requires named { All (IsNamed netlist.now) trees.now }
+    requires named { All (IsNamedInFrames netlist.now) trees.now }
     ensures { IfOk result (λ text. text.items ≡ transition_certificate netlist.now trees.now) }
 {
     let mut text = Vec::from_slice(alloc, b"atpg transition certificate 1\n").map_err(

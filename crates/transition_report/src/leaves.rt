@@ -7,7 +7,7 @@ use fault_universe::FaultSet;
 use netlist::{Fault, NoMemory};
 use redundancy_cert::Tree;
 use std::alloc::{AllocError, Global};
-use transition_tests::Verdict;
+use transition_tests::TransitionVerdict;
 
 fn push_leaf(leaves: &mut Vec<(Fault, Tree)>, fault: Fault, tree: Tree) -> Result<(), AllocError>
     ensures { OnOk result (leaves.new.items ≡ leaves.old.items ++ (fault, tree) ∷ []) }
@@ -20,21 +20,21 @@ fn push_leaf(leaves: &mut Vec<(Fault, Tree)>, fault: Fault, tree: Tree) -> Resul
 fn add_leaf(
     leaves: &mut Vec<(Fault, Tree)>,
     fault: Fault,
-    verdict: Verdict,
+    verdict: TransitionVerdict,
 ) -> Result<(), AllocError>
     ensures { OnOk result (leaves.new.items ≡ leaves.old.items ++ leaf_at fault verdict) }
 {
     match verdict {
-        Verdict::Detected(_, _) => Ok(()),
-        Verdict::Redundant(tree) => push_leaf(leaves, fault, tree),
-        Verdict::Aborted(tree) => push_leaf(leaves, fault, tree),
+        TransitionVerdict::Detected(_, _) => Ok(()),
+        TransitionVerdict::Redundant(tree) => push_leaf(leaves, fault, tree),
+        TransitionVerdict::Aborted(tree) => push_leaf(leaves, fault, tree),
     }
 }
 
 fn leaves_within(
     alloc: Global,
     faults: &FaultSet,
-    verdicts: Vec<Verdict>,
+    verdicts: Vec<TransitionVerdict>,
 ) -> Result<Vec<(Fault, Tree)>, AllocError>
     requires size { length verdicts.items ≤ length faults.now }
     requires few { length faults.now < 2 ^ 32 }
@@ -53,7 +53,7 @@ fn leaves_within(
 pub fn leaves_of(
     alloc: Global,
     faults: &FaultSet,
-    verdicts: Vec<Verdict>,
+    verdicts: Vec<TransitionVerdict>,
 ) -> Result<Vec<(Fault, Tree)>, NoMemory>
     requires size { length verdicts.items ≤ length faults.now }
     requires few { length faults.now < 2 ^ 32 }

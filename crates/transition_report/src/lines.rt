@@ -16,7 +16,7 @@ use fault_universe::{FaultSet, faults_have_signals};
 use netlist::{Fault, NameTable, Netlist, NoMemory};
 use report::{FaultLines, Outcome};
 use std::alloc::{AllocError, Global};
-use transition_tests::Verdict;
+use transition_tests::TransitionVerdict;
 
 /// What is said of a fault.
 #[derive(Clone, Copy)]
@@ -29,7 +29,7 @@ fn said_of<'a>(
     netlist: &Netlist,
     chains: &Chains,
     pins: &'a NameTable,
-    verdict: &Verdict,
+    verdict: &TransitionVerdict,
 ) -> Said<'a>
     requires chains { AreChainsOf netlist.now chains.now }
     requires pins { pins.now ≡ map (output_name (scanned_of netlist.now chains.now)) (scanned_of netlist.now chains.now).outputs }
@@ -37,18 +37,18 @@ fn said_of<'a>(
     ensures { IsOutcomeOf netlist.now chains.now verdict.now result.outcome result.pin.now }
 {
     match verdict {
-        Verdict::Detected(place, point) => {
+        TransitionVerdict::Detected(place, point) => {
             let sight = sight_behind(netlist, chains, pins, *place, *point);
             Said {
                 outcome: Outcome::Detected(*place as u64, sight.cycle),
                 pin: sight.pin,
             }
         }
-        Verdict::Redundant(_) => Said {
+        TransitionVerdict::Redundant(_) => Said {
             outcome: Outcome::Redundant,
             pin: b"",
         },
-        Verdict::Aborted(_) => Said {
+        TransitionVerdict::Aborted(_) => Said {
             outcome: Outcome::Aborted,
             pin: b"",
         },
@@ -63,7 +63,7 @@ fn add_line(
     chains: &Chains,
     pins: &NameTable,
     fault: Fault,
-    verdict: &Verdict,
+    verdict: &TransitionVerdict,
 ) -> Result<FaultLines, AllocError>
     requires chains { AreChainsOf netlist.now chains.now }
     requires pins { pins.now ≡ map (output_name (scanned_of netlist.now chains.now)) (scanned_of netlist.now chains.now).outputs }
@@ -83,7 +83,7 @@ fn lines_within(
     chains: &Chains,
     pins: &NameTable,
     faults: &FaultSet,
-    verdicts: &[Verdict],
+    verdicts: &[TransitionVerdict],
 ) -> Result<FaultLines, AllocError>
     requires chains { AreChainsOf netlist.now chains.now }
     requires pins { pins.now ≡ map (output_name (scanned_of netlist.now chains.now)) (scanned_of netlist.now chains.now).outputs }
@@ -111,7 +111,7 @@ pub fn lines_of(
     chains: &Chains,
     pins: &NameTable,
     faults: &FaultSet,
-    verdicts: &[Verdict],
+    verdicts: &[TransitionVerdict],
 ) -> Result<FaultLines, NoMemory>
     requires chains { AreChainsOf netlist.now chains.now }
     requires pins { pins.now ≡ map (output_name (scanned_of netlist.now chains.now)) (scanned_of netlist.now chains.now).outputs }

@@ -3,7 +3,7 @@ ghost use Rattle.std.specs.Prelude.{◌≡◌, ◌+◌, ◌*◌, ◌<◌, ◌≤
 ghost use Rattle.scan_insert.specs.Scanned.{AreChainsOf};
 ghost use Rattle.fault_universe.specs.Universe.{universe_of};
 ghost use Rattle.transition_report.specs.Texts.{transition_report_text};
-ghost use Rattle.transition_report.specs.Numbers.{IsReportOf, IsSized};
+ghost use Rattle.transition_report.specs.Numbers.{IsReportOf, HasWritableShares};
 
 use chain_stitch::Chains;
 use netlist::{Netlist, NoMemory};
@@ -43,7 +43,7 @@ pub fn report_of(
     requires lines { length lines ≡ length (universe_of netlist.now) }
     requires few { length lines < 2 ^ 32 }
     ensures report { IsReportOf netlist.now chains.now patterns limit lines result }
-    ensures sized { IsSized result }
+    ensures sized { HasWritableShares result }
 {
     netlist.sound();
     let faults = lines.len() as u32;
@@ -70,7 +70,7 @@ pub fn report_of(
 }
 
 fn push_report(out: &mut Vec<u8>, report: &TransitionReport) -> Result<(), AllocError>
-    requires { IsSized report.now }
+    requires { HasWritableShares report.now }
     ensures { OnOk result (out.new.items ≡ out.old.items ++ transition_report_text report.now) }
 {
     out.extend_from_slice(b"atpg transition 1\n")?;
@@ -83,7 +83,7 @@ fn push_report(out: &mut Vec<u8>, report: &TransitionReport) -> Result<(), Alloc
 
 /// The text of a report.
 pub fn write_report(alloc: Global, report: &TransitionReport) -> Result<Vec<u8>, NoMemory>
-    requires { IsSized report.now }
+    requires { HasWritableShares report.now }
     ensures { IfOk result (λ text. text.items ≡ transition_report_text report.now) }
 {
     let mut out = Vec::new(alloc);

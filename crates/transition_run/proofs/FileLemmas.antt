@@ -15,10 +15,10 @@ use Rattle.fault_universe.specs.Laws.{FaultsHaveLines, FaultsHaveSignals}
 use Rattle.fault_universe.specs.Universe.{universe_of}
 use Rattle.fault_universe.proofs.Elements.{contains_at}
 use Rattle.good_files.specs.ScanOff.{design_chains}
-use Rattle.transition_tests.specs.declared.verdicts.Verdict.{Verdict}
+use Rattle.transition_tests.specs.declared.verdicts.TransitionVerdict.{TransitionVerdict}
 use Rattle.transition_tests.specs.Verdicts.{AreTests, IsVerdict}
 use Rattle.transition_report.specs.Lines.{leaves_of}
-use Rattle.transition_report.specs.Texts.{IsNamed}
+use Rattle.transition_report.specs.Texts.{IsNamedInFrames}
 use Rattle.transition_report.proofs.LeafLemmas.{leaves_named}
 
 -- each fault is one of a line and of a signal
@@ -30,15 +30,15 @@ all_lines lines have n sound k d lt =
     (lines n f sound (contains_at (universe_of n) k f at), have n k f sound at)
 
 -- there are as many verdicts as faults
-pub verdicts_count : (n : Netlist) (limit : ℕ) (patterns : List Pattern) (verdicts : List Verdict) → AreTests n limit patterns verdicts
+pub verdicts_count : (n : Netlist) (limit : ℕ) (patterns : List Pattern) (verdicts : List TransitionVerdict) → AreTests n limit patterns verdicts
     → length verdicts ≡ length (universe_of n)
 verdicts_count n limit patterns verdicts tests =
     let all = AllZip-long (IsVerdict n limit patterns) (universe_of n) verdicts tests.each in
     omega (arith, all)
 
 -- the trees of tests are named in their two frames
-pub trees_named : FaultsHaveLines → FaultsHaveSignals → (n : Netlist) → IsSound n → IsDesign n → (limit : ℕ) (patterns : List Pattern) (verdicts : List Verdict)
-    → AreTests n limit patterns verdicts → All (IsNamed n) (leaves_of (universe_of n) verdicts)
+pub trees_named : FaultsHaveLines → FaultsHaveSignals → (n : Netlist) → IsSound n → IsDesign n → (limit : ℕ) (patterns : List Pattern) (verdicts : List TransitionVerdict)
+    → AreTests n limit patterns verdicts → All (IsNamedInFrames n) (leaves_of (universe_of n) verdicts)
 trees_named lines have n sound design limit patterns verdicts tests =
     leaves_named n sound design limit patterns (universe_of n) verdicts (all_lines lines have n sound) tests.each
 

@@ -31,14 +31,14 @@ use Rattle.transition.specs.Laws.{ClosedTreeHasNoTransition}
 use Rattle.transition_play.specs.LaunchVectors.{AreLaunchVectors}
 use Rattle.transition_play.specs.Laws.{DetectedFailsSlowly, GoodPassesLaunches, LaunchVectorsFit, SomeSlowRun, UndetectedPassesSlowly}
 use Rattle.transition_files.specs.Laws.{LaunchFileVectors}
-use Rattle.transition_tests.specs.declared.verdicts.Verdict.{Verdict}
-use Rattle.transition_tests.specs.declared.verdicts.Verdict.TheVariants.{Detected, Redundant, Aborted}
+use Rattle.transition_tests.specs.declared.verdicts.TransitionVerdict.{TransitionVerdict}
+use Rattle.transition_tests.specs.declared.verdicts.TransitionVerdict.TheVariants.{Detected, Redundant, Aborted}
 use Rattle.transition_tests.specs.Verdicts.{AreTests, IsVerdict}
-use Rattle.transition_report.specs.Lines.{IsLineOf, IsOutcomeOf, leaf_at, leaves_of}
+use Rattle.transition_report.specs.Lines.{IsVerdictLine, IsOutcomeOf, leaf_at, leaves_of}
 use Rattle.transition_report.specs.Texts.{transition_text}
 use Rattle.transition_run.specs.declared.files.TransitionFiles.{TransitionFiles}
-use Rattle.transition_run.specs.Runs.{files_of}
-use Rattle.transition_run.specs.Theorem.{AreUndetected, ComesTrue, TransitionTheorem}
+use Rattle.transition_run.specs.Runs.{transition_files_of}
+use Rattle.transition_run.specs.Theorem.{AreUndetectedTransitions, ComesTrue, TransitionTheorem}
 use Rattle.transition_run.specs.inner.Written.{IsWritten}
 
 -- the laws that are cited
@@ -59,13 +59,13 @@ pub record Laws : Type 0 where
 module _ (n : Netlist) (chains : List (List ℕ)) (limit : ℕ) (patterns : List Pattern) where
   -- the verdict at a place is true of the fault, the line says it, and its tree stands among the trees
   record IsAt (f : Fault) (line : Line) (trees : List (Fault × List Node)) : Type 0 where
-    verdict : Verdict
+    verdict : TransitionVerdict
     is : IsVerdict n limit patterns f verdict
-    said : IsLineOf n chains (f, verdict) line
+    said : IsVerdictLine n chains (f, verdict) line
     stands : (tree : List Node) → leaf_at f verdict ≡ (f, tree) ∷ [] → Contains trees (f, tree)
 
-  first_at : (g f : Fault) (v : Verdict) (l line : Line) (rest : List (Fault × List Node)) → Some g ≡ Some f → Some l ≡ Some line
-      → IsVerdict n limit patterns g v → IsLineOf n chains (g, v) l → IsAt f line (leaf_at g v ++ rest)
+  first_at : (g f : Fault) (v : TransitionVerdict) (l line : Line) (rest : List (Fault × List Node)) → Some g ≡ Some f → Some l ≡ Some line
+      → IsVerdict n limit patterns g v → IsVerdictLine n chains (g, v) l → IsAt f line (leaf_at g v ++ rest)
   first_at g f v l line rest fault text is said =
       let same : g ≡ f = cc in
       let same_line : l ≡ line = cc in
@@ -85,7 +85,7 @@ module _ (n : Netlist) (chains : List (List ℕ)) (limit : ℕ) (patterns : List
     stands = λ tree leaf. Contains-append_right first rest (f, tree) (at.stands tree leaf);
   }
 
-  at_place : (fs : List Fault) (vs : List Verdict) (lines : List Line) → AllZip (IsVerdict n limit patterns) fs vs → AllZip (IsLineOf n chains) (zip fs vs) lines
+  at_place : (fs : List Fault) (vs : List TransitionVerdict) (lines : List Line) → AllZip (IsVerdict n limit patterns) fs vs → AllZip (IsVerdictLine n chains) (zip fs vs) lines
       → (k : ℕ) (f : Fault) (line : Line) → slice_get fs k ≡ Some f → slice_get lines k ≡ Some line → IsAt f line (leaves_of fs vs)
   at_place [] vs lines are said k f line p q = cc
   at_place (g ∷ fs) [] lines are said k f line p q = elim are [ ]
@@ -95,7 +95,7 @@ module _ (n : Netlist) (chains : List (List ℕ)) (limit : ℕ) (patterns : List
       later_at f line (leaf_at g v) (leaves_of fs vs) (at_place fs vs lines are.1 said.1 k f line p q)
 
   -- each fault has its line
-  once : (fs : List Fault) (vs : List Verdict) (lines : List Line) → AllZip (IsVerdict n limit patterns) fs vs → AllZip (IsLineOf n chains) (zip fs vs) lines
+  once : (fs : List Fault) (vs : List TransitionVerdict) (lines : List Line) → AllZip (IsVerdict n limit patterns) fs vs → AllZip (IsVerdictLine n chains) (zip fs vs) lines
       → map (λ (l : Line). l.fault) lines ≡ map (transition_text n) fs
   once [] [] [] are said = refl
   once [] [] (l ∷ lines) are said = elim said [ ]
@@ -104,16 +104,16 @@ module _ (n : Netlist) (chains : List (List ℕ)) (limit : ℕ) (patterns : List
   once (f ∷ fs) (v ∷ vs) [] are said = elim said [ ]
   once (f ∷ fs) (v ∷ vs) (l ∷ lines) are said = ap₂ (λ (t : List ℕ) ts. t ∷ ts) said.0.names_it (once fs vs lines are.1 said.1)
 
-  left_by : (f : Fault) (v : Verdict) (fs : List Fault) (vs : List Verdict) → IsVerdict n limit patterns f v
-      → AreUndetected n patterns fs (map (λ (p : Fault × List Node). p.0) (leaves_of fs vs))
-      → AreUndetected n patterns (f ∷ fs) (map (λ (p : Fault × List Node). p.0) (leaf_at f v ++ leaves_of fs vs))
+  left_by : (f : Fault) (v : TransitionVerdict) (fs : List Fault) (vs : List TransitionVerdict) → IsVerdict n limit patterns f v
+      → AreUndetectedTransitions n patterns fs (map (λ (p : Fault × List Node). p.0) (leaves_of fs vs))
+      → AreUndetectedTransitions n patterns (f ∷ fs) (map (λ (p : Fault × List Node). p.0) (leaf_at f v ++ leaves_of fs vs))
   left_by f (Detected place point) fs vs is rest = inl ((place, point, is), rest)
   left_by f (Redundant tree) fs vs is rest = inr (is.0, (map (λ (p : Fault × List Node). p.0) (leaves_of fs vs), refl, rest))
   left_by f (Aborted tree) fs vs is rest = inr (is.0, (map (λ (p : Fault × List Node). p.0) (leaves_of fs vs), refl, rest))
 
   -- those faults have trees that no pattern detects
-  left : (fs : List Fault) (vs : List Verdict) → AllZip (IsVerdict n limit patterns) fs vs
-      → AreUndetected n patterns fs (map (λ (p : Fault × List Node). p.0) (leaves_of fs vs))
+  left : (fs : List Fault) (vs : List TransitionVerdict) → AllZip (IsVerdict n limit patterns) fs vs
+      → AreUndetectedTransitions n patterns fs (map (λ (p : Fault × List Node). p.0) (leaves_of fs vs))
   left [] vs are = refl
   left (f ∷ fs) [] are = elim are [ ]
   left (f ∷ fs) (v ∷ vs) are = left_by f v fs vs are.0 (left fs vs are.1)
@@ -132,7 +132,7 @@ never_at : (n : Netlist) (patterns : List Pattern) (f : Fault) → LastTransitio
 never_at n patterns f never k d lt = λ point t. never k point (record { pattern = get_or patterns k d; at = slice_get-get_or patterns k d lt; detects = t })
 
 comes_true : Laws → (n : Netlist) (chains : List (List ℕ)) (limit : ℕ) (patterns : List Pattern) (trees : List (Fault × List Node)) (cycles : List Cycle)
-    → IsTested n chains patterns cycles → (f : Fault) → IsNetlistLine n f.line → (v : Verdict) → IsVerdict n limit patterns f v
+    → IsTested n chains patterns cycles → (f : Fault) → IsNetlistLine n f.line → (v : TransitionVerdict) → IsVerdict n limit patterns f v
     → ((tree : List Node) → leaf_at f v ≡ (f, tree) ∷ [] → Contains trees (f, tree)) → (o : Outcome) (pin : List ℕ) → IsOutcomeOf n chains v o pin
     → ComesTrue n chains limit patterns trees cycles f o pin
 comes_true laws n chains limit patterns trees cycles are f line (Detected place point) is stands o pin said =
@@ -158,9 +158,9 @@ comes_true laws n chains limit patterns trees cycles are f line (Aborted tree) i
       laws.undetected n chains patterns cycles f are.sound are.dealt are.vectors line (never_at n patterns f is.0),
     )
 
-pub truth : Laws → (n : Netlist) (chains : List (List ℕ)) (limit : ℕ) (patterns : List Pattern) (verdicts : List Verdict) (made : TransitionFiles)
+pub truth : Laws → (n : Netlist) (chains : List (List ℕ)) (limit : ℕ) (patterns : List Pattern) (verdicts : List TransitionVerdict) (made : TransitionFiles)
     → IsSound n → IsDesign n → AreChainsOf n chains → AreTests n limit patterns verdicts → IsWritten n chains limit patterns verdicts made
-    → TransitionTheorem n chains limit (files_of made)
+    → TransitionTheorem n chains limit (transition_files_of made)
 truth laws n chains limit patterns verdicts made sound design dealt tests w =
     let file = w.stil.file in
     let cycles = vectors_in file in

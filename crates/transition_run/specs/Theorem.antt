@@ -20,24 +20,24 @@ use Rattle.report.specs.declared.outcomes.Outcome.{Outcome}
 use Rattle.report.specs.declared.outcomes.Outcome.TheVariants.{Detected, Redundant, Aborted}
 use Rattle.report.specs.Reports.{Line}
 use Rattle.run_report.specs.Heads.{count_of, detected_one, redundant_one, aborted_one}
-use Rattle.good_files.specs.GoodFiles.{Files}
+use Rattle.good_files.specs.GoodFiles.{FiveFiles}
 use Rattle.transition_frames.specs.Transition.{DetectsTransition}
 use Rattle.transition.specs.Detections.{IsLastTransition, LastTransition}
 use Rattle.transition_play.specs.LaunchVectors.{IsStrobedBehind}
 use Rattle.transition_play.specs.SlowPassing.{FailsSlowlyAt, PassesSlowly, RunsSlowly}
 use Rattle.transition_files.specs.LaunchFiles.{IsLaunchFileOf}
 use Rattle.transition_tests.specs.Batches.{IsDetected}
-use Rattle.transition_tests.specs.Verdicts.{FitsFrames, IsNeeded}
+use Rattle.transition_tests.specs.Verdicts.{FitsFrames, IsNeededForTransitions}
 use Rattle.transition_report.specs.declared.reporting.TransitionReport.{TransitionReport}
 use Rattle.transition_report.specs.Numbers.{IsReportOf}
 use Rattle.transition_report.specs.Texts.{transition_certificate, transition_report_text, transition_text}
 
 -- those of the faults that no pattern detects, in order
-abbrev pub AreUndetected : Netlist → List Pattern → List Fault → List Fault → Type 0
-AreUndetected n patterns [] left = left ≡ []
-AreUndetected n patterns (f ∷ fs) left =
-    (IsDetected n patterns f × AreUndetected n patterns fs left)
-    ⊎ (LastTransition n patterns f None × ((rest : List Fault) × (left ≡ f ∷ rest) × AreUndetected n patterns fs rest))
+abbrev pub AreUndetectedTransitions : Netlist → List Pattern → List Fault → List Fault → Type 0
+AreUndetectedTransitions n patterns [] left = left ≡ []
+AreUndetectedTransitions n patterns (f ∷ fs) left =
+    (IsDetected n patterns f × AreUndetectedTransitions n patterns fs left)
+    ⊎ (LastTransition n patterns f None × ((rest : List Fault) × (left ≡ f ∷ rest) × AreUndetectedTransitions n patterns fs rest))
 
 module _ (n : Netlist) (chains : List (List ℕ)) (limit : ℕ) (patterns : List Pattern) (trees : List (Fault × List Node)) (cycles : List Cycle) where
   -- the tree stands in the certificate beside the fault, and fits on its two frames
@@ -62,7 +62,7 @@ module _ (n : Netlist) (chains : List (List ℕ)) (limit : ℕ) (patterns : List
 -- which is the last to detect some transition fault; on the good scanned netlist it passes, and from each power-up state there is a run with
 -- each slow line. The report has each transition fault once, in order, and what it says comes true; detected, redundant and aborted faults are
 -- all of them, and its numbers follow. The certificate has a tree for each fault that no pattern detects, in order, and no other.
-pub record TransitionTheorem (n : Netlist) (chains : List (List ℕ)) (limit : ℕ) (files : Files) : Type 0 where
+pub record TransitionTheorem (n : Netlist) (chains : List (List ℕ)) (limit : ℕ) (files : FiveFiles) : Type 0 where
   pub patterns : List Pattern
   pub file : StilFile
   pub said : TransitionReport
@@ -73,13 +73,13 @@ pub record TransitionTheorem (n : Netlist) (chains : List (List ℕ)) (limit : �
   pub certificate_is : files.certificate ≡ transition_certificate n trees
   pub report_is : files.report ≡ transition_report_text said
   pub is_file_of : IsLaunchFileOf n chains patterns file
-  pub needed : (place : ℕ) → place < length patterns → IsNeeded n (universe_of n) patterns place
+  pub needed : (place : ℕ) → place < length patterns → IsNeededForTransitions n (universe_of n) patterns place
   pub passes : Passes (scanned_of n chains) None (vectors_in file)
   pub runs : (f : Fault) (state : List Bool) → length state ≡ length (cells (scanned_of n chains))
       → (shown : List (List Bool)) × RunsSlowly n chains f state (vectors_in file) shown
   pub once : map (λ (l : Line). l.fault) said.lines ≡ map (transition_text n) (universe_of n)
   pub comes_true : (place : ℕ) (f : Fault) (line : Line) → slice_get (universe_of n) place ≡ Some f → slice_get said.lines place ≡ Some line
       → ComesTrue n chains limit patterns trees (vectors_in file) f line.outcome line.pin
-  pub left : AreUndetected n patterns (universe_of n) (map (λ (p : Fault × List Node). p.0) trees)
+  pub left : AreUndetectedTransitions n patterns (universe_of n) (map (λ (p : Fault × List Node). p.0) trees)
   pub all : count_of detected_one said.lines + count_of redundant_one said.lines + count_of aborted_one said.lines ≡ length (universe_of n)
   pub numbers : IsReportOf n chains (length patterns) limit said.lines said

@@ -2,6 +2,7 @@
 //! searched, each on two frames of its own, and then all patterns are simulated: there is no list that workers share, and so no lock.
 ghost use Rattle.std.specs.Prelude.{◌≡◌, ◌<◌, ◌≤◌, ◌^◌, IfOk, length};
 ghost use Rattle.std.specs.List.{All};
+ghost use Rattle.limits.specs.Limits.{most_workers};
 ghost use Rattle.netlist.specs.Designs.{IsDesign};
 ghost use Rattle.netlist.specs.Holds.{none_held};
 ghost use Rattle.cubes.specs.Cubes.{IsPatternOf};
@@ -33,7 +34,7 @@ use transition_tests::{Tests, batch_of, left_by, tests_of};
 /// How a run goes: at most so many chains, so many workers, at most so many closed ends a search,
 /// and the seed of the bits that cubes leave open.
 #[derive(Clone, Copy, Debug)]
-pub struct Plan {
+pub struct TransitionPlan {
     pub chains: u32,
     pub workers: u32,
     pub limit: u32,
@@ -154,7 +155,7 @@ fn slow_tests<R: Threads + Sync, E: Engine + Sync>(
     alloc: Global,
     core: &Core,
     faults: &FaultSet,
-    plan: Plan,
+    plan: TransitionPlan,
     engine: &E,
 ) -> Result<Tests, NoMemory>
     requires design { IsDesign core.now }
@@ -189,13 +190,13 @@ pub fn transition_files<R: Threads + Sync, E: Engine + Sync>(
     rt: &R,
     alloc: Global,
     core: &Core,
-    plan: Plan,
+    plan: TransitionPlan,
     engine: &E,
 ) -> Result<TransitionFiles, NoMemory>
     requires design { IsDesign core.now }
     requires some { 1 ≤ plan.chains }
     requires limit { 1 ≤ plan.limit }
-    requires workers { (0 < plan.workers) × (plan.workers ≤ 64) }
+    requires workers { (0 < plan.workers) × (plan.workers ≤ most_workers) }
     ensures { IfOk result (IsTransitionRun core.now plan.chains plan.limit) }
 {
     let netlist = core.netlist();

@@ -1,6 +1,6 @@
 //! A test for the slow lines of a design: searches on two frames, the patterns that are needed, and five files.
 //!
-//! Gives: `transition_files`, `Plan`, `TransitionFiles`.
+//! Gives: `transition_files`, `TransitionPlan`, `TransitionFiles`.
 //! Proved: `transition_files`: five files of a design's transition faults, and what they say comes true on the tester (`TransitionTheorem`), for
 //! every number of workers, searched by any engine that keeps the trait's contract.
 //! Tested: run by `transition`.
@@ -10,4 +10,4 @@
 mod files;
 mod truth;
 
-pub use files::{Plan, TransitionFiles, transition_files};
+pub use files::{TransitionFiles, TransitionPlan, transition_files};

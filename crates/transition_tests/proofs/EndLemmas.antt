@@ -11,11 +11,11 @@ use Rattle.netlist.specs.declared.lines.Point.{Point}
 use Rattle.redundancy_cert.specs.declared.engine.Found.{Found}
 use Rattle.redundancy_cert.specs.declared.engine.Found.TheVariants.{Test, Closed, Partial}
 use Rattle.reverse_compact.specs.inner.Marks.{last_at}
-use Rattle.transition_tests.specs.declared.verdicts.Verdict.{Verdict}
-use Rattle.transition_tests.specs.declared.verdicts.Verdict.TheVariants.{Detected}
+use Rattle.transition_tests.specs.declared.verdicts.TransitionVerdict.{TransitionVerdict}
+use Rattle.transition_tests.specs.declared.verdicts.TransitionVerdict.TheVariants.{Detected}
 use Rattle.transition_tests.specs.inner.Ends.{AreEnds, IsEnd, IsTold}
 
-one_behind : (new : ℕ → ℕ) (found : List (Option Found)) (lasts : List (Option (ℕ × Point))) (vs : List Verdict) (x : Option Found) (last : Option (ℕ × Point)) (v : Verdict)
+one_behind : (new : ℕ → ℕ) (found : List (Option Found)) (lasts : List (Option (ℕ × Point))) (vs : List TransitionVerdict) (x : Option Found) (last : Option (ℕ × Point)) (v : TransitionVerdict)
     → AreEnds new found lasts vs → IsEnd new x last v → AreEnds new (found ++ x ∷ []) (lasts ++ last ∷ []) (vs ++ v ∷ [])
 one_behind new [] [] [] x last v are is = (is, tt)
 one_behind new [] [] (w ∷ vs) x last v are is = elim are [ ]
@@ -25,16 +25,16 @@ one_behind new (y ∷ found) (l ∷ lasts) [] x last v are is = elim are [ ]
 one_behind new (y ∷ found) (l ∷ lasts) (w ∷ vs) x last v are is = (are.0, one_behind new found lasts vs x last v are.1 is)
 
 -- one fault more
-pub ends_more : (new : ℕ → ℕ) (found : List (Option Found)) (lasts : List (Option (ℕ × Point))) (old vs : List Verdict) (k : ℕ) (x : Option Found) (last : Option (ℕ × Point)) (v : Verdict)
+pub ends_more : (new : ℕ → ℕ) (found : List (Option Found)) (lasts : List (Option (ℕ × Point))) (old vs : List TransitionVerdict) (k : ℕ) (x : Option Found) (last : Option (ℕ × Point)) (v : TransitionVerdict)
     → k < length lasts → last ≡ get_or lasts k last → AreEnds new found (take k lasts) old → IsEnd new x last v → vs ≡ old ++ v ∷ []
     → AreEnds new (found ++ x ∷ []) (take (k + 1) lasts) vs
 ends_more new found lasts old vs k x last v lt is_last are is added =
     let taken : take k lasts ++ last ∷ [] ≡ take (k + 1) lasts =
     sym (take_more lasts k last lt ∙ ap (λ (l : Option (ℕ × Point)). take k lasts ++ l ∷ []) (sym is_last)) in
-    subst (λ (ws : List Verdict). AreEnds new (found ++ x ∷ []) (take (k + 1) lasts) ws) (sym added)
+    subst (λ (ws : List TransitionVerdict). AreEnds new (found ++ x ∷ []) (take (k + 1) lasts) ws) (sym added)
     (subst (λ (ls : List (Option (ℕ × Point))). AreEnds new (found ++ x ∷ []) ls (old ++ v ∷ [])) taken (one_behind new found (take k lasts) old x last v are is))
 
-end_renamed : (a b : ℕ → ℕ) (x : Option Found) (last : Option (ℕ × Point)) (v : Verdict) → ((l : ℕ × Point) → last ≡ Some l → a l.0 ≡ b l.0) → IsEnd a x last v → IsEnd b x last v
+end_renamed : (a b : ℕ → ℕ) (x : Option Found) (last : Option (ℕ × Point)) (v : TransitionVerdict) → ((l : ℕ × Point) → last ≡ Some l → a l.0 ≡ b l.0) → IsEnd a x last v → IsEnd b x last v
 end_renamed a b x (Some l) v same is = is ∙ ap (λ k. Detected k l.1) (same l refl)
 end_renamed a b None None v same is = is
 end_renamed a b (Some (Test c o)) None v same is = is
@@ -42,7 +42,7 @@ end_renamed a b (Some (Closed t)) None v same is = is
 end_renamed a b (Some (Partial t)) None v same is = is
 
 -- the same places by another name
-pub ends_renamed : (a b : ℕ → ℕ) (found : List (Option Found)) (lasts : List (Option (ℕ × Point))) (vs : List Verdict)
+pub ends_renamed : (a b : ℕ → ℕ) (found : List (Option Found)) (lasts : List (Option (ℕ × Point))) (vs : List TransitionVerdict)
     → ((c : ℕ) (l : ℕ × Point) → last_at lasts c ≡ Some l → a l.0 ≡ b l.0) → AreEnds a found lasts vs → AreEnds b found lasts vs
 ends_renamed a b [] [] [] same are = tt
 ends_renamed a b [] [] (v ∷ vs) same are = elim are [ ]
@@ -73,7 +73,7 @@ nothing_left [] e = refl
 nothing_left (x ∷ xs) e = absurd (omega arith)
 
 -- all answers were gone over
-pub ends_all : (new : ℕ → ℕ) (found done rest : List (Option Found)) (lasts : List (Option (ℕ × Point))) (vs : List Verdict) (k : ℕ) → AllZip IsTold found lasts → done ++ rest ≡ found → length rest ≡ 0
+pub ends_all : (new : ℕ → ℕ) (found done rest : List (Option Found)) (lasts : List (Option (ℕ × Point))) (vs : List TransitionVerdict) (k : ℕ) → AllZip IsTold found lasts → done ++ rest ≡ found → length rest ≡ 0
     → k ≡ length done → AreEnds new done (take k lasts) vs → AreEnds new found lasts vs
 ends_all new found done rest lasts vs k told is none count ends =
     let all : done ≡ found = sym (append-nil done) ∙ (ap (λ (xs : List (Option Found)). done ++ xs) (sym (nothing_left rest none)) ∙ is) in

@@ -25,9 +25,9 @@ use Rattle.transition.specs.Detections.{IsLastTransition, LastTransition}
 use Rattle.transition.specs.Searches.{AreFoundWhereLeft, IsFoundIfLeft}
 use Rattle.transition.proofs.Answering.{test_detects_transition}
 use Rattle.transition.proofs.LastTold.{to_frames, from_frames}
-use Rattle.transition_tests.specs.declared.verdicts.Verdict.{Verdict}
+use Rattle.transition_tests.specs.declared.verdicts.TransitionVerdict.{TransitionVerdict}
 use Rattle.transition_tests.specs.Batches.{AreLeftBy, IsLeftBy}
-use Rattle.transition_tests.specs.Verdicts.{AreTests, IsNeeded, IsVerdict}
+use Rattle.transition_tests.specs.Verdicts.{AreTests, IsNeededForTransitions, IsVerdict}
 use Rattle.transition_tests.specs.inner.Answers.{IsKnown}
 use Rattle.transition_tests.specs.inner.Cubes.{BeginsWith, cubes_in, HasAgreeing}
 use Rattle.transition_tests.specs.inner.Ends.{AreEnds, IsEnd, IsTold}
@@ -150,7 +150,7 @@ module _ (n : Netlist) (sound : IsSound n) (limit : ℕ) (batch patterns : List 
       never_kept (frames_of n f) patterns marked (frame_fault n f) (λ p o d. never p o (from_frames n sound patterns f line p o d)) place q
       (to_frames n sound (kept_from marked 0 patterns) f line place q t)
 
-  verdict_is : (f : Fault) (x : Option Found) (last : Option (ℕ × Point)) (v : Verdict) → IsLineOf n f.line → IsKnown n limit batch f x → LastTransition n patterns f last
+  verdict_is : (f : Fault) (x : Option Found) (last : Option (ℕ × Point)) (v : TransitionVerdict) → IsLineOf n f.line → IsKnown n limit batch f x → LastTransition n patterns f last
       → ((l : ℕ × Point) → last ≡ Some l → marked l.0 ≡ true) → IsEnd (new_place marked) x last v → IsVerdict n limit (kept_from marked 0 patterns) f v
   verdict_is f x (Some l) v line evidence is mark end =
       subst (IsVerdict n limit (kept_from marked 0 patterns) f) (sym end) (kept_last f l.0 l.1 line (mark l refl) is)
@@ -161,7 +161,7 @@ module _ (n : Netlist) (sound : IsSound n) (limit : ℕ) (batch patterns : List 
   verdict_is f (Some (Partial t)) None v line evidence never mark end =
       subst (IsVerdict n limit (kept_from marked 0 patterns) f) (sym end) (kept_never f line never, evidence.0, evidence.1, evidence.2)
 
-  verdicts_are : (faults : List Fault) (found : List (Option Found)) (lasts : List (Option (ℕ × Point))) (vs : List Verdict) → All (λ (f : Fault). IsLineOf n f.line) faults
+  verdicts_are : (faults : List Fault) (found : List (Option Found)) (lasts : List (Option (ℕ × Point))) (vs : List TransitionVerdict) → All (λ (f : Fault). IsLineOf n f.line) faults
       → AllZip (IsKnown n limit batch) faults found → AllZip (LastTransition n patterns) faults lasts → ((c : ℕ) (l : ℕ × Point) → last_at lasts c ≡ Some l → marked l.0 ≡ true)
       → AreEnds (new_place marked) found lasts vs → AllZip (IsVerdict n limit (kept_from marked 0 patterns)) faults vs
   verdicts_are [] [] [] [] lines are is mark ends = tt
@@ -179,7 +179,7 @@ module _ (n : Netlist) (sound : IsSound n) (limit : ℕ) (batch patterns : List 
 -- each pattern that is kept is needed
 needed_at : (n : Netlist) (sound : IsSound n) (patterns : List Pattern) (faults : List Fault) (lasts : List (Option (ℕ × Point)))
     → ((f : Fault) → Contains faults f → IsLineOf n f.line) → AllZip (LastTransition n patterns) faults lasts
-    → (place : ℕ) (p : Pattern) → slice_get (kept_from (is_last_at lasts) 0 patterns) place ≡ Some p → IsNeeded n faults (kept_from (is_last_at lasts) 0 patterns) place
+    → (place : ℕ) (p : Pattern) → slice_get (kept_from (is_last_at lasts) 0 patterns) place ≡ Some p → IsNeededForTransitions n faults (kept_from (is_last_at lasts) 0 patterns) place
 needed_at n sound patterns faults lasts lines are place p at =
     let marked : ℕ → Bool = is_last_at lasts in
     let s = source marked 0 patterns place p at in
@@ -189,7 +189,7 @@ needed_at n sound patterns faults lasts lines are place p at =
     let last = kept_last n sound 0 patterns patterns marked by.0 s.place by.2.0 (lines by.0 by.1) mark by.2.1 in
     (by.0, by.1, (by.2.0, subst (λ (k : ℕ). IsLastTransition n (kept_from marked 0 patterns) by.0 k by.2.0) s.new last))
 
-pub tests_are : (n : Netlist) (sound : IsSound n) (limit : ℕ) (batch patterns : List Pattern) (found : List (Option Found)) (lasts : List (Option (ℕ × Point))) (kept : List Pattern) (vs : List Verdict)
+pub tests_are : (n : Netlist) (sound : IsSound n) (limit : ℕ) (batch patterns : List Pattern) (found : List (Option Found)) (lasts : List (Option (ℕ × Point))) (kept : List Pattern) (vs : List TransitionVerdict)
     → All (IsPatternOf n (none_held n)) patterns → ((f : Fault) → Contains (universe_of n) f → IsLineOf n f.line) → All (λ (f : Fault). IsLineOf n f.line) (universe_of n)
     → AllZip (IsKnown n limit batch) (universe_of n) found → AllZip (LastTransition n patterns) (universe_of n) lasts
     → kept ≡ kept_from (is_last_at lasts) 0 patterns → AreEnds (new_place (is_last_at lasts)) found lasts vs → AreTests n limit kept vs

@@ -12,8 +12,8 @@ use Rattle.redundancy_cert.specs.Trees.{closed_count, open_count}
 use Rattle.redundancy_cert.specs.Fits.{Fits}
 use Rattle.transition_frames.specs.Frames.{frames_of, frame_fault}
 use Rattle.transition.specs.Detections.{IsLastTransition, LastTransition}
-use Rattle.transition_tests.specs.declared.verdicts.Verdict.{Verdict}
-use Rattle.transition_tests.specs.declared.verdicts.Verdict.TheVariants.{Detected, Redundant, Aborted}
+use Rattle.transition_tests.specs.declared.verdicts.TransitionVerdict.{TransitionVerdict}
+use Rattle.transition_tests.specs.declared.verdicts.TransitionVerdict.TheVariants.{Detected, Redundant, Aborted}
 
 -- the tree fits the stuck-at fault of the two frames, where no input is held
 abbrev pub FitsFrames : Netlist → Fault → List Node → Type 0
@@ -21,17 +21,17 @@ FitsFrames n f tree = Fits (frame_fault n f) (frames_of n f) (none_held n) tree
 
 -- Detected: by the last pattern that detects the transition fault, at its first point. Else no pattern does, and a tree fits on the two
 -- frames: one that leaves nothing open, or one that does, with as many closed ends as the backtrack limit.
-abbrev pub IsVerdict : Netlist → ℕ → List Pattern → Fault → Verdict → Type 0
+abbrev pub IsVerdict : Netlist → ℕ → List Pattern → Fault → TransitionVerdict → Type 0
 IsVerdict n limit patterns f (Detected place point) = IsLastTransition n patterns f place point
 IsVerdict n limit patterns f (Redundant tree) = LastTransition n patterns f None × FitsFrames n f tree × (open_count tree ≡ 0)
 IsVerdict n limit patterns f (Aborted tree) = LastTransition n patterns f None × FitsFrames n f tree × (closed_count tree ≡ limit) × (1 ≤ open_count tree)
 
 -- the pattern at this place is the last to detect one of these transition faults
-abbrev pub IsNeeded : Netlist → List Fault → List Pattern → ℕ → Type 0
-IsNeeded n faults patterns place = (f : Fault) × Contains faults f × ((point : Point) × IsLastTransition n patterns f place point)
+abbrev pub IsNeededForTransitions : Netlist → List Fault → List Pattern → ℕ → Type 0
+IsNeededForTransitions n faults patterns place = (f : Fault) × Contains faults f × ((point : Point) × IsLastTransition n patterns f place point)
 
 -- Patterns of the netlist, each of which is needed, and a verdict for each transition fault, in order.
-pub record AreTests (n : Netlist) (limit : ℕ) (patterns : List Pattern) (verdicts : List Verdict) : Type 0 where
+pub record AreTests (n : Netlist) (limit : ℕ) (patterns : List Pattern) (verdicts : List TransitionVerdict) : Type 0 where
   pub obey : All (IsPatternOf n (none_held n)) patterns
-  pub needed : (place : ℕ) → place < length patterns → IsNeeded n (universe_of n) patterns place
+  pub needed : (place : ℕ) → place < length patterns → IsNeededForTransitions n (universe_of n) patterns place
   pub each : AllZip (IsVerdict n limit patterns) (universe_of n) verdicts

@@ -13,7 +13,7 @@ ghost use Rattle.transition_tests.specs.Verdicts.{AreTests};
 ghost use Rattle.transition_tests.specs.inner.Ends.{AreEnds, IsEnd, IsTold};
 
 use crate::filling::{cubes_of, patterns_of};
-use crate::verdicts::{Tests, Verdict};
+use crate::verdicts::{Tests, TransitionVerdict};
 use cubes::Pattern;
 use fault_universe::FaultSet;
 use netlist::{Core, NoMemory, Point};
@@ -23,18 +23,18 @@ use std::alloc::{AllocError, Global};
 use transition::last_tells2;
 
 /// What comes of a fault: where it is last detected, by the new place of that pattern, or else what the search answered.
-fn verdict_of(answer: Option<Found>, last: &Option<(u32, Point)>, places: &[u32]) -> Verdict
+fn verdict_of(answer: Option<Found>, last: &Option<(u32, Point)>, places: &[u32]) -> TransitionVerdict
     requires told { IsTold answer last.now }
     requires within { IfSome last.now (λ l. l.0 < length places.now) }
     ensures { IsEnd (λ k. slice_index places.now k) answer last.now result }
 {
     if let Some((place, point)) = last {
-        return Verdict::Detected(places[*place as usize], *point);
+        return TransitionVerdict::Detected(places[*place as usize], *point);
     }
     match answer {
         None | Some(Found::Test(_, _)) => unreachable!(),
-        Some(Found::Closed(tree)) => Verdict::Redundant(tree),
-        Some(Found::Partial(tree)) => Verdict::Aborted(tree),
+        Some(Found::Closed(tree)) => TransitionVerdict::Redundant(tree),
+        Some(Found::Partial(tree)) => TransitionVerdict::Aborted(tree),
     }
 }
 
@@ -44,7 +44,7 @@ fn verdicts_of(
     found: Vec<Option<Found>>,
     last: &[Option<(u32, Point)>],
     places: &[u32],
-) -> Result<Vec<Verdict>, AllocError>
+) -> Result<Vec<TransitionVerdict>, AllocError>
     requires told { AllZip IsTold found.items last.now }
     requires within { All (λ l. IfSome l (λ p. p.0 < length places.now)) last.now }
     ensures { IfOk result (λ v. AreEnds (λ k. slice_index places.now k) found.items last.now v.items) }

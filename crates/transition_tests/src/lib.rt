@@ -1,7 +1,7 @@
 //! Tests for slow lines: a batch of drawn patterns, and behind them what the searches of the faults that these leave found, merged, filled and
 //! simulated; the patterns that are needed, and a verdict for each fault.
 //!
-//! Gives: `batch_of`, `left_by`, `tests_of`, `Tests`, `Verdict`.
+//! Gives: `batch_of`, `left_by`, `tests_of`, `Tests`, `TransitionVerdict`.
 //! Proved: `left_by`: which faults no pattern of the batch detects, exactly; `tests_of`: patterns of the netlist, each the last to detect some transition fault, and a verdict for each fault with its evidence: its
 //! last pattern and first point, or its tree.
 //! Tested: run by `transition`.
@@ -15,4 +15,4 @@ mod verdicts;
 
 pub use dropping::{batch_of, left_by};
 pub use keeping::tests_of;
-pub use verdicts::{Tests, Verdict};
+pub use verdicts::{Tests, TransitionVerdict};

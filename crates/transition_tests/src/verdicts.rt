@@ -6,7 +6,7 @@ use redundancy_cert::Tree;
 
 /// What comes of a transition fault.
 #[derive(Drop)]
-pub enum Verdict {
+pub enum TransitionVerdict {
     /// The last pattern that detects it, by its place, and that pattern's first point.
     Detected(u32, Point),
     /// No pattern detects it: a tree of the two frames without Open.
@@ -19,5 +19,5 @@ pub enum Verdict {
 #[derive(Drop)]
 pub struct Tests {
     pub patterns: Vec<Pattern>,
-    pub verdicts: Vec<Verdict>,
+    pub verdicts: Vec<TransitionVerdict>,
 }

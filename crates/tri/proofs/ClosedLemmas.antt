@@ -14,7 +14,7 @@ use Rattle.std.specs.Bool.{beq}
 use Rattle.netlist.specs.ThreeValues.{allows}
 use Rattle.netlist.specs.Detection.{observed, Detects, IsRedundant}
 use Rattle.tri.specs.declared.labels.Label.{Label}
-use Rattle.tri.specs.Labels.{Decisions, labels, AreLabels, IsClosedAt, IsContradicted, IsUnobserved, Follows, AgreesWith}
+use Rattle.tri.specs.Labels.{Decisions, labels, AreLabels, IsClosedAt, IsContradicted, IsUnobserved, Follows, MeetsDecisions}
 use Rattle.netlist.specs.Holds.{Holds, Obeys}
 use Rattle.tri.proofs.AboveLemmas.{same_where_none_differs}
 use Rattle.tri.proofs.LabelLemmas.{other_bit, above_at, outs_above, next_above}
@@ -74,7 +74,7 @@ module _ (f : Fault) (path : Decisions) (n : Netlist) (holds : Holds) (l : ℕ �
   closed_same c = elim c [ inl w ↦ absurd (not_contradicted w) | inr u ↦ unobserved_same u ]
 
 pub closed_detects_nothing : (f : Fault) (path : Decisions) (n : Netlist) (holds : Holds) (l : ℕ → Label) (inputs state : List Bool) (point : Point)
-    → IsSound n → AreLabels (Some f) path n holds l → IsClosedAt f path n l → Obeys holds inputs → AgreesWith path n inputs state
+    → IsSound n → AreLabels (Some f) path n holds l → IsClosedAt f path n l → Obeys holds inputs → MeetsDecisions path n inputs state
     → ¬ Detects n f inputs state point
 closed_detects_nothing f path n holds l inputs state point sound r c obeys w t =
     let once = settles_once beq decides_beq (bits None) n inputs state t.good w.good sound.closed sound.acyclic t.good_settles w.settles in

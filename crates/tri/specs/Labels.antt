@@ -104,7 +104,7 @@ abbrev pub Follows : Decisions → Netlist → (ℕ → Bool) → Type 0
 Follows path n good = (x : ℕ) (b : Bool) → Contains (signals n) x → path x ≡ Some b → good x ≡ b
 
 -- a pattern under which each decided signal has its bit, without the fault
-pub record AgreesWith (path : Decisions) (n : Netlist) (inputs state : List Bool) : Type 0 where
+pub record MeetsDecisions (path : Decisions) (n : Netlist) (inputs state : List Bool) : Type 0 where
   pub good : ℕ → Bool
   pub settles : Settles (bits None) n inputs state good
   pub follows : Follows path n good

@@ -13,7 +13,7 @@ use Rattle.netlist.specs.Holds.{Holds, Obeys}
 use Rattle.tri.specs.Settled.{tris}
 use Rattle.netlist.specs.Detection.{Detects, IsRedundant}
 use Rattle.tri.specs.declared.labels.Label.{Label}
-use Rattle.tri.specs.Labels.{Decisions, labels, AreLabels, AllowsLabel, IsContradicted, IsClosedAt, Follows, AgreesWith, IsAbove, AreAbove}
+use Rattle.tri.specs.Labels.{Decisions, labels, AreLabels, AllowsLabel, IsContradicted, IsClosedAt, Follows, MeetsDecisions, IsAbove, AreAbove}
 
 -- Settled three values allow the settled bits of each choice for the Xs that are driven, everywhere.
 abbrev pub ThreeValuesAboveBits : Type 0
@@ -73,7 +73,7 @@ abbrev pub ClosedDetectsNothing : Type 0
 ClosedDetectsNothing =
     (f : Fault) (path : Decisions) (n : Netlist) (holds : Holds) (l : ℕ → Label) (inputs state : List Bool) (point : Point)
     → IsSound n → AreLabels (Some f) path n holds l → IsClosedAt f path n l
-    → Obeys holds inputs → AgreesWith path n inputs state
+    → Obeys holds inputs → MeetsDecisions path n inputs state
     → ¬ Detects n f inputs state point
 
 -- A redundant fault changes nothing that is observed, under any pattern that obeys the held inputs.

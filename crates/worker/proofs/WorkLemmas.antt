@@ -21,7 +21,7 @@ use Rattle.redundancy_cert.specs.declared.engine.Found.TheVariants.{Test, Closed
 use Rattle.redundancy_cert.specs.Fits.{Fits}
 use Rattle.redundancy_cert.specs.Evidence.{HasEvidence, IsTestCube}
 use Rattle.list_core.specs.States.{MaySettle}
-use Rattle.list_core.specs.Subjects.{Subject, Represents, HaveLines}
+use Rattle.list_core.specs.Subjects.{Subject, RepresentsIn, HaveLines}
 use Rattle.list_core.specs.Batches.{IsTrueHit, IsTrueBatch}
 use Rattle.shared_list.specs.Tally.{Tally}
 use Rattle.shared_list.specs.Outcomes.{IsNone}
@@ -35,7 +35,7 @@ same_widths n holds cubes all i j d a b =
 
 -- the faults of the classes that were left stand on lines
 pub lines_of_left : (j : Subject) (n : Netlist) (left : List (ℕ × Fault)) → n ≡ j.netlist → HaveLines j
-    → All (λ (p : ℕ × Fault). Represents j p.0 p.1) left → All (λ (p : ℕ × Fault). IsLineOf n p.1.line) left
+    → All (λ (p : ℕ × Fault). RepresentsIn j p.0 p.1) left → All (λ (p : ℕ × Fault). IsLineOf n p.1.line) left
 lines_of_left j n left e lines reps k d lt =
     let faults : List Fault = j.classes.representatives in
     let place : ℕ = (get_or left k d).0 in
@@ -47,7 +47,7 @@ lines_of_left j n left e lines reps k d lt =
     subst Q (sym e) stands
 
 -- and so does that of a class that was handed out
-pub line_of_class : (j : Subject) (n : Netlist) (class : ℕ) (f g : Fault) → n ≡ j.netlist → HaveLines j → Represents j class f → g ≡ f → IsLineOf n g.line
+pub line_of_class : (j : Subject) (n : Netlist) (class : ℕ) (f g : Fault) → n ≡ j.netlist → HaveLines j → RepresentsIn j class f → g ≡ f → IsLineOf n g.line
 line_of_class j n class f g e lines there same =
     let faults : List Fault = j.classes.representatives in
     let P : Fault → Type 0 = λ h. IsLineOf j.netlist h.line in
@@ -66,20 +66,20 @@ pairs_head R x xs pairs k d lt = pairs 0 (suc k) d (omega arith) (omega (arith, 
 pairs_tail : {X : Type 0} (R : X → X → Type 0) (x : X) (xs : List X) → AllPairs R (x ∷ xs) → AllPairs R xs
 pairs_tail R x xs pairs i k d a b = pairs (suc i) (suc k) d (omega (arith, a)) (omega (arith, b))
 
-hits_true : (j : Subject) (ps : List Pattern) (given : List (ℕ × Fault)) (hits : List Hit) → All (λ (p : ℕ × Fault). Represents j p.0 p.1) given
+hits_true : (j : Subject) (ps : List Pattern) (given : List (ℕ × Fault)) (hits : List Hit) → All (λ (p : ℕ × Fault). RepresentsIn j p.0 p.1) given
     → AreHits j.netlist ps given hits → All (IsTrueHit j ps) hits
 hits_true j ps [] hits reps none = subst (All (IsTrueHit j ps)) (sym none) (none_of (IsTrueHit j ps))
-hits_true j ps (g ∷ gs) hits reps (inl w) = hits_true j ps gs hits (All-tail (λ (p : ℕ × Fault). Represents j p.0 p.1) g gs reps) w.1
+hits_true j ps (g ∷ gs) hits reps (inl w) = hits_true j ps gs hits (All-tail (λ (p : ℕ × Fault). RepresentsIn j p.0 p.1) g gs reps) w.1
 hits_true j ps (g ∷ gs) hits reps (inr (h, rest, is, class, last, more)) =
-    let rep : Represents j g.0 g.1 = All-head (λ (p : ℕ × Fault). Represents j p.0 p.1) g gs reps in
+    let rep : RepresentsIn j g.0 g.1 = All-head (λ (p : ℕ × Fault). RepresentsIn j p.0 p.1) g gs reps in
     let here : IsTrueHit j ps h = record {
       fault = g.1;
-      represents = (let P : ℕ → Type 0 = λ c. Represents j c g.1 in subst P (sym class) rep);
+      represents = (let P : ℕ → Type 0 = λ c. RepresentsIn j c g.1 in subst P (sym class) rep);
       pattern = last.here.pattern;
       at = last.here.at;
       detects = last.here.detects;
     } in
-    subst (All (IsTrueHit j ps)) (sym is) (All-cons (IsTrueHit j ps) h rest here (hits_true j ps gs rest (All-tail (λ (p : ℕ × Fault). Represents j p.0 p.1) g gs reps) more))
+    subst (All (IsTrueHit j ps)) (sym is) (All-cons (IsTrueHit j ps) h rest here (hits_true j ps gs rest (All-tail (λ (p : ℕ × Fault). RepresentsIn j p.0 p.1) g gs reps) more))
 
 -- hits name classes that were given
 hits_above : (n : Netlist) (ps : List Pattern) (bound : ℕ) (given : List (ℕ × Fault)) (hits : List Hit) → All (λ (p : ℕ × Fault). bound < p.0) given
@@ -106,7 +106,7 @@ hits_once n ps (g ∷ gs) hits rising (inr (h, rest, is, class, last, more)) =
 -- the netlist and the held inputs at hand are those of the list
 pub true_batch : (j : Subject) (n : Netlist) (holds : Holds) (ps : List Pattern) (left : List (ℕ × Fault)) (hits : List Hit)
     → n ≡ j.netlist → holds ≡ j.holds → All (IsPatternOf n holds) ps
-    → All (λ (p : ℕ × Fault). Represents j p.0 p.1) left → AllPairs (λ (p q : ℕ × Fault). p.0 < q.0) left
+    → All (λ (p : ℕ × Fault). RepresentsIn j p.0 p.1) left → AllPairs (λ (p q : ℕ × Fault). p.0 < q.0) left
     → AreHits n ps left hits → IsTrueBatch j (record { patterns = ps; hits = hits })
 true_batch j n holds ps left hits e f are reps rising h =
     let same : AreHits j.netlist ps left hits = (let P : Netlist → Type 0 = λ m. AreHits m ps left hits in subst P e h) in
@@ -151,7 +151,7 @@ only : {A : Type 0} (P : A → Type 0) (x : A) → P x → All P (x ∷ [])
 only P x h zero d lt = h
 only P x h (suc k) d lt = absurd (omega (arith, lt))
 
-pub single_true : (j : Subject) (n : Netlist) (holds : Holds) (f : Fault) (c : Cube) (p : Pattern) (o : Point) (class : ℕ) → n ≡ j.netlist → holds ≡ j.holds → Represents j class f
+pub single_true : (j : Subject) (n : Netlist) (holds : Holds) (f : Fault) (c : Cube) (p : Pattern) (o : Point) (class : ℕ) → n ≡ j.netlist → holds ≡ j.holds → RepresentsIn j class f
     → IsTestCube f n holds c o → AgreesWith p c → IsPatternOf n holds p
     → IsTrueBatch j (record { patterns = p ∷ []; hits = record { class = class; pattern = 0; point = o } ∷ [] })
 single_true j n holds f c p o class en eh rep test agrees is =

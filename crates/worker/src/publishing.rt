@@ -97,7 +97,7 @@ pub(crate) fn publish_cubes<
     share: &mut Share<T, S, P, U>,
     core: &Core,
     simulator: &mut Simulator<'_>,
-    gate: &G,
+    stage: &G,
     rng: &mut N,
     cubes: &[Cube],
     holds: &Holds,
@@ -120,6 +120,6 @@ pub(crate) fn publish_cubes<
     if let Err((NoMemory, _)) = shared.publish(rt, share, batch) {
         return Err(NoMemory);
     }
-    gate.at(share.worker(), Stage::Published);
+    stage.at(share.worker(), Stage::Published);
     Ok(())
 }

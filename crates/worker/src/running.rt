@@ -1,6 +1,7 @@
 //! Workers beside each other.
 ghost use Rattle.std.specs.Prelude.{◌≡◌, ◌+◌, ◌<◌, ◌≤◌, [], length, IfOk, vec_len};
 ghost use Rattle.std.specs.List.{All};
+ghost use Rattle.limits.specs.Limits.{most_workers};
 ghost use Rattle.list_core.specs.Subjects.{class_count, HaveLines};
 ghost use Rattle.list_core.specs.States.{IsTrueList};
 ghost use Rattle.shared_list.specs.Tally.{Tally};
@@ -44,7 +45,7 @@ fn work_in<J: About, T: Ledger, S: Ledger, P: Ledger, U: Ledger, E: Engine, G: G
     job: &mut Job<T, S, P, U>,
     core: &Core,
     engine: &E,
-    gate: &G,
+    stage: &G,
     seed: u64,
     holds: &Holds,
 )
@@ -61,7 +62,7 @@ fn work_in<J: About, T: Ledger, S: Ledger, P: Ledger, U: Ledger, E: Engine, G: G
         &mut job.share,
         core,
         engine,
-        gate,
+        stage,
         seed,
         holds,
     )
@@ -123,7 +124,7 @@ fn run_named<
     list: FaultList<J>,
     core: &Core,
     engine: &E,
-    gate: &G,
+    stage: &G,
     workers: u32,
     seed: u64,
     holds: &Holds,
@@ -137,7 +138,7 @@ fn run_named<
     requires limit { 1 ≤ J.subject.limit }
     requires held { (holds.now ≡ J.subject.holds) × AreHoldsOf core.now holds.now }
     requires empty { list.journal ≡ [] }
-    requires workers { (0 < workers) × (workers ≤ 64) }
+    requires workers { (0 < workers) × (workers ≤ most_workers) }
     requires takes { (takes.name ≡ T.name) × (takes.parts ≡ T.parts) × (T.parts ≡ workers) }
     requires settles { (settles.name ≡ S.name) × (settles.parts ≡ S.parts) × (S.parts ≡ workers) }
     requires publishes { (publishes.name ≡ P.name) × (publishes.parts ≡ P.parts) × (P.parts ≡ workers) }
@@ -153,7 +154,7 @@ fn run_named<
     let behind = &shared;
     let step = move |_i: usize, job: &mut Job<T, S, P, U>|
         requires { (job.now.table ≡ behind.now.word.shared.table_id) × (core.now ≡ J.subject.netlist) × HaveLines J.subject × (1 ≤ J.subject.limit) × (holds.now ≡ J.subject.holds) × AreHoldsOf core.now holds.now }
-    { work_in(rt, alloc, behind, job, core, engine, gate, seed, holds) };
+    { work_in(rt, alloc, behind, job, core, engine, stage, seed, holds) };
     thread::for_each_mut(rt, jobs.as_mut_slice(), workers as usize, &step);
     let (back, refused) = collected(alloc, jobs)?;
     let (list, _) = shared.into_list(back);
@@ -170,7 +171,7 @@ pub fn run_all<J: About + Send + Sync, E: Engine + Sync, G: Gate + Sync, R: Thre
     list: FaultList<J>,
     core: &Core,
     engine: &E,
-    gate: &G,
+    stage: &G,
     workers: u32,
     seed: u64,
     holds: &Holds,
@@ -180,7 +181,7 @@ pub fn run_all<J: About + Send + Sync, E: Engine + Sync, G: Gate + Sync, R: Thre
     requires limit { 1 ≤ J.subject.limit }
     requires held { (holds.now ≡ J.subject.holds) × AreHoldsOf core.now holds.now }
     requires empty { list.journal ≡ [] }
-    requires workers { (0 < workers) × (workers ≤ 64) }
+    requires workers { (0 < workers) × (workers ≤ most_workers) }
     ensures closed { IfOk result (λ l. NoneOpen l.verdicts) }
     ensures true_list { IfOk result (λ l. IsTrueList J.subject l) }
     ensures few { IfOk result (λ l. length l.patterns ≤ class_count J.subject + class_count J.subject) }
@@ -192,7 +193,7 @@ pub fn run_all<J: About + Send + Sync, E: Engine + Sync, G: Gate + Sync, R: Thre
         list,
         core,
         engine,
-        gate,
+        stage,
         workers,
         seed,
         holds,

@@ -32,7 +32,7 @@ pub fn work<J: About, T: Ledger, S: Ledger, P: Ledger, U: Ledger, E: Engine, G: 
     share: &mut Share<T, S, P, U>,
     core: &Core,
     engine: &E,
-    gate: &G,
+    stage: &G,
     seed: u64,
     holds: &Holds,
 ) -> Result<(), NoMemory>
@@ -54,7 +54,7 @@ pub fn work<J: About, T: Ledger, S: Ledger, P: Ledger, U: Ledger, E: Engine, G: 
             Drawn::Gone(_) => continue,
             Drawn::None => break,
         };
-        gate.at(share.worker(), Stage::Claimed);
+        stage.at(share.worker(), Stage::Claimed);
         let (found, kept) = engine.search_in(
             alloc,
             room,
@@ -75,7 +75,7 @@ pub fn work<J: About, T: Ledger, S: Ledger, P: Ledger, U: Ledger, E: Engine, G: 
                         share,
                         core,
                         &mut simulator,
-                        gate,
+                        stage,
                         &mut rng,
                         &cubes,
                         holds,
@@ -98,7 +98,7 @@ pub fn work<J: About, T: Ledger, S: Ledger, P: Ledger, U: Ledger, E: Engine, G: 
         share,
         core,
         &mut simulator,
-        gate,
+        stage,
         &mut rng,
         &cubes,
         holds,

@@ -1,5 +1,6 @@
 -- What is diagnosed: a design, a test, and what failed.
 use Rattle.std.specs.Prelude.{ℕ, ◌≡◌, ⊤, List, [], ◌∷◌, Result, Ok, Err}
+use Rattle.plain_text.specs.Texts.{Text}
 use Rattle.bench_text.specs.declared.refusal.Names.TheVariants.{Design}
 use Rattle.netlist.specs.Netlist.{Netlist}
 use Rattle.netlist.specs.Designs.{IsDesign}
@@ -7,11 +8,10 @@ use Rattle.scan_insert.specs.Scanned.{scanned_of}
 use Rattle.good_files.specs.ScanOff.{design_chains}
 use Rattle.stil_read.specs.Reading.{StandsFor}
 use Rattle.stil_vectors.specs.FileVectors.{vectors_in}
-use Rattle.stil_vectors.specs.Fitting.{Fits}
+use Rattle.stil_vectors.specs.Fitting.{FitsNetlist}
 use Rattle.stil_write.specs.StilFiles.{StilFile}
 use Rattle.fail_log.specs.Failures.{Failing}
 use Rattle.fail_log.specs.Reading.{IsLogOf}
-use Rattle.commands.specs.World.{Text}
 use Rattle.commands.specs.Due.{Due, Deliver, Refuse}
 use Rattle.commands.specs.declared.ending.Finding.TheVariants.{Fine}
 use Rattle.commands.specs.declared.product.Stop.{Stop}
@@ -42,7 +42,7 @@ diagnosis_due chains n file failures d =
 
 -- the same of a file that may not fit
 abbrev pub case_due : ℕ → Netlist → StilFile → List Failing → Due Refusal → Type 0
-case_due chains n file failures = test (Fits file (scanned_of n (design_chains n chains))) StilDoesNotFit >>= λ _. diagnosis_due chains n file failures
+case_due chains n file failures = test (FitsNetlist file (scanned_of n (design_chains n chains))) StilDoesNotFit >>= λ _. diagnosis_due chains n file failures
 
 -- the same of the bytes of a log, and of those of a file
 abbrev pub log_due : ℕ → Text → Netlist → StilFile → Due Refusal → Type 0

@@ -1,6 +1,7 @@
 -- What is tested of which scan hardware.
 use Rattle.std.specs.Prelude.{ℕ, ◌≡◌, ◌<◌, ◌++◌, ⊤, List, [], ◌∷◌, IfSome, Result, Ok, Err, codes, decimal, length}
 use Rattle.std.specs.List.{AllZip}
+use Rattle.plain_text.specs.Texts.{Text}
 use Rattle.bench_text.specs.declared.refusal.Names.TheVariants.{Design}
 use Rattle.netlist.specs.Designs.{IsDesign}
 use Rattle.netlist.specs.Netlist.{Netlist}
@@ -8,9 +9,8 @@ use Rattle.good_files.specs.ScanOff.{design_chains}
 use Rattle.scan_insert.specs.Scanned.{insertion_of, scanned_of}
 use Rattle.stil_read.specs.Reading.{StandsFor}
 use Rattle.stil_vectors.specs.FileVectors.{vectors_in}
-use Rattle.stil_vectors.specs.Fitting.{Fits}
+use Rattle.stil_vectors.specs.Fitting.{FitsNetlist}
 use Rattle.stil_write.specs.StilFiles.{StilFile}
-use Rattle.commands.specs.World.{Text}
 use Rattle.commands.specs.Due.{Due, Deliver, Refuse}
 use Rattle.commands.specs.declared.ending.Finding.TheVariants.{Fine}
 use Rattle.commands.specs.declared.product.Stop.{Stop}
@@ -63,7 +63,7 @@ told_due n chains file d =
 
 -- the same of a file that may not fit
 abbrev pub fit_due : Netlist → List (List ℕ) → StilFile → Due Refusal → Type 0
-fit_due n chains file = test (Fits file (scanned_of n chains)) StilDoesNotFit >>= λ _. told_due n chains file
+fit_due n chains file = test (FitsNetlist file (scanned_of n chains)) StilDoesNotFit >>= λ _. told_due n chains file
 
 abbrev pub test_due : ℕ → Netlist → StilFile → Due Refusal → Type 0
 test_due asked n file = fit_due n (design_chains n asked) file

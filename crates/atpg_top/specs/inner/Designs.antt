@@ -1,9 +1,9 @@
 -- The design that is read of a command's one text.
 use Rattle.std.specs.Prelude.{⊤, List, [], ◌∷◌, Result, Ok, Err}
+use Rattle.plain_text.specs.Texts.{Text}
 use Rattle.netlist.specs.Netlist.{Netlist}
 use Rattle.netlist.specs.Designs.{IsDesign}
 use Rattle.bench_text.specs.declared.refusal.Names.TheVariants.{Design}
-use Rattle.commands.specs.World.{Text}
 use Rattle.commands.specs.declared.product.Stop.{Stop}
 use Rattle.commands.specs.declared.product.Stop.TheVariants as stop
 use Rattle.atpg_top.specs.Steps.{netlist}

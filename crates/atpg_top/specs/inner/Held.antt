@@ -1,7 +1,7 @@
 -- The inputs that are to be held.
 use Rattle.std.specs.Prelude.{List, map}
+use Rattle.plain_text.specs.Texts.{Text}
 use Rattle.command_line.specs.declared.holds.Held.{Held}
-use Rattle.commands.specs.World.{Text}
 
 abbrev pub names_held : List Held → List Text
 names_held holds = map (λ (h : Held). h.name.now) holds

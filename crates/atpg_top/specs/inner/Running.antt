@@ -1,16 +1,16 @@
 -- The steps of `run` and of `transition`.
 use Rattle.std.specs.Prelude.{ℕ, ◌≡◌, List, Option, Some, None}
+use Rattle.plain_text.specs.Texts.{Text}
 use Rattle.netlist.specs.Netlist.{Netlist}
 use Rattle.netlist.specs.Holds.{Holds}
-use Rattle.command_line.specs.HoldLists.{Hold}
+use Rattle.command_line.specs.HoldLists.{HoldItem}
 use Rattle.command_line.specs.declared.requests.RunOptions.{RunOptions}
-use Rattle.commands.specs.World.{Text}
 use Rattle.commands.specs.Due.{Due, Deliver}
 use Rattle.commands.specs.declared.ending.Finding.TheVariants.{Fine}
 use Rattle.run_files.specs.declared.files.RunFiles.{RunFiles}
 use Rattle.run_files.specs.Runs.{IsRun}
 use Rattle.transition_run.specs.declared.files.TransitionFiles.{TransitionFiles}
-use Rattle.transition_run.specs.Runs.{IsTransitionRun, files_of}
+use Rattle.transition_run.specs.Runs.{IsTransitionRun, transition_files_of}
 use Rattle.atpg_top.specs.Runs.{IsInputAt, tests_line, texts_in, texts_made}
 use Rattle.atpg_top.specs.Steps.{◌>>=◌, named_holds}
 use Rattle.atpg_top.specs.declared.refusal.Refusal.{Refusal}
@@ -25,10 +25,10 @@ abbrev pub made_due : RunOptions → Netlist → Holds → Due Refusal → Type 
 made_due options n holds d = (made : RunFiles) × IsRun n holds options.chains options.limit made × (d ≡ Deliver (texts_made made) (tests_line made.said.counts) Fine)
 
 -- the same of the names of inputs
-abbrev pub held_due : RunOptions → List Hold → Netlist → Due Refusal → Type 0
+abbrev pub held_due : RunOptions → List HoldItem → Netlist → Due Refusal → Type 0
 held_due options named n = named_holds n named >>= λ holds. made_due options n holds
 
 -- what is due of a design whose slow lines are searched
 abbrev pub slow_due : RunOptions → Netlist → Due Refusal → Type 0
 slow_due options n d =
-    (made : TransitionFiles) × IsTransitionRun n options.chains options.limit made × (d ≡ Deliver (texts_in (files_of made)) (tests_line made.said.counts) Fine)
+    (made : TransitionFiles) × IsTransitionRun n options.chains options.limit made × (d ≡ Deliver (texts_in (transition_files_of made)) (tests_line made.said.counts) Fine)

@@ -1,5 +1,6 @@
 -- What is played on what.
 use Rattle.std.specs.Prelude.{◌≡◌, ◌<◌, ⊤, [], ◌∷◌, Option, Result, Ok, Err, length}
+use Rattle.plain_text.specs.Texts.{Text}
 use Rattle.bench_text.specs.declared.refusal.Names.TheVariants.{Scanned}
 use Rattle.netlist.specs.declared.lines.Fault.{Fault}
 use Rattle.netlist.specs.Netlist.{Netlist}
@@ -7,14 +8,13 @@ use Rattle.scan_play.specs.declared.played.Played.{Played}
 use Rattle.scan_play.specs.declared.played.Played.TheVariants as played
 use Rattle.stil_read.specs.Reading.{StandsFor}
 use Rattle.stil_vectors.specs.FileVectors.{vectors_in}
-use Rattle.stil_vectors.specs.Fitting.{Fits}
+use Rattle.stil_vectors.specs.Fitting.{FitsNetlist}
 use Rattle.stil_write.specs.StilFiles.{StilFile}
-use Rattle.commands.specs.World.{Text}
 use Rattle.commands.specs.Due.{Due, Deliver, Refuse}
 use Rattle.commands.specs.declared.product.Stop.{Stop}
 use Rattle.commands.specs.declared.product.Stop.TheVariants as stop
 use Rattle.atpg_top.specs.Commands.{play_due}
-use Rattle.atpg_top.specs.Plays.{IsPlay, finding_of, played_line}
+use Rattle.atpg_top.specs.Plays.{IsPlay, played_finding, played_line}
 use Rattle.atpg_top.specs.Steps.{◌>>=◌, named_fault, netlist, test, value}
 use Rattle.atpg_top.specs.declared.refusal.Refusal.{Refusal}
 use Rattle.atpg_top.specs.declared.refusal.Refusal.TheVariants.{NotStil, StilDoesNotFit}
@@ -33,11 +33,11 @@ ReadsTrial fault net stil (Err stop.NoMemory) = ⊤
 
 -- what is due of a netlist, a fault and a file that fits
 abbrev pub answer_due : Netlist → Option Fault → StilFile → Due Refusal → Type 0
-answer_due n f file d = (answer : Played) × IsPlay n f (vectors_in file) answer × (d ≡ Deliver [] (played_line n answer) (finding_of answer))
+answer_due n f file d = (answer : Played) × IsPlay n f (vectors_in file) answer × (d ≡ Deliver [] (played_line n answer) (played_finding answer))
 
 -- the same of a file that may not fit
 abbrev pub trial_due : Netlist → Option Fault → StilFile → Due Refusal → Type 0
-trial_due n f file = test (Fits file n) StilDoesNotFit >>= λ _. answer_due n f file
+trial_due n f file = test (FitsNetlist file n) StilDoesNotFit >>= λ _. answer_due n f file
 
 -- the same of the bytes of a file, and of the text of a fault
 abbrev pub file_due : Text → Netlist → Option Fault → Due Refusal → Type 0

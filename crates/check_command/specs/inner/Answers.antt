@@ -3,19 +3,19 @@ use Rattle.std.specs.Prelude.{◌≡◌, ⊤, [], Result, Ok, Err}
 use Rattle.commands.specs.Due.{Due, Deliver}
 use Rattle.commands.specs.declared.product.Stop.{Stop}
 use Rattle.commands.specs.declared.product.Stop.TheVariants as stop
-use Rattle.good_files.specs.GoodFiles.{Files}
+use Rattle.good_files.specs.GoodFiles.{FiveFiles}
 use Rattle.file_clauses.specs.declared.answers.Checked.{Checked}
 use Rattle.file_clauses.specs.Checks.{IsOutside}
 use Rattle.file_clauses.specs.Laws.{IsWholeAnswer}
-use Rattle.check_command.specs.Checking.{answer_line, fault_of, finding_of}
+use Rattle.check_command.specs.Checking.{answer_line, fault_of, checked_finding}
 use Rattle.check_command.specs.declared.refusal.CheckRefusal.{CheckRefusal}
 
 -- the answer of a check, or its refusal, or memory was refused
-abbrev pub IsAnswered : Files → Result Checked (Stop CheckRefusal) → Type 0
+abbrev pub IsAnswered : FiveFiles → Result Checked (Stop CheckRefusal) → Type 0
 IsAnswered files (Ok answer) = IsWholeAnswer files (Ok answer)
 IsAnswered files (Err (stop.Refused why)) = IsOutside files (fault_of why)
 IsAnswered files (Err stop.NoMemory) = ⊤
 
 -- what is due of an answer
 abbrev pub answer_due : Checked → Due CheckRefusal → Type 0
-answer_due answer d = d ≡ Deliver [] (answer_line answer) (finding_of answer)
+answer_due answer d = d ≡ Deliver [] (answer_line answer) (checked_finding answer)

@@ -2,7 +2,7 @@
 use Rattle.std.specs.Prelude.{◌≡◌, ◌≢◌, ⊤, Result, Ok, Err}
 use Rattle.clap.specs.declared.error.kind.ErrorKind.TheVariants.{OutOfMemory}
 use Rattle.clap.specs.declared.error.kind.ErrorKind.{ErrorKind}
-use Rattle.command_line.specs.CommandLine.{CommandLine, NoLine, bad_hold, bad_words, line_of}
+use Rattle.command_line.specs.CommandLine.{CommandLine, NoLine, bad_hold, bad_words, command_line_of}
 use Rattle.command_line.specs.declared.WordsRefusal.{WordsRefusal}
 use Rattle.command_line.specs.declared.WordsRefusal.TheVariants as refusal
 use Rattle.command_line.specs.declared.requests.NoRequest.{NoRequest}
@@ -17,7 +17,7 @@ IsMadeOf kind refusal.NoMemory = ⊤
 
 -- the request is this command line, or there is none for this cause
 abbrev pub IsAsked : Result CommandLine NoLine → Result Request NoRequest → Type 0
-IsAsked line (Ok request) = line ≡ Ok (line_of request)
+IsAsked line (Ok request) = line ≡ Ok (command_line_of request)
 IsAsked line (Err none.BadNumber) = line ≡ Err bad_words
 IsAsked line (Err none.BadEngine) = line ≡ Err bad_words
 IsAsked line (Err none.BadHold) = line ≡ Err bad_hold

@@ -1,7 +1,8 @@
 -- A part of the table.
 use Rattle.std.specs.Prelude.{codes}
+use Rattle.limits.specs.Limits.{most_chains, most_workers, most_limit}
 use Rattle.clap.specs.Words.{App, with_rule}
-use Rattle.command_line.specs.Table.{most_chains, most_limit, most_seed, most_workers, number_option, required, text_option}
+use Rattle.command_line.specs.Table.{most_seed, number_option, required, text_option}
 
 -- a command with what `run` and `transition` have alike
 abbrev pub with_search : App → App

@@ -7,7 +7,7 @@ use Rattle.netlist.specs.declared.lines.Fault.{Fault}
 use Rattle.netlist.specs.Netlist.{Definition, Netlist}
 use Rattle.fault_universe.specs.Universe.{all_lines, universe_of}
 use Rattle.fault_collapse.specs.declared.drivers.Driver.{Driver}
-use Rattle.fault_collapse.specs.Joined.{IsEquivalent, IsJoined, line_at}
+use Rattle.fault_collapse.specs.Joined.{IsEquivalent, IsJoined, line_at_pin}
 
 -- Trees in which each member names an earlier one (Galler and Fisher, An improved equivalence algorithm, 1964).
 abbrev pub IsForest : List ℕ → Type 0
@@ -33,7 +33,7 @@ pub record IsReadBy (n : Netlist) (line : Line) (d : Definition) : Type 0 where
   pub place : ℕ
   pub signal : ℕ
   pub pin : slice_get d.pins place ≡ Some signal
-  pub input : line ≡ line_at n signal d.id place
+  pub input : line ≡ line_at_pin n signal d.id place
 
 -- The classes hold no more than the least equivalence does, and all joined pairs of which one fault is among the first m.
 pub record AreMerged (n : Netlist) (parents : List ℕ) (m : ℕ) : Type 0 where

@@ -6,7 +6,7 @@ use Rattle.netlist.specs.declared.lines.Fault.{Fault}
 use Rattle.netlist.specs.Netlist.{Netlist, cells}
 use Rattle.scan_play.specs.declared.played.Played.{Played}
 use Rattle.scan_play.specs.Cycles.{Cycle}
-use Rattle.scan_play.specs.Judging.{Judging, or_else}
+use Rattle.scan_play.specs.Judging.{Judging, played_or_else}
 use Rattle.scan_play.specs.inner.Steps.{IsStep, PlaysOn}
 use Rattle.lane_play.specs.declared.packed.Lanes.{Lanes}
 use Rattle.lane_play.specs.inner.Lanes.{lanes}
@@ -16,7 +16,7 @@ use Rattle.lane_play.specs.inner.Verdicts.{found_at}
 pub record IsLaneStep (says : Judging) (f : Option Fault) (n : Netlist) (state after : List Lanes) (cycle : Cycle) (number k : ℕ) (old new : Option Played) : Type 0 where
   pub said : Option Played
   pub step : IsStep says f n (lanes k state) (lanes k after) cycle number said
-  pub found : new ≡ or_else old said
+  pub found : new ≡ played_or_else old said
 
 pub record AreSteps (says : Judging) (faults : List Fault) (n : Netlist) (state after : List Lanes) (cycle : Cycle) (number : ℕ) (old new : List (Option Played)) : Type 0 where
   pub size : length new ≡ length old

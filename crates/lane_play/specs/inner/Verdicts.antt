@@ -4,7 +4,7 @@ use Rattle.netlist.specs.declared.kinds.Tri.{Tri}
 use Rattle.netlist.specs.declared.kinds.Tri.TheVariants.{Zero, One, X}
 use Rattle.events.specs.Words.{bit_of}
 use Rattle.scan_play.specs.declared.played.Played.{Played}
-use Rattle.scan_play.specs.Judging.{Judging, judged_in, or_else}
+use Rattle.scan_play.specs.Judging.{Judging, judged_in, played_or_else}
 use Rattle.lane_play.specs.declared.packed.Lanes.{Lanes}
 use Rattle.lane_play.specs.inner.Lanes.{lane, lanes}
 
@@ -30,9 +30,9 @@ said_of zero one unknown X = unknown
 -- at a strobe each machine of which nothing was said has this said of the value that it shows
 pub record AreSaid (say : Tri → Option Played) (shown : Lanes) (old new : List (Option Played)) : Type 0 where
   pub size : length new ≡ length old
-  pub each : (k : ℕ) → k < length old → found_at new k ≡ or_else (found_at old k) (say (lane k shown))
+  pub each : (k : ℕ) → k < length old → found_at new k ≡ played_or_else (found_at old k) (say (lane k shown))
 
 -- the same in a cycle
 pub record AreJudgedIn (says : Judging) (cycle : ℕ) (strobes : List Tri) (shown : List Lanes) (old new : List (Option Played)) : Type 0 where
   pub size : length new ≡ length old
-  pub each : (k : ℕ) → k < length old → found_at new k ≡ or_else (found_at old k) (judged_in says cycle 0 strobes (lanes k shown))
+  pub each : (k : ℕ) → k < length old → found_at new k ≡ played_or_else (found_at old k) (judged_in says cycle 0 strobes (lanes k shown))

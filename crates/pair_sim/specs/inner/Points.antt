@@ -3,13 +3,13 @@ use Rattle.std.specs.Prelude.{◌≡◌, ◌⊎◌, Bool, true, false, List, IsT
 use Rattle.std.specs.List.{All, Contains}
 use Rattle.tri.specs.declared.labels.Label.{Label}
 use Rattle.tri.specs.Paths.{HaveNoEffect, IsFirstEffect, IsFirstPoint}
-use Rattle.pair_sim.specs.declared.points.Sight.{Sight}
-use Rattle.pair_sim.specs.declared.points.Sight.TheVariants.{Effect, Differs, Same}
+use Rattle.pair_sim.specs.declared.points.PointsSight.{PointsSight}
+use Rattle.pair_sim.specs.declared.points.PointsSight.TheVariants.{Effect, Differs, Same}
 use Rattle.pair_sim.specs.declared.states.State.{State}
 use Rattle.pair_sim.specs.declared.states.State.TheVariants.{Test, Blocked, Going}
 
 -- the first point at which the fault has an effect; else whether some point may differ
-abbrev pub IsSight : List Label → Sight → Type 0
+abbrev pub IsSight : List Label → PointsSight → Type 0
 IsSight labels (Effect k) = IsFirstEffect labels k
 IsSight labels Differs = HaveNoEffect labels × ((l : Label) × Contains labels l × IsTrue l.may_differ)
 IsSight labels Same = HaveNoEffect labels × All (λ (l : Label). IsFalse l.may_differ) labels

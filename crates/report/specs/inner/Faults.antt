@@ -1,13 +1,13 @@
 -- Lines that begin with a fault, word by word.
 use Rattle.std.specs.Prelude.{ℕ, ◌≡◌, ◌^◌, ◌<◌, ◌++◌, ◌∷◌, Bool, List, codes, decimal}
 use Rattle.fault_universe.specs.Texts.{value_text}
-use Rattle.report.specs.Reports.{IsWord}
+use Rattle.report.specs.Reports.{IsBenchWord}
 
 -- `x/0`
 pub record IsNamed (text : List ℕ) : Type 0 where
   pub name : List ℕ
   pub value : Bool
-  pub word : IsWord name
+  pub word : IsBenchWord name
   pub text_is : text ≡ name ++ value_text value
 
 -- `3/1`
@@ -27,7 +27,7 @@ pub record NamedBegins (text rest : List ℕ) : Type 0 where
 pub record PinBegins (text rest : List ℕ) : Type 0 where
   pub name : List ℕ
   pub placed : List ℕ
-  pub word : IsWord name
+  pub word : IsBenchWord name
   pub is_placed : IsPlaced placed
   pub text_is : text ≡ name ++ 32 ∷ (placed ++ 32 ∷ rest)
 

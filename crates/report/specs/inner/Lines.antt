@@ -1,6 +1,6 @@
 -- Texts that begin with a line, or with some lines.
 use Rattle.std.specs.Prelude.{ℕ, ◌≡◌, ◌≢◌, ◌/◌, ◌^◌, ◌<◌, ◌++◌, ◌∷◌, [], Bool, true, false, List, codes, decimal}
-use Rattle.report.specs.Reports.{Hold, Line, IsWord}
+use Rattle.report.specs.Reports.{Hold, Line, IsBenchWord}
 use Rattle.report.specs.Texts.{hundredths, outcome_text}
 
 -- the text is what stands for this value, and then the rest
@@ -18,7 +18,7 @@ abbrev pub IsShare : ℕ → Type 0
 IsShare share = share / 100 < 2 ^ 64
 
 abbrev pub IsHold : Hold → Type 0
-IsHold h = IsWord h.name
+IsHold h = IsBenchWord h.name
 
 -- a count and a share up to the ends of their lines
 abbrev pub count_end : ℕ → List ℕ

@@ -1,5 +1,6 @@
 -- What is written of verdicts comes true.
 use Rattle.std.specs.Prelude.{ℕ, ◌≤◌, List}
+use Rattle.limits.specs.Limits.{most_limit}
 use Rattle.netlist.specs.Conditions.{IsSound}
 use Rattle.netlist.specs.Designs.{IsDesign}
 use Rattle.netlist.specs.Netlist.{Netlist}
@@ -8,7 +9,7 @@ use Rattle.cubes.specs.Cubes.{Pattern}
 use Rattle.fault_collapse.specs.Classes.{AreClasses}
 use Rattle.fault_collapse.specs.Numbers.{Classes}
 use Rattle.list_core.specs.declared.verdicts.Verdict.{Verdict}
-use Rattle.good_files.specs.GoodFiles.{AreGoodFiles, most_limit}
+use Rattle.good_files.specs.GoodFiles.{AreGoodFiles}
 use Rattle.good_files.specs.ScanOff.{design_chains}
 use Rattle.run_files.specs.declared.files.RunFiles.{RunFiles}
 use Rattle.run_files.specs.Runs.{IsRun, files_of}

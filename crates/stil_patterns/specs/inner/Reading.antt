@@ -1,7 +1,8 @@
 -- The patterns that a file's words would be of, whatever file it is.
 use Rattle.std.specs.Prelude.{ℕ, Bool, List, [], ◌∷◌, ◌++◌, length, map, take, drop, reverse, slice_index_or}
+use Rattle.plain_text.specs.Texts.{Text}
 use Rattle.cubes.specs.Cubes.{Pattern}
-use Rattle.stil_write.specs.StilFiles.{Item, Text, words_of}
+use Rattle.stil_write.specs.StilFiles.{Item, words_of}
 use Rattle.stil_vectors.specs.FileVectors.{bits_of}
 
 -- what a word brings to a chain of so many cells: its last character to the first

@@ -1,6 +1,7 @@
 -- The parts of a file in its tokens: what stands where, as far as the reader looks.
 use Rattle.std.specs.Prelude.{ℕ, zero, suc, ◌≡◌, Option, Some, List, [], ◌∷◌, ◌++◌, codes, length, map}
-use Rattle.stil_write.specs.StilFiles.{StilFile, Item, Text, where_chained}
+use Rattle.plain_text.specs.Texts.{Text}
+use Rattle.stil_write.specs.StilFiles.{StilFile, Item, where_chained}
 use Rattle.stil_write.specs.Pieces.{quoted}
 use Rattle.stil_write.specs.Texts.{assigned, called, head_text}
 use Rattle.stil_read.specs.Tokens.{Token, Spelled, tokens}

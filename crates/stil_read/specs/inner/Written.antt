@@ -1,6 +1,6 @@
 -- The tokens of written lines are those that the reader looks for.
 use Rattle.std.specs.Prelude.{◌≡◌, ◌==◌, ⊤, false, List, [], ◌∷◌, ◌++◌, codes, map}
-use Rattle.stil_write.specs.StilFiles.{Text}
+use Rattle.plain_text.specs.Texts.{Text}
 use Rattle.stil_write.specs.Pieces.{assignments, quoted, signal_lines}
 use Rattle.stil_read.specs.declared.bytes.Class.TheVariants as class
 use Rattle.stil_read.specs.inner.Assigned.{assigned_tokens}

@@ -1,7 +1,8 @@
 -- Items as they lie in memory: the kind of each, and where its words end.
 use Rattle.std.specs.Prelude.{ℕ, ◌≡◌, List, [], ◌∷◌, length}
+use Rattle.plain_text.specs.Texts.{Text}
 use Rattle.stil_write.specs.declared.items.ItemKind.{ItemKind}
-use Rattle.stil_write.specs.StilFiles.{Item, Text, item_of}
+use Rattle.stil_write.specs.StilFiles.{Item, item_of}
 use Rattle.rows.specs.Rows.{AreEnds}
 
 abbrev pub listed : List ItemKind → List (List Text) → List Item

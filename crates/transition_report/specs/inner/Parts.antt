@@ -3,11 +3,11 @@ use Rattle.std.specs.Prelude.{ℕ, ◌≡◌, List, [], ◌∷◌, ◌++◌}
 use Rattle.netlist.specs.declared.lines.Fault.{Fault}
 use Rattle.netlist.specs.Netlist.{Netlist}
 use Rattle.report.specs.Reports.{Line}
-use Rattle.transition_tests.specs.declared.verdicts.Verdict.{Verdict}
-use Rattle.transition_report.specs.Lines.{IsLineOf}
+use Rattle.transition_tests.specs.declared.verdicts.TransitionVerdict.{TransitionVerdict}
+use Rattle.transition_report.specs.Lines.{IsVerdictLine}
 
 -- the line of a fault with this verdict stands behind the others
-pub record IsAdded (n : Netlist) (chains : List (List ℕ)) (f : Fault) (v : Verdict) (old new : List Line) : Type 0 where
+pub record IsAdded (n : Netlist) (chains : List (List ℕ)) (f : Fault) (v : TransitionVerdict) (old new : List Line) : Type 0 where
   pub line : Line
-  pub is_line : IsLineOf n chains (f, v) line
+  pub is_line : IsVerdictLine n chains (f, v) line
   pub behind : new ≡ old ++ line ∷ []

@@ -5,15 +5,15 @@ use Rattle.netlist.specs.Designs.{IsDesign}
 use Rattle.netlist.specs.Netlist.{Netlist}
 use Rattle.cubes.specs.Cubes.{Pattern}
 use Rattle.scan_insert.specs.Scanned.{AreChainsOf}
-use Rattle.transition_tests.specs.declared.verdicts.Verdict.{Verdict}
+use Rattle.transition_tests.specs.declared.verdicts.TransitionVerdict.{TransitionVerdict}
 use Rattle.transition_tests.specs.Verdicts.{AreTests}
 use Rattle.transition_run.specs.declared.files.TransitionFiles.{TransitionFiles}
 use Rattle.transition_run.specs.Theorem.{TransitionTheorem}
-use Rattle.transition_run.specs.Runs.{files_of}
+use Rattle.transition_run.specs.Runs.{transition_files_of}
 use Rattle.transition_run.specs.inner.Written.{IsWritten}
 
 abbrev pub WrittenTellsTheTruth : Type 0
 WrittenTellsTheTruth =
-    (n : Netlist) (chains : List (List ℕ)) (limit : ℕ) (patterns : List Pattern) (verdicts : List Verdict) (made : TransitionFiles)
+    (n : Netlist) (chains : List (List ℕ)) (limit : ℕ) (patterns : List Pattern) (verdicts : List TransitionVerdict) (made : TransitionFiles)
     → IsSound n → IsDesign n → AreChainsOf n chains → AreTests n limit patterns verdicts → IsWritten n chains limit patterns verdicts made
-    → TransitionTheorem n chains limit (files_of made)
+    → TransitionTheorem n chains limit (transition_files_of made)

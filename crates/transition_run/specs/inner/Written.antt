@@ -8,10 +8,10 @@ use Rattle.stil_write.specs.StilFiles.{IsStilFile, StilFile}
 use Rattle.stil_write.specs.Texts.{stil_text}
 use Rattle.fault_universe.specs.Universe.{universe_of}
 use Rattle.transition_files.specs.LaunchFiles.{IsLaunchFileOf}
-use Rattle.transition_tests.specs.declared.verdicts.Verdict.{Verdict}
+use Rattle.transition_tests.specs.declared.verdicts.TransitionVerdict.{TransitionVerdict}
 use Rattle.transition_report.specs.declared.reporting.TransitionReport.{TransitionReport}
 use Rattle.transition_report.specs.Lines.{AreLines, leaves_of}
-use Rattle.transition_report.specs.Numbers.{IsReportOf, IsSized}
+use Rattle.transition_report.specs.Numbers.{IsReportOf, HasWritableShares}
 use Rattle.transition_report.specs.Texts.{transition_certificate, transition_report_text}
 use Rattle.transition_run.specs.declared.files.TransitionFiles.{TransitionFiles}
 
@@ -23,12 +23,12 @@ pub record IsLaunchText (n : Netlist) (chains : List (List ℕ)) (patterns : Lis
   pub text_is : text ≡ stil_text file
 
 -- the report of these verdicts
-pub record IsSaid (n : Netlist) (chains : List (List ℕ)) (limit : ℕ) (patterns : List Pattern) (verdicts : List Verdict) (r : TransitionReport) : Type 0 where
+pub record IsSaid (n : Netlist) (chains : List (List ℕ)) (limit : ℕ) (patterns : List Pattern) (verdicts : List TransitionVerdict) (r : TransitionReport) : Type 0 where
   pub lines : AreLines n chains (universe_of n) verdicts r.lines
   pub numbers : IsReportOf n chains (length patterns) limit r.lines r
-  pub sized : IsSized r
+  pub sized : HasWritableShares r
 
-pub record IsWritten (n : Netlist) (chains : List (List ℕ)) (limit : ℕ) (patterns : List Pattern) (verdicts : List Verdict) (made : TransitionFiles) : Type 0 where
+pub record IsWritten (n : Netlist) (chains : List (List ℕ)) (limit : ℕ) (patterns : List Pattern) (verdicts : List TransitionVerdict) (made : TransitionFiles) : Type 0 where
   pub net : made.net.items ≡ canonical n
   pub scan : made.scan.items ≡ canonical (scanned_of n chains)
   pub stil : IsLaunchText n chains patterns made.stil.items

@@ -3,8 +3,8 @@ use Rattle.std.specs.Prelude.{ℕ, ◌≡◌, ⊤, List, [], ◌∷◌, Option, 
 use Rattle.netlist.specs.declared.lines.Point.{Point}
 use Rattle.redundancy_cert.specs.declared.engine.Found.{Found}
 use Rattle.redundancy_cert.specs.declared.engine.Found.TheVariants.{Test, Closed, Partial}
-use Rattle.transition_tests.specs.declared.verdicts.Verdict.{Verdict}
-use Rattle.transition_tests.specs.declared.verdicts.Verdict.TheVariants.{Detected, Redundant, Aborted}
+use Rattle.transition_tests.specs.declared.verdicts.TransitionVerdict.{TransitionVerdict}
+use Rattle.transition_tests.specs.declared.verdicts.TransitionVerdict.TheVariants.{Detected, Redundant, Aborted}
 
 -- where a test was found, or the fault wasn't searched, some pattern detects
 abbrev pub IsTold : Option Found → Option (ℕ × Point) → Type 0
@@ -15,7 +15,7 @@ IsTold (Some (Closed tree)) None = ⊤
 IsTold (Some (Partial tree)) None = ⊤
 
 -- where the fault is last detected, by the pattern's new place; or else the search's tree
-abbrev pub IsEnd : (ℕ → ℕ) → Option Found → Option (ℕ × Point) → Verdict → Type 0
+abbrev pub IsEnd : (ℕ → ℕ) → Option Found → Option (ℕ × Point) → TransitionVerdict → Type 0
 IsEnd new found (Some last) v = v ≡ Detected (new last.0) last.1
 IsEnd new None None v = ⊥
 IsEnd new (Some (Test cube point)) None v = ⊥
@@ -23,7 +23,7 @@ IsEnd new (Some (Closed tree)) None v = v ≡ Redundant tree
 IsEnd new (Some (Partial tree)) None v = v ≡ Aborted tree
 
 -- the same of each fault
-abbrev pub AreEnds : (ℕ → ℕ) → List (Option Found) → List (Option (ℕ × Point)) → List Verdict → Type 0
+abbrev pub AreEnds : (ℕ → ℕ) → List (Option Found) → List (Option (ℕ × Point)) → List TransitionVerdict → Type 0
 AreEnds new [] [] [] = ⊤
 AreEnds new (found ∷ others) (last ∷ lasts) (v ∷ vs) = IsEnd new found last v × AreEnds new others lasts vs
 AreEnds new _ _ _ = ⊥

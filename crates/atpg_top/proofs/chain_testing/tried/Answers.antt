@@ -3,7 +3,7 @@ use Rattle.netlist.specs.Conditions.{IsSound}
 use Rattle.netlist.specs.Netlist.{Netlist}
 use Rattle.good_files.specs.ScanOff.{design_chains}
 use Rattle.scan_insert.specs.Scanned.{Insertion, scanned_of}
-use Rattle.stil_vectors.specs.Fitting.{Fits}
+use Rattle.stil_vectors.specs.Fitting.{FitsNetlist}
 use Rattle.atpg_top.specs.Steps.{test}
 use Rattle.atpg_top.specs.declared.refusal.Refusal.TheVariants.{StilDoesNotFit}
 use Rattle.atpg_top.specs.inner.ChainTrials.{told_due}
@@ -22,6 +22,6 @@ returns-in-Ok-fitting c =
     let file = c.args.trial.now.file in
     let chains = design_chains n c.args.asked in
     let scanned = c.netlist-2.ensures ∙ ap (λ (i : Insertion). i.netlist) c.in-Ok.ensures.scanned in
-    then_worked (test (Fits file (scanned_of n chains)) StilDoesNotFit) (λ _. told_due n chains file) 0 tt c.tested.result
-    (subst (λ (m : Netlist). Fits file m) scanned c.in-Ok-fitting.ensures)
+    then_worked (test (FitsNetlist file (scanned_of n chains)) StilDoesNotFit) (λ _. told_due n chains file) 0 tt c.tested.result
+    (subst (λ (m : Netlist). FitsNetlist file m) scanned c.in-Ok-fitting.ensures)
     (told_as c.flush_fails.ensures n c.sound.ensures c.args.asked c.requires.some file c.in-Ok.hardware c.in-Ok.ensures c.tested.result c.tested.ensures)

@@ -1,6 +1,7 @@
 use Rattle.std.proofs.Common.{List, [], subst}
+use Rattle.plain_text.specs.Texts.{Text}
 use Rattle.commands.specs.Rows.{CommandRow}
-use Rattle.commands.specs.World.{Text, world}
+use Rattle.commands.specs.World.{world}
 use Rattle.atpg_top.specs.Checks.{check_due}
 use Rattle.atpg_top.proofs.checking.check_run.Goals as goal
 

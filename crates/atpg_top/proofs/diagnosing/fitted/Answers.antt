@@ -2,7 +2,7 @@ use Rattle.std.proofs.Common.{Err, subst, ap, ◌∙◌}
 use Rattle.netlist.specs.Netlist.{Netlist}
 use Rattle.scan_insert.specs.Scanned.{Insertion, scanned_of}
 use Rattle.good_files.specs.ScanOff.{design_chains}
-use Rattle.stil_vectors.specs.Fitting.{Fits}
+use Rattle.stil_vectors.specs.Fitting.{FitsNetlist}
 use Rattle.atpg_top.specs.Steps.{test}
 use Rattle.atpg_top.specs.inner.Cases.{diagnosis_due}
 use Rattle.atpg_top.specs.declared.refusal.Refusal.TheVariants.{StilDoesNotFit}
@@ -16,8 +16,8 @@ returns-in-Ok g c =
     let chains = design_chains n c.args.options.chains in
     let file = c.args.case.now.file in
     let is = c.netlist.ensures ∙ ap (λ (s : Insertion). s.netlist) c.requires.scanned in
-    let fits = subst (λ (m : Netlist). Fits file m) is c.in-Ok.ensures in
-    then_worked (test (Fits file (scanned_of n chains)) StilDoesNotFit) (λ _. diagnosis_due c.args.options.chains n file c.args.case.now.log) 0 tt c.product_of.result fits c.product_of.ensures
+    let fits = subst (λ (m : Netlist). FitsNetlist file m) is c.in-Ok.ensures in
+    then_worked (test (FitsNetlist file (scanned_of n chains)) StilDoesNotFit) (λ _. diagnosis_due c.args.options.chains n file c.args.case.now.log) 0 tt c.product_of.result fits c.product_of.ensures
 
 pub returns-in-Err : goal.returns-in-Err
 returns-in-Err g c =
@@ -25,5 +25,5 @@ returns-in-Err g c =
     let chains = design_chains n c.args.options.chains in
     let file = c.args.case.now.file in
     let is = c.netlist.ensures ∙ ap (λ (s : Insertion). s.netlist) c.requires.scanned in
-    let refused : Answers (test (Fits file (scanned_of n chains)) StilDoesNotFit) (Err c.in-Err.stop) = subst (λ (m : Netlist). Answers (test (Fits file m) StilDoesNotFit) (Err c.in-Err.stop)) is c.in-Err.ensures in
-    stopped (test (Fits file (scanned_of n chains)) StilDoesNotFit) (λ _. diagnosis_due c.args.options.chains n file c.args.case.now.log) 0 c.in-Err.stop refused
+    let refused : Answers (test (FitsNetlist file (scanned_of n chains)) StilDoesNotFit) (Err c.in-Err.stop) = subst (λ (m : Netlist). Answers (test (FitsNetlist file m) StilDoesNotFit) (Err c.in-Err.stop)) is c.in-Err.ensures in
+    stopped (test (FitsNetlist file (scanned_of n chains)) StilDoesNotFit) (λ _. diagnosis_due c.args.options.chains n file c.args.case.now.log) 0 c.in-Err.stop refused

@@ -1,5 +1,5 @@
 use Rattle.std.proofs.Common.{◌++◌, ap, codes}
-use Rattle.commands.specs.World.{Text}
+use Rattle.plain_text.specs.Texts.{Text}
 use Rattle.status_lines.proofs.Saying.{said_so}
 use Rattle.atpg_top.proofs.lines.say_refusal.Goals as goal
 

@@ -1,6 +1,7 @@
 use Rattle.std.proofs.Common.{[], ◌∷◌, ap₂, refl, option_map}
-use Rattle.commands.specs.World.{Text, world}
-use Rattle.commands.specs.Names.{name_of}
+use Rattle.plain_text.specs.Texts.{Text}
+use Rattle.commands.specs.World.{world}
+use Rattle.commands.specs.Names.{file_name_of}
 use Rattle.atpg_top.specs.Commands.{play_due}
 use Rattle.atpg_top.proofs.Delivering.{row_at}
 use Rattle.atpg_top.proofs.playing.play_test.Goals as goal
@@ -9,5 +10,5 @@ pub returns : goal.returns
 returns g c =
     let before = world (g.S.Shelf.files c.args.shelf.now) (g.S.Shelf.failures c.args.shelf.now) (g.T.Sink.taken c.args.out.now) (g.T.Sink.failures c.args.out.now) in
     let after = world (g.S.Shelf.files c.run_command.new.shelf) (g.S.Shelf.failures c.run_command.new.shelf) (g.T.Sink.taken c.run_command.new.out) (g.T.Sink.failures c.run_command.new.out) in
-    row_at (name_of c.of.result ∷ name_of c.of-2.result ∷ []) (c.args.net.now ∷ c.args.stil.now ∷ []) [] [] (play_due (option_map (λ t. t.now) c.args.fault)) before after c.run_command.result
+    row_at (file_name_of c.of.result ∷ file_name_of c.of-2.result ∷ []) (c.args.net.now ∷ c.args.stil.now ∷ []) [] [] (play_due (option_map (λ t. t.now) c.args.fault)) before after c.run_command.result
     (ap₂ (λ (t u : Text). t ∷ u ∷ []) c.of.ensures c.of-2.ensures) refl c.run_command.ensures

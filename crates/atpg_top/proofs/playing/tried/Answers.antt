@@ -1,4 +1,4 @@
-use Rattle.stil_vectors.specs.Fitting.{Fits}
+use Rattle.stil_vectors.specs.Fitting.{FitsNetlist}
 use Rattle.atpg_top.specs.Steps.{test}
 use Rattle.atpg_top.specs.inner.Trials.{answer_due}
 use Rattle.atpg_top.specs.declared.refusal.Refusal.TheVariants.{StilDoesNotFit}
@@ -8,9 +8,9 @@ use Rattle.atpg_top.proofs.playing.tried.Goals as goal
 pub returns-in-Ok : goal.returns-in-Ok
 returns-in-Ok c =
     let t = c.args.trial in
-    then_worked (test (Fits t.file t.netlist) StilDoesNotFit) (λ _. answer_due t.netlist t.fault t.file) 0 tt c.played.result c.in-Ok.ensures c.played.ensures
+    then_worked (test (FitsNetlist t.file t.netlist) StilDoesNotFit) (λ _. answer_due t.netlist t.fault t.file) 0 tt c.played.result c.in-Ok.ensures c.played.ensures
 
 pub returns-in-Err : goal.returns-in-Err
 returns-in-Err c =
     let t = c.args.trial in
-    stopped (test (Fits t.file t.netlist) StilDoesNotFit) (λ _. answer_due t.netlist t.fault t.file) 0 c.in-Err.stop c.in-Err.ensures
+    stopped (test (FitsNetlist t.file t.netlist) StilDoesNotFit) (λ _. answer_due t.netlist t.fault t.file) 0 c.in-Err.stop c.in-Err.ensures

@@ -1,6 +1,7 @@
 use Rattle.std.proofs.Common.{[], ◌∷◌, ap}
-use Rattle.commands.specs.Names.{name_of, names_of, texts_of}
-use Rattle.commands.specs.World.{Text, world}
+use Rattle.plain_text.specs.Texts.{Text}
+use Rattle.commands.specs.Names.{file_name_of, file_names_of, texts_of}
+use Rattle.commands.specs.World.{world}
 use Rattle.commands.proofs.CommandLemmas.{command_row}
 use Rattle.check_command.specs.Checking.{run_files}
 use Rattle.atpg_top.specs.Commands.{transition_due}
@@ -15,8 +16,8 @@ returns g c =
     let unwritten = g.T.Sink.failures c.args.out.now in
     let after = world (g.S.Shelf.files c.deliver.new.shelf) (g.S.Shelf.failures c.deliver.new.shelf) (g.T.Sink.taken c.deliver.new.out) (g.T.Sink.failures c.deliver.new.out) in
     let due = transition_due c.args.options in
-    let reads = name_of c.of.result ∷ [] in
-    let writes = names_of c.file_names-writes.result in
+    let reads = file_name_of c.of.result ∷ [] in
+    let writes = file_names_of c.file_names-writes.result in
     let read = c.in-Ok.ensures in
     let row = command_row reads writes due files failures (g.S.Shelf.files c.read_in_order.new.shelf) (g.S.Shelf.failures c.read_in_order.new.shelf) taken unwritten after
     (texts_of c.in-Ok.texts.items) 5 c.work-worked.result c.deliver.result read.0 read.1 read.2 c.work-worked.ensures c.deliver.ensures in

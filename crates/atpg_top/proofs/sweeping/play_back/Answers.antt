@@ -1,5 +1,5 @@
 use Rattle.std.proofs.Common.{◌≡◌, ◌∙◌, None, ap, subst, sym}
-use Rattle.commands.specs.World.{Text}
+use Rattle.plain_text.specs.Texts.{Text}
 use Rattle.netlist.specs.Conditions.{IsSound}
 use Rattle.netlist.specs.Holds.{none_held}
 use Rattle.netlist.specs.Netlist.{Netlist}
@@ -9,7 +9,7 @@ use Rattle.scan_play.specs.declared.played.Played.{Played}
 use Rattle.scan_play.specs.declared.played.Played.TheVariants.{Passes}
 use Rattle.stil_read.specs.Reading.{StandsFor}
 use Rattle.stil_vectors.specs.FileVectors.{vectors_in}
-use Rattle.stil_vectors.specs.Fitting.{Fits}
+use Rattle.stil_vectors.specs.Fitting.{FitsNetlist}
 use Rattle.stil_write.specs.StilFiles.{StilFile}
 use Rattle.good_files.specs.ScanOff.{design_chains}
 use Rattle.run_files.specs.Runs.{files_of}
@@ -33,7 +33,7 @@ play_passing-requires-clause-fits c =
     let sound : IsSound n = subst IsSound c.netlist-netlist.ensures c.sound.ensures in
     let scanned : c.in_ok-scanned.scanned ≡ scanned_by n = c.in_ok-scanned.ensures ∙ ap scanned_by c.netlist-netlist.ensures in
     let stands : StandsFor made.stil.items c.in_ok-file.file = subst (λ (t : Text). StandsFor t c.in_ok-file.file) c.as_slice.ensures.value c.in_ok-file.ensures in
-    subst (λ (m : Netlist). Fits c.in_ok-file.file m) (sym scanned)
+    subst (λ (m : Netlist). FitsNetlist c.in_ok-file.file m) (sym scanned)
     (fits n (none_held n) sweep_chains sweep_limit (files_of made) sound c.requires.design c.requires.run.good c.at_most_one.ensures c.files_fit.ensures c.in_ok-file.file stands)
 
 pub play_passing-requires-clause-passes : goal.play_passing-requires-clause-passes

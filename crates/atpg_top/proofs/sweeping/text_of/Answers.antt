@@ -1,6 +1,6 @@
 use Rattle.std.proofs.Common.{◌≡◌, ◌∙◌, ◌++◌, List, ℕ, ap, codes, get_or, subst}
+use Rattle.plain_text.specs.Texts.{Text}
 use Rattle.report.specs.declared.counts.ReportCounts.{ReportCounts}
-use Rattle.commands.specs.World.{Text}
 use Rattle.atpg_top.specs.Sweeps.{number_line}
 use Rattle.atpg_top.proofs.SweepLemmas.{nine_lines}
 use Rattle.atpg_top.proofs.sweeping.text_of.Goals as goal

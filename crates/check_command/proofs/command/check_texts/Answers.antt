@@ -1,13 +1,13 @@
 use Rattle.std.proofs.Common.{Err}
 use Rattle.commands.specs.Contents.{most_bytes}
 use Rattle.commands.specs.Names.{texts_of}
-use Rattle.good_files.specs.GoodFiles.{Files}
+use Rattle.good_files.specs.GoodFiles.{FiveFiles}
 use Rattle.check_command.proofs.FiveTexts.{answered, at_texts, five_texts, stil_within, stopped}
 use Rattle.check_command.proofs.command.check_texts.Goals as goal
 
 pub answer_of-requires-clause-stil : goal.answer_of-requires-clause-stil
 answer_of-requires-clause-stil c =
-    let files : Files = record {
+    let files : FiveFiles = record {
       net = c.as_slice-net.result.now;
       scan = c.as_slice-scan.result.now;
       stil = c.as_slice-stil.result.now;
@@ -20,7 +20,7 @@ answer_of-requires-clause-stil c =
 
 pub returns-in-Ok : goal.returns-in-Ok
 returns-in-Ok c =
-    let files : Files = record {
+    let files : FiveFiles = record {
       net = c.as_slice-net.result.now;
       scan = c.as_slice-scan.result.now;
       stil = c.as_slice-stil.result.now;
@@ -33,7 +33,7 @@ returns-in-Ok c =
 
 pub returns-in-Err : goal.returns-in-Err
 returns-in-Err c =
-    let files : Files = record {
+    let files : FiveFiles = record {
       net = c.as_slice-net.result.now;
       scan = c.as_slice-scan.result.now;
       stil = c.as_slice-stil.result.now;

@@ -1,5 +1,6 @@
 use Rattle.std.proofs.Common.{Option, subst}
-use Rattle.commands.specs.World.{Text, world}
+use Rattle.plain_text.specs.Texts.{Text}
+use Rattle.commands.specs.World.{world}
 use Rattle.check_command.specs.Top.{PrefixRow}
 use Rattle.check_command.specs.declared.status.CheckStatus.TheVariants.{Command}
 use Rattle.check_command.proofs.top.check_top.Goals as goal

@@ -4,7 +4,7 @@ use Rattle.redundancy_cert.specs.declared.nodes.Node.{Node}
 use Rattle.redundancy_cert.specs.declared.nodes.Node.TheVariants.{Open}
 use Rattle.redundancy_cert.specs.Trees.{closed_count, open_count}
 use Rattle.redundancy_cert.specs.Fits.{Fits}
-use Rattle.redundancy_cert.specs.Stacks.{whole, path_of_stack, closed_around}
+use Rattle.redundancy_cert.specs.Stacks.{stack_tree, path_of_stack, closed_around}
 use Rattle.podem.specs.declared.searching.Step.{Step}
 use Rattle.podem.specs.Sources.{sources, undecided}
 use Rattle.podem.specs.inner.Searching.{IsStepped}
@@ -43,7 +43,7 @@ new-requires-2 c =
     let n = c.args.core.now in
     let holds = c.args.holds.now in
     let stack = c.loop-closed.stack.items in
-    let is : c.in_ok-nodes.nodes.items ≡ whole stack (Open ∷ []) = c.in_ok-nodes.ensures ∙ ap (whole stack) c.in_ok-open.ensures in
+    let is : c.in_ok-nodes.nodes.items ≡ stack_tree stack (Open ∷ []) = c.in_ok-nodes.ensures ∙ ap (stack_tree stack) c.in_ok-open.ensures in
     one_tree f n holds c.in_ok-nodes.nodes.items
     (partial_tree f n holds c.loop-closed.labels stack c.loop-closed.closed c.in_ok-nodes.nodes.items c.loop-closed.invariant.searching is).0
 
@@ -54,7 +54,7 @@ returns-clause-evidence c =
     let holds = c.args.holds.now in
     let sound : IsSound n = subst IsSound c.netlist.ensures c.sound.ensures in
     let stack = c.loop-closed.stack.items in
-    let is : c.new-2.result ≡ whole stack (Open ∷ []) = c.new-2.ensures ∙ (c.in_ok-nodes.ensures ∙ ap (whole stack) c.in_ok-open.ensures) in
+    let is : c.new-2.result ≡ stack_tree stack (Open ∷ []) = c.new-2.ensures ∙ (c.in_ok-nodes.ensures ∙ ap (stack_tree stack) c.in_ok-open.ensures) in
     let w = partial_tree f n holds c.loop-closed.labels stack c.loop-closed.closed c.new-2.result c.loop-closed.invariant.searching is in
     (partial_evidence f n holds sound c.new-2.result c.loop-closed.closed c.args.limit w.0 w.1 w.2 c.loop-closed-test.false c.loop-closed.invariant.within).0
 
@@ -65,7 +65,7 @@ returns-clause-sources c =
     let holds = c.args.holds.now in
     let sound : IsSound n = subst IsSound c.netlist.ensures c.sound.ensures in
     let stack = c.loop-closed.stack.items in
-    let is : c.new-2.result ≡ whole stack (Open ∷ []) = c.new-2.ensures ∙ (c.in_ok-nodes.ensures ∙ ap (whole stack) c.in_ok-open.ensures) in
+    let is : c.new-2.result ≡ stack_tree stack (Open ∷ []) = c.new-2.ensures ∙ (c.in_ok-nodes.ensures ∙ ap (stack_tree stack) c.in_ok-open.ensures) in
     let w = partial_tree f n holds c.loop-closed.labels stack c.loop-closed.closed c.new-2.result c.loop-closed.invariant.searching is in
     (partial_evidence f n holds sound c.new-2.result c.loop-closed.closed c.args.limit w.0 w.1 w.2 c.loop-closed-test.false c.loop-closed.invariant.within).1
 

@@ -1,6 +1,6 @@
 use Rattle.std.proofs.Common.{◌+◌, ◌/◌, ◌<◌, List, length, subst, sym, ◌∙◌, ap, ap₂, arith}
 use Rattle.std.specs.List.{All}
-use Rattle.report.specs.Reports.{Hold, IsWord, Report}
+use Rattle.report.specs.Reports.{Hold, IsBenchWord, Report}
 use Rattle.run_report.specs.Heads.{share_of}
 use Rattle.run_report.proofs.CycleLemmas.{share_small}
 use Rattle.run_files.proofs.ReportLemmas.{held_words}
@@ -17,7 +17,7 @@ new-requires c =
       counts = c.sound-2.ensures;
       coverage = subst (λ k. k / 100 < 18446744073709551616) (sym c.share_of-coverage.ensures) d;
       efficiency = subst (λ k. k / 100 < 18446744073709551616) (sym c.share_of-efficiency.ensures) e;
-      holds = subst (λ (hs : List Hold). All (λ (h : Hold). IsWord h.name) hs) (sym c.in_ok-held.ensures) (held_words n c.sound.ensures c.args.holds.now);
+      holds = subst (λ (hs : List Hold). All (λ (h : Hold). IsBenchWord h.name) hs) (sym c.in_ok-held.ensures) (held_words n c.sound.ensures c.args.holds.now);
       lines = c.requires.sound;
     }
 

@@ -2,9 +2,9 @@ use Rattle.std.proofs.Common.{◌≡◌, ◌<◌, ◌+◌, ◌*◌, ◌∷◌, [
 use Rattle.std.specs.List.{All, zip}
 use Rattle.std.proofs.lemmas.List.{length-map}
 use Rattle.netlist.specs.declared.kinds.Kind.TheVariants.{Not}
-use Rattle.netlist.specs.Netlist.{Definition, cells}
+use Rattle.netlist.specs.Netlist.{Definition, cells, define}
 use Rattle.scan_insert.specs.Names.{names_of, numbers_from}
-use Rattle.scan_insert.specs.Scan.{define, show_last}
+use Rattle.scan_insert.specs.Scan.{show_last}
 use Rattle.scan_insert.specs.Scanned.{befores, first_scan_out, last_of}
 use Rattle.scan_insert.specs.inner.Made.{held_at, scan_definitions, stem_at}
 use Rattle.scan_insert.proofs.Ready.{outputs_within, parts_of, ready_few}

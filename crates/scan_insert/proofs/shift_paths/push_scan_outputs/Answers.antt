@@ -1,8 +1,9 @@
 use Rattle.std.proofs.Common.{ℕ, ◌+◌, ◌<◌, List, [], ◌∷◌, ◌++◌, map, length, ◌∙◌, ap}
 use Rattle.std.specs.List.{zip}
+use Rattle.netlist.specs.Netlist.{define}
 use Rattle.netlist.specs.declared.kinds.Kind.TheVariants.{Buff}
 use Rattle.scan_insert.specs.Names.{numbers_from}
-use Rattle.scan_insert.specs.Scan.{define, show_last}
+use Rattle.scan_insert.specs.Scan.{show_last}
 use Rattle.scan_insert.specs.Scanned.{last_of}
 use Rattle.scan_insert.specs.inner.Made.{held_at}
 use Rattle.scan_insert.proofs.Making.{shown_step, cells_of_chain, filled_chain}

@@ -1,6 +1,6 @@
 use Rattle.std.proofs.Common.{◌++◌, ◌∷◌, [], ◌∙◌, ap, List, replicate}
+use Rattle.plain_text.specs.Texts.{Text}
 use Rattle.netlist.specs.declared.kinds.Tri.TheVariants.{X}
-use Rattle.stil_write.specs.StilFiles.{Text}
 use Rattle.stil_vectors.specs.TestFiles.{char_of_value}
 use Rattle.stil_patterns.proofs.AddLemmas.{unstrobed}
 use Rattle.stil_patterns.proofs.capturing.push_no_strobes.Goals as goal

@@ -1,5 +1,6 @@
 use Rattle.std.proofs.Common.{◌≡◌, ◌≤◌, ◌<◌, ◌∙◌, ◌+◌, ◌*◌, ap, drop, take, length, arith, List}
-use Rattle.stil_write.specs.StilFiles.{Text, item_at, words_of}
+use Rattle.plain_text.specs.Texts.{Text}
+use Rattle.stil_write.specs.StilFiles.{item_at, words_of}
 use Rattle.stil_vectors.specs.FileVectors.{bits_of}
 use Rattle.stil_patterns.specs.inner.Reading.{pattern_in, tests_in}
 use Rattle.stil_patterns.proofs.BackLemmas.{same_pattern}

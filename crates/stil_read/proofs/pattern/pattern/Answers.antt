@@ -1,5 +1,5 @@
 use Rattle.std.proofs.Common.{ap, ◌∙◌, map, subst, List}
-use Rattle.stil_write.specs.StilFiles.{Text}
+use Rattle.plain_text.specs.Texts.{Text}
 use Rattle.stil_write.specs.Pieces.{quoted}
 use Rattle.stil_write.specs.Texts.{called}
 use Rattle.stil_read.specs.Tokens.{tokens}

@@ -1,6 +1,7 @@
 use Rattle.std.proofs.Common.{ap, length, sym, subst, List, ◌∙◌}
 use Rattle.std.specs.List.{All}
-use Rattle.stil_write.specs.StilFiles.{Item, Text}
+use Rattle.plain_text.specs.Texts.{Text}
+use Rattle.stil_write.specs.StilFiles.{Item}
 use Rattle.stil_write.specs.Pieces.{HasTargets}
 use Rattle.stil_write.specs.Texts.{assigned, called}
 use Rattle.stil_write.proofs.ItemLemmas.{have_targets}

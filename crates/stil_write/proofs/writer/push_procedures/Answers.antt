@@ -1,5 +1,6 @@
 use Rattle.std.proofs.Common.{◌++◌, ◌∙◌, ap, codes, length, sym, List}
-use Rattle.stil_write.specs.StilFiles.{Item, Text, Vector, item_at}
+use Rattle.plain_text.specs.Texts.{Text}
+use Rattle.stil_write.specs.StilFiles.{Item, Vector, item_at}
 use Rattle.stil_write.specs.Pieces.{item_text}
 use Rattle.stil_write.specs.Texts.{assigned, called, procedures_head, shift_words}
 use Rattle.stil_write.proofs.LoopLemmas.{behind}

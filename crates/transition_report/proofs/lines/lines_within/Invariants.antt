@@ -1,8 +1,8 @@
 use Rattle.std.proofs.Common.{take}
 use Rattle.std.specs.List.{AllZip, zip}
 use Rattle.fault_universe.specs.Universe.{universe_of}
-use Rattle.transition_report.specs.Lines.{IsLineOf}
+use Rattle.transition_report.specs.Lines.{IsVerdictLine}
 use Rattle.transition_report.proofs.lines.lines_within.Given as goal
 
 abbrev pub invariant-loop-i : goal.invariant-loop-i
-invariant-loop-i l = AllZip (IsLineOf l.netlist l.chains) (take l.i (zip (universe_of l.netlist) l.verdicts)) l.lines
+invariant-loop-i l = AllZip (IsVerdictLine l.netlist l.chains) (take l.i (zip (universe_of l.netlist) l.verdicts)) l.lines

@@ -3,7 +3,7 @@ use Rattle.std.specs.List.{All}
 use Rattle.fault_universe.specs.Universe.{universe_of}
 use Rattle.report.specs.Reports.{Line}
 use Rattle.transition.proofs.Gathering.{universe_few}
-use Rattle.transition_tests.specs.declared.verdicts.Verdict.{Verdict}
+use Rattle.transition_tests.specs.declared.verdicts.TransitionVerdict.{TransitionVerdict}
 use Rattle.transition_report.specs.Lines.{AreLines, IsInside}
 use Rattle.transition_report.specs.Numbers.{IsReportOf}
 use Rattle.transition_report.proofs.LeafLemmas.{all_inside}
@@ -21,7 +21,7 @@ pub lines_of-requires-clause-inside : goal.lines_of-requires-clause-inside
 lines_of-requires-clause-inside c =
     let n = c.args.netlist.now in
     let tests = c.args.tests.now in
-    subst (λ (vs : List Verdict). All (IsInside n) vs) (sym c.as_slice-verdicts.ensures.value)
+    subst (λ (vs : List TransitionVerdict). All (IsInside n) vs) (sym c.as_slice-verdicts.ensures.value)
     (all_inside n c.sound.ensures c.requires.design c.args.limit tests.patterns.items (universe_of n) tests.verdicts.items c.requires.tests.each)
 
 pub report_of-requires-clause-lines : goal.report_of-requires-clause-lines
@@ -50,7 +50,7 @@ returns c =
     let lines = c.in_ok-lines.lines in
     let limit = c.args.limit in
     let all : AreLines n chains (universe_of n) tests.verdicts.items lines =
-    subst (λ (vs : List Verdict). AreLines n chains (universe_of n) vs lines) c.as_slice-verdicts.ensures.value c.in_ok-lines.ensures in
+    subst (λ (vs : List TransitionVerdict). AreLines n chains (universe_of n) vs lines) c.as_slice-verdicts.ensures.value c.in_ok-lines.ensures in
     let count : length c.as_slice.result.now ≡ length tests.patterns.items = ap length c.as_slice.ensures.value in
     let r = c.report_of.result in
     let is : IsReportOf n chains (length c.as_slice.result.now) limit lines r = c.report_of.ensures.report in

@@ -9,7 +9,7 @@ use Rattle.scan_insert.specs.Scanned.{Insertion, scanned_of}
 use Rattle.redundancy_cert.specs.declared.nodes.Node.{Node}
 use Rattle.transition.proofs.Gathering.{universe_few}
 use Rattle.transition_report.specs.Lines.{leaves_of}
-use Rattle.transition_report.specs.Texts.{IsNamed, transition_certificate}
+use Rattle.transition_report.specs.Texts.{IsNamedInFrames, transition_certificate}
 use Rattle.transition_run.specs.inner.Written.{IsLaunchText, IsSaid}
 use Rattle.transition_run.proofs.FileLemmas.{trees_named, verdicts_count}
 use Rattle.transition_run.proofs.files.texts_of.Goals as goal
@@ -31,8 +31,8 @@ write_certificate-requires-clause-named c =
     let named = trees_named c.faults_have_lines.ensures c.faults_have_signals.ensures n (subst IsSound c.netlist-netlist.ensures c.sound.ensures) c.requires.design
     c.args.limit tests.patterns.items tests.verdicts.items c.requires.tests in
     let trees = c.as_slice-2.ensures.value ∙ (c.in_ok-leaves.ensures ∙ ap (λ (fs : List Fault). leaves_of fs tests.verdicts.items) c.requires.faults) in
-    subst (λ (m : Netlist). All (IsNamed m) c.as_slice-2.result.now) (sym c.netlist-netlist.ensures)
-    (subst (λ (ls : List (Fault × List Node)). All (IsNamed n) ls) (sym trees) named)
+    subst (λ (m : Netlist). All (IsNamedInFrames m) c.as_slice-2.result.now) (sym c.netlist-netlist.ensures)
+    (subst (λ (ls : List (Fault × List Node)). All (IsNamedInFrames n) ls) (sym trees) named)
 
 pub returns : goal.returns
 returns c =

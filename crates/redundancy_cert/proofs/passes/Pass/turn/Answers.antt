@@ -2,7 +2,7 @@ use Rattle.std.proofs.Common.{ap, sym, ◌∙◌, subst}
 use Rattle.netlist.specs.Conditions.{IsSound}
 use Rattle.netlist.specs.Lines.{IsLineOf}
 use Rattle.netlist.specs.Netlist.{Netlist}
-use Rattle.label_events.specs.Lines.{IsInner, IsRead, AreSameOff}
+use Rattle.label_events.specs.Lines.{IsInner, IsPointLine, AreSameOff}
 use Rattle.redundancy_cert.specs.inner.Tallies.{count_pairs, shows}
 use Rattle.redundancy_cert.specs.inner.Passing.{Labelled}
 use Rattle.redundancy_cert.proofs.KeptLemmas.{kept_stuck, kept_off, inner_signal}
@@ -26,7 +26,7 @@ invariant_of-self c =
 
 pub invariant_of-self-in_default : goal.invariant_of-self-in_default
 invariant_of-self-in_default c =
-    let read : IsRead c.self.inside.events.netlist c.args.line.now c.in_default.field-0 = subst (λ (m : Netlist). IsRead m c.args.line.now c.in_default.field-0) c.core-2.ensures c.in_default.ensures in
+    let read : IsPointLine c.self.inside.events.netlist c.args.line.now c.in_default.field-0 = subst (λ (m : Netlist). IsPointLine m c.args.line.now c.in_default.field-0) c.core-2.ensures c.in_default.ensures in
     kept_off c.self.inside.events c.self.inside.holds.now c.self.inside.labelling.fault c.args.fault c.self.inside.labelling.decided.items c.self.inside.observed.items
     c.self.inside.counts.differing c.self.inside.counts.contradicted c.args.line.now c.self.invariant
     (subst (λ (p : Labelled). AreSameOff c.args.line.now p.fault c.args.fault) (sym c.self.view_is) c.requires.same) read.off
