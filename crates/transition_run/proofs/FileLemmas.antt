@@ -1,5 +1,5 @@
 -- What the parts of a run take of each other.
-use Rattle.std.proofs.Common.{◌≡◌, ℕ, ◌<◌, ◌≤◌, List, length, get_or, sym, ◌∙◌, ap, subst, arith}
+use Rattle.std.proofs.Common.{◌≡◌, ℕ, ◌<◌, ◌≤◌, List, length, get_or, ◌∙◌, ap, arith}
 use Rattle.std.specs.List.{All}
 use Rattle.std.proofs.lemmas.Option.{slice_get-get_or}
 use Rattle.std.proofs.lemmas.Slice.Zip.{AllZip-long}
@@ -14,7 +14,6 @@ use Rattle.scan_insert.specs.Scanned.{AreChainsOf, cell_ids}
 use Rattle.fault_universe.specs.Laws.{FaultsHaveLines, FaultsHaveSignals}
 use Rattle.fault_universe.specs.Universe.{universe_of}
 use Rattle.fault_universe.proofs.Elements.{contains_at}
-use Rattle.redundancy_cert.specs.declared.nodes.Node.{Node}
 use Rattle.good_files.specs.ScanOff.{design_chains}
 use Rattle.transition_tests.specs.declared.verdicts.TransitionVerdict.{TransitionVerdict}
 use Rattle.transition_tests.specs.Verdicts.{AreTests, IsVerdict}

@@ -7,7 +7,6 @@ use Rattle.transition_tests.specs.declared.verdicts.TransitionVerdict.{Transitio
 use Rattle.transition_report.specs.Lines.{AreLines, IsInside}
 use Rattle.transition_report.specs.Numbers.{IsReportOf}
 use Rattle.transition_report.proofs.LeafLemmas.{all_inside}
-use Rattle.transition_run.specs.inner.Written.{IsSaid}
 use Rattle.transition_run.proofs.FileLemmas.{verdicts_count}
 use Rattle.transition_run.proofs.SaidLemmas.{lines_count}
 use Rattle.transition_run.proofs.files.said_of.Goals as goal

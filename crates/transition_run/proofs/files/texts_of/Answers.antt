@@ -1,4 +1,4 @@
-use Rattle.std.proofs.Common.{◌≡◌, ℕ, List, length, subst, sym, ◌∙◌, ap, arith}
+use Rattle.std.proofs.Common.{List, length, subst, sym, ◌∙◌, ap, arith}
 use Rattle.std.specs.List.{All}
 use Rattle.netlist.specs.declared.lines.Fault.{Fault}
 use Rattle.netlist.specs.Netlist.{Netlist}
@@ -6,7 +6,6 @@ use Rattle.netlist.specs.Conditions.{IsSound}
 use Rattle.cubes.specs.Cubes.{Pattern}
 use Rattle.bench_text.specs.Canonical.{canonical}
 use Rattle.scan_insert.specs.Scanned.{Insertion, scanned_of}
-use Rattle.fault_universe.specs.Universe.{universe_of}
 use Rattle.redundancy_cert.specs.declared.nodes.Node.{Node}
 use Rattle.transition.proofs.Gathering.{universe_few}
 use Rattle.transition_report.specs.Lines.{leaves_of}

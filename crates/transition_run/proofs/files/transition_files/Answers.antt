@@ -1,7 +1,7 @@
-use Rattle.std.proofs.Common.{◌≡◌, ℕ, ◌<◌, List, length, refl, subst, sym, ◌∙◌, ap, arith}
+use Rattle.std.proofs.Common.{◌≡◌, ℕ, List, length, refl, subst, ◌∙◌, ap, arith}
 use Rattle.std.proofs.lemmas.List.{length-map}
 use Rattle.netlist.specs.Conditions.{IsSound}
-use Rattle.netlist.specs.Netlist.{Definition, Netlist, cells}
+use Rattle.netlist.specs.Netlist.{Definition, cells}
 use Rattle.netlist.proofs.Settling.{cells_distinct}
 use Rattle.scan_play.proofs.ApplyLemmas.{few_cells}
 use Rattle.scan_insert.specs.Scanned.{cell_ids}
@@ -21,7 +21,7 @@ stitch-requires-clause-distinct g c =
     cells_distinct c.netlist-netlist.result.now c.sound.ensures.formed.numbered c.cells.result.now c.cells.ensures
 
 pub slow_tests-requires-clause-faults : goal.slow_tests-requires-clause-faults
-slow_tests-requires-clause-faults g c = c.in_ok-faults.ensures ∙ ap universe_of c.netlist-netlist.ensures
+slow_tests-requires-clause-faults g c κs within = c.in_ok-faults.ensures ∙ ap universe_of c.netlist-netlist.ensures
 
 pub texts_of-requires-clause-chains : goal.texts_of-requires-clause-chains
 texts_of-requires-clause-chains g c =
