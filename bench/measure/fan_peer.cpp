@@ -1,5 +1,5 @@
 // A plain FAN of the same policy as crates/fan, to compare with: decisions on head lines, fanout stems, and bound inputs and cells; what is
-// forced first; four attempts, each a whole search. (Fujiwara and Shimono, On the acceleration of test generation algorithms, 1983.)
+// forced first; eight attempts, each a whole search. (Fujiwara and Shimono, On the acceleration of test generation algorithms, 1983.)
 //
 //     clang++ -O2 -std=c++20 -o fan_peer bench/measure/fan_peer.cpp && ./fan_peer FILE.bench LIMIT
 #include "search_peer.hpp"
@@ -47,7 +47,7 @@ struct Roles {
 
 // ---- the search
 
-struct Manner { bool together, stems; };
+struct Manner { bool together, stems; int round = -1; };  // the round of pins by a hash, or none
 struct Aim { u32 signal = NONE; bool bit = false; };
 struct Votes { u32 zero = 0, one = 0; };
 
@@ -87,15 +87,18 @@ struct Fan {
         return p;
     }
     template <class Cost> u32 pin_by(u32 x, Cost cost) const {
-        u32 best = NONE, least = 0;
+        u32 best = NONE;
+        u64 least = 0;
         for (u32 k = 0; k < n.pin_count(x); k++) {
-            u32 p = n.pin(x, k), own = cost(p);
+            u32 p = n.pin(x, k);
+            u64 own = cost(p);
             if (good(p) == X && (best == NONE || own < least)) best = p, least = own;
         }
         return best;
     }
-    u32 easiest(u32 x, bool bit) const { return pin_by(x, [&](u32 p) { return m.of(p, bit); }); }
-    u32 hardest(u32 x, bool bit) const { return pin_by(x, [&](u32 p) { return ~0u - m.of(p, bit); }); }
+    u64 hash(u32 p) const { return mixed(salt_of(sim.fault) ^ (u64)manner.round << 32 ^ p); }
+    u32 easiest(u32 x, bool bit) const { return pin_by(x, [&](u32 p) { return manner.round < 0 ? m.of(p, bit) : hash(p); }); }
+    u32 hardest(u32 x, bool bit) const { return pin_by(x, [&](u32 p) { return manner.round < 0 ? ~0u - m.of(p, bit) : hash(p); }); }
 
     // the D-frontier
     template <class See> void frontier(See see) const {
@@ -322,7 +325,8 @@ int main(int argc, char** argv) {
     Measures m(n);
     Sim sim(n);
     Roles roles(n);
-    constexpr struct { Manner manner; u64 most; } attempts[] = {{{false, false}, 16}, {{true, true}, 64}, {{false, true}, 64}, {{true, false}, 0}};
+    constexpr struct { Manner manner; u64 most; } attempts[] = {{{false, false}, 16}, {{true, true}, 64}, {{false, true}, 64},
+        {{false, false, 0}, 16}, {{false, false, 1}, 16}, {{false, false, 2}, 16}, {{false, false, 3}, 16}, {{true, false}, 0}};
     Fan search(n, m, roles, sim, counts);
     for (auto& f : faults) {
         roles.aim(f);

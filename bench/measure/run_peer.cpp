@@ -12,6 +12,7 @@
 #include <cstring>
 #include <ctime>
 #include <fstream>
+#include <memory>
 #include <numeric>
 #include <sstream>
 #include <string>
@@ -58,7 +59,7 @@ struct Generator {
 
     Generator(const char* path, bool regions)
         : searched(searching::read(path)), simulated(simulating::read_netlist(path)), measures(searched), sim(searched), events(simulated),
-          points(simulated), together(simulated), by_regions(regions), searched_faults(searching::representatives(searched)), simulated_faults(simulating::representatives(simulated)),
+          points(simulated), together(simulated, simulating::Way::One), by_regions(regions), searched_faults(searching::representatives(searched)), simulated_faults(simulating::representatives(simulated)),
           verdicts(searched_faults.size(), Verdict::Open) {
         if (searched_faults.size() != simulated_faults.size()) std::abort();
         for (Id x = 0; x < simulated.inputs; x++) sources.push_back(x);
@@ -66,9 +67,8 @@ struct Generator {
     }
 
     void search(size_t place, searching::u64 limit) {
-        sim.aim(searched_faults[place]);
         searching::Search search{searched, measures, sim, counts, {}};
-        int end = search.run(limit);
+        int end = search.attempts(searched_faults[place], limit);
         if (end != 0) {
             verdicts[place] = end == 1 ? Verdict::Redundant : Verdict::Aborted;
             return;

@@ -219,6 +219,19 @@ struct Measures {
     u32 of(u32 x, bool bit) const { return bit ? one[x] : zero[x]; }
 };
 
+// ---- numbers that look drawn
+
+// the finisher of SplitMix64
+static inline u64 mixed(u64 z) {
+    z = (z ^ (z >> 30)) * 0xbf58476d1ce4e5b9ull;
+    z = (z ^ (z >> 27)) * 0x94d049bb133111ebull;
+    return z ^ (z >> 31);
+}
+static inline u64 salt_of(const Fault& f) {
+    u64 place = f.sort == 0 ? 0 : f.sort == 2 ? 1 : (u64)f.pin + 2;
+    return mixed((u64)f.signal << 32 ^ place << 1 ^ (u64)f.value);
+}
+
 // ---- labels of a path
 
 struct Label {

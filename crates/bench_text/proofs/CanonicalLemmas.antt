@@ -51,10 +51,6 @@ tokens-none = refl
 pub tokens-last : tokens (codes ")") ≡ Close ∷ []
 tokens-last = tokens-close [] ∙ ap (λ ts. Close ∷ ts) tokens-none
 
--- the rest of the pins, behind the first
-rest_of : List (List ℕ) → List ℕ
-rest_of xs = further xs ++ codes ")"
-
 pub no_word : (xs : List (List ℕ)) → begins_in_word (further xs ++ codes ")") ≡ false
 no_word [] = refl
 no_word (x ∷ xs) = refl

@@ -41,10 +41,6 @@ pub list_any-names : (p : List ℕ → Bool) (xs : List (Bor (List ℕ))) → li
 list_any-names p [] = refl
 list_any-names p (x ∷ xs) = ap (λ b. p x.now || b) (list_any-names p xs)
 
-pub list_all-names : (p : List ℕ → Bool) (xs : List (Bor (List ℕ))) → list_all (λ x. p x.now) xs ≡ list_all p (names xs)
-list_all-names p [] = refl
-list_all-names p (x ∷ xs) = ap (λ b. p x.now && b) (list_all-names p xs)
-
 module _ {A : Type 0} where
   pub list_any-append : (p : A → Bool) (xs ys : List A) → list_any p (xs ++ ys) ≡ (list_any p xs || list_any p ys)
   list_any-append p [] ys = refl

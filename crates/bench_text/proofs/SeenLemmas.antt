@@ -121,9 +121,6 @@ entries-kept old new kept (e ∷ es) h =
     let p = both_true (are_below (length old) e.statement) (list_all (λ (x : Entry). are_below (length old) x.statement) es) h in
     (λ i. record { line = e.line; statement = statement-kept old new kept e.statement p.0 i } ∷ entries-kept old new kept es p.1 i)
 
-pub keeps-all : (d : Draft) → Keeps d d
-keeps-all d = record { said = refl; lines = refl; names = λ n x e. e }
-
 pub keeps-more : (a b c : Draft) → Keeps a b → Keeps b c → Keeps a c
 keeps-more a b c h k = record { said = k.said ∙ h.said; lines = k.lines ∙ h.lines; names = λ n x e. k.names n x (h.names n x e) }
 

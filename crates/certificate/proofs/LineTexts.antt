@@ -39,12 +39,6 @@ node_more n text read new rest after node pushed is at =
     is ∙ (ap (λ zs. flat_map (node_text n) read ++ zs) at.parts ∙ (sym (append_assoc (flat_map (node_text n) read) (node_text n node) after)
     ∙ ap (λ zs. zs ++ after) (flat_map_more (node_text n) [] read node ∙ ap (flat_map (node_text n)) (sym pushed))))
 
-pub shorter_node : (n : Netlist) (rest after : List ℕ) (node : Node) → IsNodeAt n rest node after → length after < length rest
-shorter_node n rest after node at =
-    let size : length rest ≡ length (node_text n node) + length after = ap length at.parts ∙ length-append (node_text n node) after in
-    let some : 0 < length (node_text n node) = node_size n node in
-    omega (arith, size, some)
-
 module _ (n : Netlist) (sound : IsSound n) where
   -- ---- nodes
 

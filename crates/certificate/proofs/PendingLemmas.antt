@@ -75,10 +75,6 @@ one_of nodes (t ∷ u ∷ trees) size made = absurd (omega arith)
 pub counts_one_tree : (nodes : List Node) → are_trees 1 nodes ≡ true → IsOneTree nodes
 counts_one_tree nodes e = let f = forest_from 1 nodes e in one_of nodes f.trees f.count f.made
 
-pub none_pending : (nodes : List Node) → are_trees 0 nodes ≡ true → nodes ≡ []
-none_pending [] e = refl
-none_pending (node ∷ nodes) e = cc
-
 -- ---- node by node
 
 drop_node : (nodes : List Node) (i : ℕ) (node : Node) → i < length nodes → node ≡ get_or nodes i node → drop i nodes ≡ node ∷ drop (i + 1) nodes

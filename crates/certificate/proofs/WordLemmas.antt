@@ -54,27 +54,6 @@ pub nothing_behind : (rest : List ℕ) → IsEnd rest → ((r : List ℕ) → re
 nothing_behind [] h none = refl
 nothing_behind (b ∷ bs) h none = absurd (none bs (ap (λ c. c ∷ bs) h))
 
--- the first word, by where the text is split
-pub word_here : (text word rest front back : List ℕ) → All (λ b. b ≢ 32) word → text ≡ word ++ 32 ∷ rest → front ≡ take (length word) text → back ≡ drop (length word) text → IsWord text front back
-word_here text word rest front back h is f b =
-    let front_is : front ≡ word = f ∙ (ap (take (length word)) is ∙ take-append_seam word (32 ∷ rest)) in
-    let back_is : back ≡ 32 ∷ rest = b ∙ (ap (drop (length word)) is ∙ drop-append_seam word (32 ∷ rest)) in
-    record {
-      parts = is ∙ (ap (λ zs. zs ++ 32 ∷ rest) (sym front_is) ∙ ap (λ zs. front ++ zs) (sym back_is));
-      visible = subst (All (λ b. b ≢ 32)) (sym front_is) h;
-      end = subst IsEnd (sym back_is) refl;
-    }
-
-pub word_alone : (text front back : List ℕ) → All (λ b. b ≢ 32) text → front ≡ take (length text) text → back ≡ drop (length text) text → IsWord text front back
-word_alone text front back h f b =
-    let front_is : front ≡ text = f ∙ take-length text in
-    let back_is : back ≡ [] = b ∙ drop_all (length text) text (omega arith) in
-    record {
-      parts = sym (append-nil text) ∙ (ap (λ zs. zs ++ []) (sym front_is) ∙ ap (λ zs. front ++ zs) (sym back_is));
-      visible = subst (All (λ b. b ≢ 32)) (sym front_is) h;
-      end = subst IsEnd (sym back_is) tt;
-    }
-
 -- a line in three words, and with less
 few_blanks : (line text rest : List ℕ) → blanks line < fault_blanks line → IsCut line text rest → ⊥
 few_blanks line text rest few c =

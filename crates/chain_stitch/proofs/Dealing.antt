@@ -132,21 +132,6 @@ chain_within f count c h l =
       | inr n ↦ let e : cond (ltb c b) (q + 1) q ≡ q = ap (λ t. cond t (q + 1) q) (le-ltb c b n) in omega arith
     ]
 
-pub placed_long : (f count at : ℕ) → 0 < count → count ≤ f → at < (f % count) * (f / count + 1)
-    → IsPlaced f count at (at / (f / count + 1)) (at % (f / count + 1))
-placed_long f count at h l w =
-    let q = f / count in
-    let b = f % count in
-    let below : b < count = mod_below f count h in
-    let c = at / (q + 1) in
-    let j = at % (q + 1) in
-    let in_long : c < b = div_below at (q + 1) b (omega arith) w in
-    let in_row : j < q + 1 = mod_below at (q + 1) (omega arith) in
-    let e : cond (ltb c b) (q + 1) q ≡ q + 1 = ap (λ t. cond t (q + 1) q) (lt-ltb c b in_long) in
-    let whole : c * (q + 1) + j ≡ at = div-add-mod' at (q + 1) in
-    let one : c * (q + 1) ≡ c * q + c = mul-one-more c q in
-    record { in_chains = omega arith; in_chain = omega arith; is_at = omega arith }
-
 pub placed_short : (f count at : ℕ) → 0 < count → count ≤ f → at < f → (f % count) * (f / count + 1) ≤ at
     → IsPlaced f count at (f % count + (at - (f % count) * (f / count + 1)) / (f / count)) ((at - (f % count) * (f / count + 1)) % (f / count))
 placed_short f count at h l w out =

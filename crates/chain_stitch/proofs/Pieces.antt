@@ -38,11 +38,3 @@ longest_of-pieces (n ∷ ns) xs e =
     let first : length (take n xs) ≡ n = omega (arith, length-take n xs) in
     let rest = longest_of-pieces ns (drop n xs) (omega (arith, length-drop n xs)) in
     cc
-
-pub Contains-cells_of : (chains : List (List ℕ)) (c : ℕ) (cells : List ℕ) (cell : ℕ) → slice_get chains c ≡ Some cells → Contains cells cell → Contains (cells_of chains) cell
-Contains-cells_of [] c cells cell e h = cc
-Contains-cells_of (chain ∷ chains) zero cells cell e h =
-    let same : chain ≡ cells = cc in
-    Contains-append_left chain (cells_of chains) cell (subst (λ (xs : List ℕ). Contains xs cell) (sym same) h)
-Contains-cells_of (chain ∷ chains) (suc c) cells cell e h =
-    Contains-append_right chain (cells_of chains) cell (Contains-cells_of chains c cells cell e h)

@@ -82,13 +82,13 @@ asks_nothing n holds chains tests t o (in_third j l e) none =
 
 -- ---- words
 
-known_same : (a b : Bool) → known a ≡ known b → a ≡ b
+pub known_same : (a b : Bool) → known a ≡ known b → a ≡ b
 known_same true true e = refl
 known_same false false e = refl
 known_same true false e = cc
 known_same false true e = cc
 
-not_x : (b : Bool) → X ≡ known b → ⊥
+pub not_x : (b : Bool) → X ≡ known b → ⊥
 not_x true e = cc
 not_x false e = cc
 

@@ -1,14 +1,13 @@
 -- A chain without a stuck line hands on, shift by shift, what is fed to it.
-use Rattle.std.proofs.Common.{◌≡◌, ℕ, suc, zero, ◌+◌, ◌-◌, ◌<◌, ◌≤◌, Bool, true, false, cond, List, [], ◌∷◌, ◌++◌, map, length, get_or, take, Some, slice_get, refl, sym, ◌∙◌, ap, subst, arith, length-append}
+use Rattle.std.proofs.Common.{◌≡◌, ℕ, suc, zero, ◌+◌, ◌-◌, ◌<◌, ◌≤◌, Bool, true, false, List, [], ◌∷◌, ◌++◌, map, length, get_or, take, Some, slice_get, refl, sym, ◌∙◌, ap, subst, arith}
 use Rattle.std.specs.List.{All}
 use Rattle.std.proofs.lemmas.List.{length-map, get_or-append_right, get_or-map}
 use Rattle.std.proofs.lemmas.List.Elements.{All-head, All-tail}
-use Rattle.std.proofs.lemmas.Option.{slice_get-get_or}
 use Rattle.netlist.specs.declared.lines.Fault.{Fault}
 use Rattle.netlist.specs.Netlist.{Netlist}
 use Rattle.netlist.specs.Holds.{Holds, AreHoldsOf}
 use Rattle.netlist.specs.Conditions.{IsSound}
-use Rattle.netlist.specs.Settled.{Table, Settles, next, with_fault}
+use Rattle.netlist.specs.Settled.{Table, next}
 use Rattle.chain_stitch.specs.Chains.{cells_of}
 use Rattle.scan_insert.specs.Laws.{Multiplexes}
 use Rattle.scan_insert.specs.Scan.{Naming}
@@ -19,10 +18,10 @@ use Rattle.scan_play.specs.Passing.{shown_at}
 use Rattle.scan_play.specs.Shifts.{held_or_zero, idle_inputs}
 use Rattle.scan_play.proofs.Places.{below_of}
 use Rattle.chain_test.proofs.ApartChains.{IsClear}
-use Rattle.chain_test.proofs.Filling.{length-stuck_lasts, length-stuck_shift, lasts_at, piece, shift_at}
+use Rattle.chain_test.proofs.Filling.{length-stuck_shift, lasts_at, piece, shift_at}
 use Rattle.chain_test.proofs.StuckChains.{stuck_lasts, stuck_shift}
 use Rattle.chain_test.proofs.StuckPath.{IsOffOthers}
-use Rattle.chain_test.proofs.StuckTicks.{IsShift, one_shift}
+use Rattle.chain_test.proofs.StuckTicks.{IsShift, shift_tick, shown_last}
 
 -- ---- what a chain's cells hold
 
@@ -121,31 +120,16 @@ module _ {V : Type 0} (table : Table V) (multiplexes : Multiplexes table) (blank
       let s = naming_of n (chain ∷ rest) in
       let chains : List (List ℕ) = chain ∷ rest in
       let w = All-head (IsShift holds chains) x front shifts in
-      let tick = run.1 in
-      let q = subst (λ (d : List Bool). Settles (with_fault table (Some g)) (scanned_of n chains) (map table.known d) state tick.values) w.drive tick.settles in
-      let h = one_shift table multiplexes blank n sound chain rest are holds fit g off w.ins state tick.values q in
-      let lasts = stuck_lasts table.known blank g s (first_scan_out n (length chains)) chains state in
-      let is : row ≡ h.front ++ lasts = tick.shows ∙ h.shows in
-      let below : length n.outputs + c < length row =
-      omega (arith, ap length is, length-append h.front lasts, h.wide, length-stuck_lasts table.known blank g s chains (first_scan_out n (length chains)) state, below_of chains c own e) in
-      let wide = h.wide in
-      slice_get-get_or row (length n.outputs + c) blank below
-      ∙ ap (λ v. Some v)
-      (ap (λ (r : List V). get_or r (length n.outputs + c) blank) is
-      ∙ (get_or-append_right h.front lasts (length n.outputs) (length n.outputs + c) blank wide (omega arith)
-      ∙ (ap (λ k. get_or lasts k blank) (omega arith)
-      ∙ fed_through table.known blank g s chains (length n.inputs + 1) (first_scan_out n (length chains)) c own e clear past state some (omega arith) fed)))
+      shown_last table multiplexes blank n sound chain rest are holds fit g off c own e w.ins state row run.0 (shift_tick table multiplexes blank n sound chain rest are holds fit g off x w state row run.0 run.1)
+      ∙ ap (λ v. Some v) (fed_through table.known blank g s chains (length n.inputs + 1) (first_scan_out n (length chains)) c own e clear past state some (omega arith) fed)
   follows (x ∷ front) cycles shifts past state size fed (row ∷ rows) run (suc t) l long =
       let s = naming_of n (chain ∷ rest) in
       let chains : List (List ℕ) = chain ∷ rest in
       let w = All-head (IsShift holds chains) x front shifts in
-      let tick = run.1 in
-      let q = subst (λ (d : List Bool). Settles (with_fault table (Some g)) (scanned_of n chains) (map table.known d) state tick.values) w.drive tick.settles in
-      let h = one_shift table multiplexes blank n sound chain rest are holds fit g off w.ins state tick.values q in
       let ins : List V = map table.known w.ins in
       let many : length ins ≡ length chains = length-map w.ins table.known ∙ w.many in
       let moved = stuck_shift table.known g s (length n.inputs + 1) chains ins state in
-      let after : run.0 ≡ moved = tick.keeps ∙ (ap (λ p. cond p (next (with_fault table (Some g)) (scanned_of n chains) tick.values) state) w.pulse ∙ h.takes) in
+      let after : run.0 ≡ moved = (shift_tick table multiplexes blank n sound chain rest are holds fit g off x w state row run.0 run.1).after_is in
       let more = one_more_fed table.known blank g s chains (length n.inputs + 1) (first_scan_out n (length chains)) c own e clear past ins state many size fed in
       follows front cycles (All-tail (IsShift holds chains) x front shifts) (driven table.known (length n.inputs + 1 + c) x ∷ past) moved
       (length-stuck_shift table.known blank g s chains (length n.inputs + 1) ins state many size)

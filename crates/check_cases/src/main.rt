@@ -4,17 +4,14 @@
 //! Tested: the check of five files, as data: each clause false in each way, each text outside its grammar, files that can't be had.
 #![tactic(auto)]
 
-mod changing;
 mod script;
 
-use script::Script;
+use case_text::play;
+use script::Checks;
 use std::io::{self, Write};
 
 fn main(rt: HostRuntime) -> io::Result<()> {
     let given = io::read_to_string(rt.alloc(), rt.reader())?;
-    let mut script = Script::new(rt.alloc());
-    for line in given.lines() {
-        script.take(rt.alloc(), line)?;
-    }
-    io::writer(&rt).write_all(script.report())
+    let report = play(rt.alloc(), &given, &mut Checks::new(rt.alloc()))?;
+    io::writer(&rt).write_all(&report)
 }

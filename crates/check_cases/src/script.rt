@@ -1,26 +1,17 @@
 //! The lines of the input, taken one by one.
-use crate::changing::changed;
-use case_text::{Named, push_line, push_repeated, show, text_of};
+use case_text::{Named, Script, changed, cut, push_numbers, push_unknown, repeated, show, text_of};
 use check_command::check_top;
-use itoa::Buffer;
 use outside::{MemoryShelf, MemorySink};
 use std::alloc::{AllocError, Global};
 
-/// The texts, the five files that are checked, each under its ending, and what is printed.
+/// The five files that are checked, each under its ending.
 #[derive(Drop)]
-pub struct Script {
-    texts: Vec<Named>,
+pub struct Checks {
     files: Vec<Named>,
-    report: Vec<u8>,
 }
 
 /// How the names of the five files end.
 const ENDINGS: [&str; 5] = ["net", "scan", "stil", "cert", "rep"];
-
-/// A line before its first blank and behind it.
-fn cut(line: &str) -> (&str, &str) {
-    line.split_once(' ').unwrap_or((line, ""))
-}
 
 /// Puts a text under a name, in the place of one that has it.
 fn put(files: &mut Vec<Named>, alloc: Global, name: &str, text: Vec<u8>) -> Result<(), AllocError> {
@@ -40,7 +31,6 @@ fn whole_names(alloc: Global, files: &[Named]) -> Result<Vec<String>, AllocError
     Ok(names)
 }
 
-/// What a check leaves.
 #[derive(Drop)]
 struct Ran {
     status: u8,
@@ -48,7 +38,6 @@ struct Ran {
     err: MemorySink,
 }
 
-/// What the check of the files comes to.
 fn answer_of(alloc: Global, files: &[Named]) -> Result<Ran, AllocError> {
     let mut words = Vec::new(alloc);
     words.push(String::from_str(alloc, "atpg-check")?)?;
@@ -65,46 +54,18 @@ fn answer_of(alloc: Global, files: &[Named]) -> Result<Ran, AllocError> {
     Ok(Ran { status, out, err })
 }
 
-impl Script {
-    pub fn new(alloc: Global) -> Script {
-        Script {
-            texts: Vec::new(alloc),
+impl Checks {
+    pub fn new(alloc: Global) -> Checks {
+        Checks {
             files: Vec::new(alloc),
-            report: Vec::new(alloc),
-        }
-    }
-
-    pub fn report(&self) -> &[u8] {
-        self.report.as_slice()
-    }
-
-    fn add_text(&mut self, alloc: Global, name: &str) -> Result<(), AllocError> {
-        let name = String::from_str(alloc, name)?;
-        self.texts.push(Named {
-            name,
-            text: Vec::new(alloc),
-        })?;
-        Ok(())
-    }
-
-    /// Adds a line to the text that was begun last, or bytes so many times.
-    fn add_line(&mut self, verb: &str, line: &str) -> Result<(), AllocError> {
-        let Some(last) = self.texts.last_mut() else {
-            return Ok(());
-        };
-        if verb == "repeat" {
-            let (count, bytes) = cut(line);
-            push_repeated(&mut last.text, count.parse().unwrap_or(0), bytes)
-        } else {
-            push_line(&mut last.text, line)
         }
     }
 
     /// Takes five texts as the files: those of this name and the endings.
-    fn begin(&mut self, alloc: Global, name: &str) -> Result<(), AllocError> {
+    fn begin(&mut self, alloc: Global, texts: &[Named], name: &str) -> Result<(), AllocError> {
         for ending in ENDINGS {
             let text = format!(in alloc; "{name}.{ending}")?;
-            let text = Vec::from_slice(alloc, text_of(&self.texts, text.as_str()))?;
+            let text = Vec::from_slice(alloc, text_of(texts, text.as_str()))?;
             put(&mut self.files, alloc, ending, text)?;
         }
         Ok(())
@@ -117,44 +78,27 @@ impl Script {
         put(&mut self.files, alloc, name, text)
     }
 
-    /// Checks the files, and adds the line and what came.
-    fn check(&mut self, alloc: Global, line: &str) -> Result<(), AllocError> {
+    fn check(&self, alloc: Global, line: &str) -> Result<Vec<u8>, AllocError> {
         let came = answer_of(alloc, &self.files)?;
-        self.report.extend_from_slice(line.as_bytes())?;
-        self.report.extend_from_slice(b"\nstatus ")?;
-        let mut digits = Buffer::new();
-        self.report
-            .extend_from_slice(digits.format(came.status).as_bytes())?;
-        self.report.push(b'\n')?;
-        show(&mut self.report, came.out.bytes())?;
-        show(&mut self.report, came.err.bytes())
+        let mut said = repeated(alloc, line)?;
+        push_numbers(&mut said, b"status", &[u32::from(came.status)])?;
+        show(&mut said, came.out.bytes())?;
+        show(&mut said, came.err.bytes())?;
+        Ok(said)
     }
+}
 
-    /// Takes a line.
-    pub fn take(&mut self, alloc: Global, line: &str) -> Result<(), AllocError> {
-        if line.is_empty() || line.starts_with('#') {
-            return Ok(());
-        }
-        if let Some(rest) = line.strip_prefix('|') {
-            return self.add_line("", rest);
-        }
+impl Script for Checks {
+    fn take(&mut self, alloc: Global, texts: &[Named], line: &str) -> Result<Vec<u8>, AllocError> {
         let (verb, rest) = cut(line);
+        let mut said = Vec::new(alloc);
         match verb {
-            "text" => self.add_text(alloc, rest),
-            "repeat" => self.add_line(verb, rest),
-            "files" => self.begin(alloc, rest),
-            "missing" => {
-                self.files.retain(|file| file.name.as_str() != rest);
-                Ok(())
-            }
-            "change" => self.change(alloc, rest),
-            "check" => self.check(alloc, line),
-            _ => {
-                self.report.extend_from_slice(b"no such line: ")?;
-                self.report.extend_from_slice(line.as_bytes())?;
-                self.report.push(b'\n')?;
-                Ok(())
-            }
+            "files" => self.begin(alloc, texts, rest)?,
+            "missing" => self.files.retain(|file| file.name.as_str() != rest),
+            "change" => self.change(alloc, rest)?,
+            "check" => return self.check(alloc, line),
+            _ => push_unknown(&mut said, line)?,
         }
+        Ok(said)
     }
 }

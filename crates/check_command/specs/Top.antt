@@ -1,13 +1,11 @@
 -- The statuses of the program that only checks, and what each says.
-use Rattle.std.specs.Prelude.{◌≡◌, ◌++◌, ℕ, Bool, List, [], ◌∷◌, Option, Some, None, codes}
+use Rattle.std.specs.Prelude.{◌≡◌, ℕ, Bool, List, [], ◌∷◌, Option, Some, None, codes}
 use Rattle.plain_text.specs.Texts.{Text}
 use Rattle.commands.specs.World.{IsAsBefore, World}
-use Rattle.commands.specs.Names.{file_name_of}
 use Rattle.commands.specs.Rows.{CommandRow}
-use Rattle.commands.specs.declared.ending.Finding.TheVariants.{Fine, Differs}
-use Rattle.commands.specs.declared.ending.Ending.{Ending}
-use Rattle.commands.specs.declared.ending.Ending.TheVariants.{Ended, Refused, ReadFailed, WriteFailed, Missing, TooLong, Memory}
-use Rattle.status_lines.specs.Lines.{IsSaid, failure_line, netlist_line}
+use Rattle.commands.specs.declared.ending.Ending.TheVariants.{Ended}
+use Rattle.status_lines.specs.Endings.{ending_code, ending_line}
+use Rattle.status_lines.specs.Lines.{IsSaid, netlist_line}
 use Rattle.check_command.specs.Checking.{five_texts_due, run_files}
 use Rattle.check_command.specs.declared.refusal.CheckRefusal.{CheckRefusal}
 use Rattle.check_command.specs.declared.refusal.CheckRefusal.TheVariants.{Netlist, NotStil, NotCertificate, NotReport}
@@ -22,19 +20,9 @@ check_refusal_code NotStil = 4
 check_refusal_code NotCertificate = 4
 check_refusal_code NotReport = 4
 
-abbrev pub check_ending_code : Ending CheckRefusal → ℕ
-check_ending_code (Ended Fine) = 0
-check_ending_code (Ended Differs) = 1
-check_ending_code (Refused refusal) = check_refusal_code refusal
-check_ending_code (ReadFailed name) = 5
-check_ending_code (WriteFailed failure) = 6
-check_ending_code (Missing name) = 7
-check_ending_code (TooLong name) = 8
-check_ending_code Memory = 9
-
 abbrev pub check_status_code : CheckStatus → ℕ
 check_status_code BadWords = 2
-check_status_code (Command ending) = check_ending_code ending
+check_status_code (Command ending) = ending_code check_refusal_code ending
 
 -- ---- lines
 
@@ -44,19 +32,9 @@ check_refusal_line NotStil = codes "not a stil file\n"
 check_refusal_line NotCertificate = codes "not a certificate\n"
 check_refusal_line NotReport = codes "not a report\n"
 
--- the line of an ending; one that did its work has none
-abbrev pub check_ending_line : Ending CheckRefusal → Text
-check_ending_line (Ended finding) = []
-check_ending_line (Refused refusal) = check_refusal_line refusal
-check_ending_line (ReadFailed name) = codes "read failed: " ++ (file_name_of name ++ codes "\n")
-check_ending_line (WriteFailed failure) = failure_line failure
-check_ending_line (Missing name) = codes "no such file: " ++ (file_name_of name ++ codes "\n")
-check_ending_line (TooLong name) = codes "too long: " ++ (file_name_of name ++ codes "\n")
-check_ending_line Memory = codes "out of memory\n"
-
 abbrev pub check_status_line : CheckStatus → Text
 check_status_line BadWords = codes "usage: atpg-check PREFIX\n"
-check_status_line (Command ending) = check_ending_line ending
+check_status_line (Command ending) = ending_line check_refusal_line ending
 
 -- ---- rows
 

@@ -1,12 +1,12 @@
 //! How the program that only checks ends: the statuses, their numbers and their lines.
 ghost use Rattle.std.specs.Prelude.{◌≡◌};
 ghost use Rattle.status_lines.specs.Lines.{IsSaid};
-ghost use Rattle.check_command.specs.Top.{CheckErrRow, check_status_code, check_ending_code, check_refusal_code, check_refusal_line};
+ghost use Rattle.check_command.specs.Top.{CheckErrRow, check_status_code, check_refusal_code, check_refusal_line};
 
 use crate::refusal::CheckRefusal;
-use commands::{Ending, Finding};
+use commands::Ending;
 use outside::Sink;
-use status_lines::{say_failed_write, say_name, say_netlist, say_text};
+use status_lines::{StatusCode, ending_code, say_failed_write, say_name, say_netlist, say_text};
 
 /// How a call ends.
 #[derive(Clone, Copy, Debug)]
@@ -17,29 +17,16 @@ pub enum CheckStatus<'a> {
     Command(Ending<'a, CheckRefusal>),
 }
 
-fn refusal_code(refusal: &CheckRefusal) -> u8
-    ensures { result ≡ check_refusal_code refusal.now }
-{
-    match refusal {
-        CheckRefusal::Netlist(_) => 3,
-        CheckRefusal::NotStil => 4,
-        CheckRefusal::NotCertificate => 4,
-        CheckRefusal::NotReport => 4,
-    }
-}
+impl StatusCode for CheckRefusal {
+    ghost status = { check_refusal_code };
 
-fn ending_code(ending: &Ending<'_, CheckRefusal>) -> u8
-    ensures { result ≡ check_ending_code ending.now }
-{
-    match ending {
-        Ending::Ended(Finding::Fine) => 0,
-        Ending::Ended(Finding::Differs) => 1,
-        Ending::Refused(refusal) => refusal_code(refusal),
-        Ending::ReadFailed(_) => 5,
-        Ending::WriteFailed(_) => 6,
-        Ending::Missing(_) => 7,
-        Ending::TooLong(_) => 8,
-        Ending::Memory => 9,
+    fn status(&self) -> u8 {
+        match self {
+            CheckRefusal::Netlist(_) => 3,
+            CheckRefusal::NotStil => 4,
+            CheckRefusal::NotCertificate => 4,
+            CheckRefusal::NotReport => 4,
+        }
     }
 }
 

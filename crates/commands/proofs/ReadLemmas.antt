@@ -90,10 +90,6 @@ told_more (Some c) names texts name bytes before held few =
 All-one : {X : Type 0} (P : X → Type 0) (x : X) → P x → All P (x ∷ [])
 All-one P x p = All-cons P x [] p (All-nil P)
 
-pub none_read : (files : Option Files) → FilesHold files [] []
-none_read None = record { count = refl; within = All-nil _; told = tt }
-none_read (Some c) = record { count = refl; within = All-nil _; told = refl }
-
 abbrev IsShort : Text → Type 0
 IsShort text = length text ≤ most_bytes
 

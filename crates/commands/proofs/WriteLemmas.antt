@@ -117,6 +117,3 @@ pub all_written : (names texts : List Text) (i : ℕ) (a b : Option Files) → l
 all_written names texts i a b h before =
     let short : length (zip names texts) ≤ i = (let k = length-zip_le names texts in omega arith) in
     subst (λ ps. LeavesFiles ps a b) (take_all i (zip names texts) short) before
-
-none_leaves : (a : Option Files) → LeavesFiles [] a a
-none_leaves a = refl

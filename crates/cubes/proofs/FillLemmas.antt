@@ -1,8 +1,8 @@
 -- A fill agrees with its cube, and keeps its widths and held bits.
-use Rattle.std.proofs.Common.{◌≡◌, ℕ, zero, suc, ◌+◌, ◌<◌, ◌≤◌, Bool, true, false, List, [], ◌∷◌, ◌++◌, length, take, get_or, refl, sym, ◌∙◌, ap, subst, Some}
-use Rattle.std.specs.List.{AllZip, slice_get}
-use Rattle.std.proofs.lemmas.List.{take_more}
-use Rattle.std.proofs.lemmas.Slice.Zip.{AllZip-long, all_zipped_more}
+use Rattle.std.proofs.Common.{◌≡◌, ℕ, zero, suc, Bool, true, false, List, [], ◌∷◌, length, refl, sym, ◌∙◌, ap, subst, Some}
+use Rattle.std.specs.List.{All, AllZip, slice_get}
+use Rattle.std.proofs.lemmas.List.Elements.{All-nil, All-cons, All-head, All-tail}
+use Rattle.std.proofs.lemmas.Slice.Zip.{AllZip-long}
 use Rattle.rand_core.specs.Stream.{Stream, next_u32}
 use Rattle.netlist.specs.declared.kinds.Tri.{Tri}
 use Rattle.netlist.specs.declared.kinds.Tri.TheVariants.{Zero, One, X}
@@ -10,7 +10,7 @@ use Rattle.netlist.specs.ThreeValues.{known, allows, AreAllowed}
 use Rattle.netlist.specs.Netlist.{Netlist}
 use Rattle.netlist.specs.Holds.{Holds}
 use Rattle.cubes.specs.Cubes.{Cube, Pattern, AgreesWith, IsCubeOf, IsPatternOf}
-use Rattle.cubes.specs.Filling.{filled}
+use Rattle.cubes.specs.Filling.{filled, words_after, filled_cube, words_after_cube, filled_all}
 
 pub filled_allowed : (vs : List Tri) (words : Stream) → AreAllowed vs (filled vs words)
 filled_allowed [] words = tt
@@ -47,10 +47,19 @@ fill_fits n holds c p agrees fits = record {
   obeys = λ k b at. bit_allowed c.inputs p.inputs agrees.inputs k b (fits.held k b at);
 }
 
--- one cube more is filled
-pub agree_more : (cubes : List Cube) (old new : List Pattern) (k : ℕ) (c : Cube) (p : Pattern) → k < length cubes → c ≡ get_or cubes k c → AgreesWith p c
-    → AllZip AgreesWith old (take k cubes) → new ≡ old ++ p ∷ [] → AllZip AgreesWith new (take (k + 1) cubes)
-agree_more cubes old new k c p lt is agrees before added =
-    let taken : take k cubes ++ c ∷ [] ≡ take (k + 1) cubes = sym (take_more cubes k c lt ∙ ap (λ (x : Cube). take k cubes ++ x ∷ []) (sym is)) in
-    subst (λ (ps : List Pattern). AllZip AgreesWith ps (take (k + 1) cubes)) (sym added)
-    (subst (λ (cs : List Cube). AllZip AgreesWith (old ++ p ∷ []) cs) taken (all_zipped_more AgreesWith old (take k cubes) p c before agrees))
+-- ---- several cubes
+
+pub filled_agree : (cubes : List Cube) (words : Stream) → AllZip AgreesWith (filled_all cubes words) cubes
+filled_agree [] words = tt
+filled_agree (c ∷ cs) words = (
+  fill_agrees c (filled_cube c words) words (words_after c.inputs words) refl refl,
+  filled_agree cs (words_after_cube c words),
+)
+
+pub filled_fit : (n : Netlist) (holds : Holds) (cubes : List Cube) (patterns : List Pattern) → AllZip AgreesWith patterns cubes → All (IsCubeOf n holds) cubes → All (IsPatternOf n holds) patterns
+filled_fit n holds [] [] agree fit = All-nil (IsPatternOf n holds)
+filled_fit n holds [] (p ∷ ps) agree fit = elim agree [ ]
+filled_fit n holds (c ∷ cs) [] agree fit = elim agree [ ]
+filled_fit n holds (c ∷ cs) (p ∷ ps) agree fit =
+    All-cons (IsPatternOf n holds) p ps (fill_fits n holds c p agree.0 (All-head (IsCubeOf n holds) c cs fit))
+    (filled_fit n holds cs ps agree.1 (All-tail (IsCubeOf n holds) c cs fit))

@@ -286,13 +286,14 @@ one_more cube old new a = elim (cases_lt a.place (length old)) [
 -- ---- what each merging is like
 
 module _ (cubes results : List Cube) (place : ℕ → ℕ) (h : AreMergedBy place cubes results (length cubes)) where
-  pub each_kept : (c : Cube) → Contains cubes c → (r : Cube) × Contains results r × HasBitsOf r c
+  pub each_kept : (c : Cube) → Contains cubes c → (r : Cube) × Contains results r × HaveSameWidths r c × HasBitsOf r c
   each_kept c at =
       let within = h.placed at.0 at.1 in
       let r : Cube = cube_at results (place at.0) in
       let is : cube_at cubes at.0 ≡ c = get_or_default cubes at.0 (record { inputs = []; cells = [] }) c at.1 ∙ at.2 in (
         r,
         (place at.0, within, get_or_default results (place at.0) r (record { inputs = []; cells = [] }) within),
+        subst (λ (x : Cube). HaveSameWidths r x) is (h.widths at.0 at.1),
         λ k b bit. (h.bits (place at.0) k b within).1 (at.0, at.1, refl, has_bit_along c (cube_at cubes at.0) k b (sym is) bit),
       )
 
@@ -341,7 +342,10 @@ at_end cubes results m h e = subst (λ n. AreMerged cubes results n) e h
 
 pub kept_at_end : (cubes results : List Cube) (m : ℕ) → AreMerged cubes results m → m ≡ length cubes
     → (c : Cube) → Contains cubes c → (r : Cube) × Contains results r × HasBitsOf r c
-kept_at_end cubes results m h e = let w = at_end cubes results m h e in each_kept cubes results w.0 w.1
+kept_at_end cubes results m h e c at =
+    let w = at_end cubes results m h e in
+    let r = each_kept cubes results w.0 w.1 c at in
+    (r.0, r.1, r.3)
 
 pub apart_at_end : (cubes results : List Cube) (m : ℕ) → AreMerged cubes results m → m ≡ length cubes → AllPairs Contradicts results
 apart_at_end cubes results m h e = let w = at_end cubes results m h e in all_apart cubes results w.0 w.1
@@ -349,3 +353,10 @@ apart_at_end cubes results m h e = let w = at_end cubes results m h e in all_apa
 pub fit_at_end : (cubes results : List Cube) (m : ℕ) → AreMerged cubes results m → m ≡ length cubes
     → (n : Netlist) (holds : Holds) → All (IsCubeOf n holds) cubes → All (IsCubeOf n holds) results
 fit_at_end cubes results m h e = let w = at_end cubes results m h e in all_fit cubes results w.0 w.1
+
+-- cubes of one netlist have the same widths
+pub netlist_widths : (n : Netlist) (holds : Holds) (cubes : List Cube) → All (IsCubeOf n holds) cubes → AllPairs HaveSameWidths cubes
+netlist_widths n holds cubes all i j d a b =
+    let x = all i d (omega arith) in
+    let y = all j d b in
+    record { inputs = x.inputs ∙ sym y.inputs; cells = x.cells ∙ sym y.cells }

@@ -4,7 +4,7 @@ ghost use Rattle.std.specs.List.{All, AllZip};
 ghost use Rattle.netlist.specs.Netlist.{Netlist};
 ghost use Rattle.netlist.specs.Holds.{Holds};
 ghost use Rattle.cubes.specs.Cubes.{AgreesWith, IsCubeOf, IsPatternOf};
-ghost use Rattle.cubes.specs.Filling.{filled, words_after};
+ghost use Rattle.cubes.specs.Filling.{filled, words_after, filled_cube, words_after_cube, filled_all, words_after_all};
 
 use crate::patterns::{Cube, Pattern};
 use netlist::{NoMemory, Tri};
@@ -29,9 +29,8 @@ fn fill_values<R: Rng>(values: &[Tri], rng: &mut R, bits: &mut Vec<bool>)
 
 /// A pattern with the bits of the cube, where each X, inputs first, takes the lowest bit of one word.
 pub fn fill<R: Rng>(alloc: Global, cube: &Cube, rng: &mut R) -> Result<Pattern, NoMemory>
-    ensures inputs { IfOk result (λ p. p.inputs ≡ filled cube.now.inputs (R.stream rng.old)) }
-    ensures cells { IfOk result (λ p. p.cells ≡ filled cube.now.cells (words_after cube.now.inputs (R.stream rng.old))) }
-    ensures left { OnOk result (R.stream rng.new ≡ words_after cube.now.cells (words_after cube.now.inputs (R.stream rng.old))) }
+    ensures pattern { IfOk result (λ p. p ≡ filled_cube cube.now (R.stream rng.old)) }
+    ensures left { OnOk result (R.stream rng.new ≡ words_after_cube cube.now (R.stream rng.old)) }
     ensures agrees { IfOk result (λ p. AgreesWith p cube.now) }
     ensures fits { IfOk result (λ p. (n : Netlist) (holds : Holds) → IsCubeOf n holds cube.now → IsPatternOf n holds p) }
     ensures refused { OnErr result (R.stream rng.new ≡ R.stream rng.old) }
@@ -43,21 +42,20 @@ pub fn fill<R: Rng>(alloc: Global, cube: &Cube, rng: &mut R) -> Result<Pattern, 
     Ok(Pattern::new(inputs, cells))
 }
 
-/// A pattern for each cube, filled one after the other.
+/// A pattern for each cube, each filled from the words that those before it leave.
 pub fn fill_all<R: Rng>(
     alloc: Global,
     cubes: &[Cube],
     rng: &mut R,
 ) -> Result<Vec<Pattern>, NoMemory>
+    ensures patterns { IfOk result (λ v. v.items ≡ filled_all cubes.now (R.stream rng.old)) }
+    ensures left { OnOk result (R.stream rng.new ≡ words_after_all cubes.now (R.stream rng.old)) }
     ensures agree { IfOk result (λ v. AllZip AgreesWith v.items cubes.now) }
     ensures fit { IfOk result (λ v. (n : Netlist) (holds : Holds) → All (IsCubeOf n holds) cubes.now → All (IsPatternOf n holds) v.items) }
 {
     let mut patterns = Vec::new(alloc);
     for cube in cubes {
-        let pattern = fill(alloc, cube, rng)?;
-        let Ok(()) = patterns.push(pattern) else {
-            return Err(NoMemory);
-        };
+        patterns.push(fill(alloc, cube, rng)?)?;
     }
     Ok(patterns)
 }

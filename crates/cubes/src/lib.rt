@@ -2,7 +2,7 @@
 //!
 //! Gives: `Pattern`, `Cube`, `merge`, `fill`, `fill_all`.
 //! Proved: `merge`: each cube joins the first result that it doesn't contradict; `fill`: agrees with its cube, and takes its bits in order; `fill_all`:
-//! one pattern after the other does.
+//! so does each pattern, from the words that those before it leave.
 #![tactic(auto)]
 
 mod filling;

@@ -1,3 +1,4 @@
+pub mod Cases
 pub mod Climbing
 pub mod Standing
 pub mod Turns

@@ -8,17 +8,19 @@
 //! The alternative is a function that calls itself for both sides. It is shorter, but its depth is that of the path; and a search that gives up has
 //! no tree then, as what it knows of other sides lies in the calls that it leaves.
 //!
-//! Gives: `Step`, `push`, `climb`, `close_both`, `closed_tree`, `tree_so_far`, `one_if`.
+//! Gives: `Case`, `Step`, `push`, `climb`, `close_both`, `closed_tree`, `tree_so_far`, `one_if`.
 //! Proved: `climb`, `close_both`: at which decision the search goes on and with which tree beside it, or the whole tree, exactly, with the labels of
 //! the path there; the others exactly; the lemmas: whatever a search asks of the nodes of its tree stays so, and no tree on so many signals has more
 //! ends than 2 to their number.
 //! Tested: run below `podem` and `fan` in `calls`.
 #![tactic(auto)]
 
+mod cases;
 mod climbing;
 mod trees;
 mod turns;
 
+pub use cases::Case;
 pub use climbing::climb;
 pub use trees::{closed_tree, tree_so_far};
 pub use turns::{Step, close_both, one_if, push};

@@ -60,9 +60,6 @@ zip_length R (x ∷ xs) (y ∷ ys) h = let r = zip_length R xs ys h.1 in omega (
 
 -- ---- answers in a row
 
-pub none_put : (said : List (Option Played)) (start : ℕ) (answers : List Answer) → ArePut said start 0 answers answers
-none_put said start answers = record { size = refl; here = λ k d e l. absurd (omega (arith, l)); others = λ i e out. refl }
-
 pub one_put : (said : List (Option Played)) (start m : ℕ) (old new : List Answer) (d : Option Played) → m < length said → start + length said ≤ length old → ArePut said start m old new
     → ArePut said start (m + 1) old (set new (start + m) (answer_to (get_or said m d)))
 one_put said start m old new d l room h =

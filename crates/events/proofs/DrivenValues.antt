@@ -9,7 +9,7 @@ use Rattle.netlist.specs.Conditions.{IsSound}
 use Rattle.netlist.specs.Netlist.{Definition, Netlist, cells, gates, signals}
 use Rattle.netlist.specs.Readers.{readers_of}
 use Rattle.netlist.specs.Settled.{Rule, on_pins, pins_of, at}
-use Rattle.netlist.specs.inner.Settling.{IsDriven}
+use Rattle.netlist.specs.Settling.{IsDriven}
 use Rattle.netlist.proofs.Lists.{map_agree, All-from_contains}
 use Rattle.netlist.proofs.Placed.{gate_defined, signals_length}
 use Rattle.netlist.proofs.Settling.{zip_kept, drive_more, driven}
@@ -58,14 +58,6 @@ put_other n places id i v old marks marks' e h = record {
 
 still_called : (n : Netlist) (places : List ℕ) (x : ℕ) (marks marks' : List Bool) → StayMarked marks marks' → AreCalled n places x marks → AreCalled n places x marks'
 still_called n places x marks marks' stay h q l any = stay.kept q (h q (subst (λ s. q < s) stay.size l) any)
-
--- nothing is driven yet
-pub none_driven : {V : Type 0} (rule : Rule V) (n : Netlist) (places ids : List ℕ) (driven values : List V) (marks : List Bool) → AreDriven rule n places ids driven values values marks marks 0
-none_driven rule n places ids driven values marks = record {
-  stay = stay_same marks;
-  driven_is = record { size = refl; here = λ k d l. absurd (omega arith); others = λ x d none. refl };
-  called = λ x. inl (λ d. refl);
-}
 
 -- one signal more
 pub one_driven : {V : Type 0} (rule : Rule V) (n : Netlist) (places ids : List ℕ) (driven old new new' : List V) (marks marks' marks'' : List Bool) (m i : ℕ) (v w : V)

@@ -98,10 +98,6 @@ called-append places bound (Pin z k ∷ xs) ys =
     ap (λ zs. cond (ltb (get_or places z 0) bound) (get_or places z 0 ∷ zs) zs) (called-append places bound xs ys)
     ∙ cond_append (ltb (get_or places z 0) bound) (get_or places z 0) (called places bound xs) (called places bound ys)
 
--- no signal has its row, and one signal more
-pub no_fans : (n : Netlist) (places : List ℕ) (bound : ℕ) → AreFansUpTo n places bound [] [] 0
-no_fans n places bound = record { ends_are = refl; size = refl; each = λ x l. absurd (omega (arith, l)) }
-
 pub fan_more : (n : Netlist) (places : List ℕ) (bound : ℕ) (items ends items' ends' : List ℕ) (m end : ℕ) → AreFansUpTo n places bound items ends m
     → items' ≡ items ++ called places bound (readers_of n m) → ends' ≡ ends ++ end ∷ [] → end ≡ length items' → AreFansUpTo n places bound items' ends' (m + 1)
 fan_more n places bound items ends items' ends' m end h b e l =

@@ -108,13 +108,6 @@ marked_set marks p q l = elim (cases_eq p q) [
   | inr ne ↦ get_or-set_other marks p q true false (λ e. ne (sym e)) ∙ (no_more (marked marks q) ∙ ap (λ b. marked marks q || b) (sym (ne_eqb p q ne)))
 ]
 
--- a line that is no pin of a gate calls nothing
-pub calls_none : (places : List ℕ) (line : Line) (marks : List Bool) → ((q : ℕ) → q < length marks → is_pin_at places q line ≡ false) → Calls (line ∷ []) places marks marks
-calls_none places line marks none = record {
-  size = refl;
-  each = λ q l. no_more (marked marks q) ∙ ap (λ b. marked marks q || b) (sym (ap (λ b. b || false) (none q l)));
-}
-
 pub calls_pin : (places : List ℕ) (z j p : ℕ) (marks : List Bool) → p ≡ get_or places z 0 → p < length marks → Calls (Pin z j ∷ []) places marks (set marks p true)
 calls_pin places z j p marks e l = record {
   size = length-set marks p true;
@@ -124,20 +117,3 @@ calls_pin places z j p marks e l = record {
 or_assoc : (a b c : Bool) → ((a || b) || c) ≡ (a || (b || c))
 or_assoc true b c = refl
 or_assoc false b c = refl
-
--- one line more
-pub calls_more : (lines : List Line) (k : ℕ) (line : Line) (places : List ℕ) (first old new : List Bool) → k < length lines → line ≡ get_or lines k line
-    → Calls (take k lines) places first old → Calls (line ∷ []) places old new → Calls (take (k + 1) lines) places first new
-calls_more lines k line places first old new l is a b = record {
-  size = b.size ∙ a.size;
-  each = λ q m.
-      let one : is_pin_at places q (get_or lines k line) ≡ is_pin_at places q line = ap (is_pin_at places q) (sym is) in
-      b.each q (subst (λ s. q < s) (sym a.size) m)
-      ∙ (ap (λ v. v || (is_pin_at places q line || false)) (a.each q m)
-      ∙ (or_assoc (marked first q) (list_any (is_pin_at places q) (take k lines)) (is_pin_at places q line || false)
-      ∙ ap (λ v. marked first q || v) (ap (λ v. list_any (is_pin_at places q) (take k lines) || v) (sym (no_more (is_pin_at places q line)) ∙ sym one)
-      ∙ sym (list_any_more (is_pin_at places q) lines k line l))));
-}
-
-pub calls_nothing : (places : List ℕ) (marks : List Bool) → Calls [] places marks marks
-calls_nothing places marks = record { size = refl; each = λ q l. no_more (marked marks q) }

@@ -12,9 +12,6 @@ use Rattle.events.specs.Stuck.{IsObservedOnly, IsSite}
 use Rattle.netlist.proofs.Orders.{place_of}
 use Rattle.events.proofs.Placing.{gate_at_place}
 
-pub stem_within : (n : Netlist) → IsNumbered n → (line : Line) (x : ℕ) → line ≡ Stem x → IsLineOf n line → x < length (signals n)
-stem_within n numbered line x e h = signal_below n numbered x (subst (IsLineOf n) e h)
-
 module _ (n : Netlist) (numbered : IsNumbered n) (line : Line) (z k : ℕ) (is : line ≡ Pin z k) (h : IsLineOf n line) where
   pub pin_within : z < length (signals n)
   pin_within = let w = subst (IsLineOf n) is h in subst (λ x. x < length (signals n)) w.2 (definition_below n numbered w.0 w.1)

@@ -31,8 +31,8 @@ use Rattle.head_lines.proofs.GateTests.{no_gate_low}
 use Rattle.head_lines.proofs.Inner.{input_own}
 use Rattle.head_lines.proofs.Ends.{met_there}
 use Rattle.head_lines.proofs.Readers.{get_or_any}
-use Rattle.fan.specs.Trees.{IsLeftOpen}
-use Rattle.fan.specs.inner.Searching.{IsAt, IsEndPlace, IsFreeEnd, IsNoFreeEnd, IsSplit}
+use Rattle.fan.specs.declared.cases.Case.{Case}
+use Rattle.fan.specs.inner.Searching.{IsCase, IsAt, IsGoing, IsEndPlace, IsFreeEnd, IsNoFreeEnd, IsSplit}
 use Rattle.fan.proofs.Placing.{places_may, head_place, source_place}
 use Rattle.fan.proofs.Turns.{all_on, none_on}
 
@@ -78,15 +78,15 @@ role_read {n} sound roles size i x r e l h = (
 )
 
 -- a role tells whether a signal is such an end
-pub ends_by_role : (f : Fault) (n : Netlist) (holds : Holds) → IsSound n → (roles : List Role) → AreRoles f n holds roles → (x : ℕ) → Contains (signals n) x
-    → (r : Role) → role_at roles x ≡ r → (gate : Bool) → Decides gate (IsGateAt n x)
-    → ((r ≡ Bound → Decides (not gate) (IsEndPlace f n holds x)) × ((r ≡ Head → IsEndPlace f n holds x) × (r ≡ Inner → IsEndPlace f n holds x → ⊥)))
-ends_by_role f n holds sound roles are x s r e gate g = (
+pub ends_by_role : (k : Case) → IsSound k.core.now → AreRoles k.fault k.core.now k.holds.now k.roles.now → (x : ℕ) → Contains (signals k.core.now) x
+    → (r : Role) → role_at k.roles.now x ≡ r → (gate : Bool) → Decides gate (IsGateAt k.core.now x)
+    → ((r ≡ Bound → Decides (not gate) (IsEndPlace k x)) × ((r ≡ Head → IsEndPlace k x) × (r ≡ Inner → IsEndPlace k x → ⊥)))
+ends_by_role k sound are x s r e gate g = (
   λ b. (
-    λ t. inr (not_gate_source n sound x s (λ h. both_ways gate (not_true gate t) (g.1 h)), (are.marks.bound_are x s).0 (ap is_bound_role (e ∙ b))),
+    λ t. inr (not_gate_source k.core.now sound x s (λ h. both_ways gate (not_true gate t) (g.1 h)), (are.marks.bound_are x s).0 (ap is_bound_role (e ∙ b))),
     λ h. elim h [
       | inl head ↦ absurd (both_ways false refl (sym (ap is_head_role (e ∙ b)) ∙ (are.marks.heads_are x s).1 head))
-      | inr w ↦ not_from gate (λ q. source_no_gate n sound x s w.0 (g.0 q))
+      | inr w ↦ not_from gate (λ q. source_no_gate k.core.now sound x s w.0 (g.0 q))
     ],
   ),
   (
@@ -106,11 +106,11 @@ ends_by_role f n holds sound roles are x s r e gate g = (
     not_from true q = absurd (q refl)
     not_from false q = refl
 
-pub head_end : (f : Fault) (n : Netlist) (holds : Holds) (roles : List Role) → AreRoles f n holds roles → (x : ℕ) → Contains (signals n) x → role_at roles x ≡ Head → IsEndPlace f n holds x
-head_end f n holds roles are x s e = inl ((are.marks.heads_are x s).0 (ap is_head_role e))
+pub head_end : (k : Case) → AreRoles k.fault k.core.now k.holds.now k.roles.now → (x : ℕ) → Contains (signals k.core.now) x → role_at k.roles.now x ≡ Head → IsEndPlace k x
+head_end k are x s e = inl ((are.marks.heads_are x s).0 (ap is_head_role e))
 
-pub inner_no_end : (f : Fault) (n : Netlist) (holds : Holds) (roles : List Role) → AreRoles f n holds roles → (x : ℕ) → Contains (signals n) x → role_at roles x ≡ Inner → IsEndPlace f n holds x → ⊥
-inner_no_end f n holds roles are x s e h = elim h [
+pub inner_no_end : (k : Case) → AreRoles k.fault k.core.now k.holds.now k.roles.now → (x : ℕ) → Contains (signals k.core.now) x → role_at k.roles.now x ≡ Inner → IsEndPlace k x → ⊥
+inner_no_end k are x s e h = elim h [
   | inl head ↦ both_ways false refl (sym (ap is_head_role e) ∙ (are.marks.heads_are x s).1 head)
   | inr w ↦ both_ways false refl (sym (ap is_bound_role e) ∙ (are.marks.bound_are x s).1 w.1)
 ]
@@ -171,13 +171,16 @@ module _ (f : Fault) (n : Netlist) (holds : Holds) (fit : AreHoldsOf n holds) (s
             cc
       ]
 
-  pub end_splits : (s : Sim) (x : ℕ) → s.path ≡ path → IsFreeEnd f n holds s x → IsSplit f n holds s x
-  end_splits s x e w =
-      let free : IsUnknown f n holds path x = subst (λ p. IsUnknown f n holds p x) e w.free in
-      elim w.end [
-        | inl head ↦ record { place = head_place f n holds x head; free = record { may = inr head; free = w.free } }
-        | inr source ↦ record { place = source_place f n holds x free.signal source.0 source.1 (untied x source.0 free); free = record { may = inl source.1; free = w.free } }
-      ]
+pub end_splits : (k : Case) → AreHoldsOf k.core.now k.holds.now → IsSound k.core.now → (path : Path) (s : Sim) (x : ℕ) → s.path ≡ path → IsFreeEnd k s x → IsSplit k s x
+end_splits k fit sound path s x e w =
+    let free : IsUnknown k.fault k.core.now k.holds.now path x = subst (λ p. IsUnknown k.fault k.core.now k.holds.now p x) e w.free in
+    elim w.end [
+      | inl head ↦ record { place = head_place k.fault k.core.now k.holds.now x head; free = record { may = inr head; free = w.free } }
+      | inr source ↦ record {
+        place = source_place k.fault k.core.now k.holds.now x free.signal source.0 source.1 (untied k.fault k.core.now k.holds.now fit sound path x source.0 free);
+        free = record { may = inl source.1; free = w.free };
+      }
+    ]
 
 -- ---- something is left
 
@@ -186,9 +189,13 @@ labels_there f n holds sound path =
     some_settled (label_of None X X false) (labels (Some f) path) n (input_labels path n holds) (cell_labels path n) sound.formed.numbered sound.closed sound.acyclic
     (length-map n.inputs (λ x. source_label path x (held_value (get_or holds x None)))) (length-map (cells n) (λ (d : Definition). source_label path d.id X))
 
-pub some_end : (f : Fault) (n : Netlist) (holds : Holds) → IsSound n → (roles : List Role) → AreRoles f n holds roles → (s : Sim) (stack : List Side) → IsAt f n holds s stack
-    → IsLeftOpen f n holds (path_of_stack stack) → ((x : ℕ) → x < length (signals n) → IsNoFreeEnd f n holds s x) → ⊥
-some_end f n holds sound roles are s stack is going none =
+pub some_end : (k : Case) → IsSound k.core.now → IsCase k → (s : Sim) (stack : List Side) → IsAt k s stack → IsGoing k stack
+    → ((x : ℕ) → x < length (signals k.core.now) → IsNoFreeEnd k s x) → ⊥
+some_end k sound are s stack is going none =
+    let f : Fault = k.fault in
+    let n : Netlist = k.core.now in
+    let holds : Holds = k.holds.now in
+    let roles : List Role = k.roles.now in
     let path : Path = path_of_stack stack in
     let l = labels_there f n holds sound (decisions path) in
     let told : (x : ℕ) → Contains (signals n) x → IsHead f n holds x ⊎ (IsSource n x × IsBound f n holds x) → (l.0 x).good ≡ X → ⊥ =
@@ -196,7 +203,7 @@ some_end f n holds sound roles are s stack is going none =
     let w = none x (signal_below n sound.formed.numbered x c) end in
     let g : HasGood (sim n f holds path) x w.0 = subst (λ (r : Sim). HasGood r x w.0) is.at w.1 in
     w.2 (sym g.good ∙ (ap (λ (m : Label). m.good) (labels_once (Some f) (decisions path) n holds sound g.label l.0 g.are l.1 x c) ∙ e)) in
-    let met = met_there f n holds sound (λ x. is_bound_role (role_at roles x)) (λ x. is_head_role (role_at roles x)) are.marks path
-    (all_on f n holds (places_may f n holds roles are) stack [] (none_on f n holds) is.around) l.0 l.1 told
+    let met = met_there f n holds sound (λ x. is_bound_role (role_at roles x)) (λ x. is_head_role (role_at roles x)) are.roles.marks path
+    (all_on f n holds (places_may f n holds roles are.roles) stack [] (none_on f n holds) is.around) l.0 l.1 told
     (λ c. going.0 (record { label = l.0; are = l.1; closed = c })) in
     going.1 met.0 met.1

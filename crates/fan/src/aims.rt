@@ -1,11 +1,13 @@
-//! Signals that may be forced: what implications, a single gate of the D-frontier and the fault's line ask for.
+//! Signals that may be forced: what implications, a single gate of the D-frontier and the fault's line ask for. (Implication and unique sensitization
+//! of Fujiwara and Shimono 1983.) These are guesses: `forcing` looks at the other side of each, and decides it where that is closed. So a rule that
+//! is left out here costs time and no answer; only what is next to a decision is asked for, and the rest comes up when the next turn asks.
 ghost use Rattle.std.specs.Prelude.{◌≡◌};
 ghost use Rattle.pair_sim.specs.Sims.{IsNotBlocked};
 
+use crate::cases::Case;
 use crate::frontier::{FrontGates, frontier};
 use crate::guides::has_head;
-use head_lines::Role;
-use netlist::{Core, Fault, Kind, SignalId};
+use netlist::{Core, Kind, SignalId};
 use pair_sim::PairSim;
 use redundancy_cert::Side;
 use std::alloc::{AllocError, Global};
@@ -97,31 +99,29 @@ fn let_through(
 /// What may be forced, in this order: by the fault's line, by what the decisions imply, and by the gate of the D-frontier where there is one alone.
 pub(crate) fn forced_aims(
     alloc: Global,
-    core: &Core,
-    fault: &Fault,
-    roles: &[Role],
+    case: &Case,
     effects: &Effects,
     labels: &PairSim,
     stack: &[Side],
 ) -> Result<Vec<Aim>, AllocError>
-    requires same { labels.now.netlist ≡ core.now }
+    requires same { labels.now.netlist ≡ case.now.core.now }
     requires not_blocked { IsNotBlocked labels.now }
 {
     let mut aims = Vec::new(alloc);
-    let site = driver(core, &fault.line);
-    if is_unknown(core, labels, site) {
+    let site = driver(case.core, &case.fault.line);
+    if is_unknown(case.core, labels, site) {
         aims.push(Aim {
             signal: site,
-            bit: !fault.value,
+            bit: !case.fault.value,
         })?;
     }
     for side in stack {
-        if !has_head(roles, side.signal) && is_own_unknown(core, labels, side.signal) {
-            imply(core, labels, side.signal, side.bit, &mut aims)?;
+        if !has_head(case.roles, side.signal) && is_own_unknown(case.core, labels, side.signal) {
+            imply(case.core, labels, side.signal, side.bit, &mut aims)?;
         }
     }
-    if let FrontGates::Single(gate) = frontier(core, fault, effects, labels) {
-        let_through(core, labels, gate, &mut aims)?;
+    if let FrontGates::Single(gate) = frontier(case, effects, labels) {
+        let_through(case.core, labels, gate, &mut aims)?;
     }
     Ok(aims)
 }

@@ -1,18 +1,17 @@
-//! The engine: four attempts, each a whole search, of which the last alone may give up. The first goes back from the lowest objective to a head line and
-//! is short. The next two stop at the fanout stems nearest to what is wanted, so that a contradiction stays within its block: from all objectives
-//! together, and from the lowest. The last goes back from all of them to head lines, up to the limit. What one manner misses another mostly finds.
-ghost use Rattle.std.specs.Prelude.{◌≡◌, ◌≤◌, [], IfOk, IfSome, OnOk};
+//! The engine: up to eight attempts, each a whole search, of which the last alone may give up. The first goes back from the lowest objective to a head
+//! line and is short. The next two stop at the fanout stems nearest to what is wanted, so that a contradiction stays within its block: from all
+//! objectives together, and from the lowest. Four short ones more go back from the lowest to head lines, over pins by a hash: few faults that can be
+//! tested are missed by all of them. The last goes back from all objectives to head lines, up to the limit.
+ghost use Rattle.std.specs.Prelude.{◌≡◌, ◌≤◌, IfOk, IfSome, OnOk};
 ghost use Rattle.netlist.specs.Holds.{AreHoldsOf};
-ghost use Rattle.pair_sim.specs.Sims.{sim};
 ghost use Rattle.redundancy_cert.specs.Evidence.{HasEvidence};
-ghost use Rattle.head_lines.specs.HeadLines.{AreRoles};
-ghost use Rattle.head_lines.specs.Rooms.{CanServeWants};
 ghost use Rattle.fan.specs.Trees.{HasEvidenceOnPlaces};
-ghost use Rattle.decision_stack.specs.Turns.{IsOfCase};
+ghost use Rattle.fan.specs.inner.Searching.{IsCase, IsReady, IsAnswer, IsKept};
 
+use crate::cases::Case;
 use crate::guides::{Guide, GuideRoom, Objectives, Stop};
 use crate::searching::search_from;
-use head_lines::{Role, RoleRoom, WantRoom, roles_of};
+use head_lines::{RoleRoom, WantRoom, roles_of};
 use netlist::{Core, Fault, Holds, NoMemory};
 use pair_sim::{PairSim, SimRoom};
 use redundancy_cert::{Engine, Found};
@@ -24,6 +23,9 @@ const FEW: u32 = 16;
 
 /// As many the second and the third may take.
 const MORE: u32 = 64;
+
+/// So often it begins anew with pins by a hash, each time for a few Closed.
+const ROUNDS: u32 = 4;
 
 /// A search that stops at head lines, with what guides it.
 #[derive(Debug, Drop)]
@@ -41,33 +43,27 @@ pub struct FanRoom {
 }
 
 /// A short search, if its answer is more than that it gave up; if not, its decisions are taken back.
+#[tactic(auto, using(crate::proofs::Steps::kept_before, crate::proofs::Steps::ready_again))]
 fn short_attempt(
     alloc: Global,
-    core: &Core,
+    case: &Case,
     guide: &mut Guide,
-    fault: &Fault,
-    holds: &Holds,
-    roles: &[Role],
     labels: &mut PairSim,
     wants: &mut WantRoom,
     few: u32,
     limit: u32,
 ) -> Result<Option<Found>, AllocError>
-    requires start { labels.old ≡ sim core.now fault.now holds.now [] }
+    requires start { IsReady case.now labels.old wants.old }
     requires some { 1 ≤ few }
-    requires fit { AreHoldsOf core.now holds.now }
-    requires roles { AreRoles fault.now core.now holds.now roles.now }
-    requires wants { CanServeWants core.now wants.old }
-    ensures evidence { IfOk result (λ o. IfSome o (HasEvidence fault.now core.now holds.now limit)) }
-    ensures places { IfOk result (λ o. IfSome o (HasEvidenceOnPlaces fault.now core.now holds.now limit)) }
-    ensures kept { OnOk result (IsOfCase fault.now core.now holds.now labels.new) }
-    ensures back { IfOk result (λ o. o ≡ None → labels.new ≡ sim core.now fault.now holds.now []) }
-    ensures wants { OnOk result (CanServeWants core.now wants.new) }
+    requires case { IsCase case.now }
+    ensures answer { IfOk result (λ o. IfSome o (IsAnswer case.now limit)) }
+    ensures kept { OnOk result (IsKept case.now labels.new wants.new) }
+    ensures back { IfOk result (λ o. o ≡ None → IsReady case.now labels.new wants.new) }
 {
     if limit <= few {
         return Ok(None);
     }
-    match search_from(alloc, core, guide, fault, holds, roles, labels, wants, few)? {
+    match search_from(alloc, case, guide, labels, wants, few)? {
         Found::Test(cube, point) => Ok(Some(Found::Test(cube, point))),
         Found::Closed(tree) => Ok(Some(Found::Closed(tree))),
         Found::Partial(_) => {
@@ -80,56 +76,45 @@ fn short_attempt(
 /// The attempts, one after the other.
 fn attempts(
     alloc: Global,
-    core: &Core,
+    case: &Case,
     guide: &mut Guide,
-    fault: &Fault,
-    holds: &Holds,
-    roles: &[Role],
     labels: &mut PairSim,
     wants: &mut WantRoom,
     limit: u32,
 ) -> Result<Found, AllocError>
-    requires start { labels.old ≡ sim core.now fault.now holds.now [] }
+    requires start { IsReady case.now labels.old wants.old }
     requires some { 1 ≤ limit }
-    requires fit { AreHoldsOf core.now holds.now }
-    requires roles { AreRoles fault.now core.now holds.now roles.now }
-    requires wants { CanServeWants core.now wants.old }
-    ensures evidence { IfOk result (HasEvidence fault.now core.now holds.now limit) }
-    ensures places { IfOk result (HasEvidenceOnPlaces fault.now core.now holds.now limit) }
-    ensures kept { OnOk result (IsOfCase fault.now core.now holds.now labels.new) }
-    ensures wants { OnOk result (CanServeWants core.now wants.new) }
+    requires case { IsCase case.now }
+    ensures answer { IfOk result (IsAnswer case.now limit) }
+    ensures kept { OnOk result (IsKept case.now labels.new wants.new) }
 {
     guide.go_back(Objectives::One, Stop::Heads);
-    if let Some(found) = short_attempt(
-        alloc, core, guide, fault, holds, roles, labels, wants, FEW, limit,
-    )? {
+    if let Some(found) = short_attempt(alloc, case, guide, labels, wants, FEW, limit)? {
         return Ok(found);
     }
     guide.go_back(Objectives::All, Stop::Stems);
-    if let Some(found) = short_attempt(
-        alloc, core, guide, fault, holds, roles, labels, wants, MORE, limit,
-    )? {
+    if let Some(found) = short_attempt(alloc, case, guide, labels, wants, MORE, limit)? {
         return Ok(found);
     }
     guide.go_back(Objectives::One, Stop::Stems);
-    if let Some(found) = short_attempt(
-        alloc, core, guide, fault, holds, roles, labels, wants, MORE, limit,
-    )? {
+    if let Some(found) = short_attempt(alloc, case, guide, labels, wants, MORE, limit)? {
         return Ok(found);
     }
+    for round in 0..ROUNDS {
+        guide.go_anyhow(round, &case.fault);
+        if let Some(found) = short_attempt(alloc, case, guide, labels, wants, FEW, limit)? {
+            return Ok(found);
+        }
+    }
     guide.go_back(Objectives::All, Stop::Heads);
-    search_from(
-        alloc, core, guide, fault, holds, roles, labels, wants, limit,
-    )
+    search_from(alloc, case, guide, labels, wants, limit)
 }
 
 impl Fan {
     /// The search with the measures of a netlist. For another one its answers are right too, but it may be slow.
     pub fn of(alloc: Global, core: &Core) -> Result<Fan, NoMemory> {
-        match Measures::of(alloc, core) {
-            Ok(measures) => Ok(Fan { measures }),
-            Err(_) => Err(NoMemory),
-        }
+        let measures = Measures::of(alloc, core)?;
+        Ok(Fan { measures })
     }
 
     /// A test of the fault, a tree that shows it redundant, or a tree with as many Closed as the limit.
@@ -149,31 +134,19 @@ impl Fan {
         // Open where the condition for a test is met.
         ensures places { IfOk result (HasEvidenceOnPlaces fault core.now holds.now limit) }
     {
-        let Ok(room) = GuideRoom::of(alloc, core) else {
-            return Err(NoMemory);
-        };
+        let room = GuideRoom::of(alloc, core)?;
         let mut guide = Guide::of(&self.measures, room);
-        let Ok(mut labels) = PairSim::new(alloc, core, fault, holds) else {
-            return Err(NoMemory);
-        };
-        let Ok(roles) = roles_of(alloc, core, &fault, holds) else {
-            return Err(NoMemory);
-        };
-        let Ok(mut wants) = WantRoom::of(alloc, core) else {
-            return Err(NoMemory);
-        };
-        attempts(
-            alloc,
+        let mut labels = PairSim::new(alloc, core, fault, holds)?;
+        let roles = roles_of(alloc, core, &fault, holds)?;
+        let mut wants = WantRoom::of(alloc, core)?;
+        let case = Case {
             core,
-            &mut guide,
-            &fault,
+            fault,
             holds,
-            &roles,
-            &mut labels,
-            &mut wants,
-            limit,
-        )
-        .map_err(|_| NoMemory)
+            roles: &roles,
+        };
+        let found = attempts(alloc, &case, &mut guide, &mut labels, &mut wants, limit)?;
+        Ok(found)
     }
 }
 
@@ -199,21 +172,11 @@ impl Engine for Fan {
     }
 
     fn room(&self, alloc: Global, core: &Core, holds: &Holds) -> Result<FanRoom, NoMemory> {
-        let Ok(guide) = GuideRoom::of(alloc, core) else {
-            return Err(NoMemory);
-        };
-        let Ok(roles) = RoleRoom::of(alloc, core, holds) else {
-            return Err(NoMemory);
-        };
-        let Ok(wants) = WantRoom::of(alloc, core) else {
-            return Err(NoMemory);
-        };
-        let labels = SimRoom::new(alloc, core, holds)?;
         Ok(FanRoom {
-            labels,
-            roles,
-            wants,
-            guide,
+            labels: SimRoom::new(alloc, core, holds)?,
+            roles: RoleRoom::of(alloc, core, holds)?,
+            wants: WantRoom::of(alloc, core)?,
+            guide: GuideRoom::of(alloc, core)?,
         })
     }
 
@@ -227,33 +190,25 @@ impl Engine for Fan {
         holds: &Holds,
     ) -> Result<(Found, FanRoom), NoMemory> {
         let mut roles = room.roles;
-        let Ok(_) = roles.aim(core, &fault, holds) else {
-            return Err(NoMemory);
-        };
+        roles.aim(core, &fault, holds)?;
         let mut labels = PairSim::in_room(room.labels, core, fault, holds);
         let mut wants = room.wants;
         let mut guide = Guide::of(&self.measures, room.guide);
-        match attempts(
-            alloc,
+        let case = Case {
             core,
-            &mut guide,
-            &fault,
+            fault,
             holds,
-            roles.roles(),
-            &mut labels,
-            &mut wants,
-            limit,
-        ) {
-            Ok(found) => Ok((
-                found,
-                FanRoom {
-                    labels: labels.into_room(),
-                    roles,
-                    wants,
-                    guide: guide.into_room(),
-                },
-            )),
-            Err(_) => Err(NoMemory),
-        }
+            roles: roles.roles(),
+        };
+        let found = attempts(alloc, &case, &mut guide, &mut labels, &mut wants, limit)?;
+        Ok((
+            found,
+            FanRoom {
+                labels: labels.into_room(),
+                roles,
+                wants,
+                guide: guide.into_room(),
+            },
+        ))
     }
 }

@@ -1,13 +1,12 @@
-//! Signals of which one side is closed, so that the other is forced.
-ghost use Rattle.std.specs.Prelude.{◌≡◌, IsTrue};
-ghost use Rattle.head_lines.specs.HeadLines.{AreRoles};
-ghost use Rattle.redundancy_cert.specs.Stacks.{path_of_stack};
-ghost use Rattle.fan.specs.Trees.{IsLeftOpen};
-ghost use Rattle.fan.specs.inner.Searching.{IsAt, IsFreeToDecide, IsForcedSeen};
+//! Signals of which one side is closed, so that the other is forced. A side is decided by way of trial and its labels tell whether it is closed, where FAN
+//! has rules of implication gate by gate: so all that follows from a decision counts, whatever gates it goes through, and each Forced shows its reason.
+ghost use Rattle.std.specs.Prelude.{IsTrue};
+ghost use Rattle.fan.specs.inner.Searching.{IsCase, IsAt, IsGoing, IsFreeToDecide, IsForcedSeen};
 
+use crate::cases::Case;
 use crate::standing::look;
 use head_lines::Role;
-use netlist::{Core, Fault, Holds, Point, SignalId, Tri};
+use netlist::{Point, SignalId, Tri};
 use pair_sim::{PairSim, State};
 use redundancy_cert::Side;
 use testability::Aim;
@@ -22,24 +21,16 @@ pub enum Seen {
 }
 
 /// Whether a signal may be decided, and isn't known.
-pub(crate) fn is_free(
-    core: &Core,
-    fault: &Fault,
-    holds: &Holds,
-    roles: &[Role],
-    labels: &PairSim,
-    stack: &[Side],
-    id: SignalId,
-) -> bool
-    requires roles { AreRoles fault.now core.now holds.now roles.now }
-    requires at { IsAt fault.now core.now holds.now labels.now stack.now }
-    ensures { IsTrue result → IsFreeToDecide fault.now core.now holds.now labels.now id }
+pub(crate) fn is_free(case: &Case, labels: &PairSim, stack: &[Side], id: SignalId) -> bool
+    requires case { IsCase case.now }
+    requires at { IsAt case.now labels.now stack.now }
+    ensures { IsTrue result → IsFreeToDecide case.now labels.now id }
 {
-    core.netlist().sound();
-    if id.index() >= roles.len() {
+    case.core.netlist().sound();
+    if id.index() >= case.roles.len() {
         return false;
     }
-    match roles[id.index()] {
+    match case.roles[id.index()] {
         Role::Inner => false,
         Role::Bound => matches!(labels.good(id), Tri::X),
         Role::Head => matches!(labels.good(id), Tri::X),
@@ -47,25 +38,15 @@ pub(crate) fn is_free(
 }
 
 /// Looks for one of these whose other side is closed.
-pub(crate) fn find_forced(
-    core: &Core,
-    fault: &Fault,
-    holds: &Holds,
-    roles: &[Role],
-    labels: &mut PairSim,
-    stack: &[Side],
-    aims: &[Aim],
-) -> Seen
-    requires roles { AreRoles fault.now core.now holds.now roles.now }
-    requires at { IsAt fault.now core.now holds.now labels.old stack.now }
-    requires going { IsLeftOpen fault.now core.now holds.now (path_of_stack stack.now) }
-    ensures { IsForcedSeen fault.now core.now holds.now labels.old labels.new stack.now result }
+pub(crate) fn find_forced(case: &Case, labels: &mut PairSim, stack: &[Side], aims: &[Aim]) -> Seen
+    requires case { IsCase case.now }
+    requires at { IsAt case.now labels.old stack.now }
+    requires going { IsGoing case.now stack.now }
+    ensures { IsForcedSeen case.now labels.old labels.new stack.now result }
 {
     for aim in aims {
-        if is_free(core, fault, holds, roles, labels, stack, aim.signal) {
-            match look(
-                core, fault, holds, roles, labels, stack, aim.signal, !aim.bit,
-            ) {
+        if is_free(case, labels, stack, aim.signal) {
+            match look(case, labels, stack, aim.signal, !aim.bit) {
                 State::Test(point) => return Seen::Reached(point),
                 State::Blocked => return Seen::ShutBeside(*aim),
                 State::Going => {}

@@ -1,9 +1,11 @@
-//! The D-frontier: gates that an effect has come to and not yet passed. Nothing stands on it but the speed of the search.
+//! The D-frontier: gates that an effect has come to and not yet passed. (Roth, Diagnosis of automata failures, 1966.) It is found anew from the signals with
+//! an effect, which are few, instead of being kept. Nothing stands on it but the speed of the search.
 ghost use Rattle.std.specs.Prelude.{◌≡◌};
 ghost use Rattle.pair_sim.specs.Sims.{IsNotBlocked};
 
+use crate::cases::Case;
 use crate::paths::Paths;
-use netlist::{Core, Fault, Line, SignalId};
+use netlist::{Core, Line, SignalId};
 use pair_sim::PairSim;
 use std::alloc::AllocError;
 use testability::{Effects, Measures, may_get_effect, readers, signal_count};
@@ -47,24 +49,19 @@ fn with_gate(frontier: FrontGates, gate: SignalId) -> FrontGates {
 }
 
 /// The D-frontier: the gates with an effect on a pin and none on the output yet.
-pub(crate) fn frontier(
-    core: &Core,
-    fault: &Fault,
-    effects: &Effects,
-    labels: &PairSim,
-) -> FrontGates
-    requires same { labels.now.netlist ≡ core.now }
+pub(crate) fn frontier(case: &Case, effects: &Effects, labels: &PairSim) -> FrontGates
+    requires same { labels.now.netlist ≡ case.now.core.now }
     requires not_blocked { IsNotBlocked labels.now }
 {
     let mut found = FrontGates::Empty;
-    if let Line::Pin(gate, _) = &fault.line {
-        if may_get_effect(core, labels, *gate) {
+    if let Line::Pin(gate, _) = &case.fault.line {
+        if may_get_effect(case.core, labels, *gate) {
             found = with_gate(found, *gate);
         }
     }
     for number in 0..effects.len() {
         if let Some(signal) = effects.signal(number) {
-            found = join_frontier(core, labels, signal, found);
+            found = join_frontier(case.core, labels, signal, found);
         }
     }
     found
@@ -116,25 +113,24 @@ fn nearer_reader(
 
 /// The gate of the D-frontier that is nearest to the observed points, of those that weren't come to.
 fn nearest_left(
-    core: &Core,
+    case: &Case,
     measures: &Measures,
-    fault: &Fault,
     effects: &Effects,
     labels: &PairSim,
     paths: &Paths,
 ) -> Option<SignalId>
-    requires same { labels.now.netlist ≡ core.now }
+    requires same { labels.now.netlist ≡ case.now.core.now }
     requires not_blocked { IsNotBlocked labels.now }
 {
     let mut best: Option<SignalId> = None;
-    if let Line::Pin(gate, _) = &fault.line {
-        if is_nearer(core, measures, labels, paths, *gate, &best) {
+    if let Line::Pin(gate, _) = &case.fault.line {
+        if is_nearer(case.core, measures, labels, paths, *gate, &best) {
             best = Some(*gate);
         }
     }
     for number in 0..effects.len() {
         if let Some(signal) = effects.signal(number) {
-            best = nearer_reader(core, measures, labels, paths, signal, best);
+            best = nearer_reader(case.core, measures, labels, paths, signal, best);
         }
     }
     best
@@ -142,22 +138,21 @@ fn nearest_left(
 
 /// The gate of the D-frontier that is nearest to the observed points, of those from which the effect may come to one.
 pub(crate) fn nearest(
-    core: &Core,
+    case: &Case,
     measures: &Measures,
-    fault: &Fault,
     effects: &Effects,
     labels: &PairSim,
     paths: &mut Paths,
 ) -> Result<Option<SignalId>, AllocError>
-    requires same { labels.now.netlist ≡ core.now }
+    requires same { labels.now.netlist ≡ case.now.core.now }
     requires not_blocked { IsNotBlocked labels.now }
 {
     paths.begin();
-    for _step in 0..signal_count(core) {
-        let Some(gate) = nearest_left(core, measures, fault, effects, labels, paths) else {
+    for _step in 0..signal_count(case.core) {
+        let Some(gate) = nearest_left(case, measures, effects, labels, paths) else {
             return Ok(None);
         };
-        if paths.leads(core, labels, gate)? {
+        if paths.leads(case.core, labels, gate)? {
             return Ok(Some(gate));
         }
     }

@@ -3,9 +3,10 @@
 ghost use Rattle.std.specs.Prelude.{◌≡◌};
 ghost use Rattle.pair_sim.specs.Sims.{IsNotBlocked};
 
+use crate::cases::Case;
 use crate::frontier::nearest;
 use crate::paths::Paths;
-use crate::tracing::traced;
+use crate::tracing::{Course, Way, traced};
 use head_lines::Role;
 use netlist::{Core, Fault, Kind, SignalId};
 use pair_sim::PairSim;
@@ -14,7 +15,7 @@ use std::alloc::{AllocError, Global};
 use std::collections::BinaryHeap;
 use testability::{
     Aim, Effects, Measures, count_pins, driver, gate_of, is_inverting, is_own_unknown, is_unknown,
-    may_differ, place_of, readers, signal_count,
+    may_differ, place_of, readers, salt_of, signal_count,
 };
 
 /// Whether a signal is a head line.
@@ -154,9 +155,8 @@ impl GuideRoom {
 /// What leads the search: measures, how it goes back, what is wanted, and the signals with an effect.
 #[derive(Drop)]
 pub(crate) struct Guide<'a> {
-    measures: &'a Measures,
+    course: Course<'a>,
     objectives: Objectives,
-    stop: Stop,
     wants: Wants,
     paths: Paths,
     pub(crate) effects: Effects,
@@ -171,9 +171,12 @@ impl<'a> Guide<'a> {
     /// In a room, whatever it held.
     pub(crate) fn of(measures: &'a Measures, room: GuideRoom) -> Guide<'a> {
         Guide {
-            measures,
+            course: Course {
+                measures,
+                way: Way::ByCost,
+                stop: Stop::Heads,
+            },
             objectives: Objectives::All,
-            stop: Stop::Heads,
             wants: room.wants,
             paths: room.paths,
             effects: room.effects,
@@ -189,10 +192,18 @@ impl<'a> Guide<'a> {
         }
     }
 
-    /// From here on it goes back so.
+    /// From here on it goes back so, to pins by what bits cost.
     pub(crate) fn go_back(&mut self, objectives: Objectives, stop: Stop) {
         self.objectives = objectives;
-        self.stop = stop;
+        self.course.stop = stop;
+        self.course.way = Way::ByCost;
+    }
+
+    /// From here on it goes back from the lowest objective to head lines, to pins by a hash.
+    pub(crate) fn go_anyhow(&mut self, round: u32, fault: &Fault) {
+        self.objectives = Objectives::One;
+        self.course.stop = Stop::Heads;
+        self.course.way = Way::ByHash(round, salt_of(fault));
     }
 
     /// Another search begins.
@@ -201,16 +212,11 @@ impl<'a> Guide<'a> {
     }
 
     /// Looks at what the trail of labels has gained.
-    pub(crate) fn follow(
-        &mut self,
-        core: &Core,
-        fault: &Fault,
-        labels: &PairSim,
-    ) -> Result<(), AllocError>
-        requires same { labels.now.netlist ≡ core.now }
+    pub(crate) fn follow(&mut self, case: &Case, labels: &PairSim) -> Result<(), AllocError>
+        requires same { labels.now.netlist ≡ case.now.core.now }
         requires not_blocked { IsNotBlocked labels.now }
     {
-        self.effects.follow(core, fault, labels)
+        self.effects.follow(case.core, &case.fault, labels)
     }
 
     /// Adds to what is wanted of a signal, if it is X.
@@ -242,7 +248,7 @@ impl<'a> Guide<'a> {
         let mut best: Option<SignalId> = None;
         let mut least: u32 = 0;
         for pin in pins {
-            let cost = self.measures.cost(*pin, bit);
+            let cost = self.course.measures.cost(*pin, bit);
             if is_unknown(core, labels, *pin) && (best.is_none() || cost < least) {
                 best = Some(*pin);
                 least = cost;
@@ -292,7 +298,7 @@ impl<'a> Guide<'a> {
             let wanted = if unknown == 1 {
                 turned(votes, odd)
             } else {
-                votes_for(self.measures.cheap_bit(*pin), both)
+                votes_for(self.course.measures.cheap_bit(*pin), both)
             };
             self.want(core, labels, *pin, wanted)?;
         }
@@ -347,7 +353,7 @@ impl<'a> Guide<'a> {
             let bit = match kind {
                 Kind::And | Kind::Nand => true,
                 Kind::Or | Kind::Nor => false,
-                _ => self.measures.cheap_bit(*pin),
+                _ => self.course.measures.cheap_bit(*pin),
             };
             self.want(core, labels, *pin, votes_for(bit, 1))?;
         }
@@ -357,28 +363,26 @@ impl<'a> Guide<'a> {
     /// What is wanted at first: that the fault is excited; or else the decided bits of gates, and that the effect goes on.
     fn want_objectives(
         &mut self,
-        core: &Core,
-        fault: &Fault,
-        roles: &[Role],
+        case: &Case,
         labels: &PairSim,
         stack: &[Side],
     ) -> Result<(), AllocError>
-        requires same { labels.now.netlist ≡ core.now }
+        requires same { labels.now.netlist ≡ case.now.core.now }
         requires not_blocked { IsNotBlocked labels.now }
     {
-        let site = driver(core, &fault.line);
+        let core = case.core;
+        let site = driver(core, &case.fault.line);
         if is_unknown(core, labels, site) {
-            return self.want(core, labels, site, votes_for(!fault.value, 1));
+            return self.want(core, labels, site, votes_for(!case.fault.value, 1));
         }
         for side in stack {
-            if !has_head(roles, side.signal) && is_own_unknown(core, labels, side.signal) {
+            if !has_head(case.roles, side.signal) && is_own_unknown(core, labels, side.signal) {
                 self.spread(core, labels, side.signal, votes_for(side.bit, 1))?;
             }
         }
         match nearest(
-            core,
-            self.measures,
-            fault,
+            case,
+            self.course.measures,
             &self.effects,
             labels,
             &mut self.paths,
@@ -396,19 +400,15 @@ impl<'a> Guide<'a> {
         if readers(core, id).len() < 2 || may_differ(core, labels, id) {
             return false;
         }
-        matches!(self.stop, Stop::Stems) || (votes.zero > 0 && votes.one > 0)
+        matches!(self.course.stop, Stop::Stems) || (votes.zero > 0 && votes.one > 0)
     }
 
     /// Goes back from what is wanted: the first fanout stem at which it stops, or the end that is wanted most.
-    fn trace_back(
-        &mut self,
-        core: &Core,
-        roles: &[Role],
-        labels: &PairSim,
-    ) -> Result<Option<Aim>, AllocError>
-        requires same { labels.now.netlist ≡ core.now }
+    fn trace_back(&mut self, case: &Case, labels: &PairSim) -> Result<Option<Aim>, AllocError>
+        requires same { labels.now.netlist ≡ case.now.core.now }
         requires not_blocked { IsNotBlocked labels.now }
     {
+        let core = case.core;
         let mut best: Option<Aim> = None;
         let mut most: u32 = 0;
         for _step in 0..signal_count(core) {
@@ -420,7 +420,7 @@ impl<'a> Guide<'a> {
                 signal: id,
                 bit: votes.one > votes.zero,
             };
-            if has_head(roles, id) || gate_of(core, id).is_none() {
+            if has_head(case.roles, id) || gate_of(core, id).is_none() {
                 let all = votes.zero.saturating_add(votes.one);
                 if best.is_none() || all > most {
                     most = all;
@@ -465,30 +465,25 @@ fn turned(votes: Votes, inverting: bool) -> Votes {
 
 /// What to decide, if the labels tell.
 pub(crate) fn best_aim(
-    core: &Core,
+    case: &Case,
     guide: &mut Guide,
-    fault: &Fault,
-    roles: &[Role],
     labels: &PairSim,
     stack: &[Side],
 ) -> Result<Option<Aim>, AllocError>
-    requires same { labels.now.netlist ≡ core.now }
+    requires same { labels.now.netlist ≡ case.now.core.now }
     requires not_blocked { IsNotBlocked labels.now }
 {
     if matches!(guide.objectives, Objectives::One) {
         return traced(
-            core,
-            guide.measures,
-            fault,
-            roles,
+            case,
+            &guide.course,
             &guide.effects,
             labels,
             stack,
-            guide.stop,
             &mut guide.paths,
         );
     }
     guide.wants.clear();
-    guide.want_objectives(core, fault, roles, labels, stack)?;
-    guide.trace_back(core, roles, labels)
+    guide.want_objectives(case, labels, stack)?;
+    guide.trace_back(case, labels)
 }

@@ -8,6 +8,7 @@
 #![tactic(auto)]
 
 mod aims;
+mod cases;
 mod choosing;
 mod engine;
 mod forcing;

@@ -4,26 +4,21 @@
 //! which one side is closed already, and forces it to the other (`forcing`): FAN's unique implications, told by labels. Else it splits on what
 //! the backtrace wants (`guides`), a head line or a fanout stem sooner than an input. Where the condition for a test is met the head lines are
 //! justified without a decision (`head_lines`), so such a path is a test.
-ghost use Rattle.std.specs.Prelude.{◌≡◌, ◌≤◌, [], ◌∷◌, IfOk, OnOk};
-ghost use Rattle.netlist.specs.Holds.{AreHoldsOf};
-ghost use Rattle.tri.specs.Paths.{IsClosedPath};
-ghost use Rattle.pair_sim.specs.Sims.{sim};
-ghost use Rattle.redundancy_cert.specs.Stacks.{path_of_stack};
-ghost use Rattle.redundancy_cert.specs.Evidence.{HasEvidence};
-ghost use Rattle.head_lines.specs.HeadLines.{IsPlace, AreRoles};
+ghost use Rattle.std.specs.Prelude.{ℕ, ◌≤◌, [], IfOk, OnOk};
+ghost use Rattle.head_lines.specs.HeadLines.{IsPlace};
+ghost use Rattle.head_lines.specs.Justified.{IsMetAt};
 ghost use Rattle.head_lines.specs.Rooms.{CanServeWants};
-ghost use Rattle.decision_stack.specs.Turns.{IsOfCase};
-ghost use Rattle.fan.specs.Trees.{IsLeftOpen, HasEvidenceOnPlaces};
-ghost use Rattle.fan.specs.inner.Searching.{IsAt, IsStepped, IsChosen, IsForcedSeen};
+ghost use Rattle.fan.specs.inner.Searching.{IsCase, IsAt, IsGoing, IsSideClosed, IsSideOpen, IsStepped, IsChosen, IsForcedSeen, IsReady, IsAnswer, IsKept};
 
 use crate::aims::forced_aims;
+use crate::cases::Case;
 use crate::choosing::choose;
 use crate::forcing::{Seen, find_forced};
 use crate::guides::{Guide, best_aim};
 use crate::standing::{go, look};
 use decision_stack::{Step, close_both, closed_tree, one_if, push, tree_so_far};
-use head_lines::{Role, WantRoom, justified_cube};
-use netlist::{Core, Fault, Holds, SignalId};
+use head_lines::{WantRoom, justified_cube};
+use netlist::{Point, SignalId};
 use pair_sim::{PairSim, State};
 use redundancy_cert::{Found, Other, Side, Tree};
 use std::alloc::{AllocError, Global};
@@ -32,22 +27,19 @@ use testability::{Aim, Effects};
 /// A turn where this side is closed: goes to the other one.
 fn after_closed(
     alloc: Global,
-    core: &Core,
+    case: &Case,
     effects: &mut Effects,
-    fault: &Fault,
-    holds: &Holds,
-    roles: &[Role],
     labels: &mut PairSim,
     stack: &mut Vec<Side>,
     signal: SignalId,
     bit: bool,
 ) -> Result<Step, AllocError>
-    requires roles { AreRoles fault.now core.now holds.now roles.now }
-    requires chosen { IsChosen fault.now core.now holds.now labels.old stack.old.items signal }
-    requires closed { IsClosedPath fault.now core.now holds.now ((signal, bit) ∷ path_of_stack stack.old.items) }
-    ensures { IfOk result (IsStepped fault.now core.now holds.now stack.old.items labels.new stack.new.items) }
+    requires case { IsCase case.now }
+    requires chosen { IsChosen case.now labels.old stack.old.items signal }
+    requires closed { IsSideClosed case.now stack.old.items signal bit }
+    ensures { IfOk result (IsStepped case.now stack.old.items labels.new stack.new.items) }
 {
-    match go(core, fault, holds, roles, labels, stack, signal, !bit) {
+    match go(case, labels, stack, signal, !bit) {
         State::Test(point) => Ok(Step::Found(point)),
         State::Blocked => close_both(alloc, effects, labels, stack, signal, bit),
         State::Going => push(stack, signal, !bit, Other::Shut),
@@ -56,22 +48,19 @@ fn after_closed(
 
 /// A turn where this side of a place may be gone on with: goes to the other one, and to this one where that is closed.
 fn after_going(
-    core: &Core,
-    fault: &Fault,
-    holds: &Holds,
-    roles: &[Role],
+    case: &Case,
     labels: &mut PairSim,
     stack: &mut Vec<Side>,
     signal: SignalId,
     bit: bool,
 ) -> Result<Step, AllocError>
-    requires roles { AreRoles fault.now core.now holds.now roles.now }
-    requires chosen { IsChosen fault.now core.now holds.now labels.old stack.old.items signal }
-    requires place { IsPlace fault.now core.now holds.now signal }
-    requires going { IsLeftOpen fault.now core.now holds.now ((signal, bit) ∷ path_of_stack stack.old.items) }
-    ensures { IfOk result (IsStepped fault.now core.now holds.now stack.old.items labels.new stack.new.items) }
+    requires case { IsCase case.now }
+    requires chosen { IsChosen case.now labels.old stack.old.items signal }
+    requires place { IsPlace case.now.fault case.now.core.now case.now.holds.now signal }
+    requires going { IsSideOpen case.now stack.old.items signal bit }
+    ensures { IfOk result (IsStepped case.now stack.old.items labels.new stack.new.items) }
 {
-    match go(core, fault, holds, roles, labels, stack, signal, !bit) {
+    match go(case, labels, stack, signal, !bit) {
         State::Test(point) => Ok(Step::Found(point)),
         State::Blocked => {
             labels.assign(signal, bit);
@@ -84,115 +73,105 @@ fn after_going(
 /// A turn that splits on a place: the other side of a decision is looked at, and then its own side is gone to.
 fn split(
     alloc: Global,
-    core: &Core,
+    case: &Case,
     effects: &mut Effects,
-    fault: &Fault,
-    holds: &Holds,
-    roles: &[Role],
     labels: &mut PairSim,
     stack: &mut Vec<Side>,
     wanted: &Option<Aim>,
 ) -> Result<Step, AllocError>
-    requires fit { AreHoldsOf core.now holds.now }
-    requires roles { AreRoles fault.now core.now holds.now roles.now }
-    requires at { IsAt fault.now core.now holds.now labels.old stack.old.items }
-    requires going { IsLeftOpen fault.now core.now holds.now (path_of_stack stack.old.items) }
-    ensures { IfOk result (IsStepped fault.now core.now holds.now stack.old.items labels.new stack.new.items) }
+    requires case { IsCase case.now }
+    requires at { IsAt case.now labels.old stack.old.items }
+    requires going { IsGoing case.now stack.old.items }
+    ensures { IfOk result (IsStepped case.now stack.old.items labels.new stack.new.items) }
 {
-    let aim = choose(core, fault, holds, roles, labels, stack, wanted);
-    match look(
-        core, fault, holds, roles, labels, stack, aim.signal, !aim.bit,
-    ) {
+    let aim = choose(case, labels, stack, wanted);
+    match look(case, labels, stack, aim.signal, !aim.bit) {
         State::Test(point) => Ok(Step::Found(point)),
-        State::Blocked => after_closed(
-            alloc, core, effects, fault, holds, roles, labels, stack, aim.signal, !aim.bit,
-        ),
-        State::Going => after_going(
-            core, fault, holds, roles, labels, stack, aim.signal, !aim.bit,
-        ),
+        State::Blocked => after_closed(alloc, case, effects, labels, stack, aim.signal, !aim.bit),
+        State::Going => after_going(case, labels, stack, aim.signal, !aim.bit),
     }
 }
 
 /// A turn of the search: what is forced is decided, or else a place is split on.
 fn take_turn(
     alloc: Global,
-    core: &Core,
+    case: &Case,
     guide: &mut Guide,
-    fault: &Fault,
-    holds: &Holds,
-    roles: &[Role],
     labels: &mut PairSim,
     stack: &mut Vec<Side>,
 ) -> Result<Step, AllocError>
-    requires fit { AreHoldsOf core.now holds.now }
-    requires roles { AreRoles fault.now core.now holds.now roles.now }
-    requires at { IsAt fault.now core.now holds.now labels.old stack.old.items }
-    requires going { IsLeftOpen fault.now core.now holds.now (path_of_stack stack.old.items) }
-    ensures { IfOk result (IsStepped fault.now core.now holds.now stack.old.items labels.new stack.new.items) }
+    requires case { IsCase case.now }
+    requires at { IsAt case.now labels.old stack.old.items }
+    requires going { IsGoing case.now stack.old.items }
+    ensures { IfOk result (IsStepped case.now stack.old.items labels.new stack.new.items) }
 {
-    guide.follow(core, fault, labels)?;
-    let aims = forced_aims(alloc, core, fault, roles, &guide.effects, labels, stack)?;
-    match find_forced(core, fault, holds, roles, labels, stack, &aims) {
+    guide.follow(case, labels)?;
+    let aims = forced_aims(alloc, case, &guide.effects, labels, stack)?;
+    match find_forced(case, labels, stack, &aims) {
         Seen::Reached(point) => Ok(Step::Found(point)),
         Seen::ShutBeside(aim) => after_closed(
             alloc,
-            core,
+            case,
             &mut guide.effects,
-            fault,
-            holds,
-            roles,
             labels,
             stack,
             aim.signal,
             !aim.bit,
         ),
         Seen::Nothing => {
-            let wanted = best_aim(core, guide, fault, roles, labels, stack)?;
-            split(
-                alloc,
-                core,
-                &mut guide.effects,
-                fault,
-                holds,
-                roles,
-                labels,
-                stack,
-                &wanted,
-            )
+            let wanted = best_aim(case, guide, labels, stack)?;
+            split(alloc, case, &mut guide.effects, labels, stack, &wanted)
         }
     }
+}
+
+/// The test at a path where the condition for one is met.
+fn test_at(
+    alloc: Global,
+    case: &Case,
+    labels: &PairSim,
+    point: Point,
+    wants: &mut WantRoom,
+) -> Result<Found, AllocError>
+    requires case { IsCase case.now }
+    requires met { IsMetAt case.now.fault case.now.core.now case.now.holds.now labels.now point }
+    requires wants { CanServeWants case.now.core.now wants.old }
+    ensures answer { (limit : ℕ) → IfOk result (IsAnswer case.now limit) }
+    ensures kept { OnOk result (IsKept case.now labels.now wants.new) }
+{
+    let cube = justified_cube(
+        alloc,
+        case.core,
+        &case.fault,
+        case.holds,
+        case.roles,
+        labels,
+        &point,
+        wants,
+    )?;
+    Ok(Found::Test(cube, point))
 }
 
 /// The search from the path without decisions, where it may go on.
 fn search_on(
     alloc: Global,
-    core: &Core,
+    case: &Case,
     guide: &mut Guide,
-    fault: &Fault,
-    holds: &Holds,
-    roles: &[Role],
     labels: &mut PairSim,
     wants: &mut WantRoom,
     limit: u32,
 ) -> Result<Found, AllocError>
-    requires start { labels.old ≡ sim core.now fault.now holds.now [] }
-    requires fit { AreHoldsOf core.now holds.now }
-    requires roles { AreRoles fault.now core.now holds.now roles.now }
-    requires going { IsLeftOpen fault.now core.now holds.now [] }
-    requires wants { CanServeWants core.now wants.old }
-    ensures evidence { IfOk result (HasEvidence fault.now core.now holds.now limit) }
-    ensures places { IfOk result (HasEvidenceOnPlaces fault.now core.now holds.now limit) }
-    ensures kept { OnOk result (IsOfCase fault.now core.now holds.now labels.new) }
-    ensures wants { OnOk result (CanServeWants core.now wants.new) }
+    requires start { IsReady case.now labels.old wants.old }
+    requires case { IsCase case.now }
+    requires going { IsGoing case.now [] }
+    ensures answer { IfOk result (IsAnswer case.now limit) }
+    ensures kept { OnOk result (IsKept case.now labels.new wants.new) }
 {
     let mut stack = Vec::new(alloc);
     let mut closed: u32 = 0;
     while closed < limit {
-        match take_turn(alloc, core, guide, fault, holds, roles, labels, &mut stack)? {
-            Step::Found(point) => {
-                let cube = justified_cube(alloc, core, fault, holds, roles, labels, &point, wants)?;
-                return Ok(Found::Test(cube, point));
-            }
+        match take_turn(alloc, case, guide, labels, &mut stack)? {
+            Step::Found(point) => return test_at(alloc, case, labels, point, wants),
             Step::Done(nodes) => return Ok(Found::Closed(Tree::new(nodes))),
             Step::On(more) => closed += one_if(more),
         }
@@ -202,46 +181,31 @@ fn search_on(
 }
 
 /// The search from the path without decisions: a test, a tree without Open, or a tree with as many Closed as the limit.
+#[tactic(auto, using(crate::proofs::Steps::kept_before))]
 pub(crate) fn search_from(
     alloc: Global,
-    core: &Core,
+    case: &Case,
     guide: &mut Guide,
-    fault: &Fault,
-    holds: &Holds,
-    roles: &[Role],
     labels: &mut PairSim,
     wants: &mut WantRoom,
     limit: u32,
 ) -> Result<Found, AllocError>
-    requires start { labels.old ≡ sim core.now fault.now holds.now [] }
-    requires fit { AreHoldsOf core.now holds.now }
-    requires roles { AreRoles fault.now core.now holds.now roles.now }
+    requires start { IsReady case.now labels.old wants.old }
+    requires case { IsCase case.now }
     requires some { 1 ≤ limit }
-    requires wants { CanServeWants core.now wants.old }
-    ensures evidence { IfOk result (HasEvidence fault.now core.now holds.now limit) }
-
-    // On places alone: no Partial for a limit of 2 to their number, and no Open where the condition for a test is met.
-    ensures places { IfOk result (HasEvidenceOnPlaces fault.now core.now holds.now limit) }
-
-    // The labels are those of some path.
-    ensures kept { OnOk result (IsOfCase fault.now core.now holds.now labels.new) }
-    ensures wants { OnOk result (CanServeWants core.now wants.new) }
+    ensures answer { IfOk result (IsAnswer case.now limit) }
+    ensures kept { OnOk result (IsKept case.now labels.new wants.new) }
 {
-    core.netlist().sound();
+    case.core.netlist().sound();
     match labels.state() {
-        State::Test(point) => {
-            let cube = justified_cube(alloc, core, fault, holds, roles, labels, &point, wants)?;
-            Ok(Found::Test(cube, point))
-        }
+        State::Test(point) => test_at(alloc, case, labels, point, wants),
         State::Blocked => {
             let tree = closed_tree(alloc)?;
             Ok(Found::Closed(Tree::new(tree)))
         }
         State::Going => {
             guide.begin();
-            search_on(
-                alloc, core, guide, fault, holds, roles, labels, wants, limit,
-            )
+            search_on(alloc, case, guide, labels, wants, limit)
         }
     }
 }

@@ -3,20 +3,20 @@
 ghost use Rattle.std.specs.Prelude.{◌≡◌};
 ghost use Rattle.pair_sim.specs.Sims.{IsNotBlocked};
 
+use crate::cases::Case;
 use crate::frontier::nearest;
 use crate::guides::{Stop, has_head};
 use crate::paths::Paths;
-use head_lines::Role;
-use netlist::{Core, Fault, Kind, SignalId};
+use netlist::{Core, Kind, SignalId};
 use pair_sim::PairSim;
 use redundancy_cert::Side;
 use std::alloc::AllocError;
 use testability::{
-    Aim, Effects, Measures, count_pins, driver, gate_of, is_inverting, is_own_unknown, is_unknown,
-    may_differ, place_of, readers, signal_count,
+    Aim, Effects, Measures, count_pins, driver, gate_of, hash_in, is_inverting, is_own_unknown,
+    is_unknown, may_differ, place_of, readers, signal_count,
 };
 
-/// Which pin of a gate is gone to.
+/// Which pin of a gate is gone to, unless it is one by a hash.
 #[derive(Clone, Copy, Drop)]
 enum Pick {
     /// The one for which the bit costs least.
@@ -27,19 +27,43 @@ enum Pick {
     Cheapest,
 }
 
+/// How a backtrace goes from gate to gate.
+#[derive(Clone, Copy, Drop)]
+pub(crate) enum Way {
+    /// To pins by what bits cost.
+    ByCost,
+    /// To pins by a hash: of the round, and the salt of the fault.
+    ByHash(u32, u64),
+}
+
+/// What a backtrace goes by: what bits cost, how it goes from gate to gate, and where it stops.
+#[derive(Clone, Copy, Drop)]
+pub(crate) struct Course<'a> {
+    pub measures: &'a Measures,
+    pub way: Way,
+    pub stop: Stop,
+}
+
 /// What is least at the pin that is gone to.
-fn weight(measures: &Measures, pin: SignalId, pick: Pick) -> u32 {
-    match pick {
+fn weight(course: &Course, pin: SignalId, pick: Pick) -> u64 {
+    let measures = course.measures;
+    let cost = match pick {
         Pick::Easiest(bit) => measures.cost(pin, bit),
         Pick::Hardest(bit) => u32::MAX - measures.cost(pin, bit),
         Pick::Cheapest => measures.cost(pin, false).min(measures.cost(pin, true)),
+    };
+    match (course.way, pick) {
+        (Way::ByHash(round, salt), Pick::Easiest(_) | Pick::Hardest(_)) => {
+            hash_in(round, salt, pin)
+        }
+        _ => u64::from(cost),
     }
 }
 
 /// The pin that is X to go to.
 fn picked(
     core: &Core,
-    measures: &Measures,
+    course: &Course,
     labels: &PairSim,
     pins: &[SignalId],
     pick: Pick,
@@ -47,9 +71,9 @@ fn picked(
     requires { labels.now.netlist ≡ core.now }
 {
     let mut best: Option<SignalId> = None;
-    let mut least: u32 = 0;
+    let mut least: u64 = 0;
     for pin in pins {
-        let own = weight(measures, *pin, pick);
+        let own = weight(course, *pin, pick);
         if is_unknown(core, labels, *pin) && (best.is_none() || own < least) {
             best = Some(*pin);
             least = own;
@@ -61,7 +85,7 @@ fn picked(
 /// The pin of a parity gate to go to, and its bit: what gives the gate its own where no other is X.
 fn into_parity(
     core: &Core,
-    measures: &Measures,
+    course: &Course,
     labels: &PairSim,
     pins: &[SignalId],
     bit: bool,
@@ -69,17 +93,17 @@ fn into_parity(
     requires { labels.now.netlist ≡ core.now }
 {
     let (unknown, odd) = count_pins(core, labels, pins);
-    let signal = picked(core, measures, labels, pins, Pick::Cheapest)?;
+    let signal = picked(core, course, labels, pins, Pick::Cheapest)?;
     let bit = if unknown == 1 {
         bit != odd
     } else {
-        measures.cheap_bit(signal)
+        course.measures.cheap_bit(signal)
     };
     Some(Aim { signal, bit })
 }
 
 /// The pin to go to from a gate that should have a bit, and the bit of the pin.
-fn into_gate(core: &Core, measures: &Measures, labels: &PairSim, aim: Aim) -> Option<Aim>
+fn into_gate(core: &Core, course: &Course, labels: &PairSim, aim: Aim) -> Option<Aim>
     requires { labels.now.netlist ≡ core.now }
 {
     let (kind, pins) = gate_of(core, aim.signal)?;
@@ -87,10 +111,10 @@ fn into_gate(core: &Core, measures: &Measures, labels: &PairSim, aim: Aim) -> Op
     let pick = match kind {
         Kind::And | Kind::Nand if bit => Pick::Hardest(true),
         Kind::Or | Kind::Nor if !bit => Pick::Hardest(false),
-        Kind::Xor | Kind::Xnor => return into_parity(core, measures, labels, pins, bit),
+        Kind::Xor | Kind::Xnor => return into_parity(core, course, labels, pins, bit),
         _ => Pick::Easiest(bit),
     };
-    let signal = picked(core, measures, labels, pins, pick)?;
+    let signal = picked(core, course, labels, pins, pick)?;
     Some(Aim { signal, bit })
 }
 
@@ -103,15 +127,16 @@ fn is_lower(core: &Core, signal: SignalId, best: &Option<Aim>) -> bool {
 }
 
 /// The lowest decided gate that isn't justified.
-fn lowest_decided(core: &Core, roles: &[Role], labels: &PairSim, stack: &[Side]) -> Option<Aim>
-    requires same { labels.now.netlist ≡ core.now }
+fn lowest_decided(case: &Case, labels: &PairSim, stack: &[Side]) -> Option<Aim>
+    requires same { labels.now.netlist ≡ case.now.core.now }
     requires not_blocked { IsNotBlocked labels.now }
 {
+    let core = case.core;
     let mut best: Option<Aim> = None;
     for side in stack {
         let signal = side.signal;
         let is_open = gate_of(core, signal).is_some()
-            && !has_head(roles, signal)
+            && !has_head(case.roles, signal)
             && is_own_unknown(core, labels, signal);
         if is_open && is_lower(core, signal, &best) {
             best = Some(Aim {
@@ -145,28 +170,27 @@ fn lowest_pin(core: &Core, measures: &Measures, labels: &PairSim, gate: SignalId
 /// The objective that is traced back: that the fault is excited; or else what is lowest in the order of evaluation of the decided gates that
 /// aren't justified and of the pins of the nearest gate of the D-frontier. What is low is decided by little, so it fails early.
 fn objective(
-    core: &Core,
-    measures: &Measures,
-    fault: &Fault,
-    roles: &[Role],
+    case: &Case,
+    course: &Course,
     effects: &Effects,
     labels: &PairSim,
     stack: &[Side],
     paths: &mut Paths,
 ) -> Result<Option<Aim>, AllocError>
-    requires same { labels.now.netlist ≡ core.now }
+    requires same { labels.now.netlist ≡ case.now.core.now }
     requires not_blocked { IsNotBlocked labels.now }
 {
-    let site = driver(core, &fault.line);
+    let core = case.core;
+    let site = driver(core, &case.fault.line);
     if is_unknown(core, labels, site) {
         return Ok(Some(Aim {
             signal: site,
-            bit: !fault.value,
+            bit: !case.fault.value,
         }));
     }
-    let decided = lowest_decided(core, roles, labels, stack);
-    if let Some(gate) = nearest(core, measures, fault, effects, labels, paths)? {
-        if let Some(pin) = lowest_pin(core, measures, labels, gate) {
+    let decided = lowest_decided(case, labels, stack);
+    if let Some(gate) = nearest(case, course.measures, effects, labels, paths)? {
+        if let Some(pin) = lowest_pin(core, course.measures, labels, gate) {
             if is_lower(core, pin.signal, &decided) {
                 return Ok(Some(pin));
             }
@@ -175,59 +199,50 @@ fn objective(
     let Some(gate) = decided else {
         return Ok(None);
     };
-    Ok(into_gate(core, measures, labels, gate))
+    Ok(into_gate(core, course, labels, gate))
 }
 
 /// Whether the backtrace ends at a signal: at a head line, an input or a cell, and at the first fanout stem where it is to.
-fn ends(core: &Core, roles: &[Role], labels: &PairSim, id: SignalId, stop: Stop) -> bool
-    requires same { labels.now.netlist ≡ core.now }
+fn ends(case: &Case, labels: &PairSim, id: SignalId, stop: Stop) -> bool
+    requires same { labels.now.netlist ≡ case.now.core.now }
     requires not_blocked { IsNotBlocked labels.now }
 {
-    if has_head(roles, id) || gate_of(core, id).is_none() {
+    let core = case.core;
+    if has_head(case.roles, id) || gate_of(core, id).is_none() {
         return true;
     }
     matches!(stop, Stop::Stems) && readers(core, id).len() >= 2 && !may_differ(core, labels, id)
 }
 
 /// Where an objective leads.
-fn trace_from(
-    core: &Core,
-    measures: &Measures,
-    roles: &[Role],
-    labels: &PairSim,
-    stop: Stop,
-    objective: Aim,
-) -> Option<Aim>
-    requires same { labels.now.netlist ≡ core.now }
+fn trace_from(case: &Case, course: &Course, labels: &PairSim, objective: Aim) -> Option<Aim>
+    requires same { labels.now.netlist ≡ case.now.core.now }
     requires not_blocked { IsNotBlocked labels.now }
 {
     let mut aim = objective;
-    for _step in 0..signal_count(core) {
-        if ends(core, roles, labels, aim.signal, stop) {
+    for _step in 0..signal_count(case.core) {
+        if ends(case, labels, aim.signal, course.stop) {
             return Some(aim);
         }
-        aim = into_gate(core, measures, labels, aim)?;
+        aim = into_gate(case.core, course, labels, aim)?;
     }
     None
 }
 
 /// Where the lowest objective leads.
 pub(crate) fn traced(
-    core: &Core,
-    measures: &Measures,
-    fault: &Fault,
-    roles: &[Role],
+    case: &Case,
+    course: &Course,
     effects: &Effects,
     labels: &PairSim,
     stack: &[Side],
-    stop: Stop,
     paths: &mut Paths,
 ) -> Result<Option<Aim>, AllocError>
-    requires same { labels.now.netlist ≡ core.now }
+    requires same { labels.now.netlist ≡ case.now.core.now }
     requires not_blocked { IsNotBlocked labels.now }
 {
-    match objective(core, measures, fault, roles, effects, labels, stack, paths)? {
+    match objective(case, course, effects, labels, stack, paths)? {
         None => Ok(None),
-        Some(aim) => Ok(trace_from(core, measures, roles, labels, stop, aim)),
+        Some(aim) => Ok(trace_from(case, course, labels, aim)),
     }
 }

@@ -38,9 +38,6 @@ few_step : (rs : List Line) (b : Bool) → leb 2 (length rs) ≡ b → length rs
 few_step rs true e l = let h : 2 ≤ length rs = leb-true 2 (length rs) e in absurd (omega arith)
 few_step rs false e l = refl
 
-pub no_branches : (rs : List Line) → length rs < 2 → branching rs ≡ []
-no_branches rs l = few_step rs (leb 2 (length rs)) refl l
-
 some_step : (rs : List Line) (b : Bool) → leb 2 (length rs) ≡ b → 0 < length (cond b rs []) → 2 ≤ length rs
 some_step rs true e l = leb-true 2 (length rs) e
 some_step rs false e l = absurd (omega arith)

@@ -5,22 +5,17 @@
 #![tactic(auto)]
 
 mod certificates;
-mod designs;
-mod names;
-mod patterns;
 mod reports;
 mod script;
 mod stil_files;
 mod vectors;
 
-use script::Script;
+use case_text::play;
+use script::FileCalls;
 use std::io::{self, Write};
 
 fn main(rt: HostRuntime) -> io::Result<()> {
     let given = io::read_to_string(rt.alloc(), rt.reader())?;
-    let mut script = Script::new(rt.alloc());
-    for line in given.lines() {
-        script.take(rt.alloc(), line)?;
-    }
-    io::writer(&rt).write_all(script.report())
+    let report = play(rt.alloc(), &given, &mut FileCalls)?;
+    io::writer(&rt).write_all(&report)
 }

@@ -1,14 +1,13 @@
 //! STIL files and vectors of patterns.
-ghost use Rattle.std.specs.Prelude.{◌<◌, IfOk};
+ghost use Rattle.std.specs.Prelude.{◌<◌};
 ghost use Rattle.netlist.specs.Designs.{IsDesign};
 ghost use Rattle.netlist.specs.Holds.{AreHoldsOf};
 ghost use Rattle.scan_insert.specs.Scanned.{AreChainsOf};
 
-use crate::designs::core_of;
-use crate::patterns::{cut, holds_of, patterns_of as patterns_named};
 use crate::vectors::push_vectors;
-use case_text::show;
-use chain_stitch::{Chains, stitch};
+use case_nets::{chains_of, core_of, holds_of, patterns_of as patterns_named, push_pattern};
+use case_text::{cut, show, small};
+use chain_stitch::Chains;
 use cubes::Pattern;
 use netlist::{Core, Holds, Netlist};
 use std::alloc::{AllocError, Global};
@@ -16,41 +15,17 @@ use stil_patterns::{are_patterns, patterns_of, stil_of};
 use stil_read::{StilFault, read_stil};
 use stil_write::write_stil;
 
-/// The cells in so many chains.
-fn chains_of(alloc: Global, core: &Core, asked: u32) -> Result<Chains, AllocError>
-    requires some { 0 < asked }
-    requires design { IsDesign core.now }
-    ensures { IfOk result (AreChainsOf core.now) }
-{
-    let netlist = core.netlist();
-    netlist.sound();
-    match stitch(alloc, netlist.cells(), asked) {
-        Ok(chains) => Ok(chains),
-        Err(_) => Err(AllocError),
-    }
-}
-
-pub fn push_bits(to: &mut Vec<u8>, bits: &[bool]) -> Result<(), AllocError> {
-    for bit in bits {
-        to.push(if *bit { b'1' } else { b'0' })?;
-    }
-    Ok(())
-}
-
 /// Adds patterns, a blank before each.
 fn push_patterns(to: &mut Vec<u8>, patterns: &[Pattern]) -> Result<(), AllocError> {
     to.extend_from_slice(b"patterns")?;
     for pattern in patterns {
         to.push(b' ')?;
-        push_bits(to, pattern.inputs())?;
-        to.push(b'/')?;
-        push_bits(to, pattern.cells())?;
+        push_pattern(to, pattern)?;
     }
     to.push(b'\n')?;
     Ok(())
 }
 
-/// Adds the patterns of a file's text.
 fn push_read(
     to: &mut Vec<u8>,
     alloc: Global,
@@ -158,7 +133,7 @@ fn push_named(
     requires design { IsDesign core.now }
     requires holds { AreHoldsOf core.now holds.now }
 {
-    let chains = chains_of(alloc, core, asked)?;
+    let chains = chains_of(alloc, core.netlist(), asked)?;
     let patterns = patterns_named(alloc, core, texts)?;
     match wanted {
         Wanted::Vectors => push_vectors(to, alloc, core, &chains, holds, &patterns),
@@ -186,7 +161,7 @@ pub fn push_stil(
     let (held, words) = cut(head);
     let core = core_of(alloc, netlist)?;
     let holds = holds_of(alloc, &core, held)?;
-    let asked = asked.parse().unwrap_or(1).max(1);
+    let asked = small(asked).max(1);
     let (old, new) = cut(words);
     let wanted = match verb {
         "vectors" => Wanted::Vectors,

@@ -3,7 +3,7 @@ ghost use Rattle.netlist.specs.Designs.{IsDesign};
 ghost use Rattle.netlist.specs.Holds.{AreHoldsOf};
 ghost use Rattle.scan_insert.specs.Scanned.{AreChainsOf};
 
-use crate::stil_files::push_bits;
+use case_nets::push_bits;
 use chain_stitch::Chains;
 use cubes::Pattern;
 use netlist::{Core, Holds, Tri};
@@ -30,7 +30,6 @@ fn push_cycle(to: &mut Vec<u8>, cycle: &Cycle) -> Result<(), AllocError> {
     to.extend_from_slice(if cycle.pulse { b" P\n" } else { b" 0\n" })
 }
 
-/// Adds the cycles of a burst.
 fn push_burst(to: &mut Vec<u8>, alloc: Global, burst: &Burst) -> Result<(), AllocError> {
     for t in 0..burst.count {
         let cycle = burst.cycle(alloc, t)?;
@@ -39,7 +38,6 @@ fn push_burst(to: &mut Vec<u8>, alloc: Global, burst: &Burst) -> Result<(), Allo
     Ok(())
 }
 
-/// Adds the cycles of the vectors of patterns.
 pub fn push_vectors(
     to: &mut Vec<u8>,
     alloc: Global,

@@ -74,43 +74,7 @@ either false b e = inr e
 
 -- ---- what changed is named
 
-pub put_beside : (old new : List Role) (changed : List ℕ) (x : ℕ) → ((y : ℕ) → (y ≡ x → ⊥) → role_at new y ≡ role_at old y) → IsKeptBeside old changed new (changed ++ x ∷ [])
-put_beside old new changed x others base h y = elim (same_or_not y x) [
-  | inl s ↦ inr (Contains-append_right changed (x ∷ []) y (subst (λ w. Contains (x ∷ []) w) (sym s) (contains_head x [])))
-  | inr ne ↦ elim (h y) [
-    | inl e ↦ inl (others y ne ∙ e)
-    | inr c ↦ inr (Contains-append_left changed (x ∷ []) y c)
-  ]
-]
-
--- the last that is named has its role of old again
-pub back_beside : (base old new : List Role) (changed : List ℕ) (x : ℕ) → AreBeside base old (changed ++ x ∷ [])
-    → ((y : ℕ) → (y ≡ x → ⊥) → role_at new y ≡ role_at old y) → role_at new x ≡ role_at base x → AreBeside base new changed
-back_beside base old new changed x h others here y = elim (same_or_not y x) [
-  | inl s ↦ inl (subst (λ w. role_at new w ≡ role_at base w) (sym s) here)
-  | inr ne ↦ elim (h y) [
-    | inl e ↦ inl (others y ne ∙ e)
-    | inr c ↦ elim (Contains-append_cases changed (x ∷ []) y c) [
-      | inl m ↦ inr m
-      | inr m ↦ elim (contains_cases x y [] m) [
-        | inl s ↦ absurd (ne (sym s))
-        | inr none ↦ absurd (contains_nil y none)
-      ]
-    ]
-  ]
-]
-
 -- ---- head lines of a gate
-
-pub head_as_was : (old : List Role) (x : ℕ) → (role_at old x ≡ Inner → ⊥) → AreHeads old old (x ∷ [])
-head_as_was old x h = record {
-  size = refl;
-  none_inner = λ y c. elim (contains_cases x y [] c) [
-    | inl s ↦ subst (λ w. role_at old w ≡ Inner → ⊥) s h
-    | inr none ↦ absurd (contains_nil y none)
-  ];
-  turned = λ y. inl refl;
-}
 
 pub head_put : (old new : List Role) (x : ℕ) → role_at old x ≡ Inner → IsPut old new x Head → AreHeads old new (x ∷ [])
 head_put old new x inner p = record {
@@ -127,9 +91,6 @@ head_put old new x inner p = record {
     | inr ne ↦ inl (p.others y ne)
   ];
 }
-
-pub heads_none : (old : List Role) → AreHeads old old []
-heads_none old = record { size = refl; none_inner = λ y c. absurd (contains_nil y c); turned = λ y. inl refl }
 
 pub heads_more : (old mid new : List Role) (xs : List ℕ) (x : ℕ) → AreHeads old mid xs → AreHeads mid new (x ∷ []) → AreHeads old new (xs ++ x ∷ [])
 heads_more old mid new xs x a b = record {
@@ -242,23 +203,6 @@ edge_of n B C x to from h = record {
 }
 
 -- ---- the next signal
-
--- it was bound
-pub next_was : (f : Fault) (n : Netlist) (holds : Holds) (roles : List Role) (z : ℕ) → AreRolesBut f n holds roles (Some z) → role_at roles z ≡ Bound → AreRolesBut f n holds roles None
-next_was f n holds roles z w b = record {
-  size = w.size;
-  next_is = λ y e. absurd (none_some y e);
-  sound = w.sound;
-  begun = λ x s h. elim (w.begun x s h) [
-    | inl o ↦ inl o
-    | inr e ↦ inl (subst (λ y. role_at roles y ≡ Bound) (some_same z x e) b)
-  ];
-  closed = λ y x r e. elim (w.closed y x r e) [
-    | inl o ↦ inl o
-    | inr q ↦ inl (subst (λ v. role_at roles v ≡ Bound) (some_same z y q) b)
-  ];
-  heads = w.heads;
-}
 
 -- it is bound now
 module _ (f : Fault) (n : Netlist) (holds : Holds) (z : ℕ) (old new : List Role) (next : Option ℕ)

@@ -88,12 +88,6 @@ control_tells Dff v h ps c = absurd (both_ways false refl h)
 control_tells Const0 v h ps c = absurd (both_ways false refl h)
 control_tells Const1 v h ps c = absurd (both_ways false refl h)
 
-pub hides_same : (kind : Kind) (cover a b : Tri) → a ≡ b → Hides kind cover a b
-hides_same kind cover a b e = λ ps qs t c d. ap (gate_tri kind) (none_turned a b e ps qs t)
-
-pub hides_controlled : (kind : Kind) (cover a b : Tri) → controls kind cover ≡ true → Hides kind cover a b
-hides_controlled kind cover a b e = λ ps qs t c d. control_tells kind cover e qs d ∙ sym (control_tells kind cover e ps c)
-
 module _ (a b : Tri) (ps qs : List Tri) (turned : AreTurned a b ps qs) (one : list_any is_x ps ≡ true) (other : list_any is_x qs ≡ true) where
   conjunction_turned : is_zero a ≡ false → is_zero b ≡ false → conjunction_tri qs ≡ conjunction_tri ps
   conjunction_turned e f =

@@ -10,12 +10,13 @@ use Rattle.netlist.specs.declared.lines.Line.TheVariants.{Stem, Out}
 use Rattle.netlist.specs.Netlist.{Definition, Netlist, cells, gates}
 use Rattle.netlist.specs.Settled.{Rule, Settles, at, on_pins, pins_of, outs, next}
 use Rattle.netlist.specs.ThreeValues.{known, is_x}
-use Rattle.netlist.specs.inner.Settling.{IsDriven, IsEvaluated}
+use Rattle.netlist.specs.Settling.{AreSourcesDriven, IsEvaluated, AreEvaluated}
 use Rattle.netlist.proofs.Alike.{zip_append}
 use Rattle.netlist.proofs.Lists.{All-from_contains, map_agree, map_map}
 use Rattle.netlist.proofs.Settling.{zip_kept}
 use Rattle.tri.specs.Settled.{tris}
 use Rattle.events.specs.Words.{bit_of, ones}
+use Rattle.events.proofs.WordBits.{zip_map}
 use Rattle.scan_play.proofs.PlanLemmas.{flat_map_agree}
 use Rattle.lane_play.specs.declared.packed.Lanes.{Lanes}
 use Rattle.lane_play.specs.inner.Lanes.{always, lane, lanes, lanes_rule}
@@ -98,17 +99,21 @@ module _ (k : ℕ) (low : k < 64) where
   at_machine values x t = ap (λ d. at (lanes k values) d x) (sym (lane_everywhere t)) ∙ at_lane values x (everywhere t)
 
   module _ (faults : List Fault) (few : length faults ≤ 64) where
-    pub machine_driven : (ids : List ℕ) (driven old new : List Lanes) (m : ℕ) → IsDriven (lanes_rule faults) ids driven old new m
-        → IsDriven (tris (slice_get faults k)) ids (lanes k driven) (lanes k old) (lanes k new) m
-    machine_driven ids driven old new m h = record {
-      size = length-map new (lane k) ∙ (h.size ∙ sym (length-map old (lane k)));
-      here = λ i t l.
-          at_machine new (get_or ids i 0) t
-          ∙ (ap (lane k) (h.here i (everywhere t) l)
-          ∙ (lane_line k low faults few (Stem (get_or ids i 0)) (at driven (everywhere t) i)
-          ∙ ap ((tris (slice_get faults k)).line (Stem (get_or ids i 0))) (sym (at_machine driven i t))));
-      others = λ x t none. at_machine new x t ∙ (ap (lane k) (h.others x (everywhere t) none) ∙ sym (at_machine old x t));
-    }
+    pub machine_sources : (n : Netlist) (inputs state old new : List Lanes) → AreSourcesDriven (lanes_rule faults) n inputs state old new
+        → AreSourcesDriven (tris (slice_get faults k)) n (lanes k inputs) (lanes k state) (lanes k old) (lanes k new)
+    machine_sources n inputs state old new h =
+        let rule : Rule Lanes = lanes_rule faults in
+        let own : Rule Tri = tris (slice_get faults k) in
+        record {
+          size = length-map new (lane k) ∙ (h.size ∙ sym (length-map old (lane k)));
+          inputs_driven = λ t.
+              zip_map (lane k) (λ x v. at new (everywhere t) x ≡ rule.line (Stem x) v) (λ x v. at (lanes k new) t x ≡ own.line (Stem x) v) n.inputs inputs
+              (λ x v e. at_machine new x t ∙ (ap (lane k) e ∙ lane_line k low faults few (Stem x) v)) (h.inputs_driven (everywhere t));
+          cells_driven = λ t.
+              zip_map (lane k) (λ (c : Definition) v. at new (everywhere t) c.id ≡ rule.line (Stem c.id) v) (λ (c : Definition) v. at (lanes k new) t c.id ≡ own.line (Stem c.id) v) (cells n) state
+              (λ c v e. at_machine new c.id t ∙ (ap (lane k) e ∙ lane_line k low faults few (Stem c.id) v)) (h.cells_driven (everywhere t));
+          gates_stay = λ x t gate. at_machine new x t ∙ (ap (lane k) (h.gates_stay x (everywhere t) gate) ∙ sym (at_machine old x t));
+        }
 
     pins_same : (g : Definition) (values : List Lanes) (t : Tri) → lanes k (pins_of (lanes_rule faults) (at values (everywhere t)) g) ≡ pins_of (tris (slice_get faults k)) (at (lanes k values) t) g
     pins_same g values t =
@@ -117,7 +122,7 @@ module _ (k : ℕ) (low : k < 64) where
         (map_map (at values (everywhere t)) (lane k) g.pins
         ∙ map_agree (λ x. lane k (at values (everywhere t) x)) (at (lanes k values) t) g.pins (λ i e l. sym (at_machine values (get_or g.pins i e) t)))
 
-    pub machine_evaluated : (n : Netlist) (x : ℕ) (old new : List Lanes) → IsEvaluated (lanes_rule faults) n x old new → IsEvaluated (tris (slice_get faults k)) n x (lanes k old) (lanes k new)
+    machine_evaluated : (n : Netlist) (x : ℕ) (old new : List Lanes) → IsEvaluated (lanes_rule faults) n x old new → IsEvaluated (tris (slice_get faults k)) n x (lanes k old) (lanes k new)
     machine_evaluated n x old new h = record {
       size = length-map new (lane k) ∙ (h.size ∙ sym (length-map old (lane k)));
       set = λ g t gate same.
@@ -130,6 +135,10 @@ module _ (k : ℕ) (low : k < 64) where
           (lane_line k low faults few (Stem g.id) (rule.gate g read)
           ∙ ap (own.line (Stem g.id)) (lane_gates k low faults few g read ∙ ap (own.gate g) (pins_same g old t))));
     }
+
+    pub machine_steps : (n : Netlist) (steps : List ℕ) (old new : List Lanes) → AreEvaluated (lanes_rule faults) n steps old new → AreEvaluated (tris (slice_get faults k)) n steps (lanes k old) (lanes k new)
+    machine_steps n [] old new h = ap (lanes k) h
+    machine_steps n (x ∷ xs) old new h = (lanes k h.0, machine_evaluated n x old h.0 h.1, machine_steps n xs h.0 new h.2)
 
     pub machine_settles : (n : Netlist) (inputs state values : List Lanes) → ((d : Lanes) → Settles (lanes_rule faults) n inputs state (at values d))
         → Settles (tris (slice_get faults k)) n (lanes k inputs) (lanes k state) (at (lanes k values) X)

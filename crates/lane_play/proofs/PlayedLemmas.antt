@@ -12,7 +12,6 @@ use Rattle.netlist.specs.Netlist.{Netlist, cells}
 use Rattle.netlist.specs.Settled.{Settles, at, next, outs}
 use Rattle.netlist.specs.ThreeValues.{known}
 use Rattle.netlist.proofs.Settling.{zip_from}
-use Rattle.tri.specs.Settled.{tris}
 use Rattle.events.specs.Words.{bit_of}
 use Rattle.scan_insert.specs.Names.{numbers_from}
 use Rattle.scan_insert.proofs.Numbers.{length-numbers_from, get_or-numbers_from}
@@ -27,9 +26,9 @@ use Rattle.scan_play.proofs.PlaySteps.{length-cycles_of, step_from}
 use Rattle.scan_play.proofs.RunLaws.{next_length}
 use Rattle.lane_play.specs.declared.packed.Lanes.{Lanes}
 use Rattle.lane_play.specs.inner.Lanes.{always, lane, lanes, lanes_rule}
-use Rattle.lane_play.specs.inner.Verdicts.{AreJudgedIn, AreLeft, found_at, is_open}
+use Rattle.lane_play.specs.inner.Verdicts.{AreLeft, found_at, is_open}
 use Rattle.lane_play.specs.Judged.{AreJudged}
-use Rattle.lane_play.specs.inner.Steps.{ArePlayed, AreSteps}
+use Rattle.lane_play.specs.inner.Steps.{AreEnded, ArePlayed, AreSteps}
 use Rattle.lane_play.proofs.LaneBits.{bit_none, lane_always, lane_next, lane_outs, lane_settles, lane_unknown}
 
 -- ---- one machine of lists
@@ -58,27 +57,26 @@ size_kept faults n pulse state after a sound size is =
 -- ---- a cycle
 
 module _ (J : Judging) (faults : List Fault) (n : Netlist) where
-  pub steps_from : (cycle : Cycle) (number : ℕ) (state after drive row values : List Lanes) (strobe : List Tri) (old new : List (Option Played)) → length faults ≤ 64 → IsSound n → length old ≤ 64
+  pub steps_from : (cycle : Cycle) (number : ℕ) (state after drive values : List Lanes) (strobe : List Tri) (old new : List (Option Played)) → length faults ≤ 64 → IsSound n → length old ≤ 64
       → drive ≡ map always cycle.drive → strobe ≡ cycle.strobe → length state ≡ length (cells n)
-      → ((d : Lanes) → Settles (lanes_rule faults) n drive state (at values d)) → ((d : Lanes) → row ≡ outs (lanes_rule faults) n (at values d))
-      → ((d : Lanes) → after ≡ cond cycle.pulse (next (lanes_rule faults) n (at values d)) state) → AreJudgedIn J number strobe row old new
+      → ((d : Lanes) → Settles (lanes_rule faults) n drive state (at values d)) → AreEnded J faults n cycle.pulse number strobe values state after old new
       → AreSteps J faults n state after cycle number old new
-  steps_from cycle number state after drive row values strobe old new machines sound few d s size settles shows keeps judged = record {
-    size = judged.size;
+  steps_from cycle number state after drive values strobe old new machines sound few d s size settles ended = record {
+    size = ended.judged.size;
     each = λ k l.
         let low : k < 64 = omega (arith, l, few) in
         let blank : Lanes = record { known = 0; value = 0 } in
         let a : ℕ → Lanes = at values blank in
-        let rule = tris (slice_get faults k) in
+        let row : List Tri = lanes k (outs (lanes_rule faults) n a) in
         record {
-          said = judged_in J number 0 strobe (lanes k row);
-          step = step_from J (slice_get faults k) n cycle number (lanes k state) (lanes k after) (lanes k drive) strobe (lanes k row) (λ x. lane k (a x)) (judged_in J number 0 strobe (lanes k row)) sound
+          said = judged_in J number 0 strobe row;
+          step = step_from J (slice_get faults k) n cycle number (lanes k state) (lanes k after) (lanes k drive) strobe row (λ x. lane k (a x)) (judged_in J number 0 strobe row) sound
               (ap (lanes k) d ∙ lanes_always k low cycle.drive) s (length-map state (lane k) ∙ size)
               (lane_settles k low faults machines n drive state a (settles blank))
-              (ap (lanes k) (shows blank) ∙ sym (lane_outs k low faults machines n a))
-              (ap (lanes k) (keeps blank) ∙ (lanes_chosen k cycle.pulse (next (lanes_rule faults) n a) state ∙ ap (λ vs. cond cycle.pulse vs (lanes k state)) (sym (lane_next k low faults machines n a))))
+              (sym (lane_outs k low faults machines n a))
+              (ap (lanes k) ended.ticked ∙ (lanes_chosen k cycle.pulse (next (lanes_rule faults) n a) state ∙ ap (λ vs. cond cycle.pulse vs (lanes k state)) (sym (lane_next k low faults machines n a))))
               refl;
-          found = judged.each k l;
+          found = ended.judged.each k l;
         };
   }
 

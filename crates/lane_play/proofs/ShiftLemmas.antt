@@ -7,19 +7,17 @@ use Rattle.netlist.specs.declared.lines.Fault.{Fault}
 use Rattle.netlist.specs.Conditions.{IsSound}
 use Rattle.netlist.specs.Netlist.{Netlist, cells, signals, IsGateAt}
 use Rattle.netlist.specs.Settled.{Settles, at, next, outs}
-use Rattle.tri.specs.Settled.{tris}
+use Rattle.netlist.specs.Settling.{AreSourcesDriven, AreEvaluated}
 use Rattle.scan_play.specs.declared.played.Played.{Played}
 use Rattle.scan_play.specs.Judging.{IsOpen, Judging, judged_in}
 use Rattle.scan_play.specs.Steps.{HasSteps}
-use Rattle.scan_play.specs.inner.Plans.{IsDrivenOnto, IsStepped}
 use Rattle.scan_play.proofs.PlanLemmas.{planned_driven, shift_planned, shift_step}
 use Rattle.scan_play.proofs.PlanMarks.{steps_known}
 use Rattle.lane_play.specs.declared.packed.Lanes.{Lanes}
 use Rattle.lane_play.specs.inner.Lanes.{always, lane, lanes, lanes_rule}
 use Rattle.lane_play.specs.inner.Shifts.{AreCommon, ArePlanned}
-use Rattle.lane_play.specs.inner.Steps.{AreSteps}
-use Rattle.lane_play.specs.inner.Verdicts.{AreJudgedIn}
-use Rattle.lane_play.proofs.Machines.{common_known, machine_next, machine_outs, machine_settles}
+use Rattle.lane_play.specs.inner.Steps.{AreEnded, AreSteps}
+use Rattle.lane_play.proofs.Machines.{common_known, machine_next, machine_outs, machine_settles, machine_sources, machine_steps}
 use Rattle.lane_play.proofs.PlayedLemmas.{lanes_always, lanes_chosen, lanes_unknown}
 
 -- ---- a plan
@@ -51,30 +49,29 @@ planned_gates faults n drive strobe steps values plan = (plan 0 (omega arith)).h
 module _ (J : Judging) (opens : IsOpen J) (faults : List Fault) (machines : length faults ≤ 64) (n net : Netlist) (drive : List Bool) (strobe : List Tri) (steps : List ℕ) (v0 v1 v2 : List Lanes)
     (ins : List Bool) (outs_of : List Tri) (state driven from : List Lanes) (there : net ≡ n) (sound : IsSound n) (plan : ArePlanned faults n drive strobe steps v0) (wide : length (drive ++ ins) ≡ length n.inputs)
     (size : length state ≡ length (cells n)) (is_driven : driven ≡ map always (drive ++ ins)) (is_from : from ≡ state)
-    (onto : (k : ℕ) → k < 64 → IsDrivenOnto (slice_get faults k) net (lanes k driven) (lanes k from) (lanes k v0) (lanes k v1))
-    (stepped : (k : ℕ) → k < 64 → IsStepped (slice_get faults k) net steps (lanes k v1) (lanes k v2)) where
+    (onto : AreSourcesDriven (lanes_rule faults) net driven from v0 v1) (stepped : AreEvaluated (lanes_rule faults) net steps v1 v2) where
   pub still_planned : ArePlanned faults n drive strobe steps v2
   still_planned k low =
       shift_planned J opens (slice_get faults k) n net drive strobe steps (lanes k v0) (lanes k v1) (lanes k v2) ins outs_of (lanes k state) (lanes k driven) (lanes k from) there sound (plan k low) wide
-      (length-map state (lane k) ∙ size) (ap (lanes k) is_driven ∙ lanes_always k low (drive ++ ins)) (ap (lanes k) is_from) (onto k low) (stepped k low)
+      (length-map state (lane k) ∙ size) (ap (lanes k) is_driven ∙ lanes_always k low (drive ++ ins)) (ap (lanes k) is_from) (machine_sources k low faults machines net driven from v0 v1 onto) (machine_steps k low faults machines net steps v1 v2 stepped)
 
-  pub shift_steps : (pulse : Bool) (number : ℕ) (seen row after : List Lanes) (strobes : List Tri) (old new : List (Option Played)) → length old ≤ 64 → seen ≡ v2
-      → ((d : Lanes) → row ≡ outs (lanes_rule faults) n (at seen d)) → strobes ≡ strobe ++ outs_of → ((d : Lanes) → after ≡ cond pulse (next (lanes_rule faults) n (at v2 d)) state)
-      → AreJudgedIn J number strobes row old new → AreSteps J faults n state after (record { drive = drive ++ ins; strobe = strobe ++ outs_of; pulse = pulse }) number old new
-  shift_steps pulse number seen row after strobes old new few s shows t keeps judged = record {
-    size = judged.size;
+  pub shift_steps : (pulse : Bool) (number : ℕ) (after : List Lanes) (strobes : List Tri) (old new : List (Option Played)) → length old ≤ 64 → strobes ≡ strobe ++ outs_of
+      → AreEnded J faults n pulse number strobes v2 state after old new → AreSteps J faults n state after (record { drive = drive ++ ins; strobe = strobe ++ outs_of; pulse = pulse }) number old new
+  shift_steps pulse number after strobes old new few t ended = record {
+    size = ended.judged.size;
     each = λ k l.
         let low : k < 64 = omega (arith, l, few) in
         let blank : Lanes = record { known = 0; value = 0 } in
-        let own = tris (slice_get faults k) in
+        let row : List Tri = lanes k (outs (lanes_rule faults) n (at v2 blank)) in
         record {
-          said = judged_in J number 0 strobes (lanes k row);
+          said = judged_in J number 0 strobes row;
           step = shift_step J opens (slice_get faults k) n net drive strobe steps (lanes k v0) (lanes k v1) (lanes k v2) ins outs_of (lanes k state) (lanes k driven) (lanes k from) there sound (plan k low) wide
-              (length-map state (lane k) ∙ size) (ap (lanes k) is_driven ∙ lanes_always k low (drive ++ ins)) (ap (lanes k) is_from) (onto k low) (stepped k low)
-              pulse number (lanes k seen) (lanes k row) strobes (lanes k after) (judged_in J number 0 strobes (lanes k row)) (ap (lanes k) s)
-              (ap (lanes k) (shows blank) ∙ machine_outs k low faults machines n seen) t refl
-              (ap (lanes k) (keeps blank)
+              (length-map state (lane k) ∙ size) (ap (lanes k) is_driven ∙ lanes_always k low (drive ++ ins)) (ap (lanes k) is_from)
+              (machine_sources k low faults machines net driven from v0 v1 onto) (machine_steps k low faults machines net steps v1 v2 stepped)
+              pulse number (lanes k v2) row strobes (lanes k after) (judged_in J number 0 strobes row) refl
+              (machine_outs k low faults machines n v2) t refl
+              (ap (lanes k) ended.ticked
               ∙ (lanes_chosen k pulse (next (lanes_rule faults) n (at v2 blank)) state ∙ ap (λ vs. cond pulse vs (lanes k state)) (machine_next k low faults machines n v2)));
-          found = judged.each k l;
+          found = ended.judged.each k l;
         };
   }

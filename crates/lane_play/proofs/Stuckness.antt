@@ -2,14 +2,15 @@
 use Rattle.std.proofs.Common.{◌≡◌, ℕ, suc, zero, ◌+◌, ◌-◌, ◌<◌, ◌≤◌, Bool, true, false, ◌&&◌, if◌then◌else◌, List, [], ◌∷◌, map, length, get_or, set, drop, replicate, refl, sym, ◌∙◌, ap, subst, inl, inr, eqb, arith}
 use Rattle.std.specs.List.{All}
 use Rattle.std.proofs.lemmas.Bool.{eqb-true, cases_eq, cases_Bool, both_ways}
-use Rattle.std.proofs.lemmas.List.{drop_more, get_or_default, length-set, get_or-set_same, get_or-set_other, get_or-replicate, length-replicate}
+use Rattle.std.proofs.lemmas.List.{length-map, drop_more, get_or_default, length-set, get_or-set_same, get_or-set_other, get_or-replicate, length-replicate}
 use Rattle.netlist.specs.declared.kinds.Kind.{Kind}
 use Rattle.netlist.specs.declared.lines.Fault.{Fault}
 use Rattle.netlist.specs.declared.lines.Line.{Line}
 use Rattle.netlist.specs.declared.lines.Line.TheVariants.{Stem, Pin, Out}
 use Rattle.netlist.specs.Lines.{signal_of}
-use Rattle.netlist.specs.Settled.{is_line, on_pins, at}
+use Rattle.netlist.specs.Settled.{Rule, is_line, on_pins, at}
 use Rattle.netlist.proofs.Lists.{map_agree}
+use Rattle.events.proofs.Stuck.{length-on_pins}
 use Rattle.lane_play.specs.declared.packed.Lanes.{Lanes}
 use Rattle.lane_play.specs.declared.spans.Span.{Span}
 use Rattle.lane_play.specs.inner.Lanes.{forced_from, gate_lanes, lanes_rule, with_lane}
@@ -36,6 +37,14 @@ same_signal (Pin x j) (Stem y) e = absurd (both_ways false refl e)
 same_signal (Pin x j) (Out y) e = absurd (both_ways false refl e)
 same_signal (Out x) (Stem y) e = absurd (both_ways false refl e)
 same_signal (Out x) (Pin y k) e = absurd (both_ways false refl e)
+
+-- ---- pins
+
+-- there is a value for each pin
+pub length-read : (rule : Rule Lanes) (z : ℕ) (values : List Lanes) (pins : List ℕ) → length (on_pins rule z 0 (map (at values (record { known = 0; value = 0 })) pins)) ≡ length pins
+length-read rule z values pins =
+    let blank : Lanes = record { known = 0; value = 0 } in
+    length-on_pins rule z 0 (map (at values blank) pins) ∙ length-map pins (at values blank)
 
 -- ---- faults passed over
 
@@ -126,15 +135,6 @@ made_any faults id kind ids values made e d below is =
     is ∙ ap (λ vs. (lanes_rule faults).line (Stem id) (gate_lanes kind (on_pins (lanes_rule faults) id 0 vs))) (same_reads values ids e d below)
 
 -- ---- the spans
-
-no_spans : (faults : List Fault) (x : ℕ) (span : Span) → span.to ≡ 0 → IsSpanned faults 0 x span
-no_spans faults x span e = record { within = omega (arith, e); inside = λ j d l same. absurd (omega (arith, l)) }
-
-pub spans_begin : (faults : List Fault) (count : ℕ) (spans : List Span) (e : Span) → e.to ≡ 0 → spans ≡ replicate count e → AreSpans faults 0 spans
-spans_begin faults count spans e z is x d l =
-    let size : length spans ≡ count = ap length is ∙ length-replicate count e in
-    let same : get_or spans x d ≡ e = ap (λ (xs : List Span). get_or xs x d) is ∙ get_or-replicate count x e d (omega (arith, l, size)) in
-    subst (λ s. IsSpanned faults 0 x s) (sym same) (no_spans faults x e z)
 
 -- the spans with one machine more, which is at a line of another signal, or at one of this
 module _ (faults : List Fault) (m : ℕ) (few : m < length faults) (f : Fault) (is : f ≡ get_or faults m f) where

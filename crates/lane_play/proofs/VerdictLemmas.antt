@@ -44,9 +44,6 @@ left_more found m left left' item bit l few is b same others h k low = elim (cas
 
 -- ---- what is said at a strobe
 
-masked_none : (b : Bool) → false ≡ (not true && b)
-masked_none b = refl
-
 told_cases : (z o x : Option Played) (k b : Bool)
     → ((not (is_open z) && (k && not b)) || ((not (is_open o) && (k && b)) || (not (is_open x) && not k))) ≡ not (is_open (said_of z o x (if k then known b else X)))
 told_cases None None None true true = refl
@@ -98,9 +95,6 @@ said_as z o x say a b c Zero = a
 said_as z o x say a b c One = b
 said_as z o x say a b c X = c
 
-pub said_alike : (say say' : Tri → Option Played) (shown : Lanes) (old new : List (Option Played)) → ((v : Tri) → say v ≡ say' v) → AreSaid say shown old new → AreSaid say' shown old new
-said_alike say say' shown old new same h = record { size = h.size; each = λ k l. h.each k l ∙ ap (played_or_else (found_at old k)) (same (lane k shown)) }
-
 or_none : (x : Option Played) → x ≡ played_or_else x None
 or_none None = refl
 or_none (Some p) = refl
@@ -131,9 +125,6 @@ pub record IsTakenDown (say : Tri → Option Played) (shown : Lanes) (m : ℕ) (
   pub done : (k : ℕ) → k < m → k < length old → found_at new k ≡ played_or_else (found_at old k) (say (lane k shown))
   pub others : (k : ℕ) → m ≤ k → found_at new k ≡ found_at old k
 
-pub none_down : (say : Tri → Option Played) (shown : Lanes) (old : List (Option Played)) → IsTakenDown say shown 0 old old
-none_down say shown old = record { size = refl; done = λ k l m. absurd (omega (arith, l)); others = λ k l. refl }
-
 pub one_down : (say : Tri → Option Played) (shown : Lanes) (m : ℕ) (old new : List (Option Played)) (item said put : Option Played) → m < length new → item ≡ get_or new m item
     → said ≡ say (lane m shown) → put ≡ played_or_else item said → IsTakenDown say shown m old new → IsTakenDown say shown (m + 1) old (set new m put)
 one_down say shown m old new item said put l is s p h = record {
@@ -148,9 +139,6 @@ one_down say shown m old new item said put l is s p h = record {
   others = λ k high. get_or-set_other new m k put None (λ e. omega (arith, high, e)) ∙ h.others k (omega (arith, high));
 }
 
-pub all_down : (say : Tri → Option Played) (shown : Lanes) (m : ℕ) (old new : List (Option Played)) → length old ≤ m → IsTakenDown say shown m old new → AreSaid say shown old new
-all_down say shown m old new all h = record { size = h.size; each = λ k l. h.done k (omega (arith, l, all)) l }
-
 -- ---- what is said in a cycle
 
 or_assoc : (x y z : Option Played) → played_or_else x (played_or_else y z) ≡ played_or_else (played_or_else x y) z
@@ -162,9 +150,6 @@ pub record AreJudgedUpTo (says : Judging) (cycle o : ℕ) (strobes : List Tri) (
   pub size : length new ≡ length old
   pub each : (k : ℕ) → k < length old
       → played_or_else (found_at old k) (judged_in says cycle 0 strobes (lanes k shown)) ≡ played_or_else (found_at new k) (judged_in says cycle o (drop o strobes) (drop o (lanes k shown)))
-
-pub none_judged : (says : Judging) (cycle : ℕ) (strobes : List Tri) (shown : List Lanes) (old : List (Option Played)) → AreJudgedUpTo says cycle 0 strobes shown old old
-none_judged says cycle strobes shown old = record { size = refl; each = λ k l. refl }
 
 pub one_judged : (says : Judging) (cycle o : ℕ) (strobes : List Tri) (shown : List Lanes) (old new new' : List (Option Played)) (d : Tri) (e : Lanes) → o < length strobes → length strobes ≡ length shown
     → AreSaid (says cycle o (get_or strobes o d)) (get_or shown o e) new new' → AreJudgedUpTo says cycle o strobes shown old new → AreJudgedUpTo says cycle (o + 1) strobes shown old new'
@@ -189,11 +174,3 @@ nothing_left [] zero l = refl
 nothing_left [] (suc o) l = refl
 nothing_left (y ∷ ys) zero l = absurd (omega (arith, l))
 nothing_left (y ∷ ys) (suc o) l = nothing_left ys o (omega (arith, l))
-
-pub all_judged : (says : Judging) (cycle o : ℕ) (strobes : List Tri) (shown : List Lanes) (old new : List (Option Played)) → length strobes ≤ o → AreJudgedUpTo says cycle o strobes shown old new
-    → AreJudgedIn says cycle strobes shown old new
-all_judged says cycle o strobes shown old new all h = record {
-  size = h.size;
-  each = λ k l.
-      sym (h.each k l ∙ (ap (λ ss. played_or_else (found_at new k) (judged_in says cycle o ss (drop o (lanes k shown)))) (nothing_left strobes o all) ∙ sym (or_none (found_at new k))));
-}

@@ -1,20 +1,18 @@
 //! Cycles in which each gate is evaluated.
-ghost use Rattle.std.specs.Prelude.{◌≡◌, ◌+◌, ◌^◌, ◌<◌, ◌++◌, List, cond, length, map, IfOk, OnOk};
+ghost use Rattle.std.specs.Prelude.{◌≡◌, ◌+◌, ◌^◌, ◌<◌, ◌++◌, List, length, map, IfOk, OnOk};
 ghost use Rattle.std.specs.List.{All};
 ghost use Rattle.netlist.specs.Netlist.{cells, signals};
-ghost use Rattle.netlist.specs.Settled.{at, next};
 ghost use Rattle.scan_play.specs.Bursts.{cycle_of, cycles_of};
 ghost use Rattle.scan_play.specs.Cycles.{Cycle, IsCycleOf};
-ghost use Rattle.lane_play.specs.inner.Lanes.{always, lanes_rule};
-ghost use Rattle.lane_play.specs.declared.packed.Lanes.{Lanes as Packed};
-ghost use Rattle.lane_play.specs.inner.Steps.{ArePlayed, AreSteps};
+ghost use Rattle.lane_play.specs.inner.Lanes.{always};
+ghost use Rattle.lane_play.specs.inner.Steps.{AreEnded, ArePlayed, AreSteps};
 
 use crate::evaluating::settle_into;
 use crate::judging::{Verdicts, judge_row};
 use crate::packed::Lanes;
 use crate::stuck::Stuck;
 use netlist::{Core, Tri};
-use scan_play::{Burst, Judge};
+use scan_play::{Burst, Judge, tick};
 use std::alloc::AllocError;
 
 /// What the machines' cells hold, and room for what a cycle drives, strobes and shows, and for the values of all signals.
@@ -49,24 +47,31 @@ pub(crate) fn read_drive(burst: &Burst, t: usize, drive: &mut Vec<Lanes>) -> Res
     Ok(())
 }
 
-/// The cells take their next values, where the clock has a pulse.
-pub(crate) fn tick(
+/// Judges what a cycle shows, and has the cells take their next values.
+pub(crate) fn end_cycle<J: Judge>(
     core: &Core,
     rule: &Stuck,
+    judge: &J,
     pulse: bool,
-    values: &[Lanes],
-    state: &mut Vec<Lanes>,
-) -> Result<(), AllocError>
-    requires { length values.now ≡ length (signals core.now) }
-    ensures { OnOk result ((d : Packed) → state.new.items ≡ cond pulse (next (lanes_rule rule.now.faults.now) core.now (at values.now d)) state.old.items) }
+    number: u64,
+    bench: &mut Bench,
+    verdicts: Verdicts,
+) -> Result<Verdicts, AllocError>
+    requires size { length bench.old.state.items ≡ length (cells core.now) }
+    requires room { length bench.old.values.items ≡ length (signals core.now) }
+    requires strobes { length bench.old.strobe.items ≡ length core.now.outputs }
+    ensures size { IfOk result (λ _. length bench.new.state.items ≡ length (cells core.now)) }
+    ensures values { IfOk result (λ _. bench.new.values.items ≡ bench.old.values.items) }
+    ensures ended { IfOk result (λ v. AreEnded (J.says judge.now) rule.now.faults.now core.now pulse number bench.old.strobe.items bench.old.values.items bench.old.state.items bench.new.state.items verdicts.found.items v.found.items) }
 {
-    if !pulse {
-        return Ok(());
-    }
-    core.next_into(rule, values, state)
+    core.netlist().sound();
+    core.outs_into(rule, &bench.values, &mut bench.shown)?;
+    let found = judge_row(judge, number, &bench.strobe, &bench.shown, verdicts);
+    tick(core, rule, pulse, &bench.values, &mut bench.state)?;
+    Ok(found)
 }
 
-/// Plays one cycle.
+/// Plays one cycle: each gate is evaluated.
 fn play_cycle<J: Judge>(
     core: &Core,
     rule: &Stuck,
@@ -97,9 +102,7 @@ fn play_cycle<J: Judge>(
         &bench.state,
         &mut bench.values,
     );
-    core.outs_into(rule, &bench.values, &mut bench.shown)?;
-    let found = judge_row(judge, number, &bench.strobe, &bench.shown, verdicts);
-    tick(core, rule, burst.pulse, &bench.values, &mut bench.state)?;
+    let found = end_cycle(core, rule, judge, burst.pulse, number, bench, verdicts)?;
     Ok(found)
 }
 

@@ -164,11 +164,7 @@ pub fn play_lanes<J: Judge>(
     requires few { length vectors.now < 2 ^ 64 }
     ensures { IfOk result (λ found. AreJudged (J.says judge.now) core.now faults.now vectors.now found.items) }
 {
-    match play_from_unknown(alloc, core, faults, vectors, judge) {
-        Ok(verdicts) => {
-            let Verdicts { found, left: _ } = verdicts;
-            Ok(found)
-        }
-        Err(_) => Err(NoMemory),
-    }
+    let verdicts = play_from_unknown(alloc, core, faults, vectors, judge)?;
+    let Verdicts { found, left: _ } = verdicts;
+    Ok(found)
 }

@@ -7,11 +7,11 @@ ghost use Rattle.scan_play.specs.Cycles.{Cycle, IsCycleOf};
 ghost use Rattle.lane_play.specs.inner.Shifts.{ArePlanned};
 ghost use Rattle.lane_play.specs.inner.Steps.{ArePlayed, AreSteps};
 
-use crate::cycles::{Bench, read_drive, tick};
-use crate::evaluating::{drive_sources, evaluate_all};
-use crate::judging::{Verdicts, judge_row};
+use crate::cycles::{Bench, end_cycle, read_drive};
+use crate::evaluating::evaluate_all;
+use crate::judging::Verdicts;
 use crate::stuck::Stuck;
-use netlist::{Core, SignalId};
+use netlist::{Core, SignalId, drive_sources};
 use scan_play::{Burst, Judge};
 use std::alloc::AllocError;
 
@@ -41,9 +41,7 @@ fn play_shift<J: Judge>(
     burst.read_strobe(t, &mut bench.strobe)?;
     drive_sources(rule, netlist, &bench.drive, &bench.state, &mut bench.values);
     evaluate_all(rule, netlist, steps, &mut bench.values);
-    core.outs_into(rule, &bench.values, &mut bench.shown)?;
-    let found = judge_row(judge, number, &bench.strobe, &bench.shown, verdicts);
-    tick(core, rule, burst.pulse, &bench.values, &mut bench.state)?;
+    let found = end_cycle(core, rule, judge, burst.pulse, number, bench, verdicts)?;
     Ok(found)
 }
 

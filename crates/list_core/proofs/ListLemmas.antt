@@ -42,20 +42,6 @@ pub get_behind : {A : Type 0} (xs ys : List A) (k : ℕ) → slice_get (xs ++ ys
 get_behind [] ys k = ap (slice_get ys) (none_more k)
 get_behind (x ∷ xs) ys k = ap (slice_get (x ∷ (xs ++ ys))) (one_more (length xs) k) ∙ get_behind xs ys k
 
--- a journal more
-swap_or : (a b c : Bool) → ((a || b) || c) ≡ ((a || c) || b)
-swap_or true true true = refl
-swap_or true true false = refl
-swap_or true false true = refl
-swap_or true false false = refl
-swap_or false true true = refl
-swap_or false true false = refl
-swap_or false false true = refl
-swap_or false false false = refl
-
-nothing_or : (a : Bool) → a ≡ (false || a)
-nothing_or a = refl
-
 pub is_taken-append : (es fs : List Entry) (class : ℕ) → is_taken (es ++ fs) class ≡ (is_taken fs class || is_taken es class)
 is_taken-append [] fs class = or_nothing (is_taken fs class)
   where

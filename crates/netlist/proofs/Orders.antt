@@ -43,6 +43,9 @@ module _ (n : Netlist) (numbered : IsNumbered n) where
   pub gate_below : (x : ℕ) → IsGateAt n x → x < length (signals n)
   gate_below x w = subst (λ y. y < length (signals n)) w.2 (definition_below n numbered w.0 (gate_defined n numbered w.0 w.1))
 
+  pub gate_high : (x : ℕ) → IsGateAt n x → length n.inputs ≤ x
+  gate_high x w = subst (λ y. length n.inputs ≤ y) w.2 (definition_high w.0 (gate_defined n numbered w.0 w.1))
+
   -- gates that were placed one by one
   pub order_of : (order ranks : List ℕ) → IsPlaced n order ranks → ((d : Definition) → Contains (gates n) d → 0 < get_or ranks d.id 0) → IsOrder n order
   order_of order ranks h all = record {

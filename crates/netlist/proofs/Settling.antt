@@ -1,19 +1,20 @@
 -- One more gate is evaluated.
-use Rattle.std.proofs.Common.{◌≡◌, ℕ, suc, zero, ◌+◌, ◌-◌, ◌<◌, ◌≤◌, ◌≢◌, Bool, true, false, cond, take, List, [], ◌∷◌, ◌++◌, map, length, get_or, set, sym, ◌∙◌, ap, subst, inl, inr, arith}
+use Rattle.std.proofs.Common.{◌≡◌, ℕ, suc, zero, ◌+◌, ◌-◌, ◌<◌, ◌≤◌, ◌≢◌, Bool, true, false, cond, take, List, [], ◌∷◌, ◌++◌, map, length, get_or, set, refl, sym, ◌∙◌, ap, subst, inl, inr, arith}
 use Rattle.std.specs.List.{All, AllZip, AllPairs, Contains, filter}
 use Rattle.std.proofs.lemmas.Bool.{cases_eq}
 use Rattle.std.proofs.lemmas.List.{length-set, get_or-set_same, get_or-set_other, get_or_default, get_or-map, get_or_append_left, length-map, length-append, map-append, length_push, length-take-le}
 use Rattle.std.proofs.lemmas.Grind.{take_at_read}
 use Rattle.std.proofs.lemmas.List.Elements.{All-contains, All-map, Contains-get_or}
-use Rattle.netlist.specs.Netlist.{Definition, Netlist, is_cell, cells, gates, signals}
+use Rattle.netlist.specs.Netlist.{Definition, Netlist, is_cell, cells, gates, signals, IsGateAt}
 use Rattle.netlist.specs.Conditions.{IsClosed, IsNumbered}
 use Rattle.netlist.specs.declared.lines.Line.TheVariants.{Stem, Pin}
 use Rattle.netlist.specs.Settled.{Rule, Settles, on_pins, pins_of, at, AreRead}
-use Rattle.netlist.specs.inner.Settling.{SettlesUpTo, AllSettleUpTo, IsDriven}
+use Rattle.netlist.specs.Settling.{IsDriven, AreSourcesDriven, IsEvaluated, AreEvaluated}
+use Rattle.netlist.specs.inner.Settling.{SettlesUpTo, AllSettleUpTo}
 use Rattle.netlist.specs.Orders.{IsOrder}
-use Rattle.netlist.proofs.Lists.{contains_head, contains_tail, map_agree, contains_filter, All-from_contains}
-use Rattle.netlist.proofs.Placed.{same_definition, definition_below, signal_below, gate_defined, id_at}
-use Rattle.netlist.proofs.Orders.{definition_high, place_in, same_place, other_input, other_cell, other_pin}
+use Rattle.netlist.proofs.Lists.{contains_head, contains_tail, map_agree, contains_filter, contains_map, All-from_contains}
+use Rattle.netlist.proofs.Placed.{same_definition, definition_below, signal_below, gate_defined, id_at, signals_length}
+use Rattle.netlist.proofs.Orders.{definition_high, input_no_gate, cell_no_gate, place_in, same_place, other_input, other_cell, other_pin}
 
 -- where the relation changes only at elements that are not in the list
 pub zip_kept : {X Y : Type 0} (R Q : X → Y → Type 0) (xs : List X) (ys : List Y) → ((x : X) (y : Y) → Contains xs x → R x y → Q x y) → AllZip R xs ys → AllZip Q xs ys
@@ -77,6 +78,52 @@ module _ (n : Netlist) (numbered : IsNumbered n) (order : List ℕ) (ordered : I
     All-from_contains (λ (g : Definition). at values d g.id ≡ rule.line (Stem g.id) (rule.gate g (pins_of rule (at values d) g))) (gates n)
         (λ g c. let w = place_in n numbered order ordered g c in h.done w.0 (let l : w.0 < length order = w.1 in omega arith) g c (sym w.2)),
   )
+
+-- what holds at first and goes on holding as each gate is evaluated holds at the end
+pub by_steps : {V : Type 0} (rule : Rule V) (n : Netlist) (Holds : ℕ → List V → Type 0) (steps : List ℕ)
+    → ((m x : ℕ) (a b : List V) → m < length steps → x ≡ get_or steps m x → IsEvaluated rule n x a b → Holds m a → Holds (m + 1) b)
+    → (old new : List V) → AreEvaluated rule n steps old new → Holds 0 old → Holds (length steps) new
+by_steps rule n Holds [] step old new made h = subst (Holds 0) (sym made) h
+by_steps rule n Holds (x ∷ xs) step old new made h =
+    by_steps rule n (λ m. Holds (suc m)) xs (λ m y a b l is one g.
+    let on : suc m + 1 ≡ suc (m + 1) = omega arith in
+    subst (λ k. Holds k b) on (step (suc m) y a b (omega arith) is one g)) made.0 new made.2 (step 0 x old made.0 (omega arith) refl made.1 h)
+
+-- one gate more is evaluated
+pub evaluate_more : {V : Type 0} (rule : Rule V) (n : Netlist) (steps : List ℕ) (x : ℕ) (old between new : List V) → AreEvaluated rule n steps old between → IsEvaluated rule n x between new
+    → AreEvaluated rule n (steps ++ x ∷ []) old new
+evaluate_more rule n [] x old between new made one = (new, subst (λ vs. IsEvaluated rule n x vs new) made one, refl)
+evaluate_more rule n (y ∷ ys) x old between new made one = (made.0, made.1, evaluate_more rule n ys x made.0 between new made.2 one)
+
+module _ (n : Netlist) (numbered : IsNumbered n) (order : List ℕ) (ordered : IsOrder n order) {V : Type 0} (rule : Rule V) (inputs state : List V) where
+  settle_one : (m x : ℕ) (old new : List V) → m < length order → x ≡ get_or order m x → IsEvaluated rule n x old new → AllSettleUpTo rule n order inputs state old m
+      → AllSettleUpTo rule n order inputs state new (m + 1)
+  settle_one m x old new l is made h =
+      let w = ordered.members m 0 l in
+      let here : w.0.id ≡ x = w.2 ∙ (get_or_default order m 0 x l ∙ sym is) in
+      record {
+        size = made.size ∙ h.size;
+        each = λ d.
+            let v = rule.line (Stem w.0.id) (rule.gate w.0 (pins_of rule (at old d) w.0)) in
+            subst (λ vs. SettlesUpTo rule n order inputs state vs (m + 1) d) (sym (made.set w.0 d w.1 here ∙ ap (λ y. set old y v) (sym here)))
+            (settle_more n numbered order ordered rule inputs state old m d (h.each d) l w.0 w.1 w.2 v refl);
+      }
+
+  -- sources are driven and then the gates of an order evaluated
+  pub all_settle : (old driven new : List V) → length old ≡ length (signals n) → AreSourcesDriven rule n inputs state old driven → AreEvaluated rule n order driven new
+      → (d : V) → Settles rule n inputs state (at new d)
+  all_settle old driven new size sources made d =
+      let total = sources.size ∙ size in
+      let all = by_steps rule n (λ m values. AllSettleUpTo rule n order inputs state values m) order settle_one driven new made (record {
+        size = total;
+        each = λ d. record {
+          size = total;
+          inputs_driven = sources.inputs_driven d;
+          cells_driven = sources.cells_driven d;
+          done = λ k l. absurd (omega (arith, l));
+        };
+      }) in
+      settled n numbered order ordered rule inputs state new (length order) d (all.each d) (omega arith)
 
 pub drive_more : {V : Type 0} (rule : Rule V) (ids : List ℕ) (driven old new : List V) (m i : ℕ) (v w : V) → IsDriven rule ids driven old new m
     → m < length ids → m < length driven → i < length new → i ≡ get_or ids m 0
@@ -225,6 +272,26 @@ module _ (n : Netlist) (numbered : IsNumbered n) where
               ∙ ap (rule.line (Stem (get_or (cells n) k c).id)) (get_or_default state k d v (omega arith)))));
           done = λ k l. absurd (omega arith);
         };
+      }
+
+  -- what is driven onto inputs, and then onto cells
+  pub sources_driven : {V : Type 0} (rule : Rule V) (ids cell_ids : List ℕ) (inputs state v0 v1 v2 : List V)
+      → length v0 ≡ length (signals n) → ids ≡ n.inputs → cell_ids ≡ map (λ (d : Definition). d.id) (cells n) → length inputs ≡ length n.inputs → length state ≡ length (cells n)
+      → IsDriven rule ids inputs v0 v1 (length ids) → IsDriven rule cell_ids state v1 v2 (length cell_ids) → AreSourcesDriven rule n inputs state v0 v2
+  sources_driven rule ids cell_ids inputs state v0 v1 v2 size is cs li ls a b =
+      let all = driven rule [] ids cell_ids inputs state v0 v1 v2 (size ∙ signals_length n) is cs li ls a b in
+      record {
+        size = b.size ∙ a.size;
+        inputs_driven = λ d. (all.each d).inputs_driven;
+        cells_driven = λ d. (all.each d).cells_driven;
+        gates_stay = λ x d gate.
+            b.others x d (λ k l e.
+            let c = subst (λ (xs : List ℕ). Contains xs (get_or cell_ids k 0)) cs (Contains-get_or cell_ids k 0 l) in
+            let m = contains_map (λ (d : Definition). d.id) (cells n) (get_or cell_ids k 0) c in
+            cell_no_gate n numbered m.0 m.1 (subst (IsGateAt n) (e ∙ sym m.2) gate))
+            ∙ a.others x d (λ k l e.
+            let c : Contains n.inputs (get_or ids k 0) = subst (λ (xs : List ℕ). Contains xs (get_or ids k 0)) is (Contains-get_or ids k 0 l) in
+            input_no_gate n numbered (get_or ids k 0) c (subst (IsGateAt n) e gate));
       }
 
 -- one more pin has been read

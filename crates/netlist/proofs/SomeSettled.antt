@@ -7,7 +7,8 @@ use Rattle.netlist.specs.Netlist.{Definition, Netlist, cells, IsAcyclic}
 use Rattle.netlist.specs.Conditions.{IsClosed, IsNumbered}
 use Rattle.netlist.specs.Orders.{IsOrder}
 use Rattle.netlist.specs.Settled.{Rule, Settles, pins_of, at}
-use Rattle.netlist.specs.inner.Settling.{SettlesUpTo, IsDriven}
+use Rattle.netlist.specs.Settling.{IsDriven}
+use Rattle.netlist.specs.inner.Settling.{SettlesUpTo}
 use Rattle.netlist.proofs.OrderExists.{order_exists}
 use Rattle.netlist.proofs.Settling.{drive_more, driven, settle_more, settled, cells_below, cells_distinct, inputs_below, inputs_distinct}
 use Rattle.netlist.proofs.Placed.{signals_length}

@@ -39,21 +39,6 @@ tie_placed p q z room within none free places = record {
   started = λ n numbered h. started_with n numbered p q z within none free places h;
 }
 
--- it is no gate without pins
-pub tie_passed : (p : Placing) (z : ℕ) → HasRoom p → (get_or p.ranks.items z 0 ≡ 0 → 0 < get_or p.counts.items z 0) → PlacesTie z p p
-tie_passed p z room other = record {
-  room = room;
-  size = refl;
-  started = λ n numbered h. record {
-    placed = h.placed;
-    counted = h.counted;
-    waits = λ d g l e. elim (cases_eq d.id z) [
-      | inl same ↦ subst (λ i. 0 < get_or p.counts.items i 0) (sym same) (other (sym (ap (λ i. get_or p.ranks.items i 0) same) ∙ e))
-      | inr differs ↦ h.waits d g (omega arith) e
-    ];
-  };
-}
-
 -- no gate without pins is left
 pub ties_placed : (n : Netlist) → IsNumbered n → (p : Placing) (m : ℕ) → length p.ranks.items ≤ m → IsStarted n m p → IsCounted n nothing [] p
 ties_placed n numbered p m all h = record {

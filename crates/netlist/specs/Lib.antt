@@ -6,6 +6,7 @@ pub mod Detection
 pub mod Gates
 pub mod Names
 pub mod Settled
+pub mod Settling
 pub mod Conditions
 pub mod Designs
 pub mod Readers

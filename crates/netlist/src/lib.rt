@@ -1,8 +1,9 @@
 //! Gate netlists: signals, faults, and the one notion of settled values on which all simulation stands.
 //!
-//! Gives: `Netlist`, `Core`, `Fault`, `Holds`, `NoMemory`, and the one evaluator, `Core::settle_into`, over any rule (`Logic`).
+//! Gives: `Netlist`, `Core`, `Fault`, `Holds`, `NoMemory`, and the one evaluator, `Core::settle_into`, over any rule (`Logic`),
+//! with its two steps, `drive_sources` and `evaluate_all`.
 //! Proved: a `Netlist` is acyclic and reads nothing undefined; `Netlist::new` refuses exactly, in order, with the least signal; each getter exactly;
-//! `settle_into`, `outs_into` and `next_into` give what settles by any rule, `eval` the settled bits with a line stuck or none; the laws
+//! what sources and chosen gates then have; `settle_into`, `outs_into` and `next_into` give what settles by any rule, `eval` the settled bits with a line stuck or none; the laws
 //! `holds_everywhere` (induction), `settles_once`, `some_settles`, `settle_alike` (of two rules that keep a relation).
 //! Neither: time.
 #![tactic(auto)]
@@ -33,6 +34,6 @@ pub use lines::{Fault, Line, Point};
 pub use netlists::{MOST_DESIGN_SIGNALS, MOST_SIGNALS, NetRefusal, Netlist};
 pub use no_memory::NoMemory;
 pub use rows::Texts as NameTable;
-pub use rules::Logic;
+pub use rules::{Logic, drive_sources, evaluate_all};
 pub use schedules::Schedule;
 pub use signals::SignalId;

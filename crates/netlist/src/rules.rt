@@ -5,14 +5,14 @@
 //! and proved once, over a trait.
 //!
 //! The alternative, to evaluate only what a change reaches, is `events`, where few values change from one call to the next. Here all are new.
-ghost use Rattle.std.specs.Prelude.{◌≡◌, ◌≢◌, ◌<◌, ◌≤◌, ℕ, List, length, map, IfOk, OnOk};
+ghost use Rattle.std.specs.Prelude.{◌≡◌, ◌≢◌, ◌<◌, ◌≤◌, length, IfOk, OnOk};
 ghost use Rattle.std.specs.List.{All, AllPairs};
 ghost use Rattle.netlist.specs.Gates.{most_pins};
 ghost use Rattle.netlist.specs.Netlist.{Definition as Equation, Netlist as Equations, cells, signals, IsGateAt};
 ghost use Rattle.netlist.specs.Conditions.{IsSound};
 ghost use Rattle.netlist.specs.Orders.{IsOrder};
 ghost use Rattle.netlist.specs.Settled.{Settles, at, AreRead};
-ghost use Rattle.netlist.specs.inner.Settling.{IsDriven, AllSettleUpTo, IsEvaluated};
+ghost use Rattle.netlist.specs.Settling.{IsDriven, AreSourcesDriven, IsEvaluated, AreEvaluated};
 
 use crate::equations::Definition;
 use crate::lines::Line;
@@ -105,8 +105,8 @@ fn evaluate<L: Logic>(
     Ok(())
 }
 
-/// Puts what is driven onto inputs and cells.
-fn drive_sources<L: Logic>(
+/// Puts what is driven onto inputs and cells; each gate keeps its value.
+pub fn drive_sources<L: Logic>(
     logic: &L,
     netlist: &Netlist,
     inputs: &[L::Value],
@@ -117,10 +117,31 @@ fn drive_sources<L: Logic>(
     requires inputs { length inputs.now ≡ length netlist.now.inputs }
     requires state { length state.now ≡ length (cells netlist.now) }
     requires size { length values.old.items ≡ length (signals netlist.now) }
-    ensures { (order : List ℕ) → AllSettleUpTo (L.rule logic.now) netlist.now order inputs.now state.now values.new.items 0 }
+    ensures { AreSourcesDriven (L.rule logic.now) netlist.now inputs.now state.now values.old.items values.new.items }
 {
     drive(logic, netlist.inputs(), inputs, values);
     drive(logic, netlist.cells(), state, values);
+}
+
+/// Evaluates these gates, one after the other; `pins` is room for a gate's pins.
+/// With room in `pins` for the most pins of any of them no memory is asked for.
+pub fn evaluate_all<L: Logic>(
+    logic: &L,
+    netlist: &Netlist,
+    steps: &[SignalId],
+    values: &mut Vec<L::Value>,
+    pins: &mut Vec<L::Value>,
+) -> Result<(), AllocError>
+    requires sound { IsSound netlist.now }
+    requires gates { All (IsGateAt netlist.now) steps.now }
+    requires size { length values.old.items ≡ length (signals netlist.now) }
+    ensures made { OnOk result (AreEvaluated (L.rule logic.now) netlist.now steps.now values.old.items values.new.items) }
+    ensures size { length values.new.items ≡ length values.old.items }
+{
+    for id in steps {
+        evaluate(logic, netlist, *id, values, pins)?;
+    }
+    Ok(())
 }
 
 /// The values that settle, in a buffer that has a value for each signal already; `pins` is room for a gate's pins.
@@ -142,9 +163,7 @@ pub(crate) fn settle_into<L: Logic>(
     ensures size { length values.new.items ≡ length (signals netlist.now) }
 {
     drive_sources(logic, netlist, inputs, state, values);
-    for id in order {
-        evaluate(logic, netlist, *id, values, pins)?;
-    }
+    evaluate_all(logic, netlist, order, values, pins)?;
     Ok(())
 }
 

@@ -22,20 +22,6 @@ use Rattle.events.specs.Stuck.{IsObservedOnly}
 use Rattle.observed_points.specs.Points.{points, watched, AreFirst, AreCellPoints, IsReadAt}
 use Rattle.observed_points.proofs.ObservedPoints.{points_count, watched_count, output_in, cell_in, signal_in, signal_within, watched_in}
 
--- no point is looked at
-pub none_first : (xs : List ℕ) (count m : ℕ) → m ≡ length xs → AreFirst xs count m (replicate count (length xs))
-none_first xs count m e = record {
-  size = length-replicate count (length xs);
-  each = λ x l.
-      let is : get_or (replicate count (length xs)) x 0 ≡ length xs = get_or-replicate count x (length xs) 0 l in
-      record {
-        bounded = omega arith;
-        here = λ h. absurd (omega arith);
-        low = λ h. absurd (omega arith);
-        before = λ k h k<. absurd (omega arith);
-      };
-}
-
 -- one point more
 pub first_more : (xs : List ℕ) (count m i : ℕ) (first : List ℕ) → AreFirst xs count (m + 1) first → m < length xs → i ≡ get_or xs m 0 → i < count → AreFirst xs count m (set first i m)
 first_more xs count m i first h l is low = record {

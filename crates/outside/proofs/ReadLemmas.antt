@@ -34,12 +34,3 @@ too_long_exactly bytes max (Err (read.TooLong n)) h k longer = inl (ap (λ seen.
 too_long_exactly bytes max (Err read.Missing) h k longer = absurd (not_None _ h)
 too_long_exactly bytes max (Err read.Failed) h k longer = inr tt
 too_long_exactly bytes max (Err read.NoMemory) h k longer = inr tt
-
--- where it is not, the answer is its bytes
-pub found_exactly : (bytes : List ℕ) (max : ℕ) (result : Result (Vec ℕ Global) ReadRefusal)
-    → Tells (Some bytes) max result → length bytes ≤ max → ((found : Vec ℕ Global) × (result ≡ Ok found) × (found.items ≡ bytes)) ⊎ IsFree result
-found_exactly bytes max (Ok found) h short = inl (found, refl, sym (same_Some _ _ h))
-found_exactly bytes max (Err (read.TooLong n)) h short = absurd (omega (arith, h, short))
-found_exactly bytes max (Err read.Missing) h short = absurd (not_None _ h)
-found_exactly bytes max (Err read.Failed) h short = inr tt
-found_exactly bytes max (Err read.NoMemory) h short = inr tt

@@ -398,13 +398,3 @@ module _ (first : List ℕ) (count : ℕ) (values : List Label) (ids : List ℕ)
             ]
             );
       }
-
--- nothing is in view yet
-pub nothing_viewed : (first : List ℕ) (count : ℕ) (values : List Label) → AreViewed first count values [] count false
-nothing_viewed first count values = record {
-  bounded = omega arith;
-  here = λ l. absurd (omega arith);
-  before = λ x c h. absurd (contains_nil x c);
-  some = λ h. absurd (both_ways false refl h);
-  none = λ h x c. absurd (contains_nil x c);
-}

@@ -30,12 +30,3 @@ undecided_none (Some b ∷ row) h = absurd (let e = h 0 in cc)
 
 pub reverse_push : (vs : List Level) (v : Level) → reverse (vs ++ v ∷ []) ≡ v ∷ reverse vs
 reverse_push vs v = reverse-append vs (v ∷ [])
-
-first_contradicted : (vs : List Level) (d : Level) → 0 < length vs → is_contradicted vs ≡ (get_or vs 0 d).contradicted
-first_contradicted [] d l = absurd (omega arith)
-first_contradicted (v ∷ vs) d l = refl
-
-pub last_contradicted : (vs : List Level) (d : Level) → 0 < length vs → is_contradicted (reverse vs) ≡ (get_or vs (length vs - 1) d).contradicted
-last_contradicted vs d l =
-    first_contradicted (reverse vs) d (let e = length-reverse vs in omega arith)
-    ∙ ap (λ (v : Level). v.contradicted) (get_or-reverse vs 0 d l ∙ ap (λ k. get_or vs k d) (omega arith))

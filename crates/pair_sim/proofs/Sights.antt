@@ -54,18 +54,11 @@ pub no_effect_more : (labels : List Label) (l : Label) → HaveNoEffect labels �
 no_effect_more labels l none h =
     All-append (λ (m : Label). has_effect m ≡ false) labels (l ∷ []) none (All-cons (λ (m : Label). has_effect m ≡ false) l [] h (All-nil _))
 
-pub same_more : (labels : List Label) (l : Label) → All (λ (m : Label). m.may_differ ≡ false) labels → l.may_differ ≡ false → All (λ (m : Label). m.may_differ ≡ false) (labels ++ l ∷ [])
-same_more labels l all h =
-    All-append (λ (m : Label). m.may_differ ≡ false) labels (l ∷ []) all (All-cons (λ (m : Label). m.may_differ ≡ false) l [] h (All-nil _))
-
 pub differs_more : (labels : List Label) (l : Label) → (m : Label) × Contains labels m × (m.may_differ ≡ true) → (m : Label) × Contains (labels ++ l ∷ []) m × (m.may_differ ≡ true)
 differs_more labels l w = (w.0, Contains-append_left labels (l ∷ []) w.0 w.1, w.2)
 
 pub differs_here : (labels : List Label) (l : Label) → l.may_differ ≡ true → (m : Label) × Contains (labels ++ l ∷ []) m × (m.may_differ ≡ true)
 differs_here labels l h = (l, Contains-push labels l, h)
-
-pub nothing_seen : IsSight [] Same
-nothing_seen = (All-nil _, All-nil _)
 
 -- ---- how many observed points there are
 

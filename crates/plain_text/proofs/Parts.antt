@@ -25,11 +25,6 @@ no_suffix xs s other r e =
     other_text (drop (length xs - length s) xs) s (sym other)
     (ap (λ ys. drop (length ys - length s) ys) e ∙ (ap (λ k. drop k (r ++ s)) size ∙ drop-append_seam r s))
 
-pub parts_at : (xs : List ℕ) (i c : ℕ) → i < length xs → get_or xs i 0 ≡ c → xs ≡ take i xs ++ c ∷ drop (i + 1) xs
-parts_at xs i c l e =
-    let next : i + 1 ≡ suc i = omega arith in
-    sym (take-append-drop i xs) ∙ (ap (λ ys. take i xs ++ ys) (drop-cons xs i 0 l) ∙ (ap (λ b. take i xs ++ b ∷ drop (suc i) xs) e ∙ ap (λ k. take i xs ++ c ∷ drop k xs) (sym next)))
-
 -- parts at the first such byte
 pub same_parts : (c : ℕ) (xs ys rs ss : List ℕ) → All (λ b. b ≢ c) xs → All (λ b. b ≢ c) ys → xs ++ c ∷ rs ≡ ys ++ c ∷ ss → (xs ≡ ys) × (rs ≡ ss)
 same_parts c [] [] rs ss h k e = (refl, cc)

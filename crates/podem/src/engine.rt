@@ -1,14 +1,17 @@
-//! The engine: up to three attempts, each a whole search, of which the last alone may give up. They differ in the pin that the backtrace goes to, so
+//! The engine: up to four attempts, each a whole search, of which the last alone may give up. They differ in the pin that the backtrace goes to, so
 //! what one misses another may find; a fault that is redundant mostly stays so dear to all of them.
 ghost use Rattle.std.specs.Prelude.{◌≡◌, ◌≤◌, [], None, IfOk, IfSome, OnOk};
 ghost use Rattle.netlist.specs.Holds.{AreHoldsOf};
 ghost use Rattle.pair_sim.specs.Sims.{sim};
+ghost use Rattle.decision_stack.specs.Cases.{IsCase, start};
+ghost use Rattle.decision_stack.specs.Turns.{IsOfCase};
 ghost use Rattle.redundancy_cert.specs.Evidence.{HasEvidence};
 ghost use Rattle.podem.specs.Sources.{HasSourceEvidence};
-ghost use Rattle.decision_stack.specs.Turns.{IsOfCase};
+ghost use Rattle.podem.specs.inner.Searching.{IsAnswer, IsKept};
 
 use crate::guides::{Guide, Pick};
 use crate::searching::search_from;
+use decision_stack::Case;
 use netlist::{Core, Fault, Holds, NoMemory};
 use pair_sim::{PairSim, SimRoom};
 use redundancy_cert::{Engine, Found};
@@ -31,28 +34,28 @@ pub struct PodemRoom {
 /// As many Closed an attempt may take before the search begins anew.
 const FEW: u32 = 16;
 
+/// So often it begins anew with pins by a hash.
+const ROUNDS: u32 = 2;
+
 /// A short search, if its answer is more than that it gave up; if not, its decisions are taken back.
 fn short_attempt(
     alloc: Global,
-    core: &Core,
+    case: &Case,
     guide: &Guide,
-    fault: &Fault,
-    holds: &Holds,
     effects: &mut Effects,
     labels: &mut PairSim,
     limit: u32,
 ) -> Result<Option<Found>, AllocError>
-    requires start { labels.old ≡ sim core.now fault.now holds.now [] }
-    requires fit { AreHoldsOf core.now holds.now }
-    ensures evidence { IfOk result (λ o. IfSome o (HasEvidence fault.now core.now holds.now limit)) }
-    ensures sources { IfOk result (λ o. IfSome o (HasSourceEvidence fault.now core.now holds.now limit)) }
-    ensures kept { OnOk result (IsOfCase fault.now core.now holds.now labels.new) }
-    ensures back { IfOk result (λ o. o ≡ None → labels.new ≡ sim core.now fault.now holds.now []) }
+    requires case { IsCase case.now }
+    requires begins { labels.old ≡ start case.now }
+    ensures answer { IfOk result (λ o. IfSome o (IsAnswer case.now limit)) }
+    ensures kept { OnOk result (IsKept case.now labels.new) }
+    ensures back { IfOk result (λ o. o ≡ None → labels.new ≡ start case.now) }
 {
     if limit <= FEW {
         return Ok(None);
     }
-    match search_from(alloc, core, guide, fault, holds, effects, labels, FEW)? {
+    match search_from(alloc, case, guide, effects, labels, FEW)? {
         Found::Test(cube, point) => Ok(Some(Found::Test(cube, point))),
         Found::Closed(tree) => Ok(Some(Found::Closed(tree))),
         Found::Partial(_) => {
@@ -63,6 +66,40 @@ fn short_attempt(
 }
 
 /// The attempts, one after the other.
+fn each_attempt(
+    alloc: Global,
+    case: &Case,
+    measures: &Measures,
+    effects: &mut Effects,
+    labels: &mut PairSim,
+    limit: u32,
+) -> Result<Found, AllocError>
+    requires case { IsCase case.now }
+    requires begins { labels.old ≡ start case.now }
+    requires some { 1 ≤ limit }
+    ensures answer { IfOk result (IsAnswer case.now limit) }
+    ensures kept { OnOk result (IsKept case.now labels.new) }
+{
+    let needed = Guide::new(measures, &case.fault, Pick::Needed);
+    if let Some(found) = short_attempt(alloc, case, &needed, effects, labels, limit)? {
+        return Ok(found);
+    }
+    for round in 0..ROUNDS {
+        let any = Guide::new(measures, &case.fault, Pick::Any(round));
+        if let Some(found) = short_attempt(alloc, case, &any, effects, labels, limit)? {
+            return Ok(found);
+        }
+    }
+    let last = if limit <= FEW {
+        Pick::Needed
+    } else {
+        Pick::Lowest
+    };
+    let guide = Guide::new(measures, &case.fault, last);
+    search_from(alloc, case, &guide, effects, labels, limit)
+}
+
+/// The attempts in labels of the path without decisions: from here on what stays the same in them is one value.
 fn attempts(
     alloc: Global,
     core: &Core,
@@ -80,23 +117,14 @@ fn attempts(
     ensures sources { IfOk result (HasSourceEvidence fault.now core.now holds.now limit) }
     ensures kept { OnOk result (IsOfCase fault.now core.now holds.now labels.new) }
 {
-    let needed = Guide::new(measures, fault, Pick::Needed);
-    if let Some(found) = short_attempt(
-        alloc, core, &needed, fault, holds, effects, labels, limit,
-    )? {
-        return Ok(found);
-    }
-    let any = Guide::new(measures, fault, Pick::Any);
-    if let Some(found) = short_attempt(alloc, core, &any, fault, holds, effects, labels, limit)? {
-        return Ok(found);
-    }
-    let last = if limit <= FEW {
-        Pick::Needed
-    } else {
-        Pick::Lowest
+    core.netlist().sound();
+    let case = Case {
+        core,
+        fault: *fault,
+        holds,
     };
-    let guide = Guide::new(measures, fault, last);
-    search_from(alloc, core, &guide, fault, holds, effects, labels, limit)
+    let found = each_attempt(alloc, &case, measures, effects, labels, limit)?;
+    Ok(found)
 }
 
 impl Podem {

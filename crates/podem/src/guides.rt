@@ -2,11 +2,12 @@
 ghost use Rattle.std.specs.Prelude.{◌≡◌};
 ghost use Rattle.pair_sim.specs.Sims.{IsNotBlocked};
 
+use decision_stack::Case;
 use netlist::{Core, Fault, Kind, Line, SignalId};
 use pair_sim::PairSim;
 use testability::{
-    Aim, Effects, Measures, count_pins, driver, gate_of, is_unknown, may_get_effect, place_of,
-    readers, signal_count,
+    Aim, Effects, Measures, count_pins, driver, gate_of, hash_in, is_unknown, may_get_effect,
+    mixed, place_of, readers, salt_of, signal_count,
 };
 
 /// A gate that the fault's effect has reached, what it costs to see it, and what lets the effect through.
@@ -22,8 +23,8 @@ struct Front {
 pub(crate) enum Pick {
     /// Where one pin decides the easiest, and where all have to have the bit the hardest.
     Needed,
-    /// One by a hash of fault and signal.
-    Any,
+    /// One by a hash of fault and signal, another one in each round.
+    Any(u32),
     /// The lowest in the order of evaluation: what is low is decided by little.
     Lowest,
 }
@@ -55,7 +56,7 @@ impl<'a> Guide<'a> {
         let zero = self.cost(signal, false);
         let one = self.cost(signal, true);
         if zero == one {
-            return is_odd(mixed(self.salt ^ signal.index() as u64));
+            return mixed(self.salt ^ signal.index() as u64) & 1 == 1;
         }
         one < zero
     }
@@ -65,32 +66,10 @@ impl<'a> Guide<'a> {
         let cost = self.cost(pin, bit);
         match self.pick {
             Pick::Needed => u64::from(if dear { u32::MAX - cost } else { cost }),
-            Pick::Any => mixed(self.salt ^ pin.index() as u64),
+            Pick::Any(round) => hash_in(round, self.salt, pin),
             Pick::Lowest => place_of(core, pin),
         }
     }
-}
-
-/// A number whose bits depend on all bits of another one. (The finisher of SplitMix64: Steele, Lea and Flood, Fast splittable pseudorandom
-/// number generators, 2014.)
-fn mixed(number: u64) -> u64 {
-    let one = (number ^ (number >> 30)).wrapping_mul(0xbf58_476d_1ce4_e5b9);
-    let other = (one ^ (one >> 27)).wrapping_mul(0x94d0_49bb_1331_11eb);
-    other ^ (other >> 31)
-}
-
-fn is_odd(number: u64) -> bool {
-    number & 1 == 1
-}
-
-/// A number for a fault: one signal and one pin in 2 to the 32 each, and the stuck value.
-fn salt_of(fault: &Fault) -> u64 {
-    let (signal, place) = match &fault.line {
-        Line::Stem(x) => (*x, 0),
-        Line::Out(x) => (*x, 1),
-        Line::Pin(z, k) => (*z, u64::from(*k).wrapping_add(2)),
-    };
-    mixed((signal.index() as u64) << 32 ^ place << 1 ^ u64::from(fault.value))
 }
 
 /// Whether a weight is less than the least so far.
@@ -259,18 +238,13 @@ fn consider_readers(
 }
 
 /// The best gate of the D-frontier: those that read a signal with an effect, whose own label may still get one.
-fn frontier(
-    core: &Core,
-    guide: &Guide,
-    fault: &Fault,
-    effects: &Effects,
-    labels: &PairSim,
-) -> Option<Front>
-    requires same { labels.now.netlist ≡ core.now }
+fn frontier(case: &Case, guide: &Guide, effects: &Effects, labels: &PairSim) -> Option<Front>
+    requires same { labels.now.netlist ≡ case.now.core.now }
     requires not_blocked { IsNotBlocked labels.now }
 {
+    let core = case.core;
     let mut best = None;
-    if let Line::Pin(gate, _) = &fault.line {
+    if let Line::Pin(gate, _) = &case.fault.line {
         best = consider(core, guide, labels, *gate, best);
     }
     for number in 0..effects.len() {
@@ -282,37 +256,30 @@ fn frontier(
 }
 
 /// The objective: the fault is excited, and then the gate of the D-frontier that is nearest to the observed points lets its effect through.
-fn objective(
-    core: &Core,
-    guide: &Guide,
-    fault: &Fault,
-    effects: &Effects,
-    labels: &PairSim,
-) -> Option<Aim>
-    requires same { labels.now.netlist ≡ core.now }
+fn objective(case: &Case, guide: &Guide, effects: &Effects, labels: &PairSim) -> Option<Aim>
+    requires same { labels.now.netlist ≡ case.now.core.now }
     requires not_blocked { IsNotBlocked labels.now }
 {
-    let site = driver(core, &fault.line);
-    if is_unknown(core, labels, site) {
+    let site = driver(case.core, &case.fault.line);
+    if is_unknown(case.core, labels, site) {
         return Some(Aim {
             signal: site,
-            bit: !fault.value,
+            bit: !case.fault.value,
         });
     }
-    Some(frontier(core, guide, fault, effects, labels)?.aim)
+    Some(frontier(case, guide, effects, labels)?.aim)
 }
 
 /// What to decide, if the labels tell.
 pub(crate) fn best_aim(
-    core: &Core,
+    case: &Case,
     guide: &Guide,
-    fault: &Fault,
     effects: &Effects,
     labels: &PairSim,
 ) -> Option<Aim>
-    requires same { labels.now.netlist ≡ core.now }
+    requires same { labels.now.netlist ≡ case.now.core.now }
     requires not_blocked { IsNotBlocked labels.now }
 {
-    let start = objective(core, guide, fault, effects, labels)?;
-    Some(trace_back(core, guide, labels, &start))
+    let start = objective(case, guide, effects, labels)?;
+    Some(trace_back(case.core, guide, labels, &start))
 }

@@ -11,19 +11,16 @@ ghost use Rattle.std.specs.Prelude.{◌≡◌, ◌≤◌, ◌<◌, [], ◌∷◌
 ghost use Rattle.std.specs.List.{All, Contains};
 ghost use Rattle.netlist.specs.declared.kinds.Tri.TheVariants.{X};
 ghost use Rattle.netlist.specs.Netlist.{signals};
-ghost use Rattle.tri.specs.Paths.{IsUnknown, IsClosedPath, IsGoingPath};
-ghost use Rattle.pair_sim.specs.Sims.{sim, HasGood, IsFree};
-ghost use Rattle.redundancy_cert.specs.Stacks.{path_of_stack};
-ghost use Rattle.redundancy_cert.specs.Evidence.{HasEvidence, IsTestCube};
-ghost use Rattle.netlist.specs.Holds.{AreHoldsOf};
-ghost use Rattle.decision_stack.specs.Turns.{IsOfCase};
-ghost use Rattle.podem.specs.Sources.{all_sources, sources, value_of, HasSourceEvidence};
-ghost use Rattle.podem.specs.inner.Searching.{IsAt, IsSeen, IsGone, IsKnownAt, IsTestAt, IsStepped, IsChosen};
+ghost use Rattle.decision_stack.specs.Cases.{IsCase, start};
+ghost use Rattle.pair_sim.specs.Sims.{HasGood, IsFree};
+ghost use Rattle.redundancy_cert.specs.Evidence.{IsTestCube};
+ghost use Rattle.podem.specs.Sources.{all_sources, value_of};
+ghost use Rattle.podem.specs.inner.Searching.{MayGoOn, IsFreeSource, IsChosen, IsClosedSide, IsGoingSide, IsSeen, IsGone, IsKnownAt, IsTestAt, IsStepped, IsAnswer, IsKept};
 
 use crate::guides::{Guide, best_aim};
 use cubes::Cube;
-use decision_stack::{Step, close_both, closed_tree, one_if, push, tree_so_far};
-use netlist::{Core, Fault, Holds, Point, SignalId, Tri};
+use decision_stack::{Case, Step, close_both, closed_tree, one_if, push, tree_so_far};
+use netlist::{Core, Point, SignalId, Tri};
 use pair_sim::{PairSim, State};
 use redundancy_cert::{Found, Other, Side, Tree};
 use std::alloc::{AllocError, Global};
@@ -72,20 +69,11 @@ fn first_free(labels: &PairSim, ids: &[SignalId]) -> Option<SignalId>
 }
 
 /// A source that is X: while the search may go on there is one.
-fn any_free(
-    core: &Core,
-    fault: &Fault,
-    holds: &Holds,
-    labels: &PairSim,
-    stack: &Vec<Side>,
-) -> SignalId
-    requires at { IsAt fault.now core.now holds.now labels.now stack.now.items }
-    requires going { IsGoingPath fault.now core.now holds.now (path_of_stack stack.now.items) }
-    ensures source { Contains (sources core.now holds.now) result }
-    ensures free { IsUnknown fault.now core.now holds.now (path_of_stack stack.now.items) result }
+fn any_free(case: &Case, labels: &PairSim, stack: &Vec<Side>) -> SignalId
+    requires { MayGoOn case.now labels.now stack.now.items }
+    ensures { IsFreeSource case.now stack.now.items result }
 {
-    let netlist = core.netlist();
-    netlist.sound();
+    let netlist = case.core.netlist();
     match first_free(labels, netlist.inputs()) {
         Some(signal) => signal,
         None => match first_free(labels, netlist.cells()) {
@@ -125,21 +113,17 @@ fn wanted_source(core: &Core, labels: &PairSim, wanted: SignalId) -> Option<Sign
 
 /// The source to which the objective leads back.
 fn guided(
-    core: &Core,
+    case: &Case,
     guide: &Guide,
-    fault: &Fault,
-    holds: &Holds,
     effects: &Effects,
     labels: &PairSim,
     stack: &Vec<Side>,
 ) -> Option<Aim>
-    requires at { IsAt fault.now core.now holds.now labels.now stack.now.items }
-    requires going { IsGoingPath fault.now core.now holds.now (path_of_stack stack.now.items) }
-    ensures { IfSome result (λ a. Contains (sources core.now holds.now) a.signal × IsUnknown fault.now core.now holds.now (path_of_stack stack.now.items) a.signal) }
+    requires { MayGoOn case.now labels.now stack.now.items }
+    ensures { IfSome result (λ a. IsFreeSource case.now stack.now.items a.signal) }
 {
-    core.netlist().sound();
-    let aim = best_aim(core, guide, fault, effects, labels)?;
-    let signal = wanted_source(core, labels, aim.signal)?;
+    let aim = best_aim(case, guide, effects, labels)?;
+    let signal = wanted_source(case.core, labels, aim.signal)?;
     Some(Aim {
         signal,
         bit: aim.bit,
@@ -147,24 +131,14 @@ fn guided(
 }
 
 /// What to decide next.
-fn choose(
-    core: &Core,
-    guide: &Guide,
-    fault: &Fault,
-    holds: &Holds,
-    effects: &Effects,
-    labels: &PairSim,
-    stack: &Vec<Side>,
-) -> Aim
-    requires at { IsAt fault.now core.now holds.now labels.now stack.now.items }
-    requires going { IsGoingPath fault.now core.now holds.now (path_of_stack stack.now.items) }
-    ensures source { Contains (sources core.now holds.now) result.signal }
-    ensures free { IsUnknown fault.now core.now holds.now (path_of_stack stack.now.items) result.signal }
+fn choose(case: &Case, guide: &Guide, effects: &Effects, labels: &PairSim, stack: &Vec<Side>) -> Aim
+    requires { MayGoOn case.now labels.now stack.now.items }
+    ensures { IsFreeSource case.now stack.now.items result.signal }
 {
-    match guided(core, guide, fault, holds, effects, labels, stack) {
+    match guided(case, guide, effects, labels, stack) {
         Some(aim) => aim,
         None => Aim {
-            signal: any_free(core, fault, holds, labels, stack),
+            signal: any_free(case, labels, stack),
             bit: false,
         },
     }
@@ -173,94 +147,81 @@ fn choose(
 /// A turn where this side is closed: goes to the other one.
 fn after_closed(
     alloc: Global,
-    core: &Core,
-    fault: &Fault,
-    holds: &Holds,
+    case: &Case,
     effects: &mut Effects,
     labels: &mut PairSim,
     stack: &mut Vec<Side>,
-    signal: SignalId,
-    bit: bool,
+    side: Aim,
 ) -> Result<Step, AllocError>
-    requires chosen { IsChosen fault.now core.now holds.now labels.old stack.old.items signal }
-    requires closed { IsClosedPath fault.now core.now holds.now ((signal, bit) ∷ path_of_stack stack.old.items) }
-    ensures { IfOk result (IsStepped fault.now core.now holds.now stack.old.items labels.new stack.new.items) }
+    requires chosen { IsChosen case.now labels.old stack.old.items side.signal }
+    requires closed { IsClosedSide case.now stack.old.items side.signal side.bit }
+    ensures { IfOk result (IsStepped case.now stack.old.items labels.new stack.new.items) }
 {
-    core.netlist().sound();
-    match go(labels, signal, !bit) {
+    match go(labels, side.signal, !side.bit) {
         State::Test(point) => Ok(Step::Found(point)),
-        State::Blocked => close_both(alloc, effects, labels, stack, signal, bit),
-        State::Going => push(stack, signal, !bit, Other::Shut),
+        State::Blocked => close_both(alloc, effects, labels, stack, side.signal, side.bit),
+        State::Going => push(stack, side.signal, !side.bit, Other::Shut),
     }
 }
 
 /// A turn where this side may be gone on with: goes to the other one, and to this one where that is closed.
 fn after_going(
-    core: &Core,
-    fault: &Fault,
-    holds: &Holds,
+    case: &Case,
     labels: &mut PairSim,
     stack: &mut Vec<Side>,
-    signal: SignalId,
-    bit: bool,
+    side: Aim,
 ) -> Result<Step, AllocError>
-    requires chosen { IsChosen fault.now core.now holds.now labels.old stack.old.items signal }
-    requires going { IsGoingPath fault.now core.now holds.now ((signal, bit) ∷ path_of_stack stack.old.items) }
-    ensures { IfOk result (IsStepped fault.now core.now holds.now stack.old.items labels.new stack.new.items) }
+    requires chosen { IsChosen case.now labels.old stack.old.items side.signal }
+    requires going { IsGoingSide case.now stack.old.items side.signal side.bit }
+    ensures { IfOk result (IsStepped case.now stack.old.items labels.new stack.new.items) }
 {
-    core.netlist().sound();
-    match go(labels, signal, !bit) {
+    match go(labels, side.signal, !side.bit) {
         State::Test(point) => Ok(Step::Found(point)),
         State::Blocked => {
-            labels.assign(signal, bit);
-            push(stack, signal, bit, Other::Shut)
+            labels.assign(side.signal, side.bit);
+            push(stack, side.signal, side.bit, Other::Shut)
         }
-        State::Going => push(stack, signal, !bit, Other::Untried),
+        State::Going => push(stack, side.signal, !side.bit, Other::Untried),
     }
 }
 
 /// A turn of the search: the other side of a decision is looked at, and then its own side is gone to.
 fn take_turn(
     alloc: Global,
-    core: &Core,
+    case: &Case,
     guide: &Guide,
-    fault: &Fault,
-    holds: &Holds,
     effects: &mut Effects,
     labels: &mut PairSim,
     stack: &mut Vec<Side>,
 ) -> Result<Step, AllocError>
-    requires at { IsAt fault.now core.now holds.now labels.old stack.old.items }
-    requires going { IsGoingPath fault.now core.now holds.now (path_of_stack stack.old.items) }
-    ensures { IfOk result (IsStepped fault.now core.now holds.now stack.old.items labels.new stack.new.items) }
+    requires { MayGoOn case.now labels.old stack.old.items }
+    ensures { IfOk result (IsStepped case.now stack.old.items labels.new stack.new.items) }
 {
-    core.netlist().sound();
-    effects.follow(core, fault, labels)?;
-    let aim = choose(core, guide, fault, holds, effects, labels, stack);
-    match look(labels, aim.signal, !aim.bit) {
+    effects.follow(case.core, &case.fault, labels)?;
+    let aim = choose(case, guide, effects, labels, stack);
+    let other = Aim {
+        signal: aim.signal,
+        bit: !aim.bit,
+    };
+    match look(labels, other.signal, other.bit) {
         State::Test(point) => Ok(Step::Found(point)),
-        State::Blocked => after_closed(
-            alloc, core, fault, holds, effects, labels, stack, aim.signal, !aim.bit,
-        ),
-        State::Going => after_going(core, fault, holds, labels, stack, aim.signal, !aim.bit),
+        State::Blocked => after_closed(alloc, case, effects, labels, stack, other),
+        State::Going => after_going(case, labels, stack, other),
     }
 }
 
 /// The values of sources without the fault.
 fn source_values(
     alloc: Global,
-    core: &Core,
-    fault: &Fault,
-    holds: &Holds,
+    case: &Case,
     labels: &PairSim,
     ids: &[SignalId],
 ) -> Result<Vec<Tri>, AllocError>
-    requires case { IsOfCase fault.now core.now holds.now labels.now }
-    requires fit { AreHoldsOf core.now holds.now }
-    requires sources { All (Contains (all_sources core.now)) ids.now }
-    ensures { IfOk result (λ v. v.items ≡ map (value_of holds.now labels.now.path) ids.now) }
+    requires case { IsCase case.now }
+    requires of_case { IsKept case.now labels.now }
+    requires sources { All (Contains (all_sources case.now.core.now)) ids.now }
+    ensures { IfOk result (λ v. v.items ≡ map (value_of case.now.holds.now labels.now.path) ids.now) }
 {
-    core.netlist().sound();
     let mut values = Vec::with_capacity(alloc, ids.len())?;
     for id in ids {
         values.push(labels.good(*id))?;
@@ -271,50 +232,39 @@ fn source_values(
 /// The cube of a test.
 fn cube_there(
     alloc: Global,
-    core: &Core,
-    fault: &Fault,
-    holds: &Holds,
+    case: &Case,
     labels: &PairSim,
     point: &Point,
 ) -> Result<Cube, AllocError>
-    requires test { IsTestAt fault.now core.now holds.now labels.now point.now }
-    requires fit { AreHoldsOf core.now holds.now }
-    ensures { IfOk result (λ c. IsTestCube fault.now core.now holds.now c point.now) }
+    requires case { IsCase case.now }
+    requires test { IsTestAt case.now labels.now point.now }
+    ensures { IfOk result (λ c. IsTestCube case.now.fault case.now.core.now case.now.holds.now c point.now) }
 {
-    let netlist = core.netlist();
-    netlist.sound();
-    let inputs = source_values(alloc, core, fault, holds, labels, netlist.inputs())?;
-    let cells = source_values(alloc, core, fault, holds, labels, netlist.cells())?;
+    let netlist = case.core.netlist();
+    let inputs = source_values(alloc, case, labels, netlist.inputs())?;
+    let cells = source_values(alloc, case, labels, netlist.cells())?;
     Ok(Cube::new(inputs, cells))
 }
 
 /// The search from the path without decisions, where it may go on.
 fn search_on(
     alloc: Global,
-    core: &Core,
+    case: &Case,
     guide: &Guide,
-    fault: &Fault,
-    holds: &Holds,
     effects: &mut Effects,
     labels: &mut PairSim,
     limit: u32,
 ) -> Result<Found, AllocError>
-    requires start { labels.old ≡ sim core.now fault.now holds.now [] }
-    requires fit { AreHoldsOf core.now holds.now }
-    requires going { IsGoingPath fault.now core.now holds.now [] }
-    ensures evidence { IfOk result (HasEvidence fault.now core.now holds.now limit) }
-    ensures sources { IfOk result (HasSourceEvidence fault.now core.now holds.now limit) }
-    ensures kept { OnOk result (IsOfCase fault.now core.now holds.now labels.new) }
+    requires { MayGoOn case.now labels.old [] }
+    ensures answer { IfOk result (IsAnswer case.now limit) }
+    ensures kept { OnOk result (IsKept case.now labels.new) }
 {
-    core.netlist().sound();
     let mut stack = Vec::new(alloc);
     let mut closed: u32 = 0;
     while closed < limit {
-        match take_turn(
-            alloc, core, guide, fault, holds, effects, labels, &mut stack,
-        )? {
+        match take_turn(alloc, case, guide, effects, labels, &mut stack)? {
             Step::Found(point) => {
-                let cube = cube_there(alloc, core, fault, holds, labels, &point)?;
+                let cube = cube_there(alloc, case, labels, &point)?;
                 return Ok(Found::Test(cube, point));
             }
             Step::Done(nodes) => return Ok(Found::Closed(Tree::new(nodes))),
@@ -328,28 +278,21 @@ fn search_on(
 /// The search from the path without decisions: a test, a tree without Open, or a tree with as many Closed as the backtrack limit.
 pub(crate) fn search_from(
     alloc: Global,
-    core: &Core,
+    case: &Case,
     guide: &Guide,
-    fault: &Fault,
-    holds: &Holds,
     effects: &mut Effects,
     labels: &mut PairSim,
     limit: u32,
 ) -> Result<Found, AllocError>
-    requires start { labels.old ≡ sim core.now fault.now holds.now [] }
-    requires fit { AreHoldsOf core.now holds.now }
+    requires case { IsCase case.now }
+    requires begins { labels.old ≡ start case.now }
     requires some { 1 ≤ limit }
-    ensures evidence { IfOk result (HasEvidence fault.now core.now holds.now limit) }
-
-    // On inputs and cells alone: no Partial for a backtrack limit of 2 to their number, and no Open where there is a test.
-    ensures sources { IfOk result (HasSourceEvidence fault.now core.now holds.now limit) }
-
-    // The labels are those of some path.
-    ensures kept { OnOk result (IsOfCase fault.now core.now holds.now labels.new) }
+    ensures answer { IfOk result (IsAnswer case.now limit) }
+    ensures kept { OnOk result (IsKept case.now labels.new) }
 {
     match labels.state() {
         State::Test(point) => {
-            let cube = cube_there(alloc, core, fault, holds, labels, &point)?;
+            let cube = cube_there(alloc, case, labels, &point)?;
             Ok(Found::Test(cube, point))
         }
         State::Blocked => {
@@ -358,7 +301,7 @@ pub(crate) fn search_from(
         }
         State::Going => {
             effects.begin();
-            search_on(alloc, core, guide, fault, holds, effects, labels, limit)
+            search_on(alloc, case, guide, effects, labels, limit)
         }
     }
 }

@@ -132,15 +132,6 @@ sides x b o y c q ds s e u d k =
     ∙ (flip b ds ∙ sym (ap (λ (p : Other). cond b (other_nodes p ++ ds) (ds ++ other_nodes p)) u))) in
     ap (λ r. r ∷ cond c (other_nodes q ++ Open ∷ []) ((Open ∷ []) ++ other_nodes q)) node ∙ ap (λ ns. node_of x b o ∷ ns) below
 
-pub turned_same : (done : List Node) (old new : List Side) → IsTurned done old new → stack_tree new (Open ∷ []) ≡ stack_tree old done
-turned_same done old new t =
-    ap (λ ss. stack_tree ss (Open ∷ [])) t.is ∙ (whole-append t.front t.next (Open ∷ [])
-    ∙ (ap (stack_tree t.front) (sides t.last.signal t.last.bit t.last.other t.next.signal t.next.bit t.next.other done t.signal t.bit t.untried t.searched t.split)
-    ∙ (sym (whole-append t.front t.last done) ∙ ap (λ ss. stack_tree ss done) (sym t.was))))
-
-pub climbed_same : (done : List Node) (old new : List Side) (tree : List Node) → IsClimbed done old new tree → stack_tree new tree ≡ stack_tree old done
-climbed_same done old new tree w = ap (stack_tree new) w.is ∙ (sym (whole-append new w.last done) ∙ ap (λ ss. stack_tree ss done) (sym w.was))
-
 not_not : (b : Bool) → not (not b) ≡ b
 not_not true = refl
 not_not false = refl

@@ -1,7 +1,8 @@
 -- One step more, turned, or taken back.
-use Rattle.std.proofs.Common.{◌≡◌, ◌≢◌, ℕ, ◌<◌, Bool, true, false, not, cond, List, [], ◌∷◌, ◌++◌, length, get_or, set, Option, Some, None, refl, sym, ◌∙◌, ap, subst, inl, inr, eqb, eq-eqb}
+use Rattle.std.proofs.Common.{◌≡◌, ◌≢◌, ℕ, ◌+◌, ◌<◌, Bool, true, false, not, cond, List, [], ◌∷◌, ◌++◌, length, get_or, set, take, Option, Some, None, refl, sym, ◌∙◌, ap, subst, inl, inr, eqb, eq-eqb}
 use Rattle.std.specs.List.{All}
 use Rattle.std.proofs.lemmas.Bool.{cases_eq, eqb-true}
+use Rattle.std.proofs.lemmas.Grind.{take_at_read}
 use Rattle.std.proofs.lemmas.List.{get_or-set_same, get_or-set_other}
 use Rattle.std.proofs.lemmas.List.Elements.{All-head, All-push}
 use Rattle.netlist.specs.Netlist.{Netlist, signals}
@@ -44,6 +45,11 @@ set_decides row x o old new l h same here =
       | inr ne ↦ get_or-set_other row x y o None ne ∙ (ap (λ (d : Decisions). d y) h ∙ same y ne)
     ] in
     λ j y. each y j
+
+-- the step at k is the last of the first k + 1
+pub at_last : (p : Labelled) (items : List Step) (k j : ℕ) (s : Step) → j ≡ k + 1 → k < length items → s ≡ get_or items k s → IsAt p (take j items) → IsAt p (take k items ++ s ∷ [])
+at_last p items k j s one l is at =
+    subst (IsAt p) (ap (λ i. take i items) one ∙ ((take_at_read items k s l).1 ∙ ap (λ (r : Step). take k items ++ r ∷ []) (sym is))) at
 
 module _ (p q : Labelled) (front : List Step) (s : Step) (o : Option Bool) (stands : AreStanding p) (at : IsAt p (front ++ s ∷ []))
     (made : q ≡ record p { decided = set p.decided s.signal o; values = q.values }) where

@@ -82,9 +82,7 @@ impl<'a> Checker<'a> {
         requires { AreHoldsOf core.now holds.now }
         ensures { IfOk result (λ c. (c.netlist ≡ core.now) × (c.holds ≡ holds.now)) }
     {
-        let Ok(pass) = Pass::new(alloc, core, holds) else {
-            return Err(NoMemory);
-        };
+        let pass = Pass::new(alloc, core, holds)?;
         Ok(Checker {
             pass,
             path: Vec::new(alloc),

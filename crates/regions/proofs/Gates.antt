@@ -14,9 +14,6 @@ turned_at k t [] = []
 turned_at zero t (b ∷ bs) = turned t b ∷ bs
 turned_at (suc k) t (b ∷ bs) = b ∷ turned_at k t bs
 
-pub turned_none : (b : Bool) → turned false b ≡ b
-turned_none b = refl
-
 turned_not : (t b : Bool) → not (turned t b) ≡ turned t (not b)
 turned_not true b = refl
 turned_not false b = refl

@@ -156,23 +156,6 @@ module _ (n : Netlist) (values : List ℕ) where
     ];
   }
 
-pub closed_more : (size k : ℕ) (heads opens : List ℕ) → k < size → AreClosed size k heads opens → AreClosed size (k + 1) (set heads k k) (set opens k ones)
-closed_more size k heads opens l h =
-    let a = h.heads_size in
-    let b = h.opens_size in
-    record {
-      heads_size = length-set heads k k ∙ h.heads_size;
-      opens_size = length-set opens k ones ∙ h.opens_size;
-      heads_are = λ x m. elim (cases_eq x k) [
-        | inl e ↦ ap (λ y. get_or (set heads k k) y 0) e ∙ (get_or-set_same heads k k 0 (omega arith) ∙ sym e)
-        | inr ne ↦ get_or-set_other heads k x k 0 ne ∙ h.heads_are x (omega arith)
-      ];
-      opens_are = λ x m. elim (cases_eq x k) [
-        | inl e ↦ ap (λ y. get_or (set opens k ones) y 0) e ∙ get_or-set_same opens k ones 0 (omega arith)
-        | inr ne ↦ get_or-set_other opens k x ones 0 ne ∙ h.opens_are x (omega arith)
-      ];
-    }
-
 pub closed_open : (n : Netlist) (values : List ℕ) (size : ℕ) (heads opens : List ℕ) → size ≡ length (signals n) → AreClosed size size heads opens → AreOpen n values heads opens
 closed_open n values size heads opens e h = record {
   heads_size = h.heads_size ∙ e;

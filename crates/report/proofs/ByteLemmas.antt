@@ -54,9 +54,6 @@ pub word_by_test : (text : List ℕ) (told : Bool) → 0 < length text → told 
 word_by_test text told some e =
     ((λ t. record { some = some; bytes = all_by_test is_name_byte text (sym e ∙ t) }), (λ w. e ∙ test_by_all is_name_byte text w.bytes))
 
-pub no_word_empty : (text : List ℕ) → length text ≡ 0 → (false ≡ true) ↔ IsBenchWord text
-no_word_empty text none = ((λ t. absurd (false≢true t)), (λ w. let some = w.some in absurd (omega arith)))
-
 -- what follows from what an answer says
 pub option_weaker : {A : Type 0} (o : Option A) {P P' : Type 0} {Q Q' : A → Type 0} → (P → P') → ((x : A) → Q x → Q' x) → MatchOption o P Q → MatchOption o P' Q'
 option_weaker None f g h = f h

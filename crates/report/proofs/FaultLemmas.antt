@@ -30,9 +30,6 @@ word_lacks text w = above_lacks 32 32 text (omega arith) (word_above text w)
 pub same_named : (text name : List ℕ) → ((value : _) × (text ≡ name ++ value_text value)) → IsNamed text → IsBenchWord name
 same_named text name v n = subst IsBenchWord (same_ends n.name name n.value v.0 (sym n.text_is ∙ v.1)).0 n.word
 
-pub same_placed : (text front : List ℕ) → ((value : _) × (text ≡ front ++ value_text value)) → IsPlaced text → (k : ℕ) × (k < 2 ^ 64) × (front ≡ decimal k)
-same_placed text front v n = (n.place, n.small, sym (same_ends (decimal n.place) front n.value v.0 (sym n.text_is ∙ v.1)).0)
-
 -- a text without a blank
 pub no_named : (text : List ℕ) → All (λ b. b ≢ 32) text → (rest : List ℕ) → NamedBegins text rest → ⊥
 no_named text none rest b = byte_inside 32 b.named rest (subst (All (λ b. b ≢ 32)) b.text_is none)

@@ -89,16 +89,6 @@ outcome_behind (Detected p c) pin = record { text = codes "detected " ++ (decima
 outcome_behind Redundant pin = record { text = codes "redundant"; is = refl }
 outcome_behind Aborted pin = record { text = codes "aborted"; is = refl }
 
-pub no_outcome : (text : List ℕ) → text ≢ codes "redundant" → text ≢ codes "aborted" → ((o : ℕ) (c : ℕ) (pin : List ℕ) → IsOutcome (Detected o c) pin → 32 ∷ text ≢ outcome_text (Detected o c) pin)
-    → (o : Outcome) (pin : List ℕ) → IsOutcome o pin → 32 ∷ text ≢ outcome_text o pin
-no_outcome text r a d (Detected p c) pin v e = d p c pin v e
-no_outcome text r a d Redundant pin v e = r (append_cancel_left (32 ∷ []) text (codes "redundant") e)
-no_outcome text r a d Aborted pin v e = a (append_cancel_left (32 ∷ []) text (codes "aborted") e)
-
-pub not_detected : (text : List ℕ) → ((t : List ℕ) → text ≢ codes "detected " ++ t) → (p c : ℕ) (pin : List ℕ) → IsOutcome (Detected p c) pin → 32 ∷ text ≢ outcome_text (Detected p c) pin
-not_detected text none p c pin v e =
-    none (decimal p ++ 32 ∷ (decimal c ++ 32 ∷ pin)) (append_cancel_left (32 ∷ []) text (codes "detected " ++ (decimal p ++ 32 ∷ (decimal c ++ 32 ∷ pin))) e)
-
 pub no_place : (text place : List ℕ) → text ≡ codes "detected " ++ place
     → ((p c : ℕ) (pin : List ℕ) → p < 2 ^ 64 → c < 2 ^ 64 → IsBenchWord pin → place ≢ decimal p ++ 32 ∷ (decimal c ++ 32 ∷ pin))
     → (p c : ℕ) (pin : List ℕ) → IsOutcome (Detected p c) pin → 32 ∷ text ≢ outcome_text (Detected p c) pin

@@ -98,15 +98,9 @@ pub fn compact<J: About>(
 {
     list.true_list();
     let (patterns, mut verdicts) = list.into_parts();
-    let Ok(marks) = needed(alloc, patterns.len(), last) else {
-        return Err(NoMemory);
-    };
-    let Ok(places) = new_places(alloc, &marks) else {
-        return Err(NoMemory);
-    };
+    let marks = needed(alloc, patterns.len(), last)?;
+    let places = new_places(alloc, &marks)?;
     rename(&mut verdicts, last, &places);
-    let Ok(patterns) = kept(alloc, patterns, &marks) else {
-        return Err(NoMemory);
-    };
+    let patterns = kept(alloc, patterns, &marks)?;
     Ok(Finished { patterns, verdicts })
 }

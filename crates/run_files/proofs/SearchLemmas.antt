@@ -1,9 +1,12 @@
 -- The verdicts of a finished list.
-use Rattle.std.proofs.Common.{◌≡◌, ℕ, zero, suc, ◌<◌, ◌≤◌, inl, inr, Bool, false, true≢false, List, [], ◌∷◌, length, get_or, Some, refl, sym, ◌∙◌, ap, subst, arith}
-use Rattle.std.specs.List.{All}
+use Rattle.std.proofs.Common.{◌≡◌, ℕ, zero, suc, ◌<◌, ◌≤◌, inl, inr, Bool, false, true, true≢false, List, [], ◌∷◌, ◌++◌, ◌+◌, length, get_or, Some, refl, sym, ◌∙◌, ap, subst, arith}
+use Rattle.std.specs.List.{All, slice_get}
 use Rattle.std.proofs.lemmas.Bool.{cases_order}
+use Rattle.std.proofs.lemmas.List.{get_or_append_left, get_or_push}
 use Rattle.std.proofs.lemmas.Option.{slice_get-get_or, slice_get_within}
 use Rattle.netlist.specs.Netlist.{Netlist}
+use Rattle.netlist.specs.Conditions.{IsSound}
+use Rattle.netlist.specs.Holds.{Holds}
 use Rattle.fault_universe.specs.Universe.{universe_of}
 use Rattle.fault_collapse.specs.Classes.{AreClasses}
 use Rattle.fault_collapse.specs.Numbers.{Classes}
@@ -11,16 +14,18 @@ use Rattle.netlist.specs.declared.lines.Fault.{Fault}
 use Rattle.netlist.specs.Detection.{Detects}
 use Rattle.cubes.specs.Cubes.{Pattern, IsPatternOf}
 use Rattle.redundancy_cert.specs.Fits.{Fits}
+use Rattle.redundancy_cert.specs.Laws.{ClosedTreeIsRedundant}
 use Rattle.word_sim.specs.Hits.{IsNeverDetected}
+use Rattle.word_sim.specs.Never.{AreNever}
 use Rattle.reverse_compact.proofs.KeepLemmas.{kept_all}
 use Rattle.reverse_compact.specs.Finished.{AreFinished}
 use Rattle.worker.specs.Working.{NoneOpen}
-use Rattle.list_core.specs.Subjects.{Subject, RepresentsIn}
+use Rattle.list_core.specs.Subjects.{Subject, RepresentsIn, class_count}
 use Rattle.list_core.specs.States.{State, IsTrueList}
 use Rattle.list_core.specs.declared.verdicts.Verdict.{Verdict}
 use Rattle.list_core.specs.declared.verdicts.Verdict.TheVariants.{Open, Detected, Redundant, Aborted}
 use Rattle.list_core.specs.Verdicts.{VerdictHolds, is_open, verdict_at}
-use Rattle.run_files.specs.inner.Verdicts.{AreVerdicts, IsVerdict}
+use Rattle.run_files.specs.inner.Verdicts.{AreVerdicts, IsVerdict, is_redundant}
 
 same_fault : (j : Subject) (class : ℕ) (f g : Fault) → RepresentsIn j class f → RepresentsIn j class g → f ≡ g
 same_fault j class f g p q = let both : Some f ≡ Some g = sym p ∙ q in cc
@@ -53,6 +58,45 @@ verdicts_of j s kept verdicts list shut done = record {
         let closed : is_open (verdict_at verdicts class) ≡ false = ap is_open stays.0 ∙ shut class (omega (arith, within, list.count)) in
         held j kept class f represents stays.1 (verdict_at verdicts class) closed (done.hold class)
   ];
+}
+
+-- ---- no pattern detects a redundant class
+
+pattern_at : (n : Netlist) (holds : Holds) (patterns : List Pattern) → All (IsPatternOf n holds) patterns → (place : ℕ) (p : Pattern) → slice_get patterns place ≡ Some p → IsPatternOf n holds p
+pattern_at n holds patterns all place p at =
+    let lt = slice_get_within patterns place p at in
+    let same : get_or patterns place p ≡ p = (let both : Some (get_or patterns place p) ≡ Some p = sym (slice_get-get_or patterns place p lt) ∙ at in cc) in
+    subst (IsPatternOf n holds) same (all place p lt)
+
+module _ (j : Subject) (patterns : List Pattern) (sound : IsSound j.netlist) (law : ClosedTreeIsRedundant) (obey : All (IsPatternOf j.netlist j.holds) patterns) where
+  undetected : (class : ℕ) (f : Fault) → RepresentsIn j class f → (v : Verdict) → is_redundant v ≡ true → VerdictHolds j patterns class v → IsNeverDetected j.netlist patterns f
+  undetected class f represents Open is holds = absurd (true≢false (sym is))
+  undetected class f represents (Detected place point) is holds = absurd (true≢false (sym is))
+  undetected class f represents (Aborted tree) is holds = absurd (true≢false (sym is))
+  undetected class f represents (Redundant tree) is holds = λ place point seen.
+      let same = same_fault j class holds.0.fault f holds.0.represents represents in
+      let fits = subst (λ g. Fits g j.netlist j.holds tree) same holds.0.fits in
+      let p = pattern_at j.netlist j.holds patterns obey place seen.pattern seen.at in
+      law f j.netlist j.holds tree sound fits holds.1 seen.pattern.inputs seen.pattern.cells point p.obeys seen.detects
+
+-- one mark more
+pub mark_more : (F : ℕ → Bool) (old new : List Bool) (k : ℕ) (x : Bool) → length old ≡ k → new ≡ old ++ x ∷ [] → x ≡ F k → ((i : ℕ) → i < k → get_or old i false ≡ F i)
+    → (i : ℕ) → i < k + 1 → get_or new i false ≡ F i
+mark_more F old new k x size added is so_far i lt = elim (cases_order i k) [
+  | inl same ↦ ap (λ (bs : List Bool). get_or bs i false) added ∙ (get_or_push old x false i (size ∙ sym same) ∙ (is ∙ ap F (sym same)))
+  | inr o ↦ elim o [
+    | inl lower ↦ ap (λ (bs : List Bool). get_or bs i false) added ∙ (get_or_append_left old (x ∷ []) false i (omega (arith, lower, size)) ∙ so_far i lower)
+    | inr higher ↦ absurd (omega (arith, lt, higher))
+  ]
+]
+
+pub never_redundant : (j : Subject) (s : State) → IsSound j.netlist → ClosedTreeIsRedundant → IsTrueList j s → (marks : List Bool) → length marks ≡ class_count j
+    → ((k : ℕ) → k < class_count j → get_or marks k false ≡ is_redundant (verdict_at s.verdicts k)) → AreNever j.netlist s.patterns j.classes.representatives marks
+never_redundant j s sound law list marks size each = record {
+  size = size;
+  each = λ k f at marked.
+      let lt = slice_get_within j.classes.representatives k f at in
+      undetected j s.patterns sound law list.patterns k f at (verdict_at s.verdicts k) (sym (each k lt) ∙ marked) (list.hold k);
 }
 
 -- ---- few classes

@@ -1,5 +1,5 @@
 //! The search, by workers, and the compaction of what they found.
-ghost use Rattle.std.specs.Prelude.{◌≡◌, ◌+◌, ◌<◌, ◌≤◌, ◌^◌, IfOk, length};
+ghost use Rattle.std.specs.Prelude.{◌≡◌, ◌+◌, ◌<◌, ◌≤◌, ◌^◌, ℕ, IfOk, false, length, slice_index_or};
 ghost use Rattle.std.specs.List.{All};
 ghost use Rattle.limits.specs.Limits.{most_workers};
 ghost use Rattle.netlist.specs.declared.lines.Fault.{Fault as FaultOf};
@@ -9,24 +9,45 @@ ghost use Rattle.netlist.specs.Holds.{AreHoldsOf};
 ghost use Rattle.fault_collapse.specs.Classes.{AreClasses};
 ghost use Rattle.fault_universe.specs.Laws.{most_design_faults};
 ghost use Rattle.list_core.specs.Subjects.{HaveLines, class_count};
+ghost use Rattle.list_core.specs.Verdicts.{verdict_at};
 ghost use Rattle.reverse_compact.specs.Finished.{AreFinished};
-ghost use Rattle.run_files.specs.inner.Verdicts.{AreVerdicts};
+ghost use Rattle.run_files.specs.inner.Verdicts.{AreVerdicts, is_redundant};
 
 use crate::files::RunPlan;
 use fault_collapse::Classes;
 use fault_universe::{faults_have_lines, few_faults};
-use list_core::{About, FaultList};
+use list_core::{About, FaultList, Verdict};
 use netlist::{Core, Holds, NoMemory};
 use outside::Gate;
-use redundancy_cert::Engine;
+use redundancy_cert::{Engine, closed_tree_is_redundant};
 use reverse_compact::{Finished, compact};
-use std::alloc::Global;
+use std::alloc::{AllocError, Global};
 use std::marker::Brand;
 use std::sync::Wait;
 use std::thread::Threads;
+use word_sim::{told_of_all, unmarked};
 use worker::{last_tells_beside, run_all};
 
-/// The list compacted: each worker goes over a part of the classes for the last pattern that detects each.
+fn is_redundant(verdict: &Verdict) -> bool
+    ensures { result ≡ is_redundant verdict.now }
+{
+    matches!(verdict, Verdict::Redundant(_))
+}
+
+/// Marks the classes that are Redundant.
+fn redundant_marks<J: About>(alloc: Global, list: &FaultList<J>) -> Result<Vec<bool>, AllocError>
+    ensures size { IfOk result (λ v. length v.items ≡ class_count J.subject) }
+    ensures each { IfOk result (λ v. (k : ℕ) → k < class_count J.subject → slice_index_or v.items k false ≡ is_redundant (verdict_at list.now.verdicts k)) }
+{
+    let mut marks = Vec::with_capacity(alloc, list.count() as usize)?;
+    for class in 0..list.count() {
+        marks.push(is_redundant(list.verdict(class)))?;
+    }
+    Ok(marks)
+}
+
+/// The list compacted: each worker goes over a part of the classes for the last pattern that detects each. Redundant ones are left out, since
+/// nothing detects them.
 fn finish_beside<J: About, R: Threads + Sync>(
     rt: &R,
     alloc: Global,
@@ -43,14 +64,12 @@ fn finish_beside<J: About, R: Threads + Sync>(
     ensures { IfOk result (λ f. AreFinished J.subject list f.patterns.items f.verdicts.items) }
 {
     list.true_list();
-    let last = last_tells_beside(
-        rt,
-        alloc,
-        core,
-        classes.representatives(),
-        list.patterns(),
-        workers,
-    )?;
+    core.netlist().sound();
+    closed_tree_is_redundant();
+    let redundant = redundant_marks(alloc, &list)?;
+    let left = unmarked(alloc, classes.representatives(), &redundant)?;
+    let told = last_tells_beside(rt, alloc, core, &left, list.patterns(), workers)?;
+    let last = told_of_all(alloc, &redundant, &told)?;
     compact(alloc, list, &last)
 }
 

@@ -12,20 +12,15 @@ use Rattle.netlist.specs.declared.lines.Fault.{Fault}
 use Rattle.netlist.specs.Netlist.{Definition, Netlist, is_cell, is_gate, cells, gates, signals, IsAcyclic, define}
 use Rattle.netlist.specs.Conditions.{IsNumbered, IsClosed}
 use Rattle.netlist.specs.Settled.{Table, Settles, stuck, with_fault, on_pins, pins_of, outs, next}
-use Rattle.netlist.proofs.Lists.{all_left, all_right, all_flat_map, all_filter, All-from_contains, contains_head, contains_tail, contains_filter, map_agree, map_map}
+use Rattle.netlist.proofs.Lists.{all_right, all_filter, All-from_contains, contains_head, contains_tail, contains_filter, map_agree, map_map}
 use Rattle.netlist.proofs.WellFormed.{one_pin}
 use Rattle.scan_insert.specs.Scan.{Naming, scan_cell, scan_definition, show_last, scanned}
 use Rattle.netlist.specs.Lines.{IsFaultOf}
 use Rattle.scan_insert.specs.Laws.{Multiplexes}
 use Rattle.scan_insert.proofs.Namings.{Origin, Original, Enable, EnableNot, ScanIn, ScanOut, Captured, Shifted, Chosen, Held, IsNaming, named_fault}
 use Rattle.netlist.proofs.Alike.{settles_once}
-use Rattle.scan_insert.proofs.Equations.{held_cell, cells_scanned}
+use Rattle.scan_insert.proofs.Equations.{all_behind_first, all_of_cell, all_of_definition, cells_scanned, held_cell, only_pin}
 use Rattle.scan_insert.proofs.Clean.{defined, IsClean, new_clean, captured_stem_clean, second_pin_clean, buffer_clean, on_stem, on_out, on_cell, clean, matches, gate_pins}
-
-only_pin : (pins : List ℕ) → length pins ≡ 1 → (p : ℕ) × (pins ≡ p ∷ [])
-only_pin [] e = absurd (omega (arith, e))
-only_pin (p ∷ []) e = (p, refl)
-only_pin (p ∷ q ∷ ps) e = absurd (omega (arith, e))
 
 module _ {V : Type 0} (known : Bool → V) (f g : Option Fault) where
   -- the inputs of the scanned netlist: those of the original, the enable and the scan inputs
@@ -160,18 +155,8 @@ module _ {V : Type 0} (same : V → V → Bool) (decides : (x y : V) → Decides
   unfolding Holds Obeys
   at_definitions = all_filter Holds is_gate (scanned s n).definitions q.2
 
-  behind_first : All Obeys (flat_map (scan_definition s) n.definitions ++ map show_last s.scan_out)
-  behind_first = All-tail Obeys (define s.enable_not Not (s.enable ∷ [])) (flat_map (scan_definition s) n.definitions ++ map show_last s.scan_out) at_definitions
-
-  at_definition : (d : Definition) → Contains n.definitions d → All Obeys (scan_definition s d)
-  at_definition d c =
-      All-contains (λ (m : Definition). All Obeys (scan_definition s m)) n.definitions d
-      (all_flat_map Obeys (scan_definition s) n.definitions (all_left Obeys (flat_map (scan_definition s) n.definitions) (map show_last s.scan_out) behind_first)) c
-
   at_cell : (d : Definition) → Contains (cells n) d → All Obeys (scan_cell s d)
-  at_cell d c =
-      let m = contains_filter is_cell n.definitions d c in
-      subst (λ (v : Bool). All Obeys (cond v (scan_cell s d) (define (s.stem d.id) d.kind (map s.stem d.pins) ∷ []))) m.1 (at_definition d m.0)
+  at_cell = all_of_cell s n Obeys at_definitions
 
   inverse : b s.enable_not ≡ table.known (not e)
   unfolding Holds Obeys
@@ -241,7 +226,7 @@ module _ {V : Type 0} (same : V → V → Bool) (decides : (x y : V) → Decides
       let G = named_fault s f in
       let m = contains_filter is_gate n.definitions d c in
       let one : All Obeys (define (s.stem d.id) d.kind (map s.stem d.pins) ∷ []) =
-      subst (λ (v : Bool). All Obeys (cond v (scan_cell s d) (define (s.stem d.id) d.kind (map s.stem d.pins) ∷ []))) (not-true (is_cell d) m.1) (at_definition d m.0) in
+      subst (λ (v : Bool). All Obeys (cond v (scan_cell s d) (define (s.stem d.id) d.kind (map s.stem d.pins) ∷ []))) (not-true (is_cell d) m.1) (all_of_definition s n Obeys at_definitions d m.0) in
       let h : b (s.stem d.id) ≡ stuck table.known G (Stem (s.stem d.id)) (table.gate d.kind (on_pins (with_fault table G) (s.stem d.id) 0 (map b (map s.stem d.pins)))) = one 0 d (omega arith) m.1 in
       let vs : List V = map (λ x. b (s.stem x)) d.pins in
       h ∙ (ap (λ (r : List V). stuck table.known G (Stem (s.stem d.id)) (table.gate d.kind r)) (ap (on_pins (with_fault table G) (s.stem d.id) 0) (map_map s.stem b d.pins) ∙ gate_pins s n naming numbered closed table f valid d c 0 vs)
@@ -290,7 +275,7 @@ module _ {V : Type 0} (same : V → V → Bool) (decides : (x y : V) → Decides
       let G = named_fault s f in
       let o = naming.scan_out r c in
       let obeys : All (λ (x : ℕ × ℕ). Obeys (show_last x)) s.scan_out =
-      all_of_map Obeys show_last s.scan_out (all_right Obeys (flat_map (scan_definition s) n.definitions) (map show_last s.scan_out) behind_first) in
+      all_of_map Obeys show_last s.scan_out (all_right Obeys (flat_map (scan_definition s) n.definitions) (map show_last s.scan_out) (all_behind_first s n Obeys at_definitions)) in
       let h : b r.0 ≡ stuck table.known G (Stem r.0) (table.gate Buff (stuck table.known G (Pin r.0 0) (b r.1) ∷ [])) = All-contains (λ (x : ℕ × ℕ). Obeys (show_last x)) s.scan_out r obeys c refl in
       clear_out r.0 (ScanOut o.0) (b r.0) o.1 (λ x t. cc) (λ x t. cc)
       ∙ (h ∙ (clear_stem r.0 (ScanOut o.0) (table.gate Buff (stuck table.known G (Pin r.0 0) (b r.1) ∷ [])) o.1 (λ x t. cc) (λ x t. cc)

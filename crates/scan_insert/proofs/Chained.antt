@@ -35,29 +35,6 @@ gate_site sites next (e ∷ es) d h c g =
     ] in
     step (is_cell e) refl h
 
--- a cell's stem is four behind its pins
-pub cell_site : (sites : List Site) (next : ℕ) (ds : List Definition) (d : Definition)
-    → AllZip (λ (e : Definition) (t : Site). site sites e.id ≡ t) ds (sites_from next ds) → Contains ds d → is_cell d ≡ true
-    → (site sites d.id).stem ≡ (site sites d.id).pins + 4
-cell_site sites next [] d h c g = absurd (contains_nil d c)
-cell_site sites next (e ∷ es) d h c g =
-    let R : Definition → Site → Type 0 = λ x t. site sites x.id ≡ t in
-    let step : (b : Bool) → is_cell e ≡ b → AllZip R (e ∷ es) (cond b (record { stem = next + 4; pins = next } ∷ sites_from (next + 5) es) (own_site next ∷ sites_from (next + 1) es))
-    → (site sites d.id).stem ≡ (site sites d.id).pins + 4 =
-    elim [
-      | true ↦ λ is k. elim (contains_cases e d es c) [
-        | inl same ↦
-            let here : site sites d.id ≡ record { stem = next + 4; pins = next } = ap (λ (x : Definition). site sites x.id) (sym same) ∙ k.0 in
-            ap (λ (t : Site). t.stem) here ∙ sym (ap (λ (t : Site). t.pins + 4) here)
-        | inr r ↦ cell_site sites (next + 5) es d k.1 r g
-      ]
-      | false ↦ λ is k. elim (contains_cases e d es c) [
-        | inl same ↦ absurd (both_ways (is_cell d) (sym (ap is_cell same) ∙ is) g)
-        | inr r ↦ cell_site sites (next + 1) es d k.1 r g
-      ]
-    ] in
-    step (is_cell e) refl h
-
 contains_take : {X : Type 0} (m : ℕ) (xs : List X) (x : X) → Contains (take m xs) x → Contains xs x
 contains_take zero xs x c = absurd (contains_nil x c)
 contains_take (suc m) [] x c = absurd (contains_nil x c)

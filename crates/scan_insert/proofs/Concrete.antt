@@ -62,7 +62,7 @@ pub same_fault : (n : Netlist) (chains : List (List ℕ)) (f : Option Fault) →
 same_fault n chains None = refl
 same_fault n chains (Some f) = ap (λ l. Some (record { line = l; value = f.value })) (same_line n chains f.line)
 
-zip_ids : {V : Type 0} (R : ℕ → V → Type 0) (ds : List Definition) (vs : List V) → AllZip (λ (d : Definition) v. R d.id v) ds vs → AllZip R (map (λ (d : Definition). d.id) ds) vs
+pub zip_ids : {V : Type 0} (R : ℕ → V → Type 0) (ds : List Definition) (vs : List V) → AllZip (λ (d : Definition) v. R d.id v) ds vs → AllZip R (map (λ (d : Definition). d.id) ds) vs
 zip_ids R [] [] h = tt
 zip_ids R [] (v ∷ vs) h = absurd h
 zip_ids R (d ∷ ds) [] h = absurd h

@@ -1,10 +1,11 @@
--- The cells and the gates of the scanned netlist.
-use Rattle.std.proofs.Common.{◌≡◌, ℕ, Bool, true, false, cond, List, [], ◌∷◌, ◌++◌, map, refl, ◌∙◌, ap}
-use Rattle.std.specs.List.{filter, flat_map}
+-- The cells and the definitions of the scanned netlist.
+use Rattle.std.proofs.Common.{◌≡◌, ℕ, Bool, true, false, cond, List, [], ◌∷◌, ◌++◌, map, length, refl, ◌∙◌, ap, subst, arith}
+use Rattle.std.specs.List.{All, Contains, filter, flat_map}
 use Rattle.std.proofs.lemmas.List.{append-nil}
-use Rattle.std.proofs.lemmas.List.Elements.{filter-append}
-use Rattle.netlist.specs.declared.kinds.Kind.TheVariants.{Dff}
+use Rattle.std.proofs.lemmas.List.Elements.{All-contains, All-tail, filter-append}
+use Rattle.netlist.specs.declared.kinds.Kind.TheVariants.{Dff, Not}
 use Rattle.netlist.specs.Netlist.{Definition, Netlist, is_cell, cells, define}
+use Rattle.netlist.proofs.Lists.{all_flat_map, all_left, contains_filter}
 use Rattle.scan_insert.specs.Scan.{Naming, scan_cell, scan_definition, show_last, scanned}
 
 unfoldable pub held_cell : Naming → Definition → Definition
@@ -38,3 +39,26 @@ cells_scanned s n =
     ∙ (ap (λ r. r ++ filter is_cell shows) (cells_of_definitions s n.definitions)
     ∙ (ap (λ r. map (held_cell s) (cells n) ++ r) (no_cells_out s.scan_out)
     ∙ append-nil (map (held_cell s) (cells n))))
+
+-- ---- what holds of each definition of the scanned netlist
+
+module _ (s : Naming) (n : Netlist) (P : Definition → Type 0) (all : All P (scanned s n).definitions) where
+  pub all_behind_first : All P (flat_map (scan_definition s) n.definitions ++ map show_last s.scan_out)
+  all_behind_first = All-tail P (define s.enable_not Not (s.enable ∷ [])) (flat_map (scan_definition s) n.definitions ++ map show_last s.scan_out) all
+
+  pub all_of_definition : (d : Definition) → Contains n.definitions d → All P (scan_definition s d)
+  all_of_definition d c =
+      All-contains (λ (m : Definition). All P (scan_definition s m)) n.definitions d
+      (all_flat_map P (scan_definition s) n.definitions (all_left P (flat_map (scan_definition s) n.definitions) (map show_last s.scan_out) all_behind_first)) c
+
+  pub all_of_cell : (d : Definition) → Contains (cells n) d → All P (scan_cell s d)
+  all_of_cell d c =
+      let m = contains_filter is_cell n.definitions d c in
+      subst (λ (v : Bool). All P (cond v (scan_cell s d) (define (s.stem d.id) d.kind (map s.stem d.pins) ∷ []))) m.1 (all_of_definition d m.0)
+
+-- ---- pins
+
+pub only_pin : (pins : List ℕ) → length pins ≡ 1 → (p : ℕ) × (pins ≡ p ∷ [])
+only_pin [] e = absurd (omega (arith, e))
+only_pin (p ∷ []) e = (p, refl)
+only_pin (p ∷ q ∷ ps) e = absurd (omega (arith, e))

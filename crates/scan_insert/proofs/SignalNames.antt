@@ -105,9 +105,6 @@ digit_byte (suc (suc (suc (suc (suc (suc (suc (suc zero)))))))) l = refl
 digit_byte (suc (suc (suc (suc (suc (suc (suc (suc (suc zero))))))))) l = refl
 digit_byte (suc (suc (suc (suc (suc (suc (suc (suc (suc (suc d)))))))))) l = absurd (omega arith)
 
-AreNameBytes : List ℕ → Type 0
-AreNameBytes bytes = All (λ b. IsTrue (is_name_byte b)) bytes
-
 pub decimal_bytes : (c : ℕ) → c < 2 ^ 64 → All (λ b. IsTrue (is_name_byte b)) (decimal c)
 decimal_bytes = decimal_by_steps (λ c bytes. All (λ b. IsTrue (is_name_byte b)) bytes)
     (λ d l. All-cons (λ b. IsTrue (is_name_byte b)) (48 + d) [] (digit_byte d l) (All-nil _))

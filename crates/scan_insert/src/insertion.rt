@@ -70,12 +70,8 @@ fn scan(alloc: Global, netlist: &Netlist, chains: &Chains) -> Result<Scanned, No
     requires some { 0 < length chains.now }
     ensures { IfOk result (λ s. s ≡ insertion_of netlist.now chains.now) }
 {
-    let Ok(sites) = moved_sites(alloc, netlist, chains.count()) else {
-        return Err(NoMemory);
-    };
-    let Ok(parts) = scanned_parts(alloc, netlist, chains, &sites) else {
-        return Err(NoMemory);
-    };
+    let sites = moved_sites(alloc, netlist, chains.count())?;
+    let parts = scanned_parts(alloc, netlist, chains, &sites)?;
     let netlist = netlist_of(alloc, parts)?;
     Ok(Scanned { netlist, sites })
 }
@@ -87,9 +83,7 @@ fn unchanged(alloc: Global, netlist: &Netlist) -> Result<Scanned, NoMemory>
     ensures { IfOk result (λ s. s ≡ insertion_of netlist.now []) }
 {
     let count = netlist.inputs().len() + netlist.definitions().len();
-    let Ok(sites) = own_sites(alloc, netlist, count) else {
-        return Err(NoMemory);
-    };
+    let sites = own_sites(alloc, netlist, count)?;
     let netlist = netlist.copy(alloc)?;
     Ok(Scanned { netlist, sites })
 }

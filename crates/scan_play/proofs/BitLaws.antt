@@ -19,6 +19,7 @@ use Rattle.netlist.proofs.SomeSettled.{some_settled}
 use Rattle.netlist.specs.ThreeValues.{known, allows}
 use Rattle.netlist.specs.Detection.{observed, Detects}
 use Rattle.tri.proofs.Choices.{no, known_allows_itself}
+use Rattle.tri.proofs.ClosedLemmas.{same_lists}
 use Rattle.cubes.specs.Cubes.{Pattern}
 use Rattle.chain_stitch.specs.Chains.{cells_of}
 use Rattle.scan_insert.specs.Names.{numbers_from}
@@ -84,18 +85,6 @@ good_passes n holds chains patterns cycles sound are v =
     subst (λ (x : List Cycle). Passes (scanned_of n chains) None x) (sym v.are) (passes_own n holds chains None sound v.held are (no_fault n) patterns v.responses v.respond)
 
 -- ---- nothing is detected
-
-same_bit : (x y : Bool) → ¬ (¬ (Some x ≡ Some y)) → x ≡ y
-same_bit true true h = refl
-same_bit true false h = absurd (h (λ e. cc))
-same_bit false true h = absurd (h (λ e. cc))
-same_bit false false h = refl
-
-same_lists : (xs ys : List Bool) → ((k : ℕ) → ¬ (¬ (slice_get xs k ≡ slice_get ys k))) → xs ≡ ys
-same_lists [] [] h = refl
-same_lists [] (y ∷ ys) h = absurd (h zero (λ e. cc))
-same_lists (x ∷ xs) [] h = absurd (h zero (λ e. cc))
-same_lists (x ∷ xs) (y ∷ ys) h = ap (λ z. z ∷ xs) (same_bit x y (h zero)) ∙ ap (λ zs. y ∷ zs) (same_lists xs ys (λ k. h (suc k)))
 
 -- the settled bits with any fault, for a pattern that has settled bits
 pub faulty_values : (n : Netlist) (f g : Option Fault) (p : Pattern) (r : Response) → IsSound n → Responds n g p r → (a : ℕ → Bool) × Settles (bits f) n p.inputs p.cells a

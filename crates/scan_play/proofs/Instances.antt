@@ -1,18 +1,17 @@
 -- Bits and three values are such tables as the bridge asks for.
-use Rattle.std.proofs.Common.{◌≡◌, Bool, true, false, not, List, [], ◌∷◌, map, refl, ap}
+use Rattle.std.proofs.Common.{◌≡◌, Bool, true, false, not, [], ◌∷◌, refl, ap}
 use Rattle.std.specs.Bool.{Decides, beq}
 use Rattle.std.proofs.lemmas.List.{map-id}
-use Rattle.netlist.specs.declared.kinds.Kind.{Kind}
 use Rattle.netlist.specs.declared.kinds.Kind.TheVariants.{And, Or, Not}
 use Rattle.netlist.specs.declared.kinds.Tri.{Tri}
 use Rattle.netlist.specs.declared.kinds.Tri.TheVariants.{Zero, One, X}
 use Rattle.netlist.specs.Gates.{gate_bit}
 use Rattle.netlist.specs.Settled.{bit_table}
-use Rattle.netlist.specs.ThreeValues.{known, AreAllowed}
+use Rattle.netlist.specs.ThreeValues.{known}
 use Rattle.netlist.proofs.Lists.{decides_beq}
 use Rattle.tri.specs.Gates.{gate_tri}
 use Rattle.tri.specs.Settled.{tri_table}
-use Rattle.tri.proofs.Choices.{no, gate_exact}
+use Rattle.tri.proofs.KnownBits.{gate_known}
 use Rattle.scan_insert.specs.Laws.{Multiplexes}
 use Rattle.scan_insert.proofs.Concrete.{bits_multiplex}
 use Rattle.scan_play.proofs.Bridge.{IsAboveBits}
@@ -77,18 +76,6 @@ inverts false = refl
 
 pub tris_multiplex : Multiplexes tri_table
 tris_multiplex = record { buff = λ v. refl; inverts = inverts; and_one = and_one; and_zero = and_zero; or_zero = or_zero; zero_or = zero_or }
-
-only_choice : (bs cs : List Bool) → AreAllowed (map known bs) cs → cs ≡ bs
-only_choice [] [] h = refl
-only_choice [] (c ∷ cs) h = absurd h
-only_choice (b ∷ bs) [] h = absurd h
-only_choice (true ∷ bs) (true ∷ cs) h = ap (λ xs. true ∷ xs) (only_choice bs cs h.1)
-only_choice (true ∷ bs) (false ∷ cs) h = no h.0
-only_choice (false ∷ bs) (true ∷ cs) h = no h.0
-only_choice (false ∷ bs) (false ∷ cs) h = ap (λ xs. false ∷ xs) (only_choice bs cs h.1)
-
-gate_known : (kind : Kind) (bs : List Bool) → gate_tri kind (map known bs) ≡ known (gate_bit kind bs)
-gate_known kind bs = (gate_exact kind (map known bs) (gate_bit kind bs)).1 (λ cs h. ap (gate_bit kind) (only_choice bs cs h))
 
 pub tris_above : IsAboveBits tri_table
 tris_above = record { blank = X; same = same_tri; decides = decides_tri; multiplexes = tris_multiplex; gates = gate_known }

@@ -2,22 +2,22 @@
 use Rattle.std.proofs.Common.{◌≡◌, ◌≢◌, ℕ, suc, zero, ◌+◌, ◌-◌, ◌*◌, ◌<◌, ◌≤◌, Bool, true, false, cond, ◌⊎◌, List, [], ◌∷◌, ◌++◌, map, length, get_or, set, take, drop, replicate, Option, Some, None, slice_get, refl, sym, ◌∙◌, ap, subst, inl, inr, arith, length-append}
 use Rattle.std.specs.List.{All, Contains, flat_map}
 use Rattle.std.proofs.lemmas.Bool.{cases_eq, both_ways}
-use Rattle.std.proofs.lemmas.List.{length-map, map-append, get_or-map, get_or_default, get_or-set_same, get_or-set_other}
-use Rattle.std.proofs.lemmas.List.Elements.{All-contains, Contains-append_cases, Contains-get_or}
+use Rattle.std.proofs.lemmas.List.{take_all, length-map, map-append, get_or-map, get_or_default, get_or-set_same, get_or-set_other}
+use Rattle.std.proofs.lemmas.List.Elements.{All-contains, Contains-append_cases}
 use Rattle.netlist.specs.declared.kinds.Tri.{Tri}
 use Rattle.netlist.specs.declared.kinds.Tri.TheVariants.{Zero, One, X}
 use Rattle.netlist.specs.declared.lines.Fault.{Fault}
 use Rattle.netlist.specs.declared.lines.Line.TheVariants.{Stem, Out}
-use Rattle.netlist.specs.Netlist.{Definition, Netlist, cells, gates, signals, IsGateAt}
+use Rattle.netlist.specs.Netlist.{Definition, Netlist, cells, gates, signals}
 use Rattle.netlist.specs.Conditions.{IsNumbered, IsSound}
-use Rattle.netlist.specs.Settled.{Settles, at, on_pins, pins_of, outs, next}
+use Rattle.netlist.specs.Settled.{Rule, Settles, at, on_pins, pins_of, outs, next}
 use Rattle.netlist.specs.ThreeValues.{known, is_x}
-use Rattle.netlist.specs.inner.Settling.{IsDriven, IsEvaluated}
+use Rattle.netlist.specs.Settling.{AreSourcesDriven, IsEvaluated, AreEvaluated}
 use Rattle.netlist.proofs.Alike.{signals_alike, zip_append}
 use Rattle.netlist.proofs.Lists.{All-from_contains, contains_cases, contains_map, contains_nil, map_agree, zip_same}
-use Rattle.netlist.proofs.Orders.{input_no_gate, cell_no_gate, gate_below}
-use Rattle.netlist.proofs.Placed.{signal_from, signals_length}
-use Rattle.netlist.proofs.Settling.{driven}
+use Rattle.netlist.proofs.Orders.{gate_below}
+use Rattle.netlist.proofs.Placed.{signal_from}
+use Rattle.netlist.proofs.Settling.{by_steps}
 use Rattle.netlist.proofs.SomeSettled.{some_settled}
 use Rattle.tri.specs.Known.{allows_tri, AreAllowedTris}
 use Rattle.tri.specs.Settled.{tris}
@@ -28,32 +28,12 @@ use Rattle.scan_play.specs.declared.played.Played.{Played}
 use Rattle.scan_play.specs.Bursts.{cycles_of}
 use Rattle.scan_play.specs.Cycles.{IsCycleOf}
 use Rattle.scan_play.specs.Steps.{IsReady, Stays, AreOrderedSteps}
-use Rattle.scan_play.specs.inner.Plans.{IsPlanned, IsDrivenOnto, AreSettled, IsStepped}
+use Rattle.scan_play.specs.inner.Plans.{IsPlanned, AreSettled}
 use Rattle.scan_play.specs.inner.Steps.{IsStep}
 use Rattle.scan_play.specs.Judging.{IsOpen, Judging, judged_in, played_or_else}
 use Rattle.scan_play.proofs.PlanMarks.{taken_more}
 use Rattle.scan_play.proofs.PlaySteps.{cycle_fits}
 use Rattle.scan_play.proofs.RunLaws.{next_length}
-
--- ---- driving
-
-pub driven_onto : (f : Option Fault) (n : Netlist) → IsNumbered n → (ids cell_ids : List ℕ) (inputs state v0 v1 v2 : List Tri)
-    → length v0 ≡ length (signals n) → ids ≡ n.inputs → cell_ids ≡ map (λ (d : Definition). d.id) (cells n) → length inputs ≡ length n.inputs → length state ≡ length (cells n)
-    → IsDriven (tris f) ids inputs v0 v1 (length ids) → IsDriven (tris f) cell_ids state v1 v2 (length cell_ids) → IsDrivenOnto f n inputs state v0 v2
-driven_onto f n numbered ids cell_ids inputs state v0 v1 v2 size is cs li ls a b =
-    let all = driven n numbered (tris f) [] ids cell_ids inputs state v0 v1 v2 (size ∙ signals_length n) is cs li ls a b in
-    record {
-      size = b.size ∙ a.size;
-      inputs_driven = (all.each X).inputs_driven;
-      cells_driven = (all.each X).cells_driven;
-      gates_stay = λ x gate.
-          b.others x X (λ k l e.
-          let m = contains_map (λ (d : Definition). d.id) (cells n) (get_or cell_ids k 0) (subst (λ (xs : List ℕ). Contains xs (get_or cell_ids k 0)) cs (Contains-get_or cell_ids k 0 l)) in
-          cell_no_gate n numbered m.0 m.1 (subst (IsGateAt n) (e ∙ sym m.2) gate))
-          ∙ a.others x X (λ k l e.
-          let c : Contains n.inputs (get_or ids k 0) = subst (λ (xs : List ℕ). Contains xs (get_or ids k 0)) is (Contains-get_or ids k 0 l) in
-          input_no_gate n numbered (get_or ids k 0) c (subst (IsGateAt n) e gate));
-    }
 
 -- ---- values that stay
 
@@ -129,6 +109,19 @@ module _ (f : Option Fault) (n : Netlist) (numbered : IsNumbered n) (base inputs
         ]
       ]
 
+-- evaluating gates on a path keeps the values what settles
+pub steps_settled : (f : Option Fault) (n : Netlist) → IsNumbered n → (base inputs state : List Tri) (settled : ℕ → Tri) → Settles (tris f) n inputs state settled
+    → (steps : List ℕ) (old new : List Tri) → AreOrderedSteps n base steps → length old ≡ length (signals n) → AreEvaluated (tris f) n steps old new
+    → AreSettled n base [] settled old → AreSettled n base steps settled new
+steps_settled f n numbered base inputs state settled q steps old new path size made h =
+    let all = by_steps (tris f) n (λ m values. (length values ≡ length (signals n)) × AreSettled n base (take m steps) settled values) steps
+    (λ m x a b l is one so_far.
+    (one.size ∙ so_far.0, step_settled f n numbered base inputs state settled q steps m x a b path l is so_far.0 one so_far.1)) old new made (size, h) in
+    subst (λ (done : List ℕ). AreSettled n base done settled new) (take_all (length steps) steps (omega arith)) all.1
+
+steps_size : {V : Type 0} (rule : Rule V) (n : Netlist) (steps : List ℕ) (old new : List V) → AreEvaluated rule n steps old new → length new ≡ length old
+steps_size rule n steps old new made = by_steps rule n (λ m values. length values ≡ length old) steps (λ m x a b l is one so_far. one.size ∙ so_far) old new made refl
+
 -- ---- a cycle
 
 -- what is shown is the same wherever it is strobed
@@ -189,7 +182,7 @@ flat_map_agree f g (x ∷ xs) h =
 module _ (J : Judging) (opens : IsOpen J) (f : Option Fault) (n : Netlist) (sound : IsSound n) (drive : List Bool) (strobe : List Tri) (steps : List ℕ) (v0 v1 v2 : List Tri) (plan : IsPlanned f n drive strobe steps v0)
     (ins : List Bool) (outs_of : List Tri) (pulse : Bool) (state row after : List Tri) (number : ℕ) (found : Option Played)
     (wide : length (drive ++ ins) ≡ length n.inputs) (size : length state ≡ length (cells n))
-    (onto : IsDrivenOnto f n (map known (drive ++ ins)) state v0 v1) (stepped : IsStepped f n steps v1 v2)
+    (onto : AreSourcesDriven (tris f) n (map known (drive ++ ins)) state v0 v1) (stepped : AreEvaluated (tris f) n steps v1 v2)
     (shows : row ≡ outs (tris f) n (at v2 X)) (keeps : after ≡ cond pulse (next (tris f) n (at v2 X)) state) (is : found ≡ judged_in J number 0 (strobe ++ outs_of) row) where
   module _ (t : ℕ → Tri) (q : Settles (tris f) n (map known (drive ++ ins)) state t) where
     base_allows : (x : ℕ) → Contains (signals n) x → allows_tri (at plan.base X x) (t x) ≡ true
@@ -209,22 +202,22 @@ module _ (J : Judging) (opens : IsOpen J) (f : Option Fault) (n : Netlist) (soun
     at_start x r = elim r [
       | inl i ↦
           All-contains (λ y. at v1 X y ≡ t y) n.inputs x
-          (zip_same (λ y. y) (at v1 X) t (λ y v. (tris f).line (Stem y) v) n.inputs (map known (drive ++ ins)) onto.inputs_driven q.0) i
+          (zip_same (λ y. y) (at v1 X) t (λ y v. (tris f).line (Stem y) v) n.inputs (map known (drive ++ ins)) (onto.inputs_driven X) q.0) i
       | inr r1 ↦ elim r1 [
         | inl c ↦
             let m = contains_map (λ (d : Definition). d.id) (cells n) x c in
             subst (λ y. at v1 X y ≡ t y) m.2
             (All-contains (λ (d : Definition). at v1 X d.id ≡ t d.id) (cells n) m.0
-            (zip_same (λ (d : Definition). d.id) (at v1 X) t (λ y v. (tris f).line (Stem y) v) (cells n) state onto.cells_driven q.1) m.1)
+            (zip_same (λ (d : Definition). d.id) (at v1 X) t (λ y v. (tris f).line (Stem y) v) (cells n) state (onto.cells_driven X) q.1) m.1)
         | inr r2 ↦ elim r2 [
-          | inl s ↦ onto.gates_stay x s.0 ∙ (plan.stand x s ∙ stays_settled x s)
+          | inl s ↦ onto.gates_stay x X s.0 ∙ (plan.stand x s ∙ stays_settled x s)
           | inr d ↦ absurd (contains_nil x d)
         ]
       ]
     ]
 
     at_end : AreSettled n plan.base steps t v2
-    at_end = stepped.keeps plan.base (map known (drive ++ ins)) state t plan.has.path q at_start
+    at_end = steps_settled f n sound.formed.numbered plan.base (map known (drive ++ ins)) state t q steps v1 v2 plan.has.path (onto.size ∙ plan.size) stepped at_start
 
     next_same : next (tris f) n (at v2 X) ≡ next (tris f) n t
     next_same = flat_map_agree (pins_of (tris f) (at v2 X)) (pins_of (tris f) t) (cells n) (λ d c.
@@ -262,7 +255,7 @@ module _ (J : Judging) (opens : IsOpen J) (f : Option Fault) (n : Netlist) (soun
         base = plan.base;
         settles = plan.settles;
         has = plan.has;
-        size = stepped.size ∙ (onto.size ∙ plan.size);
+        size = steps_size (tris f) n steps v1 v2 stepped ∙ (onto.size ∙ plan.size);
         stand = λ x s. at_end a.0 a.1 x (inr (inr (inl s))) ∙ sym (stays_settled a.0 a.1 x s);
       }
 
@@ -278,14 +271,14 @@ narrow n b fit some =
 
 module _ (J : Judging) (opens : IsOpen J) (f : Option Fault) (n net : Netlist) (drive : List Bool) (strobe : List Tri) (steps : List ℕ) (v0 v1 v2 : List Tri) (ins : List Bool) (outs_of : List Tri) (state driven from : List Tri)
     (there : net ≡ n) (sound : IsSound n) (plan : IsPlanned f n drive strobe steps v0) (wide : length (drive ++ ins) ≡ length n.inputs) (size : length state ≡ length (cells n))
-    (is_driven : driven ≡ map known (drive ++ ins)) (is_from : from ≡ state) (onto : IsDrivenOnto f net driven from v0 v1) (stepped : IsStepped f net steps v1 v2) where
-  onto_here : IsDrivenOnto f n (map known (drive ++ ins)) state v0 v1
+    (is_driven : driven ≡ map known (drive ++ ins)) (is_from : from ≡ state) (onto : AreSourcesDriven (tris f) net driven from v0 v1) (stepped : AreEvaluated (tris f) net steps v1 v2) where
+  onto_here : AreSourcesDriven (tris f) n (map known (drive ++ ins)) state v0 v1
   onto_here =
-      subst (λ (m : Netlist). IsDrivenOnto f m (map known (drive ++ ins)) state v0 v1) there
-      (subst (λ (s : List Tri). IsDrivenOnto f net (map known (drive ++ ins)) s v0 v1) is_from (subst (λ (i : List Tri). IsDrivenOnto f net i from v0 v1) is_driven onto))
+      subst (λ (m : Netlist). AreSourcesDriven (tris f) m (map known (drive ++ ins)) state v0 v1) there
+      (subst (λ (s : List Tri). AreSourcesDriven (tris f) net (map known (drive ++ ins)) s v0 v1) is_from (subst (λ (i : List Tri). AreSourcesDriven (tris f) net i from v0 v1) is_driven onto))
 
-  stepped_here : IsStepped f n steps v1 v2
-  stepped_here = subst (λ (m : Netlist). IsStepped f m steps v1 v2) there stepped
+  stepped_here : AreEvaluated (tris f) n steps v1 v2
+  stepped_here = subst (λ (m : Netlist). AreEvaluated (tris f) m steps v1 v2) there stepped
 
   pub shift_step : (pulse : Bool) (number : ℕ) (seen row strobes after : List Tri) (found : Option Played) → seen ≡ v2 → row ≡ outs (tris f) n (at seen X) → strobes ≡ strobe ++ outs_of
       → found ≡ judged_in J number 0 strobes row → after ≡ cond pulse (next (tris f) n (at v2 X)) state

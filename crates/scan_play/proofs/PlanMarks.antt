@@ -121,14 +121,3 @@ read_there xs k x d e = get_or_from_slice_get xs k x d e
 
 pub all_more : {A : Type 0} (P : A → Type 0) (xs : List A) (i : ℕ) (x : A) → i < length xs → x ≡ get_or xs i x → All P (take i xs) → P x → All P (take (i + 1) xs)
 all_more P xs i x l is h p = subst (All P) (sym (take_more xs i x l ∙ ap (λ y. take i xs ++ y ∷ []) (sym is))) (All-push P (take i xs) x h p)
-
--- all that is read at the end is ready
-pub has_steps : (n net : Netlist) (strobe base : List Tri) (steps chosen : List ℕ) (ready at_cells at_outputs : List Bool) → net ≡ n → chosen ≡ steps
-    → AreOrderedSteps net base chosen × AreReady net base chosen ready → at_cells ≡ ready → AreCellsMarked net at_cells → at_outputs ≡ ready → AreOutputsMarked net strobe at_outputs → HasSteps n strobe base steps
-has_steps n net strobe base steps chosen ready at_cells at_outputs there same path c cells_marked o outputs_marked =
-    let made : HasSteps net strobe base chosen = record {
-      path = path.0;
-      cells_ready = λ k d l. marked_ready net base chosen ready (get_or (cells net) k d).pins path.1 (subst (λ (marks : List Bool). AreMarked marks (get_or (cells net) k d).pins) c (cells_marked k d l));
-      outputs_ready = λ k l s. path.1 (get_or net.outputs k 0) (subst (λ (marks : List Bool). slice_get marks (get_or net.outputs k 0) ≡ Some true) o (outputs_marked k l s));
-    } in
-    subst (λ (m : Netlist). HasSteps m strobe base steps) there (subst (HasSteps net strobe base) same made)

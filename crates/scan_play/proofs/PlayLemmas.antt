@@ -135,10 +135,6 @@ MetIn ss vs o = (get_or ss o X ≡ X) ⊎ (slice_get vs o ≡ Some (get_or ss o 
 met_here : (s v : Tri) → (s ≡ X) ⊎ (v ≡ s) → (s ≡ X) ⊎ (Some v ≡ Some s)
 met_here s v h = elim h [ inl e ↦ inl e | inr e ↦ inr (ap (λ x. Some x) e) ]
 
-cases_option : (x : Option Played) → (x ≡ None) ⊎ ((p : Played) × (x ≡ Some p))
-cases_option None = inl refl
-cases_option (Some p) = inr (p, refl)
-
 pub or_none : (x y : Option Played) → played_or_else x y ≡ None → (x ≡ None) × (y ≡ None)
 or_none None y e = (refl, e)
 or_none (Some p) y e = cc

@@ -23,7 +23,7 @@ use netlist::{Bits, Core, Holds, Netlist, NoMemory, Tri};
 use std::alloc::{AllocError, Global};
 
 /// One cycle as a burst.
-fn single(alloc: Global, drive: Vec<bool>, strobe: Vec<Tri>, pulse: bool) -> Burst
+pub fn single(alloc: Global, drive: Vec<bool>, strobe: Vec<Tri>, pulse: bool) -> Burst
     ensures { cycles_of result ≡ record { drive = drive.items; strobe = strobe.items; pulse = pulse } ∷ [] }
 {
     Burst {
@@ -197,8 +197,6 @@ pub fn vectors_of(
     requires patterns { All (IsPatternOf core.now holds.now) patterns.now }
     ensures { IfOk result (λ v. AreVectors core.now holds.now chains.now patterns.now v) }
 {
-    match vector_bursts(alloc, core, chains, patterns, holds) {
-        Ok(bursts) => Ok(Vectors::new(bursts)),
-        Err(_) => Err(NoMemory),
-    }
+    let bursts = vector_bursts(alloc, core, chains, patterns, holds)?;
+    Ok(Vectors::new(bursts))
 }

@@ -108,10 +108,11 @@ fn shift_drive(alloc: Global, inputs: u32, holds: &Holds) -> Result<Vec<bool>, A
     Ok(drive)
 }
 
+/// Strobes that ask for nothing.
 pub fn no_strobes(alloc: Global, count: usize) -> Result<Vec<Tri>, AllocError>
     ensures { IfOk result (λ v. v.items ≡ replicate count X) }
 {
-    let mut strobes = Vec::new(alloc);
+    let mut strobes = Vec::with_capacity(alloc, count)?;
     for _done in 0..count {
         strobes.push(Tri::X)?;
     }

@@ -1,12 +1,13 @@
 //! The player: vectors on a netlist in three values, from all cells X.
-ghost use Rattle.std.specs.Prelude.{◌≡◌, ◌+◌, ◌^◌, ◌<◌, ◌≤◌, ◌++◌, true, length, replicate, IfOk, OnOk};
+ghost use Rattle.std.specs.Prelude.{◌≡◌, ◌+◌, ◌^◌, ◌<◌, ◌≤◌, ◌++◌, true, cond, length, replicate, IfOk, OnOk};
 ghost use Rattle.std.specs.List.{All};
 ghost use Rattle.netlist.specs.Netlist.{cells, signals};
+ghost use Rattle.netlist.specs.Settled.{at, next};
 ghost use Rattle.netlist.specs.declared.kinds.Tri.TheVariants.{X};
 ghost use Rattle.scan_play.specs.Cycles.{IsCycleOf};
 ghost use Rattle.scan_play.specs.Bursts.{cycle_of, cycles_of, all_cycles};
 ghost use Rattle.scan_play.specs.inner.Plans.{IsPlanned};
-ghost use Rattle.scan_play.specs.inner.Steps.{IsStep, PlaysOn};
+ghost use Rattle.scan_play.specs.inner.Steps.{IsEnded, IsStep, PlaysOn};
 ghost use Rattle.scan_play.specs.Playing.{PlaysAs};
 ghost use Rattle.scan_play.specs.Judging.{IsJudged};
 
@@ -14,8 +15,7 @@ use crate::cycles::{Burst, Vectors, push_known};
 use crate::judging::{Judge, Strict, judged_in};
 use crate::planning::Plan;
 use crate::played::Played;
-use crate::stepping::{drive_sources, evaluate_all};
-use netlist::{Core, Fault, NoMemory, SignalId, Tri};
+use netlist::{Core, Fault, Logic, NoMemory, SignalId, Tri, drive_sources, evaluate_all};
 use std::alloc::{AllocError, Global};
 use tri::Tris;
 
@@ -30,6 +30,45 @@ struct Bench {
     pins: Vec<Tri>,
 }
 
+/// The cells take their next values, where the clock has a pulse.
+pub fn tick<L: Logic>(
+    core: &Core,
+    logic: &L,
+    pulse: bool,
+    values: &[L::Value],
+    state: &mut Vec<L::Value>,
+) -> Result<(), AllocError>
+    requires { length values.now ≡ length (signals core.now) }
+    ensures { OnOk result ((d : L.Value) → state.new.items ≡ cond pulse (next (L.rule logic.now) core.now (at values.now d)) state.old.items) }
+{
+    if !pulse {
+        return Ok(());
+    }
+    core.next_into(logic, values, state)
+}
+
+/// Judges what a cycle shows, and has the cells take their next values.
+fn end_cycle<J: Judge>(
+    core: &Core,
+    rule: &Tris,
+    judge: &J,
+    pulse: bool,
+    number: u64,
+    bench: &mut Bench,
+) -> Result<Option<Played>, AllocError>
+    requires room { length bench.old.values.items ≡ length (signals core.now) }
+    requires strobes { length bench.old.strobe.items ≡ length core.now.outputs }
+    ensures values { IfOk result (λ _. bench.new.values.items ≡ bench.old.values.items) }
+    ensures ended { IfOk result (λ found. IsEnded (J.says judge.now) rule.now.fault core.now pulse number bench.old.strobe.items bench.old.values.items bench.old.state.items bench.new.state.items found) }
+{
+    core.netlist().sound();
+    core.outs_into(rule, &bench.values, &mut bench.shown)?;
+    let found = judged_in(judge, number, &bench.strobe, &bench.shown);
+    tick(core, rule, pulse, &bench.values, &mut bench.state)?;
+    Ok(found)
+}
+
+/// Plays one cycle: each gate is evaluated.
 fn play_cycle<J: Judge>(
     core: &Core,
     rule: &Tris,
@@ -56,11 +95,7 @@ fn play_cycle<J: Judge>(
         &mut bench.values,
         &mut bench.pins,
     )?;
-    core.outs_into(rule, &bench.values, &mut bench.shown)?;
-    let found = judged_in(judge, number, &bench.strobe, &bench.shown);
-    if burst.pulse {
-        core.next_into(rule, &bench.values, &mut bench.state)?;
-    }
+    let found = end_cycle(core, rule, judge, burst.pulse, number, bench)?;
     Ok(found)
 }
 
@@ -113,11 +148,7 @@ fn play_shift<J: Judge>(
     burst.read_strobe(t, &mut bench.strobe)?;
     drive_sources(rule, netlist, &bench.drive, &bench.state, &mut bench.values);
     evaluate_all(rule, netlist, steps, &mut bench.values, &mut bench.pins)?;
-    core.outs_into(rule, &bench.values, &mut bench.shown)?;
-    let found = judged_in(judge, number, &bench.strobe, &bench.shown);
-    if burst.pulse {
-        core.next_into(rule, &bench.values, &mut bench.state)?;
-    }
+    let found = end_cycle(core, rule, judge, burst.pulse, number, bench)?;
     Ok(found)
 }
 

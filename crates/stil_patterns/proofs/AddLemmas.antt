@@ -67,25 +67,6 @@ module _ (n : Netlist) (chains : List (List ℕ)) where
 
 -- ---- the flush
 
-pub flush_added : (chains : List (List ℕ)) (old one two three : List Item) (first second : List Bool) (idle held_first held_second : List Tri) (count : ℕ) → count ≡ length (cells_of chains)
-    → first ≡ flush chains → second ≡ map not first → idle ≡ replicate count X → held_first ≡ map known first → held_second ≡ map known second
-    → one ≡ old ++ load_items chains first idle → two ≡ one ++ load_items chains second held_first → three ≡ two ++ load_items chains (replicate (length (cells_of chains)) false) held_second
-    → three ≡ old ++ flush_items chains
-flush_added chains old one two three first second idle held_first held_second count ec e1 e2 ei h1 h2 o1 o2 o3 =
-    let second_is : second ≡ map not (flush chains) = e2 ∙ ap (map not) e1 in
-    let zeros = replicate (length (cells_of chains)) false in
-    let a = load_items chains (flush chains) (replicate (length (cells_of chains)) X) in
-    let b = load_items chains (map not (flush chains)) (map known (flush chains)) in
-    let d = load_items chains zeros (map known (map not (flush chains))) in
-    let ea : load_items chains first idle ≡ a = ap (λ (x : List Bool). load_items chains x idle) e1 ∙ ap (λ (x : List Tri). load_items chains (flush chains) x) (ei ∙ ap (λ k. replicate k X) ec) in
-    let eb : load_items chains second held_first ≡ b =
-    ap (λ (x : List Bool). load_items chains x held_first) second_is ∙ ap (λ (x : List Tri). load_items chains (map not (flush chains)) x) (h1 ∙ ap (map known) e1) in
-    let ed : load_items chains zeros held_second ≡ d = ap (λ (x : List Tri). load_items chains zeros x) (h2 ∙ ap (map known) second_is) in
-    let s1 : one ≡ old ++ a = o1 ∙ ap (λ (x : List Item). old ++ x) ea in
-    let s2 : two ≡ old ++ a ++ b = o2 ∙ (ap (λ (x : List Item). x ++ load_items chains second held_first) s1 ∙ ap (λ (x : List Item). old ++ a ++ x) eb) in
-    o3 ∙ (ap (λ (x : List Item). x ++ load_items chains zeros held_second) s2 ∙ (ap (λ (x : List Item). old ++ a ++ b ++ x) ed
-    ∙ (append_assoc (old ++ a) b d ∙ (append_assoc old a (b ++ d) ∙ ap (λ (x : List Item). old ++ x) (sym (append_assoc a b d))))))
-
 -- ---- the file
 
 file : List Text → List Text → List (List Text) → Text → List Item → StilFile

@@ -32,9 +32,6 @@ inputs_more word k b found new l is h pushed =
     let at : get_or (bits_of word) k false ≡ (b == 49) = get_or-map driven_bit word k 0 false l ∙ ap driven_bit (sym is) in
     pushed ∙ (ap (λ (x : List Bool). x ++ (b == 49) ∷ []) h ∙ (ap (λ v. take k (bits_of word) ++ v ∷ []) (sym at) ∙ sym (take_more (bits_of word) k false (omega (arith, size, l)))))
 
-pub inputs_end : (word : Text) (count k : ℕ) (found : List Bool) → k ≡ min count (length word) → found ≡ take k (bits_of word) → found ≡ take count (bits_of word)
-inputs_end word count k found e h = h ∙ (ap (λ n. take n (bits_of word)) (e ∙ ap (min count) (sym (length-map word driven_bit))) ∙ take_min count (bits_of word))
-
 -- ---- chains
 
 cells_more : (chains : List (List ℕ)) (c : ℕ) (chain : List ℕ) (words : List Text) → slice_get chains c ≡ Some chain

@@ -39,9 +39,6 @@ assigned_push (l ∷ labels) [] label word n = absurd (omega arith)
 assigned_push (l ∷ labels) (w ∷ words) label word n =
     ap (λ ts. assignment_tokens l w ++ ts) (assigned_push labels words label word (omega arith))
 
-pub assign_none_yet : (all : List Token) → AreAssigned [] all [] all
-assign_none_yet all = record { count = refl; split = refl }
-
 pub assign_more : (labels : List Text) (i : ℕ) (label : Text) (words more : List Text) (word : Text) (all rest after : List Token)
     → slice_get labels i ≡ Some label → AreAssigned (take i labels) all words rest → rest ≡ assignment_tokens label word ++ after
     → more ≡ words ++ word ∷ [] → AreAssigned (take (i + 1) labels) all more after

@@ -17,12 +17,6 @@ flat_map_push f (y ∷ ys) x = ap (λ ts. f y ++ ts) (flat_map_push f ys x) ∙ 
 pub parts : (front middle end rest : List Token) → (front ++ (middle ++ end)) ++ rest ≡ front ++ (middle ++ (end ++ rest))
 parts front middle end rest = append_assoc front (middle ++ end) rest ∙ ap (λ ts. front ++ ts) (append_assoc middle end rest)
 
--- an item is whole
-pub whole_item : (front all inner after rest : List Token) (labels words : List Text) → all ≡ front ++ inner → AreAssigned labels inner words after → after ≡ tokens item_ends ++ rest
-    → (length words ≡ length labels) × (all ≡ (front ++ (assigned_tokens labels words ++ tokens item_ends)) ++ rest)
-whole_item front all inner after rest labels words e are f =
-    (are.count, e ∙ ap (λ ts. front ++ ts) (are.split ∙ ap (λ ts. assigned_tokens labels words ++ ts) f) ∙ sym (parts front (assigned_tokens labels words) (tokens item_ends) rest))
-
 -- words for the same signals in front of two lists leave the same behind them
 assigned_once : (labels words others : List Text) (rest more : List Token) → length words ≡ length labels → length others ≡ length labels
     → assigned_tokens labels words ++ rest ≡ assigned_tokens labels others ++ more → rest ≡ more
@@ -47,9 +41,6 @@ no_end begins labels words all inner after e only are none others rest n f =
     none rest (assigned_once labels words others after (tokens item_ends ++ rest) are.count n
     (sym are.split ∙ only _ (f ∙ parts (tokens begins) (assigned_tokens labels others) (tokens item_ends) rest)))
 
-pub not_begun : (begins : Text) (labels : List Text) (all : List Token) → ((ts : List Token) → all ≡ tokens begins ++ ts → ⊥) → NoneBegun begins labels all
-not_begun begins labels all none words rest n e = none _ (e ∙ parts (tokens begins) (assigned_tokens labels words) (tokens item_ends) rest)
-
 pub no_item : (called assigned : List Text) (all : List Token) → NoneBegun call_begins called all → NoneBegun vector_begins assigned all
     → (item : Item) (rest : List Token) → HasTargets called assigned item → all ≡ item_tokens called assigned item ++ rest → ⊥
 no_item called assigned all no_call no_vector (Call words) rest n e = no_call words rest n e
@@ -73,9 +64,6 @@ begun_shorter begins labels words all rest e =
 pub item_shorter : (called assigned : List Text) (item : Item) (all rest : List Token) → all ≡ item_tokens called assigned item ++ rest → length rest < length all
 item_shorter called assigned (Call words) all rest e = begun_shorter call_begins called words all rest e
 item_shorter called assigned (Vector words) all rest e = begun_shorter vector_begins assigned words all rest e
-
-pub no_items_yet : (called assigned : List Text) (all : List Token) → AreItems called assigned all [] all
-no_items_yet called assigned all = record { have_words = All-nil (HasTargets called assigned); split = refl }
 
 pub item_more : (called assigned : List Text) (all : List Token) (items more : List Item) (item : Item) (rest after : List Token)
     → AreItems called assigned all items rest → HasTargets called assigned item → rest ≡ item_tokens called assigned item ++ after

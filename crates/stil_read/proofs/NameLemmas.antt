@@ -67,10 +67,6 @@ all_quotable-append (x ∷ xs) ys h k = (h.0, all_quotable-append xs ys h.1 k)
 
 -- ---- letters
 
-letters-append : (x y : Text) → AreLetters x → AreLetters y → AreLetters (x ++ y)
-letters-append [] y h k = k
-letters-append (b ∷ x) y h k = (h.0, letters-append x y h.1 k)
-
 digit_class : (d : ℕ) → d < 10 → class_of (48 + d) ≡ class.Letter
 unfolding class_of
 digit_class zero h = refl

@@ -32,9 +32,6 @@ use Rattle.stil_read.proofs.WrittenLemmas.{assignments_tokens, blank_class, kind
 
 -- ---- kinds of signals
 
-scan_output_kind : Text
-scan_output_kind = codes " Out { ScanOut; }\n"
-
 abbrev Differs : Text → Text → Type 0
 Differs kind other = (a b : List Token) → tokens kind ++ a ≡ tokens other ++ b → ⊥
 

@@ -18,16 +18,6 @@ unfolding tokens_from class_of
 clock_line zero h = absurd (h refl)
 clock_line (suc n) h = refl
 
-pub clock_found : (n : ℕ) (all rest : List Token) → (n ≡ 0 → ⊥) → all ≡ tokens (codes "\"SC__ck\" In;") ++ rest → all ≡ clock_tokens n ++ rest
-clock_found n all rest h e = e ∙ ap (λ ts. ts ++ rest) (clock_line n h)
-
-pub clock_absent : (n : ℕ) (all : List Token) → (n ≡ 0 → ⊥) → ((ts : List Token) → all ≡ tokens (codes "\"SC__ck\" In;") ++ ts → ⊥) → (ts : List Token) → all ≡ clock_tokens n ++ ts → ⊥
-clock_absent n all h none ts e = none ts (e ∙ ap (λ us. us ++ ts) (sym (clock_line n h)))
-
-pub no_clock : (n : ℕ) (all : List Token) → n ≡ 0 → all ≡ clock_tokens n ++ all
-no_clock zero all e = refl
-no_clock (suc n) all e = absurd (omega (arith, e))
-
 -- ---- signals
 
 pub declared_here : (all one two three four rest : List Token) (pi names po : List Text) (n : ℕ) → all ≡ tokens head_text ++ one → AreSignals input_kind one pi two → AreSignals scan_input_kind two names three
@@ -48,9 +38,6 @@ no_clock_line all one two three pi names n h i s c none qi m po rest a =
     none a.four (g.1 ∙ a.clock ∙ ap (λ j. clock_tokens j ++ a.four) (sym k))
 
 -- ---- chains
-
-pub chain_here : (all inner rest : List Token) (cells : List Text) → behind_first cells_word all ≡ Some inner → AreSignals [] inner cells rest → IsChain all cells rest
-chain_here all inner rest cells s n = record { inner = inner; skipped = s; names = n }
 
 none_some : {X : Type 0} (o : Option X) (x : X) → o ≡ None → o ≡ Some x → ⊥
 none_some o x e f = cc
@@ -89,29 +76,9 @@ no_more_chains k n all chains rest l a none others more b =
 
 -- ---- the word of a shift
 
-pub not_shifted : (n : ℕ) (all : List Token) → n ≡ 0 → IsShifted n all [] all
-not_shifted zero all e = (refl, refl)
-not_shifted (suc n) all e = absurd (omega (arith, e))
-
-pub shift_here : (n : ℕ) (all inner after rest : List Token) (word : Text) → (n ≡ 0 → ⊥) → behind_first vector_word all ≡ Some inner → inner ≡ tokens shift_head ++ after → after ≡ Spelled word ∷ rest
-    → IsShifted n all word rest
-shift_here zero all inner after rest word h s e f = absurd (h refl)
-shift_here (suc n) all inner after rest word h s e f = record { inner = inner; skipped = s; word_is = e ∙ ap (λ ts. tokens shift_head ++ ts) f }
-
 pub no_vector : (n : ℕ) (all : List Token) → (n ≡ 0 → ⊥) → behind_first vector_word all ≡ None → (word : Text) (rest : List Token) → IsShifted n all word rest → ⊥
 no_vector zero all h e word rest a = h refl
 no_vector (suc n) all h e word rest a = none_some (behind_first vector_word all) a.inner e a.skipped
-
-pub no_shift_head : (n : ℕ) (all inner : List Token) → (n ≡ 0 → ⊥) → behind_first vector_word all ≡ Some inner → ((ts : List Token) → inner ≡ tokens shift_head ++ ts → ⊥) → (word : Text) (rest : List Token)
-    → IsShifted n all word rest → ⊥
-no_shift_head zero all inner h e none word rest a = h refl
-no_shift_head (suc n) all inner h e none word rest a = none (Spelled word ∷ rest) (same_some inner a.inner (sym e ∙ a.skipped) ∙ a.word_is)
-
-pub no_shift_word : (n : ℕ) (all inner after : List Token) → (n ≡ 0 → ⊥) → behind_first vector_word all ≡ Some inner → inner ≡ tokens shift_head ++ after → ((w : Text) (ts : List Token) → after ≡ Spelled w ∷ ts → ⊥)
-    → (word : Text) (rest : List Token) → IsShifted n all word rest → ⊥
-no_shift_word zero all inner after h e f none word rest a = h refl
-no_shift_word (suc n) all inner after h e f none word rest a =
-    none word rest (append_once (tokens shift_head) after (Spelled word ∷ rest) (sym f ∙ same_some inner a.inner (sym e ∙ a.skipped) ∙ a.word_is))
 
 -- ---- the pattern
 

@@ -384,15 +384,6 @@ pub word_some : (all : List ℕ) → goes_on all ≡ true → (0 < word_len all)
 word_some [] h = cc
 word_some (b ∷ bs) h = let k = word_len-more b bs h in (omega (arith, k), omega arith)
 
-pub slash_goes : (all : List ℕ) (b : ℕ) (bs : List ℕ) (kind : Class) → all ≡ b ∷ bs → kind ≡ class_of b → begins_gap all ≡ false → kind ≡ class.Slash → goes_on all ≡ true
-slash_goes all b bs kind e is h k =
-    let s : class_of b ≡ class.Slash = sym is ∙ k in
-    let o : opens_comment bs ≡ false = sym (ap (λ j. gap_by j bs) s) ∙ ap begins_gap (sym e) ∙ h in
-    ap goes_on e ∙ slash_word b bs s o
-
-pub letter_goes : (all : List ℕ) (b : ℕ) (bs : List ℕ) (kind : Class) → all ≡ b ∷ bs → kind ≡ class_of b → kind ≡ class.Letter → goes_on all ≡ true
-letter_goes all b bs kind e is k = ap goes_on e ∙ ap (λ j. word_by j bs) (sym is ∙ k)
-
 pub mark_at : (all : List ℕ) (b : ℕ) (bs : List ℕ) (kind : Class) → all ≡ b ∷ bs → kind ≡ class_of b → kind ≡ class.Mark
     → tokens all ≡ Spelled (take 1 all) ∷ tokens (drop 1 all)
 mark_at all b bs kind e is k = subst (λ l. tokens l ≡ Spelled (take 1 l) ∷ tokens (drop 1 l)) (sym e) (at_mark b bs (sym is ∙ k))
@@ -402,10 +393,6 @@ star_at all b bs kind e is k = ap tokens e ∙ at_star b bs (sym is ∙ k)
 
 pub other_at : (all : List ℕ) (b : ℕ) (bs : List ℕ) (kind : Class) → all ≡ b ∷ bs → kind ≡ class_of b → kind ≡ class.Other → tokens all ≡ Stray ∷ tokens bs
 other_at all b bs kind e is k = ap tokens e ∙ at_other b bs (sym is ∙ k)
-
-pub no_gap_at : (all : List ℕ) (b : ℕ) (bs : List ℕ) (kind : Class) → all ≡ b ∷ bs → kind ≡ class_of b → begins_gap all ≡ false → kind ≡ class.Gap → ⊥
-no_gap_at all b bs kind e is h k =
-    let t : true ≡ false = sym (ap (λ j. gap_by j bs) (sym is ∙ k)) ∙ ap begins_gap (sym e) ∙ h in cc
 
 pub len_more : (all rest : List ℕ) (b : ℕ) (bs : List ℕ) (n : ℕ) → n + word_len rest ≡ word_len all → rest ≡ b ∷ bs → goes_on rest ≡ true → n + 1 + word_len bs ≡ word_len all
 len_more all rest b bs n e f h =

@@ -24,11 +24,3 @@ whole_ends text whole =
 pub whole_then_rest : WholeThenRest
 whole_then_rest text rest whole =
     then_rest text rest Between ∙ ap (λ place. ends_of Between text ++ tokens_from place rest) whole ∙ ap (λ ts. ts ++ tokens rest) (sym (whole_ends text whole))
-
-after_both : (text more : List ℕ) (place : LexState) → place_after place (text ++ more) ≡ place_after (place_after place text) more
-unfolding place_after
-after_both [] more place = refl
-after_both (b ∷ bs) more place = after_both bs more (turn place b).place
-
-pub whole_together : WholeTogether
-whole_together text more whole also = after_both text more Between ∙ ap (λ place. place_after place more) whole ∙ also

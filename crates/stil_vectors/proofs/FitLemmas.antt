@@ -59,16 +59,6 @@ output_at n place l = slice_get-get_or n.outputs place 0 l
 
 -- ---- files that fit
 
-pub does_fit : (f : StilFile) (n : Netlist) (ins outs : List Text) → ins ≡ f.pi ++ scan_inputs f → outs ≡ f.po ++ scan_outputs f → ins ≡ map (name_of n) n.inputs → outs ≡ map (output_name n) n.outputs
-    → ((length f.chains ≡ 0) ↔ (length (cells n) ≡ 0)) → FitsNetlist f n
-does_fit f n ins outs ei eo i o c = record { inputs = sym ei ∙ i; outputs = sym eo ∙ o; chains = c }
-
-pub other_inputs : (f : StilFile) (n : Netlist) (ins : List Text) → ins ≡ f.pi ++ scan_inputs f → (ins ≡ map (name_of n) n.inputs → ⊥) → FitsNetlist f n → ⊥
-other_inputs f n ins e none h = none (e ∙ h.inputs)
-
-pub other_outputs : (f : StilFile) (n : Netlist) (outs : List Text) → outs ≡ f.po ++ scan_outputs f → (outs ≡ map (output_name n) n.outputs → ⊥) → FitsNetlist f n → ⊥
-other_outputs f n outs e none h = none (e ∙ h.outputs)
-
 -- ---- texts compared
 
 was_true : (b : Bool) → false ≡ not b → b ≡ true

@@ -1,31 +1,26 @@
 -- The cycle of a vector, and the widths of all cycles.
-use Rattle.std.proofs.Common.{◌≡◌, ◌∙◌, ◌+◌, ◌*◌, ◌<◌, ◌≤◌, ℕ, zero, suc, Bool, true, false, List, [], ◌∷◌, ◌++◌, ap, sym, refl, subst, append-nil, length, take, drop, map, get_or, arith, replicate, length-append, min}
+use Rattle.std.proofs.Common.{◌≡◌, ◌∙◌, ◌+◌, ◌<◌, ◌≤◌, ℕ, zero, suc, Bool, false, List, [], ◌∷◌, ◌++◌, ap, sym, refl, subst, append-nil, length, take, get_or, arith, replicate, length-append, min}
 use Rattle.std.specs.Prelude.{◌==◌, Some, slice_get, codes}
-use Rattle.std.specs.List.{All, AllZip, flat_map}
-use Rattle.std.proofs.lemmas.List.{length-replicate, length-take, length-drop, length-map, map-append}
+use Rattle.std.specs.List.{AllZip, flat_map}
+use Rattle.std.proofs.lemmas.List.{length-replicate}
 use Rattle.std.proofs.lemmas.List.Concat.{flat_map-append}
-use Rattle.std.proofs.lemmas.List.Elements.{All-append, All-cons, All-head, All-nil, All-tail}
 use Rattle.std.proofs.lemmas.Option.{get_or_from_slice_get, slice_get-get_or}
 use Rattle.std.proofs.lemmas.Slice.Zip.{AllZip-long}
 use Rattle.plain_text.specs.Texts.{Text}
 use Rattle.netlist.specs.declared.kinds.Tri.{Tri}
 use Rattle.netlist.specs.declared.kinds.Tri.TheVariants.{X}
-use Rattle.netlist.specs.Netlist.{Netlist, name_of}
-use Rattle.scan_insert.specs.Names.{numbers_from, output_name}
-use Rattle.scan_play.specs.Cycles.{Cycle, IsCycleOf}
-use Rattle.scan_play.specs.Bursts.{all_cycles, cycle_at, cycles_of}
+use Rattle.scan_play.specs.Cycles.{Cycle}
+use Rattle.scan_play.specs.Bursts.{all_cycles, cycles_of}
 use Rattle.scan_play.specs.declared.cycles.Burst.{Burst}
 use Rattle.stil_write.specs.declared.items.ItemKind.{ItemKind}
 use Rattle.stil_write.specs.declared.items.ItemKind.TheVariants as kind
 use Rattle.stil_write.specs.declared.forms.Form.{Form}
 use Rattle.stil_write.specs.declared.forms.CharKind.TheVariants as values
-use Rattle.stil_write.specs.StilFiles.{Call, IsItem, IsStilFile, IsWord, Item, StilFile, Vector, call_forms, clock, item_at, item_of, item_kind, scan_inputs, scan_outputs, vector_forms, where_chained, words_of}
-use Rattle.stil_write.proofs.ItemLemmas.{length-numbered}
-use Rattle.stil_vectors.specs.FileVectors.{IsPulsed, bits_of, has_pulse, call_cycle, cycles_of_item, together, values_of, vector_cycle, vectors_in}
-use Rattle.stil_vectors.specs.Fitting.{FitsNetlist, IsCycleFor}
+use Rattle.stil_write.specs.StilFiles.{Call, IsItem, IsStilFile, IsWord, Item, StilFile, Vector, clock, item_at, item_of, item_kind, vector_forms, where_chained, words_of}
+use Rattle.stil_vectors.specs.FileVectors.{IsPulsed, has_pulse, cycles_of_item, vector_cycle}
 use Rattle.scan_play.proofs.BurstLemmas.{same_cycle}
 use Rattle.stil_vectors.proofs.CallLemmas.{CallWords, call_item, call_words}
-use Rattle.stil_vectors.proofs.CharLemmas.{length-chars, take_at, zip_has}
+use Rattle.stil_vectors.proofs.CharLemmas.{take_at, zip_has}
 
 -- ---- the words of a vector
 
@@ -79,13 +74,10 @@ pub item_by_kind : (item : Item) → item ≡ item_of (item_kind item) (words_of
 item_by_kind (Call words) = refl
 item_by_kind (Vector words) = refl
 
-one_cycle : (drive d : List Bool) (strobe s : List Tri) (pulse p : Bool) (ins : List Bool) (outs : List Tri) → drive ≡ d → strobe ≡ s → pulse ≡ p
-    → map (cycle_at drive strobe pulse 0 ins outs) (numbers_from 0 1) ≡ (let c : Cycle = record { drive = d; strobe = s; pulse = p } in c) ∷ []
-one_cycle drive d strobe s pulse p ins outs ed es ep = ap (λ x. x ∷ []) (same_cycle _ _ _ _ _ _ (append-nil drive ∙ ed) (append-nil strobe ∙ es) ep)
-
-pub vector_cycles : (f : StilFile) (item : Item) (words : List Text) (drive : List Bool) (strobe : List Tri) (pulse : Bool) (ins : List Bool) (outs : List Tri) → item ≡ Vector words
-    → drive ≡ (vector_cycle f words).drive → strobe ≡ (vector_cycle f words).strobe → pulse ≡ (vector_cycle f words).pulse → map (cycle_at drive strobe pulse 0 ins outs) (numbers_from 0 1) ≡ cycles_of_item f item
-vector_cycles f item words drive strobe pulse ins outs e ed es ep = one_cycle drive _ strobe _ pulse _ ins outs ed es ep ∙ ap (cycles_of_item f) (sym e)
+pub vector_cycles : (f : StilFile) (item : Item) (words : List Text) (drive : List Bool) (strobe : List Tri) (pulse : Bool) → item ≡ Vector words
+    → drive ≡ (vector_cycle f words).drive → strobe ≡ (vector_cycle f words).strobe → pulse ≡ (vector_cycle f words).pulse
+    → (let c : Cycle = record { drive = drive; strobe = strobe; pulse = pulse } in c) ∷ [] ≡ cycles_of_item f item
+vector_cycles f item words drive strobe pulse e ed es ep = ap (λ (x : Cycle). x ∷ []) (same_cycle _ _ _ _ _ _ ed es ep) ∙ ap (cycles_of_item f) (sym e)
 
 -- bursts of one more item
 pub bursts_more : (f : StilFile) (items : List Item) (i : ℕ) (bursts more : List Burst) (burst : Burst) → i < length items → all_cycles bursts ≡ flat_map (cycles_of_item f) (take i items)

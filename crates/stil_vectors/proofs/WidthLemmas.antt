@@ -27,10 +27,6 @@ abbrev sizes : List Form → ℕ
 sizes [] = 0
 sizes (form ∷ forms) = form.size + sizes forms
 
-sizes-append : (xs ys : List Form) → sizes (xs ++ ys) ≡ sizes xs + sizes ys
-sizes-append [] ys = omega arith
-sizes-append (x ∷ xs) ys = let k = sizes-append xs ys in omega (arith, k)
-
 sizes-ones : (n : ℕ) (form : Form) → form.size ≡ 1 → sizes (replicate n form) ≡ n
 sizes-ones zero form e = refl
 sizes-ones (suc n) form e = let k = sizes-ones n form e in omega (arith, k, e)

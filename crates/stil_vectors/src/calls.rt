@@ -1,5 +1,5 @@
 //! The cycles of a call.
-ghost use Rattle.std.specs.Prelude.{◌≡◌, ◌+◌, ◌≤◌, ◌<◌, ◌++◌, [], false, length, map, take, drop, replicate, slice_index_or, IfOk, OnOk};
+ghost use Rattle.std.specs.Prelude.{◌≡◌, ◌+◌, ◌≤◌, ◌<◌, ◌++◌, [], false, length, map, take, drop, slice_index_or, IfOk, OnOk};
 ghost use Rattle.std.specs.List.{All, flat_map};
 ghost use Rattle.netlist.specs.declared.kinds.Tri.TheVariants.{X};
 ghost use Rattle.scan_insert.specs.Names.{numbers_from};
@@ -10,7 +10,7 @@ ghost use Rattle.stil_vectors.specs.FileVectors.{bits_of, call_size, cycles_of_i
 
 use crate::characters::{bit_of, push_bits, value_of};
 use netlist::Tri;
-use scan_play::Burst;
+use scan_play::{Burst, no_strobes};
 use std::alloc::{AllocError, Global};
 use stil_write::{Items, StilFile};
 
@@ -92,16 +92,6 @@ fn all_outs(
         push_outs(&mut outs, items, place, chains, t)?;
     }
     Ok(outs)
-}
-
-fn no_strobes(alloc: Global, count: usize) -> Result<Vec<Tri>, AllocError>
-    ensures { IfOk result (λ v. v.items ≡ replicate count X) }
-{
-    let mut strobes = Vec::with_capacity(alloc, count)?;
-    for _ in 0..count {
-        strobes.push(Tri::X)?;
-    }
-    Ok(strobes)
 }
 
 /// The cycles of a call, as many as its words have characters, in one burst.

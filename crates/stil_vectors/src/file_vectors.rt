@@ -7,7 +7,7 @@ ghost use Rattle.stil_vectors.specs.FileVectors.{IsPulsed, bits_of, cycles_of_it
 use crate::calls::call_burst;
 use crate::characters::{push_bits, push_values};
 use netlist::{NoMemory, Tri};
-use scan_play::{Burst, Vectors};
+use scan_play::{Burst, Vectors, single};
 use std::alloc::{AllocError, Global};
 use stil_write::{ItemKind, Items, StilFile};
 
@@ -63,15 +63,7 @@ fn vector_burst(alloc: Global, file: &StilFile, place: usize) -> Result<Burst, A
     let pulse = has_pulse(items, place, chains, inputs);
     let drive = driven(alloc, items, place, inputs)?;
     let strobe = strobed(alloc, items, place, inputs + chains.min(1))?;
-    Ok(Burst {
-        drive,
-        strobe,
-        pulse,
-        width: 0,
-        ins: Vec::new(alloc),
-        outs: Vec::new(alloc),
-        count: 1,
-    })
+    Ok(single(alloc, drive, strobe, pulse))
 }
 
 fn item_burst(alloc: Global, file: &StilFile, place: usize) -> Result<Burst, AllocError>
@@ -101,8 +93,6 @@ fn bursts(alloc: Global, file: &StilFile) -> Result<Vec<Burst>, AllocError>
 pub fn vectors(alloc: Global, file: &StilFile) -> Result<Vectors, NoMemory>
     ensures { IfOk result (λ v. v ≡ vectors_in file.now) }
 {
-    match bursts(alloc, file) {
-        Ok(bursts) => Ok(Vectors::new(bursts)),
-        Err(_) => Err(NoMemory),
-    }
+    let all = bursts(alloc, file)?;
+    Ok(Vectors::new(all))
 }

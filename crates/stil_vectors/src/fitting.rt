@@ -67,14 +67,10 @@ pub fn fits(alloc: Global, file: &StilFile, netlist: &Netlist) -> Result<bool, N
     if (chains == 0) != netlist.cells().is_empty() {
         return Ok(false);
     }
-    let Ok(inputs) = with_scan(alloc, file.pi(), b"SC__si", chains) else {
-        return Err(NoMemory);
-    };
+    let inputs = with_scan(alloc, file.pi(), b"SC__si", chains)?;
     if !are_inputs(netlist, &inputs) {
         return Ok(false);
     }
-    let Ok(outputs) = with_scan(alloc, file.po(), b"SC__so", chains) else {
-        return Err(NoMemory);
-    };
+    let outputs = with_scan(alloc, file.po(), b"SC__so", chains)?;
     are_outputs(alloc, netlist, &outputs)
 }

@@ -30,18 +30,6 @@ call_size zero size words word h g a = absurd (omega arith)
 call_size (suc n) size [] word h g a = absurd a
 call_size (suc n) size (w ∷ words) word h g a = let s : w ≡ word = cc in ap length (sym s) ∙ a.0.0
 
--- and there is one
-pub call_some : (chains size : ℕ) (words : List Text) → 1 ≤ chains → length words ≡ 0 → AllZip IsWord (call_forms chains size) words → ⊥
-call_some zero size words h n a = omega arith
-call_some (suc k) size [] h n a = a
-call_some (suc k) size (w ∷ words) h n a = omega arith
-
-pub other_size : (chains size : ℕ) (forms : List Form) (words : List Text) (word : Text) → 1 ≤ chains → slice_get words 0 ≡ Some word → size ≡ length word → forms ≡ call_forms chains size
-    → (AllZip IsWord forms words → ⊥) → IsStilCall chains words → ⊥
-other_size chains size forms words word h g e f none call =
-    let s : size ≡ call.0 = e ∙ call_size chains call.0 words word h g call.3 in
-    none (subst (λ l. AllZip IsWord l words) (sym f) (subst (λ m. AllZip IsWord (call_forms chains m) words) (sym s) call.3))
-
 pub some_if : {X : Type 0} (xs : List X) → (length xs == 0) ≡ false → 1 ≤ length xs
 some_if [] e = absurd (cc)
 some_if (x ∷ xs) e = omega arith

@@ -69,8 +69,3 @@ assignments_more signals words i signal word before so_far after h g e a =
     a ∙ ap (λ t. t ++ assignment signal word) e ∙ append_assoc before (assignments (take i signals) (take i words)) (assignment signal word)
     ∙ ap (λ t. before ++ t) (sym (assignments_push (take i signals) (take i words) signal word n)
     ∙ ap (λ ss. assignments ss (take i words ++ word ∷ [])) (sym (take_at signals i signal h)) ∙ ap (assignments (take (i + 1) signals)) (sym (take_at words i word g)))
-
-pub assignments_end : (signals words : List Text) (i : ℕ) (before so_far : Text) → length words ≡ length signals → length signals ≤ i
-    → so_far ≡ before ++ assignments (take i signals) (take i words) → so_far ≡ before ++ assignments signals words
-assignments_end signals words i before so_far n h e =
-    e ∙ ap (λ t. before ++ t) (ap (λ ss. assignments ss (take i words)) (take_all i signals h) ∙ ap (assignments signals) (take_all i words (omega arith)))

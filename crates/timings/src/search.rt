@@ -57,7 +57,6 @@ fn known_of(values: &[Tri]) -> u64 {
     count
 }
 
-/// Counts what a search found.
 fn count(ends: &mut Ends, found: &Found) {
     match found {
         Found::Test(cube, _) => {
@@ -100,7 +99,6 @@ fn search_each<E: Engine>(
     Ok(ends)
 }
 
-/// What searches.
 #[derive(Clone, Copy)]
 pub enum By {
     Podem,

@@ -212,11 +212,6 @@ module _ (n : Netlist) (sound : IsSound n) (patterns : List Pattern) (first seco
 
 -- ---- the signals that are read for the second frame
 
-pub inputs_read : (n : Netlist) → IsSound n → (ids : List ℕ) (first : List ℕ) → ids ≡ n.inputs → length first ≡ length (signals n) → All (λ x. x < length first) ids
-inputs_read n sound ids first e size = subst (λ m. All (λ x. x < m) ids) (sym size)
-    (subst (λ (xs : List ℕ). All (λ x. x < length (signals n)) xs) (sym e)
-    (All-from_contains (λ x. x < length (signals n)) n.inputs (λ x c. input_below n sound.formed.numbered x c)))
-
 pub taken_read : (n : Netlist) → IsSound n → (ids : List ℕ) (first : List ℕ) → ids ≡ taken n → length first ≡ length (signals n) → All (λ x. x < length first) ids
 taken_read n sound ids first e size = subst (λ m. All (λ x. x < m) ids) (sym size)
     (subst (λ (xs : List ℕ). All (λ x. x < length (signals n)) xs) (sym e)

@@ -1,14 +1,13 @@
 -- The cubes of tests, and patterns that have their bits.
-use Rattle.std.proofs.Common.{◌≡◌, ℕ, zero, suc, ◌+◌, ◌-◌, ◌<◌, ◌≤◌, ◌^◌, inl, inr, Bool, true, false, List, [], ◌∷◌, ◌++◌, length, map, length-append, get_or, take, take_all, Option, Some, None, refl, sym, ◌∙◌, ap, subst, arith}
-use Rattle.std.specs.List.{All, AllPairs, AllZip, Contains, slice_get}
+use Rattle.std.proofs.Common.{◌≡◌, ℕ, zero, suc, ◌+◌, ◌-◌, ◌<◌, ◌≤◌, ◌^◌, inl, inr, Bool, true, false, List, [], ◌∷◌, ◌++◌, length, length-append, get_or, Option, Some, None, refl, sym, ◌∙◌, ap, subst, arith}
+use Rattle.std.specs.List.{All, AllZip, Contains}
 use Rattle.std.proofs.lemmas.Bool.{cases_lt}
-use Rattle.std.proofs.lemmas.List.{get_or-append_right, get_or_past, length-map, take_more}
-use Rattle.std.proofs.lemmas.Slice.Zip.{all_zipped_more}
-use Rattle.std.proofs.lemmas.List.Elements.{All-nil, All-cons, All-append, All-contains, Contains-append_right}
+use Rattle.std.proofs.lemmas.List.{get_or-append_right, get_or_past, length-map}
+use Rattle.std.proofs.lemmas.List.Elements.{All-nil, All-cons, All-append, Contains-append_right}
 use Rattle.netlist.specs.declared.kinds.Tri.{Tri}
 use Rattle.netlist.specs.declared.kinds.Tri.TheVariants.{Zero, One, X}
 use Rattle.netlist.specs.declared.lines.Fault.{Fault}
-use Rattle.netlist.specs.Holds.{none_held}
+use Rattle.netlist.specs.Holds.{Holds, none_held}
 use Rattle.netlist.specs.Netlist.{Netlist, cells}
 use Rattle.netlist.specs.ThreeValues.{known, allows, AreAllowed}
 use Rattle.netlist.proofs.Lists.{contains_head, contains_tail}
@@ -23,13 +22,6 @@ use Rattle.transition_tests.specs.inner.Answers.{IsKnown}
 use Rattle.transition_tests.specs.inner.Cubes.{cubes_in, HasAgreeing}
 
 -- ---- the cubes of answers
-
--- cubes of one netlist have the same widths
-pub same_widths : (n : Netlist) (cubes : List Cube) → All (IsCubeOf n (none_held n)) cubes → AllPairs HaveSameWidths cubes
-same_widths n cubes all i j d a b =
-    let x = all i d (omega arith) in
-    let y = all j d b in
-    record { inputs = x.inputs ∙ sym y.inputs; cells = x.cells ∙ sym y.cells }
 
 -- a cube of the two frames is one of the netlist
 frame_cube : (n : Netlist) (f : Fault) (c : Cube) → IsCubeOf (frames_of n f) (none_held (frames_of n f)) c → IsCubeOf n (none_held n) c
@@ -115,17 +107,6 @@ part_agrees p r c same has agrees = record {
 
 -- ---- each cube has a pattern
 
--- one cube more is filled
-pub agree_more : (cubes : List Cube) (old new : List Pattern) (k : ℕ) (c : Cube) (p : Pattern) → k < length cubes → c ≡ get_or cubes k c → AgreesWith p c
-    → AllZip AgreesWith old (take k cubes) → new ≡ old ++ p ∷ [] → AllZip AgreesWith new (take (k + 1) cubes)
-agree_more cubes old new k c p lt is agrees before added =
-    let taken : take k cubes ++ c ∷ [] ≡ take (k + 1) cubes = sym (take_more cubes k c lt ∙ ap (λ (x : Cube). take k cubes ++ x ∷ []) (sym is)) in
-    subst (λ (ps : List Pattern). AllZip AgreesWith ps (take (k + 1) cubes)) (sym added)
-    (subst (λ (cs : List Cube). AllZip AgreesWith (old ++ p ∷ []) cs) taken (all_zipped_more AgreesWith old (take k cubes) p c before agrees))
-
-pub agree_all : (cubes : List Cube) (patterns : List Pattern) (k : ℕ) → length cubes ≤ k → AllZip AgreesWith patterns (take k cubes) → AllZip AgreesWith patterns cubes
-agree_all cubes patterns k le are = subst (λ (cs : List Cube). AllZip AgreesWith patterns cs) (take_all k cubes le) are
-
 paired_at : {A B : Type 0} (R : A → B → Type 0) (xs : List A) (ys : List B) (k : ℕ) (y : B) → AllZip R xs ys → k < length ys → get_or ys k y ≡ y
     → (x : A) × Contains xs x × R x y
 paired_at R [] [] k y z lt e = absurd (omega arith)
@@ -134,22 +115,19 @@ paired_at R (a ∷ xs) [] k y z lt e = elim z [ ]
 paired_at R (a ∷ xs) (b ∷ ys) zero y z lt e = (a, contains_head a xs, subst (λ w. R a w) e z.0)
 paired_at R (a ∷ xs) (b ∷ ys) (suc k) y z lt e = let r = paired_at R xs ys k y z.1 (omega arith) e in (r.0, contains_tail a r.0 xs r.1, r.2)
 
-pub agreeing : (n : Netlist) (cubes merged : List Cube) (patterns : List Pattern) → All (IsCubeOf n (none_held n)) cubes → All (IsCubeOf n (none_held n)) merged
-    → ((c : Cube) → Contains cubes c → (r : Cube) × Contains merged r × HasBitsOf r c) → AllZip AgreesWith patterns merged
-    → (c : Cube) → Contains cubes c → HasAgreeing patterns c
-agreeing n cubes merged patterns fit fits kept agree c is =
+pub agreeing : (cubes merged : List Cube) (patterns : List Pattern) → ((c : Cube) → Contains cubes c → (r : Cube) × Contains merged r × HaveSameWidths r c × HasBitsOf r c)
+    → AllZip AgreesWith patterns merged → (c : Cube) → Contains cubes c → HasAgreeing patterns c
+agreeing cubes merged patterns kept agree c is =
     let r = kept c is in
     let p = paired_at AgreesWith patterns merged r.1.0 r.0 agree r.1.1 r.1.2 in
-    let wide = All-contains (IsCubeOf n (none_held n)) cubes c fit is in
-    let wider = All-contains (IsCubeOf n (none_held n)) merged r.0 fits r.1 in
-    (p.0, p.1, part_agrees p.0 r.0 c (record { inputs = wider.inputs ∙ sym wide.inputs; cells = wider.cells ∙ sym wide.cells }) r.2 p.2)
+    (p.0, p.1, part_agrees p.0 r.0 c r.2 r.3 p.2)
 
 -- ---- behind a batch
 
-pub all_behind : (n : Netlist) (batch filled patterns : List Pattern) → All (IsPatternOf n (none_held n)) batch → All (IsPatternOf n (none_held n)) filled
-    → patterns ≡ batch ++ filled → All (IsPatternOf n (none_held n)) patterns
-all_behind n batch filled patterns obey obeys is =
-    subst (λ (ps : List Pattern). All (IsPatternOf n (none_held n)) ps) (sym is) (All-append (IsPatternOf n (none_held n)) batch filled obey obeys)
+pub all_behind : (n : Netlist) (holds : Holds) (batch filled patterns : List Pattern) → All (IsPatternOf n holds) batch → All (IsPatternOf n holds) filled
+    → patterns ≡ batch ++ filled → All (IsPatternOf n holds) patterns
+all_behind n holds batch filled patterns obey obeys is =
+    subst (λ (ps : List Pattern). All (IsPatternOf n holds) ps) (sym is) (All-append (IsPatternOf n holds) batch filled obey obeys)
 
 pub agreeing_behind : (batch filled patterns : List Pattern) (c : Cube) → patterns ≡ batch ++ filled → HasAgreeing filled c → HasAgreeing patterns c
 agreeing_behind batch filled patterns c is has =
@@ -157,19 +135,3 @@ agreeing_behind batch filled patterns c is has =
 
 pub behind_count : (batch filled patterns : List Pattern) (k : ℕ) → patterns ≡ batch ++ filled → length filled ≤ k → length patterns ≤ length batch + k
 behind_count batch filled patterns k is few = omega (arith, ap length is, length-append batch filled, few)
-
--- ---- a batch of drawn patterns
-
-none_obeyed : {X : Type 0} (xs : List X) (k : ℕ) (b : Bool) → slice_get (map (λ _. None) xs) k ≡ Some (Some b) → ⊥
-none_obeyed [] k b e = cc
-none_obeyed (x ∷ xs) zero b e = cc
-none_obeyed (x ∷ xs) (suc k) b e = none_obeyed xs k b e
-
--- values of the netlist's widths are a cube of it, where no input is held
-pub open_is_cube : (n : Netlist) (c : Cube) (inputs state : List Tri) → c ≡ record { inputs = inputs; cells = state } → length inputs ≡ length n.inputs → length state ≡ length (cells n)
-    → IsCubeOf n (none_held n) c
-open_is_cube n c inputs state is wide high = subst (IsCubeOf n (none_held n)) (sym is) (record {
-  inputs = wide;
-  cells = high;
-  held = λ k b e. absurd (none_obeyed n.inputs k b e);
-})

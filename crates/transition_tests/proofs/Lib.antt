@@ -1,3 +1,4 @@
+pub mod BatchLemmas
 pub mod CubeLemmas
 pub mod EndLemmas
 pub mod TestLemmas

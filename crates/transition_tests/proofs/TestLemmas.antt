@@ -12,7 +12,7 @@ use Rattle.netlist.specs.Holds.{none_held}
 use Rattle.netlist.specs.Lines.{IsLineOf}
 use Rattle.netlist.specs.Netlist.{Netlist}
 use Rattle.netlist.proofs.Lists.{contains_head}
-use Rattle.cubes.specs.Cubes.{Cube, Pattern, IsPatternOf}
+use Rattle.cubes.specs.Cubes.{Cube, Pattern, IsCubeOf, IsPatternOf}
 use Rattle.redundancy_cert.specs.declared.engine.Found.{Found}
 use Rattle.redundancy_cert.specs.declared.engine.Found.TheVariants.{Test, Closed, Partial}
 use Rattle.reverse_compact.specs.Kept.{is_last_at, kept_from, new_place}
@@ -30,8 +30,8 @@ use Rattle.transition_tests.specs.Batches.{AreLeftBy, IsLeftBy}
 use Rattle.transition_tests.specs.Verdicts.{AreTests, IsNeededForTransitions, IsVerdict}
 use Rattle.transition_tests.specs.inner.Answers.{IsKnown}
 use Rattle.transition_tests.specs.inner.Cubes.{BeginsWith, cubes_in, HasAgreeing}
-use Rattle.transition_tests.specs.inner.Ends.{AreEnds, IsEnd, IsTold}
-use Rattle.transition_tests.proofs.CubeLemmas.{other_cube}
+use Rattle.transition_tests.specs.inner.Ends.{AreVerdictsOf, IsVerdictOf, IsDetectedIfTested}
+use Rattle.transition_tests.proofs.CubeLemmas.{all_cubes, other_cube}
 
 -- ---- which faults a batch leaves
 
@@ -62,7 +62,22 @@ module _ (n : Netlist) (limit : ℕ) (batch : List Pattern) where
     all_known faults left found by.1 (record { size = let size = are.size in omega arith; each = λ k g at. are.each (suc k) g at }),
   )
 
+-- the cubes of what was found are cubes of the netlist
+pub cubes_fit : (n : Netlist) (limit : ℕ) (batch : List Pattern) (left : List Bool) (found : List (Option Found)) (cubes : List Cube) → AreLeftBy n batch (universe_of n) left
+    → AreFoundWhereLeft n limit (universe_of n) left found → cubes ≡ cubes_in found → All (IsCubeOf n (none_held n)) cubes
+cubes_fit n limit batch left found cubes by are is =
+    subst (λ (cs : List Cube). All (IsCubeOf n (none_held n)) cs) (sym is)
+    (all_cubes n limit batch (universe_of n) found (all_known n limit batch (universe_of n) left found by are))
+
 -- ---- where a test was found, or the batch detects, some pattern detects
+
+-- where each fault of the netlist is last detected, by the names of what was simulated
+pub last_along : (n : Netlist) (patterns seen : List Pattern) (faults : List Fault) (lasts seen_lasts : List (Option (ℕ × Point))) → faults ≡ universe_of n → seen ≡ patterns
+    → seen_lasts ≡ lasts → AllZip (LastTransition n seen) faults lasts → AllZip (LastTransition n patterns) (universe_of n) seen_lasts
+last_along n patterns seen faults lasts seen_lasts all same told are =
+    subst (λ (fs : List Fault). AllZip (LastTransition n patterns) fs seen_lasts) all
+    (subst (λ (ps : List Pattern). AllZip (LastTransition n ps) faults seen_lasts) same
+    (subst (λ (ls : List (Option (ℕ × Point))). AllZip (LastTransition n seen) faults ls) (sym told) are))
 
 -- a pattern of the batch has its place among all
 at_front : (xs ys : List Pattern) (k : ℕ) (p : Pattern) → slice_get xs k ≡ Some p → slice_get (xs ++ ys) k ≡ Some p
@@ -72,7 +87,7 @@ at_front (x ∷ xs) ys (suc k) p e = at_front xs ys k p e
 
 module _ (n : Netlist) (sound : IsSound n) (limit : ℕ) (batch patterns : List Pattern) (begins : BeginsWith batch patterns) where
   told_one : (f : Fault) (x : Option Found) (last : Option (ℕ × Point)) → IsLineOf n f.line → IsKnown n limit batch f x → LastTransition n patterns f last
-      → ((c : Cube) → Contains (cubes_in (x ∷ [])) c → HasAgreeing patterns c) → IsTold x last
+      → ((c : Cube) → Contains (cubes_in (x ∷ [])) c → HasAgreeing patterns c) → IsDetectedIfTested x last
   told_one f x (Some l) line known is agree = tt
   told_one f None None line known never agree =
       let here = known.2.here in
@@ -104,7 +119,7 @@ module _ (n : Netlist) (sound : IsSound n) (limit : ℕ) (batch patterns : List 
 
   pub all_told : (faults : List Fault) (found : List (Option Found)) (lasts : List (Option (ℕ × Point))) → All (λ (f : Fault). IsLineOf n f.line) faults
       → AllZip (IsKnown n limit batch) faults found → AllZip (LastTransition n patterns) faults lasts → ((c : Cube) → Contains (cubes_in found) c → HasAgreeing patterns c)
-      → AllZip IsTold found lasts
+      → AllZip IsDetectedIfTested found lasts
   all_told [] [] [] lines are is agree = tt
   all_told [] [] (l ∷ lasts) lines are is agree = elim is [ ]
   all_told [] (x ∷ found) lasts lines are is agree = elim are [ ]
@@ -151,7 +166,7 @@ module _ (n : Netlist) (sound : IsSound n) (limit : ℕ) (batch patterns : List 
       (to_frames n sound (kept_from marked 0 patterns) f line place q t)
 
   verdict_is : (f : Fault) (x : Option Found) (last : Option (ℕ × Point)) (v : TransitionVerdict) → IsLineOf n f.line → IsKnown n limit batch f x → LastTransition n patterns f last
-      → ((l : ℕ × Point) → last ≡ Some l → marked l.0 ≡ true) → IsEnd (new_place marked) x last v → IsVerdict n limit (kept_from marked 0 patterns) f v
+      → ((l : ℕ × Point) → last ≡ Some l → marked l.0 ≡ true) → IsVerdictOf (new_place marked) x last v → IsVerdict n limit (kept_from marked 0 patterns) f v
   verdict_is f x (Some l) v line evidence is mark end =
       subst (IsVerdict n limit (kept_from marked 0 patterns) f) (sym end) (kept_last f l.0 l.1 line (mark l refl) is)
   verdict_is f None None v line known never mark end = elim end [ ]
@@ -163,7 +178,7 @@ module _ (n : Netlist) (sound : IsSound n) (limit : ℕ) (batch patterns : List 
 
   verdicts_are : (faults : List Fault) (found : List (Option Found)) (lasts : List (Option (ℕ × Point))) (vs : List TransitionVerdict) → All (λ (f : Fault). IsLineOf n f.line) faults
       → AllZip (IsKnown n limit batch) faults found → AllZip (LastTransition n patterns) faults lasts → ((c : ℕ) (l : ℕ × Point) → last_at lasts c ≡ Some l → marked l.0 ≡ true)
-      → AreEnds (new_place marked) found lasts vs → AllZip (IsVerdict n limit (kept_from marked 0 patterns)) faults vs
+      → AreVerdictsOf (new_place marked) found lasts vs → AllZip (IsVerdict n limit (kept_from marked 0 patterns)) faults vs
   verdicts_are [] [] [] [] lines are is mark ends = tt
   verdicts_are [] [] [] (v ∷ vs) lines are is mark ends = elim ends [ ]
   verdicts_are [] [] (l ∷ lasts) vs lines are is mark ends = elim is [ ]
@@ -192,7 +207,7 @@ needed_at n sound patterns faults lasts lines are place p at =
 pub tests_are : (n : Netlist) (sound : IsSound n) (limit : ℕ) (batch patterns : List Pattern) (found : List (Option Found)) (lasts : List (Option (ℕ × Point))) (kept : List Pattern) (vs : List TransitionVerdict)
     → All (IsPatternOf n (none_held n)) patterns → ((f : Fault) → Contains (universe_of n) f → IsLineOf n f.line) → All (λ (f : Fault). IsLineOf n f.line) (universe_of n)
     → AllZip (IsKnown n limit batch) (universe_of n) found → AllZip (LastTransition n patterns) (universe_of n) lasts
-    → kept ≡ kept_from (is_last_at lasts) 0 patterns → AreEnds (new_place (is_last_at lasts)) found lasts vs → AreTests n limit kept vs
+    → kept ≡ kept_from (is_last_at lasts) 0 patterns → AreVerdictsOf (new_place (is_last_at lasts)) found lasts vs → AreTests n limit kept vs
 tests_are n sound limit batch patterns found lasts kept vs obey lines all are is kept_is ends =
     subst (λ (ps : List Pattern). AreTests n limit ps vs) (sym kept_is) (record {
       obey = kept_all (IsPatternOf n (none_held n)) (is_last_at lasts) 0 patterns obey;

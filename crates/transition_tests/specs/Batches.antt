@@ -1,10 +1,17 @@
--- Which faults a batch of patterns leaves to be searched. (Fault dropping: Bushnell and Agrawal, Essentials of Electronic Testing.)
-use Rattle.std.specs.Prelude.{ℕ, Bool, true, false, List, None}
+-- The batch of patterns that are drawn, and which faults it leaves to be searched. (Fault dropping: Bushnell and Agrawal, Essentials of Electronic
+-- Testing.)
+use Rattle.std.specs.Prelude.{ℕ, Bool, true, false, List, length, replicate, None}
 use Rattle.std.specs.List.{AllZip}
+use Rattle.rand_core.specs.Stream.{Stream}
+use Rattle.rand_core.specs.Steps.{stream_of, steps_u32}
+use Rattle.rand_pcg.specs.Lcg.{started, increment_of}
+use Rattle.rand_pcg.specs.Pcg.{multiplier_64, pcg32}
+use Rattle.netlist.specs.declared.kinds.Tri.TheVariants.{X}
 use Rattle.netlist.specs.declared.lines.Fault.{Fault}
 use Rattle.netlist.specs.declared.lines.Point.{Point}
-use Rattle.netlist.specs.Netlist.{Netlist}
-use Rattle.cubes.specs.Cubes.{Pattern}
+use Rattle.netlist.specs.Netlist.{Netlist, cells}
+use Rattle.cubes.specs.Cubes.{Cube, Pattern}
+use Rattle.cubes.specs.Filling.{filled_all}
 use Rattle.transition.specs.Detections.{IsLastTransition, LastTransition}
 
 -- some pattern of the list detects the transition fault
@@ -19,3 +26,21 @@ IsLeftBy n batch f false = IsDetected n batch f
 -- which of the faults are left, in order
 abbrev pub AreLeftBy : Netlist → List Pattern → List Fault → List Bool → Type 0
 AreLeftBy n batch faults left = AllZip (IsLeftBy n batch) faults left
+
+-- ---- the batch
+
+-- a cube that leaves each bit open
+abbrev pub open_cube : Netlist → Cube
+open_cube n = record { inputs = replicate (length n.inputs) X; cells = replicate (length (cells n)) X }
+
+-- so many patterns of one cube, each filled from the words that those before it leave
+unfoldable pub drawn : ℕ → Cube → Stream → List Pattern
+drawn count c words = filled_all (replicate count c) words
+
+-- the words of the generator of a seed on this stream (O'Neill, PCG: XSH RR 64/32)
+abbrev pub words_on_stream : ℕ → ℕ → Stream
+words_on_stream stream seed = stream_of (steps_u32 pcg32) (started 64 multiplier_64 seed (increment_of 64 stream))
+
+-- 64 patterns of the netlist, each bit of which is drawn from stream 1 of the seed
+abbrev pub batch_of : Netlist → ℕ → List Pattern
+batch_of n seed = drawn 64 (open_cube n) (words_on_stream 1 seed)

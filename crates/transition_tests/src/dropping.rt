@@ -4,9 +4,9 @@ ghost use Rattle.std.specs.List.{All};
 ghost use Rattle.std.specs.Option.{is_some};
 ghost use Rattle.netlist.specs.Designs.{IsDesign};
 ghost use Rattle.netlist.specs.Holds.{none_held};
-ghost use Rattle.cubes.specs.Cubes.{IsCubeOf, IsPatternOf};
+ghost use Rattle.cubes.specs.Cubes.{IsPatternOf};
 ghost use Rattle.fault_universe.specs.Universe.{universe_of};
-ghost use Rattle.transition_tests.specs.Batches.{AreLeftBy};
+ghost use Rattle.transition_tests.specs.Batches.{AreLeftBy, open_cube, drawn, batch_of};
 
 use cubes::{Cube, Pattern, fill};
 use fault_universe::FaultSet;
@@ -24,7 +24,7 @@ const BATCH_STREAM: u64 = 1;
 
 /// A cube that leaves each bit open.
 fn open_cube(alloc: Global, core: &Core) -> Result<Cube, AllocError>
-    ensures { IfOk result (IsCubeOf core.now (none_held core.now)) }
+    ensures { IfOk result (λ c. c ≡ open_cube core.now) }
 {
     let netlist = core.netlist();
     let inputs = vec![in alloc; Tri::X; netlist.inputs().len()]?;
@@ -32,38 +32,32 @@ fn open_cube(alloc: Global, core: &Core) -> Result<Cube, AllocError>
     Ok(Cube::new(inputs, cells))
 }
 
-/// A batch of patterns, each drawn as a whole.
+/// So many patterns of one cube, each filled from the words that those before it leave.
 fn drawn<N: Rng>(
     alloc: Global,
-    core: &Core,
-    blank: &Cube,
+    cube: &Cube,
+    count: usize,
     rng: &mut N,
 ) -> Result<Vec<Pattern>, NoMemory>
-    requires { IsCubeOf core.now (none_held core.now) blank.now }
-    ensures obey { IfOk result (λ v. All (IsPatternOf core.now (none_held core.now)) v.items) }
-    ensures count { IfOk result (λ v. length v.items ≤ 64) }
+    ensures { IfOk result (λ v. v.items ≡ drawn count cube.now (N.stream rng.old)) }
 {
-    let _ = core;
     let mut patterns = Vec::new(alloc);
-    for _done in 0..BATCH {
-        let pattern = fill(alloc, blank, rng)?;
-        let Ok(()) = patterns.push(pattern) else {
-            return Err(NoMemory);
-        };
+    for _done in 0..count {
+        let pattern = fill(alloc, cube, rng)?;
+        patterns.push(pattern)?;
     }
     Ok(patterns)
 }
 
 /// The patterns that are drawn from a seed before any fault is searched.
 pub fn batch_of(alloc: Global, core: &Core, seed: u64) -> Result<Vec<Pattern>, NoMemory>
+    ensures drawn { IfOk result (λ v. v.items ≡ batch_of core.now seed) }
     ensures obey { IfOk result (λ v. All (IsPatternOf core.now (none_held core.now)) v.items) }
-    ensures count { IfOk result (λ v. length v.items ≤ 64) }
+    ensures count { IfOk result (λ v. length v.items ≡ 64) }
 {
-    let Ok(open) = open_cube(alloc, core) else {
-        return Err(NoMemory);
-    };
+    let open = open_cube(alloc, core)?;
     let mut rng = Lcg64Xsh32::new(seed, BATCH_STREAM);
-    drawn(alloc, core, &open, &mut rng)
+    drawn(alloc, &open, BATCH, &mut rng)
 }
 
 /// Whether each fault is left, by where it is last detected.
@@ -88,8 +82,6 @@ pub fn left_by(
 {
     core.netlist().sound();
     let last = last_tells2(alloc, core, faults, batch)?;
-    let Ok(left) = undetected(alloc, &last) else {
-        return Err(NoMemory);
-    };
+    let left = undetected(alloc, &last)?;
     Ok(left)
 }

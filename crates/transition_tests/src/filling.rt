@@ -1,14 +1,14 @@
 //! Patterns from the cubes of tests: merged in the order of faults, and then filled. All cubes are merged at once, since searches know nothing
 //! of each other; each pattern so has the bits of many.
 ghost use Rattle.std.specs.Prelude.{◌≡◌, ◌≤◌, ◌+◌, ◌++◌, length, IfOk, OnOk};
-ghost use Rattle.std.specs.List.{All, AllZip, Contains};
-ghost use Rattle.netlist.specs.Holds.{none_held};
-ghost use Rattle.cubes.specs.Cubes.{Cube as Values, AgreesWith, IsCubeOf, IsPatternOf};
+ghost use Rattle.std.specs.List.{All, AllPairs, Contains};
+ghost use Rattle.netlist.specs.Holds.{Holds};
+ghost use Rattle.netlist.specs.Netlist.{Netlist};
+ghost use Rattle.cubes.specs.Cubes.{Cube as Values, HaveSameWidths, IsCubeOf, IsPatternOf};
 ghost use Rattle.transition_tests.specs.inner.Cubes.{BeginsWith, cube_of, cubes_in, HasAgreeing};
 
-use cubes::{Cube, Pattern, fill, merge};
-use netlist::{Core, NoMemory};
-use rand_core::Rng;
+use cubes::{Cube, Pattern, fill_all, merge};
+use netlist::NoMemory;
 use rand_pcg::Lcg64Xsh32;
 use redundancy_cert::Found;
 use std::alloc::{AllocError, Global};
@@ -35,69 +35,32 @@ pub(crate) fn cubes_of(alloc: Global, found: &[Option<Found>]) -> Result<Vec<Cub
     Ok(cubes)
 }
 
-/// Each cube filled.
-fn fill_all<N: Rng>(
-    alloc: Global,
-    core: &Core,
-    cubes: &[Cube],
-    rng: &mut N,
-) -> Result<Vec<Pattern>, NoMemory>
-    requires { All (IsCubeOf core.now (none_held core.now)) cubes.now }
-    ensures obey { IfOk result (λ v. All (IsPatternOf core.now (none_held core.now)) v.items) }
-    ensures agree { IfOk result (λ v. AllZip AgreesWith v.items cubes.now) }
-{
-    let _ = core;
-    let mut patterns = Vec::new(alloc);
-    for cube in cubes {
-        let pattern = fill(alloc, cube, rng)?;
-        let Ok(()) = patterns.push(pattern) else {
-            return Err(NoMemory);
-        };
-    }
-    Ok(patterns)
-}
-
 /// Fewer patterns than cubes, where each cube has one with its bits.
-fn filled(alloc: Global, core: &Core, cubes: &[Cube], seed: u64) -> Result<Vec<Pattern>, NoMemory>
-    requires { All (IsCubeOf core.now (none_held core.now)) cubes.now }
-    ensures obey { IfOk result (λ v. All (IsPatternOf core.now (none_held core.now)) v.items) }
+fn filled(alloc: Global, cubes: &[Cube], seed: u64) -> Result<Vec<Pattern>, NoMemory>
+    requires { AllPairs HaveSameWidths cubes.now }
+    ensures fit { IfOk result (λ v. (n : Netlist) (holds : Holds) → All (IsCubeOf n holds) cubes.now → All (IsPatternOf n holds) v.items) }
     ensures few { IfOk result (λ v. length v.items ≤ length cubes.now) }
     ensures agree { IfOk result (λ v. (c : Values) → Contains cubes.now c → HasAgreeing v.items c) }
 {
     let merged = merge(alloc, cubes)?;
     let mut rng = Lcg64Xsh32::new(seed, 0);
-    fill_all(alloc, core, &merged, &mut rng)
-}
-
-/// The batch, and these patterns behind it.
-fn behind(batch: Vec<Pattern>, filled: Vec<Pattern>) -> Result<Vec<Pattern>, AllocError>
-    ensures { IfOk result (λ v. v.items ≡ batch.items ++ filled.items) }
-{
-    let mut patterns = batch;
-    for pattern in filled {
-        patterns.push(pattern)?;
-    }
-    Ok(patterns)
+    fill_all(alloc, &merged, &mut rng)
 }
 
 /// The patterns of the batch, and behind them fewer than cubes, where each cube has one with its bits.
 pub(crate) fn patterns_of(
     alloc: Global,
-    core: &Core,
-    batch: Vec<Pattern>,
+    mut batch: Vec<Pattern>,
     cubes: &[Cube],
     seed: u64,
 ) -> Result<Vec<Pattern>, NoMemory>
-    requires batch { All (IsPatternOf core.now (none_held core.now)) batch.items }
-    requires cubes { All (IsCubeOf core.now (none_held core.now)) cubes.now }
-    ensures obey { IfOk result (λ v. All (IsPatternOf core.now (none_held core.now)) v.items) }
+    requires { AllPairs HaveSameWidths cubes.now }
+    ensures fit { IfOk result (λ v. (n : Netlist) (holds : Holds) → All (IsPatternOf n holds) batch.items → All (IsCubeOf n holds) cubes.now → All (IsPatternOf n holds) v.items) }
     ensures few { IfOk result (λ v. length v.items ≤ length batch.items + length cubes.now) }
     ensures begins { IfOk result (λ v. BeginsWith batch.items v.items) }
     ensures agree { IfOk result (λ v. (c : Values) → Contains cubes.now c → HasAgreeing v.items c) }
 {
-    let others = filled(alloc, core, cubes, seed)?;
-    let Ok(patterns) = behind(batch, others) else {
-        return Err(NoMemory);
-    };
-    Ok(patterns)
+    let mut others = filled(alloc, cubes, seed)?;
+    batch.append(&mut others)?;
+    Ok(batch)
 }

@@ -10,7 +10,7 @@ ghost use Rattle.cubes.specs.Cubes.{IsPatternOf};
 ghost use Rattle.transition.specs.Searches.{AreFoundWhereLeft};
 ghost use Rattle.transition_tests.specs.Batches.{AreLeftBy};
 ghost use Rattle.transition_tests.specs.Verdicts.{AreTests};
-ghost use Rattle.transition_tests.specs.inner.Ends.{AreEnds, IsEnd, IsTold};
+ghost use Rattle.transition_tests.specs.inner.Ends.{AreVerdictsOf, IsVerdictOf, IsDetectedIfTested};
 
 use crate::filling::{cubes_of, patterns_of};
 use crate::verdicts::{Tests, TransitionVerdict};
@@ -28,9 +28,9 @@ fn verdict_of(
     last: &Option<(u32, Point)>,
     places: &[u32],
 ) -> TransitionVerdict
-    requires told { IsTold answer last.now }
+    requires told { IsDetectedIfTested answer last.now }
     requires within { IfSome last.now (λ l. l.0 < length places.now) }
-    ensures { IsEnd (λ k. slice_index places.now k) answer last.now result }
+    ensures { IsVerdictOf (λ k. slice_index places.now k) answer last.now result }
 {
     if let Some((place, point)) = last {
         return TransitionVerdict::Detected(places[*place as usize], *point);
@@ -49,9 +49,9 @@ fn verdicts_of(
     last: &[Option<(u32, Point)>],
     places: &[u32],
 ) -> Result<Vec<TransitionVerdict>, AllocError>
-    requires told { AllZip IsTold found.items last.now }
+    requires told { AllZip IsDetectedIfTested found.items last.now }
     requires within { All (λ l. IfSome l (λ p. p.0 < length places.now)) last.now }
-    ensures { IfOk result (λ v. AreEnds (λ k. slice_index places.now k) found.items last.now v.items) }
+    ensures { IfOk result (λ v. AreVerdictsOf (λ k. slice_index places.now k) found.items last.now v.items) }
 {
     let mut verdicts = Vec::new(alloc);
     let mut fault = 0usize;
@@ -69,11 +69,11 @@ fn keep(
     last: &[Option<(u32, Point)>],
     found: Vec<Option<Found>>,
 ) -> Result<Tests, AllocError>
-    requires told { AllZip IsTold found.items last.now }
+    requires told { AllZip IsDetectedIfTested found.items last.now }
     requires within { All (λ l. IfSome l (λ p. p.0 < length patterns.items)) last.now }
     requires few { length patterns.items + 1 < 2 ^ 32 }
     ensures patterns { IfOk result (λ t. t.patterns.items ≡ kept_from (is_last_at last.now) 0 patterns.items) }
-    ensures verdicts { IfOk result (λ t. AreEnds (new_place (is_last_at last.now)) found.items last.now t.verdicts.items) }
+    ensures verdicts { IfOk result (λ t. AreVerdictsOf (new_place (is_last_at last.now)) found.items last.now t.verdicts.items) }
 {
     let marks = needed(alloc, patterns.len(), last)?;
     let places = new_places(alloc, &marks)?;
@@ -106,13 +106,9 @@ pub fn tests_of(
     let _ = limit;
     let _ = left;
     core.netlist().sound();
-    let Ok(cubes) = cubes_of(alloc, &found) else {
-        return Err(NoMemory);
-    };
-    let patterns = patterns_of(alloc, core, batch, &cubes, seed)?;
+    let cubes = cubes_of(alloc, &found)?;
+    let patterns = patterns_of(alloc, batch, &cubes, seed)?;
     let last = last_tells2(alloc, core, faults, &patterns)?;
-    let Ok(tests) = keep(alloc, patterns, &last, found) else {
-        return Err(NoMemory);
-    };
+    let tests = keep(alloc, patterns, &last, found)?;
     Ok(tests)
 }

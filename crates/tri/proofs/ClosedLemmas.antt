@@ -27,11 +27,11 @@ same_bit true false h = absurd (h (λ e. cc))
 same_bit false true h = absurd (h (λ e. cc))
 same_bit false false h = refl
 
-same_bits : (xs ys : List Bool) → ((k : ℕ) → ¬ (¬ (slice_get xs k ≡ slice_get ys k))) → xs ≡ ys
-same_bits [] [] h = refl
-same_bits [] (y ∷ ys) h = absurd (h zero (λ e. cc))
-same_bits (x ∷ xs) [] h = absurd (h zero (λ e. cc))
-same_bits (x ∷ xs) (y ∷ ys) h = ap (λ z. z ∷ xs) (same_bit x y (h zero)) ∙ ap (λ zs. y ∷ zs) (same_bits xs ys (λ k. h (suc k)))
+pub same_lists : (xs ys : List Bool) → ((k : ℕ) → ¬ (¬ (slice_get xs k ≡ slice_get ys k))) → xs ≡ ys
+same_lists [] [] h = refl
+same_lists [] (y ∷ ys) h = absurd (h zero (λ e. cc))
+same_lists (x ∷ xs) [] h = absurd (h zero (λ e. cc))
+same_lists (x ∷ xs) (y ∷ ys) h = ap (λ z. z ∷ xs) (same_bit x y (h zero)) ∙ ap (λ zs. y ∷ zs) (same_lists xs ys (λ k. h (suc k)))
 
 pub redundant_changes_nothing : (f : Fault) (n : Netlist) (holds : Holds) (inputs state : List Bool) (good faulty : ℕ → Bool) → IsRedundant n holds f → Obeys holds inputs
     → Settles (bits None) n inputs state good → Settles (bits (Some f)) n inputs state faulty
@@ -39,8 +39,8 @@ pub redundant_changes_nothing : (f : Fault) (n : Netlist) (holds : Holds) (input
 redundant_changes_nothing f n holds inputs state good faulty r obeys p q =
     let same : (point : Point) → observed (bits None) n good point ≢ observed (bits (Some f)) n faulty point → ⊥ =
     λ point d. r inputs state point obeys (record { good = good; faulty = faulty; good_settles = p; faulty_settles = q; differs = d }) in (
-      same_bits (outs (bits None) n good) (outs (bits (Some f)) n faulty) (λ k. same (Output k)),
-      same_bits (next (bits None) n good) (next (bits (Some f)) n faulty) (λ k. same (Cell k)),
+      same_lists (outs (bits None) n good) (outs (bits (Some f)) n faulty) (λ k. same (Output k)),
+      same_lists (next (bits None) n good) (next (bits (Some f)) n faulty) (λ k. same (Cell k)),
     )
 
 -- ---- a closed label

@@ -55,7 +55,7 @@ only_choice (true ∷ bs) (false ∷ cs) h = no h.0
 only_choice (false ∷ bs) (true ∷ cs) h = no h.0
 only_choice (false ∷ bs) (false ∷ cs) h = ap (λ xs. false ∷ xs) (only_choice bs cs h.1)
 
-gate_known : (kind : Kind) (bs : List Bool) → gate_tri kind (map known bs) ≡ known (gate_bit kind bs)
+pub gate_known : (kind : Kind) (bs : List Bool) → gate_tri kind (map known bs) ≡ known (gate_bit kind bs)
 gate_known kind bs = (gate_exact kind (map known bs) (gate_bit kind bs)).1 (λ cs h. ap (gate_bit kind) (only_choice bs cs h))
 
 stuck_known : (g : Option Fault) (line : Line) (v : Tri) (b : Bool) → knows v b ≡ true → knows (stuck known g line v) (stuck (λ c. c) g line b) ≡ true

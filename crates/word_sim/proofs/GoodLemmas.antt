@@ -12,12 +12,6 @@ use Rattle.word_sim.specs.declared.packing.Part.TheVariants.{Inputs, Cells}
 use Rattle.word_sim.specs.inner.Packed.{bits_in, AreGoodFor, ArePacked}
 use Rattle.word_sim.proofs.WordDetection.{some_below}
 
-pub wide_inputs : (n : Netlist) (patterns : List Pattern) (width : ℕ) → All (HasWidthsOf n) patterns → width ≡ length n.inputs → All (λ (p : Pattern). length (bits_in Inputs p) ≡ width) patterns
-wide_inputs n patterns width wide e k d l = (wide k d l).inputs ∙ sym e
-
-pub wide_cells : (n : Netlist) (patterns : List Pattern) (width : ℕ) → All (HasWidthsOf n) patterns → width ≡ length (cells n) → All (λ (p : Pattern). length (bits_in Cells p) ≡ width) patterns
-wide_cells n patterns width wide e k d l = (wide k d l).cells ∙ sym e
-
 module _ (n : Netlist) (patterns : List Pattern) (few : length patterns ≤ 64) (wide : All (HasWidthsOf n) patterns) (inputs state values : List ℕ) (width height : ℕ)
     (width_is : width ≡ length n.inputs) (height_is : height ≡ length (cells n)) (packed_inputs : ArePacked Inputs patterns width inputs) (packed_state : ArePacked Cells patterns height state)
     (settles : (d : ℕ) → Settles (words None) n inputs state (at values d)) where

@@ -12,3 +12,4 @@ pub mod WidthLemmas
 pub mod TurnedPoints
 pub mod ToldFaults
 pub mod Untold
+pub mod Leaving

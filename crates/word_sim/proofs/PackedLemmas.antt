@@ -22,9 +22,6 @@ no_bit j = ne_eqb (bit_at 0 j) 1 (λ o. let z = bit_at-zero j in omega arith)
 
 -- ---- a column
 
-pub no_column : (part : Part) (patterns : List Pattern) (k : ℕ) → IsColumn part patterns k 0 0
-no_column part patterns k = record { here = λ j p l e. absurd (omega arith); others = λ j l m. no_bit j }
-
 pub column_more : (part : Part) (patterns : List Pattern) (k m word word' : ℕ) (bit : Bool) (p : Pattern) → IsColumn part patterns k m word → m < 64 → slice_get patterns m ≡ Some p
     → bit ≡ get_or (bits_in part p) k false → (bit_of m word ≡ false → bit_of m word' ≡ bit) → ((i : ℕ) → i ≢ m → bit_of i word' ≡ bit_of i word) → IsColumn part patterns k (m + 1) word'
 column_more part patterns k m word word' bit p h low at is same others = record {
@@ -53,17 +50,3 @@ packed_all part patterns width m words few size e h = record {
 }
 
 -- ---- the bits below a count
-
-pub none_used : IsUsed 0 0
-none_used j l = no_bit j ∙ sym (false_from_ne_true (ltb j 0) (λ h. let m = ltb-true j 0 h in omega arith))
-
-pub used_more : (m word word' : ℕ) → IsUsed m word → m < 64 → (bit_of m word ≡ false → bit_of m word' ≡ true) → ((i : ℕ) → i ≢ m → bit_of i word' ≡ bit_of i word) → IsUsed (m + 1) word'
-used_more m word word' h low same others j l = elim (cases_eq j m) [
-  | inl last ↦
-      ap (λ i. bit_of i word') last ∙ (same (h m low ∙ false_from_ne_true (ltb m m) (λ t. let s = ltb-true m m t in omega arith)) ∙ sym (lt-ltb j (m + 1) (omega arith)))
-  | inr other ↦ others j other ∙ (h j l ∙ elim (cases_lt j m) [
-    | inl below ↦ lt-ltb j m below ∙ sym (lt-ltb j (m + 1) (omega arith))
-    | inr above ↦
-        false_from_ne_true (ltb j m) (λ t. let s = ltb-true j m t in omega arith) ∙ sym (false_from_ne_true (ltb j (m + 1)) (λ t. let s = ltb-true j (m + 1) t in omega arith))
-  ])
-]

@@ -42,9 +42,6 @@ other_differ true false h = refl
 other_differ false true h = refl
 other_differ false false h = absurd (h refl)
 
-some_other : (a b : Bool) → Some a ≢ Some b → a ≢ b
-some_other a b h e = h (ap Some e)
-
 other_some : (a b : Bool) → a ≢ b → Some a ≢ Some b
 other_some a b h e = h (cc)
 

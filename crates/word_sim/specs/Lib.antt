@@ -1,3 +1,4 @@
 pub mod Hits
 pub mod Words
+pub mod Never
 pub mod inner

@@ -4,3 +4,4 @@ pub mod Packed
 pub mod Differences
 pub mod Found
 pub mod Simulating
+pub mod Leaving

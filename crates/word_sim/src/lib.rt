@@ -1,8 +1,9 @@
 //! Sixty-four patterns at a time, and what they detect.
 //!
-//! Gives: `good64`, `hits`, `last_tells`, `Simulator`, `Batch`, `Hit`.
+//! Gives: `good64`, `hits`, `last_tells`, `unmarked` and `told_of_all`, `Simulator`, `Batch`, `Hit`.
 //! Proved: each exactly: the words of up to 64 patterns, which given faults they detect, by which last pattern, at which first point; `last_tells`:
-//! of any number of patterns; a `Simulator` serves many batches.
+//! of any number of patterns; `unmarked`, `told_of_all`: what it would answer, where faults that no pattern detects are left out; a `Simulator`
+//! serves many batches.
 //! Tested: that it comes to these answers, by rows of `calls`, most of them worked out by a plain program from all patterns.
 //! Neither: how faults are grouped; time.
 #![tactic(auto)]
@@ -12,6 +13,7 @@ mod detecting;
 mod fault_hits;
 mod groups;
 mod last_detected;
+mod leaving_out;
 mod packing;
 mod simulator;
 mod words;
@@ -20,6 +22,7 @@ pub use batches::{Batch, Hit};
 pub use detecting::last_marked;
 pub use fault_hits::{good_events, hits, next_patterns};
 pub use last_detected::last_tells;
+pub use leaving_out::{told_of_all, unmarked};
 pub use packing::used_bits;
 pub use simulator::Simulator;
 pub use words::{Words, good64};

@@ -21,20 +21,3 @@ zip_more R xs size n told more all h k e =
     subst (λ ys. AllZip R (take ((n + 1) * size) xs) ys) (sym e)
     (subst (λ m. AllZip R (take m xs) (told ++ more)) (sym next)
     (subst (λ zs. AllZip R zs (told ++ more)) (sym (take-add (n * size) size xs)) (zip_append R (take (n * size) xs) (slice_chunk xs size n) told more h k)))
-
--- the chunks cover the list
-pub covers : (count size chunks : ℕ) → 0 < size → chunks ≡ count / size + min 1 (count % size) → count ≤ chunks * size
-covers count size chunks some e =
-    let whole = div-add-mod' count size in
-    let rest = mod-lt count some in
-    elim (cases_lt 0 (count % size)) [
-      | inl more ↦
-          let one : min 1 (count % size) ≡ 1 = min-eq_left more in
-          let more_chunks : chunks * size ≡ (count / size + 1) * size = ap (λ k. k * size) (e ∙ ap (λ k. count / size + k) one) in
-          let product : (count / size + 1) * size ≡ count / size * size + size = omega arith in
-          omega arith
-      | inr none ↦
-          let zero_left : min 1 (count % size) ≡ 0 = ap (min 1) (let z : count % size ≡ 0 = omega arith in z) in
-          let same_chunks : chunks * size ≡ (count / size) * size = ap (λ k. k * size) (e ∙ (ap (λ k. count / size + k) zero_left ∙ (let z : count / size + 0 ≡ count / size = omega arith in z))) in
-          omega arith
-    ]

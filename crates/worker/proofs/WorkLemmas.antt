@@ -44,15 +44,6 @@ lines_of_left j left lines reps k d lt =
     let P : Fault → Type 0 = λ f. IsLineOf j.netlist f.line in
     subst P (get_or_from_slice_get faults place fault fault there) (lines place fault (slice_get_within faults place fault there))
 
--- and so does that of a class that was handed out
-pub line_of_class : (j : Subject) (n : Netlist) (class : ℕ) (f g : Fault) → n ≡ j.netlist → HaveLines j → RepresentsIn j class f → g ≡ f → IsLineOf n g.line
-line_of_class j n class f g e lines there same =
-    let faults : List Fault = j.classes.representatives in
-    let P : Fault → Type 0 = λ h. IsLineOf j.netlist h.line in
-    let Q : Netlist → Type 0 = λ m. IsLineOf m g.line in
-    let stands : P f = subst P (get_or_from_slice_get faults class f f there) (lines class f (slice_get_within faults class f there)) in
-    subst Q (sym e) (subst P (sym same) stands)
-
 -- ---- hits of the classes that were left
 
 none_of : {X : Type 0} (P : X → Type 0) → All P []

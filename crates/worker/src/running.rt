@@ -10,7 +10,7 @@ ghost use Rattle.worker.specs.Working.{NoneOpen};
 
 use crate::adding::add;
 use crate::rest::work_rest;
-use crate::working::work;
+use crate::working::work_beside;
 use list_core::{About, FaultList};
 use netlist::{Core, Holds, NoMemory};
 use outside::Gate;
@@ -46,6 +46,7 @@ fn work_in<J: About, T: Ledger, S: Ledger, P: Ledger, U: Ledger, E: Engine, G: G
     core: &Core,
     engine: &E,
     stage: &G,
+    workers: u32,
     seed: u64,
     holds: &Holds,
 )
@@ -55,7 +56,7 @@ fn work_in<J: About, T: Ledger, S: Ledger, P: Ledger, U: Ledger, E: Engine, G: G
     requires limit { 1 ≤ J.subject.limit }
     requires held { (holds.now ≡ J.subject.holds) × AreHoldsOf core.now holds.now }
 {
-    job.refused = work(
+    job.refused = work_beside(
         rt,
         alloc,
         shared,
@@ -63,6 +64,7 @@ fn work_in<J: About, T: Ledger, S: Ledger, P: Ledger, U: Ledger, E: Engine, G: G
         core,
         engine,
         stage,
+        workers,
         seed,
         holds,
     )
@@ -154,7 +156,11 @@ fn run_named<
     let behind = &shared;
     let step = move |_i: usize, job: &mut Job<T, S, P, U>|
         requires { (job.now.table ≡ behind.now.word.shared.table_id) × (core.now ≡ J.subject.netlist) × HaveLines J.subject × (1 ≤ J.subject.limit) × (holds.now ≡ J.subject.holds) × AreHoldsOf core.now holds.now }
-    { work_in(rt, alloc, behind, job, core, engine, stage, seed, holds) };
+    {
+        work_in(
+            rt, alloc, behind, job, core, engine, stage, workers, seed, holds,
+        )
+    };
     thread::for_each_mut(rt, jobs.as_mut_slice(), workers as usize, &step);
     let (back, refused) = collected(alloc, jobs)?;
     let (list, _) = shared.into_list(back);

@@ -3,6 +3,9 @@
 //! It claims a class, searches with no lock held, and keeps the cubes of its tests. With 64 of them it merges and fills them, simulates the
 //! patterns over all classes that are left, and publishes patterns and hits in one hold: what a pattern detects beside its own class is never
 //! searched (fault dropping). To publish each test at once would drop classes sooner, but simulate one pattern where a word has room for 64.
+//!
+//! Workers beside each other begin with smaller batches. Until the first patterns are published nothing is dropped, so that k workers which each
+//! gathered 64 cubes first would search k times as many classes as one does, and simulate each batch over nearly all of them.
 ghost use Rattle.std.specs.Prelude.{◌≡◌, ◌≤◌, ◌<◌, true, IfOk, OnOk, vec_len};
 ghost use Rattle.std.specs.List.{All};
 ghost use Rattle.netlist.specs.Holds.{AreHoldsOf};
@@ -24,7 +27,20 @@ use std::sync::Wait;
 use std::sync::ledger::Ledger;
 use word_sim::Simulator;
 
-/// Searches claim after claim, until there is none. Room for searches and for simulation is made once.
+/// How many cubes make a batch.
+const FULL: usize = 64;
+
+/// How many make the first batch of each of several workers. Each later one has twice as many, up to a full one.
+const FIRST: usize = 8;
+
+/// How many cubes a worker's first batch has.
+fn first_batch(workers: u32) -> usize
+    ensures { (0 < result) × (result ≤ 64) }
+{
+    if workers == 1 { FULL } else { FIRST }
+}
+
+/// Searches claim after claim, until there is none.
 pub fn work<J: About, T: Ledger, S: Ledger, P: Ledger, U: Ledger, E: Engine, G: Gate, R: Wait>(
     rt: &R,
     alloc: Global,
@@ -44,10 +60,46 @@ pub fn work<J: About, T: Ledger, S: Ledger, P: Ledger, U: Ledger, E: Engine, G: 
     ensures table { share.new.table ≡ share.old.table }
     ensures ended { OnOk result (share.new.ended ≡ true) }
 {
+    work_beside(
+        rt, alloc, shared, share, core, engine, stage, 1, seed, holds,
+    )
+}
+
+/// The work of one of so many workers. Room for searches and for simulation is made once.
+pub(crate) fn work_beside<
+    J: About,
+    T: Ledger,
+    S: Ledger,
+    P: Ledger,
+    U: Ledger,
+    E: Engine,
+    G: Gate,
+    R: Wait,
+>(
+    rt: &R,
+    alloc: Global,
+    shared: &Shared<J, T, S, P, U>,
+    share: &mut Share<T, S, P, U>,
+    core: &Core,
+    engine: &E,
+    stage: &G,
+    workers: u32,
+    seed: u64,
+    holds: &Holds,
+) -> Result<(), NoMemory>
+    requires table { share.old.table ≡ shared.now.word.shared.table_id }
+    requires core { core.now ≡ J.subject.netlist }
+    requires lines { HaveLines J.subject }
+    requires limit { 1 ≤ J.subject.limit }
+    requires held { (holds.now ≡ J.subject.holds) × AreHoldsOf core.now holds.now }
+    ensures table { share.new.table ≡ share.old.table }
+    ensures ended { OnOk result (share.new.ended ≡ true) }
+{
     let mut rng = Lcg64Xsh32::new(seed, share.worker() as u64);
     let mut room = engine.room(alloc, core, holds)?;
     let mut simulator = Simulator::new(alloc, core)?;
     let mut cubes = Vec::new(alloc);
+    let mut enough = first_batch(workers);
     for _ in rt.forever() {
         let claim = match shared.take(rt, share) {
             Drawn::Claim(claim) => claim,
@@ -67,7 +119,7 @@ pub fn work<J: About, T: Ledger, S: Ledger, P: Ledger, U: Ledger, E: Engine, G: 
         match found {
             Found::Test(cube, _) => {
                 add(&mut cubes, cube)?;
-                if cubes.len() == 64 {
+                if cubes.len() == enough {
                     publish_cubes(
                         rt,
                         alloc,
@@ -79,6 +131,7 @@ pub fn work<J: About, T: Ledger, S: Ledger, P: Ledger, U: Ledger, E: Engine, G: 
                         &cubes,
                     )?;
                     cubes.clear();
+                    enough = (2 * enough).min(FULL);
                 }
             }
             Found::Closed(tree) => {

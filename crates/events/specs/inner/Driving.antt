@@ -4,7 +4,7 @@ use Rattle.std.specs.List.{list_any}
 use Rattle.netlist.specs.Netlist.{Netlist}
 use Rattle.netlist.specs.Readers.{readers_of}
 use Rattle.netlist.specs.Settled.{Rule, at}
-use Rattle.netlist.specs.inner.Settling.{IsDriven}
+use Rattle.netlist.specs.Settling.{IsDriven}
 use Rattle.events.specs.Agendas.{marked}
 use Rattle.events.specs.inner.Placing.{is_pin_at}
 

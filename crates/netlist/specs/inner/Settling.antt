@@ -1,10 +1,11 @@
 -- How far values have settled, as the gates are evaluated in order (private to this crate).
-use Rattle.std.specs.Prelude.{ℕ, ◌≡◌, ◌≢◌, ◌<◌, List, length, slice_index, slice_set}
+use Rattle.std.specs.Prelude.{ℕ, ◌≡◌, ◌<◌, List, length, slice_index}
 use Rattle.std.specs.List.{AllZip, Contains}
 use Rattle.netlist.specs.declared.lines.Line.TheVariants.{Stem}
 use Rattle.netlist.specs.Netlist.{Definition, Netlist, cells, gates, signals}
 use Rattle.netlist.specs.Settled.{Rule, at, pins_of}
 
+-- sources have settled, and the first m gates of the order
 pub record SettlesUpTo {V : Type 0} (rule : Rule V) (n : Netlist) (order : List ℕ) (inputs state values : List V) (m : ℕ) (d : V) : Type 0 where
   pub size : length values ≡ length (signals n)
   pub inputs_driven : AllZip (λ x v. at values d x ≡ rule.line (Stem x) v) n.inputs inputs
@@ -12,17 +13,6 @@ pub record SettlesUpTo {V : Type 0} (rule : Rule V) (n : Netlist) (order : List 
   pub done : (k : ℕ) → k < m → (g : Definition) → Contains (gates n) g → g.id ≡ slice_index order k
       → at values d g.id ≡ rule.line (Stem g.id) (rule.gate g (pins_of rule (at values d) g))
 
--- the first m of these signals have what is driven onto them, and the others are as before
-pub record IsDriven {V : Type 0} (rule : Rule V) (ids : List ℕ) (driven old new : List V) (m : ℕ) : Type 0 where
-  pub size : length new ≡ length old
-  pub here : (k : ℕ) (d : V) → k < m → at new d (slice_index ids k) ≡ rule.line (Stem (slice_index ids k)) (at driven d k)
-  pub others : (x : ℕ) (d : V) → ((k : ℕ) → k < m → x ≢ slice_index ids k) → at new d x ≡ at old d x
-
 pub record AllSettleUpTo {V : Type 0} (rule : Rule V) (n : Netlist) (order : List ℕ) (inputs state values : List V) (m : ℕ) : Type 0 where
   pub size : length values ≡ length (signals n)
   pub each : (d : V) → SettlesUpTo rule n order inputs state values m d
-
--- the gate of this signal has its value, and nothing else changed
-pub record IsEvaluated {V : Type 0} (rule : Rule V) (n : Netlist) (x : ℕ) (old new : List V) : Type 0 where
-  pub size : length new ≡ length old
-  pub set : (g : Definition) (d : V) → Contains (gates n) g → g.id ≡ x → new ≡ slice_set old x (rule.line (Stem g.id) (rule.gate g (pins_of rule (at old d) g)))

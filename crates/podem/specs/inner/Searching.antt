@@ -3,24 +3,33 @@ use Rattle.std.specs.Prelude.{ℕ, ◌≡◌, ◌≢◌, Bool, List, ◌∷◌, 
 use Rattle.std.specs.List.{Contains}
 use Rattle.netlist.specs.declared.kinds.Tri.{Tri}
 use Rattle.netlist.specs.declared.kinds.Tri.TheVariants.{X}
-use Rattle.netlist.specs.declared.lines.Fault.{Fault}
 use Rattle.netlist.specs.Holds.{Holds}
 use Rattle.netlist.specs.declared.lines.Point.{Point}
 use Rattle.netlist.specs.Netlist.{Netlist}
 use Rattle.tri.specs.Paths.{Path, decisions, IsClosedPath, IsUnknown, IsTestPath, IsGoingPath}
+use Rattle.redundancy_cert.specs.declared.engine.Found.{Found}
 use Rattle.redundancy_cert.specs.declared.stacks.Side.{Side}
+use Rattle.redundancy_cert.specs.Evidence.{HasEvidence}
 use Rattle.redundancy_cert.specs.Stacks.{path_of_stack, closed_around}
+use Rattle.decision_stack.specs.declared.cases.Case.{Case}
 use Rattle.pair_sim.specs.declared.states.State.{State}
 use Rattle.pair_sim.specs.declared.states.State.TheVariants.{Test, Blocked, Going}
-use Rattle.pair_sim.specs.Sims.{Sim, sim, assigned, HasGood}
+use Rattle.decision_stack.specs.Cases.{IsCase, sim_of}
+use Rattle.pair_sim.specs.Sims.{Sim, assigned, HasGood}
 use Rattle.decision_stack.specs.declared.turns.Step.{Step}
 use Rattle.decision_stack.specs.Standing.{StandsAt}
-use Rattle.decision_stack.specs.Turns.{IsTurnFrom}
-use Rattle.podem.specs.Sources.{sources, PlaceInSources}
+use Rattle.decision_stack.specs.Turns.{IsTurnFrom, IsOfCase}
+use Rattle.podem.specs.Sources.{sources, PlaceInSources, HasSourceEvidence}
 
 -- The stack stands for a tree on sources that fits, and the simulation is at the end of its path.
-abbrev pub IsAt : Fault → Netlist → Holds → Sim → List Side → Type 0
-IsAt f n holds s stack = StandsAt (PlaceInSources f n holds) f n holds s stack
+abbrev pub IsAt : Case → Sim → List Side → Type 0
+IsAt c s stack = StandsAt (PlaceInSources c.fault c.core.now c.holds.now) c.fault c.core.now c.holds.now s stack
+
+-- so, and the search may go on
+pub record MayGoOn (c : Case) (s : Sim) (stack : List Side) : Type 0 where
+  pub case : IsCase c
+  pub at : IsAt c s stack
+  pub going : IsGoingPath c.fault c.core.now c.holds.now (path_of_stack stack)
 
 -- what is seen of a side; the simulation stays there for a test alone
 abbrev pub IsSeen : Sim → ℕ → Bool → State → Sim → Type 0
@@ -38,23 +47,42 @@ IsGone old x b Going new = (new ≡ assigned old x b) × IsGoingPath old.fault o
 abbrev pub IsKnownAt : Sim → ℕ → Type 0
 IsKnownAt s x = (v : Tri) × HasGood s x v × (v ≢ X)
 
--- a source that is X where the search may go on
-pub record IsChosen (f : Fault) (n : Netlist) (holds : Holds) (s : Sim) (stack : List Side) (x : ℕ) : Type 0 where
-  pub is : IsAt f n holds s stack
-  pub going : IsGoingPath f n holds (path_of_stack stack)
-  pub source : Contains (sources n holds) x
-  pub free : IsUnknown f n holds (path_of_stack stack) x
+-- a source that is X there
+pub record IsFreeSource (c : Case) (stack : List Side) (x : ℕ) : Type 0 where
+  pub source : Contains (sources c.core.now c.holds.now) x
+  pub free : IsUnknown c.fault c.core.now c.holds.now (path_of_stack stack) x
+
+-- so, where the search may go on
+pub record IsChosen (c : Case) (s : Sim) (stack : List Side) (x : ℕ) : Type 0 where
+  pub on : MayGoOn c s stack
+  pub chosen : IsFreeSource c stack x
+
+-- a side that is closed, and one that may be gone on with
+abbrev pub IsClosedSide : Case → List Side → ℕ → Bool → Type 0
+IsClosedSide c stack x b = IsClosedPath c.fault c.core.now c.holds.now ((x, b) ∷ path_of_stack stack)
+
+abbrev pub IsGoingSide : Case → List Side → ℕ → Bool → Type 0
+IsGoingSide c stack x b = IsGoingPath c.fault c.core.now c.holds.now ((x, b) ∷ path_of_stack stack)
 
 -- the decisions of a path are on sources
 abbrev pub OnSources : Netlist → Holds → Path → Type 0
 OnSources n holds path = (x : ℕ) (b : Bool) → decisions path x ≡ Some b → Contains (sources n holds) x
 
-pub record IsTestAt (f : Fault) (n : Netlist) (holds : Holds) (s : Sim) (point : Point) : Type 0 where
+pub record IsTestAt (c : Case) (s : Sim) (point : Point) : Type 0 where
   pub path : Path
-  pub at : s ≡ sim n f holds path
-  pub test : IsTestPath f n holds path point
-  pub only : OnSources n holds path
+  pub at : s ≡ sim_of c path
+  pub test : IsTestPath c.fault c.core.now c.holds.now path point
+  pub only : OnSources c.core.now c.holds.now path
 
 -- after a turn
-abbrev pub IsStepped : Fault → Netlist → Holds → List Side → Sim → List Side → Step → Type 0
-IsStepped f n holds old s new step = IsTurnFrom (PlaceInSources f n holds) (IsTestAt f n holds) f n holds old (closed_around old) s new step
+abbrev pub IsStepped : Case → List Side → Sim → List Side → Step → Type 0
+IsStepped c old s new step = IsTurnFrom (PlaceInSources c.fault c.core.now c.holds.now) (IsTestAt c) c.fault c.core.now c.holds.now old (closed_around old) s new step
+
+-- labels of the case, after some decisions
+abbrev pub IsKept : Case → Sim → Type 0
+IsKept c s = IsOfCase c.fault c.core.now c.holds.now s
+
+-- what a search answers
+pub record IsAnswer (c : Case) (limit : ℕ) (found : Found) : Type 0 where
+  pub evidence : HasEvidence c.fault c.core.now c.holds.now limit found
+  pub sources : HasSourceEvidence c.fault c.core.now c.holds.now limit found

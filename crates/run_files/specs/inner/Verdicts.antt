@@ -1,5 +1,5 @@
 -- The verdicts of a finished list, class by class.
-use Rattle.std.specs.Prelude.{ℕ, ◌≡◌, ◌≤◌, ⊤, List, [], ◌∷◌, ◌++◌, length}
+use Rattle.std.specs.Prelude.{ℕ, ◌≡◌, ◌≤◌, ⊤, Bool, true, false, List, [], ◌∷◌, ◌++◌, length}
 use Rattle.std.specs.List.{All}
 use Rattle.netlist.specs.declared.lines.Fault.{Fault}
 use Rattle.netlist.specs.Netlist.{Netlist}
@@ -49,3 +49,9 @@ IsInside n Open = ⊥
 IsInside n (Detected place point) = IsPointOf n point
 IsInside n (Redundant tree) = ⊤
 IsInside n (Aborted tree) = ⊤
+
+abbrev pub is_redundant : Verdict → Bool
+is_redundant Open = false
+is_redundant (Detected place point) = false
+is_redundant (Redundant tree) = true
+is_redundant (Aborted tree) = false

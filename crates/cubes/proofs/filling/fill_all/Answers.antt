@@ -1,18 +1,18 @@
-use Rattle.std.proofs.Common.{List, subst, sym, arith}
-use Rattle.std.specs.List.{All}
-use Rattle.std.proofs.lemmas.List.Elements.{All-push}
-use Rattle.cubes.specs.Cubes.{Cube, Pattern, IsCubeOf, IsPatternOf}
-use Rattle.cubes.proofs.FillLemmas.{agree_more}
+use Rattle.std.proofs.Common.{◌≡◌, List, sym, subst, arith}
+use Rattle.std.specs.List.{AllZip}
+use Rattle.std.proofs.lemmas.Grind.{common_steps}
+use Rattle.cubes.specs.Cubes.{Pattern, AgreesWith}
+use Rattle.cubes.specs.Filling.{filled_all}
+use Rattle.cubes.proofs.FillLemmas.{filled_agree, filled_fit}
 use Rattle.cubes.proofs.filling.fill_all.Goals as goal
 
-pub loop-cube-preserved : goal.loop-cube-preserved
-loop-cube-preserved g c =
-    let cube = c.cube-item.result in
-    let k = c.loop-cube.cube-index in
-    record {
-      agree = agree_more c.args.cubes.now c.loop-cube.patterns.items c.push.new.self.items k cube c.in_ok-pattern.pattern (omega (arith, c.loop-cube-test.true)) c.cube-item.is
-          c.in_ok-pattern.ensures.agrees c.loop-cube.invariant.agree c.in-Ok.ensures.items;
-      fit = λ n holds all. subst (λ (ps : List Pattern). All (IsPatternOf n holds) ps) (sym c.in-Ok.ensures.items)
-          (All-push (IsPatternOf n holds) c.loop-cube.patterns.items c.in_ok-pattern.pattern (c.loop-cube.invariant.fit n holds all)
-          (c.in_ok-pattern.ensures.fits n holds (subst (λ (x : Cube). IsCubeOf n holds x) (sym c.cube-item.is) (all k cube (omega (arith, c.loop-cube-test.true))))));
-    }
+pub returns-clause-patterns : goal.returns-clause-patterns
+returns-clause-patterns g c = grind (arith, common_steps)
+
+pub returns-clause-agree : goal.returns-clause-agree
+returns-clause-agree g c =
+    let items : c.loop-cube.patterns.items ≡ filled_all c.args.cubes.now (g.R.Rng.stream c.args.rng.now) = returns-clause-patterns g c in
+    subst (λ (ps : List Pattern). AllZip AgreesWith ps c.args.cubes.now) (sym items) (filled_agree c.args.cubes.now (g.R.Rng.stream c.args.rng.now))
+
+pub returns-clause-fit : goal.returns-clause-fit
+returns-clause-fit g c n holds fit = filled_fit n holds c.args.cubes.now c.loop-cube.patterns.items (returns-clause-agree g c) fit

@@ -1,27 +1,19 @@
-use Rattle.std.proofs.Common.{refl, ◌≤◌, ◌<◌, map, ap, ◌∙◌, length, subst, arith}
+use Rattle.std.proofs.Common.{refl, ◌<◌, map, ap, ◌∙◌, length, arith}
 use Rattle.std.specs.List.{All}
 use Rattle.std.proofs.lemmas.List.{length-set}
 use Rattle.netlist.specs.declared.lines.Line.TheVariants.{Stem}
-use Rattle.netlist.specs.Netlist.{signals}
 use Rattle.netlist.specs.Settled.{at, on_pins}
-use Rattle.netlist.proofs.Placed.{definition_below, gate_defined}
-use Rattle.netlist.proofs.Settling.{above_inputs, pins_within, evaluated}
+use Rattle.netlist.proofs.Orders.{gate_below, gate_high}
+use Rattle.netlist.proofs.Settling.{pins_within, evaluated}
 use Rattle.lane_play.specs.inner.Lanes.{gate_lanes, lanes_rule}
 use Rattle.lane_play.proofs.Stuckness.{made_any}
 use Rattle.lane_play.proofs.evaluating.evaluate.Goals as goal
 
 pub definition-definition-requires-clause-defined : goal.definition-definition-requires-clause-defined
-definition-definition-requires-clause-defined c =
-    let n = c.args.netlist.now in
-    let w = c.requires.gate in
-    let l = above_inputs n c.requires.sound.formed.numbered w.0 (gate_defined n c.requires.sound.formed.numbered w.0 w.1) in
-    subst (λ x. length n.inputs ≤ x) w.2 l
+definition-definition-requires-clause-defined c = gate_high c.args.netlist.now c.requires.sound.formed.numbered c.args.id c.requires.gate
 
 pub definition-definition-requires-clause-within : goal.definition-definition-requires-clause-within
-definition-definition-requires-clause-within c =
-    let n = c.args.netlist.now in
-    let w = c.requires.gate in
-    subst (λ x. x < length (signals n)) w.2 (definition_below n c.requires.sound.formed.numbered w.0 (gate_defined n c.requires.sound.formed.numbered w.0 w.1))
+definition-definition-requires-clause-within c = gate_below c.args.netlist.now c.requires.sound.formed.numbered c.args.id c.requires.gate
 
 pub made-made-requires-clause-below : goal.made-made-requires-clause-below
 made-made-requires-clause-below c =
@@ -31,10 +23,7 @@ made-made-requires-clause-below c =
 
 pub index_mut-requires : goal.index_mut-requires
 index_mut-requires c =
-    let n = c.args.netlist.now in
-    let w = c.requires.gate in
-    let b = definition_below n c.requires.sound.formed.numbered w.0 (gate_defined n c.requires.sound.formed.numbered w.0 w.1) in
-    let s = w.2 in
+    let b = gate_below c.args.netlist.now c.requires.sound.formed.numbered c.args.id c.requires.gate in
     let e = c.index.ensures in
     let v = c.args.values.now.ok.0 in
     let z = c.requires.size in

@@ -1,4 +1,4 @@
-use Rattle.netlist.specs.inner.Settling.{IsDriven}
+use Rattle.netlist.specs.Settling.{IsDriven}
 use Rattle.netlist.proofs.rules.drive.Given as goal
 
 abbrev pub invariant-loop-k : goal.invariant-loop-k

@@ -1,6 +1,5 @@
 use Rattle.std.proofs.Common.{◌∙◌}
-use Rattle.netlist.proofs.Placed.{signals_length}
-use Rattle.netlist.proofs.Settling.{cells_below, cells_distinct, driven}
+use Rattle.netlist.proofs.Settling.{cells_below, cells_distinct, sources_driven}
 use Rattle.netlist.proofs.rules.drive_sources.Goals as goal
 
 pub drive-requires-2-clause-below : goal.drive-requires-2-clause-below
@@ -11,7 +10,7 @@ pub drive-requires-2-clause-distinct : goal.drive-requires-2-clause-distinct
 drive-requires-2-clause-distinct g c = cells_distinct c.args.netlist.now c.requires.sound.formed.numbered c.cells.result.now c.cells.ensures
 
 pub returns : goal.returns
-returns g c order =
-    driven c.args.netlist.now c.requires.sound.formed.numbered (g.L.Logic.rule c.args.logic.now) order c.inputs.result.now c.cells.result.now c.args.inputs.now c.args.state.now
-    c.args.values.now.items c.drive.new.values.items c.drive-2.new.values.items (c.requires.size ∙ signals_length c.args.netlist.now)
+returns g c =
+    sources_driven c.args.netlist.now c.requires.sound.formed.numbered (g.L.Logic.rule c.args.logic.now) c.inputs.result.now c.cells.result.now c.args.inputs.now c.args.state.now
+    c.args.values.now.items c.drive.new.values.items c.drive-2.new.values.items c.requires.size
     c.inputs.ensures c.cells.ensures c.requires.inputs c.requires.state c.drive.ensures c.drive-2.ensures

@@ -1,41 +1,11 @@
-use Rattle.std.proofs.Common.{refl, ◌+◌, ◌<◌, ap, sym, ◌∙◌, length, set, subst}
-use Rattle.std.proofs.lemmas.List.{get_or_default}
-use Rattle.netlist.proofs.Settling.{settle_more, settled}
-use Rattle.netlist.specs.declared.lines.Line.TheVariants.{Stem}
-use Rattle.netlist.specs.Settled.{at, pins_of}
-use Rattle.netlist.specs.inner.Settling.{SettlesUpTo}
+use Rattle.std.proofs.Common.{◌∙◌}
+use Rattle.netlist.proofs.Settling.{all_settle}
 use Rattle.netlist.proofs.rules.settle_into.Goals as goal
 
-pub evaluate-requires-clause-gate : goal.evaluate-requires-clause-gate
-evaluate-requires-clause-gate g c =
-    let l : c.loop-id.id-index < length c.args.order.now = c.loop-id-test.true in
-    let w = c.requires.ordered.members c.loop-id.id-index 0 l in
-    (w.0, w.1, w.2 ∙ sym (c.id-item.is ∙ get_or_default c.args.order.now c.loop-id.id-index c.id-item.result 0 l))
-
-pub evaluate-requires-clause-size : goal.evaluate-requires-clause-size
-evaluate-requires-clause-size g c = c.loop-id.invariant.size
-
-pub loop-id-preserved : goal.loop-id-preserved
-loop-id-preserved g c =
-    let n = c.args.netlist.now in
-    let l : c.loop-id.id-index < length c.args.order.now = c.loop-id-test.true in
-    let w = c.requires.ordered.members c.loop-id.id-index 0 l in
-    let is = c.id-item.is ∙ get_or_default c.args.order.now c.loop-id.id-index c.id-item.result 0 l in
-    record {
-      size = c.in_ok-evaluate.ensures.made.size ∙ c.loop-id.invariant.size;
-      each = λ d.
-          let rule = g.L.Logic.rule c.args.logic.now in
-          let e = c.in_ok-evaluate.ensures.made.set w.0 d w.1 (w.2 ∙ sym is) in
-          subst (λ v. SettlesUpTo rule n c.args.order.now c.args.inputs.now c.args.state.now v (c.loop-id.id-index + 1) d)
-          (sym (e ∙ ap (λ x. set c.loop-id.values.items x (rule.line (Stem w.0.id) (rule.gate w.0 (pins_of rule (at c.loop-id.values.items d) w.0)))) (is ∙ sym w.2)))
-          (settle_more n c.requires.sound.formed.numbered c.args.order.now c.requires.ordered rule c.args.inputs.now c.args.state.now c.loop-id.values.items c.loop-id.id-index d
-          (c.loop-id.invariant.each d) l w.0 w.1 w.2 (rule.line (Stem w.0.id) (rule.gate w.0 (pins_of rule (at c.loop-id.values.items d) w.0))) refl);
-    }
+pub evaluate_all-requires-clause-size : goal.evaluate_all-requires-clause-size
+evaluate_all-requires-clause-size g c = c.drive_sources.ensures.size ∙ c.requires.size
 
 pub returns-clause-settled : goal.returns-clause-settled
-returns-clause-settled g c d =
-    settled c.args.netlist.now c.requires.sound.formed.numbered c.args.order.now c.requires.ordered (g.L.Logic.rule c.args.logic.now) c.args.inputs.now c.args.state.now
-    c.loop-id.values.items c.loop-id.id-index d (c.loop-id.invariant.each d) c.loop-id-test.false
-
-pub loop-id-init : goal.loop-id-init
-loop-id-init g c = c.drive_sources.ensures c.args.order.now
+returns-clause-settled g c =
+    all_settle c.args.netlist.now c.requires.sound.formed.numbered c.args.order.now c.requires.ordered (g.L.Logic.rule c.args.logic.now) c.args.inputs.now c.args.state.now
+    c.args.values.now.items c.drive_sources.new.values.items c.evaluate_all.new.values.items c.requires.size c.drive_sources.ensures c.in_ok-evaluate_all.ensures.made

@@ -1,5 +1,4 @@
-use Rattle.std.proofs.Common.{not, subst}
-use Rattle.netlist.specs.Conditions.{IsSound}
+use Rattle.std.proofs.Common.{not}
 use Rattle.tri.specs.Paths.{IsGoingPath}
 use Rattle.decision_stack.proofs.Standing.{seen, end_there, both_closed, this_closed}
 use Rattle.podem.specs.inner.Searching.{IsTestAt}
@@ -9,20 +8,20 @@ use Rattle.podem.proofs.searching.after_closed.Goals as goal
 
 pub returns-in-Test : goal.returns-in-Test
 returns-in-Test c =
-    test_there (subst IsSound c.netlist.ensures c.sound.ensures) c.requires.chosen c.go.new.labels (not c.args.bit) c.in-Test.point c.in-Test.ensures.0 c.in-Test.ensures.1
+    test_there c.requires.chosen c.go.new.labels (not c.args.side.bit) c.in-Test.point c.in-Test.ensures.0 c.in-Test.ensures.1
 
 pub close_both-requires : goal.close_both-requires
 close_both-requires c =
-    let sound : IsSound c.args.core.now = subst IsSound c.netlist.ensures c.sound.ensures in
-    end_there (may_decide sound c.requires.chosen) (source_fits c.args.fault.now c.args.core.now c.args.holds.now sound) c.go.new.labels c.in-Blocked.ensures.0
+    let k = c.args.case.now in
+    end_there (may_decide c.requires.chosen) (source_fits k.fault k.core.now k.holds.now c.requires.chosen.on.case.sound) c.go.new.labels c.in-Blocked.ensures.0
 
 pub returns-in-Blocked : goal.returns-in-Blocked
 returns-in-Blocked c =
-    both_closed (may_decide (subst IsSound c.netlist.ensures c.sound.ensures) c.requires.chosen) (IsTestAt c.args.fault.now c.args.core.now c.args.holds.now) c.args.bit c.go.new.labels c.close_both.new.labels c.close_both.new.stack.items c.close_both.result
+    both_closed (may_decide c.requires.chosen) (IsTestAt c.args.case.now) c.args.side.bit c.go.new.labels c.close_both.new.labels c.close_both.new.stack.items c.close_both.result
     c.in-Blocked.ensures.0 c.requires.closed c.in-Blocked.ensures.1 c.close_both.ensures.end c.close_both.ensures.step
 
 pub returns-in-Going : goal.returns-in-Going
 returns-in-Going c =
-    let w = may_decide (subst IsSound c.netlist.ensures c.sound.ensures) c.requires.chosen in
-    this_closed w (IsTestAt c.args.fault.now c.args.core.now c.args.holds.now) c.args.bit c.go.new.labels c.push.new.stack.items c.push.result
-    c.requires.closed (seen w IsGoingPath (not c.args.bit) c.in-Going.ensures.1) c.in-Going.ensures.0 c.push.ensures
+    let w = may_decide c.requires.chosen in
+    this_closed w (IsTestAt c.args.case.now) c.args.side.bit c.go.new.labels c.push.new.stack.items c.push.result
+    c.requires.closed (seen w IsGoingPath (not c.args.side.bit) c.in-Going.ensures.1) c.in-Going.ensures.0 c.push.ensures

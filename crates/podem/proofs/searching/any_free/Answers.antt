@@ -2,7 +2,6 @@ use Rattle.std.proofs.Common.{◌∙◌, ℕ, List, map, sym, ap, subst}
 use Rattle.std.specs.List.{All, Contains}
 use Rattle.std.proofs.lemmas.List.Elements.{Contains-append_left, Contains-append_right}
 use Rattle.netlist.specs.Netlist.{Definition, Netlist, cells, signals}
-use Rattle.netlist.specs.Conditions.{IsSound}
 use Rattle.pair_sim.specs.Sims.{Sim}
 use Rattle.podem.proofs.Owns.{inputs_signals, cells_signals}
 use Rattle.podem.specs.inner.Searching.{IsKnownAt}
@@ -13,40 +12,33 @@ pub first_free-requires : goal.first_free-requires
 first_free-requires c =
     let s = c.args.labels.now in
     subst (λ (m : Netlist). All (Contains (signals m)) c.inputs.result.now) (sym (ap (λ (r : Sim). r.netlist) c.requires.at.at))
-    (subst (λ (xs : List ℕ). All (Contains (signals c.args.core.now)) xs) (sym (c.inputs.ensures ∙ ap (λ (m : Netlist). m.inputs) c.netlist-netlist.ensures))
-    (inputs_signals c.args.core.now))
+    (subst (λ (xs : List ℕ). All (Contains (signals c.args.case.now.core.now)) xs) (sym (c.inputs.ensures ∙ ap (λ (m : Netlist). m.inputs) c.netlist-netlist.ensures))
+    (inputs_signals c.args.case.now.core.now))
 
 pub first_free-requires-in-None : goal.first_free-requires-in-None
 first_free-requires-in-None c =
     let s = c.args.labels.now in
     subst (λ (m : Netlist). All (Contains (signals m)) c.cells.result.now) (sym (ap (λ (r : Sim). r.netlist) c.requires.at.at))
-    (subst (λ (xs : List ℕ). All (Contains (signals c.args.core.now)) xs) (sym (c.cells.ensures ∙ ap (λ (m : Netlist). map (λ (d : Definition). d.id) (cells m)) c.netlist-netlist.ensures))
-    (cells_signals c.args.core.now))
+    (subst (λ (xs : List ℕ). All (Contains (signals c.args.case.now.core.now)) xs) (sym (c.cells.ensures ∙ ap (λ (m : Netlist). map (λ (d : Definition). d.id) (cells m)) c.netlist-netlist.ensures))
+    (cells_signals c.args.case.now.core.now))
 
 pub unreachable-requires : goal.unreachable-requires
 unreachable-requires c =
     let s = c.args.labels.now in
-    let n = c.args.core.now in
-    let holds = c.args.holds.now in
-    let sound : IsSound n = subst IsSound c.netlist-netlist.ensures c.sound.ensures in
-    some_free c.args.fault.now n holds sound s c.args.stack.now.items c.requires.at c.requires.going
+    some_free c.requires
     (subst (λ (xs : List ℕ). All (IsKnownAt s) xs) (c.inputs.ensures ∙ ap (λ (m : Netlist). m.inputs) c.netlist-netlist.ensures) c.in-None.ensures)
     (subst (λ (xs : List ℕ). All (IsKnownAt s) xs) (c.cells.ensures ∙ ap (λ (m : Netlist). map (λ (d : Definition). d.id) (cells m)) c.netlist-netlist.ensures) c.in-None-first_free.ensures)
 
 pub returns-in-Some : goal.returns-in-Some
 returns-in-Some c =
-    let n = c.args.core.now in
+    let n = c.args.case.now.core.now in
     let inside : Contains n.inputs c.in-Some.signal =
     subst (λ (xs : List ℕ). Contains xs c.in-Some.signal) (c.inputs.ensures ∙ ap (λ (m : Netlist). m.inputs) c.netlist-netlist.ensures) c.in-Some.ensures.0 in
-    let w = chosen_from c.args.fault.now n c.args.holds.now c.args.labels.now c.args.stack.now.items c.in-Some.signal c.requires.at
-    (Contains-append_left n.inputs (map (λ (d : Definition). d.id) (cells n)) c.in-Some.signal inside) c.in-Some.ensures.1 in
-    record { source = w.0; free = w.1 }
+    chosen_from c.requires.at c.in-Some.signal (Contains-append_left n.inputs (map (λ (d : Definition). d.id) (cells n)) c.in-Some.signal inside) c.in-Some.ensures.1
 
 pub returns-in-Some-first_free : goal.returns-in-Some-first_free
 returns-in-Some-first_free c =
-    let n = c.args.core.now in
+    let n = c.args.case.now.core.now in
     let inside : Contains (map (λ (d : Definition). d.id) (cells n)) c.in-Some-first_free.signal =
     subst (λ (xs : List ℕ). Contains xs c.in-Some-first_free.signal) (c.cells.ensures ∙ ap (λ (m : Netlist). map (λ (d : Definition). d.id) (cells m)) c.netlist-netlist.ensures) c.in-Some-first_free.ensures.0 in
-    let w = chosen_from c.args.fault.now n c.args.holds.now c.args.labels.now c.args.stack.now.items c.in-Some-first_free.signal c.requires.at
-    (Contains-append_right n.inputs (map (λ (d : Definition). d.id) (cells n)) c.in-Some-first_free.signal inside) c.in-Some-first_free.ensures.1 in
-    record { source = w.0; free = w.1 }
+    chosen_from c.requires.at c.in-Some-first_free.signal (Contains-append_right n.inputs (map (λ (d : Definition). d.id) (cells n)) c.in-Some-first_free.signal inside) c.in-Some-first_free.ensures.1

@@ -1,5 +1,4 @@
 use Rattle.std.proofs.Common.{ap, subst, sym}
-use Rattle.netlist.specs.Conditions.{IsSound}
 use Rattle.pair_sim.specs.Sims.{Sim, IsNotBlocked}
 use Rattle.podem.proofs.Steps.{chosen_from}
 use Rattle.podem.proofs.Turns.{going_open}
@@ -10,10 +9,8 @@ best_aim-requires-clause-same c = ap (λ (r : Sim). r.netlist) c.requires.at.at
 
 pub best_aim-requires-clause-not_blocked : goal.best_aim-requires-clause-not_blocked
 best_aim-requires-clause-not_blocked c =
-    let sound : IsSound c.args.core.now = subst IsSound c.netlist.ensures c.sound.ensures in
-    subst (λ (r : Sim). IsNotBlocked r) (sym c.requires.at.at) (going_open c.args.fault.now c.args.core.now c.args.holds.now sound _ c.requires.going)
+    let k = c.args.case.now in
+    subst (λ (r : Sim). IsNotBlocked r) (sym c.requires.at.at) (going_open k.fault k.core.now k.holds.now c.requires.case.sound _ c.requires.going)
 
 pub returns : goal.returns
-returns c =
-    chosen_from c.args.fault.now c.args.core.now c.args.holds.now c.args.labels.now c.args.stack.now.items c.in_ok-signal.signal c.requires.at
-    c.in_ok-signal.ensures.0 c.in_ok-signal.ensures.1
+returns c = chosen_from c.requires.at c.in_ok-signal.signal c.in_ok-signal.ensures.0 c.in_ok-signal.ensures.1

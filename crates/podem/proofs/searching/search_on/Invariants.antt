@@ -8,9 +8,9 @@ use Rattle.podem.proofs.searching.search_on.Given as goal
 
 abbrev pub invariant-loop-closed : goal.invariant-loop-closed
 invariant-loop-closed l = record {
-  searching : SearchesAt (PlaceInSources l.fault l.core l.holds) l.fault l.core l.holds l.labels l.stack.items l.closed;
+  searching : SearchesAt (PlaceInSources l.case.fault l.case.core.now l.case.holds.now) l.case.fault l.case.core.now l.case.holds.now l.labels l.stack.items l.closed;
   within : l.closed ≤ l.limit;
 }
 
 abbrev pub decreases-loop-closed : goal.decreases-loop-closed
-decreases-loop-closed l = (l.limit - l.closed) * (length (signals l.core) + 1) + undecided (path_of_stack l.stack.items) (signals l.core)
+decreases-loop-closed l = (l.limit - l.closed) * (length (signals l.case.core.now) + 1) + undecided (path_of_stack l.stack.items) (signals l.case.core.now)

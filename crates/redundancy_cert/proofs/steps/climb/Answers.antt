@@ -1,12 +1,12 @@
 use Rattle.std.proofs.Common.{◌≡◌, ◌+◌, ◌-◌, ◌<◌, true, false, List, [], ◌∷◌, ◌++◌, None, Some, length, take, drop, set, refl, ap, sym, ◌∙◌, subst, inl, arith}
 use Rattle.std.specs.List.{All}
-use Rattle.std.proofs.lemmas.Grind.{take_at_read, take-set_at}
+use Rattle.std.proofs.lemmas.Grind.{take-set_at}
 use Rattle.std.proofs.lemmas.List.{drop_more}
 use Rattle.std.proofs.lemmas.List.Elements.{All-cons}
 use Rattle.redundancy_cert.specs.declared.steps.Step.{Step}
 use Rattle.redundancy_cert.specs.inner.Walk.{IsAt, waiting_of, StandsFor}
 use Rattle.redundancy_cert.proofs.WalkLemmas.{turned, nothing_left}
-use Rattle.redundancy_cert.proofs.StepLemmas.{taken_back, turned_at, same_run, same_then}
+use Rattle.redundancy_cert.proofs.StepLemmas.{at_last, taken_back, turned_at, same_run, same_then}
 use Rattle.redundancy_cert.proofs.steps.climb.Goals as goal
 
 pub loop-k-preserved : goal.loop-k-preserved
@@ -16,9 +16,7 @@ loop-k-preserved c =
     let s : Step = c.index-step.result.now in
     let l : k < length items = let a = c.loop-k-test.true in let b = c.loop-k.auto.k in omega arith in
     let one : c.loop-k.k ≡ k + 1 = (let a = c.loop-k-test.true in omega arith) in
-    let more : take c.loop-k.k items ≡ take k items ++ s ∷ [] =
-    ap (λ j. take j items) one ∙ ((take_at_read items k s l).1 ∙ ap (λ (r : Step). take k items ++ r ∷ []) (sym c.index-step.ensures)) in
-    let at : IsAt c.loop-k.pass (take k items ++ s ∷ []) = subst (IsAt c.loop-k.pass) more c.loop-k.invariant.at in
+    let at = at_last c.loop-k.pass items k c.loop-k.k s one l c.index-step.ensures c.loop-k.invariant.at in
     let ahead : drop k items ≡ s ∷ drop (k + 1) items = drop_more items k s l ∙ ap (λ (r : Step). r ∷ drop (k + 1) items) (sym c.index-step.ensures) in
     record {
       items = c.loop-k.invariant.items;
@@ -37,9 +35,7 @@ returns-then-step-clause-at c =
     let s : Step = c.index-step.result.now in
     let l : k < length items = let a = c.loop-k-test.true in let b = c.loop-k.auto.k in omega arith in
     let one : c.loop-k.k ≡ k + 1 = (let a = c.loop-k-test.true in omega arith) in
-    let more : take c.loop-k.k items ≡ take k items ++ s ∷ [] =
-    ap (λ j. take j items) one ∙ ((take_at_read items k s l).1 ∙ ap (λ (r : Step). take k items ++ r ∷ []) (sym c.index-step.ensures)) in
-    let at : IsAt c.loop-k.pass (take k items ++ s ∷ []) = subst (IsAt c.loop-k.pass) more c.loop-k.invariant.at in
+    let at = at_last c.loop-k.pass items k c.loop-k.k s one l c.index-step.ensures c.loop-k.invariant.at in
     let t : Step = record { signal = s.signal; bit = true; waiting = false } in
     let path : c.truncate.new.self.items ≡ take k items ++ t ∷ [] = c.truncate.ensures.items ∙ take-set_at items k (k + 1) t refl l in
     subst (IsAt c.decide.new.self) (sym path) (turned_at c.loop-k.pass c.decide.new.self (take k items) s (Some true) c.standing.ensures at c.decide.ensures t refl refl)

@@ -1,8 +1,6 @@
 use Rattle.std.proofs.Common.{◌≡◌, ◌+◌, ◌-◌, ◌<◌, List, [], ◌∷◌, ◌++◌, None, length, take, set, refl, ap, sym, ◌∙◌, subst, arith}
-use Rattle.std.proofs.lemmas.Grind.{take_at_read}
 use Rattle.redundancy_cert.specs.declared.steps.Step.{Step}
-use Rattle.redundancy_cert.specs.inner.Walk.{IsAt}
-use Rattle.redundancy_cert.proofs.StepLemmas.{taken_back, same_run, same_then}
+use Rattle.redundancy_cert.proofs.StepLemmas.{at_last, taken_back, same_run, same_then}
 use Rattle.redundancy_cert.proofs.steps.unwind.Goals as goal
 
 pub loop-k-preserved : goal.loop-k-preserved
@@ -12,9 +10,7 @@ loop-k-preserved c =
     let s : Step = c.index-step.result.now in
     let l : k < length items = let a = c.loop-k-test.true in let b = c.loop-k.auto.k in omega arith in
     let one : c.loop-k.k ≡ k + 1 = (let a = c.loop-k-test.true in omega arith) in
-    let more : take c.loop-k.k items ≡ take k items ++ s ∷ [] =
-    ap (λ j. take j items) one ∙ ((take_at_read items k s l).1 ∙ ap (λ (r : Step). take k items ++ r ∷ []) (sym c.index-step.ensures)) in
-    let at : IsAt c.loop-k.pass (take k items ++ s ∷ []) = subst (IsAt c.loop-k.pass) more c.loop-k.invariant.at in
+    let at = at_last c.loop-k.pass items k c.loop-k.k s one l c.index-step.ensures c.loop-k.invariant.at in
     record {
       items = refl;
       same = same_then c.args.pass.now c.loop-k.pass c.decide.new.self c.loop-k.invariant.same

@@ -27,7 +27,7 @@ rename-requires-clause-within g c =
     let j = g.J.About.subject in
     let ls = c.args.last.now in
     let size : length c.args.list.patterns ≡ length c.deref-2.result.now =
-    omega (arith, ap length c.into_parts-patterns.ensures.patterns, c.len.ensures, c.in-Ok.ensures.size, ap length c.deref.ensures.value, c.in-Ok-new_places.ensures.size, ap length c.deref-2.ensures.value) in
+    omega (arith, ap length c.into_parts-patterns.ensures.patterns, c.len.ensures, c.in_ok-marks.ensures.size, ap length c.deref.ensures.value, c.in_ok-places.ensures.size, ap length c.deref-2.ensures.value) in
     let P : ℕ → Type 0 = λ k. All (λ (l : Option (ℕ × Point)). IfSome l (λ p. p.0 < k)) ls in
     subst P size (last_within j.netlist c.args.list.patterns j.classes.representatives ls c.requires.last)
 
@@ -37,12 +37,12 @@ returns g c =
     let ls = c.args.last.now in
     let seen = c.deref.result.now in
     let left = c.deref-3.result.now in
-    let same : (k : ℕ) → get_or seen k false ≡ is_last_at ls k = (λ k. ap (λ (ms : List Bool). get_or ms k false) c.deref.ensures.value ∙ c.in-Ok.ensures.marks k) in
-    let same_left : (k : ℕ) → get_or left k false ≡ is_last_at ls k = (λ k. ap (λ (ms : List Bool). get_or ms k false) c.deref-3.ensures.value ∙ c.in-Ok.ensures.marks k) in
-    let size : length seen ≡ length c.deref-2.result.now = omega (arith, c.in-Ok-new_places.ensures.size, ap length c.deref-2.ensures.value) in
+    let same : (k : ℕ) → get_or seen k false ≡ is_last_at ls k = (λ k. ap (λ (ms : List Bool). get_or ms k false) c.deref.ensures.value ∙ c.in_ok-marks.ensures.marks k) in
+    let same_left : (k : ℕ) → get_or left k false ≡ is_last_at ls k = (λ k. ap (λ (ms : List Bool). get_or ms k false) c.deref-3.ensures.value ∙ c.in_ok-marks.ensures.marks k) in
+    let size : length seen ≡ length c.deref-2.result.now = omega (arith, c.in_ok-places.ensures.size, ap length c.deref-2.ensures.value) in
     let places = places_of_last ls seen c.deref-2.result.now (length seen) same size
-    (λ k lt. ap (λ (ps : List ℕ). get_or ps k 0) c.deref-2.ensures.value ∙ c.in-Ok-new_places.ensures.each k lt) in
+    (λ k lt. ap (λ (ps : List ℕ). get_or ps k 0) c.deref-2.ensures.value ∙ c.in_ok-places.ensures.each k lt) in
     let P : List Verdict → Type 0 = λ vs. AreRenamed (is_last_at ls) ls vs c.rename.new.verdicts.items in
-    are_finished j c.args.list ls c.in-Ok-kept.patterns.items c.rename.new.verdicts.items c.true_list.ensures.true_list c.requires.last
+    are_finished j c.args.list ls c.in_ok-patterns.patterns.items c.rename.new.verdicts.items c.true_list.ensures.true_list c.requires.last
     (subst P c.into_parts-patterns.ensures.verdicts (c.rename.ensures (is_last_at ls) places))
-    (kept_of_last ls left c.into_parts-patterns.result.0.items c.args.list.patterns c.in-Ok-kept.patterns.items same_left c.into_parts-patterns.ensures.patterns c.in-Ok-kept.ensures)
+    (kept_of_last ls left c.into_parts-patterns.result.0.items c.args.list.patterns c.in_ok-patterns.patterns.items same_left c.into_parts-patterns.ensures.patterns c.in_ok-patterns.ensures)

@@ -12,13 +12,13 @@ moved_sites-requires-clause-few c =
 pub scanned_parts-requires-clause-ready : goal.scanned_parts-requires-clause-ready
 scanned_parts-requires-clause-ready c =
     are_ready c.args.netlist.now c.args.chains.now c.deref.result.now c.requires.sound c.requires.design c.requires.chains c.requires.some
-    (c.deref.ensures.value ∙ made_sites c.args.netlist.now c.args.chains.now c.in-Ok.sites.items c.count.result c.requires.some c.count.ensures c.in-Ok.ensures)
+    (c.deref.ensures.value ∙ made_sites c.args.netlist.now c.args.chains.now c.in_ok-sites.sites.items c.count.result c.requires.some c.count.ensures c.in_ok-sites.ensures)
 
 pub scanned_parts-requires-clause-sites : goal.scanned_parts-requires-clause-sites
 scanned_parts-requires-clause-sites c =
-    c.deref.ensures.value ∙ made_sites c.args.netlist.now c.args.chains.now c.in-Ok.sites.items c.count.result c.requires.some c.count.ensures c.in-Ok.ensures
+    c.deref.ensures.value ∙ made_sites c.args.netlist.now c.args.chains.now c.in_ok-sites.sites.items c.count.result c.requires.some c.count.ensures c.in_ok-sites.ensures
 
 pub netlist_of-requires : goal.netlist_of-requires
 netlist_of-requires c =
-    subst IsSound (sym c.in-Ok-scanned_parts.ensures)
+    subst IsSound (sym c.in_ok-parts.ensures)
     (scanned_sound c.args.netlist.now c.args.chains.now c.requires.sound c.requires.design (are_dealt c.args.netlist.now c.args.chains.now c.requires.chains))

@@ -1,5 +1,4 @@
 use Rattle.std.proofs.Common.{◌≡◌, ◌+◌, ◌∙◌, ap, sym, subst, length, arith, take, drop, List}
-use Rattle.plain_text.specs.Texts.{Text}
 use Rattle.stil_write.specs.StilFiles.{Item, Vector, clock, item_at, words_of}
 use Rattle.stil_vectors.specs.FileVectors.{IsPulsed, bits_of, has_pulse, together, values_of}
 use Rattle.stil_vectors.proofs.VectorLemmas.{clock_count, vector_cycles, vector_facts}
@@ -43,7 +42,8 @@ returns c =
     let m = c.min.ensures in
     let p = clock_count f in
     let start : length c.chains-chains.result.now + 1 + c.min.result ≡ length f.chains + 1 + length (clock f) = omega (arith, w, m, p) in
-    vector_cycles f (item_at f.items c.args.place) words c.in_ok-drive.drive.items c.in_ok-strobe.strobe.items c.has_pulse-pulse.result c.new.result.items c.new-2.result.items
+    c.single.ensures
+    ∙ vector_cycles f (item_at f.items c.args.place) words c.in_ok-drive.drive.items c.in_ok-strobe.strobe.items c.has_pulse-pulse.result
     (c.requires.vector ∙ ap (λ (is : List Item). Vector (words_of (item_at is c.args.place))) (sym c.items-items.ensures))
     (c.in_ok-drive.ensures ∙ ap (λ n. bits_of (together (take (n + 1) words))) w)
     (c.in_ok-strobe.ensures ∙ ap (λ n. values_of (together (drop n words))) start)

@@ -1,16 +1,11 @@
-use Rattle.std.proofs.Common.{List, ◌∷◌, [], length, length-append, ap, subst, sym, arith}
-use Rattle.std.specs.List.{All}
-use Rattle.std.proofs.lemmas.List.Elements.{All-push}
-use Rattle.netlist.specs.Holds.{none_held}
-use Rattle.cubes.specs.Cubes.{Pattern, IsPatternOf}
+use Rattle.std.proofs.Common.{arith}
+use Rattle.transition_tests.proofs.BatchLemmas.{drawn_step, drawn_end}
 use Rattle.transition_tests.proofs.dropping.drawn.Goals as goal
 
 pub loop-done-preserved : goal.loop-done-preserved
 loop-done-preserved g c =
-    let n = c.args.core.now in
-    let before = c.loop-done.invariant in
-    record {
-      obey = subst (λ (ps : List Pattern). All (IsPatternOf n (none_held n)) ps) (sym c.in-Ok.ensures.items)
-          (All-push (IsPatternOf n (none_held n)) c.loop-done.patterns.items c.in_ok-pattern.pattern c.loop-done.invariant.obey (c.in_ok-pattern.ensures.fits n (none_held n) c.requires));
-      count = omega (arith, before.count, ap length c.in-Ok.ensures.items, length-append c.loop-done.patterns.items (c.in_ok-pattern.pattern ∷ []));
-    }
+    drawn_step c.args.count c.loop-done._done c.args.cube.now (g.N.Rng.stream c.loop-done.rng) (g.N.Rng.stream c.fill.new.rng) c.loop-done.patterns.items c.push.new.self.items _
+    c.in_ok-pattern.pattern (omega arith) c.loop-done.invariant c.in_ok-pattern.ensures.pattern c.in_ok-pattern.ensures.left c.in_ok-push.ensures.items
+
+pub returns : goal.returns
+returns g c = drawn_end c.args.count c.loop-done._done c.args.cube.now _ c.loop-done.patterns.items _ (omega arith) c.loop-done.invariant

@@ -29,6 +29,6 @@ returns c =
     let n = c.args.core.now in
     let last = c.in_ok-last.last.items in
     subst (λ (ms : List Bool). AreLeftBy n c.args.batch.now (universe_of n) ms)
-    (sym (c.in-Ok.ensures ∙ ap (λ (ls : List (Option (ℕ × Point))). map (λ (l : Option (ℕ × Point)). not (is_some l)) ls) c.deref.ensures.value))
+    (sym (c.in_ok-left.ensures ∙ ap (λ (ls : List (Option (ℕ × Point))). map (λ (l : Option (ℕ × Point)). not (is_some l)) ls) c.deref.ensures.value))
     (left_where_none n c.args.batch.now (universe_of n) last
     (subst (λ (fs : List Fault). AllZip (LastTransition n c.args.batch.now) fs last) c.requires.faults c.in_ok-last.ensures))

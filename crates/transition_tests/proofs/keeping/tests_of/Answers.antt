@@ -1,35 +1,36 @@
-use Rattle.std.proofs.Common.{◌≡◌, ℕ, List, length, refl, subst, sym, ◌∙◌, ap, arith, Option}
-use Rattle.std.specs.List.{All, AllZip, Contains}
+use Rattle.std.proofs.Common.{◌≡◌, List, length, refl, subst, sym, ◌∙◌, ap, arith}
+use Rattle.std.specs.List.{All, Contains}
 use Rattle.std.proofs.lemmas.List.Elements.{All-contains}
 use Rattle.netlist.specs.declared.lines.Fault.{Fault}
-use Rattle.netlist.specs.declared.lines.Point.{Point}
 use Rattle.netlist.specs.Conditions.{IsSound}
 use Rattle.netlist.specs.Holds.{none_held}
 use Rattle.netlist.specs.Lines.{IsLineOf}
-use Rattle.cubes.specs.Cubes.{Cube, Pattern, IsCubeOf}
+use Rattle.cubes.specs.Cubes.{Cube, Pattern}
+use Rattle.cubes.proofs.MergeLemmas.{netlist_widths}
 use Rattle.word_sim.specs.Words.{HasWidthsOf}
 use Rattle.word_sim.proofs.WidthLemmas.{widths}
 use Rattle.fault_universe.specs.Universe.{universe_of}
 use Rattle.reverse_compact.specs.Kept.{is_last_at}
 use Rattle.reverse_compact.proofs.KeepLemmas.{kept_few}
-use Rattle.transition.specs.Detections.{LastTransition}
 use Rattle.transition.proofs.Gathering.{universe_few, universe_lines}
 use Rattle.transition_tests.specs.inner.Cubes.{cubes_in, HasAgreeing}
-use Rattle.transition_tests.proofs.CubeLemmas.{all_cubes, few_patterns}
-use Rattle.transition_tests.proofs.TestLemmas.{all_known, all_told, last_within, tests_are}
+use Rattle.transition_tests.proofs.CubeLemmas.{few_patterns}
+use Rattle.transition_tests.proofs.TestLemmas.{all_known, all_told, cubes_fit, last_along, last_within, tests_are}
 use Rattle.transition_tests.proofs.keeping.tests_of.Goals as goal
 
-pub patterns_of-requires-clause-cubes : goal.patterns_of-requires-clause-cubes
-patterns_of-requires-clause-cubes c =
+pub patterns_of-requires : goal.patterns_of-requires
+patterns_of-requires c =
     let n = c.args.core.now in
-    let cubes : c.deref-2.result.now ≡ cubes_in c.args.found.items = c.deref-2.ensures.value ∙ (c.in-Ok.ensures ∙ ap cubes_in c.deref.ensures.value) in
-    subst (λ (cs : List Cube). All (IsCubeOf n (none_held n)) cs) (sym cubes) (all_cubes n c.args.limit c.args.batch.items (universe_of n) c.args.found.items
-    (all_known n c.args.limit c.args.batch.items (universe_of n) c.args.left.now c.args.found.items c.requires.left c.requires.found))
+    netlist_widths n (none_held n) c.deref-2.result.now (cubes_fit n c.args.limit c.args.batch.items c.args.left.now c.args.found.items c.deref-2.result.now
+    c.requires.left c.requires.found (c.deref-2.ensures.value ∙ (c.in_ok-cubes.ensures ∙ ap cubes_in c.deref.ensures.value)))
 
 pub last_tells2-requires-clause-wide : goal.last_tells2-requires-clause-wide
 last_tells2-requires-clause-wide c =
     let n = c.args.core.now in
-    subst (λ (ps : List Pattern). All (HasWidthsOf n) ps) (sym c.deref-3.ensures.value) (widths n (none_held n) c.in_ok-patterns.patterns.items c.in_ok-patterns.ensures.obey)
+    let fit = cubes_fit n c.args.limit c.args.batch.items c.args.left.now c.args.found.items c.deref-2.result.now
+    c.requires.left c.requires.found (c.deref-2.ensures.value ∙ (c.in_ok-cubes.ensures ∙ ap cubes_in c.deref.ensures.value)) in
+    subst (λ (ps : List Pattern). All (HasWidthsOf n) ps) (sym c.deref-3.ensures.value)
+    (widths n (none_held n) c.in_ok-patterns.patterns.items (c.in_ok-patterns.ensures.fit n (none_held n) c.requires.batch fit))
 
 pub last_tells2-requires-clause-lines : goal.last_tells2-requires-clause-lines
 last_tells2-requires-clause-lines c = universe_lines c.args.core.now (subst IsSound c.netlist.ensures c.sound.ensures) c.args.faults.now c.requires.faults
@@ -43,54 +44,54 @@ pub last_tells2-requires-clause-count : goal.last_tells2-requires-clause-count
 last_tells2-requires-clause-count c =
     let few = few_patterns (universe_of c.args.core.now) c.args.found.items c.deref-2.result.now c.args.batch.items c.in_ok-patterns.patterns.items c.requires.found.size
     (universe_few c.args.core.now (subst IsSound c.netlist.ensures c.sound.ensures) c.requires.design)
-    (c.deref-2.ensures.value ∙ (c.in-Ok.ensures ∙ ap cubes_in c.deref.ensures.value)) c.requires.count c.in_ok-patterns.ensures.few in
+    (c.deref-2.ensures.value ∙ (c.in_ok-cubes.ensures ∙ ap cubes_in c.deref.ensures.value)) c.requires.count c.in_ok-patterns.ensures.few in
     omega (arith, few, ap length c.deref-3.ensures.value)
 
 pub keep-requires-clause-told : goal.keep-requires-clause-told
 keep-requires-clause-told c =
     let n = c.args.core.now in
     let sound = subst IsSound c.netlist.ensures c.sound.ensures in
-    let zip = subst (λ (fs : List Fault). AllZip (LastTransition n c.in_ok-patterns.patterns.items) fs c.deref-4.result.now) c.requires.faults
-    (subst (λ (ps : List Pattern). AllZip (LastTransition n ps) c.args.faults.now c.deref-4.result.now) c.deref-3.ensures.value
-    (subst (λ (ls : List (Option (ℕ × Point))). AllZip (LastTransition n c.deref-3.result.now) c.args.faults.now ls) (sym c.deref-4.ensures.value) c.in_ok-last.ensures)) in
-    let cubes : c.deref-2.result.now ≡ cubes_in c.args.found.items = c.deref-2.ensures.value ∙ (c.in-Ok.ensures ∙ ap cubes_in c.deref.ensures.value) in
+    let last = last_along n c.in_ok-patterns.patterns.items c.deref-3.result.now c.args.faults.now c.in_ok-last.last.items c.deref-4.result.now
+    c.requires.faults c.deref-3.ensures.value c.deref-4.ensures.value c.in_ok-last.ensures in
+    let cubes : c.deref-2.result.now ≡ cubes_in c.args.found.items = c.deref-2.ensures.value ∙ (c.in_ok-cubes.ensures ∙ ap cubes_in c.deref.ensures.value) in
     let agree = subst (λ (cs : List Cube). (x : Cube) → Contains cs x → HasAgreeing c.in_ok-patterns.patterns.items x) cubes c.in_ok-patterns.ensures.agree in
     all_told n sound c.args.limit c.args.batch.items c.in_ok-patterns.patterns.items c.in_ok-patterns.ensures.begins (universe_of n) c.args.found.items c.deref-4.result.now
     (universe_lines n sound (universe_of n) refl)
-    (all_known n c.args.limit c.args.batch.items (universe_of n) c.args.left.now c.args.found.items c.requires.left c.requires.found) zip agree
+    (all_known n c.args.limit c.args.batch.items (universe_of n) c.args.left.now c.args.found.items c.requires.left c.requires.found) last agree
 
 pub keep-requires-clause-within : goal.keep-requires-clause-within
 keep-requires-clause-within c =
     let n = c.args.core.now in
-    let zip = subst (λ (fs : List Fault). AllZip (LastTransition n c.in_ok-patterns.patterns.items) fs c.deref-4.result.now) c.requires.faults
-    (subst (λ (ps : List Pattern). AllZip (LastTransition n ps) c.args.faults.now c.deref-4.result.now) c.deref-3.ensures.value
-    (subst (λ (ls : List (Option (ℕ × Point))). AllZip (LastTransition n c.deref-3.result.now) c.args.faults.now ls) (sym c.deref-4.ensures.value) c.in_ok-last.ensures)) in
-    last_within n c.in_ok-patterns.patterns.items (universe_of n) c.deref-4.result.now zip
+    last_within n c.in_ok-patterns.patterns.items (universe_of n) c.deref-4.result.now
+    (last_along n c.in_ok-patterns.patterns.items c.deref-3.result.now c.args.faults.now c.in_ok-last.last.items c.deref-4.result.now
+    c.requires.faults c.deref-3.ensures.value c.deref-4.ensures.value c.in_ok-last.ensures)
 
 pub keep-requires-clause-few : goal.keep-requires-clause-few
 keep-requires-clause-few c =
     let few = few_patterns (universe_of c.args.core.now) c.args.found.items c.deref-2.result.now c.args.batch.items c.in_ok-patterns.patterns.items c.requires.found.size
     (universe_few c.args.core.now (subst IsSound c.netlist.ensures c.sound.ensures) c.requires.design)
-    (c.deref-2.ensures.value ∙ (c.in-Ok.ensures ∙ ap cubes_in c.deref.ensures.value)) c.requires.count c.in_ok-patterns.ensures.few in
+    (c.deref-2.ensures.value ∙ (c.in_ok-cubes.ensures ∙ ap cubes_in c.deref.ensures.value)) c.requires.count c.in_ok-patterns.ensures.few in
     omega (arith, few)
 
 pub returns-clause-tests : goal.returns-clause-tests
 returns-clause-tests c =
     let n = c.args.core.now in
     let sound = subst IsSound c.netlist.ensures c.sound.ensures in
-    let zip = subst (λ (fs : List Fault). AllZip (LastTransition n c.in_ok-patterns.patterns.items) fs c.deref-4.result.now) c.requires.faults
-    (subst (λ (ps : List Pattern). AllZip (LastTransition n ps) c.args.faults.now c.deref-4.result.now) c.deref-3.ensures.value
-    (subst (λ (ls : List (Option (ℕ × Point))). AllZip (LastTransition n c.deref-3.result.now) c.args.faults.now ls) (sym c.deref-4.ensures.value) c.in_ok-last.ensures)) in
     let all = universe_lines n sound (universe_of n) refl in
-    tests_are n sound c.args.limit c.args.batch.items c.in_ok-patterns.patterns.items c.args.found.items c.deref-4.result.now c.in-Ok-keep.tests.patterns.items
-    c.in-Ok-keep.tests.verdicts.items c.in_ok-patterns.ensures.obey (λ f is. All-contains (λ (g : Fault). IsLineOf n g.line) (universe_of n) f all is) all
-    (all_known n c.args.limit c.args.batch.items (universe_of n) c.args.left.now c.args.found.items c.requires.left c.requires.found) zip
-    c.in-Ok-keep.ensures.patterns c.in-Ok-keep.ensures.verdicts
+    let fit = cubes_fit n c.args.limit c.args.batch.items c.args.left.now c.args.found.items c.deref-2.result.now
+    c.requires.left c.requires.found (c.deref-2.ensures.value ∙ (c.in_ok-cubes.ensures ∙ ap cubes_in c.deref.ensures.value)) in
+    tests_are n sound c.args.limit c.args.batch.items c.in_ok-patterns.patterns.items c.args.found.items c.deref-4.result.now c.in_ok-tests.tests.patterns.items
+    c.in_ok-tests.tests.verdicts.items (c.in_ok-patterns.ensures.fit n (none_held n) c.requires.batch fit)
+    (λ f is. All-contains (λ (g : Fault). IsLineOf n g.line) (universe_of n) f all is) all
+    (all_known n c.args.limit c.args.batch.items (universe_of n) c.args.left.now c.args.found.items c.requires.left c.requires.found)
+    (last_along n c.in_ok-patterns.patterns.items c.deref-3.result.now c.args.faults.now c.in_ok-last.last.items c.deref-4.result.now
+    c.requires.faults c.deref-3.ensures.value c.deref-4.ensures.value c.in_ok-last.ensures)
+    c.in_ok-tests.ensures.patterns c.in_ok-tests.ensures.verdicts
 
 pub returns-clause-few : goal.returns-clause-few
 returns-clause-few c =
     let few = few_patterns (universe_of c.args.core.now) c.args.found.items c.deref-2.result.now c.args.batch.items c.in_ok-patterns.patterns.items c.requires.found.size
     (universe_few c.args.core.now (subst IsSound c.netlist.ensures c.sound.ensures) c.requires.design)
-    (c.deref-2.ensures.value ∙ (c.in-Ok.ensures ∙ ap cubes_in c.deref.ensures.value)) c.requires.count c.in_ok-patterns.ensures.few in
+    (c.deref-2.ensures.value ∙ (c.in_ok-cubes.ensures ∙ ap cubes_in c.deref.ensures.value)) c.requires.count c.in_ok-patterns.ensures.few in
     let kept = kept_few (is_last_at c.deref-4.result.now) 0 c.in_ok-patterns.patterns.items in
-    omega (arith, few, kept, ap length c.in-Ok-keep.ensures.patterns)
+    omega (arith, few, kept, ap length c.in_ok-tests.ensures.patterns)

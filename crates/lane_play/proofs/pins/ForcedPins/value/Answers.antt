@@ -2,9 +2,10 @@ use Rattle.std.proofs.Common.{◌≡◌, ◌<◌, List, map, length, get_or, sym
 use Rattle.std.proofs.lemmas.List.{length-map, get_or-map, get_or_default}
 use Rattle.netlist.specs.declared.lines.Line.TheVariants.{Pin}
 use Rattle.netlist.specs.Settled.{at}
-use Rattle.events.proofs.Stuck.{length-on_pins, get_or-on_pins}
+use Rattle.events.proofs.Stuck.{get_or-on_pins}
 use Rattle.lane_play.specs.declared.packed.Lanes.{Lanes}
 use Rattle.lane_play.specs.inner.Lanes.{lanes_rule}
+use Rattle.lane_play.proofs.Stuckness.{length-read}
 use Rattle.lane_play.proofs.pins.ForcedPins.value.Goals as goal
 
 pub overflow_cast-place : goal.overflow_cast-place
@@ -12,8 +13,7 @@ overflow_cast-place c =
     let p = c.args.self.now in
     let r = c.requires in
     let few = p.few in
-    let a = length-on_pins (lanes_rule p.faults.now) p.id 0 (map (at p.values.now (record { known = 0; value = 0 })) p.pins.now) in
-    let b = length-map p.pins.now (at p.values.now (record { known = 0; value = 0 })) in
+    let n = length-read (lanes_rule p.faults.now) p.id p.values.now p.pins.now in
     omega arith
 
 pub offset_bounds-self-place : goal.offset_bounds-self-place
@@ -21,32 +21,28 @@ offset_bounds-self-place c =
     let p = c.args.self.now in
     let r = c.requires in
     let few = p.few in
-    let a = length-on_pins (lanes_rule p.faults.now) p.id 0 (map (at p.values.now (record { known = 0; value = 0 })) p.pins.now) in
-    let b = length-map p.pins.now (at p.values.now (record { known = 0; value = 0 })) in
+    let n = length-read (lanes_rule p.faults.now) p.id p.values.now p.pins.now in
     omega arith
 
 pub bounds-self-place : goal.bounds-self-place
 bounds-self-place c =
     let p = c.args.self.now in
     let r = c.requires in
-    let a = length-on_pins (lanes_rule p.faults.now) p.id 0 (map (at p.values.now (record { known = 0; value = 0 })) p.pins.now) in
-    let b = length-map p.pins.now (at p.values.now (record { known = 0; value = 0 })) in
+    let n = length-read (lanes_rule p.faults.now) p.id p.values.now p.pins.now in
     omega arith
 
 pub bounds-self-index : goal.bounds-self-index
 bounds-self-index c =
     let p = c.args.self.now in
     let r = c.requires in
-    let a = length-on_pins (lanes_rule p.faults.now) p.id 0 (map (at p.values.now (record { known = 0; value = 0 })) p.pins.now) in
-    let b = length-map p.pins.now (at p.values.now (record { known = 0; value = 0 })) in
+    let n = length-read (lanes_rule p.faults.now) p.id p.values.now p.pins.now in
     subst (λ x. x < length p.values.now) (sym c.index.ensures) (p.below c.args.place c.index-self-place.result (omega arith))
 
 pub offset_bounds-self-index : goal.offset_bounds-self-index
 offset_bounds-self-index c =
     let p = c.args.self.now in
     let r = c.requires in
-    let a = length-on_pins (lanes_rule p.faults.now) p.id 0 (map (at p.values.now (record { known = 0; value = 0 })) p.pins.now) in
-    let b = length-map p.pins.now (at p.values.now (record { known = 0; value = 0 })) in
+    let n = length-read (lanes_rule p.faults.now) p.id p.values.now p.pins.now in
     let l : c.index.result < length p.values.now = subst (λ x. x < length p.values.now) (sym c.index.ensures) (p.below c.args.place c.index-self-place.result (omega arith)) in
     omega arith
 
@@ -56,7 +52,7 @@ returns c =
     let rule = lanes_rule p.faults.now in
     let vs : List Lanes = map (at p.values.now (record { known = 0; value = 0 })) p.pins.now in
     let r = c.requires in
-    let a = length-on_pins rule p.id 0 vs in
+    let n = length-read rule p.id p.values.now p.pins.now in
     let b = length-map p.pins.now (at p.values.now (record { known = 0; value = 0 })) in
     let l : c.args.place < length p.pins.now = omega arith in
     let inside : c.index.result < length p.values.now = subst (λ x. x < length p.values.now) (sym c.index.ensures) (p.below c.args.place c.index-self-place.result l) in

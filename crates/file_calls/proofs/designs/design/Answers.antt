@@ -1,6 +1,0 @@
-use Rattle.std.proofs.Common.{arith}
-use Rattle.bench_text.proofs.TextLemmas.{lines-length}
-use Rattle.file_calls.proofs.designs.design.Goals as goal
-
-pub read-requires : goal.read-requires
-read-requires c = omega (arith, lines-length c.args.text.now)

@@ -1,0 +1,46 @@
+use Rattle.std.proofs.Common.{◌≡◌, length, cond, List, sym, ◌∙◌, ap, subst, arith}
+use Rattle.std.proofs.lemmas.List.{length-map}
+use Rattle.netlist.specs.declared.kinds.Tri.{Tri}
+use Rattle.netlist.specs.Netlist.{Netlist}
+use Rattle.netlist.specs.Conditions.{IsSound}
+use Rattle.netlist.specs.Settled.{at, outs, next}
+use Rattle.scan_play.proofs.PlaySteps.{few_outputs}
+use Rattle.lane_play.specs.declared.packed.Lanes.{Lanes}
+use Rattle.lane_play.specs.inner.Lanes.{lanes_rule}
+use Rattle.lane_play.specs.inner.Verdicts.{AreJudgedIn}
+use Rattle.lane_play.proofs.PlayedLemmas.{size_kept}
+use Rattle.lane_play.proofs.cycles.end_cycle.Goals as goal
+
+blank : Lanes
+blank = record { known = 0; value = 0 }
+
+pub judge_row-found-requires-clause-same : goal.judge_row-found-requires-clause-same
+judge_row-found-requires-clause-same g c =
+    ap length c.deref-2.ensures.value
+    ∙ (c.requires.strobes ∙ sym (ap length (c.deref-3.ensures.value ∙ c.in_ok-outs_into.ensures blank) ∙ length-map c.args.core.now.outputs _))
+
+pub judge_row-found-requires-clause-few : goal.judge_row-found-requires-clause-few
+judge_row-found-requires-clause-few g c =
+    let size : length c.deref-2.result.now ≡ length c.args.core.now.outputs = ap length c.deref-2.ensures.value ∙ c.requires.strobes in
+    let few = few_outputs c.args.core.now (subst IsSound c.netlist.ensures c.sound.ensures) in
+    omega arith
+
+pub returns-clause-size : goal.returns-clause-size
+returns-clause-size g c =
+    size_kept c.args.rule.now.faults.now c.args.core.now c.args.pulse c.args.bench.now.state.items c.tick.new.state.items (at c.deref-4.result.now blank)
+    (subst IsSound c.netlist.ensures c.sound.ensures) c.requires.size (c.in_ok-tick.ensures blank)
+
+pub returns-clause-ended : goal.returns-clause-ended
+unfolding blank
+returns-clause-ended g c =
+    let rule = lanes_rule c.args.rule.now.faults.now in
+    let n : Netlist = c.args.core.now in
+    let strobe : List Tri = c.args.bench.now.strobe.items in
+    let state : List Lanes = c.args.bench.now.state.items in
+    let judged : List Tri → List Lanes → Type 0 =
+    λ strobes row. AreJudgedIn (g.J.Judge.says c.args.judge.now) c.args.number strobes row c.args.verdicts.found.items c.judge_row-found.result.found.items in
+    record {
+      judged = subst (judged strobe) (c.deref-3.ensures.value ∙ (c.in_ok-outs_into.ensures blank ∙ ap (λ (vs : List Lanes). outs rule n (at vs blank)) c.deref.ensures.value))
+          (subst (λ (s : List Tri). judged s c.deref-3.result.now) c.deref-2.ensures.value c.judge_row-found.ensures);
+      ticked = c.in_ok-tick.ensures blank ∙ ap (λ (vs : List Lanes). cond c.args.pulse (next rule n (at vs blank)) state) c.deref-4.ensures.value;
+    }
