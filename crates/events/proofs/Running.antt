@@ -1,9 +1,9 @@
 -- One gate more has settled.
-use Rattle.std.proofs.Common.{◌≡◌, ℕ, ◌+◌, ◌<◌, ◌≤◌, ◌≢◌, Bool, true, false, List, [], ◌∷◌, ◌++◌, length, get_or, set, refl, sym, ◌∙◌, ap, subst, inl, inr, eqb, arith, append_assoc}
+use Rattle.std.proofs.Common.{◌≡◌, ℕ, ◌+◌, ◌<◌, ◌≤◌, ◌≢◌, Bool, true, false, List, [], ◌∷◌, ◌++◌, ◌||◌, length, get_or, set, refl, sym, ◌∙◌, ap, subst, inl, inr, eqb, arith, append_assoc}
 use Rattle.std.specs.List.{Contains, list_any}
 use Rattle.std.proofs.lemmas.Bool.{cases_eq, cases_lt, cases_Bool, both_ways, or_parts, or_from, or_cases, eqb-false, ne_eqb}
 use Rattle.std.proofs.lemmas.List.{append-nil, length-set, get_or-set_same, get_or-set_other, get_or_past}
-use Rattle.std.proofs.lemmas.List.Elements.{Contains-push_cases}
+use Rattle.std.proofs.lemmas.List.Elements.{Contains-push_cases, Contains-append_cases}
 use Rattle.netlist.specs.declared.lines.Line.TheVariants.{Stem}
 use Rattle.netlist.specs.Netlist.{Definition, Netlist, is_cell, cells, gates, signals, also}
 use Rattle.netlist.specs.Conditions.{IsSound}
@@ -16,10 +16,11 @@ use Rattle.netlist.proofs.Settling.{zip_kept}
 use Rattle.events.specs.declared.trails.Change.{Change}
 use Rattle.events.specs.Agendas.{marked, IsFirst, AreClear}
 use Rattle.events.specs.inner.Placing.{waiting, is_pin_at}
-use Rattle.events.specs.inner.Running.{CallsTurned, IsMade, StaysSame, Turns, Takes, AreUnderway, Resettles, PutsSource}
+use Rattle.events.specs.inner.Running.{CallsTurned, IsMade, StaysSame, Turns, Takes, AreUnderway, Resettles, PutsSource, Touches}
 use Rattle.events.specs.Trails.{AreChanges}
+use Rattle.events.specs.Waiting.{IsDrivenTo}
 use Rattle.events.proofs.Sources.{source_step_settles, source_turn_settles}
-use Rattle.events.proofs.Steps.{step_settles, turn_settles, none_waits}
+use Rattle.events.proofs.Steps.{step_settles, turn_settles, none_waits, more_wait}
 use Rattle.netlist.proofs.Orders.{place_of, place_there, reads_above}
 use Rattle.events.proofs.Placing.{gate_at_place, read_called, called_reads, marked_set}
 use Rattle.events.proofs.Changes.{none_changed, one_changed, both_changes}
@@ -183,18 +184,15 @@ module _ {V : Type 0} (rule : Rule V) (n : Netlist) (sound : IsSound n) (order p
   no_gate : (d : Definition) → Contains (gates n) d → d.id ≢ id
   no_gate d c e = let l = (place_of n sound.formed.numbered order ordered places h d c).0 in let s : get_or places d.id 0 ≡ get_or places id 0 = ap (λ x. get_or places x 0) e in omega arith
 
-  apart : (y : ℕ) → y ≢ id → marked marks (get_or places y 0) ≡ false → also (waiting marks places) id y ≡ false
-  apart y ne f = or_from (marked marks (get_or places y 0)) (eqb y id) f (ne_eqb y id ne)
-
   source_stays : StaysSame id v old new marks after trail trail' → PutsSource rule n places id v old new marks after trail trail'
   source_stays s = record {
     size = ap length s.marks_are;
-    settles = λ inputs state d driven start. source_step_settles rule n inputs state (at old d) (at new d) (also (waiting marks places) id) (waiting after places) id v sound
+    settles = λ inputs state d before after' driven cover rest start. source_step_settles rule n inputs state (at old d) (at new d) before after' id v sound
         record {
           source = no_gate;
           value = ap (λ vs. at vs d id) s.values ∙ sym (s.same d);
           others = λ y ne. ap (λ vs. at vs d y) s.values;
-          waiting = λ y l ne f. apart y ne (sym (ap (λ ms. marked ms (get_or places y 0)) s.marks_are) ∙ f);
+          waiting = λ y l ne f. rest y ne (sym (ap (λ ms. marked ms (get_or places y 0)) s.marks_are) ∙ cover y f) f;
           readers = λ e c r f. ap (λ vs. at vs d id) s.values;
         }
         driven start;
@@ -210,17 +208,17 @@ module _ {V : Type 0} (rule : Rule V) (n : Netlist) (sound : IsSound n) (order p
       let within : id < length old = subst (λ k. id < k) (sym size) low in
       record {
         size = t.calls.size;
-        settles = λ inputs state d driven start. source_turn_settles rule n inputs state (at old d) (at new d) (also (waiting marks places) id) (waiting after places) id v sound
+        settles = λ inputs state d before after' driven cover rest start. source_turn_settles rule n inputs state (at old d) (at new d) before after' id v sound
             record {
               source = no_gate;
               value = ap (λ vs. at vs d id) t.values ∙ get_or-set_same old id v d within;
               others = λ y ne. ap (λ vs. at vs d y) t.values ∙ get_or-set_other old id y v d ne;
-              waiting = λ y l ne f. apart y ne (elim (cases_Bool (marked marks (get_or places y 0))) [
-                | inl m ↦ absurd (both_ways (marked after (get_or places y 0)) f (t.calls.kept (get_or places y 0) m))
+              waiting = λ y l ne f. rest y ne (elim (cases_Bool (marked marks (get_or places y 0))) [
+                | inl m ↦ absurd (both_ways (marked after (get_or places y 0)) (cover y f) (t.calls.kept (get_or places y 0) m))
                 | inr none ↦ none
-              ]);
+              ]) f;
               readers = λ e c r f. elim (t.calls.called e c (read_called places (get_or places e.id 0) id n e (gate_defined n sound.formed.numbered e c) refl r)) [
-                | inl m ↦ absurd (both_ways (marked after (get_or places e.id 0)) f m)
+                | inl m ↦ absurd (both_ways (marked after (get_or places e.id 0)) (cover e.id f) m)
                 | inr same ↦ same d
               ];
             }
@@ -250,25 +248,17 @@ module _ {V : Type 0} (rule : Rule V) (n : Netlist) (sound : IsSound n) (order p
 module _ {V : Type 0} (rule : Rule V) (n : Netlist) (sound : IsSound n) (order places : List ℕ) (h : ArePlaces n order places)
     (old : List V) (marks after : List Bool) (trail : List (Change V)) (id : ℕ) (v : V) (marks_size : length marks ≡ length order)
     (low : get_or places id 0 < length order) (id_in : id < length (signals n)) (is : after ≡ set marks (get_or places id 0) true) where
-  less_waits : (y : ℕ) → y < length (signals n) → waiting after places y ≡ false → also (waiting marks places) id y ≡ false
-  less_waits y l f =
+  less_waits : (y : ℕ) → waiting after places y ≡ false → (marked marks (get_or places y 0) ≡ false) × (y ≢ id)
+  less_waits y f =
       let g : marked (set marks (get_or places id 0) true) (get_or places y 0) ≡ false = sym (ap (λ ms. marked ms (get_or places y 0)) is) ∙ f in
       let parts = or_parts (marked marks (get_or places y 0)) (eqb (get_or places id 0) (get_or places y 0))
       (sym (marked_set marks (get_or places id 0) (get_or places y 0) (omega arith)) ∙ g) in
-      or_from (marked marks (get_or places y 0)) (eqb y id) parts.0
-      (ne_eqb y id (λ e. eqb-false (get_or places id 0) (get_or places y 0) parts.1 (ap (λ x. get_or places x 0) (sym e))))
+      (parts.0, λ e. eqb-false (get_or places id 0) (get_or places y 0) parts.1 (ap (λ x. get_or places x 0) (sym e)))
 
   pub gate_marked : PutsSource rule n places id v old old marks after trail trail
   gate_marked = record {
     size = ap length is ∙ length-set marks (get_or places id 0) true;
-    settles = λ inputs state d driven start. record {
-      inputs_driven = zip_kept (λ x w. also (waiting marks places) id x ≡ false → at old d x ≡ rule.line (Stem x) w) (λ x w. waiting after places x ≡ false → at old d x ≡ rule.line (Stem x) w) n.inputs inputs
-          (λ x w c k f. k (less_waits x (input_below n sound.formed.numbered x c) f)) start.inputs_driven;
-      cells_driven = zip_kept (λ (e : Definition) w. also (waiting marks places) id e.id ≡ false → at old d e.id ≡ rule.line (Stem e.id) w)
-          (λ (e : Definition) w. waiting after places e.id ≡ false → at old d e.id ≡ rule.line (Stem e.id) w) (cells n) state
-          (λ e w c k f. k (less_waits e.id (definition_below n sound.formed.numbered e (contains_filter is_cell n.definitions e c).0) f)) start.cells_driven;
-      gates_done = λ e c f. start.gates_done e c (less_waits e.id (definition_below n sound.formed.numbered e (gate_defined n sound.formed.numbered e c)) f);
-    };
+    settles = λ inputs state d before after' driven cover rest start. more_wait rule n inputs state (at old d) before after' (λ y f. let w = less_waits y (cover y f) in rest y w.1 w.0 f) start;
     changes = [];
     trail_is = sym (append-nil trail);
     are_changes = none_changed old;
@@ -281,6 +271,80 @@ pub put_then_settled : {V : Type 0} (rule : Rule V) (n : Netlist) (places : List
     → (p : PutsSource rule n places id v v0 v1 marks marks' t0 t1) (r : Resettles rule n places v1 v2 marks' t1 t2)
     → (t2 ≡ t0 ++ (p.changes ++ r.changes)) × AreChanges v0 v2 (p.changes ++ r.changes)
 put_then_settled rule n places id v v0 v1 v2 marks marks' t0 t1 t2 p r = (
+  r.trail_is ∙ (ap (λ t. t ++ r.changes) p.trail_is ∙ append_assoc t0 p.changes r.changes),
+  both_changes v0 v1 v2 p.changes r.changes p.are_changes r.are_changes (λ c d l m s.
+      let one = p.behind c l in
+      let two = r.placed d m in
+      let size = p.size in
+      let same : get_or places c.signal 0 ≡ get_or places d.signal 0 = ap (λ x. get_or places x 0) s in
+      omega arith),
+)
+
+-- no signal is touched yet
+pub none_touched : {V : Type 0} (rule : Rule V) (n : Netlist) (places ids : List ℕ) (values : List V) (marks : List Bool) (trail : List (Change V))
+    → Touches rule n places ids values values marks marks trail trail 0
+none_touched rule n places ids values marks trail = record {
+  size = refl;
+  settles = λ inputs state d before after driven cover rest start.
+      more_wait rule n inputs state (at values d) before after (λ x f. rest x (λ k l. absurd (omega (arith, l))) (cover x f) f) start;
+  changes = [];
+  trail_is = sym (append-nil trail);
+  are_changes = none_changed values;
+  own = λ c m. absurd (contains_nil c m);
+  behind = λ c m. absurd (contains_nil c m);
+}
+
+-- one signal more is touched, which isn't among those before
+module _ {V : Type 0} (rule : Rule V) (n : Netlist) (places ids : List ℕ) (v0 v1 v2 : List V) (m0 m1 m2 : List Bool) (t0 t1 t2 : List (Change V)) (m i : ℕ) (w : V)
+    (h : Touches rule n places ids v0 v1 m0 m1 t0 t1 m) (p : PutsSource rule n places i (rule.line (Stem i) w) v1 v2 m1 m2 t1 t2)
+    (here : i ≡ get_or ids m 0) (read : (d : V) → w ≡ at v1 d i) (fresh : (k : ℕ) → k < m → get_or ids k 0 ≢ get_or ids m 0) where
+  apart : (c : Change V) → Contains h.changes c → c.signal ≢ i
+  apart c l e = let o = h.own c l in fresh o.0 o.1 (sym o.2 ∙ (e ∙ here))
+
+  had : (d : V) → w ≡ at v0 d i
+  had d = read d ∙ h.are_changes.others i d apart
+
+  abbrev between : (ℕ → Bool) → ℕ → Bool
+  between after x = (after x || waiting m1 places x) || eqb x i
+
+  pub one_touched : Touches rule n places ids v0 v2 m0 m2 t0 t2 (m + 1)
+  one_touched = record {
+    size = p.size ∙ h.size;
+    settles = λ inputs state d before after driven cover rest start.
+        p.settles inputs state d (between after) after
+        (subst (λ v. IsDrivenTo rule n inputs state i (rule.line (Stem i) v)) (sym (had d))
+        (subst (λ x. IsDrivenTo rule n inputs state x (rule.line (Stem x) (at v0 d x))) (sym here) (driven m (omega arith))))
+        cover
+        (λ x ne free f. or_from (after x || waiting m1 places x) (eqb x i) (or_from (after x) (waiting m1 places x) f free) (ne_eqb x i ne))
+        (h.settles inputs state d before (between after) (λ k l. driven k (omega (arith, l)))
+        (λ x f. (or_parts (after x) (waiting m1 places x) (or_parts (after x || waiting m1 places x) (eqb x i) f).0).1)
+        (λ x none free f.
+        let parts = or_parts (after x || waiting m1 places x) (eqb x i) f in
+        rest x
+        (λ k l e. elim (cases_eq k m) [
+          | inl last ↦ eqb-false x i parts.1 (e ∙ (ap (λ j. get_or ids j 0) last ∙ sym here))
+          | inr ne ↦ none k (omega (arith, l, ne)) e
+        ])
+        free (or_parts (after x) (waiting m1 places x) parts.0).0)
+        start);
+    changes = h.changes ++ p.changes;
+    trail_is = p.trail_is ∙ (ap (λ t. t ++ p.changes) h.trail_is ∙ append_assoc t0 h.changes p.changes);
+    are_changes = both_changes v0 v1 v2 h.changes p.changes h.are_changes p.are_changes (λ c d l k e. apart c l (e ∙ p.own d k));
+    own = λ c k. elim (Contains-append_cases h.changes p.changes c k) [
+      | inl was ↦ let o = h.own c was in (o.0, (let l : o.0 < m = o.1 in omega arith), o.2)
+      | inr new ↦ (m, omega arith, p.own c new ∙ here)
+    ];
+    behind = λ c k. elim (Contains-append_cases h.changes p.changes c k) [
+      | inl was ↦ h.behind c was
+      | inr new ↦ p.behind c new ∙ h.size
+    ];
+  }
+
+-- what a few touches changed, and then what settled anew
+pub touched_then_settled : {V : Type 0} (rule : Rule V) (n : Netlist) (places ids : List ℕ) (m : ℕ) (v0 v1 v2 : List V) (marks marks' : List Bool) (t0 t1 t2 : List (Change V))
+    → (p : Touches rule n places ids v0 v1 marks marks' t0 t1 m) (r : Resettles rule n places v1 v2 marks' t1 t2)
+    → (t2 ≡ t0 ++ (p.changes ++ r.changes)) × AreChanges v0 v2 (p.changes ++ r.changes)
+touched_then_settled rule n places ids m v0 v1 v2 marks marks' t0 t1 t2 p r = (
   r.trail_is ∙ (ap (λ t. t ++ r.changes) p.trail_is ∙ append_assoc t0 p.changes r.changes),
   both_changes v0 v1 v2 p.changes r.changes p.are_changes r.are_changes (λ c d l m s.
       let one = p.behind c l in

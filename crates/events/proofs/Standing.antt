@@ -1,26 +1,26 @@
 -- What a touch and then all that it reaches make of values, and a line stuck.
 use Rattle.std.proofs.Common.{◌≡◌, ℕ, ◌+◌, ◌-◌, ◌<◌, ◌≤◌, ◌⊎◌, ◌++◌, Bool, true, false, cond, List, length, get_or, take, drop, Some, None, refl, sym, ◌∙◌, ap, subst, inl, inr, eqb}
 use Rattle.std.specs.List.{All}
-use Rattle.std.proofs.lemmas.Bool.{both_ways, eqb-true, eq-eqb, or_parts, false_from_ne_true}
+use Rattle.std.proofs.lemmas.Bool.{both_ways, eqb-true, eq-eqb, ne_eqb, false_from_ne_true}
+use Rattle.std.proofs.lemmas.List.{get_or_default}
 use Rattle.std.proofs.lemmas.List.Elements.{All-append, All-take, Contains-get_or}
 use Rattle.netlist.specs.declared.lines.Line.{Line}
 use Rattle.netlist.specs.declared.lines.Line.TheVariants.{Stem, Pin, Out}
 use Rattle.netlist.specs.declared.lines.Fault.{Fault}
-use Rattle.netlist.specs.Netlist.{Definition, Netlist, cells, signals, IsGateAt, also}
+use Rattle.netlist.specs.Netlist.{Definition, Netlist, cells, signals, IsGateAt}
 use Rattle.netlist.specs.Conditions.{IsNumbered}
 use Rattle.netlist.specs.Settled.{Rule, Settles, Table, with_fault, is_line, at}
 use Rattle.netlist.proofs.Settling.{zip_kept}
 use Rattle.events.specs.declared.trails.Change.{Change}
-use Rattle.events.specs.Agendas.{marked, AreClear}
+use Rattle.events.specs.Agendas.{AreClear}
 use Rattle.events.specs.inner.Placing.{waiting}
-use Rattle.events.specs.inner.Running.{AreReady, PutsSource, Resettles}
-use Rattle.events.specs.Standing.{standing, Moves, SettlesAnew, SettlesOver}
+use Rattle.events.specs.inner.Running.{AreReady, PutsSource, Resettles, Touches}
+use Rattle.events.specs.Standing.{standing, Moves, SettlesAnew, SettlesAllAnew, SettlesOver}
 use Rattle.events.specs.Stuck.{is_at, IsSite, IsObservedOnly}
 use Rattle.events.specs.Trails.{AreChanges, undone}
 use Rattle.events.specs.Waiting.{IsDrivenTo}
-use Rattle.events.proofs.Steps.{rule_changes, none_waits, more_wait, input_no_gate, cell_no_gate}
+use Rattle.events.proofs.Steps.{rule_changes, none_waits, input_no_gate, cell_no_gate}
 use Rattle.events.proofs.Sources.{stuck_changes, observed_only}
-use Rattle.events.proofs.Running.{put_then_settled}
 use Rattle.events.proofs.Changes.{length-undone}
 
 -- the changes are of signals
@@ -36,27 +36,33 @@ within_append {V} old new trail trail' changes h is k =
     (All-append (λ (c : Change V). c.signal < length new) trail changes
     (subst (λ m. All (λ (c : Change V). c.signal < m) trail) (sym k.size) h) (changes_within old new changes k))
 
-module _ {V : Type 0} (rule : Rule V) (n : Netlist) (order places : List ℕ) (fans : List (List ℕ)) (id : ℕ) (driven : V) (v0 v1 v2 : List V) (m0 m1 m2 : List Bool) (t0 t1 t2 : List (Change V)) (capacity capacity' : ℕ)
-    (ready : AreReady n order places fans m0 v0 t0 capacity)
-    (p : PutsSource rule n places id (rule.line (Stem id) driven) v0 v1 m0 m1 t0 t1) (r : Resettles rule n places v1 v2 m1 t1 t2) where
-  pub changed : (t2 ≡ t0 ++ (p.changes ++ r.changes)) × AreChanges v0 v2 (p.changes ++ r.changes)
-  changed = put_then_settled rule n places id (rule.line (Stem id) driven) v0 v1 v2 m0 m1 t0 t1 t2 p r
-
-  pub still_ready : AreClear m2 → length m2 ≡ length m1 → capacity' ≡ capacity → AreReady n order places fans m2 v2 t2 capacity'
-  still_ready clear size room = record {
+-- what a call leaves: the tables as they were, and what it changed on the trail
+module _ {V : Type 0} (n : Netlist) (order places : List ℕ) (fans : List (List ℕ)) (v0 v2 : List V) (m0 m2 : List Bool) (t0 t2 : List (Change V)) (capacity capacity' : ℕ)
+    (ready : AreReady n order places fans m0 v0 t0 capacity) where
+  pub still_ready : (changes : List (Change V)) → (t2 ≡ t0 ++ changes) × AreChanges v0 v2 changes → AreClear m2 → length m2 ≡ length m0 → capacity' ≡ capacity
+      → AreReady n order places fans m2 v2 t2 capacity'
+  still_ready changes changed clear size room = record {
     tables = ready.tables;
-    marks_size = size ∙ (p.size ∙ ready.marks_size);
+    marks_size = size ∙ ready.marks_size;
     clear = clear;
     size = changed.1.size ∙ ready.size;
-    within = within_append v0 v2 t0 t2 (p.changes ++ r.changes) ready.within changed.0 changed.1;
+    within = within_append v0 v2 t0 t2 changes ready.within changed.0 changed.1;
     room = subst (λ k. length (signals n) + 1 ≤ k) (sym room) ready.room;
   }
 
-  pub settles_anew : SettlesAnew rule n id driven v0 v2
-  settles_anew = record {
-    each = λ inputs state d is start. r.settles inputs state d (p.settles inputs state d is
-        (more_wait rule n inputs state (at v0 d) (λ x. eqb x id) (also (waiting m0 places) id) (λ x h. (or_parts (marked m0 (get_or places x 0)) (eqb x id) h).1) start));
-  }
+pub settles_anew : {V : Type 0} (rule : Rule V) (n : Netlist) (places : List ℕ) (id : ℕ) (driven : V) (v0 v1 v2 : List V) (m0 m1 : List Bool) (t0 t1 t2 : List (Change V)) → PutsSource rule n places id (rule.line (Stem id) driven) v0 v1 m0 m1 t0 t1 → Resettles rule n places v1 v2 m1 t1 t2 → SettlesAnew rule n id driven v0 v2
+settles_anew rule n places id driven v0 v1 v2 m0 m1 t0 t1 t2 p r = record {
+  each = λ inputs state d is start. r.settles inputs state d
+      (p.settles inputs state d (λ x. eqb x id) (waiting m1 places) is (λ x f. f) (λ x ne free f. ne_eqb x id ne) start);
+}
+
+pub settles_all : {V : Type 0} (rule : Rule V) (n : Netlist) (places ids : List ℕ) (v0 v1 v2 : List V) (m0 m1 : List Bool) (t0 t1 t2 : List (Change V))
+    → Touches rule n places ids v0 v1 m0 m1 t0 t1 (length ids) → Resettles rule n places v1 v2 m1 t1 t2 → SettlesAllAnew rule n ids v0 v2
+settles_all rule n places ids v0 v1 v2 m0 m1 t0 t1 t2 p r = record {
+  each = λ inputs state d waits is free start. r.settles inputs state d
+      (p.settles inputs state d waits (waiting m1 places) (λ k l. is (get_or ids k 0) (Contains-get_or ids k 0 l)) (λ x f. f)
+      (λ x none m f. free x (λ c. none c.0 c.1 (sym c.2 ∙ get_or_default ids c.0 x 0 c.1))) start);
+}
 
 -- values that changed, as they stand
 pub moved : {V : Type 0} (n : Netlist) (old new : List V) (trail trail' changes : List (Change V)) (capacity capacity' : ℕ) → capacity' ≡ capacity → trail' ≡ trail ++ changes → AreChanges old new changes

@@ -1,6 +1,6 @@
 -- Values of a netlist's signals as they stand, with a trail of what changed.
-use Rattle.std.specs.Prelude.{ℕ, ◌≡◌, ◌==◌, ◌+◌, ◌-◌, ◌<◌, List, ◌++◌, length}
-use Rattle.std.specs.List.{All}
+use Rattle.std.specs.Prelude.{ℕ, ◌≡◌, ◌==◌, ◌+◌, ◌-◌, ◌<◌, Bool, List, ◌++◌, length, IsFalse}
+use Rattle.std.specs.List.{All, Contains}
 use Rattle.netlist.specs.declared.lines.Line.TheVariants.{Stem}
 use Rattle.netlist.specs.Netlist.{Netlist, signals}
 use Rattle.netlist.specs.Settled.{Rule, Settles, at}
@@ -36,6 +36,13 @@ pub record Moves {V : Type 0} (old new : Standing V) : Type 0 where
 pub record SettlesAnew {V : Type 0} (rule : Rule V) (n : Netlist) (id : ℕ) (driven : V) (old new : List V) : Type 0 where
   pub each : (inputs state : List V) (d : V) → IsDrivenTo rule n inputs state id (rule.line (Stem id) driven)
       → SettlesBut (λ x. x == id) rule n inputs state (at old d) → Settles rule n inputs state (at new d)
+
+-- The same of some signals at once, where each that is an input or a cell is driven with the value that it had.
+pub record SettlesAllAnew {V : Type 0} (rule : Rule V) (n : Netlist) (ids : List ℕ) (old new : List V) : Type 0 where
+  pub each : (inputs state : List V) (d : V) (waits : ℕ → Bool)
+      → ((x : ℕ) → Contains ids x → IsDrivenTo rule n inputs state x (rule.line (Stem x) (at old d x)))
+      → ((x : ℕ) → ¬ Contains ids x → IsFalse (waits x))
+      → SettlesBut waits rule n inputs state (at old d) → Settles rule n inputs state (at new d)
 
 -- what settled under one rule settles under another, whatever is driven
 pub record SettlesOver {V : Type 0} (rule rule' : Rule V) (n : Netlist) (old new : List V) : Type 0 where

@@ -1,17 +1,18 @@
 //! The values of a netlist's signals as they stand, and the calls by which they settle anew.
-ghost use Rattle.std.specs.Prelude.{◌≡◌, ◌+◌, ◌^◌, ◌<◌, ◌≤◌, [], drop, length, take, IfOk, IfSome, MatchOption, OnOk, None, Some, slice_get};
+ghost use Rattle.std.specs.Prelude.{◌≡◌, ◌≢◌, ◌+◌, ◌^◌, ◌<◌, ◌≤◌, [], drop, length, slice_set, take, IfOk, IfSome, MatchOption, OnOk, None, Some, slice_get};
+ghost use Rattle.std.specs.List.{All, AllPairs};
 ghost use Rattle.netlist.specs.Lines.{IsLineOf};
 ghost use Rattle.netlist.specs.Netlist.{cells, signals};
 ghost use Rattle.netlist.specs.Settled.{Table, with_fault};
 ghost use Rattle.events.specs.Rooms.{CanServe, IsRoomOf, standing_in};
-ghost use Rattle.events.specs.Standing.{IsStanding, Moves, SettlesAnew, SettlesFor, SettlesOver};
+ghost use Rattle.events.specs.Standing.{IsStanding, Moves, SettlesAnew, SettlesAllAnew, SettlesFor, SettlesOver};
 ghost use Rattle.events.specs.Stuck.{IsObservedOnly, IsSite};
 ghost use Rattle.events.specs.Trails.{undone};
 
 use crate::agendas::Agenda;
 use crate::comparing::Comparing;
 use crate::driving::drive_onto;
-use crate::resettling::{resettle, touch};
+use crate::resettling::{resettle, touch, touch_each};
 use crate::rooms::EventRoom;
 use crate::tables::Tables;
 use crate::trails::{Change, undo};
@@ -186,6 +187,47 @@ impl<'a, V: Copy + Drop> Events<'a, V> {
             &mut self.trail,
             &mut self.values,
         );
+    }
+
+    /// The rule changed at each of these signals: what that reaches is evaluated, once for all of them. What is driven onto inputs and cells is
+    /// the value that they have.
+    pub fn change_each<L: Comparing<Value = V>>(&mut self, rule: &L, ids: &[SignalId])
+        requires within { All (λ x. x < length (signals self.old.netlist)) ids.now }
+        requires distinct { AllPairs (λ x y. x ≢ y) ids.now }
+        requires room { length self.old.trail + length ids.now ≤ self.old.room + 1 }
+        ensures moves { Moves self.old self.new }
+        ensures settles { SettlesAllAnew (L.rule rule.now) self.old.netlist ids.now self.old.values self.new.values }
+    {
+        let netlist = self.core.netlist();
+        netlist.sound();
+        touch_each(
+            rule,
+            netlist,
+            &self.tables,
+            ids,
+            &mut self.agenda,
+            &mut self.watches,
+            &mut self.trail,
+            &mut self.values,
+        );
+        resettle(
+            rule,
+            netlist,
+            &self.tables,
+            &mut self.agenda,
+            &mut self.watches,
+            &mut self.trail,
+            &mut self.values,
+        );
+    }
+
+    /// A signal takes a value, and nothing is evaluated.
+    #[inline(always)]
+    pub fn put(&mut self, id: SignalId, value: V)
+        requires { id < length (signals self.old.netlist) }
+        ensures { self.new ≡ record self.old { values = slice_set self.old.values id value } }
+    {
+        self.values[id.index()] = value;
     }
 
     /// The signal whose equation a line enters; none for an output and for a cell's pin, which only an observed point reads.

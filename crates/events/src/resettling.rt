@@ -1,6 +1,6 @@
 //! The one evaluator by events, for any rule by which values settle.
-ghost use Rattle.std.specs.Prelude.{◌≡◌, ◌+◌, ◌<◌, ◌≤◌, ◌∷◌, [], length, slice_index, slice_index_or, slice_set, vec_capacity, IsTrue};
-ghost use Rattle.std.specs.List.{All, Contains};
+ghost use Rattle.std.specs.Prelude.{◌≡◌, ◌≢◌, ◌+◌, ◌<◌, ◌≤◌, ◌∷◌, [], length, slice_index, slice_index_or, slice_set, vec_capacity, IsTrue};
+ghost use Rattle.std.specs.List.{All, AllPairs, Contains};
 ghost use Rattle.netlist.specs.Gates.{most_pins};
 ghost use Rattle.netlist.specs.Netlist.{signals, IsGateAt};
 ghost use Rattle.netlist.specs.Conditions.{IsSound};
@@ -10,7 +10,7 @@ ghost use Rattle.netlist.specs.Settled.{at};
 ghost use Rattle.events.specs.Agendas.{AreClear};
 ghost use Rattle.events.specs.Waiting.{given};
 ghost use Rattle.events.specs.inner.Placing.{AreTables, Marks};
-ghost use Rattle.events.specs.inner.Running.{CallsTurned, IsMade, MakesSame, Takes, Resettles, PutsSource};
+ghost use Rattle.events.specs.inner.Running.{CallsTurned, IsMade, MakesSame, Takes, Resettles, PutsSource, Touches};
 
 use crate::agendas::Agenda;
 use crate::comparing::Comparing;
@@ -246,6 +246,36 @@ pub(crate) fn touch<L: Comparing>(
     take_value(
         rule, netlist, tables, id, value, agenda, watches, trail, values,
     );
+}
+
+/// The same of each of these signals, where what is driven onto inputs and cells is the value that they have.
+pub(crate) fn touch_each<L: Comparing>(
+    rule: &L,
+    netlist: &Netlist,
+    tables: &Tables,
+    ids: &[SignalId],
+    agenda: &mut Agenda,
+    watches: &mut Watches,
+    trail: &mut Vec<Change<L::Value>>,
+    values: &mut Vec<L::Value>,
+)
+    requires tables { AreTables netlist.now tables.now.order.items tables.now.places.items tables.now.fans }
+    requires within { All (λ x. x < length (signals netlist.now)) ids.now }
+    requires distinct { AllPairs (λ x y. x ≢ y) ids.now }
+    requires size { length values.old.items ≡ length (signals netlist.now) }
+    requires marks { length agenda.old ≡ length tables.now.order.items }
+    requires room { length trail.old.items + length ids.now ≤ vec_capacity trail.old }
+    ensures touches { Touches (L.rule rule.now) netlist.now tables.now.places.items ids.now values.old.items values.new.items agenda.old agenda.new trail.old.items trail.new.items (length ids.now) }
+    ensures room { vec_capacity trail.new ≡ vec_capacity trail.old }
+    ensures pushed { length trail.new.items ≤ length trail.old.items + length ids.now }
+{
+    for k in 0..ids.len() {
+        let id = ids[k];
+        let driven = values[id.index()];
+        touch(
+            rule, netlist, tables, id, driven, agenda, watches, trail, values,
+        );
+    }
 }
 
 /// Settles values anew that settle but at the marked places: the least place is taken and its gate evaluated, until none is marked.

@@ -9,3 +9,5 @@ pub mod PathWords
 pub mod TurnedOver
 pub mod TurnedBits
 pub mod ControlWords
+pub mod SideGates
+pub mod SideTurned

@@ -4,3 +4,4 @@ pub mod Sensitized
 pub mod Laws
 pub mod Paths
 pub mod inner
+pub mod Side

@@ -1,10 +1,14 @@
-//! One signal's word turned over, and what that reaches.
-ghost use Rattle.std.specs.Prelude.{◌≡◌, ◌<◌, ◌≤◌, length, None};
+//! One signal's word turned over, and what that reaches; and the words of four signals, each in a lane of its own.
+ghost use Rattle.std.specs.Prelude.{ℕ, ◌≡◌, ◌≢◌, ◌<◌, ◌≤◌, ◌+◌, List, length, map, None};
+ghost use Rattle.std.specs.List.{All, AllPairs};
 ghost use Rattle.netlist.specs.Netlist.{signals};
 ghost use Rattle.events.specs.Standing.{Moves, SettlesOver};
 ghost use Rattle.regions.specs.Turned.{turned_words};
+ghost use Rattle.regions.specs.Side.{SettlesInLanes, spread, turned_signals};
 ghost use Rattle.events.specs.Words.{words};
 
+use crate::fours::Four;
+use crate::side::TurnedFour;
 use crate::turned::TurnedWords;
 use events::Events;
 use netlist::SignalId;
@@ -18,4 +22,21 @@ pub fn turn(events: &mut Events<'_, u64>, signal: SignalId, mask: u64)
 {
     let driven = events.values()[signal.index()];
     events.change(&TurnedWords { signal, mask }, signal, driven);
+}
+
+/// In each lane the word of a signal of its own is turned over, and what the four reach settles anew, once.
+pub fn turn_four(events: &mut Events<'_, Four>, turned: &TurnedFour)
+    requires within { All (λ x. x < length (signals events.old.netlist)) (turned_signals turned.now) }
+    requires distinct { AllPairs (λ x y. x ≢ y) (turned_signals turned.now) }
+    requires room { length events.old.trail + 3 ≤ events.old.room }
+    ensures moves { Moves events.old events.new }
+    ensures settles { (values : List ℕ) → events.old.values ≡ map spread values → SettlesInLanes turned.now events.old.netlist values events.new.values }
+{
+    let signals = [
+        turned.a.signal,
+        turned.b.signal,
+        turned.c.signal,
+        turned.d.signal,
+    ];
+    events.change_each(turned, &signals);
 }

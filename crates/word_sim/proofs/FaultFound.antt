@@ -22,7 +22,7 @@ use Rattle.word_sim.specs.inner.Packed.{AreGoodFor, IsMarked}
 use Rattle.observed_points.specs.Points.{points, watched, point_of, ArePoints, IsReadAt}
 use Rattle.observed_points.proofs.ObservedPoints.{signal_in, signal_within, watched_count, watched_in}
 use Rattle.observed_points.proofs.PointTables.{points_few}
-use Rattle.word_sim.proofs.StuckPoints.{sole_differences, stuck_differences}
+use Rattle.word_sim.proofs.StuckPoints.{held, sole_differences, stuck_differences}
 use Rattle.word_sim.proofs.WordDetection.{differs, last_marked}
 
 -- what is found is small
@@ -50,7 +50,7 @@ module _ (n : Netlist) (sound : IsSound n) (f : Fault) (values : List ℕ) (used
       (values_are : shown_values ≡ new) (trail_is : trail ≡ changes) (first_is : first' ≡ first) (count_is : count ≡ length seen) (found : Option (ℕ × ℕ)) (shown : AreShown first' count shown_values used trail found) where
     stuck_is : AreDifferences (length (points n)) (differs n sound f (at values 0) (at new 0)) used found
     stuck_is =
-        stuck_differences n sound f values new changes changed size seen first are.seen_is are.first_is enters used found
+        stuck_differences n sound f values new changes (held values new changes changed) size seen first are.seen_is are.first_is enters used found
         (subst (λ vs. AreShown first (length seen) vs used changes found) values_are
         (subst (λ cs. AreShown first (length seen) shown_values used cs found) trail_is
         (subst (λ k. AreShown first k shown_values used trail found) count_is

@@ -13,3 +13,4 @@ pub mod TurnedPoints
 pub mod ToldFaults
 pub mod Untold
 pub mod Leaving
+pub mod Spreading

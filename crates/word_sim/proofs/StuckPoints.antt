@@ -10,6 +10,7 @@ use Rattle.netlist.proofs.Lists.{contains_cases, contains_head, contains_nil, co
 use Rattle.events.specs.declared.trails.Change.{Change}
 use Rattle.events.specs.Stuck.{IsObservedOnly}
 use Rattle.events.specs.Trails.{AreChanges}
+use Rattle.word_sim.specs.inner.Groups.{HoldChanges}
 use Rattle.events.specs.Words.{bit_of, ones}
 use Rattle.events.proofs.WordBits.{bit_of_xor}
 use Rattle.word_sim.specs.inner.Differences.{shows, AreDifferences, AreShown, IsSole}
@@ -50,6 +51,10 @@ any_from p (y ∷ ys) h = elim (or_cases (p y) (list_any p ys) h) [
   | inr later ↦ let w = any_from p ys later in (w.0, contains_tail y w.0 ys w.1, w.2)
 ]
 
+-- what a trail lists
+pub held : (old new : List ℕ) (changes : List (Change ℕ)) → AreChanges old new changes → HoldChanges old new changes
+held old new changes h = record { before = h.before; others = h.others }
+
 module _ (n : Netlist) (sound : IsSound n) where
   module _ (f : Fault) (good faulty : List ℕ) where
     -- at a point whose line isn't stuck
@@ -59,7 +64,7 @@ module _ (n : Netlist) (sound : IsSound n) where
         ap (λ b. differ (bit_of j (at good 0 (signal_in n sound c))) (bit_of j (cond b (cond f.value ones 0) (at faulty 0 (signal_in n sound c))))) e
         ∙ sym (bit_of_xor (at good 0 (signal_in n sound c)) (at faulty 0 (signal_in n sound c)) j)
 
-    module _ (changes : List (Change ℕ)) (are : AreChanges good faulty changes) (size : length good ≡ length (signals n)) (seen first : List ℕ) (seen_is : seen ≡ watched n)
+    module _ (changes : List (Change ℕ)) (are : HoldChanges good faulty changes) (size : length good ≡ length (signals n)) (seen first : List ℕ) (seen_is : seen ≡ watched n)
         (first_is : AreFirst seen (length (signals n)) 0 first) (enters : ¬ IsObservedOnly n f.line) where
       count : length seen ≡ length (points n)
       count = ap length seen_is ∙ watched_count n sound

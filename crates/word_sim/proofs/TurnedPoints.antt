@@ -13,7 +13,6 @@ use Rattle.netlist.proofs.SomeSettled.{some_settled}
 use Rattle.cubes.specs.Cubes.{Pattern}
 use Rattle.events.specs.declared.trails.Change.{Change}
 use Rattle.events.specs.Standing.{SettlesOver}
-use Rattle.events.specs.Trails.{AreChanges}
 use Rattle.regions.specs.Turned.{turned_bits, turned_words}
 use Rattle.events.specs.Words.{bit_of, ones, words}
 use Rattle.regions.proofs.TurnedBits.{turned_as_bits}
@@ -23,8 +22,9 @@ use Rattle.regions.specs.Sensitized.{reaches}
 use Rattle.regions.proofs.Changing.{zip_length}
 use Rattle.regions.proofs.GateBits.{bit_none, bit_not_word}
 use Rattle.regions.proofs.Faults.{observed_by_head, left_alone}
-use Rattle.word_sim.specs.inner.Differences.{AreDifferences, AreShown, seen_of}
-use Rattle.word_sim.specs.inner.Groups.{IsFound, CanTell}
+use Rattle.word_sim.specs.declared.shown.Shown.{Shown}
+use Rattle.word_sim.specs.inner.Differences.{AreDifferences, AreShown, AreLastSeen}
+use Rattle.word_sim.specs.inner.Groups.{IsFound, CanTell, HoldChanges}
 use Rattle.word_sim.specs.inner.Packed.{AreGoodFor, IsUsed}
 use Rattle.observed_points.specs.Points.{points, point_of, ArePoints}
 use Rattle.word_sim.proofs.FaultFound.{small_found}
@@ -74,7 +74,7 @@ module _ (n : Netlist) (sound : IsSound n) (f : Fault) (line : IsLineOf n f.line
     (used : ℕ) (is_used : IsUsed (length patterns) used) (h mask word : ℕ) (reach : IsReach n values f h word)
     (within : (j : ℕ) → j < 64 → bit_of j used ≡ true → bit_of j word ≡ true → bit_of j mask ≡ true)
     (seen first numbers : List ℕ) (are : ArePoints n seen first numbers) (size : length values ≡ length (signals n)) (new : List ℕ) (changes : List (Change ℕ))
-    (changed : AreChanges values new changes) (over : SettlesOver (words None) (turned_words h mask) n values new) where
+    (held : HoldChanges values new changes) (over : SettlesOver (words None) (turned_words h mask) n values new) where
   settled : Settles (words None) n good.inputs good.state (at values 0)
   settled = good.settles 0
 
@@ -132,7 +132,7 @@ module _ (n : Netlist) (sound : IsSound n) (f : Fault) (line : IsLineOf n f.line
         | inl w ↦ reached j low u w c l ∙ ap (λ b. b && differs n sound (stem h) (at values 0) (at new 0) c j) (sym w)
         | inr w ↦ unreached j low w c l ∙ sym (and_none (bit_of j word) (differs n sound (stem h) (at values 0) (at new 0) c j) w)
       ])
-      (stuck_differences n sound (stem h) values new changes changed size seen first are.seen_is are.first_is (λ o. o) (bit_and used word) found shown)
+      (stuck_differences n sound (stem h) values new changes held size seen first are.seen_is are.first_is (λ o. o) (bit_and used word) found shown)
 
   -- what the changes of the head show under the patterns with which the fault reaches it, is where the fault is last detected
   pub shown_found : (found : Option (ℕ × ℕ)) → AreShown first (length seen) new (bit_and used word) changes found → IsFound n patterns f found
@@ -157,17 +157,14 @@ mask_within used word mask e j low u w = elim (cases_Bool (bit_of j mask)) [
 ]
 
 module _ (n : Netlist) (sound : IsSound n) (f : Fault) (line : IsLineOf n f.line) (patterns : List Pattern) (used : ℕ) (is_used : IsUsed (length patterns) used)
-    (seen first numbers : List ℕ) (are : ArePoints n seen first numbers) (h mask : ℕ) (new : List ℕ) (trail : List (Change ℕ)) (reach : Option (ℕ × ℕ))
-    (can : CanTell n patterns f h mask new trail reach) where
+    (seen first numbers : List ℕ) (are : ArePoints n seen first numbers) (h mask : ℕ) (shown : List Shown) (reach : Option (ℕ × ℕ))
+    (can : CanTell n patterns f h mask first (length seen) shown reach) where
   pub told_one : (end' word : ℕ) → reach ≡ Some (end', word) → end' ≡ h → bit_and (bit_and used word) (bit_xor mask ones) ≡ 0
-      → (first' : List ℕ) (count : ℕ) (values' : List ℕ) (trail' : List (Change ℕ)) → first' ≡ first → count ≡ length seen → values' ≡ new → trail' ≡ seen_of first (length seen) trail
-      → (found : Option (ℕ × ℕ)) → AreShown first' count values' (bit_and used word) trail' found → IsFound n patterns f found
-  told_one end' word is same none first' count values' trail' first_is count_is values_are trail_is found shown =
+      → (count : ℕ) → count ≡ length seen → (found : Option (ℕ × ℕ)) → AreLastSeen count (bit_and used word) shown found → IsFound n patterns f found
+  told_one end' word is same none count count_is found last =
       let reached : IsReach n can.values f end' word = subst (λ r. IfSome r (λ (w : ℕ × ℕ). IsReach n can.values f w.0 w.1)) is can.reaches in
       shown_found n sound f line patterns can.values can.good used is_used h mask word (subst (λ k. IsReach n can.values f k word) same reached) (mask_within used word mask none)
-      seen first numbers are can.size new trail can.changed can.over found
-      (seen_shown first (length seen) new trail (bit_and used word) found
-      (subst (λ vs. AreShown first (length seen) vs (bit_and used word) (seen_of first (length seen) trail) found) values_are
-      (subst (λ cs. AreShown first (length seen) values' (bit_and used word) cs found) trail_is
-      (subst (λ k. AreShown first k values' (bit_and used word) trail' found) count_is
-      (subst (λ fs. AreShown fs count values' (bit_and used word) trail' found) first_is shown)))))
+      seen first numbers are can.size can.new can.trail can.held can.over found
+      (seen_shown first (length seen) can.new can.trail (bit_and used word) found
+      (subst (λ cs. AreLastSeen (length seen) (bit_and used word) cs found) can.shown_is
+      (subst (λ k. AreLastSeen k (bit_and used word) shown found) count_is last)))

@@ -1,11 +1,11 @@
 //! The last of up to 64 patterns that detects a fault, and the first point at which it does.
-ghost use Rattle.std.specs.Prelude.{◌≡◌, ◌⊎◌, ◌<◌, ◌≤◌, ◌^◌, ◌==◌, ◌&&◌, [], ℕ, IsTrue, length, List, Option, slice_index, IfSome, OnOk, if◌then◌else◌};
+ghost use Rattle.std.specs.Prelude.{◌≡◌, ◌⊎◌, ◌<◌, ◌≤◌, ◌^◌, ◌==◌, ◌&&◌, [], ℕ, IsTrue, length, List, Option, slice_index, IfSome, if◌then◌else◌};
 ghost use Rattle.std.specs.List.{All, list_any};
 ghost use Rattle.netlist.specs.Lines.{IsLineOf};
 ghost use Rattle.netlist.specs.Netlist.{Netlist as Equations, signals};
 ghost use Rattle.events.specs.declared.trails.Change.{Change as ChangeOf};
 ghost use Rattle.events.specs.Words.{bit_of, ones};
-ghost use Rattle.word_sim.specs.inner.Differences.{seen_of, shows, AreShown, IsFirstShown, IsSole};
+ghost use Rattle.word_sim.specs.inner.Differences.{shows, AreShown, IsFirstShown, IsSole};
 ghost use Rattle.cubes.specs.Cubes.{Pattern as Bits};
 ghost use Rattle.word_sim.specs.Hits.{LastDetected, LastMarked};
 ghost use Rattle.word_sim.specs.inner.Packed.{AreGoodFor, IsMarked, IsUsed};
@@ -16,7 +16,6 @@ use cubes::Pattern;
 use events::{Change, Events, Words};
 use netlist::Fault;
 use observed_points::Points;
-use std::alloc::AllocError;
 
 /// The patterns that tell a change apart at a point.
 #[inline(always)]
@@ -33,27 +32,8 @@ fn shown(change: &Change<u64>, values: &[u64], first: &[u32], count: usize) -> u
     }
 }
 
-/// The changes of signals that are read at points, in place of what was listed.
-pub(crate) fn list_seen(
-    trail: &[Change<u64>],
-    first: &[u32],
-    count: usize,
-    seen: &mut Vec<Change<u64>>,
-) -> Result<(), AllocError>
-    requires { All (λ (c : ChangeOf ℕ). c.signal < length first.now) trail.now }
-    ensures { OnOk result (seen.new.items ≡ seen_of first.now count trail.now) }
-{
-    seen.clear();
-    for change in trail {
-        if (first[change.signal.index()] as usize) < count {
-            seen.push(*change)?;
-        }
-    }
-    Ok(())
-}
-
 /// The patterns that tell some change apart at a point.
-pub(crate) fn all_shown(trail: &[Change<u64>], values: &[u64], first: &[u32], count: usize) -> u64
+fn all_shown(trail: &[Change<u64>], values: &[u64], first: &[u32], count: usize) -> u64
     requires within { All (λ (c : ChangeOf ℕ). c.signal < length values.now) trail.now }
     requires size { length first.now ≡ length values.now }
     ensures { (j : ℕ) → j < 64 → bit_of j result ≡ list_any (shows first.now count values.now j) trail.now }
@@ -96,28 +76,6 @@ fn first_shown(trail: &[Change<u64>], values: &[u64], first: &[u32], count: usiz
     least
 }
 
-/// The last of these patterns under which some change shows, and the first point at which one does.
-pub(crate) fn last_among(
-    trail: &[Change<u64>],
-    values: &[u64],
-    first: &[u32],
-    count: usize,
-    all: u64,
-    used: u64,
-) -> Option<(u32, usize)>
-    requires within { All (λ (c : ChangeOf ℕ). c.signal < length values.now) trail.now }
-    requires size { length first.now ≡ length values.now }
-    requires all { (j : ℕ) → j < 64 → bit_of j all ≡ list_any (shows first.now count values.now j) trail.now }
-    ensures { AreShown first.now count values.now used trail.now result }
-{
-    let shown = all & used;
-    if shown == 0 {
-        return None;
-    }
-    let last = 63 - shown.leading_zeros();
-    Some((last, first_shown(trail, values, first, count, last)))
-}
-
 /// The last pattern under which some change shows, and the first point at which one does.
 fn last_shown(
     trail: &[Change<u64>],
@@ -130,8 +88,12 @@ fn last_shown(
     requires size { length first.now ≡ length values.now }
     ensures { AreShown first.now count values.now used trail.now result }
 {
-    let all = all_shown(trail, values, first, count);
-    last_among(trail, values, first, count, all, used)
+    let shown = all_shown(trail, values, first, count) & used;
+    if shown == 0 {
+        return None;
+    }
+    let last = 63 - shown.leading_zeros();
+    Some((last, first_shown(trail, values, first, count, last)))
 }
 
 /// The last pattern under which a word differs, at a point.

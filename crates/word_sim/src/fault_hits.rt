@@ -1,5 +1,5 @@
 //! What up to 64 patterns detect of given faults.
-ghost use Rattle.std.specs.Prelude.{◌≡◌, ◌++◌, ◌≤◌, ◌<◌, ◌^◌, [], ℕ, List, Some, None, replicate, length, IfOk, IfSome, OnOk};
+ghost use Rattle.std.specs.Prelude.{◌≡◌, ◌++◌, ◌≤◌, ◌<◌, ◌^◌, [], ℕ, List, Some, length, IfOk, IfSome, OnOk};
 ghost use Rattle.std.specs.List.{All, slice_get};
 ghost use Rattle.netlist.specs.Lines.{IsLineOf};
 ghost use Rattle.netlist.specs.Netlist.{Netlist as Equations, signals};
@@ -7,18 +7,22 @@ ghost use Rattle.netlist.specs.declared.lines.Fault.{Fault as FaultOf};
 ghost use Rattle.word_sim.specs.Hits.{AreHits};
 ghost use Rattle.word_sim.specs.Words.{HasWidthsOf};
 ghost use Rattle.word_sim.specs.inner.Found.{hit_of};
-ghost use Rattle.word_sim.specs.inner.Groups.{AreReaches, AreTold, HasRoom, IsFound};
+ghost use Rattle.word_sim.specs.inner.Groups.{AreReaches, AreTold, HasRoom, IsBeside, IsFound};
 ghost use Rattle.word_sim.specs.inner.Packed.{AreGoodFor, AreSettledWords, IsUsed};
 ghost use Rattle.observed_points.specs.Points.{ArePoints, point_of};
 
 use crate::batches::Hit;
+use crate::common::Common;
 use crate::detecting::last_of;
 use crate::groups::{Groups, Reach, Told, tell_from};
 use crate::packing::{Part, packed, used_bits};
+use crate::shown::Shown;
+use crate::side::tell_ahead;
 use cubes::Pattern;
-use events::{Change, Events, Words};
+use events::{Events, Words};
 use netlist::{Core, Fault, Netlist, NoMemory};
 use observed_points::{Points, point_at};
+use regions::Four;
 use std::alloc::{AllocError, Global};
 
 /// The words of patterns, settled without a fault.
@@ -93,7 +97,8 @@ fn found_of(
     links: &[u32],
     faults: &[(u32, Fault)],
     k: usize,
-    seen: &mut Vec<Change<u64>>,
+    common: &mut Common,
+    shown: &mut Vec<Shown>,
     told: &mut Vec<Told>,
 ) -> Option<(u32, usize)>
     requires points { ArePoints events.old.netlist points.now.seen.items points.now.first.items points.now.numbers.items }
@@ -111,7 +116,7 @@ fn found_of(
 {
     if told[k].is_none() {
         tell_from(
-            events, points, patterns, used, reaches, links, faults, k, seen, told,
+            events, points, patterns, used, reaches, links, faults, k, common, false, shown, told,
         );
     }
     match told[k] {
@@ -127,26 +132,28 @@ fn hits_of_groups(
     points: &Points,
     reaches: &[Reach],
     links: &[u32],
-    seen: &mut Vec<Change<u64>>,
+    common: &mut Common,
+    shown: &mut Vec<Shown>,
     told: &mut Vec<Told>,
     patterns: &[Pattern],
+    used: u64,
     faults: &[(u32, Fault)],
 ) -> Result<Vec<Hit>, AllocError>
     requires points { ArePoints events.old.netlist points.now.seen.items points.now.first.items points.now.numbers.items }
     requires good { AreGoodFor events.old.netlist patterns.now events.old.values }
+    requires used { IsUsed (length patterns.now) used }
     requires lines { All (λ (g : ℕ × FaultOf). IsLineOf events.old.netlist g.1.line) faults.now }
     requires reaches { AreReaches events.old.netlist events.old.values faults.now reaches.now }
     requires size { length events.old.values ≡ length (signals events.old.netlist) }
     requires trail { events.old.trail ≡ [] }
-    requires told { told.old.items ≡ replicate (length faults.now) None }
+    requires told { AreTold events.old.netlist patterns.now faults.now told.old.items }
     ensures hits { IfOk result (λ v. AreHits events.old.netlist patterns.now faults.now v.items) }
     ensures same { events.new ≡ events.old }
 {
-    let used = used_bits(patterns.len());
     let mut hits = Vec::with_capacity(alloc, faults.len())?;
     for k in 0..faults.len() {
         let found = found_of(
-            events, points, patterns, used, reaches, links, faults, k, seen, told,
+            events, points, patterns, used, reaches, links, faults, k, common, shown, told,
         );
         push_hit(events.core().netlist(), faults[k].0, found, &mut hits)?;
     }
@@ -154,9 +161,10 @@ fn hits_of_groups(
 }
 
 /// The hits of faults, one after another. The words are then those before.
-pub(crate) fn find_hits(
+pub(crate) fn find_hits<'a>(
     alloc: Global,
-    events: &mut Events<'_, u64>,
+    events: &mut Events<'a, u64>,
+    wide: &mut Option<Events<'a, Four>>,
     points: &Points,
     groups: &mut Groups,
     patterns: &[Pattern],
@@ -167,20 +175,41 @@ pub(crate) fn find_hits(
     requires lines { All (λ (g : ℕ × FaultOf). IsLineOf events.old.netlist g.1.line) faults.now }
     requires trail { events.old.trail ≡ [] }
     requires room { HasRoom events.old.netlist groups.old.paths.heads.items groups.old.paths.opens.items }
+    requires wide { IfSome wide.old (IsBeside events.old.netlist) }
     ensures hits { IfOk result (λ v. AreHits events.old.netlist patterns.now faults.now v.items) }
     ensures same { events.new ≡ events.old }
     ensures room { HasRoom events.old.netlist groups.new.paths.heads.items groups.new.paths.opens.items }
+    ensures wide { IfSome wide.new (IsBeside events.old.netlist) }
 {
+    let used = used_bits(patterns.len());
     groups.gather(events.core(), events.values(), faults)?;
+    tell_ahead(
+        alloc,
+        events,
+        wide,
+        points,
+        patterns,
+        used,
+        &groups.heads,
+        &groups.latest,
+        &groups.reaches,
+        &groups.links,
+        faults,
+        &mut groups.common,
+        &mut groups.shown,
+        &mut groups.told,
+    )?;
     hits_of_groups(
         alloc,
         events,
         points,
         &groups.reaches,
         &groups.links,
-        &mut groups.seen,
+        &mut groups.common,
+        &mut groups.shown,
         &mut groups.told,
         patterns,
+        used,
         faults,
     )
 }
@@ -199,7 +228,16 @@ fn hits_of_batch(
     let points = Points::of(alloc, core)?;
     let mut groups = Groups::new(alloc, core.netlist())?;
     let mut events = good_events(alloc, core, patterns)?;
-    find_hits(alloc, &mut events, &points, &mut groups, patterns, faults)
+    let mut wide = None;
+    find_hits(
+        alloc,
+        &mut events,
+        &mut wide,
+        &points,
+        &mut groups,
+        patterns,
+        faults,
+    )
 }
 
 /// For each given fault that some pattern detects, in the order given, the last such pattern and its first point.

@@ -7,13 +7,14 @@ ghost use Rattle.netlist.specs.declared.lines.Fault.{Fault as FaultOf};
 ghost use Rattle.events.specs.Words.{bit_of};
 ghost use Rattle.regions.specs.Paths.{AreOpen};
 ghost use Rattle.observed_points.specs.Points.{ArePoints};
-ghost use Rattle.word_sim.specs.inner.Differences.{seen_of, shows};
-ghost use Rattle.word_sim.specs.inner.Groups.{AreReaches, AreTold, CanTell, CanTellAll, HasRoom, IsToldOf};
+ghost use Rattle.word_sim.specs.inner.Differences.{shows_under};
+ghost use Rattle.word_sim.specs.inner.Groups.{AreReaches, AreTold, CanTell, CanTellAll, HasRoom, IsToldOf, ShowAll};
 ghost use Rattle.word_sim.specs.inner.Packed.{AreGoodFor, IsUsed};
 
-use crate::detecting::{all_shown, last_among, list_seen};
+use crate::common::Common;
+use crate::shown::{Shown, all_under, last_among, list_shown};
 use cubes::Pattern;
-use events::{Change, Events};
+use events::Events;
 use netlist::{Core, Fault, Netlist, SignalId};
 use observed_points::Points;
 use regions::{Paths, turn};
@@ -36,9 +37,12 @@ pub(crate) struct Groups {
     /// Of each fault of the batch.
     pub told: Vec<Told>,
     /// The changes from a head that points read.
-    pub seen: Vec<Change<u64>>,
+    pub shown: Vec<Shown>,
     /// For each signal the first fault that may reach it as a head, of those that are linked.
     pub latest: Vec<u32>,
+    /// The signals that are heads of faults, each once.
+    pub heads: Vec<SignalId>,
+    pub common: Common,
 }
 
 fn reach_all(
@@ -73,17 +77,27 @@ fn begin(count: usize, links: &mut Vec<u32>, told: &mut Vec<Told>) -> Result<(),
     Ok(())
 }
 
-/// Links the faults with the same head, in their order.
-fn link(reaches: &[Reach], links: &mut Vec<u32>, latest: &mut Vec<u32>) {
+/// Links the faults with the same head, in their order, and lists the heads.
+fn link(
+    reaches: &[Reach],
+    links: &mut Vec<u32>,
+    latest: &mut Vec<u32>,
+    heads: &mut Vec<SignalId>,
+) -> Result<(), AllocError> {
     latest.fill(0);
+    heads.clear();
     for k in (0..reaches.len()).rev() {
         if let Some((head, _)) = reaches[k] {
             if head.index() < latest.len() && k < links.len() && k < 4294967296 {
+                if latest[head.index()] == 0 {
+                    heads.push(head)?;
+                }
                 links[k] = latest[head.index()];
                 latest[head.index()] = k as u32;
             }
         }
     }
+    Ok(())
 }
 
 impl Groups {
@@ -98,7 +112,9 @@ impl Groups {
             reaches: Vec::new(alloc),
             links: Vec::new(alloc),
             told: Vec::new(alloc),
-            seen: Vec::new(alloc),
+            shown: Vec::new(alloc),
+            heads: Vec::with_capacity(alloc, latest.len())?,
+            common: Common::new(alloc, latest.len())?,
             latest,
         })
     }
@@ -121,13 +137,17 @@ impl Groups {
         let netlist = core.netlist();
         reach_all(netlist, &self.paths, values, faults, &mut self.reaches)?;
         begin(faults.len(), &mut self.links, &mut self.told)?;
-        link(&self.reaches, &mut self.links, &mut self.latest);
-        Ok(())
+        link(
+            &self.reaches,
+            &mut self.links,
+            &mut self.latest,
+            &mut self.heads,
+        )
     }
 }
 
 /// The patterns under which some fault reaches the head, from one fault on.
-fn mask_from(reaches: &[Reach], links: &[u32], start: usize) -> u64 {
+pub(crate) fn mask_from(reaches: &[Reach], links: &[u32], start: usize) -> u64 {
     let mut mask = 0;
     let mut k = start;
     for _step in 0..reaches.len() {
@@ -154,7 +174,7 @@ fn tell_one(
     used: u64,
     head: SignalId,
     mask: u64,
-    seen: &[Change<u64>],
+    shown: &[Shown],
     all: u64,
     fault: &Fault,
     reach: &Reach,
@@ -162,9 +182,8 @@ fn tell_one(
     requires points { ArePoints events.now.netlist points.now.seen.items points.now.first.items points.now.numbers.items }
     requires used { IsUsed (length patterns.now) used }
     requires line { IsLineOf events.now.netlist fault.now.line }
-    requires turned { CanTell events.now.netlist patterns.now fault.now head mask events.now.values events.now.trail reach.now }
-    requires seen { seen.now ≡ seen_of points.now.first.items (length points.now.seen.items) events.now.trail }
-    requires all { (j : ℕ) → j < 64 → bit_of j all ≡ list_any (shows points.now.first.items (length points.now.seen.items) events.now.values j) seen.now }
+    requires turned { CanTell events.now.netlist patterns.now fault.now head mask points.now.first.items (length points.now.seen.items) shown.now reach.now }
+    requires all { (j : ℕ) → j < 64 → bit_of j all ≡ list_any (shows_under j) shown.now }
     ensures { IsToldOf events.now.netlist patterns.now fault.now result }
 {
     let _ = patterns;
@@ -177,19 +196,11 @@ fn tell_one(
     if end.index() != head.index() || under & (mask ^ u64::MAX) != 0 {
         return None;
     }
-    let found = last_among(
-        seen,
-        events.values(),
-        &points.first,
-        points.seen.len(),
-        all,
-        under,
-    );
-    Some(found)
+    Some(last_among(shown, all, under, points.seen.len()))
 }
 
-/// Goes over the faults with the same head, from one fault on. Where there is no memory for a list, nothing is told.
-fn tell_chain(
+/// Goes over the faults with the same head, from one fault on.
+pub(crate) fn tell_chain(
     events: &Events<'_, u64>,
     points: &Points,
     patterns: &[Pattern],
@@ -200,21 +211,17 @@ fn tell_chain(
     links: &[u32],
     faults: &[(u32, Fault)],
     start: usize,
-    seen: &mut Vec<Change<u64>>,
+    shown: &[Shown],
     told: &mut Vec<Told>,
 )
     requires points { ArePoints events.now.netlist points.now.seen.items points.now.first.items points.now.numbers.items }
     requires used { IsUsed (length patterns.now) used }
     requires lines { All (λ (g : ℕ × FaultOf). IsLineOf events.now.netlist g.1.line) faults.now }
-    requires turned { CanTellAll events.now.netlist patterns.now faults.now head mask events.now.values events.now.trail reaches.now }
+    requires turned { ShowAll events.now.netlist patterns.now faults.now head mask points.now.first.items (length points.now.seen.items) shown.now reaches.now }
     requires told { AreTold events.now.netlist patterns.now faults.now told.old.items }
     ensures { AreTold events.now.netlist patterns.now faults.now told.new.items }
 {
-    let count = points.seen.len();
-    let Ok(()) = list_seen(events.trail(), &points.first, count, seen) else {
-        return;
-    };
-    let all = all_shown(seen, events.values(), &points.first, count);
+    let all = all_under(shown);
     let mut k = start;
     for _step in 0..reaches.len() {
         if k >= reaches.len() || k >= links.len() || k >= faults.len() {
@@ -227,7 +234,7 @@ fn tell_chain(
             used,
             head,
             mask,
-            seen,
+            shown,
             all,
             &faults[k].1,
             &reaches[k],
@@ -240,6 +247,37 @@ fn tell_chain(
     }
 }
 
+/// Tells the faults with a head that is turned over, from one fault on. Where there is no memory for a list, nothing is told.
+fn tell_turned(
+    events: &Events<'_, u64>,
+    points: &Points,
+    patterns: &[Pattern],
+    used: u64,
+    head: SignalId,
+    mask: u64,
+    reaches: &[Reach],
+    links: &[u32],
+    faults: &[(u32, Fault)],
+    start: usize,
+    shown: &mut Vec<Shown>,
+    told: &mut Vec<Told>,
+)
+    requires points { ArePoints events.now.netlist points.now.seen.items points.now.first.items points.now.numbers.items }
+    requires used { IsUsed (length patterns.now) used }
+    requires lines { All (λ (g : ℕ × FaultOf). IsLineOf events.now.netlist g.1.line) faults.now }
+    requires turned { CanTellAll events.now.netlist patterns.now faults.now head mask events.now.values events.now.trail reaches.now }
+    requires told { AreTold events.now.netlist patterns.now faults.now told.old.items }
+    ensures { AreTold events.now.netlist patterns.now faults.now told.new.items }
+{
+    let count = points.seen.len();
+    let Ok(()) = list_shown(events.trail(), events.values(), &points.first, count, shown) else {
+        return;
+    };
+    tell_chain(
+        events, points, patterns, used, head, mask, reaches, links, faults, start, shown, told,
+    );
+}
+
 /// Turns over the head of a fault, and tells the faults with the same head. The words are then those before.
 pub(crate) fn tell_from(
     events: &mut Events<'_, u64>,
@@ -250,7 +288,9 @@ pub(crate) fn tell_from(
     links: &[u32],
     faults: &[(u32, Fault)],
     start: usize,
-    seen: &mut Vec<Change<u64>>,
+    common: &mut Common,
+    is_counted: bool,
+    shown: &mut Vec<Shown>,
     told: &mut Vec<Told>,
 )
     requires points { ArePoints events.old.netlist points.now.seen.items points.now.first.items points.now.numbers.items }
@@ -270,8 +310,11 @@ pub(crate) fn tell_from(
     };
     let mask = mask_from(reaches, links, start);
     turn(events, head, mask);
-    tell_chain(
-        events, points, patterns, used, head, mask, reaches, links, faults, start, seen, told,
+    if is_counted {
+        common.count(events.trail());
+    }
+    tell_turned(
+        events, points, patterns, used, head, mask, reaches, links, faults, start, shown, told,
     );
     events.undo(0);
 }

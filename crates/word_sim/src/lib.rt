@@ -9,12 +9,15 @@
 #![tactic(auto)]
 
 mod batches;
+mod common;
 mod detecting;
 mod fault_hits;
 mod groups;
 mod last_detected;
 mod leaving_out;
 mod packing;
+mod shown;
+mod side;
 mod simulator;
 mod words;
 

@@ -13,6 +13,7 @@ use cubes::Pattern;
 use events::Events;
 use netlist::{Core, Fault, NoMemory};
 use observed_points::Points;
+use regions::Four;
 use std::alloc::{AllocError, Global};
 use std::marker::Model;
 
@@ -20,6 +21,8 @@ use std::marker::Model;
 #[derive(Drop)]
 pub struct Simulator<'a> {
     events: Events<'a, u64>,
+    /// An evaluator for four heads side by side, made where that pays first.
+    wide: Option<Events<'a, Four>>,
     points: Points,
     groups: Groups,
 }
@@ -32,7 +35,7 @@ impl<'a> Model for Simulator<'a> {
 
     ghost view = { λ s. s.events.netlist };
 
-    ghost invariant = { λ s. CanSimulate s.events.netlist s.events.values s.points.seen.items s.points.first.items s.points.numbers.items s.groups.paths.heads.items s.groups.paths.opens.items };
+    ghost invariant = { λ s. CanSimulate s.events.netlist s.events.values s.wide s.points.seen.items s.points.first.items s.points.numbers.items s.groups.paths.heads.items s.groups.paths.opens.items };
 }
 
 impl<'a> Simulator<'a> {
@@ -45,6 +48,7 @@ impl<'a> Simulator<'a> {
         let events = good_events(alloc, core, &[])?;
         Ok(Simulator {
             events,
+            wide: None,
             points,
             groups,
         })
@@ -73,6 +77,7 @@ impl<'a> Simulator<'a> {
         find_hits(
             alloc,
             &mut self.events,
+            &mut self.wide,
             &self.points,
             &mut self.groups,
             patterns,

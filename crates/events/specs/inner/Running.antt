@@ -2,7 +2,8 @@
 use Rattle.std.specs.Prelude.{ℕ, ◌+◌, ◌≡◌, ◌≢◌, ◌<◌, ◌≤◌, ◌⊎◌, ◌||◌, Bool, List, [], ◌∷◌, ◌++◌, length, slice_index, slice_set, IsTrue, IsFalse}
 use Rattle.std.specs.List.{All, Contains, list_any}
 use Rattle.netlist.specs.declared.lines.Line.{Line}
-use Rattle.netlist.specs.Netlist.{Definition, Netlist, gates, signals, also}
+use Rattle.netlist.specs.declared.lines.Line.TheVariants.{Stem}
+use Rattle.netlist.specs.Netlist.{Definition, Netlist, gates, signals}
 use Rattle.netlist.specs.Readers.{readers_of}
 use Rattle.netlist.specs.Settled.{Rule, Settles, at}
 use Rattle.events.specs.declared.trails.Change.{Change}
@@ -82,15 +83,32 @@ pub record Resettles {V : Type 0} (rule : Rule V) (n : Netlist) (places : List �
   pub are_changes : AreChanges old new changes
   pub placed : (c : Change V) → Contains changes c → slice_index places c.signal < length marks
 
--- An input or a cell has a value that what is driven makes: what settled but for it and the marked places, settles but for what is marked then.
+-- An input or a cell has a value that what is driven makes, or a gate is marked: what settled but for it, the marked places and some others
+-- settles but for what is marked then and those others.
 pub record PutsSource {V : Type 0} (rule : Rule V) (n : Netlist) (places : List ℕ) (id : ℕ) (v : V) (old new : List V) (marks marks' : List Bool) (trail trail' : List (Change V)) : Type 0 where
   pub size : length marks' ≡ length marks
-  pub settles : (inputs state : List V) (d : V) → IsDrivenTo rule n inputs state id v
-      → SettlesBut (also (waiting marks places) id) rule n inputs state (at old d) → SettlesBut (waiting marks' places) rule n inputs state (at new d)
+  pub settles : (inputs state : List V) (d : V) (before after : ℕ → Bool) → IsDrivenTo rule n inputs state id v
+      → ((x : ℕ) → IsFalse (after x) → IsFalse (waiting marks' places x))
+      → ((x : ℕ) → x ≢ id → IsFalse (waiting marks places x) → IsFalse (after x) → IsFalse (before x))
+      → SettlesBut before rule n inputs state (at old d) → SettlesBut after rule n inputs state (at new d)
   pub changes : List (Change V)
   pub trail_is : trail' ≡ trail ++ changes
   pub are_changes : AreChanges old new changes
   pub own : (c : Change V) → Contains changes c → c.signal ≡ id
+  pub behind : (c : Change V) → Contains changes c → slice_index places c.signal ≡ length marks
+
+-- the same of the first m of these signals, one after another, each driven with the value that it had
+pub record Touches {V : Type 0} (rule : Rule V) (n : Netlist) (places ids : List ℕ) (old new : List V) (marks marks' : List Bool) (trail trail' : List (Change V)) (m : ℕ) : Type 0 where
+  pub size : length marks' ≡ length marks
+  pub settles : (inputs state : List V) (d : V) (before after : ℕ → Bool)
+      → ((k : ℕ) → k < m → IsDrivenTo rule n inputs state (slice_index ids k) (rule.line (Stem (slice_index ids k)) (at old d (slice_index ids k))))
+      → ((x : ℕ) → IsFalse (after x) → IsFalse (waiting marks' places x))
+      → ((x : ℕ) → ((k : ℕ) → k < m → x ≢ slice_index ids k) → IsFalse (waiting marks places x) → IsFalse (after x) → IsFalse (before x))
+      → SettlesBut before rule n inputs state (at old d) → SettlesBut after rule n inputs state (at new d)
+  pub changes : List (Change V)
+  pub trail_is : trail' ≡ trail ++ changes
+  pub are_changes : AreChanges old new changes
+  pub own : (c : Change V) → Contains changes c → (k : ℕ) × (k < m) × (c.signal ≡ slice_index ids k)
   pub behind : (c : Change V) → Contains changes c → slice_index places c.signal ≡ length marks
 
 -- what an evaluator has between two calls

@@ -1,10 +1,12 @@
-use Rattle.std.proofs.Common.{◌+◌, ◌-◌, ◌≤◌, ◌∙◌, sym, subst, length, vec_capacity, arith}
+use Rattle.std.proofs.Common.{◌+◌, ◌-◌, ◌≤◌, ◌∙◌, ◌++◌, sym, subst, length, vec_capacity, arith}
 use Rattle.netlist.specs.Conditions.{IsSound}
+use Rattle.netlist.specs.declared.lines.Line.TheVariants.{Stem}
 use Rattle.netlist.specs.Netlist.{Netlist, signals}
 use Rattle.netlist.proofs.Orders.{gates_few}
 use Rattle.events.specs.inner.Running.{AreReady}
 use Rattle.events.specs.Standing.{Standing, standing, Moves, SettlesAnew}
-use Rattle.events.proofs.Standing.{changed, still_ready, settles_anew, moved}
+use Rattle.events.proofs.Running.{put_then_settled}
+use Rattle.events.proofs.Standing.{still_ready, settles_anew, moved}
 use Rattle.events.proofs.evaluator.Events.change.Goals as goal
 
 pub invariant_of-self : goal.invariant_of-self
@@ -12,11 +14,16 @@ invariant_of-self g c =
     let i = c.self.inside in
     let t = c.self.inside.tables in
     let n = c.netlist-netlist.result.now in
+    let p = c.touch.ensures.puts in
+    let r = c.resettle.ensures.resettles in
     subst (λ (m : Netlist). AreReady m t.order.items t.places.items t.fans c.resettle.new.agenda c.resettle.new.values.items c.resettle.new.trail.items (vec_capacity c.resettle.new.trail)) c.netlist-netlist.ensures
-    (still_ready (g.L.Logic.rule c.args.rule.now) n t.order.items t.places.items t.fans c.args.id c.args.driven i.values.items c.touch.new.values.items c.resettle.new.values.items
-    i.agenda c.touch.new.agenda c.resettle.new.agenda i.trail.items c.touch.new.trail.items c.resettle.new.trail.items (vec_capacity i.trail) (vec_capacity c.resettle.new.trail)
+    (still_ready n t.order.items t.places.items t.fans i.values.items c.resettle.new.values.items i.agenda c.resettle.new.agenda i.trail.items c.resettle.new.trail.items
+    (vec_capacity i.trail) (vec_capacity c.resettle.new.trail)
     (subst (λ (m : Netlist). AreReady m t.order.items t.places.items t.fans i.agenda i.values.items i.trail.items (vec_capacity i.trail)) (sym c.netlist-netlist.ensures) c.self.invariant)
-    c.touch.ensures.puts c.resettle.ensures.resettles c.resettle.ensures.clear c.resettle.ensures.marks (c.resettle.ensures.room ∙ c.touch.ensures.room))
+    (p.changes ++ r.changes)
+    (put_then_settled (g.L.Logic.rule c.args.rule.now) n t.places.items c.args.id ((g.L.Logic.rule c.args.rule.now).line (Stem c.args.id) c.args.driven)
+    i.values.items c.touch.new.values.items c.resettle.new.values.items i.agenda c.touch.new.agenda i.trail.items c.touch.new.trail.items c.resettle.new.trail.items p r)
+    c.resettle.ensures.clear (c.resettle.ensures.marks ∙ p.size) (c.resettle.ensures.room ∙ c.touch.ensures.room))
 
 pub returns-clause-moves : goal.returns-clause-moves
 returns-clause-moves g c =
@@ -25,9 +32,8 @@ returns-clause-moves g c =
     let n = c.netlist-netlist.result.now in
     let p = c.touch.ensures.puts in
     let r = c.resettle.ensures.resettles in
-    let ready = subst (λ (m : Netlist). AreReady m t.order.items t.places.items t.fans i.agenda i.values.items i.trail.items (vec_capacity i.trail)) (sym c.netlist-netlist.ensures) c.self.invariant in
-    let h = changed (g.L.Logic.rule c.args.rule.now) n t.order.items t.places.items t.fans c.args.id c.args.driven i.values.items c.touch.new.values.items c.resettle.new.values.items
-    i.agenda c.touch.new.agenda c.resettle.new.agenda i.trail.items c.touch.new.trail.items c.resettle.new.trail.items (vec_capacity i.trail) (vec_capacity c.resettle.new.trail) ready p r in
+    let h = put_then_settled (g.L.Logic.rule c.args.rule.now) n t.places.items c.args.id ((g.L.Logic.rule c.args.rule.now).line (Stem c.args.id) c.args.driven)
+    i.values.items c.touch.new.values.items c.resettle.new.values.items i.agenda c.touch.new.agenda i.trail.items c.touch.new.trail.items c.resettle.new.trail.items p r in
     subst (λ (s : Standing g.row.V.Denot). Moves s (standing i.core.now c.resettle.new.values.items c.resettle.new.trail.items (vec_capacity c.resettle.new.trail))) c.self.view_is
     (moved i.core.now i.values.items c.resettle.new.values.items i.trail.items c.resettle.new.trail.items _ (vec_capacity i.trail) (vec_capacity c.resettle.new.trail)
     (c.resettle.ensures.room ∙ c.touch.ensures.room) h.0 h.1)
@@ -38,10 +44,8 @@ returns-clause-settles g c =
     let t = c.self.inside.tables in
     let n = c.netlist-netlist.result.now in
     let rule = g.L.Logic.rule c.args.rule.now in
-    let ready = subst (λ (m : Netlist). AreReady m t.order.items t.places.items t.fans i.agenda i.values.items i.trail.items (vec_capacity i.trail)) (sym c.netlist-netlist.ensures) c.self.invariant in
-    let h = settles_anew rule n t.order.items t.places.items t.fans c.args.id c.args.driven i.values.items c.touch.new.values.items c.resettle.new.values.items
-    i.agenda c.touch.new.agenda c.resettle.new.agenda i.trail.items c.touch.new.trail.items c.resettle.new.trail.items (vec_capacity i.trail) (vec_capacity c.resettle.new.trail) ready
-    c.touch.ensures.puts c.resettle.ensures.resettles in
+    let h = settles_anew rule n t.places.items c.args.id c.args.driven i.values.items c.touch.new.values.items c.resettle.new.values.items
+    i.agenda c.touch.new.agenda i.trail.items c.touch.new.trail.items c.resettle.new.trail.items c.touch.ensures.puts c.resettle.ensures.resettles in
     subst (λ (s : Standing g.row.V.Denot). SettlesAnew rule s.netlist c.args.id c.args.driven s.values c.resettle.new.values.items) c.self.view_is
     (subst (λ (m : Netlist). SettlesAnew rule m c.args.id c.args.driven i.values.items c.resettle.new.values.items) c.netlist-netlist.ensures h)
 

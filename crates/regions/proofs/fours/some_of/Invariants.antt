@@ -1,0 +1,7 @@
+use Rattle.std.proofs.Common.{◌≡◌, drop}
+use Rattle.events.specs.Words.{some_of}
+use Rattle.regions.specs.Side.{lane_by_lane}
+use Rattle.regions.proofs.fours.some_of.Given as goal
+
+abbrev pub invariant-loop-k : goal.invariant-loop-k
+invariant-loop-k g l = l.some ≡ lane_by_lane some_of (drop l.k (g.P.FourPins.fours l.pins))
