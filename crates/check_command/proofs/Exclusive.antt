@@ -7,7 +7,7 @@ use Rattle.file_clauses.specs.declared.answers.Checked.{Checked}
 use Rattle.file_clauses.specs.declared.answers.Checked.TheVariants.{Faults, False}
 use Rattle.file_clauses.specs.declared.answers.CheckFault.{CheckFault}
 use Rattle.file_clauses.specs.declared.answers.CheckFault.TheVariants as fault
-use Rattle.file_clauses.specs.Laws.{AnswersAgree, AreAlikeAnswers}
+use Rattle.file_clauses.specs.Laws.{AnswersAgree, AreConsistentAnswers}
 use Rattle.check_command.specs.Checking.{answer_line, five_texts_due, fault_of, files_due, checked_finding}
 use Rattle.check_command.specs.declared.refusal.CheckRefusal.{CheckRefusal}
 use Rattle.check_command.specs.declared.refusal.CheckRefusal.TheVariants as refusal
@@ -16,14 +16,14 @@ use Rattle.check_command.specs.declared.refusal.CheckRefusal.TheVariants as refu
 given : (c d x y : Due CheckRefusal) → c ≡ x → d ≡ y → AreAlike x y → AreAlike c d
 given c d x y is also h = subst (λ (z : Due CheckRefusal). AreAlike z d) (sym is) (subst (λ (z : Due CheckRefusal). AreAlike x z) (sym also) h)
 
-same_finding : (a b : Checked) → AreAlikeAnswers (Ok a) (Ok b) → checked_finding a ≡ checked_finding b
+same_finding : (a b : Checked) → AreConsistentAnswers (Ok a) (Ok b) → checked_finding a ≡ checked_finding b
 same_finding (Faults m) (Faults k) alike = refl
 same_finding (Faults m) (False c) alike = absurd alike
 same_finding (False c) (Faults k) alike = absurd alike
 same_finding (False c) (False d) alike = refl
 
 -- texts that are answered aren't refused
-not_behind : (a : Checked) (why : CheckRefusal) → AreAlikeAnswers (Ok a) (Err (fault_of why)) → ⊥
+not_behind : (a : Checked) (why : CheckRefusal) → AreConsistentAnswers (Ok a) (Err (fault_of why)) → ⊥
 not_behind a (refusal.Netlist why) alike = alike
 not_behind a refusal.NotStil alike = alike
 not_behind a refusal.NotCertificate alike = alike
@@ -37,7 +37,7 @@ told_by fault.NotCertificate = refusal.NotCertificate
 told_by fault.NotReport = refusal.NotReport
 told_by fault.NoMemory = refusal.NotReport
 
-same_refusal : (why other : CheckRefusal) → AreAlikeAnswers (Err (fault_of why)) (Err (fault_of other)) → why ≡ other
+same_refusal : (why other : CheckRefusal) → AreConsistentAnswers (Err (fault_of why)) (Err (fault_of other)) → why ≡ other
 unfolding told_by
 same_refusal (refusal.Netlist why) (refusal.Netlist other) alike = ap told_by alike
 same_refusal (refusal.Netlist why) refusal.NotStil alike = ap told_by alike

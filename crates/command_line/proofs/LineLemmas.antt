@@ -10,7 +10,7 @@ use Rattle.clap.specs.declared.error.Error.{Error}
 use Rattle.clap.specs.declared.error.kind.ErrorKind.{ErrorKind}
 use Rattle.clap.specs.declared.error.kind.ErrorKind.TheVariants.{OutOfMemory}
 use Rattle.command_line.specs.CommandLine.{CommandLine, NoLine, bad_words, chaintest_of, check_of, command_line, diagnose_of, faults_line_of, command_line_at, line_by, line_from, line_where_taken, play_of, run_of, scan_of, sweep_of, transition_of}
-use Rattle.command_line.specs.Refusals.{IsWordsCause}
+use Rattle.command_line.specs.Refusals.{IsUsageError}
 use Rattle.command_line.specs.inner.Errors.{BecomesRefusal, IsAsked, IsMadeOf}
 use Rattle.command_line.specs.Table.{command_table}
 use Rattle.command_line.specs.declared.WordsRefusal.{WordsRefusal}
@@ -42,22 +42,22 @@ no_line words k (inl memory) other = absurd (other memory)
 no_line words k (inr among) other = refused words k among
 
 pub caused : (words : List Text) (e : Error) (answer : WordsRefusal) → HasKind (fault_of command_table words) e
-    → IsMadeOf (kind_of e) answer → IsWordsCause words answer
+    → IsMadeOf (kind_of e) answer → IsUsageError words answer
 caused words e (BadWords text) has made = no_line words (kind_of e) has made
 caused words e BadHold has made = absurd made
 caused words e NoMemory has made = tt
 
-becomes_bad : (words : List Text) (answer : WordsRefusal) → command_line words ≡ Err bad_words → BecomesRefusal none.BadNumber answer → IsWordsCause words answer
+becomes_bad : (words : List Text) (answer : WordsRefusal) → command_line words ≡ Err bad_words → BecomesRefusal none.BadNumber answer → IsUsageError words answer
 becomes_bad words (BadWords text) is made = is
 becomes_bad words BadHold is made = absurd made
 becomes_bad words NoMemory is made = tt
 
 -- what values that make no request become
-pub became : (words : List Text) (cause : NoRequest) (answer : WordsRefusal) → IsAsked (command_line words) (Err cause) → BecomesRefusal cause answer → IsWordsCause words answer
+pub became : (words : List Text) (cause : NoRequest) (answer : WordsRefusal) → IsAsked (command_line words) (Err cause) → BecomesRefusal cause answer → IsUsageError words answer
 became words none.BadNumber answer is made = becomes_bad words answer is made
 became words none.BadEngine answer is made = becomes_bad words answer is made
-became words none.BadHold answer is made = subst (λ (r : WordsRefusal). IsWordsCause words r) (sym made) is
-became words none.NoMemory answer is made = subst (λ (r : WordsRefusal). IsWordsCause words r) (sym made) tt
+became words none.BadHold answer is made = subst (λ (r : WordsRefusal). IsUsageError words r) (sym made) is
+became words none.NoMemory answer is made = subst (λ (r : WordsRefusal). IsUsageError words r) (sym made) tt
 
 pub asked_as : (a b : Line) (r : Result Request NoRequest) → a ≡ b → IsAsked a r → IsAsked b r
 asked_as a b r same asked = subst (λ (l : Line). IsAsked l r) same asked

@@ -6,7 +6,7 @@ use Rattle.command_line.specs.declared.WordsRefusal.{WordsRefusal}
 use Rattle.command_line.specs.declared.WordsRefusal.TheVariants.{BadWords, BadHold, NoMemory}
 
 -- bad words are no command line, a bad list of held inputs is what keeps them from being one; want of memory alone may come at any words
-abbrev pub IsWordsCause : List Text → WordsRefusal → Type 0
-IsWordsCause words (BadWords text) = command_line words ≡ Err bad_words
-IsWordsCause words BadHold = command_line words ≡ Err bad_hold
-IsWordsCause words NoMemory = ⊤
+abbrev pub IsUsageError : List Text → WordsRefusal → Type 0
+IsUsageError words (BadWords text) = command_line words ≡ Err bad_words
+IsUsageError words BadHold = command_line words ≡ Err bad_hold
+IsUsageError words NoMemory = ⊤

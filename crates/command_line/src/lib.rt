@@ -15,7 +15,7 @@ ghost use Rattle.clap.specs.Words.{FailsBy, kind_of, subcommand_of, subcommand_r
 ghost use Rattle.clap.specs.Faults.{fault_of};
 ghost use Rattle.command_line.specs.Table.{command_table};
 ghost use Rattle.command_line.specs.CommandLine.{IsInRange, command_line, command_line_of};
-ghost use Rattle.command_line.specs.Refusals.{IsWordsCause};
+ghost use Rattle.command_line.specs.Refusals.{IsUsageError};
 ghost use Rattle.command_line.specs.inner.Errors.{BecomesRefusal, IsBadWords, IsMadeOf};
 
 mod commands;
@@ -104,7 +104,7 @@ pub fn parse<'a>(alloc: Global, words: &'a [String]) -> Result<Request<'a>, Word
     ensures request { IfOk result (λ request.
         command_line (map string_bytes words.entry.now) ≡ Ok (command_line_of request)) }
     ensures in_range { IfOk result IsInRange }
-    ensures refusal { IfErr result (IsWordsCause (map string_bytes words.entry.now)) }
+    ensures refusal { IfErr result (IsUsageError (map string_bytes words.entry.now)) }
 {
     let found = match matches(alloc, words) {
         Ok(found) => found,

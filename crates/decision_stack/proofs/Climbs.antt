@@ -12,9 +12,9 @@ use Rattle.redundancy_cert.specs.declared.stacks.Other.{Other}
 use Rattle.redundancy_cert.specs.declared.stacks.Other.TheVariants.{Untried, Searched, Shut}
 use Rattle.redundancy_cert.specs.declared.stacks.Side.{Side}
 use Rattle.redundancy_cert.specs.Trees.{open_count}
-use Rattle.redundancy_cert.specs.Stacks.{other_nodes, wrapped, stack_tree, stack_onto, path_of_stack, open_around, searched_open, searched_open_around, IsTurned, IsClimbed}
+use Rattle.redundancy_cert.specs.Stacks.{other_nodes, wrapped, stack_tree, stack_onto, path_of_stack, open_around, searched_open, searched_open_around, IsFlipped, IsClimbed}
 use Rattle.redundancy_cert.proofs.StackLemmas.{stack_onto-append, length-stack_onto}
-use Rattle.decision_stack.specs.Climbing.{AreFree, IsAtEnd, AreTried, IsBack, AreAllEnded}
+use Rattle.decision_stack.specs.Climbing.{AreFree, IsAtEnd, AreTried, IsBacktrack, AreAllEnded}
 
 -- ---- sides that are tried
 
@@ -56,13 +56,13 @@ one_ended old first stack stack' done tree w t = record {
   is = t.is ∙ ap (wrapped t.last) w.is;
 }
 
-pub back : (old : List Side) (first : List Node) (stack stack' : List Side) (done : List Node) → HaveEnded old first stack done → IsTurned done stack stack' → IsBack first old stack'
+pub back : (old : List Side) (first : List Node) (stack stack' : List Side) (done : List Node) → HaveEnded old first stack done → IsFlipped done stack stack' → IsBacktrack first old stack'
 back old first stack stack' done w t = record {
   kept = stack;
   ended = w.ended;
   was = w.was;
   tried = w.tried;
-  turned = subst (λ (ns : List Node). IsTurned ns stack stack') w.is t;
+  turned = subst (λ (ns : List Node). IsFlipped ns stack stack') w.is t;
 }
 
 pub all_ended : (old : List Side) (first : List Node) (stack : List Side) (done : List Node) → HaveEnded old first stack done → stack ≡ [] → AreAllEnded first old stack done
@@ -97,13 +97,13 @@ module _ (f : Fault) (n : Netlist) (holds : Holds) where
   climbed_end s s' stack stack' done tree w u t = (before s s' stack' t.last stack w t.was u).0
 
   -- the signal of a turn is X before it
-  pub turn_free : (s s' : Sim) (stack stack' : List Side) (done : List Node) → IsAtEnd f n holds s stack → s' ≡ backtracked s → (t : IsTurned done stack stack')
+  pub turn_free : (s s' : Sim) (stack stack' : List Side) (done : List Node) → IsAtEnd f n holds s stack → s' ≡ backtracked s → (t : IsFlipped done stack stack')
       → IsUnknown s'.fault s'.netlist s'.holds s'.path t.next.signal
   turn_free s s' stack stack' done w u t =
       let b = before s s' t.front t.last stack w t.was u in
       subst (λ (r : Sim). IsUnknown r.fault r.netlist r.holds r.path t.next.signal) (sym b.0.at) (subst (IsUnknown f n holds (path_of_stack t.front)) (sym t.signal) b.1)
 
-  pub turned_end : (s s' new : Sim) (stack stack' : List Side) (done : List Node) → IsAtEnd f n holds s stack → s' ≡ backtracked s → (t : IsTurned done stack stack')
+  pub turned_end : (s s' new : Sim) (stack stack' : List Side) (done : List Node) → IsAtEnd f n holds s stack → s' ≡ backtracked s → (t : IsFlipped done stack stack')
       → new ≡ assigned s' t.next.signal t.next.bit → IsAtEnd f n holds new stack'
   turned_end s s' new stack stack' done w u t a =
       let b = before s s' t.front t.last stack w t.was u in
@@ -114,7 +114,7 @@ module _ (f : Fault) (n : Netlist) (holds : Holds) where
       }
 
 -- the last side after a turn
-pub last_is : {done : List Node} {stack stack' : List Side} (t : IsTurned done stack stack') (r : Side) (m : ℕ) → m ≡ length stack' → r ≡ get_or stack' (m - 1) r → r ≡ t.next
+pub last_is : {done : List Node} {stack stack' : List Side} (t : IsFlipped done stack stack') (r : Side) (m : ℕ) → m ≡ length stack' → r ≡ get_or stack' (m - 1) r → r ≡ t.next
 last_is {done} {stack} {stack'} t r m l is =
     let a = ap length t.is in
     let b = length-append t.front (t.next ∷ []) in

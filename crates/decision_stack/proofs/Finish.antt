@@ -18,7 +18,7 @@ use Rattle.redundancy_cert.specs.Stacks.{stack_tree, path_of_stack, StandsBelow,
 use Rattle.redundancy_cert.proofs.StackLemmas.{open_stands, whole_stands, closed_whole, open_whole}
 use Rattle.decision_stack.specs.declared.turns.Step.TheVariants.{On}
 use Rattle.decision_stack.specs.Standing.{AsksFit, SplitsAmong, SearchesAt, IsClosedTree}
-use Rattle.decision_stack.specs.Turns.{undecided, IsTurnFrom}
+use Rattle.decision_stack.specs.Turns.{undecided, IsSearchStep}
 use Rattle.decision_stack.proofs.Bounds.{limit_small}
 
 module _ {P : Place → Type 0} {f : Fault} {n : Netlist} {holds : Holds} where
@@ -51,7 +51,7 @@ module _ {P : Place → Type 0} {f : Fault} {n : Netlist} {holds : Holds} where
   -- ---- the search ends: of the Closed that are left, and then of undecided signals there are fewer after each turn
 
   pub ends : (T : Sim → Point → Type 0) (stack stack' : List Side) (new : Sim) (more : Bool) {limit closed add : ℕ} → closed < limit → closed ≡ closed_around stack → add ≡ cond more 1 0
-      → IsTurnFrom P T f n holds stack (closed_around stack) new stack' (On more)
+      → IsSearchStep P T f n holds stack (closed_around stack) new stack' (On more)
       → (limit - (closed + add)) * (length (signals n) + 1) + undecided (path_of_stack stack') (signals n)
       < (limit - closed) * (length (signals n) + 1) + undecided (path_of_stack stack) (signals n)
   ends T stack stack' new more {limit} {closed} {add} l c r w =

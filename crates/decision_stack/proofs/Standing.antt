@@ -21,9 +21,9 @@ use Rattle.redundancy_cert.specs.Stacks.{other_nodes, node_of, stack_tree, stack
 use Rattle.redundancy_cert.proofs.StackLemmas.{stack_onto-append, closed_around-append, searched_open_around-append, around-append, closed_stands, open_stands, forced_stands, whole_stands, closed_whole, open_whole, turned_stands, turned_closed, turned_open}
 use Rattle.decision_stack.specs.declared.turns.Step.{Step}
 use Rattle.decision_stack.specs.declared.turns.Step.TheVariants.{Found, Done, On}
-use Rattle.decision_stack.specs.Climbing.{AreFree, IsAtEnd, with_side, IsBack, AreAllEnded, IsStepBack}
+use Rattle.decision_stack.specs.Climbing.{AreFree, IsAtEnd, with_side, IsBacktrack, AreAllEnded, IsBacktrackStep}
 use Rattle.decision_stack.specs.Standing.{AsksFit, SearchesAt, MayDecide, MayPush, MayEnd, IsClosedTree}
-use Rattle.decision_stack.specs.Turns.{undecided, IsOfCase, IsTurnFrom}
+use Rattle.decision_stack.specs.Turns.{undecided, IsOfCase, IsSearchStep}
 use Rattle.decision_stack.proofs.Bounds.{undecided_less}
 use Rattle.decision_stack.proofs.Climbs.{tried_open}
 
@@ -95,7 +95,7 @@ module _ (P : Place → Type 0) (f : Fault) (n : Netlist) (holds : Holds) where
   -- a turn that pushes a decision of which no Closed is known
   pub pushed : (T : Sim → Point → Type 0) (s new : Sim) (stack stack' : List Side) (x : ℕ) (b : Bool) (other : Other) → closed_count (other_nodes other) ≡ 0
       → MayPush P f n holds s stack x b other → stack' ≡ with_side stack x b other → new ≡ assigned s x b
-      → IsTurnFrom P T f n holds stack (closed_around stack) new stack' (On false)
+      → IsSearchStep P T f n holds stack (closed_around stack) new stack' (On false)
   pushed T s new stack stack' x b other none w e a = (
     subst (λ k. SearchesAt P f n holds new stack' (closed_around stack + k)) none (entered s new stack stack' x b other w e a),
     inr (fewer s stack stack' x b other w e),
@@ -103,9 +103,9 @@ module _ (P : Place → Type 0) (f : Fault) (n : Netlist) (holds : Holds) where
 
   pub push_turn : {E : Type 0} (T : Sim → Point → Type 0) (s new : Sim) (stack stack' : List Side) (x : ℕ) (b : Bool) (other : Other) (r : Result Step E)
       → closed_count (other_nodes other) ≡ 0 → MayPush P f n holds s stack x b other → new ≡ assigned s x b
-      → IfOk r (λ step. (step ≡ On false) × (stack' ≡ with_side stack x b other)) → IfOk r (IsTurnFrom P T f n holds stack (closed_around stack) new stack')
+      → IfOk r (λ step. (step ≡ On false) × (stack' ≡ with_side stack x b other)) → IfOk r (IsSearchStep P T f n holds stack (closed_around stack) new stack')
   push_turn T s new stack stack' x b other (Ok step) none w a h =
-      subst (IsTurnFrom P T f n holds stack (closed_around stack) new stack') (sym h.0) (pushed T s new stack stack' x b other none w h.1 a)
+      subst (IsSearchStep P T f n holds stack (closed_around stack) new stack') (sym h.0) (pushed T s new stack stack' x b other none w h.1 a)
   push_turn T s new stack stack' x b other (Err e) none w a h = tt
 
   -- ---- back to the last untried side
@@ -130,7 +130,7 @@ module _ (P : Place → Type 0) (f : Fault) (n : Netlist) (holds : Holds) where
       step (ForcedTo x b t) e k = absurd (no_forced x b (preorder t) e)
 
   -- THE TURN: the tree of the path's end is that of the decisions after the last untried side, and the search stands on that side
-  pub went_back : (s new : Sim) (stack stack' : List Side) (done : List Node) → MayEnd P f n holds s stack done → (t : IsBack done stack stack') → new ≡ sim n f holds (path_of_stack stack')
+  pub went_back : (s new : Sim) (stack stack' : List Side) (done : List Node) → MayEnd P f n holds s stack done → (t : IsBacktrack done stack stack') → new ≡ sim n f holds (path_of_stack stack')
       → SearchesAt P f n holds new stack' (closed_around stack + closed_count done)
   went_back s new stack stack' done w t a =
       let parts = around-both [] t.kept t.ended (subst (StandsAround P []) t.was w.is.around) in
@@ -173,7 +173,7 @@ module _ (P : Place → Type 0) (f : Fault) (n : Netlist) (holds : Holds) where
 
   -- a turn in which the path ends
   pub stepped_back : (T : Sim → Point → Type 0) (s new : Sim) (stack stack' : List Side) (done : List Node) (step : Step) → closed_count done ≡ 1 → MayEnd P f n holds s stack done
-      → IsStepBack done stack stack' step → IsAtEnd f n holds new stack' → IsTurnFrom P T f n holds stack (closed_around stack) new stack' step
+      → IsBacktrackStep done stack stack' step → IsAtEnd f n holds new stack' → IsSearchStep P T f n holds stack (closed_around stack) new stack' step
   stepped_back T s new stack stack' done (Found point) one w t a = absurd t
   stepped_back T s new stack stack' done (Done tree) one w t a = (
     subst (λ k. IsClosedTree P tree.items (closed_around stack + k)) one (whole_at_root s stack stack' done tree.items w t),
@@ -186,8 +186,8 @@ module _ (P : Place → Type 0) (f : Fault) (n : Netlist) (holds : Holds) where
   stepped_back T s new stack stack' done (On false) one w t a = absurd (both_ways false refl t.0)
 
   pub end_turn : {E : Type 0} (T : Sim → Point → Type 0) (s new : Sim) (stack stack' : List Side) (done : List Node) (r : Result Step E) → closed_count done ≡ 1
-      → MayEnd P f n holds s stack done → OnOk r (IsAtEnd f n holds new stack') → IfOk r (IsStepBack done stack stack')
-      → IfOk r (IsTurnFrom P T f n holds stack (closed_around stack) new stack')
+      → MayEnd P f n holds s stack done → OnOk r (IsAtEnd f n holds new stack') → IfOk r (IsBacktrackStep done stack stack')
+      → IfOk r (IsSearchStep P T f n holds stack (closed_around stack) new stack')
   end_turn T s new stack stack' done (Ok step) one w a t = stepped_back T s new stack stack' done step one w t a
   end_turn T s new stack stack' done (Err e) one w a t = tt
 
@@ -216,8 +216,8 @@ module _ {P : Place → Type 0} {f : Fault} {n : Netlist} {holds : Holds} {s : S
   -- both sides are closed
   pub both_closed : {E : Type 0} (T : Sim → Point → Type 0) (b : Bool) (s' new : Sim) (stack' : List Side) (r : Result Step E) → s' ≡ s
       → P (record { path = (x, b) ∷ path_of_stack stack; node = Closed }) → IsClosedPath s.fault s.netlist s.holds ((x, not b) ∷ s.path)
-      → OnOk r (IsAtEnd s'.fault s'.netlist s'.holds new stack') → IfOk r (IsStepBack (Forced x b ∷ Closed ∷ []) stack stack')
-      → IfOk r (IsTurnFrom P T f n holds stack (closed_around stack) new stack')
+      → OnOk r (IsAtEnd s'.fault s'.netlist s'.holds new stack') → IfOk r (IsBacktrackStep (Forced x b ∷ Closed ∷ []) stack stack')
+      → IfOk r (IsSearchStep P T f n holds stack (closed_around stack) new stack')
   both_closed T b s' new stack' r e this other a t = end_turn P f n holds T s new stack stack' (Forced x b ∷ Closed ∷ []) r refl (record {
     is = w.is;
     stands = forced_stands P (path_of_stack stack) x b (Closed ∷ []) (w.forced b (seen IsClosedPath (not b) other)) (closed_stands P ((x, b) ∷ path_of_stack stack) this);
@@ -227,21 +227,21 @@ module _ {P : Place → Type 0} {f : Fault} {n : Netlist} {holds : Holds} {s : S
   -- this side is closed, and the other was gone to
   pub this_closed : {E : Type 0} (T : Sim → Point → Type 0) (b : Bool) (new : Sim) (stack' : List Side) (r : Result Step E)
       → IsClosedPath f n holds ((x, b) ∷ path_of_stack stack) → P (record { path = (x, not b) ∷ path_of_stack stack; node = Open }) → new ≡ assigned s x (not b)
-      → IfOk r (λ step. (step ≡ On false) × (stack' ≡ with_side stack x (not b) Shut)) → IfOk r (IsTurnFrom P T f n holds stack (closed_around stack) new stack')
+      → IfOk r (λ step. (step ≡ On false) × (stack' ≡ with_side stack x (not b) Shut)) → IfOk r (IsSearchStep P T f n holds stack (closed_around stack) new stack')
   this_closed T b new stack' r shut going a h = push_turn P f n holds T s new stack stack' x (not b) Shut r refl
       (forced_side (not b) (subst (λ c. IsClosedPath f n holds ((x, c) ∷ path_of_stack stack)) (not_not b) shut) going) a h
 
   -- the other side is closed, and this one was gone to after that
   pub other_closed : {E : Type 0} (T : Sim → Point → Type 0) (b : Bool) (s' new : Sim) (stack' : List Side) (r : Result Step E) → s' ≡ s
       → P (record { path = (x, b) ∷ path_of_stack stack; node = Open }) → IsClosedPath s.fault s.netlist s.holds ((x, not b) ∷ s.path) → new ≡ assigned s' x b
-      → IfOk r (λ step. (step ≡ On false) × (stack' ≡ with_side stack x b Shut)) → IfOk r (IsTurnFrom P T f n holds stack (closed_around stack) new stack')
+      → IfOk r (λ step. (step ≡ On false) × (stack' ≡ with_side stack x b Shut)) → IfOk r (IsSearchStep P T f n holds stack (closed_around stack) new stack')
   other_closed T b s' new stack' r e going other a h = push_turn P f n holds T s new stack stack' x b Shut r refl
       (forced_side b (seen IsClosedPath (not b) other) going) (a ∙ ap (λ (q : Sim). assigned q x b) e) h
 
   -- both may be gone on with, and the other was gone to
   pub both_going : {E : Type 0} (T : Sim → Point → Type 0) (b : Bool) (new : Sim) (stack' : List Side) (r : Result Step E) → P (record { path = path_of_stack stack; node = Split x })
       → P (record { path = (x, b) ∷ path_of_stack stack; node = Open }) → P (record { path = (x, not b) ∷ path_of_stack stack; node = Open }) → new ≡ assigned s x (not b)
-      → IfOk r (λ step. (step ≡ On false) × (stack' ≡ with_side stack x (not b) Untried)) → IfOk r (IsTurnFrom P T f n holds stack (closed_around stack) new stack')
+      → IfOk r (λ step. (step ≡ On false) × (stack' ≡ with_side stack x (not b) Untried)) → IfOk r (IsSearchStep P T f n holds stack (closed_around stack) new stack')
   both_going T b new stack' r split this other a h = push_turn P f n holds T s new stack stack' x (not b) Untried r refl (record {
     is = w.is;
     free = w.free;

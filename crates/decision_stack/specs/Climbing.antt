@@ -11,7 +11,7 @@ use Rattle.redundancy_cert.specs.declared.nodes.Node.{Node}
 use Rattle.redundancy_cert.specs.declared.stacks.Other.{Other}
 use Rattle.redundancy_cert.specs.declared.stacks.Other.TheVariants.{Untried}
 use Rattle.redundancy_cert.specs.declared.stacks.Side.{Side}
-use Rattle.redundancy_cert.specs.Stacks.{stack_tree, path_of_stack, IsTurned}
+use Rattle.redundancy_cert.specs.Stacks.{stack_tree, path_of_stack, IsFlipped}
 use Rattle.decision_stack.specs.declared.turns.Step.{Step}
 use Rattle.decision_stack.specs.declared.turns.Step.TheVariants.{Found, Done, On}
 
@@ -35,12 +35,12 @@ AreTried sides = All (λ (s : Side). s.other ≢ Untried) sides
 
 -- The path has ended with this tree, and the search goes on at the last side that was untried: the decisions after it are one tree with that of the
 -- end, which is known of its other side now.
-pub record IsBack (done : List Node) (old new : List Side) : Type 0 where
+pub record IsBacktrack (done : List Node) (old new : List Side) : Type 0 where
   pub kept : List Side
   pub ended : List Side
   pub was : old ≡ kept ++ ended
   pub tried : AreTried ended
-  pub turned : IsTurned (stack_tree ended done) kept new
+  pub turned : IsFlipped (stack_tree ended done) kept new
 
 -- the path has ended with this tree, and no side was untried: the tree is whole
 pub record AreAllEnded (done : List Node) (old new : List Side) (tree : List Node) : Type 0 where
@@ -49,7 +49,7 @@ pub record AreAllEnded (done : List Node) (old new : List Side) (tree : List Nod
   pub is : tree ≡ stack_tree old done
 
 -- a turn in which the path has ended with this tree
-abbrev pub IsStepBack : List Node → List Side → List Side → Step → Type 0
-IsStepBack done old new (Found point) = ⊥
-IsStepBack done old new (Done tree) = AreAllEnded done old new tree.items
-IsStepBack done old new (On more) = IsTrue more × IsBack done old new
+abbrev pub IsBacktrackStep : List Node → List Side → List Side → Step → Type 0
+IsBacktrackStep done old new (Found point) = ⊥
+IsBacktrackStep done old new (Done tree) = AreAllEnded done old new tree.items
+IsBacktrackStep done old new (On more) = IsTrue more × IsBacktrack done old new

@@ -23,9 +23,9 @@ abbrev pub IsOfCase : Fault → Netlist → Holds → Sim → Type 0
 IsOfCase f n holds s = s ≡ sim n f holds s.path
 
 -- a test; or a whole tree with one Closed more; or the search goes on, with one Closed more or one decision more
-abbrev pub IsTurnFrom : (Place → Type 0) → (Sim → Point → Type 0) → Fault → Netlist → Holds → List Side → ℕ → Sim → List Side → Step → Type 0
-IsTurnFrom P T f n holds old closed new_sim new (Found point) = T new_sim point
-IsTurnFrom P T f n holds old closed new_sim new (Done tree) = IsClosedTree P tree.items (closed + 1) × IsOfCase f n holds new_sim
-IsTurnFrom P T f n holds old closed new_sim new (On more) =
+abbrev pub IsSearchStep : (Place → Type 0) → (Sim → Point → Type 0) → Fault → Netlist → Holds → List Side → ℕ → Sim → List Side → Step → Type 0
+IsSearchStep P T f n holds old closed new_sim new (Found point) = T new_sim point
+IsSearchStep P T f n holds old closed new_sim new (Done tree) = IsClosedTree P tree.items (closed + 1) × IsOfCase f n holds new_sim
+IsSearchStep P T f n holds old closed new_sim new (On more) =
     SearchesAt P f n holds new_sim new (closed + (if more then 1 else 0))
     × (IsTrue more ⊎ (undecided (path_of_stack new) (signals n) < undecided (path_of_stack old) (signals n)))

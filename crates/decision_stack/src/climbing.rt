@@ -1,6 +1,6 @@
 //! Back to the last decision whose other side is untried.
 ghost use Rattle.std.specs.Prelude.{IfOk, OnOk, MatchOption};
-ghost use Rattle.decision_stack.specs.Climbing.{IsAtEnd, IsBack, AreAllEnded};
+ghost use Rattle.decision_stack.specs.Climbing.{IsAtEnd, IsBacktrack, AreAllEnded};
 
 use pair_sim::PairSim;
 use redundancy_cert::{Node, Side, Turn, end_side};
@@ -17,7 +17,7 @@ pub fn climb(
     requires { IsAtEnd labels.old.fault labels.old.netlist labels.old.holds labels.old stack.old.items }
     ensures end { OnOk result (IsAtEnd labels.old.fault labels.old.netlist labels.old.holds labels.new stack.new.items) }
     ensures tree { IfOk result (λ tree. MatchOption tree
-        (IsBack done.items stack.old.items stack.new.items)
+        (IsBacktrack done.items stack.old.items stack.new.items)
         (λ nodes. AreAllEnded done.items stack.old.items stack.new.items nodes.items)) }
 {
     while stack.len() > 0 {

@@ -1,6 +1,6 @@
 //! What a turn of a search does with the stack.
 ghost use Rattle.std.specs.Prelude.{◌≡◌, [], ◌∷◌, false, IfOk, OnOk, if◌then◌else◌};
-ghost use Rattle.decision_stack.specs.Climbing.{IsAtEnd, with_side, IsStepBack};
+ghost use Rattle.decision_stack.specs.Climbing.{IsAtEnd, with_side, IsBacktrackStep};
 
 use crate::climbing::climb;
 use crate::trees::forced_tree;
@@ -52,7 +52,7 @@ pub fn close_both(
 ) -> Result<Step, AllocError>
     requires { IsAtEnd labels.old.fault labels.old.netlist labels.old.holds labels.old stack.old.items }
     ensures end { OnOk result (IsAtEnd labels.old.fault labels.old.netlist labels.old.holds labels.new stack.new.items) }
-    ensures step { IfOk result (IsStepBack (Node.Forced signal bit ∷ Node.Closed ∷ []) stack.old.items stack.new.items) }
+    ensures step { IfOk result (IsBacktrackStep (Node.Forced signal bit ∷ Node.Closed ∷ []) stack.old.items stack.new.items) }
 {
     let done = forced_tree(alloc, signal, bit)?;
     match climb(effects, labels, stack, done)? {

@@ -16,8 +16,8 @@ pub record Room (V : Type 0) : Type 0 where
   pub capacity : ℕ
 
 -- the room is that of an evaluator of this netlist
-abbrev pub CanServe : {V : Type 0} → Netlist → Room V → Type 0
-CanServe n r = AreReady n r.order r.places r.fans r.marks r.values r.trail r.capacity
+abbrev pub IsReusableRoom : {V : Type 0} → Netlist → Room V → Type 0
+IsReusableRoom n r = AreReady n r.order r.places r.fans r.marks r.values r.trail r.capacity
 
 -- the values of the netlist as they stand in the room
 abbrev pub standing_in : {V : Type 0} → Netlist → Room V → Standing V
@@ -25,5 +25,5 @@ standing_in n r = standing n r.values r.trail r.capacity
 
 -- what these values leave behind
 pub record IsRoomOf {V : Type 0} (s : Standing V) (r : Room V) : Type 0 where
-  pub serves : CanServe s.netlist r
+  pub serves : IsReusableRoom s.netlist r
   pub stands : s ≡ standing_in s.netlist r

@@ -4,7 +4,7 @@ ghost use Rattle.std.specs.List.{All, AllPairs};
 ghost use Rattle.netlist.specs.Lines.{IsLineOf};
 ghost use Rattle.netlist.specs.Netlist.{cells, signals};
 ghost use Rattle.netlist.specs.Settled.{Table, with_fault};
-ghost use Rattle.events.specs.Rooms.{CanServe, IsRoomOf, standing_in};
+ghost use Rattle.events.specs.Rooms.{IsReusableRoom, IsRoomOf, standing_in};
 ghost use Rattle.events.specs.Standing.{IsStanding, Moves, SettlesAnew, SettlesAllAnew, SettlesFor, SettlesOver};
 ghost use Rattle.events.specs.Stuck.{IsObservedOnly, IsSite};
 ghost use Rattle.events.specs.Trails.{undone};
@@ -96,7 +96,7 @@ impl<'a, V: Copy + Drop> Events<'a, V> {
 
     /// Goes on where the room was left.
     pub fn in_room(core: &'a Core, room: EventRoom<V>) -> Events<'a, V>
-        requires { CanServe core.now room }
+        requires { IsReusableRoom core.now room }
         ensures { result ≡ standing_in core.now room }
     {
         let EventRoom {

@@ -153,12 +153,12 @@ impl Fan {
 impl Engine for Fan {
     ghost use Rattle.netlist.specs.Netlist.{Netlist};
     ghost use Rattle.netlist.specs.Holds.{Holds};
-    ghost use Rattle.pair_sim.specs.Rooms.{CanServeLabels};
-    ghost use Rattle.head_lines.specs.Rooms.{CanServeRoles, CanServeWants};
+    ghost use Rattle.pair_sim.specs.Rooms.{IsReusableLabelRoom};
+    ghost use Rattle.head_lines.specs.Rooms.{IsReusableRoleRoom, IsReusableWantRoom};
 
     type Room = FanRoom;
 
-    ghost serves = { λ (n : Netlist) (holds : Holds) r. CanServeLabels n holds r.labels × CanServeRoles n holds r.roles × CanServeWants n r.wants };
+    ghost serves = { λ (n : Netlist) (holds : Holds) r. IsReusableLabelRoom n holds r.labels × IsReusableRoleRoom n holds r.roles × IsReusableWantRoom n r.wants };
 
     fn search(
         &self,

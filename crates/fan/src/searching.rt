@@ -7,7 +7,7 @@
 ghost use Rattle.std.specs.Prelude.{ℕ, ◌≤◌, [], IfOk, OnOk};
 ghost use Rattle.head_lines.specs.HeadLines.{IsPlace};
 ghost use Rattle.head_lines.specs.Justified.{IsMetAt};
-ghost use Rattle.head_lines.specs.Rooms.{CanServeWants};
+ghost use Rattle.head_lines.specs.Rooms.{IsReusableWantRoom};
 ghost use Rattle.fan.specs.inner.Searching.{IsCase, IsAt, IsGoing, IsSideClosed, IsSideOpen, IsStepped, IsChosen, IsForcedSeen, IsReady, IsAnswer, IsKept};
 
 use crate::aims::forced_aims;
@@ -135,7 +135,7 @@ fn test_at(
 ) -> Result<Found, AllocError>
     requires case { IsCase case.now }
     requires met { IsMetAt case.now.fault case.now.core.now case.now.holds.now labels.now point }
-    requires wants { CanServeWants case.now.core.now wants.old }
+    requires wants { IsReusableWantRoom case.now.core.now wants.old }
     ensures answer { (limit : ℕ) → IfOk result (IsAnswer case.now limit) }
     ensures kept { OnOk result (IsKept case.now labels.now wants.new) }
 {

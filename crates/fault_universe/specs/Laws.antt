@@ -17,15 +17,15 @@ TextsDiffer =
     → fault_text n f ≡ fault_text n g → i ≡ j
 
 -- at most so many for each signal: its stem, a branch for each pin of its definition, and one for an output, each at 0 and at 1
-abbrev pub faults_a_signal : ℕ
-faults_a_signal = 2 * (most_pins + 2)
+abbrev pub most_faults_per_signal : ℕ
+most_faults_per_signal = 2 * (most_pins + 2)
 
 -- and so the most that a design has
 abbrev pub most_design_faults : ℕ
-most_design_faults = faults_a_signal * most_design_signals
+most_design_faults = most_faults_per_signal * most_design_signals
 
 abbrev pub FewFaults : Type 0
-FewFaults = (n : Netlist) → IsSound n → length (universe_of n) ≤ faults_a_signal * length (signals n)
+FewFaults = (n : Netlist) → IsSound n → length (universe_of n) ≤ most_faults_per_signal * length (signals n)
 
 -- each fault of the list has a signal of the netlist, by which it is named
 abbrev pub FaultsHaveSignals : Type 0

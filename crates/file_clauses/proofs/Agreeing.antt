@@ -14,7 +14,7 @@ use Rattle.file_clauses.specs.declared.answers.CheckFault.{CheckFault}
 use Rattle.file_clauses.specs.declared.answers.CheckFault.TheVariants as fault
 use Rattle.file_clauses.specs.Contents.{chains_said, limit_said}
 use Rattle.file_clauses.specs.Checks.{ArePassed, IsChecked, IsOutside}
-use Rattle.file_clauses.specs.Laws.{AreAlikeAnswers, GoodFilesPass, IsWholeAnswer}
+use Rattle.file_clauses.specs.Laws.{AreConsistentAnswers, GoodFilesPass, IsWholeAnswer}
 use Rattle.file_clauses.proofs.FirstOnLoop.{read_once, refusals_alike}
 use Rattle.file_clauses.proofs.Passing.{same_net}
 
@@ -28,14 +28,14 @@ module _ (files : FiveFiles) where
   answered answer fault.NotReport is out = absurd (out.6 is.0.said is.1.is_report is.1.report)
   answered answer fault.NoMemory is out = refl
 
-  beside : (answer : Checked) (r : CheckFault) → IsChecked files (Ok answer) → IsOutside files r → AreAlikeAnswers (Ok answer) (Err r)
-  beside answer r is out = subst (λ (f : CheckFault). AreAlikeAnswers (Ok answer) (Err f)) (sym (answered answer r is out)) tt
+  beside : (answer : Checked) (r : CheckFault) → IsChecked files (Ok answer) → IsOutside files r → AreConsistentAnswers (Ok answer) (Err r)
+  beside answer r is out = subst (λ (f : CheckFault). AreConsistentAnswers (Ok answer) (Err f)) (sym (answered answer r is out)) tt
 
-  before : (answer : Checked) (r : CheckFault) → IsChecked files (Ok answer) → IsOutside files r → AreAlikeAnswers (Err r) (Ok answer)
-  before answer r is out = subst (λ (f : CheckFault). AreAlikeAnswers (Err f) (Ok answer)) (sym (answered answer r is out)) tt
+  before : (answer : Checked) (r : CheckFault) → IsChecked files (Ok answer) → IsOutside files r → AreConsistentAnswers (Err r) (Ok answer)
+  before answer r is out = subst (λ (f : CheckFault). AreConsistentAnswers (Err f) (Ok answer)) (sym (answered answer r is out)) tt
 
   -- texts that are refused are refused alike
-  refused : (r s : CheckFault) → IsOutside files r → IsOutside files s → AreAlikeAnswers (Err r) (Err s)
+  refused : (r s : CheckFault) → IsOutside files r → IsOutside files s → AreConsistentAnswers (Err r) (Err s)
   refused fault.NoMemory s a b = tt
   refused (fault.Netlist p) fault.NoMemory a b = tt
   refused fault.NotStil fault.NoMemory a b = tt
@@ -68,10 +68,10 @@ module _ (files : FiveFiles) where
   passed : GoodFilesPass → (m : ℕ) (b : Checked) → ArePassed files → IsChecked files (Ok (Faults m)) → IsChecked files (Ok b) → b ≡ Faults m
   passed pass m b p is also = passed_alone pass p b also ∙ sym (passed_alone pass p (Faults m) is)
 
-  pub agree : GoodFilesPass → (a b : Result Checked CheckFault) → IsWholeAnswer files a → IsWholeAnswer files b → AreAlikeAnswers a b
+  pub agree : GoodFilesPass → (a b : Result Checked CheckFault) → IsWholeAnswer files a → IsWholeAnswer files b → AreConsistentAnswers a b
   agree pass (Err r) (Err s) is also = refused r s is also
   agree pass (Err r) (Ok b) is also = before b r also.0 is
   agree pass (Ok a) (Err s) is also = beside a s is.0 also
-  agree pass (Ok (Faults m)) (Ok b) is also = subst (λ (c : Checked). AreAlikeAnswers (Ok (Faults m)) (Ok c)) (sym (passed pass m b is.1 is.0 also.0)) refl
-  agree pass (Ok (False c)) (Ok (Faults k)) is also = subst (λ (d : Checked). AreAlikeAnswers (Ok d) (Ok (Faults k))) (sym (passed pass k (False c) also.1 also.0 is.0)) refl
+  agree pass (Ok (Faults m)) (Ok b) is also = subst (λ (c : Checked). AreConsistentAnswers (Ok (Faults m)) (Ok c)) (sym (passed pass m b is.1 is.0 also.0)) refl
+  agree pass (Ok (False c)) (Ok (Faults k)) is also = subst (λ (d : Checked). AreConsistentAnswers (Ok d) (Ok (Faults k))) (sym (passed pass k (False c) also.1 also.0 is.0)) refl
   agree pass (Ok (False c)) (Ok (False d)) is also = tt

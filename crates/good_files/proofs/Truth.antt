@@ -44,7 +44,7 @@ use Rattle.report.specs.declared.outcomes.Outcome.{Outcome}
 use Rattle.report.specs.declared.outcomes.Outcome.TheVariants.{Detected, Redundant, Aborted}
 use Rattle.report.specs.Reports.{Line}
 use Rattle.run_report.specs.Outcomes.{Test, IsFirstTree, IsTrueOf, AreTrueLines}
-use Rattle.run_report.specs.Heads.{count_of, detected_one, redundant_one, aborted_one}
+use Rattle.run_report.specs.Heads.{count_of, one_if_detected, one_if_redundant, one_if_aborted}
 use Rattle.run_report.proofs.ClassLemmas.{equivalent}
 use Rattle.run_report.proofs.ListLemmas.{one_kind}
 use Rattle.good_files.specs.GoodFiles.{AreGoodFiles, FiveFiles, test_of}
@@ -70,12 +70,12 @@ read_back law n sound text is =
 -- ---- lines
 
 -- every line is of one of the three kinds
-pub all_kinds : (lines : List Line) → count_of detected_one lines + count_of redundant_one lines + count_of aborted_one lines ≡ length lines
+pub all_kinds : (lines : List Line) → count_of one_if_detected lines + count_of one_if_redundant lines + count_of one_if_aborted lines ≡ length lines
 all_kinds [] = refl
 all_kinds (l ∷ ls) =
-    let d = sum_by-cons (λ (m : Line). detected_one m.outcome) l ls in
-    let r = sum_by-cons (λ (m : Line). redundant_one m.outcome) l ls in
-    let a = sum_by-cons (λ (m : Line). aborted_one m.outcome) l ls in
+    let d = sum_by-cons (λ (m : Line). one_if_detected m.outcome) l ls in
+    let r = sum_by-cons (λ (m : Line). one_if_redundant m.outcome) l ls in
+    let a = sum_by-cons (λ (m : Line). one_if_aborted m.outcome) l ls in
     omega (arith, one_kind l.outcome, all_kinds ls, d, r, a)
 
 got : {A B : Type 0} (f : A → B) (xs : List A) (k : ℕ) (x : A) (d : B) → slice_get xs k ≡ Some x → get_or (map f xs) k d ≡ f x

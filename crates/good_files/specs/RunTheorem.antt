@@ -27,7 +27,7 @@ use Rattle.report.specs.declared.outcomes.Outcome.{Outcome}
 use Rattle.report.specs.declared.outcomes.Outcome.TheVariants.{Detected, Redundant, Aborted}
 use Rattle.report.specs.Reports.{Line, Report}
 use Rattle.report.specs.Texts.{report_text}
-use Rattle.run_report.specs.Heads.{count_of, detected_one, redundant_one, aborted_one}
+use Rattle.run_report.specs.Heads.{count_of, one_if_detected, one_if_redundant, one_if_aborted}
 use Rattle.good_files.specs.GoodFiles.{FiveFiles}
 use Rattle.good_files.specs.ScanOff.{BehavesWithScanOff}
 
@@ -73,4 +73,4 @@ pub record RunTheorem (n : Netlist) (holds : Holds) (chains : List (List ℕ)) (
   pub once : map (λ (l : Line). l.fault) said.lines ≡ map (fault_text n) (universe_of n)
   pub comes_true : (place : ℕ) (f : Fault) (line : Line) → slice_get (universe_of n) place ≡ Some f → slice_get said.lines place ≡ Some line
       → ComesTrue n holds chains limit trees (vectors_in file) f line.outcome line.pin
-  pub all : count_of detected_one said.lines + count_of redundant_one said.lines + count_of aborted_one said.lines ≡ length (universe_of n)
+  pub all : count_of one_if_detected said.lines + count_of one_if_redundant said.lines + count_of one_if_aborted said.lines ≡ length (universe_of n)

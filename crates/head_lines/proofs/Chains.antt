@@ -19,7 +19,7 @@ use Rattle.head_lines.specs.declared.roles.Role.{Role}
 use Rattle.head_lines.specs.declared.roles.Role.TheVariants.{Bound, Head, Inner}
 use Rattle.head_lines.specs.HeadLines.{IsUpward, IsOrigin, IsConstant, IsBound, IsObserved, IsEdgeOf, is_bound_role, is_head_role, role_at, AreRoles}
 use Rattle.head_lines.specs.Rooms.{nowhere, AreBeside}
-use Rattle.head_lines.specs.inner.Binding.{IsKeptBeside, IsPut, IsTurned, AreHeads, IsBoundNow, IsOnlyReader, IsSite, AreRolesBut, is_unbound, unbound, waiting}
+use Rattle.head_lines.specs.inner.Binding.{IsKeptBeside, IsPut, IsFlipped, AreHeads, IsBoundNow, IsOnlyReader, IsSite, AreRolesBut, is_unbound, unbound, waiting}
 use Rattle.head_lines.proofs.Free.{reached_more, bound_up, bound_here}
 use Rattle.head_lines.proofs.Readers.{get_or_any, pin_listed, IsPinOf, reader_cases, readers_below}
 
@@ -86,7 +86,7 @@ head_put old new x inner p = record {
   turned = λ y. elim (same_or_not y x) [
     | inl s ↦ inr (
       subst (λ w. Contains (x ∷ []) w) (sym s) (contains_head x []),
-      subst (λ w. IsTurned (role_at old w) (role_at new w)) (sym s) (record { was = inner; is = p.here }),
+      subst (λ w. IsFlipped (role_at old w) (role_at new w)) (sym s) (record { was = inner; is = p.here }),
     )
     | inr ne ↦ inl (p.others y ne)
   ];

@@ -19,7 +19,7 @@ abbrev pub AreBeside : List Role → List Role → List ℕ → Type 0
 AreBeside base roles changed = (x : ℕ) → (role_at roles x ≡ role_at base x) ⊎ Contains changed x
 
 -- the room has what is bound whatever the fault, and names where the roles of the last fault differ
-pub record CanServeRoles (n : Netlist) (holds : Holds) (r : RoleRoom) : Type 0 where
+pub record IsReusableRoleRoom (n : Netlist) (holds : Holds) (r : RoleRoom) : Type 0 where
   pub base_are : AreRoles nowhere n holds r.base.items
   pub size : length r.roles.items ≡ length r.base.items
   pub beside : AreBeside r.base.items r.roles.items r.changed.items
@@ -30,5 +30,5 @@ pub record AreNoWants (n : Netlist) (row : List (Option Bool)) (queue : List ℕ
   pub none : (x : ℕ) → slice_index_or row x None ≡ None
   pub empty : queue ≡ []
 
-abbrev pub CanServeWants : Netlist → WantRoom → Type 0
-CanServeWants n r = AreNoWants n r.wants.items r.queue.items
+abbrev pub IsReusableWantRoom : Netlist → WantRoom → Type 0
+IsReusableWantRoom n r = AreNoWants n r.wants.items r.queue.items

@@ -7,7 +7,7 @@ ghost use Rattle.std.specs.List.{All, Contains};
 ghost use Rattle.netlist.specs.Holds.{AreHoldsOf};
 ghost use Rattle.netlist.specs.Netlist.{signals, Reads};
 ghost use Rattle.head_lines.specs.HeadLines.{role_at, AreRoles};
-ghost use Rattle.head_lines.specs.Rooms.{AreBeside, CanServeRoles};
+ghost use Rattle.head_lines.specs.Rooms.{AreBeside, IsReusableRoleRoom};
 ghost use Rattle.head_lines.specs.inner.Binding.{IsKeptBeside, IsPut, AreHeads, IsBoundNow, IsOnlyReader, IsSite, AreRolesBut, unbound, waiting};
 
 use crate::marking::is_gate;
@@ -216,7 +216,7 @@ impl RoleRoom {
     /// For a netlist under held inputs.
     pub fn of(alloc: Global, core: &Core, holds: &Holds) -> Result<RoleRoom, AllocError>
         requires { AreHoldsOf core.now holds.now }
-        ensures { IfOk result (CanServeRoles core.now holds.now) }
+        ensures { IfOk result (IsReusableRoleRoom core.now holds.now) }
     {
         let nowhere = Fault {
             line: Line::Out(SignalId(0)),
@@ -233,8 +233,8 @@ impl RoleRoom {
 
     /// The roles are those of a fault, whatever they were.
     pub fn aim(&mut self, core: &Core, fault: &Fault, holds: &Holds) -> Result<(), AllocError>
-        requires { CanServeRoles core.now holds.now self.old }
-        ensures serves { OnOk result (CanServeRoles core.now holds.now self.new) }
+        requires { IsReusableRoleRoom core.now holds.now self.old }
+        ensures serves { OnOk result (IsReusableRoleRoom core.now holds.now self.new) }
         ensures roles { OnOk result (AreRoles fault.now core.now holds.now self.new.roles.items) }
     {
         let netlist = core.netlist();

@@ -3,7 +3,7 @@
 ghost use Rattle.std.specs.Prelude.{◌≡◌, ◌<◌, ℕ, [], None, slice_index, length, IfOk, OnOk};
 ghost use Rattle.std.specs.List.{All};
 ghost use Rattle.netlist.specs.Netlist.{signals};
-ghost use Rattle.head_lines.specs.Rooms.{CanServeWants};
+ghost use Rattle.head_lines.specs.Rooms.{IsReusableWantRoom};
 ghost use Rattle.head_lines.specs.Justified.{chosen};
 ghost use Rattle.head_lines.specs.inner.Wanting.{want_at, AreDistinct, IsQueue, IsLonger, IsWantPut, AreWanted, AreWantedIn};
 
@@ -21,7 +21,7 @@ pub struct WantRoom {
 impl WantRoom {
     /// For a netlist.
     pub fn of(alloc: Global, core: &Core) -> Result<WantRoom, AllocError>
-        ensures { IfOk result (CanServeWants core.now) }
+        ensures { IfOk result (IsReusableWantRoom core.now) }
     {
         let netlist = core.netlist();
         netlist.sound();

@@ -20,7 +20,7 @@ use Rattle.events.proofs.Steps.{rule_changes, none_waits}
 use Rattle.tri.specs.declared.labels.Label.{Label}
 use Rattle.tri.specs.Gates.{gate_tri}
 use Rattle.tri.specs.Labels.{Decisions, labels, label_of, on_line, source_label, held_value, input_labels, cell_labels, AreLabels}
-use Rattle.label_events.specs.Lines.{IsOff, AreSameOff}
+use Rattle.label_events.specs.Lines.{IsLineOfOthers, AgreeOnOtherLines}
 
 abbrev held_at : Holds → ℕ → Tri
 held_at holds x = held_value (get_or holds x None)
@@ -84,31 +84,31 @@ on_line_off f other l made h =
 pub stuck_off : (f : Fault) (other : Line) (l : Label) → is_line f.line other ≡ false → on_line (Some f) other l ≡ l
 stuck_off f other l h = on_line_off f other l _ h
 
-pub same_off : (f : Fault) → AreSameOff f.line None (Some f)
+pub same_off : (f : Fault) → AgreeOnOtherLines f.line None (Some f)
 same_off f other l h = sym (stuck_off f other l h)
 
-pub same_off_back : (f : Fault) → AreSameOff f.line (Some f) None
+pub same_off_back : (f : Fault) → AgreeOnOtherLines f.line (Some f) None
 same_off_back f other l h = stuck_off f other l h
 
-module _ (line : Line) (f g : Option Fault) (path : Decisions) (n : Netlist) (same : AreSameOff line f g) where
+module _ (line : Line) (f g : Option Fault) (path : Decisions) (n : Netlist) (same : AgreeOnOtherLines line f g) where
   pins_same : (z k : ℕ) (vs : List Label) → ((j : ℕ) → is_line line (Pin z j) ≡ false) → on_pins (labels f path) z k vs ≡ on_pins (labels g path) z k vs
   pins_same z k [] h = refl
   pins_same z k (v ∷ vs) h =
       ap (λ u. u ∷ on_pins (labels f path) z (k + 1) vs) (same (Pin z k) v (h k)) ∙ ap (λ us. on_line g (Pin z k) v ∷ us) (pins_same z (k + 1) vs h)
 
-  agree : (x : ℕ) → IsOff n line x → AgreeAt (labels f path) (labels g path) n x
+  agree : (x : ℕ) → IsLineOfOthers n line x → AgreeAt (labels f path) (labels g path) n x
   agree x off = record {
     stems = λ v. same (Stem x) v off.0;
     gates_do = λ d c e a. ap ((labels g path).gate d) (pins_same d.id 0 (map a d.pins) (λ j. subst (λ y. is_line line (Pin y j) ≡ false) (sym e) (off.1 d c e j)));
   }
 
-  pub fault_changes : (holds : Holds) (l : ℕ → Label) (x : ℕ) → ((y : ℕ) → y ≢ x → IsOff n line y) → AreLabels f path n holds l
+  pub fault_changes : (holds : Holds) (l : ℕ → Label) (x : ℕ) → ((y : ℕ) → y ≢ x → IsLineOfOthers n line y) → AreLabels f path n holds l
       → SettlesBut (λ y. eqb y x) (labels g path) n (input_labels path n holds) (cell_labels path n) l
   fault_changes holds l x site s =
       rule_changes (labels f path) (labels g path) n (input_labels path n holds) (cell_labels path n) l (λ y. eqb y x)
       (λ y h. agree y (site y (eqb-false y x h))) s
 
-  pub fault_changes_nothing : (holds : Holds) (l : ℕ → Label) → ((x : ℕ) → IsOff n line x) → AreLabels f path n holds l → AreLabels g path n holds l
+  pub fault_changes_nothing : (holds : Holds) (l : ℕ → Label) → ((x : ℕ) → IsLineOfOthers n line x) → AreLabels f path n holds l → AreLabels g path n holds l
   fault_changes_nothing holds l off s =
       none_waits (labels g path) n (input_labels path n holds) (cell_labels path n) l (λ y. false) (λ y. refl)
       (rule_changes (labels f path) (labels g path) n (input_labels path n holds) (cell_labels path n) l (λ y. false) (λ y h. agree y (off y)) s)

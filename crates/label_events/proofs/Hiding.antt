@@ -18,7 +18,7 @@ use Rattle.events.specs.Waiting.{given}
 use Rattle.tri.specs.declared.labels.Label.{Label}
 use Rattle.tri.specs.Gates.{gate_tri, conjunction_tri, disjunction_tri, parity_tri}
 use Rattle.tri.specs.Labels.{Decisions, labels, label_of}
-use Rattle.label_events.specs.Watched.{controls, controlled, is_joint, AreTurned, Hides, HidesLabel, AreTogetherAlike}
+use Rattle.label_events.specs.Watched.{controls, controlled, is_joint, AreTurned, Hides, HidesLabel, HaveSameGateLabel}
 
 -- ---- lists of which some elements turn
 
@@ -178,7 +178,7 @@ module _ (f : Option Fault) (path : Decisions) (g : Definition) where
   R : Rule Label
   R = labels f path
 
-  pub alike_given : (a b : ℕ → Label) → AreTogetherAlike g.kind (pins_of (labels f path) a g) (pins_of (labels f path) b g) → given (labels f path) b g ≡ given (labels f path) a g
+  pub alike_given : (a b : ℕ → Label) → HaveSameGateLabel g.kind (pins_of (labels f path) a g) (pins_of (labels f path) b g) → given (labels f path) b g ≡ given (labels f path) a g
   alike_given a b h =
       let ps = pins_of (labels f path) a g in
       let qs = pins_of (labels f path) b g in

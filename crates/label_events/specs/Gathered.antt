@@ -3,12 +3,12 @@ use Rattle.std.specs.Prelude.{◌≡◌, false, List, map}
 use Rattle.std.specs.List.{list_any}
 use Rattle.netlist.specs.declared.kinds.Tri.TheVariants.{X}
 use Rattle.tri.specs.declared.labels.Label.{Label}
-use Rattle.tri.specs.Gathered.{AreTrisTogether}
+use Rattle.tri.specs.Gathered.{AreTriReductionsOf}
 use Rattle.label_events.specs.declared.rule.OnPins.{OnPins}
 
 pub record AreOnPins (pins : List Label) (t : OnPins) : Type 0 where
-  pub good : AreTrisTogether (map (λ (l : Label). l.good) pins) t.good
-  pub faulty : AreTrisTogether (map (λ (l : Label). l.faulty) pins) t.faulty
+  pub good : AreTriReductionsOf (map (λ (l : Label). l.good) pins) t.good
+  pub faulty : AreTriReductionsOf (map (λ (l : Label). l.faulty) pins) t.faulty
   pub may_differ : t.may_differ ≡ list_any (λ (l : Label). l.may_differ) pins
 
 -- a label of no meaning

@@ -9,7 +9,7 @@ use Rattle.netlist.specs.Netlist.{Netlist}
 use Rattle.events.specs.Waiting.{SettlesBut, IsDrivenTo}
 use Rattle.tri.specs.declared.labels.Label.{Label}
 use Rattle.tri.specs.Labels.{Decisions, labels, on_line, source_label, held_value, input_labels, cell_labels, AreLabels}
-use Rattle.label_events.specs.Lines.{IsOff, AreSameOff}
+use Rattle.label_events.specs.Lines.{IsLineOfOthers, AgreeOnOtherLines}
 
 -- Where two paths differ at one signal only, the labels of the one settle under the other but for that signal.
 abbrev pub DecisionChanges : Type 0
@@ -29,11 +29,11 @@ SourceIsDriven =
 abbrev pub FaultChanges : Type 0
 FaultChanges =
     (line : Line) (f g : Option Fault) (path : Decisions) (n : Netlist) (holds : Holds) (l : ℕ → Label) (x : ℕ)
-    → AreSameOff line f g → ((y : ℕ) → y ≢ x → IsOff n line y) → AreLabels f path n holds l
+    → AgreeOnOtherLines line f g → ((y : ℕ) → y ≢ x → IsLineOfOthers n line y) → AreLabels f path n holds l
     → SettlesBut (λ y. y == x) (labels g path) n (input_labels path n holds) (cell_labels path n) l
 
 -- Where they do the same on all lines of signals, the labels are the same.
 abbrev pub FaultChangesNothing : Type 0
 FaultChangesNothing =
     (line : Line) (f g : Option Fault) (path : Decisions) (n : Netlist) (holds : Holds) (l : ℕ → Label)
-    → AreSameOff line f g → ((y : ℕ) → IsOff n line y) → AreLabels f path n holds l → AreLabels g path n holds l
+    → AgreeOnOtherLines line f g → ((y : ℕ) → IsLineOfOthers n line y) → AreLabels f path n holds l → AreLabels g path n holds l

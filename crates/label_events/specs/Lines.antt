@@ -12,18 +12,18 @@ use Rattle.label_events.specs.declared.line_places.LinePlace.{LinePlace}
 use Rattle.label_events.specs.declared.line_places.LinePlace.TheVariants.{Signal, Point}
 
 -- neither the stem of the signal nor a pin of its gate
-abbrev pub IsOff : Netlist → Line → ℕ → Type 0
-IsOff n line x = IsFalse (is_line line (Stem x)) × ((d : Definition) → Contains (gates n) d → d.id ≡ x → (k : ℕ) → IsFalse (is_line line (Pin x k)))
+abbrev pub IsLineOfOthers : Netlist → Line → ℕ → Type 0
+IsLineOfOthers n line x = IsFalse (is_line line (Stem x)) × ((d : Definition) → Contains (gates n) d → d.id ≡ x → (k : ℕ) → IsFalse (is_line line (Pin x k)))
 
 -- a stem or a pin of no other signal, and read by no observed point
 pub record IsInner (n : Netlist) (line : Line) (x : ℕ) : Type 0 where
-  pub others : (y : ℕ) → y ≢ x → IsOff n line y
+  pub others : (y : ℕ) → y ≢ x → IsLineOfOthers n line y
   pub outputs : (y : ℕ) → IsFalse (is_line line (Out y))
   pub pins : (d : Definition) → Contains (cells n) d → IsFalse (is_line line (Pin d.id 0))
 
 -- a stem or a pin of no signal; by it an observed point reads this signal
 pub record IsPointLine (n : Netlist) (line : Line) (x : ℕ) : Type 0 where
-  pub off : (y : ℕ) → IsOff n line y
+  pub off : (y : ℕ) → IsLineOfOthers n line y
   pub outputs : (y : ℕ) → IsTrue (is_line line (Out y)) → y ≡ x
   pub pins : (d : Definition) → Contains (cells n) d → IsTrue (is_line line (Pin d.id 0)) → All (λ y. y ≡ x) d.pins
   pub point : (Contains n.outputs x × IsTrue (is_line line (Out x))) ⊎ ((d : Definition) × Contains (cells n) d × Contains d.pins x × IsTrue (is_line line (Pin d.id 0)))
@@ -33,5 +33,5 @@ IsLinePlace n line (Signal x) = IsInner n line x
 IsLinePlace n line (Point x) = IsPointLine n line x
 
 -- two faults, or one and none, do the same on every line but this one
-abbrev pub AreSameOff : Line → Option Fault → Option Fault → Type 0
-AreSameOff line f g = (other : Line) (l : Label) → IsFalse (is_line line other) → on_line f other l ≡ on_line g other l
+abbrev pub AgreeOnOtherLines : Line → Option Fault → Option Fault → Type 0
+AgreeOnOtherLines line f g = (other : Line) (l : Label) → IsFalse (is_line line other) → on_line f other l ≡ on_line g other l

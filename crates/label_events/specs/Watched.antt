@@ -41,10 +41,10 @@ abbrev pub Hides : Kind → Tri → Tri → Tri → Type 0
 Hides kind cover a b = (ps qs : List Tri) → AreTurned a b ps qs → Contains ps cover → Contains qs cover → gate_tri kind qs ≡ gate_tri kind ps
 
 -- what the label of a gate follows from is the same
-pub record AreTogetherAlike (kind : Kind) (ps qs : List Label) : Type 0 where
+pub record HaveSameGateLabel (kind : Kind) (ps qs : List Label) : Type 0 where
   pub good : gate_tri kind (map (λ (l : Label). l.good) qs) ≡ gate_tri kind (map (λ (l : Label). l.good) ps)
   pub faulty : gate_tri kind (map (λ (l : Label). l.faulty) qs) ≡ gate_tri kind (map (λ (l : Label). l.faulty) ps)
   pub may_differ : list_any (λ (l : Label). l.may_differ) qs ≡ list_any (λ (l : Label). l.may_differ) ps
 
 abbrev pub HidesLabel : Kind → Label → Label → Label → Type 0
-HidesLabel kind cover a b = (ps qs : List Label) → AreTurned a b ps qs → Contains ps cover → Contains qs cover → AreTogetherAlike kind ps qs
+HidesLabel kind cover a b = (ps qs : List Label) → AreTurned a b ps qs → Contains ps cover → Contains qs cover → HaveSameGateLabel kind ps qs

@@ -20,9 +20,9 @@ use Rattle.cubes.specs.Cubes.{IsPatternOf}
 use Rattle.list_core.specs.Subjects.{Subject, class_count, DetectsClass}
 use Rattle.word_sim.specs.Hits.{Batch}
 use Rattle.list_core.specs.Batches.{IsTrueHit, IsTrueBatch}
-use Rattle.list_core.specs.Verdicts.{verdict_at, open_one, VerdictHolds, AllHold, is_undetected}
-use Rattle.list_core.specs.Journal.{take_one, publish_one, is_taken, Kind, verdict_kind, kind_at, can_be_hit, Replay, step, replay_from, replay}
-use Rattle.list_core.specs.States.{State, IsTrueList, published, replayed, hit_one, entry_of, hit_verdicts, hit_entries, undetected_from, free_one, mark_at}
+use Rattle.list_core.specs.Verdicts.{verdict_at, one_if_class_open, VerdictHolds, AllHold, is_undetected}
+use Rattle.list_core.specs.Journal.{one_if_take, one_if_publish, is_taken, Kind, verdict_kind, kind_at, can_be_hit, Replay, step, replay_from, replay}
+use Rattle.list_core.specs.States.{State, IsTrueList, published, replayed, hit_one, entry_of, hit_verdicts, hit_entries, undetected_from, one_if_free, mark_at}
 use Rattle.list_core.proofs.ListLemmas.{frees-one_less, if_true, both, get_more, get_behind, is_taken-append, untaken-push}
 use Rattle.list_core.proofs.EventLemmas.{legal_more, hold_set, none_marked, all_free}
 
@@ -111,11 +111,11 @@ hits_replay j batch old all (h ∷ hs) vs n are fits =
     ∙ (ap (λ (r : Option Replay). replay_from r (hit_entries old hs (hit_one old h vs))) (one_replays old all h vs (is_undetected (verdict_at vs h.class)) refl lt (omega (arith, hit_place j batch h here)))
     ∙ hits_replay j batch old all hs (hit_one old h vs) (length-hit_one old h vs ∙ n) (all_tail (IsTrueHit j batch) h hs are) fits)
 
-one_opens : (old : ℕ) (h : HitOf) (vs : List Verdict) (b : Bool) → h.class < length vs → sum_by open_one (if b then set vs h.class (Detected (old + h.pattern) h.point) else vs) ≤ sum_by open_one vs
-one_opens old h vs true lt = omega (arith, sum_by-set open_one vs h.class (Detected (old + h.pattern) h.point) Open lt)
+one_opens : (old : ℕ) (h : HitOf) (vs : List Verdict) (b : Bool) → h.class < length vs → sum_by one_if_class_open (if b then set vs h.class (Detected (old + h.pattern) h.point) else vs) ≤ sum_by one_if_class_open vs
+one_opens old h vs true lt = omega (arith, sum_by-set one_if_class_open vs h.class (Detected (old + h.pattern) h.point) Open lt)
 one_opens old h vs false lt = omega arith
 
-pub hits_opens : (j : Subject) (batch : List Pattern) (old : ℕ) (hs : List HitOf) (vs : List Verdict) → length vs ≡ class_count j → All (IsTrueHit j batch) hs → sum_by open_one (hit_verdicts old hs vs) ≤ sum_by open_one vs
+pub hits_opens : (j : Subject) (batch : List Pattern) (old : ℕ) (hs : List HitOf) (vs : List Verdict) → length vs ≡ class_count j → All (IsTrueHit j batch) hs → sum_by one_if_class_open (hit_verdicts old hs vs) ≤ sum_by one_if_class_open vs
 hits_opens j batch old [] vs n are = omega arith
 hits_opens j batch old (h ∷ hs) vs n are =
     let here = all_head (IsTrueHit j batch) h hs are in
@@ -138,9 +138,9 @@ entries_of f w n old hs es vs zero_at none =
     omega (arith, sum_by-append f (es ++ Publish w n ∷ []) (hit_entries old hs vs), sum_by_push f es (Publish w n), none, entries_none f old hs vs zero_at)
 
 -- the publishes are one more
-pub publishes_of : (w n old : ℕ) (hs : List HitOf) (es : List Entry) (vs : List Verdict) → sum_by publish_one ((es ++ Publish w n ∷ []) ++ hit_entries old hs vs) ≡ sum_by publish_one es + 1
+pub publishes_of : (w n old : ℕ) (hs : List HitOf) (es : List Entry) (vs : List Verdict) → sum_by one_if_publish ((es ++ Publish w n ∷ []) ++ hit_entries old hs vs) ≡ sum_by one_if_publish es + 1
 publishes_of w n old hs es vs =
-    omega (arith, sum_by-append publish_one (es ++ Publish w n ∷ []) (hit_entries old hs vs), sum_by_push publish_one es (Publish w n), entries_none publish_one old hs vs (λ c p o. refl))
+    omega (arith, sum_by-append one_if_publish (es ++ Publish w n ∷ []) (hit_entries old hs vs), sum_by_push one_if_publish es (Publish w n), entries_none one_if_publish old hs vs (λ c p o. refl))
 
 -- no class is taken by it
 one_untaken : (old : ℕ) (h : HitOf) (c : ℕ) (b : Bool) → is_taken (if b then Hit h.class (old + h.pattern) h.point ∷ [] else []) c ≡ false
@@ -168,7 +168,7 @@ true_published j s w b h are =
     let n = length b.patterns in
     let grown : AllHold j (s.patterns ++ b.patterns) s.verdicts = λ (c : ℕ). holds_more j s.patterns b.patterns c (verdict_at s.verdicts c) (h.hold c) in
     let all = length s.patterns + length b.patterns in
-    let same_takes = entries_of take_one w n old b.hits s.journal s.verdicts (λ c p o. refl) refl in
+    let same_takes = entries_of one_if_take w n old b.hits s.journal s.verdicts (λ c p o. refl) refl in
     let legal : replay (class_count j) ((s.journal ++ Publish w n ∷ []) ++ hit_entries old b.hits s.verdicts) ≡ Some (after (hit_verdicts old b.hits s.verdicts) all old) =
     replay_from-append _ (s.journal ++ Publish w n ∷ []) (hit_entries old b.hits s.verdicts)
     ∙ (ap (λ (r : Option Replay). replay_from r (hit_entries old b.hits s.verdicts)) (legal_more (class_count j) s.journal (Publish w n) (replayed s h.fresh) (after s.verdicts all old) h.legal refl)
@@ -214,12 +214,12 @@ none_left xs k vs lt is so_far = ap (λ (ks : List ℕ). map class_of xs ++ ks) 
 
 -- Where no class is hit twice, there are no more hits than classes.
 hits_fit : (hs : List HitOf) (taken : List Bool) → All (λ (h : HitOf). h.class < length taken) hs → All (λ (h : HitOf). mark_at taken h.class ≡ false) hs → AllPairs (λ (g h : HitOf). g.class ≢ h.class) hs
-    → length hs ≤ sum_by free_one taken
+    → length hs ≤ sum_by one_if_free taken
 hits_fit [] taken within free once = omega arith
 hits_fit (h ∷ hs) taken within free once =
     let lt : h.class < length taken = all_head (λ (g : HitOf). g.class < length taken) h hs within in
     let more = set taken h.class true in
-    let rest : length hs ≤ sum_by free_one more =
+    let rest : length hs ≤ sum_by one_if_free more =
     hits_fit hs more
     (λ k d less. omega (arith, all_tail (λ (g : HitOf). g.class < length taken) h hs within k d less, length-set taken h.class true))
     (λ k d less. get_or-set_other taken h.class (get_or hs k d).class true false (λ e. once 0 (suc k) d (omega arith) (omega arith) (sym e)) ∙ all_tail (λ (g : HitOf). mark_at taken g.class ≡ false) h hs free k d less)

@@ -21,7 +21,7 @@ use Rattle.word_sim.specs.Hits.{Batch}
 use Rattle.list_core.specs.Batches.{IsTrueHit, IsTrueBatch}
 use Rattle.list_core.specs.Verdicts.{verdict_at, is_undetected, VerdictHolds}
 use Rattle.list_core.specs.States.{State, IsTrueList, verdict_by, ended_by, hit_one, hit_verdicts, hit_entries}
-use Rattle.list_core.specs.Laws.{Event, Enter, Claim, Settle, Publish, Reserve, MayCome, MayCome_all, after, after_all, MayBecome, IsLater}
+use Rattle.list_core.specs.Laws.{Event, Enter, Claim, Settle, Publish, Reserve, MayCome, AllMayCome, after, after_all, MayBecome, IsLater}
 use Rattle.list_core.proofs.ListLemmas.{same_or}
 use Rattle.list_core.proofs.EventLemmas.{open_and_free, true_entered, true_claimed, true_settled, true_spared}
 use Rattle.list_core.proofs.HitLemmas.{true_published, length-hit_one, hit_class, all_head, all_tail}
@@ -115,7 +115,7 @@ later_on s t u h k = record {
 }
 
 -- all of them
-pub true_after_all : (j : Subject) (s : State) (es : List Event) → IsTrueList j s → MayCome_all j s es → IsTrueList j (after_all s es) × IsLater s (after_all s es)
+pub true_after_all : (j : Subject) (s : State) (es : List Event) → IsTrueList j s → AllMayCome j s es → IsTrueList j (after_all s es) × IsLater s (after_all s es)
 true_after_all j s [] h may = (h, record { verdicts = λ k. stays (verdict_at s.verdicts k); more_patterns = []; patterns = nothing_behind s.patterns; more_entries = []; journal = nothing_behind s.journal })
 true_after_all j s (e ∷ es) h may =
     let rest = true_after_all j (after s e) es (true_after j s e h may.0) may.1 in

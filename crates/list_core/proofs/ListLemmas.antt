@@ -9,7 +9,7 @@ use Rattle.std.proofs.lemmas.Option.{slice_get_within, get_or_from_slice_get}
 use Rattle.list_core.specs.declared.verdicts.Entry.{Entry}
 use Rattle.list_core.specs.declared.verdicts.Entry.TheVariants.{Take}
 use Rattle.list_core.specs.Journal.{is_taken, takes_class}
-use Rattle.list_core.specs.States.{free_one, mark_at}
+use Rattle.list_core.specs.States.{one_if_free, mark_at}
 
 pub if_true : {A : Type 0} (b : Bool) (x y : A) → b ≡ true → (if b then x else y) ≡ x
 if_true true x y e = refl
@@ -75,18 +75,18 @@ marked-take taken es worker class c lt is =
       | inr ne ↦ (get_or-set_other taken class c true false ne ∙ (is ∙ sym (untaken-push es (Take worker class) c (other_class c class ne))))
     ]
 
-one_at_most : (b : Bool) → free_one b ≤ 1
+one_at_most : (b : Bool) → one_if_free b ≤ 1
 one_at_most true = omega arith
 one_at_most false = omega arith
 
 -- a mark more
-pub frees-less : (taken : List Bool) (class : ℕ) → class < length taken → sum_by free_one (set taken class true) ≤ sum_by free_one taken
-frees-less taken class lt = omega (arith, sum_by-set free_one taken class true false lt)
+pub frees-less : (taken : List Bool) (class : ℕ) → class < length taken → sum_by one_if_free (set taken class true) ≤ sum_by one_if_free taken
+frees-less taken class lt = omega (arith, sum_by-set one_if_free taken class true false lt)
 
-pub frees-one_less : (taken : List Bool) (class : ℕ) → class < length taken → mark_at taken class ≡ false → sum_by free_one (set taken class true) + 1 ≡ sum_by free_one taken
+pub frees-one_less : (taken : List Bool) (class : ℕ) → class < length taken → mark_at taken class ≡ false → sum_by one_if_free (set taken class true) + 1 ≡ sum_by one_if_free taken
 frees-one_less taken class lt is =
-    let one : free_one (get_or taken class false) ≡ 1 = ap free_one is in
-    omega (arith, sum_by-set free_one taken class true false lt, one)
+    let one : one_if_free (get_or taken class false) ≡ 1 = ap one_if_free is in
+    omega (arith, sum_by-set one_if_free taken class true false lt, one)
 
 -- one element more
 pub take_one_more : {A : Type 0} (xs : List A) (k : ℕ) (x : A) → slice_get xs k ≡ Some x → take (k + 1) xs ≡ take k xs ++ x ∷ []

@@ -42,9 +42,9 @@ abbrev pub after_all : State → List Event → State
 after_all s [] = s
 after_all s (e ∷ es) = after_all (after s e) es
 
-abbrev pub MayCome_all : Subject → State → List Event → Type 0
-MayCome_all j s [] = ⊤
-MayCome_all j s (e ∷ es) = MayCome j s e × MayCome_all j (after s e) es
+abbrev pub AllMayCome : Subject → State → List Event → Type 0
+AllMayCome j s [] = ⊤
+AllMayCome j s (e ∷ es) = MayCome j s e × AllMayCome j (after s e) es
 
 -- a verdict changes only from Open, or from Aborted to Detected
 abbrev pub MayBecome : Verdict → Verdict → Type 0
@@ -66,7 +66,7 @@ pub record IsLater (s t : State) : Type 0 where
 -- Every interleaving: whatever events come, the list stays true, its verdicts change only upwards, and patterns and journal only grow.
 abbrev pub EveryInterleaving : Type 0
 EveryInterleaving =
-    (j : Subject) (s : State) (es : List Event) → IsTrueList j s → MayCome_all j s es → IsTrueList j (after_all s es) × IsLater s (after_all s es)
+    (j : Subject) (s : State) (es : List Event) → IsTrueList j s → AllMayCome j s es → IsTrueList j (after_all s es) × IsLater s (after_all s es)
 
 abbrev pub FreshIsTrue : Type 0
 FreshIsTrue = (j : Subject) → IsTrueList j (fresh_list (class_count j))

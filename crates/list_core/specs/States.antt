@@ -15,8 +15,8 @@ use Rattle.list_core.specs.declared.verdicts.Verdict.TheVariants.{Open, Detected
 use Rattle.cubes.specs.Cubes.{IsPatternOf}
 use Rattle.list_core.specs.Subjects.{Subject, class_count}
 use Rattle.word_sim.specs.Hits.{Batch}
-use Rattle.list_core.specs.Verdicts.{verdict_at, is_open, is_undetected, open_one, AllHold}
-use Rattle.list_core.specs.Journal.{take_one, is_taken, verdict_kind, Replay, replay}
+use Rattle.list_core.specs.Verdicts.{verdict_at, is_open, is_undetected, one_if_class_open, AllHold}
+use Rattle.list_core.specs.Journal.{one_if_take, is_taken, verdict_kind, Replay, replay}
 
 -- For each class its verdict, the patterns, and the journal; beside them which classes the journal has a Take of,
 -- how many claims by number there were, and the spare room.
@@ -104,9 +104,9 @@ undetected_from k [] = []
 undetected_from k (v ∷ vs) = if is_undetected v then k ∷ undetected_from (k + 1) vs else undetected_from (k + 1) vs
 
 -- 1 for a class that was not taken
-abbrev pub free_one : Bool → ℕ
-free_one true = 0
-free_one false = 1
+abbrev pub one_if_free : Bool → ℕ
+one_if_free true = 0
+one_if_free false = 1
 
 abbrev pub mark_at : List Bool → ℕ → Bool
 mark_at taken class = slice_index_or taken class false
@@ -125,8 +125,8 @@ pub record IsTrueList (j : Subject) (s : State) : Type 0 where
   pub marked : (class : ℕ) → class < class_count j → mark_at s.taken class ≡ is_taken s.journal class
   -- one Take for each class that was taken, and one more at most for each claim
   pub claims : s.claims ≤ class_count j
-  pub takes : sum_by take_one s.journal + sum_by free_one s.taken ≤ class_count j + s.claims
-  pub by_claim : s.claims ≤ sum_by take_one s.journal
+  pub takes : sum_by one_if_take s.journal + sum_by one_if_free s.taken ≤ class_count j + s.claims
+  pub by_claim : s.claims ≤ sum_by one_if_take s.journal
 
 -- ---- for private functions
 
@@ -136,5 +136,5 @@ pub record IsKept (j : Subject) (s : State) (faults : List Fault) (limit entries
   pub faults_are : faults ≡ j.classes.representatives
   pub limit_is : limit ≡ j.limit
   pub few : class_count j < 2 ^ 31
-  pub room : entries + class_count j + sum_by free_one s.taken + sum_by open_one s.verdicts + s.spare_entries ≤ entries_room + s.claims
+  pub room : entries + class_count j + sum_by one_if_free s.taken + sum_by one_if_class_open s.verdicts + s.spare_entries ≤ entries_room + s.claims
   pub spare : patterns + s.spare_patterns ≤ patterns_room

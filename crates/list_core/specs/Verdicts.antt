@@ -36,26 +36,26 @@ is_undetected (Redundant tree) = false
 is_undetected (Aborted tree) = true
 
 -- 1 for a verdict of the kind
-abbrev pub open_one : Verdict → ℕ
-open_one Open = 1
-open_one (Detected place point) = 0
-open_one (Redundant tree) = 0
-open_one (Aborted tree) = 0
+abbrev pub one_if_class_open : Verdict → ℕ
+one_if_class_open Open = 1
+one_if_class_open (Detected place point) = 0
+one_if_class_open (Redundant tree) = 0
+one_if_class_open (Aborted tree) = 0
 
-abbrev pub detected_class_one : Verdict → ℕ
-detected_class_one Open = 0
-detected_class_one (Detected place point) = 1
-detected_class_one (Redundant tree) = 0
-detected_class_one (Aborted tree) = 0
+abbrev pub one_if_class_detected : Verdict → ℕ
+one_if_class_detected Open = 0
+one_if_class_detected (Detected place point) = 1
+one_if_class_detected (Redundant tree) = 0
+one_if_class_detected (Aborted tree) = 0
 
-abbrev pub redundant_class_one : Verdict → ℕ
-redundant_class_one Open = 0
-redundant_class_one (Detected place point) = 0
-redundant_class_one (Redundant tree) = 1
-redundant_class_one (Aborted tree) = 0
+abbrev pub one_if_class_redundant : Verdict → ℕ
+one_if_class_redundant Open = 0
+one_if_class_redundant (Detected place point) = 0
+one_if_class_redundant (Redundant tree) = 1
+one_if_class_redundant (Aborted tree) = 0
 
-abbrev pub aborted_class_one : Verdict → ℕ
-aborted_class_one Open = 0
-aborted_class_one (Detected place point) = 0
-aborted_class_one (Redundant tree) = 0
-aborted_class_one (Aborted tree) = 1
+abbrev pub one_if_class_aborted : Verdict → ℕ
+one_if_class_aborted Open = 0
+one_if_class_aborted (Detected place point) = 0
+one_if_class_aborted (Redundant tree) = 0
+one_if_class_aborted (Aborted tree) = 1

@@ -88,11 +88,11 @@ impl MeetingEngine {
 }
 
 impl Engine for MeetingEngine {
-    ghost use Rattle.podem.specs.Rooms.{CanServePodem};
+    ghost use Rattle.podem.specs.Rooms.{IsReusablePodemRoom};
 
     type Room = PodemRoom;
 
-    ghost serves = { CanServePodem };
+    ghost serves = { IsReusablePodemRoom };
 
     fn search(
         &self,

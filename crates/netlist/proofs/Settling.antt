@@ -96,9 +96,9 @@ evaluate_more rule n [] x old between new made one = (new, subst (λ vs. IsEvalu
 evaluate_more rule n (y ∷ ys) x old between new made one = (made.0, made.1, evaluate_more rule n ys x made.0 between new made.2 one)
 
 module _ (n : Netlist) (numbered : IsNumbered n) (order : List ℕ) (ordered : IsOrder n order) {V : Type 0} (rule : Rule V) (inputs state : List V) where
-  settle_one : (m x : ℕ) (old new : List V) → m < length order → x ≡ get_or order m x → IsEvaluated rule n x old new → AllSettleUpTo rule n order inputs state old m
+  one_if_settle : (m x : ℕ) (old new : List V) → m < length order → x ≡ get_or order m x → IsEvaluated rule n x old new → AllSettleUpTo rule n order inputs state old m
       → AllSettleUpTo rule n order inputs state new (m + 1)
-  settle_one m x old new l is made h =
+  one_if_settle m x old new l is made h =
       let w = ordered.members m 0 l in
       let here : w.0.id ≡ x = w.2 ∙ (get_or_default order m 0 x l ∙ sym is) in
       record {
@@ -114,7 +114,7 @@ module _ (n : Netlist) (numbered : IsNumbered n) (order : List ℕ) (ordered : I
       → (d : V) → Settles rule n inputs state (at new d)
   all_settle old driven new size sources made d =
       let total = sources.size ∙ size in
-      let all = by_steps rule n (λ m values. AllSettleUpTo rule n order inputs state values m) order settle_one driven new made (record {
+      let all = by_steps rule n (λ m values. AllSettleUpTo rule n order inputs state values m) order one_if_settle driven new made (record {
         size = total;
         each = λ d. record {
           size = total;

@@ -51,7 +51,7 @@ allows_pins Const0 count = count == 0
 allows_pins Const1 count = count == 0
 
 -- what some bits are together
-pub record AreTogether (bits : List Bool) (all some odd first : Bool) : Type 0 where
+pub record AreReductionsOf (bits : List Bool) (all some odd first : Bool) : Type 0 where
   pub all_is : all ≡ conjunction bits
   pub some_is : some ≡ disjunction bits
   pub odd_is : odd ≡ parity bits

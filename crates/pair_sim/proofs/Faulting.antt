@@ -20,7 +20,7 @@ use Rattle.netlist.specs.Settled.{at}
 use Rattle.events.specs.Standing.{Standing, SettlesAnew}
 use Rattle.events.specs.Stuck.{IsObservedOnly}
 use Rattle.events.specs.Trails.{AreChanges}
-use Rattle.label_events.specs.Lines.{IsOff, AreSameOff}
+use Rattle.label_events.specs.Lines.{IsLineOfOthers, AgreeOnOtherLines}
 use Rattle.label_events.proofs.Changing.{fault_changes, fault_changes_nothing, is_driven}
 use Rattle.pair_sim.specs.declared.levels.Level.{Level}
 use Rattle.tri.specs.Paths.{decisions}
@@ -41,13 +41,13 @@ some_same : (x y : ℕ) → Some x ≡ Some y → x ≡ y
 some_same x y e = cc
 
 -- the line enters the equation of no other signal
-pub off_site : (n : Netlist) (line : Line) (x : ℕ) → site_of line ≡ Some x → (y : ℕ) → y ≢ x → IsOff n line y
+pub off_site : (n : Netlist) (line : Line) (x : ℕ) → site_of line ≡ Some x → (y : ℕ) → y ≢ x → IsLineOfOthers n line y
 off_site n (Stem z) x e y ne = (is_false (eqb z y) (λ h. ne (sym (eqb-true z y h) ∙ some_same z x e)), λ d c i k. refl)
 off_site n (Pin z j) x e y ne = (refl, λ d c i k. is_false (eqb z y && eqb j k) (λ h. ne (sym (eqb-true z y (and_parts (eqb z y) (eqb j k) h).0) ∙ some_same z x e)))
 off_site n (Out z) x e y ne = absurd cc
 
 -- nor of any, where there is no such signal
-pub off_all : (n : Netlist) (line : Line) → site_of line ≡ None → (y : ℕ) → IsOff n line y
+pub off_all : (n : Netlist) (line : Line) → site_of line ≡ None → (y : ℕ) → IsLineOfOthers n line y
 off_all n (Stem z) e y = absurd cc
 off_all n (Pin z j) e y = absurd cc
 off_all n (Out z) e y = (refl, λ d c i k. refl)
@@ -61,7 +61,7 @@ site_within n sound (Pin z j) w x e =
     omega arith
 site_within n sound (Out z) w x e = absurd cc
 
-module _ (line : Line) (f g : Option Fault) (path : Decisions) (n : Netlist) (holds : Holds) (same : AreSameOff line f g) (old new : List Label) where
+module _ (line : Line) (f g : Option Fault) (path : Decisions) (n : Netlist) (holds : Holds) (same : AgreeOnOtherLines line f g) (old new : List Label) where
   pub put_there : IsSound n → AreHoldsOf n holds → (x : ℕ) → site_of line ≡ Some x
       → SettlesAnew (labels g path) n x (source_label path x (held_value (get_or holds x None))) old new → length new ≡ length old
       → AreLabelled f path n holds old → AreLabelled g path n holds new

@@ -21,7 +21,7 @@ use Rattle.events.specs.declared.trails.Change.{Change}
 use Rattle.pair_sim.specs.declared.levels.Level.{Level}
 use Rattle.pair_sim.specs.declared.states.State.{State}
 use Rattle.pair_sim.specs.declared.states.State.TheVariants.{Test, Blocked, Going}
-use Rattle.pair_sim.specs.Sims.{sim, IsState, IsContradictedSim, AreChangedSignals}
+use Rattle.pair_sim.specs.Sims.{sim, IsState, HasContradiction, AreChangedSignals}
 use Rattle.pair_sim.specs.inner.Levels.{blank, path_of, rank, times, is_contradicted, IsNoted, GoBack, IsKept}
 use Rattle.observed_points.specs.Points.{ArePoints}
 use Rattle.pair_sim.specs.inner.Points.{IsStateOf, MayNot, SomeMay}
@@ -99,7 +99,7 @@ module _ (f : Fault) (n : Netlist) (holds : Holds) (row : List (Option Bool)) (l
   named x cs l = let w = stands x cs l in subst (Contains (map (λ (c : Change Label). c.signal) cs)) w.2 (mapped (λ (c : Change Label). c.signal) cs w.0 w.1)
 
   -- what the trail names
-  pub names_changed : IsSound n → (IsContradictedSim (sim n f holds (path_of (reverse levels))) → ⊥) → AreChangedSignals (sim n f holds (path_of (reverse levels))) names
+  pub names_changed : IsSound n → (HasContradiction (sim n f holds (path_of (reverse levels))) → ⊥) → AreChangedSignals (sim n f holds (path_of (reverse levels))) names
   names_changed sound possible =
       let off : is_contradicted (reverse levels) ≡ false = elim (cases_Bool (is_contradicted (reverse levels))) [
         | inl on ↦ absurd (possible (record { label = at values blank; are = kept.labelled.labels blank; contradicted = flag_true (is_contradicted (reverse levels)) _ _ flag on }))

@@ -5,7 +5,7 @@ use Rattle.netlist.specs.Holds.{Holds}
 use Rattle.netlist.specs.Lines.{IsLineOf}
 use Rattle.netlist.specs.Netlist.{Netlist}
 use Rattle.tri.specs.declared.labels.Label.{Label}
-use Rattle.events.specs.Rooms.{Room as EventRoom, CanServe, standing_in}
+use Rattle.events.specs.Rooms.{Room as EventRoom, IsReusableRoom, standing_in}
 use Rattle.pair_sim.specs.declared.levels.Level.{Level}
 use Rattle.pair_sim.specs.inner.Reach.{IsReach}
 use Rattle.pair_sim.specs.inner.Stored.{IsStored}
@@ -29,8 +29,8 @@ pub record LabelRoom : Type 0 where
   pub reach_room : ℕ
 
 -- the room was left by labels of this netlist under these held inputs
-pub record CanServeLabels (n : Netlist) (holds : Holds) (r : LabelRoom) : Type 0 where
+pub record IsReusableLabelRoom (n : Netlist) (holds : Holds) (r : LabelRoom) : Type 0 where
   pub line : IsLineOf n r.fault.line
-  pub serves : CanServe n r.events
+  pub serves : IsReusableRoom n r.events
   pub stored : IsStored r.fault holds r.stuck r.decided r.levels r.names (standing_in n r.events) r.level_room r.name_room
   pub reach : IsReach r.fault n holds r.seen r.first r.numbers r.known r.reached r.reach_room

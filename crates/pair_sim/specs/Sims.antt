@@ -59,7 +59,7 @@ pub record MayDiffer (s : Sim) (x : ℕ) (differs : Bool) : Type 0 where
   pub may_differ : (label x).may_differ ≡ differs
 
 -- a decision is contradicted
-pub record IsContradictedSim (s : Sim) : Type 0 where
+pub record HasContradiction (s : Sim) : Type 0 where
   pub label : ℕ → Label
   pub are : AreLabelsOf s label
   pub contradicted : IsContradicted (decisions s.path) s.netlist label

@@ -2,7 +2,7 @@
 ghost use Rattle.std.specs.Prelude.{IfOk};
 ghost use Rattle.netlist.specs.Holds.{AreHoldsOf};
 ghost use Rattle.netlist.specs.Lines.{IsLineOf};
-ghost use Rattle.pair_sim.specs.Rooms.{CanServeLabels};
+ghost use Rattle.pair_sim.specs.Rooms.{IsReusableLabelRoom};
 
 use crate::levels::Level;
 use crate::reach::Reach;
@@ -49,7 +49,7 @@ impl SimRoom {
     /// Room for all searches of a netlist under these held inputs.
     pub fn new(alloc: Global, core: &Core, holds: &Holds) -> Result<SimRoom, NoMemory>
         requires { AreHoldsOf core.now holds.now }
-        ensures { IfOk result (CanServeLabels core.now holds.now) }
+        ensures { IfOk result (IsReusableLabelRoom core.now holds.now) }
     {
         let labels = PairSim::new(alloc, core, some_fault(core), holds)?;
         Ok(labels.into_room())

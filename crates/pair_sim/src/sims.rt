@@ -5,8 +5,8 @@ ghost use Rattle.netlist.specs.Holds.{AreHoldsOf};
 ghost use Rattle.netlist.specs.Conditions.{IsSound};
 ghost use Rattle.netlist.specs.Lines.{IsLineOf};
 ghost use Rattle.netlist.specs.Netlist.{signals};
-ghost use Rattle.pair_sim.specs.Rooms.{CanServeLabels};
-ghost use Rattle.pair_sim.specs.Sims.{sim, assigned, backtracked, HasGood, HasOwn, HasFaulty, MayDiffer, HasLabel, IsNotBlocked, IsState, IsFree, IsContradictedSim, AreChangedSignals};
+ghost use Rattle.pair_sim.specs.Rooms.{IsReusableLabelRoom};
+ghost use Rattle.pair_sim.specs.Sims.{sim, assigned, backtracked, HasGood, HasOwn, HasFaulty, MayDiffer, HasLabel, IsNotBlocked, IsState, IsFree, HasContradiction, AreChangedSignals};
 
 use crate::levels::{Level, is_contradicted};
 use crate::points::state_of;
@@ -96,7 +96,7 @@ impl<'a> PairSim<'a> {
     /// What is kept of it for another fault.
     pub fn into_room(self) -> SimRoom
         requires { IsLineOf self.netlist self.fault.line }
-        ensures { CanServeLabels self.entry.netlist self.entry.holds result }
+        ensures { IsReusableLabelRoom self.entry.netlist self.entry.holds result }
     {
         let PairSim {
             fault,
@@ -119,7 +119,7 @@ impl<'a> PairSim<'a> {
 
     /// The simulation as the room was left.
     fn resumed(room: SimRoom, core: &'a Core, holds: &'a Holds) -> PairSim<'a>
-        requires { CanServeLabels core.now holds.now room }
+        requires { IsReusableLabelRoom core.now holds.now room }
         ensures netlist { result.netlist ≡ core.now }
         ensures holds { result.holds ≡ holds.now }
         ensures line { IsLineOf core.now result.fault.line }
@@ -145,7 +145,7 @@ impl<'a> PairSim<'a> {
 
     /// The simulation of a fault without a decision, in room that was kept: only what this fault and the one before reach is evaluated.
     pub fn in_room(room: SimRoom, core: &'a Core, fault: Fault, holds: &'a Holds) -> PairSim<'a>
-        requires serves { CanServeLabels core.now holds.now room }
+        requires serves { IsReusableLabelRoom core.now holds.now room }
         requires line { IsLineOf core.now fault.line }
         requires holds { AreHoldsOf core.now holds.now }
         ensures { result ≡ sim core.now fault holds.now [] }
@@ -314,7 +314,7 @@ impl<'a> PairSim<'a> {
 
     /// The signals whose labels aren't those of the path without decisions.
     pub fn trail(&self) -> &[SignalId]
-        ensures { ¬ IsContradictedSim self.now → AreChangedSignals self.now result.now }
+        ensures { ¬ HasContradiction self.now → AreChangedSignals self.now result.now }
     {
         self.events.core().netlist().sound();
         &self.names

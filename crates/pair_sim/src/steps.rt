@@ -6,7 +6,7 @@ ghost use Rattle.netlist.specs.Lines.{IsLineOf};
 ghost use Rattle.netlist.specs.Netlist.{signals};
 ghost use Rattle.tri.specs.Labelling.{decided_in};
 ghost use Rattle.tri.specs.Labels.{source_label, held_value};
-ghost use Rattle.label_events.specs.Lines.{AreSameOff};
+ghost use Rattle.label_events.specs.Lines.{AgreeOnOtherLines};
 ghost use Rattle.observed_points.specs.Points.{ArePoints};
 ghost use Rattle.pair_sim.specs.inner.Steps.{IsRelabelled, IsForgotten, IsNamed, IsPlayedBack, IsSettledBack, IsSiteSettled, IsFaultPut, IsFaultSet, IsFaultReplaced, site_of};
 
@@ -137,7 +137,7 @@ fn put_fault(
 )
     requires line { IsLineOf events.old.netlist line.now }
     requires holds { AreHoldsOf events.old.netlist holds.now }
-    requires same { AreSameOff line.now labelling.old.fault fault }
+    requires same { AgreeOnOtherLines line.now labelling.old.fault fault }
     requires room { length events.old.trail ≤ events.old.room }
     ensures { IsFaultPut holds.now fault labelling.old labelling.new events.old events.new }
 {

@@ -1,9 +1,9 @@
 -- What a search leaves to the next one for another fault of the netlist.
 use Rattle.netlist.specs.Netlist.{Netlist}
 use Rattle.netlist.specs.Holds.{Holds}
-use Rattle.pair_sim.specs.Rooms.{CanServeLabels}
+use Rattle.pair_sim.specs.Rooms.{IsReusableLabelRoom}
 use Rattle.podem.specs.declared.engine.PodemRoom.{PodemRoom}
 
 -- its labels are as those of a room of the simulation
-abbrev pub CanServePodem : Netlist → Holds → PodemRoom → Type 0
-CanServePodem n holds r = CanServeLabels n holds r.labels
+abbrev pub IsReusablePodemRoom : Netlist → Holds → PodemRoom → Type 0
+IsReusablePodemRoom n holds r = IsReusableLabelRoom n holds r.labels

@@ -171,11 +171,11 @@ impl Podem {
 }
 
 impl Engine for Podem {
-    ghost use Rattle.podem.specs.Rooms.{CanServePodem};
+    ghost use Rattle.podem.specs.Rooms.{IsReusablePodemRoom};
 
     type Room = PodemRoom;
 
-    ghost serves = { CanServePodem };
+    ghost serves = { IsReusablePodemRoom };
 
     fn search(
         &self,

@@ -21,7 +21,7 @@ use Rattle.tri.specs.declared.labels.Label.{Label}
 use Rattle.tri.specs.declared.labelling.Labelling.{Labelling}
 use Rattle.tri.specs.Labels.{AreLabels}
 use Rattle.tri.specs.Labelling.{decided_in, AreLabelled, IsUndecided}
-use Rattle.label_events.specs.Lines.{IsOff, IsInner, AreSameOff}
+use Rattle.label_events.specs.Lines.{IsLineOfOthers, IsInner, AgreeOnOtherLines}
 use Rattle.label_events.proofs.Changing.{decision_changes, fault_changes, fault_changes_nothing}
 use Rattle.redundancy_cert.specs.inner.Tallies.{tally, count_pairs, shows, contradicts}
 use Rattle.redundancy_cert.specs.inner.Passing.{AreObserved, IsKept, IsResettled, no_label}
@@ -68,7 +68,7 @@ module _ (s s' : Standing Label) (same : s' ≡ record s { values = s'.values })
         trail_is = trail;
       }
 
-  pub kept_stuck : (line : Line) (g : Option Fault) (id d' c' : ℕ) → AreSameOff line fault g → ((y : ℕ) → y ≢ id → IsOff s.netlist line y)
+  pub kept_stuck : (line : Line) (g : Option Fault) (id d' c' : ℕ) → AgreeOnOtherLines line fault g → ((y : ℕ) → y ≢ id → IsLineOfOthers s.netlist line y)
       → IsResettled g (decided_in row) s.netlist holds id s.values s'.values
       → d' ≡ count_pairs shows marks s'.values → c' ≡ count_pairs contradicts row s'.values
       → IsKept (record { netlist = s'.netlist; holds = holds; fault = g; decided = row; values = s'.values }) marks d' c' s'.trail
@@ -88,7 +88,7 @@ module _ (s s' : Standing Label) (same : s' ≡ record s { values = s'.values })
 
 pub kept_off : (s : Standing Label) (holds : Holds) (fault g : Option Fault) (row : List (Option Bool)) (marks : List Bool) (d c : ℕ) (line : Line)
     → IsKept (record { netlist = s.netlist; holds = holds; fault = fault; decided = row; values = s.values }) marks d c s.trail
-    → AreSameOff line fault g → ((y : ℕ) → IsOff s.netlist line y)
+    → AgreeOnOtherLines line fault g → ((y : ℕ) → IsLineOfOthers s.netlist line y)
     → IsKept (record { netlist = s.netlist; holds = holds; fault = g; decided = row; values = s.values }) marks d c s.trail
 kept_off s holds fault g row marks d c line kept off others = record {
   standing = record {

@@ -9,7 +9,7 @@ use Rattle.redundancy_cert.specs.declared.stacks.Other.{Other}
 use Rattle.redundancy_cert.specs.declared.stacks.Other.TheVariants.{Untried, Searched, Shut}
 use Rattle.redundancy_cert.specs.declared.stacks.Side.{Side}
 use Rattle.redundancy_cert.specs.Trees.{ClosedEnd, OpenEnd, SplitOn, ForcedTo, preorder, Place, places, closed_count, open_count}
-use Rattle.redundancy_cert.specs.Stacks.{other_nodes, node_of, wrapped, stack_tree, stack_onto, StandsBelow, OtherStands, StandsAround, closed_around, open_around, searched_open, searched_open_around, IsTurned, IsClimbed}
+use Rattle.redundancy_cert.specs.Stacks.{other_nodes, node_of, wrapped, stack_tree, stack_onto, StandsBelow, OtherStands, StandsAround, closed_around, open_around, searched_open, searched_open_around, IsFlipped, IsClimbed}
 use Rattle.redundancy_cert.proofs.Redundant.{closed_count-append, open_count-append}
 
 -- ---- one decision more at the end
@@ -143,7 +143,7 @@ module _ (P : Place → Type 0) where
   searched_stands path Shut y c ds k e h = tt
 
   -- after a turn the stack stands, and so does an Open at its new end
-  pub turned_stands : (p : Path) (done : List Node) (old new : List Side) → IsTurned done old new → StandsAround P p old → StandsBelow P (stack_onto p old) done
+  pub turned_stands : (p : Path) (done : List Node) (old new : List Side) → IsFlipped done old new → StandsAround P p old → StandsBelow P (stack_onto p old) done
       → StandsAround P p new × StandsBelow P (stack_onto p new) (Open ∷ [])
   turned_stands p done old new t h d =
       let before : StandsAround P p (t.front ++ t.last ∷ []) = subst (StandsAround P p) t.was h in
@@ -179,7 +179,7 @@ module _ (P : Place → Type 0) where
       )
 
 -- the counts of a turn
-pub turned_closed : (done : List Node) (old new : List Side) → IsTurned done old new → closed_around new ≡ closed_around old + closed_count done
+pub turned_closed : (done : List Node) (old new : List Side) → IsFlipped done old new → closed_around new ≡ closed_around old + closed_count done
 turned_closed done old new t =
     let a = ap closed_around t.is in
     let b = closed_around-append t.front t.next in
@@ -199,7 +199,7 @@ searched_open_at (Searched t) y c ds k e = let h = ap open_count e in omega arit
 searched_open_at Shut y c ds k e = omega arith
 
 -- a turn leaves no Open in what was searched, where there was none
-pub turned_open : (done : List Node) (old new : List Side) → IsTurned done old new → searched_open_around old ≡ 0 → open_count done ≡ 0 → searched_open_around new ≡ 0
+pub turned_open : (done : List Node) (old new : List Side) → IsFlipped done old new → searched_open_around old ≡ 0 → open_count done ≡ 0 → searched_open_around new ≡ 0
 turned_open done old new t h d =
     let a = ap searched_open_around t.is in
     let b = searched_open_around-append t.front t.next in

@@ -82,7 +82,7 @@ searched_open_around (s ∷ ss) = searched_open s.other + searched_open_around s
 
 -- The search of the last decision's side has ended with this tree, where it stood at the end of the path. Then the search stands
 -- on the other side, if that was untried; else the decision is a tree, and the search of the one before has ended with it.
-pub record IsTurned (done : List Node) (old new : List Side) : Type 0 where
+pub record IsFlipped (done : List Node) (old new : List Side) : Type 0 where
   pub front : List Side
   pub last : Side
   pub next : Side
@@ -100,6 +100,6 @@ pub record IsClimbed (done : List Node) (old new : List Side) (tree : List Node)
   pub is : tree ≡ wrapped last done
   pub tried : open_count (other_nodes last.other) ≡ searched_open last.other
 
-abbrev pub IsClimbOrTurn : List Node → List Side → List Side → Turn → Type 0
-IsClimbOrTurn done old new Turned = IsTurned done old new
-IsClimbOrTurn done old new (Climbed tree) = IsClimbed done old new tree.items
+abbrev pub IsSideEnd : List Node → List Side → List Side → Turn → Type 0
+IsSideEnd done old new Turned = IsFlipped done old new
+IsSideEnd done old new (Climbed tree) = IsClimbed done old new tree.items

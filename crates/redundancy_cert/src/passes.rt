@@ -13,7 +13,7 @@ ghost use Rattle.redundancy_cert.specs.inner.Tallies.{count_pairs, shows, contra
 ghost use Rattle.redundancy_cert.specs.inner.Passing.{AreStanding, IsResettled, IsStart, no_label};
 ghost use Rattle.netlist.specs.Settled.{at};
 ghost use Rattle.tri.specs.Labels.{IsUnobserved};
-ghost use Rattle.label_events.specs.Lines.{AreSameOff};
+ghost use Rattle.label_events.specs.Lines.{AgreeOnOtherLines};
 
 use crate::observed::observed_marks;
 use crate::tallies::{LabelTally, contradicts, counted, recount};
@@ -159,7 +159,7 @@ impl<'a> Pass<'a> {
     /// A line is stuck that wasn't, or no longer: the labels settle where it enters.
     fn turn(&mut self, line: &Line, fault: Option<Fault>)
         requires line { IsLineOf self.old.netlist line.now }
-        requires same { AreSameOff line.now self.old.fault fault }
+        requires same { AgreeOnOtherLines line.now self.old.fault fault }
         ensures { self.new ≡ record self.old { fault = fault; values = self.new.values } }
     {
         self.events.core().netlist().sound();

@@ -5,7 +5,7 @@ ghost use Rattle.netlist.specs.Holds.{AreHoldsOf};
 ghost use Rattle.scan_insert.specs.Scanned.{AreChainsOf};
 ghost use Rattle.fault_universe.specs.Universe.{universe_of};
 ghost use Rattle.report.specs.Reports.{IsLine};
-ghost use Rattle.run_report.specs.Heads.{count_of, counts_of, detected_one, holds_named, redundant_one, share_of};
+ghost use Rattle.run_report.specs.Heads.{count_of, counts_of, one_if_detected, holds_named, one_if_redundant, share_of};
 ghost use Rattle.run_files.specs.inner.Reports.{IsReported};
 
 use chain_stitch::Chains;

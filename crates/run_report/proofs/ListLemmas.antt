@@ -10,7 +10,7 @@ use Rattle.std.proofs.lemmas.List.Sums.{sum_by_more}
 use Rattle.report.specs.declared.outcomes.Outcome.{Outcome}
 use Rattle.report.specs.declared.outcomes.Outcome.TheVariants.{Detected, Redundant, Aborted}
 use Rattle.report.specs.Reports.{Line}
-use Rattle.run_report.specs.Heads.{aborted_one, count_of, detected_one, redundant_one}
+use Rattle.run_report.specs.Heads.{one_if_aborted, count_of, one_if_detected, one_if_redundant}
 
 -- one line more is counted
 pub counted_more : (one : Outcome → ℕ) (lines : List Line) (k : ℕ) (line : Line) (old new : ℕ) → slice_get lines k ≡ Some line
@@ -20,7 +20,7 @@ counted_more one lines k line old new at before after =
     let same = ap (λ (l : Line). one l.outcome) (get_or_from_slice_get lines k line line at) in
     omega (arith, more, same, before, after)
 
-pub one_kind : (o : Outcome) → detected_one o + redundant_one o + aborted_one o ≡ 1
+pub one_kind : (o : Outcome) → one_if_detected o + one_if_redundant o + one_if_aborted o ≡ 1
 one_kind (Detected place cycle) = refl
 one_kind Redundant = refl
 one_kind Aborted = refl

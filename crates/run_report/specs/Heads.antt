@@ -13,20 +13,20 @@ use Rattle.report.specs.Reports.{Line, Hold, Report}
 use Rattle.run_report.specs.Outcomes.{Test}
 
 -- 1 for an outcome of the kind
-abbrev pub detected_one : Outcome → ℕ
-detected_one (Detected place cycle) = 1
-detected_one Redundant = 0
-detected_one Aborted = 0
+abbrev pub one_if_detected : Outcome → ℕ
+one_if_detected (Detected place cycle) = 1
+one_if_detected Redundant = 0
+one_if_detected Aborted = 0
 
-abbrev pub redundant_one : Outcome → ℕ
-redundant_one (Detected place cycle) = 0
-redundant_one Redundant = 1
-redundant_one Aborted = 0
+abbrev pub one_if_redundant : Outcome → ℕ
+one_if_redundant (Detected place cycle) = 0
+one_if_redundant Redundant = 1
+one_if_redundant Aborted = 0
 
-abbrev pub aborted_one : Outcome → ℕ
-aborted_one (Detected place cycle) = 0
-aborted_one Redundant = 0
-aborted_one Aborted = 1
+abbrev pub one_if_aborted : Outcome → ℕ
+one_if_aborted (Detected place cycle) = 0
+one_if_aborted Redundant = 0
+one_if_aborted Aborted = 1
 
 -- how many lines are of the kind
 abbrev pub count_of : (Outcome → ℕ) → List Line → ℕ
@@ -49,10 +49,10 @@ counts_with n chains faults classes patterns cycles limit lines = record {
   patterns = patterns;
   cycles = cycles;
   limit = limit;
-  detected = count_of detected_one lines;
-  redundant = count_of redundant_one lines;
-  aborted = count_of aborted_one lines;
-  untested = count_of redundant_one lines + count_of aborted_one lines;
+  detected = count_of one_if_detected lines;
+  redundant = count_of one_if_redundant lines;
+  aborted = count_of one_if_aborted lines;
+  untested = count_of one_if_redundant lines + count_of one_if_aborted lines;
 }
 
 -- the same in the cycles of a test of stuck lines
@@ -66,8 +66,8 @@ share_of faults count = 10000 * count / faults
 -- the numbers above the lines
 pub record HasHead (t : Test) (classes : Classes) (r : Report) : Type 0 where
   pub counts : r.counts ≡ counts_of t.netlist t.chains (length (universe_of t.netlist)) (length classes.representatives) (length t.patterns) t.limit r.lines
-  pub coverage : r.coverage ≡ share_of (length (universe_of t.netlist)) (count_of detected_one r.lines)
-  pub efficiency : r.efficiency ≡ share_of (length (universe_of t.netlist)) (count_of detected_one r.lines + count_of redundant_one r.lines)
+  pub coverage : r.coverage ≡ share_of (length (universe_of t.netlist)) (count_of one_if_detected r.lines)
+  pub efficiency : r.efficiency ≡ share_of (length (universe_of t.netlist)) (count_of one_if_detected r.lines + count_of one_if_redundant r.lines)
 
 abbrev pub hold_at : Netlist → ℕ × Option Bool → List Hold
 hold_at n (x, None) = []

@@ -1,7 +1,7 @@
 //! The numbers above the lines of a report.
 ghost use Rattle.std.specs.Prelude.{◌≡◌, ◌+◌, ◌-◌, ◌*◌, ◌<◌, ◌≤◌, ◌^◌};
 ghost use Rattle.scan_insert.specs.Scanned.{AreChainsOf};
-ghost use Rattle.run_report.specs.Heads.{aborted_one, count_of, counts_of, counts_with, detected_one, redundant_one, share_of};
+ghost use Rattle.run_report.specs.Heads.{one_if_aborted, count_of, counts_of, counts_with, one_if_detected, one_if_redundant, share_of};
 ghost use Rattle.run_report.specs.inner.Tallies.{AreTallied};
 
 use chain_stitch::Chains;
@@ -30,9 +30,9 @@ impl Tally {
     /// One line more.
     fn with(self, outcome: Outcome) -> Tally
         requires { self.detected + self.redundant + self.aborted < 2 ^ 64 - 1 }
-        ensures detected { result.detected ≡ self.detected + detected_one outcome }
-        ensures redundant { result.redundant ≡ self.redundant + redundant_one outcome }
-        ensures aborted { result.aborted ≡ self.aborted + aborted_one outcome }
+        ensures detected { result.detected ≡ self.detected + one_if_detected outcome }
+        ensures redundant { result.redundant ≡ self.redundant + one_if_redundant outcome }
+        ensures aborted { result.aborted ≡ self.aborted + one_if_aborted outcome }
     {
         let mut tally = self;
         match outcome {

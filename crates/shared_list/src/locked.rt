@@ -3,7 +3,7 @@ ghost use Rattle.std.specs.Prelude.{◌≡◌, ℕ, ◌+◌, ◌-◌, ◌^◌, �
 ghost use Rattle.list_core.specs.Subjects.{class_count};
 ghost use Rattle.list_core.specs.Batches.{IsTrueBatch};
 ghost use Rattle.list_core.specs.Verdicts.{verdict_at, is_open};
-ghost use Rattle.list_core.specs.Journal.{take_one, settle_one, publish_one};
+ghost use Rattle.list_core.specs.Journal.{one_if_take, one_if_settle, one_if_publish};
 ghost use Rattle.list_core.specs.States.{IsPublished, State, may_enter, entered, settled, MaySettle, IsTrueList};
 ghost use Rattle.list_core.specs.declared.verdicts.Verdict.TheVariants.{Open};
 ghost use Rattle.shared_list.specs.Tally.{Tally, took, gave, spent};
@@ -27,9 +27,9 @@ pub(crate) struct Locked<J: About, T: Ledger, S: Ledger, P: Ledger, U: Ledger> {
     ghost rest_parts: { (rest.takes.parts ≡ 0) × (rest.settles.parts ≡ 0) × (rest.publishes.parts ≡ 0) × (rest.unspent.parts ≡ 0) },
     ghost rest_amounts: { (rest.takes.amount ≡ 0) × (rest.settles.amount ≡ 0) × (rest.publishes.amount ≡ 0) × (rest.unspent.amount ≡ 0) },
     ghost no_claims: { list.claims ≡ 0 },
-    ghost taken: { takes.total ≡ sum_by take_one list.journal },
-    ghost settled: { settles.total ≡ sum_by settle_one list.journal },
-    ghost published: { publishes.total ≡ sum_by publish_one list.journal },
+    ghost taken: { takes.total ≡ sum_by one_if_take list.journal },
+    ghost settled: { settles.total ≡ sum_by one_if_settle list.journal },
+    ghost published: { publishes.total ≡ sum_by one_if_publish list.journal },
     ghost spent: { length list.patterns + unspent.total ≡ takes.total },
 }
 
@@ -102,9 +102,9 @@ impl<J: About, T: Ledger, S: Ledger, P: Ledger, U: Ledger> Locked<J, T, S, P, U>
     pub fn ended(self, shares: Vec<Share<T, S, P, U>>) -> (FaultList<J>, Events)
         requires all { (vec_len shares ≡ T.parts) × (vec_len shares ≡ S.parts) × (vec_len shares ≡ P.parts) × (vec_len shares ≡ U.parts) }
         ensures list { result.0 ≡ self.list }
-        ensures takes { (result.1.takes ≡ sum_by (λ (t : Tally). t.takes) shares.items) × (result.1.takes ≡ sum_by take_one result.0.journal) }
-        ensures settles { (result.1.settles ≡ sum_by (λ (t : Tally). t.settles) shares.items) × (result.1.settles ≡ sum_by settle_one result.0.journal) }
-        ensures publishes { (result.1.publishes ≡ sum_by (λ (t : Tally). t.publishes) shares.items) × (result.1.publishes ≡ sum_by publish_one result.0.journal) }
+        ensures takes { (result.1.takes ≡ sum_by (λ (t : Tally). t.takes) shares.items) × (result.1.takes ≡ sum_by one_if_take result.0.journal) }
+        ensures settles { (result.1.settles ≡ sum_by (λ (t : Tally). t.settles) shares.items) × (result.1.settles ≡ sum_by one_if_settle result.0.journal) }
+        ensures publishes { (result.1.publishes ≡ sum_by (λ (t : Tally). t.publishes) shares.items) × (result.1.publishes ≡ sum_by one_if_publish result.0.journal) }
         ensures unspent { length result.0.patterns + sum_by (λ (t : Tally). t.unspent) shares.items ≡ result.1.takes }
         ensures no_claims { result.0.claims ≡ 0 }
         ensures true_list { IsTrueList J.subject result.0 }
@@ -130,9 +130,9 @@ impl<J: About, T: Ledger, S: Ledger, P: Ledger, U: Ledger> Locked<J, T, S, P, U>
 
 /// Counts the entries, kind by kind.
 fn events_of(journal: &[Entry]) -> Events
-    ensures takes { result.takes ≡ sum_by take_one journal.now }
-    ensures settles { result.settles ≡ sum_by settle_one journal.now }
-    ensures publishes { result.publishes ≡ sum_by publish_one journal.now }
+    ensures takes { result.takes ≡ sum_by one_if_take journal.now }
+    ensures settles { result.settles ≡ sum_by one_if_settle journal.now }
+    ensures publishes { result.publishes ≡ sum_by one_if_publish journal.now }
 {
     let mut takes: u64 = 0;
     let mut settles: u64 = 0;

@@ -11,7 +11,7 @@ ghost use Rattle.std.specs.Prelude.{◌≡◌, ℕ, ◌+◌, ◌-◌, ◌^◌, �
 ghost use Rattle.limits.specs.Limits.{most_workers};
 ghost use Rattle.list_core.specs.Subjects.{class_count};
 ghost use Rattle.list_core.specs.Batches.{IsTrueBatch};
-ghost use Rattle.list_core.specs.Journal.{take_one, settle_one, publish_one};
+ghost use Rattle.list_core.specs.Journal.{one_if_take, one_if_settle, one_if_publish};
 ghost use Rattle.list_core.specs.States.{State, MaySettle, IsTrueList};
 ghost use Rattle.shared_list.specs.Tally.{Tally, idle_from, drew, took, stopped, gave, spent};
 ghost use Rattle.shared_list.specs.Outcomes.{IsDraw, IsNone};
@@ -127,9 +127,9 @@ impl<J: About, T: Ledger, S: Ledger, P: Ledger, U: Ledger> Shared<J, T, S, P, U>
     /// The list, and the numbers of its events.
     pub fn into_list(self, shares: Vec<Share<T, S, P, U>>) -> (FaultList<J>, Events)
         requires all { (vec_len shares ≡ T.parts) × (vec_len shares ≡ S.parts) × (vec_len shares ≡ P.parts) × (vec_len shares ≡ U.parts) }
-        ensures takes { (result.1.takes ≡ sum_by (λ (t : Tally). t.takes) shares.items) × (result.1.takes ≡ sum_by take_one result.0.journal) }
-        ensures settles { (result.1.settles ≡ sum_by (λ (t : Tally). t.settles) shares.items) × (result.1.settles ≡ sum_by settle_one result.0.journal) }
-        ensures publishes { (result.1.publishes ≡ sum_by (λ (t : Tally). t.publishes) shares.items) × (result.1.publishes ≡ sum_by publish_one result.0.journal) }
+        ensures takes { (result.1.takes ≡ sum_by (λ (t : Tally). t.takes) shares.items) × (result.1.takes ≡ sum_by one_if_take result.0.journal) }
+        ensures settles { (result.1.settles ≡ sum_by (λ (t : Tally). t.settles) shares.items) × (result.1.settles ≡ sum_by one_if_settle result.0.journal) }
+        ensures publishes { (result.1.publishes ≡ sum_by (λ (t : Tally). t.publishes) shares.items) × (result.1.publishes ≡ sum_by one_if_publish result.0.journal) }
         ensures unspent { length result.0.patterns + sum_by (λ (t : Tally). t.unspent) shares.items ≡ result.1.takes }
         ensures few { length result.0.patterns ≤ class_count J.subject }
         ensures no_claims { result.0.claims ≡ 0 }

@@ -9,8 +9,8 @@ use Rattle.scan_insert.specs.Scanned.{AreChainsOf}
 use Rattle.scan_play.specs.Vectors.{IsStrobedAt, capture_cycle, unload_cycle}
 use Rattle.run_report.specs.Outcomes.{IsSeenAt}
 use Rattle.run_report.proofs.CycleLemmas.{small_product, longest_small, chain_small}
-use Rattle.transition_play.specs.LaunchVectors.{IsStrobedBehind, second_cycle, second_unload}
-use Rattle.transition_report.specs.Lines.{IsSeenBehind}
+use Rattle.transition_play.specs.LaunchVectors.{IsLaunchStrobedAt, second_cycle, second_unload}
+use Rattle.transition_report.specs.Lines.{IsLaunchSeenAt}
 
 -- a cycle more for each pattern before this one
 more : (p m : ℕ) → p * (m + 2) ≡ p * (m + 1) + p
@@ -25,7 +25,7 @@ later_capture m p c e = let d = more p m in omega arith
 later_unload : (m p count k c : ℕ) → c ≡ unload_cycle m p count k → c + p + 1 ≡ second_unload m p count k
 later_unload m p count k c e = let d = more (p + 1) m in omega arith
 
-strobed_behind : (n : Netlist) (chains : List (List ℕ)) (p : ℕ) (point : Point) (c o : ℕ) → IsStrobedAt n chains p point c o → IsStrobedBehind n chains p point (c + p + 1) o
+strobed_behind : (n : Netlist) (chains : List (List ℕ)) (p : ℕ) (point : Point) (c o : ℕ) → IsStrobedAt n chains p point c o → IsLaunchStrobedAt n chains p point (c + p + 1) o
 strobed_behind n chains p (Output k) c o at = (later_capture (longest_of chains) p c at.0, at.1)
 strobed_behind n chains p (Cell q) c o at = record {
   cell = at.cell;
@@ -37,7 +37,7 @@ strobed_behind n chains p (Cell q) c o at = record {
   output_is = at.output_is;
 }
 
-pub seen_behind : (n : Netlist) (chains : List (List ℕ)) (p : ℕ) (point : Point) (c : ℕ) (pin : List ℕ) → IsSeenAt n chains p point c pin → IsSeenBehind n chains p point (c + p + 1) pin
+pub seen_behind : (n : Netlist) (chains : List (List ℕ)) (p : ℕ) (point : Point) (c : ℕ) (pin : List ℕ) → IsSeenAt n chains p point c pin → IsLaunchSeenAt n chains p point (c + p + 1) pin
 seen_behind n chains p point c pin seen = (seen.0, strobed_behind n chains p point c seen.0 seen.1, seen.2)
 
 -- cycles are few enough for a number of 64 bits

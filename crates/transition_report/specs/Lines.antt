@@ -11,19 +11,19 @@ use Rattle.report.specs.declared.outcomes.Outcome.{Outcome}
 use Rattle.report.specs.declared.outcomes.Outcome.TheVariants as outcome
 use Rattle.report.specs.Reports.{Line}
 use Rattle.run_report.specs.Strobes.{IsPointOf}
-use Rattle.transition_play.specs.LaunchVectors.{IsStrobedBehind}
+use Rattle.transition_play.specs.LaunchVectors.{IsLaunchStrobedAt}
 use Rattle.transition_tests.specs.declared.verdicts.TransitionVerdict.{TransitionVerdict}
 use Rattle.transition_tests.specs.declared.verdicts.TransitionVerdict.TheVariants.{Detected, Redundant, Aborted}
 use Rattle.transition_report.specs.Texts.{transition_text}
 
 -- the tester sees a point of this pattern, by launch on capture, in this cycle at this pin
-abbrev pub IsSeenBehind : Netlist → List (List ℕ) → ℕ → Point → ℕ → List ℕ → Type 0
-IsSeenBehind n chains place point cycle pin = (output : ℕ) × IsStrobedBehind n chains place point cycle output × (pin ≡ pin_name_of (scanned_of n chains) output)
+abbrev pub IsLaunchSeenAt : Netlist → List (List ℕ) → ℕ → Point → ℕ → List ℕ → Type 0
+IsLaunchSeenAt n chains place point cycle pin = (output : ℕ) × IsLaunchStrobedAt n chains place point cycle output × (pin ≡ pin_name_of (scanned_of n chains) output)
 
 -- The pattern's place, and where the tester sees the point; or that no pattern detects it, by a tree without or with an open end.
 abbrev pub IsOutcomeOf : Netlist → List (List ℕ) → TransitionVerdict → Outcome → List ℕ → Type 0
 IsOutcomeOf n chains (Detected place point) o pin =
-    (cycle : ℕ) × (o ≡ outcome.Detected place cycle) × IsSeenBehind n chains place point cycle pin
+    (cycle : ℕ) × (o ≡ outcome.Detected place cycle) × IsLaunchSeenAt n chains place point cycle pin
 IsOutcomeOf n chains (Redundant tree) o pin = (o ≡ outcome.Redundant) × (pin ≡ [])
 IsOutcomeOf n chains (Aborted tree) o pin = (o ≡ outcome.Aborted) × (pin ≡ [])
 

@@ -4,7 +4,7 @@ use Rattle.netlist.specs.Netlist.{Netlist}
 use Rattle.chain_stitch.specs.Chains.{longest_of}
 use Rattle.fault_universe.specs.Universe.{universe_of}
 use Rattle.report.specs.Reports.{Line}
-use Rattle.run_report.specs.Heads.{count_of, counts_with, detected_one, redundant_one, share_of}
+use Rattle.run_report.specs.Heads.{count_of, counts_with, one_if_detected, one_if_redundant, share_of}
 use Rattle.transition_report.specs.declared.reporting.TransitionReport.{TransitionReport}
 
 -- the cycles of so many patterns by launch on capture: a flush of three loads, a load and two captures for each pattern, and a last load
@@ -15,8 +15,8 @@ launch_cycles chains patterns = (patterns + 4) * longest_of chains + 2 * pattern
 pub record IsReportOf (n : Netlist) (chains : List (List ℕ)) (patterns limit : ℕ) (lines : List Line) (r : TransitionReport) : Type 0 where
   pub lines_are : r.lines ≡ lines
   pub counts : r.counts ≡ counts_with n chains (length (universe_of n)) (length (universe_of n)) patterns (launch_cycles chains patterns) limit lines
-  pub coverage : r.coverage ≡ share_of (length (universe_of n)) (count_of detected_one lines)
-  pub efficiency : r.efficiency ≡ share_of (length (universe_of n)) (count_of detected_one lines + count_of redundant_one lines)
+  pub coverage : r.coverage ≡ share_of (length (universe_of n)) (count_of one_if_detected lines)
+  pub efficiency : r.efficiency ≡ share_of (length (universe_of n)) (count_of one_if_detected lines + count_of one_if_redundant lines)
 
 -- shares that can be written
 pub record HasWritableShares (r : TransitionReport) : Type 0 where

@@ -4,7 +4,7 @@ ghost use Rattle.std.specs.Prelude.{◌≡◌, map};
 ghost use Rattle.scan_insert.specs.Names.{output_name};
 ghost use Rattle.scan_insert.specs.Scanned.{AreChainsOf, scanned_of};
 ghost use Rattle.run_report.specs.Strobes.{IsPointOf};
-ghost use Rattle.transition_report.specs.Lines.{IsSeenBehind};
+ghost use Rattle.transition_report.specs.Lines.{IsLaunchSeenAt};
 
 use chain_stitch::Chains;
 use netlist::{NameTable, Netlist, Point};
@@ -21,7 +21,7 @@ pub(crate) fn sight_behind<'a>(
     requires chains { AreChainsOf netlist.now chains.now }
     requires pins { pins.now ≡ map (output_name (scanned_of netlist.now chains.now)) (scanned_of netlist.now chains.now).outputs }
     requires point { IsPointOf netlist.now point }
-    ensures { IsSeenBehind netlist.now chains.now place point result.cycle result.pin.now }
+    ensures { IsLaunchSeenAt netlist.now chains.now place point result.cycle result.pin.now }
 {
     netlist.sound();
     let sight = sight_of(netlist, chains, pins, place, point);

@@ -19,11 +19,11 @@ use Rattle.redundancy_cert.specs.Trees.{closed_count, open_count}
 use Rattle.report.specs.declared.outcomes.Outcome.{Outcome}
 use Rattle.report.specs.declared.outcomes.Outcome.TheVariants.{Detected, Redundant, Aborted}
 use Rattle.report.specs.Reports.{Line}
-use Rattle.run_report.specs.Heads.{count_of, detected_one, redundant_one, aborted_one}
+use Rattle.run_report.specs.Heads.{count_of, one_if_detected, one_if_redundant, one_if_aborted}
 use Rattle.good_files.specs.GoodFiles.{FiveFiles}
 use Rattle.transition_frames.specs.Transition.{DetectsTransition}
 use Rattle.transition.specs.Detections.{IsLastTransition, LastTransition}
-use Rattle.transition_play.specs.LaunchVectors.{IsStrobedBehind}
+use Rattle.transition_play.specs.LaunchVectors.{IsLaunchStrobedAt}
 use Rattle.transition_play.specs.SlowPassing.{FailsSlowlyAt, PassesSlowly, RunsSlowly}
 use Rattle.transition_files.specs.LaunchFiles.{IsLaunchFileOf}
 use Rattle.transition_tests.specs.Batches.{IsDetected}
@@ -50,7 +50,7 @@ module _ (n : Netlist) (chains : List (List ℕ)) (limit : ℕ) (patterns : List
   -- file passes in the run with the slow line.
   abbrev pub ComesTrue : Fault → Outcome → List ℕ → Type 0
   ComesTrue f (Detected place cycle) pin =
-      (point : Point) × (output : ℕ) × IsLastTransition n patterns f place point × IsStrobedBehind n chains place point cycle output
+      (point : Point) × (output : ℕ) × IsLastTransition n patterns f place point × IsLaunchStrobedAt n chains place point cycle output
       × (pin ≡ pin_name_of (scanned_of n chains) output) × FailsSlowlyAt n chains f cycles cycle output
   ComesTrue f Redundant pin =
       (tree : List Node) × IsCertified f tree × (open_count tree ≡ 0) × ((inputs state : List Bool) (point : Point) → ¬ DetectsTransition n f inputs state point)
@@ -81,5 +81,5 @@ pub record TransitionTheorem (n : Netlist) (chains : List (List ℕ)) (limit : �
   pub comes_true : (place : ℕ) (f : Fault) (line : Line) → slice_get (universe_of n) place ≡ Some f → slice_get said.lines place ≡ Some line
       → ComesTrue n chains limit patterns trees (vectors_in file) f line.outcome line.pin
   pub left : AreUndetectedTransitions n patterns (universe_of n) (map (λ (p : Fault × List Node). p.0) trees)
-  pub all : count_of detected_one said.lines + count_of redundant_one said.lines + count_of aborted_one said.lines ≡ length (universe_of n)
+  pub all : count_of one_if_detected said.lines + count_of one_if_redundant said.lines + count_of one_if_aborted said.lines ≡ length (universe_of n)
   pub numbers : IsReportOf n chains (length patterns) limit said.lines said

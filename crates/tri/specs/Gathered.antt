@@ -7,7 +7,7 @@ use Rattle.tri.specs.declared.together.Together.{Together}
 use Rattle.netlist.specs.ThreeValues.{is_zero, is_one, is_x}
 use Rattle.tri.specs.Gates.{only_tri}
 
-pub record AreTrisTogether (values : List Tri) (t : Together) : Type 0 where
+pub record AreTriReductionsOf (values : List Tri) (t : Together) : Type 0 where
   pub zero_is : t.zero ≡ list_any is_zero values
   pub one_is : t.one ≡ list_any is_one values
   pub unknown_is : t.unknown ≡ list_any is_x values

@@ -35,10 +35,10 @@ fn complement(value: Tri) -> Tri
 }
 
 impl Together {
-    ghost use Rattle.tri.specs.Gathered.{AreTrisTogether};
+    ghost use Rattle.tri.specs.Gathered.{AreTriReductionsOf};
 
     pub fn none() -> Together
-        ensures { AreTrisTogether [] result }
+        ensures { AreTriReductionsOf [] result }
     {
         Together {
             zero: false,
@@ -51,7 +51,7 @@ impl Together {
 
     /// With one value more, at the front.
     pub fn with(self, value: Tri) -> Together
-        ensures { (values : List Value) → AreTrisTogether values self → AreTrisTogether (value ∷ values) result }
+        ensures { (values : List Value) → AreTriReductionsOf values self → AreTriReductionsOf (value ∷ values) result }
     {
         match value {
             Tri::Zero => Together {
@@ -79,7 +79,7 @@ impl Together {
     }
 
     fn conjunction(self) -> Tri
-        ensures { (values : List Value) → AreTrisTogether values self → result ≡ conjunction_tri values }
+        ensures { (values : List Value) → AreTriReductionsOf values self → result ≡ conjunction_tri values }
     {
         if self.zero {
             Tri::Zero
@@ -91,7 +91,7 @@ impl Together {
     }
 
     fn disjunction(self) -> Tri
-        ensures { (values : List Value) → AreTrisTogether values self → result ≡ disjunction_tri values }
+        ensures { (values : List Value) → AreTriReductionsOf values self → result ≡ disjunction_tri values }
     {
         if self.one {
             Tri::One
@@ -103,7 +103,7 @@ impl Together {
     }
 
     fn parity(self) -> Tri
-        ensures { (values : List Value) → AreTrisTogether values self → result ≡ parity_tri values }
+        ensures { (values : List Value) → AreTriReductionsOf values self → result ≡ parity_tri values }
     {
         if self.unknown {
             Tri::X
@@ -114,7 +114,7 @@ impl Together {
 
     /// What a gate makes of them.
     pub fn through(self, kind: Kind) -> Tri
-        ensures { (values : List Value) → AreTrisTogether values self → result ≡ gate_tri kind values }
+        ensures { (values : List Value) → AreTriReductionsOf values self → result ≡ gate_tri kind values }
     {
         match kind {
             Kind::And => self.conjunction(),

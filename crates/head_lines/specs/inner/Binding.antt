@@ -22,7 +22,7 @@ pub record IsPut (old new : List Role) (x : ℕ) (role : Role) : Type 0 where
   pub others : (y : ℕ) → y ≢ x → role_at new y ≡ role_at old y
 
 -- a free signal is a head line now
-pub record IsTurned (old new : Role) : Type 0 where
+pub record IsFlipped (old new : Role) : Type 0 where
   pub was : old ≡ Inner
   pub is : new ≡ Head
 
@@ -30,14 +30,14 @@ pub record IsTurned (old new : Role) : Type 0 where
 pub record AreHeads (old new : List Role) (xs : List ℕ) : Type 0 where
   pub size : length new ≡ length old
   pub none_inner : (x : ℕ) → Contains xs x → role_at new x ≢ Inner
-  pub turned : (x : ℕ) → (role_at new x ≡ role_at old x) ⊎ (Contains xs x × IsTurned (role_at old x) (role_at new x))
+  pub turned : (x : ℕ) → (role_at new x ≡ role_at old x) ⊎ (Contains xs x × IsFlipped (role_at old x) (role_at new x))
 
 -- a signal is bound now, and what its gate reads is bound or a head line
 pub record IsBoundNow (n : Netlist) (z : ℕ) (old new : List Role) : Type 0 where
   pub size : length new ≡ length old
   pub here : role_at new z ≡ Bound
   pub none_inner : (x : ℕ) → Reads n z x → role_at new x ≢ Inner
-  pub turned : (x : ℕ) → x ≢ z → (role_at new x ≡ role_at old x) ⊎ (Reads n z x × IsTurned (role_at old x) (role_at new x))
+  pub turned : (x : ℕ) → x ≢ z → (role_at new x ≡ role_at old x) ⊎ (Reads n z x × IsFlipped (role_at old x) (role_at new x))
 
 -- the only gate that reads a signal, unless the signal is a fanout stem
 pub record IsOnlyReader (n : Netlist) (x : ℕ) (next : Option ℕ) : Type 0 where

@@ -14,7 +14,7 @@ use Rattle.events.specs.declared.trails.Change.{Change}
 use Rattle.events.specs.Standing.{Standing, Moves, SettlesAnew}
 use Rattle.events.specs.Stuck.{IsObservedOnly}
 use Rattle.events.specs.Trails.{AreChanges, undone}
-use Rattle.label_events.specs.Lines.{AreSameOff}
+use Rattle.label_events.specs.Lines.{AgreeOnOtherLines}
 use Rattle.pair_sim.specs.declared.reach.Reach.{Reach}
 use Rattle.pair_sim.specs.inner.Levels.{clashes_at}
 use Rattle.pair_sim.specs.inner.Reach.{reached_one}
@@ -66,7 +66,7 @@ pub record IsSiteSettled (holds : Holds) (line : Line) (b : Labelling) (s s' : S
   pub changes : List (Change Label)
   pub trail : s'.trail ≡ s.trail ++ changes
   pub are_changes : AreChanges s.values s'.values changes
-  pub labelled : (f : Option Fault) → AreSameOff line f b.fault → AreLabelled f (decided_in b.decided.items) s.netlist holds s.values
+  pub labelled : (f : Option Fault) → AgreeOnOtherLines line f b.fault → AreLabelled f (decided_in b.decided.items) s.netlist holds s.values
       → AreLabelled b.fault (decided_in b.decided.items) s.netlist holds s'.values
 
 -- another fault, or none, comes onto a line, and the labels settle anew; the trail is empty then

@@ -18,7 +18,7 @@ use Rattle.decision_stack.specs.Cases.{IsCase, sim_of}
 use Rattle.pair_sim.specs.Sims.{Sim, assigned, HasGood}
 use Rattle.decision_stack.specs.declared.turns.Step.{Step}
 use Rattle.decision_stack.specs.Standing.{StandsAt}
-use Rattle.decision_stack.specs.Turns.{IsTurnFrom, IsOfCase}
+use Rattle.decision_stack.specs.Turns.{IsSearchStep, IsOfCase}
 use Rattle.podem.specs.Sources.{sources, PlaceInSources, HasSourceEvidence}
 
 -- The stack stands for a tree on sources that fits, and the simulation is at the end of its path.
@@ -76,7 +76,7 @@ pub record IsTestAt (c : Case) (s : Sim) (point : Point) : Type 0 where
 
 -- after a turn
 abbrev pub IsStepped : Case → List Side → Sim → List Side → Step → Type 0
-IsStepped c old s new step = IsTurnFrom (PlaceInSources c.fault c.core.now c.holds.now) (IsTestAt c) c.fault c.core.now c.holds.now old (closed_around old) s new step
+IsStepped c old s new step = IsSearchStep (PlaceInSources c.fault c.core.now c.holds.now) (IsTestAt c) c.fault c.core.now c.holds.now old (closed_around old) s new step
 
 -- labels of the case, after some decisions
 abbrev pub IsKept : Case → Sim → Type 0

@@ -1,7 +1,7 @@
 use Rattle.std.proofs.Common.{◌≡◌, List, [], ◌∷◌, length, refl, ap, sym, ◌∙◌, subst, arith}
 use Rattle.redundancy_cert.specs.declared.stacks.Side.{Side}
 use Rattle.redundancy_cert.specs.declared.stacks.Turn.{Turn}
-use Rattle.redundancy_cert.specs.Stacks.{IsClimbOrTurn, IsTurned}
+use Rattle.redundancy_cert.specs.Stacks.{IsSideEnd, IsFlipped}
 use Rattle.tri.specs.Paths.{IsUnknown}
 use Rattle.pair_sim.specs.Sims.{assigned}
 use Rattle.decision_stack.proofs.Climbs.{path_length, none_ended, one_ended, back, all_ended, climbed_end, turned_end, turn_free, last_is}
@@ -25,7 +25,7 @@ pub loop-labels-preserved : goal.loop-labels-preserved
 loop-labels-preserved c =
     let stack = c.loop-labels.stack.items in
     let stack' = c.end_side.new.stack.items in
-    let t = subst (λ (t : Turn). IsClimbOrTurn c.loop-labels.done.items stack stack' t) c.in-Climbed.is c.in_ok-nodes.ensures in
+    let t = subst (λ (t : Turn). IsSideEnd c.loop-labels.done.items stack stack' t) c.in-Climbed.is c.in_ok-nodes.ensures in
     record {
       end = climbed_end c.args.labels.now.fault c.args.labels.now.netlist c.args.labels.now.holds c.loop-labels.labels c.undo.new.self stack stack' c.loop-labels.done.items c.in-Climbed.nodes.items
           c.loop-labels.invariant.end c.undo.ensures t;
@@ -37,7 +37,7 @@ assign-requires c =
     let s' = c.undo.new.self in
     let stack = c.loop-labels.stack.items in
     let stack' = c.end_side.new.stack.items in
-    let t : IsTurned c.loop-labels.done.items stack stack' = subst (λ (u : Turn). IsClimbOrTurn c.loop-labels.done.items stack stack' u) c.in-Turned.is c.in_ok-nodes.ensures in
+    let t : IsFlipped c.loop-labels.done.items stack stack' = subst (λ (u : Turn). IsSideEnd c.loop-labels.done.items stack stack' u) c.in-Turned.is c.in_ok-nodes.ensures in
     let last : c.index-last.result.now ≡ t.next = last_is t c.index-last.result.now c.len-in-Turned.result
     (let v = c.end_side.new.stack.ok.0 in let e = c.len-in-Turned.ensures in omega arith) c.index-last.ensures in
     subst (λ (r : Side). IsUnknown s'.fault s'.netlist s'.holds s'.path r.signal) (sym last)
@@ -48,7 +48,7 @@ returns-in-Turned-clause-end c =
     let s' = c.undo.new.self in
     let stack = c.loop-labels.stack.items in
     let stack' = c.end_side.new.stack.items in
-    let t : IsTurned c.loop-labels.done.items stack stack' = subst (λ (u : Turn). IsClimbOrTurn c.loop-labels.done.items stack stack' u) c.in-Turned.is c.in_ok-nodes.ensures in
+    let t : IsFlipped c.loop-labels.done.items stack stack' = subst (λ (u : Turn). IsSideEnd c.loop-labels.done.items stack stack' u) c.in-Turned.is c.in_ok-nodes.ensures in
     let last : c.index-last.result.now ≡ t.next = last_is t c.index-last.result.now c.len-in-Turned.result
     (let v = c.end_side.new.stack.ok.0 in let e = c.len-in-Turned.ensures in omega arith) c.index-last.ensures in
     turned_end c.args.labels.now.fault c.args.labels.now.netlist c.args.labels.now.holds c.loop-labels.labels s' c.assign.new.self stack stack' c.loop-labels.done.items
@@ -59,7 +59,7 @@ returns-in-Turned-clause-tree c =
     let stack = c.loop-labels.stack.items in
     let stack' = c.end_side.new.stack.items in
     back c.args.stack.now.items c.args.done.items stack stack' c.loop-labels.done.items c.loop-labels.invariant.ended
-    (subst (λ (u : Turn). IsClimbOrTurn c.loop-labels.done.items stack stack' u) c.in-Turned.is c.in_ok-nodes.ensures)
+    (subst (λ (u : Turn). IsSideEnd c.loop-labels.done.items stack stack' u) c.in-Turned.is c.in_ok-nodes.ensures)
 
 pub returns-clause-tree : goal.returns-clause-tree
 returns-clause-tree c =

@@ -7,7 +7,7 @@ use Rattle.netlist.specs.Netlist.{Netlist, signals}
 use Rattle.tri.specs.declared.labels.Label.{Label}
 use Rattle.events.specs.declared.trails.Change.{Change}
 use Rattle.events.specs.Stuck.{IsObservedOnly}
-use Rattle.label_events.specs.Lines.{AreSameOff}
+use Rattle.label_events.specs.Lines.{AgreeOnOtherLines}
 use Rattle.label_events.proofs.Changing.{same_off_back}
 use Rattle.observed_points.specs.Points.{ArePoints}
 use Rattle.pair_sim.specs.inner.Levels.{blank}
@@ -17,7 +17,7 @@ use Rattle.pair_sim.proofs.Faulting.{replaced}
 use Rattle.pair_sim.proofs.steps.replace_fault.Goals as goal
 
 pub put_fault-requires-clause-same : goal.put_fault-requires-clause-same
-put_fault-requires-clause-same c = subst (λ (o : Option Fault). AreSameOff c.args.last.now.line o None) (sym c.requires.last) (same_off_back c.args.last.now)
+put_fault-requires-clause-same c = subst (λ (o : Option Fault). AgreeOnOtherLines c.args.last.now.line o None) (sym c.requires.last) (same_off_back c.args.last.now)
 
 pub set_fault-requires-clause-line : goal.set_fault-requires-clause-line
 set_fault-requires-clause-line c = subst (λ (n : Netlist). IsLineOf n c.args.fault.now.line) (sym c.put_fault.ensures.netlist) c.requires.line

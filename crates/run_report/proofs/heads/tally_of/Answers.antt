@@ -1,6 +1,6 @@
 use Rattle.std.proofs.Common.{arith}
 use Rattle.report.specs.Reports.{Line}
-use Rattle.run_report.specs.Heads.{aborted_one, detected_one, redundant_one}
+use Rattle.run_report.specs.Heads.{one_if_aborted, one_if_detected, one_if_redundant}
 use Rattle.run_report.proofs.ListLemmas.{counted_more, one_kind}
 use Rattle.run_report.proofs.heads.tally_of.Goals as goal
 
@@ -10,8 +10,8 @@ loop-k-preserved c =
     let line : Line = record { fault = c.get.result.fault.now; outcome = c.get.result.outcome; pin = c.get.result.pin.now } in
     let with = c.with-tally.ensures in
     record {
-      detected = counted_more detected_one c.args.lines.now c.loop-k.k line c.loop-k.tally.detected c.with-tally.result.detected c.get.ensures i.detected with.detected;
-      redundant = counted_more redundant_one c.args.lines.now c.loop-k.k line c.loop-k.tally.redundant c.with-tally.result.redundant c.get.ensures i.redundant with.redundant;
-      aborted = counted_more aborted_one c.args.lines.now c.loop-k.k line c.loop-k.tally.aborted c.with-tally.result.aborted c.get.ensures i.aborted with.aborted;
+      detected = counted_more one_if_detected c.args.lines.now c.loop-k.k line c.loop-k.tally.detected c.with-tally.result.detected c.get.ensures i.detected with.detected;
+      redundant = counted_more one_if_redundant c.args.lines.now c.loop-k.k line c.loop-k.tally.redundant c.with-tally.result.redundant c.get.ensures i.redundant with.redundant;
+      aborted = counted_more one_if_aborted c.args.lines.now c.loop-k.k line c.loop-k.tally.aborted c.with-tally.result.aborted c.get.ensures i.aborted with.aborted;
       all = omega (arith, one_kind c.get.result.outcome, i.all, with.detected, with.redundant, with.aborted);
     }

@@ -1,6 +1,6 @@
 use Rattle.std.proofs.Common.{ℕ, List, sym, ◌∙◌, subst}
 use Rattle.netlist.specs.Conditions.{IsSound}
-use Rattle.pair_sim.specs.Sims.{Sim, IsContradictedSim, AreChangedSignals}
+use Rattle.pair_sim.specs.Sims.{Sim, HasContradiction, AreChangedSignals}
 use Rattle.pair_sim.proofs.StateLemmas.{names_changed}
 use Rattle.pair_sim.proofs.sims.PairSim.trail.Goals as goal
 
@@ -11,4 +11,4 @@ returns c possible =
     subst (λ (ns : List ℕ). AreChangedSignals c.args.self.now ns) (sym c.deref.ensures.value)
     (subst (λ (s : Sim). AreChangedSignals s i.names.items) c.self.view_is
     (names_changed i.fault i.events.netlist i.holds.now i.labelling.decided.items i.levels.items i.names.items i.events.values i.events.trail c.self.invariant.0.kept sound
-    (λ w. possible (subst IsContradictedSim c.self.view_is w))))
+    (λ w. possible (subst HasContradiction c.self.view_is w))))
