@@ -15,6 +15,9 @@ use Rattle.check_command.specs.Checking.{five_texts_due}
 use Rattle.check_command.specs.declared.refusal.CheckRefusal.{CheckRefusal}
 use Rattle.check_command.specs.inner.Answers.{IsAnswered, answer_due}
 
+abbrev pub five : Text → Text → Text → Text → Text → FiveFiles
+five net scan stil certificate report = record { net = net; scan = scan; stil = stil; certificate = certificate; report = report }
+
 -- what is shown of an answer is due
 pub answered : (f : FiveFiles) (answer : Checked) (r : Result Product (Stop CheckRefusal)) → IsAnswered f (Ok answer) → IsWorked (answer_due answer) 0 r
     → IsWorked (five_texts_due (f.net ∷ f.scan ∷ f.stil ∷ f.certificate ∷ f.report ∷ [])) 0 r
