@@ -1,9 +1,9 @@
 -- One step more, turned, or taken back.
-use Rattle.std.proofs.Common.{◌≡◌, ◌≢◌, ℕ, ◌+◌, ◌<◌, Bool, true, false, not, cond, List, [], ◌∷◌, ◌++◌, length, get_or, set, take, Option, Some, None, refl, sym, ◌∙◌, ap, subst, inl, inr, eqb, eq-eqb}
+use Rattle.std.proofs.Common.{◌≡◌, ◌≢◌, ℕ, ◌+◌, ◌-◌, ◌<◌, ◌≤◌, Bool, true, false, not, cond, List, [], ◌∷◌, ◌++◌, length, get_or, set, take, Option, Some, None, refl, sym, ◌∙◌, ap, subst, inl, inr, eqb, eq-eqb, arith}
 use Rattle.std.specs.List.{All}
 use Rattle.std.proofs.lemmas.Bool.{cases_eq, eqb-true}
 use Rattle.std.proofs.lemmas.Grind.{take_at_read}
-use Rattle.std.proofs.lemmas.List.{get_or-set_same, get_or-set_other}
+use Rattle.std.proofs.lemmas.List.{get_or-set_same, get_or-set_other, set_at}
 use Rattle.std.proofs.lemmas.List.Elements.{All-head, All-push}
 use Rattle.netlist.specs.Netlist.{Netlist, signals}
 use Rattle.netlist.proofs.Lists.{all_left, all_right}
@@ -46,10 +46,11 @@ set_decides row x o old new l h same here =
     ] in
     λ j y. each y j
 
--- the step at k is the last of the first k + 1
-pub at_last : (p : Labelled) (items : List Step) (k j : ℕ) (s : Step) → j ≡ k + 1 → k < length items → s ≡ get_or items k s → IsAt p (take j items) → IsAt p (take k items ++ s ∷ [])
-at_last p items k j s one l is at =
-    subst (IsAt p) (ap (λ i. take i items) one ∙ ((take_at_read items k s l).1 ∙ ap (λ (r : Step). take k items ++ r ∷ []) (sym is))) at
+-- the step before place j is the last of the first j
+pub at_last : (p : Labelled) (items : List Step) (j : ℕ) (s : Step) → 0 < j → j ≤ length items → s ≡ get_or items (j - 1) s → IsAt p (take j items) → IsAt p (take (j - 1) items ++ s ∷ [])
+at_last p items j s some within is at =
+    let one : j ≡ (j - 1) + 1 = omega arith in
+    subst (IsAt p) (ap (λ i. take i items) one ∙ ((take_at_read items (j - 1) s (omega arith)).1 ∙ ap (λ (r : Step). take (j - 1) items ++ r ∷ []) (sym is))) at
 
 module _ (p q : Labelled) (front : List Step) (s : Step) (o : Option Bool) (stands : AreStanding p) (at : IsAt p (front ++ s ∷ []))
     (made : q ≡ record p { decided = set p.decided s.signal o; values = q.values }) where
@@ -91,6 +92,10 @@ module _ (p q : Labelled) (front : List Step) (s : Step) (o : Option Bool) (stan
             (subst (λ x. x < length (signals p.netlist)) (sym same)
             (All-head (λ (r : Step). r.signal < length (signals p.netlist)) s [] (all_right (λ (r : Step). r.signal < length (signals p.netlist)) front (s ∷ []) at.within))));
       }
+
+-- the step that was put on last is turned
+pub turned_last : (ss new : List Step) (i : ℕ) (s t : Step) → i ≡ length ss → new ≡ ss ++ s ∷ [] → set new i t ≡ ss ++ t ∷ []
+turned_last ss new i s t last e = ap (λ (xs : List Step). set xs i t) e ∙ set_at ss s [] t i (sym last)
 
 -- one step more
 pub entered : (p q : Labelled) (ss : List Step) (t : Step) → AreStanding p → IsAt p ss → decisions (path_of ss) t.signal ≡ None → t.signal < length (signals p.netlist)

@@ -1,5 +1,6 @@
 //! What guides read of a netlist and its labels.
-ghost use Rattle.std.specs.Prelude.{◌≡◌, ◌≤◌, length};
+ghost use Rattle.std.specs.Prelude.{◌≡◌, ◌≤◌, length, IsTrue};
+ghost use Rattle.std.specs.List.{Contains};
 ghost use Rattle.netlist.specs.Netlist.{signals};
 ghost use Rattle.pair_sim.specs.Sims.{IsNotBlocked};
 
@@ -22,12 +23,19 @@ pub fn signal_count(core: &Core) -> usize
     netlist.inputs().len() + netlist.definitions().len()
 }
 
+/// Whether it is a signal's id.
+fn is_signal(core: &Core, signal: SignalId) -> bool
+    ensures { IsTrue result → Contains (signals core.now) signal }
+{
+    core.netlist().sound();
+    signal.index() < signal_count(core)
+}
+
 /// The value of a signal without the fault.
 pub fn good(core: &Core, labels: &PairSim, signal: SignalId) -> Option<Tri>
     requires { labels.now.netlist ≡ core.now }
 {
-    core.netlist().sound();
-    if signal.index() >= signal_count(core) {
+    if !is_signal(core, signal) {
         return None;
     }
     Some(labels.good(signal))
@@ -45,8 +53,7 @@ pub fn has_effect(core: &Core, labels: &PairSim, signal: SignalId) -> bool
     requires same { labels.now.netlist ≡ core.now }
     requires not_blocked { IsNotBlocked labels.now }
 {
-    core.netlist().sound();
-    if signal.index() >= signal_count(core) {
+    if !is_signal(core, signal) {
         return false;
     }
     match labels.good(signal) {
@@ -61,11 +68,7 @@ pub fn may_get_effect(core: &Core, labels: &PairSim, signal: SignalId) -> bool
     requires same { labels.now.netlist ≡ core.now }
     requires not_blocked { IsNotBlocked labels.now }
 {
-    core.netlist().sound();
-    if signal.index() >= signal_count(core) {
-        return false;
-    }
-    labels.may_differ(signal) && !has_effect(core, labels, signal)
+    may_differ(core, labels, signal) && !has_effect(core, labels, signal)
 }
 
 /// The kind and the pins of the gate of a signal; none for an input, a cell and what is no signal.
@@ -110,11 +113,7 @@ pub fn may_differ(core: &Core, labels: &PairSim, signal: SignalId) -> bool
     requires same { labels.now.netlist ≡ core.now }
     requires not_blocked { IsNotBlocked labels.now }
 {
-    core.netlist().sound();
-    if signal.index() >= signal_count(core) {
-        return false;
-    }
-    labels.may_differ(signal)
+    is_signal(core, signal) && labels.may_differ(signal)
 }
 
 /// Whether its pins tell nothing of a signal.
@@ -122,11 +121,7 @@ pub fn is_own_unknown(core: &Core, labels: &PairSim, signal: SignalId) -> bool
     requires same { labels.now.netlist ≡ core.now }
     requires not_blocked { IsNotBlocked labels.now }
 {
-    core.netlist().sound();
-    if signal.index() >= signal_count(core) {
-        return false;
-    }
-    matches!(labels.own(signal), Tri::X)
+    is_signal(core, signal) && matches!(labels.own(signal), Tri::X)
 }
 
 /// Of the pins: how many are X, and whether an odd number of the others are 1.

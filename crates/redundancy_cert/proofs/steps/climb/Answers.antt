@@ -16,7 +16,7 @@ loop-k-preserved c =
     let s : Step = c.index-step.result.now in
     let l : k < length items = let a = c.loop-k-test.true in let b = c.loop-k.auto.k in omega arith in
     let one : c.loop-k.k ≡ k + 1 = (let a = c.loop-k-test.true in omega arith) in
-    let at = at_last c.loop-k.pass items k c.loop-k.k s one l c.index-step.ensures c.loop-k.invariant.at in
+    let at = at_last c.loop-k.pass items c.loop-k.k s (let a = c.loop-k-test.true in omega arith) (let b = c.loop-k.auto.k in omega arith) c.index-step.ensures c.loop-k.invariant.at in
     let ahead : drop k items ≡ s ∷ drop (k + 1) items = drop_more items k s l ∙ ap (λ (r : Step). r ∷ drop (k + 1) items) (sym c.index-step.ensures) in
     record {
       items = c.loop-k.invariant.items;
@@ -34,8 +34,7 @@ returns-then-step-clause-at c =
     let k = c.loop-k.k - 1 in
     let s : Step = c.index-step.result.now in
     let l : k < length items = let a = c.loop-k-test.true in let b = c.loop-k.auto.k in omega arith in
-    let one : c.loop-k.k ≡ k + 1 = (let a = c.loop-k-test.true in omega arith) in
-    let at = at_last c.loop-k.pass items k c.loop-k.k s one l c.index-step.ensures c.loop-k.invariant.at in
+    let at = at_last c.loop-k.pass items c.loop-k.k s (let a = c.loop-k-test.true in omega arith) (let b = c.loop-k.auto.k in omega arith) c.index-step.ensures c.loop-k.invariant.at in
     let t : Step = record { signal = s.signal; bit = true; waiting = false } in
     let path : c.truncate.new.self.items ≡ take k items ++ t ∷ [] = c.truncate.ensures.items ∙ take-set_at items k (k + 1) t refl l in
     subst (IsAt c.decide.new.self) (sym path) (turned_at c.loop-k.pass c.decide.new.self (take k items) s (Some true) c.standing.ensures at c.decide.ensures t refl refl)
