@@ -40,42 +40,8 @@ fn first_batch(workers: u32) -> usize
     if workers == 1 { FULL } else { FIRST }
 }
 
-/// Searches claim after claim, until there is none.
+/// The work of one of so many workers: searches claim after claim, until there is none. Room for searches and for simulation is made once.
 pub fn work<J: About, T: Ledger, S: Ledger, P: Ledger, U: Ledger, E: Engine, G: Gate, R: Wait>(
-    rt: &R,
-    alloc: Global,
-    shared: &Shared<J, T, S, P, U>,
-    share: &mut Share<T, S, P, U>,
-    core: &Core,
-    engine: &E,
-    stage: &G,
-    seed: u64,
-    holds: &Holds,
-) -> Result<(), NoMemory>
-    requires table { share.old.table ≡ shared.now.word.shared.table_id }
-    requires core { core.now ≡ J.subject.netlist }
-    requires lines { HaveLines J.subject }
-    requires limit { 1 ≤ J.subject.limit }
-    requires held { (holds.now ≡ J.subject.holds) × AreHoldsOf core.now holds.now }
-    ensures table { share.new.table ≡ share.old.table }
-    ensures ended { OnOk result (share.new.ended ≡ true) }
-{
-    work_beside(
-        rt, alloc, shared, share, core, engine, stage, 1, seed, holds,
-    )
-}
-
-/// The work of one of so many workers. Room for searches and for simulation is made once.
-pub(crate) fn work_beside<
-    J: About,
-    T: Ledger,
-    S: Ledger,
-    P: Ledger,
-    U: Ledger,
-    E: Engine,
-    G: Gate,
-    R: Wait,
->(
     rt: &R,
     alloc: Global,
     shared: &Shared<J, T, S, P, U>,

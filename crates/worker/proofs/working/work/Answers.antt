@@ -3,8 +3,8 @@ use Rattle.std.proofs.lemmas.List.Elements.{All-push}
 use Rattle.cubes.specs.Cubes.{IsCubeOf}
 use Rattle.shared_list.specs.Tally.{Tally}
 use Rattle.worker.proofs.WorkLemmas.{closed_settles, cubes_there, ended_by_none, partial_settles, test_is_cube, whatever_comes}
-use Rattle.worker.proofs.working.work_beside.Goals.{in-None, in-Some+in-None-take}
-use Rattle.worker.proofs.working.work_beside.Goals as goal
+use Rattle.worker.proofs.working.work.Goals.{in-None, in-Some+in-None-take}
+use Rattle.worker.proofs.working.work.Goals as goal
 
 pub publish_cubes-requires-clause-wide : goal.publish_cubes-requires-clause-wide
 publish_cubes-requires-clause-wide g c =

@@ -1,7 +1,7 @@
 use Rattle.std.proofs.Common.{◌≡◌, ◌<◌, ◌≤◌, vec_len}
 use Rattle.std.specs.List.{All}
 use Rattle.cubes.specs.Cubes.{IsCubeOf}
-use Rattle.worker.proofs.working.work_beside.Given as goal
+use Rattle.worker.proofs.working.work.Given as goal
 
 abbrev pub invariant-loop : goal.invariant-loop
 invariant-loop g l = record {
