@@ -62,10 +62,7 @@ pub fn read_lines<'a>(
     requires { length (lines text.now) < 2 ^ 32 }
     ensures { AreLinesRead reading text.now result }
 {
-    let Ok(empty) = Draft::with_room(alloc, reading.names_expected(text)) else {
-        return Err(BenchFault::NoMemory);
-    };
-    let mut draft = empty;
+    let mut draft = Draft::with_room(alloc, reading.names_expected(text))?;
     let mut rest = text;
     'lines: while !rest.is_empty() {
         let (line, after) = first_line(rest);

@@ -88,9 +88,7 @@ pub fn read(alloc: Global, text: &[u8], reading: Names) -> Result<Netlist, Bench
     if let Some(refusal) = draft.whole_refusal(reading) {
         return Err(BenchFault::Refused(refusal));
     }
-    let Ok(parts) = draft.parts(alloc) else {
-        return Err(BenchFault::NoMemory);
-    };
+    let parts = draft.parts(alloc)?;
     match Netlist::new(alloc, parts) {
         Ok(netlist) => {
             netlist.sound();

@@ -1,7 +1,7 @@
 //! A text as lines that a person can read. A line stands behind a `|`; a byte that isn't printable is `\x` with two digits, a `\` is `\\`, and
 //! a `\` at the end of a line says that no line feed follows.
+use crate::words::Pushed;
 use itoa::Buffer;
-use std::alloc::AllocError;
 
 /// The value of a hexadecimal digit; 0 for another byte.
 fn digit(byte: u8) -> u8 {
@@ -21,7 +21,7 @@ fn digit_of(value: u8) -> u8 {
 }
 
 /// Adds the bytes that a line stands for.
-pub fn push_line(text: &mut Vec<u8>, line: &str) -> Result<(), AllocError> {
+pub fn push_line(text: &mut Vec<u8>, line: &str) -> Pushed {
     let mut rest = line.as_bytes();
     for _ in 0..line.len() {
         rest = match rest {
@@ -46,7 +46,7 @@ pub fn push_line(text: &mut Vec<u8>, line: &str) -> Result<(), AllocError> {
 }
 
 /// Adds bytes so many times.
-pub fn push_repeated(text: &mut Vec<u8>, count: u32, bytes: &str) -> Result<(), AllocError> {
+pub fn push_repeated(text: &mut Vec<u8>, count: u32, bytes: &str) -> Pushed {
     for _ in 0..count {
         text.extend_from_slice(bytes.as_bytes())?;
     }
@@ -54,7 +54,7 @@ pub fn push_repeated(text: &mut Vec<u8>, count: u32, bytes: &str) -> Result<(), 
 }
 
 /// Adds a line for each number. A `%` of the form stands for the number, an `@` for the number before it.
-pub fn push_numbered(text: &mut Vec<u8>, from: u32, to: u32, form: &str) -> Result<(), AllocError> {
+pub fn push_numbered(text: &mut Vec<u8>, from: u32, to: u32, form: &str) -> Pushed {
     for number in from..to {
         for byte in form.bytes() {
             match byte {
@@ -71,7 +71,7 @@ pub fn push_numbered(text: &mut Vec<u8>, from: u32, to: u32, form: &str) -> Resu
 }
 
 /// Adds a byte of a text as it is shown.
-fn show_byte(to: &mut Vec<u8>, byte: u8) -> Result<(), AllocError> {
+fn show_byte(to: &mut Vec<u8>, byte: u8) -> Pushed {
     match byte {
         b'\\' => to.extend_from_slice(b"\\\\")?,
         b' '..=b'~' => to.push(byte)?,
@@ -81,7 +81,7 @@ fn show_byte(to: &mut Vec<u8>, byte: u8) -> Result<(), AllocError> {
 }
 
 /// Adds a text as it is shown.
-pub fn show(to: &mut Vec<u8>, text: &[u8]) -> Result<(), AllocError> {
+pub fn show(to: &mut Vec<u8>, text: &[u8]) -> Pushed {
     let mut is_inside = false;
     for byte in text {
         if !is_inside {

@@ -1,5 +1,6 @@
 //! An input, line by line.
 use crate::texts::{Named, tell};
+use crate::words::Pushed;
 use std::alloc::{AllocError, Global};
 
 /// What a program does with the lines of its input that tell of no text.
@@ -29,7 +30,7 @@ pub fn repeated(alloc: Global, line: &str) -> Result<Vec<u8>, AllocError> {
 }
 
 /// Adds a line that a program doesn't know.
-pub fn push_unknown(to: &mut Vec<u8>, line: &str) -> Result<(), AllocError> {
+pub fn push_unknown(to: &mut Vec<u8>, line: &str) -> Pushed {
     to.extend_from_slice(b"no such line: ")?;
     to.extend_from_slice(line.as_bytes())?;
     to.push(b'\n')?;

@@ -1,6 +1,6 @@
 //! Texts under names, and the lines of an input that tell them.
 use crate::lines::{push_line, push_numbered, push_repeated};
-use crate::words::{cut, small};
+use crate::words::{Pushed, cut, small};
 use std::alloc::{AllocError, Global};
 
 /// A text under its name.
@@ -27,7 +27,7 @@ pub fn text_of<'a>(texts: &'a [Named], name: &str) -> &'a [u8] {
 }
 
 /// Begins a text.
-fn begin(texts: &mut Vec<Named>, alloc: Global, name: &str) -> Result<(), AllocError> {
+fn begin(texts: &mut Vec<Named>, alloc: Global, name: &str) -> Pushed {
     let name = String::from_str(alloc, name)?;
     texts.push(Named {
         name,
@@ -37,7 +37,7 @@ fn begin(texts: &mut Vec<Named>, alloc: Global, name: &str) -> Result<(), AllocE
 }
 
 /// Adds what a line tells to the text that was begun last.
-fn add_line(texts: &mut Vec<Named>, verb: &str, rest: &str) -> Result<(), AllocError> {
+fn add_line(texts: &mut Vec<Named>, verb: &str, rest: &str) -> Pushed {
     let Some(last) = texts.last_mut() else {
         return Ok(());
     };

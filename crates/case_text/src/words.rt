@@ -2,6 +2,9 @@
 use itoa::Buffer;
 use std::alloc::AllocError;
 
+/// What a call answers that adds to a buffer: memory may be refused to it.
+pub type Pushed = Result<(), AllocError>;
+
 /// The first word of a text, and what stands behind its blank.
 pub fn cut(text: &str) -> (&str, &str) {
     text.split_once(' ').unwrap_or((text, ""))
@@ -18,12 +21,12 @@ pub fn small(word: &str) -> u32 {
 }
 
 /// Adds a number in decimal digits.
-pub fn push_number(to: &mut Vec<u8>, number: u32) -> Result<(), AllocError> {
+pub fn push_number(to: &mut Vec<u8>, number: u32) -> Pushed {
     to.extend_from_slice(Buffer::new().format(number).as_bytes())
 }
 
 /// Adds a word and numbers, a blank before each, and ends the line.
-pub fn push_numbers(to: &mut Vec<u8>, word: &[u8], numbers: &[u32]) -> Result<(), AllocError> {
+pub fn push_numbers(to: &mut Vec<u8>, word: &[u8], numbers: &[u32]) -> Pushed {
     to.extend_from_slice(word)?;
     for number in numbers {
         to.push(b' ')?;

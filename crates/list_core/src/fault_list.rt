@@ -20,7 +20,7 @@ use cubes::Pattern;
 use fault_collapse::Classes;
 use netlist::{Core, Fault, Holds, NoMemory};
 use redundancy_cert::{Node, Tree};
-use std::alloc::{AllocError, Global};
+use std::alloc::Global;
 use std::marker::{Model, PhantomData};
 use word_sim::Batch;
 
@@ -75,16 +75,6 @@ impl<J: About> FaultList<J> {
         requires classes { (classes.now ≡ J.subject.classes) × (class_count J.subject < 2 ^ 31) }
         requires limit { (limit ≡ J.subject.limit) × (1 ≤ limit) }
         requires holds { holds.now ≡ J.subject.holds }
-        ensures { IfOk result (λ s. s ≡ fresh_list (class_count J.subject)) }
-    {
-        let _ = core;
-        let _ = holds;
-        FaultList::with_room(alloc, classes, limit).map_err(|_| NoMemory)
-    }
-
-    fn with_room(alloc: Global, classes: &Classes, limit: u32) -> Result<FaultList<J>, AllocError>
-        requires classes { (classes.now ≡ J.subject.classes) × (class_count J.subject < 2 ^ 31) }
-        requires limit { limit ≡ J.subject.limit }
         ensures { IfOk result (λ s. s ≡ fresh_list (class_count J.subject)) }
     {
         let count = classes.count();
@@ -189,13 +179,6 @@ impl<J: About> FaultList<J> {
         ensures ok { OnOk result (self.new ≡ spared self.old patterns entries) }
         ensures err { OnErr result (self.new ≡ self.old) }
     {
-        self.make_room(patterns, entries).map_err(|_| NoMemory)
-    }
-
-    fn make_room(&mut self, patterns: u32, entries: u32) -> Result<(), AllocError>
-        ensures ok { OnOk result (self.new ≡ spared self.old patterns entries) }
-        ensures err { OnErr result (self.new ≡ self.old) }
-    {
         let most = 3 * self.verdicts.len() + entries as usize;
         self.journal.reserve(most)?;
         self.patterns.reserve(patterns as usize)?;
@@ -226,9 +209,7 @@ impl<J: About> FaultList<J> {
     pub fn undetected(&self, alloc: Global) -> Result<Left<J>, NoMemory>
         ensures { IfOk result (λ l. map (λ (p : ℕ × FaultOf). p.0) l ≡ undetected_from 0 self.now.verdicts) }
     {
-        let Ok(classes) = undetected_of(alloc, &self.verdicts, &self.faults) else {
-            return Err(NoMemory);
-        };
+        let classes = undetected_of(alloc, &self.verdicts, &self.faults)?;
         Ok(Left {
             classes,
             of: PhantomData,

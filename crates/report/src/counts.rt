@@ -75,37 +75,21 @@ impl ReportCounts {
     pub(crate) fn of(counts: [u64; COUNTS]) -> ReportCounts
         ensures { result ≡ counts_from counts }
     {
-        let [
-            inputs,
-            outputs,
-            gates,
-            cells,
-            chains,
-            faults,
-            classes,
-            patterns,
-            cycles,
-            limit,
-            detected,
-            redundant,
-            aborted,
-            untested,
-        ] = counts;
         ReportCounts {
-            inputs,
-            outputs,
-            gates,
-            cells,
-            chains,
-            faults,
-            classes,
-            patterns,
-            cycles,
-            limit,
-            detected,
-            redundant,
-            aborted,
-            untested,
+            inputs: counts[0],
+            outputs: counts[1],
+            gates: counts[2],
+            cells: counts[3],
+            chains: counts[4],
+            faults: counts[5],
+            classes: counts[6],
+            patterns: counts[7],
+            cycles: counts[8],
+            limit: counts[9],
+            detected: counts[10],
+            redundant: counts[11],
+            aborted: counts[12],
+            untested: counts[13],
         }
     }
 

@@ -69,29 +69,6 @@ impl<J: About, T: Ledger, S: Ledger, P: Ledger, U: Ledger> Shared<J, T, S, P, U>
         ensures idle { IfOk result (λ r. r.1.items ≡ idle_from r.0.word.shared.table_id 0 workers) }
         ensures len { IfOk result (λ r. vec_len r.1 ≡ workers) }
     {
-        Shared::with_shares(alloc, list, workers, takes, settles, publishes, unspent).map_err(
-            |_| NoMemory,
-        )
-    }
-
-    fn with_shares(
-        alloc: Global,
-        list: FaultList<J>,
-        workers: u32,
-        takes: Blank,
-        settles: Blank,
-        publishes: Blank,
-        unspent: Blank,
-    ) -> Result<(Shared<J, T, S, P, U>, Vec<Share<T, S, P, U>>), AllocError>
-        requires empty { list.journal ≡ [] }
-        requires workers { (0 < workers) × (workers ≤ most_workers) }
-        requires takes { (takes.name ≡ T.name) × (takes.parts ≡ T.parts) × (T.parts ≡ workers) }
-        requires settles { (settles.name ≡ S.name) × (settles.parts ≡ S.parts) × (S.parts ≡ workers) }
-        requires publishes { (publishes.name ≡ P.name) × (publishes.parts ≡ P.parts) × (P.parts ≡ workers) }
-        requires unspent { (unspent.name ≡ U.name) × (unspent.parts ≡ U.parts) × (U.parts ≡ workers) }
-        ensures idle { IfOk result (λ r. r.1.items ≡ idle_from r.0.word.shared.table_id 0 workers) }
-        ensures len { IfOk result (λ r. vec_len r.1 ≡ workers) }
-    {
         list.true_list();
         let classes = list.count();
         let (word, mut seat) = open(alloc)?;

@@ -1,7 +1,14 @@
 -- When a list is done.
-use Rattle.std.specs.Prelude.{ℕ, ◌≡◌, ◌<◌, false, List, length}
+use Rattle.std.specs.Prelude.{ℕ, ◌≡◌, ◌<◌, ◌≤◌, false, List, length}
+use Rattle.netlist.specs.Holds.{Holds, AreHoldsOf}
+use Rattle.netlist.specs.Netlist.{Netlist}
+use Rattle.list_core.specs.Subjects.{Subject, HaveLines}
 use Rattle.list_core.specs.declared.verdicts.Verdict.{Verdict}
 use Rattle.list_core.specs.Verdicts.{verdict_at, is_open}
+
+-- its classes may be searched on this netlist with these held inputs
+abbrev pub MaySearch : Subject → Netlist → Holds → Type 0
+MaySearch j n holds = (n ≡ j.netlist) × HaveLines j × (1 ≤ j.limit) × (holds ≡ j.holds) × AreHoldsOf n holds
 
 -- no class is Open
 abbrev pub NoneOpen : List Verdict → Type 0

@@ -6,7 +6,7 @@ ghost use Rattle.list_core.specs.Subjects.{class_count, HaveLines};
 ghost use Rattle.list_core.specs.States.{IsTrueList};
 ghost use Rattle.shared_list.specs.Tally.{Tally};
 ghost use Rattle.netlist.specs.Holds.{AreHoldsOf};
-ghost use Rattle.worker.specs.Working.{NoneOpen};
+ghost use Rattle.worker.specs.Working.{MaySearch, NoneOpen};
 
 use crate::adding::add;
 use crate::rest::work_rest;
@@ -51,10 +51,7 @@ fn work_in<J: About, T: Ledger, S: Ledger, P: Ledger, U: Ledger, E: Engine, G: G
     holds: &Holds,
 )
     requires table { job.old.table ≡ shared.now.word.shared.table_id }
-    requires core { core.now ≡ J.subject.netlist }
-    requires lines { HaveLines J.subject }
-    requires limit { 1 ≤ J.subject.limit }
-    requires held { (holds.now ≡ J.subject.holds) × AreHoldsOf core.now holds.now }
+    requires subject { MaySearch J.subject core.now holds.now }
 {
     job.refused = work_beside(
         rt,
@@ -135,10 +132,7 @@ fn run_named<
     publishes: Blank,
     unspent: Blank,
 ) -> Result<FaultList<J>, NoMemory>
-    requires core { core.now ≡ J.subject.netlist }
-    requires lines { HaveLines J.subject }
-    requires limit { 1 ≤ J.subject.limit }
-    requires held { (holds.now ≡ J.subject.holds) × AreHoldsOf core.now holds.now }
+    requires subject { MaySearch J.subject core.now holds.now }
     requires empty { list.journal ≡ [] }
     requires workers { (0 < workers) × (workers ≤ most_workers) }
     requires takes { (takes.name ≡ T.name) × (takes.parts ≡ T.parts) × (T.parts ≡ workers) }
@@ -155,7 +149,7 @@ fn run_named<
     let mut jobs = jobs_of(alloc, shares)?;
     let behind = &shared;
     let step = move |_i: usize, job: &mut Job<T, S, P, U>|
-        requires { (job.now.table ≡ behind.now.word.shared.table_id) × (core.now ≡ J.subject.netlist) × HaveLines J.subject × (1 ≤ J.subject.limit) × (holds.now ≡ J.subject.holds) × AreHoldsOf core.now holds.now }
+        requires { (job.now.table ≡ behind.now.word.shared.table_id) × MaySearch J.subject core.now holds.now }
     {
         work_in(
             rt, alloc, behind, job, core, engine, stage, workers, seed, holds,

@@ -41,10 +41,6 @@ fn joined(
     requires all { length faults.now ≤ vec_len parts * size }
     ensures { IfOk result (λ v. AllZip (LastDetected core.now patterns.now) faults.now v.items) }
 {
-    let _ = core;
-    let _ = patterns;
-    let _ = faults;
-    let _ = size;
     let mut told = Vec::new(alloc);
     for part in &parts {
         match part {

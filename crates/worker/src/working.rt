@@ -53,10 +53,7 @@ pub fn work<J: About, T: Ledger, S: Ledger, P: Ledger, U: Ledger, E: Engine, G: 
     holds: &Holds,
 ) -> Result<(), NoMemory>
     requires table { share.old.table ≡ shared.now.word.shared.table_id }
-    requires core { core.now ≡ J.subject.netlist }
-    requires lines { HaveLines J.subject }
-    requires limit { 1 ≤ J.subject.limit }
-    requires held { (holds.now ≡ J.subject.holds) × AreHoldsOf core.now holds.now }
+    requires subject { MaySearch J.subject core.now holds.now }
     ensures table { share.new.table ≡ share.old.table }
     ensures ended { OnOk result (share.new.ended ≡ true) }
 {
@@ -65,7 +62,7 @@ pub fn work<J: About, T: Ledger, S: Ledger, P: Ledger, U: Ledger, E: Engine, G: 
     )
 }
 
-/// The work of one of so many workers. Room for searches and for simulation is made once.
+/// The work of one of so many workers: searches claim after claim, until there is none. Room for searches and for simulation is made once.
 pub(crate) fn work_beside<
     J: About,
     T: Ledger,

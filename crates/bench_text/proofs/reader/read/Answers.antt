@@ -17,11 +17,11 @@ pub parts-requires-clause-few : goal.parts-requires-clause-few
 parts-requires-clause-few c = few c.args.reading c.args.text.now c.in-Ok.draft c.in-Ok.ensures.0 c.in-Ok.ensures.1 (sym c.whole_refusal.ensures ∙ c.in_default.is)
 
 pub new-requires : goal.new-requires
-new-requires c = parts-formed c.args.reading c.args.text.now c.in-Ok.draft c.in-Ok.ensures.0 c.in-Ok.ensures.1 (sym c.whole_refusal.ensures ∙ c.in_default.is) c.in-Ok-parts.parts c.in-Ok-parts.ensures
+new-requires c = parts-formed c.args.reading c.args.text.now c.in-Ok.draft c.in-Ok.ensures.0 c.in-Ok.ensures.1 (sym c.whole_refusal.ensures ∙ c.in_default.is) c.in_ok-parts.parts c.in_ok-parts.ensures
 
 pub returns-in-Ok-new-clause-read : goal.returns-in-Ok-new-clause-read
 returns-in-Ok-new-clause-read c =
-    net-read c.args.reading c.args.text.now c.in-Ok.draft c.in-Ok.ensures.0 c.in-Ok.ensures.1 (sym c.whole_refusal.ensures ∙ c.in_default.is) c.in-Ok-parts.parts c.in-Ok-parts.ensures
+    net-read c.args.reading c.args.text.now c.in-Ok.draft c.in-Ok.ensures.0 c.in-Ok.ensures.1 (sym c.whole_refusal.ensures ∙ c.in_default.is) c.in_ok-parts.parts c.in_ok-parts.ensures
     c.in-Ok-new.netlist c.in-Ok-new.ensures c.sound.ensures
 
 pub returns-in-Ok-new-clause-design : goal.returns-in-Ok-new-clause-design
@@ -29,7 +29,7 @@ returns-in-Ok-new-clause-design c = read-as c.args.reading c.args.text.now (Ok c
 
 pub refusal_of-requires : goal.refusal_of-requires
 refusal_of-requires c =
-    left c.args.reading c.args.text.now c.in-Ok.draft c.in-Ok.ensures.0 c.in-Ok.ensures.1 (sym c.whole_refusal.ensures ∙ c.in_default.is) c.in-Ok-parts.parts c.in-Ok-parts.ensures
+    left c.args.reading c.args.text.now c.in-Ok.draft c.in-Ok.ensures.0 c.in-Ok.ensures.1 (sym c.whole_refusal.ensures ∙ c.in_default.is) c.in_ok-parts.parts c.in_ok-parts.ensures
     c.in-Err-new.refusal c.in-Err-new.ensures
 
 pub returns-clause-read : goal.returns-clause-read
