@@ -53,7 +53,10 @@ pub fn work<J: About, T: Ledger, S: Ledger, P: Ledger, U: Ledger, E: Engine, G: 
     holds: &Holds,
 ) -> Result<(), NoMemory>
     requires table { share.old.table ≡ shared.now.word.shared.table_id }
-    requires subject { MaySearch J.subject core.now holds.now }
+    requires core { core.now ≡ J.subject.netlist }
+    requires lines { HaveLines J.subject }
+    requires limit { 1 ≤ J.subject.limit }
+    requires held { (holds.now ≡ J.subject.holds) × AreHoldsOf core.now holds.now }
     ensures table { share.new.table ≡ share.old.table }
     ensures ended { OnOk result (share.new.ended ≡ true) }
 {
