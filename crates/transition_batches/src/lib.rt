@@ -10,4 +10,4 @@
 pub mod laws;
 mod batches;
 
-pub use batches::{are_apart, batch, decides_frames};
+pub use batches::{MOST_FAULTS, are_apart, batch, decides_frames};
