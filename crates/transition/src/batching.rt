@@ -10,6 +10,7 @@
 ghost use Rattle.std.specs.Prelude.{◌≡◌, ◌+◌, ◌≤◌, ◌<◌, ◌^◌, ℕ, length, IfOk, IsTrue};
 ghost use Rattle.std.specs.List.{All, AllPairs};
 ghost use Rattle.netlist.specs.Designs.{IsDesign};
+ghost use Rattle.netlist.specs.Holds.{none_held};
 ghost use Rattle.netlist.specs.Lines.{IsLineOf};
 ghost use Rattle.netlist.specs.declared.lines.Fault.{Fault as FaultOf};
 ghost use Rattle.redundancy_cert.specs.declared.engine.Found.{Found as FoundOf};
@@ -127,6 +128,7 @@ fn search_together<E: Engine>(
     names: &NameTable,
     engine: &E,
     core: &Core,
+    holds: &Holds,
     slow: &[Fault],
     limit: u32,
 ) -> Result<Vec<Found>, NoMemory>
@@ -136,19 +138,19 @@ fn search_together<E: Engine>(
     requires apart { AllPairs (AreApart netlist.now) slow.now }
     requires few { length slow.now ≤ 1024 }
     requires core { core.now ≡ batch_of netlist.now slow.now }
+    requires holds { holds.now ≡ none_held core.now }
     requires limit { 1 ≤ limit }
     ensures { IfOk result (λ v. AreFound netlist.now limit slow.now v.items) }
 {
     batch_carries();
     netlist.sound();
     core.netlist().sound();
-    let holds = Holds::none(alloc, core)?;
-    let mut room = engine.room(alloc, core, &holds)?;
+    let mut room = engine.room(alloc, core, holds)?;
     let mut answers = Vec::with_capacity(alloc, slow.len())?;
     for j in 0..slow.len() {
         let fault = slow[j];
         let tie = tie_fault(netlist, j, &fault);
-        let (found, kept) = engine.search_in(alloc, room, core, tie, limit, &holds)?;
+        let (found, kept) = engine.search_in(alloc, room, core, tie, limit, holds)?;
         room = kept;
         answers.push(own_answer(alloc, netlist, names, engine, fault, limit, found)?)?;
     }
@@ -195,10 +197,15 @@ pub(crate) fn search_batch<E: Engine>(
     ensures { IfOk result (λ v. AreFound netlist.now limit slow.now v.items) }
 {
     match batch(alloc, netlist, slow)? {
-        Some(made) => match Core::of(alloc, made) {
-            Ok(core) => search_together(alloc, netlist, names, engine, &core, slow, limit),
-            Err(_) => Err(NoMemory),
-        },
+        Some(made) => {
+            let Ok(core) = Core::of(alloc, made) else {
+                return Err(NoMemory);
+            };
+            let holds = Holds::none(alloc, &core)?;
+            search_together(
+                alloc, netlist, names, engine, &core, &holds, slow, limit,
+            )
+        }
         None => search_each(alloc, netlist, names, engine, slow, limit),
     }
 }
