@@ -11,7 +11,7 @@ search_in-requires-clause-line g c =
     c.loop-j-test.true c.tie_fault-tie.ensures
 
 pub own_answer-requires-clause-carries : goal.own_answer-requires-clause-carries
-own_answer-requires-clause-carries g c decides =
+own_answer-requires-clause-carries g c κs within decides =
     carried c.batch_carries.ensures c.args.netlist.now c.args.slow.now c.loop-j.j c.index-slow-j.result c.args.limit c.in_ok-found.found c.args.core.now c.args.holds.now c.tie_fault-tie.result
     c.sound.ensures c.requires.design c.requires.lines c.requires.apart c.requires.core (subst IsSound c.netlist.ensures c.sound-2.ensures) c.requires.holds c.tie_fault-tie.ensures
     c.loop-j-test.true (sym c.index-slow-j.is) c.in_ok-found.ensures.evidence decides

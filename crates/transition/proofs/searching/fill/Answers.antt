@@ -17,8 +17,7 @@ for_each_chunk_mut-requires-clause-accepts g c κs within start p chunk =
         omega arith,
         chunk_answers c.args.netlist.now c.args.limit c.args.faults.now c.args.left.now _ start p.now c.requires.each chunk.in_bounds chunk.elements,
       ),
-      c.type_bounds.send-E-Room,
-      c.type_bounds.sync-E,
+      (c.type_bounds.send-E-Room, c.type_bounds.sync-E),
     )
 
 pub returns-clause-each : goal.returns-clause-each
