@@ -1,0 +1,3 @@
+pub mod Late
+pub mod Formed
+pub mod Making

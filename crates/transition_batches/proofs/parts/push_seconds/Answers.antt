@@ -1,0 +1,7 @@
+use Rattle.scan_insert.proofs.Making.{item_contained}
+use Rattle.transition_batches.proofs.parts.push_seconds.Goals as goal
+
+pub next-requires-clause-own : goal.first-requires-clause-own
+next-requires-clause-own c =
+    item_contained c.args.netlist.now c.definitions-definition-items.result.now c.loop-definition.definition-index c.definition-item.result
+    c.definitions-definition-items.ensures c.loop-definition-test.true c.definition-item.is
