@@ -1,11 +1,11 @@
 -- The netlist of a batch is well-formed.
 use Rattle.std.proofs.Common.{◌≡◌, ◌≢◌, ℕ, zero, suc, ◌+◌, ◌*◌, ◌-◌, ◌^◌, ◌<◌, ◌≤◌, Bool, true, false, cond, List, [], ◌∷◌, ◌++◌, map, length, get_or, refl, sym, ◌∙◌, ap, subst, inl, inr, arith, length-append}
 use Rattle.std.specs.Fmt.{decimal}
-use Rattle.std.specs.List.{All, Contains}
+use Rattle.std.specs.List.{All, AllPairs, Contains}
 use Rattle.std.proofs.lemmas.Bool.{cases_Bool, cases_lt}
 use Rattle.std.proofs.lemmas.List.{map-append, length-map, get_or-map, get_or_append_left, get_or-append_right, append_assoc}
 use Rattle.std.proofs.lemmas.List.FromFn.{length-map-range_with_len}
-use Rattle.std.proofs.lemmas.List.Elements.{All-nil, All-cons, All-head, All-tail, All-append, All-map, All-contains, All-weaker}
+use Rattle.std.proofs.lemmas.List.Elements.{All-nil, All-cons, All-head, All-tail, All-append, All-map, All-contains, All-weaker, Contains-get_or}
 use Rattle.netlist.specs.declared.kinds.Kind.TheVariants.{And, Or, Buff, Const0, Const1}
 use Rattle.netlist.specs.declared.lines.Line.TheVariants.{Stem, Pin, Out}
 use Rattle.netlist.specs.declared.lines.Fault.{Fault}
@@ -19,7 +19,6 @@ use Rattle.netlist.proofs.Settling.{pins_within}
 use Rattle.netlist.proofs.WellFormed.{one_pin}
 use Rattle.net_gen.specs.Samples.{lettered_names}
 use Rattle.net_gen.proofs.SoundLemmas.{all_named, names_distinct}
-use Rattle.scan_insert.proofs.Soundness.{pairs_map}
 use Rattle.transition_frames.specs.Frames.{source_of, second, tie}
 use Rattle.transition_frames.proofs.Framed.{second_input, second_above, second_below, first_below}
 use Rattle.transition_frames.proofs.Making.{source_low}
@@ -241,6 +240,15 @@ module _ (n : Netlist) (sound : IsSound n) (fs : List Fault) (lines : All (λ (f
         ]
       ]
 
+  outputs_differ : AllPairs (λ x y. x ≢ y) (batch_of n fs).outputs
+  outputs_differ i j e l m =
+      let r : ℕ → ℕ = λ y. read_late n 0 fs (Out y) y in
+      let size : length (map r n.outputs) ≡ length n.outputs = length-map n.outputs r in
+      let v : i < length n.outputs = omega arith in
+      let w : j < length n.outputs = omega arith in
+      λ same. sound.formed.once i j 0 l w (outputs_same (get_or n.outputs i 0) (get_or n.outputs j 0) (Contains-get_or n.outputs i 0 v) (Contains-get_or n.outputs j 0 w)
+      (sym (get_or-map r n.outputs i 0 e v) ∙ (same ∙ get_or-map r n.outputs j 0 e w)))
+
   read_below : (x : ℕ) → HasReader (batch_of n fs) x → x < bound
   read_below x r = elim r [
     | inl w ↦ All-contains (λ y. y < bound) w.0.pins x (All-contains (IsFine bound) (batch_of n fs).definitions w.0 all_fine w.1).pins w.2
@@ -260,6 +268,6 @@ module _ (n : Netlist) (sound : IsSound n) (fs : List Fault) (lines : All (λ (f
         used = λ x l. inl (signal_from (batch_of n fs) numbered x (omega arith));
         names = all_named 110 bound refl (omega arith);
         distinct = names_distinct 110 bound (omega arith);
-        once = pairs_map (λ y. read_late n 0 fs (Out y) y) n.outputs 0 sound.formed.once outputs_same;
+        once = outputs_differ;
         allowed = All-weaker (IsFine bound) (λ (d : Definition). allows_pins d.kind (length d.pins) ≡ true) (λ d h. h.allowed) (batch_of n fs).definitions all_fine;
       }

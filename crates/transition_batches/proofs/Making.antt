@@ -1,15 +1,33 @@
 -- Steps of the loops that make a batch.
 use Rattle.std.proofs.Common.{◌≡◌, ℕ, ◌+◌, ◌<◌, Bool, true, false, List, [], ◌∷◌, ◌++◌, length, get_or, set, take, drop, refl, sym, ◌∙◌, ap, subst, inl, inr, arith}
-use Rattle.std.specs.List.{All}
+use Rattle.std.specs.List.{All, Contains}
 use Rattle.std.proofs.lemmas.Bool.{cases_eq}
-use Rattle.std.proofs.lemmas.List.{append_assoc, drop_more, get_or-set_same, get_or-set_other, length-set}
+use Rattle.std.proofs.lemmas.List.{append_assoc, drop_more, get_or_default, get_or-set_same, get_or-set_other, length-set}
 use Rattle.std.proofs.lemmas.List.Elements.{All-more, All-weaker}
 use Rattle.netlist.specs.declared.lines.Line.TheVariants.{Pin}
 use Rattle.netlist.specs.declared.lines.Fault.{Fault}
-use Rattle.netlist.specs.Netlist.{Definition, Netlist}
+use Rattle.netlist.specs.Netlist.{Definition, Netlist, signals}
+use Rattle.netlist.specs.Lines.{IsLineOf}
+use Rattle.netlist.specs.Conditions.{IsSound}
+use Rattle.netlist.proofs.Settling.{pins_within}
 use Rattle.transition_frames.specs.Frames.{source_of}
+use Rattle.transition_frames.proofs.Making.{source_low}
+use Rattle.transition_frames.proofs.Sources.{source_of_pin}
 use Rattle.transition_batches.specs.Batches.{read_late, late_pins, gates_at, all_gates}
 use Rattle.transition_batches.specs.inner.Marks.{AreSourcesMarked}
+
+-- ---- pins
+
+pub pin_low : (n : Netlist) → IsSound n → (d : Definition) → Contains n.definitions d → (pins : List ℕ) (k x : ℕ) → pins ≡ d.pins → k < length pins → x ≡ get_or pins k x → x < length (signals n)
+pin_low n sound d c pins k x e l is =
+    subst (λ y. y < length (signals n)) (sym is) (pins_within n sound.formed.numbered sound.closed d c pins (length (signals n)) e refl k x l)
+
+-- a pin reads what stands at its place
+pub pin_source : (n : Netlist) → IsSound n → (d : Definition) → Contains n.definitions d → (pins : List ℕ) (z k x : ℕ) → z ≡ d.id → pins ≡ d.pins → k < length pins → x ≡ get_or pins k x
+    → source_of n (Pin z k) ≡ x
+pin_source n sound d c pins z k x i e l is =
+    ap (λ y. source_of n (Pin y k)) i
+    ∙ (source_of_pin n sound.formed.numbered d c k ∙ (ap (λ (ps : List ℕ). get_or ps k 0) (sym e) ∙ (sym (get_or_default pins k x 0 l) ∙ sym is)))
 
 -- one pin more
 pub late_pins_step : (n : Netlist) (fs : List Fault) (z k : ℕ) (now new pins all : List ℕ) (x d : ℕ) → k < length pins
@@ -21,6 +39,8 @@ late_pins_step n fs z k now new pins all x d l h e is =
     ∙ (append_assoc now (read_late n 0 fs (Pin z k) x ∷ []) (late_pins n fs z (k + 1) (drop (k + 1) pins))
     ∙ (ap (λ (ps : List ℕ). now ++ late_pins n fs z k ps) (sym more) ∙ h))
 
+-- ---- slow lines
+
 -- one slow line more
 pub gates_step : (n : Netlist) (fs : List Fault) (j : ℕ) (now new all : List Definition) (f : Fault) → j < length fs
     → now ++ all_gates n j (drop j fs) ≡ all → new ≡ now ++ gates_at n j f → f ≡ get_or fs j f → new ++ all_gates n (j + 1) (drop (j + 1) fs) ≡ all
@@ -29,6 +49,11 @@ gates_step n fs j now new all f l h e is =
     ap (λ r. r ++ all_gates n (j + 1) (drop (j + 1) fs)) e
     ∙ (append_assoc now (gates_at n j f) (all_gates n (j + 1) (drop (j + 1) fs))
     ∙ (ap (λ (gs : List Fault). now ++ all_gates n j gs) (sym more) ∙ h))
+
+pub mark_low : (n : Netlist) → IsSound n → (fs : List Fault) → All (λ (f : Fault). IsLineOf n f.line) fs → (j x m : ℕ) (f : Fault) → j < length fs → f ≡ get_or fs j f → x ≡ source_of n f.line
+    → m ≡ length (signals n) → x < m
+mark_low n sound fs lines j x m f l is own size =
+    subst (λ b. x < b) (sym size) (source_low n sound f (subst (λ (g : Fault). IsLineOf n g.line) (sym is) (lines j f l)) x own)
 
 still : (m : List Bool) (x y : ℕ) → x < length m → get_or m y false ≡ true → get_or (set m x true) y false ≡ true
 still m x y l h = elim (cases_eq y x) [

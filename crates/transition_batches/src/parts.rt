@@ -2,7 +2,7 @@
 //!
 //! The two frames come first, with the numbers that they have where one line alone is slow, and three gates for each slow line behind them: so what is
 //! decided below the gates means the same in a batch as in the two frames of one line.
-ghost use Rattle.std.specs.Prelude.{◌≡◌, ◌++◌, ◌≤◌, length, map, IfOk, OnOk};
+ghost use Rattle.std.specs.Prelude.{◌≡◌, ◌++◌, ◌<◌, ◌≤◌, length, map, IfOk, OnOk};
 ghost use Rattle.std.specs.List.{All, Contains};
 ghost use Rattle.netlist.specs.Conditions.{IsSound, whole};
 ghost use Rattle.netlist.specs.Lines.{IsLineOf};
@@ -10,7 +10,6 @@ ghost use Rattle.netlist.specs.Netlist.{signals, define as define_as};
 ghost use Rattle.netlist.specs.declared.lines.Fault.{Fault as FaultOf};
 ghost use Rattle.netlist.specs.declared.lines.Line.TheVariants.{Out};
 ghost use Rattle.net_gen.specs.Samples.{lettered_names};
-ghost use Rattle.transition_frames.specs.Frames.{tie};
 ghost use Rattle.transition_batches.specs.Batches.{in_first_of, in_second_of, gates_at, all_gates, read_late, batch_of};
 ghost use Rattle.transition_batches.specs.inner.Marks.{AreSourcesMarked};
 
@@ -68,9 +67,10 @@ fn next(
     requires few { length faults.now ≤ 1024 }
     requires marked { AreSourcesMarked netlist.now faults.now marks.now }
     requires own { Contains netlist.now.definitions definition.now }
+    requires low { definition.now.id < length (signals netlist.now) }
     ensures { IfOk result (λ d. d ≡ in_second_of netlist.now faults.now definition.now) }
 {
-    let moved = second(netlist, definition.id());
+    let moved = SignalId(definition.id().0 + netlist.definitions().len() as u32);
     if definition.kind().is_flip_flop() {
         return define(alloc, moved, Kind::Buff, definition.pins());
     }
