@@ -1,2 +1,4 @@
 pub mod Places
+pub mod LateReads
+pub mod Within
 pub mod Pulling
