@@ -1,4 +1,5 @@
 pub mod Places
 pub mod LateReads
 pub mod Within
+pub mod Passing
 pub mod Pulling

@@ -261,11 +261,11 @@ module _ {V : Type 0} (R S : Rule V) (Same : V → V → Type 0) (same : (v : V)
   each_gate _ keeps =
       gate_is (hold n) (hold_at n j) (cond f.value And Or) (source_of n f.line ∷ tie_at n j ∷ []) (source_of n f.line ∷ tie n ∷ []) hold_place (λ e. omega arith)
       (hold_value R n numbered fs j clear inputs state a settles j f here)
-      (alike (source_of n f.line) (source_of n f.line) (first_place (source_of n f.line) source_low), alike (tie n) (tie_at n j) tie_place, tt)
+      (alike (source_of n f.line) (source_of n f.line) (first_place (source_of n f.line) source_low), (alike (tie n) (tie_at n j) tie_place, tt))
   each_gate _ lags =
       gate_is (late n) (late_at n j) (cond f.value Or And) (second n (source_of n f.line) ∷ hold_at n j ∷ []) (second n (source_of n f.line) ∷ hold n ∷ []) late_place
       (λ e. omega arith) (late_value R n numbered fs j clear inputs state a settles j f here)
-      (alike (second n (source_of n f.line)) (second n (source_of n f.line)) (second_place (source_of n f.line) source_low), alike (hold n) (hold_at n j) hold_place, tt)
+      (alike (second n (source_of n f.line)) (second n (source_of n f.line)) (second_place (source_of n f.line) source_low), (alike (hold n) (hold_at n j) hold_place, tt))
 
   source_is : (x : ℕ) (v : V) → x < tie n → a x ≡ v → b x ≡ S.line (Stem x) v
   source_is x v l e = ap a (to_batch_below n j x l) ∙ (e ∙ sym (plain (Stem x) (ne_eqb (tie n) x (λ s. omega arith)) v))
