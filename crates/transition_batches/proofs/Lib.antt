@@ -1,1 +1,4 @@
+pub mod Places
+pub mod Pulling
 pub mod Carrying
+pub mod Evidence
