@@ -58,7 +58,7 @@ module _ (n : Netlist) (sound : IsSound n) (design : IsDesign n) (fs : List Faul
   }
   evidence_carries limit (Complete tree) d w =
       (carried (tie n) (batch_of n fs) (frames_of n f) (batch_fault n j f) (frame_fault n f) (none_held (batch_of n fs)) (none_held (frames_of n f)) (to_batch n j) carries whole two
-      (length-map n.inputs _) tree d w.0, w.1)
+      (length-map n.inputs _) tree d w.0, w.1, w.2)
   evidence_carries limit (Partial tree) d w =
       (carried (tie n) (batch_of n fs) (frames_of n f) (batch_fault n j f) (frame_fault n f) (none_held (batch_of n fs)) (none_held (frames_of n f)) (to_batch n j) carries whole two
-      (length-map n.inputs _) tree d w.0, w.1)
+      (length-map n.inputs _) tree d w.0, w.1, w.2)
