@@ -1,16 +1,14 @@
 -- Trees and cubes are evidence on the two frames of a slow line where they are in a batch: the labels of both are the same ones.
-use Rattle.std.proofs.Common.{◌≡◌, ℕ, ◌+◌, ◌*◌, ◌<◌, ◌≤◌, Bool, true, false, not, List, [], ◌∷◌, ◌++◌, map, length, Option, Some, None, refl, sym, ◌∙◌, ap, subst, inl, inr, arith, eqb, cond}
+use Rattle.std.proofs.Common.{◌≡◌, ℕ, ◌<◌, ◌≤◌, Bool, true, false, not, List, [], ◌∷◌, ◌++◌, length, Some, None, refl, sym, ◌∙◌, ap, subst, arith, eqb, cond}
 use Rattle.std.proofs.lemmas.List.{length-map}
-use Rattle.std.proofs.lemmas.Bool.{cases_Bool, eqb-true}
+use Rattle.std.proofs.lemmas.Bool.{eqb-true}
 use Rattle.std.proofs.lemmas.List.Elements.{All-head, All-tail, All-nil, All-cons, All-append}
 use Rattle.std.specs.List.{All, Contains}
 use Rattle.netlist.specs.declared.kinds.Tri.TheVariants.{X}
 use Rattle.netlist.specs.declared.lines.Fault.{Fault}
-use Rattle.netlist.specs.declared.lines.Point.{Point}
 use Rattle.netlist.specs.Netlist.{Netlist, signals, cells}
-use Rattle.netlist.specs.Holds.{Holds, none_held}
+use Rattle.netlist.specs.Holds.{Holds}
 use Rattle.netlist.specs.Conditions.{IsSound}
-use Rattle.netlist.specs.Detection.{Detects}
 use Rattle.netlist.proofs.Lists.{all_left, all_right}
 use Rattle.netlist.proofs.SomeSettled.{some_settled}
 use Rattle.tri.specs.declared.labels.Label.{Label}

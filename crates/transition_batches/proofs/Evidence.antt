@@ -1,17 +1,15 @@
 -- What is evidence for a slow line in a batch is evidence on its own two frames.
-use Rattle.std.proofs.Common.{◌≡◌, ℕ, ◌+◌, ◌*◌, ◌<◌, ◌≤◌, List, map, length, Option, Some, None, refl, sym, ◌∙◌, ap, subst, inl, inr, arith, cond}
+use Rattle.std.proofs.Common.{◌≡◌, ℕ, ◌+◌, ◌*◌, List, length, Some, sym, ◌∙◌, ap, inl, inr, arith, cond}
 use Rattle.std.proofs.lemmas.Bool.{lt-ltb}
 use Rattle.std.proofs.lemmas.List.{length-map}
 use Rattle.std.specs.List.{All, AllPairs, slice_get}
 use Rattle.netlist.specs.declared.lines.Fault.{Fault}
-use Rattle.netlist.specs.Netlist.{Netlist, signals, cells}
+use Rattle.netlist.specs.Netlist.{Netlist, cells}
 use Rattle.netlist.specs.Conditions.{IsSound}
 use Rattle.netlist.specs.Designs.{IsDesign}
 use Rattle.netlist.specs.Holds.{none_held}
 use Rattle.netlist.specs.Lines.{IsLineOf}
 use Rattle.netlist.proofs.Placed.{signal_from}
-use Rattle.tri.specs.declared.labels.Label.{Label}
-use Rattle.tri.specs.Labels.{Decisions, AreLabels, IsClosedAt}
 use Rattle.redundancy_cert.specs.declared.engine.Found.{Found}
 use Rattle.redundancy_cert.specs.declared.engine.Found.TheVariants.{Test, Closed as Complete, Partial}
 use Rattle.redundancy_cert.specs.Evidence.{HasEvidence}
@@ -22,7 +20,7 @@ use Rattle.transition_frames.proofs.Soundness.{frames_are_sound}
 use Rattle.transition_batches.specs.Batches.{in_first_of, batch_of, batch_fault, AreApart, DecidesFrames}
 use Rattle.transition_batches.proofs.Places.{to_batch, cells_batched}
 use Rattle.transition_batches.proofs.Pulling.{pulled_labels, pulled_contradiction, pushed_contradiction, pulled_unobserved, pushed_unobserved, pulled_detects}
-use Rattle.transition_batches.proofs.Carrying.{IsLow, Carries, carried}
+use Rattle.transition_batches.proofs.Carrying.{Carries, carried}
 
 module _ (n : Netlist) (sound : IsSound n) (design : IsDesign n) (fs : List Fault) (valid : All (λ (g : Fault). IsLineOf n g.line) fs)
     (apart : AllPairs (AreApart n) fs) (whole : IsSound (batch_of n fs)) (j : ℕ) (f : Fault) (here : slice_get fs j ≡ Some f) (line : IsLineOf n f.line) where
@@ -56,9 +54,15 @@ module _ (n : Netlist) (sound : IsSound n) (design : IsDesign n) (fs : List Faul
     is_cube = record { inputs = w.is_cube.inputs; cells = w.is_cube.cells ∙ cell_count; held = w.is_cube.held };
     detects = λ p a. pulled_detects n sound design fs valid apart whole j f here p.inputs p.cells point (w.detects p a);
   }
-  evidence_carries limit (Complete tree) d w =
-      (carried (tie n) (batch_of n fs) (frames_of n f) (batch_fault n j f) (frame_fault n f) (none_held (batch_of n fs)) (none_held (frames_of n f)) (to_batch n j) carries whole two
-      (length-map n.inputs _) tree d w.0, w.1, w.2)
-  evidence_carries limit (Partial tree) d w =
-      (carried (tie n) (batch_of n fs) (frames_of n f) (batch_fault n j f) (frame_fault n f) (none_held (batch_of n fs)) (none_held (frames_of n f)) (to_batch n j) carries whole two
-      (length-map n.inputs _) tree d w.0, w.1, w.2)
+  evidence_carries limit (Complete tree) d w = (
+    carried (tie n) (batch_of n fs) (frames_of n f) (batch_fault n j f) (frame_fault n f) (none_held (batch_of n fs)) (none_held (frames_of n f)) (to_batch n j) carries whole two
+        (length-map n.inputs _) tree d w.0,
+    w.1,
+    w.2,
+  )
+  evidence_carries limit (Partial tree) d w = (
+    carried (tie n) (batch_of n fs) (frames_of n f) (batch_fault n j f) (frame_fault n f) (none_held (batch_of n fs)) (none_held (frames_of n f)) (to_batch n j) carries whole two
+        (length-map n.inputs _) tree d w.0,
+    w.1,
+    w.2,
+  )

@@ -1,5 +1,5 @@
 -- What a line reads in a batch of slow lines that stand apart, beside what it reads in the two frames of one of them.
-use Rattle.std.proofs.Common.{◌≡◌, ℕ, zero, suc, ◌+◌, ◌<◌, Bool, true, false, cond, ◌||◌, ◌⊎◌, List, [], ◌∷◌, length, get_or, Some, refl, sym, ◌∙◌, ap, subst, inl, inr, arith}
+use Rattle.std.proofs.Common.{◌≡◌, ℕ, zero, suc, ◌+◌, Bool, true, false, cond, ◌||◌, ◌⊎◌, List, [], ◌∷◌, get_or, Some, refl, ◌∙◌, ap, subst, inl, inr, arith}
 use Rattle.std.specs.List.{AllPairs, slice_get}
 use Rattle.std.proofs.lemmas.Bool.{cases_Bool, cases_lt, or_cases, both_ways}
 use Rattle.std.proofs.lemmas.Option.{none-some, same_Some, slice_get_within, get_or_from_slice_get}
@@ -8,10 +8,9 @@ use Rattle.netlist.specs.declared.lines.Line.TheVariants.{Stem, Pin, Out}
 use Rattle.netlist.specs.declared.lines.Fault.{Fault}
 use Rattle.netlist.specs.Netlist.{Netlist}
 use Rattle.netlist.specs.Settled.{is_line}
-use Rattle.transition_frames.specs.Frames.{source_of, second, tie, late, read}
-use Rattle.transition_frames.proofs.Sources.{same_line, stem_is, pin_is, out_is}
+use Rattle.transition_frames.specs.Frames.{source_of, second}
+use Rattle.transition_frames.proofs.Sources.{stem_is, pin_is, out_is}
 use Rattle.transition_batches.specs.Batches.{late_at, read_late, AreApart}
-use Rattle.transition_batches.proofs.Places.{to_batch}
 
 -- the line reads the late value of the slow line, where it reads x in the netlist
 abbrev pub is_late : Fault → Line → ℕ → Bool

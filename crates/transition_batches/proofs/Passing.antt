@@ -2,13 +2,12 @@
 use Rattle.std.proofs.Common.{◌≡◌, Bool, true, false, not, cond, ◌||◌, List, [], ◌∷◌, map, Option, Some, None, refl, sym, ◌∙◌, ap, subst}
 use Rattle.std.specs.Prelude.{if◌then◌else◌}
 use Rattle.std.specs.List.{All, AllZip, list_any}
-use Rattle.std.proofs.lemmas.Bool.{both_ways, not-true}
+use Rattle.std.proofs.lemmas.Bool.{not-true}
 use Rattle.std.proofs.lemmas.List.Elements.{All-nil, All-cons, All-head, All-tail}
 use Rattle.netlist.specs.declared.kinds.Tri.{Tri}
 use Rattle.netlist.specs.declared.kinds.Tri.TheVariants.{Zero, One, X}
 use Rattle.netlist.specs.declared.kinds.Kind.TheVariants.{And, Or, Const0, Const1}
 use Rattle.netlist.specs.declared.lines.Line.{Line}
-use Rattle.netlist.specs.declared.lines.Line.TheVariants.{Stem}
 use Rattle.netlist.specs.declared.lines.Fault.{Fault}
 use Rattle.netlist.specs.Gates.{gate_bit}
 use Rattle.netlist.specs.Settled.{is_line}
@@ -18,7 +17,7 @@ use Rattle.tri.specs.Gates.{gate_tri}
 use Rattle.tri.specs.Labels.{on_line, label_of, good_of, are_known_and_equal, is_known_as}
 use Rattle.tri.proofs.AboveLemmas.{not_false}
 use Rattle.tri.proofs.Choices.{no}
-use Rattle.transition_frames.proofs.Slow.{is_active, tie_value, late_value, quick}
+use Rattle.transition_frames.proofs.Slow.{tie_value, late_value, quick}
 use Rattle.transition_frames.proofs.Sources.{same_line}
 
 -- ---- bits

@@ -1,5 +1,5 @@
 -- Values that settle on a batch, taken at the signals of one line's two frames, settle on these, and show the same at every point.
-use Rattle.std.proofs.Common.{◌≡◌, ℕ, zero, suc, ◌+◌, ◌*◌, ◌<◌, ◌≤◌, Bool, true, false, cond, List, [], ◌∷◌, ◌++◌, map, length, get_or, Some, refl, sym, ◌∙◌, ap, subst, inl, inr, arith}
+use Rattle.std.proofs.Common.{◌≡◌, ℕ, suc, ◌+◌, ◌*◌, ◌<◌, true, false, cond, List, [], ◌∷◌, map, length, get_or, Some, refl, sym, ◌∙◌, ap, subst, inl, inr, arith}
 use Rattle.std.specs.List.{All, AllPairs, AllZip, Contains, flat_map, slice_get}
 use Rattle.std.proofs.lemmas.Bool.{cases_Bool, both_ways, ne_eqb, not-true, not_from_false}
 use Rattle.std.proofs.lemmas.List.Elements.{All-contains, Contains-get_or}
@@ -191,8 +191,8 @@ module _ {V : Type 0} (R S : Rule V) (Same : V → V → Type 0) (same : (v : V)
           | inl w ↦ alike (read n f l x) (read_late n 0 fs l x) (mine ∙ sym w.0)
           | inr w ↦
               let other : w.0 ≡ j → ⊥ = λ place.
-                  let one : f ≡ w.1 = same_Some f w.1 (sym here ∙ (ap (slice_get fs) (sym place) ∙ w.2)) in
-                  both_ways (is_late f l x) e (ap (λ (g : Fault). is_late g l x) one ∙ w.3) in
+              let one : f ≡ w.1 = same_Some f w.1 (sym here ∙ (ap (slice_get fs) (sym place) ∙ w.2)) in
+              both_ways (is_late f l x) e (ap (λ (g : Fault). is_late g l x) one ∙ w.3) in
               let at_i : late_at n w.0 ≡ read_late n 0 fs l x = ap (late_at n) (let s : w.0 ≡ 0 + w.0 = omega arith in s) ∙ sym w.4 in
               let from : second n (source_of n w.1.line) ≡ to_batch n j (read n f l x) = ap (second n) (late_source n l x own w.1 w.3) ∙ sym mine in
               subst (λ z. Same (a (read_late n 0 fs l x)) (a z)) from
