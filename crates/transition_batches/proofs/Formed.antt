@@ -1,13 +1,15 @@
 -- The netlist of a batch is well-formed.
 use Rattle.std.proofs.Common.{◌≡◌, ◌≢◌, ℕ, zero, suc, ◌+◌, ◌*◌, ◌-◌, ◌^◌, ◌<◌, ◌≤◌, Bool, true, false, cond, List, [], ◌∷◌, ◌++◌, map, length, get_or, refl, sym, ◌∙◌, ap, subst, inl, inr, arith, length-append}
 use Rattle.std.specs.Fmt.{decimal}
-use Rattle.std.specs.List.{All, AllPairs, Contains}
+use Rattle.std.specs.List.{All, AllPairs, Contains, slice_get}
 use Rattle.std.proofs.lemmas.Bool.{cases_Bool, cases_lt}
 use Rattle.std.proofs.lemmas.List.{map-append, length-map, get_or-map, get_or_append_left, get_or-append_right, append_assoc}
 use Rattle.std.proofs.lemmas.List.FromFn.{length-map-range_with_len}
 use Rattle.std.proofs.lemmas.List.Elements.{All-nil, All-cons, All-head, All-tail, All-append, All-map, All-contains, All-weaker, Contains-get_or}
+use Rattle.std.proofs.lemmas.Option.{same_Some, slice_get_within}
 use Rattle.netlist.specs.declared.kinds.Kind.TheVariants.{And, Or, Buff, Const0, Const1}
-use Rattle.netlist.specs.declared.lines.Line.TheVariants.{Stem, Pin, Out}
+use Rattle.netlist.specs.declared.lines.Line.{Line}
+use Rattle.netlist.specs.declared.lines.Line.TheVariants.{Pin, Out}
 use Rattle.netlist.specs.declared.lines.Fault.{Fault}
 use Rattle.netlist.specs.Lines.{IsLineOf}
 use Rattle.netlist.specs.Gates.{allows_pins}
@@ -22,19 +24,16 @@ use Rattle.net_gen.proofs.SoundLemmas.{all_named, names_distinct}
 use Rattle.transition_frames.specs.Frames.{source_of, second, tie}
 use Rattle.transition_frames.proofs.Framed.{second_input, second_above, second_below, first_below}
 use Rattle.transition_frames.proofs.Making.{source_low}
+use Rattle.transition_frames.proofs.Sources.{source_at_out}
 use Rattle.transition_batches.specs.Batches.{tie_at, hold_at, late_at, read_late, late_pins, in_first_of, in_second_of, gates_at, all_gates, batch_of}
-use Rattle.transition_batches.proofs.Late.{is_late, late_source, late_cases, late_below}
+use Rattle.transition_batches.proofs.Places.{first_of_id}
+use Rattle.transition_batches.proofs.LateReads.{late_source, late_cases}
 
 abbrev second_numbers : Netlist → List ℕ
 second_numbers n = map (λ (d : Definition). d.id + length n.definitions) n.definitions
 
 abbrev gate_numbers : Netlist → List Fault → List ℕ
 gate_numbers n fs = map (λ (d : Definition). d.id) (all_gates n 0 fs)
-
-first_number : (n : Netlist) (fs : List Fault) (d : Definition) → (in_first_of n fs d).id ≡ d.id
-first_number n fs d =
-    let step : (b : Bool) → (cond b (define d.id d.kind (late_pins n fs d.id 0 d.pins)) d).id ≡ d.id = elim [ true ↦ refl | false ↦ refl ] in
-    step (is_cell d)
 
 second_number : (n : Netlist) (fs : List Fault) (d : Definition) → (in_second_of n fs d).id ≡ d.id + length n.definitions
 second_number n fs d =
@@ -50,7 +49,7 @@ signals_batched n fs =
     let ids : List ℕ = map id n.definitions in
     let last : List ℕ = gate_numbers n fs in
     let first : map id ones ≡ ids = map_map (in_first_of n fs) id n.definitions ∙ map_agree (λ (d : Definition). (in_first_of n fs d).id) id n.definitions
-    (All-from_contains (λ (d : Definition). (in_first_of n fs d).id ≡ d.id) n.definitions (λ d c. first_number n fs d)) in
+    (All-from_contains (λ (d : Definition). (in_first_of n fs d).id ≡ d.id) n.definitions (λ d c. first_of_id n fs d)) in
     let again : map id twos ≡ second_numbers n =
     map_map (in_second_of n fs) id n.definitions ∙ map_agree (λ (d : Definition). (in_second_of n fs d).id) (λ (d : Definition). d.id + length n.definitions) n.definitions
     (All-from_contains (λ (d : Definition). (in_second_of n fs d).id ≡ d.id + length n.definitions) n.definitions (λ d c. second_number n fs d)) in
@@ -112,6 +111,12 @@ batch_numbered n numbered fs k l =
 record IsFine (bound : ℕ) (d : Definition) : Type 0 where
   pins : All (λ x. x < bound) d.pins
   allowed : allows_pins d.kind (length d.pins) ≡ true
+
+late_below : (n : Netlist) (fs : List Fault) (line : Line) (x : ℕ) → x < length (signals n) → read_late n 0 fs line x < tie n + 3 * length fs
+late_below n fs line x low = elim (late_cases n 0 fs line x) [
+  | inl w ↦ let e = w.0 in let l = second_below n x low in omega arith
+  | inr w ↦ let e = w.4 in let l = slice_get_within fs w.0 w.1 w.2 in omega arith
+]
 
 late_pins_count : (n : Netlist) (fs : List Fault) (z k : ℕ) (xs : List ℕ) → length (late_pins n fs z k xs) ≡ length xs
 late_pins_count n fs z k [] = refl
@@ -221,22 +226,22 @@ module _ (n : Netlist) (sound : IsSound n) (fs : List Fault) (lines : All (λ (f
   -- late outputs at one place are the slow line's
   outputs_same : (x y : ℕ) → Contains n.outputs x → Contains n.outputs y → read_late n 0 fs (Out x) x ≡ read_late n 0 fs (Out y) y → x ≡ y
   outputs_same x y c k e =
-      let some : Fault = record { line = Stem 0; value = false } in
       let lx = second_below n x (output_low x c) in
       let ly = second_below n y (output_low y k) in
       elim (late_cases n 0 fs (Out x) x) [
-        | inl a ↦ elim (late_cases n 0 fs (Out y) y) [
-          | inl b ↦ second_injective x y (sym a ∙ (e ∙ b))
-          | inr v ↦ let b = v.3 in absurd (omega arith)
+        | inl w ↦ elim (late_cases n 0 fs (Out y) y) [
+          | inl v ↦ second_injective x y (sym w.0 ∙ (e ∙ v.0))
+          | inr v ↦ let a = w.0 in let b = v.4 in absurd (omega arith)
         ]
         | inr w ↦ elim (late_cases n 0 fs (Out y) y) [
-          | inl b ↦ let a = w.3 in absurd (omega arith)
+          | inl v ↦ let a = w.4 in let b = v.0 in absurd (omega arith)
           | inr v ↦
-              let a = w.3 in
-              let b = v.3 in
-              let same : w.0 ≡ v.0 = omega arith in
-              sym (late_source n (get_or fs w.0 some) (Out x) x refl (w.2 some))
-              ∙ (ap (λ i. source_of n (get_or fs i some).line) same ∙ late_source n (get_or fs v.0 some) (Out y) y refl (v.2 some))
+              let a = w.4 in
+              let b = v.4 in
+              let place : w.0 ≡ v.0 = omega arith in
+              let same : w.1 ≡ v.1 = same_Some w.1 v.1 (sym w.2 ∙ (ap (slice_get fs) place ∙ v.2)) in
+              sym (late_source n (Out x) x (λ m s. source_at_out n sound.formed.numbered m x s) w.1 w.3)
+              ∙ (ap (λ (g : Fault). source_of n g.line) same ∙ late_source n (Out y) y (λ m s. source_at_out n sound.formed.numbered m y s) v.1 v.3)
         ]
       ]
 

@@ -1,20 +1,23 @@
 -- Steps of the loops that make a batch.
-use Rattle.std.proofs.Common.{◌≡◌, ℕ, ◌+◌, ◌<◌, Bool, true, false, List, [], ◌∷◌, ◌++◌, length, get_or, set, take, drop, refl, sym, ◌∙◌, ap, subst, inl, inr, arith}
+use Rattle.std.proofs.Common.{◌≡◌, ℕ, ◌+◌, ◌<◌, Bool, true, false, List, length, get_or, set, take, refl, sym, ◌∙◌, ap, subst, inl, inr}
 use Rattle.std.specs.List.{All, Contains}
-use Rattle.std.proofs.lemmas.Bool.{cases_eq}
-use Rattle.std.proofs.lemmas.List.{append_assoc, drop_more, get_or_default, get_or-set_same, get_or-set_other, length-set}
+use Rattle.std.proofs.lemmas.Bool.{both_ways, cases_eq}
+use Rattle.std.proofs.lemmas.List.{get_or_default, get_or-set_same, get_or-set_other, length-set}
 use Rattle.std.proofs.lemmas.List.Elements.{All-more, All-weaker}
+use Rattle.std.proofs.lemmas.Option.{slice_get_within, get_or_from_slice_get}
+use Rattle.netlist.specs.declared.lines.Line.{Line}
 use Rattle.netlist.specs.declared.lines.Line.TheVariants.{Pin}
 use Rattle.netlist.specs.declared.lines.Fault.{Fault}
-use Rattle.netlist.specs.Netlist.{Definition, Netlist, signals}
 use Rattle.netlist.specs.Lines.{IsLineOf}
+use Rattle.netlist.specs.Netlist.{Definition, Netlist, signals}
 use Rattle.netlist.specs.Conditions.{IsSound}
 use Rattle.netlist.proofs.Settling.{pins_within}
-use Rattle.transition_frames.specs.Frames.{source_of}
+use Rattle.transition_frames.specs.Frames.{source_of, second}
 use Rattle.transition_frames.proofs.Making.{source_low}
 use Rattle.transition_frames.proofs.Sources.{source_of_pin}
-use Rattle.transition_batches.specs.Batches.{read_late, late_pins, gates_at, all_gates}
+use Rattle.transition_batches.specs.Batches.{read_late}
 use Rattle.transition_batches.specs.inner.Marks.{AreSourcesMarked}
+use Rattle.transition_batches.proofs.LateReads.{line_is, late_source, late_cases}
 
 -- ---- pins
 
@@ -29,26 +32,7 @@ pin_source n sound d c pins z k x i e l is =
     ap (λ y. source_of n (Pin y k)) i
     ∙ (source_of_pin n sound.formed.numbered d c k ∙ (ap (λ (ps : List ℕ). get_or ps k 0) (sym e) ∙ (sym (get_or_default pins k x 0 l) ∙ sym is)))
 
--- one pin more
-pub late_pins_step : (n : Netlist) (fs : List Fault) (z k : ℕ) (now new pins all : List ℕ) (x d : ℕ) → k < length pins
-    → now ++ late_pins n fs z k (drop k pins) ≡ all → new ≡ now ++ read_late n 0 fs (Pin z k) x ∷ [] → x ≡ get_or pins k d
-    → new ++ late_pins n fs z (k + 1) (drop (k + 1) pins) ≡ all
-late_pins_step n fs z k now new pins all x d l h e is =
-    let more : drop k pins ≡ x ∷ drop (k + 1) pins = drop_more pins k d l ∙ ap (λ y. y ∷ drop (k + 1) pins) (sym is) in
-    ap (λ r. r ++ late_pins n fs z (k + 1) (drop (k + 1) pins)) e
-    ∙ (append_assoc now (read_late n 0 fs (Pin z k) x ∷ []) (late_pins n fs z (k + 1) (drop (k + 1) pins))
-    ∙ (ap (λ (ps : List ℕ). now ++ late_pins n fs z k ps) (sym more) ∙ h))
-
--- ---- slow lines
-
--- one slow line more
-pub gates_step : (n : Netlist) (fs : List Fault) (j : ℕ) (now new all : List Definition) (f : Fault) → j < length fs
-    → now ++ all_gates n j (drop j fs) ≡ all → new ≡ now ++ gates_at n j f → f ≡ get_or fs j f → new ++ all_gates n (j + 1) (drop (j + 1) fs) ≡ all
-gates_step n fs j now new all f l h e is =
-    let more : drop j fs ≡ f ∷ drop (j + 1) fs = drop_more fs j f l ∙ ap (λ (g : Fault). g ∷ drop (j + 1) fs) (sym is) in
-    ap (λ r. r ++ all_gates n (j + 1) (drop (j + 1) fs)) e
-    ∙ (append_assoc now (gates_at n j f) (all_gates n (j + 1) (drop (j + 1) fs))
-    ∙ (ap (λ (gs : List Fault). now ++ all_gates n j gs) (sym more) ∙ h))
+-- ---- marks
 
 pub mark_low : (n : Netlist) → IsSound n → (fs : List Fault) → All (λ (f : Fault). IsLineOf n f.line) fs → (j x m : ℕ) (f : Fault) → j < length fs → f ≡ get_or fs j f → x ≡ source_of n f.line
     → m ≡ length (signals n) → x < m
@@ -71,3 +55,15 @@ marks_step n fs j x f m new l is own low e h =
       size = length-set m x true ∙ h.size;
       each = All-more P fs j f l (All-weaker (λ (g : Fault). get_or m (source_of n g.line) false ≡ true) P (λ g k. still m x (source_of n g.line) low k) (take j fs) h.each) (subst P is here);
     })
+
+-- a line whose signal isn't marked reads the second frame
+pub unmarked_read : (n : Netlist) (fs : List Fault) (marks : List Bool) (line : Line) (x : ℕ) → AreSourcesMarked n fs marks → source_of n line ≡ x → get_or marks x false ≡ false
+    → read_late n 0 fs line x ≡ second n x
+unmarked_read n fs marks line x marked own e = elim (late_cases n 0 fs line x) [
+  | inl w ↦ w.0
+  | inr w ↦
+      let IsMarked : Fault → Type 0 = λ g. get_or marks (source_of n g.line) false ≡ true in
+      let yes : IsMarked w.1 = subst IsMarked (get_or_from_slice_get fs w.0 w.1 w.1 w.2) (marked.each w.0 w.1 (slice_get_within fs w.0 w.1 w.2)) in
+      let here : source_of n w.1.line ≡ x = late_source n line x (λ m s. ap (source_of n) (line_is m line s) ∙ own) w.1 w.3 in
+      absurd (both_ways (get_or marks x false) e (ap (λ y. get_or marks y false) (sym here) ∙ yes))
+]
