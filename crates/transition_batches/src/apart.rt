@@ -1,8 +1,7 @@
 //! Which slow lines go together.
 //!
-//! A line of the second frame reads the late value of at most one slow line: each of a batch then lets its own readers wait and no others, as it does
-//! where it alone is slow. Three comparisons tell it of two lines, without a look at their readers: they are different lines, and neither is the stem
-//! that the other reads.
+//! A line of the second frame reads at most one late value, so two slow lines that would both make a line late can't stand in one batch. Three
+//! comparisons tell it, without a look at who reads what: they are different lines, and neither is the stem that the other reads.
 ghost use Rattle.std.specs.Prelude.{IsTrue};
 ghost use Rattle.netlist.specs.Lines.{IsLineOf};
 ghost use Rattle.transition_batches.specs.Batches.{AreApart};
