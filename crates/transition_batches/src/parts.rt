@@ -11,7 +11,7 @@ ghost use Rattle.netlist.specs.declared.lines.Fault.{Fault as FaultOf};
 ghost use Rattle.netlist.specs.declared.lines.Line.TheVariants.{Out};
 ghost use Rattle.net_gen.specs.Samples.{lettered_names};
 ghost use Rattle.transition_batches.specs.Batches.{in_first_of, in_second_of, gates_at, all_gates, read_late, batch_of};
-ghost use Rattle.transition_batches.specs.inner.Marks.{AreSourcesMarked};
+ghost use Rattle.transition_batches.specs.inner.Marks.{IsBatch};
 
 use crate::reading::{mark_sources, read, read_pins, second, tie_at};
 use net_gen::add_names;
@@ -40,10 +40,7 @@ fn first(
     marks: &[bool],
     definition: &Definition,
 ) -> Result<Definition, AllocError>
-    requires sound { IsSound netlist.now }
-    requires small { length (signals netlist.now) ≤ 1000000 }
-    requires few { length faults.now ≤ 1024 }
-    requires marked { AreSourcesMarked netlist.now faults.now marks.now }
+    requires batch { IsBatch netlist.now faults.now marks.now }
     requires own { Contains netlist.now.definitions definition.now }
     ensures { IfOk result (λ d. d ≡ in_first_of netlist.now faults.now definition.now) }
 {
@@ -62,10 +59,7 @@ fn next(
     marks: &[bool],
     definition: &Definition,
 ) -> Result<Definition, AllocError>
-    requires sound { IsSound netlist.now }
-    requires small { length (signals netlist.now) ≤ 1000000 }
-    requires few { length faults.now ≤ 1024 }
-    requires marked { AreSourcesMarked netlist.now faults.now marks.now }
+    requires batch { IsBatch netlist.now faults.now marks.now }
     requires own { Contains netlist.now.definitions definition.now }
     requires low { definition.now.id < length (signals netlist.now) }
     ensures { IfOk result (λ d. d ≡ in_second_of netlist.now faults.now definition.now) }
@@ -86,10 +80,7 @@ fn push_firsts(
     marks: &[bool],
     made: &mut Vec<Definition>,
 ) -> Result<(), AllocError>
-    requires sound { IsSound netlist.now }
-    requires small { length (signals netlist.now) ≤ 1000000 }
-    requires few { length faults.now ≤ 1024 }
-    requires marked { AreSourcesMarked netlist.now faults.now marks.now }
+    requires batch { IsBatch netlist.now faults.now marks.now }
     ensures { OnOk result (made.new.items ≡ made.old.items ++ map (in_first_of netlist.now faults.now) netlist.now.definitions) }
 {
     for definition in netlist.definitions() {
@@ -106,10 +97,7 @@ fn push_seconds(
     marks: &[bool],
     made: &mut Vec<Definition>,
 ) -> Result<(), AllocError>
-    requires sound { IsSound netlist.now }
-    requires small { length (signals netlist.now) ≤ 1000000 }
-    requires few { length faults.now ≤ 1024 }
-    requires marked { AreSourcesMarked netlist.now faults.now marks.now }
+    requires batch { IsBatch netlist.now faults.now marks.now }
     ensures { OnOk result (made.new.items ≡ made.old.items ++ map (in_second_of netlist.now faults.now) netlist.now.definitions) }
 {
     for definition in netlist.definitions() {
@@ -173,10 +161,7 @@ fn outputs(
     faults: &[Fault],
     marks: &[bool],
 ) -> Result<Vec<SignalId>, AllocError>
-    requires sound { IsSound netlist.now }
-    requires small { length (signals netlist.now) ≤ 1000000 }
-    requires few { length faults.now ≤ 1024 }
-    requires marked { AreSourcesMarked netlist.now faults.now marks.now }
+    requires batch { IsBatch netlist.now faults.now marks.now }
     ensures { IfOk result (λ v. v.items ≡ map (λ y. read_late netlist.now 0 faults.now (Out y) y) netlist.now.outputs) }
 {
     let mut outputs = Vec::with_capacity(alloc, netlist.outputs().len())?;
@@ -203,11 +188,8 @@ fn definitions(
     faults: &[Fault],
     marks: &[bool],
 ) -> Result<Vec<Definition>, AllocError>
-    requires sound { IsSound netlist.now }
-    requires small { length (signals netlist.now) ≤ 1000000 }
-    requires few { length faults.now ≤ 1024 }
+    requires batch { IsBatch netlist.now faults.now marks.now }
     requires lines { All (λ (f : FaultOf). IsLineOf netlist.now f.line) faults.now }
-    requires marked { AreSourcesMarked netlist.now faults.now marks.now }
     ensures { IfOk result (λ v. v.items ≡ (batch_of netlist.now faults.now).definitions) }
 {
     let count = 2 * netlist.definitions().len() + 3 * faults.len();

@@ -11,7 +11,7 @@ ghost use Rattle.netlist.specs.Netlist.{signals};
 ghost use Rattle.netlist.specs.declared.lines.Fault.{Fault as FaultOf};
 ghost use Rattle.transition_frames.specs.Frames.{source_of as source, second as in_next};
 ghost use Rattle.transition_batches.specs.Batches.{tie_at as tie_of, read_late, late_pins};
-ghost use Rattle.transition_batches.specs.inner.Marks.{AreSourcesMarked};
+ghost use Rattle.transition_batches.specs.inner.Marks.{AreSourcesMarked, IsBatch};
 
 use netlist::{Definition, Fault, Line, Netlist, SignalId};
 use smallvec::SmallVec;
@@ -102,10 +102,7 @@ pub(crate) fn read_pins(
     marks: &[bool],
     definition: &Definition,
 ) -> Result<SmallVec<SignalId, 4>, AllocError>
-    requires sound { IsSound netlist.now }
-    requires small { length (signals netlist.now) ≤ 1000000 }
-    requires few { length faults.now ≤ 1024 }
-    requires marked { AreSourcesMarked netlist.now faults.now marks.now }
+    requires batch { IsBatch netlist.now faults.now marks.now }
     requires own { Contains netlist.now.definitions definition.now }
     ensures { IfOk result (λ v. v.items ≡ late_pins netlist.now faults.now definition.now.id 0 definition.now.pins) }
 {

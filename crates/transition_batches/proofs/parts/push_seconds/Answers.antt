@@ -9,6 +9,6 @@ next-requires-clause-own c =
 
 pub next-requires-clause-low : goal.next-requires-clause-low
 next-requires-clause-low c =
-    definition_below c.args.netlist.now c.requires.sound.formed.numbered c.definition-item.result
+    definition_below c.args.netlist.now c.requires.batch.sound.formed.numbered c.definition-item.result
     (contained_at c.args.netlist.now.definitions c.definitions-definition-items.result.now c.loop-definition.definition-index c.definition-item.result
     c.definitions-definition-items.ensures c.loop-definition-test.true c.definition-item.is)
