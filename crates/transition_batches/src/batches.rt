@@ -1,34 +1,21 @@
 //! The netlist of a batch of slow lines.
-ghost use Rattle.std.specs.Prelude.{◌≡◌, ◌≤◌, length, IfOk, IfSome, IsTrue};
+//!
+//! For each slow line alone the netlist, an engine's tables and its labels would be made anew, which costs more than most searches. Here they are made
+//! once for many: each slow line has three gates of its own, and all but the one that is searched let their lines pass. Named signals would have to be
+//! kept apart from those of the design and of each other; numbered ones are apart, and nobody reads them.
+ghost use Rattle.std.specs.Prelude.{◌≡◌, ◌≤◌, length, IfOk, IfSome};
 ghost use Rattle.std.specs.List.{All, AllPairs};
 ghost use Rattle.netlist.specs.Designs.{IsDesign};
-ghost use Rattle.netlist.specs.Conditions.{IsSound};
 ghost use Rattle.netlist.specs.Lines.{IsLineOf};
 ghost use Rattle.netlist.specs.declared.lines.Fault.{Fault as FaultOf};
-ghost use Rattle.transition_batches.specs.Batches.{AreApart, DecidesFrames, batch_of};
+ghost use Rattle.transition_batches.specs.Batches.{AreApart, batch_of};
 
-use netlist::{Fault, Netlist, NoMemory};
-use redundancy_cert::Found;
+use crate::parts::batch_parts;
+use netlist::{Fault, NetRefusal, Netlist, NoMemory};
 use std::alloc::Global;
 
 /// The most slow lines of a batch.
 pub const MOST_FAULTS: usize = 1024;
-
-/// Whether no line of the netlist reads what is late by both.
-pub fn are_apart(netlist: &Netlist, one: &Fault, other: &Fault) -> bool
-    requires one { IsLineOf netlist.now one.now.line }
-    requires other { IsLineOf netlist.now other.now.line }
-    ensures { IsTrue result → AreApart netlist.now one.now other.now }
-{
-    false
-}
-
-/// Whether an answer decides nothing but inputs, cells and gates of the two frames.
-pub fn decides_frames(netlist: &Netlist, found: &Found) -> bool
-    ensures { IsTrue result → DecidesFrames netlist.now found.now }
-{
-    false
-}
 
 /// The two frames of a design with the gates of all these slow lines; none where no netlist can be made of them.
 pub fn batch(
@@ -42,5 +29,11 @@ pub fn batch(
     requires few { length faults.now ≤ 1024 }
     ensures { IfOk result (λ r. IfSome r (λ b. b ≡ batch_of netlist.now faults.now)) }
 {
-    Ok(None)
+    netlist.sound();
+    let parts = batch_parts(alloc, netlist, faults)?;
+    match Netlist::new(alloc, parts) {
+        Ok(batch) => Ok(Some(batch)),
+        Err(NetRefusal::NoMemory) => Err(NoMemory),
+        Err(_) => Ok(None),
+    }
 }
