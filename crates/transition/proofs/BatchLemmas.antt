@@ -1,5 +1,5 @@
 -- Batches of slow lines: how they are gathered, the ties of their netlist, and their answers in the slots.
-use Rattle.std.proofs.Common.{◌≡◌, ℕ, zero, suc, ◌+◌, ◌*◌, ◌<◌, ◌≤◌, Bool, true, false, List, [], ◌∷◌, ◌++◌, map, take, set, length, get_or, Option, Some, None, inl, inr, refl, sym, ◌∙◌, ap, subst, arith, length-append}
+use Rattle.std.proofs.Common.{◌≡◌, ℕ, suc, ◌+◌, ◌*◌, ◌<◌, ◌≤◌, Bool, true, false, List, [], ◌∷◌, ◌++◌, map, take, set, length, get_or, Option, Some, None, inl, inr, refl, sym, ◌∙◌, ap, subst, arith, length-append}
 use Rattle.std.specs.List.{All, AllPairs, AllZip, slice_get}
 use Rattle.std.proofs.lemmas.Bool.{cases_eq}
 use Rattle.std.proofs.lemmas.List.{length-map, get_or-map, get_or-set_same, get_or-set_other, length-set, length_push, take_more}
@@ -142,8 +142,8 @@ pub one_stored : (n : Netlist) (limit : ℕ) (faults : List Fault) (left : List 
 one_stored n limit faults left first k slots f found had slot evidence i l =
     let low : i < length slots = omega (arith, l, length-set slots k (Some (Some found))) in
     let here : AnswersAt n limit faults left (first + k) (Some (Some found)) = λ g at.
-        let same : f ≡ g = let e = sym slot.fault ∙ at in cc in
-        subst (λ b. IsFoundIfLeft n limit g b (Some found)) (sym slot.marked) (subst (λ (h : Fault). HasFrameEvidence n limit h found) same evidence) in
+    let same : f ≡ g = let e = sym slot.fault ∙ at in cc in
+    subst (λ b. IsFoundIfLeft n limit g b (Some found)) (sym slot.marked) (subst (λ (h : Fault). HasFrameEvidence n limit h found) same evidence) in
     elim (cases_eq i k) [
       | inl same ↦
           subst (λ j. AnswersAt n limit faults left (first + j) (get_or (set slots k (Some (Some found))) j None)) (sym same)

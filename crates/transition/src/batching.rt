@@ -202,9 +202,7 @@ pub(crate) fn search_batch<E: Engine>(
                 return Err(NoMemory);
             };
             let holds = Holds::none(alloc, &core)?;
-            search_together(
-                alloc, netlist, names, engine, &core, &holds, slow, limit,
-            )
+            search_together(alloc, netlist, names, engine, &core, &holds, slow, limit)
         }
         None => search_each(alloc, netlist, names, engine, slow, limit),
     }

@@ -1,8 +1,8 @@
-use Rattle.std.proofs.Common.{◌≡◌, ◌+◌, ◌<◌, ◌∙◌, ◌∷◌, ◌++◌, [], IsTrue, true, length, ap, subst, arith, rules, get_or}
+use Rattle.std.proofs.Common.{◌≡◌, ◌+◌, ◌<◌, ◌∷◌, ◌++◌, [], IsTrue, true, length, subst, arith, rules, get_or}
 use Rattle.std.specs.List.{All}
 use Rattle.netlist.specs.declared.lines.Fault.{Fault}
 use Rattle.transition_batches.specs.Batches.{AreApart}
-use Rattle.transition.specs.inner.Gathered.{IsSlotOf, AreGathered}
+use Rattle.transition.specs.inner.Gathered.{IsSlotOf}
 use Rattle.transition.proofs.BatchLemmas.{gathered_as, line_at, one_gathered}
 use Rattle.transition.proofs.batching.gather.Goals.{then-len-most+then-left-first+then-is_none+then-is_apart+in_ok-push+in_ok-push-2, then-len-most+then-left-first+then-is_none+else-is_apart, else-len-most}
 use Rattle.transition.proofs.batching.gather.Goals as goal

@@ -1,7 +1,6 @@
-use Rattle.std.proofs.Common.{◌≡◌, ◌<◌, ◌≤◌, IsTrue, length, take, subst, arith, rules}
+use Rattle.std.proofs.Common.{◌≤◌, IsTrue, length, subst, arith, rules}
 use Rattle.std.specs.List.{All}
 use Rattle.std.proofs.lemmas.List.{take_all}
-use Rattle.std.proofs.lemmas.List.Elements.{All-more}
 use Rattle.netlist.specs.declared.lines.Fault.{Fault}
 use Rattle.transition_batches.specs.Batches.{AreApart}
 use Rattle.transition.proofs.BatchLemmas.{one_apart}

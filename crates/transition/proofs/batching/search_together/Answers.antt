@@ -1,4 +1,4 @@
-use Rattle.std.proofs.Common.{◌≡◌, ◌∙◌, ◌+◌, List, take, sym, subst}
+use Rattle.std.proofs.Common.{◌+◌, List, take, sym, subst}
 use Rattle.netlist.specs.Conditions.{IsSound}
 use Rattle.redundancy_cert.specs.declared.engine.Found.{Found}
 use Rattle.transition.specs.Searches.{AreFound}

@@ -1,4 +1,4 @@
-use Rattle.std.proofs.Common.{arith, length, ◌<◌, None}
+use Rattle.std.proofs.Common.{arith, rules, length, get_or, ◌<◌, None}
 use Rattle.transition.proofs.BatchLemmas.{chunk_answers, answer_back}
 use Rattle.transition.proofs.searching.fill.Goals as goal
 
@@ -17,7 +17,7 @@ for_each_chunk_mut-requires-clause-accepts g c κs within start p chunk =
         omega arith,
         chunk_answers c.args.netlist.now c.args.limit c.args.faults.now c.args.left.now _ start p.now c.requires.each chunk.in_bounds chunk.elements,
       ),
-      (c.type_bounds.send-E-Room, c.type_bounds.sync-E),
+      search rules,
     )
 
 pub returns-clause-each : goal.returns-clause-each
@@ -25,5 +25,5 @@ returns-clause-each g c i l =
     let kept = c.for_each_chunk_mut.auto.s in
     let inside : i < length c.args.slots.now = omega arith in
     let r = (c.for_each_chunk_mut.ensures.by_index i None inside).1 in
-    answer_back c.args.netlist.now c.args.limit c.args.faults.now c.args.left.now r.start r.offset i r.after_call.now _ r.call.1
+    answer_back c.args.netlist.now c.args.limit c.args.faults.now c.args.left.now r.start r.offset i r.after_call.now (get_or c.for_each_chunk_mut.new.s i None) r.call.1
     (let low = r.offset_in_chunk in let same = r.call.0 in omega arith) r.start_plus_offset r.new_element
