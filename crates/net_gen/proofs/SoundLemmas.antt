@@ -138,7 +138,7 @@ name_at letter count k d l =
     let below : k < count = omega arith in
     (below, get_or-map f (range_with_len 0 count) k 0 d (omega arith) ∙ ap f (get_or-range_with_len 0 count k 0 below ∙ zero-add k))
 
-all_named : (letter count : ℕ) → is_name_byte letter ≡ true → count < 2 ^ 64 → All IsName (lettered_names letter count)
+pub all_named : (letter count : ℕ) → is_name_byte letter ≡ true → count < 2 ^ 64 → All IsName (lettered_names letter count)
 all_named letter count h small k d l =
     let at = name_at letter count k d l in
     let low = at.0 in
@@ -156,7 +156,7 @@ unreserved_names letter count h k d l =
     let at = name_at letter count k d l in
     subst (λ (name : List ℕ). is_reserved name ≡ false) (sym at.1) (h (decimal k))
 
-names_distinct : (letter count : ℕ) → count < 2 ^ 64 → AllPairs (λ x y. x ≢ y) (lettered_names letter count)
+pub names_distinct : (letter count : ℕ) → count < 2 ^ 64 → AllPairs (λ x y. x ≢ y) (lettered_names letter count)
 names_distinct letter count small i j d less l e =
     let p = name_at letter count i d (omega arith) in
     let q = name_at letter count j d l in

@@ -7,7 +7,7 @@ use netlist::NameTable;
 use std::alloc::{AllocError, Global};
 
 /// Adds a letter before each number below the count.
-fn add_names(
+pub fn add_names(
     names: &mut NameTable,
     text: &mut Vec<u8>,
     letter: u8,

@@ -15,7 +15,7 @@ use Rattle.netlist.specs.Netlist.{Definition, Netlist, is_cell, cells, signals}
 use Rattle.netlist.specs.Settled.{Settles, at, bits, on_pins, pins_of, next}
 use Rattle.netlist.proofs.Alike.{settles_once}
 use Rattle.netlist.proofs.Lists.{All-from_contains, contains_filter, contains_map, contains_head, contains_tail, decides_beq, map_map}
-use Rattle.netlist.proofs.Placed.{input_below, signal_below}
+use Rattle.netlist.proofs.Placed.{signal_below}
 use Rattle.netlist.proofs.WellFormed.{one_pin}
 use Rattle.cubes.specs.Cubes.{Pattern}
 use Rattle.events.specs.Words.{bit_of, ones, words}

@@ -1,0 +1,6 @@
+use Rattle.std.proofs.Common.{length}
+use Rattle.transition.specs.inner.Gathered.{AreGathered}
+use Rattle.transition.proofs.batching.gather.Given as goal
+
+abbrev pub invariant-loop-k : goal.invariant-loop-k
+invariant-loop-k l = AreGathered l.netlist l.faults l.left l.first (length l.slots) l.places.items l.taken.items

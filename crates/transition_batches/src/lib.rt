@@ -1,0 +1,20 @@
+//! Many slow lines in one netlist of two frames, so that an engine's room serves one search after the other.
+//!
+//! Gives: `batch`, `MOST_FAULTS`, `are_apart`, `decides_frames`.
+//! Proved: `batch`: exactly the two frames with three gates for each of the slow lines, or nothing; `are_apart`: no line is late by both, where it says so;
+//! `decides_frames`: nothing but the two frames is decided, where it says so; the law: what is evidence for one of them there is evidence on the two
+//! frames in which it alone is slow.
+//! Tested: run by `transition`.
+//! Neither: time.
+#![tactic(auto)]
+
+mod answers;
+mod apart;
+mod batches;
+pub mod laws;
+mod parts;
+mod reading;
+
+pub use answers::decides_frames;
+pub use apart::are_apart;
+pub use batches::{MOST_FAULTS, batch};
