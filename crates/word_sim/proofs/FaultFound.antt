@@ -1,6 +1,5 @@
 -- What is found of a fault by words: the last pattern that detects it, and the first point.
 use Rattle.std.proofs.Common.{◌≡◌, ℕ, Bool, ◌^◌, ◌<◌, List, length, get_or, Option, Some, None, refl, sym, ◌∙◌, ap, subst, cond, arith, bit_xor}
-use Rattle.std.specs.Option.{option_map}
 use Rattle.std.specs.Prelude.{IfSome}
 use Rattle.std.proofs.lemmas.List.{get_or_default}
 use Rattle.netlist.specs.declared.lines.Fault.{Fault}
@@ -9,17 +8,15 @@ use Rattle.netlist.specs.Conditions.{IsSound}
 use Rattle.netlist.specs.Netlist.{Netlist, signals}
 use Rattle.netlist.specs.Settled.{at}
 use Rattle.netlist.proofs.Placed.{signal_below}
-use Rattle.cubes.specs.Cubes.{Pattern}
 use Rattle.events.specs.declared.trails.Change.{Change}
 use Rattle.events.specs.Standing.{SettlesOver}
 use Rattle.events.specs.Stuck.{IsObservedOnly}
 use Rattle.events.specs.Trails.{AreChanges}
 use Rattle.events.specs.Words.{ones, words, word_table}
 use Rattle.events.proofs.Standing.{observed_settles}
-use Rattle.word_sim.specs.Hits.{LastMarked}
 use Rattle.word_sim.specs.inner.Differences.{AreDifferences, AreShown, IsSole}
-use Rattle.word_sim.specs.inner.Packed.{AreGoodFor, IsMarked}
-use Rattle.observed_points.specs.Points.{points, watched, point_of, ArePoints, IsReadAt}
+use Rattle.word_sim.specs.inner.Found.{IsFoundMarked}
+use Rattle.observed_points.specs.Points.{points, watched, ArePoints, IsReadAt}
 use Rattle.observed_points.proofs.ObservedPoints.{signal_in, signal_within, watched_count, watched_in}
 use Rattle.observed_points.proofs.PointTables.{points_few}
 use Rattle.word_sim.proofs.StuckPoints.{held, sole_differences, stuck_differences}
@@ -35,15 +32,14 @@ module _ (n : Netlist) (sound : IsSound n) (f : Fault) (values : List ℕ) (used
       → AreDifferences (length (points n)) (differs n sound f (at values 0) (at values 0)) used found
   sole_is number g found r e h = sole_differences n sound f values number used found r (subst (λ v. IsSole (bit_xor v (cond f.value ones 0)) used number found) e h)
 
-  pub found_sole : (patterns : List Pattern) → AreGoodFor n patterns values → IsMarked (length patterns) used → (number g : ℕ) (found : Option (ℕ × ℕ)) → IsReadAt n f.line number → g ≡ at values 0 (signal_in n sound number) → IsSole (bit_xor g (cond f.value ones 0)) used number found
-      → LastMarked n patterns used f (option_map (λ (w : ℕ × ℕ). (w.0, point_of n w.1)) found)
-  found_sole patterns good is_used number g found r e h =
-      last_marked n sound f (at values 0) (at values 0) good.inputs good.state (good.settles 0) ((observed_settles word_table f n values r.only).each good.inputs good.state 0 (good.settles 0))
-      patterns good.few good.inputs_are good.state_are used is_used found (sole_is number g found r e h)
-
-  pub small_sole : (number g : ℕ) (found : Option (ℕ × ℕ)) → IsReadAt n f.line number → g ≡ at values 0 (signal_in n sound number) → IsSole (bit_xor g (cond f.value ones 0)) used number found
-      → IfSome found (λ w. (w.0 < 64) × (w.1 < 2 ^ 32))
-  small_sole number g found r e h = small_found n sound (differs n sound f (at values 0) (at values 0)) used found (sole_is number g found r e h)
+  pub sole_found : (number g : ℕ) (found : Option (ℕ × ℕ)) → IsReadAt n f.line number → g ≡ at values 0 (signal_in n sound number) → IsSole (bit_xor g (cond f.value ones 0)) used number found
+      → IsFoundMarked n values used f found
+  sole_found number g found r e h = record {
+    detected = λ patterns good is_used.
+        last_marked n sound f (at values 0) (at values 0) good.inputs good.state (good.settles 0) ((observed_settles word_table f n values r.only).each good.inputs good.state 0 (good.settles 0))
+        patterns good.few good.inputs_are good.state_are used is_used found (sole_is number g found r e h);
+    small = small_found n sound (differs n sound f (at values 0) (at values 0)) used found (sole_is number g found r e h);
+  }
 
   module _ (seen first numbers : List ℕ) (are : ArePoints n seen first numbers) (size : length values ≡ length (signals n)) (new shown_values first' : List ℕ) (count : ℕ) (trail changes : List (Change ℕ))
       (enters : ¬ IsObservedOnly n f.line) (changed : AreChanges values new changes) (over : SettlesOver (words None) (words (Some f)) n values new)
@@ -56,13 +52,13 @@ module _ (n : Netlist) (sound : IsSound n) (f : Fault) (values : List ℕ) (used
         (subst (λ k. AreShown first k shown_values used trail found) count_is
         (subst (λ fs. AreShown fs count shown_values used trail found) first_is shown))))
 
-    pub found_stuck : (patterns : List Pattern) → AreGoodFor n patterns values → IsMarked (length patterns) used → LastMarked n patterns used f (option_map (λ (w : ℕ × ℕ). (w.0, point_of n w.1)) found)
-    found_stuck patterns good is_used =
-        last_marked n sound f (at values 0) (at new 0) good.inputs good.state (good.settles 0) (over.each good.inputs good.state 0 (good.settles 0))
-        patterns good.few good.inputs_are good.state_are used is_used found stuck_is
-
-    pub small_stuck : IfSome found (λ w. (w.0 < 64) × (w.1 < 2 ^ 32))
-    small_stuck = small_found n sound (differs n sound f (at values 0) (at new 0)) used found stuck_is
+    pub stuck_found : IsFoundMarked n values used f found
+    stuck_found = record {
+      detected = λ patterns good is_used.
+          last_marked n sound f (at values 0) (at new 0) good.inputs good.state (good.settles 0) (over.each good.inputs good.state 0 (good.settles 0))
+          patterns good.few good.inputs_are good.state_are used is_used found stuck_is;
+      small = small_found n sound (differs n sound f (at values 0) (at new 0)) used found stuck_is;
+    }
 
 -- the signal that a line's one point reads
 pub sole_signal : (n : Netlist) (sound : IsSound n) → (seen : List ℕ) (number s : ℕ) (line : Line) → seen ≡ watched n → IsReadAt n line number → s ≡ get_or seen number s → (s ≡ signal_in n sound number) × (s < length (signals n))

@@ -1,7 +1,6 @@
 -- What the head of a region turned over shows at points is what each fault of the region shows there, where it reaches the head.
 use Rattle.std.proofs.Common.{◌≡◌, ℕ, ◌<◌, Bool, true, false, ◌&&◌, cond, arith, List, map, length, Option, Some, None, sym, ◌∙◌, ap, subst, inl, inr, bit_and, bit_xor, not}
 use Rattle.std.specs.Option.{option_map}
-use Rattle.std.specs.Prelude.{IfSome}
 use Rattle.std.proofs.lemmas.Bool.{cases_Bool, and_parts, both_ways}
 use Rattle.netlist.specs.declared.lines.Fault.{Fault}
 use Rattle.netlist.specs.declared.lines.Line.TheVariants.{Stem}
@@ -22,13 +21,11 @@ use Rattle.regions.specs.Sensitized.{reaches}
 use Rattle.regions.proofs.Changing.{zip_length}
 use Rattle.regions.proofs.GateBits.{bit_none, bit_not_word}
 use Rattle.regions.proofs.Faults.{observed_by_head, left_alone}
-use Rattle.word_sim.specs.declared.shown.Shown.{Shown}
-use Rattle.word_sim.specs.inner.Differences.{AreDifferences, AreShown, AreLastSeen}
-use Rattle.word_sim.specs.inner.Groups.{IsFound, CanTell, HoldChanges}
+use Rattle.word_sim.specs.inner.Differences.{AreDifferences, AreShown}
+use Rattle.word_sim.specs.inner.Groups.{IsFound, HoldChanges}
 use Rattle.word_sim.specs.inner.Packed.{AreGoodFor, IsUsed}
 use Rattle.observed_points.specs.Points.{points, point_of, ArePoints}
 use Rattle.word_sim.proofs.FaultFound.{small_found}
-use Rattle.word_sim.proofs.Found.{seen_shown}
 use Rattle.observed_points.proofs.ObservedPoints.{line_in, signal_in, observed_in}
 use Rattle.observed_points.proofs.LineReads.{unread}
 use Rattle.word_sim.proofs.StuckPoints.{differ_same, stuck_differences}
@@ -143,10 +140,8 @@ module _ (n : Netlist) (sound : IsSound n) (f : Fault) (line : IsLineOf n f.line
     small = small_found n sound (differs n sound f (at values 0) faulty.0) used found (differences found shown);
   }
 
--- ---- one fault of the head that is turned over
-
 -- the patterns that are used and reached lie in the mask
-mask_within : (used word mask : ℕ) → bit_and (bit_and used word) (bit_xor mask ones) ≡ 0 → (j : ℕ) → j < 64 → bit_of j used ≡ true → bit_of j word ≡ true → bit_of j mask ≡ true
+pub mask_within : (used word mask : ℕ) → bit_and (bit_and used word) (bit_xor mask ones) ≡ 0 → (j : ℕ) → j < 64 → bit_of j used ≡ true → bit_of j word ≡ true → bit_of j mask ≡ true
 mask_within used word mask e j low u w = elim (cases_Bool (bit_of j mask)) [
   | inl so ↦ so
   | inr fails ↦
@@ -155,16 +150,3 @@ mask_within used word mask e j low u w = elim (cases_Bool (bit_of j mask)) [
       absurd (both_ways (bit_of j (bit_and (bit_and used word) (bit_xor mask ones))) none
       (bit_of_and (bit_and used word) (bit_xor mask ones) j ∙ (ap (λ b. b && bit_of j (bit_xor mask ones)) both ∙ (bit_not_word j low mask ∙ ap not fails))))
 ]
-
-module _ (n : Netlist) (sound : IsSound n) (f : Fault) (line : IsLineOf n f.line) (patterns : List Pattern) (used : ℕ) (is_used : IsUsed (length patterns) used)
-    (seen first numbers : List ℕ) (are : ArePoints n seen first numbers) (h mask : ℕ) (shown : List Shown) (reach : Option (ℕ × ℕ))
-    (can : CanTell n patterns f h mask first (length seen) shown reach) where
-  pub told_one : (end' word : ℕ) → reach ≡ Some (end', word) → end' ≡ h → bit_and (bit_and used word) (bit_xor mask ones) ≡ 0
-      → (count : ℕ) → count ≡ length seen → (found : Option (ℕ × ℕ)) → AreLastSeen count (bit_and used word) shown found → IsFound n patterns f found
-  told_one end' word is same none count count_is found last =
-      let reached : IsReach n can.values f end' word = subst (λ r. IfSome r (λ (w : ℕ × ℕ). IsReach n can.values f w.0 w.1)) is can.reaches in
-      shown_found n sound f line patterns can.values can.good used is_used h mask word (subst (λ k. IsReach n can.values f k word) same reached) (mask_within used word mask none)
-      seen first numbers are can.size can.new can.trail can.held can.over found
-      (seen_shown first (length seen) can.new can.trail (bit_and used word) found
-      (subst (λ cs. AreLastSeen (length seen) (bit_and used word) cs found) can.shown_is
-      (subst (λ k. AreLastSeen k (bit_and used word) shown found) count_is last)))

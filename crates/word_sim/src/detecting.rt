@@ -4,12 +4,14 @@ ghost use Rattle.std.specs.List.{All, list_any};
 ghost use Rattle.netlist.specs.Lines.{IsLineOf};
 ghost use Rattle.netlist.specs.Netlist.{Netlist as Equations, signals};
 ghost use Rattle.events.specs.declared.trails.Change.{Change as ChangeOf};
+ghost use Rattle.events.specs.Stuck.{IsObservedOnly};
 ghost use Rattle.events.specs.Words.{bit_of, ones};
 ghost use Rattle.word_sim.specs.inner.Differences.{shows, AreShown, IsFirstShown, IsSole};
 ghost use Rattle.cubes.specs.Cubes.{Pattern as Bits};
-ghost use Rattle.word_sim.specs.Hits.{LastDetected, LastMarked};
-ghost use Rattle.word_sim.specs.inner.Packed.{AreGoodFor, IsMarked, IsUsed};
-ghost use Rattle.observed_points.specs.Points.{ArePoints, point_of};
+ghost use Rattle.word_sim.specs.Hits.{LastMarked};
+ghost use Rattle.word_sim.specs.inner.Found.{IsFoundMarked};
+ghost use Rattle.word_sim.specs.inner.Packed.{AreGoodFor, IsMarked};
+ghost use Rattle.observed_points.specs.Points.{ArePoints, IsReadAt, point_of};
 ghost use Rattle.std.specs.Option.{option_map};
 
 use cubes::Pattern;
@@ -114,8 +116,26 @@ fn known(bit: bool) -> u64
     if bit { u64::MAX } else { 0 }
 }
 
-/// The last of the patterns that are marked which detects a fault, and the number of the first point at which it does. The words are then those before.
-pub fn last_marked(
+/// The last of the marked patterns under which the one point that reads the stuck line sees the other bit.
+fn last_at(
+    events: &Events<'_, u64>,
+    points: &Points,
+    marks: u64,
+    fault: &Fault,
+    number: u32,
+) -> Option<(u32, usize)>
+    requires points { ArePoints events.now.netlist points.now.seen.items points.now.first.items points.now.numbers.items }
+    requires read { IsReadAt events.now.netlist fault.now.line number }
+    ensures { IsFoundMarked events.now.netlist events.now.values marks fault.now result }
+{
+    events.core().netlist().sound();
+    let signal = points.seen[number as usize];
+    let good = events.values()[signal.index()];
+    last_differing(good ^ known(fault.value), marks, number)
+}
+
+/// The last of the marked patterns under which a point sees what the stuck line changes. The words are then those before.
+fn last_stuck(
     events: &mut Events<'_, u64>,
     points: &Points,
     marks: u64,
@@ -123,19 +143,12 @@ pub fn last_marked(
 ) -> Option<(u32, usize)>
     requires points { ArePoints events.old.netlist points.now.seen.items points.now.first.items points.now.numbers.items }
     requires line { IsLineOf events.old.netlist fault.now.line }
+    requires enters { ¬ IsObservedOnly events.old.netlist fault.now.line }
     requires trail { events.old.trail ≡ [] }
-    ensures found { (patterns : List Bits) → AreGoodFor events.old.netlist patterns events.old.values → IsMarked (length patterns) marks
-        → LastMarked events.old.netlist patterns marks fault.now (option_map (λ (w : ℕ × ℕ). (w.0, point_of events.old.netlist w.1)) result) }
-    ensures small { IfSome result (λ w. (w.0 < 64) × (w.1 < 2 ^ 32)) }
+    ensures found { IsFoundMarked events.old.netlist events.old.values marks fault.now result }
     ensures same { events.new ≡ events.old }
 {
-    let netlist = events.core().netlist();
-    netlist.sound();
-    if let Some(number) = points.sole(netlist, &fault.line) {
-        let signal = points.seen[number as usize];
-        let good = events.values()[signal.index()];
-        return last_differing(good ^ known(fault.value), marks, number);
-    }
+    events.core().netlist().sound();
     let rule = Words {
         fault: Some(*fault),
     };
@@ -151,23 +164,23 @@ pub fn last_marked(
     found
 }
 
-/// The last pattern that detects a fault, and the number of the first point at which it does. The words are then those before.
-pub(crate) fn last_of(
+/// The last of the patterns that are marked which detects a fault, and the number of the first point at which it does. The words are then those before.
+pub fn last_marked(
     events: &mut Events<'_, u64>,
     points: &Points,
-    patterns: &[Pattern],
-    used: u64,
+    marks: u64,
     fault: &Fault,
 ) -> Option<(u32, usize)>
     requires points { ArePoints events.old.netlist points.now.seen.items points.now.first.items points.now.numbers.items }
-    requires good { AreGoodFor events.old.netlist patterns.now events.old.values }
-    requires used { IsUsed (length patterns.now) used }
     requires line { IsLineOf events.old.netlist fault.now.line }
     requires trail { events.old.trail ≡ [] }
-    ensures found { LastDetected events.old.netlist patterns.now fault.now (option_map (λ (w : ℕ × ℕ). (w.0, point_of events.old.netlist w.1)) result) }
+    ensures found { (patterns : List Bits) → AreGoodFor events.old.netlist patterns events.old.values → IsMarked (length patterns) marks
+        → LastMarked events.old.netlist patterns marks fault.now (option_map (λ (w : ℕ × ℕ). (w.0, point_of events.old.netlist w.1)) result) }
     ensures small { IfSome result (λ w. (w.0 < 64) × (w.1 < 2 ^ 32)) }
     ensures same { events.new ≡ events.old }
 {
-    let _ = patterns;
-    last_marked(events, points, used, fault)
+    match points.sole(events.core().netlist(), &fault.line) {
+        Some(number) => last_at(events, points, marks, fault, number),
+        None => last_stuck(events, points, marks, fault),
+    }
 }

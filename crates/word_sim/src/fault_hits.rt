@@ -7,17 +7,18 @@ ghost use Rattle.netlist.specs.declared.lines.Fault.{Fault as FaultOf};
 ghost use Rattle.word_sim.specs.Hits.{AreHits};
 ghost use Rattle.word_sim.specs.Words.{HasWidthsOf};
 ghost use Rattle.word_sim.specs.inner.Found.{hit_of};
-ghost use Rattle.word_sim.specs.inner.Groups.{AreReaches, AreTold, HasRoom, IsBeside, IsFound};
-ghost use Rattle.word_sim.specs.inner.Packed.{AreGoodFor, AreSettledWords, IsUsed};
+ghost use Rattle.word_sim.specs.inner.Groups.{AreTold, HasRoom, IsBeside, IsFound, IsPass};
+ghost use Rattle.word_sim.specs.inner.Packed.{AreGoodFor, AreSettledWords};
 ghost use Rattle.observed_points.specs.Points.{ArePoints, point_of};
 
 use crate::batches::Hit;
-use crate::common::Common;
-use crate::detecting::last_of;
-use crate::groups::{Groups, Reach, Told, tell_from};
+use crate::detecting::last_marked;
+use crate::groups::{Groups, Told, tell_from};
+use crate::lanes::tell_ahead;
+use crate::overlap::Overlap;
 use crate::packing::{Part, packed, used_bits};
+use crate::passes::Pass;
 use crate::shown::Shown;
-use crate::side::tell_ahead;
 use cubes::Pattern;
 use events::{Events, Words};
 use netlist::{Core, Fault, Netlist, NoMemory};
@@ -87,74 +88,55 @@ fn push_hit(
     Ok(())
 }
 
-/// What is found of a fault: by the head of its region, or else by itself. The words are then those before.
+/// What is found of the fault at place k: by the head of its region, or else by itself. The words are then those before.
 fn found_of(
     events: &mut Events<'_, u64>,
-    points: &Points,
-    patterns: &[Pattern],
-    used: u64,
-    reaches: &[Reach],
-    links: &[u32],
-    faults: &[(u32, Fault)],
+    pass: &Pass,
     k: usize,
-    common: &mut Common,
+    overlap: &mut Overlap,
     shown: &mut Vec<Shown>,
     told: &mut Vec<Told>,
 ) -> Option<(u32, usize)>
-    requires points { ArePoints events.old.netlist points.now.seen.items points.now.first.items points.now.numbers.items }
-    requires good { AreGoodFor events.old.netlist patterns.now events.old.values }
-    requires used { IsUsed (length patterns.now) used }
-    requires lines { All (λ (g : ℕ × FaultOf). IsLineOf events.old.netlist g.1.line) faults.now }
-    requires reaches { AreReaches events.old.netlist events.old.values faults.now reaches.now }
-    requires size { length events.old.values ≡ length (signals events.old.netlist) }
+    requires pass { IsPass events.old.netlist events.old.values pass.now }
     requires trail { events.old.trail ≡ [] }
-    requires within { k < length faults.now }
-    requires told { AreTold events.old.netlist patterns.now faults.now told.old.items }
-    ensures found { (g : ℕ × FaultOf) → slice_get faults.now k ≡ Some g → IsFound events.old.netlist patterns.now g.1 result }
-    ensures told { AreTold events.old.netlist patterns.now faults.now told.new.items }
+    requires within { k < length pass.now.faults.now }
+    requires told { AreTold events.old.netlist pass.now told.old.items }
+    ensures found { (g : ℕ × FaultOf) → slice_get pass.now.faults.now k ≡ Some g → IsFound events.old.netlist pass.now.patterns.now g.1 result }
+    ensures told { AreTold events.old.netlist pass.now told.new.items }
     ensures same { events.new ≡ events.old }
 {
     if told[k].is_none() {
-        tell_from(
-            events, points, patterns, used, reaches, links, faults, k, common, false, shown, told,
-        );
+        tell_from(events, pass, k, overlap, false, shown, told);
     }
     match told[k] {
         Some(found) => found,
-        None => last_of(events, points, patterns, used, &faults[k].1),
+        None => last_marked(events, pass.points, pass.used, &pass.faults[k].1),
     }
 }
 
-/// The hits of faults, one after another, by groups of which nothing is told. The words are then those before.
-fn hits_of_groups(
+/// The hits of the faults of a pass, one after another: some are told ahead, four heads side by side. The words are then those before.
+fn hits_of_pass<'a>(
     alloc: Global,
-    events: &mut Events<'_, u64>,
-    points: &Points,
-    reaches: &[Reach],
-    links: &[u32],
-    common: &mut Common,
+    events: &mut Events<'a, u64>,
+    wide: &mut Option<Events<'a, Four>>,
+    pass: &Pass,
+    overlap: &mut Overlap,
     shown: &mut Vec<Shown>,
     told: &mut Vec<Told>,
-    patterns: &[Pattern],
-    used: u64,
-    faults: &[(u32, Fault)],
 ) -> Result<Vec<Hit>, AllocError>
-    requires points { ArePoints events.old.netlist points.now.seen.items points.now.first.items points.now.numbers.items }
-    requires good { AreGoodFor events.old.netlist patterns.now events.old.values }
-    requires used { IsUsed (length patterns.now) used }
-    requires lines { All (λ (g : ℕ × FaultOf). IsLineOf events.old.netlist g.1.line) faults.now }
-    requires reaches { AreReaches events.old.netlist events.old.values faults.now reaches.now }
-    requires size { length events.old.values ≡ length (signals events.old.netlist) }
+    requires pass { IsPass events.old.netlist events.old.values pass.now }
     requires trail { events.old.trail ≡ [] }
-    requires told { AreTold events.old.netlist patterns.now faults.now told.old.items }
-    ensures hits { IfOk result (λ v. AreHits events.old.netlist patterns.now faults.now v.items) }
+    requires wide { IfSome wide.old (IsBeside events.old.netlist) }
+    requires told { AreTold events.old.netlist pass.now told.old.items }
+    ensures hits { IfOk result (λ v. AreHits events.old.netlist pass.now.patterns.now pass.now.faults.now v.items) }
+    ensures wide { IfSome wide.new (IsBeside events.old.netlist) }
     ensures same { events.new ≡ events.old }
 {
+    tell_ahead(alloc, events, wide, pass, overlap, shown, told)?;
+    let faults = pass.faults;
     let mut hits = Vec::with_capacity(alloc, faults.len())?;
     for k in 0..faults.len() {
-        let found = found_of(
-            events, points, patterns, used, reaches, links, faults, k, common, shown, told,
-        );
+        let found = found_of(events, pass, k, overlap, shown, told);
         push_hit(events.core().netlist(), faults[k].0, found, &mut hits)?;
     }
     Ok(hits)
@@ -181,36 +163,25 @@ pub(crate) fn find_hits<'a>(
     ensures room { HasRoom events.old.netlist groups.new.paths.heads.items groups.new.paths.opens.items }
     ensures wide { IfSome wide.new (IsBeside events.old.netlist) }
 {
-    let used = used_bits(patterns.len());
     groups.gather(events.core(), events.values(), faults)?;
-    tell_ahead(
+    let pass = Pass {
+        points,
+        patterns,
+        used: used_bits(patterns.len()),
+        faults,
+        reaches: &groups.reaches,
+        links: &groups.links,
+        heads: &groups.heads,
+        latest: &groups.latest,
+    };
+    hits_of_pass(
         alloc,
         events,
         wide,
-        points,
-        patterns,
-        used,
-        &groups.heads,
-        &groups.latest,
-        &groups.reaches,
-        &groups.links,
-        faults,
-        &mut groups.common,
+        &pass,
+        &mut groups.overlap,
         &mut groups.shown,
         &mut groups.told,
-    )?;
-    hits_of_groups(
-        alloc,
-        events,
-        points,
-        &groups.reaches,
-        &groups.links,
-        &mut groups.common,
-        &mut groups.shown,
-        &mut groups.told,
-        patterns,
-        used,
-        faults,
     )
 }
 

@@ -1,27 +1,21 @@
 //! The faults of a batch by the heads of their regions: one propagation from a head tells all of its faults.
-ghost use Rattle.std.specs.Prelude.{◌≡◌, ◌<◌, [], ℕ, length, replicate, None, IfOk, OnOk};
-ghost use Rattle.std.specs.List.{All, list_any};
+ghost use Rattle.std.specs.Prelude.{◌≡◌, ◌<◌, [], ℕ, length, replicate, None, Some, IfOk, OnOk};
+ghost use Rattle.std.specs.List.{All, list_any, slice_get};
 ghost use Rattle.netlist.specs.Lines.{IsLineOf};
 ghost use Rattle.netlist.specs.Netlist.{signals};
 ghost use Rattle.netlist.specs.declared.lines.Fault.{Fault as FaultOf};
 ghost use Rattle.events.specs.Words.{bit_of};
 ghost use Rattle.regions.specs.Paths.{AreOpen};
-ghost use Rattle.observed_points.specs.Points.{ArePoints};
 ghost use Rattle.word_sim.specs.inner.Differences.{shows_under};
-ghost use Rattle.word_sim.specs.inner.Groups.{AreReaches, AreTold, CanTell, CanTellAll, HasRoom, IsToldOf, ShowAll};
-ghost use Rattle.word_sim.specs.inner.Packed.{AreGoodFor, IsUsed};
+ghost use Rattle.word_sim.specs.inner.Groups.{AreReaches, AreTold, CanTellAll, HasRoom, IsPass, IsToldOf, ShowAll};
 
-use crate::common::Common;
+use crate::overlap::Overlap;
+use crate::passes::{Pass, Reach};
 use crate::shown::{Shown, all_under, last_among, list_shown};
-use cubes::Pattern;
 use events::Events;
 use netlist::{Core, Fault, Netlist, SignalId};
-use observed_points::Points;
-use regions::{Paths, turn};
+use regions::{Paths, TurnedWords, turn};
 use std::alloc::{AllocError, Global};
-
-/// The head that a fault may reach, and the patterns under which it does.
-pub(crate) type Reach = Option<(SignalId, u64)>;
 
 /// What was found of a fault, where it is known.
 pub(crate) type Told = Option<Option<(u32, usize)>>;
@@ -42,7 +36,7 @@ pub(crate) struct Groups {
     pub latest: Vec<u32>,
     /// The signals that are heads of faults, each once.
     pub heads: Vec<SignalId>,
-    pub common: Common,
+    pub overlap: Overlap,
 }
 
 fn reach_all(
@@ -114,7 +108,7 @@ impl Groups {
             told: Vec::new(alloc),
             shown: Vec::new(alloc),
             heads: Vec::with_capacity(alloc, latest.len())?,
-            common: Common::new(alloc, latest.len())?,
+            overlap: Overlap::new(alloc, latest.len())?,
             latest,
         })
     }
@@ -147,17 +141,17 @@ impl Groups {
 }
 
 /// The patterns under which some fault reaches the head, from one fault on.
-pub(crate) fn mask_from(reaches: &[Reach], links: &[u32], start: usize) -> u64 {
+pub(crate) fn mask_from(pass: &Pass, start: usize) -> u64 {
     let mut mask = 0;
     let mut k = start;
-    for _step in 0..reaches.len() {
-        if k >= reaches.len() || k >= links.len() {
+    for _step in 0..pass.reaches.len() {
+        if k >= pass.reaches.len() || k >= pass.links.len() {
             return mask;
         }
-        if let Some((_, word)) = reaches[k] {
+        if let Some((_, word)) = pass.reaches[k] {
             mask |= word;
         }
-        let next = links[k] as usize;
+        let next = pass.links[k] as usize;
         if next <= k {
             return mask;
         }
@@ -166,80 +160,52 @@ pub(crate) fn mask_from(reaches: &[Reach], links: &[u32], start: usize) -> u64 {
     mask
 }
 
-/// What the changes from a head tell of a fault: nothing where it has another head, or reaches it under other patterns than those turned over.
+/// What the changes from a head tell of the fault at place k: nothing where it has another head, or reaches it under other patterns than those turned over.
 fn tell_one(
     events: &Events<'_, u64>,
-    points: &Points,
-    patterns: &[Pattern],
-    used: u64,
-    head: SignalId,
-    mask: u64,
+    pass: &Pass,
+    turned: &TurnedWords,
     shown: &[Shown],
     all: u64,
-    fault: &Fault,
-    reach: &Reach,
+    k: usize,
 ) -> Told
-    requires points { ArePoints events.now.netlist points.now.seen.items points.now.first.items points.now.numbers.items }
-    requires used { IsUsed (length patterns.now) used }
-    requires line { IsLineOf events.now.netlist fault.now.line }
-    requires turned { CanTell events.now.netlist patterns.now fault.now head mask points.now.first.items (length points.now.seen.items) shown.now reach.now }
+    requires turned { ShowAll events.now.netlist pass.now turned.now shown.now }
     requires all { (j : ℕ) → j < 64 → bit_of j all ≡ list_any (shows_under j) shown.now }
-    ensures { IsToldOf events.now.netlist patterns.now fault.now result }
+    requires within { k < length pass.now.reaches.now }
+    ensures { (g : ℕ × FaultOf) → slice_get pass.now.faults.now k ≡ Some g → IsToldOf events.now.netlist pass.now.patterns.now g.1 result }
 {
-    let _ = patterns;
-    let _ = fault;
     events.core().netlist().sound();
-    let Some((end, word)) = reach else {
+    let Some((end, word)) = pass.reaches[k] else {
         return None;
     };
-    let under = used & *word;
-    if end.index() != head.index() || under & (mask ^ u64::MAX) != 0 {
+    let under = pass.used & word;
+    if end.index() != turned.signal.index() || under & (turned.mask ^ u64::MAX) != 0 {
         return None;
     }
-    Some(last_among(shown, all, under, points.seen.len()))
+    Some(last_among(shown, all, under, pass.points.seen.len()))
 }
 
 /// Goes over the faults with the same head, from one fault on.
 pub(crate) fn tell_chain(
     events: &Events<'_, u64>,
-    points: &Points,
-    patterns: &[Pattern],
-    used: u64,
-    head: SignalId,
-    mask: u64,
-    reaches: &[Reach],
-    links: &[u32],
-    faults: &[(u32, Fault)],
+    pass: &Pass,
+    turned: &TurnedWords,
     start: usize,
     shown: &[Shown],
     told: &mut Vec<Told>,
 )
-    requires points { ArePoints events.now.netlist points.now.seen.items points.now.first.items points.now.numbers.items }
-    requires used { IsUsed (length patterns.now) used }
-    requires lines { All (λ (g : ℕ × FaultOf). IsLineOf events.now.netlist g.1.line) faults.now }
-    requires turned { ShowAll events.now.netlist patterns.now faults.now head mask points.now.first.items (length points.now.seen.items) shown.now reaches.now }
-    requires told { AreTold events.now.netlist patterns.now faults.now told.old.items }
-    ensures { AreTold events.now.netlist patterns.now faults.now told.new.items }
+    requires turned { ShowAll events.now.netlist pass.now turned.now shown.now }
+    requires told { AreTold events.now.netlist pass.now told.old.items }
+    ensures { AreTold events.now.netlist pass.now told.new.items }
 {
     let all = all_under(shown);
     let mut k = start;
-    for _step in 0..reaches.len() {
-        if k >= reaches.len() || k >= links.len() || k >= faults.len() {
+    for _step in 0..pass.reaches.len() {
+        if k >= pass.reaches.len() || k >= pass.links.len() || k >= pass.faults.len() {
             return;
         }
-        told[k] = tell_one(
-            events,
-            points,
-            patterns,
-            used,
-            head,
-            mask,
-            shown,
-            all,
-            &faults[k].1,
-            &reaches[k],
-        );
-        let next = links[k] as usize;
+        told[k] = tell_one(events, pass, turned, shown, all, k);
+        let next = pass.links[k] as usize;
         if next <= k {
             return;
         }
@@ -250,71 +216,50 @@ pub(crate) fn tell_chain(
 /// Tells the faults with a head that is turned over, from one fault on. Where there is no memory for a list, nothing is told.
 fn tell_turned(
     events: &Events<'_, u64>,
-    points: &Points,
-    patterns: &[Pattern],
-    used: u64,
-    head: SignalId,
-    mask: u64,
-    reaches: &[Reach],
-    links: &[u32],
-    faults: &[(u32, Fault)],
+    pass: &Pass,
+    turned: &TurnedWords,
     start: usize,
     shown: &mut Vec<Shown>,
     told: &mut Vec<Told>,
 )
-    requires points { ArePoints events.now.netlist points.now.seen.items points.now.first.items points.now.numbers.items }
-    requires used { IsUsed (length patterns.now) used }
-    requires lines { All (λ (g : ℕ × FaultOf). IsLineOf events.now.netlist g.1.line) faults.now }
-    requires turned { CanTellAll events.now.netlist patterns.now faults.now head mask events.now.values events.now.trail reaches.now }
-    requires told { AreTold events.now.netlist patterns.now faults.now told.old.items }
-    ensures { AreTold events.now.netlist patterns.now faults.now told.new.items }
+    requires turned { CanTellAll events.now.netlist pass.now turned.now events.now.values events.now.trail }
+    requires told { AreTold events.now.netlist pass.now told.old.items }
+    ensures { AreTold events.now.netlist pass.now told.new.items }
 {
+    let points = pass.points;
     let count = points.seen.len();
     let Ok(()) = list_shown(events.trail(), events.values(), &points.first, count, shown) else {
         return;
     };
-    tell_chain(
-        events, points, patterns, used, head, mask, reaches, links, faults, start, shown, told,
-    );
+    tell_chain(events, pass, turned, start, shown, told);
 }
 
 /// Turns over the head of a fault, and tells the faults with the same head. The words are then those before.
 pub(crate) fn tell_from(
     events: &mut Events<'_, u64>,
-    points: &Points,
-    patterns: &[Pattern],
-    used: u64,
-    reaches: &[Reach],
-    links: &[u32],
-    faults: &[(u32, Fault)],
+    pass: &Pass,
     start: usize,
-    common: &mut Common,
+    overlap: &mut Overlap,
     is_counted: bool,
     shown: &mut Vec<Shown>,
     told: &mut Vec<Told>,
 )
-    requires points { ArePoints events.old.netlist points.now.seen.items points.now.first.items points.now.numbers.items }
-    requires good { AreGoodFor events.old.netlist patterns.now events.old.values }
-    requires used { IsUsed (length patterns.now) used }
-    requires lines { All (λ (g : ℕ × FaultOf). IsLineOf events.old.netlist g.1.line) faults.now }
-    requires reaches { AreReaches events.old.netlist events.old.values faults.now reaches.now }
-    requires size { length events.old.values ≡ length (signals events.old.netlist) }
-    requires start { start < length reaches.now }
+    requires pass { IsPass events.old.netlist events.old.values pass.now }
     requires trail { events.old.trail ≡ [] }
-    requires told { AreTold events.old.netlist patterns.now faults.now told.old.items }
-    ensures told { AreTold events.old.netlist patterns.now faults.now told.new.items }
+    requires start { start < length pass.now.reaches.now }
+    requires told { AreTold events.old.netlist pass.now told.old.items }
+    ensures told { AreTold events.old.netlist pass.now told.new.items }
     ensures same { events.new ≡ events.old }
 {
-    let Some((head, _)) = reaches[start] else {
+    let Some((head, _)) = pass.reaches[start] else {
         return;
     };
-    let mask = mask_from(reaches, links, start);
+    let mask = mask_from(pass, start);
     turn(events, head, mask);
     if is_counted {
-        common.count(events.trail());
+        overlap.count(events.trail());
     }
-    tell_turned(
-        events, points, patterns, used, head, mask, reaches, links, faults, start, shown, told,
-    );
+    let turned = TurnedWords { signal: head, mask };
+    tell_turned(events, pass, &turned, start, shown, told);
     events.undo(0);
 }

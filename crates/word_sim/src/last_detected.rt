@@ -9,7 +9,7 @@ ghost use Rattle.cubes.specs.Cubes.{Pattern as Bits};
 ghost use Rattle.word_sim.specs.declared.batches.Hit.{Hit as HitOf};
 ghost use Rattle.word_sim.specs.Hits.{AreHits, LastDetected};
 ghost use Rattle.word_sim.specs.Words.{HasWidthsOf};
-ghost use Rattle.word_sim.specs.inner.Found.{AreFrom, IsTold, untold};
+ghost use Rattle.word_sim.specs.inner.Found.{AreFrom, IsTold, TellFrom, untold};
 
 use crate::batches::Hit;
 use crate::simulator::Simulator;
@@ -88,26 +88,13 @@ fn told_by(
     }
 }
 
-/// Tells of each fault of which nothing is told what the hits of a part of the patterns say.
-fn tell_all(
-    core: &Core,
-    patterns: &[Pattern],
-    start: usize,
-    end: usize,
-    faults: &[Fault],
-    hits: &[Hit],
-    told: &mut Vec<Option<(u32, Point)>>,
-)
+/// Tells of each fault of which nothing is told what the hits of the patterns from a place on say.
+fn tell_all(start: usize, faults: &[Fault], hits: &[Hit], told: &mut Vec<Option<(u32, Point)>>)
     requires small { All (λ (h : HitOf). h.pattern < 64) hits.now }
     requires start { start + 64 ≤ 2 ^ 32 }
-    requires order { start ≤ end }
-    requires hits { AreHits core.now (take (end - start) (drop start patterns.now)) (untold 0 faults.now told.old.items) hits.now }
-    requires later { AreFrom core.now patterns.now end faults.now told.old.items }
-    ensures { AreFrom core.now patterns.now start faults.now told.new.items }
+    requires size { length told.old.items ≡ length faults.now }
+    ensures { TellFrom start faults.now hits.now told.old.items told.new.items }
 {
-    let _ = core;
-    let _ = patterns;
-    let _ = end;
     let mut next = 0;
     for k in 0..faults.len() {
         let known = told[k];
@@ -120,7 +107,6 @@ fn tell_all(
 /// What a part of the patterns tells of the faults of which nothing is told.
 fn tell_part(
     alloc: Global,
-    core: &Core,
     simulator: &mut Simulator<'_>,
     patterns: &[Pattern],
     start: usize,
@@ -129,22 +115,21 @@ fn tell_part(
     rest: &mut Vec<(u32, Fault)>,
     told: &mut Vec<Option<(u32, Point)>>,
 ) -> Result<(), AllocError>
-    requires wide { All (HasWidthsOf core.now) patterns.now }
-    requires lines { All (λ (f : FaultOf). IsLineOf core.now f.line) faults.now }
+    requires wide { All (HasWidthsOf simulator.old) patterns.now }
+    requires lines { All (λ (f : FaultOf). IsLineOf simulator.old f.line) faults.now }
     requires count { length patterns.now + 64 ≤ 2 ^ 32 }
     requires places { length faults.now ≤ 2 ^ 32 }
     requires order { start ≤ end }
     requires end { end ≤ length patterns.now }
     requires few { end ≤ start + 64 }
-    requires later { AreFrom core.now patterns.now end faults.now told.old.items }
-    requires simulator { simulator.old ≡ core.now }
-    ensures told { OnOk result (AreFrom core.now patterns.now start faults.now told.new.items) }
-    ensures simulator { simulator.new ≡ core.now }
+    requires later { AreFrom simulator.old patterns.now end faults.now told.old.items }
+    ensures told { OnOk result (AreFrom simulator.old patterns.now start faults.now told.new.items) }
+    ensures simulator { simulator.new ≡ simulator.old }
 {
     list_untold(faults, told, rest)?;
     let part = &patterns[start..end];
     let hits = simulator.batch_hits(alloc, part, rest)?;
-    tell_all(core, patterns, start, end, faults, &hits, told);
+    tell_all(start, faults, &hits, told);
     Ok(())
 }
 
@@ -181,7 +166,6 @@ fn find_last(
         let start = if end > 64 { end - 64 } else { 0 };
         tell_part(
             alloc,
-            core,
             &mut simulator,
             patterns,
             start,

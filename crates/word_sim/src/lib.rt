@@ -9,15 +9,16 @@
 #![tactic(auto)]
 
 mod batches;
-mod common;
 mod detecting;
 mod fault_hits;
 mod groups;
+mod lanes;
 mod last_detected;
 mod leaving_out;
+mod overlap;
 mod packing;
+mod passes;
 mod shown;
-mod side;
 mod simulator;
 mod words;
 

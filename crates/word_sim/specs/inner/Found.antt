@@ -1,5 +1,5 @@
 -- The hit of a fault that was found, and faults found among some of the patterns.
-use Rattle.std.specs.Prelude.{ℕ, ◌≡◌, ◌+◌, ◌≤◌, ◌<◌, List, [], ◌∷◌, length, slice_index_or, Option, Some, None}
+use Rattle.std.specs.Prelude.{ℕ, ◌≡◌, ◌+◌, ◌-◌, ◌≤◌, ◌<◌, List, [], ◌∷◌, take, drop, length, slice_index_or, Option, Some, None, ◌^◌, IfSome}
 use Rattle.std.specs.List.{slice_get}
 use Rattle.std.specs.Option.{option_map}
 use Rattle.netlist.specs.declared.lines.Fault.{Fault}
@@ -7,12 +7,19 @@ use Rattle.netlist.specs.declared.lines.Point.{Point}
 use Rattle.netlist.specs.Netlist.{Netlist}
 use Rattle.cubes.specs.Cubes.{Pattern}
 use Rattle.word_sim.specs.declared.batches.Hit.{Hit}
-use Rattle.word_sim.specs.Hits.{IsDetectedAt, IsLastDetected, LastDetected}
+use Rattle.word_sim.specs.Hits.{AreHits, IsDetectedAt, IsLastDetected, LastDetected, LastMarked}
+use Rattle.word_sim.specs.inner.Packed.{AreGoodFor, IsMarked}
 use Rattle.observed_points.specs.Points.{point_of}
 
 abbrev pub hit_of : Netlist → ℕ → Option (ℕ × ℕ) → List Hit
 hit_of n class None = []
 hit_of n class (Some w) = record { class = class; pattern = w.0; point = point_of n w.1 } ∷ []
+
+-- what is found of a fault among the marked patterns, for whichever these are the words: where it is last detected, in numbers that fit
+pub record IsFoundMarked (n : Netlist) (values : List ℕ) (marks : ℕ) (f : Fault) (found : Option (ℕ × ℕ)) : Type 0 where
+  pub detected : (patterns : List Pattern) → AreGoodFor n patterns values → IsMarked (length patterns) marks
+      → LastMarked n patterns marks f (option_map (λ (w : ℕ × ℕ). (w.0, point_of n w.1)) found)
+  pub small : IfSome found (λ w. (w.0 < 64) × (w.1 < 2 ^ 32))
 
 -- where the fault is last detected from place m on, if at all
 abbrev pub IsFrom : Netlist → List Pattern → ℕ → Fault → Option (ℕ × Point) → Type 0
@@ -47,3 +54,14 @@ untold k [] told = []
 untold k (f ∷ faults) [] = []
 untold k (f ∷ faults) (None ∷ told) = (k, f) ∷ untold (k + 1) faults told
 untold k (f ∷ faults) (Some w ∷ told) = untold (k + 1) faults told
+
+-- these hits of patterns from a place on tell where faults are last detected from there, if it was told where they are from the end of these patterns on
+abbrev pub TellFrom : ℕ → List Fault → List Hit → List (Option (ℕ × Point)) → List (Option (ℕ × Point)) → Type 0
+TellFrom start faults hits told told' = (n : Netlist) (patterns : List Pattern) (end : ℕ) → start ≤ end
+    → AreHits n (take (end - start) (drop start patterns)) (untold 0 faults told) hits → AreFrom n patterns end faults told → AreFrom n patterns start faults told'
+
+-- the same on the way: of the first k faults, with the hits that are left for the others
+abbrev pub TellUpTo : ℕ → List Fault → List Hit → List (Option (ℕ × Point)) → List (Option (ℕ × Point)) → ℕ → List Hit → Type 0
+TellUpTo start faults hits told told' k rest = (n : Netlist) (patterns : List Pattern) (end : ℕ) → start ≤ end
+    → AreHits n (take (end - start) (drop start patterns)) (untold 0 faults told) hits → AreFrom n patterns end faults told
+    → AreFromUpTo n patterns start end faults told' k × AreHits n (take (end - start) (drop start patterns)) (untold k (drop k faults) (drop k told')) rest

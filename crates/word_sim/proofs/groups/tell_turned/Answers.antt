@@ -11,11 +11,10 @@ list_shown-requires-clause-within c =
 
 pub list_shown-requires-clause-size : goal.list_shown-requires-clause-size
 list_shown-requires-clause-size c =
-    ap (λ (xs : List ℕ). length xs) c.deref.ensures.value ∙ (c.requires.points.first_is.size ∙ (sym c.values.ensures.standing.size ∙ ap (λ (vs : List ℕ). length vs) (sym c.values.ensures.values)))
+    ap (λ (xs : List ℕ). length xs) c.deref.ensures.value ∙ (c.requires.turned.pass.points.first_is.size ∙ (sym c.values.ensures.standing.size ∙ ap (λ (vs : List ℕ). length vs) (sym c.values.ensures.values)))
 
 pub tell_chain-requires-clause-turned : goal.tell_chain-requires-clause-turned
 tell_chain-requires-clause-turned c =
-    let count : c.len-count.result ≡ length c.args.points.now.seen.items = (let a = c.len-count.ensures in let b = c.args.points.now.seen.ok.0 in omega arith) in
-    shows_all c.args.events.now.netlist c.args.events.now.netlist c.args.patterns.now c.args.faults.now c.args.head c.args.mask c.args.events.now.values c.values.result.now c.args.events.now.trail c.trail.result.now
-    c.args.reaches.now c.args.points.now.first.items c.deref.result.now (length c.args.points.now.seen.items) c.len-count.result c.deref-2.result.now refl c.requires.turned
-    c.deref.ensures.value count c.values.ensures.values c.trail.ensures.trail (c.deref-2.ensures.value ∙ c.in-Ok.ensures)
+    let count : c.len-count.result ≡ length c.args.pass.now.points.now.seen.items = (let a = c.len-count.ensures in let b = c.args.pass.now.points.now.seen.ok.0 in omega arith) in
+    shows_all c.args.events.now.netlist c.args.pass.now c.args.turned.now c.args.events.now.values c.values.result.now c.args.events.now.trail c.trail.result.now
+    c.deref.result.now c.len-count.result c.deref-2.result.now c.requires.turned c.deref.ensures.value count c.values.ensures.values c.trail.ensures.trail (c.deref-2.ensures.value ∙ c.in-Ok.ensures)

@@ -1,6 +1,6 @@
 use Rattle.std.proofs.Common.{◌≡◌, ◌<◌, ◌≤◌, ◌∙◌, sym, arith}
 use Rattle.word_sim.proofs.Spreading.{four_within, four_apart}
-use Rattle.word_sim.proofs.side.can_turn.Goals as goal
+use Rattle.word_sim.proofs.lanes.can_turn.Goals as goal
 
 pub returns-clause-within : goal.returns-clause-within
 returns-clause-within c = λ _.

@@ -1,4 +1,4 @@
-//! Whether heads change much in common, by four of each 64 that are turned one by one. Nothing that is found rests on it.
+//! How much heads change in common, by four of each 64 that are turned over one by one. Nothing that is found rests on it.
 use events::Change;
 use std::alloc::{AllocError, Global};
 
@@ -6,10 +6,14 @@ use std::alloc::{AllocError, Global};
 const BLOCK: usize = 64;
 /// The heads of a sample: so many go side by side.
 const SAMPLE: usize = 4;
+/// Heads go side by side where the signals that four of them change are fewer than 11 of 20 of their changes.
+const MOST_LEFT: u64 = 11;
+
+const OF_CHANGES: u64 = 20;
 
 /// The changes of the samples so far.
 #[derive(Drop)]
-pub(crate) struct Common {
+pub(crate) struct Overlap {
     /// For each signal the sample in which it changed last.
     latest: Vec<u32>,
     sample: u32,
@@ -18,9 +22,9 @@ pub(crate) struct Common {
     distinct: u64,
 }
 
-impl Common {
-    pub fn new(alloc: Global, signals: usize) -> Result<Common, AllocError> {
-        Ok(Common {
+impl Overlap {
+    pub fn new(alloc: Global, signals: usize) -> Result<Overlap, AllocError> {
+        Ok(Overlap {
             latest: vec![in alloc; 0u32; signals]?,
             sample: 0,
             changes: 0,
@@ -29,7 +33,7 @@ impl Common {
     }
 
     /// Whether the head at this place of the list is in a sample.
-    pub fn is_counted(at: usize) -> bool {
+    pub fn is_sampled(at: usize) -> bool {
         at % BLOCK < SAMPLE
     }
 
@@ -52,8 +56,8 @@ impl Common {
         self.changes = self.changes.wrapping_add(trail.len() as u64);
     }
 
-    /// Whether four heads side by side change fewer than 0.55 of the signals that they change one by one.
-    pub fn is_much(&self) -> bool {
-        self.distinct.wrapping_mul(20) < self.changes.wrapping_mul(11)
+    /// Whether four heads side by side change so many fewer signals than one by one that it pays.
+    pub fn is_large(&self) -> bool {
+        self.distinct.wrapping_mul(OF_CHANGES) < self.changes.wrapping_mul(MOST_LEFT)
     }
 }

@@ -1,6 +1,6 @@
 use Rattle.std.proofs.Common.{◌∙◌, sym, subst}
 use Rattle.word_sim.specs.inner.Groups.{IsSpread}
-use Rattle.word_sim.proofs.side.tell_fours.Goals as goal
+use Rattle.word_sim.proofs.lanes.tell_fours.Goals as goal
 
 pub tell_four-requires-clause-beside : goal.tell_four-requires-clause-beside
 tell_four-requires-clause-beside c = subst (IsSpread c.args.events.now.netlist c.args.events.now.values) (sym c.loop-at.invariant.0) c.requires.beside

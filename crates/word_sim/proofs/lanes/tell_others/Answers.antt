@@ -3,12 +3,12 @@ use Rattle.std.specs.Prelude.{IfSome}
 use Rattle.netlist.specs.Netlist.{Netlist, signals}
 use Rattle.word_sim.specs.inner.Groups.{IsBeside}
 use Rattle.word_sim.proofs.Spreading.{spread_beside}
-use Rattle.word_sim.proofs.side.tell_others.Goals as goal
+use Rattle.word_sim.proofs.lanes.tell_others.Goals as goal
 
 pub kept_or_made-requires-clause-count : goal.kept_or_made-requires-clause-count
 kept_or_made-requires-clause-count c =
     let read = ap (λ (vs : List ℕ). length vs) c.values-values.ensures.values in
-    let size = c.requires.size in
+    let size = c.requires.pass.size in
     let same = ap (λ (m : Netlist). length (signals m)) c.core.ensures in
     omega arith
 
@@ -19,7 +19,7 @@ kept_or_made-requires-clause-kept c =
 pub spread_words-requires-clause-size : goal.spread_words-requires-clause-size
 spread_words-requires-clause-size c =
     let read = ap (λ (vs : List ℕ). length vs) c.values-values.ensures.values in
-    let size = c.requires.size in
+    let size = c.requires.pass.size in
     let same = ap (λ (m : Netlist). length (signals m)) c.core.ensures in
     let own = c.in_ok-side.ensures.size in
     omega arith
@@ -27,17 +27,17 @@ spread_words-requires-clause-size c =
 pub spread_words-requires-clause-within : goal.spread_words-requires-clause-within
 spread_words-requires-clause-within c =
     let read = ap (λ (vs : List ℕ). length vs) c.values-values.ensures.values in
-    let size = c.requires.size in
+    let size = c.requires.pass.size in
     let same = ap (λ (m : Netlist). length (signals m)) (c.in_ok-side.ensures.netlist ∙ c.core.ensures) in
     omega arith
 
 pub tell_fours-requires-clause-beside : goal.tell_fours-requires-clause-beside
 tell_fours-requires-clause-beside c =
     spread_beside c.args.events.now.netlist c.core.result.now c.args.events.now.values c.values-values.result.now c.in_ok-side.side c.spread_words.new.wide c.core.ensures c.values-values.ensures.values c.in_ok-side.ensures
-    c.spread_words.ensures c.requires.size
+    c.spread_words.ensures c.requires.pass.size
 
 pub returns-clause-wide : goal.returns-clause-wide
 returns-clause-wide c =
     subst (IsBeside c.args.events.now.netlist) (sym c.tell_fours.ensures.same)
     (spread_beside c.args.events.now.netlist c.core.result.now c.args.events.now.values c.values-values.result.now c.in_ok-side.side c.spread_words.new.wide c.core.ensures c.values-values.ensures.values c.in_ok-side.ensures
-    c.spread_words.ensures c.requires.size).beside
+    c.spread_words.ensures c.requires.pass.size).beside

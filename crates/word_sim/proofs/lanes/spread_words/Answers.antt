@@ -4,7 +4,7 @@ use Rattle.netlist.specs.Netlist.{Netlist, signals}
 use Rattle.events.specs.Standing.{Standing}
 use Rattle.regions.specs.declared.fours.Four.{Four}
 use Rattle.word_sim.proofs.Spreading.{one_spread, all_spread}
-use Rattle.word_sim.proofs.side.spread_words.Goals as goal
+use Rattle.word_sim.proofs.lanes.spread_words.Goals as goal
 
 pub loop-x-init : goal.loop-x-init
 loop-x-init c = (refl, c.requires.size, refl)

@@ -1,7 +1,0 @@
-use Rattle.std.proofs.Common.{◌≡◌, take}
-use Rattle.word_sim.specs.Hits.{AreHits}
-use Rattle.word_sim.specs.inner.Groups.{AreTold}
-use Rattle.word_sim.proofs.fault_hits.hits_of_groups.Given as goal
-
-abbrev pub invariant-loop-k : goal.invariant-loop-k
-invariant-loop-k l = AreHits l.initial.events.netlist l.patterns (take l.k l.faults) l.hits.items × (l.events ≡ l.initial.events) × AreTold l.initial.events.netlist l.patterns l.faults l.told.items
