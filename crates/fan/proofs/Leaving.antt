@@ -3,7 +3,7 @@ use Rattle.std.proofs.Common.{◌≡◌, ℕ, ◌<◌, ◌≤◌, ◌⊎◌, ◌
 use Rattle.std.specs.Bool.{Decides}
 use Rattle.std.specs.Option.{is_some}
 use Rattle.std.specs.List.{Contains, list_any}
-use Rattle.std.proofs.lemmas.Bool.{both_ways, eq-eqb, eqb-true}
+use Rattle.std.proofs.lemmas.Bool.{both_ways, eq-eqb, eqb-true, not-true, not_from_false, false_from_ne_true, or_left, or_right, or_cases}
 use Rattle.std.proofs.lemmas.List.{length-map, get_or_past}
 use Rattle.netlist.specs.declared.kinds.Tri.TheVariants.{X}
 use Rattle.netlist.specs.declared.lines.Fault.{Fault}
@@ -31,8 +31,8 @@ use Rattle.head_lines.proofs.GateTests.{no_gate_low}
 use Rattle.head_lines.proofs.Inner.{input_own}
 use Rattle.head_lines.proofs.Ends.{met_there}
 use Rattle.head_lines.proofs.Readers.{get_or_any}
-use Rattle.fan.specs.declared.cases.Case.{Case}
-use Rattle.fan.specs.inner.Searching.{IsCase, IsAt, IsGoing, IsEndPlace, IsFreeEnd, IsNoFreeEnd, IsSplit}
+use Rattle.decision_stack.specs.declared.cases.Case.{Case}
+use Rattle.fan.specs.inner.Searching.{IsAt, IsGoing, IsEndPlace, IsFreeEnd, IsNoFreeEnd, IsSplit}
 use Rattle.fan.proofs.Placing.{places_may, head_place, source_place}
 use Rattle.fan.proofs.Turns.{all_on, none_on}
 
@@ -78,15 +78,15 @@ role_read {n} sound roles size i x r e l h = (
 )
 
 -- a role tells whether a signal is such an end
-pub ends_by_role : (k : Case) → IsSound k.core.now → AreRoles k.fault k.core.now k.holds.now k.roles.now → (x : ℕ) → Contains (signals k.core.now) x
-    → (r : Role) → role_at k.roles.now x ≡ r → (gate : Bool) → Decides gate (IsGateAt k.core.now x)
+pub ends_by_role : (k : Case) {roles : List Role} → IsSound k.core.now → AreRoles k.fault k.core.now k.holds.now roles → (x : ℕ) → Contains (signals k.core.now) x
+    → (r : Role) → role_at roles x ≡ r → (gate : Bool) → Decides gate (IsGateAt k.core.now x)
     → ((r ≡ Bound → Decides (not gate) (IsEndPlace k x)) × ((r ≡ Head → IsEndPlace k x) × (r ≡ Inner → IsEndPlace k x → ⊥)))
 ends_by_role k sound are x s r e gate g = (
   λ b. (
-    λ t. inr (not_gate_source k.core.now sound x s (λ h. both_ways gate (not_true gate t) (g.1 h)), (are.marks.bound_are x s).0 (ap is_bound_role (e ∙ b))),
+    λ t. inr (not_gate_source k.core.now sound x s (λ h. both_ways gate (not-true gate t) (g.1 h)), (are.marks.bound_are x s).0 (ap is_bound_role (e ∙ b))),
     λ h. elim h [
       | inl head ↦ absurd (both_ways false refl (sym (ap is_head_role (e ∙ b)) ∙ (are.marks.heads_are x s).1 head))
-      | inr w ↦ not_from gate (λ q. source_no_gate k.core.now sound x s w.0 (g.0 q))
+      | inr w ↦ not_from_false gate (false_from_ne_true gate (λ q. source_no_gate k.core.now sound x s w.0 (g.0 q)))
     ],
   ),
   (
@@ -97,19 +97,11 @@ ends_by_role k sound are x s r e gate g = (
     ],
   ),
 )
-  where
-    not_true : (b : Bool) → not b ≡ true → b ≡ false
-    not_true true q = absurd (both_ways false refl q)
-    not_true false q = refl
 
-    not_from : (b : Bool) → (b ≡ true → ⊥) → not b ≡ true
-    not_from true q = absurd (q refl)
-    not_from false q = refl
-
-pub head_end : (k : Case) → AreRoles k.fault k.core.now k.holds.now k.roles.now → (x : ℕ) → Contains (signals k.core.now) x → role_at k.roles.now x ≡ Head → IsEndPlace k x
+pub head_end : (k : Case) {roles : List Role} → AreRoles k.fault k.core.now k.holds.now roles → (x : ℕ) → Contains (signals k.core.now) x → role_at roles x ≡ Head → IsEndPlace k x
 head_end k are x s e = inl ((are.marks.heads_are x s).0 (ap is_head_role e))
 
-pub inner_no_end : (k : Case) → AreRoles k.fault k.core.now k.holds.now k.roles.now → (x : ℕ) → Contains (signals k.core.now) x → role_at k.roles.now x ≡ Inner → IsEndPlace k x → ⊥
+pub inner_no_end : (k : Case) {roles : List Role} → AreRoles k.fault k.core.now k.holds.now roles → (x : ℕ) → Contains (signals k.core.now) x → role_at roles x ≡ Inner → IsEndPlace k x → ⊥
 inner_no_end k are x s e h = elim h [
   | inl head ↦ both_ways false refl (sym (ap is_head_role e) ∙ (are.marks.heads_are x s).1 head)
   | inr w ↦ both_ways false refl (sym (ap is_bound_role e) ∙ (are.marks.bound_are x s).1 w.1)
@@ -136,18 +128,6 @@ module _ (f : Fault) (n : Netlist) (holds : Holds) (fit : AreHoldsOf n holds) (s
 
       constant_or_gate : ℕ → Bool
       constant_or_gate y = is_some (get_or holds y None) || gate_test y
-
-      or_right : (a b : Bool) → b ≡ true → (a || b) ≡ true
-      or_right true b e = refl
-      or_right false b e = e
-
-      or_left : (a b : Bool) → a ≡ true → (a || b) ≡ true
-      or_left true b e = refl
-      or_left false b e = absurd (both_ways false refl e)
-
-      or_cases : (a b : Bool) → (a || b) ≡ true → (a ≡ true) ⊎ (b ≡ true)
-      or_cases true b e = inl refl
-      or_cases false b e = inr e
 
       up : IsUpward n constant_or_gate
       up z y r t = or_right (is_some (get_or holds z None)) (gate_test z) (gate_to z (r.0, r.1, r.2))
@@ -189,13 +169,12 @@ labels_there f n holds sound path =
     some_settled (label_of None X X false) (labels (Some f) path) n (input_labels path n holds) (cell_labels path n) sound.formed.numbered sound.closed sound.acyclic
     (length-map n.inputs (λ x. source_label path x (held_value (get_or holds x None)))) (length-map (cells n) (λ (d : Definition). source_label path d.id X))
 
-pub some_end : (k : Case) → IsSound k.core.now → IsCase k → (s : Sim) (stack : List Side) → IsAt k s stack → IsGoing k stack
+pub some_end : (k : Case) {roles : List Role} → IsSound k.core.now → AreRoles k.fault k.core.now k.holds.now roles → (s : Sim) (stack : List Side) → IsAt k s stack → IsGoing k stack
     → ((x : ℕ) → x < length (signals k.core.now) → IsNoFreeEnd k s x) → ⊥
-some_end k sound are s stack is going none =
+some_end k {roles} sound are s stack is going none =
     let f : Fault = k.fault in
     let n : Netlist = k.core.now in
     let holds : Holds = k.holds.now in
-    let roles : List Role = k.roles.now in
     let path : Path = path_of_stack stack in
     let l = labels_there f n holds sound (decisions path) in
     let told : (x : ℕ) → Contains (signals n) x → IsHead f n holds x ⊎ (IsSource n x × IsBound f n holds x) → (l.0 x).good ≡ X → ⊥ =
@@ -203,7 +182,7 @@ some_end k sound are s stack is going none =
     let w = none x (signal_below n sound.formed.numbered x c) end in
     let g : HasGood (sim n f holds path) x w.0 = subst (λ (r : Sim). HasGood r x w.0) is.at w.1 in
     w.2 (sym g.good ∙ (ap (λ (m : Label). m.good) (labels_once (Some f) (decisions path) n holds sound g.label l.0 g.are l.1 x c) ∙ e)) in
-    let met = met_there f n holds sound (λ x. is_bound_role (role_at roles x)) (λ x. is_head_role (role_at roles x)) are.roles.marks path
-    (all_on f n holds (places_may f n holds roles are.roles) stack [] (none_on f n holds) is.around) l.0 l.1 told
+    let met = met_there f n holds sound (λ x. is_bound_role (role_at roles x)) (λ x. is_head_role (role_at roles x)) are.marks path
+    (all_on f n holds (places_may f n holds roles are) stack [] (none_on f n holds) is.around) l.0 l.1 told
     (λ c. going.0 (record { label = l.0; are = l.1; closed = c })) in
     going.1 met.0 met.1

@@ -4,7 +4,7 @@
 ghost use Rattle.std.specs.Prelude.{◌≡◌};
 ghost use Rattle.pair_sim.specs.Sims.{IsNotBlocked};
 
-use crate::cases::Case;
+use crate::cases::RoledCase;
 use crate::frontier::{FrontGates, frontier};
 use crate::guides::has_head;
 use netlist::{Core, Kind, SignalId};
@@ -12,7 +12,8 @@ use pair_sim::PairSim;
 use redundancy_cert::Side;
 use std::alloc::{AllocError, Global};
 use testability::{
-    Aim, Effects, count_pins, driver, gate_of, is_inverting, is_own_unknown, is_unknown, may_differ,
+    Aim, Effects, count_pins, excitation, gate_of, is_inverting, is_own_unknown, is_unknown,
+    may_differ,
 };
 
 /// Asks for a bit on each pin that is X.
@@ -99,29 +100,27 @@ fn let_through(
 /// What may be forced, in this order: by the fault's line, by what the decisions imply, and by the gate of the D-frontier where there is one alone.
 pub(crate) fn forced_aims(
     alloc: Global,
-    case: &Case,
+    roled: &RoledCase,
     effects: &Effects,
     labels: &PairSim,
     stack: &[Side],
 ) -> Result<Vec<Aim>, AllocError>
-    requires same { labels.now.netlist ≡ case.now.core.now }
+    requires same { labels.now.netlist ≡ roled.now.case.core.now }
     requires not_blocked { IsNotBlocked labels.now }
 {
     let mut aims = Vec::new(alloc);
-    let site = driver(case.core, &case.fault.line);
-    if is_unknown(case.core, labels, site) {
-        aims.push(Aim {
-            signal: site,
-            bit: !case.fault.value,
-        })?;
+    if let Some(aim) = excitation(roled.case.core, &roled.case.fault, labels) {
+        aims.push(aim)?;
     }
     for side in stack {
-        if !has_head(case.roles, side.signal) && is_own_unknown(case.core, labels, side.signal) {
-            imply(case.core, labels, side.signal, side.bit, &mut aims)?;
+        if !has_head(roled.roles, side.signal)
+            && is_own_unknown(roled.case.core, labels, side.signal)
+        {
+            imply(roled.case.core, labels, side.signal, side.bit, &mut aims)?;
         }
     }
-    if let FrontGates::Single(gate) = frontier(case, effects, labels) {
-        let_through(case.core, labels, gate, &mut aims)?;
+    if let FrontGates::Single(gate) = frontier(&roled.case, effects, labels) {
+        let_through(roled.case.core, labels, gate, &mut aims)?;
     }
     Ok(aims)
 }

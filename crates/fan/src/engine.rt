@@ -6,11 +6,12 @@ ghost use Rattle.std.specs.Prelude.{◌≡◌, ◌≤◌, IfOk, IfSome, OnOk};
 ghost use Rattle.netlist.specs.Holds.{AreHoldsOf};
 ghost use Rattle.redundancy_cert.specs.Evidence.{HasEvidence};
 ghost use Rattle.fan.specs.Trees.{HasEvidenceOnPlaces};
-ghost use Rattle.fan.specs.inner.Searching.{IsCase, IsReady, IsAnswer, IsKept};
+ghost use Rattle.fan.specs.inner.Searching.{IsRoledCase, IsReady, IsAnswer, IsKept};
 
-use crate::cases::Case;
+use crate::cases::RoledCase;
 use crate::guides::{Guide, GuideRoom, Objectives, Stop};
 use crate::searching::search_from;
+use decision_stack::Case;
 use head_lines::{RoleRoom, WantRoom, roles_of};
 use netlist::{Core, Fault, Holds, NoMemory};
 use pair_sim::{PairSim, SimRoom};
@@ -46,24 +47,24 @@ pub struct FanRoom {
 #[tactic(auto, using(crate::proofs::Steps::kept_before, crate::proofs::Steps::ready_again))]
 fn short_attempt(
     alloc: Global,
-    case: &Case,
+    roled: &RoledCase,
     guide: &mut Guide,
     labels: &mut PairSim,
     wants: &mut WantRoom,
     few: u32,
     limit: u32,
 ) -> Result<Option<Found>, AllocError>
-    requires start { IsReady case.now labels.old wants.old }
+    requires start { IsReady roled.now.case labels.old wants.old }
     requires some { 1 ≤ few }
-    requires case { IsCase case.now }
-    ensures answer { IfOk result (λ o. IfSome o (IsAnswer case.now limit)) }
-    ensures kept { OnOk result (IsKept case.now labels.new wants.new) }
-    ensures back { IfOk result (λ o. o ≡ None → IsReady case.now labels.new wants.new) }
+    requires case { IsRoledCase roled.now }
+    ensures answer { IfOk result (λ o. IfSome o (IsAnswer roled.now.case limit)) }
+    ensures kept { OnOk result (IsKept roled.now.case labels.new wants.new) }
+    ensures back { IfOk result (λ o. o ≡ None → IsReady roled.now.case labels.new wants.new) }
 {
     if limit <= few {
         return Ok(None);
     }
-    match search_from(alloc, case, guide, labels, wants, few)? {
+    match search_from(alloc, roled, guide, labels, wants, few)? {
         Found::Test(cube, point) => Ok(Some(Found::Test(cube, point))),
         Found::Closed(tree) => Ok(Some(Found::Closed(tree))),
         Found::Partial(_) => {
@@ -76,38 +77,38 @@ fn short_attempt(
 /// The attempts, one after the other.
 fn attempts(
     alloc: Global,
-    case: &Case,
+    roled: &RoledCase,
     guide: &mut Guide,
     labels: &mut PairSim,
     wants: &mut WantRoom,
     limit: u32,
 ) -> Result<Found, AllocError>
-    requires start { IsReady case.now labels.old wants.old }
+    requires start { IsReady roled.now.case labels.old wants.old }
     requires some { 1 ≤ limit }
-    requires case { IsCase case.now }
-    ensures answer { IfOk result (IsAnswer case.now limit) }
-    ensures kept { OnOk result (IsKept case.now labels.new wants.new) }
+    requires case { IsRoledCase roled.now }
+    ensures answer { IfOk result (IsAnswer roled.now.case limit) }
+    ensures kept { OnOk result (IsKept roled.now.case labels.new wants.new) }
 {
     guide.go_back(Objectives::One, Stop::Heads);
-    if let Some(found) = short_attempt(alloc, case, guide, labels, wants, FEW, limit)? {
+    if let Some(found) = short_attempt(alloc, roled, guide, labels, wants, FEW, limit)? {
         return Ok(found);
     }
     guide.go_back(Objectives::All, Stop::Stems);
-    if let Some(found) = short_attempt(alloc, case, guide, labels, wants, MORE, limit)? {
+    if let Some(found) = short_attempt(alloc, roled, guide, labels, wants, MORE, limit)? {
         return Ok(found);
     }
     guide.go_back(Objectives::One, Stop::Stems);
-    if let Some(found) = short_attempt(alloc, case, guide, labels, wants, MORE, limit)? {
+    if let Some(found) = short_attempt(alloc, roled, guide, labels, wants, MORE, limit)? {
         return Ok(found);
     }
     for round in 0..ROUNDS {
-        guide.go_anyhow(round, &case.fault);
-        if let Some(found) = short_attempt(alloc, case, guide, labels, wants, FEW, limit)? {
+        guide.go_anyhow(round, &roled.case.fault);
+        if let Some(found) = short_attempt(alloc, roled, guide, labels, wants, FEW, limit)? {
             return Ok(found);
         }
     }
     guide.go_back(Objectives::All, Stop::Heads);
-    search_from(alloc, case, guide, labels, wants, limit)
+    search_from(alloc, roled, guide, labels, wants, limit)
 }
 
 impl Fan {
@@ -139,13 +140,12 @@ impl Fan {
         let mut labels = PairSim::new(alloc, core, fault, holds)?;
         let roles = roles_of(alloc, core, &fault, holds)?;
         let mut wants = WantRoom::of(alloc, core)?;
-        let case = Case {
-            core,
-            fault,
-            holds,
+        let case = Case { core, fault, holds };
+        let roled = RoledCase {
+            case,
             roles: &roles,
         };
-        let found = attempts(alloc, &case, &mut guide, &mut labels, &mut wants, limit)?;
+        let found = attempts(alloc, &roled, &mut guide, &mut labels, &mut wants, limit)?;
         Ok(found)
     }
 }
@@ -194,13 +194,12 @@ impl Engine for Fan {
         let mut labels = PairSim::in_room(room.labels, core, fault, holds);
         let mut wants = room.wants;
         let mut guide = Guide::of(&self.measures, room.guide);
-        let case = Case {
-            core,
-            fault,
-            holds,
+        let case = Case { core, fault, holds };
+        let roled = RoledCase {
+            case,
             roles: roles.roles(),
         };
-        let found = attempts(alloc, &case, &mut guide, &mut labels, &mut wants, limit)?;
+        let found = attempts(alloc, &roled, &mut guide, &mut labels, &mut wants, limit)?;
         Ok((
             found,
             FanRoom {

@@ -1,10 +1,10 @@
 //! Signals of which one side is closed, so that the other is forced. A side is decided by way of trial and its labels tell whether it is closed, where FAN
 //! has rules of implication gate by gate: so all that follows from a decision counts, whatever gates it goes through, and each Forced shows its reason.
 ghost use Rattle.std.specs.Prelude.{IsTrue};
-ghost use Rattle.fan.specs.inner.Searching.{IsCase, IsAt, IsGoing, IsFreeToDecide, IsForcedSeen};
+ghost use Rattle.fan.specs.inner.Searching.{IsRoledCase, IsAt, IsGoing, IsFreeToDecide, IsForcedSeen};
 
-use crate::cases::Case;
-use crate::standing::look;
+use crate::cases::RoledCase;
+use crate::standing::go;
 use head_lines::Role;
 use netlist::{Point, SignalId, Tri};
 use pair_sim::{PairSim, State};
@@ -21,16 +21,16 @@ pub enum Seen {
 }
 
 /// Whether a signal may be decided, and isn't known.
-pub(crate) fn is_free(case: &Case, labels: &PairSim, stack: &[Side], id: SignalId) -> bool
-    requires case { IsCase case.now }
-    requires at { IsAt case.now labels.now stack.now }
-    ensures { IsTrue result → IsFreeToDecide case.now labels.now id }
+pub(crate) fn is_free(roled: &RoledCase, labels: &PairSim, stack: &[Side], id: SignalId) -> bool
+    requires case { IsRoledCase roled.now }
+    requires at { IsAt roled.now.case labels.now stack.now }
+    ensures { IsTrue result → IsFreeToDecide roled.now.case labels.now id }
 {
-    case.core.netlist().sound();
-    if id.index() >= case.roles.len() {
+    roled.case.core.netlist().sound();
+    if id.index() >= roled.roles.len() {
         return false;
     }
-    match case.roles[id.index()] {
+    match roled.roles[id.index()] {
         Role::Inner => false,
         Role::Bound => matches!(labels.good(id), Tri::X),
         Role::Head => matches!(labels.good(id), Tri::X),
@@ -38,18 +38,23 @@ pub(crate) fn is_free(case: &Case, labels: &PairSim, stack: &[Side], id: SignalI
 }
 
 /// Looks for one of these whose other side is closed.
-pub(crate) fn find_forced(case: &Case, labels: &mut PairSim, stack: &[Side], aims: &[Aim]) -> Seen
-    requires case { IsCase case.now }
-    requires at { IsAt case.now labels.old stack.now }
-    requires going { IsGoing case.now stack.now }
-    ensures { IsForcedSeen case.now labels.old labels.new stack.now result }
+pub(crate) fn find_forced(
+    roled: &RoledCase,
+    labels: &mut PairSim,
+    stack: &[Side],
+    aims: &[Aim],
+) -> Seen
+    requires case { IsRoledCase roled.now }
+    requires at { IsAt roled.now.case labels.old stack.now }
+    requires going { IsGoing roled.now.case stack.now }
+    ensures { IsForcedSeen roled.now.case labels.old labels.new stack.now result }
 {
     for aim in aims {
-        if is_free(case, labels, stack, aim.signal) {
-            match look(case, labels, stack, aim.signal, !aim.bit) {
+        if is_free(roled, labels, stack, aim.signal) {
+            match go(roled, labels, stack, aim.signal, !aim.bit) {
                 State::Test(point) => return Seen::Reached(point),
                 State::Blocked => return Seen::ShutBeside(*aim),
-                State::Going => {}
+                State::Going => labels.undo(),
             }
         }
     }

@@ -3,8 +3,8 @@
 ghost use Rattle.std.specs.Prelude.{◌≡◌};
 ghost use Rattle.pair_sim.specs.Sims.{IsNotBlocked};
 
-use crate::cases::Case;
 use crate::paths::Paths;
+use decision_stack::Case;
 use netlist::{Core, Line, SignalId};
 use pair_sim::PairSim;
 use std::alloc::AllocError;

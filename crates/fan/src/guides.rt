@@ -3,10 +3,10 @@
 ghost use Rattle.std.specs.Prelude.{◌≡◌};
 ghost use Rattle.pair_sim.specs.Sims.{IsNotBlocked};
 
-use crate::cases::Case;
+use crate::cases::RoledCase;
 use crate::frontier::nearest;
 use crate::paths::Paths;
-use crate::tracing::{Course, Way, traced};
+use crate::tracing::{Course, Way, objective, trace_from};
 use head_lines::Role;
 use netlist::{Core, Fault, Kind, SignalId};
 use pair_sim::PairSim;
@@ -14,8 +14,8 @@ use redundancy_cert::Side;
 use std::alloc::{AllocError, Global};
 use std::collections::BinaryHeap;
 use testability::{
-    Aim, Effects, Measures, count_pins, driver, gate_of, is_inverting, is_own_unknown, is_unknown,
-    may_differ, place_of, readers, salt_of, signal_count,
+    Aim, Effects, Measures, count_pins, excitation, gate_of, is_inverting, is_own_unknown,
+    is_unknown, may_differ, place_of, readers, salt_of, signal_count,
 };
 
 /// Whether a signal is a head line.
@@ -212,11 +212,12 @@ impl<'a> Guide<'a> {
     }
 
     /// Looks at what the trail of labels has gained.
-    pub(crate) fn follow(&mut self, case: &Case, labels: &PairSim) -> Result<(), AllocError>
-        requires same { labels.now.netlist ≡ case.now.core.now }
+    pub(crate) fn follow(&mut self, roled: &RoledCase, labels: &PairSim) -> Result<(), AllocError>
+        requires same { labels.now.netlist ≡ roled.now.case.core.now }
         requires not_blocked { IsNotBlocked labels.now }
     {
-        self.effects.follow(case.core, &case.fault, labels)
+        self.effects
+            .follow(roled.case.core, &roled.case.fault, labels)
     }
 
     /// Adds to what is wanted of a signal, if it is X.
@@ -363,25 +364,24 @@ impl<'a> Guide<'a> {
     /// What is wanted at first: that the fault is excited; or else the decided bits of gates, and that the effect goes on.
     fn want_objectives(
         &mut self,
-        case: &Case,
+        roled: &RoledCase,
         labels: &PairSim,
         stack: &[Side],
     ) -> Result<(), AllocError>
-        requires same { labels.now.netlist ≡ case.now.core.now }
+        requires same { labels.now.netlist ≡ roled.now.case.core.now }
         requires not_blocked { IsNotBlocked labels.now }
     {
-        let core = case.core;
-        let site = driver(core, &case.fault.line);
-        if is_unknown(core, labels, site) {
-            return self.want(core, labels, site, votes_for(!case.fault.value, 1));
+        let core = roled.case.core;
+        if let Some(aim) = excitation(core, &roled.case.fault, labels) {
+            return self.want(core, labels, aim.signal, votes_for(aim.bit, 1));
         }
         for side in stack {
-            if !has_head(case.roles, side.signal) && is_own_unknown(core, labels, side.signal) {
+            if !has_head(roled.roles, side.signal) && is_own_unknown(core, labels, side.signal) {
                 self.spread(core, labels, side.signal, votes_for(side.bit, 1))?;
             }
         }
         match nearest(
-            case,
+            &roled.case,
             self.course.measures,
             &self.effects,
             labels,
@@ -404,11 +404,11 @@ impl<'a> Guide<'a> {
     }
 
     /// Goes back from what is wanted: the first fanout stem at which it stops, or the end that is wanted most.
-    fn trace_back(&mut self, case: &Case, labels: &PairSim) -> Result<Option<Aim>, AllocError>
-        requires same { labels.now.netlist ≡ case.now.core.now }
+    fn trace_back(&mut self, roled: &RoledCase, labels: &PairSim) -> Result<Option<Aim>, AllocError>
+        requires same { labels.now.netlist ≡ roled.now.case.core.now }
         requires not_blocked { IsNotBlocked labels.now }
     {
-        let core = case.core;
+        let core = roled.case.core;
         let mut best: Option<Aim> = None;
         let mut most: u32 = 0;
         for _step in 0..signal_count(core) {
@@ -420,7 +420,7 @@ impl<'a> Guide<'a> {
                 signal: id,
                 bit: votes.one > votes.zero,
             };
-            if has_head(case.roles, id) || gate_of(core, id).is_none() {
+            if has_head(roled.roles, id) || gate_of(core, id).is_none() {
                 let all = votes.zero.saturating_add(votes.one);
                 if best.is_none() || all > most {
                     most = all;
@@ -465,25 +465,29 @@ fn turned(votes: Votes, inverting: bool) -> Votes {
 
 /// What to decide, if the labels tell.
 pub(crate) fn best_aim(
-    case: &Case,
+    roled: &RoledCase,
     guide: &mut Guide,
     labels: &PairSim,
     stack: &[Side],
 ) -> Result<Option<Aim>, AllocError>
-    requires same { labels.now.netlist ≡ case.now.core.now }
+    requires same { labels.now.netlist ≡ roled.now.case.core.now }
     requires not_blocked { IsNotBlocked labels.now }
 {
     if matches!(guide.objectives, Objectives::One) {
-        return traced(
-            case,
+        let lowest = objective(
+            roled,
             &guide.course,
             &guide.effects,
             labels,
             stack,
             &mut guide.paths,
-        );
+        )?;
+        let Some(aim) = lowest else {
+            return Ok(None);
+        };
+        return Ok(trace_from(roled, &guide.course, labels, aim));
     }
     guide.wants.clear();
-    guide.want_objectives(case, labels, stack)?;
-    guide.trace_back(case, labels)
+    guide.want_objectives(roled, labels, stack)?;
+    guide.trace_back(roled, labels)
 }

@@ -8,14 +8,14 @@ ghost use Rattle.std.specs.Prelude.{ℕ, ◌≤◌, [], IfOk, OnOk};
 ghost use Rattle.head_lines.specs.HeadLines.{IsPlace};
 ghost use Rattle.head_lines.specs.Justified.{IsMetAt};
 ghost use Rattle.head_lines.specs.Rooms.{IsReusableWantRoom};
-ghost use Rattle.fan.specs.inner.Searching.{IsCase, IsAt, IsGoing, IsSideClosed, IsSideOpen, IsStepped, IsChosen, IsForcedSeen, IsReady, IsAnswer, IsKept};
+ghost use Rattle.fan.specs.inner.Searching.{IsRoledCase, IsAt, IsGoing, IsSideClosed, IsSideOpen, IsStepped, IsChosen, IsForcedSeen, IsReady, IsAnswer, IsKept};
 
 use crate::aims::forced_aims;
-use crate::cases::Case;
+use crate::cases::RoledCase;
 use crate::choosing::choose;
 use crate::forcing::{Seen, find_forced};
 use crate::guides::{Guide, best_aim};
-use crate::standing::{go, look};
+use crate::standing::go;
 use decision_stack::{Step, close_both, closed_tree, one_if, push, tree_so_far};
 use head_lines::{WantRoom, justified_cube};
 use netlist::{Point, SignalId};
@@ -27,19 +27,19 @@ use testability::{Aim, Effects};
 /// A turn where this side is closed: goes to the other one.
 fn after_closed(
     alloc: Global,
-    case: &Case,
+    roled: &RoledCase,
     effects: &mut Effects,
     labels: &mut PairSim,
     stack: &mut Vec<Side>,
     signal: SignalId,
     bit: bool,
 ) -> Result<Step, AllocError>
-    requires case { IsCase case.now }
-    requires chosen { IsChosen case.now labels.old stack.old.items signal }
-    requires closed { IsSideClosed case.now stack.old.items signal bit }
-    ensures { IfOk result (IsStepped case.now stack.old.items labels.new stack.new.items) }
+    requires case { IsRoledCase roled.now }
+    requires chosen { IsChosen roled.now.case labels.old stack.old.items signal }
+    requires closed { IsSideClosed roled.now.case stack.old.items signal bit }
+    ensures { IfOk result (IsStepped roled.now.case stack.old.items labels.new stack.new.items) }
 {
-    match go(case, labels, stack, signal, !bit) {
+    match go(roled, labels, stack, signal, !bit) {
         State::Test(point) => Ok(Step::Found(point)),
         State::Blocked => close_both(alloc, effects, labels, stack, signal, bit),
         State::Going => push(stack, signal, !bit, Other::Shut),
@@ -48,19 +48,19 @@ fn after_closed(
 
 /// A turn where this side of a place may be gone on with: goes to the other one, and to this one where that is closed.
 fn after_going(
-    case: &Case,
+    roled: &RoledCase,
     labels: &mut PairSim,
     stack: &mut Vec<Side>,
     signal: SignalId,
     bit: bool,
 ) -> Result<Step, AllocError>
-    requires case { IsCase case.now }
-    requires chosen { IsChosen case.now labels.old stack.old.items signal }
-    requires place { IsPlace case.now.fault case.now.core.now case.now.holds.now signal }
-    requires going { IsSideOpen case.now stack.old.items signal bit }
-    ensures { IfOk result (IsStepped case.now stack.old.items labels.new stack.new.items) }
+    requires case { IsRoledCase roled.now }
+    requires chosen { IsChosen roled.now.case labels.old stack.old.items signal }
+    requires place { IsPlace roled.now.case.fault roled.now.case.core.now roled.now.case.holds.now signal }
+    requires going { IsSideOpen roled.now.case stack.old.items signal bit }
+    ensures { IfOk result (IsStepped roled.now.case stack.old.items labels.new stack.new.items) }
 {
-    match go(case, labels, stack, signal, !bit) {
+    match go(roled, labels, stack, signal, !bit) {
         State::Test(point) => Ok(Step::Found(point)),
         State::Blocked => {
             labels.assign(signal, bit);
@@ -73,45 +73,48 @@ fn after_going(
 /// A turn that splits on a place: the other side of a decision is looked at, and then its own side is gone to.
 fn split(
     alloc: Global,
-    case: &Case,
+    roled: &RoledCase,
     effects: &mut Effects,
     labels: &mut PairSim,
     stack: &mut Vec<Side>,
     wanted: &Option<Aim>,
 ) -> Result<Step, AllocError>
-    requires case { IsCase case.now }
-    requires at { IsAt case.now labels.old stack.old.items }
-    requires going { IsGoing case.now stack.old.items }
-    ensures { IfOk result (IsStepped case.now stack.old.items labels.new stack.new.items) }
+    requires case { IsRoledCase roled.now }
+    requires at { IsAt roled.now.case labels.old stack.old.items }
+    requires going { IsGoing roled.now.case stack.old.items }
+    ensures { IfOk result (IsStepped roled.now.case stack.old.items labels.new stack.new.items) }
 {
-    let aim = choose(case, labels, stack, wanted);
-    match look(case, labels, stack, aim.signal, !aim.bit) {
+    let aim = choose(roled, labels, stack, wanted);
+    match go(roled, labels, stack, aim.signal, !aim.bit) {
         State::Test(point) => Ok(Step::Found(point)),
-        State::Blocked => after_closed(alloc, case, effects, labels, stack, aim.signal, !aim.bit),
-        State::Going => after_going(case, labels, stack, aim.signal, !aim.bit),
+        State::Blocked => after_closed(alloc, roled, effects, labels, stack, aim.signal, !aim.bit),
+        State::Going => {
+            labels.undo();
+            after_going(roled, labels, stack, aim.signal, !aim.bit)
+        }
     }
 }
 
 /// A turn of the search: what is forced is decided, or else a place is split on.
 fn take_turn(
     alloc: Global,
-    case: &Case,
+    roled: &RoledCase,
     guide: &mut Guide,
     labels: &mut PairSim,
     stack: &mut Vec<Side>,
 ) -> Result<Step, AllocError>
-    requires case { IsCase case.now }
-    requires at { IsAt case.now labels.old stack.old.items }
-    requires going { IsGoing case.now stack.old.items }
-    ensures { IfOk result (IsStepped case.now stack.old.items labels.new stack.new.items) }
+    requires case { IsRoledCase roled.now }
+    requires at { IsAt roled.now.case labels.old stack.old.items }
+    requires going { IsGoing roled.now.case stack.old.items }
+    ensures { IfOk result (IsStepped roled.now.case stack.old.items labels.new stack.new.items) }
 {
-    guide.follow(case, labels)?;
-    let aims = forced_aims(alloc, case, &guide.effects, labels, stack)?;
-    match find_forced(case, labels, stack, &aims) {
+    guide.follow(roled, labels)?;
+    let aims = forced_aims(alloc, roled, &guide.effects, labels, stack)?;
+    match find_forced(roled, labels, stack, &aims) {
         Seen::Reached(point) => Ok(Step::Found(point)),
         Seen::ShutBeside(aim) => after_closed(
             alloc,
-            case,
+            roled,
             &mut guide.effects,
             labels,
             stack,
@@ -119,8 +122,8 @@ fn take_turn(
             !aim.bit,
         ),
         Seen::Nothing => {
-            let wanted = best_aim(case, guide, labels, stack)?;
-            split(alloc, case, &mut guide.effects, labels, stack, &wanted)
+            let wanted = best_aim(roled, guide, labels, stack)?;
+            split(alloc, roled, &mut guide.effects, labels, stack, &wanted)
         }
     }
 }
@@ -128,23 +131,23 @@ fn take_turn(
 /// The test at a path where the condition for one is met.
 fn test_at(
     alloc: Global,
-    case: &Case,
+    roled: &RoledCase,
     labels: &PairSim,
     point: Point,
     wants: &mut WantRoom,
 ) -> Result<Found, AllocError>
-    requires case { IsCase case.now }
-    requires met { IsMetAt case.now.fault case.now.core.now case.now.holds.now labels.now point }
-    requires wants { IsReusableWantRoom case.now.core.now wants.old }
-    ensures answer { (limit : ℕ) → IfOk result (IsAnswer case.now limit) }
-    ensures kept { OnOk result (IsKept case.now labels.now wants.new) }
+    requires case { IsRoledCase roled.now }
+    requires met { IsMetAt roled.now.case.fault roled.now.case.core.now roled.now.case.holds.now labels.now point }
+    requires wants { IsReusableWantRoom roled.now.case.core.now wants.old }
+    ensures answer { (limit : ℕ) → IfOk result (IsAnswer roled.now.case limit) }
+    ensures kept { OnOk result (IsKept roled.now.case labels.now wants.new) }
 {
     let cube = justified_cube(
         alloc,
-        case.core,
-        &case.fault,
-        case.holds,
-        case.roles,
+        roled.case.core,
+        &roled.case.fault,
+        roled.case.holds,
+        roled.roles,
         labels,
         &point,
         wants,
@@ -155,23 +158,23 @@ fn test_at(
 /// The search from the path without decisions, where it may go on.
 fn search_on(
     alloc: Global,
-    case: &Case,
+    roled: &RoledCase,
     guide: &mut Guide,
     labels: &mut PairSim,
     wants: &mut WantRoom,
     limit: u32,
 ) -> Result<Found, AllocError>
-    requires start { IsReady case.now labels.old wants.old }
-    requires case { IsCase case.now }
-    requires going { IsGoing case.now [] }
-    ensures answer { IfOk result (IsAnswer case.now limit) }
-    ensures kept { OnOk result (IsKept case.now labels.new wants.new) }
+    requires start { IsReady roled.now.case labels.old wants.old }
+    requires case { IsRoledCase roled.now }
+    requires going { IsGoing roled.now.case [] }
+    ensures answer { IfOk result (IsAnswer roled.now.case limit) }
+    ensures kept { OnOk result (IsKept roled.now.case labels.new wants.new) }
 {
     let mut stack = Vec::new(alloc);
     let mut closed: u32 = 0;
     while closed < limit {
-        match take_turn(alloc, case, guide, labels, &mut stack)? {
-            Step::Found(point) => return test_at(alloc, case, labels, point, wants),
+        match take_turn(alloc, roled, guide, labels, &mut stack)? {
+            Step::Found(point) => return test_at(alloc, roled, labels, point, wants),
             Step::Done(nodes) => return Ok(Found::Closed(Tree::new(nodes))),
             Step::On(more) => closed += one_if(more),
         }
@@ -184,28 +187,28 @@ fn search_on(
 #[tactic(auto, using(crate::proofs::Steps::kept_before))]
 pub(crate) fn search_from(
     alloc: Global,
-    case: &Case,
+    roled: &RoledCase,
     guide: &mut Guide,
     labels: &mut PairSim,
     wants: &mut WantRoom,
     limit: u32,
 ) -> Result<Found, AllocError>
-    requires start { IsReady case.now labels.old wants.old }
-    requires case { IsCase case.now }
+    requires start { IsReady roled.now.case labels.old wants.old }
+    requires case { IsRoledCase roled.now }
     requires some { 1 ≤ limit }
-    ensures answer { IfOk result (IsAnswer case.now limit) }
-    ensures kept { OnOk result (IsKept case.now labels.new wants.new) }
+    ensures answer { IfOk result (IsAnswer roled.now.case limit) }
+    ensures kept { OnOk result (IsKept roled.now.case labels.new wants.new) }
 {
-    case.core.netlist().sound();
+    roled.case.core.netlist().sound();
     match labels.state() {
-        State::Test(point) => test_at(alloc, case, labels, point, wants),
+        State::Test(point) => test_at(alloc, roled, labels, point, wants),
         State::Blocked => {
             let tree = closed_tree(alloc)?;
             Ok(Found::Closed(Tree::new(tree)))
         }
         State::Going => {
             guide.begin();
-            search_on(alloc, case, guide, labels, wants, limit)
+            search_on(alloc, roled, guide, labels, wants, limit)
         }
     }
 }

@@ -3,7 +3,7 @@
 ghost use Rattle.std.specs.Prelude.{◌≡◌};
 ghost use Rattle.pair_sim.specs.Sims.{IsNotBlocked};
 
-use crate::cases::Case;
+use crate::cases::RoledCase;
 use crate::frontier::nearest;
 use crate::guides::{Stop, has_head};
 use crate::paths::Paths;
@@ -12,7 +12,7 @@ use pair_sim::PairSim;
 use redundancy_cert::Side;
 use std::alloc::AllocError;
 use testability::{
-    Aim, Effects, Measures, count_pins, driver, gate_of, hash_in, is_inverting, is_own_unknown,
+    Aim, Effects, Measures, count_pins, excitation, gate_of, hash_in, is_inverting, is_own_unknown,
     is_unknown, may_differ, place_of, readers, signal_count,
 };
 
@@ -127,16 +127,16 @@ fn is_lower(core: &Core, signal: SignalId, best: &Option<Aim>) -> bool {
 }
 
 /// The lowest decided gate that isn't justified.
-fn lowest_decided(case: &Case, labels: &PairSim, stack: &[Side]) -> Option<Aim>
-    requires same { labels.now.netlist ≡ case.now.core.now }
+fn lowest_decided(roled: &RoledCase, labels: &PairSim, stack: &[Side]) -> Option<Aim>
+    requires same { labels.now.netlist ≡ roled.now.case.core.now }
     requires not_blocked { IsNotBlocked labels.now }
 {
-    let core = case.core;
+    let core = roled.case.core;
     let mut best: Option<Aim> = None;
     for side in stack {
         let signal = side.signal;
         let is_open = gate_of(core, signal).is_some()
-            && !has_head(case.roles, signal)
+            && !has_head(roled.roles, signal)
             && is_own_unknown(core, labels, signal);
         if is_open && is_lower(core, signal, &best) {
             best = Some(Aim {
@@ -169,27 +169,23 @@ fn lowest_pin(core: &Core, measures: &Measures, labels: &PairSim, gate: SignalId
 
 /// The objective that is traced back: that the fault is excited; or else what is lowest in the order of evaluation of the decided gates that
 /// aren't justified and of the pins of the nearest gate of the D-frontier. What is low is decided by little, so it fails early.
-fn objective(
-    case: &Case,
+pub(crate) fn objective(
+    roled: &RoledCase,
     course: &Course,
     effects: &Effects,
     labels: &PairSim,
     stack: &[Side],
     paths: &mut Paths,
 ) -> Result<Option<Aim>, AllocError>
-    requires same { labels.now.netlist ≡ case.now.core.now }
+    requires same { labels.now.netlist ≡ roled.now.case.core.now }
     requires not_blocked { IsNotBlocked labels.now }
 {
-    let core = case.core;
-    let site = driver(core, &case.fault.line);
-    if is_unknown(core, labels, site) {
-        return Ok(Some(Aim {
-            signal: site,
-            bit: !case.fault.value,
-        }));
+    let core = roled.case.core;
+    if let Some(aim) = excitation(core, &roled.case.fault, labels) {
+        return Ok(Some(aim));
     }
-    let decided = lowest_decided(case, labels, stack);
-    if let Some(gate) = nearest(case, course.measures, effects, labels, paths)? {
+    let decided = lowest_decided(roled, labels, stack);
+    if let Some(gate) = nearest(&roled.case, course.measures, effects, labels, paths)? {
         if let Some(pin) = lowest_pin(core, course.measures, labels, gate) {
             if is_lower(core, pin.signal, &decided) {
                 return Ok(Some(pin));
@@ -203,46 +199,33 @@ fn objective(
 }
 
 /// Whether the backtrace ends at a signal: at a head line, an input or a cell, and at the first fanout stem where it is to.
-fn ends(case: &Case, labels: &PairSim, id: SignalId, stop: Stop) -> bool
-    requires same { labels.now.netlist ≡ case.now.core.now }
+fn ends(roled: &RoledCase, labels: &PairSim, id: SignalId, stop: Stop) -> bool
+    requires same { labels.now.netlist ≡ roled.now.case.core.now }
     requires not_blocked { IsNotBlocked labels.now }
 {
-    let core = case.core;
-    if has_head(case.roles, id) || gate_of(core, id).is_none() {
+    let core = roled.case.core;
+    if has_head(roled.roles, id) || gate_of(core, id).is_none() {
         return true;
     }
     matches!(stop, Stop::Stems) && readers(core, id).len() >= 2 && !may_differ(core, labels, id)
 }
 
 /// Where an objective leads.
-fn trace_from(case: &Case, course: &Course, labels: &PairSim, objective: Aim) -> Option<Aim>
-    requires same { labels.now.netlist ≡ case.now.core.now }
+pub(crate) fn trace_from(
+    roled: &RoledCase,
+    course: &Course,
+    labels: &PairSim,
+    objective: Aim,
+) -> Option<Aim>
+    requires same { labels.now.netlist ≡ roled.now.case.core.now }
     requires not_blocked { IsNotBlocked labels.now }
 {
     let mut aim = objective;
-    for _step in 0..signal_count(case.core) {
-        if ends(case, labels, aim.signal, course.stop) {
+    for _step in 0..signal_count(roled.case.core) {
+        if ends(roled, labels, aim.signal, course.stop) {
             return Some(aim);
         }
-        aim = into_gate(case.core, course, labels, aim)?;
+        aim = into_gate(roled.case.core, course, labels, aim)?;
     }
     None
-}
-
-/// Where the lowest objective leads.
-pub(crate) fn traced(
-    case: &Case,
-    course: &Course,
-    effects: &Effects,
-    labels: &PairSim,
-    stack: &[Side],
-    paths: &mut Paths,
-) -> Result<Option<Aim>, AllocError>
-    requires same { labels.now.netlist ≡ case.now.core.now }
-    requires not_blocked { IsNotBlocked labels.now }
-{
-    match objective(case, course, effects, labels, stack, paths)? {
-        None => Ok(None),
-        Some(aim) => Ok(trace_from(case, course, labels, aim)),
-    }
 }

@@ -1,6 +1,7 @@
 -- Where two known values at a point differ, every pattern with the decided bits tells the fault there.
-use Rattle.std.proofs.Common.{◌≡◌, ℕ, zero, suc, ◌<◌, Bool, true, false, List, [], ◌∷◌, map, length, get_or, Option, Some, None, refl, sym, ◌∙◌, ap, subst, inl, inr, arith}
-use Rattle.std.specs.List.{All, Contains, slice_get}
+use Rattle.std.proofs.Common.{◌≡◌, ℕ, ◌<◌, Bool, true, false, List, [], ◌∷◌, map, length, get_or, Option, Some, None, refl, sym, ◌∙◌, ap, subst, inl, inr, arith}
+use Rattle.std.specs.List.{All, Contains}
+use Rattle.std.proofs.lemmas.Option.{slice_get_within, get_or_from_slice_get, slice_get-get_or}
 use Rattle.std.proofs.lemmas.List.{length-map, length-append, get_or-map, get_or_append_left}
 use Rattle.std.proofs.lemmas.List.Elements.{All-contains, All-map, All-append}
 use Rattle.netlist.specs.declared.kinds.Tri.TheVariants.{X}
@@ -14,7 +15,7 @@ use Rattle.netlist.specs.Settled.{Settles, bits, outs, next}
 use Rattle.netlist.proofs.SomeSettled.{some_settled}
 use Rattle.netlist.specs.ThreeValues.{known, allows}
 use Rattle.tri.specs.Labels.{good_of, held_value, labels, Follows, AreAbove}
-use Rattle.netlist.specs.Detection.{Detects}
+use Rattle.netlist.specs.Detection.{observed, Detects}
 use Rattle.tri.specs.Paths.{Path, decisions, IsTestPath}
 use Rattle.tri.proofs.LabelLemmas.{outs_above, next_above}
 use Rattle.cubes.specs.Cubes.{Pattern, AgreesWith, IsPatternOf, IsCubeOf}
@@ -25,16 +26,6 @@ use Rattle.podem.specs.Sources.{all_sources, sources, held, value_of, cube_of}
 use Rattle.podem.proofs.Owns.{source_cases, cell_behind, any_source}
 
 -- ---- the cube of a path
-
-get_there : {A : Type 0} (xs : List A) (k : ℕ) (v : A) → slice_get xs k ≡ Some v → (k < length xs) × ((d : A) → get_or xs k d ≡ v)
-get_there [] k v e = absurd cc
-get_there (x ∷ xs) zero v e = (omega arith, λ d. cc)
-get_there (x ∷ xs) (suc k) v e = let h = get_there xs k v e in (let l = h.0 in omega arith, h.1)
-
-there_get : {A : Type 0} (xs : List A) (k : ℕ) (d : A) → k < length xs → slice_get xs k ≡ Some (get_or xs k d)
-there_get [] k d l = absurd (omega arith)
-there_get (x ∷ xs) zero d l = refl
-there_get (x ∷ xs) (suc k) d l = there_get xs k d (omega arith)
 
 module _ (n : Netlist) (holds : Holds) (fit : AreHoldsOf n holds) (sound : IsSound n) (path : Path) (only : (x : ℕ) (b : Bool) → decisions path x ≡ Some b → Contains (sources n holds) x) where
   input_at : (k : ℕ) → k < length n.inputs → get_or n.inputs k 0 ≡ k
@@ -58,12 +49,12 @@ module _ (n : Netlist) (holds : Holds) (fit : AreHoldsOf n holds) (sound : IsSou
     inputs = length-map n.inputs (value_of holds path);
     cells = length-map (cells n) (λ (d : Definition). value_of holds path d.id);
     held = λ k b at.
-        let w = get_there holds k (Some b) at in
-        let l : k < length n.inputs = (let z = w.0 in let e = fit in omega arith) in
+        let is_held = get_or_from_slice_get holds k (Some b) None at in
+        let l : k < length n.inputs = (let z = slice_get_within holds k (Some b) at in let e = fit in omega arith) in
         let m : k < length (map (value_of holds path) n.inputs) = (let e = length-map n.inputs (value_of holds path) in omega arith) in
         let value : value_of holds path k ≡ known b =
-        ap (λ o. good_of o (held_value (held holds k))) (held_undecided k b (w.1 None) l) ∙ ap held_value (w.1 None) in
-        there_get (map (value_of holds path) n.inputs) k X m
+        ap (λ o. good_of o (held_value (held holds k))) (held_undecided k b is_held l) ∙ ap held_value is_held in
+        slice_get-get_or (map (value_of holds path) n.inputs) k X m
         ∙ ap Some (get_or-map (value_of holds path) n.inputs k 0 X l ∙ (ap (value_of holds path) (input_at k l) ∙ value));
   }
 
@@ -94,28 +85,15 @@ module _ (f : Fault) (n : Netlist) (holds : Holds) (fit : AreHoldsOf n holds) (s
     next_are : AreAbove (next (labels (Some f) (decisions path)) n t.label) (next (bits None) n good.0) (next (bits (Some f)) n faulty.0)
     next_are = next_above f (decisions path) n t.label good.0 faulty.0 holds p.inputs p.cells sound t.are good.1 faulty.1 pattern_is.obeys (follows good.0 good.1)
 
+    detected_if : (observed (bits None) n good.0 point ≡ observed (bits (Some f)) n faulty.0 point → ⊥) → Detects n f p.inputs p.cells point
+    detected_if differs = record { good = good.0; faulty = faulty.0; good_settles = good.1; faulty_settles = faulty.1; differs = differs }
+
 detected : (f : Fault) (n : Netlist) (holds : Holds) (fit : AreHoldsOf n holds) (sound : IsSound n) (path : Path) (only : (x : ℕ) (b : Bool) → decisions path x ≡ Some b → Contains (sources n holds) x)
     (p : Pattern) (agrees : AgreesWith p (cube_of n holds path)) (point : Point) → IsTestPath f n holds path point → Detects n f p.inputs p.cells point
 detected f n holds fit sound path only p agrees (Output k) t =
-    let a = good f n holds fit sound path only p agrees (Output k) t in
-    let b = faulty f n holds fit sound path only p agrees (Output k) t in
-    record {
-      good = a.0;
-      faulty = b.0;
-      good_settles = a.1;
-      faulty_settles = b.1;
-      differs = differ_there (outs (labels (Some f) (decisions path)) n t.label) (outs (bits None) n a.0) (outs (bits (Some f)) n b.0) k (outs_are f n holds fit sound path only p agrees (Output k) t) t.first;
-    }
+    detected_if f n holds fit sound path only p agrees (Output k) t (differ_there _ _ _ k (outs_are f n holds fit sound path only p agrees (Output k) t) t.first)
 detected f n holds fit sound path only p agrees (Cell k) t =
-    let a = good f n holds fit sound path only p agrees (Cell k) t in
-    let b = faulty f n holds fit sound path only p agrees (Cell k) t in
-    record {
-      good = a.0;
-      faulty = b.0;
-      good_settles = a.1;
-      faulty_settles = b.1;
-      differs = differ_there (next (labels (Some f) (decisions path)) n t.label) (next (bits None) n a.0) (next (bits (Some f)) n b.0) k (next_are f n holds fit sound path only p agrees (Cell k) t) t.first.1;
-    }
+    detected_if f n holds fit sound path only p agrees (Cell k) t (differ_there _ _ _ k (next_are f n holds fit sound path only p agrees (Cell k) t) t.first.1)
 
 pub test_cube : (f : Fault) (n : Netlist) (holds : Holds) → AreHoldsOf n holds → IsSound n → (path : Path) → ((x : ℕ) (b : Bool) → decisions path x ≡ Some b → Contains (sources n holds) x)
     → (point : Point) → IsTestPath f n holds path point → IsTestCube f n holds (cube_of n holds path) point

@@ -1,13 +1,10 @@
 //! The engine: up to four attempts, each a whole search, of which the last alone may give up. They differ in the pin that the backtrace goes to, so
 //! what one misses another may find; a fault that is redundant mostly stays so dear to all of them.
-ghost use Rattle.std.specs.Prelude.{◌≡◌, ◌≤◌, [], None, IfOk, IfSome, OnOk};
+ghost use Rattle.std.specs.Prelude.{◌≡◌, ◌≤◌, None, IfOk, IfSome, OnOk};
 ghost use Rattle.netlist.specs.Holds.{AreHoldsOf};
-ghost use Rattle.pair_sim.specs.Sims.{sim};
-ghost use Rattle.decision_stack.specs.Cases.{IsCase, start};
-ghost use Rattle.decision_stack.specs.Turns.{IsOfCase};
 ghost use Rattle.redundancy_cert.specs.Evidence.{HasEvidence};
 ghost use Rattle.podem.specs.Sources.{HasSourceEvidence};
-ghost use Rattle.podem.specs.inner.Searching.{IsAnswer, IsKept};
+ghost use Rattle.podem.specs.inner.Searching.{IsReady, IsAnswer, IsKept};
 
 use crate::guides::{Guide, Pick};
 use crate::searching::search_from;
@@ -41,21 +38,19 @@ const ROUNDS: u32 = 2;
 fn short_attempt(
     alloc: Global,
     case: &Case,
-    guide: &Guide,
-    effects: &mut Effects,
+    guide: &mut Guide,
     labels: &mut PairSim,
     limit: u32,
 ) -> Result<Option<Found>, AllocError>
-    requires case { IsCase case.now }
-    requires begins { labels.old ≡ start case.now }
+    requires start { IsReady case.now labels.old }
     ensures answer { IfOk result (λ o. IfSome o (IsAnswer case.now limit)) }
     ensures kept { OnOk result (IsKept case.now labels.new) }
-    ensures back { IfOk result (λ o. o ≡ None → labels.new ≡ start case.now) }
+    ensures back { IfOk result (λ o. o ≡ None → IsReady case.now labels.new) }
 {
     if limit <= FEW {
         return Ok(None);
     }
-    match search_from(alloc, case, guide, effects, labels, FEW)? {
+    match search_from(alloc, case, guide, labels, FEW)? {
         Found::Test(cube, point) => Ok(Some(Found::Test(cube, point))),
         Found::Closed(tree) => Ok(Some(Found::Closed(tree))),
         Found::Partial(_) => {
@@ -66,27 +61,24 @@ fn short_attempt(
 }
 
 /// The attempts, one after the other.
-fn each_attempt(
+fn attempts(
     alloc: Global,
     case: &Case,
-    measures: &Measures,
-    effects: &mut Effects,
+    guide: &mut Guide,
     labels: &mut PairSim,
     limit: u32,
 ) -> Result<Found, AllocError>
-    requires case { IsCase case.now }
-    requires begins { labels.old ≡ start case.now }
+    requires start { IsReady case.now labels.old }
     requires some { 1 ≤ limit }
     ensures answer { IfOk result (IsAnswer case.now limit) }
     ensures kept { OnOk result (IsKept case.now labels.new) }
 {
-    let needed = Guide::new(measures, &case.fault, Pick::Needed);
-    if let Some(found) = short_attempt(alloc, case, &needed, effects, labels, limit)? {
+    if let Some(found) = short_attempt(alloc, case, guide, labels, limit)? {
         return Ok(found);
     }
     for round in 0..ROUNDS {
-        let any = Guide::new(measures, &case.fault, Pick::Any(round));
-        if let Some(found) = short_attempt(alloc, case, &any, effects, labels, limit)? {
+        guide.go_to(Pick::Any(round));
+        if let Some(found) = short_attempt(alloc, case, guide, labels, limit)? {
             return Ok(found);
         }
     }
@@ -95,45 +87,15 @@ fn each_attempt(
     } else {
         Pick::Lowest
     };
-    let guide = Guide::new(measures, &case.fault, last);
-    search_from(alloc, case, &guide, effects, labels, limit)
-}
-
-/// The attempts in labels of the path without decisions: from here on what stays the same in them is one value.
-fn attempts(
-    alloc: Global,
-    core: &Core,
-    measures: &Measures,
-    fault: &Fault,
-    holds: &Holds,
-    effects: &mut Effects,
-    labels: &mut PairSim,
-    limit: u32,
-) -> Result<Found, AllocError>
-    requires start { labels.old ≡ sim core.now fault.now holds.now [] }
-    requires some { 1 ≤ limit }
-    requires fit { AreHoldsOf core.now holds.now }
-    ensures evidence { IfOk result (HasEvidence fault.now core.now holds.now limit) }
-    ensures sources { IfOk result (HasSourceEvidence fault.now core.now holds.now limit) }
-    ensures kept { OnOk result (IsOfCase fault.now core.now holds.now labels.new) }
-{
-    core.netlist().sound();
-    let case = Case {
-        core,
-        fault: *fault,
-        holds,
-    };
-    let found = each_attempt(alloc, &case, measures, effects, labels, limit)?;
-    Ok(found)
+    guide.go_to(last);
+    search_from(alloc, case, guide, labels, limit)
 }
 
 impl Podem {
     /// The search with the measures of a netlist. For another one its answers are right too, but it may be slow.
     pub fn of(alloc: Global, core: &Core) -> Result<Podem, NoMemory> {
-        match Measures::of(alloc, core) {
-            Ok(measures) => Ok(Podem { measures }),
-            Err(_) => Err(NoMemory),
-        }
+        let measures = Measures::of(alloc, core)?;
+        Ok(Podem { measures })
     }
 
     /// A test of the fault, a tree that shows it redundant, or a tree with as many Closed as the backtrack limit.
@@ -152,21 +114,12 @@ impl Podem {
         // Only inputs that aren't held and cells are decided: no Partial for a backtrack limit of 2 to their number, and no Open where there is a test.
         ensures sources { IfOk result (HasSourceEvidence fault core.now holds.now limit) }
     {
-        let Ok(mut labels) = PairSim::new(alloc, core, fault, holds) else {
-            return Err(NoMemory);
-        };
-        let mut effects = Effects::new(alloc);
-        attempts(
-            alloc,
-            core,
-            &self.measures,
-            &fault,
-            holds,
-            &mut effects,
-            &mut labels,
-            limit,
-        )
-        .map_err(|_| NoMemory)
+        let mut labels = PairSim::new(alloc, core, fault, holds)?;
+        let mut guide = Guide::of(&self.measures, &fault, Effects::new(alloc));
+        core.netlist().sound();
+        let case = Case { core, fault, holds };
+        let found = attempts(alloc, &case, &mut guide, &mut labels, limit)?;
+        Ok(found)
     }
 }
 
@@ -204,25 +157,14 @@ impl Engine for Podem {
         holds: &Holds,
     ) -> Result<(Found, PodemRoom), NoMemory> {
         let mut labels = PairSim::in_room(room.labels, core, fault, holds);
-        let mut effects = room.effects;
-        match attempts(
-            alloc,
-            core,
-            &self.measures,
-            &fault,
-            holds,
-            &mut effects,
-            &mut labels,
-            limit,
-        ) {
-            Ok(found) => Ok((
-                found,
-                PodemRoom {
-                    labels: labels.into_room(),
-                    effects,
-                },
-            )),
-            Err(_) => Err(NoMemory),
-        }
+        let mut guide = Guide::of(&self.measures, &fault, room.effects);
+        core.netlist().sound();
+        let case = Case { core, fault, holds };
+        let found = attempts(alloc, &case, &mut guide, &mut labels, limit)?;
+        let room = PodemRoom {
+            labels: labels.into_room(),
+            effects: guide.effects,
+        };
+        Ok((found, room))
     }
 }

@@ -6,7 +6,7 @@ use decision_stack::Case;
 use netlist::{Core, Fault, Kind, Line, SignalId};
 use pair_sim::PairSim;
 use testability::{
-    Aim, Effects, Measures, count_pins, driver, gate_of, hash_in, is_unknown, may_get_effect,
+    Aim, Effects, Measures, count_pins, excitation, gate_of, hash_in, is_unknown, may_get_effect,
     mixed, place_of, readers, salt_of, signal_count,
 };
 
@@ -29,21 +29,30 @@ pub(crate) enum Pick {
     Lowest,
 }
 
-/// What guides the search for one fault: what bits cost, what is wanted where both cost alike, and which pin the backtrace goes to.
-#[derive(Clone, Copy)]
+/// What guides the search for one fault: what bits cost, what is wanted where both cost alike, which pin the backtrace goes to, and the signals
+/// with an effect.
+#[derive(Drop)]
 pub(crate) struct Guide<'a> {
     measures: &'a Measures,
     salt: u64,
     pick: Pick,
+    pub(crate) effects: Effects,
 }
 
 impl<'a> Guide<'a> {
-    pub(crate) fn new(measures: &'a Measures, fault: &Fault, pick: Pick) -> Guide<'a> {
+    /// With room for effects, whatever it held.
+    pub(crate) fn of(measures: &'a Measures, fault: &Fault, effects: Effects) -> Guide<'a> {
         Guide {
             measures,
             salt: salt_of(fault),
-            pick,
+            pick: Pick::Needed,
+            effects,
         }
+    }
+
+    /// From here on the backtrace goes to these pins.
+    pub(crate) fn go_to(&mut self, pick: Pick) {
+        self.pick = pick;
     }
 
     fn cost(&self, signal: SignalId, bit: bool) -> u32 {
@@ -238,7 +247,7 @@ fn consider_readers(
 }
 
 /// The best gate of the D-frontier: those that read a signal with an effect, whose own label may still get one.
-fn frontier(case: &Case, guide: &Guide, effects: &Effects, labels: &PairSim) -> Option<Front>
+fn frontier(case: &Case, guide: &Guide, labels: &PairSim) -> Option<Front>
     requires same { labels.now.netlist ≡ case.now.core.now }
     requires not_blocked { IsNotBlocked labels.now }
 {
@@ -247,8 +256,8 @@ fn frontier(case: &Case, guide: &Guide, effects: &Effects, labels: &PairSim) -> 
     if let Line::Pin(gate, _) = &case.fault.line {
         best = consider(core, guide, labels, *gate, best);
     }
-    for number in 0..effects.len() {
-        if let Some(signal) = effects.signal(number) {
+    for number in 0..guide.effects.len() {
+        if let Some(signal) = guide.effects.signal(number) {
             best = consider_readers(core, guide, labels, signal, best);
         }
     }
@@ -256,30 +265,21 @@ fn frontier(case: &Case, guide: &Guide, effects: &Effects, labels: &PairSim) -> 
 }
 
 /// The objective: the fault is excited, and then the gate of the D-frontier that is nearest to the observed points lets its effect through.
-fn objective(case: &Case, guide: &Guide, effects: &Effects, labels: &PairSim) -> Option<Aim>
+fn objective(case: &Case, guide: &Guide, labels: &PairSim) -> Option<Aim>
     requires same { labels.now.netlist ≡ case.now.core.now }
     requires not_blocked { IsNotBlocked labels.now }
 {
-    let site = driver(case.core, &case.fault.line);
-    if is_unknown(case.core, labels, site) {
-        return Some(Aim {
-            signal: site,
-            bit: !case.fault.value,
-        });
+    if let Some(aim) = excitation(case.core, &case.fault, labels) {
+        return Some(aim);
     }
-    Some(frontier(case, guide, effects, labels)?.aim)
+    Some(frontier(case, guide, labels)?.aim)
 }
 
 /// What to decide, if the labels tell.
-pub(crate) fn best_aim(
-    case: &Case,
-    guide: &Guide,
-    effects: &Effects,
-    labels: &PairSim,
-) -> Option<Aim>
+pub(crate) fn best_aim(case: &Case, guide: &Guide, labels: &PairSim) -> Option<Aim>
     requires same { labels.now.netlist ≡ case.now.core.now }
     requires not_blocked { IsNotBlocked labels.now }
 {
-    let start = objective(case, guide, effects, labels)?;
+    let start = objective(case, guide, labels)?;
     Some(trace_back(case.core, guide, labels, &start))
 }

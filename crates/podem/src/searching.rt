@@ -11,11 +11,11 @@ ghost use Rattle.std.specs.Prelude.{◌≡◌, ◌≤◌, ◌<◌, [], ◌∷◌
 ghost use Rattle.std.specs.List.{All, Contains};
 ghost use Rattle.netlist.specs.declared.kinds.Tri.TheVariants.{X};
 ghost use Rattle.netlist.specs.Netlist.{signals};
-ghost use Rattle.decision_stack.specs.Cases.{IsCase, start};
+ghost use Rattle.decision_stack.specs.Cases.{IsCase};
 ghost use Rattle.pair_sim.specs.Sims.{HasGood, IsFree};
 ghost use Rattle.redundancy_cert.specs.Evidence.{IsTestCube};
 ghost use Rattle.podem.specs.Sources.{all_sources, value_of};
-ghost use Rattle.podem.specs.inner.Searching.{MayGoOn, IsFreeSource, IsChosen, IsClosedSide, IsGoingSide, IsSeen, IsGone, IsKnownAt, IsTestAt, IsStepped, IsAnswer, IsKept};
+ghost use Rattle.podem.specs.inner.Searching.{MayGoOn, IsFreeSource, IsChosen, IsClosedSide, IsGoingSide, IsSeen, IsGone, IsKnownAt, IsTestAt, IsStepped, IsReady, IsAnswer, IsKept};
 
 use crate::guides::{Guide, best_aim};
 use cubes::Cube;
@@ -112,17 +112,11 @@ fn wanted_source(core: &Core, labels: &PairSim, wanted: SignalId) -> Option<Sign
 }
 
 /// The source to which the objective leads back.
-fn guided(
-    case: &Case,
-    guide: &Guide,
-    effects: &Effects,
-    labels: &PairSim,
-    stack: &Vec<Side>,
-) -> Option<Aim>
+fn guided(case: &Case, guide: &Guide, labels: &PairSim, stack: &Vec<Side>) -> Option<Aim>
     requires { MayGoOn case.now labels.now stack.now.items }
     ensures { IfSome result (λ a. IsFreeSource case.now stack.now.items a.signal) }
 {
-    let aim = best_aim(case, guide, effects, labels)?;
+    let aim = best_aim(case, guide, labels)?;
     let signal = wanted_source(case.core, labels, aim.signal)?;
     Some(Aim {
         signal,
@@ -131,11 +125,11 @@ fn guided(
 }
 
 /// What to decide next.
-fn choose(case: &Case, guide: &Guide, effects: &Effects, labels: &PairSim, stack: &Vec<Side>) -> Aim
+fn choose(case: &Case, guide: &Guide, labels: &PairSim, stack: &Vec<Side>) -> Aim
     requires { MayGoOn case.now labels.now stack.now.items }
     ensures { IsFreeSource case.now stack.now.items result.signal }
 {
-    match guided(case, guide, effects, labels, stack) {
+    match guided(case, guide, labels, stack) {
         Some(aim) => aim,
         None => Aim {
             signal: any_free(case, labels, stack),
@@ -189,23 +183,22 @@ fn after_going(
 fn take_turn(
     alloc: Global,
     case: &Case,
-    guide: &Guide,
-    effects: &mut Effects,
+    guide: &mut Guide,
     labels: &mut PairSim,
     stack: &mut Vec<Side>,
 ) -> Result<Step, AllocError>
     requires { MayGoOn case.now labels.old stack.old.items }
     ensures { IfOk result (IsStepped case.now stack.old.items labels.new stack.new.items) }
 {
-    effects.follow(case.core, &case.fault, labels)?;
-    let aim = choose(case, guide, effects, labels, stack);
+    guide.effects.follow(case.core, &case.fault, labels)?;
+    let aim = choose(case, guide, labels, stack);
     let other = Aim {
         signal: aim.signal,
         bit: !aim.bit,
     };
     match look(labels, other.signal, other.bit) {
         State::Test(point) => Ok(Step::Found(point)),
-        State::Blocked => after_closed(alloc, case, effects, labels, stack, other),
+        State::Blocked => after_closed(alloc, case, &mut guide.effects, labels, stack, other),
         State::Going => after_going(case, labels, stack, other),
     }
 }
@@ -250,8 +243,7 @@ fn cube_there(
 fn search_on(
     alloc: Global,
     case: &Case,
-    guide: &Guide,
-    effects: &mut Effects,
+    guide: &mut Guide,
     labels: &mut PairSim,
     limit: u32,
 ) -> Result<Found, AllocError>
@@ -262,7 +254,7 @@ fn search_on(
     let mut stack = Vec::new(alloc);
     let mut closed: u32 = 0;
     while closed < limit {
-        match take_turn(alloc, case, guide, effects, labels, &mut stack)? {
+        match take_turn(alloc, case, guide, labels, &mut stack)? {
             Step::Found(point) => {
                 let cube = cube_there(alloc, case, labels, &point)?;
                 return Ok(Found::Test(cube, point));
@@ -279,13 +271,11 @@ fn search_on(
 pub(crate) fn search_from(
     alloc: Global,
     case: &Case,
-    guide: &Guide,
-    effects: &mut Effects,
+    guide: &mut Guide,
     labels: &mut PairSim,
     limit: u32,
 ) -> Result<Found, AllocError>
-    requires case { IsCase case.now }
-    requires begins { labels.old ≡ start case.now }
+    requires start { IsReady case.now labels.old }
     requires some { 1 ≤ limit }
     ensures answer { IfOk result (IsAnswer case.now limit) }
     ensures kept { OnOk result (IsKept case.now labels.new) }
@@ -300,8 +290,8 @@ pub(crate) fn search_from(
             Ok(Found::Closed(Tree::new(tree)))
         }
         State::Going => {
-            effects.begin();
-            search_on(alloc, case, guide, effects, labels, limit)
+            guide.effects.begin();
+            search_on(alloc, case, guide, labels, limit)
         }
     }
 }

@@ -16,6 +16,6 @@ pub use effects::Effects;
 pub use measures::Measures;
 pub use salts::{hash_in, mixed, salt_of};
 pub use views::{
-    Aim, count_pins, driver, gate_of, good, has_effect, is_inverting, is_own_unknown, is_unknown,
-    may_differ, may_get_effect, place_of, readers, signal_count,
+    Aim, count_pins, excitation, gate_of, good, has_effect, is_inverting, is_own_unknown,
+    is_unknown, may_differ, may_get_effect, place_of, readers, signal_count,
 };

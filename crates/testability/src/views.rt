@@ -4,7 +4,7 @@ ghost use Rattle.std.specs.List.{Contains};
 ghost use Rattle.netlist.specs.Netlist.{signals};
 ghost use Rattle.pair_sim.specs.Sims.{IsNotBlocked};
 
-use netlist::{Core, Kind, Line, SignalId, Tri};
+use netlist::{Core, Fault, Kind, Line, SignalId, Tri};
 use pair_sim::PairSim;
 
 /// A signal, and the bit that it should have.
@@ -84,7 +84,7 @@ pub fn gate_of(core: &Core, signal: SignalId) -> Option<(Kind, &[SignalId])> {
 }
 
 /// The signal that comes onto a line.
-pub fn driver(core: &Core, line: &Line) -> SignalId {
+fn driver(core: &Core, line: &Line) -> SignalId {
     match line {
         Line::Stem(x) => *x,
         Line::Out(x) => *x,
@@ -98,6 +98,20 @@ pub fn driver(core: &Core, line: &Line) -> SignalId {
             }
         }
     }
+}
+
+/// What excites the fault, while the value on its line isn't known.
+pub fn excitation(core: &Core, fault: &Fault, labels: &PairSim) -> Option<Aim>
+    requires { labels.now.netlist ≡ core.now }
+{
+    let signal = driver(core, &fault.line);
+    if !is_unknown(core, labels, signal) {
+        return None;
+    }
+    Some(Aim {
+        signal,
+        bit: !fault.value,
+    })
 }
 
 /// The lines that read a signal.

@@ -14,7 +14,7 @@ use Rattle.redundancy_cert.specs.Stacks.{path_of_stack, closed_around}
 use Rattle.decision_stack.specs.declared.cases.Case.{Case}
 use Rattle.pair_sim.specs.declared.states.State.{State}
 use Rattle.pair_sim.specs.declared.states.State.TheVariants.{Test, Blocked, Going}
-use Rattle.decision_stack.specs.Cases.{IsCase, sim_of}
+use Rattle.decision_stack.specs.Cases.{IsCase, sim_of, start}
 use Rattle.pair_sim.specs.Sims.{Sim, assigned, HasGood}
 use Rattle.decision_stack.specs.declared.turns.Step.{Step}
 use Rattle.decision_stack.specs.Standing.{StandsAt}
@@ -77,6 +77,11 @@ pub record IsTestAt (c : Case) (s : Sim) (point : Point) : Type 0 where
 -- after a turn
 abbrev pub IsStepped : Case → List Side → Sim → List Side → Step → Type 0
 IsStepped c old s new step = IsSearchStep (PlaceInSources c.fault c.core.now c.holds.now) (IsTestAt c) c.fault c.core.now c.holds.now old (closed_around old) s new step
+
+-- labels before any decision of a case
+pub record IsReady (c : Case) (s : Sim) : Type 0 where
+  pub case : IsCase c
+  pub begins : s ≡ start c
 
 -- labels of the case, after some decisions
 abbrev pub IsKept : Case → Sim → Type 0

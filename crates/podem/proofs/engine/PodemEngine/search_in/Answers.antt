@@ -4,4 +4,4 @@ use Rattle.pair_sim.specs.Sims.{Sim}
 use Rattle.podem.proofs.engine.PodemEngine.search_in.Goals as goal
 
 pub into_room-requires : goal.into_room-requires
-into_room-requires c = subst (λ (s : Sim). IsLineOf s.netlist s.fault.line) (sym c.in-Ok.ensures.kept) c.requires.line
+into_room-requires c = subst (λ (s : Sim). IsLineOf s.netlist s.fault.line) (sym c.in_ok-found.ensures.kept) c.requires.line
