@@ -6,7 +6,6 @@ ghost use Rattle.netlist.specs.Lines.{signal_of};
 ghost use Rattle.netlist.specs.Netlist.{signals};
 ghost use Rattle.netlist.specs.declared.lines.Fault.{Fault as Stuck};
 ghost use Rattle.good_files.specs.ScanOff.{design_chains};
-ghost use Rattle.scan_insert.specs.Scanned.{insertion_of};
 ghost use Rattle.stil_vectors.specs.FileVectors.{vectors_in};
 ghost use Rattle.stil_vectors.specs.Fitting.{FitsNetlist};
 ghost use Rattle.commands.specs.Contents.{most_bytes};
@@ -17,17 +16,17 @@ ghost use Rattle.atpg_top.specs.ChainTests.{IsTold};
 ghost use Rattle.atpg_top.specs.Commands.{chaintest_due};
 ghost use Rattle.atpg_top.specs.inner.ChainTrials.{IsHardwareOf, IsOutput, IsTestText, ReadsChainTrial, test_due, text_due};
 
+use crate::design::scanned_of;
 use crate::reading::{fitting, netlist_of, stil_of};
 use crate::refusal::Refusal;
 use crate::told_lines::chain_test_text;
 use bench_text::Names;
-use chain_stitch::stitch;
 use chain_test::{chain_faults, first_wrong_fails, first_wrongs, flush_fails};
 use commands::{Ending, FileName, Finding, Product, Stop, Work, run_command};
 use fault_universe::{faults_have_signals, few_faults, universe};
 use netlist::{Core, Fault, Netlist, NoMemory};
 use outside::{Shelf, Sink};
-use scan_insert::{Scanned, insert};
+use scan_insert::Scanned;
 use std::alloc::Global;
 use stil_vectors::{cycle_count, fitting_cycles, vectors};
 use stil_write::StilFile;
@@ -59,17 +58,6 @@ fn trial_of(alloc: Global, net: &[u8], stil: &[u8]) -> Result<ChainTrial, Stop<R
         Ok(file) => Ok(ChainTrial { netlist, file }),
         Err(stop) => Err(stop),
     }
-}
-
-/// Puts scan cells into a design, in at most so many chains.
-fn scanned_of(alloc: Global, netlist: &Netlist, asked: u32) -> Result<Scanned, NoMemory>
-    requires design { IsDesign netlist.now }
-    requires some { 1 ≤ asked }
-    ensures { IfOk result (λ s. s ≡ insertion_of netlist.now (design_chains netlist.now asked)) }
-{
-    netlist.sound();
-    let chains = stitch(alloc, netlist.cells(), asked)?;
-    insert(alloc, netlist, &chains)
 }
 
 /// The scan hardware of a design.

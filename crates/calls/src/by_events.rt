@@ -8,7 +8,7 @@ ghost use Rattle.netlist.specs.declared.lines.Fault.{Fault as FaultOf};
 
 use crate::faults::all_faults;
 use case_nets::core_of;
-use case_text::push_number;
+use case_text::{Pushed, push_number};
 use events::{Events, Words};
 use netlist::{Core, Fault, Netlist};
 use rand_core::Rng;
@@ -106,7 +106,7 @@ pub fn push_changes(
     netlist: &Netlist,
     seed: u64,
     changes: u32,
-) -> Result<(), AllocError>
+) -> Pushed
     requires { IsDesign netlist.now }
 {
     let core = core_of(alloc, netlist)?;

@@ -8,14 +8,14 @@ ghost use Rattle.word_sim.specs.Words.{HasWidthsOf};
 
 use crate::faults::{all_faults, listed};
 use case_nets::{core_of, drawn, patterns_of};
-use case_text::{checksum, push_number};
+use case_text::{Pushed, checksum, push_number};
 use cubes::Pattern;
 use netlist::{Core, Fault, Netlist, Point};
 use rand_pcg::Pcg32;
 use std::alloc::{AllocError, Global};
 use word_sim::{Hit, hits, last_tells};
 
-fn push_found(to: &mut Vec<u8>, found: Option<(u32, Point)>) -> Result<(), AllocError> {
+fn push_found(to: &mut Vec<u8>, found: Option<(u32, Point)>) -> Pushed {
     let Some((pattern, point)) = found else {
         return to.extend_from_slice(b"never\n");
     };
@@ -32,7 +32,7 @@ fn push_found(to: &mut Vec<u8>, found: Option<(u32, Point)>) -> Result<(), Alloc
 }
 
 /// Adds a line for each fault from its hit, if it has one; hits come in the order of the faults.
-fn push_hits(to: &mut Vec<u8>, count: usize, hits: &[Hit]) -> Result<(), AllocError> {
+fn push_hits(to: &mut Vec<u8>, count: usize, hits: &[Hit]) -> Pushed {
     let mut rest = hits;
     for place in 0..count {
         rest = match rest {
@@ -54,7 +54,7 @@ fn cut_name(text: &str) -> (&str, &str) {
 }
 
 /// Adds the fault of a text, if the list of faults has it.
-fn push_listed(netlist: &Netlist, name: &str, faults: &mut Vec<Fault>) -> Result<(), AllocError>
+fn push_listed(netlist: &Netlist, name: &str, faults: &mut Vec<Fault>) -> Pushed
     requires { All (λ (f : FaultOf). IsLineOf netlist.now f.line) faults.old.items }
     ensures { OnOk result (All (λ (f : FaultOf). IsLineOf netlist.now f.line) faults.new.items) }
 {
@@ -100,7 +100,7 @@ fn push_said(
     faults: &[Fault],
     patterns: &[Pattern],
     is_batch: bool,
-) -> Result<(), AllocError>
+) -> Pushed
     requires wide { All (HasWidthsOf core.now) patterns.now }
     requires lines { All (λ (f : FaultOf). IsLineOf core.now f.line) faults.now }
 {
@@ -133,7 +133,7 @@ pub fn push_detected(
     netlist: &Netlist,
     rest: &str,
     is_batch: bool,
-) -> Result<(), AllocError> {
+) -> Pushed {
     let (names, texts) = rest.split_once(": ").unwrap_or((rest, ""));
     let core = core_of(alloc, netlist)?;
     let faults = faults_of(alloc, core.netlist(), names)?;
@@ -168,7 +168,7 @@ pub fn push_drawn(
     seed: u64,
     count: u32,
     is_batch: bool,
-) -> Result<(), AllocError>
+) -> Pushed
     requires { IsDesign netlist.now }
 {
     let core = core_of(alloc, netlist)?;

@@ -4,7 +4,7 @@ ghost use Rattle.netlist.specs.Holds.{AreHoldsOf};
 
 use crate::names::stuck;
 use case_nets::{core_of, holds_of};
-use case_text::{cut, small};
+use case_text::{Pushed, cut, small};
 use fan::Fan;
 use netlist::{Core, Fault, Holds, Netlist, NoMemory};
 use podem::Podem;
@@ -50,7 +50,7 @@ pub fn push_search(
     netlist: &Netlist,
     rest: &str,
     by: By,
-) -> Result<(), AllocError> {
+) -> Pushed {
     let (held, rest) = cut(rest);
     let (limit, fault) = cut(rest);
     let core = core_of(alloc, netlist)?;

@@ -7,13 +7,13 @@ ghost use Rattle.redundancy_cert.specs.Trees.{DecidesSignal};
 
 use crate::faults::listed;
 use case_nets::{core_of, holds_of, nodes_of, signal};
-use case_text::cut;
+use case_text::{Pushed, cut};
 use certificate::is_one_tree;
 use netlist::{Core, Fault, Holds, Netlist};
 use redundancy_cert::{Counts, Node, Tree, TreeFault, check_tree};
 use std::alloc::{AllocError, Global};
 
-fn push_checked(to: &mut Vec<u8>, checked: Result<Counts, TreeFault>) -> Result<(), AllocError> {
+fn push_checked(to: &mut Vec<u8>, checked: Result<Counts, TreeFault>) -> Pushed {
     let mut digits = itoa::Buffer::new();
     match checked {
         Ok(counts) => {
@@ -39,7 +39,7 @@ fn push_nodes(
     fault: &Fault,
     nodes: Vec<Node>,
     holds: &Holds,
-) -> Result<(), AllocError>
+) -> Pushed
     requires line { IsLineOf core.now fault.now.line }
     requires decides { All (DecidesSignal core.now) nodes.items }
     requires holds { AreHoldsOf core.now holds.now }
@@ -52,12 +52,7 @@ fn push_nodes(
 }
 
 /// `tree HOLDS FAULT: NODES`: whether the tree fits the fault, by the words of a certificate.
-pub fn push_tree(
-    to: &mut Vec<u8>,
-    alloc: Global,
-    netlist: &Netlist,
-    rest: &str,
-) -> Result<(), AllocError> {
+pub fn push_tree(to: &mut Vec<u8>, alloc: Global, netlist: &Netlist, rest: &str) -> Pushed {
     let (held, rest) = cut(rest);
     let (fault, nodes) = rest.split_once(": ").unwrap_or((rest, ""));
     let core = core_of(alloc, netlist)?;
@@ -90,12 +85,7 @@ fn deep(alloc: Global, netlist: &Netlist, name: &str, depth: u32) -> Result<Vec<
 }
 
 /// `deep-tree SIGNAL DEPTH FAULT`: whether a tree of so many decisions on one signal fits the fault.
-pub fn push_deep_tree(
-    to: &mut Vec<u8>,
-    alloc: Global,
-    netlist: &Netlist,
-    rest: &str,
-) -> Result<(), AllocError> {
+pub fn push_deep_tree(to: &mut Vec<u8>, alloc: Global, netlist: &Netlist, rest: &str) -> Pushed {
     let (name, rest) = cut(rest);
     let (depth, fault) = cut(rest);
     let core = core_of(alloc, netlist)?;
