@@ -82,7 +82,6 @@ fn placed(alloc: Global, core: &Core, faults: &[Fault]) -> Result<Vec<(u32, Faul
     requires { All (λ (f : FaultOf). IsLineOf core.now f.line) faults.now }
     ensures { IfOk result (λ v. All (λ (g : ℕ × FaultOf). IsLineOf core.now g.1.line) v.items) }
 {
-    let _ = core;
     let mut classes = Vec::with_capacity(alloc, faults.len())?;
     let mut place = 0u32;
     for fault in faults {
