@@ -16,8 +16,9 @@ import sys
 
 sys.path.insert(0, str(pathlib.Path(__file__).resolve().parent.parent / "bench/oracle"))
 import plain_check  # noqa: E402
+import plain_design as plain  # noqa: E402
 
-from first_detections import Simulation, packed  # noqa: E402
+from first_detections import Simulation  # noqa: E402
 from run_files import evaluation_order  # noqa: E402
 
 UNUSED, TIED, STILL = "unused", "tied", "still"
@@ -77,28 +78,25 @@ class Structure:
         return not self.design.is_point(line) and line.split(" ")[1] not in self.seen
 
     def is_tied(self, line, bit, is_slow):
-        signal = self.design.signal_of(line)
-        good = self.tied[signal]
-        if not self.has_ties or self.design.is_point(line):
-            return good == bit or is_slow and good is not X
+        """Whether the line always has this bit (a slow one: any bit), or its stuck bit shows nowhere."""
+        good = self.tied[self.design.signal_of(line)]
         if good == bit or is_slow and good is not X:
             return True
-        return not self.may_show(line, bit)
+        return self.has_ties and not self.design.is_point(line) and not self.may_show(line, bit)
 
     def may_show(self, line, bit):
         """Whether the stuck bit may differ at an observed point, where all but the constants is X: from the line on, gate by gate."""
-        word, name, *place = line.split(" ")
-        faulty = {name: bit} if word == "stem" else {}
-        ahead = [(self.place[each], each) for each in (self.readers[name] if word == "stem" else [name])]
-        if word == "stem" and name in self.points:
+        name = line.split(" ")[1]
+        faulty = {name: bit} if line.startswith("stem ") else {}
+        if faulty and name in self.points:
             return True
+        ahead = [(self.place[each], each) for each in (self.readers[name] if faulty else [name])]
         heapq.heapify(ahead)
         while ahead:
             _, gate = heapq.heappop(ahead)
             if gate in faulty:
                 continue
-            pins = [bit if word == "pin" and gate == name and k == int(place[0]) else faulty.get(pin, self.tied[pin])
-                    for k, pin in enumerate(self.design.pins[gate])]
+            pins = [bit if line == f"pin {gate} {k}" else faulty.get(pin, self.tied[pin]) for k, pin in enumerate(self.design.pins[gate])]
             value = plain_check.tri_gate(self.design.kinds[gate], pins)
             if value is not X and value == self.tied[gate]:
                 continue
@@ -118,6 +116,17 @@ class Structure:
         if is_slow and self.design.signal_of(verdict.line) not in self.changing:
             return STILL
         return None
+
+
+def representatives(design, head, verdicts):
+    """For each fault's text that of its class's representative, as the certificate names it; slow lines are classes of their own."""
+    if head.is_slow:
+        return {verdict.fault: verdict.fault for verdict in verdicts}
+    try:
+        firsts = plain.classes(design.as_plain(), [(verdict.line, int(verdict.bit)) for verdict in verdicts])
+    except KeyError:  # not all faults of the netlist stand in the report
+        return {}
+    return {verdict.fault: verdicts[first].fault for verdict, first in zip(verdicts, firsts)}
 
 
 def detected_unheld(design, faults):

@@ -32,6 +32,12 @@ def beside(prefix, end):
     return prefix.with_name(f"{prefix.name}.{end}")
 
 
+def point_name(point):
+    """An observed point as it is called in what is shown."""
+    word, name, *_ = point.split(" ")
+    return f"output {name}" if word == "out" else f"pin of cell {name}"
+
+
 class Design:
     """The netlist: what drives each signal, in file order."""
 
