@@ -28,7 +28,7 @@ MEANS = {
     TIED: "the netlist's constants alone keep it from showing",
     STILL: "only inputs lead to it, which don't change between the captures",
     AS_HELD: "a pattern that doesn't obey the held inputs detects it",
-    IN_ITSELF: "the logic never lets it show",
+    IN_ITSELF: "no pattern detects it, with held inputs or without",
     EITHER: "told by no drawn pattern, nor by its tree",
 }
 DRAWN = 512  # patterns with no input held
