@@ -73,7 +73,7 @@ def test_try_guide():
 
 # The line that shows how far a run is, by the proved build where it stands.
 
-PROGRAM = ROOT / "crates/atpg_main/out/atpg_main"
+PROGRAM = ROOT / "built/atpg"
 SHOWN = re.compile(r"\n(\d+) (?:of (\d+) )?classes claimed, (\d+) batches, (\d+) s\x1b\[K\r\x1b\[1A")
 
 
@@ -229,7 +229,8 @@ REFUSED = (
     ("INPUT(a)\nOUTPUT(y)\ny = XOR(a)\n", ["  y = XOR(a)", "XOR has 1 pin here, and may have 2 to 1,024"]),
     ("INPUT(a)\nINPUT(a)\nOUTPUT(a)\n", ["  INPUT(a)", "a is defined on line 1 too: INPUT(a)"]),
     ("INPUT(a)\nOUTPUT(SC__a)\n", ["  OUTPUT(SC__a)", "names that begin with SC__ are for scan insertion: SC__a"]),
-    ("INPUT(a)\nOUTPUT(y);\n", ["  OUTPUT(y);", "it is none of INPUT(x), OUTPUT(x) and z = GATE(a, b, ..)"]),
+    ("INPUT(a)\nOUTPUT(y);\n", ["  OUTPUT(y);", "it is none of INPUT(x), OUTPUT(x) and z = GATE(a, b, ..)",
+                                           "no ; stands at the end of a line"]),
     ("INPUT(a)\nOUTPUT(" + "y" * 300 + ")\n", ["  OUTPUT(" + "y" * 300 + ")",
                                              "a name has 300 bytes, and may have 255 (261 where the netlist is read as scanned)"]),
     ("INPUT(a)\nOUTPUT(\"y)\n", ["  OUTPUT(\"y)", "byte 8 is 0x22, which may stand in comments alone"]),
@@ -241,9 +242,6 @@ def test_explain():
     """The line and what is wrong with it, below what the program says."""
     with tree() as made:
         made.add_rt()
-        (made.root / "bench/oracle").mkdir(parents=True)
-        shutil.copy2(ROOT / "bench/oracle/plain_design.py", made.root / "bench/oracle")
-        shutil.copy2(ROOT / "tools/explain", made.root / "tools")
         for number, (text, wanted) in enumerate(REFUSED):
             path = made.folder / f"{number}.bench"
             path.write_text(text)

@@ -1,8 +1,10 @@
-"""Tests of ./build, ./atpg and tools/source_sum, in a small tree of their own with a stand-in for `rt`. tools/test_tools runs them."""
+"""Tests of ./build, ./atpg, ./atpg-check, what --to puts in place, and tools/source_sum, in a small tree of their own with a stand-in for
+`rt`. tools/test_tools runs them."""
 
 import contextlib
 import os
 import pathlib
+import pty
 import shutil
 import signal
 import subprocess
@@ -11,7 +13,8 @@ import time
 
 ROOT = pathlib.Path(__file__).resolve().parent.parent
 
-# What the tests need of `rt`: it "proves" each crate whose source hasn't the word broken, and "builds" a program that says its words.
+# What the tests need of `rt`: it "proves" each crate whose source hasn't the word broken, and "builds" a program that says its words. A trial
+# "compiles" it in a folder that goes away.
 RT = r"""#!/usr/bin/env bash
 case "$1 $2" in
 "all check")
@@ -39,30 +42,44 @@ case "$1 $2" in
     cp "$(dirname "$0")/program" "out/$(basename "$PWD")"
     ;;
 "try --")
-    mktemp -d >/dev/null
-    [ "$3" = slow ] && sleep 60
-    echo "tried ${*:3}"
+    echo compiled >>"$(dirname "$0")/trials"
+    grep -q broken src/*.rt && echo "error: no such name" >&2 && exit 1
+    folder=$(mktemp -d)
+    grep -q slow src/*.rt && sleep 60
+    sed 's/said=ran/said=tried/' "$(dirname "$0")/program" >"$folder/program"
+    chmod +x "$folder/program"
+    "$folder/program" "${@:3}"
+    rm -r "$folder"
     ;;
 esac
 """
 
 PROGRAM = r"""#!/usr/bin/env bash
+said=ran
+[ -p "$2" ] && cat "$2" && exit 3
+[ -p "$1.net" ] && cat "$1.net" && exit 3
 for word in "$@"; do
     case $word in
     --bad) printf 'error: unexpected argument\n' >&2; exit 2 ;;
-    -h | --help | --version) printf 'atpg 0.1\n' >&2; exit 2 ;;
+    -h | --help) printf 'Usage: atpg\n' >&2; exit 2 ;;
+    -V | --version) printf 'atpg 0.1\n' >&2; exit 2 ;;
     esac
 done
 [ "$1" = faults ] && echo "faults 9 classes 7" && [ "$2" = counted ] && exit
 if [ "$2" = large ]; then
     head -c 5000 /dev/zero >"$3.net" 2>/dev/null
-    [ $? -eq 1 ] && exit 6
+    [ $? -eq 1 ] && echo "write failed: $3.net" >&2 && exit 6
 fi
-echo "ran $*${ATPG_CLASSES+ of $ATPG_CLASSES}"
+[ "$2" = slow ] && { echo $$ >"$3.pid"; printf '\n1 classes claimed\033[K\r\033[1A' >&2; exec sleep 60; }
+[ -n "$ENDS" ] && { printf '%s\n' "${ENDS#* }" >&2; exit "${ENDS%% *}"; }
+echo "$said $*${ATPG_CLASSES+ of $ATPG_CLASSES}"
 [ "$1" != play ]
 """
 
 CRATES = "# NAME: the crates below\nnetlist: smallvec\nbelow may_wait=1: netlist\natpg_main: below\nother: netlist\n"
+
+
+PARTS = ("below", "source_sum", "launch", "causes", "explain")
 
 
 class Tree:
@@ -73,7 +90,8 @@ class Tree:
         self.root, self.bin, self.temporary = folder / "tree", folder / "bin", folder / "tmp"
         for each in (self.root / "tools", self.bin, self.temporary):
             each.mkdir(parents=True)
-        for name in ("build", "atpg", "tools/below", "tools/source_sum"):
+        (self.root / "bench/oracle").mkdir(parents=True)
+        for name in ("build", "atpg", "atpg-check", "bench/oracle/plain_design.py", *(f"tools/{each}" for each in PARTS)):
             shutil.copy2(ROOT / name, self.root / name)
         (self.root / "HANDLES").write_text("Handles allowed: none.\n")
         (self.root / "crates.txt").write_text(CRATES)
@@ -88,6 +106,12 @@ class Tree:
 
     def add_rt(self):
         self.put(self.bin / "rt", RT)
+
+    def add_check(self):
+        """The second program's crate."""
+        (self.root / "crates.txt").write_text(CRATES + "check_main: below\n")
+        (self.root / "crates" / "check_main" / "src").mkdir(parents=True)
+        self.source("check_main").write_text("//! check\n")
 
     def source(self, name):
         return self.root / "crates" / name / "src" / "lib.rt"
@@ -115,11 +139,36 @@ class Tree:
     def left(self):
         return sorted(each.name for each in self.temporary.iterdir())
 
+    def sum(self, *words):
+        return self.run(self.root / "tools/source_sum", *words)[1].strip()
+
+    def trials(self):
+        """How often the sources were compiled without proof."""
+        path = self.bin / "trials"
+        return len(path.read_text().splitlines()) if path.exists() else 0
+
+    def pid_in(self, name):
+        """The number of a process that writes it there, and is going to wait."""
+        path = self.folder / name
+        wait_for(lambda: path.exists() and path.read_text().endswith("\n"))
+        pid = int(path.read_text())
+        path.unlink()
+        return pid
+
 
 @contextlib.contextmanager
 def tree():
     with tempfile.TemporaryDirectory() as name:
         yield Tree(pathlib.Path(name).resolve())
+
+
+@contextlib.contextmanager
+def built_tree(*words):
+    with tree() as made:
+        made.add_rt()
+        status, _, errors = made.build(*words)
+        assert status == 0, errors
+        yield made
 
 
 def test_launcher_without_rt():
@@ -131,26 +180,102 @@ def test_launcher_without_rt():
 
 
 def test_launcher_runs_sources():
-    """Without a proved build the sources run, on whole names, and their answer has the names as they were given."""
+    """Without a proved build the sources are compiled, once until they change, and what comes of it runs on one's files."""
     with tree() as made:
         made.add_rt()
-        status, out, errors = made.atpg("run", "a.bench", "b", "--limit", "10", "--hold=x=1")
-        assert (status, out) == (0, "tried run a.bench b --limit 10 --hold=x=1\n"), (status, out, errors)
-        assert "without proof" in errors, errors
+        for count, words in enumerate((("run", "a.bench", "b", "--limit", "10", "--hold=x=1"), ("faults", "x"), ("play", "x", "y"))):
+            status, out, errors = made.atpg(*words)
+            assert (status, out.splitlines()[-1]) == (words[0] == "play", f"tried {' '.join(words)}"), (status, out, errors)
+            assert "this run is without proof" in errors and ("are compiled" in errors) == (count == 0), errors
+            assert made.left() == [] and made.trials() == 1, made.left()
+        made.add_check()
+        assert made.run(made.root / "atpg-check", "x")[:2] == (0, "tried x\n") and made.trials() == 2
+        made.source("below").write_text("//! else\n")
+        assert made.atpg("faults", "x")[1].endswith("tried faults x\n") and made.trials() == 3
+        made.source("atpg_main").write_text("broken\n")
+        status, out, errors = made.atpg("faults", "x")
+        assert (status, out) == (2, "") and errors.endswith("error: no such name\natpg: the sources can't be run\n"), errors
         assert made.left() == [], made.left()
+
+
+def test_launcher_compiles_once():
+    """Of calls side by side one compiles, and the others wait for it."""
+    with tree() as made:
+        made.add_rt()
+        children = [subprocess.Popen(**made.words(made.root / "atpg", "scan", "x", "y"), stderr=subprocess.DEVNULL, stdout=subprocess.PIPE) for _ in range(6)]
+        assert [child.communicate()[0] for child in children] == ["tried scan x y\n"] * 6
+        assert made.trials() == 1 and made.left() == [], made.left()
+
+
+def test_launcher_keeps_nothing_where_it_may_not():
+    """A repository that can't be written serves each call by a compilation of its own."""
+    with tree() as made:
+        made.add_rt()
+        (made.root / "built").write_text("")
+        for count in (1, 2):
+            assert made.atpg("scan", "x", "y")[:2] == (0, "tried scan x y\n") and made.trials() == count
+
+
+def ended_by(child, number):
+    """The status of a child that a signal ends soon."""
+    began = time.monotonic()
+    child.send_signal(number)
+    status = child.wait()
+    assert time.monotonic() - began < 20
+    return status
+
+
+def wait_for(met):
+    began = time.monotonic()
+    while not met():
+        time.sleep(0.02)
+        assert time.monotonic() - began < 20
+
+
+def is_at_work(pid):
+    path = pathlib.Path(f"/proc/{pid}/stat")
+    return path.exists() and path.read_text().rpartition(")")[2].split()[0] != "Z"
 
 
 def test_launcher_interrupted():
-    """It ends, its child ends, and nothing is left."""
+    """Interrupted while it compiles it ends, its child ends, and nothing is left."""
     with tree() as made:
         made.add_rt()
-        child = subprocess.Popen(**made.words(made.root / "atpg", "slow"), stderr=subprocess.DEVNULL, stdout=subprocess.DEVNULL)
-        while not any(each.is_dir() for kept in made.temporary.iterdir() for each in kept.iterdir()):
-            time.sleep(0.05)
-        began = time.monotonic()
-        child.send_signal(signal.SIGTERM)
-        assert child.wait() == 143 and time.monotonic() - began < 20
+        made.source("atpg_main").write_text("slow\n")
+        child = subprocess.Popen(**made.words(made.root / "atpg", "faults", "x"), stderr=subprocess.DEVNULL, stdout=subprocess.DEVNULL)
+        wait_for(lambda: made.trials() == 1)
+        assert ended_by(child, signal.SIGTERM) == 143
         assert made.left() == [], made.left()
+
+
+def test_launcher_interrupted_at_work():
+    """Interrupted while the program runs both end, nothing is left, and on a terminal no line stays below the cursor."""
+    with built_tree() as made:
+        for number, status in ((signal.SIGINT, 130), (signal.SIGTERM, 143), (signal.SIGHUP, 143)):
+            ours, its = pty.openpty()
+            child = subprocess.Popen(**made.words(made.root / "atpg", "scan", "slow", "b"), stderr=its, stdout=subprocess.DEVNULL)
+            os.close(its)
+            pid = made.pid_in("b.pid")
+            shown = b""
+            while b"\033[1A" not in shown:
+                shown += os.read(ours, 4096)
+            assert ended_by(child, number) == status
+            with contextlib.suppress(OSError):  # the terminal's end
+                while piece := os.read(ours, 4096):
+                    shown += piece
+            os.close(ours)
+            assert shown.endswith(b"\033[J") and not is_at_work(pid) and made.left() == [], (shown, made.left())
+
+
+def test_launcher_killed():
+    """Where it is ended by a signal that nobody can catch, the program ends too."""
+    if shutil.which("setpriv") is None:
+        return "left out: no setpriv"
+    with built_tree() as made:
+        child = subprocess.Popen(**made.words(made.root / "atpg", "scan", "slow", "b"), stderr=subprocess.DEVNULL, stdout=subprocess.DEVNULL)
+        pid = made.pid_in("b.pid")
+        assert ended_by(child, signal.SIGKILL) == -signal.SIGKILL
+        wait_for(lambda: not is_at_work(pid))
 
 
 def test_launcher_staleness():
@@ -168,19 +293,19 @@ def test_launcher_staleness():
         for name in ("netlist", "below", "atpg_main"):
             text = made.source(name).read_text()
             made.source(name).write_text(text + "// more\n")
-            assert made.atpg("faults", "x")[1] == "tried faults x\n", name
+            assert made.atpg("faults", "x")[1].endswith("tried faults x\n"), name
             made.source(name).write_text(text)
             assert made.atpg("faults", "x") == ran, name
         made.source("other").write_text("//! else\n")
         assert made.atpg("faults", "x") == ran
         for changed in (CRATES.replace("may_wait=1", "may_wait=2"), CRATES.replace("smallvec", "smallvec itoa")):
             (made.root / "crates.txt").write_text(changed)
-            assert made.atpg("faults", "x")[1] == "tried faults x\n", changed
+            assert made.atpg("faults", "x")[1].endswith("tried faults x\n"), changed
         (made.root / "crates.txt").write_text(CRATES.replace("other: netlist", "other: below"))
         assert made.atpg("faults", "x") == ran
         (made.root / "crates" / "below" / "proofs").mkdir()
         (made.root / "crates" / "below" / "proofs" / "Lib.antt").write_text("pub mod F\n")
-        assert made.atpg("faults", "x")[1] == "tried faults x\n"
+        assert made.atpg("faults", "x")[1].endswith("tried faults x\n")
 
 
 def test_launcher_by_a_link():
@@ -196,14 +321,15 @@ def test_launcher_by_a_link():
 
 def test_launcher_help():
     """Help and version are an answer; what is wrong with the words isn't."""
-    with tree() as made:
-        made.add_rt()
-        assert made.build()[0] == 0
-        for words in (("--help",), ("-h",), ("run", "--help"), ("run", "a", "-h"), ("--version",)):
-            assert made.atpg(*words) == (0, "atpg 0.1\n", ""), words
+    with built_tree() as made:
+        help_of = (0, "Usage: atpg\n", "")
+        for words in (("--help",), ("-h",), ("run", "--help"), ("run", "a", "-h"), ("help",), ("help", "run")):
+            assert made.atpg(*words) == help_of, words
+        for words in (("--version",), ("-V",)):
+            assert made.atpg(*words) == (0, f"atpg 0.1\nsources {made.sum()}\n", ""), words
         assert made.atpg("run", "--bad", "--help") == (2, "", "error: unexpected argument\n")
-        assert made.atpg("play", "a", "b", "--fault", "-h")[2] == "atpg 0.1\n"  # a value: the program's to say
-        assert made.atpg("scan", "--", "-h", "b")[2] == "atpg 0.1\n"
+        assert made.atpg("play", "a", "b", "--fault", "-h")[2] == "Usage: atpg\n"  # a value: the program's to say
+        assert made.atpg("scan", "--", "-h", "b")[2] == "Usage: atpg\n"
 
 
 def test_launcher_counts_classes():
@@ -219,22 +345,51 @@ def test_launcher_counts_classes():
 
 
 def test_launcher_looks_first():
-    """No search whose files couldn't be written; no scan over its own netlist."""
-    with tree() as made:
-        made.add_rt()
-        assert made.build()[0] == 0
+    """No search whose files couldn't be written."""
+    with built_tree() as made:
         (made.folder / "a.bench").write_text("INPUT(a)\n")
         (made.folder / "full").mkdir()
         (made.folder / "full" / "b.stil").mkdir()
-        assert made.atpg("run", "a.bench", "none/b") == (6, "", "write failed: none/b.net\n")
-        assert made.atpg("run", "--limit", "10", "a.bench", "--", "none/b") == (6, "", "write failed: none/b.net\n")
-        assert made.atpg("run", "a.bench", "full/b") == (6, "", "write failed: full/b.stil\n")
+        missing = (6, "", "write failed: none/b.net\natpg: there is no folder none\n")
+        for words in (("run", "a.bench", "none/b"), ("run", "--limit", "10", "a.bench", "--", "none/b"), ("transition", "a.bench", "none/b")):
+            assert made.atpg(*words) == missing, words
+        assert made.atpg("run", "a.bench", "full/b") == (6, "", "write failed: full/b.stil\natpg: full/b.stil is a folder\n")
         assert made.atpg("run", "a.bench", "full/c")[0] == 0
         assert made.atpg("run", "a.bench", "c")[0] == 0
         assert made.atpg("run", "none.bench", "none/b")[0] == 0  # that the netlist isn't there is the program's to say
-        status, out, errors = made.atpg("scan", "a.bench", "./a.bench", "--chains", "2")
-        assert (status, out) == (2, "") and errors == "atpg: scan would write over its netlist: ./a.bench is a.bench\n", errors
-        assert made.atpg("scan", "a.bench", "b.bench")[0] == 0
+
+
+def test_launcher_keeps_the_netlist():
+    """No command writes over its netlist, under another name or by a link; the file that would be is named."""
+    with built_tree() as made:
+        (made.folder / "a.bench").write_text("INPUT(a)\n")
+        (made.folder / "b.bench").symlink_to("a.bench")
+        os.link(made.folder / "a.bench", made.folder / "hard")
+        for out in ("a.bench", "./a.bench", "b.bench", "hard"):
+            assert made.atpg("scan", "a.bench", out, "--chains", "2") == (2, "", f"atpg: scan would write over its netlist: {out} is a.bench\n")
+        for end in ("net", "scan", "stil", "cert", "rep"):
+            link = made.folder / f"p.{end}"
+            link.symlink_to("a.bench")
+            for command in ("run", "transition"):
+                said = (2, "", f"atpg: {command} would write over its netlist: ./p.{end} is a.bench\n")
+                assert made.atpg(command, "a.bench", "./p") == said, end
+            link.unlink()
+        (made.folder / "own.net").write_text("INPUT(a)\n")
+        assert made.atpg("run", "own.net", "own") == (2, "", "atpg: run would write over its netlist: own.net is own.net\n")
+        for words in (("scan", "a.bench", "c"), ("run", "a.bench", "a"), ("faults", "a.bench"), ("chaintest", "a.bench", "a.bench")):
+            assert made.atpg(*words)[0] == 0, words
+
+
+def test_launcher_hidden_files():
+    """A prefix that names no file is refused, also where its folder isn't there."""
+    with built_tree() as made:
+        (made.folder / "a.bench").write_text("INPUT(a)\n")
+        (made.folder / "out").mkdir()
+        for prefix in ("", "out/", "none/", "/"):
+            for command in ("run", "transition"):
+                status, out, errors = made.atpg(command, "a.bench", prefix)
+                assert (status, out) == (2, "") and errors.startswith(f"atpg: {command} wants what the names of its files begin with"), errors
+        assert made.atpg("run", "a.bench", "out/x")[0] == 0
 
 
 def test_launcher_limits_files():
@@ -290,9 +445,7 @@ def test_build_to_a_folder():
         assert len(made.left()) == 1, made.left()
         assert not any((made.temporary / made.left()[0] / "crates").glob("other"))
         made.source("below").write_text("//! new\n")
-        (made.root / "crates.txt").write_text(CRATES + "check_main: below\n")
-        (made.root / "crates" / "check_main" / "src").mkdir(parents=True)
-        made.source("check_main").write_text("//! check\n")
+        made.add_check()
         (to / "atpg").unlink()
         status, out, errors = made.build("--to", to)
         assert status == 0 and "build: 4 of 4:" in out, (out, errors)
