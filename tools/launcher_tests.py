@@ -5,6 +5,7 @@ import contextlib
 import os
 import pathlib
 import pty
+import re
 import shutil
 import signal
 import subprocess
@@ -65,13 +66,13 @@ for word in "$@"; do
     -V | --version) printf 'atpg 0.1\n' >&2; exit 2 ;;
     esac
 done
+[ -n "$ENDS" ] && { printf '%s\n' "${ENDS#* }" >&2; exit "${ENDS%% *}"; }
 [ "$1" = faults ] && echo "faults 9 classes 7" && [ "$2" = counted ] && exit
 if [ "$2" = large ]; then
     head -c 5000 /dev/zero >"$3.net" 2>/dev/null
     [ $? -eq 1 ] && echo "write failed: $3.net" >&2 && exit 6
 fi
 [ "$2" = slow ] && { echo $$ >"$3.pid"; printf '\n1 classes claimed\033[K\r\033[1A' >&2; exec sleep 60; }
-[ -n "$ENDS" ] && { printf '%s\n' "${ENDS#* }" >&2; exit "${ENDS%% *}"; }
 echo "$said $*${ATPG_CLASSES+ of $ATPG_CLASSES}"
 [ "$1" != play ]
 """
@@ -337,6 +338,7 @@ def test_launcher_counts_classes():
     with tree() as made:
         made.add_rt()
         assert made.build()[0] == 0
+        (made.folder / "counted").write_text("")
         words = (made.root / "atpg", "run", "counted", "b")
         assert made.run(*words, ATPG_PROGRESS="1")[1] == "ran run counted b of 7\n"
         assert made.run(*words, ATPG_PROGRESS="0")[1] == "ran run counted b\n"
@@ -399,6 +401,175 @@ def test_launcher_limits_files():
         assert made.build()[0] == 0
         assert made.run("bash", "-c", 'ulimit -f 1; exec "$@"', "limited", made.root / "atpg", "run", "large", "b")[0] == 6
         assert (made.folder / "b.net").stat().st_size == 1024
+
+
+def test_launcher_says_why():
+    """Below the program's line stands a cause, where one can be seen."""
+    with built_tree() as made:
+        for name in ("folder", "full"):
+            (made.folder / name).mkdir()
+        (made.folder / "a.bench").write_text("INPUT(a)\n")
+        (made.folder / "a.stil").write_text('  ScanChain "c0" {\n  ScanChain "c1" {\n')
+        for words, ends, causes in CAUSES:
+            status, out, errors = made.run(made.root / "atpg", *words, ENDS=ends)
+            assert (status, out, errors.splitlines()) == (int(ends.split()[0]), "", [ends.partition(" ")[2], *causes]), (words, errors)
+            assert made.run(made.root / "atpg", *words, ENDS=ends, ATPG_EXPLAIN="0")[2] == ends.partition(" ")[2] + "\n"
+        assert made.left() == [], made.left()
+
+
+NO_FAULT = ["atpg: a fault is written as 'stem NAME/0', 'out NAME/1' or 'pin GATE K/1', K from 0; the last two where a signal has several readers",
+            "atpg: `atpg faults NET` lists those of a netlist before scan insertion, `atpg chaintest NET STIL` those of the scan hardware"]
+CAUSES = (
+    (("scan", "a.bench", "none/b"), "6 write failed: none/b", ["atpg: there is no folder none"]),
+    (("scan", "a.bench", "a.stil/b"), "6 write failed: a.stil/b", ["atpg: a.stil is no folder"]),
+    (("scan", "a.bench", "folder"), "6 write failed: folder", ["atpg: folder is a folder"]),
+    (("scan", "a.bench", "b"), "6 write failed: b", []),
+    (("faults", "a.bench"), "6 write failed: -", ["atpg: standard output takes no more: it is closed, or where it goes is full"]),
+    (("faults", "."), "5 read failed: .", ["atpg: . is a folder, and a file is wanted"]),
+    (("faults", "a.bench"), "5 read failed: a.bench", []),
+    (("faults", "a"), "7 no such file: a", ["atpg: there is a.bench"]),
+    (("faults", "b"), "7 no such file: b", []),
+    (("faults", "none/b"), "7 no such file: none/b", ["atpg: there is no folder none"]),
+    (("check", "a.rep"), "7 no such file: a.rep.net", ["atpg: what is checked is named by what its five names begin with: a"]),
+    (("check", "x/a.b.scan"), "7 no such file: x/a.b.scan.net", ["atpg: what is checked is named by what its five names begin with: x/a.b"]),
+    (("faults", "a.bench"), "8 too long: a.bench", ["atpg: a.bench has 9 bytes, and 67108864 are read at most"]),
+    (("play", "a.bench", "a.stil", "--fault", "x"), "2 no such fault", NO_FAULT),
+    (("play", "a.bench", "a.stil"), "4 stil does not fit",
+     ["atpg: a.stil is no test of the netlist in a.bench: play wants the scanned netlist of the same run, PREFIX.scan with PREFIX.stil"]),
+    (("diagnose", "--chains", "1", "a.bench", "a.stil", "l"), "4 stil does not fit",
+     ["atpg: a.stil is no test of the netlist in a.bench with so many chains: diagnose wants the netlist of the run, and its --chains (the test has 2)"]),
+    (("chaintest", "a.bench", "a.stil"), "4 not a stil file", []),
+    (("run", "a.bench", "b", "--hold", "x=1,,y=0"), "2 bad hold", ["atpg: --hold, item 2, '': it is empty"]),
+    (("run", "a.bench", "b", "--hold", ""), "2 bad hold", ["atpg: --hold, item 1, '': it is empty"]),
+    (("run", "a.bench", "b", "--hold", "x=1,"), "2 bad hold", ["atpg: --hold, item 2, '': it is empty"]),
+    (("run", "--hold=x", "a.bench", "b"), "2 bad hold", ["atpg: --hold, item 1, 'x': it has no bit: 'x=0' or 'x=1'"]),
+    (("run", "--hold=x[3]=1,x=2", "a.bench", "b"), "2 bad hold", ["atpg: --hold, item 2, 'x=2': an input is held at 0 or 1"]),
+    (("run", "--hold=x=1=0", "a.bench", "b"), "2 bad hold", ["atpg: --hold, item 1, 'x=1=0': an input is held at 0 or 1"]),
+    (("run", "--hold==0", "a.bench", "b"), "2 bad hold", ["atpg: --hold, item 1, '=0': it names no input"]),
+    (("run", "--hold=x=0, y=1", "a.bench", "b"), "2 bad hold", ["atpg: --hold, item 2, ' y=1': no name of .bench has such a byte"]),
+    (("run", "--hold=x=0,*=1,x=0", "a.bench", "b"), "2 bad hold", ["atpg: --hold, item 3, 'x=0': x stands twice"]),
+    (("run", "--hold=x=0", "a.bench", "b"), "2 no such input: x", []),
+)
+
+
+def test_launcher_says_whose_rights():
+    """A file or a folder that may not be read or written is named with its rights, to one whom they bind."""
+    bound = ["setpriv", "--reuid=65534", "--regid=65534", "--clear-groups"] if os.geteuid() == 0 else []
+    if bound and shutil.which("setpriv") is None:
+        return "left out: root may do all, and there is no setpriv"
+    with built_tree() as made:
+        for path, rights in (("", 0o755), ("tmp", 0o777)):
+            (made.folder / path).chmod(rights)
+        for name, rights in (("a.bench", 0o444), ("none.bench", 0), ("b.net", 0o444)):
+            (made.folder / name).write_text("INPUT(a)\n")
+            (made.folder / name).chmod(rights)
+        (made.folder / "shut").mkdir(0o555)
+        for words, ends, said in (
+                (("faults", "none.bench"), "5 read failed: none.bench", "none.bench may not be read: ---------- "),
+                (("run", "a.bench", "b"), "", "b.net may not be written: -r--r--r-- "),
+                (("scan", "a.bench", "b.net"), "6 write failed: b.net", "b.net may not be written: -r--r--r-- "),
+                (("run", "a.bench", "shut/b"), "", "no file may be made in shut: dr-xr-xr-x ")):
+            errors = made.run(*bound, made.root / "atpg", *words, ENDS=ends)[2]
+            assert errors.splitlines()[1].startswith(f"atpg: {said}"), errors
+
+
+def test_launcher_says_what_is_wrong_with_a_netlist():
+    """On status 3 the netlist's line stands below the program's, where there is a python, for each command's netlist."""
+    with built_tree() as made:
+        (made.folder / "a.net").write_text("INPUT(a)\nOUTPUT(y)\ny = INV(a)\n")
+        line = "netlist line 3: UnknownGate"
+        for name, words in (("atpg", ("run", "a.net", "b")), ("atpg", ("play", "a.net", "s")), ("atpg", ("check", "a")), ("atpg-check", ("a",))):
+            if name == "atpg-check":
+                made.add_check()
+                assert made.build()[0] == 0
+            status, out, errors = made.run(made.root / name, *words, ENDS=f"3 {line}")
+            assert (status, out, errors.splitlines()[:2]) == (3, "", [line, "  y = INV(a)"]) and "NOT is what is meant" in errors, errors
+        made.put(made.bin / "python3", "#!/bin/sh\nexit 127\n")
+        assert made.run(made.root / "atpg", "run", "a.net", "b", ENDS=f"3 {line}") == (3, "", f"{line}\n")
+
+
+def test_launcher_says_where_it_was():
+    """The program's own line is found behind the one that shows how far a run is."""
+    with built_tree() as made:
+        ends = "6 \n12 classes claimed\033[K\r\033[1Awrite failed: none/b\n\033[J"
+        status, _, errors = made.run(made.root / "atpg", "scan", "a", "none/b", ENDS=ends)
+        assert status == 6 and errors.endswith("\natpg: there is no folder none\n"), errors
+
+
+def test_launcher_full_disk():
+    """A file that didn't take all of its text says so of the disk, or of the limit to its size."""
+    with built_tree() as made:
+        said = made.run("bash", "-c", 'ulimit -f 1; exec "$@"', "limited", made.root / "atpg", "run", "large", "b")[2]
+        assert said == "write failed: b.net\natpg: a file may have 1024 bytes here (ulimit -f)\n", said
+        made.put(made.bin / "df", "#!/bin/sh\nprintf ' Avail\\n  512\\n'\n")
+        said = made.run(made.root / "atpg", "scan", "a", "b", ENDS="6 write failed: b")[2]
+        assert said == "write failed: b\natpg: the disk of . is full: 512 bytes are free\n", said
+
+
+def test_launcher_without_errors():
+    """With its standard error closed, or no folder for what it keeps, it answers as ever."""
+    with built_tree() as made:
+        assert made.run("bash", "-c", '"$@" 2>&-', "closed", made.root / "atpg", "scan", "x", "y")[:2] == (0, "ran scan x y\n")
+        assert made.run(made.root / "atpg", "scan", "x", "y", TMPDIR=str(made.folder / "none")) == (0, "ran scan x y\n", "")
+
+
+def test_installed():
+    """What --to puts into a folder runs from anywhere, by any link, without the repository, rt or python, as the launcher does."""
+    with tree() as made:
+        made.add_rt()
+        made.add_check()
+        to = made.folder / "some" / "bin"
+        assert made.build("--to", to)[0] == 0
+        sums = made.sum(), made.sum("check_main")
+        shutil.rmtree(made.root)
+        (made.bin / "rt").unlink()
+        made.put(made.bin / "python3", "#!/bin/sh\nexit 127\n")
+        for name in ("atpg", "atpg-check"):
+            (made.folder / name).symlink_to(to / name)
+        other = made.folder / "lib" / "atpg"
+        shutil.copytree(to / "atpg-lib", other)
+        shutil.copytree(to, made.folder / "usr_bin", ignore=lambda *_: ["atpg-lib"])
+        for atpg in (to / "atpg", made.folder / "atpg", made.folder / "usr_bin" / "atpg"):
+            check = atpg.with_name("atpg-check")
+            assert made.run(atpg, "scan", "x", "y") == (0, "ran scan x y\n", "")
+            assert made.run(atpg, "--help") == made.run(atpg, "help") == (0, "Usage: atpg\n", "")
+            assert made.run(atpg, "--version") == (0, f"atpg 0.1\nsources {sums[0]}\n", "")
+            assert made.run(check, "x") == (0, "ran x\n", "")
+            assert made.run(check, "--version") == (0, f"atpg-check 0.1\nsources {sums[1]}\n", "")
+            status, out, errors = made.run(check, "--help")
+            assert (status, errors) == (0, "") and "\nUsage: atpg-check PREFIX\n" in out, out
+            assert made.run(atpg, "scan", "x", "none/b", ENDS="6 write failed: none/b")[2].endswith("\natpg: there is no folder none\n")
+            (made.folder / "a.bench").write_text("INPUT(a)\n")
+            assert made.run(atpg, "run", "a.bench", "none/b") == (6, "", "write failed: none/b.net\natpg: there is no folder none\n")
+            assert made.run(atpg, "run", "a.bench", "out/")[0] == made.run(atpg, "scan", "a.bench", "./a.bench")[0] == 2
+            assert made.run(atpg, "run", "a.bench", "b", ENDS="3 netlist line 1: NoOutput")[2] == "netlist line 1: NoOutput\n"
+            assert made.run("bash", "-c", 'ulimit -f 1; exec "$@"', "limited", atpg, "run", "large", "b")[0] == 6
+            (made.folder / "counted").write_text("")
+            assert made.run(atpg, "run", "counted", "b", ATPG_PROGRESS="1")[1] == "ran run counted b of 7\n"
+        (made.folder / "usr_bin" / "atpg").rename(made.folder / "alone")
+        shutil.rmtree(other)
+        assert made.run(made.folder / "alone", "scan", "x", "y")[0] == 2
+
+
+def test_check_takes_words():
+    """A word that asks for help is a prefix where another stands beside it, or it has a folder."""
+    with tree() as made:
+        made.add_rt()
+        made.add_check()
+        assert made.build()[0] == 0
+        for words in (("./--help",), ("help",), ()):
+            assert made.run(made.root / "atpg-check", *words) == (0, f"ran {' '.join(words)}\n", ""), words
+        for words in (("--help", "x"), ("x", "-h")):
+            assert made.run(made.root / "atpg-check", *words) == (2, "", "Usage: atpg\n"), words  # the program's to say
+        assert made.run(made.root / "atpg-check", "a.rep", ENDS="7 no such file: a.rep.net")[2] == (
+            "no such file: a.rep.net\natpg-check: what is checked is named by what its five names begin with: a\n")
+
+
+def test_versions():
+    """The check's version is the program's."""
+    said = (ROOT / "crates/command_line/src/commands.rt").read_text()
+    version = re.search(r"^version=(\S+)", (ROOT / "tools/launch").read_text(), re.MULTILINE)[1]
+    assert f'.version("{version}")' in said, version
 
 
 def test_build_refuses():
