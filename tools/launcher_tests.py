@@ -125,6 +125,16 @@ class Tree:
         """The PATH without the folders that have an rt."""
         return os.pathsep.join(each for each in os.environ["PATH"].split(os.pathsep) if not os.path.exists(os.path.join(each, "rt")))
 
+    def path_without(self, name):
+        """A PATH of one folder that has all commands of the system but one."""
+        folder = self.folder / f"without_{name}"
+        folder.mkdir()
+        for each in self.system_path().split(os.pathsep):
+            for path in pathlib.Path(each).glob("*") if os.path.isdir(each) else ():
+                if path.name != name and not (folder / path.name).exists():
+                    (folder / path.name).symlink_to(path)
+        return str(folder)
+
     def run(self, *words, **more):
         """The status, standard output and standard error, with more of the environment."""
         asked = self.words(*words)
@@ -487,8 +497,7 @@ def test_launcher_says_what_is_wrong_with_a_netlist():
                 assert made.build()[0] == 0
             status, out, errors = made.run(made.root / name, *words, ENDS=f"3 {line}")
             assert (status, out, errors.splitlines()[:2]) == (3, "", [line, "  y = INV(a)"]) and "NOT is what is meant" in errors, errors
-        made.put(made.bin / "python3", "#!/bin/sh\nexit 127\n")
-        assert made.run(made.root / "atpg", "run", "a.net", "b", ENDS=f"3 {line}") == (3, "", f"{line}\n")
+        assert made.run(made.root / "atpg", "run", "a.net", "b", ENDS=f"3 {line}", PATH=made.path_without("python3")) == (3, "", f"{line}\n")
 
 
 def test_launcher_says_where_it_was():
@@ -512,21 +521,24 @@ def test_launcher_full_disk():
 def test_launcher_without_errors():
     """With its standard error closed, or no folder for what it keeps, it answers as ever."""
     with built_tree() as made:
-        assert made.run("bash", "-c", '"$@" 2>&-', "closed", made.root / "atpg", "scan", "x", "y")[:2] == (0, "ran scan x y\n")
-        assert made.run(made.root / "atpg", "scan", "x", "y", TMPDIR=str(made.folder / "none")) == (0, "ran scan x y\n", "")
+        closed = ("bash", "-c", '"$@" 2>&-', "closed", made.root / "atpg", "scan", "x", "none/y")
+        line = "write failed: none/y"
+        assert made.run(*closed)[:2] == (0, "ran scan x none/y\n")
+        assert made.run(*closed, ENDS=f"6 {line}") == (6, "", "")
+        assert made.run(*closed[4:], TMPDIR=str(made.folder / "none")) == (0, "ran scan x none/y\n", "")
+        assert made.run(*closed[4:], TMPDIR=str(made.folder / "none"), ENDS=f"6 {line}") == (6, "", f"{line}\n")
 
 
 def test_installed():
-    """What --to puts into a folder runs from anywhere, by any link, without the repository, rt or python, as the launcher does."""
+    """What --to puts into a folder runs from anywhere, by any link, without the repository, rt or python, and does what ./atpg does."""
     with tree() as made:
         made.add_rt()
         made.add_check()
         to = made.folder / "some" / "bin"
         assert made.build("--to", to)[0] == 0
-        sums = made.sum(), made.sum("check_main")
+        sums, path = (made.sum(), made.sum("check_main")), made.path_without("python3")
         shutil.rmtree(made.root)
         (made.bin / "rt").unlink()
-        made.put(made.bin / "python3", "#!/bin/sh\nexit 127\n")
         for name in ("atpg", "atpg-check"):
             (made.folder / name).symlink_to(to / name)
         other = made.folder / "lib" / "atpg"
@@ -545,7 +557,8 @@ def test_installed():
             (made.folder / "a.bench").write_text("INPUT(a)\n")
             assert made.run(atpg, "run", "a.bench", "none/b") == (6, "", "write failed: none/b.net\natpg: there is no folder none\n")
             assert made.run(atpg, "run", "a.bench", "out/")[0] == made.run(atpg, "scan", "a.bench", "./a.bench")[0] == 2
-            assert made.run(atpg, "run", "a.bench", "b", ENDS="3 netlist line 1: NoOutput")[2] == "netlist line 1: NoOutput\n"
+            assert made.run(atpg, "run", "a.bench", "b", ENDS="3 netlist line 1: BadLine")[2].startswith("netlist line 1: BadLine\n  INPUT(a)\n")
+            assert made.run(atpg, "run", "a.bench", "b", ENDS="3 netlist line 1: BadLine", PATH=path)[2] == "netlist line 1: BadLine\n"
             assert made.run("bash", "-c", 'ulimit -f 1; exec "$@"', "limited", atpg, "run", "large", "b")[0] == 6
             (made.folder / "counted").write_text("")
             assert made.run(atpg, "run", "counted", "b", ATPG_PROGRESS="1")[1] == "ran run counted b of 7\n"
