@@ -1,7 +1,8 @@
 -- The bits of words at outputs and at cells' pins.
 use Rattle.std.proofs.Common.{◌≡◌, ℕ, ◌+◌, List, [], ◌∷◌, ◌++◌, map, None, refl, ap, ap₂, ◌∙◌}
 use Rattle.std.specs.List.{flat_map}
-use Rattle.std.proofs.lemmas.List.{map-append, map_map}
+use Rattle.std.proofs.lemmas.List.{map-append}
+use Rattle.netlist.proofs.Lists.{map_map}
 use Rattle.netlist.specs.declared.lines.Line.TheVariants.{Out}
 use Rattle.netlist.specs.Netlist.{Definition}
 use Rattle.netlist.specs.Settled.{bits, on_pins, pins_of}
