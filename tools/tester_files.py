@@ -131,11 +131,12 @@ class RealNames:
         self.module = self.table.pop(MODULE, None)
 
     def of(self, name):
-        """A signal's or pin's real name; what scan insertion adds to a cell goes by the cell's."""
+        """A signal's or pin's real name; what scan insertion adds to a cell goes by the cell's. Yosys shows a name that begins with a digit
+        with a backslash before it."""
         if name in self.table:
-            return self.table[name]
+            return self.table[name].removeprefix("\\")
         match = OF_A_CELL.fullmatch(name)
-        return match[1] + self.of(match[2]) if match else name
+        return match[1] + self.of(match[2]) if match else name.removeprefix("\\")
 
 
 def read_names(paths):
