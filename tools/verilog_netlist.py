@@ -121,14 +121,16 @@ class Chip:
                 raise Bad(f"{other} and {name} have one real name: {self.names.of(name)}")
 
     def make_ports(self):
-        """The ports; inputs are read by their bits, every other signal is a net of its own."""
+        """The ports; an input is read where it comes in, and every other signal is a net of its own, since a testbench can force no bit of a
+        word."""
         real, design = self.names.of, self.design
         taken = {real(name) for name in design.kinds}
         clock = [Port("input", real(CLOCK), [real(CLOCK)])] * bool(self.cells)
         inputs = ports_of("input", [real(name) for name in design.inputs], taken)
         outputs = ports_of("output", [real(name) for name in self.pins], taken)
         bits = {bit: port_bit(port, bit) for port in inputs for bit in port.bits}
-        self.references = {name: bits[real(name)] if design.kinds[name] == "INPUT" else spelled(real(name)) for name in design.kinds}
+        bits |= {bit: spelled(f"SC__n_{bit}") for port in outputs if len(port.bits) > 1 for bit in port.bits}
+        self.references = {name: bits.get(real(name)) or spelled(real(name)) for name in design.kinds}
         return clock + inputs + outputs
 
     def net(self, name):
