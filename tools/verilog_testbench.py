@@ -8,7 +8,7 @@ until the clock ticks again.
 
 import collections
 
-from library_cells import function_of
+from cell_file import function_of
 from tester_files import CLOCK
 from verilog_netlist import spelled
 
