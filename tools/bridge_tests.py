@@ -215,7 +215,7 @@ def test_verilog_netlist(folder):
 @in_folder
 def test_verilog_scan_cells(folder):
     """A scan cell reads its data, the cell before it (the first one its chain's scan input), scan enable and clock."""
-    made = Made(folder, ODD, 2, ODD_NAMES)
+    made = Made(folder, ODD, 2, ODD_NAMES | {"wide": "$abc$7$new"})
     made.with_cells("scan_output")
     _, cells, assigned = statements_of(made.file("v").read_text(), "odd_chip")
     clocked = {name: pins for name, (cell, pins) in cells.items() if cell == "SDFFS"}

@@ -131,10 +131,10 @@ class RealNames:
         self.module = self.table.pop(MODULE, None)
 
     def of(self, name):
-        """A signal's or pin's real name; what scan insertion adds to a cell goes by the cell's. Yosys shows a name that begins with a digit
-        with a backslash before it."""
+        """A signal's or pin's real name; what scan insertion adds to a cell goes by the cell's. One that begins with a dollar sign was made by
+        Yosys and is nobody's; before a name of the design's that looks so, or like a number, Yosys puts a backslash."""
         if name in self.table:
-            return self.table[name].removeprefix("\\")
+            return name if self.table[name].startswith("$") else self.table[name].removeprefix("\\")
         match = OF_A_CELL.fullmatch(name)
         return match[1] + self.of(match[2]) if match else name.removeprefix("\\")
 
