@@ -13,6 +13,7 @@ import tempfile
 import plain_check
 import plain_design
 import plain_play
+import plain_stil
 
 ROOT = pathlib.Path(__file__).resolve().parent.parent
 
@@ -336,6 +337,21 @@ def test_vectors(folder):
             assert [heads["inputs"].split(" "), heads["outputs"].split(" ")] == wanted, heads
             clock = [real("SC__ck")] * bool(made.chains)
             assert names == wanted[0] + clock + wanted[1] and heads.get("clock", "") == "".join(clock)
+
+
+@in_folder
+def test_other_vectors(folder):
+    """A file that isn't of patterns: a capture without a tick, and one that drives and strobes the chains, as the plain reader takes them."""
+    made = Made(folder, s27(), 2)
+    old = '"SC__si0" = 0; "SC__si1" = 0; "SC__ck" = P; "SC__po" = H; "SC__so0" = X; "SC__so1" = X;'
+    text = made.file("stil").read_text()
+    assert text.count(old) > 1
+    text = text.replace(old, old.replace("P", "0", 1), 1).replace(old, old.replace('"SC__si1" = 0', '"SC__si1" = 1').replace('"SC__so0" = X', '"SC__so0" = L'), 1)
+    made.file("stil").write_text(text)
+    wanted = plain_stil.cycles_in(text.encode())
+    assert wanted != made.cycles and len(wanted) == len(made.cycles)
+    assert plain_cycles(said_by(ROOT / "tools/vectors_of", made.file("stil"), "--plain")[1])[1] == wanted
+    assert wgl_cycles(said_by(ROOT / "tools/vectors_of", made.file("stil"), "--wgl")[1])[1] == wanted
 
 
 @in_folder
