@@ -175,6 +175,22 @@ def test_testbench_of_other_vectors(folder):
     assert made.played(f"+vectors={made.file('moved')}") == ["passes"]
 
 
+@in_folder
+def test_testbench_by_ports(folder):
+    """Without faults the testbench plays a netlist whose nets have other names, and sees where it is another one."""
+    if shutil.which("iverilog") is None:
+        return "left out: no iverilog"
+    made = Made(folder, s27(), 1)
+    made.verilog_of()
+    text = re.sub(r"\bG1[0-6]\b", "\\g<0>_new", made.file("v").read_text())
+    for changed, wanted in ((text, ["passes"]), (text.replace("not (G17, ", "buf (G17, "), None)):
+        made.file("v").write_text(changed)
+        status, _, errors = said_by("iverilog", "-DNO_FAULTS", "-o", made.file("vvp"), made.file("v"), made.file("tb.v"))
+        assert (status, errors) == (0, ""), errors
+        assert made.played() == wanted if wanted else made.played()[0].endswith("signal G17"), made.played()
+    assert said_by("iverilog", "-o", made.file("vvp"), made.file("v"), made.file("tb.v"))[0] != 0
+
+
 # The netlist, read back.
 
 NAME = r"(?:\\\S+ |[\w$]+)(?:\[\d+\])?"

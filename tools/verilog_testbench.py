@@ -3,7 +3,7 @@
 A fault is put in from outside, by `force`, so that the netlist is the one that is shipped: a stem of a gate or cell is forced; at an input
 the tester drives the stuck bit; at an output it sees it; and for a gate's pin the gate's output is forced to what the gate makes with the
 pin stuck. The data pin of a library's scan cell has no gate before it: behind each capture the cell's outputs are forced to the stuck bit,
-until the clock ticks again.
+until the clock ticks again. All that names nets within the netlist is left out where NO_FAULTS is defined.
 """
 
 import collections
@@ -125,6 +125,7 @@ module {bench};
 {ports}
   );
 
+`ifndef NO_FAULTS
   // A stuck pin of a gate: the gate's output is what the gate makes of it.
 {always}
 
@@ -145,6 +146,7 @@ module {bench};
       default: ;
     endcase
   end endtask
+`endif
 
   task name_pin; begin
     case (k)
@@ -171,7 +173,9 @@ module {bench};
       $display("not the vectors of this testbench: %0s", file);
       $finish(0);
     end
+`ifndef NO_FAULTS
     if ($value$plusargs("fault=%s", fault)) choose_fault;
+`endif
     for (t = 0; t < CYCLES && (all || !failed); t = t + 1) begin
       vector = vectors[t];
       drive = vector[0:DRIVES-1];
@@ -180,7 +184,9 @@ module {bench};
       for (k = 0; k < STROBES; k = k + 1) strobe_pin;
       #5 clock = vector[DRIVES];
       #10 clock = 0;
+`ifndef NO_FAULTS
       if (vector[DRIVES]) after_tick;
+`endif
       #45;
     end
     if (!failed) $display("passes");
