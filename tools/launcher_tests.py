@@ -430,8 +430,14 @@ def test_launcher_says_why():
         assert made.left() == [], made.left()
 
 
-NO_FAULT = ["atpg: a fault is written as 'stem NAME/0', 'out NAME/1' or 'pin GATE K/1', K from 0; the last two where a signal has several readers",
-            "atpg: `atpg faults NET` lists those of a netlist before scan insertion, `atpg chaintest NET STIL` those of the scan hardware"]
+LISTED = "atpg: `atpg faults NET` lists the faults of a netlist before scan insertion, `atpg chaintest NET STIL` those of the scan hardware"
+NO_FORM = ["atpg: a fault is written 'stem NAME/0', 'out NAME/1' or 'pin GATE K/1', K being the pin's number from 0", LISTED]
+
+
+def no_line(fault):
+    return [f"atpg: a.bench has no line for '{fault}' (a pin or an output is a line where its signal has several readers, else their stem is)", LISTED]
+
+
 CAUSES = (
     (("scan", "a.bench", "none/b"), "6 write failed: none/b", ["atpg: there is no folder none"]),
     (("scan", "a.bench", "a.stil/b"), "6 write failed: a.stil/b", ["atpg: a.stil is no folder"]),
@@ -446,7 +452,12 @@ CAUSES = (
     (("check", "a.rep"), "7 no such file: a.rep.net", ["atpg: what is checked is named by what its five names begin with: a"]),
     (("check", "x/a.b.scan"), "7 no such file: x/a.b.scan.net", ["atpg: what is checked is named by what its five names begin with: x/a.b"]),
     (("faults", "a.bench"), "8 too long: a.bench", ["atpg: a.bench has 9 bytes, and 67108864 are read at most"]),
-    (("play", "a.bench", "a.stil", "--fault", "x"), "2 no such fault", NO_FAULT),
+    (("play", "a.bench", "a.stil", "--fault", "x"), "2 no such fault", NO_FORM),
+    (("play", "a.bench", "--fault=", "a.stil"), "2 no such fault", NO_FORM),
+    (("play", "a.bench", "--fault", "stem x/2", "a.stil"), "2 no such fault", NO_FORM),
+    (("play", "a.bench", "a.stil", "--fault=stem x=y[3]/1"), "2 no such fault", no_line("stem x=y[3]/1")),
+    (("play", "a.bench", "--fault", "pin z 1/0", "a.stil"), "2 no such fault", no_line("pin z 1/0")),
+    (("play", "a.bench", "--fault", "out y/0", "a.stil"), "2 no such fault", no_line("out y/0")),
     (("play", "a.bench", "a.stil"), "4 stil does not fit",
      ["atpg: a.stil is no test of the netlist in a.bench: play wants the scanned netlist of the same run, PREFIX.scan with PREFIX.stil"]),
     (("diagnose", "--chains", "1", "a.bench", "a.stil", "l"), "4 stil does not fit",
