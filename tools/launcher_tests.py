@@ -201,6 +201,7 @@ def test_launcher_runs_sources():
             assert made.left() == [] and made.trials() == 1, made.left()
         made.add_check()
         assert made.run(made.root / "atpg-check", "x")[:2] == (0, "tried x\n") and made.trials() == 2
+        assert {(made.root / "built/unproved" / name).stat().st_mode & 0o777 for name in ("atpg", "atpg-check")} == {0o755}
         made.source("below").write_text("//! else\n")
         assert made.atpg("faults", "x")[1].endswith("tried faults x\n") and made.trials() == 3
         made.source("atpg_main").write_text("broken\n")
