@@ -510,6 +510,11 @@ def test_launcher_says_what_is_wrong_with_a_netlist():
             status, out, errors = made.run(made.root / name, *words, ENDS=f"3 {line}")
             assert (status, out, errors.splitlines()[:2]) == (3, "", [line, "  y = INV(a)"]) and "NOT is what is meant" in errors, errors
         assert made.run(made.root / "atpg", "run", "a.net", "b", ENDS=f"3 {line}", PATH=made.path_without("python3")) == (3, "", f"{line}\n")
+        (made.folder / "long.net").write_text("INPUT(a)\nOUTPUT(y)\ny = INV(a)\n#" + "x" * 4_000_000)
+        said = made.run(made.root / "atpg", "run", "long.net", "b", ENDS=f"3 {line}")[2].splitlines()
+        assert said == [line, f"atpg: to see why: python3 '{made.root}/tools/explain' --of '{line}' 'long.net'"], said
+        asked = made.run("bash", "-c", said[1].partition(": to see why: ")[2])
+        assert asked[0] == 0 and asked[1].startswith("  y = INV(a)\nINV is no gate; NOT is what is meant"), asked
 
 
 def test_launcher_says_where_it_was():
