@@ -49,7 +49,8 @@ pub trait Engine {
         requires { AreHoldsOf core.now holds.now }
         ensures { IfOk result (serves core.now holds.now) };
 
-    /// The same answer as a search in this room, whatever was searched in it before; and the room back.
+    /// A search in this room, whatever was searched in it before: an answer with its evidence, which may be another than without a room, and the room
+    /// back.
     fn search_in(
         &self,
         alloc: Global,

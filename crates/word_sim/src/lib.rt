@@ -1,8 +1,10 @@
 //! Sixty-four patterns at a time, and what they detect.
 //!
-//! Gives: `good64`, `hits`, `last_tells`, `unmarked` and `told_of_all`, `Simulator`, `Batch`, `Hit`.
+//! Gives: `good64`, `response64`, `hits`, `last_tells`, `last_marked`, `good_events`, `next_patterns`, `used_bits`, `unmarked` and `told_of_all`,
+//! `Simulator`, `Batch`, `Hit`.
 //! Proved: each exactly: the words of up to 64 patterns, which given faults they detect, by which last pattern, at which first point; `last_tells`:
-//! of any number of patterns; `unmarked`, `told_of_all`: what it would answer, where faults that no pattern detects are left out; a `Simulator`
+//! of any number of patterns; `last_marked`: of the patterns that a word marks, by events from the values of `good_events`, which `next_patterns` brings
+//! to further patterns; `used_bits`: the word that marks as many patterns; `response64`: what outputs and cells show; `unmarked`, `told_of_all`: what it would answer, where faults that no pattern detects are left out; a `Simulator`
 //! serves many batches.
 //! Tested: that it comes to these answers, by rows of `calls`, most of them worked out by a plain program from all patterns.
 //! Neither: how faults are grouped; time.
@@ -29,4 +31,4 @@ pub use last_detected::last_tells;
 pub use leaving_out::{told_of_all, unmarked};
 pub use packing::used_bits;
 pub use simulator::Simulator;
-pub use words::{Words, good64};
+pub use words::{ResponseWords, Words, good64, response64};
