@@ -12,7 +12,7 @@ from yosys_gates import FLIP_FLOPS, GATES, TIES, Gate, Refused, flip_flop_of, ga
 
 COMPLEMENT = {"AND": "NAND", "OR": "NOR", "XOR": "XNOR"}
 
-# A cell by the bits of its module: gates, pairs of flip-flop and clock, pins by name, and names of bits.
+# A cell by the bits of its module: gates, pairs of flip-flop and clock, pins by name, and for a bit its name and whether Yosys made it.
 Cell = collections.namedtuple("Cell", "gates flip_flops inputs outputs names")
 
 
@@ -74,7 +74,8 @@ def cell_of(module):
     pins_of(module, "inout")
     inputs, outputs = pins_of(module, "input"), pins_of(module, "output")
     read = [*outputs.values(), *(bit for part, (clock, _) in flip_flops for bit in (*part.pins, clock))]
-    names = {word["bits"][0]: name for name, word in module["netnames"].items() if not word.get("hide_name")}
+    nets = sorted(module["netnames"].items(), key=lambda pair: -pair[1].get("hide_name", 0))  # where a bit has several names, a given one
+    names = {word["bits"][0]: (name, bool(word.get("hide_name"))) for name, word in nets}
     return Cell(joined(gates, read), flip_flops, inputs, outputs, names)
 
 
@@ -106,8 +107,8 @@ class Instances:
     def __init__(self, modules):
         self.modules = {name: module for name, module in modules.items() if is_library_cell(module)}
         self.cells = {}
-        self.names = {}  # of a bit within an instance; public where Yosys's flat netlist has it too
-        self.public = set()
+        self.names = {}  # of a bit within an instance, as .bench has it
+        self.flat = {}  # the same for flip-flops, as Yosys has it where it flattens the netlist
 
     def cell(self, name, kind):
         if kind not in self.cells:
@@ -122,9 +123,10 @@ class Instances:
         for number, part in enumerate(parts, 1):
             if part.out not in bits:
                 bits[part.out] = inner = (name, part.out)
-                self.names[inner] = f"{name}.{cell.names.get(part.out, number)}"
-                if part.out in cell.names:
-                    self.public.add(inner)
+                given, made = cell.names.get(part.out, ("", True))
+                self.names[inner] = f"{name}.{number if made else given}"
+                if part.kind == "DFF":
+                    self.flat[inner] = f"$flatten\\{name}.{given}" if made else f"{name}.{given}"
 
     def parts_of(self, name, instance):
         """An instance's gates, and its pairs of flip-flop and clock, by the bits of the netlist."""

@@ -94,7 +94,8 @@ class Cell:
             joined = {direction: [(port["bits"][0], instance["connections"][pin][0]) for pin, port in module["ports"].items()
                                   if port["direction"] == direction and instance["connections"].get(pin)] for direction in ("input", "output")}
             self.inputs, self.outputs = dict(joined["input"]), joined["output"]
-            self.names = {word["bits"][0]: each for each, word in module["netnames"].items() if not word.get("hide_name")}
+            for each, word in sorted(module["netnames"].items(), key=lambda pair: -pair[1].get("hide_name", 0)):  # as the flat netlist has them
+                self.names[word["bits"][0]] = f"$flatten\\{name}.{each}" if word.get("hide_name") else f"{name}.{each}"
         for part in parts:
             pins = {pin: bits[0] for pin, bits in part["connections"].items()}
             if part["type"] in FLIP_FLOPS:
@@ -128,9 +129,11 @@ class Cell:
         return CONSTANTS[net] * all if net in CONSTANTS else words[net]
 
     def most(self):
-        """How many gates and flip-flops of .bench it may have: its own, and one for each output pin that is another pin or a constant."""
+        """How many gates and flip-flops of .bench it may have: its own, of a multiplexer four, and one for each output pin that is another
+        pin or a constant."""
         driven = {bit for bit, _ in self.outputs if bit in self.gates or bit in self.flip_flops}
-        return len(self.gates) + len(self.flip_flops) + len(self.outputs) - len(driven)
+        multiplexers = sum(kind == "$_MUX_" for kind, _ in self.gates.values())
+        return len(self.gates) + 3 * multiplexers + len(self.flip_flops) + len(self.outputs) - len(driven)
 
     def used(self, bits):
         """The flip-flops that lead to some bits."""
@@ -185,7 +188,7 @@ class Walk:
     def flip_flop(self, bit):
         """The name in .bench of one of the cell's flip-flops."""
         net = next((net for each, net in self.cell.outputs if each == bit), None)
-        inner = f"{self.cell.name}.{self.cell.names.get(bit)}"
+        inner = self.cell.names.get(bit)
         name = self.bench.signals.get(net) if net is not None else self.bench.ours.get(inner, inner)
         if name not in self.bench.definitions or self.bench.definitions[name][0] != "DFF":
             raise Differs(f"cell {self.cell.name} has a flip-flop that .bench hasn't")
