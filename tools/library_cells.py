@@ -28,17 +28,23 @@ def multiplexer(name, cell):
             Gate(name, "AND", [one, select], between[2]), Gate(name, "OR", between[1:], out)]
 
 
+def joined_kind(above, below):
+    """The kind of one gate that does what two do, of which one alone reads the other; None where there is no such gate."""
+    if below not in COMPLEMENT:
+        return None
+    return COMPLEMENT[below] if above == "NOT" else above if above in (below, COMPLEMENT[below]) else None
+
+
 def joined_once(gates, readers):
     """Joins one gate with the only reader of its output; answers whether there was one."""
     for gate in gates.values():
         for place, bit in enumerate(gate.pins):
             below = gates.get(bit)
-            if below is None or readers[bit] != 1 or below.kind not in COMPLEMENT or gate.kind not in ("NOT", below.kind):
-                continue
-            kind = COMPLEMENT[below.kind] if gate.kind == "NOT" else below.kind
-            gates[gate.out] = gate._replace(kind=kind, pins=gate.pins[:place] + below.pins + gate.pins[place + 1:])
-            del gates[bit]
-            return True
+            kind = joined_kind(gate.kind, below.kind) if below is not None and readers[bit] == 1 else None
+            if kind is not None:
+                gates[gate.out] = gate._replace(kind=kind, pins=gate.pins[:place] + below.pins + gate.pins[place + 1:])
+                del gates[bit]
+                return True
     return False
 
 

@@ -129,11 +129,12 @@ class Cell:
         return CONSTANTS[net] * all if net in CONSTANTS else words[net]
 
     def most(self):
-        """How many gates and flip-flops of .bench it may have: its own, of a multiplexer four, and one for each output pin that is another
-        pin or a constant."""
+        """How many gates and flip-flops of .bench it may have, and with how many pins: its own, of a multiplexer four with seven, and one for
+        each output pin that is another pin or a constant."""
         driven = {bit for bit, _ in self.outputs if bit in self.gates or bit in self.flip_flops}
         multiplexers = sum(kind == "$_MUX_" for kind, _ in self.gates.values())
-        return len(self.gates) + 3 * multiplexers + len(self.flip_flops) + len(self.outputs) - len(driven)
+        others = len(self.flip_flops) + len(self.outputs) - len(driven)
+        return len(self.gates) + 3 * multiplexers + others, sum(len(pins) for _, pins in self.gates.values()) + 4 * multiplexers + others
 
     def used(self, bits):
         """The flip-flops that lead to some bits."""
@@ -150,7 +151,7 @@ class Walk:
     """What .bench has of one cell."""
 
     def __init__(self, bench, cell):
-        self.bench, self.cell, self.count = bench, cell, 0
+        self.bench, self.cell, self.count, self.pins = bench, cell, 0, 0
         self.words, self.all = cell.words()
         self.states = {}  # a flip-flop of .bench, and its word
 
@@ -159,6 +160,7 @@ class Walk:
         if owner != self.cell.name:
             raise Differs(f"{name} belongs to two cells, {owner} and {self.cell.name}")
         self.count += 1
+        self.pins += len(self.bench.definitions[name][1])
 
     def made(self, name):
         """What a signal's own gate makes."""
@@ -206,8 +208,9 @@ class Walk:
             self.bench.owners[name] = self.cell.name
             if self.value(self.bench.definitions[name][1][0]) != self.cell.value(self.cell.flip_flops[bit], self.words, self.all):
                 raise Differs(f"{name} takes another bit than the flip-flop of cell {self.cell.name}")
-        if self.count > self.cell.most():
-            raise Differs(f"cell {self.cell.name} has {self.count} gates in .bench, and may have {self.cell.most()}")
+        gates, pins = self.cell.most()
+        if self.count > gates or self.pins > pins:
+            raise Differs(f"cell {self.cell.name} has {self.count} gates with {self.pins} pins in .bench, and may have {gates} with {pins}")
 
 
 def compare_names(bench, nets):
