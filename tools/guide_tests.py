@@ -133,6 +133,18 @@ def test_top():
             assert status == 0 and any(f"y = {gate}(" in line for line in definitions_of(prefix)), errors
 
 
+def test_kept_modules():
+    """Modules and instances marked keep_hierarchy are flattened too."""
+    if not has_yosys():
+        return NO_YOSYS
+    text = """module kept(input a, input b, output y); wire t; (* keep_hierarchy *) inner I (.a(a), .b(b), .y(t)); sub S (.a(t), .y(y)); endmodule
+        (* keep_hierarchy *) module sub(input a, output y); assign y = ~a; endmodule
+        module inner(input a, input b, output y); assign y = a & b; endmodule\n"""
+    with tempfile.TemporaryDirectory() as folder:
+        prefix, (status, _, errors) = made_bench(folder, "kept", text)
+        assert status == 0 and definitions_of(prefix)[3:] == ["y = NAND(b, a)"], errors
+
+
 # A netlist of library cells.
 
 TWICE = ["INPUT(a)", "INPUT(b)", "INPUT(c)", "OUTPUT(q)", "OUTPUT(y)", "q = DFF(both)", "once = NAND(a, b)", "again = NAND(a, b)",
@@ -206,6 +218,8 @@ def test_library_cells():
             assert status == 0 and "its gates and names are the netlist's: 8 library cells" in said and errors == "", said + errors
         for instance, why in (("LATCH U (.G(a), .D(b), .Q(y));", "D latches are not supported"), ("NOT_THERE U (.A(a), .Y(y));", "is not part of the design"),
                               ("nand U (y, a, b);", "between library cells"), ("assign y = a & b;", "between library cells"),
+                              ("INV U (.A(a), .Y(y), .VDD(b));", "does not have a port named 'VDD'"),
+                              ("wire k; BUF C (.A(a), .Y(k)); DFF U (.CK(k), .D(b), .Q(y));", "its clock k is no input of the design"),
                               ("INV U (.A(), .Y(y));", "its pin A is joined to 0 bits"), ("DFF U (.CK(b & a), .D(a), .Q(y));", "between library cells")):
             _, (status, _, errors) = made_bench(folder, "bad", f"module bad(input a, input b, output y); {instance} endmodule\n", "--cells", CELLS)
             assert status == 1 and why in errors, (instance, errors)

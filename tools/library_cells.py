@@ -1,6 +1,6 @@
 """Library cells as gates of .bench, for tools/bench_from_yosys: what each instance of a mapped netlist becomes.
 
-A cell is a module of Yosys's JSON that is marked `keep_hierarchy` (tools/bench_from_verilog has Yosys mark those of a library). Its function
+A cell is a module of Yosys's JSON that is marked `library_cell` (by tools/bench_from_verilog). Its function
 becomes as few gates as show it: an AND that a NOT alone reads is a NAND, an AND that an AND alone reads is one wide AND; so with OR and XOR.
 Each instance gets gates of its own, a buffer is a BUFF, and nothing is joined across two instances. What leads to no pin that is joined to a
 net is left out.
@@ -17,7 +17,7 @@ Cell = collections.namedtuple("Cell", "gates flip_flops inputs outputs names")
 
 
 def is_library_cell(module):
-    return int(str(module.get("attributes", {}).get("keep_hierarchy", "0")), 2) != 0
+    return int(str(module.get("attributes", {}).get("library_cell", "0")), 2) != 0
 
 
 def multiplexer(name, cell):
