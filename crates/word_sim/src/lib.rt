@@ -1,6 +1,6 @@
 //! Sixty-four patterns at a time, and what they detect.
 //!
-//! Gives: `good64`, `hits`, `last_tells`, `unmarked` and `told_of_all`, `Simulator`, `Batch`, `Hit`.
+//! Gives: `good64`, `response64`, `hits`, `last_tells`, `unmarked` and `told_of_all`, `Simulator`, `Batch`, `Hit`.
 //! Proved: each exactly: the words of up to 64 patterns, which given faults they detect, by which last pattern, at which first point; `last_tells`:
 //! of any number of patterns; `unmarked`, `told_of_all`: what it would answer, where faults that no pattern detects are left out; a `Simulator`
 //! serves many batches.
@@ -29,4 +29,4 @@ pub use last_detected::last_tells;
 pub use leaving_out::{told_of_all, unmarked};
 pub use packing::used_bits;
 pub use simulator::Simulator;
-pub use words::{Words, good64};
+pub use words::{ResponseWords, Words, good64, response64};
