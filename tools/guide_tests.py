@@ -175,7 +175,7 @@ def test_kept():
 ODD_CELLS = r"""module odd(input clk, input rst_n, input [1:0] d, output q, output nq, output [1:0] sum, output same, output one, output copy);
     wire lost, unread;
     DFFR F1 (.CK(clk), .RN(rst_n), .D(d[0]), .Q(q));
-    DFF \F(2) (.CK(clk), .D(q), .Q(), .QN(nq));
+    DFFN \F(2) (.CK(clk), .D(q), .Q(), .QN(nq));
     half H (.clk(clk), .d({nq, d[1]}), .y(sum));
     BUF B1 (.A(sum[0]), .Y(same));
     TIE1 T (.Y(one));
@@ -184,7 +184,7 @@ ODD_CELLS = r"""module odd(input clk, input rst_n, input [1:0] d, output q, outp
 endmodule
 module half(input clk, input [1:0] d, output [1:0] y);
     wire t;
-    DFF F3 (.CK(clk), .D(d[0]), .Q(y[0]), .QN(t));
+    DFFN F3 (.CK(clk), .D(d[0]), .Q(y[0]), .QN(t));
     HA A (.A(d[1]), .B(t), .S(y[1]), .C());
 endmodule
 """
@@ -193,7 +193,7 @@ module BUF(input A, output Y); buf (Y, A); endmodule
 module TIE1(output Y); assign Y = 1'b1; endmodule
 module MUX2(input A, input B, input S, output Y); assign Y = S ? B : A; endmodule
 module HA(input A, input B, output S, output C); xor (S, A, B); and (C, A, B); endmodule
-module DFF(input CK, input D, output reg Q, output QN); always @(posedge CK) Q <= D; assign QN = ~Q; endmodule
+module DFFN(input CK, input D, output reg Q, output QN); always @(posedge CK) Q <= D; assign QN = ~Q; endmodule
 module DFFR(input CK, input RN, input D, output reg Q); always @(posedge CK or negedge RN) if (!RN) Q <= 0; else Q <= D; endmodule
 """
 
