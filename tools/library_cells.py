@@ -1,6 +1,6 @@
 """Library cells as gates of .bench, for tools/bench_from_yosys: what each instance of a mapped netlist becomes.
 
-A cell is a module of Yosys's JSON that is marked `keep_hierarchy` (tools/bench_from_verilog has Yosys mark those of a library). Its function
+A cell is a module of Yosys's JSON that is marked `library_cell` (by tools/bench_from_verilog). Its function
 becomes as few gates as show it: an AND that a NOT alone reads is a NAND, an AND that an AND alone reads is one wide AND; so with OR and XOR.
 Each instance gets gates of its own, a buffer is a BUFF, and nothing is joined across two instances. What leads to no pin that is joined to a
 net is left out.
@@ -12,12 +12,12 @@ from yosys_gates import FLIP_FLOPS, GATES, TIES, Gate, Refused, flip_flop_of, ga
 
 COMPLEMENT = {"AND": "NAND", "OR": "NOR", "XOR": "XNOR"}
 
-# A cell by the bits of its module: gates, pairs of flip-flop and clock, pins by name, and names of bits.
+# A cell by the bits of its module: gates, pairs of flip-flop and clock, pins by name, and for a bit its name and whether Yosys made it.
 Cell = collections.namedtuple("Cell", "gates flip_flops inputs outputs names")
 
 
 def is_library_cell(module):
-    return int(str(module.get("attributes", {}).get("keep_hierarchy", "0")), 2) != 0
+    return int(str(module.get("attributes", {}).get("library_cell", "0")), 2) != 0
 
 
 def multiplexer(name, cell):
@@ -28,17 +28,23 @@ def multiplexer(name, cell):
             Gate(name, "AND", [one, select], between[2]), Gate(name, "OR", between[1:], out)]
 
 
+def joined_kind(above, below):
+    """The kind of one gate that does what two do, of which one alone reads the other; None where there is no such gate."""
+    if below not in COMPLEMENT:
+        return None
+    return COMPLEMENT[below] if above == "NOT" else above if above in (below, COMPLEMENT[below]) else None
+
+
 def joined_once(gates, readers):
     """Joins one gate with the only reader of its output; answers whether there was one."""
     for gate in gates.values():
         for place, bit in enumerate(gate.pins):
             below = gates.get(bit)
-            if below is None or readers[bit] != 1 or below.kind not in COMPLEMENT or gate.kind not in ("NOT", below.kind):
-                continue
-            kind = COMPLEMENT[below.kind] if gate.kind == "NOT" else below.kind
-            gates[gate.out] = gate._replace(kind=kind, pins=gate.pins[:place] + below.pins + gate.pins[place + 1:])
-            del gates[bit]
-            return True
+            kind = joined_kind(gate.kind, below.kind) if below is not None and readers[bit] == 1 else None
+            if kind is not None:
+                gates[gate.out] = gate._replace(kind=kind, pins=gate.pins[:place] + below.pins + gate.pins[place + 1:])
+                del gates[bit]
+                return True
     return False
 
 
@@ -74,7 +80,8 @@ def cell_of(module):
     pins_of(module, "inout")
     inputs, outputs = pins_of(module, "input"), pins_of(module, "output")
     read = [*outputs.values(), *(bit for part, (clock, _) in flip_flops for bit in (*part.pins, clock))]
-    names = {word["bits"][0]: name for name, word in module["netnames"].items() if not word.get("hide_name")}
+    nets = sorted(module["netnames"].items(), key=lambda pair: -pair[1].get("hide_name", 0))  # where a bit has several names, a given one
+    names = {word["bits"][0]: (name, bool(word.get("hide_name"))) for name, word in nets}
     return Cell(joined(gates, read), flip_flops, inputs, outputs, names)
 
 
@@ -106,8 +113,8 @@ class Instances:
     def __init__(self, modules):
         self.modules = {name: module for name, module in modules.items() if is_library_cell(module)}
         self.cells = {}
-        self.names = {}  # of a bit within an instance; public where Yosys's flat netlist has it too
-        self.public = set()
+        self.names = {}  # of a bit within an instance, as .bench has it
+        self.flat = {}  # the same for flip-flops, as Yosys has it where it flattens the netlist
 
     def cell(self, name, kind):
         if kind not in self.cells:
@@ -122,9 +129,10 @@ class Instances:
         for number, part in enumerate(parts, 1):
             if part.out not in bits:
                 bits[part.out] = inner = (name, part.out)
-                self.names[inner] = f"{name}.{cell.names.get(part.out, number)}"
-                if part.out in cell.names:
-                    self.public.add(inner)
+                given, made = cell.names.get(part.out, ("", True))
+                self.names[inner] = f"{name}.{number if made else given}"
+                if part.kind == "DFF":
+                    self.flat[inner] = f"$flatten\\{name}.{given}" if made else f"{name}.{given}"
 
     def parts_of(self, name, instance):
         """An instance's gates, and its pairs of flip-flop and clock, by the bits of the netlist."""

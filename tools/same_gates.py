@@ -94,7 +94,8 @@ class Cell:
             joined = {direction: [(port["bits"][0], instance["connections"][pin][0]) for pin, port in module["ports"].items()
                                   if port["direction"] == direction and instance["connections"].get(pin)] for direction in ("input", "output")}
             self.inputs, self.outputs = dict(joined["input"]), joined["output"]
-            self.names = {word["bits"][0]: each for each, word in module["netnames"].items() if not word.get("hide_name")}
+            for each, word in sorted(module["netnames"].items(), key=lambda pair: -pair[1].get("hide_name", 0)):  # as the flat netlist has them
+                self.names[word["bits"][0]] = f"$flatten\\{name}.{each}" if word.get("hide_name") else f"{name}.{each}"
         for part in parts:
             pins = {pin: bits[0] for pin, bits in part["connections"].items()}
             if part["type"] in FLIP_FLOPS:
@@ -128,9 +129,12 @@ class Cell:
         return CONSTANTS[net] * all if net in CONSTANTS else words[net]
 
     def most(self):
-        """How many gates and flip-flops of .bench it may have: its own, and one for each output pin that is another pin or a constant."""
+        """How many gates and flip-flops of .bench it may have, and with how many pins: its own, of a multiplexer four with seven, and one for
+        each output pin that is another pin or a constant."""
         driven = {bit for bit, _ in self.outputs if bit in self.gates or bit in self.flip_flops}
-        return len(self.gates) + len(self.flip_flops) + len(self.outputs) - len(driven)
+        multiplexers = sum(kind == "$_MUX_" for kind, _ in self.gates.values())
+        others = len(self.flip_flops) + len(self.outputs) - len(driven)
+        return len(self.gates) + 3 * multiplexers + others, sum(len(pins) for _, pins in self.gates.values()) + 4 * multiplexers + others
 
     def used(self, bits):
         """The flip-flops that lead to some bits."""
@@ -147,7 +151,7 @@ class Walk:
     """What .bench has of one cell."""
 
     def __init__(self, bench, cell):
-        self.bench, self.cell, self.count = bench, cell, 0
+        self.bench, self.cell, self.count, self.pins = bench, cell, 0, 0
         self.words, self.all = cell.words()
         self.states = {}  # a flip-flop of .bench, and its word
 
@@ -156,6 +160,7 @@ class Walk:
         if owner != self.cell.name:
             raise Differs(f"{name} belongs to two cells, {owner} and {self.cell.name}")
         self.count += 1
+        self.pins += len(self.bench.definitions[name][1])
 
     def made(self, name):
         """What a signal's own gate makes."""
@@ -185,7 +190,7 @@ class Walk:
     def flip_flop(self, bit):
         """The name in .bench of one of the cell's flip-flops."""
         net = next((net for each, net in self.cell.outputs if each == bit), None)
-        inner = f"{self.cell.name}.{self.cell.names.get(bit)}"
+        inner = self.cell.names.get(bit)
         name = self.bench.signals.get(net) if net is not None else self.bench.ours.get(inner, inner)
         if name not in self.bench.definitions or self.bench.definitions[name][0] != "DFF":
             raise Differs(f"cell {self.cell.name} has a flip-flop that .bench hasn't")
@@ -203,8 +208,9 @@ class Walk:
             self.bench.owners[name] = self.cell.name
             if self.value(self.bench.definitions[name][1][0]) != self.cell.value(self.cell.flip_flops[bit], self.words, self.all):
                 raise Differs(f"{name} takes another bit than the flip-flop of cell {self.cell.name}")
-        if self.count > self.cell.most():
-            raise Differs(f"cell {self.cell.name} has {self.count} gates in .bench, and may have {self.cell.most()}")
+        gates, pins = self.cell.most()
+        if self.count > gates or self.pins > pins:
+            raise Differs(f"cell {self.cell.name} has {self.count} gates with {self.pins} pins in .bench, and may have {gates} with {pins}")
 
 
 def compare_names(bench, nets):

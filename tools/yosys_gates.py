@@ -15,7 +15,7 @@ REFUSED = [
     (r"\$_FF_|\$ff$|\$anyinit", "a flip-flop without a clock"),
     (r"\$_(S?DFF|ALDFF)|\$(a|s|al)?dff", "a flip-flop with set, reset or enable, or not yet mapped: run `dfflegalize -cell $_DFF_P_ x`"),
     (r"\$_", "no gate of .bench: run `abc -g AND,NAND,OR,NOR,XOR,XNOR`"),
-    (r"\$", "not mapped to gates: run `script tools/gates.ys`; between library cells (tools/keep.ys) nothing else may stand"),
+    (r"\$", "not mapped to gates: run `script tools/gates.ys`; between library cells nothing else may stand"),
     (r"", "a module of its own: run `flatten`, or give its source"),
 ]
 
