@@ -1,6 +1,6 @@
 -- What good files say comes true.
 use Rattle.std.proofs.Common.{◌≡◌, ◌≤◌, ℕ, ◌+◌, inl, inr, Bool, false, List, [], ◌∷◌, length, map, get_or, Some, option_map, Ok, refl, sym, ◌∙◌, ap, subst, arith, IsTrue}
-use Rattle.std.specs.List.{All, Contains, zip, slice_get}
+use Rattle.std.specs.List.{All, Contains, slice_get}
 use Rattle.std.proofs.lemmas.List.Elements.{All-weaker}
 use Rattle.std.proofs.lemmas.Option.{get_or_from_slice_get, slice_get-get_or, slice_get-map, slice_get_within}
 use Rattle.std.proofs.lemmas.List.{ext_get_or, length-map}
@@ -26,14 +26,12 @@ use Rattle.scan_play.specs.Cycles.{Cycle}
 use Rattle.scan_play.specs.Vectors.{AreVectors}
 use Rattle.netlist.specs.Settled.{bit_table}
 use Rattle.scan_play.specs.Laws.{moved, GoodPasses, UndetectedPasses, DetectedFails, VectorsFit, NoSequenceDetectsRedundant, SomeRun}
-use Rattle.stil_write.specs.StilFiles.{StilFile}
 use Rattle.stil_vectors.specs.FileVectors.{vectors_in}
 use Rattle.stil_patterns.specs.Laws.{FileVectors}
 use Rattle.fault_universe.specs.Laws.{FaultsHaveLines}
 use Rattle.fault_universe.specs.Texts.{fault_text}
 use Rattle.fault_universe.specs.Universe.{universe_of}
 use Rattle.fault_universe.proofs.Elements.{contains_at}
-use Rattle.fault_collapse.specs.Classes.{AreClasses, Represents}
 use Rattle.fault_collapse.specs.Joined.{IsEquivalent}
 use Rattle.fault_collapse.specs.Laws.{DetectedAlike}
 use Rattle.fault_collapse.specs.Numbers.{Classes}

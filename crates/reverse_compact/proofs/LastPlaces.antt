@@ -9,7 +9,7 @@ use Rattle.netlist.specs.Netlist.{Netlist}
 use Rattle.netlist.proofs.Lists.{contains_head, contains_tail}
 use Rattle.cubes.specs.Cubes.{Pattern}
 use Rattle.word_sim.specs.Hits.{IsDetectedAt, IsLastDetected, IsNeverDetected}
-use Rattle.reverse_compact.specs.Kept.{is_last_at, kept_from, new_place, marked_from}
+use Rattle.reverse_compact.specs.Kept.{is_last_at, kept_from, new_place}
 use Rattle.reverse_compact.specs.inner.Marks.{last_at}
 use Rattle.reverse_compact.proofs.KeepLemmas.{kept_at, source, rises}
 

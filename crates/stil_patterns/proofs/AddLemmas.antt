@@ -1,5 +1,5 @@
 -- The items of a file as they are added, test by test.
-use Rattle.std.proofs.Common.{◌≡◌, ◌∙◌, ◌+◌, ◌-◌, ◌<◌, ◌≤◌, ℕ, zero, suc, min, Bool, false, not, List, [], ◌∷◌, ◌++◌, ap, sym, refl, append_assoc, length, map, take, drop, get_or, arith, codes, replicate, Some, None}
+use Rattle.std.proofs.Common.{◌≡◌, ◌∙◌, ◌+◌, ◌-◌, ◌<◌, ◌≤◌, ℕ, zero, suc, min, false, List, [], ◌∷◌, ◌++◌, ap, sym, refl, append_assoc, length, map, take, drop, get_or, arith, codes, replicate, Some, None}
 use Rattle.std.specs.List.{slice_get}
 use Rattle.std.proofs.lemmas.List.{get_or-drop, get_or-take, length-drop, length-take}
 use Rattle.std.proofs.lemmas.Option.{slice_get-get_or}
@@ -13,7 +13,7 @@ use Rattle.netlist.specs.ThreeValues.{known}
 use Rattle.cubes.specs.Cubes.{Pattern}
 use Rattle.chain_stitch.specs.Chains.{cells_of}
 use Rattle.scan_insert.specs.Names.{output_name}
-use Rattle.scan_play.specs.Vectors.{Response, Responds, flush}
+use Rattle.scan_play.specs.Vectors.{Responds, flush}
 use Rattle.scan_play.proofs.Applied.{taken_count}
 use Rattle.scan_play.proofs.TestLists.{none_applied, one_applied, all_applied}
 use Rattle.stil_write.specs.StilFiles.{Item, StilFile, where_chained}

@@ -1,11 +1,11 @@
 //! Sixty-four patterns at a time, and what they detect.
 //!
-//! Gives: `good64`, `response64`, `hits`, `last_tells`, `last_marked`, `good_events`, `next_patterns`, `used_bits`, `unmarked` and `told_of_all`,
-//! `Simulator`, `Batch`, `Hit`.
-//! Proved: each exactly: the words of up to 64 patterns, which given faults they detect, by which last pattern, at which first point; `last_tells`:
-//! of any number of patterns; `last_marked`: of the patterns that a word marks, by events from the values of `good_events`, which `next_patterns` brings
-//! to further patterns; `used_bits`: the word that marks as many patterns; `response64`: what outputs and cells show; `unmarked`, `told_of_all`: what it would answer, where faults that no pattern detects are left out; a `Simulator`
-//! serves many batches.
+//! Gives: `good64`, `response64`, `hits`, `last_tells`, `unmarked` and `told_of_all`, `Simulator`, `Batch`, `Hit`; for who simulates on two frames:
+//! `good_events`, `next_patterns`, `used_bits`, `last_marked`.
+//! Proved: each exactly: the words of up to 64 patterns; `response64`: those that outputs and cells show; which given faults they detect, by which last
+//! pattern, at which first point; `last_tells`: of any number of patterns; `unmarked`, `told_of_all`: what it would answer, where faults that no pattern
+//! detects are left out; a `Simulator` serves many batches; `good_events`, `next_patterns`: the settled words of patterns, and of others in their place;
+//! `used_bits`: the bits that they have; `last_marked`: of patterns that are marked the last that detects a fault, and its first point.
 //! Tested: that it comes to these answers, by rows of `calls`, most of them worked out by a plain program from all patterns.
 //! Neither: how faults are grouped; time.
 #![tactic(auto)]

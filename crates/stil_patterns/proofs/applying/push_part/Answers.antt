@@ -1,4 +1,4 @@
-use Rattle.std.proofs.Common.{◌-◌, List, subst, arith}
+use Rattle.std.proofs.Common.{◌-◌, subst, arith}
 use Rattle.netlist.specs.Conditions.{IsSound}
 use Rattle.stil_patterns.proofs.AddLemmas.{begun_more, part_at}
 use Rattle.stil_patterns.proofs.applying.push_part.Goals as goal

@@ -2,7 +2,6 @@ use Rattle.std.proofs.Common.{◌++◌, ◌∷◌, [], ◌∙◌, ap, sym, map, 
 use Rattle.netlist.specs.declared.kinds.Tri.{Tri}
 use Rattle.netlist.specs.ThreeValues.{known}
 use Rattle.events.specs.Words.{bit_of}
-use Rattle.stil_write.specs.StilFiles.{Item}
 use Rattle.stil_vectors.specs.TestFiles.{capture_item, load_items}
 use Rattle.stil_patterns.specs.inner.Added.{response_at}
 use Rattle.stil_patterns.proofs.AddLemmas.{two_added}

@@ -10,7 +10,6 @@ use Rattle.netlist.specs.Netlist.{Netlist}
 use Rattle.cubes.specs.Cubes.{Cube, AgreesWith, HasBitsOf, HaveSameWidths, IsCubeOf, IsPatternOf}
 use Rattle.cubes.specs.Filling.{filled_all}
 use Rattle.cubes.proofs.MergeLemmas.{each_kept}
-use Rattle.transition_tests.specs.Batches.{words_on_stream}
 use Rattle.transition_tests.specs.Making.{AreFilledFrom}
 use Rattle.transition_tests.specs.inner.Cubes.{HasAgreeing}
 use Rattle.transition_tests.proofs.CubeLemmas.{agreeing}

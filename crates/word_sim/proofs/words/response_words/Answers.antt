@@ -1,4 +1,4 @@
-use Rattle.std.proofs.Common.{◌≡◌, ◌∙◌, None, List, ℕ, ap, map}
+use Rattle.std.proofs.Common.{◌∙◌, None, List, ℕ, ap, map}
 use Rattle.netlist.specs.Netlist.{cells}
 use Rattle.netlist.specs.Settled.{at, outs, next}
 use Rattle.events.specs.Words.{bit_of, words}
