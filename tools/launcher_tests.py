@@ -201,6 +201,7 @@ def test_launcher_runs_sources():
             assert made.left() == [] and made.trials() == 1, made.left()
         made.add_check()
         assert made.run(made.root / "atpg-check", "x")[:2] == (0, "tried x\n") and made.trials() == 2
+        assert {(made.root / "built/unproved" / name).stat().st_mode & 0o777 for name in ("atpg", "atpg-check")} == {0o755}
         made.source("below").write_text("//! else\n")
         assert made.atpg("faults", "x")[1].endswith("tried faults x\n") and made.trials() == 3
         made.source("atpg_main").write_text("broken\n")
@@ -430,8 +431,14 @@ def test_launcher_says_why():
         assert made.left() == [], made.left()
 
 
-NO_FAULT = ["atpg: a fault is written as 'stem NAME/0', 'out NAME/1' or 'pin GATE K/1', K from 0; the last two where a signal has several readers",
-            "atpg: `atpg faults NET` lists those of a netlist before scan insertion, `atpg chaintest NET STIL` those of the scan hardware"]
+LISTED = "atpg: `atpg faults NET` lists the faults of a netlist before scan insertion, `atpg chaintest NET STIL` those of the scan hardware"
+NO_FORM = ["atpg: a fault is written 'stem NAME/0', 'out NAME/1' or 'pin GATE K/1', K being the pin's number from 0", LISTED]
+
+
+def no_line(fault):
+    return [f"atpg: a.bench has no line for '{fault}' (a pin or an output is a line where its signal has several readers, else their stem is)", LISTED]
+
+
 CAUSES = (
     (("scan", "a.bench", "none/b"), "6 write failed: none/b", ["atpg: there is no folder none"]),
     (("scan", "a.bench", "a.stil/b"), "6 write failed: a.stil/b", ["atpg: a.stil is no folder"]),
@@ -446,7 +453,12 @@ CAUSES = (
     (("check", "a.rep"), "7 no such file: a.rep.net", ["atpg: what is checked is named by what its five names begin with: a"]),
     (("check", "x/a.b.scan"), "7 no such file: x/a.b.scan.net", ["atpg: what is checked is named by what its five names begin with: x/a.b"]),
     (("faults", "a.bench"), "8 too long: a.bench", ["atpg: a.bench has 9 bytes, and 67108864 are read at most"]),
-    (("play", "a.bench", "a.stil", "--fault", "x"), "2 no such fault", NO_FAULT),
+    (("play", "a.bench", "a.stil", "--fault", "x"), "2 no such fault", NO_FORM),
+    (("play", "a.bench", "--fault=", "a.stil"), "2 no such fault", NO_FORM),
+    (("play", "a.bench", "--fault", "stem x/2", "a.stil"), "2 no such fault", NO_FORM),
+    (("play", "a.bench", "a.stil", "--fault=stem x=y[3]/1"), "2 no such fault", no_line("stem x=y[3]/1")),
+    (("play", "a.bench", "--fault", "pin z 1/0", "a.stil"), "2 no such fault", no_line("pin z 1/0")),
+    (("play", "a.bench", "--fault", "out y/0", "a.stil"), "2 no such fault", no_line("out y/0")),
     (("play", "a.bench", "a.stil"), "4 stil does not fit",
      ["atpg: a.stil is no test of the netlist in a.bench: play wants the scanned netlist of the same run, PREFIX.scan with PREFIX.stil"]),
     (("diagnose", "--chains", "1", "a.bench", "a.stil", "l"), "4 stil does not fit",
@@ -498,6 +510,11 @@ def test_launcher_says_what_is_wrong_with_a_netlist():
             status, out, errors = made.run(made.root / name, *words, ENDS=f"3 {line}")
             assert (status, out, errors.splitlines()[:2]) == (3, "", [line, "  y = INV(a)"]) and "NOT is what is meant" in errors, errors
         assert made.run(made.root / "atpg", "run", "a.net", "b", ENDS=f"3 {line}", PATH=made.path_without("python3")) == (3, "", f"{line}\n")
+        (made.folder / "long.net").write_text("INPUT(a)\nOUTPUT(y)\ny = INV(a)\n#" + "x" * 4_000_000)
+        said = made.run(made.root / "atpg", "run", "long.net", "b", ENDS=f"3 {line}")[2].splitlines()
+        assert said == [line, f"atpg: to see why: python3 '{made.root}/tools/explain' --of '{line}' 'long.net'"], said
+        asked = made.run("bash", "-c", said[1].partition(": to see why: ")[2])
+        assert asked[0] == 0 and asked[1].startswith("  y = INV(a)\nINV is no gate; NOT is what is meant"), asked
 
 
 def test_launcher_says_where_it_was():
