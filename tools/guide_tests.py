@@ -88,6 +88,17 @@ def test_refused_rows():
             assert status == 0 and said.startswith("inputs "), (file, errors)
 
 
+def test_examples_anew():
+    """From RTL, without options, the examples are made anew byte for byte, but for the version of Yosys."""
+    if not has_yosys() or "Yosys 0.23 " not in ended("yosys", "-V")[1]:
+        return "left out: no Yosys 0.23"
+    with tempfile.TemporaryDirectory() as folder:
+        for name in ("uart", "fifo"):
+            status, _, errors = ended(TOOLS / "bench_from_verilog", f"examples/{name}.v", "--to", f"{folder}/{name}")
+            made = pathlib.Path(folder, f"{name}.bench")
+            assert status == 0 and made.read_bytes() == (ROOT / f"examples/{name}.bench").read_bytes(), errors
+
+
 def test_one_edge():
     """Flip-flops on the falling edge alone are taken."""
     if not has_yosys():
