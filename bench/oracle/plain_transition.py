@@ -5,7 +5,7 @@
     bench/oracle/plain_transition.py --all NET  counts by all patterns how many transition faults there are tests for
 
 It prints how many faults there are, or the first thing that is false, and ends with 1. It plays the test with each slow line from some power-up
-states (all of up to three cells), and tries all patterns where there are up to 12 inputs and cells.
+states (all of up to three cells), and tries all patterns where there are up to 17 inputs and cells.
 """
 import itertools
 import pathlib
@@ -19,7 +19,7 @@ from plain_check import ENDS, NotText
 from plain_stil import is_stil
 from sample_netlist import Pcg32
 
-MOST_SOURCES = 12
+MOST_SOURCES = 17
 BATCH = 64
 SLOW = ("rise", "fall")  # of a line that is slow to leave 0, or 1
 FAULT = re.compile(r"((?:stem|out) \S+|pin \S+ \d+) (rise|fall) ")
@@ -73,21 +73,21 @@ def packed(netlist, patterns):
     return Launches(netlist, sources, (1 << len(patterns)) - 1)
 
 
-def all_patterns(netlist):
-    names = netlist.inputs + netlist.cells
-    return [dict(zip(names, bits)) for bits in itertools.product((0, 1), repeat=len(names))]
+def all_patterns(names):
+    """For each name its bits under all patterns, bit j of a word being that of pattern j; and the word of ones."""
+    ones = (1 << (1 << len(names))) - 1
+    return {name: ones ^ ones // ((1 << (1 << k)) + 1) for k, name in enumerate(names)}, ones
 
 
 def tests_of(netlist):
-    """For each transition fault the patterns, of all that there are, that detect it."""
-    patterns = all_patterns(netlist)
-    launches = packed(netlist, patterns)
+    """For each transition fault the patterns, of all that there are, that detect it: a bit for each."""
+    launches = Launches(netlist, *all_patterns(netlist.inputs + netlist.cells))
     found = []
     for fault in plain.universe(netlist):
         word = 0
         for each in launches.detections(fault):
             word |= each
-        found.append([pattern for j, pattern in enumerate(patterns) if word >> j & 1])
+        found.append(word)
     return found
 
 
@@ -236,10 +236,11 @@ class SlowLines(plain_check.Situation):
         return super().head(said, limit) | {"cycles": self.cycles()}
 
 
-def cube_of(tests):
+def cube_of(netlist, tests):
     """The bits that all tests of a fault have, where its tests are all patterns that have these; else None."""
-    cube = {name: bit for name, bit in tests[0].items() if all(test[name] == bit for test in tests)}
-    return cube if len(tests) == 2 ** (len(tests[0]) - len(cube)) else None
+    columns, _ = all_patterns(netlist.inputs + netlist.cells)
+    cube = {name: int(bool(tests & column)) for name, column in columns.items() if tests & column in (0, tests)}
+    return cube if tests.bit_count() == 2 ** (len(columns) - len(cube)) else None
 
 
 def batch_of(netlist, seed):
