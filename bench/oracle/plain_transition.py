@@ -128,16 +128,43 @@ def reached(netlist, starts):
     return found
 
 
+class Roles:
+    """What FAN tells signals apart by, for a fault of a netlist: bound signals, head lines, and the places on which it may split. Ties and held inputs
+    bind what they reach, of which a place is what would be one without them."""
+
+    def __init__(self, netlist, line, held=()):
+        self.netlist, readers = netlist, plain.readers_of(netlist)
+        self.stems = {x for x in netlist.signals if len(readers[x]) >= 2}
+        kind, name, *_ = line.split(" ")
+        sites = [name] if kind == "stem" or kind == "pin" and netlist.kind[name] != "DFF" else []
+        constants = [x for x in netlist.signals if netlist.kind.get(x) in ("CONST0", "CONST1") or x in held]
+        fixed, moved = {*constants} | reached(netlist, constants), {*sites} | reached(netlist, [*sites, *self.stems])
+        self.bound = moved | fixed
+        self.heads = self.edge_of(self.bound)
+        self.places = (self.places_of(moved) & fixed) | (self.places_of(self.bound) - fixed)
+
+    def edge_of(self, bound):
+        """What isn't bound, and read by a bound gate, a cell or an output."""
+        gates = [(gate, pins) for z, gate, pins in self.netlist.definitions if gate == "DFF" or z in bound]
+        return ({x for _, pins in gates for x in pins} | set(self.netlist.outputs)) - bound
+
+    def places_of(self, bound):
+        return self.stems | self.edge_of(bound) | bound & {*self.netlist.inputs, *self.netlist.cells}
+
+    def first_wrong(self, nodes):
+        """The first node that splits a signal that is no place, or forces one that is neither bound nor a head line."""
+        for node in nodes:
+            if node[0] == "S" and node[1] not in self.places or node[0] == "F" and node[1] not in self.bound | self.heads:
+                return node
+        return None
+
+
 def most_places(netlist):
-    """The most signals on which a search of FAN may split, over all slow lines: head lines, fanout stems, and inputs and cells that are bound."""
+    """The most signals on which a search of FAN may split, over all slow lines."""
     most = 0
     for fault in plain.universe(netlist):
         two, (line, _) = frames(netlist, fault)
-        readers, ties = plain.readers_of(two), [x for x in two.signals if two.kind.get(x) in ("CONST0", "CONST1")]
-        stems = {x for x in two.signals if len(readers[x]) >= 2}
-        bound = {signal_of(two, line), *ties} | reached(two, [signal_of(two, line), *ties, *stems])
-        into = {x for z, gate, pins in two.definitions if gate == "DFF" or z in bound for x in pins} | set(two.outputs)
-        most = max(most, len(stems | (into - bound) | (bound & {*two.inputs, *two.cells})))
+        most = max(most, len(Roles(two, line).places))
     return most
 
 
