@@ -23,10 +23,11 @@ def program(crate):
     return ROOT / "crates" / crate / "out" / crate
 
 
-def said_in(folder, crate, *words):
-    """What the program says in a folder: status, standard output, standard error."""
+def expect(folder, crate, words, *wanted):
+    """The program has to say this in a folder: status, standard output, standard error."""
     ended = subprocess.run([program(crate), *words], cwd=folder, stdin=subprocess.DEVNULL, capture_output=True, timeout=60)
-    return ended.returncode, ended.stdout.decode(), ended.stderr.decode()
+    said = ended.returncode, ended.stdout.decode(), ended.stderr.decode()
+    assert said == wanted, f"{crate} {' '.join(words)}: {said}"
 
 
 def put_files(folder, prefix, files):
@@ -55,8 +56,8 @@ def test_check_program_of_good_files():
         folder = pathlib.Path(room)
         put_files(folder, "c17", good_files(example("c17")))
         put_files(folder, "held", good_files(example("s27"), 2, {"G1": 1}))
-        assert said_in(folder, "check_main", "c17") == (0, "checked 34 faults\n", "")
-        assert said_in(folder, "check_main", "held") == (0, "checked 52 faults\n", "")
+        expect(folder, "check_main", ["c17"], 0, "checked 34 faults\n", "")
+        expect(folder, "check_main", ["held"], 0, "checked 52 faults\n", "")
 
 
 def test_check_program_of_false_files():
@@ -71,7 +72,7 @@ def test_check_program_of_false_files():
                                       ("scan", b"SC__nse = NOT(SC__se)\n", b"", "scan differs\n")):
             assert old in files[end], old
             put_files(folder, "s27", files | {end: files[end].replace(old, new, 1)})
-            assert said_in(folder, "check_main", "s27") == (1, answer, "")
+            expect(folder, "check_main", ["s27"], 1, answer, "")
 
 
 def test_check_program_of_files_that_are_refused():
@@ -82,11 +83,11 @@ def test_check_program_of_files_that_are_refused():
         folder = pathlib.Path(room)
         put_files(folder, "cell", good_files(CELL))
         (folder / "cell.cert").unlink()
-        assert said_in(folder, "check_main", "cell") == (7, "", "no such file: cell.cert\n")
+        expect(folder, "check_main", ["cell"], 7, "", "no such file: cell.cert\n")
         (folder / "cell.cert").write_bytes(b"atpg certificate 2\n")
-        assert said_in(folder, "check_main", "cell") == (4, "", "not a certificate\n")
-        assert said_in(folder, "check_main") == (2, "", "usage: atpg-check PREFIX\n")
-        assert said_in(folder, "check_main", "cell", "cell") == (2, "", "usage: atpg-check PREFIX\n")
+        expect(folder, "check_main", ["cell"], 4, "", "not a certificate\n")
+        expect(folder, "check_main", [], 2, "", "usage: atpg-check PREFIX\n")
+        expect(folder, "check_main", ["cell", "cell"], 2, "", "usage: atpg-check PREFIX\n")
 
 
 def test_program_refuses():
@@ -98,7 +99,7 @@ def test_program_refuses():
         (folder / "loop.bench").write_bytes(b"INPUT(a)\nOUTPUT(y)\ny = AND(a, y)\n")
         for words, status, line in ((["run", "none.bench", "p"], 7, "no such file: none.bench\n"), (["faults", "loop.bench"], 3, "netlist line 3: Loop\n"),
                                     (["run", "loop.bench", "p", "--hold", "a=2"], 2, "bad hold\n")):
-            assert said_in(folder, "atpg_main", *words) == (status, "", line), words
+            expect(folder, "atpg_main", words, status, "", line)
         assert sorted(path.name for path in folder.iterdir()) == ["loop.bench"]
 
 
@@ -116,9 +117,9 @@ def test_program_answers():
         (folder / "cell.bench").write_bytes(CELL)
         (folder / "cell.stil").write_bytes(plain_design.stil_text(netlist, chains, {}, items))
         listed = "".join(line + "\n" for line in fault_list.fault_list(CELL.decode()))
-        assert said_in(folder, "atpg_main", "faults", "cell.bench") == (0, listed, "")
-        assert said_in(folder, "atpg_main", "scan", "cell.bench", "cell.scan") == (0, "cells 1 chains 1\n", "")
+        expect(folder, "atpg_main", ["faults", "cell.bench"], 0, listed, "")
+        expect(folder, "atpg_main", ["scan", "cell.bench", "cell.scan"], 0, "cells 1 chains 1\n", "")
         assert (folder / "cell.scan").read_bytes() == plain_design.canonical(scanned)
-        assert said_in(folder, "atpg_main", "play", "cell.scan", "cell.stil") == (0, "passes\n", "")
-        wanted = 1, f"fails at cycle {cycle} signal {pin}\n", ""
-        assert said_in(folder, "atpg_main", "play", "cell.scan", "cell.stil", "--fault", "stem q/0") == wanted
+        expect(folder, "atpg_main", ["play", "cell.scan", "cell.stil"], 0, "passes\n", "")
+        words = ["play", "cell.scan", "cell.stil", "--fault", "stem q/0"]
+        expect(folder, "atpg_main", words, 1, f"fails at cycle {cycle} signal {pin}\n", "")
