@@ -6,7 +6,7 @@ use std::io::{ErrorKind, Write};
 use std::test::Fail;
 use std::{fs, io};
 
-pub fn is_read(read: &Result<Vec<u8>, ReadRefusal>, want: Result<&[u8], ReadRefusal>) -> bool {
+fn is_read(read: &Result<Vec<u8>, ReadRefusal>, want: Result<&[u8], ReadRefusal>) -> bool {
     match (read, want) {
         (Ok(bytes), Ok(wanted)) => bytes.as_slice() == wanted,
         (Err(refusal), Err(wanted)) => *refusal == wanted,
