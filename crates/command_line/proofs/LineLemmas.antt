@@ -70,11 +70,11 @@ module _ (words : List Text) (line : Line) (asked : Request) (same : command_lin
   here : command_line words ≡ line_with_files (Ok (command_line_of asked))
   here = same ∙ ap line_with_files is
 
-  pub named_request : (r : Result Request WordsRefusal) → IsNamed (line_with_files (Ok (command_line_of asked))) r → IfOk r (λ given. command_line words ≡ Ok (command_line_of given))
+  pub named_request : (r : Result Request WordsRefusal) → IsNamed (command_line_of asked) r → IfOk r (λ given. command_line words ≡ Ok (command_line_of given))
   named_request (Ok given) named = here ∙ named
   named_request (Err answer) named = tt
 
-  pub named_refusal : (r : Result Request WordsRefusal) → IsNamed (line_with_files (Ok (command_line_of asked))) r → IfErr r (IsUsageError words)
+  pub named_refusal : (r : Result Request WordsRefusal) → IsNamed (command_line_of asked) r → IfErr r (IsUsageError words)
   named_refusal (Ok given) named = tt
   named_refusal (Err (BadPrefix prefix)) named = here ∙ named
   named_refusal (Err (WritesOver name)) named = here ∙ named
