@@ -1,5 +1,5 @@
 -- What a command line asks for.
-use Rattle.std.specs.Prelude.{◌≤◌, ◌==◌, ◌||◌, ⊤, ℕ, Bool, true, List, [], ◌∷◌, Option, Some, None, if◌then◌else◌, codes, length, map}
+use Rattle.std.specs.Prelude.{◌≤◌, ◌==◌, ◌||◌, ⊤, ℕ, Bool, true, List, [], ◌∷◌, Option, Some, None, if◌then◌else◌, codes, length, map, nat_eq}
 use Rattle.std.specs.Prelude.{Result, Ok, Err, option_and_then, option_map}
 use Rattle.std.specs.List.{ends_with, find, list_any}
 use Rattle.std.specs.Option.{ok_or}
@@ -74,7 +74,7 @@ written_over line = find (λ name. list_any (bytes_eq name) (writes line)) (read
 
 -- nothing, or a folder's name alone: files with such a prefix would be hidden
 abbrev pub is_nameless : Text → Bool
-is_nameless prefix = length prefix == 0 || ends_with ◌==◌ prefix (codes "/")
+is_nameless prefix = length prefix == 0 || ends_with nat_eq prefix (codes "/")
 
 abbrev pub if_nameless : Text → Option Text
 if_nameless prefix = if is_nameless prefix then Some prefix else None
