@@ -51,8 +51,8 @@ use command_line::{Held, Request, WordsRefusal, parse};
 use commands::Ending;
 use diagnosing::diagnose_log;
 pub use laws::{
-    declined_exactly, each_exclusive, failed_exactly, missing_exactly, nothing_else, refused_exactly, runs_pass,
-    too_long_exactly,
+    declined_exactly, each_exclusive, failed_exactly, missing_exactly, nothing_else,
+    refused_exactly, runs_pass, too_long_exactly,
 };
 use lines::tell;
 use listing::list_faults;

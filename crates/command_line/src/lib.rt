@@ -107,10 +107,7 @@ fn refusal_of<'a>(alloc: Global, none: NoRequest) -> WordsRefusal<'a>
 }
 
 /// What the words ask for. The first word is the program's name.
-pub fn parse<'a>(
-    alloc: Global,
-    words: &'a [String],
-) -> Result<Request<'a>, WordsRefusal<'a>>
+pub fn parse<'a>(alloc: Global, words: &'a [String]) -> Result<Request<'a>, WordsRefusal<'a>>
     ensures request { IfOk result (λ request.
         command_line (map string_bytes words.entry.now) ≡ Ok (command_line_of request)) }
     ensures in_range { IfOk result IsInRange }
