@@ -58,15 +58,15 @@ becomes_bad words (WritesOver name) is made = absurd made
 becomes_bad words NoMemory is made = tt
 
 -- what values that make no request become, the words being those of this line
-pub became : (words : List Text) (line : Line) (cause : NoRequest) (answer : WordsRefusal) → command_line words ≡ line_with_files line → IsAsked line (Err cause) → BecomesRefusal cause answer
+pub became : (words : List Text) (line : Line) (cause : NoRequest) (answer : WordsRefusal) → IsAsked line (Err cause) → command_line words ≡ line_with_files line → BecomesRefusal cause answer
     → IsUsageError words answer
-became words line none.BadNumber answer same is made = becomes_bad words answer (same ∙ ap line_with_files is) made
-became words line none.BadEngine answer same is made = becomes_bad words answer (same ∙ ap line_with_files is) made
-became words line none.BadHold answer same is made = subst (λ (r : WordsRefusal). IsUsageError words r) (sym made) (same ∙ ap line_with_files is)
-became words line none.NoMemory answer same is made = subst (λ (r : WordsRefusal). IsUsageError words r) (sym made) tt
+became words line none.BadNumber answer is same made = becomes_bad words answer (same ∙ ap line_with_files is) made
+became words line none.BadEngine answer is same made = becomes_bad words answer (same ∙ ap line_with_files is) made
+became words line none.BadHold answer is same made = subst (λ (r : WordsRefusal). IsUsageError words r) (sym made) (same ∙ ap line_with_files is)
+became words line none.NoMemory answer is same made = subst (λ (r : WordsRefusal). IsUsageError words r) (sym made) tt
 
 -- what the names of a request's files make of the words
-module _ (words : List Text) (line : Line) (asked : Request) (same : command_line words ≡ line_with_files line) (is : line ≡ Ok (command_line_of asked)) where
+module _ (words : List Text) (line : Line) (asked : Request) (is : line ≡ Ok (command_line_of asked)) (same : command_line words ≡ line_with_files line) where
   here : command_line words ≡ line_with_files (Ok (command_line_of asked))
   here = same ∙ ap line_with_files is
 

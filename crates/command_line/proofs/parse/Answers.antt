@@ -6,12 +6,12 @@ returns-in-Err-clause-refusal c = caused _ c.in-Err.error c.refusal.result c.in-
 
 pub returns-in-Ok-request_of-clause-request : goal.returns-in-Ok-request_of-clause-request
 returns-in-Ok-request_of-clause-request c =
-    named_request _ _ c.in-Ok-request_of.request (taken _ _ c.in-Ok.ensures.kinds c.in-Ok.ensures.rows) c.in-Ok-request_of.ensures.line c.with_files.result c.with_files.ensures.line
+    named_request _ _ c.in-Ok-request_of.request c.in-Ok-request_of.ensures.line (taken _ _ c.in-Ok.ensures.kinds c.in-Ok.ensures.rows) c.with_files.result c.with_files.ensures.line
 
 pub returns-in-Ok-request_of-clause-refusal : goal.returns-in-Ok-request_of-clause-refusal
 returns-in-Ok-request_of-clause-refusal c =
-    named_refusal _ _ c.in-Ok-request_of.request (taken _ _ c.in-Ok.ensures.kinds c.in-Ok.ensures.rows) c.in-Ok-request_of.ensures.line c.with_files.result c.with_files.ensures.line
+    named_refusal _ _ c.in-Ok-request_of.request c.in-Ok-request_of.ensures.line (taken _ _ c.in-Ok.ensures.kinds c.in-Ok.ensures.rows) c.with_files.result c.with_files.ensures.line
 
 pub returns-clause-refusal : goal.returns-clause-refusal
 returns-clause-refusal c =
-    became _ _ c.in-Err-request_of.none c.refusal_of.result (taken _ _ c.in-Ok.ensures.kinds c.in-Ok.ensures.rows) c.in-Err-request_of.ensures.line c.refusal_of.ensures
+    became _ _ c.in-Err-request_of.none c.refusal_of.result c.in-Err-request_of.ensures.line (taken _ _ c.in-Ok.ensures.kinds c.in-Ok.ensures.rows) c.refusal_of.ensures
