@@ -6,7 +6,7 @@
 //!
 //! Gives: `parse`, `Request`.
 //! Proved: `parse`: exactly the request that clap's rule gives over the table, with exactly the list of held inputs, or why there is none: exactly where
-//! files would be nameless, and where one that is read would be written over.
+//! files would be nameless, and where one that is read would be written over; `nothing_written_over`: no command line writes a file that it reads.
 //! Tested: clap's texts.
 #![tactic(auto)]
 
@@ -22,6 +22,7 @@ ghost use Rattle.command_line.specs.inner.Errors.{BecomesRefusal, IsBadWords, Is
 mod clap_table;
 mod files;
 mod holds;
+mod laws;
 mod requests;
 mod values;
 
@@ -30,6 +31,7 @@ use clap::{ArgMatches, Error};
 use clap_table::table;
 use files::with_files;
 pub use holds::Held;
+pub use laws::nothing_written_over;
 pub use requests::{DiagnoseOptions, EngineName, Request, RunOptions};
 use requests::{NoRequest, request_of};
 use std::alloc::Global;
