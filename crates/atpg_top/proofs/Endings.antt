@@ -28,7 +28,7 @@ pub row_of : (words : List Text) (line : CommandLine) (a b : World) (e : Ending 
 row_of words line a b e taken row = subst (λ o. WordsRow o a b e) (sym taken) row
 
 same_cause : (r : Result CommandLine NoLine) (c d : NoLine) → r ≡ Err c → r ≡ Err d → c ≡ d
-same_cause r c d e f = let k : Err {T = CommandLine} c ≡ Err d = sym e ∙ f in cc
+same_cause r c d e f = let k = sym e ∙ f in cc
 
 only_memory : (cause : NoLine) (a b : World) (e : Ending Refusal) → WordsRow (Err cause) a b e → IsDeclinedFor cause (status.Command e)
 only_memory cause a b (ending.Ended finding) row = absurd row
