@@ -74,7 +74,7 @@ def test_try_guide():
 # The line that shows how far a run is, by the proved build where it stands.
 
 PROGRAM = ROOT / "built/atpg"
-SHOWN = re.compile(r"\n(\d+) (?:of (\d+) )?classes claimed, (\d+) batches, (\d+) s\x1b\[K\r\x1b\[1A")
+SHOWN = re.compile(r"\n(\d+) (?:of at most (\d+) )?searches, (\d+) batches of patterns, (\d+) s\x1b\[K\r\x1b\[1A")
 
 
 def shown_by(folder, **more):

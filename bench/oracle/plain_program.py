@@ -20,6 +20,7 @@ from plain_stil import Walk, cycles_in, is_stil, signals
 MOST_BYTES = 67_108_864
 MOST_LINES = 100_000  # of a netlist that the plain reader is given
 READ = {"scan": 1, "faults": 1, "run": 1, "transition": 1, "play": 2, "chaintest": 2, "diagnose": 3, "sweep": 0}
+BY_PREFIX = ("run", "transition")  # what writes five files
 NAME = r"[!$-&*+\--<>-~]+"  # bytes of .bench's names
 HELD = re.compile(f"{NAME}=[01](,{NAME}=[01])*")
 LOG = re.compile(rf"atpg fail log 1\n((0|[1-9]\d*) {NAME}\n)*")
@@ -289,9 +290,31 @@ def is_hold_list(told):
     return HELD.fullmatch(told) is not None and len(set(names)) == len(names)
 
 
+def names_read(command, given):
+    """The files that the command reads, in order: each a word and an ending."""
+    return [(given[0], f".{end}") for end in ENDS] if command == "check" else [(name, "") for name in given[:READ[command]]]
+
+
+def names_written(command, given):
+    """The files that it writes, in order, likewise."""
+    if command in BY_PREFIX:
+        return [(given[1], f".{end}") for end in ENDS]
+    return [(name, "") for name in given[1:]] if command == "scan" else []
+
+
+def need_names(command, given):
+    """No file written is named by an ending alone, and none that is read is written over."""
+    if command in BY_PREFIX and (not given[1] or given[1].endswith("/")):
+        raise Refused(2, "prefix names no file: ", given[1], "\n")
+    written = {"".join(name) for name in names_written(command, given)}
+    for name in map("".join, names_read(command, given)):
+        if name in written:
+            raise Refused(2, "would write over: ", name, "\n")
+
+
 def read_in_order(command, given, files, shelf):
     """The texts that the command reads, up to the first that can't be had."""
-    for name, end in [(given[0], f".{end}") for end in ENDS] if command == "check" else [(name, "") for name in given[:READ[command]]]:
+    for name, end in names_read(command, given):
         if shelf.next() is not None:
             raise Refused(5, "read failed: ", name, end, "\n")
         if name + end not in files:
@@ -305,8 +328,7 @@ def read_in_order(command, given, files, shelf):
 
 def written(command, given, due, files, shelf):
     """Writes in order, up to the first that fails."""
-    names = [(given[1], f".{end}") for end in ENDS] if command in ("run", "transition") else [(name, "") for name in given[1:]]
-    for (name, end), text in zip(names, due.texts):
+    for (name, end), text in zip(names_written(command, given), due.texts):
         kept = shelf.next()
         files[name + end] = text if kept is None else text[:kept]
         if kept is not None:
@@ -320,6 +342,7 @@ def ending(words, files, fails, told):
     try:
         if "--hold" in options and not is_hold_list(options["--hold"]):
             raise Refused(2, "bad hold\n")
+        need_names(command, given)
         texts = list(read_in_order(command, given, files, shelf))
         due = SEARCHES[command](texts, options, told) if command in SEARCHES else WORK[command](texts, options)
         written(command, given, due, files, shelf)

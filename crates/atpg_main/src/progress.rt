@@ -18,16 +18,16 @@ const AFTER: &str = "\x1b[K\r\x1b[1A";
 /// All below the cursor goes.
 const GONE: &str = "\x1b[J";
 
-/// A stage that counts claims and batches, and shows them where it was asked to.
+/// A stage that counts searches and batches, and shows them where it was asked to.
 ///
-/// A worker claims each class that it searches. A class that is detected by a pattern of another is
-/// never claimed, so the claims end below the number of all classes.
+/// A worker searches each class that it claims. One that a pattern of another detects is never
+/// claimed, so there are fewer searches than classes. How many classes are settled no stage is told.
 #[derive(Drop)]
 pub struct Progress<'a, R: Runtime> {
     rt: &'a R,
     began: Option<Instant>,
     classes: Option<u64>,
-    claims: AtomicU64,
+    searches: AtomicU64,
     batches: AtomicU64,
     shown: AtomicU64,
 }
@@ -66,7 +66,7 @@ impl<'a, R: Runtime> Progress<'a, R> {
             rt,
             began,
             classes: classes_of(rt),
-            claims: AtomicU64::new(0),
+            searches: AtomicU64::new(0),
             batches: AtomicU64::new(0),
             shown: AtomicU64::new(0),
         }
@@ -83,14 +83,14 @@ impl<'a, R: Runtime> Progress<'a, R> {
         if self.shown.swap(now, Ordering::SeqCst) == now {
             return;
         }
-        let claims = self.claims.load(Ordering::SeqCst);
+        let searches = self.searches.load(Ordering::SeqCst);
         let batches = self.batches.load(Ordering::SeqCst);
         let _ = match self.classes {
             Some(classes) => eprint!(self.rt;
-                "\n{claims} of {classes} classes claimed, {batches} batches, {seconds} s{AFTER}"
+                "\n{searches} of at most {classes} searches, {batches} batches of patterns, {seconds} s{AFTER}"
             ),
             None => eprint!(self.rt;
-                "\n{claims} classes claimed, {batches} batches, {seconds} s{AFTER}"
+                "\n{searches} searches, {batches} batches of patterns, {seconds} s{AFTER}"
             ),
         };
     }
@@ -109,7 +109,7 @@ impl<R: Runtime> Gate for Progress<'_, R> {
             return;
         };
         match stage {
-            Stage::Claimed => self.claims.fetch_add(1, Ordering::SeqCst),
+            Stage::Claimed => self.searches.fetch_add(1, Ordering::SeqCst),
             Stage::Published => self.batches.fetch_add(1, Ordering::SeqCst),
         };
         self.show(began);

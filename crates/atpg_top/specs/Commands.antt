@@ -1,5 +1,5 @@
--- The commands: for each command line the files that it reads, in order, those that it writes, and what is due of the texts read.
--- A command to come is an entry in each.
+-- The commands: for each command line what is due of the texts that it reads. Which files it reads and writes, `command_line` says.
+-- A command to come is an entry here and there.
 use Rattle.std.specs.Prelude.{◌≡◌, ℕ, List, [], ◌∷◌, Option}
 use Rattle.plain_text.specs.Texts.{Text}
 use Rattle.net_gen.specs.Samples.{sample, words_from_seed}
@@ -20,7 +20,6 @@ use Rattle.run_files.specs.declared.files.RunFiles.{RunFiles}
 use Rattle.run_files.specs.Runs.{IsRun}
 use Rattle.transition_run.specs.declared.files.TransitionFiles.{TransitionFiles}
 use Rattle.transition_run.specs.Runs.{IsTransitionRun, transition_files_of}
-use Rattle.check_command.specs.Checking.{run_files}
 use Rattle.atpg_top.specs.Checks.{check_due}
 use Rattle.atpg_top.specs.Steps.{◌>>=◌, design_due, named_fault, named_holds, netlist, test, value}
 use Rattle.atpg_top.specs.Runs.{tests_line, texts_in, texts_made}
@@ -32,25 +31,6 @@ use Rattle.atpg_top.specs.Diagnoses.{IsDiagnosis}
 use Rattle.atpg_top.specs.Sweeps.{IsSweep, sweep_text}
 use Rattle.atpg_top.specs.declared.refusal.Refusal.{Refusal}
 use Rattle.atpg_top.specs.declared.refusal.Refusal.TheVariants.{NotLog, NotStil, StilDoesNotFit}
-
--- the names of the files that a command line reads, in order
-abbrev pub reads : CommandLine → List Text
-reads (scan net to chains) = net ∷ []
-reads (faults net) = net ∷ []
-reads (run net prefix options holds) = net ∷ []
-reads (play net stil fault) = net ∷ stil ∷ []
-reads (check prefix) = run_files prefix
-reads (sweep seed gates) = []
-reads (chaintest net stil chains) = net ∷ stil ∷ []
-reads (diagnose net stil log options) = net ∷ stil ∷ log ∷ []
-reads (transition net prefix options) = net ∷ []
-
--- the names of the files that it writes, in order
-abbrev pub writes : CommandLine → List Text
-writes (scan net to chains) = to ∷ []
-writes (run net prefix options holds) = run_files prefix
-writes (transition net prefix options) = run_files prefix
-writes _ = []
 
 -- the scanned netlist's text, and the line that counts cells and chains
 abbrev pub scan_due : ℕ → List Text → Due Refusal → Type 0

@@ -1,16 +1,17 @@
 -- The statuses exclude each other, so that "only where" in each row is "exactly where": by what the files hold, the status is one of few.
-use Rattle.std.specs.Prelude.{◌≡◌, List, Some, Ok}
+use Rattle.std.specs.Prelude.{◌≡◌, ⊤, List, Some, Ok, Err}
 use Rattle.plain_text.specs.Texts.{Text}
 use Rattle.outside.specs.Causes.{Rose}
 use Rattle.outside.specs.Shelf.{Files}
-use Rattle.command_line.specs.CommandLine.{CommandLine, command_line}
+use Rattle.command_line.specs.CommandLine.{CommandLine, NoLine, bad_hold, bad_prefix, bad_words, command_line, reads, writes_over}
 use Rattle.commands.specs.World.{NoneFailed, World}
 use Rattle.commands.specs.Contents.{Whole, Missing, TooLong, contents_of}
 use Rattle.commands.specs.Due.{Refuse, Deliver}
 use Rattle.commands.specs.Laws.{IsEnded, IsExclusive, IsFailure, IsMissing, IsRefusedFor, IsTooLong, OrFails}
 use Rattle.commands.specs.declared.ending.Finding.{Finding}
 use Rattle.commands.specs.declared.ending.Ending.{Ending}
-use Rattle.atpg_top.specs.Commands.{due, reads}
+use Rattle.commands.specs.declared.ending.Ending.TheVariants as ending
+use Rattle.atpg_top.specs.Commands.{due}
 use Rattle.atpg_top.specs.Rows.{TopRow}
 use Rattle.atpg_top.specs.declared.refusal.Refusal.{Refusal}
 use Rattle.atpg_top.specs.declared.status.Status.{Status}
@@ -26,6 +27,19 @@ pub record IsTopCall (words : List Text) (line : CommandLine) (files : Files) (a
   pub taken : command_line words ≡ Ok line
   pub told : a.files ≡ Some files
   pub row : TopRow words a b s
+
+-- the call ended for this cause, or memory was refused
+abbrev pub IsDeclinedFor : NoLine → Status → Type 0
+IsDeclinedFor cause (status.BadWords text) = cause ≡ bad_words
+IsDeclinedFor cause status.BadHold = cause ≡ bad_hold
+IsDeclinedFor cause (status.BadPrefix prefix) = cause ≡ bad_prefix prefix.now
+IsDeclinedFor cause (status.WritesOver name) = cause ≡ writes_over name.now
+IsDeclinedFor cause (status.Command ending.Memory) = ⊤
+IsDeclinedFor cause (status.Command _) = ⊥
+
+-- the words are no command line: status 2, which says why
+abbrev pub DeclinedExactly : Type 0
+DeclinedExactly = (words : List Text) (cause : NoLine) (a b : World) (s : Status) → command_line words ≡ Err cause → TopRow words a b s → IsDeclinedFor cause s
 
 -- what is due of the same texts is alike: the same refusal, or the same finding
 abbrev pub EachExclusive : Type 0

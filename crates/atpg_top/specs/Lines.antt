@@ -9,7 +9,7 @@ use Rattle.status_lines.specs.Lines.{failure_line, netlist_line}
 use Rattle.atpg_top.specs.declared.refusal.Refusal.{Refusal}
 use Rattle.atpg_top.specs.declared.refusal.Refusal.TheVariants.{Netlist, NoSuchFault, NoSuchInput, NotStil, NotCertificate, NotReport, NotLog, StilDoesNotFit}
 use Rattle.atpg_top.specs.declared.status.Status.{Status}
-use Rattle.atpg_top.specs.declared.status.Status.TheVariants.{BadWords, BadHold, Command}
+use Rattle.atpg_top.specs.declared.status.Status.TheVariants.{BadWords, BadHold, BadPrefix, WritesOver, Command}
 
 abbrev pub refusal_code : Refusal → ℕ
 refusal_code (Netlist refusal) = 3
@@ -34,6 +34,8 @@ ending_code Memory = 9
 abbrev pub status_code : Status → ℕ
 status_code (BadWords text) = 2
 status_code BadHold = 2
+status_code (BadPrefix prefix) = 2
+status_code (WritesOver name) = 2
 status_code (Command ending) = ending_code ending
 
 -- the names are those of the inputs that are to be held
@@ -61,4 +63,6 @@ ending_line names Memory = codes "out of memory\n"
 abbrev pub status_line : List Text → Status → Text
 status_line names (BadWords text) = text.now
 status_line names BadHold = codes "bad hold\n"
+status_line names (BadPrefix prefix) = codes "prefix names no file: " ++ (prefix.now ++ codes "\n")
+status_line names (WritesOver name) = codes "would write over: " ++ (name.now ++ codes "\n")
 status_line names (Command ending) = ending_line names ending

@@ -1,14 +1,14 @@
 -- The status of a call of the program, and what it leaves.
 use Rattle.std.specs.Prelude.{◌≡◌, ℕ, Bool, List, [], Option, Result, Ok, Err, map}
 use Rattle.plain_text.specs.Texts.{Text}
-use Rattle.command_line.specs.CommandLine.{CommandLine, NoLine, bad_hold, bad_words, command_line, run}
+use Rattle.command_line.specs.CommandLine.{CommandLine, NoLine, bad_hold, bad_prefix, bad_words, command_line, reads, run, writes, writes_over}
 use Rattle.command_line.specs.HoldLists.{HoldItem}
 use Rattle.commands.specs.World.{IsAsBefore, World}
 use Rattle.commands.specs.Rows.{CommandRow}
 use Rattle.commands.specs.declared.ending.Ending.{Ending}
 use Rattle.commands.specs.declared.ending.Ending.TheVariants as ending
 use Rattle.status_lines.specs.Lines.{IsSaid}
-use Rattle.atpg_top.specs.Commands.{due, reads, writes}
+use Rattle.atpg_top.specs.Commands.{due}
 use Rattle.atpg_top.specs.Lines.{status_line}
 use Rattle.atpg_top.specs.declared.refusal.Refusal.{Refusal}
 use Rattle.atpg_top.specs.declared.status.Status.{Status}
@@ -27,6 +27,8 @@ WordsRow (Err cause) a b _ = ⊥
 abbrev pub TopRow : List Text → World → World → Status → Type 0
 TopRow given a b (status.BadWords text) = (command_line given ≡ Err bad_words) × IsAsBefore a b
 TopRow given a b status.BadHold = (command_line given ≡ Err bad_hold) × IsAsBefore a b
+TopRow given a b (status.BadPrefix prefix) = (command_line given ≡ Err (bad_prefix prefix.now)) × IsAsBefore a b
+TopRow given a b (status.WritesOver name) = (command_line given ≡ Err (writes_over name.now)) × IsAsBefore a b
 TopRow given a b (status.Command e) = WordsRow (command_line given) a b e
 
 -- the names of the inputs that a command line wants held

@@ -1,13 +1,13 @@
 //! `check`: the independent check of the five files of a prefix, with this program's refusals.
 ghost use Rattle.std.specs.Prelude.{◌≡◌, [], length};
+ghost use Rattle.commands.specs.Names.{run_files};
 ghost use Rattle.commands.specs.Rows.{CommandRow};
 ghost use Rattle.commands.specs.World.{world};
-ghost use Rattle.check_command.specs.Checking.{run_files};
 ghost use Rattle.atpg_top.specs.Checks.{check_due, refusal_of};
 
 use crate::refusal::Refusal;
-use check_command::{CheckRefusal, check_texts, file_names};
-use commands::{Ending, Product, Stop, Work, run_command};
+use check_command::{CheckRefusal, check_texts};
+use commands::{Ending, Product, Stop, Work, file_names, run_command};
 use outside::{Shelf, Sink};
 use std::alloc::Global;
 

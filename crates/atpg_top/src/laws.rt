@@ -1,10 +1,15 @@
 //! Laws of `top`'s rows: functions that do nothing, whose contracts are the laws.
 ghost use Rattle.atpg_top.specs.Checks.{RunsPass};
-ghost use Rattle.atpg_top.specs.Laws.{EachExclusive, FailedExactly, MissingExactly, NothingElse, RefusedExactly, TooLongExactly};
+ghost use Rattle.atpg_top.specs.Laws.{DeclinedExactly, EachExclusive, FailedExactly, MissingExactly, NothingElse, RefusedExactly, TooLongExactly};
 
 use check_command::{check_exclusive, good_files_checked};
 use fail_log::one_log;
 use stil_read::laws::at_most_one;
+
+/// Words that are no command line end with status 2, for the cause that they have.
+pub fn declined_exactly()
+    ensures { DeclinedExactly }
+{}
 
 /// What a command owes for texts is determined, as far as its status tells.
 pub fn each_exclusive()

@@ -51,8 +51,8 @@ use command_line::{Held, Request, WordsRefusal, parse};
 use commands::Ending;
 use diagnosing::diagnose_log;
 pub use laws::{
-    each_exclusive, failed_exactly, missing_exactly, nothing_else, refused_exactly, runs_pass,
-    too_long_exactly,
+    declined_exactly, each_exclusive, failed_exactly, missing_exactly, nothing_else,
+    refused_exactly, runs_pass, too_long_exactly,
 };
 use lines::tell;
 use listing::list_faults;
@@ -128,7 +128,7 @@ fn perform<'a, R: Threads + Wait + Sync, S: Shelf, T: Sink, G: Gate + Sync>(
 }
 
 /// What becomes of words that are no request.
-fn decline(refusal: &WordsRefusal) -> Status<'_>
+fn decline<'a>(refusal: &'a WordsRefusal<'_>) -> Status<'a>
     ensures { DeclineRow refusal.entry.now result }
 {
     match refusal {
@@ -136,6 +136,8 @@ fn decline(refusal: &WordsRefusal) -> Status<'_>
             text: text.as_str(),
         },
         WordsRefusal::BadHold => Status::BadHold,
+        WordsRefusal::BadPrefix(prefix) => Status::BadPrefix { prefix },
+        WordsRefusal::WritesOver(name) => Status::WritesOver { name },
         WordsRefusal::NoMemory => Status::Command(Ending::Memory),
     }
 }

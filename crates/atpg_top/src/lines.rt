@@ -12,11 +12,11 @@ use commands::Ending;
 use outside::Sink;
 use status_lines::{say, say_failed_write, say_name, say_netlist, say_text};
 
-/// The line of a held input that is none.
-fn say_no_input<E: Sink>(err: &mut E, name: &[u8])
-    ensures { IsSaid E.takes_memory (codes "no such input: " ++ (name.now ++ codes "\n")) (E.taken err.old) (E.failures err.old) (E.taken err.new) (E.failures err.new) }
+/// A line that names a word of the command line.
+fn say_word<E: Sink>(err: &mut E, what: &[u8], word: &[u8])
+    ensures { IsSaid E.takes_memory (what.now ++ (word.now ++ codes "\n")) (E.taken err.old) (E.failures err.old) (E.taken err.new) (E.failures err.new) }
 {
-    let pieces = [b"no such input: ".as_slice(), name, b"\n".as_slice()];
+    let pieces = [what, word, b"\n".as_slice()];
     say(err, pieces.as_slice())
 }
 
@@ -37,7 +37,7 @@ fn say_refusal<E: Sink>(err: &mut E, refusal: &Refusal, holds: &[Held<'_>])
     match refusal {
         Refusal::Netlist(refusal) => say_netlist(err, refusal),
         Refusal::NoSuchFault => say_text(err, b"no such fault\n"),
-        Refusal::NoSuchInput(place) => say_no_input(err, name_at(holds, *place)),
+        Refusal::NoSuchInput(place) => say_word(err, b"no such input: ", name_at(holds, *place)),
         Refusal::NotStil => say_text(err, b"not a stil file\n"),
         Refusal::NotCertificate => say_text(err, b"not a certificate\n"),
         Refusal::NotReport => say_text(err, b"not a report\n"),
@@ -53,6 +53,10 @@ pub fn tell<E: Sink>(err: &mut E, status: &Status<'_>, holds: &[Held<'_>])
     match status {
         Status::BadWords { text } => say_text(err, text.as_bytes()),
         Status::BadHold => say_text(err, b"bad hold\n"),
+        Status::BadPrefix { prefix } => {
+            say_word(err, b"prefix names no file: ", prefix.as_bytes())
+        }
+        Status::WritesOver { name } => say_word(err, b"would write over: ", name.as_bytes()),
         Status::Command(Ending::Ended(_)) => {}
         Status::Command(Ending::Refused(refusal)) => say_refusal(err, refusal, holds),
         Status::Command(Ending::ReadFailed(name)) => say_name(err, b"read failed: ", name),

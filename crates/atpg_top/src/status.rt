@@ -12,6 +12,10 @@ pub enum Status<'a> {
     BadWords { text: &'a str },
     /// They would be one, but for the list of held inputs.
     BadHold,
+    /// They would be one, but the files written would have no names of their own.
+    BadPrefix { prefix: &'a str },
+    /// They would be one, but this file, which they read, would be written over.
+    WritesOver { name: &'a str },
     /// They are, and the command ended so.
     Command(Ending<'a, Refusal>),
 }
@@ -54,6 +58,8 @@ impl Status<'_> {
         match self {
             Status::BadWords { .. } => 2,
             Status::BadHold => 2,
+            Status::BadPrefix { .. } => 2,
+            Status::WritesOver { .. } => 2,
             Status::Command(ending) => ending_code(ending),
         }
     }

@@ -1,5 +1,5 @@
 -- What `check` reads, and what is due of the texts.
-use Rattle.std.specs.Prelude.{ℕ, ◌≡◌, ◌⊎◌, ◌++◌, List, [], ◌∷◌, Ok, codes, decimal, length, map}
+use Rattle.std.specs.Prelude.{ℕ, ◌≡◌, ◌⊎◌, ◌++◌, List, [], ◌∷◌, Ok, codes, decimal, length}
 use Rattle.plain_text.specs.Texts.{Text}
 use Rattle.commands.specs.Due.{Due, Deliver, Refuse}
 use Rattle.commands.specs.declared.ending.Finding.{Finding}
@@ -19,10 +19,6 @@ use Rattle.netlist.specs.Netlist.{Netlist}
 use Rattle.fault_universe.specs.Universe.{universe_of}
 use Rattle.check_command.specs.declared.refusal.CheckRefusal.{CheckRefusal}
 use Rattle.check_command.specs.declared.refusal.CheckRefusal.TheVariants as refusal
-
--- the names of a run's files, in the order in which they are written and read
-abbrev pub run_files : Text → List Text
-run_files prefix = map (λ ending. prefix ++ ending) (codes ".net" ∷ codes ".scan" ∷ codes ".stil" ∷ codes ".cert" ∷ codes ".rep" ∷ [])
 
 -- ---- what is shown
 

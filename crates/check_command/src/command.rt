@@ -2,16 +2,16 @@
 ghost use Rattle.std.specs.Prelude.{◌≡◌, ◌≤◌, [], length};
 ghost use Rattle.std.specs.List.{All};
 ghost use Rattle.commands.specs.Contents.{most_bytes};
-ghost use Rattle.commands.specs.Names.{file_names_of, texts_of};
+ghost use Rattle.commands.specs.Names.{run_files, texts_of};
 ghost use Rattle.commands.specs.Rows.{CommandRow};
 ghost use Rattle.commands.specs.Worked.{IsWorked};
 ghost use Rattle.commands.specs.World.{world};
-ghost use Rattle.check_command.specs.Checking.{five_texts_due, run_files};
+ghost use Rattle.check_command.specs.Checking.{five_texts_due};
 ghost use Rattle.check_command.specs.inner.Answers.{IsAnswered, answer_due};
 
 use crate::lines::{finding_of, line_of};
 use crate::refusal::CheckRefusal;
-use commands::{Ending, FileName, Product, Stop, Work, run_command};
+use commands::{Ending, Product, Stop, Work, file_names, run_command};
 use file_check::check_files;
 use file_clauses::{CheckFault, Checked};
 use outside::{Shelf, Sink};
@@ -72,34 +72,6 @@ pub fn check_texts(alloc: Global, texts: Vec<Vec<u8>>) -> Result<Product, Stop<C
         }
         Err(stop) => Err(stop),
     }
-}
-
-/// The names of the five files of a prefix, in the order in which they are read.
-pub fn file_names<'a>(prefix: &'a str) -> [FileName<'a>; 5]
-    ensures { file_names_of result ≡ run_files prefix.entry.now }
-{
-    [
-        FileName {
-            given: prefix,
-            ending: ".net",
-        },
-        FileName {
-            given: prefix,
-            ending: ".scan",
-        },
-        FileName {
-            given: prefix,
-            ending: ".stil",
-        },
-        FileName {
-            given: prefix,
-            ending: ".cert",
-        },
-        FileName {
-            given: prefix,
-            ending: ".rep",
-        },
-    ]
 }
 
 #[derive(Clone, Copy, Debug)]

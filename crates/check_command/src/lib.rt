@@ -3,7 +3,7 @@
 //!
 //! It stands on the independent check alone, and on no search, list, lock or worker, so that a buyer of patterns can have it by itself.
 //!
-//! Gives: `check_texts`, `file_names`, `check_prefix`, `check_top`.
+//! Gives: `check_texts`, `check_prefix`, `check_top`.
 //! Proved: `check_prefix`, `check_top`: 0 and 1 mean exactly what is answered of the five files read, and 0 that they have the run theorem; each
 //! other status has its cause; `good_files_checked`: good files are due nothing but 0.
 //! Tested: that it comes to these answers, by rows of `check_cases`.
@@ -16,7 +16,7 @@ mod refusal;
 mod status;
 mod top;
 
-pub use command::{check_prefix, check_texts, file_names};
+pub use command::{check_prefix, check_texts};
 pub use laws::{check_exclusive, good_files_checked};
 pub use refusal::CheckRefusal;
 pub use status::CheckStatus;

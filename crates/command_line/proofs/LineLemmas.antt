@@ -1,6 +1,6 @@
 -- What a parse says of the words, against `command_line`.
-use Rattle.std.proofs.Common.{◌≡◌, ◌⊎◌, inl, inr, List, [], ◌∷◌, Option, Result, Err, ap, ap₂, sym, ◌∙◌, refl, subst, codes}
-use Rattle.std.specs.Prelude.{if◌then◌else◌}
+use Rattle.std.proofs.Common.{◌≡◌, ◌⊎◌, inl, inr, List, [], ◌∷◌, Option, Result, Ok, Err, ap, ap₂, sym, ◌∙◌, refl, subst, codes}
+use Rattle.std.specs.Prelude.{IfErr, IfOk, if◌then◌else◌}
 use Rattle.std.specs.Str.{bytes_eq}
 use Rattle.std.proofs.lemmas.Bool.{cond-false, false_from_ne_true}
 use Rattle.std.proofs.lemmas.Slice.Eq.{bytes_eq-Decides}
@@ -9,12 +9,13 @@ use Rattle.clap.specs.Faults.{fault_of}
 use Rattle.clap.specs.declared.error.Error.{Error}
 use Rattle.clap.specs.declared.error.kind.ErrorKind.{ErrorKind}
 use Rattle.clap.specs.declared.error.kind.ErrorKind.TheVariants.{OutOfMemory}
-use Rattle.command_line.specs.CommandLine.{CommandLine, NoLine, bad_words, chaintest_of, check_of, command_line, diagnose_of, faults_line_of, command_line_at, line_by, line_from, line_where_taken, play_of, run_of, scan_of, sweep_of, transition_of}
+use Rattle.command_line.specs.CommandLine.{CommandLine, NoLine, bad_words, chaintest_of, check_of, command_line, diagnose_of, faults_line_of, command_line_at, command_line_of, line_by, line_from, line_where_taken, line_with_files, play_of, run_of, scan_of, sweep_of, transition_of}
 use Rattle.command_line.specs.Refusals.{IsUsageError}
 use Rattle.command_line.specs.inner.Errors.{BecomesRefusal, IsAsked, IsMadeOf}
+use Rattle.command_line.specs.inner.Files.{IsNamed}
 use Rattle.command_line.specs.Table.{command_table}
 use Rattle.command_line.specs.declared.WordsRefusal.{WordsRefusal}
-use Rattle.command_line.specs.declared.WordsRefusal.TheVariants.{BadWords, BadHold, NoMemory}
+use Rattle.command_line.specs.declared.WordsRefusal.TheVariants.{BadWords, BadHold, BadPrefix, WritesOver, NoMemory}
 use Rattle.command_line.specs.declared.requests.NoRequest.{NoRequest}
 use Rattle.command_line.specs.declared.requests.NoRequest.TheVariants as none
 use Rattle.command_line.specs.declared.requests.Request.{Request}
@@ -23,9 +24,9 @@ abbrev Line : Type 0
 Line = Result CommandLine NoLine
 
 pub taken : (words : List Text) (command : Option (Text × List Row)) → fault_of command_table words ≡ []
-    → command ≡ subcommand_of command_table words → command_line words ≡ command_line_at command
+    → command ≡ subcommand_of command_table words → command_line words ≡ line_with_files (command_line_at command)
 unfolding command_line
-taken words command none same = ap₂ line_where_taken none (sym same)
+taken words command none same = ap line_with_files (ap₂ line_where_taken none (sym same))
 
 none_where_faulty : (ks : Kinds) (k : ErrorKind) (command : Option (Text × List Row)) → IsAmong k ks
     → line_where_taken ks command ≡ Err bad_words
@@ -34,7 +35,7 @@ none_where_faulty (x ∷ ks) k command among = refl
 
 refused : (words : List Text) (k : ErrorKind) → IsAmong k (fault_of command_table words) → command_line words ≡ Err bad_words
 unfolding command_line
-refused words k among = none_where_faulty (fault_of command_table words) k _ among
+refused words k among = ap line_with_files (none_where_faulty (fault_of command_table words) k _ among)
 
 no_line : (words : List Text) (k : ErrorKind) → (k ≡ OutOfMemory) ⊎ IsAmong k (fault_of command_table words)
     → (k ≡ OutOfMemory → ⊥) → command_line words ≡ Err bad_words
@@ -45,19 +46,41 @@ pub caused : (words : List Text) (e : Error) (answer : WordsRefusal) → HasKind
     → IsMadeOf (kind_of e) answer → IsUsageError words answer
 caused words e (BadWords text) has made = no_line words (kind_of e) has made
 caused words e BadHold has made = absurd made
+caused words e (BadPrefix prefix) has made = absurd made
+caused words e (WritesOver name) has made = absurd made
 caused words e NoMemory has made = tt
 
 becomes_bad : (words : List Text) (answer : WordsRefusal) → command_line words ≡ Err bad_words → BecomesRefusal none.BadNumber answer → IsUsageError words answer
 becomes_bad words (BadWords text) is made = is
 becomes_bad words BadHold is made = absurd made
+becomes_bad words (BadPrefix prefix) is made = absurd made
+becomes_bad words (WritesOver name) is made = absurd made
 becomes_bad words NoMemory is made = tt
 
--- what values that make no request become
-pub became : (words : List Text) (cause : NoRequest) (answer : WordsRefusal) → IsAsked (command_line words) (Err cause) → BecomesRefusal cause answer → IsUsageError words answer
-became words none.BadNumber answer is made = becomes_bad words answer is made
-became words none.BadEngine answer is made = becomes_bad words answer is made
-became words none.BadHold answer is made = subst (λ (r : WordsRefusal). IsUsageError words r) (sym made) is
-became words none.NoMemory answer is made = subst (λ (r : WordsRefusal). IsUsageError words r) (sym made) tt
+-- what values that make no request become, the words being those of this line
+pub became : (words : List Text) (line : Line) (cause : NoRequest) (answer : WordsRefusal) → IsAsked line (Err cause) → command_line words ≡ line_with_files line → BecomesRefusal cause answer
+    → IsUsageError words answer
+became words line none.BadNumber answer is same made = becomes_bad words answer (same ∙ ap line_with_files is) made
+became words line none.BadEngine answer is same made = becomes_bad words answer (same ∙ ap line_with_files is) made
+became words line none.BadHold answer is same made = subst (λ (r : WordsRefusal). IsUsageError words r) (sym made) (same ∙ ap line_with_files is)
+became words line none.NoMemory answer is same made = subst (λ (r : WordsRefusal). IsUsageError words r) (sym made) tt
+
+-- what the names of a request's files make of the words
+module _ (words : List Text) (line : Line) (asked : Request) (is : line ≡ Ok (command_line_of asked)) (same : command_line words ≡ line_with_files line) where
+  here : command_line words ≡ line_with_files (Ok (command_line_of asked))
+  here = same ∙ ap line_with_files is
+
+  pub named_request : (r : Result Request WordsRefusal) → IsNamed (command_line_of asked) r → IfOk r (λ given. command_line words ≡ Ok (command_line_of given))
+  named_request (Ok given) named = here ∙ named
+  named_request (Err answer) named = tt
+
+  pub named_refusal : (r : Result Request WordsRefusal) → IsNamed (command_line_of asked) r → IfErr r (IsUsageError words)
+  named_refusal (Ok given) named = tt
+  named_refusal (Err (BadPrefix prefix)) named = here ∙ named
+  named_refusal (Err (WritesOver name)) named = here ∙ named
+  named_refusal (Err (BadWords text)) named = absurd named
+  named_refusal (Err BadHold) named = absurd named
+  named_refusal (Err NoMemory) named = absurd named
 
 pub asked_as : (a b : Line) (r : Result Request NoRequest) → a ≡ b → IsAsked a r → IsAsked b r
 asked_as a b r same asked = subst (λ (l : Line). IsAsked l r) same asked

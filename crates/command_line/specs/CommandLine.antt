@@ -1,11 +1,13 @@
 -- What a command line asks for.
-use Rattle.std.specs.Prelude.{◌≤◌, ⊤, ℕ, Bool, true, List, [], ◌∷◌, Option, Some, None, if◌then◌else◌, codes, map}
+use Rattle.std.specs.Prelude.{◌≤◌, ◌==◌, ◌||◌, ⊤, ℕ, Bool, true, List, [], ◌∷◌, Option, Some, None, if◌then◌else◌, codes, length, map, nat_eq}
 use Rattle.std.specs.Prelude.{Result, Ok, Err, option_and_then, option_map}
+use Rattle.std.specs.List.{ends_with, find, list_any}
 use Rattle.std.specs.Option.{ok_or}
 use Rattle.std.specs.Str.{bytes_eq}
 use Rattle.limits.specs.Limits.{most_chains, most_workers, most_limit, fewest_gates, most_gates}
 use Rattle.clap.specs.Words.{Kinds, Row, Text, first_of, subcommand_of}
 use Rattle.clap.specs.Faults.{fault_of}
+use Rattle.commands.specs.Names.{run_files}
 use Rattle.command_line.specs.Numbers.{number_in}
 use Rattle.command_line.specs.HoldLists.{HoldItem, holds_in}
 use Rattle.command_line.specs.Table.{command_table, most_seed}
@@ -37,10 +39,63 @@ pub data CommandLine : Type 0 where
   -- the netlist's file, what the names of the files written begin with, and the numbers
   transition : Text → Text → RunOptions → CommandLine
 
--- Why words are no command line: by `clap`'s rule, or the form or range of a value; or, all else being in order, by the list of held inputs.
+-- Why words are no command line: by `clap`'s rule, or the form or range of a value; or, all else being in order, by the list of held inputs; or, that
+-- too being in order, by what the names of the files written begin with, or by the name of a file that is read and would be written over.
 pub data NoLine : Type 0 where
   bad_words : NoLine
   bad_hold : NoLine
+  bad_prefix : Text → NoLine
+  writes_over : Text → NoLine
+
+-- ---- files
+
+-- the names of the files that a command line reads, in order
+abbrev pub reads : CommandLine → List Text
+reads (scan net to chains) = net ∷ []
+reads (faults net) = net ∷ []
+reads (run net prefix options holds) = net ∷ []
+reads (play net stil fault) = net ∷ stil ∷ []
+reads (check prefix) = run_files prefix
+reads (sweep seed gates) = []
+reads (chaintest net stil chains) = net ∷ stil ∷ []
+reads (diagnose net stil log options) = net ∷ stil ∷ log ∷ []
+reads (transition net prefix options) = net ∷ []
+
+-- the names of the files that it writes, in order
+abbrev pub writes : CommandLine → List Text
+writes (scan net to chains) = to ∷ []
+writes (run net prefix options holds) = run_files prefix
+writes (transition net prefix options) = run_files prefix
+writes _ = []
+
+-- the first that it reads and would write over
+abbrev pub written_over : CommandLine → Option Text
+written_over line = find (λ name. list_any (bytes_eq name) (writes line)) (reads line)
+
+-- nothing, or a folder's name alone: files with such a prefix would be hidden
+abbrev pub is_nameless : Text → Bool
+is_nameless prefix = length prefix == 0 || ends_with nat_eq prefix (codes "/")
+
+abbrev pub if_nameless : Text → Option Text
+if_nameless prefix = if is_nameless prefix then Some prefix else None
+
+-- what the names of the files written begin with, where that leaves them nameless
+abbrev pub nameless_prefix : CommandLine → Option Text
+nameless_prefix (run net prefix options holds) = if_nameless prefix
+nameless_prefix (transition net prefix options) = if_nameless prefix
+nameless_prefix _ = None
+
+abbrev pub line_where : CommandLine → Option Text → Option Text → Result CommandLine NoLine
+line_where line (Some prefix) over = Err (bad_prefix prefix)
+line_where line None (Some name) = Err (writes_over name)
+line_where line None None = Ok line
+
+-- where the names of its files are in order, the command line
+abbrev pub line_with_files : Result CommandLine NoLine → Result CommandLine NoLine
+line_with_files (Ok line) = line_where line (nameless_prefix line) (written_over line)
+line_with_files (Err cause) = Err cause
+
+-- ---- values
 
 -- the number that an option's text writes, or `default` where the option isn't there
 abbrev pub number_given : ℕ → ℕ → ℕ → Option Text → Option ℕ
@@ -155,10 +210,10 @@ line_where_taken [] command = command_line_at command
 line_where_taken (k ∷ ks) command = Err bad_words
 
 -- the words are a command line: `clap`'s rule for simple commands takes them, no step of the parse
--- failing, and each value of the command that it names has its form and is in its range
+-- failing, each value of the command that it names has its form and is in its range, and the names of its files are in order
 unfoldable pub command_line : List Text → Result CommandLine NoLine
 command_line words =
-    line_where_taken (fault_of command_table words) (subcommand_of command_table words)
+    line_with_files (line_where_taken (fault_of command_table words) (subcommand_of command_table words))
 
 -- an input's name, and the bit at which it is held
 abbrev pub hold_of : Held → HoldItem

@@ -1,4 +1,5 @@
 pub mod Errors
+pub mod Files
 pub mod Held
 pub mod Padding
 pub mod SearchTable

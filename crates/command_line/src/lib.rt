@@ -1,11 +1,12 @@
 //! The command line: what the program's words ask for, exactly by `clap`'s rule over a table of
 //! commands.
 //!
-//! `commands` builds the table for `clap`, `values` reads single values, `requests` makes of what
-//! `clap` found a request.
+//! `clap_table` builds the table for `clap`, `values` reads single values, `requests` makes of what
+//! `clap` found a request, `files` looks at the names of its files.
 //!
 //! Gives: `parse`, `Request`.
-//! Proved: `parse`: exactly the request that clap's rule gives over the table, with exactly the list of held inputs, or why there is none.
+//! Proved: `parse`: exactly the request that clap's rule gives over the table, with exactly the list of held inputs, or why there is none: exactly where
+//! files would be nameless, and where one that is read would be written over; `nothing_written_over`: no command line writes a file that it reads.
 //! Tested: clap's texts.
 #![tactic(auto)]
 
@@ -18,27 +19,35 @@ ghost use Rattle.command_line.specs.CommandLine.{IsInRange, command_line, comman
 ghost use Rattle.command_line.specs.Refusals.{IsUsageError};
 ghost use Rattle.command_line.specs.inner.Errors.{BecomesRefusal, IsBadWords, IsMadeOf};
 
-mod commands;
+mod clap_table;
+mod files;
 mod holds;
+mod laws;
 mod requests;
 mod values;
 
 use clap::error::ErrorKind;
 use clap::{ArgMatches, Error};
-use commands::table;
+use clap_table::table;
+use files::with_files;
 pub use holds::Held;
+pub use laws::nothing_written_over;
 pub use requests::{DiagnoseOptions, EngineName, Request, RunOptions};
 use requests::{NoRequest, request_of};
 use std::alloc::Global;
 
 /// Why the words are no request.
 #[derive(Debug, Drop)]
-pub enum WordsRefusal {
+pub enum WordsRefusal<'a> {
     /// They are no command line of the table. The text is for the user, its last line ended: what
     /// is wrong and how to get help, or the help or version that was asked for.
     BadWords(String),
     /// They would be one, but for the list of held inputs.
     BadHold,
+    /// They would be one, but the files written would have no names of their own, only this prefix.
+    BadPrefix(&'a str),
+    /// They would be one, but this file, which they read, would be written over.
+    WritesOver(&'a str),
     NoMemory,
 }
 
@@ -65,7 +74,7 @@ fn matches<'a>(alloc: Global, words: &'a [String]) -> Result<ArgMatches<'a>, Err
     table.try_get_matches_from(words)
 }
 
-fn refusal(alloc: Global, error: &Error) -> WordsRefusal
+fn refusal<'a>(alloc: Global, error: &Error) -> WordsRefusal<'a>
     ensures { IsMadeOf (kind_of error.now) result }
 {
     match format!(in alloc; "{error}") {
@@ -78,7 +87,7 @@ fn refusal(alloc: Global, error: &Error) -> WordsRefusal
 }
 
 // The words are no command line, and this is the text for the user.
-fn bad_words(alloc: Global, text: &str) -> WordsRefusal
+fn bad_words<'a>(alloc: Global, text: &str) -> WordsRefusal<'a>
     ensures { IsBadWords result }
 {
     match String::from_str(alloc, text) {
@@ -88,7 +97,7 @@ fn bad_words(alloc: Global, text: &str) -> WordsRefusal
 }
 
 // Why values make no request.
-fn refusal_of(alloc: Global, none: NoRequest) -> WordsRefusal
+fn refusal_of<'a>(alloc: Global, none: NoRequest) -> WordsRefusal<'a>
     ensures { BecomesRefusal none result }
 {
     match none {
@@ -100,7 +109,7 @@ fn refusal_of(alloc: Global, none: NoRequest) -> WordsRefusal
 }
 
 /// What the words ask for. The first word is the program's name.
-pub fn parse<'a>(alloc: Global, words: &'a [String]) -> Result<Request<'a>, WordsRefusal>
+pub fn parse<'a>(alloc: Global, words: &'a [String]) -> Result<Request<'a>, WordsRefusal<'a>>
     ensures request { IfOk result (λ request.
         command_line (map string_bytes words.entry.now) ≡ Ok (command_line_of request)) }
     ensures in_range { IfOk result IsInRange }
@@ -111,7 +120,7 @@ pub fn parse<'a>(alloc: Global, words: &'a [String]) -> Result<Request<'a>, Word
         Err(error) => return Err(refusal(alloc, &error)),
     };
     match request_of(alloc, &found) {
-        Ok(request) => Ok(request),
+        Ok(request) => with_files(request),
         Err(none) => Err(refusal_of(alloc, none)),
     }
 }

@@ -3,3 +3,4 @@ pub mod WriteLemmas
 pub mod PutLemmas
 pub mod Exclusive
 pub mod CommandLemmas
+pub mod NameLemmas

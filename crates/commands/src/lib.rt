@@ -4,7 +4,7 @@
 //! A command says which names it reads and writes and what is due of the texts that it has read;
 //! how it can end, and what it then leaves, is one table for all commands (`CommandRow`).
 //!
-//! Gives: `Work`, `run_command`, `read_in_order`, `deliver`, `put_pieces`.
+//! Gives: `Work`, `run_command`, `read_in_order`, `deliver`, `put_pieces`, `file_names`, `is_among`.
 //! Proved: `run_command`: reads in order, work, writes in order, output, each ending with its cause and what then stands, want of memory too;
 //! `deliver`: the same for a command whose work may wait; the laws that each ending comes exactly where it should.
 #![tactic(auto)]
@@ -23,7 +23,7 @@ pub use command::{Work, run_command};
 pub use delivering::deliver;
 pub use ending::{Ending, Finding, WriteFailure};
 pub use laws::{failed_exactly, missing_exactly, nothing_else, refused_exactly, too_long_exactly};
-pub use names::FileName;
+pub use names::{FileName, file_names, is_among};
 pub use pieces::put_pieces;
 pub use product::{Product, Stop};
 pub use reading::read_in_order;

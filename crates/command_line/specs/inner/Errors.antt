@@ -12,8 +12,8 @@ use Rattle.command_line.specs.declared.requests.Request.{Request}
 -- the refusal that an error of this kind of `clap` becomes
 abbrev pub IsMadeOf : ErrorKind → WordsRefusal → Type 0
 IsMadeOf kind (refusal.BadWords text) = kind ≢ OutOfMemory
-IsMadeOf kind refusal.BadHold = ⊥
 IsMadeOf kind refusal.NoMemory = ⊤
+IsMadeOf kind _ = ⊥
 
 -- the request is this command line, or there is none for this cause
 abbrev pub IsAsked : Result CommandLine NoLine → Result Request NoRequest → Type 0
@@ -26,8 +26,8 @@ IsAsked line (Err none.NoMemory) = ⊤
 -- the words are bad, or memory was refused
 abbrev pub IsBadWords : WordsRefusal → Type 0
 IsBadWords (refusal.BadWords text) = ⊤
-IsBadWords refusal.BadHold = ⊥
 IsBadWords refusal.NoMemory = ⊤
+IsBadWords _ = ⊥
 
 -- the refusal for this cause
 abbrev pub BecomesRefusal : NoRequest → WordsRefusal → Type 0

@@ -1,6 +1,7 @@
 use Rattle.commands.specs.Laws.{IsFailure}
 use Rattle.commands.proofs.Exclusive.{failed_exactly as law}
-use Rattle.atpg_top.specs.Commands.{due, reads, writes}
+use Rattle.command_line.specs.CommandLine.{reads, writes}
+use Rattle.atpg_top.specs.Commands.{due}
 use Rattle.atpg_top.proofs.Endings.{ends_by}
 use Rattle.atpg_top.proofs.laws.failed_exactly.Goals as goal
 

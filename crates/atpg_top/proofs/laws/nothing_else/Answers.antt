@@ -1,6 +1,7 @@
 use Rattle.commands.proofs.Exclusive.{nothing_else as law}
 use Rattle.commands.specs.Laws.{OrFails, IsEnded}
-use Rattle.atpg_top.specs.Commands.{due, reads, writes}
+use Rattle.command_line.specs.CommandLine.{reads, writes}
+use Rattle.atpg_top.specs.Commands.{due}
 use Rattle.atpg_top.proofs.Endings.{ends_by}
 use Rattle.atpg_top.proofs.Exclusive.{each_exclusive}
 use Rattle.atpg_top.proofs.laws.nothing_else.Goals as goal

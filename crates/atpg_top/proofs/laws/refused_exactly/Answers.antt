@@ -1,6 +1,7 @@
 use Rattle.commands.proofs.Exclusive.{refused_exactly as law}
 use Rattle.commands.specs.Laws.{OrFails, IsRefusedFor}
-use Rattle.atpg_top.specs.Commands.{due, reads, writes}
+use Rattle.command_line.specs.CommandLine.{reads, writes}
+use Rattle.atpg_top.specs.Commands.{due}
 use Rattle.atpg_top.proofs.Endings.{ends_by}
 use Rattle.atpg_top.proofs.Exclusive.{each_exclusive}
 use Rattle.atpg_top.proofs.laws.refused_exactly.Goals as goal

@@ -26,4 +26,4 @@ returns-in-StilDoesNotFit g c = rw c.in-StilDoesNotFit.is c.say_text-in-StilDoes
 
 pub returns-in-NoSuchInput : goal.returns-in-NoSuchInput
 returns-in-NoSuchInput g c =
-    rw c.in-NoSuchInput.is (said_so _ _ _ _ _ _ _ (ap (λ (t : Text). codes "no such input: " ++ (t ++ codes "\n")) c.name_at.ensures) c.say_no_input.ensures)
+    rw c.in-NoSuchInput.is (said_so _ _ _ _ _ _ _ (ap (λ (t : Text). codes "no such input: " ++ (t ++ codes "\n")) c.name_at.ensures) c.say_word.ensures)

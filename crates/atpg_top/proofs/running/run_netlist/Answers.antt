@@ -1,10 +1,9 @@
 use Rattle.std.proofs.Common.{[], ◌∷◌, ap, map}
 use Rattle.plain_text.specs.Texts.{Text}
-use Rattle.commands.specs.Names.{file_name_of, file_names_of, texts_of}
+use Rattle.commands.specs.Names.{file_name_of, file_names_of, run_files, texts_of}
 use Rattle.commands.specs.World.{world}
 use Rattle.commands.proofs.CommandLemmas.{command_row}
 use Rattle.command_line.specs.CommandLine.{hold_of}
-use Rattle.check_command.specs.Checking.{run_files}
 use Rattle.atpg_top.specs.Commands.{run_due}
 use Rattle.atpg_top.proofs.Delivering.{row_at}
 use Rattle.atpg_top.proofs.running.run_netlist.Goals as goal

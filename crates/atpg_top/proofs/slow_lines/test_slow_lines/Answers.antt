@@ -1,9 +1,8 @@
 use Rattle.std.proofs.Common.{[], ◌∷◌, ap}
 use Rattle.plain_text.specs.Texts.{Text}
-use Rattle.commands.specs.Names.{file_name_of, file_names_of, texts_of}
+use Rattle.commands.specs.Names.{file_name_of, file_names_of, run_files, texts_of}
 use Rattle.commands.specs.World.{world}
 use Rattle.commands.proofs.CommandLemmas.{command_row}
-use Rattle.check_command.specs.Checking.{run_files}
 use Rattle.atpg_top.specs.Commands.{transition_due}
 use Rattle.atpg_top.proofs.Delivering.{row_at}
 use Rattle.atpg_top.proofs.slow_lines.test_slow_lines.Goals as goal

@@ -1,5 +1,5 @@
 use Rattle.std.proofs.Common.{rules}
-use Rattle.command_line.proofs.commands.program.Goals as goal
+use Rattle.command_line.proofs.clap_table.program.Goals as goal
 
 pub returns : goal.returns
 returns c = search rules

@@ -1,7 +1,7 @@
 use Rattle.std.proofs.Common.{ap₂, ◌∙◌}
 use Rattle.clap.specs.Words.{with_subcommand}
 use Rattle.command_line.specs.Table.{command_table}
-use Rattle.command_line.proofs.commands.table.Goals as goal
+use Rattle.command_line.proofs.clap_table.table.Goals as goal
 
 pub returns : goal.returns
 unfolding command_table
