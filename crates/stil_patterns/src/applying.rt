@@ -98,7 +98,16 @@ fn push_part(
     core.netlist().sound();
     let words = response64(alloc, core, &patterns[start..end])?;
     for k in start..end {
-        push_test(items, room, chains, &patterns[k], &words, k - start, held, bench)?;
+        push_test(
+            items,
+            room,
+            chains,
+            &patterns[k],
+            &words,
+            k - start,
+            held,
+            bench,
+        )?;
     }
     Ok(())
 }
@@ -148,7 +157,11 @@ fn push_tests(
     };
     let mut start = 0;
     while start < patterns.len() {
-        let end = if patterns.len() - start > 64 { start + 64 } else { patterns.len() };
+        let end = if patterns.len() - start > 64 {
+            start + 64
+        } else {
+            patterns.len()
+        };
         push_part(
             alloc, items, room, core, chains, patterns, start, end, held, &mut bench,
         )?;
@@ -174,7 +187,9 @@ pub(crate) fn items_of(
     let mut room = Room::new(alloc);
     push_flush(alloc, &mut items, &mut room, chains, cells)?;
     let mut held = vec![in alloc; Tri::X; cells]?;
-    push_tests(alloc, &mut items, &mut room, core, chains, patterns, &mut held)?;
+    push_tests(
+        alloc, &mut items, &mut room, core, chains, patterns, &mut held,
+    )?;
     push_zero_load(alloc, &mut items, &mut room, chains, &held)?;
     Ok(items)
 }

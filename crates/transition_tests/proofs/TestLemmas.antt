@@ -244,8 +244,8 @@ made_from n batch patterns others found seed lasts kept filled is told kept_is =
   exactly = λ place. (
     (λ m. subst (λ (ps : List Pattern). IsNeededForTransitions n (universe_of n) ps place) is (marked_by (LastTransition n patterns) (universe_of n) lasts place told m)),
     (λ need.
-      marked_where (LastTransition n patterns) (universe_of n) lasts place told (alone n patterns place)
-      (subst (λ (ps : List Pattern). IsNeededForTransitions n (universe_of n) ps place) (sym is) need)),
+        marked_where (LastTransition n patterns) (universe_of n) lasts place told (alone n patterns place)
+        (subst (λ (ps : List Pattern). IsNeededForTransitions n (universe_of n) ps place) (sym is) need)),
   );
   are = kept_is ∙ ap (kept_from (is_last_at lasts) 0) is;
 }

@@ -94,16 +94,7 @@ fn answer<J: About, T: Ledger, S: Ledger, P: Ledger, U: Ledger, R: Wait>(
 }
 
 /// Publishes the cubes once there are enough of them; how many are enough from then on.
-fn publish_full<
-    J: About,
-    T: Ledger,
-    S: Ledger,
-    P: Ledger,
-    U: Ledger,
-    G: Gate,
-    N: Rng,
-    R: Wait,
->(
+fn publish_full<J: About, T: Ledger, S: Ledger, P: Ledger, U: Ledger, G: Gate, N: Rng, R: Wait>(
     rt: &R,
     alloc: Global,
     shared: &Shared<J, T, S, P, U>,

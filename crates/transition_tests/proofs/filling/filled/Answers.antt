@@ -20,9 +20,12 @@ returns-clause-made c =
     let cubes = c.args.cubes.now in
     let merged = c.in_ok-merged.merged.items in
     IfOk-weaker c.fill_all.result (λ v. v.items ≡ filled_all c.deref.result.now (stream_of (steps_u32 pcg32) c.new-rng.result)) (λ v. AreFilledFrom cubes c.args.seed v.items)
-    (λ v is. (merged, c.in_ok-merged.ensures.merged,
-    is ∙ (ap (λ (ms : List Cube). filled_all ms (stream_of (steps_u32 pcg32) c.new-rng.result)) c.deref.ensures.value
-    ∙ ap (λ (g : Lcg). filled_all merged (stream_of (steps_u32 pcg32) g)) c.new-rng.ensures)))
+    (λ v is. (
+      merged,
+      c.in_ok-merged.ensures.merged,
+      is ∙ (ap (λ (ms : List Cube). filled_all ms (stream_of (steps_u32 pcg32) c.new-rng.result)) c.deref.ensures.value
+          ∙ ap (λ (g : Lcg). filled_all merged (stream_of (steps_u32 pcg32) g)) c.new-rng.ensures),
+    ))
     c.fill_all.ensures.patterns
 
 pub returns-clause-fit : goal.returns-clause-fit
