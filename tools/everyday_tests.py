@@ -73,7 +73,7 @@ def test_try_guide():
 
 # The line that shows how far a run is, by the proved build where it stands.
 
-PROGRAM = ROOT / "crates/atpg_main/out/atpg_main"
+PROGRAM = ROOT / "built/atpg"
 SHOWN = re.compile(r"\n(\d+) (?:of at most (\d+) )?searches, (\d+) batches of patterns, (\d+) s\x1b\[K\r\x1b\[1A")
 
 
@@ -215,6 +215,7 @@ def test_run_many():
 
 # tools/explain, on refusals that the plain reader finds.
 
+NO_FORM = "it is none of INPUT(x), OUTPUT(x) and z = GATE(a, b, ..)"
 REFUSED = (
     ("INPUT(a)\nOUTPUT(y)\ny = AND(a, Bee)\nbee = NOT(a)\n", ["  y = AND(a, Bee)", "Bee is neither an INPUT nor defined; like it are bee (line 4)"]),
     ("INPUT(a)\nOUTPUT(y)\nOUTPUT(z)\ny = NOT(a)\n", ["  OUTPUT(z)", "z is neither an INPUT nor defined"]),
@@ -229,11 +230,31 @@ REFUSED = (
     ("INPUT(a)\nOUTPUT(y)\ny = XOR(a)\n", ["  y = XOR(a)", "XOR has 1 pin here, and may have 2 to 1,024"]),
     ("INPUT(a)\nINPUT(a)\nOUTPUT(a)\n", ["  INPUT(a)", "a is defined on line 1 too: INPUT(a)"]),
     ("INPUT(a)\nOUTPUT(SC__a)\n", ["  OUTPUT(SC__a)", "names that begin with SC__ are for scan insertion: SC__a"]),
-    ("INPUT(a)\nOUTPUT(y);\n", ["  OUTPUT(y);", "it is none of INPUT(x), OUTPUT(x) and z = GATE(a, b, ..)"]),
+    ("INPUT(a)\nOUTPUT(y);\n", ["  OUTPUT(y);", NO_FORM, "no ; stands at the end of a line"]),
     ("INPUT(a)\nOUTPUT(" + "y" * 300 + ")\n", ["  OUTPUT(" + "y" * 300 + ")",
                                              "a name has 300 bytes, and may have 255 (261 where the netlist is read as scanned)"]),
     ("INPUT(a)\nOUTPUT(\"y)\n", ["  OUTPUT(\"y)", "byte 8 is 0x22, which may stand in comments alone"]),
     ("OUTPUT(y)\ny = CONST1()\n", ["no line is an INPUT"]),
+    ("INPUT(a)\nOUTPUT(y)\ny = inv(a)\n", ["  y = inv(a)", "INV is no gate; NOT is what is meant, perhaps. Gates are AND, NAND, OR, NOR, XOR, "
+                                          "XNOR, NOT, BUFF, DFF, CONST0, CONST1"]),
+    ("INPUT(a)\nOUTPUT(y)\ny = vdd\n", ["  y = vdd", NO_FORM, "a constant is written z = CONST1() or z = CONST0()"]),
+    ("INPUT(a)\nOUTPUT(y)\ny = GND()\n", ["  y = GND()", "GND is no gate; CONST0 is what is meant, perhaps. Gates are AND, NAND, OR, NOR, XOR, "
+                                         "XNOR, NOT, BUFF, DFF, CONST0, CONST1"]),
+    ("INPUT(a)\nOUTPUT(y)\ny = LUT 0x1 ( a )\n", ["  y = LUT 0x1 ( a )", NO_FORM, "a table of ABC: its command `write_bench -l` writes gates"]),
+    ("// a design\nINPUT(a)\n", ["  // a design", NO_FORM, "a comment begins with #"]),
+    ("INPUT(a) // first\n", ["  INPUT(a) // first", NO_FORM, "a comment begins with #"]),
+    ("INPUT(a, b)\n", ["  INPUT(a, b)", NO_FORM, "each input and output has a line of its own"]),
+    ("\ufeffINPUT(a)\n", ["  \\xef\\xbb\\xbfINPUT(a)", "the file begins with a byte order mark (EF BB BF): save it as plain ASCII, or "
+                        "`sed -i '1s/^\\xef\\xbb\\xbf//' NET`"]),
+    ("# x\nmodule m(input a);\n  wire b;\nendmodule\n", [
+        "  module m(input a);", "this is Verilog, and a .bench netlist is wanted: docs/GUIDE.md makes one of it"]),
+    ("STIL 1.0;\nHeader {\n}\n", ["  STIL 1.0;", "this is a STIL file, and a .bench netlist is wanted"]),
+    (".model m\n.inputs a\n", ["  .model m", "this is BLIF, and a .bench netlist is wanted: Yosys (read_blif) reads it"]),
+    ("entity m is\nend m;\n", ["  entity m is", "this is VHDL, and a .bench netlist is wanted"]),
+    ("atpg report 1\ninputs 4\n", ["  atpg report 1", "this is another file of a run, and its netlist is wanted"]),
+    ("INPUT(a)\nINPUT(SC__se)\nOUTPUT(a)\nSC__nse = NOT(SC__se)\n", [
+        "  INPUT(SC__se)", "names that begin with SC__ are for scan insertion: SC__se",
+        "the netlist has scan cells already, as PREFIX.scan does: what is wanted is the netlist before scan insertion, as PREFIX.net"]),
 )
 
 
@@ -241,9 +262,6 @@ def test_explain():
     """The line and what is wrong with it, below what the program says."""
     with tree() as made:
         made.add_rt()
-        (made.root / "bench/oracle").mkdir(parents=True)
-        shutil.copy2(ROOT / "bench/oracle/plain_design.py", made.root / "bench/oracle")
-        shutil.copy2(ROOT / "tools/explain", made.root / "tools")
         for number, (text, wanted) in enumerate(REFUSED):
             path = made.folder / f"{number}.bench"
             path.write_text(text)
@@ -254,5 +272,6 @@ def test_explain():
             made.put(made.root / "atpg", f"#!/bin/sh\necho '{line}' >&2\nexit 3\n")
             status, out, errors = made.run(made.root / "tools/explain", path)
             assert (status, out, errors.splitlines()) == (3, "", [line, *wanted]), (text, errors)
+            assert made.run(made.root / "tools/explain", "--of", line, path) == (0, "\n".join(wanted) + "\n", ""), text
         made.put(made.root / "atpg", "#!/bin/sh\necho faults 2 classes 2\n")
         assert made.run(made.root / "tools/explain", "x") == (0, "x: read as a netlist\n", "")

@@ -12,21 +12,26 @@ import sys
 sys.path.insert(0, str(pathlib.Path(__file__).resolve().parent.parent / "bench/oracle"))
 import plain_check  # noqa: E402
 import plain_design as plain  # noqa: E402
+import plain_transition  # noqa: E402
 
 from run_files import beside, evaluation_order  # noqa: E402
 
 MOST_STEPS = 8_000_000  # gates evaluated: about half a minute
 
 
+def packed(patterns, sources):
+    """For each input and cell a number whose bit j is that of pattern j."""
+    return {name: sum(pattern[name] << j for j, pattern in enumerate(patterns)) for name in sources}
+
 
 class Simulation:
-    """The good values of all patterns, and what a fault changes of them."""
+    """The good values of many patterns at a time, and what a stuck line changes of them."""
 
-    def __init__(self, design, patterns):
-        self.design, self.ones, self.steps = design, (1 << len(patterns)) - 1, 0
+    def __init__(self, design, sources, ones):
+        self.design, self.ones, self.steps = design, ones, 0
         self.order = {name: place for place, name in enumerate(evaluation_order(design))}
         self.readers, self.seen = collections.defaultdict(list), {design.signal_at(point) for point in design.points()}
-        self.good = {name: sum(pattern[name] << j for j, pattern in enumerate(patterns)) for name in design.kinds if design.is_source(name)}
+        self.good = dict(sources)
         for name in self.order:
             self.good[name] = plain.gate(design.kinds[name], [self.good[pin] for pin in design.pins[name]], self.ones)
             for pin in design.pins[name]:
@@ -65,21 +70,45 @@ class Simulation:
             value = plain.gate(self.design.kinds[name], [changed.get(pin, self.good[pin]) for pin in self.design.pins[name]], self.ones)
 
 
-def patterns_of(prefix, design, chains, held):
+class Launches(Simulation):
+    """The same of slow lines by launch on capture: what they change is seen behind a second capture, in patterns that launch them."""
+
+    def __init__(self, design, sources, ones):
+        first = Simulation(design, sources, ones)
+        taken = {name: first.good[design.pins[name][0]] for name, kind in design.kinds.items() if kind == "DFF"}
+        super().__init__(design, sources | taken, ones)
+        self.first = first.good
+
+    def told(self, line, bit):
+        launched = self.first[self.design.signal_of(line)] ^ (0 if bit == "1" else self.ones)
+        return super().told(line, bit) & launched
+
+
+def patterns_of(prefix, design, head):
     """The patterns of the STIL file; None where it isn't that of patterns."""
     tokens = plain.stil_tokens(beside(prefix, "stil").read_bytes())
     netlist = design.as_plain()
-    return tokens and plain_check.patterns_of(tokens, netlist, plain.chains_of(netlist.cells, chains), held)
+    chains = plain.chains_of(netlist.cells, int(head.numbers["chains"]))
+    if not tokens or b"Pattern" not in tokens:
+        return None
+    if head.is_slow:
+        try:
+            return plain_transition.patterns_of(tokens, netlist, chains)
+        except (IndexError, ValueError):  # fewer words than such a test has
+            return None
+    return plain_check.patterns_of(tokens, netlist, chains, dict(head.held))
 
 
-def firsts(prefix, design, head, held, verdicts, most=MOST_STEPS):
+def firsts(prefix, design, head, verdicts, most=MOST_STEPS):
     """How many faults each pattern is the first to detect; and a fault whose last one isn't as the report says, if there is one.
 
     None in place of both where the file isn't that of the report's patterns, or where it is more work than is done unasked."""
-    patterns = patterns_of(prefix, design, int(head["chains"]), dict(held))
-    if patterns is None or len(patterns) != int(head["patterns"]):
+    patterns = patterns_of(prefix, design, head)
+    if patterns is None or len(patterns) != int(head.numbers["patterns"]):
         return None
-    simulation, counts, wrong = Simulation(design, patterns), collections.Counter(), None
+    sources = packed(patterns, filter(design.is_source, design.kinds))
+    simulation = (Launches if head.is_slow else Simulation)(design, sources, (1 << len(patterns)) - 1)
+    counts, wrong = collections.Counter(), None
     for verdict in verdicts:
         if verdict.end != "detected":
             continue
@@ -87,7 +116,7 @@ def firsts(prefix, design, head, held, verdicts, most=MOST_STEPS):
         if simulation.steps > most:
             return None
         if wrong is None and told.bit_length() - 1 != verdict.pattern:
-            wrong = f"{verdict.line}/{verdict.bit}"
+            wrong = verdict.fault
         if told:
             counts[(told & -told).bit_length() - 1] += 1
     return counts, wrong

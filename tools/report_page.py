@@ -2,11 +2,9 @@
 
 import collections
 import html
-import pathlib
-import sys
+import itertools
 
-sys.path.insert(0, str(pathlib.Path(__file__).resolve().parent.parent / "bench/oracle"))
-import plain_design as plain  # noqa: E402
+from run_files import point_name
 
 MOST_FAULTS = 2_000  # of each kind
 MOST_NAMES = 8
@@ -40,17 +38,14 @@ class Cones:
 
     def ahead(self, line):
         """The outputs and cells' pins that a line leads to, in order."""
-        words = line.split(" ")
-        if words[0] == "out" or words[0] == "pin" and self.design.kinds[words[1]] == "DFF":
+        if self.design.is_point(line):
             return [line]
-        reached = self.walk(words[1], lambda name: self.readers[name])
+        reached = self.walk(line.split(" ")[1], lambda name: self.readers[name])
         return sorted((point for name in reached for point in self.points[name]), key=self.places.get)
 
     def behind(self, line):
         """How many signals lead to a line, from inputs and cells on, with the one that it is of."""
-        words = line.split(" ")
-        name = self.design.pins[words[1]][int(words[2])] if words[0] == "pin" else words[1]
-        return len(self.walk(name, lambda each: [] if self.design.is_source(each) else self.design.pins[each]))
+        return len(self.walk(self.design.signal_of(line), lambda each: [] if self.design.is_source(each) else self.design.pins[each]))
 
     @staticmethod
     def walk(name, following):
@@ -79,42 +74,35 @@ def code(text):
     return Markup(f"<code>{html.escape(text)}</code>")
 
 
-def representatives(design, verdicts):
-    """For each fault the text of its class's representative, as the certificate names it."""
-    faults = [(verdict.line, int(verdict.bit)) for verdict in verdicts]
-    try:
-        firsts = plain.classes(design.as_plain(), faults)
-    except KeyError:  # not all faults of the netlist stand in the report
-        return {}
-    return {fault: f"{faults[first][0]}/{faults[first][1]}" for fault, first in zip(faults, firsts)}
-
-
 def driver(design, line):
     name = line.split(" ")[1]
     kind = design.kinds[name]
     return f"INPUT({name})" if kind == "INPUT" else f"{name} = {kind}({', '.join(design.pins[name])})"
 
 
-def fault_rows(design, verdicts, end, named, numbers):
-    """A row for each fault that ended so: the fault, its gate, its cone, and a link to the certificate's line."""
-    cones = Cones(design)
-    for verdict in verdicts:
+def fault_rows(run, end):
+    """A row for each fault that ended so: the fault, if it is redundant why, its gate, its cone, and a link to the certificate's line."""
+    cones, numbers = Cones(run.design), {tree.fault: tree.number for tree in run.trees}
+    for verdict in run.counts.verdicts:
         if verdict.end != end:
             continue
-        points = cones.ahead(verdict.line)
+        points = [point_name(point) for point in cones.ahead(verdict.line)]
         shown = ", ".join(points[:MOST_NAMES]) + (f" and {len(points) - MOST_NAMES:,} more" if len(points) > MOST_NAMES else "")
-        number = numbers.get(named.get((verdict.line, int(verdict.bit))))
+        number = numbers.get(run.named.get(verdict.fault))
         link = Markup(f'<a href="#line-{number}">line {number}</a>') if number else "none"
-        yield [code(f"{verdict.line}/{verdict.bit}"), code(driver(design, verdict.line)), f"{cones.behind(verdict.line):,}",
-               shown or "no point", link]
+        why = [run.reasons[verdict.fault]] if end == "redundant" else []
+        yield [code(verdict.fault), *why, code(driver(run.design, verdict.line)), f"{cones.behind(verdict.line):,}", shown or "no point", link]
 
 
-def fault_part(design, verdicts, end, named, numbers):
-    count = sum(verdict.end == end for verdict in verdicts)
+def fault_part(run, end, reasons):
+    count = getattr(run.counts.whole(), end)
     parts = [f"<h2>{end.capitalize()} faults: {count:,}</h2>"]
+    is_redundant = end == "redundant"
+    if count and is_redundant:
+        parts.append(table(["why", "faults", "what that says"], reasons))
     if count:
-        rows = [row for row, _ in zip(fault_rows(design, verdicts, end, named, numbers), range(MOST_FAULTS))]
-        parts.append(table(["fault", "at", "signals before it", "it leads to", "certificate"], rows))
+        rows = list(itertools.islice(fault_rows(run, end), MOST_FAULTS))
+        parts.append(table(["fault", *["why"] * is_redundant, "at", "signals before it", "it leads to", "certificate"], rows))
     if count > MOST_FAULTS:
         parts.append(f"<p>And {count - MOST_FAULTS:,} more.</p>")
     return parts
@@ -129,27 +117,29 @@ def certificate_part(prefix, trees):
     return parts
 
 
-def numbers_part(head):
-    """The head's numbers, in two columns."""
-    named = [("backtrack limit" if word == "limit" else word, value) for word, value in head.items()]
+def numbers_part(run):
+    """The head's numbers and test coverage, in two columns; thousands are parted."""
+    words = {"limit": "backtrack limit", "coverage": "fault coverage"}
+    named = [(words.get(word, word), value if "." in value else f"{int(value):,}") for word, value in run.head.numbers.items()]
+    whole = run.counts.whole()
+    named[-1:-1] = [("test coverage", whole.test_coverage()), ("testable (all but redundant)", f"{whole.testable():,}")]
     half = len(named) // 2
     return table(["", "", "", ""], [[*left, *right] for left, right in zip(named[:half], named[half:])])
 
 
-def page(prefix, design, head, held, verdicts, trees, tables, pictures):
-    """The whole page; `tables` are those of the printed report, each a title, a head and rows."""
-    named = representatives(design, verdicts)
-    numbers = {tree.fault: tree.number for tree in trees}
-    name = html.escape(prefix.name)
+def page(run, reasons, tables, pictures):
+    """The whole page; `reasons` are rows on redundant faults, `tables` those of the printed report, each a title, a head and rows."""
+    name = html.escape(run.prefix.name)
+    checked = f"<code>atpg check {name}</code> says whether they are true" if not run.head.is_slow else "<code>play</code> plays the test"
     parts = ["<!DOCTYPE html>", f'<html lang="en"><head><meta charset="utf-8"><title>Test of {name}</title><style>{STYLE}</style></head><body>',
-             f"<h1>Test of {name}</h1>",
-             f"<p>This page believes the files of the run: <code>atpg check {name}</code> says whether they are true.</p>",
-             numbers_part(head)]
-    if held:
-        parts.append(f"<p>Held: {html.escape(', '.join(f'{each}={bit}' for each, bit in held))}</p>")
+             f"<h1>Test of {name}{' for slow lines' * run.head.is_slow}</h1>",
+             f"<p>This page believes the files of the run: {checked}.</p>",
+             numbers_part(run)]
+    if run.head.held:
+        parts.append(f"<p>Held: {html.escape(', '.join(f'{each}={bit}' for each, bit in run.head.held))}</p>")
     parts += pictures
     for end in ("redundant", "aborted"):
-        parts += fault_part(design, verdicts, end, named, numbers)
+        parts += fault_part(run, end, reasons)
     for title, columns, rows in tables:
         parts += [f"<h2>{html.escape(title)}</h2>", table(columns, rows)]
-    return "\n".join(parts + certificate_part(prefix, trees) + ["</body></html>"]) + "\n"
+    return "\n".join(parts + certificate_part(run.prefix, run.trees) + ["</body></html>"]) + "\n"

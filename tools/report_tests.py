@@ -15,6 +15,10 @@ import first_detections
 import made_report
 import plain_check
 import plain_design
+import plain_transition
+import report_counts
+import report_pictures
+import run_files
 
 ROOT = pathlib.Path(__file__).resolve().parent.parent
 TOOL = ROOT / "tools/show_report"
@@ -47,20 +51,25 @@ def made_run(folder, bench, name="run", patterns=20):
     return folder / name
 
 
+def counted_report(prefix):
+    """The netlist, what is counted of the report, and its head."""
+    design = run_files.Design(run_files.beside(prefix, "net"))
+    counts = report_counts.Counts(design)
+    return design, counts, run_files.read_report(run_files.beside(prefix, "rep"), counts.take)
+
+
 def test_show_report():
     """Sums by kind and cone are those of the lines, counted again."""
     for example in ("s27", "uart", "fifo"):
         with tempfile.TemporaryDirectory() as folder:
             prefix = made_run(pathlib.Path(folder), ROOT / "examples" / f"{example}.bench")
-            design = show_report.Design(f"{prefix}.net")
-            counts = show_report.Counts(design)
-            show_report.read_report(pathlib.Path(f"{prefix}.rep"), counts.take)
+            design, counts, _ = counted_report(prefix)
             lines = list(counted(pathlib.Path(f"{prefix}.rep").read_text().splitlines()))
-            for point, tally in show_report.cones(design, counts.by_owner):
+            for point, tally in report_counts.cones(design, counts.by_owner):
                 leads = cone_by_walking(design, point)
                 ends = collections.Counter(end for line, end in lines if leads(line))
-                assert [getattr(tally, end) for end in show_report.ENDS] == [ends[end] for end in show_report.ENDS], (example, point)
-            assert sum(tally.faults() for tally in counts.by_kind.values()) == len(lines)
+                assert [getattr(tally, end) for end in run_files.ENDS] == [ends[end] for end in run_files.ENDS], (example, point)
+            assert counts.whole().faults() == len(lines)
             assert sum(len(faults) for faults in counts.untested.values()) == sum(end != "detected" for _, end in lines)
 
 
@@ -106,8 +115,8 @@ def test_bad_reports():
 # The first detections, and what is made of them, on files of the plain program.
 
 def plain_run(folder, bench, chains, held=None, patterns=60):
-    """Good files of a small design, and what they are of."""
-    netlist = plain_design.read((ROOT / "examples" / bench).read_bytes())
+    """Good files of a small design, an example or a text, and what they are of."""
+    netlist = plain_design.read((ROOT / "examples" / bench).read_bytes() if bench.endswith(".bench") else bench.encode())
     dealt = plain_design.chains_of(netlist.cells, chains)
     files = plain_check.make(netlist, dealt, 128, held or {}, patterns, 1)
     for end, text in files.items():
@@ -128,26 +137,248 @@ def first_by_walking(situation):
     return counts
 
 
-def test_first_detections():
+def slow_run(folder, bench):
+    """Files of a small design's slow lines, each of which some drawn pattern detects or none at all, and what they are of."""
+    netlist = plain_design.read((ROOT / "examples" / bench).read_bytes() if bench.endswith(".bench") else bench.encode())
+    chains = plain_design.chains_of(netlist.cells, 1)
+    situation = plain_transition.kept(netlist, chains, plain_transition.batch_of(netlist, 1))
+    trees = ["atpg transition certificate 1"]
+    for fault, last in zip(situation.faults, situation.last):
+        if last is None:
+            frames, stuck = plain_transition.frames(netlist, fault)
+            trees.append(f"{plain_transition.fault_text(fault)} {' '.join(plain_check.tree_of(frames, stuck, 100_000, {}))}")
+    (folder / "slow.net").write_bytes(plain_design.canonical(netlist))
+    (folder / "slow.stil").write_bytes(plain_transition.stil_of(netlist, chains, situation.patterns))
+    (folder / "slow.rep").write_text(plain_transition.report_of(situation, 100_000))
+    (folder / "slow.cert").write_text("\n".join(trees) + "\n")
+    return folder / "slow", situation
+
+
+def first_slow_by_walking(situation):
+    """How many slow lines each pattern is the first to detect, one pattern at a time."""
+    counts = collections.Counter()
+    for fault in situation.faults:
+        detects = (any(plain_transition.packed(situation.netlist, [pattern]).detections(fault)) for pattern in situation.patterns)
+        counts.update([k for k, does in enumerate(detects) if does][:1])
+    return counts
+
+
+def check_firsts(prefix, by_walking):
     """Found all at a time as one pattern after the other; and what the report says of the last is looked at."""
+    design, counts, head = counted_report(prefix)
+    found = first_detections.firsts(prefix, design, head, counts.verdicts)
+    assert found == (by_walking, None), prefix
+    assert first_detections.firsts(prefix, design, head, counts.verdicts, most=3) is None
+    curves = report_counts.curves_of(counts.lasts, found, int(head.numbers["patterns"]))
+    assert curves.is_exact and curves.first[-1] == curves.last[-1] == int(head.numbers["detected"])
+    report = run_files.beside(prefix, "rep")
+    report.write_text(re.sub(r"(stem \S+(?:/0| rise) detected) \d+", r"\1 0", report.read_text(), count=1))
+    design, counts, head = counted_report(prefix)
+    assert first_detections.firsts(prefix, design, head, counts.verdicts)[1] is not None
+    status, said, _ = said_by(TOOL, prefix)
+    assert status == 0 and "isn't that of the report" in said
+
+
+# A shift register that inputs load: most patterns in which a stuck line is seen don't launch it.
+LAUNCHED = """INPUT(a)
+INPUT(b)
+OUTPUT(y)
+p = DFF(a)
+q = DFF(d)
+d = AND(p, b)
+y = NAND(q, p)
+"""
+
+
+def test_first_detections():
     for bench, chains, held in (("s27.bench", 1, None), ("s27.bench", 2, {"G0": 1}), ("c17.bench", 1, None)):
         with tempfile.TemporaryDirectory() as name:
             prefix, situation = plain_run(pathlib.Path(name), bench, chains, held)
-            design, counts = show_report.Design(show_report.beside(prefix, "net")), None
-            counts = show_report.Counts(design)
-            head, held_now = show_report.read_report(show_report.beside(prefix, "rep"), counts.take)
-            found = first_detections.firsts(prefix, design, head, held_now, counts.verdicts)
-            assert found == (first_by_walking(situation), None), bench
-            assert first_detections.firsts(prefix, design, head, held_now, counts.verdicts, most=3) is None
-            curves = show_report.curves_of(counts.lasts, found, int(head["patterns"]))
-            assert curves.is_exact and curves.first[-1] == curves.last[-1] == int(head["detected"])
-            report = show_report.beside(prefix, "rep")
-            report.write_text(re.sub(r"(stem \S+/0 detected) \d+", r"\1 0", report.read_text(), count=1))
-            counts = show_report.Counts(design)
-            head, held_now = show_report.read_report(report, counts.take)
-            assert first_detections.firsts(prefix, design, head, held_now, counts.verdicts)[1] is not None
-            status, said, _ = said_by(TOOL, prefix)
-            assert status == 0 and "isn't that of the report" in said
+            check_firsts(prefix, first_by_walking(situation))
+    for bench in ("s27.bench", LAUNCHED):
+        with tempfile.TemporaryDirectory() as name:
+            prefix, situation = slow_run(pathlib.Path(name), bench)
+            check_firsts(prefix, first_slow_by_walking(situation))
+
+
+# Why faults are redundant: worked out by hand for each fault of three small netlists.
+
+TIES = """INPUT(a)
+INPUT(b)
+OUTPUT(y)
+OUTPUT(z)
+t = CONST0()
+x = AND(a, t)
+y = OR(b, x)
+u = NOT(a)
+n = NOT(a)
+z = AND(a, n)
+"""
+WHY_BY_TIES = {
+    "unused": ["pin u 0/0", "pin u 0/1", "stem u/0", "stem u/1"],
+    "tied": ["pin x 0/0", "pin x 0/1", "stem t/0", "stem x/0"],
+    "redundant in itself": ["stem a/0", "stem a/1", "pin n 0/1", "pin z 0/0", "stem n/0", "stem z/0"],
+}
+
+# g is 0, since z is, and since b is held at 0. Where the tree ends at b, nothing tells that z would do.
+HELD = """INPUT(a)
+INPUT(b)
+OUTPUT(g)
+n = NOT(a)
+z = AND(a, n)
+g = AND(z, b)
+"""
+WHY_AS_HELD = {
+    "untestable as held": ["pin n 0/0", "pin z 0/1", "stem n/1", "stem z/1"],
+    "redundant in itself": ["stem b/1"],
+    "redundant in itself or as held": ["stem a/0", "stem a/1", "pin n 0/1", "pin z 0/0", "stem b/0", "stem n/0", "stem z/0", "stem g/0"],
+}
+
+SLOW = """INPUT(a)
+OUTPUT(q)
+OUTPUT(z)
+t = CONST1()
+q = DFF(w)
+w = AND(a, t)
+n = NOT(q)
+z = AND(q, n)
+u = NOT(q)
+"""
+WHY_SLOW = {
+    "unused": ["pin u 0 rise", "pin u 0 fall", "stem u rise", "stem u fall"],
+    "tied": ["stem t rise", "stem t fall"],
+    "still": ["stem a rise", "stem a fall", "stem w rise", "stem w fall"],
+    "redundant in itself": ["pin n 0 fall", "pin z 0 rise", "stem n rise", "stem z rise", "stem z fall"],
+}
+
+
+def why_by_json(prefix):
+    status, said, errors = said_by(TOOL, prefix, "--json")
+    assert status == 0, errors
+    found = collections.defaultdict(set)
+    for each in json.loads(said)["faults"]:
+        assert ("why" in each) == (each["end"] == "redundant"), each
+        if "why" in each:
+            found[each["why"]].add(each["fault"])
+    return dict(found)
+
+
+def test_reasons():
+    """Why each fault is redundant, in JSON, in the text and on the page."""
+    for make, text, held, why in ((plain_run, TIES, None, WHY_BY_TIES), (plain_run, HELD, {"b": 0}, WHY_AS_HELD), (slow_run, SLOW, None, WHY_SLOW)):
+        with tempfile.TemporaryDirectory() as name:
+            folder = pathlib.Path(name)
+            prefix, _ = make(folder, text, 1, held) if make is plain_run else make(folder, text)
+            assert why_by_json(prefix) == {reason: set(faults) for reason, faults in why.items()}
+            status, said, errors = said_by(TOOL, prefix, "--rows", 0, "--html", folder)
+            assert status == 0, errors
+            page = (folder / f"{prefix.name}.html").read_text()
+            for reason, faults in why.items():
+                assert re.search(rf"^  {reason} +{len(faults)}  ", said, re.M), said
+                for fault in faults:
+                    assert re.search(rf"^    {reason}: (.*, )?{fault}(,|$)", said, re.M), fault
+                    assert f"<code>{fault}</code></td><td>{reason}</td>" in page, fault
+
+
+def test_test_coverage():
+    """Of 24 faults of TIES 14 are redundant; where one of the other 10 is aborted, 9 of 10 testable ones are detected."""
+    with tempfile.TemporaryDirectory() as name:
+        folder = pathlib.Path(name)
+        prefix, _ = plain_run(folder, TIES, 1)
+        report = run_files.beside(prefix, "rep")
+        assert "faults 24\n" in report.read_text() and "redundant 14\n" in report.read_text()
+        report.write_text(re.sub(r"(stem y/1) detected .*", r"\1 aborted", report.read_text()))
+        status, said, errors = said_by(TOOL, prefix, "--html", folder, "--svg", folder)
+        assert status == 0, errors
+        assert "test coverage 90.00 (of the 10 that aren't redundant)" in said
+        # of y's own stem one of two
+        assert re.search(r"^  stem of OR +2 +1 +0 +1 +50.00 +50.00$", said, re.M), said
+        # of the branches to u and n one fault can be detected, and is
+        assert re.search(r"^  branch to NOT +4 +1 +3 +0 +25.00 +100.00$", said, re.M), said
+        assert '<td>test coverage</td><td class="number">90.00</td>' in (folder / "run.html").read_text()
+        assert "test coverage 90.00" in (folder / "run.coverage.svg").read_text()
+        assert json.loads(said_by(TOOL, prefix, "--json")[1])["test_coverage"] == 90.0
+
+
+# Modules.
+
+MODULES = """INPUT(a)
+INPUT(b)
+OUTPUT(u1.y)
+OUTPUT(n2)
+u1.x = AND(a, b)
+n1 = NOT(a)
+u1.y = OR(u1.x, n1)
+n2 = NOT(b)
+"""
+NAMES = "n1\t$flatten\\u1.\\u2.$procmux$5_Y\nn2\t$abc$12$new_n7\n"
+
+
+def test_modules():
+    """A name's modules; and of ten lines two are of the top, four of u1, two of u1's u2, and two of a gate that Yosys alone has named."""
+    for name, path in (("count[3]", ()), ("u1.count[3]", ("u1",)), ("\\u1.\\u2.x", ("u1", "u2")), ("core/alu/x", ("core", "alu")),
+                       ("$flatten\\u1.\\u2.$procmux$5_Y", ("u1", "u2")), ("$abc$12$new_n7", None), ("$add$src/uart.v:34$7_Y", None)):
+        assert report_counts.module_of(name) == path, name
+    with tempfile.TemporaryDirectory() as name:
+        folder = pathlib.Path(name)
+        prefix, _ = plain_run(folder, MODULES, 1)
+        (folder / "other.names").write_text(NAMES)
+        for words in (["--names", folder / "other.names"], []):
+            status, said, errors = said_by(TOOL, prefix, "--json", *words)
+            assert status == 0, errors
+            modules = json.loads(said)["modules"]
+            sums = {module: sum(ends.values()) for module, ends in modules.items()}
+            assert sums == {"(top)": 20, "u1": 12, "u1.u2": 4, "(no module in the name)": 4}, sums
+            run_files.beside(prefix, "names").write_text(NAMES)
+        status, said, errors = said_by(TOOL, prefix, "--html", folder)
+        assert status == 0 and re.search(r"^  u1\.u2 +4 ", said, re.M) and "<td>u1.u2</td>" in (folder / "run.html").read_text(), errors
+        assert said_by(TOOL, prefix, "--names", folder / "none")[0] == 1
+        assert "By module" not in said_by(TOOL, plain_run(folder, "c17.bench", 1)[0], "--names", folder / "other.names")[1]
+
+
+# What is seen in pictures, and how numbers and points are written.
+
+def test_last_percent():
+    """Where a curve meets the last five percent, and how few patterns come so near to its end."""
+    curve = [0, 50, 90, 99, 100]
+    assert report_pictures.above(curve, 95) == [(2 + 5 / 9, 95), (3, 99), (4, 100)]
+    assert report_pictures.above(curve, 90) == [(2, 90), (3, 99), (4, 100)]
+    assert [report_counts.reached(curve, 100, below) for below in (10_000, 500, 100, 50, 0)] == [0, 3, 3, 4, 4]
+    # at a coverage of 50 of 100 the last five percent begin at 45
+    assert report_counts.reached([0, 44, 45, 50], 100, 500) == 2
+    curves = report_counts.Curves(curve, curve, True)
+    drawn = report_pictures.draw_patterns("x", curves, report_counts.Tally(100, 0, 0))
+    assert drawn.count("<polyline") == 4 and "the last five percent" in drawn
+
+
+def test_logarithmic_bars():
+    """From 1 tree to 10 a bar grows as much as from 10 to 100, and one tree is seen."""
+    sizes = report_counts.Sizes(collections.Counter({0: 1, 1: 10, 2: 100, 3: 10_000}), collections.Counter(), (15, "stem a/0"))
+    drawn = report_pictures.draw_trees("x", sizes)
+    one, ten, hundred, many = (float(high) for high in re.findall(r'<rect x="[^"]*" y="[^"]*" width="[^"]*" height="([^"]*)" fill="#1f5fa8"', drawn))
+    assert one > 5 and abs((hundred - ten) - (ten - one)) < 0.3 and abs((many - hundred) - 2 * (ten - one)) < 0.4, (one, ten, hundred, many)
+
+
+def test_numbers_and_points():
+    """Thousands are parted, and an observed point says what it is, in the text and on the page."""
+    with tempfile.TemporaryDirectory() as name:
+        folder = pathlib.Path(name)
+        prefix = made_run(folder, ROOT / "examples/datapath.bench", patterns=1_200)
+        numbers = dict(line.split(" ") for line in pathlib.Path(f"{prefix}.rep").read_text().splitlines()[1:17])
+        status, said, errors = said_by(TOOL, prefix, "--rows", 0, "--html", folder)
+        assert status == 0, errors
+        page = (folder / "run.html").read_text()
+        assert int(numbers["faults"]) > 1_000
+        for word in ("faults", "detected", "patterns", "cycles"):
+            parted = f"{int(numbers[word]):,}"
+            assert re.search(rf"\b{parted} (in|{word.rstrip('s')}|slow)", said), (word, parted)
+            assert f'<td>{word}</td><td class="number">{parted}</td>' in page, (word, parted)
+            assert not re.search(rf"\b{numbers[word]}\b", said + page), word
+        design = run_files.Design(f"{prefix}.net")
+        cell = next(name for name, kind in design.kinds.items() if kind == "DFF")
+        for shown, before in ((said, "  "), (page, "<td>")):
+            assert f"{before}pin of cell {cell}" in shown and f"{before}output {design.outputs[0]}" in shown
+            assert f"{before}pin {cell} 0" not in shown and f"{before}out {design.outputs[0]}" not in shown
 
 
 class Links(html.parser.HTMLParser):
@@ -192,8 +423,8 @@ def test_page():
             number = int(re.search(r"#line-(\d+)", row)[1])
             assert lines[number - 1].startswith(f"{representative[0]}/{representative[1]} "), (fault, number)
             for point, _ in situation.netlist.points():
-                leads = cone_by_walking(show_report.Design(f"{prefix}.net"), point)
-                assert (point in row) == leads(fault[0]), (fault, point)
+                leads = cone_by_walking(run_files.Design(f"{prefix}.net"), point)
+                assert (run_files.point_name(point) in row) == leads(fault[0]), (fault, point)
 
 
 def is_of(value, schema):
@@ -219,16 +450,18 @@ def is_of(value, schema):
 def test_json():
     """The report as JSON is of the schema in the document, and has the report's lines."""
     schema = json.loads(re.search(r"```json\n(.*?)```", (ROOT / "docs/CERTIFICATE_AND_REPORT.md").read_text(), re.S)[1])
-    assert not is_of({}, schema) and not is_of({"version": 2, "numbers": {}, "held": {}, "faults": []}, schema)
+    assert not is_of({}, schema) and not is_of({"version": 2, "lines": "stuck", "numbers": {}, "held": {}, "faults": []}, schema)
     with tempfile.TemporaryDirectory() as name:
         folder = pathlib.Path(name)
-        for prefix in (plain_run(folder, "s27.bench", 2, {"G0": 1, "G3": 0})[0], made_run(folder, ROOT / "examples/uart.bench", "made")):
+        for prefix in (plain_run(folder, "s27.bench", 2, {"G0": 1, "G3": 0})[0], made_run(folder, ROOT / "examples/uart.bench", "made"),
+                       slow_run(folder, "s27.bench")[0], plain_run(folder, MODULES, 1)[0]):
             status, said, errors = said_by(TOOL, prefix, "--json")
             assert status == 0, errors
             found = json.loads(said)
-            assert is_of(found, schema)
+            assert is_of(found, schema) and not is_of(found | {"version": 1}, schema)
+            assert (found["lines"] == "slow") == (prefix.name == "slow")
             lines = pathlib.Path(f"{prefix}.rep").read_text().splitlines()
             words = [f"{word} {value:.2f}" if word in ("coverage", "efficiency") else f"{word} {value}" for word, value in found["numbers"].items()]
             words += [f"hold {word} {bit}" for word, bit in found["held"].items()]
-            words += [" ".join(str(each) for each in fault.values()) for fault in found["faults"]]
+            words += [" ".join(str(each) for word, each in fault.items() if word != "why") for fault in found["faults"]]
             assert words == lines[1:]

@@ -1,15 +1,22 @@
-"""Reading the files of a run: its netlist, report and certificate. What isn't one is refused in a line (Bad)."""
+"""Reading the files of a run, of stuck lines or of slow ones: its netlist, report and certificate. What isn't one is refused in a line (Bad)."""
 
 import collections
 import re
 
 HEADER = ("inputs outputs gates cells chains faults classes patterns cycles limit detected redundant aborted untested coverage "
           "efficiency").split()
+SHARES = ("coverage", "efficiency")
 STATEMENT = re.compile(r"(?:(\S+) = )?(\w+)\((.*)\)$")
 ENDS = ("detected", "redundant", "aborted")
 
-# A line of the report: the fault's line and bit, what came of it, and where it is detected.
-Verdict = collections.namedtuple("Verdict", "line bit end pattern cycle pin")
+FIRST_LINES = {"atpg report 1": False, "atpg report 2": False, "atpg transition 1": True}  # whether the report is of slow lines
+SLOW = {"rise": "0", "fall": "1"}  # the bit that a slow line keeps too long
+
+# A line of the report: the fault's text, its line and its bit, what came of it, and where it is detected.
+Verdict = collections.namedtuple("Verdict", "fault line bit end pattern cycle pin")
+
+# A report's head: its sixteen numbers as they are written, the held inputs as pairs of name and bit, and whether it is of slow lines.
+Head = collections.namedtuple("Head", "numbers held is_slow")
 
 # A line of the certificate: its number, the fault, the nodes of its tree, whether a part is open, the closed ends, and the line's text.
 Tree = collections.namedtuple("Tree", "number fault nodes is_open closed text")
@@ -23,6 +30,12 @@ class Bad(Exception):
 
 def beside(prefix, end):
     return prefix.with_name(f"{prefix.name}.{end}")
+
+
+def point_name(point):
+    """An observed point as it is called in what is shown."""
+    word, name, *_ = point.split(" ")
+    return f"output {name}" if word == "out" else f"pin of cell {name}"
 
 
 class Design:
@@ -50,7 +63,17 @@ class Design:
 
     def signal_at(self, point):
         """The signal that a point observes."""
-        return point[len("out "):] if point.startswith("out ") else self.pins[point.split(" ")[1]][0]
+        return self.signal_of(point)
+
+    def signal_of(self, line):
+        """The signal whose value a line carries."""
+        word, name, *place = line.split(" ")
+        return self.pins[name][int(place[0])] if word == "pin" else name
+
+    def is_point(self, line):
+        """Whether a branch leads to an observed point and nothing else."""
+        word, name, *_ = line.split(" ")
+        return word == "out" or word == "pin" and self.kinds[name] == "DFF"
 
     def is_source(self, name):
         return self.kinds[name] in ("INPUT", "DFF")
@@ -65,50 +88,59 @@ class Design:
 
 
 def read_head(lines, path):
-    """The sixteen numbers of a report's head."""
-    if next(lines, "").rstrip("\n") not in ("atpg report 1", "atpg report 2"):
+    """The numbers of a report's head, and no held input yet."""
+    is_slow = FIRST_LINES.get(next(lines, "").rstrip("\n"))
+    if is_slow is None:
         raise Bad(f"{path}: no report")
-    head = {}
+    numbers = {}
     for word in HEADER:
         found, _, value = next(lines, "").rstrip("\n").partition(" ")
-        if found != word or not value:
+        if found != word or not re.fullmatch(r"\d+\.\d\d" if word in SHARES else r"\d+", value):
             raise Bad(f"{path}: no line `{word}` where it should stand")
-        head[word] = value
-    return head
+        numbers[word] = value
+    return Head(numbers, [], is_slow)
 
 
-def verdict_of(text, path):
+def fault_of(words, is_slow):
+    """A fault's line and bit by the words of its text; None where they are of none of this kind."""
+    if is_slow:
+        line, bit = " ".join(words[:-1]), SLOW.get(words[-1])
+    else:
+        line, _, bit = " ".join(words).rpartition("/")
+    return (line, bit) if bit in ("0", "1") else None
+
+
+def verdict_of(text, path, is_slow):
     words = text.split()
     place = next((k for k, word in enumerate(words) if word in ENDS and k >= 2), None)
-    if place is None or words[place] == "detected" and len(words) != place + 4:
+    fault = None if place is None else fault_of(words[:place], is_slow)
+    if fault is None or words[place] == "detected" and len(words) != place + 4:
         raise Bad(f"{path}: no fault's line: {text.rstrip()}")
-    line, _, bit = " ".join(words[:place]).rpartition("/")
     seen = (int(words[place + 1]), int(words[place + 2]), words[place + 3]) if words[place] == "detected" else (None, None, None)
-    return Verdict(line, bit, words[place], *seen)
+    return Verdict(" ".join(words[:place]), *fault, words[place], *seen)
 
 
 def read_report(path, take):
-    """Hands the verdict of each fault to `take`; answers the head and the held inputs as name and bit."""
-    held = []
+    """Hands the verdict of each fault to `take`, and answers the head."""
     with open(path, encoding="ascii") as lines:
         head = read_head(lines, path)
         for text in lines:
             if text.startswith("hold "):
                 _, name, bit = text.split()
-                held.append((name, int(bit)))
+                head.held.append((name, int(bit)))
             else:
-                take(verdict_of(text, path))
-    return head, held
+                take(verdict_of(text, path, head.is_slow))
+    return head
 
 
-def read_trees(path):
+def read_trees(path, is_slow=False):
     """Each line of the certificate."""
     with open(path, encoding="ascii") as lines:
-        if next(lines, "").rstrip("\n") != "atpg certificate 1":
-            raise Bad(f"{path}: no certificate")
+        if next(lines, "").rstrip("\n") != f"atpg{' transition' * is_slow} certificate 1":
+            raise Bad(f"{path}: no certificate{' of slow lines' * is_slow}")
         for number, text in enumerate(lines, 2):
             words = text.split()
-            place = 3 if words[0] == "pin" else 2
+            place = (3 if words[0] == "pin" else 2) + is_slow
             nodes = closed = opens = skip = 0
             for word in words[place:]:
                 if skip:

@@ -10,7 +10,7 @@ HERE = os.path.dirname(os.path.abspath(__file__))
 ROOT = os.path.dirname(os.path.dirname(HERE))
 ORACLE = os.path.join(ROOT, "bench", "oracle")
 MADE = os.path.join(ROOT, "bench", "made")
-PROGRAM = os.path.join(ROOT, "crates", "atpg_main", "out", "atpg_main")
+PROGRAM = os.path.join(ROOT, "built", "atpg")
 sys.path.append(ORACLE)  # for those that import this and then a plain program
 
 ROUNDS = 21  # of our own commands; those beside a slow peer have fewer

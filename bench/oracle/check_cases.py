@@ -591,8 +591,8 @@ class Case:
         elif verb.endswith("-as"):
             self.showing[target] = rest
 
-    def ending(self, words, runs, files=None):
-        return plain_program.ending([word.replace("~", " ") for word in words], files or self.files, self.fails, runs)
+    def ending(self, words, told, files=None):
+        return plain_program.ending([word.replace("~", " ") for word in words], files or self.files, self.fails, told)
 
     def shown_output(self, name, text):
         """An output as it is shown: whole, or up to the count of patterns."""
@@ -610,11 +610,11 @@ class Case:
                 lines += [f"file {word}"] + shown(ended.files[word])
         return lines + [f"files {len(ended.files)}"]
 
-    def told_cut(self, name, words, runs):
+    def told_cut(self, name, words, told):
         """What comes of each proper prefix of a file, lengths with one answer together."""
         answers = []
         for length in range(len(self.files[name])):
-            ended = self.ending(words, runs, self.files | {name: self.files[name][:length]})
+            ended = self.ending(words, told, self.files | {name: self.files[name][:length]})
             answers.append([f"status {ended.status}"] + self.shown_output("out", ended.out) + self.shown_output("err", ended.err))
         lines, start = [], 0
         for k in range(1, len(answers) + 1):
@@ -635,22 +635,22 @@ def sweep_answer(case, words):
             f"|detected, redundant or aborted {faults}", f"|cycles {gates // 8 + 1}P + {gates // 8 * 4}", "|play ok", "files 0"]
 
 
-def keep_files(case, prefix, words, runs):
+def keep_files(case, prefix, words, told):
     """The files of a run stand in those that follow; where nobody can say what they hold, so."""
     try:
-        made = case.ending(words, runs).files
+        made = case.ending(words, told).files
     except plain_program.Unknown:
         made = {}
     case.files |= {f"{prefix}.{end}": made.get(f"{prefix}.{end}") for end in plain_check.ENDS}
 
 
-def case_answer(case, verb, rest, runs):
+def case_answer(case, verb, rest, told):
     """The lines of a run; Unknown where this program can't say them."""
     name, _, behind = rest.partition(" ")
     if verb == "twice":
         return ["the same"]
     if verb == "cut":
-        return case.told_cut(name, behind.split(" "), runs)
+        return case.told_cut(name, behind.split(" "), told)
     words = (behind if verb == "keep" else rest).split(" ")
     if case.showing["err"] == "hidden":
         raise plain_program.Unknown
@@ -658,7 +658,7 @@ def case_answer(case, verb, rest, runs):
         return sweep_answer(case, words)
     if case.showing["out"] not in ("whole", "totals"):
         raise plain_program.Unknown
-    return case.told(words, case.ending(words, runs))
+    return case.told(words, case.ending(words, told))
 
 
 def told_runs(texts):
@@ -681,13 +681,14 @@ def check_cases():
             case.take(verb, rest, texts)
         else:
             count += 1
+            told = plain_program.Told(runs, any(" aborted 0" in line for line in given))
             try:
-                wrong += differs(row, case_answer(case, verb, rest, runs), given)
+                wrong += differs(row, case_answer(case, verb, rest, told), given)
                 known += 1
             except plain_program.Unknown:
                 pass
             if verb == "keep":
-                keep_files(case, rest.split(" ")[0], rest.split(" ")[1:], runs)
+                keep_files(case, rest.split(" ")[0], rest.split(" ")[1:], told)
     print(f"cases: {known} of {count} runs worked out, {wrong} differ")
     return wrong
 

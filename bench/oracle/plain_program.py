@@ -1,8 +1,10 @@
 """The program over files in memory, by plain programs apart from the crates: in which order a command reads, works, writes and shows, how it
 ends, and what then stands (docs/PROGRAM.md).
 
-What a search finds isn't said here: a run is told its five texts by who asks. Where nobody can say what comes, the answer is Unknown.
+What a search finds isn't said here: a run is told its five texts by who asks, or how many faults are detected and redundant is said by all patterns.
+Where nobody can say what comes, the answer is Unknown.
 """
+import functools
 import re
 from typing import NamedTuple
 
@@ -39,6 +41,23 @@ class Begun(str):
         if part.stop > len(self):
             raise Unknown
         return str(self)[part]
+
+
+class OfRun(Begun):
+    """A text of the five that a run writes: whatever a search found, `check` passes them together. `run` tells which run it is."""
+
+    def __new__(cls, text, run):
+        made = super().__new__(cls, text)
+        made.run = run
+        return made
+
+
+class Told(NamedTuple):
+    """What is told of searches: the five texts of some runs, by netlist and options; and whether the run that is asked about leaves no fault aborted.
+    Which faults are aborted, a search's guide decides; where none is, all patterns say the rest."""
+
+    texts: dict = {}
+    none_aborted: bool = False
 
 
 class Due(NamedTuple):
@@ -157,25 +176,32 @@ def chaintest(texts, options):
     return Due([], chain_test(netlist, asked_chains(options), cycles_that_fit(texts[1], scanned_of(netlist, options))))
 
 
+@functools.lru_cache
+def failures_of(text, stil, chains):
+    """For each fault of a netlist what isn't met with it, by a plain player."""
+    netlist = netlist_of(text)
+    scanned = plain.scanned(netlist, plain.chains_of(netlist.cells, chains))
+    cycles = list(cycles_that_fit(stil, scanned))
+    return {f"{line}/{stuck}": set(unmet(scanned, cycles, site_of(netlist, (line, stuck)))) for line, stuck in plain.universe(netlist)}
+
+
 def diagnose(texts, options):
-    """The faults with which exactly what the log says fails, by a plain player."""
+    """The faults with which exactly what the log says fails."""
     netlist = netlist_of(texts[0])
     need_stil(texts[1])
     if not is_log(texts[2]):
         raise Refused(4, "not a fail log\n")
-    scanned = scanned_of(netlist, options)
-    cycles = cycles_that_fit(texts[1], scanned)
-    failures = {(*line.split(" "), False) for line in texts[2].split("\n")[1:-1]}
-    found = [
-        f"{line}/{stuck}"
-        for line, stuck in plain.universe(netlist)
-        if {(str(cycle), pin, unknown) for cycle, pin, unknown in unmet(scanned, cycles, site_of(netlist, (line, stuck)))} == failures
-    ]
+    cycles_that_fit(texts[1], scanned_of(netlist, options))
+    said = [line.split(" ") for line in texts[2].split("\n")[1:-1]]
+    failures = {(int(cycle), pin, False) for cycle, pin in said}
+    found = [fault for fault, fails in failures_of(texts[0], texts[1], asked_chains(options)).items() if fails == failures]
     return Due([], "".join(line + "\n" for line in [f"candidates {len(found)}"] + found))
 
 
 def check(texts, _):
-    netlist_of(texts[0])
+    netlist = netlist_of(texts[0])
+    if all(isinstance(text, OfRun) and text.run == texts[2].run for text in texts[2:]):
+        return Due([], f"checked {len(plain.universe(netlist))} faults\n")
     if isinstance(texts[2], Begun):
         raise Unknown
     status, line = plain_check.check({end: text.encode("latin-1") for end, text in zip(ENDS, texts)})
@@ -184,37 +210,66 @@ def check(texts, _):
     return Due([], line + "\n", status)
 
 
-def run(texts, options, runs):
-    """The texts of a run, of those that are told: by its netlist and its options."""
+def held_of(netlist, options):
+    """The held inputs with their bits."""
+    held = {item[:-2]: int(item[-1]) for item in options["--hold"].split(",")} if "--hold" in options else {}
+    for name in held:
+        if name not in netlist.inputs:
+            raise Refused(2, "no such input: ", name, "\n")
+    return held
+
+
+@functools.lru_cache
+def detected_count(text, held):
+    """How many faults some pattern detects that obeys the held inputs, by all such patterns."""
+    netlist = netlist_of(text)
+    free = [name for name in netlist.inputs + netlist.cells if name not in dict(held)]
+    columns, ones = plain_transition.all_patterns(free)
+    sources = columns | {name: ones if bit else 0 for name, bit in held}
+    _, good = plain.settled(netlist, sources, ones)
+    return sum(plain.settled(netlist, sources, ones, fault)[1] != good for fault in plain.universe(netlist))
+
+
+def totals_of(faults, detected):
+    return f"faults {faults} detected {detected} redundant {faults - detected} aborted 0"
+
+
+def run(texts, options, told):
+    """The texts of a run, of those that are told: by its netlist and its options. Of the others their totals, where no fault is aborted: PODEM aborts
+    none where the backtrack limit is that of all bits of inputs and cells."""
     netlist = netlist_of(texts[0])
-    for item in options.get("--hold", "").split(",") if "--hold" in options else []:
-        if item[:-2] not in netlist.inputs:
-            raise Refused(2, "no such input: ", item[:-2], "\n")
-    made = runs.get((texts[0], *sorted(options.items())))
-    if made is None:
+    held = held_of(netlist, options)
+    made = told.texts.get((texts[0], *sorted(options.items())))
+    if made is not None:
+        number = dict(line.split(" ") for line in made[4].split("\n")[1:15])
+        return Due(made, " ".join(f"{word} {number[word]}" for word in ("faults", "detected", "redundant", "aborted", "patterns", "cycles")) + "\n")
+    sources = len(netlist.inputs + netlist.cells) - len(held)
+    is_owed = options.get("--engine", "podem") == "podem" and int(options.get("--limit", "100")) >= 2**sources
+    if sources > plain_transition.MOST_SOURCES or not (is_owed or told.none_aborted):
         raise Unknown
-    number = dict(line.split(" ") for line in made[4].split("\n")[1:15])
-    return Due(made, " ".join(f"{word} {number[word]}" for word in ("faults", "detected", "redundant", "aborted", "patterns", "cycles")) + "\n")
+    this = texts[0], *sorted(options.items())
+    begun = [OfRun(begin, this) for begin in ("STIL 1.0;\n", "atpg certificate 1\n", f"atpg report {2 if held else 1}\n")]
+    totals = totals_of(len(plain.universe(netlist)), detected_count(texts[0], tuple(held.items())))
+    return Due([plain.canonical(netlist).decode(), plain.canonical(scanned_of(netlist, options)).decode(), *begun], Begun(totals))
 
 
-def transition(texts, options):
+def transition(texts, options, told):
     """The texts of a test for slow lines. Every search comes to an end where the backtrack limit is that of all bits of the signals on which it
-    splits. A batch of drawn patterns comes first. The patterns are known where the tests of each fault that the batch leaves are those of one cube,
+    splits, or so it is told. A batch of drawn patterns comes first. The patterns are known where the tests of each fault that the batch leaves are those of one cube,
     which is what a search that decides no more than it needs finds. The searches choose the trees."""
     netlist = netlist_of(texts[0])
     limit, sources = int(options.get("--limit", "100")), len(netlist.inputs + netlist.cells)
     if sources > plain_transition.MOST_SOURCES:
         raise Unknown
-    if limit < 2 ** (plain_transition.most_places(netlist) if options.get("--engine") == "fan" else sources):
+    if not told.none_aborted and limit < 2 ** (plain_transition.most_places(netlist) if options.get("--engine") == "fan" else sources):
         raise Unknown
     chains = plain.chains_of(netlist.cells, asked_chains(options))
     tests = plain_transition.tests_of(netlist)
-    detected = sum(bool(each) for each in tests)
-    totals = f"faults {len(tests)} detected {detected} redundant {len(tests) - detected} aborted 0"
+    totals = totals_of(len(tests), sum(bool(each) for each in tests))
     seed = int(options.get("--seed", "1"))
     batch = plain_transition.batch_of(netlist, seed)
     last = plain_transition.SlowLines(netlist, chains, batch).last
-    cubes = [plain_transition.cube_of(each) for each, known in zip(tests, last) if each and known is None]
+    cubes = [plain_transition.cube_of(netlist, each) for each, known in zip(tests, last) if each and known is None]
     if None not in cubes:
         situation = plain_transition.kept(netlist, chains, batch + plain_transition.filled(netlist, cubes, seed))
         stil = plain_transition.stil_of(netlist, chains, situation.patterns).decode()
@@ -226,7 +281,8 @@ def transition(texts, options):
     return Due(made + [Begun("atpg transition certificate 1\n"), report], shown)
 
 
-WORK = {"scan": scan, "faults": faults, "play": play, "chaintest": chaintest, "diagnose": diagnose, "transition": transition, "check": check}
+WORK = {"scan": scan, "faults": faults, "play": play, "chaintest": chaintest, "diagnose": diagnose, "check": check}
+SEARCHES = {"run": run, "transition": transition}
 
 
 def is_hold_list(told):
@@ -279,7 +335,7 @@ def written(command, given, due, files, shelf):
             raise Refused(6, "write failed: ", name, end, "\n")
 
 
-def ending(words, files, fails, runs):
+def ending(words, files, fails, told):
     """How a run of the words ends; a file of None is one of which nobody knows what it holds."""
     command, given, options = parts_of(words)
     shelf, files, shown = Calls(fails.shelf), dict(files), ""
@@ -288,7 +344,7 @@ def ending(words, files, fails, runs):
             raise Refused(2, "bad hold\n")
         need_names(command, given)
         texts = list(read_in_order(command, given, files, shelf))
-        due = run(texts, options, runs) if command == "run" else WORK[command](texts, options)
+        due = SEARCHES[command](texts, options, told) if command in SEARCHES else WORK[command](texts, options)
         written(command, given, due, files, shelf)
         kept = fails.out.get(1)
         shown = due.shown if kept is None else due.shown[:kept]

@@ -5,7 +5,7 @@
     bench/oracle/plain_transition.py --all NET  counts by all patterns how many transition faults there are tests for
 
 It prints how many faults there are, or the first thing that is false, and ends with 1. It plays the test with each slow line from some power-up
-states (all of up to three cells), and tries all patterns where there are up to 12 inputs and cells.
+states (all of up to three cells), and tries all patterns where there are up to 17 inputs and cells.
 """
 import itertools
 import pathlib
@@ -19,7 +19,7 @@ from plain_check import ENDS, NotText
 from plain_stil import is_stil
 from sample_netlist import Pcg32
 
-MOST_SOURCES = 12
+MOST_SOURCES = 17
 BATCH = 64
 SLOW = ("rise", "fall")  # of a line that is slow to leave 0, or 1
 FAULT = re.compile(r"((?:stem|out) \S+|pin \S+ \d+) (rise|fall) ")
@@ -73,21 +73,21 @@ def packed(netlist, patterns):
     return Launches(netlist, sources, (1 << len(patterns)) - 1)
 
 
-def all_patterns(netlist):
-    names = netlist.inputs + netlist.cells
-    return [dict(zip(names, bits)) for bits in itertools.product((0, 1), repeat=len(names))]
+def all_patterns(names):
+    """For each name its bits under all patterns, bit j of a word being that of pattern j; and the word of ones."""
+    ones = (1 << (1 << len(names))) - 1
+    return {name: ones ^ ones // ((1 << (1 << k)) + 1) for k, name in enumerate(names)}, ones
 
 
 def tests_of(netlist):
-    """For each transition fault the patterns, of all that there are, that detect it."""
-    patterns = all_patterns(netlist)
-    launches = packed(netlist, patterns)
+    """For each transition fault the patterns, of all that there are, that detect it: a bit for each."""
+    launches = Launches(netlist, *all_patterns(netlist.inputs + netlist.cells))
     found = []
     for fault in plain.universe(netlist):
         word = 0
         for each in launches.detections(fault):
             word |= each
-        found.append([pattern for j, pattern in enumerate(patterns) if word >> j & 1])
+        found.append(word)
     return found
 
 
@@ -128,16 +128,43 @@ def reached(netlist, starts):
     return found
 
 
+class Roles:
+    """What FAN tells signals apart by, for a fault of a netlist: bound signals, head lines, and the places on which it may split. Ties and held inputs
+    bind what they reach, of which a place is what would be one without them."""
+
+    def __init__(self, netlist, line, held=()):
+        self.netlist, readers = netlist, plain.readers_of(netlist)
+        self.stems = {x for x in netlist.signals if len(readers[x]) >= 2}
+        kind, name, *_ = line.split(" ")
+        sites = [name] if kind == "stem" or kind == "pin" and netlist.kind[name] != "DFF" else []
+        constants = [x for x in netlist.signals if netlist.kind.get(x) in ("CONST0", "CONST1") or x in held]
+        fixed, moved = {*constants} | reached(netlist, constants), {*sites} | reached(netlist, [*sites, *self.stems])
+        self.bound = moved | fixed
+        self.heads = self.edge_of(self.bound)
+        self.places = (self.places_of(moved) & fixed) | (self.places_of(self.bound) - fixed)
+
+    def edge_of(self, bound):
+        """What isn't bound, and read by a bound gate, a cell or an output."""
+        gates = [(gate, pins) for z, gate, pins in self.netlist.definitions if gate == "DFF" or z in bound]
+        return ({x for _, pins in gates for x in pins} | set(self.netlist.outputs)) - bound
+
+    def places_of(self, bound):
+        return self.stems | self.edge_of(bound) | bound & {*self.netlist.inputs, *self.netlist.cells}
+
+    def first_wrong(self, nodes):
+        """The first node that splits a signal that is no place, or forces one that is neither bound nor a head line."""
+        for node in nodes:
+            if node[0] == "S" and node[1] not in self.places or node[0] == "F" and node[1] not in self.bound | self.heads:
+                return node
+        return None
+
+
 def most_places(netlist):
-    """The most signals on which a search of FAN may split, over all slow lines: head lines, fanout stems, and inputs and cells that are bound."""
+    """The most signals on which a search of FAN may split, over all slow lines."""
     most = 0
     for fault in plain.universe(netlist):
         two, (line, _) = frames(netlist, fault)
-        readers, ties = plain.readers_of(two), [x for x in two.signals if two.kind.get(x) in ("CONST0", "CONST1")]
-        stems = {x for x in two.signals if len(readers[x]) >= 2}
-        bound = {signal_of(two, line), *ties} | reached(two, [signal_of(two, line), *ties, *stems])
-        into = {x for z, gate, pins in two.definitions if gate == "DFF" or z in bound for x in pins} | set(two.outputs)
-        most = max(most, len(stems | (into - bound) | (bound & {*two.inputs, *two.cells})))
+        most = max(most, len(Roles(two, line).places))
     return most
 
 
@@ -236,10 +263,11 @@ class SlowLines(plain_check.Situation):
         return super().head(said, limit) | {"cycles": self.cycles()}
 
 
-def cube_of(tests):
+def cube_of(netlist, tests):
     """The bits that all tests of a fault have, where its tests are all patterns that have these; else None."""
-    cube = {name: bit for name, bit in tests[0].items() if all(test[name] == bit for test in tests)}
-    return cube if len(tests) == 2 ** (len(tests[0]) - len(cube)) else None
+    columns, _ = all_patterns(netlist.inputs + netlist.cells)
+    cube = {name: int(bool(tests & column)) for name, column in columns.items() if tests & column in (0, tests)}
+    return cube if tests.bit_count() == 2 ** (len(columns) - len(cube)) else None
 
 
 def batch_of(netlist, seed):

@@ -1,7 +1,8 @@
 //! The program: the real words, files and outputs, handed to `top`.
 //!
 //! Proved: it is safe; it has no contract of its own, so no wrong body of it can be refused.
-//! Tested: that it hands the real words, files and outputs to `top`, by one stored run, `scan` of s27.
+//! Tested: that it hands the real words, files and outputs to `top`, by one stored run, `play` of s27 with a fault, and by the runs of
+//! `tools/program_tests.py`.
 //! Neither: what it says where the words can't be had; the line that shows how far a run is.
 #![tactic(auto)]
 

@@ -1,7 +1,8 @@
 //! The program that only checks: the real words, files and outputs, handed to `check_top`.
 //!
 //! Proved: it is safe; it has no contract of its own, so no wrong body of it can be refused.
-//! Tested: that it hands the real words, files and outputs to `check_top`, by one stored run, of s27.
+//! Tested: that it hands the real words, files and outputs to `check_top`, by one stored run, of s27 with a false report, and by the runs of
+//! `tools/program_tests.py`.
 //! Neither: what it says where the words can't be had.
 #![tactic(auto)]
 

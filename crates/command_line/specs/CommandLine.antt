@@ -1,5 +1,5 @@
 -- What a command line asks for.
-use Rattle.std.specs.Prelude.{◌≤◌, ◌==◌, ◌||◌, ⊤, ℕ, Bool, true, List, [], ◌∷◌, Option, Some, None, if◌then◌else◌, codes, length, map, nat_eq}
+use Rattle.std.specs.Prelude.{◌≤◌, ◌==◌, ◌||◌, ⊤, ℕ, Bool, List, [], ◌∷◌, Option, Some, None, if◌then◌else◌, codes, length, map, nat_eq}
 use Rattle.std.specs.Prelude.{Result, Ok, Err, option_and_then, option_map}
 use Rattle.std.specs.List.{ends_with, find, list_any}
 use Rattle.std.specs.Option.{ok_or}

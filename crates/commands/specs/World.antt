@@ -1,5 +1,5 @@
 -- What a call of the program sees of the outside, before and after.
-use Rattle.std.specs.Prelude.{◌≡◌, ◌++◌, ℕ, List, Option, take}
+use Rattle.std.specs.Prelude.{◌≡◌, ◌++◌, ℕ, Option, take}
 use Rattle.plain_text.specs.Texts.{Text}
 use Rattle.outside.specs.Causes.{Rose}
 use Rattle.outside.specs.Shelf.{Files}

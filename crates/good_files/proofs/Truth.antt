@@ -1,6 +1,6 @@
 -- What good files say comes true.
 use Rattle.std.proofs.Common.{◌≡◌, ◌≤◌, ℕ, ◌+◌, inl, inr, Bool, false, List, [], ◌∷◌, length, map, get_or, Some, option_map, Ok, refl, sym, ◌∙◌, ap, subst, arith, IsTrue}
-use Rattle.std.specs.List.{All, Contains, zip, slice_get}
+use Rattle.std.specs.List.{All, Contains, slice_get}
 use Rattle.std.proofs.lemmas.List.Elements.{All-weaker}
 use Rattle.std.proofs.lemmas.Option.{get_or_from_slice_get, slice_get-get_or, slice_get-map, slice_get_within}
 use Rattle.std.proofs.lemmas.List.{ext_get_or, length-map}
@@ -26,14 +26,12 @@ use Rattle.scan_play.specs.Cycles.{Cycle}
 use Rattle.scan_play.specs.Vectors.{AreVectors}
 use Rattle.netlist.specs.Settled.{bit_table}
 use Rattle.scan_play.specs.Laws.{moved, GoodPasses, UndetectedPasses, DetectedFails, VectorsFit, NoSequenceDetectsRedundant, SomeRun}
-use Rattle.stil_write.specs.StilFiles.{StilFile}
 use Rattle.stil_vectors.specs.FileVectors.{vectors_in}
 use Rattle.stil_patterns.specs.Laws.{FileVectors}
 use Rattle.fault_universe.specs.Laws.{FaultsHaveLines}
 use Rattle.fault_universe.specs.Texts.{fault_text}
 use Rattle.fault_universe.specs.Universe.{universe_of}
 use Rattle.fault_universe.proofs.Elements.{contains_at}
-use Rattle.fault_collapse.specs.Classes.{AreClasses, Represents}
 use Rattle.fault_collapse.specs.Joined.{IsEquivalent}
 use Rattle.fault_collapse.specs.Laws.{DetectedAlike}
 use Rattle.fault_collapse.specs.Numbers.{Classes}
@@ -133,11 +131,14 @@ never_at n patterns f never = All-from_contains (λ (p : Pattern). (point : Poin
     never here.0 point (record { pattern = p; at = at; detects = detects }))
 
 comes_true : Laws → (t : Test) (cycles : List Cycle) → IsTested t cycles → (f representative : Fault) → IsLineOf t.netlist f.line → IsEquivalent t.netlist f representative
-    → (o : Outcome) (pin : List ℕ) → IsTrueOf t f representative o pin → ComesTrue t.netlist t.holds t.chains t.limit t.trees cycles f o pin
+    → (o : Outcome) (pin : List ℕ) → IsTrueOf t f representative o pin → ComesTrue t.netlist t.holds t.chains t.limit t.patterns t.trees cycles f o pin
 comes_true laws t cycles are f g line same (Detected place cycle) pin seen =
     let here = seen.last.here in
     let at = seen.seen in (
+      seen.point,
       at.0,
+      seen.last,
+      at.1,
       at.2,
       laws.detected t.netlist t.holds t.chains t.patterns cycles f place here.pattern seen.point cycle at.0 are.sound are.dealt are.vectors line here.at here.detects at.1,
     )
@@ -147,14 +148,14 @@ comes_true laws t cycles are f g line same Redundant pin said =
     let shown : IsRedundant n t.holds g = laws.closed g n t.holds said.0 are.sound left.fits said.2 in
     let none : IsRedundant n t.holds f = (λ inputs state point obeys detects. shown inputs state point obeys ((laws.alike n f g inputs state point are.sound same).0 detects)) in (
       said.0,
-      (g, stands t.trees g said.0 left.first, left.fits),
+      (g, same, stands t.trees g said.0 left.first, left.fits),
       said.2,
       λ state driven good faulty obeys p q. laws.redundant n t.holds t.chains f state driven good faulty are.sound are.held are.dealt line none obeys p q,
     )
 comes_true laws t cycles are f g line same Aborted pin said =
     let left = said.1 in (
       said.0,
-      (g, stands t.trees g said.0 left.first, left.fits),
+      (g, same, stands t.trees g said.0 left.first, left.fits),
       said.2,
       said.3,
       laws.undetected t.netlist t.holds t.chains t.patterns cycles f are.sound are.dealt are.vectors line (never_at t.netlist t.patterns f left.never),
@@ -170,13 +171,16 @@ truth laws n holds asked limit files sound design good =
     let vectors = laws.test n holds chains good.patterns good.file good.is_file_of in
     let scanned = laws.sound n chains sound design of_cells in
     record {
+      patterns = good.patterns;
       file = good.file;
       said = good.said;
       trees = good.trees;
+      net_is = good.net_is;
       stil_is = good.stil_is;
       report_is = good.report_is;
       certificate_is = good.certificate_is;
       scan_is = read_back laws.read (scanned_of n chains) scanned files.scan good.scan_is;
+      is_file_of = good.is_file_of;
       behaves = behaves laws.scan n asked sound good.dealt chains refl;
       passes = laws.good n holds chains good.patterns cycles sound of_cells vectors;
       runs = λ f state is_fault size. laws.run false bit_table (moved n chains f) (scanned_of n chains) state cycles scanned.formed.numbered scanned.closed scanned.acyclic size
@@ -186,7 +190,7 @@ truth laws n holds asked limit files sound design good =
           let w = good.lines.each place (slice_get_within (universe_of n) place f at) in
           let same_fault : w.fault ≡ f = same_member (universe_of n) place w.fault f w.member at in
           let same_line : w.line ≡ line = same_member good.said.lines place w.line line w.said said in
-          let P : Fault → Line → Type 0 = λ g l. ComesTrue n holds chains limit good.trees cycles g l.outcome l.pin in
+          let P : Fault → Line → Type 0 = λ g l. ComesTrue n holds chains limit good.patterns good.trees cycles g l.outcome l.pin in
           subst (λ g. P g line) same_fault (subst (λ l. P w.fault l) same_line
           (comes_true laws t cycles (record { sound = sound; held = good.held; dealt = of_cells; vectors = vectors }) w.fault w.representative
           (laws.lines n w.fault sound (contains_at (universe_of n) place w.fault w.member))

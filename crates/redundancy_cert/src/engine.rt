@@ -25,7 +25,7 @@ pub trait Engine {
     ghost use Rattle.netlist.specs.Netlist.{Netlist};
     ghost use Rattle.netlist.specs.Holds.{Holds};
 
-    /// What a search may keep for the next one: tables, labels, stacks. No answer rests on it.
+    /// What a search may keep for the next one: tables, labels, stacks. No evidence rests on it.
     type Room: Drop + Send;
 
     /// The room serves searches of this netlist under these held inputs.
@@ -49,7 +49,8 @@ pub trait Engine {
         requires { AreHoldsOf core.now holds.now }
         ensures { IfOk result (serves core.now holds.now) };
 
-    /// The same answer as a search in this room, whatever was searched in it before; and the room back.
+    /// A search in this room, whatever was searched in it before, and the room back. Its answer owes the same evidence as that of `search`, and may
+    /// be another.
     fn search_in(
         &self,
         alloc: Global,

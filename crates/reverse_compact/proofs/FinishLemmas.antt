@@ -1,12 +1,11 @@
 -- The kept patterns detect what all patterns did, each class at the new place of its last one.
-use Rattle.std.proofs.Common.{zero, suc, ◌≡◌, ◌⊎◌, inl, inr, ℕ, ◌+◌, ◌<◌, ◌≤◌, ◌==◌, ◌||◌, Bool, true, false, cond, List, [], ◌∷◌, length, get_or, Some, None, Option, refl, sym, ap, ◌∙◌, subst, arith}
-use Rattle.std.specs.List.{All, AllZip, Contains, slice_get}
+use Rattle.std.proofs.Common.{zero, suc, ◌≡◌, ◌⊎◌, inl, inr, ℕ, ◌+◌, ◌<◌, ◌≤◌, Bool, true, false, cond, List, [], ◌∷◌, length, get_or, Some, None, Option, refl, sym, ap, ◌∙◌, subst, arith}
+use Rattle.std.specs.List.{All, AllZip, slice_get}
 use Rattle.std.specs.Prelude.{IfSome}
 use Rattle.std.proofs.lemmas.List.Elements.{All-cons}
 use Rattle.std.proofs.lemmas.Slice.Zip.{AllZip-long}
 use Rattle.std.proofs.lemmas.List.{get_or_past}
-use Rattle.std.proofs.lemmas.Bool.Decides.{nat_tests}
-use Rattle.std.proofs.lemmas.Option.{slice_get_read, slice_get_within, slice_get-get_or}
+use Rattle.std.proofs.lemmas.Option.{slice_get_within, slice_get-get_or}
 use Rattle.netlist.specs.declared.lines.Fault.{Fault}
 use Rattle.netlist.specs.declared.lines.Line.TheVariants.{Stem}
 use Rattle.netlist.specs.declared.lines.Point.{Point}
@@ -21,20 +20,13 @@ use Rattle.list_core.specs.Verdicts.{verdict_at, VerdictHolds}
 use Rattle.reverse_compact.specs.Kept.{AreLastDetected, IsNeeded, is_last_at, kept_from, new_place, marked_from}
 use Rattle.reverse_compact.specs.Finished.{IsFinished, AreFinished}
 use Rattle.reverse_compact.specs.inner.Marks.{last_at, new_verdict, ArePlaces, AreRenamed}
-use Rattle.reverse_compact.proofs.LastPlaces.{last_kept, marked_by, never_kept, some_marked, some_same}
+use Rattle.reverse_compact.proofs.KeepLemmas.{source}
+use Rattle.reverse_compact.proofs.LastPlaces.{last_kept, marked_by, marked_where, never_kept, some_marked, some_same, told_of}
 
 no_fault : Fault
 no_fault = record { line = Stem 0; value = false }
 
 -- ---- where a class is last detected
-
-last_of : (n : Netlist) (ps : List Pattern) (fs : List Fault) (ls : List (Option (ℕ × Point))) (c : ℕ) (f : Fault)
-    → AllZip (LastDetected n ps) fs ls → slice_get fs c ≡ Some f → LastDetected n ps f (last_at ls c)
-last_of n ps [] [] c f are e = cc
-last_of n ps [] (l ∷ ls) c f are e = elim are [ ]
-last_of n ps (g ∷ fs) [] c f are e = elim are [ ]
-last_of n ps (g ∷ fs) (l ∷ ls) zero f are e = (let P : Fault → Type 0 = λ h. LastDetected n ps h l in subst P (some_same g f e) are.0)
-last_of n ps (g ∷ fs) (l ∷ ls) (suc c) f are e = last_of n ps fs ls c f are.1 e
 
 -- two last patterns of one fault are one
 same_last : (n : Netlist) (ps : List Pattern) (f : Fault) (a b : ℕ) (o p : Point) → IsLastDetected n ps f a o → IsLastDetected n ps f b p → a ≡ b
@@ -50,19 +42,28 @@ marked_needed : (n : Netlist) (ps : List Pattern) (fs : List Fault) (ls : List (
 marked_needed n ps fs ls k are e = marked_by (LastDetected n ps) fs ls k are e
 
 -- a needed place is marked
+alone : (n : Netlist) (ps : List Pattern) (k : ℕ) (f : Fault) (l : Option (ℕ × Point)) (o : Point) → LastDetected n ps f l → IsLastDetected n ps f k o
+    → (p : Point) × (l ≡ Some (k, p))
+alone n ps k f None o never last = absurd (never k o last.here)
+alone n ps k f (Some l) o other last = (l.1, ap (λ (i : ℕ). Some (i, l.1)) (same_last n ps f l.0 k l.1 o other last))
+
 needed_marked : (n : Netlist) (ps : List Pattern) (fs : List Fault) (ls : List (Option (ℕ × Point))) (k : ℕ)
     → AllZip (LastDetected n ps) fs ls → IsNeeded n ps fs k → is_last_at ls k ≡ true
-needed_marked n ps fs ls k are need =
-    let f = need.0 in
-    let c = need.1.0 in
-    let at : slice_get fs c ≡ Some f = slice_get_read fs (length fs) c f refl need.1.1 (sym need.1.2) in
-    by_last f c need.2.0 (last_at ls c) refl (last_of n ps fs ls c f are at) need.2.1
-  where
-    by_last : (f : Fault) (c : ℕ) (o : Point) (l : Option (ℕ × Point)) → last_at ls c ≡ l → LastDetected n ps f l → IsLastDetected n ps f k o → is_last_at ls k ≡ true
-    by_last f c o None is never last = absurd (never k o last.here)
-    by_last f c o (Some l) is other last =
-        let same : l.0 ≡ k = same_last n ps f l.0 k l.1 o other last in
-        (let P : ℕ → Type 0 = λ i. is_last_at ls i ≡ true in subst P same (some_marked ls c l is))
+needed_marked n ps fs ls k are need = marked_where (LastDetected n ps) fs ls k are (alone n ps k) need
+
+-- each pattern that is kept is needed among those that are kept
+kept_needed : (n : Netlist) (ps : List Pattern) (fs : List Fault) (ls : List (Option (ℕ × Point))) → AllZip (LastDetected n ps) fs ls
+    → (place : ℕ) → place < length (kept_from (is_last_at ls) 0 ps) → IsNeeded n (kept_from (is_last_at ls) 0 ps) fs place
+kept_needed n ps fs ls are place lt =
+    let marked : ℕ → Bool = is_last_at ls in
+    let left = kept_from marked 0 ps in
+    let none : Pattern = record { inputs = []; cells = [] } in
+    let s = source marked 0 ps place (get_or left place none) (slice_get-get_or left place none lt) in
+    let start : 0 + s.place ≡ s.place = omega arith in
+    let mark : marked s.place ≡ true = subst (λ (i : ℕ). marked i ≡ true) start s.mark in
+    let by = marked_by (LastDetected n ps) fs ls s.place are mark in
+    let last = last_kept n ps marked by.0 s.place by.2.0 mark by.2.1 in
+    (by.0, by.1, (by.2.0, subst (λ (k : ℕ). IsLastDetected n left by.0 k by.2.0) s.new last))
 
 -- ---- verdicts
 
@@ -108,12 +109,13 @@ are_finished j s ls kept new list are named is =
         );
         are = refl;
       };
+      needed = kept_needed j.netlist s.patterns j.classes.representatives ls are;
       count = named.size;
       each = λ c f rep. (
           let within : c < length s.verdicts = omega (arith, slice_get_within j.classes.representatives c f rep, list.count) in
           let Q : Verdict → Type 0 = λ v. IsFinished j (kept_from (is_last_at ls) 0 s.patterns) f (verdict_at s.verdicts c) v in
           subst Q (sym (named.each c within))
-          (verdict_finished j s.patterns ls are c f (last_at ls c) (verdict_at s.verdicts c) refl (last_of j.netlist s.patterns j.classes.representatives ls c f are rep))
+          (verdict_finished j s.patterns ls are c f (last_at ls c) (verdict_at s.verdicts c) refl (told_of (LastDetected j.netlist s.patterns) j.classes.representatives ls c f are rep))
           );
       hold = λ c. at_class c (below_or c (length s.verdicts));
     })
@@ -125,7 +127,7 @@ are_finished j s ls kept new list are named is =
         let f = get_or j.classes.representatives c no_fault in
         let rep : RepresentsIn j c f = slice_get-get_or j.classes.representatives c no_fault inside in
         subst Q (sym (named.each c within))
-        (verdict_holds j s.patterns ls are c f (last_at ls c) (verdict_at s.verdicts c) refl (last_of j.netlist s.patterns j.classes.representatives ls c f are rep) rep (list.hold c))
+        (verdict_holds j s.patterns ls are c f (last_at ls c) (verdict_at s.verdicts c) refl (told_of (LastDetected j.netlist s.patterns) j.classes.representatives ls c f are rep) rep (list.hold c))
     at_class c (inr past) =
         let Q : Verdict → Type 0 = λ v. VerdictHolds j (kept_from (is_last_at ls) 0 s.patterns) c v in
         let outside : length new ≤ c = omega (arith, past, named.size) in

@@ -1,14 +1,15 @@
 -- Which patterns are the last to detect some fault, and what patterns at marked places detect once they alone are left.
-use Rattle.std.proofs.Common.{zero, suc, ◌≡◌, ◌⊎◌, inl, inr, ℕ, ◌+◌, ◌<◌, ◌==◌, ◌||◌, Bool, true, false, List, [], ◌∷◌, Some, None, Option, refl, sym, ap, subst, arith}
+use Rattle.std.proofs.Common.{zero, suc, ◌≡◌, ◌⊎◌, inl, inr, ℕ, ◌+◌, ◌<◌, ◌==◌, ◌||◌, Bool, true, false, List, [], ◌∷◌, length, Some, None, Option, refl, sym, ap, subst, arith}
 use Rattle.std.specs.List.{AllZip, Contains, slice_get}
 use Rattle.std.proofs.lemmas.Bool.Decides.{nat_tests}
+use Rattle.std.proofs.lemmas.Option.{slice_get_read}
 use Rattle.netlist.specs.declared.lines.Fault.{Fault}
 use Rattle.netlist.specs.declared.lines.Point.{Point}
 use Rattle.netlist.specs.Netlist.{Netlist}
 use Rattle.netlist.proofs.Lists.{contains_head, contains_tail}
 use Rattle.cubes.specs.Cubes.{Pattern}
 use Rattle.word_sim.specs.Hits.{IsDetectedAt, IsLastDetected, IsNeverDetected}
-use Rattle.reverse_compact.specs.Kept.{is_last_at, kept_from, new_place, marked_from}
+use Rattle.reverse_compact.specs.Kept.{is_last_at, kept_from, new_place}
 use Rattle.reverse_compact.specs.inner.Marks.{last_at}
 use Rattle.reverse_compact.proofs.KeepLemmas.{kept_at, source, rises}
 
@@ -58,6 +59,26 @@ some_marked (Some m ∷ ls) zero l e =
     or_left (m.0 == l.0) (is_last_at ls l.0) (number_same m.0 l.0 (ap (λ (x : ℕ × Point). x.0) same))
 some_marked (None ∷ ls) (suc c) l e = some_marked ls c l e
 some_marked (Some m ∷ ls) (suc c) l e = or_right (m.0 == l.0) (is_last_at ls l.0) (some_marked ls c l e)
+
+-- what is told of the fault at a place
+pub told_of : (R : Fault → Option (ℕ × Point) → Type 0) (fs : List Fault) (ls : List (Option (ℕ × Point))) (c : ℕ) (f : Fault)
+    → AllZip R fs ls → slice_get fs c ≡ Some f → R f (last_at ls c)
+told_of R [] [] c f are e = cc
+told_of R [] (l ∷ ls) c f are e = elim are [ ]
+told_of R (g ∷ fs) [] c f are e = elim are [ ]
+told_of R (g ∷ fs) (l ∷ ls) zero f are e = (let P : Fault → Type 0 = λ h. R h l in subst P (some_same g f e) are.0)
+told_of R (g ∷ fs) (l ∷ ls) (suc c) f are e = told_of R fs ls c f are.1 e
+
+-- a place that is the last one of some fault is marked, where what is told of a fault names no other place
+pub marked_where : (R : Fault → Option (ℕ × Point) → Type 0) (fs : List Fault) (ls : List (Option (ℕ × Point))) (k : ℕ) → AllZip R fs ls
+    → ((f : Fault) (l : Option (ℕ × Point)) (o : Point) → R f l → R f (Some (k, o)) → (p : Point) × (l ≡ Some (k, p)))
+    → (f : Fault) × Contains fs f × ((o : Point) × R f (Some (k, o))) → is_last_at ls k ≡ true
+marked_where R fs ls k are alone need =
+    let f = need.0 in
+    let c = need.1.0 in
+    let at : slice_get fs c ≡ Some f = slice_get_read fs (length fs) c f refl need.1.1 (sym need.1.2) in
+    let told = alone f (last_at ls c) need.2.0 (told_of R fs ls c f are at) need.2.1 in
+    some_marked ls c (k, told.0) told.1
 
 -- ---- among the kept patterns
 

@@ -16,11 +16,10 @@ use Rattle.fault_universe.specs.Laws.{TextsDiffer}
 use Rattle.fault_collapse.specs.Laws.{DetectedAlike}
 use Rattle.fault_collapse.specs.Numbers.{Classes}
 use Rattle.list_core.specs.declared.verdicts.Verdict.{Verdict}
-use Rattle.good_files.specs.GoodFiles.{AreGoodFiles}
 use Rattle.good_files.specs.ScanOff.{design_chains}
 use Rattle.run_files.specs.declared.files.RunFiles.{RunFiles}
 use Rattle.run_files.specs.Runs.{files_of}
-use Rattle.run_files.specs.inner.Laws.{IsFinishedRun}
+use Rattle.run_files.specs.inner.Laws.{AreGoodFilesBy, IsFinishedRun}
 use Rattle.run_files.specs.inner.Verdicts.{leaves_of}
 use Rattle.run_files.proofs.TruthLemmas.{leaves_left, true_lines}
 
@@ -42,7 +41,7 @@ read_back law n sound design net is =
 
 pub good : CanonicalTextIsRead → WrittenStands → DetectedAlike → TextsDiffer
     → (n : Netlist) (holds : Holds) (asked limit : ℕ) (classes : Classes) (patterns : List Pattern) (verdicts : List Verdict) (made : RunFiles)
-    → IsSound n → IsDesign n → IsFinishedRun n holds asked limit classes patterns verdicts made → AreGoodFiles n holds asked limit (files_of made)
+    → IsSound n → IsDesign n → IsFinishedRun n holds asked limit classes patterns verdicts made → AreGoodFilesBy n holds asked limit classes patterns (files_of made)
 good canonical_law stands alike texts n holds asked limit classes patterns verdicts made sound design run =
     let w = run.written in
     let found = run.found in
@@ -50,25 +49,29 @@ good canonical_law stands alike texts n holds asked limit classes patterns verdi
     let trees = leaves_of classes.representatives verdicts in
     let numbers = w.said.numbers in
     record {
-      patterns = patterns;
-      trees = trees;
-      classes = classes;
-      file = w.stil.file;
-      said = made.said;
-      net_is = read_back canonical_law n sound design made.net.items w.net;
-      scan_is = w.scan;
-      stil_is = subst (λ (t : List ℕ). StandsFor t w.stil.file) (sym w.stil.text_is) (stands w.stil.file w.stil.is_file);
-      certificate_is = w.certificate;
-      report_is = w.report;
-      is_report = w.is_report;
-      dealt = record { asked = asked; some = run.some; are = refl };
-      limit_is = run.limit_is;
-      held = run.held;
-      held_said = numbers.held;
-      obey = found.obey;
-      is_file_of = w.stil.of_patterns;
-      are_classes = run.are_classes;
-      lines = true_lines alike texts n sound holds chains classes run.are_classes limit patterns verdicts found made.said.lines w.said.lines;
-      left = leaves_left n holds limit patterns classes.representatives verdicts found.count found.each;
-      head = record { counts = numbers.counts; coverage = numbers.coverage; efficiency = numbers.efficiency };
+      good = record {
+        patterns = patterns;
+        trees = trees;
+        classes = classes;
+        file = w.stil.file;
+        said = made.said;
+        net_is = read_back canonical_law n sound design made.net.items w.net;
+        scan_is = w.scan;
+        stil_is = subst (λ (t : List ℕ). StandsFor t w.stil.file) (sym w.stil.text_is) (stands w.stil.file w.stil.is_file);
+        certificate_is = w.certificate;
+        report_is = w.report;
+        is_report = w.is_report;
+        dealt = record { asked = asked; some = run.some; are = refl };
+        limit_is = run.limit_is;
+        held = run.held;
+        held_said = numbers.held;
+        obey = found.obey;
+        is_file_of = w.stil.of_patterns;
+        are_classes = run.are_classes;
+        lines = true_lines alike texts n sound holds chains classes run.are_classes limit patterns verdicts found made.said.lines w.said.lines;
+        left = leaves_left n holds limit patterns classes.representatives verdicts found.count found.each;
+        head = record { counts = numbers.counts; coverage = numbers.coverage; efficiency = numbers.efficiency };
+      };
+      patterns_are = refl;
+      classes_are = refl;
     }

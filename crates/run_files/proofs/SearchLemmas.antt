@@ -51,6 +51,7 @@ verdicts_of j s kept verdicts list shut done = record {
   obey =
       let P : List Pattern → Type 0 = λ ps. All (IsPatternOf j.netlist j.holds) ps in
       subst P (sym done.are_kept.are) (kept_all (IsPatternOf j.netlist j.holds) done.are_kept.needed 0 s.patterns list.patterns);
+  needed = done.needed;
   each = λ class f represents. elim (done.each class f represents) [
     | inl found ↦ subst (IsVerdict j.netlist j.holds j.limit kept f) (sym found.2) found.3
     | inr stays ↦

@@ -1,5 +1,8 @@
 -- The items of a file as they are added, test by test.
-use Rattle.std.proofs.Common.{◌≡◌, ◌∙◌, ◌+◌, ◌<◌, ◌≤◌, ℕ, zero, suc, min, Bool, false, not, List, [], ◌∷◌, ◌++◌, ap, sym, refl, append_assoc, length, map, take, get_or, arith, codes, replicate, None}
+use Rattle.std.proofs.Common.{◌≡◌, ◌∙◌, ◌+◌, ◌-◌, ◌<◌, ◌≤◌, ℕ, zero, suc, min, false, List, [], ◌∷◌, ◌++◌, ap, sym, refl, append_assoc, length, map, take, drop, get_or, arith, codes, replicate, Some, None}
+use Rattle.std.specs.List.{slice_get}
+use Rattle.std.proofs.lemmas.List.{get_or-drop, get_or-take, length-drop, length-take}
+use Rattle.std.proofs.lemmas.Option.{slice_get-get_or}
 use Rattle.plain_text.specs.Texts.{Text}
 use Rattle.netlist.specs.declared.kinds.Tri.{Tri}
 use Rattle.netlist.specs.declared.kinds.Tri.TheVariants.{X}
@@ -10,7 +13,7 @@ use Rattle.netlist.specs.ThreeValues.{known}
 use Rattle.cubes.specs.Cubes.{Pattern}
 use Rattle.chain_stitch.specs.Chains.{cells_of}
 use Rattle.scan_insert.specs.Names.{output_name}
-use Rattle.scan_play.specs.Vectors.{Response, Responds, flush}
+use Rattle.scan_play.specs.Vectors.{Responds, flush}
 use Rattle.scan_play.proofs.Applied.{taken_count}
 use Rattle.scan_play.proofs.TestLists.{none_applied, one_applied, all_applied}
 use Rattle.stil_write.specs.StilFiles.{Item, StilFile, where_chained}
@@ -65,7 +68,15 @@ module _ (n : Netlist) (chains : List (List ℕ)) where
       let r = all_applied (Responds n None) (applied_items chains) (test_items chains) (length (cells_of chains)) ps i old new held l pushed h in
       record { responses = r.0; respond = r.1; are = r.2 }
 
--- ---- the flush
+-- a pattern stands in a part of the patterns at its distance from the part's first one
+pub part_at : (ps : List Pattern) (s e k : ℕ) (p : Pattern) → s ≤ k → k < e → e ≤ length ps → p ≡ get_or ps k p → slice_get (take (e - s) (drop s ps)) (k - s) ≡ Some p
+part_at ps s e k p after before within is =
+    let part = take (e - s) (drop s ps) in
+    let near : k - s < e - s = omega (arith, after, before) in
+    let inside : k - s < length part = omega (arith, after, before, within, length-take (e - s) (drop s ps), length-drop s ps) in
+    let here : s + (k - s) ≡ k = omega (arith, after) in
+    slice_get-get_or part (k - s) p inside
+    ∙ ap (λ (q : Pattern). Some q) (get_or-take (e - s) (drop s ps) (k - s) p near ∙ (get_or-drop s ps (k - s) p ∙ (ap (λ i. get_or ps i p) here ∙ sym is)))
 
 -- ---- the file
 

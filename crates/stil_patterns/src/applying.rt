@@ -1,92 +1,114 @@
-//! The items of patterns.
-ghost use Rattle.std.specs.Prelude.{◌≡◌, ◌^◌, ◌<◌, ◌++◌, ◌∷◌, [], false, not, length, map, replicate, None, IfOk, OnOk};
+//! The items of patterns. The responses to 64 patterns are settled at once, each a bit of a word: pattern by pattern that was a sixth of a run.
+ghost use Rattle.std.specs.Prelude.{◌≡◌, ◌+◌, ◌^◌, ◌<◌, ◌≤◌, ◌++◌, [], length, map, take, None, IfOk, OnOk};
 ghost use Rattle.std.specs.List.{All};
-ghost use Rattle.netlist.specs.Netlist.{cells, signals};
-ghost use Rattle.netlist.specs.ThreeValues.{known};
-ghost use Rattle.netlist.specs.declared.kinds.Tri.TheVariants.{X};
+ghost use Rattle.netlist.specs.Netlist.{Netlist as Equations, cells};
 ghost use Rattle.cubes.specs.Cubes.{IsPatternOf};
 ghost use Rattle.chain_stitch.specs.Chains.{cells_of};
 ghost use Rattle.scan_insert.specs.Scanned.{AreChainsOf};
-ghost use Rattle.scan_play.specs.Vectors.{Responds, flush};
-ghost use Rattle.stil_patterns.specs.inner.Added.{AreAll, IsAdded, flush_items};
+ghost use Rattle.scan_play.specs.Vectors.{Responds};
+ghost use Rattle.events.specs.Words.{bit_of};
+ghost use Rattle.word_sim.specs.Words.{HasWidthsOf};
+ghost use Rattle.stil_patterns.specs.inner.Added.{AreAll, AreBegun, IsAdded, flush_items, response_at};
 
 use crate::capturing::push_capture;
 use crate::loading::{Room, push_load, push_zero_load};
 use chain_stitch::Chains;
 use cubes::Pattern;
-use netlist::{Bits, Core, Holds, Netlist, Tri};
+use netlist::{Core, Holds, NoMemory, Tri};
 use scan_play::{cell_count, complement, flush, push_known, strobes_of};
 use std::alloc::{AllocError, Global};
 use stil_write::Items;
+use word_sim::{ResponseWords, response64};
 
-/// Room for the values of all signals and of a gate's pins, and for a response.
+/// Room for the response to a pattern.
 #[derive(Drop)]
 struct Bench {
-    values: Vec<bool>,
-    pins: Vec<bool>,
     outputs: Vec<bool>,
     cells: Vec<bool>,
 }
 
-/// Room for a netlist.
-fn bench_of(alloc: Global, netlist: &Netlist) -> Result<Bench, AllocError>
-    ensures { IfOk result (λ bench. length bench.values.items ≡ length (signals netlist.now)) }
+fn is_set(word: u64, place: usize) -> bool
+    requires { place < 64 }
+    ensures { result ≡ bit_of place word }
 {
-    netlist.sound();
-    let signals = netlist.inputs().len() + netlist.definitions().len();
-    Ok(Bench {
-        values: vec![in alloc; false; signals]?,
-        pins: Vec::new(alloc),
-        outputs: Vec::new(alloc),
-        cells: Vec::new(alloc),
-    })
+    (word >> place) % 2 == 1
 }
 
-/// The fault-free response to a pattern.
-fn respond(core: &Core, pattern: &Pattern, bench: &mut Bench) -> Result<(), AllocError>
-    requires inputs { length pattern.now.inputs ≡ length core.now.inputs }
-    requires state { length pattern.now.cells ≡ length (cells core.now) }
-    requires room { length bench.old.values.items ≡ length (signals core.now) }
-    ensures room { length bench.new.values.items ≡ length (signals core.now) }
-    ensures responds { OnOk result (Responds core.now None pattern.now (record { outputs = bench.new.outputs.items; cells = bench.new.cells.items })) }
+/// The bits of words at one place.
+fn bits_at(words: &[u64], place: usize, bits: &mut Vec<bool>) -> Result<(), AllocError>
+    requires { place < 64 }
+    ensures { OnOk result (bits.new.items ≡ map (bit_of place) words.now) }
 {
-    let rule = Bits { fault: None };
-    core.settle_into(
-        &rule,
-        pattern.inputs(),
-        pattern.cells(),
-        &mut bench.values,
-        &mut bench.pins,
-    )?;
-    core.outs_into(&rule, &bench.values, &mut bench.outputs)?;
-    core.next_into(&rule, &bench.values, &mut bench.cells)?;
+    bits.clear();
+    for word in words {
+        bits.push(is_set(*word, place))?;
+    }
     Ok(())
 }
 
-/// Adds a pattern's load and its capture; what the cells then hold takes the place of what they held.
+/// Adds a pattern's load and its capture, by the bits of the words at its place; what the cells then hold takes the place of what they held.
 fn push_test(
     items: &mut Items,
     room: &mut Room,
-    core: &Core,
     chains: &Chains,
     pattern: &Pattern,
+    words: &ResponseWords,
+    place: usize,
     held: &mut Vec<Tri>,
     bench: &mut Bench,
 ) -> Result<(), AllocError>
-    requires inputs { length pattern.now.inputs ≡ length core.now.inputs }
-    requires state { length pattern.now.cells ≡ length (cells core.now) }
-    requires cells { length (cells core.now) ≡ length (cells_of chains.now) }
-    requires few { length (cells core.now) < 2 ^ 32 }
+    requires place { place < 64 }
+    requires cells { length pattern.now.cells ≡ length (cells_of chains.now) }
+    requires few { length pattern.now.cells < 2 ^ 32 }
     requires held { length held.old.items ≡ length (cells_of chains.now) }
-    requires room { length bench.old.values.items ≡ length (signals core.now) }
-    ensures room { length bench.new.values.items ≡ length (signals core.now) }
-    ensures added { OnOk result (IsAdded core.now chains.now pattern.now held.old.items held.new.items items.old items.new) }
+    ensures { OnOk result ((n : Equations) → Responds n None pattern.now (response_at place words.now.outputs.items words.now.cells.items)
+        → IsAdded n chains.now pattern.now held.old.items held.new.items items.old items.new) }
 {
-    respond(core, pattern, bench)?;
+    bits_at(&words.outputs, place, &mut bench.outputs)?;
+    bits_at(&words.cells, place, &mut bench.cells)?;
     push_load(items, room, chains, pattern.cells(), held)?;
     push_capture(items, room, chains, pattern, &bench.outputs)?;
     held.clear();
     push_known(&bench.cells, held)?;
+    Ok(())
+}
+
+/// Adds the tests of a part of the patterns, 64 at most: each gate is evaluated once for all of them.
+fn push_part(
+    alloc: Global,
+    items: &mut Items,
+    room: &mut Room,
+    core: &Core,
+    chains: &Chains,
+    patterns: &[Pattern],
+    start: usize,
+    end: usize,
+    held: &mut Vec<Tri>,
+    bench: &mut Bench,
+) -> Result<(), NoMemory>
+    requires wide { All (HasWidthsOf core.now) patterns.now }
+    requires cells { length (cells core.now) ≡ length (cells_of chains.now) }
+    requires few_cells { length (cells core.now) < 2 ^ 32 }
+    requires order { start ≤ end }
+    requires end { end ≤ length patterns.now }
+    requires few { end ≤ start + 64 }
+    requires begun { AreBegun core.now chains.now (take start patterns.now) items.old held.old.items }
+    ensures { OnOk result (AreBegun core.now chains.now (take end patterns.now) items.new held.new.items) }
+{
+    core.netlist().sound();
+    let words = response64(alloc, core, &patterns[start..end])?;
+    for k in start..end {
+        push_test(
+            items,
+            room,
+            chains,
+            &patterns[k],
+            &words,
+            k - start,
+            held,
+            bench,
+        )?;
+    }
     Ok(())
 }
 
@@ -113,6 +135,41 @@ pub fn push_flush(
     Ok(())
 }
 
+/// Adds the tests of all patterns, 64 after another.
+fn push_tests(
+    alloc: Global,
+    items: &mut Items,
+    room: &mut Room,
+    core: &Core,
+    chains: &Chains,
+    patterns: &[Pattern],
+    held: &mut Vec<Tri>,
+) -> Result<(), NoMemory>
+    requires wide { All (HasWidthsOf core.now) patterns.now }
+    requires cells { length (cells core.now) ≡ length (cells_of chains.now) }
+    requires few_cells { length (cells core.now) < 2 ^ 32 }
+    requires begun { AreBegun core.now chains.now [] items.old held.old.items }
+    ensures { OnOk result (AreBegun core.now chains.now patterns.now items.new held.new.items) }
+{
+    let mut bench = Bench {
+        outputs: Vec::new(alloc),
+        cells: Vec::new(alloc),
+    };
+    let mut start = 0;
+    while start < patterns.len() {
+        let end = if patterns.len() - start > 64 {
+            start + 64
+        } else {
+            patterns.len()
+        };
+        push_part(
+            alloc, items, room, core, chains, patterns, start, end, held, &mut bench,
+        )?;
+        start = end;
+    }
+    Ok(())
+}
+
 /// The items of the patterns' file.
 pub(crate) fn items_of(
     alloc: Global,
@@ -120,7 +177,7 @@ pub(crate) fn items_of(
     chains: &Chains,
     patterns: &[Pattern],
     holds: &Holds,
-) -> Result<Items, AllocError>
+) -> Result<Items, NoMemory>
     requires chains { AreChainsOf core.now chains.now }
     requires patterns { All (IsPatternOf core.now holds.now) patterns.now }
     ensures { IfOk result (λ items. AreAll core.now chains.now patterns.now items) }
@@ -130,12 +187,9 @@ pub(crate) fn items_of(
     let mut room = Room::new(alloc);
     push_flush(alloc, &mut items, &mut room, chains, cells)?;
     let mut held = vec![in alloc; Tri::X; cells]?;
-    let mut bench = bench_of(alloc, core.netlist())?;
-    for pattern in patterns {
-        push_test(
-            &mut items, &mut room, core, chains, pattern, &mut held, &mut bench,
-        )?;
-    }
+    push_tests(
+        alloc, &mut items, &mut room, core, chains, patterns, &mut held,
+    )?;
     push_zero_load(alloc, &mut items, &mut room, chains, &held)?;
     Ok(items)
 }

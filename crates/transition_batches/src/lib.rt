@@ -4,7 +4,7 @@
 //! Proved: `batch`: exactly the two frames with three gates for each of the slow lines, or nothing; `are_apart`: no line is late by both, where it says so;
 //! `decides_frames`: nothing but the two frames is decided, where it says so; the law: what is evidence for one of them there is evidence on the two
 //! frames in which it alone is slow.
-//! Tested: run by `transition`.
+//! Tested: run by the command `transition`, by rows of `cases`.
 //! Neither: time.
 #![tactic(auto)]
 

@@ -3,7 +3,7 @@
 //!
 //! Gives: `lines_of`, `report_of`, `write_report`, `leaves_of`, `write_certificate`.
 //! Proved: each exactly: the lines of transition faults by their verdicts, the numbers of a report, and the texts of report and certificate.
-//! Tested: run by `transition`.
+//! Tested: run by the command `transition`, by rows of `cases`.
 //! Neither: time.
 #![tactic(auto)]
 

@@ -3,7 +3,7 @@
 //! Gives: `transition_files`, `TransitionPlan`, `TransitionFiles`.
 //! Proved: `transition_files`: five files of a design's transition faults, and what they say comes true on the tester (`TransitionTheorem`), for
 //! every number of workers, searched by any engine that keeps the trait's contract.
-//! Tested: run by `transition`.
+//! Tested: run by the command `transition`, by rows of `cases`.
 //! Neither: how many patterns and aborted faults there are; time.
 #![tactic(auto)]
 

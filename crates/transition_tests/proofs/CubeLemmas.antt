@@ -19,7 +19,8 @@ use Rattle.redundancy_cert.specs.declared.engine.Found.TheVariants.{Test, Closed
 use Rattle.transition_frames.specs.Frames.{frames_of, in_first}
 use Rattle.transition_frames.proofs.Framed.{cells_framed}
 use Rattle.transition_tests.specs.inner.Answers.{IsKnown}
-use Rattle.transition_tests.specs.inner.Cubes.{cubes_in, HasAgreeing}
+use Rattle.transition_tests.specs.Making.{cubes_in}
+use Rattle.transition_tests.specs.inner.Cubes.{HasAgreeing}
 
 -- ---- the cubes of answers
 

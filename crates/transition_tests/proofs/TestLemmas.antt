@@ -1,5 +1,5 @@
 -- What comes of the faults is true of the patterns that are kept.
-use Rattle.std.proofs.Common.{◌≡◌, ℕ, zero, suc, ◌+◌, ◌<◌, Bool, true, false, not, map, List, [], ◌∷◌, ◌++◌, length, get_or, Option, Some, None, refl, sym, subst, arith}
+use Rattle.std.proofs.Common.{◌≡◌, ◌⊎◌, inl, inr, ℕ, zero, suc, ◌+◌, ◌<◌, Bool, true, false, not, map, List, [], ◌∷◌, ◌++◌, length, get_or, Option, Some, None, refl, sym, ap, ◌∙◌, subst, arith}
 use Rattle.std.specs.Prelude.{IfSome}
 use Rattle.std.specs.List.{All, AllZip, Contains, slice_get}
 use Rattle.std.specs.Option.{is_some}
@@ -18,7 +18,7 @@ use Rattle.redundancy_cert.specs.declared.engine.Found.TheVariants.{Test, Closed
 use Rattle.reverse_compact.specs.Kept.{is_last_at, kept_from, new_place}
 use Rattle.reverse_compact.specs.inner.Marks.{last_at}
 use Rattle.reverse_compact.proofs.KeepLemmas.{kept_all, source}
-use Rattle.reverse_compact.proofs.LastPlaces.{last_kept, marked_by, never_kept, some_marked}
+use Rattle.reverse_compact.proofs.LastPlaces.{last_kept, marked_by, marked_where, never_kept, some_marked}
 use Rattle.fault_universe.specs.Universe.{universe_of}
 use Rattle.transition_frames.specs.Frames.{frames_of, frame_fault}
 use Rattle.transition.specs.Detections.{IsLastTransition, LastTransition}
@@ -29,7 +29,8 @@ use Rattle.transition_tests.specs.declared.verdicts.TransitionVerdict.{Transitio
 use Rattle.transition_tests.specs.Batches.{AreLeftBy, IsLeftBy}
 use Rattle.transition_tests.specs.Verdicts.{AreTests, IsNeededForTransitions, IsVerdict}
 use Rattle.transition_tests.specs.inner.Answers.{IsKnown}
-use Rattle.transition_tests.specs.inner.Cubes.{BeginsWith, cubes_in, HasAgreeing}
+use Rattle.transition_tests.specs.Making.{AreFilledFrom, AreMadeFrom, cubes_in}
+use Rattle.transition_tests.specs.inner.Cubes.{BeginsWith, HasAgreeing}
 use Rattle.transition_tests.specs.inner.Ends.{AreVerdictsOf, IsVerdictOf, IsDetectedIfTested}
 use Rattle.transition_tests.proofs.CubeLemmas.{all_cubes, other_cube}
 
@@ -217,3 +218,34 @@ tests_are n sound limit batch patterns found lasts kept vs obey lines all are is
           needed_at n sound patterns (universe_of n) lasts lines is place (get_or left place nothing) (slice_get-get_or left place nothing lt);
       each = verdicts_are n sound limit batch patterns (is_last_at lasts) (universe_of n) found lasts vs all are is (some_marked lasts) ends;
     })
+
+-- ---- of which patterns they are made
+
+-- two last patterns of one transition fault are one
+same_last : (n : Netlist) (patterns : List Pattern) (f : Fault) (a b : ℕ) (o p : Point) → IsLastTransition n patterns f a o → IsLastTransition n patterns f b p → a ≡ b
+same_last n patterns f a b o p x y =
+    elim (three a b) [ inl lt ↦ absurd (x.last b p lt y.here) | inr r ↦ elim r [ inl e ↦ e | inr gt ↦ absurd (y.last a o gt x.here) ] ]
+  where
+    three : (i j : ℕ) → (i < j) ⊎ ((i ≡ j) ⊎ (j < i))
+    three i j = grind arith
+
+alone : (n : Netlist) (patterns : List Pattern) (k : ℕ) (f : Fault) (l : Option (ℕ × Point)) (o : Point) → LastTransition n patterns f l → LastTransition n patterns f (Some (k, o))
+    → (p : Point) × (l ≡ Some (k, p))
+alone n patterns k f None o never last = absurd (never k o last.here)
+alone n patterns k f (Some l) o other last = (l.1, ap (λ (i : ℕ). Some (i, l.1)) (same_last n patterns f l.0 k l.1 o other last))
+
+pub made_from : (n : Netlist) (batch patterns others : List Pattern) (found : List (Option Found)) (seed : ℕ) (lasts : List (Option (ℕ × Point))) (kept : List Pattern)
+    → AreFilledFrom (cubes_in found) seed others → patterns ≡ batch ++ others → AllZip (LastTransition n patterns) (universe_of n) lasts
+    → kept ≡ kept_from (is_last_at lasts) 0 patterns → AreMadeFrom n batch found seed kept
+made_from n batch patterns others found seed lasts kept filled is told kept_is = record {
+  others = others;
+  filled = filled;
+  needed = is_last_at lasts;
+  exactly = λ place. (
+    (λ m. subst (λ (ps : List Pattern). IsNeededForTransitions n (universe_of n) ps place) is (marked_by (LastTransition n patterns) (universe_of n) lasts place told m)),
+    (λ need.
+        marked_where (LastTransition n patterns) (universe_of n) lasts place told (alone n patterns place)
+        (subst (λ (ps : List Pattern). IsNeededForTransitions n (universe_of n) ps place) (sym is) need)),
+  );
+  are = kept_is ∙ ap (kept_from (is_last_at lasts) 0) is;
+}

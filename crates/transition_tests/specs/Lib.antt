@@ -1,3 +1,4 @@
 pub mod Batches
 pub mod Verdicts
+pub mod Making
 pub mod inner

@@ -5,7 +5,8 @@ ghost use Rattle.std.specs.List.{All, AllPairs, Contains};
 ghost use Rattle.netlist.specs.Holds.{Holds};
 ghost use Rattle.netlist.specs.Netlist.{Netlist};
 ghost use Rattle.cubes.specs.Cubes.{Cube as Values, HaveSameWidths, IsCubeOf, IsPatternOf};
-ghost use Rattle.transition_tests.specs.inner.Cubes.{BeginsWith, cube_of, cubes_in, HasAgreeing};
+ghost use Rattle.transition_tests.specs.Making.{AreBehind, AreFilledFrom, cube_of, cubes_in};
+ghost use Rattle.transition_tests.specs.inner.Cubes.{HasAgreeing};
 
 use cubes::{Cube, Pattern, fill_all, merge};
 use netlist::NoMemory;
@@ -38,6 +39,7 @@ pub(crate) fn cubes_of(alloc: Global, found: &[Option<Found>]) -> Result<Vec<Cub
 /// Fewer patterns than cubes, where each cube has one with its bits.
 fn filled(alloc: Global, cubes: &[Cube], seed: u64) -> Result<Vec<Pattern>, NoMemory>
     requires { AllPairs HaveSameWidths cubes.now }
+    ensures made { IfOk result (λ v. AreFilledFrom cubes.now seed v.items) }
     ensures fit { IfOk result (λ v. (n : Netlist) (holds : Holds) → All (IsCubeOf n holds) cubes.now → All (IsPatternOf n holds) v.items) }
     ensures few { IfOk result (λ v. length v.items ≤ length cubes.now) }
     ensures agree { IfOk result (λ v. (c : Values) → Contains cubes.now c → HasAgreeing v.items c) }
@@ -57,7 +59,7 @@ pub(crate) fn patterns_of(
     requires { AllPairs HaveSameWidths cubes.now }
     ensures fit { IfOk result (λ v. (n : Netlist) (holds : Holds) → All (IsPatternOf n holds) batch.items → All (IsCubeOf n holds) cubes.now → All (IsPatternOf n holds) v.items) }
     ensures few { IfOk result (λ v. length v.items ≤ length batch.items + length cubes.now) }
-    ensures begins { IfOk result (λ v. BeginsWith batch.items v.items) }
+    ensures made { IfOk result (λ v. AreBehind batch.items cubes.now seed v.items) }
     ensures agree { IfOk result (λ v. (c : Values) → Contains cubes.now c → HasAgreeing v.items c) }
 {
     let mut others = filled(alloc, cubes, seed)?;

@@ -9,6 +9,7 @@ ghost use Rattle.netlist.specs.Holds.{none_held};
 ghost use Rattle.cubes.specs.Cubes.{IsPatternOf};
 ghost use Rattle.transition.specs.Searches.{AreFoundWhereLeft};
 ghost use Rattle.transition_tests.specs.Batches.{AreLeftBy};
+ghost use Rattle.transition_tests.specs.Making.{AreMadeFrom};
 ghost use Rattle.transition_tests.specs.Verdicts.{AreTests};
 ghost use Rattle.transition_tests.specs.inner.Ends.{AreVerdictsOf, IsVerdictOf, IsDetectedIfTested};
 
@@ -101,6 +102,7 @@ pub fn tests_of(
     requires left { AreLeftBy core.now batch.items (universe_of core.now) left.now }
     requires found { AreFoundWhereLeft core.now limit (universe_of core.now) left.now found.items }
     ensures tests { IfOk result (λ t. AreTests core.now limit t.patterns.items t.verdicts.items) }
+    ensures made { IfOk result (λ t. AreMadeFrom core.now batch.items found.items seed t.patterns.items) }
     ensures few { IfOk result (λ t. length t.patterns.items < 2 ^ 32) }
 {
     let _ = limit;

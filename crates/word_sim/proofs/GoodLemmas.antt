@@ -9,7 +9,7 @@ use Rattle.events.specs.Words.{bit_of, words}
 use Rattle.events.proofs.WordBits.{words_as_bits}
 use Rattle.word_sim.specs.Words.{AreGoodWords, HasWidthsOf}
 use Rattle.word_sim.specs.declared.packing.Part.TheVariants.{Inputs, Cells}
-use Rattle.word_sim.specs.inner.Packed.{bits_in, AreGoodFor, ArePacked}
+use Rattle.word_sim.specs.inner.Packed.{AreGoodFor, ArePacked}
 use Rattle.word_sim.proofs.WordDetection.{some_below}
 
 module _ (n : Netlist) (patterns : List Pattern) (few : length patterns ≤ 64) (wide : All (HasWidthsOf n) patterns) (inputs state values : List ℕ) (width height : ℕ)

@@ -8,6 +8,7 @@ pub mod FaultFound
 pub mod HitLists
 pub mod LastFrom
 pub mod GoodLemmas
+pub mod ResponseLemmas
 pub mod WidthLemmas
 pub mod TurnedPoints
 pub mod ToldFaults

@@ -1,15 +1,15 @@
 -- Bits put into words one by one.
-use Rattle.std.proofs.Common.{◌≡◌, ℕ, ◌+◌, ◌*◌, ◌%◌, ◌^◌, ◌<◌, ◌≤◌, ◌≢◌, Bool, true, false, List, map, length, get_or, Some, ltb, sym, ◌∙◌, ap, inl, inr, eqb, arith, bit_or}
+use Rattle.std.proofs.Common.{◌≡◌, ℕ, ◌+◌, ◌*◌, ◌%◌, ◌^◌, ◌<◌, ◌≤◌, ◌≢◌, Bool, true, false, List, map, length, get_or, Some, sym, ◌∙◌, ap, inl, inr, eqb, arith, bit_or}
 use Rattle.std.specs.Int.{bit_at, w64}
 use Rattle.std.specs.List.{slice_get}
-use Rattle.std.proofs.lemmas.Bool.{cases_eq, cases_lt, eq-eqb, ne_eqb, lt-ltb, ltb-true, false_from_ne_true}
+use Rattle.std.proofs.lemmas.Bool.{cases_eq, eq-eqb, ne_eqb}
 use Rattle.std.proofs.lemmas.List.{length-map, get_or-map, ext_get_or}
 use Rattle.std.proofs.lemmas.Nat.Bits.{bit_at_set_same, bit_at_set_other, bit_at-zero}
 use Rattle.cubes.specs.Cubes.{Pattern}
 use Rattle.events.specs.Words.{bit_of}
 use Rattle.word_sim.specs.declared.packing.Part.{Part}
 use Rattle.word_sim.proofs.WordDetection.{some_below}
-use Rattle.word_sim.specs.inner.Packed.{bits_in, IsColumn, ArePacked, IsUsed}
+use Rattle.word_sim.specs.inner.Packed.{bits_in, IsColumn, ArePacked}
 
 pub set_same : (word j : ℕ) → j < 64 → bit_of j (bit_or word (1 * 2 ^ j % 2 ^ 64)) ≡ true
 set_same word j l = eq-eqb (bit_at (bit_or word (1 * 2 ^ j % 2 ^ 64)) j) 1 (bit_at_set_same w64 word j l)

@@ -1,7 +1,7 @@
 //! The words of up to 64 patterns, a bit of each for every pattern.
 ghost use Rattle.std.specs.Prelude.{◌≡◌, ◌≤◌, ◌<◌, length, slice_index, IfOk};
 ghost use Rattle.std.specs.List.{All};
-ghost use Rattle.word_sim.specs.Words.{AreGoodWords, HasWidthsOf};
+ghost use Rattle.word_sim.specs.Words.{AreGoodWords, AreResponseWords, HasWidthsOf};
 
 use crate::packing::{Part, packed};
 use cubes::Pattern;
@@ -55,6 +55,47 @@ pub fn good64(alloc: Global, core: &Core, patterns: &[Pattern]) -> Result<Words,
 {
     match settled_words(alloc, core, patterns) {
         Ok(words) => Ok(Words { words }),
+        Err(_) => Err(NoMemory),
+    }
+}
+
+/// What outputs and cells' pins show under up to 64 patterns: in each word bit j is the bit under pattern j.
+#[derive(Drop)]
+pub struct ResponseWords {
+    pub outputs: Vec<u64>,
+    pub cells: Vec<u64>,
+}
+
+fn response_words(
+    alloc: Global,
+    core: &Core,
+    patterns: &[Pattern],
+) -> Result<ResponseWords, AllocError>
+    requires few { length patterns.now ≤ 64 }
+    requires wide { All (HasWidthsOf core.now) patterns.now }
+    ensures { IfOk result (λ r. AreResponseWords core.now patterns.now r.outputs.items r.cells.items) }
+{
+    let words = settled_words(alloc, core, patterns)?;
+    let rule = events::Words { fault: None };
+    let mut outputs = Vec::new(alloc);
+    let mut cells = Vec::new(alloc);
+    core.outs_into(&rule, &words, &mut outputs)?;
+    core.next_into(&rule, &words, &mut cells)?;
+    Ok(ResponseWords { outputs, cells })
+}
+
+/// The fault-free responses to at most 64 patterns.
+pub fn response64(
+    alloc: Global,
+    core: &Core,
+    patterns: &[Pattern],
+) -> Result<ResponseWords, NoMemory>
+    requires few { length patterns.now ≤ 64 }
+    requires wide { All (HasWidthsOf core.now) patterns.now }
+    ensures { IfOk result (λ r. AreResponseWords core.now patterns.now r.outputs.items r.cells.items) }
+{
+    match response_words(alloc, core, patterns) {
+        Ok(words) => Ok(words),
         Err(_) => Err(NoMemory),
     }
 }

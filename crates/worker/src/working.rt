@@ -6,16 +6,17 @@
 //!
 //! Workers beside each other begin with smaller batches. Until the first patterns are published nothing is dropped, so that k workers which each
 //! gathered 64 cubes first would search k times as many classes as one does, and simulate each batch over nearly all of them.
-ghost use Rattle.std.specs.Prelude.{◌≡◌, ◌≤◌, ◌<◌, true, IfOk, OnOk, vec_len};
+ghost use Rattle.std.specs.Prelude.{◌≡◌, ◌+◌, ◌≤◌, ◌<◌, true, IfOk, OnOk, vec_len};
 ghost use Rattle.std.specs.List.{All};
 ghost use Rattle.netlist.specs.Holds.{AreHoldsOf};
 ghost use Rattle.cubes.specs.Cubes.{IsCubeOf};
+ghost use Rattle.redundancy_cert.specs.Evidence.{HasEvidence};
 ghost use Rattle.list_core.specs.Subjects.{HaveLines};
 
 use crate::adding::add;
 use crate::publishing::publish_cubes;
 use cubes::Cube;
-use list_core::About;
+use list_core::{About, Claim};
 use netlist::{Core, Holds, NoMemory};
 use outside::{Gate, Stage};
 use rand_core::Rng;
@@ -63,6 +64,68 @@ pub fn work<J: About, T: Ledger, S: Ledger, P: Ledger, U: Ledger, E: Engine, G: 
     work_beside(
         rt, alloc, shared, share, core, engine, stage, 1, seed, holds,
     )
+}
+
+/// Keeps the cube of a test; a tree settles the claim.
+fn answer<J: About, T: Ledger, S: Ledger, P: Ledger, U: Ledger, R: Wait>(
+    rt: &R,
+    shared: &Shared<J, T, S, P, U>,
+    share: &mut Share<T, S, P, U>,
+    claim: Claim<J>,
+    found: Found,
+    cubes: &mut Vec<Cube>,
+) -> Result<(), NoMemory>
+    requires table { share.old.table ≡ shared.now.word.shared.table_id }
+    requires evidence { HasEvidence claim.fault J.subject.netlist J.subject.holds J.subject.limit found }
+    requires wide { All (IsCubeOf J.subject.netlist J.subject.holds) cubes.old.items }
+    ensures table { share.new.table ≡ share.old.table }
+    ensures ended { share.new.ended ≡ share.old.ended }
+    ensures unspent { share.new.unspent ≡ share.old.unspent }
+    ensures few { OnOk result (vec_len cubes.new ≤ vec_len cubes.old + 1) }
+    ensures wide { OnOk result (All (IsCubeOf J.subject.netlist J.subject.holds) cubes.new.items) }
+{
+    match found {
+        Found::Test(cube, _) => add(cubes, cube)?,
+        Found::Closed(tree) | Found::Partial(tree) => {
+            let _ = shared.settle(rt, share, claim, tree);
+        }
+    }
+    Ok(())
+}
+
+/// Publishes the cubes once there are enough of them; how many are enough from then on.
+fn publish_full<J: About, T: Ledger, S: Ledger, P: Ledger, U: Ledger, G: Gate, N: Rng, R: Wait>(
+    rt: &R,
+    alloc: Global,
+    shared: &Shared<J, T, S, P, U>,
+    share: &mut Share<T, S, P, U>,
+    simulator: &mut Simulator<'_>,
+    stage: &G,
+    rng: &mut N,
+    cubes: &mut Vec<Cube>,
+    enough: usize,
+) -> Result<usize, NoMemory>
+    requires table { share.old.table ≡ shared.now.word.shared.table_id }
+    requires simulator { simulator.old ≡ J.subject.netlist }
+    requires lines { HaveLines J.subject }
+    requires wide { All (IsCubeOf J.subject.netlist J.subject.holds) cubes.old.items }
+    requires some { 0 < enough }
+    requires full { enough ≤ 64 }
+    requires few { vec_len cubes.old ≤ enough }
+    requires unspent { vec_len cubes.old ≤ share.old.unspent }
+    ensures table { share.new.table ≡ share.old.table }
+    ensures ended { share.new.ended ≡ share.old.ended }
+    ensures simulator { simulator.new ≡ simulator.old }
+    ensures room { IfOk result (λ more. (vec_len cubes.new < more) × (more ≤ 64)) }
+    ensures unspent { OnOk result (vec_len cubes.new ≤ share.new.unspent) }
+    ensures wide { OnOk result (All (IsCubeOf J.subject.netlist J.subject.holds) cubes.new.items) }
+{
+    if cubes.len() < enough {
+        return Ok(enough);
+    }
+    publish_cubes(rt, alloc, shared, share, simulator, stage, rng, cubes)?;
+    cubes.clear();
+    Ok((2 * enough).min(FULL))
 }
 
 /// The work of one of so many workers: searches claim after claim, until there is none. Room for searches and for simulation is made once.
@@ -116,31 +179,18 @@ pub(crate) fn work_beside<
             holds,
         )?;
         room = kept;
-        match found {
-            Found::Test(cube, _) => {
-                add(&mut cubes, cube)?;
-                if cubes.len() == enough {
-                    publish_cubes(
-                        rt,
-                        alloc,
-                        shared,
-                        share,
-                        &mut simulator,
-                        stage,
-                        &mut rng,
-                        &cubes,
-                    )?;
-                    cubes.clear();
-                    enough = (2 * enough).min(FULL);
-                }
-            }
-            Found::Closed(tree) => {
-                let _ = shared.settle(rt, share, claim, tree);
-            }
-            Found::Partial(tree) => {
-                let _ = shared.settle(rt, share, claim, tree);
-            }
-        }
+        answer(rt, shared, share, claim, found, &mut cubes)?;
+        enough = publish_full(
+            rt,
+            alloc,
+            shared,
+            share,
+            &mut simulator,
+            stage,
+            &mut rng,
+            &mut cubes,
+            enough,
+        )?;
     }
     publish_cubes(
         rt,

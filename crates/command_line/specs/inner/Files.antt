@@ -1,5 +1,5 @@
 -- The names of files, on the way to a request.
-use Rattle.std.specs.Prelude.{◌≡◌, ⊤, Option, Some, None, Result, Ok, Err}
+use Rattle.std.specs.Prelude.{◌≡◌, Option, Some, None, Result, Ok, Err}
 use Rattle.command_line.specs.CommandLine.{CommandLine, bad_prefix, command_line_of, line_with_files, writes_over}
 use Rattle.command_line.specs.declared.WordsRefusal.{WordsRefusal}
 use Rattle.command_line.specs.declared.WordsRefusal.TheVariants as refusal

@@ -1,5 +1,5 @@
 -- What is written of verdicts comes true.
-use Rattle.std.specs.Prelude.{ℕ, ◌≤◌, List}
+use Rattle.std.specs.Prelude.{ℕ, ◌≡◌, ◌≤◌, List}
 use Rattle.limits.specs.Limits.{most_limit}
 use Rattle.netlist.specs.Conditions.{IsSound}
 use Rattle.netlist.specs.Designs.{IsDesign}
@@ -9,7 +9,7 @@ use Rattle.cubes.specs.Cubes.{Pattern}
 use Rattle.fault_collapse.specs.Classes.{AreClasses}
 use Rattle.fault_collapse.specs.Numbers.{Classes}
 use Rattle.list_core.specs.declared.verdicts.Verdict.{Verdict}
-use Rattle.good_files.specs.GoodFiles.{AreGoodFiles}
+use Rattle.good_files.specs.GoodFiles.{AreGoodFiles, FiveFiles}
 use Rattle.good_files.specs.ScanOff.{design_chains}
 use Rattle.run_files.specs.declared.files.RunFiles.{RunFiles}
 use Rattle.run_files.specs.Runs.{IsRun, files_of}
@@ -25,10 +25,16 @@ pub record IsFinishedRun (n : Netlist) (holds : Holds) (asked limit : ℕ) (clas
   pub found : AreVerdicts n holds classes limit patterns verdicts
   pub written : IsWritten n holds (design_chains n asked) classes limit patterns verdicts made
 
+-- good files by these patterns and classes
+pub record AreGoodFilesBy (n : Netlist) (holds : Holds) (asked limit : ℕ) (classes : Classes) (patterns : List Pattern) (files : FiveFiles) : Type 0 where
+  pub good : AreGoodFiles n holds asked limit files
+  pub patterns_are : good.patterns ≡ patterns
+  pub classes_are : good.classes ≡ classes
+
 abbrev pub WrittenIsGood : Type 0
 WrittenIsGood =
     (n : Netlist) (holds : Holds) (asked limit : ℕ) (classes : Classes) (patterns : List Pattern) (verdicts : List Verdict) (made : RunFiles)
-    → IsSound n → IsDesign n → IsFinishedRun n holds asked limit classes patterns verdicts made → AreGoodFiles n holds asked limit (files_of made)
+    → IsSound n → IsDesign n → IsFinishedRun n holds asked limit classes patterns verdicts made → AreGoodFilesBy n holds asked limit classes patterns (files_of made)
 
 abbrev pub WrittenIsRun : Type 0
 WrittenIsRun =

@@ -1,5 +1,5 @@
 -- The verdicts of a finished list, class by class.
-use Rattle.std.specs.Prelude.{ℕ, ◌≡◌, ◌≤◌, ⊤, Bool, true, false, List, [], ◌∷◌, ◌++◌, length}
+use Rattle.std.specs.Prelude.{ℕ, ◌≡◌, ◌<◌, ◌≤◌, ⊤, Bool, true, false, List, [], ◌∷◌, ◌++◌, length}
 use Rattle.std.specs.List.{All}
 use Rattle.netlist.specs.declared.lines.Fault.{Fault}
 use Rattle.netlist.specs.Netlist.{Netlist}
@@ -11,6 +11,7 @@ use Rattle.redundancy_cert.specs.declared.nodes.Node.{Node}
 use Rattle.redundancy_cert.specs.Trees.{closed_count, open_count}
 use Rattle.redundancy_cert.specs.Fits.{Fits}
 use Rattle.word_sim.specs.Hits.{IsLastDetected, IsNeverDetected}
+use Rattle.reverse_compact.specs.Kept.{IsNeeded}
 use Rattle.list_core.specs.declared.verdicts.Verdict.{Verdict}
 use Rattle.list_core.specs.declared.verdicts.Verdict.TheVariants.{Open, Detected, Redundant, Aborted}
 use Rattle.list_core.specs.Verdicts.{verdict_at}
@@ -24,10 +25,11 @@ IsVerdict n holds limit patterns f (Detected place point) = IsLastDetected n pat
 IsVerdict n holds limit patterns f (Redundant tree) = IsNeverDetected n patterns f × Fits f n holds tree × (open_count tree ≡ 0)
 IsVerdict n holds limit patterns f (Aborted tree) = IsNeverDetected n patterns f × Fits f n holds tree × (closed_count tree ≡ limit) × (1 ≤ open_count tree)
 
--- one for each class, and all patterns are of the netlist
+-- one for each class; all patterns are of the netlist, and each is the last to detect some class
 pub record AreVerdicts (n : Netlist) (holds : Holds) (classes : Classes) (limit : ℕ) (patterns : List Pattern) (verdicts : List Verdict) : Type 0 where
   pub count : length verdicts ≡ length classes.representatives
   pub obey : All (IsPatternOf n holds) patterns
+  pub needed : (place : ℕ) → place < length patterns → IsNeeded n patterns classes.representatives place
   pub each : (class : ℕ) (f : Fault) → Represents classes class f → IsVerdict n holds limit patterns f (verdict_at verdicts class)
 
 -- the tree of a class that no pattern detects

@@ -7,10 +7,15 @@ use Rattle.netlist.specs.Netlist.{Netlist}
 use Rattle.netlist.specs.ThreeValues.{known}
 use Rattle.cubes.specs.Cubes.{Pattern}
 use Rattle.chain_stitch.specs.Chains.{cells_of}
+use Rattle.events.specs.Words.{bit_of}
 use Rattle.scan_play.specs.Vectors.{Response, Responds, flush}
 use Rattle.scan_play.specs.inner.Applied.{AreApplied}
 use Rattle.stil_write.specs.StilFiles.{Item}
 use Rattle.stil_vectors.specs.TestFiles.{applied_items, capture_item, load_items, test_items}
+
+-- the response of which these words have the bits at a place
+abbrev pub response_at : ℕ → List ℕ → List ℕ → Response
+response_at place outputs cells = record { outputs = map (bit_of place) outputs; cells = map (bit_of place) cells }
 
 -- the pattern's load and capture stand behind the others, and its response is what the cells hold
 pub record IsAdded (n : Netlist) (chains : List (List ℕ)) (p : Pattern) (held after : List Tri) (old new : List Item) : Type 0 where

@@ -1,5 +1,5 @@
 use Rattle.std.proofs.Common.{◌≡◌, take}
-use Rattle.transition_tests.specs.inner.Cubes.{cubes_in}
+use Rattle.transition_tests.specs.Making.{cubes_in}
 use Rattle.transition_tests.proofs.filling.cubes_of.Given as goal
 
 abbrev pub invariant-loop-answer : goal.invariant-loop-answer

@@ -1,14 +1,32 @@
-use Rattle.std.proofs.Common.{◌≤◌, List, length, ap, subst, sym, arith}
+use Rattle.std.proofs.Common.{◌≡◌, ◌≤◌, List, length, ap, ◌∙◌, subst, sym, arith}
 use Rattle.std.specs.List.{All, AllZip, Contains}
 use Rattle.std.proofs.lemmas.Result.{IfOk-weaker}
 use Rattle.std.proofs.lemmas.Slice.Zip.{AllZip-long}
+use Rattle.rand_core.specs.Steps.{stream_of, steps_u32}
+use Rattle.rand_pcg.specs.Lcg.{Lcg}
+use Rattle.rand_pcg.specs.Pcg.{pcg32}
 use Rattle.netlist.specs.Holds.{Holds}
 use Rattle.netlist.specs.Netlist.{Netlist}
 use Rattle.cubes.specs.Cubes.{Cube, AgreesWith, HasBitsOf, HaveSameWidths, IsCubeOf, IsPatternOf}
+use Rattle.cubes.specs.Filling.{filled_all}
 use Rattle.cubes.proofs.MergeLemmas.{each_kept}
+use Rattle.transition_tests.specs.Making.{AreFilledFrom}
 use Rattle.transition_tests.specs.inner.Cubes.{HasAgreeing}
 use Rattle.transition_tests.proofs.CubeLemmas.{agreeing}
 use Rattle.transition_tests.proofs.filling.filled.Goals as goal
+
+pub returns-clause-made : goal.returns-clause-made
+returns-clause-made c =
+    let cubes = c.args.cubes.now in
+    let merged = c.in_ok-merged.merged.items in
+    IfOk-weaker c.fill_all.result (λ v. v.items ≡ filled_all c.deref.result.now (stream_of (steps_u32 pcg32) c.new-rng.result)) (λ v. AreFilledFrom cubes c.args.seed v.items)
+    (λ v is. (
+      merged,
+      c.in_ok-merged.ensures.merged,
+      is ∙ (ap (λ (ms : List Cube). filled_all ms (stream_of (steps_u32 pcg32) c.new-rng.result)) c.deref.ensures.value
+          ∙ ap (λ (g : Lcg). filled_all merged (stream_of (steps_u32 pcg32) g)) c.new-rng.ensures),
+    ))
+    c.fill_all.ensures.patterns
 
 pub returns-clause-fit : goal.returns-clause-fit
 returns-clause-fit c =

@@ -9,8 +9,8 @@ pub returns-clause-few : goal.returns-clause-few
 returns-clause-few c =
     behind_count c.args.batch.items c.in_ok-others.others.items c.append.new.self.items _ c.in_ok-append.ensures.items c.in_ok-others.ensures.few
 
-pub returns-clause-begins : goal.returns-clause-begins
-returns-clause-begins c = (c.in_ok-others.others.items, c.in_ok-append.ensures.items)
+pub returns-clause-made : goal.returns-clause-made
+returns-clause-made c = (c.in_ok-others.others.items, c.in_ok-others.ensures.made, c.in_ok-append.ensures.items)
 
 pub returns-clause-agree : goal.returns-clause-agree
 returns-clause-agree c x is =

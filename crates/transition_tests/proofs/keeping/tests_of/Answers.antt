@@ -13,9 +13,10 @@ use Rattle.fault_universe.specs.Universe.{universe_of}
 use Rattle.reverse_compact.specs.Kept.{is_last_at}
 use Rattle.reverse_compact.proofs.KeepLemmas.{kept_few}
 use Rattle.transition.proofs.Gathering.{universe_few, universe_lines}
-use Rattle.transition_tests.specs.inner.Cubes.{cubes_in, HasAgreeing}
+use Rattle.transition_tests.specs.Making.{AreFilledFrom, cubes_in}
+use Rattle.transition_tests.specs.inner.Cubes.{HasAgreeing}
 use Rattle.transition_tests.proofs.CubeLemmas.{few_patterns}
-use Rattle.transition_tests.proofs.TestLemmas.{all_known, all_told, cubes_fit, last_along, last_within, tests_are}
+use Rattle.transition_tests.proofs.TestLemmas.{all_known, all_told, cubes_fit, last_along, last_within, made_from, tests_are}
 use Rattle.transition_tests.proofs.keeping.tests_of.Goals as goal
 
 pub patterns_of-requires : goal.patterns_of-requires
@@ -55,7 +56,7 @@ keep-requires-clause-told c =
     c.requires.faults c.deref-3.ensures.value c.deref-4.ensures.value c.in_ok-last.ensures in
     let cubes : c.deref-2.result.now ≡ cubes_in c.args.found.items = c.deref-2.ensures.value ∙ (c.in_ok-cubes.ensures ∙ ap cubes_in c.deref.ensures.value) in
     let agree = subst (λ (cs : List Cube). (x : Cube) → Contains cs x → HasAgreeing c.in_ok-patterns.patterns.items x) cubes c.in_ok-patterns.ensures.agree in
-    all_told n sound c.args.limit c.args.batch.items c.in_ok-patterns.patterns.items c.in_ok-patterns.ensures.begins (universe_of n) c.args.found.items c.deref-4.result.now
+    all_told n sound c.args.limit c.args.batch.items c.in_ok-patterns.patterns.items (c.in_ok-patterns.ensures.made.0, c.in_ok-patterns.ensures.made.2) (universe_of n) c.args.found.items c.deref-4.result.now
     (universe_lines n sound (universe_of n) refl)
     (all_known n c.args.limit c.args.batch.items (universe_of n) c.args.left.now c.args.found.items c.requires.left c.requires.found) last agree
 
@@ -87,6 +88,17 @@ returns-clause-tests c =
     (last_along n c.in_ok-patterns.patterns.items c.deref-3.result.now c.args.faults.now c.in_ok-last.last.items c.deref-4.result.now
     c.requires.faults c.deref-3.ensures.value c.deref-4.ensures.value c.in_ok-last.ensures)
     c.in_ok-tests.ensures.patterns c.in_ok-tests.ensures.verdicts
+
+pub returns-clause-made : goal.returns-clause-made
+returns-clause-made c =
+    let n = c.args.core.now in
+    let made = c.in_ok-patterns.ensures.made in
+    let cubes : c.deref-2.result.now ≡ cubes_in c.args.found.items = c.deref-2.ensures.value ∙ (c.in_ok-cubes.ensures ∙ ap cubes_in c.deref.ensures.value) in
+    made_from n c.args.batch.items c.in_ok-patterns.patterns.items made.0 c.args.found.items c.args.seed c.deref-4.result.now c.in_ok-tests.tests.patterns.items
+    (subst (λ (cs : List Cube). AreFilledFrom cs c.args.seed made.0) cubes made.1) made.2
+    (last_along n c.in_ok-patterns.patterns.items c.deref-3.result.now c.args.faults.now c.in_ok-last.last.items c.deref-4.result.now
+    c.requires.faults c.deref-3.ensures.value c.deref-4.ensures.value c.in_ok-last.ensures)
+    c.in_ok-tests.ensures.patterns
 
 pub returns-clause-few : goal.returns-clause-few
 returns-clause-few c =

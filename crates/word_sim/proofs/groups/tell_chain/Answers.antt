@@ -1,4 +1,3 @@
-use Rattle.std.proofs.Common.{◌<◌, length}
 use Rattle.word_sim.proofs.ToldFaults.{told_set}
 use Rattle.word_sim.proofs.groups.tell_chain.Goals as goal
 

@@ -1,4 +1,4 @@
-use Rattle.std.proofs.Common.{◌≡◌, ℕ, ◌<◌, length, sym, ◌∙◌, subst, arith}
+use Rattle.std.proofs.Common.{◌≡◌, length, sym, ◌∙◌, subst, arith}
 use Rattle.netlist.specs.Conditions.{IsSound}
 use Rattle.word_sim.proofs.ToldFaults.{told_one}
 use Rattle.word_sim.proofs.groups.tell_one.Goals as goal

@@ -1,4 +1,4 @@
-use Rattle.std.proofs.Common.{◌≡◌, ◌<◌, ◌≤◌, ◌∙◌, sym, arith}
+use Rattle.std.proofs.Common.{◌∙◌, sym, arith}
 use Rattle.word_sim.proofs.Spreading.{four_within, four_apart}
 use Rattle.word_sim.proofs.lanes.can_turn.Goals as goal
 

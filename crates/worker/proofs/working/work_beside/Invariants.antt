@@ -8,7 +8,7 @@ invariant-loop g l = record {
   few : vec_len l.cubes < l.enough;
   full : l.enough ≤ 64;
   unspent : vec_len l.cubes ≤ l.share.unspent;
-  wide : All (IsCubeOf l.core l.holds) l.cubes.items;
+  wide : All (IsCubeOf g.J.About.subject.netlist g.J.About.subject.holds) l.cubes.items;
   table : l.share.table ≡ l.fn.share.table;
   room : g.E.Engine.serves l.core l.holds l.room;
   simulator : l.simulator ≡ l.core;

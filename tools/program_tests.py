@@ -1,0 +1,125 @@
+"""Tests of the two programs as they are built, over real files: words, files, both outputs and the status. tools/test_tools runs them.
+
+The gate's stored runs have one run for each program and compare standard output and status alone. What has to come is worked out by the plain
+programs of bench/oracle. They run what `rt ci` has built; .ci/run fails where it has built none.
+"""
+
+import pathlib
+import subprocess
+import tempfile
+
+import fault_list
+import plain_check
+import plain_design
+import plain_play
+
+ROOT = pathlib.Path(__file__).resolve().parent.parent
+NO_PROGRAM = "left out: rt ci has built no program"
+CELL = b"INPUT(a)\nOUTPUT(q)\nq = DFF(a)\n"
+
+
+def program(crate):
+    """Where `rt ci` has built a program."""
+    return ROOT / "crates" / crate / "out" / crate
+
+
+def expect(folder, crate, words, *wanted):
+    """The program has to say this in a folder: status, standard output, standard error."""
+    ended = subprocess.run([program(crate), *words], cwd=folder, stdin=subprocess.DEVNULL, capture_output=True, timeout=60)
+    said = ended.returncode, ended.stdout.decode(), ended.stderr.decode()
+    assert said == wanted, f"{crate} {' '.join(words)}: {said}"
+
+
+def put_files(folder, prefix, files):
+    for end, text in files.items():
+        (folder / f"{prefix}.{end}").write_bytes(text)
+
+
+def good_files(text, asked=1, held=None):
+    netlist = plain_design.read(text)
+    return plain_check.make(netlist, plain_design.chains_of(netlist.cells, asked), 2048, held or {}, 200, 1)
+
+
+def example(name):
+    return (ROOT / "examples" / f"{name}.bench").read_bytes()
+
+
+def line_with(text, begin):
+    return next(line for line in text.splitlines(True) if line.startswith(begin))
+
+
+def test_check_program_of_good_files():
+    """Two designs, one of them with two chains and a held input: each has its own number of faults."""
+    if not program("check_main").exists():
+        return NO_PROGRAM
+    with tempfile.TemporaryDirectory() as room:
+        folder = pathlib.Path(room)
+        put_files(folder, "c17", good_files(example("c17")))
+        put_files(folder, "held", good_files(example("s27"), 2, {"G1": 1}))
+        expect(folder, "check_main", ["c17"], 0, "checked 34 faults\n", "")
+        expect(folder, "check_main", ["held"], 0, "checked 52 faults\n", "")
+
+
+def test_check_program_of_false_files():
+    """A report that is changed at its first fault, and at a later one; a scanned netlist that is changed."""
+    if not program("check_main").exists():
+        return NO_PROGRAM
+    files = good_files(example("s27"))
+    first, later = (line_with(files["rep"], begin) for begin in (b"stem G0/0 ", b"stem G8/1 "))
+    with tempfile.TemporaryDirectory() as room:
+        folder = pathlib.Path(room)
+        for end, old, new, answer in (("rep", first, first + first, "fault stem G0/0\n"), ("rep", later, b"stem G8/1 redundant\n", "fault stem G8/1\n"),
+                                      ("scan", b"SC__nse = NOT(SC__se)\n", b"", "scan differs\n")):
+            assert old in files[end], old
+            put_files(folder, "s27", files | {end: files[end].replace(old, new, 1)})
+            expect(folder, "check_main", ["s27"], 1, answer, "")
+
+
+def test_check_program_of_files_that_are_refused():
+    """A file that isn't there, one that is none of its kind, no word, and one word too many."""
+    if not program("check_main").exists():
+        return NO_PROGRAM
+    with tempfile.TemporaryDirectory() as room:
+        folder = pathlib.Path(room)
+        put_files(folder, "cell", good_files(CELL))
+        (folder / "cell.cert").unlink()
+        expect(folder, "check_main", ["cell"], 7, "", "no such file: cell.cert\n")
+        (folder / "cell.cert").write_bytes(b"atpg certificate 2\n")
+        expect(folder, "check_main", ["cell"], 4, "", "not a certificate\n")
+        expect(folder, "check_main", [], 2, "", "usage: atpg-check PREFIX\n")
+        expect(folder, "check_main", ["cell", "cell"], 2, "", "usage: atpg-check PREFIX\n")
+
+
+def test_program_refuses():
+    """Each refusal has its status, its line on standard error, and nothing on standard output; no file is made."""
+    if not program("atpg_main").exists():
+        return NO_PROGRAM
+    with tempfile.TemporaryDirectory() as room:
+        folder = pathlib.Path(room)
+        (folder / "loop.bench").write_bytes(b"INPUT(a)\nOUTPUT(y)\ny = AND(a, y)\n")
+        for words, status, line in ((["run", "none.bench", "p"], 7, "no such file: none.bench\n"), (["faults", "loop.bench"], 3, "netlist line 3: Loop\n"),
+                                    (["run", "loop.bench", "p", "--hold", "a=2"], 2, "bad hold\n")):
+            expect(folder, "atpg_main", words, status, "", line)
+        assert sorted(path.name for path in folder.iterdir()) == ["loop.bench"]
+
+
+def test_program_answers():
+    """What is printed goes to standard output alone, with the status: a list of faults, a scanned netlist in its file, a test that fails."""
+    if not program("atpg_main").exists():
+        return NO_PROGRAM
+    netlist = plain_design.read(CELL)
+    chains = plain_design.chains_of(netlist.cells, 1)
+    scanned = plain_design.scanned(netlist, chains)
+    items = plain_design.items_of(netlist, chains, [{"a": 0, "q": 1}])
+    cycle, pin, _ = next(plain_play.unmet(scanned, plain_design.cycles_of(netlist, chains, items), ("stem q", 0)))
+    with tempfile.TemporaryDirectory() as room:
+        folder = pathlib.Path(room)
+        (folder / "cell.bench").write_bytes(CELL)
+        (folder / "cell.stil").write_bytes(plain_design.stil_text(netlist, chains, {}, items))
+        listed = "".join(line + "\n" for line in fault_list.fault_list(CELL.decode()))
+        expect(folder, "atpg_main", ["faults", "cell.bench"], 0, listed, "")
+        expect(folder, "atpg_main", ["scan", "cell.bench", "cell.scan"], 0, "cells 1 chains 1\n", "")
+        assert (folder / "cell.scan").read_bytes() == plain_design.canonical(scanned)
+        expect(folder, "atpg_main", ["play", "cell.scan", "cell.stil"], 0, "passes\n", "")
+        words = ["play", "cell.scan", "cell.stil", "--fault", "stem q/0"]
+        expect(folder, "atpg_main", words, 1, f"fails at cycle {cycle} signal {pin}\n", "")
