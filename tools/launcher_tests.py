@@ -233,7 +233,7 @@ def ended_by(child, number):
     began = time.monotonic()
     child.send_signal(number)
     status = child.wait()
-    assert time.monotonic() - began < 20
+    assert time.monotonic() - began < 120
     return status
 
 
@@ -241,7 +241,7 @@ def wait_for(met):
     began = time.monotonic()
     while not met():
         time.sleep(0.02)
-        assert time.monotonic() - began < 20
+        assert time.monotonic() - began < 120
 
 
 def is_at_work(pid):
