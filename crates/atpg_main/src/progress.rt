@@ -110,7 +110,8 @@ impl<R: Runtime> Gate for Progress<'_, R> {
         };
         match stage {
             Stage::Claimed => self.searches.fetch_add(1, Ordering::SeqCst),
-            Stage::Published => self.batches.fetch_add(1, Ordering::SeqCst),
+            Stage::Published { .. } => self.batches.fetch_add(1, Ordering::SeqCst),
+            _ => 0,
         };
         self.show(began);
     }

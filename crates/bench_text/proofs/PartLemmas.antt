@@ -160,9 +160,6 @@ module _ (names : List (List ℕ)) (roles : List Role) (es : List Entry) (ins de
       all-flat_map is_signal (λ (x : Entry). definition_number x.statement) es (ap (list_all is_signal) (sym d.definitions) ∙ definitions-defined) in
       ap (λ (x : Entry). list_all is_signal (definition_number x.statement)) f ∙ all_at (λ (x : Entry). list_all is_signal (definition_number x.statement)) es i e all h
 
-  pub line-seen : (i : ℕ) (e : Entry) → i < length es → e ≡ get_or es i e → are_below (length names) e.statement ≡ true
-  line-seen i e h f = ap (λ (x : Entry). are_below (length names) x.statement) f ∙ all_at (λ (x : Entry). are_below (length names) x.statement) es i e d.below h
-
   module _ (known : list_all (λ (s : Said). reads_from signals s.statement) (map (spelling_of_entry names) es) ≡ true) where
     lines-read : list_all (λ (x : Entry). reads_from signals (spelling_of names x.statement)) es ≡ true
     lines-read = sym (list_all-map (λ (s : Said). reads_from signals s.statement) (spelling_of_entry names) es) ∙ known

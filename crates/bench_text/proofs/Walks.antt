@@ -1,6 +1,6 @@
 -- Loops over a list that test its elements, from the front.
 use Rattle.std.proofs.Common.{◌≡◌, ◌<◌, ◌≤◌, ◌+◌, ℕ, zero, suc, Bool, true, false, cond, List, [], ◌∷◌, length, get_or, drop, refl, sym, ap, ◌∙◌, map, arith}
-use Rattle.std.specs.Prelude.{Option, Some, None, find, option_map, ◌&&◌}
+use Rattle.std.specs.Prelude.{Option, Some, None, find, option_map}
 use Rattle.std.specs.List.{list_all}
 use Rattle.std.proofs.lemmas.List.{at_drop_more, at_drop_all}
 use Rattle.bench_text.proofs.Lists.{both_true}
@@ -11,21 +11,10 @@ module _ {A : Type 0} (p : A → Bool) where
   all_at (x ∷ xs) zero d h k = (both_true (p x) (list_all p xs) h).0
   all_at (x ∷ xs) (suc i) d h k = all_at xs i d (both_true (p x) (list_all p xs) h).1 (omega arith)
 
-  pub all-ends : (xs : List A) (i : ℕ) (v : Bool) → length xs ≤ i → list_all p (drop i xs) ≡ v → true ≡ v
-  all-ends xs i v h e = sym (at_drop_all (list_all p) xs i h) ∙ e
-
   pub find-ends : (xs : List A) (i : ℕ) (v : Option A) → length xs ≤ i → find p (drop i xs) ≡ v → None ≡ v
   find-ends xs i v h e = sym (at_drop_all (find p) xs i h) ∙ e
 
   module _ (xs : List A) (i : ℕ) (d : A) (h : i < length xs) where
-    pub all-more : (v : Bool) → list_all p (drop i xs) ≡ v → p (get_or xs i d) ≡ true → list_all p (drop (i + 1) xs) ≡ v
-    all-more v e t = sym (at_drop_more (list_all p) xs i d h ∙ ap (λ b. b && list_all p (drop (i + 1) xs)) t) ∙ e
-
-    pub all-fails : (v : Bool) → list_all p (drop i xs) ≡ v → p (get_or xs i d) ≡ false → false ≡ v
-    all-fails v e t = sym (at_drop_more (list_all p) xs i d h ∙ ap (λ b. b && list_all p (drop (i + 1) xs)) t) ∙ e
-
-    pub find-more : (v : Option A) → find p (drop i xs) ≡ v → p (get_or xs i d) ≡ false → find p (drop (i + 1) xs) ≡ v
-    find-more v e t = sym (at_drop_more (find p) xs i d h ∙ ap (λ b. cond b (Some (get_or xs i d)) (find p (drop (i + 1) xs))) t) ∙ e
 
     pub find-here : (v : Option A) → find p (drop i xs) ≡ v → p (get_or xs i d) ≡ true → Some (get_or xs i d) ≡ v
     find-here v e t = sym (at_drop_more (find p) xs i d h ∙ ap (λ b. cond b (Some (get_or xs i d)) (find p (drop (i + 1) xs))) t) ∙ e

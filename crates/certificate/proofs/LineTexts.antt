@@ -19,7 +19,7 @@ use Rattle.certificate.specs.inner.Parts.{AreNodes, IsFaultAt, IsLineOf, IsNodeA
 use Rattle.certificate.specs.inner.Words.{IsEnd}
 use Rattle.certificate.proofs.FaultTexts.{same_fault_at, text_has_no}
 use Rattle.certificate.proofs.Followers.{GoesOn, all_end, goes_on, same_list}
-use Rattle.certificate.proofs.NodeTexts.{node_ends, node_size, node_some, same_node}
+use Rattle.certificate.proofs.NodeTexts.{node_ends, node_some, same_node}
 use Rattle.certificate.proofs.VisibleBytes.{has_no, name_has_no}
 
 -- why a part is refused is why the whole is
@@ -83,12 +83,6 @@ module _ (n : Netlist) (sound : IsSound n) where
   pub no_tree_line : (line : List ℕ) (fault : Fault) (rest : List ℕ) → IsFaultAt n line fault rest → ((nodes : List Node) → AreNodes n rest nodes → IsOneTree nodes → ⊥)
       → (p : Fault × List Node) → IsLineOf n line p → ⊥
   no_tree_line line fault rest at none p w = none p.1 (line_nodes line p fault rest at w).1 w.evidence.tree
-
-  pub line_here : (line : List ℕ) (fault : Fault) (rest : List ℕ) (nodes : List Node) → IsFaultAt n line fault rest → AreNodes n rest nodes → IsOneTree nodes → IsLineOf n line (fault, nodes)
-  line_here line fault rest nodes at are one = record {
-    evidence = record { fault = at.member; nodes = are.signals; tree = one };
-    text = at.parts ∙ ap (λ zs. fault_text n fault ++ zs) are.is;
-  }
 
   same_line : (line : List ℕ) (p q : Fault × List Node) → IsLineOf n line p → IsLineOf n line q → p ≡ q
   same_line line p q v w =

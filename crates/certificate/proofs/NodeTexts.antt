@@ -1,5 +1,5 @@
 -- Nodes are told by their texts.
-use Rattle.std.proofs.Common.{◌≡◌, ◌≢◌, ◌<◌, ℕ, Bool, true, false, List, [], ◌∷◌, ◌++◌, codes, length, get_or, refl, sym, ◌∙◌, ap, arith, append_assoc}
+use Rattle.std.proofs.Common.{◌≡◌, ◌≢◌, ◌<◌, ℕ, Bool, true, false, List, [], ◌∷◌, ◌++◌, codes, get_or, refl, sym, ◌∙◌, ap, arith, append_assoc}
 use Rattle.std.specs.List.{All}
 use Rattle.std.proofs.lemmas.List.{append_cancel_left}
 use Rattle.netlist.specs.Conditions.{IsSound}
@@ -24,12 +24,6 @@ node_some n Closed rest e = cc
 node_some n Open rest e = cc
 node_some n (Split x) rest e = cc
 node_some n (Forced x bit) rest e = cc
-
-pub node_size : (n : Netlist) (node : Node) → 0 < length (node_text n node)
-node_size n Closed = omega arith
-node_size n Open = omega arith
-node_size n (Split x) = omega arith
-node_size n (Forced x bit) = omega arith
 
 -- the byte behind the blank says which node it is
 abbrev kind : Node → ℕ

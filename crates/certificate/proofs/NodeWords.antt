@@ -67,15 +67,6 @@ module _ (n : Netlist) (text r word more : List ℕ) (begins : text ≡ 32 ∷ r
   is_first : (node : Node) → word ≡ first_word node → text ≡ 32 ∷ (first_word node ++ more)
   is_first node is = begins ∙ (ap (λ zs. 32 ∷ zs) first.parts ∙ ap (λ zs. 32 ∷ (zs ++ more)) is)
 
-  pub closed_here : word ≡ codes "!" → IsNodeAt n text Closed more
-  closed_here is = record { signal = tt; parts = is_first Closed is; end = first.end }
-
-  pub open_here : word ≡ codes "?" → IsNodeAt n text Open more
-  open_here is = record { signal = tt; parts = is_first Open is; end = first.end }
-
-  pub behind_letter : (letter : ℕ) → word ≡ letter ∷ [] → text ≡ 32 ∷ letter ∷ more
-  behind_letter letter is = begins ∙ (ap (λ zs. 32 ∷ zs) first.parts ∙ ap (λ zs. 32 ∷ (zs ++ more)) is)
-
   pub other_word : ((l : Letter) → word ≢ letter_word l) → NoNodeAt n text
   other_word none node rest w = none (letter node) (first_is node rest w).0
 

@@ -1,8 +1,8 @@
 -- Words of a line.
-use Rattle.std.proofs.Common.{◌≡◌, ◌≢◌, ℕ, ◌+◌, ◌-◌, ◌<◌, true, false, List, [], ◌∷◌, ◌++◌, length, take, drop, get_or, refl, sym, ◌∙◌, ap, subst, if◌then◌else◌, nat_eq, inl, inr, arith, append_assoc, length-append}
+use Rattle.std.proofs.Common.{◌≡◌, ◌≢◌, ℕ, ◌+◌, ◌-◌, ◌<◌, true, false, List, [], ◌∷◌, ◌++◌, get_or, refl, sym, ◌∙◌, ap, if◌then◌else◌, nat_eq, inl, inr, arith, append_assoc}
 use Rattle.std.specs.List.{All}
 use Rattle.std.proofs.Math.Dec.{eqb}
-use Rattle.std.proofs.Math.Seq.{take-append_seam, drop-append_seam, take-length}
+use Rattle.std.proofs.Math.Seq.{take-length}
 use Rattle.std.proofs.lemmas.List.{append-nil, drop_all}
 use Rattle.std.proofs.lemmas.Bool.Decides.{eqb_tells}
 use Rattle.std.proofs.lemmas.List.Elements.{All-head, All-tail}
@@ -102,12 +102,3 @@ module _ (line first behind : List ℕ) (one : IsWord line first behind) where
           blanks = count ∙ sym (ap (λ t. if t then 2 else 1) pin);
           end = three.end;
         }
-
--- a text is cut where the rest is as long
-pub cut_at : (line text rest front back : List ℕ) → IsCut line text rest → front ≡ take (length line - length rest) line → back ≡ drop (length line - length rest) line → IsCut line front back
-cut_at line text rest front back c here behind =
-    let size : length line ≡ length text + length rest = ap length c.parts ∙ length-append text rest in
-    let at : length line - length rest ≡ length text = omega (arith, size) in
-    let front_is : front ≡ text = here ∙ (ap (λ k. take k line) at ∙ (ap (take (length text)) c.parts ∙ take-append_seam text rest)) in
-    let back_is : back ≡ rest = behind ∙ (ap (λ k. drop k line) at ∙ (ap (drop (length text)) c.parts ∙ drop-append_seam text rest)) in
-    subst (λ zs. IsCut line zs back) (sym front_is) (subst (λ zs. IsCut line text zs) (sym back_is) c)

@@ -3,7 +3,6 @@ use Rattle.std.proofs.Common.{◌≡◌, ◌≢◌, ◌⊎◌, ℕ, ◌+◌, ◌
 use Rattle.std.specs.List.{All, zip}
 use Rattle.std.proofs.lemmas.Bool.{cases_lt}
 use Rattle.std.proofs.lemmas.List.{length-replicate}
-use Rattle.netlist.specs.declared.kinds.Tri.{Tri}
 use Rattle.netlist.specs.declared.kinds.Tri.TheVariants.{X}
 use Rattle.netlist.specs.declared.lines.Fault.{Fault}
 use Rattle.netlist.specs.Netlist.{Netlist, cells}
@@ -34,12 +33,6 @@ use Rattle.chain_test.proofs.KnownWrongs.{known_fails}
 bits_differ : (b v : Bool) (o : Option Bool) → o ≡ Some b → o ≡ Some v → v ≡ not b → ⊥
 bits_differ true v o p q e = let h : Some true ≡ Some false = sym p ∙ (q ∙ ap (λ x. Some x) e) in cc
 bits_differ false v o p q e = let h : Some false ≡ Some true = sym p ∙ (q ∙ ap (λ x. Some x) e) in cc
-
-known_once : (b v : Bool) (s : Tri) → s ≡ known b → s ≡ known v → b ≡ v
-known_once true true s p q = refl
-known_once false false s p q = refl
-known_once true false s p q = let h : known true ≡ known false = sym p ∙ q in cc
-known_once false true s p q = let h : known false ≡ known true = sym p ∙ q in cc
 
 module _ (s : Netlist) (sound : IsSound s) (g : Fault) (cycles : List Cycle) (fit : All (IsCycleOf s) cycles) (c o : ℕ) (fails : FirstFailsAt s g cycles c o) where
   run : (shown : List (List Bool)) × Runs bit_table (Some g) s (replicate (length (cells s)) false) cycles shown

@@ -1,7 +1,7 @@
 -- The list of held inputs, item by item.
 use denote.Ref.{Bor}
 use Rattle.std.proofs.Common.{◌≡◌, ℕ, suc, ◌+◌, ◌<◌, Bool, true, false, List, [], ◌∷◌, ◌++◌, drop, map, length, Option, Some, None, refl, sym, ap, ◌∙◌, add-one, append_assoc, drop-cons, get_or, option_map, lit<}
-use Rattle.std.specs.Prelude.{◌==◌, ◌&&◌, ◌||◌, not, if◌then◌else◌, option_and_then}
+use Rattle.std.specs.Prelude.{◌==◌, ◌&&◌, ◌||◌, not, if◌then◌else◌}
 use Rattle.std.specs.List.{list_any, slice_split}
 use Rattle.std.specs.Str.{bytes_eq}
 use Rattle.std.proofs.lemmas.List.{map_push}
@@ -10,7 +10,7 @@ use Rattle.clap.proofs.CutLemmas.{slice_split-Lacks, slice_split-at}
 use Rattle.clap.specs.Words.{Text}
 use Rattle.command_line.specs.CommandLine.{hold_of}
 use Rattle.command_line.specs.declared.holds.Held.{Held}
-use Rattle.command_line.specs.HoldLists.{HoldItem, are_new, hold_in, holds_in, holds_of, if_distinct, with_hold}
+use Rattle.command_line.specs.HoldLists.{HoldItem, are_new, hold_in, holds_of, with_hold}
 
 -- what the items are, behind those that are done
 abbrev pub after : List HoldItem → Option (List HoldItem) → Option (List HoldItem)
@@ -29,14 +29,6 @@ pub one_bad : (all : Option (List HoldItem)) (done : List HoldItem) (items : Lis
     → items ≡ item ∷ more → None ≡ hold_in item → all ≡ None
 one_bad all done items item more e split is =
     e ∙ ap (λ (ts : List Text). after done (holds_of ts)) split ∙ ap (λ (o : Option HoldItem). after done (with_hold o (holds_of more))) (sym is)
-
--- a list of such items, whose names are distinct or not
-pub checked : (text : Text) (holds : List HoldItem) (distinct : Bool) → holds_of (slice_split (λ b. b == 44) text) ≡ Some holds → distinct ≡ are_new [] (map (λ h. h.0) holds)
-    → holds_in text ≡ (if distinct then Some holds else None)
-checked text holds distinct e d = ap (option_and_then if_distinct) e ∙ ap (λ (b : Bool). if b then Some holds else None) (sym d)
-
-pub none_checked : (text : Text) → holds_of (slice_split (λ b. b == 44) text) ≡ None → holds_in text ≡ None
-none_checked text e = ap (option_and_then if_distinct) e
 
 abbrev pub texts_in : List (Bor Text) → List Text
 texts_in keys = map (λ (key : Bor Text). key.now) keys

@@ -1,9 +1,9 @@
 -- Suspects that are played in batches, and answers in shares.
-use Rattle.std.proofs.Common.{◌≡◌, ℕ, suc, zero, ◌+◌, ◌-◌, ◌<◌, ◌≤◌, Bool, List, [], ◌∷◌, ◌++◌, map, length, get_or, set, take, drop, replicate, Option, Some, None, slice_get, refl, sym, ◌∙◌, ap, subst, inl, inr, arith, length-take}
+use Rattle.std.proofs.Common.{◌≡◌, ℕ, suc, zero, ◌+◌, ◌-◌, ◌<◌, ◌≤◌, Bool, List, [], ◌∷◌, ◌++◌, map, length, get_or, set, take, drop, Option, Some, None, slice_get, refl, sym, ◌∙◌, ap, subst, inl, inr, arith, length-take}
 use Rattle.std.specs.List.{AllZip}
 use Rattle.std.specs.Fork.{IsChunk}
 use Rattle.std.proofs.lemmas.Bool.{cases_eq, cases_lt}
-use Rattle.std.proofs.lemmas.List.{map-append, take_more, length-drop, length-replicate, get_or_default, get_or-replicate, get_or-set_same, get_or-set_other, length-set}
+use Rattle.std.proofs.lemmas.List.{map-append, take_more, length-drop, get_or_default, get_or-set_same, get_or-set_other, length-set}
 use Rattle.std.proofs.lemmas.Option.{slice_get-get_or}
 use Rattle.netlist.specs.declared.lines.Fault.{Fault}
 use Rattle.netlist.specs.Netlist.{Netlist}
@@ -104,13 +104,6 @@ module _ (marked : ℕ → ℕ → Bool) (s : Netlist) (cycles : List Cycle) (su
       | inr behind ↦ before k f a (let z = put.size in omega (arith, l)) at (sym (put.others k a (inr behind)) ∙ own)
     ]
   ]
-
-  -- no answers yet
-  pub open_answers_are : (count first : ℕ) (answers : List Answer) → answers ≡ replicate count answer.Open → AreAnswersOf marked s cycles suspects first answers
-  open_answers_are count first answers is k f a l at own =
-      let size = length-replicate count answer.Open in
-      let same : answer.Open ≡ a = sym (ap (λ (xs : List Answer). get_or xs k a) is ∙ get_or-replicate count k answer.Open a (let e = ap length is in omega (arith, l, size))) ∙ own in
-      subst (IsAnswer marked s f cycles) same tt
 
   -- as many answers as suspects
   pub batch_length : (begin count : ℕ) (said : List (Option Played)) → begin + count ≤ length suspects → AreJudged (against marked) s (take (begin + count - begin) (drop begin suspects)) cycles said

@@ -16,7 +16,6 @@ use Rattle.netlist.proofs.Placed.{same_definition, gate_defined, definition_belo
 use Rattle.events.specs.Agendas.{marked}
 use Rattle.events.specs.inner.Placing.{is_pin_at, Calls}
 use Rattle.events.specs.inner.Running.{CallsTurned, MakesSame}
-use Rattle.events.proofs.Placing.{calls_pin}
 
 no_more : (b : Bool) → (b || false) ≡ true → b ≡ true
 no_more true h = refl
@@ -121,8 +120,3 @@ module _ {V : Type 0} (rule : Rule V) (n : Netlist) (places : List ℕ) (old new
             let z_low = subst (λ x. x < length (signals n)) here (definition_below n numbered f defined) in
             let there = place_there n numbered order ordered places placed z z_low (subst (λ p. p < length order) (sym e) w.0) in
             same_definition n numbered f g defined (gate_defined n numbered g is) (here ∙ (sym there ∙ (ap (λ p. get_or order p 0) e ∙ w.1)))
-
-    pub gate_pin : (p : ℕ) → p ≡ get_or places z 0 → p < length marks → length marks ≡ length order → CallsTurned rule n (Pin z j ∷ []) places old new marks (set marks p true)
-    gate_pin p at_place low size = all_called (Pin z j ∷ []) marks (set marks p true)
-        (λ g is. subst (λ m. get_or places g.id 0 < m) (sym size) (place_of n numbered order ordered places placed g is).0)
-        (calls_pin places z j p marks at_place low)

@@ -2,7 +2,7 @@
 use Rattle.std.proofs.Common.{◌≡◌, ℕ, ◌+◌, ◌<◌, ◌||◌, Bool, true, false, cond, List, [], ◌∷◌, map, length, get_or, set, take, refl, sym, ◌∙◌, ap, subst, inl, inr, eqb}
 use Rattle.std.specs.List.{Contains, list_any, flat_map, filter}
 use Rattle.std.proofs.lemmas.Bool.{cases_eq, cases_Bool, both_ways, eqb-true, eq-eqb, ne_eqb, or_left, or_right, or_cases}
-use Rattle.std.proofs.lemmas.List.{length-set, get_or-set_same, get_or-set_other}
+use Rattle.std.proofs.lemmas.List.{get_or-set_same, get_or-set_other}
 use Rattle.std.proofs.lemmas.List.Folds.{list_any-append, list_any_more}
 use Rattle.netlist.specs.declared.lines.Line.{Line}
 use Rattle.netlist.specs.declared.lines.Line.TheVariants.{Pin, Out}
@@ -14,7 +14,7 @@ use Rattle.netlist.proofs.Lists.{contains_cases, contains_nil, contains_head, co
 use Rattle.netlist.proofs.Placed.{same_definition, gate_defined, definition_below}
 use Rattle.netlist.proofs.Orders.{gate_placed}
 use Rattle.events.specs.Agendas.{marked}
-use Rattle.events.specs.inner.Placing.{is_pin_at, Calls}
+use Rattle.events.specs.inner.Placing.{is_pin_at}
 
 -- what stands at a place is a gate
 pub gate_at_place : (n : Netlist) → IsNumbered n → (order places : List ℕ) → IsOrder n order → ArePlaces n order places → (d : Definition) → Contains n.definitions d → get_or places d.id 0 < length order
@@ -107,12 +107,6 @@ marked_set marks p q l = elim (cases_eq p q) [
   | inl e ↦ ap (λ k. get_or (set marks p true) k false) (sym e) ∙ (get_or-set_same marks p true false l ∙ sym (or_right (marked marks q) (eqb p q) (eq-eqb p q e)))
   | inr ne ↦ get_or-set_other marks p q true false (λ e. ne (sym e)) ∙ (no_more (marked marks q) ∙ ap (λ b. marked marks q || b) (sym (ne_eqb p q ne)))
 ]
-
-pub calls_pin : (places : List ℕ) (z j p : ℕ) (marks : List Bool) → p ≡ get_or places z 0 → p < length marks → Calls (Pin z j ∷ []) places marks (set marks p true)
-calls_pin places z j p marks e l = record {
-  size = length-set marks p true;
-  each = λ q m. marked_set marks p q l ∙ ap (λ b. marked marks q || b) (ap (λ k. eqb k q) e ∙ no_more (eqb (get_or places z 0) q));
-}
 
 or_assoc : (a b c : Bool) → ((a || b) || c) ≡ (a || (b || c))
 or_assoc true b c = refl

@@ -3,7 +3,7 @@ use Rattle.std.proofs.Common.{◌≡◌, ◌≢◌, ℕ, ◌<◌, ◌≤◌, Boo
 use Rattle.std.specs.List.{Contains, slice_get}
 use Rattle.std.proofs.lemmas.Bool.{le-leb, leb-true, cases_lt}
 use Rattle.netlist.specs.declared.lines.Line.{Line}
-use Rattle.netlist.specs.declared.lines.Line.TheVariants.{Stem, Pin, Out}
+use Rattle.netlist.specs.declared.lines.Line.TheVariants.{Stem, Pin}
 use Rattle.netlist.specs.Netlist.{Definition, Netlist}
 use Rattle.netlist.specs.Conditions.{IsSound}
 use Rattle.netlist.specs.Readers.{readers_of}
@@ -61,12 +61,6 @@ module _ (n : Netlist) (sound : IsSound n) where
   pin_read z k c =
       let p = line_pin n sound z k c in
       (p.1.definition, p.1.id, record { member = p.1.member; place = k; signal = p.0; pin = p.1.pin; input = sym (branch_at n p.0 p.1.definition.id k p.2 ∙ ap (λ w. Pin w k) p.1.id) })
-
-  pub out_unread : (y : ℕ) (d : Definition) → IsReadBy n (Out y) d → ⊥
-  out_unread y d r = elim (cases_lt (length (readers_of n r.signal)) 2) [
-    | inl few ↦ let stem = r.input ∙ stem_at n r.signal d.id r.place few in absurd (cc)
-    | inr many ↦ let branch = r.input ∙ branch_at n r.signal d.id r.place many in absurd (cc)
-  ]
 
   pub stem_read_cases : (x : ℕ) (l : Line) → l ≡ Stem x → (o : Option ℕ)
       → MatchOption o ((z k : ℕ) → readers_of n x ≢ Pin z k ∷ []) (λ z. (k : ℕ) × (readers_of n x ≡ Pin z k ∷ []))

@@ -35,18 +35,6 @@ module _ {A : Type 0} (a b : A) where
         | inr turned ↦ ap t turned.1 ∙ (sym e ∙ ap t (sym turned.0))
       ]
 
-  none_turned : a ≡ b → (ps qs : List A) → AreTurned a b ps qs → qs ≡ ps
-  none_turned e [] [] h = refl
-  none_turned e [] (q ∷ qs) h = absurd h
-  none_turned e (p ∷ ps) [] h = absurd h
-  none_turned e (p ∷ ps) (q ∷ qs) h = ap (λ v. v ∷ qs) (one h.0) ∙ ap (λ vs. p ∷ vs) (none_turned e ps qs h.1)
-    where
-      one : (p ≡ q) ⊎ ((p ≡ a) × (q ≡ b)) → q ≡ p
-      one w = elim w [
-        | inl same ↦ sym same
-        | inr turned ↦ turned.1 ∙ (sym e ∙ sym turned.0)
-      ]
-
 map_turned : {A B : Type 0} (f : A → B) (a b : A) (ps qs : List A) → AreTurned a b ps qs → AreTurned (f a) (f b) (map f ps) (map f qs)
 map_turned f a b [] [] h = tt
 map_turned f a b [] (q ∷ qs) h = absurd h

@@ -1,10 +1,10 @@
 -- The labels on the pins of a gate, read one after the other.
-use Rattle.std.proofs.Common.{◌≡◌, ℕ, ◌+◌, ◌<◌, List, [], ◌∷◌, Option, length, map, get_or, drop, refl, sym, ◌∙◌, ap}
+use Rattle.std.proofs.Common.{◌≡◌, ℕ, ◌<◌, List, [], ◌∷◌, Option, length, map, refl, ◌∙◌, ap}
 use Rattle.std.specs.List.{All}
-use Rattle.std.proofs.lemmas.List.{drop_more, get_or_default}
+use Rattle.std.proofs.lemmas.List.{get_or_default}
 use Rattle.std.proofs.lemmas.List.Elements.{All-head, All-tail}
 use Rattle.netlist.specs.declared.kinds.Kind.{Kind}
-use Rattle.netlist.specs.declared.lines.Line.TheVariants.{Stem, Pin}
+use Rattle.netlist.specs.declared.lines.Line.TheVariants.{Stem}
 use Rattle.netlist.specs.declared.lines.Fault.{Fault}
 use Rattle.netlist.specs.Settled.{on_pins, at}
 use Rattle.events.specs.Waiting.{given}
@@ -16,16 +16,6 @@ same_reads values [] d e h = refl
 same_reads values (x ∷ xs) d e h =
     ap (λ v. v ∷ map (at values d) xs) (get_or_default values x d e (All-head (λ y. y < length values) x xs h))
     ∙ ap (λ vs. at values e x ∷ vs) (same_reads values xs d e (All-tail (λ y. y < length values) x xs h))
-
--- one pin more, before those that are read
-pub read_more : (f : Option Fault) (path : Decisions) (id j : ℕ) (pins : List ℕ) (values : List Label) (x i : ℕ) (v made d : Label)
-    → j < length pins → x ≡ get_or pins j x → i ≡ x → i < length values → v ≡ get_or values i v → made ≡ (labels f path).line (Pin id j) v
-    → made ∷ on_pins (labels f path) id (j + 1) (map (at values d) (drop (j + 1) pins)) ≡ on_pins (labels f path) id j (map (at values d) (drop j pins))
-read_more f path id j pins values x i v made d l is same low read e =
-    let value : v ≡ at values d x = read ∙ (get_or_default values i v d low ∙ ap (at values d) same) in
-    let ahead : drop j pins ≡ x ∷ drop (j + 1) pins = drop_more pins j x l ∙ ap (λ y. y ∷ drop (j + 1) pins) (sym is) in
-    ap (λ u. u ∷ on_pins (labels f path) id (j + 1) (map (at values d) (drop (j + 1) pins))) (e ∙ ap ((labels f path).line (Pin id j)) value)
-    ∙ ap (λ xs. on_pins (labels f path) id j (map (at values d) xs)) (sym ahead)
 
 pub all_read : (f : Option Fault) (path : Decisions) (id : ℕ) (kind : Kind) (pins : List ℕ) (values : List Label) (d e : Label) (made result : Label)
     → All (λ x. x < length values) pins → made ≡ (labels f path).gate (record { id = id; kind = kind; pins = pins }) (on_pins (labels f path) id 0 (map (at values d) pins))

@@ -145,9 +145,6 @@ module _ (J : Judging) (faults : List Fault) (n : Netlist) where
       subst (λ cs. ArePlayed J faults n cs after new) (taken before b t l)
       (played_more (before ++ take t (cycles_of b)) (cycle_of b t) number state after old new (omega arith) h steps)
 
-  pub burst_begun : (before : List Cycle) (b : Burst) (state : List Lanes) (found : List (Option Played)) → ArePlayed J faults n before state found → ArePlayed J faults n (before ++ take 0 (cycles_of b)) state found
-  burst_begun before b state found h = subst (λ cs. ArePlayed J faults n cs state found) (sym (append-nil before)) h
-
   pub burst_done : (before : List Cycle) (b : Burst) (t : ℕ) (state : List Lanes) (found : List (Option Played)) → b.count ≤ t → ArePlayed J faults n (before ++ take t (cycles_of b)) state found
       → ArePlayed J faults n (before ++ cycles_of b) state found
   burst_done before b t state found l h =

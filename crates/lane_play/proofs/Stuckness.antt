@@ -1,8 +1,8 @@
 -- The machines outside of a span aren't stuck at the lines that a signal names.
-use Rattle.std.proofs.Common.{◌≡◌, ℕ, suc, zero, ◌+◌, ◌-◌, ◌<◌, ◌≤◌, Bool, true, false, ◌&&◌, if◌then◌else◌, List, [], ◌∷◌, map, length, get_or, set, drop, replicate, refl, sym, ◌∙◌, ap, subst, inl, inr, eqb, arith}
+use Rattle.std.proofs.Common.{◌≡◌, ℕ, suc, zero, ◌+◌, ◌-◌, ◌<◌, ◌≤◌, Bool, true, false, ◌&&◌, if◌then◌else◌, List, [], ◌∷◌, map, length, get_or, drop, replicate, refl, sym, ◌∙◌, ap, inl, inr, eqb, arith}
 use Rattle.std.specs.List.{All}
-use Rattle.std.proofs.lemmas.Bool.{eqb-true, cases_eq, cases_Bool, both_ways}
-use Rattle.std.proofs.lemmas.List.{length-map, drop_more, get_or_default, length-set, get_or-set_same, get_or-set_other, get_or-replicate, length-replicate}
+use Rattle.std.proofs.lemmas.Bool.{eqb-true, cases_Bool, both_ways}
+use Rattle.std.proofs.lemmas.List.{length-map, drop_more, get_or_default, get_or-replicate, length-replicate}
 use Rattle.netlist.specs.declared.kinds.Kind.{Kind}
 use Rattle.netlist.specs.declared.lines.Fault.{Fault}
 use Rattle.netlist.specs.declared.lines.Line.{Line}
@@ -14,7 +14,7 @@ use Rattle.events.proofs.Stuck.{length-on_pins}
 use Rattle.lane_play.specs.declared.packed.Lanes.{Lanes}
 use Rattle.lane_play.specs.declared.spans.Span.{Span}
 use Rattle.lane_play.specs.inner.Lanes.{forced_from, gate_lanes, lanes_rule, with_lane}
-use Rattle.lane_play.specs.inner.Spans.{AreSpans, IsSpanned}
+use Rattle.lane_play.specs.inner.Spans.{IsSpanned}
 
 -- any fault: a lemma asks for a default
 pub any_fault : Fault
@@ -140,39 +140,3 @@ made_any faults id kind ids values made e d below is =
 module _ (faults : List Fault) (m : ℕ) (few : m < length faults) (f : Fault) (is : f ≡ get_or faults m f) where
   named : (d : Fault) → get_or faults m d ≡ f
   named d = get_or_default faults m d f few ∙ sym is
-
-  other_span : (x : ℕ) (span : Span) → (signal_of f.line ≡ x → ⊥) → IsSpanned faults m x span → IsSpanned faults (m + 1) x span
-  other_span x span ne h = record {
-    within = h.within;
-    inside = λ j d l same. elim (cases_eq j m) [
-      | inl e ↦ absurd (ne (ap (λ (g : Fault). signal_of g.line) (sym (named d)) ∙ (ap (λ i. signal_of (get_or faults i d).line) (sym e) ∙ same)))
-      | inr other ↦ h.inside j d (omega (arith, l, other)) same
-    ];
-  }
-
-  own_span : (x : ℕ) (old new : Span) → IsSpanned faults m x old → ((j : ℕ) → old.from ≤ j → j < old.to → j < m → (new.from ≤ j) × (j < new.to)) → (new.from ≤ m) × (new.to ≡ m + 1)
-      → IsSpanned faults (m + 1) x new
-  own_span x old new h others here = record {
-    within = (let e = here.1 in omega (arith, few));
-    inside = λ j d l same. elim (cases_eq j m) [
-      | inl e ↦ ((let a = here.0 in omega (arith, e)), (let b = here.1 in omega (arith, e)))
-      | inr other ↦ (let before : j < m = omega (arith, l, other) in let i = h.inside j d before same in others j i.0 i.1 before)
-    ];
-  }
-
-  pub spans_past : (spans : List Span) → length spans ≤ signal_of f.line → AreSpans faults m spans → AreSpans faults (m + 1) spans
-  spans_past spans past h x d l = other_span x (get_or spans x d) (λ e. omega (arith, past, l, e)) (h x d l)
-
-  pub spans_more : (spans : List Span) (x : ℕ) (old new : Span) → x ≡ signal_of f.line → x < length spans → old ≡ get_or spans x old → AreSpans faults m spans
-      → ((j : ℕ) → old.from ≤ j → j < old.to → j < m → (new.from ≤ j) × (j < new.to)) → (new.from ≤ m) × (new.to ≡ m + 1) → AreSpans faults (m + 1) (set spans x new)
-  spans_more spans x old new at l was h others here y d low =
-      let size = length-set spans x new in
-      elim (cases_eq y x) [
-        | inl e ↦
-            let set_to : get_or (set spans x new) y d ≡ new = ap (λ i. get_or (set spans x new) i d) e ∙ get_or-set_same spans x new d l in
-            let own : IsSpanned faults m y old = subst (λ i. IsSpanned faults m i old) (sym e) (subst (λ s. IsSpanned faults m x s) (sym was) (h x old l)) in
-            subst (λ s. IsSpanned faults (m + 1) y s) (sym set_to) (own_span y old new own others here)
-        | inr ne ↦
-            let kept : get_or (set spans x new) y d ≡ get_or spans y d = get_or-set_other spans x y new d ne in
-            subst (λ s. IsSpanned faults (m + 1) y s) (sym kept) (other_span y (get_or spans y d) (λ e. ne (sym e ∙ sym at)) (h y d (omega (arith, low, size))))
-      ]

@@ -35,13 +35,6 @@ cleared_other word k j l m ne = ap (λ x. eqb x 1) (bit_at_clear_other w64 word 
 
 -- ---- of which nothing was said
 
-pub left_more : (found : List (Option Played)) (m left left' : ℕ) (item : Option Played) (bit : Bool) → m < length found → length found ≤ 64 → item ≡ get_or found m item → bit ≡ is_open item
-    → bit_of m left' ≡ bit → ((j : ℕ) → j < 64 → j ≢ m → bit_of j left' ≡ bit_of j left) → AreLeft found m left → AreLeft found (m + 1) left'
-left_more found m left left' item bit l few is b same others h k low = elim (cases_eq k m) [
-  | inl e ↦ ap (λ i. bit_of i left') e ∙ (same ∙ (b ∙ ap is_open (is ∙ (get_or_default found m item None l ∙ ap (found_at found) (sym e)))))
-  | inr ne ↦ others k (omega (arith, low, l, few)) ne ∙ h k (omega (arith, low, ne))
-]
-
 -- ---- what is said at a strobe
 
 told_cases : (z o x : Option Played) (k b : Bool)

@@ -3,4 +3,4 @@ use Rattle.std.proofs.Common.{◌≡◌, Bool, true, false, cond, Option, Some, 
 use Rattle.std.proofs.lemmas.Bool.{both_ways, cases_Bool}
 use Rattle.netlist.specs.declared.lines.Line.{Line}
 use Rattle.netlist.specs.declared.lines.Fault.{Fault}
-use Rattle.netlist.specs.Settled.{is_line, stuck, HasNoFault}
+use Rattle.netlist.specs.Settled.{is_line, stuck}

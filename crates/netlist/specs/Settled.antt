@@ -63,10 +63,6 @@ abbrev pub stuck : {V : Type 0} → (Bool → V) → Option Fault → Line → V
 stuck known None line v = v
 stuck known (Some f) line v = cond (is_line f.line line) (known f.value) v
 
--- no fault stands on the line
-abbrev pub HasNoFault : Option Fault → Line → Type 0
-HasNoFault f line = (g : Fault) → f ≡ Some g → is_line g.line line ≡ false
-
 -- values with what stands for a bit, and a gate table
 pub record Table (V : Type 0) : Type 0 where
   pub known : Bool → V

@@ -1,8 +1,8 @@
 -- Tables of observed points, as they are filled.
-use Rattle.std.proofs.Common.{◌≡◌, ℕ, suc, Bool, true, false, cond, ◌+◌, ◌-◌, ◌<◌, ◌≤◌, ◌∷◌, [], List, map, length, get_or, set, replicate, sym, ◌∙◌, ap, subst, inl, inr, eqb, arith}
+use Rattle.std.proofs.Common.{◌≡◌, ℕ, suc, Bool, true, false, cond, ◌+◌, ◌-◌, ◌<◌, ◌≤◌, ◌∷◌, [], List, map, length, get_or, set, sym, ◌∙◌, ap, subst, inl, inr, eqb, arith}
 use Rattle.std.specs.List.{All, Contains, filter}
 use Rattle.std.proofs.lemmas.Bool.{cases_lt, cases_eq, ne_eqb, eqb-true}
-use Rattle.std.proofs.lemmas.List.{length-set, length-map, length-replicate, get_or-replicate, get_or-set_same, get_or-set_other, get_or-map, get_or_default}
+use Rattle.std.proofs.lemmas.List.{length-set, length-map, get_or-set_same, get_or-set_other, get_or-map, get_or_default}
 use Rattle.std.proofs.lemmas.List.Elements.{All-contains, Contains-get_or}
 use Rattle.std.proofs.lemmas.Map.Keys.{IsDistinct-from_apart}
 use Rattle.std.proofs.lemmas.Map.Steps.{length-le_from_distinct_below}
@@ -66,13 +66,6 @@ length-filter-le p [] = omega arith
 length-filter-le p (x ∷ xs) = let l = length-filter-le p xs in below_cond (p x) x (filter p xs) (length xs) l
 
 module _ (n : Netlist) (sound : IsSound n) where
-  -- no cell has its number
-  pub no_numbers : (count m : ℕ) → count ≡ length (signals n) → m ≡ length (points n) → AreCellPoints n (replicate count m) 0
-  no_numbers count m size e = record {
-    size = length-replicate count m ∙ size;
-    here = λ j d l. absurd (omega arith);
-    others = λ x l none. get_or-replicate count x m 0 (omega arith) ∙ e;
-  }
 
   -- one cell more
   pub numbers_more : (ids numbers : List ℕ) (j i : ℕ) → ids ≡ map (λ (d : Definition). d.id) (cells n) → AreCellPoints n numbers j → j < length ids → i ≡ get_or ids j 0

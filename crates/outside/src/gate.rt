@@ -1,12 +1,20 @@
 //! Where a worker passes between its steps.
 
-/// Which step a worker has done.
+/// Which step a worker has done. `run` speaks of fault classes, `diagnose` too; `transition` and `chaintest` of faults.
 #[derive(Clone, Copy, Debug, PartialEq, Eq)]
 pub enum Stage {
-    /// It has claimed a fault class, and searches next.
+    /// So many are there in all. It comes before all other steps.
+    Begun { count: u64 },
+    /// It has claimed a class, and searches next.
     Claimed,
-    /// It has published the patterns that it found.
-    Published,
+    /// Its search has shown the class redundant.
+    Redundant,
+    /// Its search has given up: the class is aborted, unless a pattern detects it yet.
+    Aborted,
+    /// It has published the patterns that it found. At most so many classes are open or aborted now.
+    Published { undetected: u64 },
+    /// So many more are answered, of which so many are detected; in a diagnosis, explain the log.
+    Answered { count: u64, detected: u64 },
 }
 
 /// Where a worker passes between its steps.

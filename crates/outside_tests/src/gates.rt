@@ -24,7 +24,7 @@ impl<R: Wait> Gate for Meeting<'_, R> {
 // As a worker calls it: with no handle.
 fn pass<G: Gate>(stage: &G, worker: u32) {
     stage.at(worker, Stage::Claimed);
-    stage.at(worker, Stage::Published);
+    stage.at(worker, Stage::Published { undetected: 0 });
 }
 
 #[test]

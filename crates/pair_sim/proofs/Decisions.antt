@@ -34,9 +34,6 @@ module _ (f : Fault) (path path' : Decisions) (n : Netlist) (holds : Holds) (l :
   unfolding own
   inputs_are = mapped_zip (λ y v. l y ≡ on_line (Some f) (Stem y) v) (λ y. source_label path y (own y)) n.inputs are.0
 
-  cells_are : All (λ (d : Definition). l d.id ≡ on_line (Some f) (Stem d.id) (source_label path d.id X)) (cells n)
-  cells_are = mapped_zip (λ (d : Definition) v. l d.id ≡ on_line (Some f) (Stem d.id) v) (λ (d : Definition). source_label path d.id X) (cells n) are.1
-
   -- onto a source that was X
   pub source_is_driven : (l x).own ≡ X → IsDrivenTo (labels (Some f) path') n (input_labels path' n holds) (cell_labels path' n) x (on_line (Some f) (Stem x) (label_of (path' x) X X false))
   unfolding own

@@ -1,6 +1,6 @@
 //! Pieces of texts that are spelled byte for byte: what stands before a byte and behind it, and numbers.
 //!
-//! Gives: `number`, `split_at`, `split_at_last`.
+//! Gives: `number`, `split_at`.
 //! Proved: each exactly: the number of digits, the parts of a text at a mark.
 #![tactic(auto)]
 
@@ -15,18 +15,6 @@ pub fn split_at(text: &[u8], mark: u8) -> Option<(&[u8], &[u8])>
 {
     for (i, byte) in text.iter().enumerate() {
         if *byte == mark {
-            return Some((&text[..i], &text[i + 1..]));
-        }
-    }
-    None
-}
-
-/// What stands before the last such byte, and behind it.
-pub fn split_at_last(text: &[u8], mark: u8) -> Option<(&[u8], &[u8])>
-    ensures { MatchOption result (All (λ b. b ≢ mark) text.now) (λ p. All (λ b. b ≢ mark) p.1.now × (text.now ≡ p.0.now ++ mark ∷ p.1.now)) }
-{
-    for i in (0..text.len()).rev() {
-        if text[i] == mark {
             return Some((&text[..i], &text[i + 1..]));
         }
     }

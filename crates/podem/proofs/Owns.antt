@@ -1,5 +1,5 @@
 -- Sources: what their pins tell, and which of them may be decided.
-use Rattle.std.proofs.Common.{◌≡◌, ℕ, ◌≤◌, ◌<◌, ◌⊎◌, Bool, true, false, List, map, length, Option, Some, None, refl, sym, ◌∙◌, ap, subst, inl, inr, arith}
+use Rattle.std.proofs.Common.{◌≡◌, ℕ, ◌≤◌, ◌⊎◌, Bool, true, false, List, map, length, Option, Some, None, refl, sym, ◌∙◌, ap, subst, inl, inr, arith}
 use Rattle.std.specs.Option.{is_none}
 use Rattle.std.specs.List.{All, Contains, filter}
 use Rattle.std.proofs.lemmas.List.{length-map, get_or-map, get_or_past}
@@ -8,10 +8,9 @@ use Rattle.netlist.specs.declared.kinds.Tri.TheVariants.{X}
 use Rattle.netlist.specs.declared.lines.Fault.{Fault}
 use Rattle.netlist.specs.declared.lines.Line.TheVariants.{Stem}
 use Rattle.netlist.specs.Holds.{Holds, AreHoldsOf}
-use Rattle.netlist.specs.Netlist.{Definition, Netlist, is_cell, is_gate, cells, signals}
+use Rattle.netlist.specs.Netlist.{Definition, Netlist, is_cell, cells, signals}
 use Rattle.netlist.specs.Conditions.{IsNumbered}
 use Rattle.netlist.proofs.Lists.{contains_map, contains_filter, filter_contains, All-from_contains}
-use Rattle.netlist.proofs.Placed.{signal_cases}
 use Rattle.netlist.proofs.Settling.{above_inputs}
 use Rattle.tri.specs.declared.labels.Label.{Label}
 use Rattle.tri.specs.Labels.{Decisions, on_line, label_of, held_value, source_label, AreLabels}
@@ -29,15 +28,6 @@ cell_listed n d c = listed (cells n) d c
 -- ---- which signals are sources
 
 module _ (n : Netlist) (numbered : IsNumbered n) where
-  -- a signal below the number of inputs is an input
-  pub low_is_source : (x : ℕ) → x < length (signals n) → x < length n.inputs → Contains (all_sources n) x
-  low_is_source x low inside = elim (signal_cases n numbered x low) [
-    | inl i ↦ Contains-append_left n.inputs (map (λ (d : Definition). d.id) (cells n)) x i
-    | inr r ↦ elim r [
-      | inl c ↦ subst (Contains (all_sources n)) c.2 (Contains-append_right n.inputs (map (λ (d : Definition). d.id) (cells n)) c.0.id (cell_listed n c.0 c.1))
-      | inr g ↦ absurd (let high = above_inputs n numbered g.0 (contains_filter is_gate n.definitions g.0 g.1).0 in let e = g.2 in omega arith)
-    ]
-  ]
 
   -- and so is what a flip-flop defines
   pub cell_is_source : (d : Definition) (x : ℕ) → Contains n.definitions d → d.id ≡ x → is_cell d ≡ true → Contains (all_sources n) x

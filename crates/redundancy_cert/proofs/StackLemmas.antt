@@ -9,7 +9,7 @@ use Rattle.redundancy_cert.specs.declared.stacks.Other.{Other}
 use Rattle.redundancy_cert.specs.declared.stacks.Other.TheVariants.{Untried, Searched, Shut}
 use Rattle.redundancy_cert.specs.declared.stacks.Side.{Side}
 use Rattle.redundancy_cert.specs.Trees.{ClosedEnd, OpenEnd, SplitOn, ForcedTo, preorder, Place, places, closed_count, open_count}
-use Rattle.redundancy_cert.specs.Stacks.{other_nodes, node_of, wrapped, stack_tree, stack_onto, StandsBelow, OtherStands, StandsAround, closed_around, open_around, searched_open, searched_open_around, IsFlipped, IsClimbed}
+use Rattle.redundancy_cert.specs.Stacks.{other_nodes, node_of, wrapped, stack_tree, stack_onto, StandsBelow, OtherStands, StandsAround, closed_around, open_around, searched_open, searched_open_around, IsFlipped}
 use Rattle.redundancy_cert.proofs.Redundant.{closed_count-append, open_count-append}
 
 -- ---- one decision more at the end
@@ -166,18 +166,6 @@ module _ (P : Place → Type 0) where
         subst (λ q. StandsBelow P q (Open ∷ [])) (sym at) untried,
       )
 
-  -- after a climb the stack that is left stands, and so does the tree at its end
-  pub climbed_stands : (p : Path) (done : List Node) (old new : List Side) (tree : List Node) → IsClimbed done old new tree → StandsAround P p old
-      → StandsBelow P (stack_onto p old) done → StandsAround P p new × StandsBelow P (stack_onto p new) tree
-  climbed_stands p done old new tree w h d =
-      let before : StandsAround P p (new ++ w.last ∷ []) = subst (StandsAround P p) w.was h in
-      let last = around-last P p new w.last before in
-      let side : StandsBelow P ((w.last.signal, w.last.bit) ∷ stack_onto p new) done =
-      subst (λ q. StandsBelow P q done) (ap (stack_onto p) w.was ∙ stack_onto-append p new w.last) d in (
-        around-front P p new w.last before,
-        subst (StandsBelow P (stack_onto p new)) (sym w.is) (wrapped_stands P (stack_onto p new) w.last done last.0 last.1 side),
-      )
-
 -- the counts of a turn
 pub turned_closed : (done : List Node) (old new : List Side) → IsFlipped done old new → closed_around new ≡ closed_around old + closed_count done
 turned_closed done old new t =
@@ -206,25 +194,6 @@ turned_open done old new t h d =
     let c = ap searched_open_around t.was in
     let e = searched_open_around-append t.front t.last in
     let g = searched_open_at t.next.other t.next.signal t.next.bit done t.split t.searched in
-    omega arith
-
-pub climbed_open : (done : List Node) (old new : List Side) (tree : List Node) → IsClimbed done old new tree → searched_open_around old ≡ 0 → open_count done ≡ 0
-    → (searched_open_around new ≡ 0) × (open_count tree ≡ 0)
-climbed_open done old new tree w h d =
-    let c = ap searched_open_around w.was in
-    let e = searched_open_around-append new w.last in
-    let k = ap open_count w.is in
-    let m = open_wrapped w.last.signal w.last.bit w.last.other done in
-    let t = w.tried in
-    (omega arith, omega arith)
-
-pub climbed_closed : (done : List Node) (old new : List Side) (tree : List Node) → IsClimbed done old new tree
-    → closed_around new + closed_count tree ≡ closed_around old + closed_count done
-climbed_closed done old new tree w =
-    let c = ap closed_around w.was in
-    let e = closed_around-append new w.last in
-    let k = ap closed_count w.is in
-    let m = closed_wrapped w.last.signal w.last.bit w.last.other done in
     omega arith
 
 pub length-stack_onto : (p : Path) (ss : List Side) → length (stack_onto p ss) ≡ length p + length ss

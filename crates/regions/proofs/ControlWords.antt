@@ -2,12 +2,12 @@
 use Rattle.std.proofs.Common.{◌≡◌, ℕ, zero, suc, ◌+◌, ◌-◌, ◌<◌, ◌≤◌, Bool, true, false, not, ◌&&◌, ◌||◌, List, [], ◌∷◌, map, drop, length, get_or, refl, sym, ◌∙◌, ap, subst, arith, bit_and, bit_or, bit_xor}
 use Rattle.std.specs.List.{list_all}
 use Rattle.std.proofs.lemmas.Bool.{both_ways}
-use Rattle.std.proofs.lemmas.List.{drop_all, drop_more, get_or-map, length-map}
+use Rattle.std.proofs.lemmas.List.{drop_more, get_or-map, length-map}
 use Rattle.netlist.specs.declared.kinds.Kind.{Kind}
 use Rattle.netlist.specs.Settled.{at}
 use Rattle.events.specs.Words.{bit_of, ones}
 use Rattle.events.proofs.WordBits.{bit_of_and, bit_of_or}
-use Rattle.regions.proofs.GateBits.{bit_none, bit_not_word}
+use Rattle.regions.proofs.GateBits.{bit_not_word}
 use Rattle.regions.specs.Paths.{bits_at}
 use Rattle.regions.specs.Sensitized.{sides, is_noncontrolling}
 use Rattle.regions.specs.inner.Controlled.{one_controls, two_control, AreControlled}
@@ -69,9 +69,6 @@ module _ (kind : Kind) where
 -- ---- words
 
 module _ (kind : Kind) (pins values : List ℕ) where
-  -- of no pin
-  pub no_pins : (k : ℕ) → length pins ≤ k → AreControlled kind (drop k pins) values 0 0
-  no_pins k l = subst (λ ps. AreControlled kind ps values 0 0) (sym (drop_all k pins l)) (record { one_is = bit_none; two_is = bit_none })
 
   -- with one pin more, whose word is not controlling in the patterns of `side`
   pub pin_more : (k one two side x : ℕ) → 0 < k → k ≤ length pins → x ≡ get_or pins (k - 1) x

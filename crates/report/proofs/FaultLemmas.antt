@@ -62,9 +62,6 @@ module _ (text front rest : List ℕ) (lacks : All (λ b. b ≢ 32) front) (is :
     pub other_placed : (IsPlaced placed → ⊥) → (more : List ℕ) → PinBegins text more → ⊥
     other_placed none more b = none (subst IsPlaced (sym (placed_parts more b).0) b.is_placed)
 
-    pub pin_found : IsBenchWord front → IsPlaced placed → PinBegins text after
-    pin_found w p = record { name = front; placed = placed; word = w; is_placed = p; text_is = is ∙ ap (λ t. front ++ 32 ∷ t) parts }
-
 named_once : (text r s : List ℕ) → NamedBegins text r → NamedBegins text s → r ≡ s
 named_once text r s b c = (named_parts text b.named r (named_lacks b.named b.is_named) b.text_is s c).1
 

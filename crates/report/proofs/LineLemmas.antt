@@ -5,7 +5,7 @@ use Rattle.std.proofs.lemmas.Grind.{flat_map-append}
 use Rattle.std.proofs.lemmas.List.{append-nil, append_cancel_left}
 use Rattle.std.proofs.lemmas.List.Elements.{All-head, All-push, All-tail}
 use Rattle.plain_text.proofs.Parts.{byte_inside, same_parts}
-use Rattle.report.specs.inner.Lines.{Begins, NoneBegins}
+use Rattle.report.specs.inner.Lines.{NoneBegins}
 
 -- a value and the rest are told by their text
 abbrev pub IsTold : {X : Type 0} → (X → Type 0) → (X → List ℕ) → Type 0
@@ -37,24 +37,15 @@ module _ {X : Type 0} (valid : X → Type 0) (words line : X → List ℕ) (line
     pub no_words : ((x : X) → valid x → front ≢ words x) → NoneBegins valid line text
     no_words none x more v e = none x v (same_parts 10 front (words x) rest more whole (lined.whole x v) (sym is ∙ (e ∙ line_rest x more))).0
 
-    pub words_found : (x : X) → valid x → front ≡ words x → Begins valid line text x rest
-    words_found x v w = (v, is ∙ (ap (λ t. t ++ 10 ∷ rest) w ∙ sym (line_rest x rest)))
-
 -- the same behind a word
 module _ {X : Type 0} (valid : X → Type 0) (word : List ℕ) (line : X → List ℕ) where
   pub behind_told : IsTold valid line → IsTold valid (λ x. word ++ line x)
   behind_told told x y r s v w e =
       told x y r s v w (append_cancel_left word (line x ++ r) (line y ++ s) (sym (append_assoc word (line x) r) ∙ (e ∙ append_assoc word (line y) s)))
 
-  pub no_word : (text : List ℕ) → ((rest : List ℕ) → text ≢ word ++ rest) → NoneBegins valid (λ x. word ++ line x) text
-  no_word text none x rest v e = none (line x ++ rest) (e ∙ append_assoc word (line x) rest)
-
   module _ (text after : List ℕ) (is : text ≡ word ++ after) where
     pub none_behind : NoneBegins valid line after → NoneBegins valid (λ x. word ++ line x) text
     none_behind none x rest v e = none x rest v (append_cancel_left word after (line x ++ rest) (sym is ∙ (e ∙ append_assoc word (line x) rest)))
-
-    pub found_behind : (x : X) (rest : List ℕ) → Begins valid line after x rest → Begins valid (λ x. word ++ line x) text x rest
-    found_behind x rest b = (b.0, is ∙ (ap (λ t. word ++ t) b.1 ∙ sym (append_assoc word (line x) rest)))
 
 -- many lines
 module _ {X : Type 0} (valid : X → Type 0) (line : X → List ℕ) (told : IsTold valid line) where

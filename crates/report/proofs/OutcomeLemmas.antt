@@ -89,13 +89,6 @@ outcome_behind (Detected p c) pin = record { text = codes "detected " ++ (decima
 outcome_behind Redundant pin = record { text = codes "redundant"; is = refl }
 outcome_behind Aborted pin = record { text = codes "aborted"; is = refl }
 
-pub no_place : (text place : List ℕ) → text ≡ codes "detected " ++ place
-    → ((p c : ℕ) (pin : List ℕ) → p < 2 ^ 64 → c < 2 ^ 64 → IsBenchWord pin → place ≢ decimal p ++ 32 ∷ (decimal c ++ 32 ∷ pin))
-    → (p c : ℕ) (pin : List ℕ) → IsOutcome (Detected p c) pin → 32 ∷ text ≢ outcome_text (Detected p c) pin
-no_place text place is none p c pin v e =
-    none p c pin v.0 v.1 v.2
-    (append_cancel_left (codes " detected ") place (decimal p ++ 32 ∷ (decimal c ++ 32 ∷ pin)) (sym (ap (λ t. 32 ∷ t) is) ∙ e))
-
 -- the fault, a blank and the rest of the line
 pub fault_taken : (line rest : List ℕ) → FaultBegins line rest → IsFaultText (take (length line - length rest - 1) line) × (line ≡ take (length line - length rest - 1) line ++ 32 ∷ rest)
 fault_taken line rest b =

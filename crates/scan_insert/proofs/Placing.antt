@@ -32,10 +32,6 @@ width_is (d ∷ ds) =
     elim [ true ↦ omega (arith, width_is ds) | false ↦ omega (arith, width_is ds) ] in
     step (is_cell d)
 
--- the sites agree with these of the definitions
-AreAt : List Site → List Definition → List Site → Type 0
-AreAt sites ds ts = AllZip (λ (d : Definition) (t : Site). site sites d.id ≡ t) ds ts
-
 -- a naming by sites
 pub record IsBySites (s : Naming) (sites : List Site) : Type 0 where
   pub stem : (x : ℕ) → s.stem x ≡ (site sites x).stem

@@ -67,11 +67,6 @@ pub one_burst : (old new : List Burst) (b : Burst) (cs : List Cycle) → new ≡
 one_burst old new b cs n e =
     ap all_cycles n ∙ (flat_map-append cycles_of old (b ∷ []) ∙ (ap (λ x. all_cycles old ++ x) (append-nil (cycles_of b)) ∙ ap (λ x. all_cycles old ++ x) e))
 
-pub two_bursts : (old middle new : List Burst) (b c : Burst) (bs cs : List Cycle) → middle ≡ old ++ b ∷ [] → new ≡ middle ++ c ∷ [] → cycles_of b ≡ bs → cycles_of c ≡ cs
-    → all_cycles new ≡ all_cycles old ++ (bs ++ cs)
-two_bursts old middle new b c bs cs m n e f =
-    one_burst middle new c cs n f ∙ (ap (λ x. x ++ cs) (one_burst old middle b bs m e) ∙ append_assoc (all_cycles old) bs cs)
-
 -- ---- tests
 
 module _ (n : Netlist) (holds : Holds) (chains : List (List ℕ)) where

@@ -1,27 +1,19 @@
 -- Marks in a table, and what they say is ready.
-use Rattle.std.proofs.Common.{◌≡◌, ℕ, suc, zero, ◌+◌, ◌<◌, Bool, true, false, ◌⊎◌, List, [], ◌∷◌, ◌++◌, map, length, get_or, set, take, Some, None, slice_get, refl, sym, ◌∙◌, ap, subst, inl, inr, arith, length-append}
+use Rattle.std.proofs.Common.{◌≡◌, ℕ, suc, zero, ◌+◌, ◌<◌, Bool, true, false, ◌⊎◌, List, [], ◌∷◌, ◌++◌, map, length, get_or, take, Some, None, slice_get, refl, sym, ◌∙◌, ap, subst, inl, inr, arith}
 use Rattle.std.specs.List.{All, Contains}
 use Rattle.std.proofs.lemmas.Bool.{cases_eq}
-use Rattle.std.proofs.lemmas.List.{get_or_default, get_or_append_left, take_more}
+use Rattle.std.proofs.lemmas.List.{get_or_default, take_more}
 use Rattle.std.proofs.lemmas.Option.{get_or_from_slice_get}
 use Rattle.std.proofs.lemmas.List.Elements.{All-push, Contains-append_left, Contains-append_right}
 use Rattle.netlist.specs.declared.kinds.Tri.{Tri}
 use Rattle.netlist.specs.declared.kinds.Tri.TheVariants.{X}
 use Rattle.netlist.specs.Netlist.{Definition, Netlist, is_cell, cells, gates}
-use Rattle.netlist.specs.Conditions.{IsNumbered}
 use Rattle.netlist.specs.Settled.{at}
 use Rattle.netlist.specs.ThreeValues.{is_x}
 use Rattle.netlist.proofs.Lists.{contains_head, filter_contains}
 use Rattle.scan_insert.proofs.Loopless.{map_contains}
 use Rattle.scan_play.specs.Steps.{IsReady, HasSteps, AreOrderedSteps}
 use Rattle.scan_play.specs.inner.Plans.{AreMarked, AreReady, AreCellsMarked, AreOutputsMarked}
-
-pub marked_set : (xs : List Bool) (i y : ℕ) → slice_get (set xs i true) y ≡ Some true → (y ≡ i) ⊎ (slice_get xs y ≡ Some true)
-marked_set [] i y e = inr e
-marked_set (x ∷ xs) zero zero e = inl refl
-marked_set (x ∷ xs) zero (suc y) e = inr e
-marked_set (x ∷ xs) (suc i) zero e = inr e
-marked_set (x ∷ xs) (suc i) (suc y) e = elim (marked_set xs i y e) [ inl h ↦ inl (ap suc h) | inr h ↦ inr h ]
 
 some_same : {A : Type 0} (x y : A) → Some x ≡ Some y → x ≡ y
 some_same x y e = cc
@@ -72,13 +64,6 @@ reads_step n base steps m x ready l is h marks reads k g b c e = elim (cases_eq 
       subst (λ j. All (IsReady n base (take j steps)) g.pins) (sym last) (marked_ready n base (take m steps) ready g.pins h (marks g c here))
   | inr old ↦ reads k g (omega arith) c e
 ]
-
--- an input, a cell, and a gate whose value stays
-pub input_there : (n : Netlist) → IsNumbered n → (x : ℕ) → x < length n.inputs → Contains n.inputs x
-input_there n numbered x l =
-    let ids = map (λ (d : Definition). d.id) n.definitions in
-    let wide : x < length (n.inputs ++ ids) = omega (arith, length-append n.inputs ids) in
-    (x, l, sym (get_or_append_left n.inputs ids x x l) ∙ (get_or_default (n.inputs ++ ids) x x 0 wide ∙ numbered x wide))
 
 pub cell_there : (n : Netlist) (x : ℕ) (d : Definition) → Contains n.definitions d → d.id ≡ x → is_cell d ≡ true → Contains (map (λ (e : Definition). e.id) (cells n)) x
 cell_there n x d c e cell = subst (Contains (map (λ (f : Definition). f.id) (cells n))) e (map_contains (λ (f : Definition). f.id) (cells n) d (filter_contains is_cell n.definitions d c cell))

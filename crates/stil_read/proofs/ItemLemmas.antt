@@ -6,7 +6,7 @@ use Rattle.plain_text.specs.Texts.{Text}
 use Rattle.stil_write.specs.StilFiles.{Item, Call, Vector}
 use Rattle.stil_write.specs.Pieces.{HasTargets}
 use Rattle.stil_read.specs.Tokens.{Token, Spelled, class_of, tokens, tokens_from}
-use Rattle.stil_read.specs.inner.Assigned.{AreAssigned, NoneAssigned, assigned_tokens}
+use Rattle.stil_read.specs.inner.Assigned.{AreAssigned, assigned_tokens}
 use Rattle.stil_read.specs.inner.Items.{AreItems, IsItemAt, NoneBegun, begun_tokens, call_begins, item_ends, item_tokens, vector_begins}
 
 flat_map_push : {X Y : Type 0} (f : X → List Y) (xs : List X) (x : X) → flat_map f (xs ++ x ∷ []) ≡ flat_map f xs ++ f x
@@ -27,12 +27,6 @@ assigned_once (l ∷ labels) [] others rest more n m e = absurd (omega arith)
 assigned_once (l ∷ labels) (w ∷ words) [] rest more n m e = absurd (omega arith)
 assigned_once (l ∷ labels) (w ∷ words) (o ∷ others) rest more n m e =
     assigned_once labels words others rest more (omega arith) (omega arith) (let k : assigned_tokens labels words ++ rest ≡ assigned_tokens labels others ++ more = cc in k)
-
--- no item has its words, or its end
-pub no_words : (front all inner : List Token) (labels : List Text) → ((ts : List Token) → all ≡ front ++ ts → inner ≡ ts) → NoneAssigned labels inner
-    → (words : List Text) (rest : List Token) → length words ≡ length labels → all ≡ (front ++ (assigned_tokens labels words ++ tokens item_ends)) ++ rest → ⊥
-no_words front all inner labels only none words rest n e =
-    none words (tokens item_ends ++ rest) (record { count = n; split = only _ (e ∙ parts front (assigned_tokens labels words) (tokens item_ends) rest) })
 
 -- the words have no end
 pub no_end : (begins : Text) (labels words : List Text) (all inner after : List Token) → all ≡ tokens begins ++ inner → ((ts : List Token) → all ≡ tokens begins ++ ts → inner ≡ ts)

@@ -25,7 +25,7 @@ use Rattle.stil_read.proofs.NameLemmas.{AreUnquoted, all_quotable-append, assign
 use Rattle.stil_read.proofs.PassLemmas.{AllDiffer, behind_chains, cells_fixed, chain_end_passes, chain_found, clock_quotable, inputs_quotable, low_differs, outputs_quotable, pass_assigned, pass_both, pass_groups, pass_signals, pass_timing, pattern_fixed, pi_quotable, po_quotable, semicolon, structures_pass}
 use Rattle.stil_read.proofs.PatternLemmas.{AreWritable, IsWritable, call_first, item_lines_tokens, vector_first}
 use Rattle.stil_read.proofs.SignalLemmas.{regroup, spelled_once}
-use Rattle.stil_read.proofs.StepLemmas.{chains_more, chains_none_yet}
+use Rattle.stil_read.proofs.StepLemmas.{chains_more}
 use Rattle.stil_read.proofs.TokenLemmas.{at_gap, tokens_none}
 use Rattle.stil_read.proofs.WholeLemmas.{whole_then_rest}
 use Rattle.stil_read.proofs.WrittenLemmas.{assignments_tokens, blank_class, kinds_are_whole, quoted_tokens, signal_lines_tokens}
@@ -393,9 +393,6 @@ shift_passes n outputs rest =
     ∙ pass_assigned pattern_word (other_names n) (other_words n outputs) (tokens rest) pattern_fixed.key (others_differ n outputs)
 
 -- ---- the whole
-
-pattern_is : (f : StilFile) → pattern_text f ≡ codes "Pattern " ++ (codes "\"pattern\" {\n  W \"wft\";\n" ++ item_lines f)
-pattern_is f = refl
 
 no_length : {X : Type 0} (xs : List X) → length xs ≡ 0 → xs ≡ []
 no_length [] h = refl

@@ -7,7 +7,7 @@ use Rattle.stil_write.specs.Texts.{head_text}
 use Rattle.stil_read.specs.Tokens.{Spelled, Token, class_of, tokens, tokens_from}
 use Rattle.stil_read.specs.inner.Signals.{AreSignals}
 use Rattle.stil_read.specs.inner.Skips.{behind_first}
-use Rattle.stil_read.specs.inner.Grammar.{AreChains, AreDeclared, ArePattern, IsChain, IsLastChain, IsShiftWord, IsShifted, IsSpelt, cells_word, clock_tokens, input_kind, items_head, output_kind, pattern_word, scan_input_kind, shift_head, vector_word}
+use Rattle.stil_read.specs.inner.Grammar.{AreChains, AreDeclared, ArePattern, IsChain, IsLastChain, IsShiftWord, IsShifted, IsSpelt, clock_tokens, input_kind, items_head, output_kind, pattern_word, scan_input_kind, shift_head, vector_word}
 use Rattle.stil_read.proofs.SignalLemmas.{append_once, signals_once}
 use Rattle.stil_read.proofs.OnceLemmas.{chain_once, chains_once, declared_once, pattern_once, shifted_once, signals_at, same_some}
 
@@ -25,9 +25,6 @@ pub declared_here : (all one two three four rest : List Token) (pi names po : Li
 declared_here all one two three four rest pi names po n h i s c k o =
     record { one = one; two = two; three = three; four = four; names = names; head = h; inputs = i; scan_inputs = s; counted = sym c; clock = k; outputs = o }
 
-pub no_head : (all : List Token) → ((ts : List Token) → all ≡ tokens head_text ++ ts → ⊥) → (pi : List Text) (n : ℕ) (po : List Text) (rest : List Token) → AreDeclared all pi n po rest → ⊥
-no_head all none pi n po rest a = none a.one a.head
-
 pub no_clock_line : (all one two three : List Token) (pi names : List Text) (n : ℕ) → all ≡ tokens head_text ++ one → AreSignals input_kind one pi two → AreSignals scan_input_kind two names three
     → n ≡ length names → ((ts : List Token) → three ≡ clock_tokens n ++ ts → ⊥) → (qi : List Text) (m : ℕ) (po : List Text) (rest : List Token) → AreDeclared all qi m po rest → ⊥
 no_clock_line all one two three pi names n h i s c none qi m po rest a =
@@ -42,16 +39,10 @@ no_clock_line all one two three pi names n h i s c none qi m po rest a =
 none_some : {X : Type 0} (o : Option X) (x : X) → o ≡ None → o ≡ Some x → ⊥
 none_some o x e f = cc
 
-pub no_chain : (all : List Token) → behind_first cells_word all ≡ None → (cells : List Text) (rest : List Token) → IsChain all cells rest → ⊥
-no_chain all e cells rest a = none_some (behind_first cells_word all) a.inner e a.skipped
-
 pub chains_more : (k : ℕ) (all : List Token) (chains more : List (List Text)) (cells : List Text) (inner rest : List Token) → AreChains k all chains inner → IsChain inner cells rest
     → more ≡ chains ++ cells ∷ [] → AreChains (k + 1) all more rest
 chains_more k all chains more cells inner rest a c e =
     rw add-one (record { before = chains; inner = inner; cells = cells; earlier = a; chain = c; pushed = e })
-
-pub chains_none_yet : (all : List Token) → AreChains 0 all [] all
-chains_none_yet all = (refl, refl)
 
 -- of more chains the first ones
 pub record FirstChains (k : ℕ) (all : List Token) : Type 0 where
@@ -81,9 +72,6 @@ no_vector zero all h e word rest a = h refl
 no_vector (suc n) all h e word rest a = none_some (behind_first vector_word all) a.inner e a.skipped
 
 -- ---- the pattern
-
-pub no_pattern : (n : ℕ) (all : List Token) → behind_first pattern_word all ≡ None → (items : List Item) (rest : List Token) → ArePattern n all items rest → ⊥
-no_pattern n all e items rest a = none_some (behind_first pattern_word all) a.inner e a.skipped
 
 pub no_items_head : (n : ℕ) (all inner : List Token) → behind_first pattern_word all ≡ Some inner → ((ts : List Token) → inner ≡ tokens items_head ++ ts → ⊥) → (items : List Item) (rest : List Token)
     → ArePattern n all items rest → ⊥

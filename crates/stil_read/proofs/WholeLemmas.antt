@@ -1,7 +1,7 @@
 -- Texts one behind the other.
 use Rattle.std.proofs.Common.{◌≡◌, ◌∙◌, ℕ, List, [], ◌∷◌, ◌++◌, ap, sym, refl, append_assoc, append-nil}
 use Rattle.stil_read.specs.Tokens.{LexState, Token, Between, turn, tokens, tokens_from}
-use Rattle.stil_read.specs.inner.Whole.{IsWhole, WholeThenRest, WholeTogether, place_after}
+use Rattle.stil_read.specs.inner.Whole.{IsWhole, WholeThenRest, place_after}
 use Rattle.stil_read.proofs.TokenLemmas.{step_from, at_end}
 
 -- what a text ends, without what is open at its end

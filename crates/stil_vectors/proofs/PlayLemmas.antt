@@ -1,7 +1,7 @@
 -- How many cycles a file has.
 use Rattle.std.proofs.Common.{◌≡◌, ◌∙◌, ◌+◌, ◌<◌, ◌≤◌, ℕ, List, [], ◌∷◌, ◌++◌, ap, sym, length, map, take, drop, get_or, arith, length-append, Some, slice_get}
 use Rattle.std.specs.List.{flat_map}
-use Rattle.std.proofs.lemmas.List.{append-nil, length-map, take-append-drop, take_all, take_more}
+use Rattle.std.proofs.lemmas.List.{append-nil, length-map, take-append-drop, take_more}
 use Rattle.std.proofs.lemmas.List.Concat.{flat_map-append}
 use Rattle.plain_text.specs.Texts.{Text}
 use Rattle.scan_insert.specs.Names.{numbers_from}
@@ -14,9 +14,6 @@ use Rattle.stil_vectors.proofs.CallLemmas.{first_size}
 pub call_count : (f : StilFile) (item : Item) (words : List Text) (first : Text) → item ≡ Call words → slice_get words 0 ≡ Some first → length first ≡ length (cycles_of_item f item)
 call_count f item words first e got =
     sym (ap (λ (i : Item). length (cycles_of_item f i)) e ∙ (length-map (numbers_from 0 (call_size words)) (call_cycle f words) ∙ (length-numbers_from 0 (call_size words) ∙ first_size words first got)))
-
-pub vector_count : (f : StilFile) (item : Item) (words : List Text) → item ≡ Vector words → 1 ≡ length (cycles_of_item f item)
-vector_count f item words e = sym (ap (λ (i : Item). length (cycles_of_item f i)) e)
 
 abbrev cycles_before : StilFile → ℕ → List Cycle
 cycles_before f i = flat_map (cycles_of_item f) (take i f.items)
@@ -34,11 +31,5 @@ no_more f i =
     let sum = length-append (cycles_before f i) (flat_map (cycles_of_item f) (drop i f.items)) in
     omega (arith, split, parts, sum)
 
-pub counted_more : (f : StilFile) (i count more sum : ℕ) → i < length f.items → count ≡ length (cycles_before f i) → more ≡ length (cycles_of_item f (item_at f.items i)) → sum ≡ count + more → sum ≡ length (cycles_before f (i + 1))
-counted_more f i count more sum l e m s = let k = one_more f i l in omega (arith, k, e, m, s)
-
 pub counted_over : (f : StilFile) (i count more most : ℕ) → i < length f.items → count ≡ length (cycles_before f i) → more ≡ length (cycles_of_item f (item_at f.items i)) → most ≤ count + more → most ≤ length (vectors_in f)
 counted_over f i count more most l e m s = let k = one_more f i l in let n = no_more f (i + 1) in omega (arith, k, n, e, m, s)
-
-pub counted_all : (f : StilFile) (i count : ℕ) → length f.items ≤ i → count ≡ length (cycles_before f i) → count ≡ length (vectors_in f)
-counted_all f i count l e = e ∙ ap (λ (is : List Item). length (flat_map (cycles_of_item f) is)) (take_all i f.items l)

@@ -3,7 +3,7 @@ use Rattle.std.proofs.Common.{◌≡◌, ℕ, suc, ◌+◌, ◌*◌, ◌<◌, �
 use Rattle.std.specs.List.{All, AllPairs, AllZip, slice_get}
 use Rattle.std.proofs.lemmas.Bool.{cases_eq}
 use Rattle.std.proofs.lemmas.List.{length-map, get_or-map, get_or-set_same, get_or-set_other, length-set, length_push, take_more}
-use Rattle.std.proofs.lemmas.List.Elements.{All-more, All-nil, All-push}
+use Rattle.std.proofs.lemmas.List.Elements.{All-more, All-push}
 use Rattle.std.proofs.lemmas.Option.{slice_get-get_or, slice_get_within}
 use Rattle.std.proofs.lemmas.List.Quantifiers.{all_pairs_push}
 use Rattle.netlist.specs.declared.lines.Fault.{Fault}
@@ -45,14 +45,6 @@ both_at R S (k ∷ ks) (x ∷ xs) (z ∷ done) y rest a b = let r = both_at R S 
 pub one_apart : (n : Netlist) (taken : List Fault) (i : ℕ) (g f : Fault) → i < length taken → All (λ (h : Fault). AreApart n h f) (take i taken) → g ≡ get_or taken i g → AreApart n g f
     → All (λ (h : Fault). AreApart n h f) (take (i + 1) taken)
 one_apart n taken i g f l before is here = All-more (λ (h : Fault). AreApart n h f) taken i g l before (subst (λ (h : Fault). AreApart n h f) is here)
-
-pub none_gathered : (n : Netlist) (faults : List Fault) (left : List Bool) (first count : ℕ) → AreGathered n faults left first count [] []
-none_gathered n faults left first count = record {
-  each = tt;
-  lines = All-nil _;
-  apart = λ i j d lt within. absurd (omega arith);
-  few = omega arith;
-}
 
 pub gathered_as : (n : Netlist) (faults : List Fault) (left : List Bool) (first count : ℕ) (places more : List ℕ) (slow longer : List Fault) → more ≡ places → longer ≡ slow
     → AreGathered n faults left first count places slow → AreGathered n faults left first count more longer

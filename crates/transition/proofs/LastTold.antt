@@ -33,9 +33,6 @@ none_from n patterns faults m e = record {
       (λ place q l t. let b = some_below patterns place t.pattern t.at in absurd (omega arith));
 }
 
-pub none_up : (n : Netlist) (patterns : List Pattern) (m m' : ℕ) (faults : List Fault) (told : List (Option (ℕ × Point))) → AreFramesFrom n patterns m' faults told → AreFramesUpTo n patterns m m' faults told 0
-none_up n patterns m m' faults told h = record { size = h.size; before = λ i f l. absurd (omega arith); after = λ i f l at. h.each i f at }
-
 pub all_up : (n : Netlist) (patterns : List Pattern) (m m' : ℕ) (faults : List Fault) (told : List (Option (ℕ × Point))) (k : ℕ) → length faults ≤ k → AreFramesUpTo n patterns m m' faults told k → AreFramesFrom n patterns m faults told
 all_up n patterns m m' faults told k all h = record { size = h.size; each = λ i f at. let l = some_below faults i f at in h.before i f (omega arith) at }
 

@@ -182,30 +182,6 @@ module _ (first : List ℕ) (count : ℕ) (values : List ℕ) where
 
 -- one change more is listed, or not
 module _ (first : List ℕ) (count : ℕ) (values : List ℕ) (c : Change ℕ) where
-  abbrev sees : Change ℕ → Bool
-  sees d = is_seen first count values d
-
-  pub shown_push : is_seen first count values c ≡ true → (changes : List (Change ℕ)) → shown_of first count values (changes ++ c ∷ []) ≡ shown_of first count values changes ++ shown_at first values c ∷ []
-  shown_push e [] = ap (λ b. map (shown_at first values) (cond b (c ∷ []) [])) e
-  shown_push e (d ∷ ds) = elim (cases_Bool (sees d)) [
-    | inl here ↦ ap (λ b. map (shown_at first values) (cond b (d ∷ filter sees (ds ++ c ∷ [])) (filter sees (ds ++ c ∷ [])))) here
-        ∙ (ap (λ zs. shown_at first values d ∷ zs) (shown_push e ds)
-        ∙ sym (ap (λ b. map (shown_at first values) (cond b (d ∷ filter sees ds) (filter sees ds)) ++ shown_at first values c ∷ []) here))
-    | inr none ↦ ap (λ b. map (shown_at first values) (cond b (d ∷ filter sees (ds ++ c ∷ [])) (filter sees (ds ++ c ∷ [])))) none
-        ∙ (shown_push e ds
-        ∙ sym (ap (λ b. map (shown_at first values) (cond b (d ∷ filter sees ds) (filter sees ds)) ++ shown_at first values c ∷ []) none))
-  ]
-
-  pub shown_skip : is_seen first count values c ≡ false → (changes : List (Change ℕ)) → shown_of first count values (changes ++ c ∷ []) ≡ shown_of first count values changes
-  shown_skip e [] = ap (λ b. map (shown_at first values) (cond b (c ∷ []) [])) e
-  shown_skip e (d ∷ ds) = elim (cases_Bool (sees d)) [
-    | inl here ↦ ap (λ b. map (shown_at first values) (cond b (d ∷ filter sees (ds ++ c ∷ [])) (filter sees (ds ++ c ∷ [])))) here
-        ∙ (ap (λ zs. shown_at first values d ∷ zs) (shown_skip e ds)
-        ∙ sym (ap (λ b. map (shown_at first values) (cond b (d ∷ filter sees ds) (filter sees ds))) here))
-    | inr none ↦ ap (λ b. map (shown_at first values) (cond b (d ∷ filter sees (ds ++ c ∷ [])) (filter sees (ds ++ c ∷ [])))) none
-        ∙ (shown_skip e ds
-        ∙ sym (ap (λ b. map (shown_at first values) (cond b (d ∷ filter sees ds) (filter sees ds))) none))
-  ]
 
 -- the same of one word that differs
 pub none_differing : (word used number : ℕ) → bit_and word used ≡ 0 → IsSole word used number None

@@ -82,9 +82,10 @@ pub(crate) fn publish_cubes<
     let patterns = patterns_of::<J, N>(alloc, cubes, rng)?;
     let left = shared.undetected(rt, alloc)?;
     let batch = batch_of(alloc, simulator, patterns, &left)?;
+    let undetected = left.classes().len().saturating_sub(batch.hits().len()) as u64;
     if let Err((NoMemory, _)) = shared.publish(rt, share, batch) {
         return Err(NoMemory);
     }
-    stage.at(share.worker(), Stage::Published);
+    stage.at(share.worker(), Stage::Published { undetected });
     Ok(())
 }

@@ -6,22 +6,24 @@
 //!
 //! Workers beside each other begin with smaller batches. Until the first patterns are published nothing is dropped, so that k workers which each
 //! gathered 64 cubes first would search k times as many classes as one does, and simulate each batch over nearly all of them.
-ghost use Rattle.std.specs.Prelude.{◌≡◌, ◌+◌, ◌≤◌, ◌<◌, true, IfOk, OnOk, vec_len};
+ghost use Rattle.std.specs.Prelude.{◌≡◌, ◌+◌, ◌≤◌, ◌<◌, ◌⊎◌, true, IfOk, OnOk, vec_len};
 ghost use Rattle.std.specs.List.{All};
 ghost use Rattle.netlist.specs.Holds.{AreHoldsOf};
 ghost use Rattle.cubes.specs.Cubes.{IsCubeOf};
 ghost use Rattle.redundancy_cert.specs.Evidence.{HasEvidence};
+ghost use Rattle.list_core.specs.States.{MaySettle};
 ghost use Rattle.list_core.specs.Subjects.{HaveLines};
+ghost use Rattle.shared_list.specs.Tally.{gave};
 
 use crate::adding::add;
 use crate::publishing::publish_cubes;
 use cubes::Cube;
-use list_core::{About, Claim};
+use list_core::{About, Claim, Settling};
 use netlist::{Core, Holds, NoMemory};
 use outside::{Gate, Stage};
 use rand_core::Rng;
 use rand_pcg::Lcg64Xsh32;
-use redundancy_cert::{Engine, Found};
+use redundancy_cert::{Engine, Found, Tree};
 use shared_list::{Drawn, Share, Shared};
 use std::alloc::Global;
 use std::sync::Wait;
@@ -66,11 +68,31 @@ pub fn work<J: About, T: Ledger, S: Ledger, P: Ledger, U: Ledger, E: Engine, G: 
     )
 }
 
-/// Keeps the cube of a test; a tree settles the claim.
-fn answer<J: About, T: Ledger, S: Ledger, P: Ledger, U: Ledger, R: Wait>(
+/// Hands a claim back with its tree, and passes the stage if the class took it.
+fn settle<J: About, T: Ledger, S: Ledger, P: Ledger, U: Ledger, G: Gate, R: Wait>(
     rt: &R,
     shared: &Shared<J, T, S, P, U>,
     share: &mut Share<T, S, P, U>,
+    stage: &G,
+    claim: Claim<J>,
+    tree: Tree,
+    settled: Stage,
+)
+    requires table { share.old.table ≡ shared.now.word.shared.table_id }
+    requires fits { MaySettle J.subject claim.fault tree }
+    ensures { (share.new ≡ gave share.old) ⊎ (share.new ≡ share.old) }
+{
+    if let Settling::Settled = shared.settle(rt, share, claim, tree) {
+        stage.at(share.worker(), settled);
+    }
+}
+
+/// Keeps the cube of a test; a tree settles the claim.
+fn answer<J: About, T: Ledger, S: Ledger, P: Ledger, U: Ledger, G: Gate, R: Wait>(
+    rt: &R,
+    shared: &Shared<J, T, S, P, U>,
+    share: &mut Share<T, S, P, U>,
+    stage: &G,
     claim: Claim<J>,
     found: Found,
     cubes: &mut Vec<Cube>,
@@ -86,9 +108,8 @@ fn answer<J: About, T: Ledger, S: Ledger, P: Ledger, U: Ledger, R: Wait>(
 {
     match found {
         Found::Test(cube, _) => add(cubes, cube)?,
-        Found::Closed(tree) | Found::Partial(tree) => {
-            let _ = shared.settle(rt, share, claim, tree);
-        }
+        Found::Closed(tree) => settle(rt, shared, share, stage, claim, tree, Stage::Redundant),
+        Found::Partial(tree) => settle(rt, shared, share, stage, claim, tree, Stage::Aborted),
     }
     Ok(())
 }
@@ -179,7 +200,7 @@ pub(crate) fn work_beside<
             holds,
         )?;
         room = kept;
-        answer(rt, shared, share, claim, found, &mut cubes)?;
+        answer(rt, shared, share, stage, claim, found, &mut cubes)?;
         enough = publish_full(
             rt,
             alloc,
