@@ -67,13 +67,17 @@ for word in "$@"; do
     esac
 done
 [ -n "$ENDS" ] && { printf '%s\n' "${ENDS#* }" >&2; exit "${ENDS%% *}"; }
-[ "$1" = faults ] && echo "faults 9 classes 7" && [ "$2" = counted ] && exit
 if [ "$2" = large ]; then
     head -c 5000 /dev/zero >"$3.net" 2>/dev/null
     [ $? -eq 1 ] && echo "write failed: $3.net" >&2 && exit 6
 fi
+if [ "$2" = telling ]; then
+    tell() { for ((k = 0; k < 200; k++)); do printf '\n\033[?7l%s of 9 classes settled\033[?7h\033[K\r\033[1A' $k >&2; done; }
+    trap 'tell; exit 143' TERM
+    tell; echo $$ >"$3.pid"; while :; do sleep 0.05 & wait $!; done
+fi
 [ "$2" = slow ] && { echo $$ >"$3.pid"; printf '\n1 classes claimed\033[K\r\033[1A' >&2; exec sleep 60; }
-echo "$said $*${ATPG_CLASSES+ of $ATPG_CLASSES}"
+echo "$said $*"
 [ "$1" != play ]
 """
 
@@ -279,6 +283,49 @@ def test_launcher_interrupted_at_work():
             assert shown.endswith(b"\033[J") and not is_at_work(pid) and made.left() == [], (shown, made.left())
 
 
+def rows_of(shown):
+    """What stands on the rows of a terminal that was told this, where the rows are wide enough and many enough."""
+    rows, row, column = {}, 0, 0
+    for piece in re.findall(r"\x1b\[[?0-9]*[A-Za-z]|[\r\n]|[^\x1b\r\n]+", shown):
+        if piece == "\n":
+            row += 1
+        elif piece == "\r":
+            column = 0
+        elif piece == "\x1b[1A":
+            row -= 1
+        elif piece in ("\x1b[K", "\x1b[J"):
+            rows = {place: text for place, text in rows.items() if piece == "\x1b[K" or place <= row}
+            rows[row] = rows.get(row, "")[:column]
+        elif piece not in ("\x1b[?7l", "\x1b[?7h"):
+            rows[row] = rows.get(row, "").ljust(column)[:column] + piece + rows.get(row, "")[column + len(piece):]
+            column += len(piece)
+    return [rows[place].rstrip() for place in sorted(rows) if rows[place].strip()]
+
+
+def test_launcher_interrupted_as_it_tells():
+    """Interrupted by the keyboard, nothing of the line stays on the terminal, though the program writes it to its last moment."""
+    assert rows_of("a\r\n12 of 9\x1b[K\r\x1b[1A") == ["a", "12 of 9"] and rows_of("a\r\n12 of 9\r\x1b[1A\x1b[J") == []
+    with built_tree() as made:
+        words = made.words(made.root / "atpg", "scan", "telling", "b")
+        for _ in range(5):
+            child, ours = pty.fork()
+            if child == 0:
+                os.chdir(words["cwd"])
+                os.execvpe(words["args"][0], words["args"], words["env"])
+            shown = b""
+            while shown.count(b"\033[1A") < 200:
+                shown += os.read(ours, 4096)
+            pid = made.pid_in("b.pid")
+            os.write(ours, b"\x03")
+            with contextlib.suppress(OSError):  # the terminal's end
+                while piece := os.read(ours, 4096):
+                    shown += piece
+            os.close(ours)
+            assert os.waitstatus_to_exitcode(os.waitpid(child, 0)[1]) == 130
+            assert rows_of(shown.decode()) in ([], ["^C"]), rows_of(shown.decode())
+            assert not is_at_work(pid) and made.left() == [], made.left()
+
+
 def test_launcher_killed():
     """Where it is ended by a signal that nobody can catch, the program ends too."""
     if shutil.which("setpriv") is None:
@@ -299,7 +346,7 @@ def test_launcher_staleness():
         assert [line.rpartition(" (")[0] for line in out.splitlines()[2:5]] == [
             "build: 1 of 3: netlist", "build: 2 of 3: below", "build: 3 of 3: atpg_main"], out
         assert made.left() == [], made.left()
-        ran = (0, "faults 9 classes 7\nran faults x\n", "")
+        ran = (0, "ran faults x\n", "")
         assert made.atpg("faults", "x") == ran
         assert made.atpg("play", "x", "y") == (1, "ran play x y\n", "")
         for name in ("netlist", "below", "atpg_main"):
@@ -326,7 +373,7 @@ def test_launcher_by_a_link():
         assert made.build()[0] == 0
         (made.folder / "link").symlink_to(made.root / "atpg")
         (made.folder / "second").symlink_to("link")
-        assert made.run(made.folder / "second", "faults", "x") == (0, "faults 9 classes 7\nran faults x\n", "")
+        assert made.run(made.folder / "second", "faults", "x") == (0, "ran faults x\n", "")
         (made.folder / "made").symlink_to(made.root / "build")
         assert made.run(made.folder / "made") == (0, "build: nothing changed since the last build\n", "")
 
@@ -342,19 +389,6 @@ def test_launcher_help():
         assert made.atpg("run", "--bad", "--help") == (2, "", "error: unexpected argument\n")
         assert made.atpg("play", "a", "b", "--fault", "-h")[2] == "Usage: atpg\n"  # a value: the program's to say
         assert made.atpg("scan", "--", "-h", "b")[2] == "Usage: atpg\n"
-
-
-def test_launcher_counts_classes():
-    """Where the line that says how far a run is will be shown, the program is told of how many classes."""
-    with tree() as made:
-        made.add_rt()
-        assert made.build()[0] == 0
-        (made.folder / "counted").write_text("")
-        words = (made.root / "atpg", "run", "counted", "b")
-        assert made.run(*words, ATPG_PROGRESS="1")[1] == "ran run counted b of 7\n"
-        assert made.run(*words, ATPG_PROGRESS="0")[1] == "ran run counted b\n"
-        assert made.run(*words)[1] == "ran run counted b\n"
-        assert made.run(*words, ATPG_PROGRESS="1", ATPG_CLASSES="5")[1] == "ran run counted b of 5\n"
 
 
 def test_launcher_looks_first():
@@ -577,8 +611,6 @@ def test_installed():
             assert made.run(atpg, "run", "a.bench", "b", ENDS="3 netlist line 1: BadLine")[2].startswith("netlist line 1: BadLine\n  INPUT(a)\n")
             assert made.run(atpg, "run", "a.bench", "b", ENDS="3 netlist line 1: BadLine", PATH=path)[2] == "netlist line 1: BadLine\n"
             assert made.run("bash", "-c", 'ulimit -f 1; exec "$@"', "limited", atpg, "run", "large", "b")[0] == 6
-            (made.folder / "counted").write_text("")
-            assert made.run(atpg, "run", "counted", "b", ATPG_PROGRESS="1")[1] == "ran run counted b of 7\n"
         (made.folder / "usr_bin" / "atpg").rename(made.folder / "alone")
         shutil.rmtree(other)
         assert made.run(made.folder / "alone", "scan", "x", "y")[0] == 2
@@ -644,7 +676,7 @@ def test_build_to_a_folder():
         to = made.folder / "some" / "bin"
         status, out, errors = made.build("--to", to, "--keep")
         assert status == 0, errors
-        assert made.run(to / "atpg", "faults", "x") == (0, "faults 9 classes 7\nran faults x\n", "")
+        assert made.run(to / "atpg", "faults", "x") == (0, "ran faults x\n", "")
         assert not (to / "atpg-check").exists()
         assert len(made.left()) == 1, made.left()
         assert not any((made.temporary / made.left()[0] / "crates").glob("other"))

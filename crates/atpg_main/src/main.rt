@@ -3,7 +3,7 @@
 //! Proved: it is safe; it has no contract of its own, so no wrong body of it can be refused.
 //! Tested: that it hands the real words, files and outputs to `top`, by one stored run, `play` of s27 with a fault, and by the runs of
 //! `tools/program_tests.py`.
-//! Neither: what it says where the words can't be had; the line that shows how far a run is.
+//! Neither: what it says where the words can't be had; the line that shows how far a command is.
 #![tactic(auto)]
 
 mod progress;
@@ -39,7 +39,7 @@ fn main(rt: HostRuntime) -> ExitCode {
     };
     let mut shelf = FolderShelf::new(&rt);
     let mut out = OutSink::new(rt.stdout());
-    let progress = Progress::new(&rt);
+    let progress = Progress::new(&rt, words.as_slice());
     let status = top(
         &rt,
         alloc,

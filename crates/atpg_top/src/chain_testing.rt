@@ -25,7 +25,7 @@ use chain_test::{chain_faults, first_wrong_fails, first_wrongs, flush_fails};
 use commands::{Ending, FileName, Finding, Product, Stop, Work, run_command};
 use fault_universe::{faults_have_signals, few_faults, universe};
 use netlist::{Core, Fault, Netlist, NoMemory};
-use outside::{Shelf, Sink};
+use outside::{Gate, Shelf, Sink};
 use scan_insert::Scanned;
 use std::alloc::Global;
 use stil_vectors::{cycle_count, fitting_cycles, vectors};
@@ -75,8 +75,9 @@ fn hardware_of(alloc: Global, netlist: &Netlist, asked: u32) -> Result<Hardware,
 }
 
 /// What the file shows of each of these faults.
-fn told_of(
+fn told_of<G: Gate>(
     alloc: Global,
+    stage: &G,
     core: &Core,
     faults: &[Fault],
     file: &StilFile,
@@ -94,11 +95,16 @@ fn told_of(
         None => return Err(NoMemory),
     }
     let vectors = vectors(alloc, file)?;
-    first_wrongs(alloc, core, faults, &vectors)
+    first_wrongs(alloc, stage, core, faults, &vectors)
 }
 
 /// The text of what the file shows of the scan hardware.
-fn test_text(alloc: Global, hardware: &Hardware, file: &StilFile) -> Result<Vec<u8>, NoMemory>
+fn test_text<G: Gate>(
+    alloc: Global,
+    stage: &G,
+    hardware: &Hardware,
+    file: &StilFile,
+) -> Result<Vec<u8>, NoMemory>
     requires fits { FitsNetlist file.now hardware.now.scanned.netlist }
     requires signals { All (λ (f : Stuck). signal_of f.line < length (signals hardware.now.scanned.netlist)) hardware.now.faults.items }
     ensures { IfOk result (λ text. IsTestText hardware.now file.now text.items) }
@@ -108,17 +114,22 @@ fn test_text(alloc: Global, hardware: &Hardware, file: &StilFile) -> Result<Vec<
         Ok(core) => core,
         Err((refusal, _)) => return Err(refusal),
     };
-    let told = told_of(alloc, &core, &hardware.faults, file)?;
+    let told = told_of(alloc, stage, &core, &hardware.faults, file)?;
     chain_test_text(alloc, core.netlist(), &hardware.faults, &told)
 }
 
 /// What the file, which fits, shows of the scan hardware of the design.
-fn tested(alloc: Global, hardware: &Hardware, file: &StilFile) -> Result<Product, Stop<Refusal>>
+fn tested<G: Gate>(
+    alloc: Global,
+    stage: &G,
+    hardware: &Hardware,
+    file: &StilFile,
+) -> Result<Product, Stop<Refusal>>
     requires fits { FitsNetlist file.now hardware.now.scanned.netlist }
     requires signals { All (λ (f : Stuck). signal_of f.line < length (signals hardware.now.scanned.netlist)) hardware.now.faults.items }
     ensures { IsWorked (text_due hardware.now file.now) 0 result }
 {
-    match test_text(alloc, hardware, file) {
+    match test_text(alloc, stage, hardware, file) {
         Ok(shown) => Ok(Product {
             texts: Vec::new(alloc),
             shown,
@@ -129,7 +140,12 @@ fn tested(alloc: Global, hardware: &Hardware, file: &StilFile) -> Result<Product
 }
 
 /// Puts scan cells into the design, and tests them if the file fits.
-fn tried(alloc: Global, trial: &ChainTrial, asked: u32) -> Result<Product, Stop<Refusal>>
+fn tried<G: Gate>(
+    alloc: Global,
+    stage: &G,
+    trial: &ChainTrial,
+    asked: u32,
+) -> Result<Product, Stop<Refusal>>
     requires design { IsDesign trial.now.netlist }
     requires some { 1 ≤ asked }
     ensures { IsWorked (test_due asked trial.now.netlist trial.now.file) 0 result }
@@ -142,16 +158,17 @@ fn tried(alloc: Global, trial: &ChainTrial, asked: u32) -> Result<Product, Stop<
     };
     hardware.scanned.netlist().sound();
     match fitting(alloc, &trial.file, hardware.scanned.netlist()) {
-        Ok(()) => tested(alloc, &hardware, &trial.file),
+        Ok(()) => tested(alloc, stage, &hardware, &trial.file),
         Err(stop) => Err(stop),
     }
 }
 
 /// Shows what the file `stil` shows of the faults in the scan hardware of the netlist of the file `net`, in at most so many chains.
-pub fn test_chains<'a, S: Shelf, T: Sink>(
+pub fn test_chains<'a, S: Shelf, T: Sink, G: Gate>(
     alloc: Global,
     shelf: &mut S,
     out: &mut T,
+    stage: &G,
     net: &'a str,
     stil: &'a str,
     chains: u32,
@@ -162,16 +179,17 @@ pub fn test_chains<'a, S: Shelf, T: Sink>(
         (world (S.files shelf.new) (S.failures shelf.new) (T.taken out.new) (T.failures out.new)) result }
 {
     let reads = [FileName::of(net), FileName::of(stil)];
-    run_command(alloc, shelf, out, &reads, &[], &ChainTest { chains })
+    run_command(alloc, shelf, out, &reads, &[], &ChainTest { chains, stage })
 }
 
 /// The work of `chaintest`, for at most so many chains.
-#[derive(Clone, Copy, Debug)]
-struct ChainTest {
+#[derive(Drop)]
+struct ChainTest<'a, G: Gate> {
     chains: u32,
+    stage: &'a G,
 }
 
-impl Work for ChainTest {
+impl<G: Gate> Work for ChainTest<'_, G> {
     type Refusal = Refusal;
 
     ghost can_work = { λ test. 1 ≤ test.chains };
@@ -188,7 +206,7 @@ impl Work for ChainTest {
         match trial_of(alloc, net, stil) {
             Ok(trial) => {
                 drop(texts);
-                tried(alloc, &trial, self.chains)
+                tried(alloc, self.stage, &trial, self.chains)
             }
             Err(stop) => Err(stop),
         }

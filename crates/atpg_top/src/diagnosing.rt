@@ -34,7 +34,7 @@ use fault_collapse::{Classes, collapse};
 use fault_universe::{FaultSet, faults_have_signals, push_text};
 use itoa::Buffer;
 use netlist::{Core, Fault, Netlist, NoMemory};
-use outside::{Shelf, Sink};
+use outside::{Gate, Shelf, Sink};
 use scan_insert::Scanned;
 use scan_insert::laws::scanned_is_sound;
 use scan_play::Vectors;
@@ -93,9 +93,10 @@ fn core_of(alloc: Global, scanned: &Scanned) -> Result<Core, NoMemory>
 }
 
 /// The places of the faults that explain the log of a file that fits.
-fn suspects<R: Threads + Sync>(
+fn suspects<R: Threads + Sync, G: Gate + Sync>(
     rt: &R,
     alloc: Global,
+    stage: &G,
     scanned: &Scanned,
     faults: &FaultSet,
     classes: &Classes,
@@ -112,7 +113,7 @@ fn suspects<R: Threads + Sync>(
     let core = core_of(alloc, scanned)?;
     let cycles = cycles_of(alloc, &case.file)?;
     candidates(
-        rt, alloc, &core, scanned, faults, classes, &cycles, &case.log, workers,
+        rt, alloc, stage, &core, scanned, faults, classes, &cycles, &case.log, workers,
     )
 }
 
@@ -158,9 +159,10 @@ fn text_of(
 }
 
 /// What is printed of a case whose file fits.
-fn diagnosis<R: Threads + Sync>(
+fn diagnosis<R: Threads + Sync, G: Gate + Sync>(
     rt: &R,
     alloc: Global,
+    stage: &G,
     scanned: &Scanned,
     case: &Case,
     options: DiagnoseOptions,
@@ -176,7 +178,16 @@ fn diagnosis<R: Threads + Sync>(
     candidates_tell_the_truth();
     let faults = faults_of(alloc, &case.netlist)?;
     let classes = collapse(alloc, &case.netlist, &faults)?;
-    let found = suspects(rt, alloc, scanned, &faults, &classes, case, options.workers)?;
+    let found = suspects(
+        rt,
+        alloc,
+        stage,
+        scanned,
+        &faults,
+        &classes,
+        case,
+        options.workers,
+    )?;
     match text_of(alloc, &case.netlist, &faults, &found) {
         Ok(text) => Ok(text),
         Err(_) => Err(NoMemory),
@@ -184,9 +195,10 @@ fn diagnosis<R: Threads + Sync>(
 }
 
 /// The product of a case whose file fits.
-fn product_of<R: Threads + Sync>(
+fn product_of<R: Threads + Sync, G: Gate + Sync>(
     rt: &R,
     alloc: Global,
+    stage: &G,
     scanned: &Scanned,
     case: &Case,
     options: DiagnoseOptions,
@@ -197,7 +209,7 @@ fn product_of<R: Threads + Sync>(
     requires fits { FitsNetlist case.now.file scanned.now.netlist }
     ensures { IsWorked (diagnosis_due options.chains case.now.netlist case.now.file case.now.log) 0 result }
 {
-    match diagnosis(rt, alloc, scanned, case, options) {
+    match diagnosis(rt, alloc, stage, scanned, case, options) {
         Ok(shown) => Ok(Product {
             texts: Vec::new(alloc),
             shown,
@@ -208,9 +220,10 @@ fn product_of<R: Threads + Sync>(
 }
 
 /// Diagnoses a case, if its file fits the scanned design.
-fn fitted<R: Threads + Sync>(
+fn fitted<R: Threads + Sync, G: Gate + Sync>(
     rt: &R,
     alloc: Global,
+    stage: &G,
     scanned: &Scanned,
     case: &Case,
     options: DiagnoseOptions,
@@ -221,15 +234,16 @@ fn fitted<R: Threads + Sync>(
     ensures { IsWorked (case_due options.chains case.now.netlist case.now.file case.now.log) 0 result }
 {
     match fitting(alloc, &case.file, scanned.netlist()) {
-        Ok(()) => product_of(rt, alloc, scanned, case, options),
+        Ok(()) => product_of(rt, alloc, stage, scanned, case, options),
         Err(stop) => Err(stop),
     }
 }
 
 /// Diagnoses a case, the design scanned as the options say.
-fn diagnosed<R: Threads + Sync>(
+fn diagnosed<R: Threads + Sync, G: Gate + Sync>(
     rt: &R,
     alloc: Global,
+    stage: &G,
     case: &Case,
     options: DiagnoseOptions,
 ) -> Result<Product, Stop<Refusal>>
@@ -238,14 +252,15 @@ fn diagnosed<R: Threads + Sync>(
     ensures { IsWorked (case_due options.chains case.now.netlist case.now.file case.now.log) 0 result }
 {
     match scanned_of(alloc, &case.netlist, options.chains) {
-        Ok(scanned) => fitted(rt, alloc, &scanned, case, options),
+        Ok(scanned) => fitted(rt, alloc, stage, &scanned, case, options),
         Err(_) => Err(Stop::NoMemory),
     }
 }
 
-fn work<R: Threads + Sync>(
+fn work<R: Threads + Sync, G: Gate + Sync>(
     rt: &R,
     alloc: Global,
+    stage: &G,
     texts: Vec<Vec<u8>>,
     options: DiagnoseOptions,
 ) -> Result<Product, Stop<Refusal>>
@@ -260,18 +275,19 @@ fn work<R: Threads + Sync>(
     match case_of(alloc, net, stil, log) {
         Ok(case) => {
             drop(texts);
-            diagnosed(rt, alloc, &case, options)
+            diagnosed(rt, alloc, stage, &case, options)
         }
         Err(stop) => Err(stop),
     }
 }
 
 /// Shows the faults of the netlist of the file `net` that explain what failed, by the file `log`, when the file `stil` was played on the chip.
-pub fn diagnose_log<'a, R: Threads + Sync, S: Shelf, T: Sink>(
+pub fn diagnose_log<'a, R: Threads + Sync, S: Shelf, T: Sink, G: Gate + Sync>(
     rt: &R,
     alloc: Global,
     shelf: &mut S,
     out: &mut T,
+    stage: &G,
     net: &'a str,
     stil: &'a str,
     log: &'a str,
@@ -287,6 +303,6 @@ pub fn diagnose_log<'a, R: Threads + Sync, S: Shelf, T: Sink>(
         Ok(texts) => texts,
         Err(ending) => return ending,
     };
-    let worked = work(rt, alloc, texts, options);
+    let worked = work(rt, alloc, stage, texts, options);
     deliver(alloc, shelf, out, &[], worked)
 }

@@ -111,19 +111,19 @@ fn perform<'a, R: Threads + Wait + Sync, S: Shelf, T: Sink, G: Gate + Sync>(
             sweep_sample(rt, alloc, shelf, out, stage, *seed, *gates)
         }
         Request::ChainTest { net, stil, chains } => {
-            test_chains(alloc, shelf, out, net, stil, *chains)
+            test_chains(alloc, shelf, out, stage, net, stil, *chains)
         }
         Request::Diagnose {
             net,
             stil,
             log,
             options,
-        } => diagnose_log(rt, alloc, shelf, out, net, stil, log, *options),
+        } => diagnose_log(rt, alloc, shelf, out, stage, net, stil, log, *options),
         Request::Transition {
             net,
             prefix,
             options,
-        } => test_slow_lines(rt, alloc, shelf, out, net, prefix, *options),
+        } => test_slow_lines(rt, alloc, shelf, out, stage, net, prefix, *options),
     }
 }
 

@@ -21,7 +21,7 @@ use command_line::{EngineName, RunOptions};
 use commands::{Ending, FileName, Product, Stop, deliver, file_names, read_in_order};
 use fan::Fan;
 use netlist::{Core, Fault, Line, Netlist, NoMemory};
-use outside::{Shelf, Sink};
+use outside::{Gate, Shelf, Sink};
 use podem::Podem;
 use redundancy_cert::Engine;
 use std::alloc::{AllocError, Global};
@@ -66,9 +66,10 @@ fn some_frames(alloc: Global, netlist: &Netlist) -> Result<Core, NoMemory>
 }
 
 /// The five files, as this engine finds them.
-fn made_by<R: Threads + Sync, E: Engine + Sync>(
+fn made_by<R: Threads + Sync, E: Engine + Sync, G: Gate + Sync>(
     rt: &R,
     alloc: Global,
+    stage: &G,
     core: &Core,
     options: RunOptions,
     engine: &E,
@@ -83,13 +84,14 @@ fn made_by<R: Threads + Sync, E: Engine + Sync>(
         limit: options.limit,
         seed: options.seed,
     };
-    transition_files(rt, alloc, core, plan, engine)
+    transition_files(rt, alloc, stage, core, plan, engine)
 }
 
 /// The five files, as the engine that was asked for finds them.
-fn made_of<R: Threads + Sync>(
+fn made_of<R: Threads + Sync, G: Gate + Sync>(
     rt: &R,
     alloc: Global,
+    stage: &G,
     core: &Core,
     options: RunOptions,
 ) -> Result<TransitionFiles, NoMemory>
@@ -101,19 +103,20 @@ fn made_of<R: Threads + Sync>(
     match options.engine {
         EngineName::Podem => {
             let podem = Podem::of(alloc, &guide)?;
-            made_by(rt, alloc, core, options, &podem)
+            made_by(rt, alloc, stage, core, options, &podem)
         }
         EngineName::Fan => {
             let fan = Fan::of(alloc, &guide)?;
-            made_by(rt, alloc, core, options, &fan)
+            made_by(rt, alloc, stage, core, options, &fan)
         }
     }
 }
 
 /// What `transition` makes of a design.
-fn test_design<R: Threads + Sync>(
+fn test_design<R: Threads + Sync, G: Gate + Sync>(
     rt: &R,
     alloc: Global,
+    stage: &G,
     netlist: Netlist,
     options: RunOptions,
 ) -> Result<Product, Stop<Refusal>>
@@ -124,7 +127,7 @@ fn test_design<R: Threads + Sync>(
     let Ok(core) = Core::of(alloc, netlist) else {
         return Err(Stop::NoMemory);
     };
-    let Ok(made) = made_of(rt, alloc, &core, options) else {
+    let Ok(made) = made_of(rt, alloc, stage, &core, options) else {
         return Err(Stop::NoMemory);
     };
     match product_by(alloc, made) {
@@ -134,9 +137,10 @@ fn test_design<R: Threads + Sync>(
 }
 
 /// The work of `transition`.
-fn work<R: Threads + Sync>(
+fn work<R: Threads + Sync, G: Gate + Sync>(
     rt: &R,
     alloc: Global,
+    stage: &G,
     texts: Vec<Vec<u8>>,
     options: RunOptions,
 ) -> Result<Product, Stop<Refusal>>
@@ -146,17 +150,18 @@ fn work<R: Threads + Sync>(
     ensures { IsWorked (transition_due options (texts_of texts.items)) 5 result }
 {
     match design_of(alloc, texts) {
-        Ok(netlist) => test_design(rt, alloc, netlist, options),
+        Ok(netlist) => test_design(rt, alloc, stage, netlist, options),
         Err(stop) => Err(stop),
     }
 }
 
 /// Writes the five files of the slow lines of the netlist of the file `net` under names that begin with `prefix`.
-pub fn test_slow_lines<'a, R: Threads + Sync, S: Shelf, T: Sink>(
+pub fn test_slow_lines<'a, R: Threads + Sync, S: Shelf, T: Sink, G: Gate + Sync>(
     rt: &R,
     alloc: Global,
     shelf: &mut S,
     out: &mut T,
+    stage: &G,
     net: &'a str,
     prefix: &'a str,
     options: RunOptions,
@@ -172,6 +177,6 @@ pub fn test_slow_lines<'a, R: Threads + Sync, S: Shelf, T: Sink>(
         Ok(texts) => texts,
         Err(ending) => return ending,
     };
-    let worked = work(rt, alloc, texts, options);
+    let worked = work(rt, alloc, stage, texts, options);
     deliver(alloc, shelf, out, &writes, worked)
 }

@@ -123,7 +123,6 @@ brought m bits j b few e = elim (cases_lt j (length bits)) [
 -- ---- what is fed to a chain
 
 module _ (n : Netlist) (holds : Holds) (fit : AreHoldsOf n holds) (chains : List (List ℕ)) (tests : List (Pattern × Response)) (c : ℕ) (own : List ℕ) (e : slice_get chains c ≡ Some own) where
-
   load_feeds : (bits : List Bool) (held : List Tri) (i : ℕ) → i < longest_of chains
       → get_or (map (driven (λ b. b) (length n.inputs + 1 + c)) (load n holds chains bits held)) i false ≡ get_or (word_in (longest_of chains) (piece chains c bits)) i false
   load_feeds bits held i l =

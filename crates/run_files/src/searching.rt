@@ -18,7 +18,7 @@ use fault_collapse::Classes;
 use fault_universe::{faults_have_lines, few_faults};
 use list_core::{About, FaultList, Verdict};
 use netlist::{Core, Holds, NoMemory};
-use outside::Gate;
+use outside::{Gate, Stage};
 use redundancy_cert::{Engine, closed_tree_is_redundant};
 use reverse_compact::{Finished, compact};
 use std::alloc::{AllocError, Global};
@@ -44,6 +44,19 @@ fn redundant_marks<J: About>(alloc: Global, list: &FaultList<J>) -> Result<Vec<b
         marks.push(is_redundant(list.verdict(class)))?;
     }
     Ok(marks)
+}
+
+/// What is passed once the workers have ended: all classes are answered.
+fn answered<J: About>(list: &FaultList<J>) -> Stage {
+    let mut detected = 0u64;
+    for class in 0..list.count() {
+        let is_detected = matches!(list.verdict(class), Verdict::Detected(_, _));
+        detected = detected.saturating_add(is_detected as u64);
+    }
+    Stage::Answered {
+        count: list.count() as u64,
+        detected,
+    }
 }
 
 /// The list compacted: each worker goes over a part of the classes for the last pattern that detects each. Redundant ones are left out, since
@@ -94,6 +107,12 @@ fn search_named<J: About + Send + Sync, E: Engine + Sync, G: Gate + Sync, R: Thr
     ensures verdicts { IfOk result (λ f. AreVerdicts core.now holds.now classes.now plan.limit f.patterns.items f.verdicts.items) }
     ensures few { IfOk result (λ f. length f.patterns.items < 2 ^ 32) }
 {
+    stage.at(
+        0,
+        Stage::Begun {
+            count: classes.count() as u64,
+        },
+    );
     let list = FaultList::<J>::new(alloc, core, classes, plan.limit, holds)?;
     let list = run_all(
         rt,
@@ -106,6 +125,7 @@ fn search_named<J: About + Send + Sync, E: Engine + Sync, G: Gate + Sync, R: Thr
         plan.seed,
         holds,
     )?;
+    stage.at(0, answered(&list));
     finish_beside(rt, alloc, core, classes, list, plan.workers)
 }
 

@@ -18,6 +18,7 @@ use chain_stitch::{Chains, stitch};
 use cubes::Pattern;
 use fault_universe::{FaultSet, faults_have_lines, faults_have_signals, few_faults, universe};
 use netlist::{Core, Netlist, NoMemory};
+use outside::{Gate, Stage};
 use redundancy_cert::Engine;
 use run_report::pin_names;
 use scan_insert::insert;
@@ -149,10 +150,20 @@ fn texts_of(
     })
 }
 
+/// What is passed once the drawn patterns are simulated: the faults that they detect are answered.
+fn drawn(left: &[bool]) -> Stage {
+    let detected = left.iter().filter(|is_left| !**is_left).count() as u64;
+    Stage::Answered {
+        count: detected,
+        detected,
+    }
+}
+
 /// Tests of these faults: drawn patterns, searches for what they leave, and of all patterns those that are needed.
-fn slow_tests<R: Threads + Sync, E: Engine + Sync>(
+fn slow_tests<R: Threads + Sync, E: Engine + Sync, G: Gate + Sync>(
     rt: &R,
     alloc: Global,
+    stage: &G,
     core: &Core,
     faults: &FaultSet,
     plan: TransitionPlan,
@@ -167,12 +178,20 @@ fn slow_tests<R: Threads + Sync, E: Engine + Sync>(
 {
     let netlist = core.netlist();
     netlist.sound();
+    stage.at(
+        0,
+        Stage::Begun {
+            count: faults.len() as u64,
+        },
+    );
     let batch = batch_of(alloc, core, plan.seed)?;
     let left = left_by(alloc, core, faults, batch.as_slice())?;
     let marks = left.as_slice();
+    stage.at(0, drawn(marks));
     let found = search_left(
         rt,
         alloc,
+        stage,
         netlist,
         engine,
         faults,
@@ -186,9 +205,10 @@ fn slow_tests<R: Threads + Sync, E: Engine + Sync>(
 }
 
 /// Makes the five files of a design's transition faults. Whatever the number of workers, what the files say comes true.
-pub fn transition_files<R: Threads + Sync, E: Engine + Sync>(
+pub fn transition_files<R: Threads + Sync, E: Engine + Sync, G: Gate + Sync>(
     rt: &R,
     alloc: Global,
+    stage: &G,
     core: &Core,
     plan: TransitionPlan,
     engine: &E,
@@ -204,7 +224,7 @@ pub fn transition_files<R: Threads + Sync, E: Engine + Sync>(
     few_faults();
     let chains = stitch(alloc, netlist.cells(), plan.chains)?;
     let faults = universe(alloc, netlist)?;
-    let tests = slow_tests(rt, alloc, core, &faults, plan, engine)?;
+    let tests = slow_tests(rt, alloc, stage, core, &faults, plan, engine)?;
     let files = texts_of(alloc, core, &chains, &faults, tests, plan.limit)?;
     written_tells_the_truth();
     Ok(files)

@@ -12,12 +12,12 @@ use Rattle.atpg_top.proofs.PlayLemmas.{then_worked}
 use Rattle.atpg_top.proofs.chain_testing.tried.Goals as goal
 
 pub tested-requires-clause-signals : goal.tested-requires-clause-signals
-tested-requires-clause-signals c =
+tested-requires-clause-signals g c =
     hardware_signals c.faults_have_signals.ensures c.args.trial.now.netlist (design_chains c.args.trial.now.netlist c.args.asked) c.in-Ok.hardware c.in-Ok.ensures
     (subst IsSound c.netlist.ensures c.sound-2.ensures)
 
 pub returns-in-Ok-fitting : goal.returns-in-Ok-fitting
-returns-in-Ok-fitting c =
+returns-in-Ok-fitting g c =
     let n = c.args.trial.now.netlist in
     let file = c.args.trial.now.file in
     let chains = design_chains n c.args.asked in
