@@ -71,25 +71,53 @@ def test_try_guide():
     assert tried("```console\n$ ./atpg --version\n...\n```\n")[0] in (0, 2)
 
 
-# The line that shows how far a run is, by the proved build where it stands.
+# The line that shows how far a command is.
 
-PROGRAM = ROOT / "built/atpg"
-SHOWN = re.compile(r"\n(\d+) (?:of at most (\d+) )?searches, (\d+) batches of patterns, (\d+) s\x1b\[K\r\x1b\[1A")
+COUNTS = {
+    "run": r"(\d+) of (\d+) classes settled, (\d+)% detected, (\d+) searches, (\d+) batches, (\d+) s",
+    "transition": r"(\d+) of (\d+) faults answered, (\d+) detected, (\d+) s",
+    "chaintest": r"(\d+) of (\d+) faults answered, (\d+) detected, (\d+) s",
+    "diagnose": r"(\d+) of (\d+) classes answered, (\d+) explain the log, (\d+) s",
+}
 
 
-def shown_by(folder, **more):
-    """The standard output and error of a run that takes a moment."""
-    done = subprocess.run([PROGRAM, "run", "long.bench", "long", "--workers", "2"], cwd=folder, capture_output=True,
+def built():
+    """The program and the bits of a multiplier that takes it a moment: as `rt ci` has built it, else as ./build or ./atpg has, of these sources."""
+    ours = ROOT / "crates/atpg_main/out/atpg_main"
+    if ours.exists():
+        return ours, 64
+    total = subprocess.run([ROOT / "tools/source_sum"], capture_output=True, text=True).stdout
+    for program, bits in ((ROOT / "built/atpg", 64), (ROOT / "built/unproved/atpg", 5)):
+        sources = program.with_name("atpg.sources")
+        if program.exists() and sources.exists() and sources.read_text() == total:
+            return program, bits
+    return None, 0
+
+
+def said_by(program, folder, *words, progress=None):
+    """Standard output and error of a command, the program's own."""
+    more = {} if progress is None else {"ATPG_PROGRESS": progress}
+    done = subprocess.run([program, *words], cwd=folder, capture_output=True,
                           env={word: value for word, value in os.environ.items() if not word.startswith("ATPG_")} | more)
-    said, shown = done.stdout.decode(), done.stderr.decode()  # as bytes: a text's ends of line would be made alike
-    assert done.returncode == 0 and said.startswith("faults "), done
-    return said, shown
+    assert done.returncode == 0, done
+    return done.stdout.decode(), done.stderr.decode()  # as bytes: a text's ends of line would be made alike
 
 
-def on_a_terminal(folder):
+def counts_in(command, shown):
+    """The counts of each line. Nothing else is shown, and it goes away at the end; no count ever falls, and one of them is the same in all."""
+    line = re.compile(r"\n\x1b\[\?7l" + COUNTS[command] + r"\x1b\[\?7h\x1b\[K\r\x1b\[1A")
+    found = [[int(count) for count in each] for each in line.findall(shown)]
+    assert found and line.sub("", shown) == "\x1b[J", shown
+    for counts in zip(*found):
+        assert list(counts) == sorted(counts), counts
+    assert all(each[0] <= each[1] == found[0][1] for each in found), found
+    return found
+
+
+def on_a_terminal(program, folder):
     """What a run shows where its standard error is a terminal."""
     ours, its = pty.openpty()
-    child = subprocess.Popen([PROGRAM, "run", "long.bench", "long"], cwd=folder, stdout=subprocess.DEVNULL, stderr=its)
+    child = subprocess.Popen([program, "run", "long.bench", "long"], cwd=folder, stdout=subprocess.DEVNULL, stderr=its)
     os.close(its)
     shown = b""
     with contextlib.suppress(OSError):  # the terminal's end
@@ -101,23 +129,29 @@ def on_a_terminal(folder):
 
 
 def test_progress():
-    """Counts go up, the line goes away at the end, and nothing is shown where it isn't asked for."""
-    if not PROGRAM.exists():
-        return "ok, but there is no proved build: the line wasn't looked at"
+    """Counts go up to all that there is, the line goes away at the end, and nothing is shown where it isn't asked for."""
+    program, bits = built()
+    if program is None:
+        return "ok, but there is no build: the line wasn't looked at"
     with tempfile.TemporaryDirectory() as name:
         folder = pathlib.Path(name)
-        subprocess.run([ROOT / "bench/measure/make_circuits.py", "--into", folder, "multiplier:64"], capture_output=True, check=True)
-        (folder / "multiplier_64.bench").rename(folder / "long.bench")
-        for more, classes in (({"ATPG_PROGRESS": "1", "ATPG_CLASSES": "77"}, "77"), ({"ATPG_PROGRESS": "1"}, "")):
-            shown = shown_by(folder, **more)[1]
-            found = SHOWN.findall(shown)
-            assert found and SHOWN.sub("", shown) == "\x1b[J", shown
-            assert all(each[1] == classes for each in found)
-            for place in (0, 2, 3):
-                counts = [int(each[place]) for each in found]
-                assert counts == sorted(counts), counts
-        assert shown_by(folder)[1] == shown_by(folder, ATPG_PROGRESS="0")[1] == ""
-        assert SHOWN.search(on_a_terminal(folder))
+        subprocess.run([ROOT / "bench/measure/make_circuits.py", "--into", folder, f"multiplier:{bits}"], capture_output=True, check=True)
+        (folder / f"multiplier_{bits}.bench").rename(folder / "long.bench")
+        (folder / "long.log").write_text("atpg fail log 1\n")
+        classes = int(said_by(program, folder, "faults", "long.bench")[0].split()[3])
+        for words in (("run", "long.bench", "long"), ("transition", "long.bench", "slow", "--limit", "1"), ("chaintest", "long.bench", "long.stil"),
+                      ("diagnose", "long.bench", "long.stil", "long.log")):
+            command = words[0]
+            said, shown = said_by(program, folder, *words, progress="1")
+            answered, count, detected = counts_in(command, shown)[-1][:3]
+            assert answered == count == (classes if command in ("run", "diagnose") else int(said.split()[1])), (words, shown)
+            told = int(said.split()[1 if command == "diagnose" else 3])  # a class has several faults, and a pattern detects others too
+            assert command == "run" or detected <= told and (detected == 0) == (told == 0), (words, said, shown)
+            assert command != "chaintest" or detected == told, (words, said, shown)
+            assert said_by(program, folder, *words) == said_by(program, folder, *words, progress="0") == (said, "")
+        shown = said_by(program, folder, "run", "long.bench", "long", "--workers", "2", progress="1")[1]
+        assert counts_in("run", shown)[-1][:2] == [classes, classes], shown
+        assert re.search(COUNTS["run"], on_a_terminal(program, folder))
 
 
 # tools/run_many, with stand-ins for both programs.

@@ -4,7 +4,7 @@
 //! Proved: `make_files`: good files of a design, with the run theorem, for every number of workers and interleaving, searched by any engine that
 //! keeps the trait's contract.
 //! Tested: run by `run`.
-//! Neither: how many patterns and aborted faults there are.
+//! Neither: how many patterns and aborted faults there are; what passes the stage.
 #![tactic(auto)]
 
 mod files;
