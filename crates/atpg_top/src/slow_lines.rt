@@ -26,6 +26,7 @@ use podem::Podem;
 use redundancy_cert::Engine;
 use std::alloc::{AllocError, Global};
 use std::thread::Threads;
+use transition::Trees;
 use transition_frames::frames;
 use transition_run::{TransitionFiles, TransitionPlan, transition_files};
 
@@ -71,6 +72,7 @@ fn made_by<R: Threads + Sync, E: Engine + Sync>(
     alloc: Global,
     core: &Core,
     options: RunOptions,
+    trees: Trees,
     engine: &E,
 ) -> Result<TransitionFiles, NoMemory>
     requires design { IsDesign core.now }
@@ -82,6 +84,7 @@ fn made_by<R: Threads + Sync, E: Engine + Sync>(
         workers: options.workers,
         limit: options.limit,
         seed: options.seed,
+        trees,
     };
     transition_files(rt, alloc, core, plan, engine)
 }
@@ -101,11 +104,11 @@ fn made_of<R: Threads + Sync>(
     match options.engine {
         EngineName::Podem => {
             let podem = Podem::of(alloc, &guide)?;
-            made_by(rt, alloc, core, options, &podem)
+            made_by(rt, alloc, core, options, Trees::OfFrames, &podem)
         }
         EngineName::Fan => {
             let fan = Fan::of(alloc, &guide)?;
-            made_by(rt, alloc, core, options, &fan)
+            made_by(rt, alloc, core, options, Trees::OnPlaces, &fan)
         }
     }
 }
