@@ -8,10 +8,13 @@ import pathlib
 import subprocess
 import tempfile
 
+import check_places
 import fault_list
 import plain_check
 import plain_design
 import plain_play
+import plain_transition
+from sample_netlist import bench_text
 
 ROOT = pathlib.Path(__file__).resolve().parent.parent
 NO_PROGRAM = "left out: rt ci has built no program"
@@ -123,3 +126,20 @@ def test_program_answers():
         expect(folder, "atpg_main", ["play", "cell.scan", "cell.stil"], 0, "passes\n", "")
         words = ["play", "cell.scan", "cell.stil", "--fault", "stem q/0"]
         expect(folder, "atpg_main", words, 1, f"fails at cycle {cycle} signal {pin}\n", "")
+
+
+def test_program_splits_places_of_slow_lines():
+    """Trees of slow lines that FAN makes split and force only what it may on the two frames in which the line alone is slow. On the first netlist six
+    trees don't where those of many lines' netlist are taken; on the other, by the limit of one closed end, 30 searches give up."""
+    if not program("atpg_main").exists():
+        return NO_PROGRAM
+    deep = (ROOT / "bench/oracle/deep_cells.bench").read_bytes()
+    with tempfile.TemporaryDirectory() as room:
+        folder = pathlib.Path(room)
+        for name, text, limit in (("deep", deep, 100), ("sample", bench_text(1, 60).encode(), 100), ("sample", bench_text(1, 60).encode(), 1)):
+            (folder / f"{name}.bench").write_bytes(text)
+            words = ["transition", f"{name}.bench", name, "--engine", "fan", "--limit", str(limit), "--workers", "3"]
+            subprocess.run([program("atpg_main"), *words], cwd=folder, check=True, capture_output=True, timeout=60)
+            certificate = (folder / f"{name}.cert").read_text("latin-1")
+            count, wrong = check_places.wrong_trees(plain_design.read(text), certificate)
+            assert count > 0 and not wrong, (name, limit, count, wrong)

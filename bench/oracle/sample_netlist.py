@@ -40,23 +40,25 @@ def sample(seed, gates):
     return names, flip_flops + drawn
 
 
+def bench_text(seed, gates):
+    """The netlist as .bench, with the last eight gates for outputs."""
+    lines = [f"INPUT(i{k})" for k in range(8)] + [f"OUTPUT(g{k})" for k in range(gates - 8, gates)]
+    lines += [f"{name} = {kind}({', '.join(pins)})" for name, kind, pins in sample(seed, gates)[1]]
+    return "".join(line + "\n" for line in lines)
+
+
 def main():
     first = Pcg32(42, 54)
     published = [0xA15C02B7, 0x7B47F409, 0xBA1D3330, 0x83D2F293, 0xBFA4784B, 0xCBED606E]
     assert [first.next_u32() for _ in published] == published
     seed, gates = int(sys.argv[1]), int(sys.argv[2])
-    names, definitions = sample(seed, gates)
     if "--rust" in sys.argv:
+        names, definitions = sample(seed, gates)
         for name, kind, pins in definitions:
             ids = ", ".join(str(names.index(pin)) for pin in pins)
             print(f"    ({names.index(name)}, Kind::{kind.capitalize()}, &[{ids}]),")
         return
-    for k in range(8):
-        print(f"INPUT(i{k})")
-    for k in range(gates - 8, gates):
-        print(f"OUTPUT(g{k})")
-    for name, kind, pins in definitions:
-        print(f"{name} = {kind}({', '.join(pins)})")
+    print(bench_text(seed, gates), end="")
 
 
 if __name__ == "__main__":

@@ -26,6 +26,7 @@ use podem::Podem;
 use redundancy_cert::Engine;
 use std::alloc::{AllocError, Global};
 use std::thread::Threads;
+use transition::Trees;
 use transition_frames::frames;
 use transition_run::{TransitionFiles, TransitionPlan, transition_files};
 
@@ -72,6 +73,7 @@ fn made_by<R: Threads + Sync, E: Engine + Sync, G: Gate + Sync>(
     stage: &G,
     core: &Core,
     options: RunOptions,
+    trees: Trees,
     engine: &E,
 ) -> Result<TransitionFiles, NoMemory>
     requires design { IsDesign core.now }
@@ -83,6 +85,7 @@ fn made_by<R: Threads + Sync, E: Engine + Sync, G: Gate + Sync>(
         workers: options.workers,
         limit: options.limit,
         seed: options.seed,
+        trees,
     };
     transition_files(rt, alloc, stage, core, plan, engine)
 }
@@ -103,11 +106,11 @@ fn made_of<R: Threads + Sync, G: Gate + Sync>(
     match options.engine {
         EngineName::Podem => {
             let podem = Podem::of(alloc, &guide)?;
-            made_by(rt, alloc, stage, core, options, &podem)
+            made_by(rt, alloc, stage, core, options, Trees::OfFrames, &podem)
         }
         EngineName::Fan => {
             let fan = Fan::of(alloc, &guide)?;
-            made_by(rt, alloc, stage, core, options, &fan)
+            made_by(rt, alloc, stage, core, options, Trees::OnPlaces, &fan)
         }
     }
 }

@@ -20,6 +20,7 @@ ghost use Rattle.transition.specs.Searches.{AreFound, HasFrameEvidence};
 ghost use Rattle.transition.specs.inner.Gathered.{AreGathered};
 
 use crate::own_frames::search_one;
+use crate::places::PlaceRule;
 use fault_universe::FaultSet;
 use netlist::{Core, Fault, Holds, Line, NameTable, Netlist, NoMemory, SignalId};
 use redundancy_cert::{Engine, Found};
@@ -98,6 +99,17 @@ fn tie_fault(netlist: &Netlist, j: usize, fault: &Fault) -> Fault
     }
 }
 
+/// Whether an answer of a batch keeps the engine's rule on its line's own frames, where the engine has one.
+fn keeps_rule(netlist: &Netlist, rule: Option<&PlaceRule>, fault: &Fault, found: &Found) -> bool
+    requires design { IsDesign netlist.now }
+    requires line { IsLineOf netlist.now fault.now.line }
+{
+    match rule {
+        Some(rule) => rule.keeps(netlist, fault, found),
+        None => true,
+    }
+}
+
 /// What was found of a line in a batch, where that carries over to its own two frames; or else what is found on these.
 fn own_answer<E: Engine>(
     alloc: Global,
@@ -106,6 +118,7 @@ fn own_answer<E: Engine>(
     engine: &E,
     fault: Fault,
     limit: u32,
+    rule: Option<&PlaceRule>,
     found: Found,
 ) -> Result<Found, NoMemory>
     requires design { IsDesign netlist.now }
@@ -115,7 +128,7 @@ fn own_answer<E: Engine>(
     requires carries { DecidesFrames netlist.now found → HasFrameEvidence netlist.now limit fault found }
     ensures { IfOk result (HasFrameEvidence netlist.now limit fault) }
 {
-    if decides_frames(netlist, &found) {
+    if decides_frames(netlist, &found) && keeps_rule(netlist, rule, &fault, &found) {
         return Ok(found);
     }
     search_one(alloc, netlist, names, engine, fault, limit)
@@ -131,6 +144,7 @@ fn search_together<E: Engine>(
     holds: &Holds,
     slow: &[Fault],
     limit: u32,
+    rule: Option<&PlaceRule>,
 ) -> Result<Vec<Found>, NoMemory>
     requires design { IsDesign netlist.now }
     requires names { names.now ≡ names_of netlist.now }
@@ -152,7 +166,7 @@ fn search_together<E: Engine>(
         let tie = tie_fault(netlist, j, &fault);
         let (found, kept) = engine.search_in(alloc, room, core, tie, limit, holds)?;
         room = kept;
-        answers.push(own_answer(alloc, netlist, names, engine, fault, limit, found)?)?;
+        answers.push(own_answer(alloc, netlist, names, engine, fault, limit, rule, found)?)?;
     }
     Ok(answers)
 }
@@ -187,6 +201,7 @@ pub(crate) fn search_batch<E: Engine>(
     engine: &E,
     slow: &[Fault],
     limit: u32,
+    rule: Option<&PlaceRule>,
 ) -> Result<Vec<Found>, NoMemory>
     requires design { IsDesign netlist.now }
     requires names { names.now ≡ names_of netlist.now }
@@ -202,7 +217,9 @@ pub(crate) fn search_batch<E: Engine>(
                 return Err(NoMemory);
             };
             let holds = Holds::none(alloc, &core)?;
-            search_together(alloc, netlist, names, engine, &core, &holds, slow, limit)
+            search_together(
+                alloc, netlist, names, engine, &core, &holds, slow, limit, rule,
+            )
         }
         None => search_each(alloc, netlist, names, engine, slow, limit),
     }

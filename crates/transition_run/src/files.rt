@@ -25,7 +25,7 @@ use scan_insert::insert;
 use std::alloc::Global;
 use std::thread::Threads;
 use stil_write::write_stil;
-use transition::search_left;
+use transition::{Trees, search_left};
 use transition_files::stil2_of;
 use transition_report::{
     TransitionReport, leaves_of, lines_of, report_of, write_certificate, write_report,
@@ -33,13 +33,14 @@ use transition_report::{
 use transition_tests::{Tests, batch_of, left_by, tests_of};
 
 /// How a run goes: at most so many chains, so many workers, at most so many closed ends a search,
-/// and the seed of the bits that cubes leave open.
+/// the seed of the bits that cubes leave open, and which trees the engine's rule lets stand.
 #[derive(Clone, Copy, Debug)]
 pub struct TransitionPlan {
     pub chains: u32,
     pub workers: u32,
     pub limit: u32,
     pub seed: u64,
+    pub trees: Trees,
 }
 
 /// The texts of a run, and its report as a value.
@@ -197,6 +198,7 @@ fn slow_tests<R: Threads + Sync, E: Engine + Sync, G: Gate + Sync>(
         faults,
         marks,
         plan.limit,
+        plan.trees,
         plan.workers,
     )?;
     tests_of(
