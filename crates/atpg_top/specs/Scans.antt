@@ -13,4 +13,4 @@ scan_line n chains = codes "cells " ++ (decimal (length (cells n)) ++ (codes " c
 pub record IsScanProduct (n : Netlist) (asked : ℕ) (text line : List ℕ) : Type 0 where
   pub text_is : text ≡ canonical (scanned_of n (design_chains n asked))
   pub line_is : line ≡ scan_line n (design_chains n asked)
-  pub behaves : BehavesWithScanOff n (design_chains n asked)
+  pub behaves : BehavesWithScanOff n (scanned_of n (design_chains n asked)) (design_chains n asked)

@@ -7,7 +7,7 @@ use Rattle.netlist.specs.Conditions.{IsSound}
 use Rattle.netlist.specs.Settled.{bits, outs}
 use Rattle.chain_stitch.specs.Chains.{chains_of, pieces, lengths_of}
 use Rattle.scan_insert.specs.Laws.{ScanBehaves, last_bits}
-use Rattle.scan_insert.specs.Scanned.{AreChainsOf, cell_ids}
+use Rattle.scan_insert.specs.Scanned.{AreChainsOf, cell_ids, scanned_of}
 use Rattle.good_files.specs.ScanOff.{BehavesWithScanOff, design_chains}
 
 none : (count : ℕ) → count ≡ 0 → pieces (lengths_of 0 count) [] ≡ []
@@ -21,7 +21,7 @@ chained : (ids : List ℕ) (asked : ℕ) (chain : List ℕ) (chains : List (List
 chained [] asked chain chains e = absurd (nil-cons (sym (none (min asked 0) (omega arith)) ∙ e))
 chained (x ∷ ids) asked chain chains e = omega arith
 
-pub behaves : ScanBehaves → (n : Netlist) (asked : ℕ) → IsSound n → AreChainsOf n (design_chains n asked) → (chains : List (List ℕ)) → design_chains n asked ≡ chains → BehavesWithScanOff n chains
+pub behaves : ScanBehaves → (n : Netlist) (asked : ℕ) → IsSound n → AreChainsOf n (design_chains n asked) → (chains : List (List ℕ)) → design_chains n asked ≡ chains → BehavesWithScanOff n (scanned_of n chains) chains
 behaves law n asked sound dealt [] e = refl
 behaves law n asked sound dealt (chain ∷ chains) e = λ inputs state scan_inputs a b p q.
     let many : length (cell_ids n) ≡ length (cells n) = length-map (cells n) (λ d. d.id) in

@@ -1,14 +1,16 @@
 -- What good files say comes true.
-use Rattle.std.proofs.Common.{◌≡◌, ◌≤◌, ℕ, ◌+◌, inl, inr, Bool, false, List, [], ◌∷◌, length, map, get_or, Some, option_map, Ok, refl, sym, ◌∙◌, ap, subst, arith, IsTrue}
-use Rattle.std.specs.List.{All, Contains, slice_get}
-use Rattle.std.proofs.lemmas.List.Elements.{All-weaker}
+use Rattle.std.proofs.Common.{◌≡◌, ◌≤◌, ℕ, inl, inr, Bool, true, false, not, cond, List, [], ◌∷◌, ◌++◌, length, map, get_or, Some, option_map, Ok, refl, sym, ◌∙◌, ap, subst, arith, IsTrue, codes, append_assoc}
+use Rattle.std.specs.List.{All, Contains, flat_map, slice_get}
+use Rattle.std.proofs.lemmas.List.Elements.{All-contains, All-weaker}
 use Rattle.std.proofs.lemmas.Option.{get_or_from_slice_get, slice_get-get_or, slice_get-map, slice_get_within}
 use Rattle.std.proofs.lemmas.List.{ext_get_or, length-map}
-use Rattle.std.proofs.lemmas.List.Sums.{sum_by-cons}
-use Rattle.netlist.proofs.Lists.{All-from_contains, contains_head, contains_tail}
+use Rattle.netlist.proofs.Lists.{All-from_contains, contains_head, contains_tail, filter_contains}
+use Rattle.netlist.proofs.WellFormed.{names_counted}
 use Rattle.netlist.specs.declared.lines.Fault.{Fault}
 use Rattle.netlist.specs.declared.lines.Point.{Point}
-use Rattle.netlist.specs.Netlist.{Netlist}
+use Rattle.netlist.specs.declared.lines.Line.{Line as Lead}
+use Rattle.netlist.specs.declared.lines.Line.TheVariants.{Stem, Pin, Out}
+use Rattle.netlist.specs.Netlist.{Definition, Netlist, is_cell, is_gate, name_of}
 use Rattle.netlist.specs.Conditions.{IsSound}
 use Rattle.netlist.specs.Designs.{IsDesign}
 use Rattle.netlist.specs.Names.{IsName}
@@ -21,11 +23,12 @@ use Rattle.bench_text.specs.Canonical.{canonical}
 use Rattle.bench_text.specs.Laws.{CanonicalTextIsRead, IsReadable, is_free}
 use Rattle.bench_text.specs.Reading.{IsRead}
 use Rattle.scan_insert.specs.Laws.{ScanBehaves, ScannedIsSound}
-use Rattle.scan_insert.specs.Scanned.{AreChainsOf, scanned_of}
+use Rattle.scan_insert.specs.Named.{HasSiteNames, SitesHaveNames}
+use Rattle.scan_insert.specs.Scanned.{AreChainsOf, line_at, scanned_of, site, sites_of}
 use Rattle.scan_play.specs.Cycles.{Cycle}
 use Rattle.scan_play.specs.Vectors.{AreVectors}
 use Rattle.netlist.specs.Settled.{bit_table}
-use Rattle.scan_play.specs.Laws.{moved, GoodPasses, UndetectedPasses, DetectedFails, VectorsFit, NoSequenceDetectsRedundant, SomeRun}
+use Rattle.scan_play.specs.Laws.{GoodPasses, UndetectedPasses, DetectedFails, VectorsFit, NoSequenceDetectsRedundant, SomeRun}
 use Rattle.stil_vectors.specs.FileVectors.{vectors_in}
 use Rattle.stil_patterns.specs.Laws.{FileVectors}
 use Rattle.fault_universe.specs.Laws.{FaultsHaveLines}
@@ -40,13 +43,14 @@ use Rattle.redundancy_cert.specs.Laws.{ClosedTreeIsRedundant}
 use Rattle.word_sim.specs.Hits.{IsNeverDetected}
 use Rattle.report.specs.declared.outcomes.Outcome.{Outcome}
 use Rattle.report.specs.declared.outcomes.Outcome.TheVariants.{Detected, Redundant, Aborted}
-use Rattle.report.specs.Reports.{Line}
-use Rattle.run_report.specs.Outcomes.{Test, IsFirstTree, IsTrueOf, AreTrueLines}
-use Rattle.run_report.specs.Heads.{count_of, one_if_detected, one_if_redundant, one_if_aborted}
+use Rattle.report.specs.Reports.{Hold, Line, Report}
+use Rattle.report.specs.Texts.{counts_text, fault_line, head, hold_line, report_text, share_line}
+use Rattle.run_report.specs.Outcomes.{Test, IsFirstTree, IsTrueAt, IsTrueOf, AreTrueLines}
+use Rattle.run_report.specs.Heads.{holds_named}
 use Rattle.run_report.proofs.ClassLemmas.{equivalent}
-use Rattle.run_report.proofs.ListLemmas.{one_kind}
 use Rattle.good_files.specs.GoodFiles.{AreGoodFiles, FiveFiles, test_of}
-use Rattle.good_files.specs.RunTheorem.{ComesTrue, RunTheorem}
+use Rattle.good_files.specs.RunTheorem.{HasEvidence, RunTheorem}
+use Rattle.good_files.specs.Statement.{ComesTrue, IsNamed, IsSite, StandsAt}
 use Rattle.good_files.specs.ScanOff.{design_chains}
 use Rattle.good_files.proofs.Chains.{behaves}
 
@@ -66,15 +70,6 @@ read_back law n sound text is =
     subst (λ (t : List ℕ). IsRead Scanned t (Ok n)) (sym is) (sym w.1, w.0, sound.acyclic)
 
 -- ---- lines
-
--- every line is of one of the three kinds
-pub all_kinds : (lines : List Line) → count_of one_if_detected lines + count_of one_if_redundant lines + count_of one_if_aborted lines ≡ length lines
-all_kinds [] = refl
-all_kinds (l ∷ ls) =
-    let d = sum_by-cons (λ (m : Line). one_if_detected m.outcome) l ls in
-    let r = sum_by-cons (λ (m : Line). one_if_redundant m.outcome) l ls in
-    let a = sum_by-cons (λ (m : Line). one_if_aborted m.outcome) l ls in
-    omega (arith, one_kind l.outcome, all_kinds ls, d, r, a)
 
 got : {A B : Type 0} (f : A → B) (xs : List A) (k : ℕ) (x : A) (d : B) → slice_get xs k ≡ Some x → get_or (map f xs) k d ≡ f x
 got f xs k x d e = get_or_from_slice_get (map f xs) k (f x) d (slice_get-map f xs k ∙ ap (option_map f) e)
@@ -104,6 +99,7 @@ same_member xs k x y p q = let both : Some x ≡ Some y = sym p ∙ q in cc
 pub record Laws : Type 1 where
   pub scan : ScanBehaves
   pub sound : ScannedIsSound
+  pub sites : SitesHaveNames
   pub good : GoodPasses
   pub undetected : UndetectedPasses
   pub detected : DetectedFails
@@ -130,8 +126,32 @@ never_at n patterns f never = All-from_contains (λ (p : Pattern). (point : Poin
     let at : slice_get patterns here.0 ≡ Some p = slice_get-get_or patterns here.0 p here.1 ∙ ap (λ (q : Pattern). Some q) here.2 in
     never here.0 point (record { pattern = p; at = at; detects = detects }))
 
+-- ---- a fault in the scanned netlist
+
+pins_named : (n : Netlist) (chains : List (List ℕ)) → HasSiteNames n chains → (d : Definition) → Contains n.definitions d → (b : Bool) → is_cell d ≡ b
+    → name_of (scanned_of n chains) (site (sites_of n chains) d.id).pins ≡ cond b (codes "SC__a_" ++ name_of n d.id) (name_of n d.id)
+pins_named n chains names d here true is = names.cell_pins d (filter_contains is_cell n.definitions d here is)
+pins_named n chains names d here false is = names.gate_pins d (filter_contains is_gate n.definitions d here (ap not is))
+
+stands_there : (n : Netlist) (chains : List (List ℕ)) → IsSound n → HasSiteNames n chains → (l : Lead) → IsLineOf n l
+    → IsSite n (scanned_of n chains) l (line_at (sites_of n chains) l)
+stands_there n chains sound names (Stem x) here = names.stems x here
+stands_there n chains sound names (Pin z k) here =
+    let named = pins_named n chains names here.0 here.1 (is_cell here.0) refl in (
+      here.0,
+      here.1,
+      here.2,
+      ap (λ y. name_of (scanned_of n chains) (site (sites_of n chains) y).pins) (sym here.2) ∙ named,
+      refl,
+    )
+stands_there n chains sound names (Out x) here = names.stems x (All-contains (Contains (signals n)) n.outputs x sound.closed.outputs here)
+
+abbrev moved_to : Test → Fault → Fault
+moved_to t f = record { line = line_at (sites_of t.netlist t.chains) f.line; value = f.value }
+
 comes_true : Laws → (t : Test) (cycles : List Cycle) → IsTested t cycles → (f representative : Fault) → IsLineOf t.netlist f.line → IsEquivalent t.netlist f representative
-    → (o : Outcome) (pin : List ℕ) → IsTrueOf t f representative o pin → ComesTrue t.netlist t.holds t.chains t.limit t.patterns t.trees cycles f o pin
+    → (o : Outcome) (pin : List ℕ) → IsTrueOf t f representative o pin
+    → ComesTrue t.netlist t.holds t.chains (scanned_of t.netlist t.chains) t.patterns cycles f (moved_to t f) o pin
 comes_true laws t cycles are f g line same (Detected place cycle) pin seen =
     let here = seen.last.here in
     let at = seen.seen in (
@@ -146,23 +166,53 @@ comes_true laws t cycles are f g line same Redundant pin said =
     let n = t.netlist in
     let left = said.1 in
     let shown : IsRedundant n t.holds g = laws.closed g n t.holds said.0 are.sound left.fits said.2 in
-    let none : IsRedundant n t.holds f = (λ inputs state point obeys detects. shown inputs state point obeys ((laws.alike n f g inputs state point are.sound same).0 detects)) in (
-      said.0,
-      (g, same, stands t.trees g said.0 left.first, left.fits),
-      said.2,
-      λ state driven good faulty obeys p q. laws.redundant n t.holds t.chains f state driven good faulty are.sound are.held are.dealt line none obeys p q,
-    )
+    let none : IsRedundant n t.holds f = (λ inputs state point obeys detects. shown inputs state point obeys ((laws.alike n f g inputs state point are.sound same).0 detects)) in
+    λ state driven good faulty obeys p q. laws.redundant n t.holds t.chains f state driven good faulty are.sound are.held are.dealt line none obeys p q
 comes_true laws t cycles are f g line same Aborted pin said =
-    let left = said.1 in (
-      said.0,
-      (g, same, stands t.trees g said.0 left.first, left.fits),
-      said.2,
-      said.3,
-      laws.undetected t.netlist t.holds t.chains t.patterns cycles f are.sound are.dealt are.vectors line (never_at t.netlist t.patterns f left.never),
-    )
+    laws.undetected t.netlist t.holds t.chains t.patterns cycles f are.sound are.dealt are.vectors line (never_at t.netlist t.patterns f said.1.never)
 
-pub truth : Laws → (n : Netlist) (holds : Holds) (asked limit : ℕ) (files : FiveFiles) → IsSound n → IsDesign n → AreGoodFiles n holds asked limit files
-    → RunTheorem n holds (design_chains n asked) limit files
+-- what is said of a fault comes true of the one at its site
+abbrev ComesSomewhere : Test → List Cycle → Fault → Line → Type 0
+ComesSomewhere t cycles f l =
+    (moved : Fault) × StandsAt t.netlist (scanned_of t.netlist t.chains) f moved
+    × ComesTrue t.netlist t.holds t.chains (scanned_of t.netlist t.chains) t.patterns cycles f moved l.outcome l.pin
+
+evident : (t : Test) (f representative : Fault) → IsEquivalent t.netlist f representative → (o : Outcome) (pin : List ℕ) → IsTrueOf t f representative o pin
+    → HasEvidence t.netlist t.holds t.limit t.trees f o
+evident t f g same (Detected place cycle) pin seen = tt
+evident t f g same Redundant pin said = (said.0, (g, same, stands t.trees g said.0 said.1.first, said.1.fits), said.2)
+evident t f g same Aborted pin said = (said.0, (g, same, stands t.trees g said.0 said.1.first, said.1.fits), said.2, said.3)
+
+-- ---- the texts
+
+named : (n : Netlist) → IsSound n → IsNamed n
+named n sound = record {
+  numbered = sound.formed.numbered;
+  counted = names_counted n sound;
+  names = sound.formed.names;
+  distinct = sound.formed.distinct;
+  pins = sound.closed.pins;
+  outputs = sound.closed.outputs;
+}
+
+-- what stands above the held inputs and the lines
+abbrev above : Report → List ℕ
+above r = head r.holds ++ (counts_text r.counts ++ (share_line (codes "coverage ") r.coverage ++ share_line (codes "efficiency ") r.efficiency))
+
+four : (a b c d e : List ℕ) → a ++ (b ++ (c ++ (d ++ e))) ≡ (a ++ (b ++ (c ++ d))) ++ e
+four a b c d e =
+    sym (append_assoc a (b ++ (c ++ d)) e ∙ ap (λ t. a ++ t) (append_assoc b (c ++ d) e ∙ ap (λ t. b ++ t) (append_assoc c d e)))
+
+ends_with : (r : Report) (holds : List Hold) → r.holds ≡ holds → report_text r ≡ above r ++ (flat_map hold_line holds ++ flat_map fault_line r.lines)
+ends_with r holds is =
+    four (head r.holds) (counts_text r.counts) (share_line (codes "coverage ") r.coverage) (share_line (codes "efficiency ") r.efficiency)
+    (flat_map hold_line r.holds ++ flat_map fault_line r.lines)
+    ∙ ap (λ hs. above r ++ (flat_map hold_line hs ++ flat_map fault_line r.lines)) is
+
+-- ---- good files
+
+pub truth : Laws → (n : Netlist) (holds : Holds) (asked limit : ℕ) (files : FiveFiles) → IsSound n → IsDesign n → (good : AreGoodFiles n holds asked limit files)
+    → RunTheorem n holds (design_chains n asked) limit good.file files
 truth laws n holds asked limit files sound design good =
     let chains = design_chains n asked in
     let t = test_of n holds asked limit good.patterns good.trees in
@@ -170,31 +220,58 @@ truth laws n holds asked limit files sound design good =
     let of_cells = good.dealt in
     let vectors = laws.test n holds chains good.patterns good.file good.is_file_of in
     let scanned = laws.sound n chains sound design of_cells in
+    let sites = laws.sites n chains sound of_cells in
+    let tested : IsTested t cycles = record { sound = sound; held = good.held; dealt = of_cells; vectors = vectors } in
+    let same_fault : (place : ℕ) (f : Fault) → slice_get (universe_of n) place ≡ Some f → (w : IsTrueAt t good.classes good.said.lines place) → w.fault ≡ f =
+    λ place f at w. same_member (universe_of n) place w.fault f w.member at in
+    let same_line : (place : ℕ) (line : Line) → slice_get good.said.lines place ≡ Some line → (w : IsTrueAt t good.classes good.said.lines place) → w.line ≡ line =
+    λ place line said w. same_member good.said.lines place w.line line w.said said in
+    let true_at : (place : ℕ) (f : Fault) → slice_get (universe_of n) place ≡ Some f → IsTrueAt t good.classes good.said.lines place =
+    λ place f at. good.lines.each place (slice_get_within (universe_of n) place f at) in
+    let of_class : (place : ℕ) → (w : IsTrueAt t good.classes good.said.lines place) → IsEquivalent n w.fault w.representative =
+    λ place w. equivalent n good.classes good.are_classes place w.class w.fault w.representative w.member w.of_class w.represents in
     record {
-      patterns = good.patterns;
-      file = good.file;
       said = good.said;
       trees = good.trees;
+      statement = record {
+        scanned = scanned_of n chains;
+        patterns = good.patterns;
+        test = good.file;
+        above = above good.said;
+        lines = good.said.lines;
+        net_named = named n sound;
+        scan_named = named (scanned_of n chains) scanned;
+        net_is = refl;
+        scan_is = good.scan_is;
+        stil_is = refl;
+        report_is = good.report_is ∙ ends_with good.said (holds_named n holds) good.held_said;
+        behaves = behaves laws.scan n asked sound of_cells chains refl;
+        is_test = good.is_file_of;
+        passes = laws.good n holds chains good.patterns cycles sound of_cells vectors;
+        runs = λ f state size. laws.run false bit_table f (scanned_of n chains) state cycles scanned.formed.numbered scanned.closed scanned.acyclic size
+            (laws.fit n holds chains good.patterns cycles sound of_cells vectors);
+        once = once t good.classes good.said.lines good.lines;
+        comes_true = λ place f line at said.
+            let w = true_at place f at in
+            let here = laws.lines n w.fault sound (contains_at (universe_of n) place w.fault w.member) in
+            subst (λ (g : Fault). ComesSomewhere t cycles g line) (same_fault place f at w)
+            (subst (λ (l : Line). ComesSomewhere t cycles w.fault l) (same_line place line said w) (
+              moved_to t w.fault,
+              record { line = stands_there n chains sound sites w.fault.line here; value = refl },
+              comes_true laws t cycles tested w.fault w.representative here (of_class place w) w.line.outcome w.line.pin w.is_true,
+            ));
+      };
+      scanned_is = refl;
+      test_is = refl;
+      lines_are = refl;
       net_is = good.net_is;
-      stil_is = good.stil_is;
-      report_is = good.report_is;
-      certificate_is = good.certificate_is;
       scan_is = read_back laws.read (scanned_of n chains) scanned files.scan good.scan_is;
-      is_file_of = good.is_file_of;
-      behaves = behaves laws.scan n asked sound good.dealt chains refl;
-      passes = laws.good n holds chains good.patterns cycles sound of_cells vectors;
-      runs = λ f state is_fault size. laws.run false bit_table (moved n chains f) (scanned_of n chains) state cycles scanned.formed.numbered scanned.closed scanned.acyclic size
-          (laws.fit n holds chains good.patterns cycles sound of_cells vectors);
-      once = once t good.classes good.said.lines good.lines;
-      comes_true = λ place f line at said.
-          let w = good.lines.each place (slice_get_within (universe_of n) place f at) in
-          let same_fault : w.fault ≡ f = same_member (universe_of n) place w.fault f w.member at in
-          let same_line : w.line ≡ line = same_member good.said.lines place w.line line w.said said in
-          let P : Fault → Line → Type 0 = λ g l. ComesTrue n holds chains limit good.patterns good.trees cycles g l.outcome l.pin in
-          subst (λ g. P g line) same_fault (subst (λ l. P w.fault l) same_line
-          (comes_true laws t cycles (record { sound = sound; held = good.held; dealt = of_cells; vectors = vectors }) w.fault w.representative
-          (laws.lines n w.fault sound (contains_at (universe_of n) place w.fault w.member))
-          (equivalent n good.classes good.are_classes place w.class w.fault w.representative w.member w.of_class w.represents)
-          w.line.outcome w.line.pin w.is_true));
-      all = all_kinds good.said.lines ∙ good.lines.no_more;
+      stil_is = good.stil_is;
+      certificate_is = good.certificate_is;
+      report_is = good.report_is;
+      evidence = λ place f line at said.
+          let w = true_at place f at in
+          subst (λ (g : Fault). HasEvidence n holds limit good.trees g line.outcome) (same_fault place f at w)
+          (subst (λ (l : Line). HasEvidence n holds limit good.trees w.fault l.outcome) (same_line place line said w)
+          (evident t w.fault w.representative (of_class place w) w.line.outcome w.line.pin w.is_true));
     }

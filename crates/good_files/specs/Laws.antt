@@ -11,5 +11,5 @@ use Rattle.good_files.specs.ScanOff.{design_chains}
 -- Good files tell the truth.
 abbrev pub GoodFilesTellTheTruth : Type 0
 GoodFilesTellTheTruth =
-    (n : Netlist) (holds : Holds) (asked limit : ℕ) (files : FiveFiles) → IsSound n → IsDesign n → AreGoodFiles n holds asked limit files
-    → RunTheorem n holds (design_chains n asked) limit files
+    (n : Netlist) (holds : Holds) (asked limit : ℕ) (files : FiveFiles) → IsSound n → IsDesign n → (good : AreGoodFiles n holds asked limit files)
+    → RunTheorem n holds (design_chains n asked) limit good.file files

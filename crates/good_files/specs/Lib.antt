@@ -1,4 +1,5 @@
 pub mod ScanOff
 pub mod GoodFiles
+pub mod Statement
 pub mod RunTheorem
 pub mod Laws

@@ -3,19 +3,18 @@ use Rattle.std.specs.Prelude.{ℕ, ◌≡◌, Bool, false, List, [], ◌∷◌, 
 use Rattle.netlist.specs.Netlist.{Netlist}
 use Rattle.netlist.specs.Settled.{Settles, bits, outs, next}
 use Rattle.chain_stitch.specs.Chains.{chains_of}
-use Rattle.scan_insert.specs.Scanned.{cell_ids, scanned_of}
+use Rattle.scan_insert.specs.Scanned.{cell_ids}
 
 -- the chains of a design, at most so many as are asked for
 abbrev pub design_chains : Netlist → ℕ → List (List ℕ)
 design_chains n asked = chains_of (cell_ids n) asked
 
--- With scan off the scanned netlist behaves as the original: for every input, state and scan-in value it has the original's outputs at these,
+-- With scan off a scanned netlist behaves as the original: for every input, state and scan-in value it has the original's outputs at these,
 -- and its cells take what the original's cells take. Without chains it is the original.
-abbrev pub BehavesWithScanOff : Netlist → List (List ℕ) → Type 0
-BehavesWithScanOff n [] = scanned_of n [] ≡ n
-BehavesWithScanOff n (chain ∷ chains) =
+abbrev pub BehavesWithScanOff : Netlist → Netlist → List (List ℕ) → Type 0
+BehavesWithScanOff n scanned [] = scanned ≡ n
+BehavesWithScanOff n scanned (chain ∷ chains) =
     (inputs state scan_inputs : List Bool) (a b : ℕ → Bool)
     → Settles (bits None) n inputs state a
-    → Settles (bits None) (scanned_of n (chain ∷ chains)) (inputs ++ false ∷ scan_inputs) state b
-    → (take (length n.outputs) (outs (bits None) (scanned_of n (chain ∷ chains)) b) ≡ outs (bits None) n a)
-    × (next (bits None) (scanned_of n (chain ∷ chains)) b ≡ next (bits None) n a)
+    → Settles (bits None) scanned (inputs ++ false ∷ scan_inputs) state b
+    → (take (length n.outputs) (outs (bits None) scanned b) ≡ outs (bits None) n a) × (next (bits None) scanned b ≡ next (bits None) n a)

@@ -5,7 +5,7 @@ use bench_text::canonical_text_is_read;
 use fault_collapse::detected_alike;
 use fault_universe::faults_have_lines;
 use redundancy_cert::closed_tree_is_redundant;
-use scan_insert::laws::{scan_behaves, scanned_is_sound};
+use scan_insert::laws::{scan_behaves, scanned_is_sound, sites_have_names};
 use scan_play::{
     detected_fails, good_passes, no_sequence_detects_redundant, some_run, undetected_passes,
     vectors_fit,
@@ -18,6 +18,7 @@ pub fn good_files_tell_the_truth()
 {
     scan_behaves();
     scanned_is_sound();
+    sites_have_names();
     canonical_text_is_read();
     good_passes();
     undetected_passes();

@@ -72,6 +72,7 @@ good canonical_law stands alike texts n holds asked limit classes patterns verdi
         left = leaves_left n holds limit patterns classes.representatives verdicts found.count found.each;
         head = record { counts = numbers.counts; coverage = numbers.coverage; efficiency = numbers.efficiency };
       };
+      stil_is = w.stil.text_is;
       patterns_are = refl;
       classes_are = refl;
     }

@@ -6,6 +6,7 @@ use Rattle.netlist.specs.Designs.{IsDesign}
 use Rattle.netlist.specs.Netlist.{Netlist}
 use Rattle.netlist.specs.Holds.{Holds, AreHoldsOf}
 use Rattle.cubes.specs.Cubes.{Pattern}
+use Rattle.stil_write.specs.Texts.{stil_text}
 use Rattle.fault_collapse.specs.Classes.{AreClasses}
 use Rattle.fault_collapse.specs.Numbers.{Classes}
 use Rattle.list_core.specs.declared.verdicts.Verdict.{Verdict}
@@ -25,9 +26,10 @@ pub record IsFinishedRun (n : Netlist) (holds : Holds) (asked limit : ℕ) (clas
   pub found : AreVerdicts n holds classes limit patterns verdicts
   pub written : IsWritten n holds (design_chains n asked) classes limit patterns verdicts made
 
--- good files by these patterns and classes
+-- good files by these patterns and classes, the test's in its written text
 pub record AreGoodFilesBy (n : Netlist) (holds : Holds) (asked limit : ℕ) (classes : Classes) (patterns : List Pattern) (files : FiveFiles) : Type 0 where
   pub good : AreGoodFiles n holds asked limit files
+  pub stil_is : files.stil ≡ stil_text good.file
   pub patterns_are : good.patterns ≡ patterns
   pub classes_are : good.classes ≡ classes
 

@@ -5,6 +5,7 @@ pub returns : goal.returns
 returns c = truth (record {
   scan = c.scan_behaves.ensures;
   sound = c.scanned_is_sound.ensures;
+  sites = c.sites_have_names.ensures;
   good = c.good_passes.ensures;
   undetected = c.undetected_passes.ensures;
   detected = c.detected_fails.ensures;
