@@ -8,12 +8,13 @@ use Rattle.netlist.specs.declared.lines.Line.{Line}
 use Rattle.netlist.specs.declared.lines.Line.TheVariants.{Stem, Pin, Out}
 use Rattle.netlist.specs.declared.lines.Fault.{Fault}
 use Rattle.netlist.specs.Netlist.{Definition, Netlist, cells, signals, IsGateAt}
-use Rattle.netlist.specs.Conditions.{IsNumbered}
+use Rattle.netlist.specs.Conditions.{IsNumbered, IsSound}
 use Rattle.netlist.specs.Settled.{Rule, Settles, Table, with_fault, is_line, at}
+use Rattle.netlist.proofs.Orders.{gates_few}
 use Rattle.netlist.proofs.Settling.{zip_kept}
 use Rattle.events.specs.declared.trails.Change.{Change}
 use Rattle.events.specs.Agendas.{AreClear}
-use Rattle.events.specs.inner.Placing.{waiting}
+use Rattle.events.specs.inner.Placing.{waiting, AreTables}
 use Rattle.events.specs.inner.Running.{AreReady, PutsSource, Resettles, Touches}
 use Rattle.events.specs.Standing.{standing, Moves, SettlesAnew, SettlesAllAnew, SettlesOver}
 use Rattle.events.specs.Stuck.{is_at, IsSite, IsObservedOnly}
@@ -35,6 +36,10 @@ within_append {V} old new trail trail' changes h is k =
     subst (All (λ (c : Change V). c.signal < length new)) (sym is)
     (All-append (λ (c : Change V). c.signal < length new) trail changes
     (subst (λ m. All (λ (c : Change V). c.signal < m) trail) (sym k.size) h) (changes_within old new changes k))
+
+-- the gates in the order are no more than the signals
+pub order_few : (n m : Netlist) (order places : List ℕ) (fans : List (List ℕ)) → m ≡ n → IsSound m → AreTables n order places fans → length order ≤ length (signals n)
+order_few n m order places fans same sound tables = gates_few n (subst IsSound same sound).formed.numbered order tables.ordered
 
 -- what a call leaves: the tables as they were, and what it changed on the trail
 module _ {V : Type 0} (n : Netlist) (order places : List ℕ) (fans : List (List ℕ)) (v0 v2 : List V) (m0 m2 : List Bool) (t0 t2 : List (Change V)) (capacity capacity' : ℕ)

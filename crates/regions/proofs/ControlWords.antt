@@ -6,8 +6,7 @@ use Rattle.std.proofs.lemmas.List.{drop_more, get_or-map, length-map}
 use Rattle.netlist.specs.declared.kinds.Kind.{Kind}
 use Rattle.netlist.specs.Settled.{at}
 use Rattle.events.specs.Words.{bit_of, ones}
-use Rattle.events.proofs.WordBits.{bit_of_and, bit_of_or}
-use Rattle.regions.proofs.GateBits.{bit_not_word}
+use Rattle.events.proofs.WordBits.{bit_not_word, bit_of_and, bit_of_or}
 use Rattle.regions.specs.Paths.{bits_at}
 use Rattle.regions.specs.Sensitized.{sides, is_noncontrolling}
 use Rattle.regions.specs.inner.Controlled.{one_controls, two_control, AreControlled}
@@ -69,7 +68,6 @@ module _ (kind : Kind) where
 -- ---- words
 
 module _ (kind : Kind) (pins values : List ℕ) where
-
   -- with one pin more, whose word is not controlling in the patterns of `side`
   pub pin_more : (k one two side x : ℕ) → 0 < k → k ≤ length pins → x ≡ get_or pins (k - 1) x
       → ((j : ℕ) → j < 64 → bit_of j side ≡ is_noncontrolling kind (bit_of j (at values 0 x))) → AreControlled kind (drop k pins) values one two

@@ -1,4 +1,3 @@
-pub mod GateBits
 pub mod Ranks
 pub mod Gates
 pub mod OnlyReaders

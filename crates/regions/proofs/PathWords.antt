@@ -15,8 +15,7 @@ use Rattle.regions.proofs.Changing.{pin_signal}
 use Rattle.netlist.specs.Netlist.{Definition, Netlist, is_cell, is_gate, is_flip_flop, gates, signals, IsGateAt}
 use Rattle.netlist.specs.Settled.{at}
 use Rattle.events.specs.Words.{bit_of, ones}
-use Rattle.events.proofs.WordBits.{bit_of_and, bit_of_xor}
-use Rattle.regions.proofs.GateBits.{bit_none, bit_ones}
+use Rattle.events.proofs.WordBits.{bit_none, bit_of_and, bit_of_xor, bit_ones}
 use Rattle.regions.specs.Paths.{bits_at, HasOpenPath, AreOpen, AreClosed, IsReadOnlyAt, IsReachOf}
 use Rattle.regions.specs.Regions.{IsPath}
 use Rattle.regions.specs.Sensitized.{sides, is_noncontrolling, lets_pass, is_sensitized, differ}

@@ -6,8 +6,7 @@ use Rattle.netlist.specs.Settled.{Settles, is_line}
 use Rattle.regions.specs.Turned.{turned, turned_bits, turned_words}
 use Rattle.events.specs.Waiting.{given}
 use Rattle.events.specs.Words.{gate_word, bit_of, words}
-use Rattle.events.proofs.WordBits.{bit_of_xor, image_settles}
-use Rattle.regions.proofs.GateBits.{bit_gate}
+use Rattle.events.proofs.WordBits.{bit_gate, bit_of_xor, image_settles}
 use Rattle.regions.proofs.TurnedOver.{free_pins, turned_pins}
 
 turned_is : (u v : Bool) → cond u (not v) v ≡ turned v u

@@ -1,7 +1,7 @@
 use Rattle.std.proofs.Common.{sym, ◌∙◌, ap}
 use Rattle.events.specs.Words.{bit_of}
 use Rattle.regions.specs.Sensitized.{is_noncontrolling}
-use Rattle.regions.proofs.GateBits.{bit_ones, bit_not_word}
+use Rattle.events.proofs.WordBits.{bit_ones, bit_not_word}
 use Rattle.regions.proofs.passing.noncontrolling.Goals as goal
 
 pub returns-in-Or : goal.returns-in-Or

@@ -1,11 +1,10 @@
 use Rattle.std.proofs.Common.{◌≡◌, ap, sym, subst, refl, ◌∙◌, length, arith}
-use Rattle.netlist.specs.Conditions.{IsSound}
 use Rattle.netlist.specs.Netlist.{Netlist, cells, signals}
-use Rattle.netlist.proofs.Orders.{gates_few}
 use Rattle.netlist.proofs.Settling.{cells_below, cells_distinct}
 use Rattle.events.specs.Standing.{Standing, SettlesFor}
 use Rattle.events.specs.inner.Placing.{AreTables}
 use Rattle.events.proofs.DrivenValues.{drives}
+use Rattle.events.proofs.Standing.{order_few}
 use Rattle.events.proofs.evaluator.Events.drive.Goals as goal
 
 pub drive_onto-requires-2-clause-within : goal.drive_onto-requires-2-clause-within
@@ -33,9 +32,7 @@ returns-clause-settles g c =
 
 pub resettle-requires-clause-room : goal.resettle-requires-clause-room
 resettle-requires-clause-room g c =
-    let n = c.self.inside.core.now in
-    let sound : IsSound n = subst IsSound c.netlist-netlist.ensures c.sound.ensures in
-    let few = gates_few n sound.formed.numbered c.self.inside.tables.order.items c.self.invariant.tables.ordered in
+    let few = order_few c.self.inside.core.now c.netlist-netlist.result.now c.self.inside.tables.order.items c.self.inside.tables.places.items c.self.inside.tables.fans c.netlist-netlist.ensures c.sound.ensures c.self.invariant.tables in
     let held = c.self.invariant.room in
     let none = ap length c.clear.ensures.items in
     let same = c.clear.ensures.capacity in
