@@ -249,6 +249,91 @@ def test_verilog_scan_cells(folder):
         "output \\SC__o_in(7)", "output [0:1] y", "output state", "output SC__so0", "output SC__so1"], head
 
 
+# A netlist of library cells: an inverted output alone, both, none of a word's, a constant, a cell of two outputs, names that Verilog wants escaped.
+MAPPED = r"""module odd(input clk, input [1:0] d, input \in(7) , output [0:1] y, output all, output s);
+  wire q0, q1, n1, n2, c, m, one;
+  DFF F0 (.CK(clk), .D(m), .Q(q0));
+  DFFN \F[1] (.CK(clk), .D(q0), .Q(q1), .QN(n1));
+  DFFN F2 (.CK(clk), .D(c), .QN(n2));
+  HA H (.A(d[0]), .B(d[1]), .S(s), .C(c));
+  TIE1 T (.Y(one));
+  MUX2 M (.A(n1), .B(n2), .S(\in(7) ), .Y(m));
+  NAND3 N (.A(one), .B(q1), .C(n2), .Y(all));
+  assign y = {q0, d[1]};
+endmodule
+"""
+SCAN_CELLS = "DFF SDFF SI SE\nDFFN SDFFN SCIN SCEN  # with an inverted output\n"
+
+
+def made_of_cells(folder, text, chains):
+    """A netlist of library cells, kept, and a run's files of it."""
+    chip = pathlib.Path(folder) / "chip"
+    chip.with_suffix(".v").write_text(text)
+    words = [chip.with_suffix(".v"), "--to", chip, "--cells", ROOT / "examples/mapped/cells.lib"]
+    status, _, errors = said_by(ROOT / "tools/bench_from_verilog", *words)
+    assert status == 0, errors
+    made = Made(folder, chip.with_suffix(".bench").read_bytes(), chains)
+    shutil.copy(chip.with_suffix(".names"), made.file("names"))
+    made.file("scan_cells").write_text(SCAN_CELLS)
+    return made, ["--kept", chip.with_suffix(".json"), "--scan-cells", made.file("scan_cells")]
+
+
+def plays_by_ports(made):
+    words = ["-o", made.file("vvp"), made.file("v"), made.file("cells.v"), made.file("tb.v")]
+    assert said_by("iverilog", "-DNO_FAULTS", *words) == (0, "", "")
+    return made.played()
+
+
+def instances_of(text):
+    """The instances of a Verilog file that Yosys wrote: their cells, and their pins with nets."""
+    found = re.findall(r"^  (\w+) (\\\S+|\w+) +\(\n(.*?)\n  \);", text, re.S | re.M)
+    return {name: (cell, dict(re.findall(r"\.(\w+)\((.*?) ?\)", pins))) for cell, name, pins in found}
+
+
+@in_folder
+def test_kept_netlist(folder):
+    """The design's own library cells come back with scan cells in the flip-flops' places: every other instance as it was, the chains as in the
+    scanned netlist, the same function by ABC, and the test passes."""
+    if any(shutil.which(each) is None for each in ("yosys", "iverilog", "berkeley-abc")):
+        return "left out: it needs yosys, iverilog and berkeley-abc"
+    made, kept = made_of_cells(folder, MAPPED, 2)
+    assert "module odd instances 7 cells 3 chains 2 " in made.verilog_of(*kept, "--models")
+    found = instances_of(made.file("v").read_text())
+    assert {name: cell for name, (cell, _) in found.items()} == {"F0": "SDFF", "\\F[1]": "SDFFN", "F2": "SDFFN", "H": "HA", "T": "TIE1", "M": "MUX2",
+                                                                 "N": "NAND3"}, found
+    assert [pins.get("SE") or pins.get("SCEN") for cell, pins in found.values() if "SDFF" in cell] == ["SC__se"] * 3
+    assert found["N"][1].keys() == {"A", "B", "C", "Y"} and found["M"][1]["B"] == found["F2"][1]["QN"] == "n2", found
+    status, said, errors = said_by(ROOT / "tools/compare_verilog", made.prefix, "--kept")
+    assert status == 0 and "equal: 6 outputs and 3 flip-flops as functions of 6 inputs and 3 flip-flops" in said, (said, errors)
+    assert plays_by_ports(made) == ["passes"]
+    # A gate that was changed is seen by both.
+    made.file("v").write_text(made.file("v").read_text().replace("NAND3 N", "HA N").replace(".C(n2),\n    .Y(all)", ".S(all)"))
+    assert said_by(ROOT / "tools/compare_verilog", made.prefix, "--kept")[0] == 1
+    assert plays_by_ports(made) != ["passes"]
+
+
+@in_folder
+def test_kept_netlist_refusals(folder):
+    """Another design's netlist, one that was synthesized, a flip-flop without a scan cell and a file that is none are refused with their causes."""
+    if shutil.which("yosys") is None:
+        return "left out: no yosys"
+    made, kept = made_of_cells(folder, MAPPED, 1)
+    other = pathlib.Path(folder) / "other"
+    library = ["--cells", ROOT / "examples/mapped/cells.lib"]
+    for words in ([ROOT / "examples/mapped/twice.v", "--to", other, *library], [ROOT / "examples/uart.v", "--to", f"{other}_rtl"]):
+        assert said_by(ROOT / "tools/bench_from_verilog", *words)[0] == 0
+    for text, words, why in ((SCAN_CELLS, ["--kept", f"{other}.json"], "no cell of the scanned netlist"),
+                             (SCAN_CELLS, ["--kept", f"{other}_rtl.json"], "isn't of library cells"),
+                             ("DFF SDFF SI SE", [], "names no scan cell for DFFN"), ("DFF SDFF SI", [], "line 1: a line has a flip-flop"),
+                             (SCAN_CELLS + "DFF A B C", [], "line 3: a second scan cell for DFF"), ("DFF S D SE\nDFFN S2 SI SE", [], "has a pin D already"),
+                             (SCAN_CELLS, ["--cells", made.file("scan_cells")], "go together, without --cells")):
+        made.file("scan_cells").write_text(text)
+        made.file("v").unlink(missing_ok=True)
+        status, _, errors = said_by(ROOT / "tools/verilog_of", made.prefix, *kept, *words)
+        assert status and why in errors, (why, errors)
+        assert not made.file("v").exists()
+
+
 @in_folder
 def test_verilog_refusals(folder):
     """What can't be written is refused, with its cause, and nothing is written."""

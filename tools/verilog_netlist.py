@@ -3,6 +3,7 @@
 import collections
 import re
 
+import cell_file
 from run_files import Bad
 from tester_files import CLOCK
 
@@ -103,8 +104,11 @@ def scan_cells(design):
 class Chip:
     """A scanned netlist, what its signals are called in Verilog, and how its cells are written."""
 
+    knows_nets = True  # a testbench may name each signal
+
     def __init__(self, design, names, module, library=None):
         self.design, self.names, self.module, self.library = design, names, names.module or module, library
+        self.cells_from = library.path if library else None
         self.cells = scan_cells(design)
         self.scan_cell = library.scan() if library else None
         self.pins = [f"SC__o_{name}" if design.kinds[name] == "INPUT" else name for name in design.outputs]
@@ -193,6 +197,15 @@ class Chip:
             port = bits[self.names.of(pin)]
             if port != self.net(name):
                 yield f"  assign {port} = {self.net(name)};"
+
+    def counted(self):
+        """How many gates there are, besides what scan insertion put in."""
+        kinds = self.design.kinds.items()
+        return f"gates {sum(kind not in ('INPUT', 'DFF') and not name.startswith('SC__') and name not in self.cells for name, kind in kinds)}"
+
+    def models(self):
+        """What a library's cells do, as its file says it."""
+        return cell_file.models(self.library, EDGES[self.names.edge])
 
     def text(self):
         """The module, and the flip-flop where it is none of a library's."""

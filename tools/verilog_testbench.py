@@ -87,22 +87,16 @@ def capture_lines(chip, sites):
         yield f"      {number}: if (captures) begin {held} end else begin {let} end"
 
 
-def bit_of(port, side, places):
-    """What a port is joined to: the bits of a register or a wire, the most significant one first."""
-    bits = [f"{side}[{places[bit]}]" for bit in reversed(port.bits)]
-    return bits[0] if len(bits) == 1 else "{" + ", ".join(bits) + "}"
-
-
 def joined_ports(chip):
+    """What each port is joined to: the bits of a register or a wire, the most significant one first, and the clock."""
     real = chip.names.of
-    drives = {real(name): k for k, name in enumerate(chip.design.inputs)}
-    strobes = {real(pin): k for k, pin in enumerate(chip.pins)}
+    nets = {"input": {real(name): f"drive[{k}]" for k, name in enumerate(chip.design.inputs)},
+            "output": {real(pin): f"pins[{k}]" for k, pin in enumerate(chip.pins)}}
+    if chip.cells:
+        nets["input"][real(CLOCK)] = "clock"
     for port in chip.ports:
-        if chip.cells and port.name == real(CLOCK):
-            yield f"    .{spelled(port.name)}(clock)"
-        else:
-            is_input = port.direction == "input"
-            yield f"    .{spelled(port.name)}({bit_of(port, 'drive' if is_input else 'pins', drives if is_input else strobes)})"
+        bits = [nets[port.direction][bit] for bit in reversed(port.bits)]
+        yield f"    .{spelled(port.name)}({bits[0] if len(bits) == 1 else '{' + ', '.join(bits) + '}'})"
 
 
 def quoted(text):
@@ -198,11 +192,11 @@ endmodule
 
 def text_of(chip, test, vectors):
     """The testbench of a chip and a test, whose vectors stand in that file."""
-    sites = list(sites_of(chip))
+    sites = list(sites_of(chip)) if chip.knows_nets else []
     scan_enable = chip.design.inputs.index("SC__se") if chip.cells else 0
     return TESTBENCH.format(
         bench=spelled(f"{chip.module}_tb"), module=spelled(chip.module), cycles=len(test.cycles), drives=len(test.inputs),
-        strobes=len(test.outputs), longest=max(len(site.text) for site in sites) + 3, ports=",\n".join(joined_ports(chip)),
+        strobes=len(test.outputs), longest=max((len(site.text) for site in sites), default=0) + 3, ports=",\n".join(joined_ports(chip)),
         always="\n".join(always_lines(chip, sites)), cases="\n".join(case_lines(chip, sites)),
         enable=scan_enable, captures="\n".join(capture_lines(chip, sites)), vectors=quoted(str(vectors)),
         names="\n".join(f'      {k}: name = "{quoted(name)}";' for k, name in enumerate(chip.pins)))
