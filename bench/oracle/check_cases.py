@@ -471,7 +471,7 @@ def wanted_of(texts, verb, rest, given):
         return labelled(Netlist(texts[name]), more, given)
     if verb == "words":
         return settled_words(Netlist(texts[name]), more)
-    if verb in ("list", "shares", "searches"):
+    if verb in ("list", "compacted", "shares", "searches"):
         return on_fault_list(verb, name, texts[name], more, given)
     return on_netlist(verb, texts[name], more)
 
@@ -514,18 +514,18 @@ def searched_all(name, text, limit, given):
 
 
 def state_lines(netlist, fault, path, given):
-    """The state of a fault under decisions, and the labels where the search may go on. The order of the trail is taken from what is given."""
+    """The state of a fault under decisions, the labels where the search may go on, and the trail. Its order is taken from what is given."""
     found, points = check_trees.labels(netlist, gate, fault, path, {})
+    start, _ = check_trees.labels(netlist, gate, fault, {}, {})
+    changed = [name for name in netlist.signals if found[name] != start[name]]
+    trail = next((line for line in given if sorted(line.split(" ")[1:]) == sorted(changed) and line.startswith("trail")), "another trail")
     if check_trees.is_closed(netlist, gate, fault, path, {}):
-        return ["blocked"]
+        return ["blocked", trail]
     for place, (_, good, faulty, differs) in enumerate(points):
         if differs and "X" not in (good, faulty) and good != faulty:
             cells = place - len(netlist.outputs)
             return [f"test output {place}" if cells < 0 else f"test cell {cells}"]
     said = ["going"] + [f"{name} {own}{good}{faulty}{'d' if differs else 's'}" for name, (own, good, faulty, differs) in ((x, found[x]) for x in netlist.signals)]
-    start, _ = check_trees.labels(netlist, gate, fault, {}, {})
-    changed = [name for name in netlist.signals if found[name] != start[name]]
-    trail = next((line for line in given if sorted(line.split(" ")[1:]) == sorted(changed) and line.startswith("trail")), "another trail")
     return [" ".join(said), trail]
 
 
@@ -556,6 +556,8 @@ def on_fault_list(verb, name, text, rest, given):
     faults = list_play.List(first_members(text), int(limit), lambda fault, patterns: last_detected(netlist, fault, " ".join(patterns)), merged)
     if verb == "list":
         return list(list_play.on_list(faults, calls))
+    if verb == "compacted":
+        return list(list_play.on_compacted(faults, calls))
     return list(list_play.on_shares(faults, FOUND.get((name, limit), {}), calls))
 
 
