@@ -16,11 +16,13 @@ import check_certificates
 import check_checks
 import check_trees
 import list_play
+import plain_chains
 import plain_check
 import plain_program
 import stil_file
 from check_reports import is_report
 from fault_list import fault_list, netlist_of, readers_of
+from plain_stil import is_stil
 from sample_netlist import Pcg32
 
 ROOT = os.path.dirname(os.path.dirname(os.path.dirname(os.path.abspath(__file__))))
@@ -467,6 +469,8 @@ def wanted_of(texts, verb, rest, given):
         return None if given[0].startswith("line ") else shown(Netlist(texts[name]).canonical())
     if verb in ("certificate", "certificate-sum"):
         return certificate(verb, texts[name], texts[more])
+    if verb == "first-wrong":
+        return first_wrong(texts, name, *more.split(" ", 1))
     if verb == "labels":
         return labelled(Netlist(texts[name]), more, given)
     if verb == "words":
@@ -474,6 +478,19 @@ def wanted_of(texts, verb, rest, given):
     if verb in ("list", "compacted", "shares", "searches"):
         return on_fault_list(verb, name, texts[name], more, given)
     return on_netlist(verb, texts[name], more)
+
+
+def first_wrong(texts, net, stil, fault):
+    """The first strobe that is known to be wrong."""
+    scanned, (line, _, bit) = plain_program.netlist_of(texts[net], False), fault.rpartition("/")
+    if not is_stil(texts[stil].encode("latin-1")):
+        return ["not stil"]
+    try:
+        cycles = plain_program.cycles_that_fit(texts[stil], scanned)
+    except plain_program.Refused:
+        return ["does not fit"]
+    place = plain_chains.first_wrong(scanned, cycles, (line, int(bit)))
+    return [f"fails {place[0]} {place[1]}" if place else "untold"]
 
 
 def first_members(text):

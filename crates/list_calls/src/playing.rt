@@ -4,9 +4,9 @@ ghost use Rattle.netlist.specs.Designs.{IsDesign};
 use crate::compaction::play_compacted;
 use crate::lists::play_list;
 use crate::sharing::play_shares;
-use case_nets::{classes_of, core_of, have_lines};
+use case_nets::{classes_of, have_lines};
 use case_text::{cut, small};
-use netlist::{Holds, Netlist};
+use netlist::{Core, Holds};
 use std::alloc::{AllocError, Global};
 use std::marker::Brand;
 use std::sync::Wait;
@@ -36,22 +36,21 @@ pub fn push_played<R: Wait>(
     to: &mut Vec<u8>,
     rt: &R,
     alloc: Global,
-    netlist: &Netlist,
+    core: &Core,
     rest: &str,
     on: On,
 ) -> Result<(), AllocError>
-    requires { IsDesign netlist.now }
+    requires { IsDesign core.now }
 {
     let (numbers, calls) = rest.split_once(": ").unwrap_or((rest, ""));
     let (workers, limit) = numbers_of(numbers, on);
     let workers = small(workers).clamp(1, 64);
     let limit = small(limit).max(1);
     let calls = calls.as_bytes();
-    let core = core_of(alloc, netlist)?;
     let Ok(classes) = classes_of(alloc, core.netlist()) else {
         return Err(AllocError);
     };
-    let Ok(holds) = Holds::none(alloc, &core) else {
+    let Ok(holds) = Holds::none(alloc, core) else {
         return Err(AllocError);
     };
     if classes.count() > 1_000_000 {
@@ -59,10 +58,10 @@ pub fn push_played<R: Wait>(
     }
     have_lines(core.netlist(), &classes);
     let said = match on {
-        On::List => play_list::<Brand>(alloc, &core, &classes, limit, &holds, calls)?,
-        On::Compacted => play_compacted::<Brand>(alloc, &core, &classes, limit, &holds, calls)?,
+        On::List => play_list::<Brand>(alloc, core, &classes, limit, &holds, calls)?,
+        On::Compacted => play_compacted::<Brand>(alloc, core, &classes, limit, &holds, calls)?,
         On::Shares => {
-            play_shares::<Brand, R>(rt, alloc, &core, &classes, limit, &holds, workers, calls)?
+            play_shares::<Brand, R>(rt, alloc, core, &classes, limit, &holds, workers, calls)?
         }
     };
     to.extend_from_slice(&said)
