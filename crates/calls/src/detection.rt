@@ -8,7 +8,7 @@ ghost use Rattle.word_sim.specs.Words.{HasWidthsOf};
 
 use crate::faults::{all_faults, listed};
 use case_nets::{drawn, patterns_of};
-use case_text::{Pushed, checksum, push_number};
+use case_text::{Pushed, checksum, cut_at, push_number};
 use cubes::Pattern;
 use netlist::{Core, Fault, Netlist, Point};
 use rand_pcg::Pcg32;
@@ -49,10 +49,6 @@ fn push_hits(to: &mut Vec<u8>, count: usize, hits: &[Hit]) -> Pushed {
     Ok(())
 }
 
-fn cut_name(text: &str) -> (&str, &str) {
-    text.split_once(", ").unwrap_or((text, ""))
-}
-
 /// Adds the fault of a text, if the list of faults has it.
 fn push_listed(netlist: &Netlist, name: &str, faults: &mut Vec<Fault>) -> Pushed
     requires { All (λ (f : FaultOf). IsLineOf netlist.now f.line) faults.old.items }
@@ -71,7 +67,7 @@ fn faults_of(alloc: Global, netlist: &Netlist, text: &str) -> Result<Vec<Fault>,
     let mut faults = Vec::new(alloc);
     let mut rest = text;
     for _ in 0..text.len() {
-        let (name, more) = cut_name(rest);
+        let (name, more) = cut_at(rest, ", ");
         push_listed(netlist, name, &mut faults)?;
         rest = more;
     }
@@ -133,7 +129,7 @@ pub fn push_detected(
     rest: &str,
     is_batch: bool,
 ) -> Pushed {
-    let (names, texts) = rest.split_once(": ").unwrap_or((rest, ""));
+    let (names, texts) = cut_at(rest, ": ");
     let faults = faults_of(alloc, core.netlist(), names)?;
     if faults.is_empty() {
         return to.extend_from_slice(b"no fault\n");

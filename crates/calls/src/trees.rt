@@ -7,7 +7,7 @@ ghost use Rattle.redundancy_cert.specs.Trees.{DecidesSignal};
 
 use crate::faults::listed;
 use case_nets::{holds_of, nodes_of, signal};
-use case_text::{Pushed, cut};
+use case_text::{Pushed, cut, cut_at, small};
 use certificate::is_one_tree;
 use netlist::{Core, Fault, Holds, Netlist};
 use redundancy_cert::{Counts, Node, Tree, TreeFault, check_tree};
@@ -54,7 +54,7 @@ fn push_nodes(
 /// `tree HOLDS FAULT: NODES`: whether the tree fits the fault, by the words of a certificate.
 pub fn push_tree(to: &mut Vec<u8>, alloc: Global, core: &Core, rest: &str) -> Pushed {
     let (held, rest) = cut(rest);
-    let (fault, nodes) = rest.split_once(": ").unwrap_or((rest, ""));
+    let (fault, nodes) = cut_at(rest, ": ");
     let holds = holds_of(alloc, core, held)?;
     let Some(fault) = listed(core.netlist(), fault) else {
         return to.extend_from_slice(b"no fault\n");
@@ -91,6 +91,6 @@ pub fn push_deep_tree(to: &mut Vec<u8>, alloc: Global, core: &Core, rest: &str) 
     let Some(fault) = listed(core.netlist(), fault) else {
         return to.extend_from_slice(b"no fault\n");
     };
-    let nodes = deep(alloc, core.netlist(), name, depth.parse().unwrap_or(0))?;
+    let nodes = deep(alloc, core.netlist(), name, small(depth))?;
     push_nodes(to, alloc, core, &fault, nodes, &holds)
 }

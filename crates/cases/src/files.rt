@@ -7,7 +7,12 @@ use std::alloc::{AllocError, Global};
 pub const ENDINGS: [&str; 5] = ["net", "scan", "stil", "cert", "rep"];
 
 pub fn is_named(texts: &[Named], name: &str) -> bool {
-    texts.iter().any(|text| text.name.as_str() == name)
+    for text in texts {
+        if text.name.as_str() == name {
+            return true;
+        }
+    }
+    false
 }
 
 /// Puts the files of a prefix that stand on the shelf among those of the case.

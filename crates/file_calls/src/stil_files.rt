@@ -6,7 +6,7 @@ ghost use Rattle.scan_insert.specs.Scanned.{AreChainsOf};
 
 use crate::vectors::push_vectors;
 use case_nets::{chains_of, holds_of, patterns_of as patterns_named, push_pattern};
-use case_text::{cut, show, small};
+use case_text::{cut, cut_at, show, small};
 use chain_stitch::Chains;
 use cubes::Pattern;
 use netlist::{Core, Holds};
@@ -156,7 +156,7 @@ pub fn push_stil(
 ) -> Result<(), AllocError>
     requires { IsDesign core.now }
 {
-    let (head, texts) = rest.split_once(": ").unwrap_or((rest, ""));
+    let (head, texts) = cut_at(rest, ": ");
     let (asked, head) = cut(head);
     let (held, words) = cut(head);
     let holds = holds_of(alloc, core, held)?;

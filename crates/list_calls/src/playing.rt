@@ -5,7 +5,7 @@ use crate::compaction::play_compacted;
 use crate::lists::play_list;
 use crate::sharing::play_shares;
 use case_nets::{classes_of, have_lines};
-use case_text::{cut, small};
+use case_text::{cut, cut_at, small};
 use netlist::{Core, Holds};
 use std::alloc::{AllocError, Global};
 use std::marker::Brand;
@@ -42,7 +42,7 @@ pub fn push_played<R: Wait>(
 ) -> Result<(), AllocError>
     requires { IsDesign core.now }
 {
-    let (numbers, calls) = rest.split_once(": ").unwrap_or((rest, ""));
+    let (numbers, calls) = cut_at(rest, ": ");
     let (workers, limit) = numbers_of(numbers, on);
     let workers = small(workers).clamp(1, 64);
     let limit = small(limit).max(1);
