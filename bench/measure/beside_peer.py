@@ -1,18 +1,11 @@
-"""What bench/measure/fault_sim and bench/measure/events share: the netlists, the proved build of crates/timings, and the C++ peers."""
+"""What bench/measure/fault_sim and bench/measure/events share: the netlists and the C++ peers."""
 import os
 import subprocess
 import sys
 
-from measure import HERE, MADE, ORACLE, ROOT, made_netlist
+from measure import HERE, MADE, ORACLE, made_netlist
 
-TIMINGS = os.path.join(ROOT, "crates", "timings", "out", "timings")
 ROUNDS = 5  # in which both run, one after the other
-
-
-def proved_timings():
-    if not os.path.exists(TIMINGS):
-        sys.exit("no proved build: (cd crates/timings && rt run -- search counts data/s27.bench 1)")
-    return TIMINGS
 
 
 def compiled(name):

@@ -1,6 +1,6 @@
 #!/usr/bin/env python3
-"""Works out what the rows of crates/calls, crates/file_calls, crates/list_calls, crates/cases and crates/check_cases have to print, by plain
-programs apart from the crates, and compares.
+"""Works out what the rows of crates/calls, crates/file_calls, crates/list_calls and crates/cases have to print, by plain programs apart from
+the crates, and compares.
 
 A row that this program doesn't know (a refusal, a line of an error output) is worked out by hand; how many there are is printed.
 
@@ -16,16 +16,19 @@ import check_certificates
 import check_checks
 import check_trees
 import list_play
+import plain_chains
 import plain_check
 import plain_program
 import stil_file
 from check_reports import is_report
 from fault_list import fault_list, netlist_of, readers_of
+from plain_stil import is_stil
 from sample_netlist import Pcg32
 
 ROOT = os.path.dirname(os.path.dirname(os.path.dirname(os.path.abspath(__file__))))
 WORDS = {"BUF": "BUFF"}
 RUNS = ("case ", "run ", "keep ", "twice ", "cut ")
+CHECK = "check "
 
 
 def shown(text):
@@ -466,13 +469,28 @@ def wanted_of(texts, verb, rest, given):
         return None if given[0].startswith("line ") else shown(Netlist(texts[name]).canonical())
     if verb in ("certificate", "certificate-sum"):
         return certificate(verb, texts[name], texts[more])
+    if verb == "first-wrong":
+        return first_wrong(texts, name, *more.split(" ", 1))
     if verb == "labels":
         return labelled(Netlist(texts[name]), more, given)
     if verb == "words":
         return settled_words(Netlist(texts[name]), more)
-    if verb in ("list", "shares", "searches"):
+    if verb in ("list", "compacted", "shares", "searches"):
         return on_fault_list(verb, name, texts[name], more, given)
     return on_netlist(verb, texts[name], more)
+
+
+def first_wrong(texts, net, stil, fault):
+    """The first strobe that is known to be wrong."""
+    scanned, (line, _, bit) = plain_program.netlist_of(texts[net], False), fault.rpartition("/")
+    if not is_stil(texts[stil].encode("latin-1")):
+        return ["not stil"]
+    try:
+        cycles = plain_program.cycles_that_fit(texts[stil], scanned)
+    except plain_program.Refused:
+        return ["does not fit"]
+    place = plain_chains.first_wrong(scanned, cycles, (line, int(bit)))
+    return [f"fails {place[0]} {place[1]}" if place else "untold"]
 
 
 def first_members(text):
@@ -513,18 +531,18 @@ def searched_all(name, text, limit, given):
 
 
 def state_lines(netlist, fault, path, given):
-    """The state of a fault under decisions, and the labels where the search may go on. The order of the trail is taken from what is given."""
+    """The state of a fault under decisions, the labels where the search may go on, and the trail. Its order is taken from what is given."""
     found, points = check_trees.labels(netlist, gate, fault, path, {})
+    start, _ = check_trees.labels(netlist, gate, fault, {}, {})
+    changed = [name for name in netlist.signals if found[name] != start[name]]
+    trail = next((line for line in given if sorted(line.split(" ")[1:]) == sorted(changed) and line.startswith("trail")), "another trail")
     if check_trees.is_closed(netlist, gate, fault, path, {}):
-        return ["blocked"]
+        return ["blocked", trail]
     for place, (_, good, faulty, differs) in enumerate(points):
         if differs and "X" not in (good, faulty) and good != faulty:
             cells = place - len(netlist.outputs)
             return [f"test output {place}" if cells < 0 else f"test cell {cells}"]
     said = ["going"] + [f"{name} {own}{good}{faulty}{'d' if differs else 's'}" for name, (own, good, faulty, differs) in ((x, found[x]) for x in netlist.signals)]
-    start, _ = check_trees.labels(netlist, gate, fault, {}, {})
-    changed = [name for name in netlist.signals if found[name] != start[name]]
-    trail = next((line for line in given if sorted(line.split(" ")[1:]) == sorted(changed) and line.startswith("trail")), "another trail")
     return [" ".join(said), trail]
 
 
@@ -555,6 +573,8 @@ def on_fault_list(verb, name, text, rest, given):
     faults = list_play.List(first_members(text), int(limit), lambda fault, patterns: last_detected(netlist, fault, " ".join(patterns)), merged)
     if verb == "list":
         return list(list_play.on_list(faults, calls))
+    if verb == "compacted":
+        return list(list_play.on_compacted(faults, calls))
     return list(list_play.on_shares(faults, FOUND.get((name, limit), {}), calls))
 
 
@@ -669,14 +689,17 @@ def told_runs(texts):
 
 def check_cases():
     texts, rows = texts_and_rows(f"{ROOT}/crates/cases/stdin")
-    heads = ["run " + row.split(" ", 2)[2] if row.startswith("keep ") else row for row in rows if row.startswith(RUNS)]
+    heads = ["run " + row.split(" ", 2)[2] if row.startswith("keep ") else row for row in rows if row.startswith((*RUNS, CHECK))]
     stored = iter(answers(f"{ROOT}/crates/cases/stdout", heads))
+    checks = dict(check_checks.rows())
     wrong, known, count, case, runs = 0, 0, 0, Case(), told_runs(texts)
     for row in rows:
         verb, _, rest = row.partition(" ")
-        given = [line for line in next(stored, []) if line] if row.startswith(RUNS) else []
+        given = [line for line in next(stored, []) if line] if row.startswith((*RUNS, CHECK)) else []
         if verb == "case":
             case = Case()
+        elif row.startswith(CHECK):
+            wrong += differs(row, checks[row], given)
         elif not row.startswith(RUNS):
             case.take(verb, rest, texts)
         else:
@@ -689,19 +712,9 @@ def check_cases():
                 pass
             if verb == "keep":
                 keep_files(case, rest.split(" ")[0], rest.split(" ")[1:], told)
-    print(f"cases: {known} of {count} runs worked out, {wrong} differ")
-    return wrong
-
-
-def check_check_cases():
-    wanted = check_checks.wanted()
-    with open(f"{ROOT}/crates/check_cases/stdout", encoding="latin-1") as file:
-        given = file.read()
-    rows = wanted.count("\nstatus ")
-    wrong = differs("check_cases", wanted.split("\n"), given.split("\n"))
-    print(f"check_cases: {rows} of {rows} rows worked out, {'some' if wrong else 0} differ")
+    print(f"cases: {known} of {count} runs worked out, and all {len(checks)} checks of five files, {wrong} differ")
     return wrong
 
 
 if __name__ == "__main__":
-    sys.exit(1 if check_calls("calls") + check_calls("file_calls") + check_calls("list_calls") + check_cases() + check_check_cases() else 0)
+    sys.exit(1 if check_calls("calls") + check_calls("file_calls") + check_calls("list_calls") + check_cases() else 0)

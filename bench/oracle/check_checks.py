@@ -1,5 +1,6 @@
 #!/usr/bin/env python3
-"""Works out what the rows of crates/check_cases have to print, by bench/oracle/plain_check.py, which has nothing of the crates.
+"""Works out what the checks of five files among the rows of crates/cases have to print, by bench/oracle/plain_check.py, which has nothing of
+the crates.
 
     bench/oracle/check_checks.py           prints it
 """
@@ -9,7 +10,7 @@ import sys
 sys.path.insert(0, str(pathlib.Path(__file__).resolve().parent))
 import plain_check
 
-STDIN = pathlib.Path(__file__).resolve().parents[2] / "crates/check_cases/stdin"
+STDIN = pathlib.Path(__file__).resolve().parents[2] / "crates/cases/stdin"
 
 
 def part_of(told):
@@ -33,10 +34,10 @@ def answer(files):
     return plain_check.check(files)
 
 
-def rows(lines):
-    """Each check's line, and what has to come."""
+def rows():
+    """Each check's line, and the lines that have to come."""
     texts, files, name = {}, {}, None
-    for line in lines:
+    for line in STDIN.read_text(encoding="latin-1").split("\n"):
         verb, _, rest = line.partition(" ")
         if line.startswith("|"):
             told = line[1:]
@@ -53,12 +54,9 @@ def rows(lines):
             del files[rest]
         elif verb == "check":
             status, said = answer(files)
-            yield line, f"status {status}\n|{said}\n"
-
-
-def wanted():
-    return "".join(f"{line}\n{came}" for line, came in rows(STDIN.read_text(encoding="latin-1").split("\n")))
+            yield line, [f"status {status}", f"|{said}"]
 
 
 if __name__ == "__main__":
-    print(wanted(), end="")
+    for row, came in rows():
+        print(row, *came, sep="\n")

@@ -7,10 +7,9 @@ ghost use Rattle.netlist.specs.Netlist.{cells};
 ghost use Rattle.netlist.specs.declared.lines.Fault.{Fault as FaultOf};
 
 use crate::faults::all_faults;
-use case_nets::core_of;
 use case_text::{Pushed, push_number};
 use events::{Events, Words};
-use netlist::{Core, Fault, Netlist};
+use netlist::{Core, Fault};
 use rand_core::Rng;
 use rand_pcg::Pcg32;
 use std::alloc::{AllocError, Global};
@@ -100,22 +99,15 @@ fn first_other(
 }
 
 /// `events SEED CHANGES`: so many random changes of what is driven, each with the next line of the list stuck and taken back.
-pub fn push_changes(
-    to: &mut Vec<u8>,
-    alloc: Global,
-    netlist: &Netlist,
-    seed: u64,
-    changes: u32,
-) -> Pushed
-    requires { IsDesign netlist.now }
+pub fn push_changes(to: &mut Vec<u8>, alloc: Global, core: &Core, seed: u64, changes: u32) -> Pushed
+    requires { IsDesign core.now }
 {
-    let core = core_of(alloc, netlist)?;
-    let faults = all_faults(alloc, netlist)?;
+    let faults = all_faults(alloc, core.netlist())?;
     if faults.is_empty() {
         return to.extend_from_slice(b"no fault\n");
     }
     let mut random = Pcg32::new(seed, 54);
-    match first_other(alloc, &core, &faults, &mut random, changes)? {
+    match first_other(alloc, core, &faults, &mut random, changes)? {
         None => {
             push_number(to, changes)?;
             to.extend_from_slice(b" changes, all as from scratch\n")

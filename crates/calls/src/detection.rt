@@ -7,8 +7,8 @@ ghost use Rattle.netlist.specs.declared.lines.Fault.{Fault as FaultOf};
 ghost use Rattle.word_sim.specs.Words.{HasWidthsOf};
 
 use crate::faults::{all_faults, listed};
-use case_nets::{core_of, drawn, patterns_of};
-use case_text::{Pushed, checksum, push_number};
+use case_nets::{drawn, patterns_of};
+use case_text::{Pushed, checksum, cut_at, push_number};
 use cubes::Pattern;
 use netlist::{Core, Fault, Netlist, Point};
 use rand_pcg::Pcg32;
@@ -49,10 +49,6 @@ fn push_hits(to: &mut Vec<u8>, count: usize, hits: &[Hit]) -> Pushed {
     Ok(())
 }
 
-fn cut_name(text: &str) -> (&str, &str) {
-    text.split_once(", ").unwrap_or((text, ""))
-}
-
 /// Adds the fault of a text, if the list of faults has it.
 fn push_listed(netlist: &Netlist, name: &str, faults: &mut Vec<Fault>) -> Pushed
     requires { All (λ (f : FaultOf). IsLineOf netlist.now f.line) faults.old.items }
@@ -71,7 +67,7 @@ fn faults_of(alloc: Global, netlist: &Netlist, text: &str) -> Result<Vec<Fault>,
     let mut faults = Vec::new(alloc);
     let mut rest = text;
     for _ in 0..text.len() {
-        let (name, more) = cut_name(rest);
+        let (name, more) = cut_at(rest, ", ");
         push_listed(netlist, name, &mut faults)?;
         rest = more;
     }
@@ -129,18 +125,17 @@ fn push_said(
 pub fn push_detected(
     to: &mut Vec<u8>,
     alloc: Global,
-    netlist: &Netlist,
+    core: &Core,
     rest: &str,
     is_batch: bool,
 ) -> Pushed {
-    let (names, texts) = rest.split_once(": ").unwrap_or((rest, ""));
-    let core = core_of(alloc, netlist)?;
+    let (names, texts) = cut_at(rest, ": ");
     let faults = faults_of(alloc, core.netlist(), names)?;
     if faults.is_empty() {
         return to.extend_from_slice(b"no fault\n");
     }
-    let patterns = patterns_of(alloc, &core, texts)?;
-    push_said(to, alloc, &core, &faults, &patterns, is_batch)
+    let patterns = patterns_of(alloc, core, texts)?;
+    push_said(to, alloc, core, &faults, &patterns, is_batch)
 }
 
 fn all_drawn(
@@ -163,18 +158,17 @@ fn all_drawn(
 pub fn push_drawn(
     to: &mut Vec<u8>,
     alloc: Global,
-    netlist: &Netlist,
+    core: &Core,
     seed: u64,
     count: u32,
     is_batch: bool,
 ) -> Pushed
-    requires { IsDesign netlist.now }
+    requires { IsDesign core.now }
 {
-    let core = core_of(alloc, netlist)?;
-    let faults = all_faults(alloc, netlist)?;
-    let patterns = all_drawn(alloc, &core, count, &mut Pcg32::new(seed, 54))?;
+    let faults = all_faults(alloc, core.netlist())?;
+    let patterns = all_drawn(alloc, core, count, &mut Pcg32::new(seed, 54))?;
     let mut said = Vec::new(alloc);
-    push_said(&mut said, alloc, &core, &faults, &patterns, is_batch)?;
+    push_said(&mut said, alloc, core, &faults, &patterns, is_batch)?;
     push_number(to, checksum(&said))?;
     to.push(b'\n')?;
     Ok(())

@@ -1,15 +1,16 @@
 //! Lines, faults and kinds of gates by their names.
 use case_nets::signal;
+use case_text::cut;
 use netlist::{Fault, Kind, Line, Netlist};
 
 /// The line of a text, whether or not it branches.
 pub fn line_named(netlist: &Netlist, text: &str) -> Option<Line> {
-    let (word, rest) = text.split_once(' ')?;
+    let (word, rest) = cut(text);
     match word {
         "stem" => Some(Line::Stem(signal(netlist, rest)?)),
         "out" => Some(Line::Out(signal(netlist, rest)?)),
         "pin" => {
-            let (name, place) = rest.split_once(' ')?;
+            let (name, place) = cut(rest);
             Some(Line::Pin(signal(netlist, name)?, place.parse().ok()?))
         }
         _ => None,
@@ -56,9 +57,9 @@ const KINDS: [Kind; 11] = [
 ];
 
 pub fn kind_of(word: &str) -> Option<Kind> {
-    for kind in KINDS {
-        if word_of(kind) == word {
-            return Some(kind);
+    for kind in &KINDS {
+        if word_of(*kind) == word {
+            return Some(*kind);
         }
     }
     None

@@ -3,10 +3,10 @@ ghost use Rattle.std.specs.Prelude.{◌≤◌};
 ghost use Rattle.netlist.specs.Holds.{AreHoldsOf};
 
 use crate::names::stuck;
-use case_nets::{core_of, holds_of};
+use case_nets::holds_of;
 use case_text::{Pushed, cut, small};
 use fan::Fan;
-use netlist::{Core, Fault, Holds, Netlist, NoMemory};
+use netlist::{Core, Fault, Holds, NoMemory};
 use podem::Podem;
 use redundancy_cert::Found;
 use std::alloc::{AllocError, Global};
@@ -44,20 +44,13 @@ fn found_by(
 }
 
 /// `search HELD LIMIT FAULT`, `search-fan ..`: whether the engine finds a test, shows that there is none, or gives up at the backtrack limit.
-pub fn push_search(
-    to: &mut Vec<u8>,
-    alloc: Global,
-    netlist: &Netlist,
-    rest: &str,
-    by: By,
-) -> Pushed {
+pub fn push_search(to: &mut Vec<u8>, alloc: Global, core: &Core, rest: &str, by: By) -> Pushed {
     let (held, rest) = cut(rest);
     let (limit, fault) = cut(rest);
-    let core = core_of(alloc, netlist)?;
-    let holds = holds_of(alloc, &core, held)?;
+    let holds = holds_of(alloc, core, held)?;
     let Some(fault) = stuck(core.netlist(), fault) else {
         return to.extend_from_slice(b"no fault\n");
     };
-    let found = found_by(by, alloc, &core, fault, small(limit).max(1), &holds);
+    let found = found_by(by, alloc, core, fault, small(limit).max(1), &holds);
     to.extend_from_slice(word_of(found)?.as_bytes())
 }

@@ -6,8 +6,8 @@ ghost use Rattle.netlist.specs.Lines.{IsLineOf};
 ghost use Rattle.redundancy_cert.specs.Trees.{DecidesSignal};
 
 use crate::faults::listed;
-use case_nets::{core_of, holds_of, nodes_of, signal};
-use case_text::{Pushed, cut};
+use case_nets::{holds_of, nodes_of, signal};
+use case_text::{Pushed, cut, cut_at, small};
 use certificate::is_one_tree;
 use netlist::{Core, Fault, Holds, Netlist};
 use redundancy_cert::{Counts, Node, Tree, TreeFault, check_tree};
@@ -52,16 +52,15 @@ fn push_nodes(
 }
 
 /// `tree HOLDS FAULT: NODES`: whether the tree fits the fault, by the words of a certificate.
-pub fn push_tree(to: &mut Vec<u8>, alloc: Global, netlist: &Netlist, rest: &str) -> Pushed {
+pub fn push_tree(to: &mut Vec<u8>, alloc: Global, core: &Core, rest: &str) -> Pushed {
     let (held, rest) = cut(rest);
-    let (fault, nodes) = rest.split_once(": ").unwrap_or((rest, ""));
-    let core = core_of(alloc, netlist)?;
-    let holds = holds_of(alloc, &core, held)?;
+    let (fault, nodes) = cut_at(rest, ": ");
+    let holds = holds_of(alloc, core, held)?;
     let Some(fault) = listed(core.netlist(), fault) else {
         return to.extend_from_slice(b"no fault\n");
     };
     let nodes = nodes_of(alloc, core.netlist(), nodes)?;
-    push_nodes(to, alloc, &core, &fault, nodes, &holds)
+    push_nodes(to, alloc, core, &fault, nodes, &holds)
 }
 
 /// So many decisions on one signal, and the ends below them.
@@ -85,14 +84,13 @@ fn deep(alloc: Global, netlist: &Netlist, name: &str, depth: u32) -> Result<Vec<
 }
 
 /// `deep-tree SIGNAL DEPTH FAULT`: whether a tree of so many decisions on one signal fits the fault.
-pub fn push_deep_tree(to: &mut Vec<u8>, alloc: Global, netlist: &Netlist, rest: &str) -> Pushed {
+pub fn push_deep_tree(to: &mut Vec<u8>, alloc: Global, core: &Core, rest: &str) -> Pushed {
     let (name, rest) = cut(rest);
     let (depth, fault) = cut(rest);
-    let core = core_of(alloc, netlist)?;
-    let holds = holds_of(alloc, &core, "-")?;
+    let holds = holds_of(alloc, core, "-")?;
     let Some(fault) = listed(core.netlist(), fault) else {
         return to.extend_from_slice(b"no fault\n");
     };
-    let nodes = deep(alloc, core.netlist(), name, depth.parse().unwrap_or(0))?;
-    push_nodes(to, alloc, &core, &fault, nodes, &holds)
+    let nodes = deep(alloc, core.netlist(), name, small(depth))?;
+    push_nodes(to, alloc, core, &fault, nodes, &holds)
 }

@@ -3,6 +3,7 @@ ghost use Rattle.std.specs.Prelude.{IfOk};
 ghost use Rattle.netlist.specs.Holds.{AreHoldsOf};
 
 use crate::names::signal;
+use case_text::cut_at;
 use netlist::{Core, Holds};
 use std::alloc::{AllocError, Global};
 
@@ -14,9 +15,10 @@ pub fn holds_of(alloc: Global, core: &Core, text: &str) -> Result<Holds, AllocEr
         return Err(AllocError);
     };
     let netlist = core.netlist();
-    let Some((name, bit)) = text.split_once('=') else {
+    let (name, bit) = cut_at(text, "=");
+    if bit.is_empty() {
         return Ok(holds);
-    };
+    }
     let Some(id) = signal(netlist, name) else {
         return Ok(holds);
     };

@@ -16,7 +16,7 @@ mod values;
 
 pub use chains::chains_of;
 pub use classes::{classes_of, have_lines};
-pub use designs::{core_of, design, scanned};
+pub use designs::{design_core, scanned, scanned_core};
 pub use holds::holds_of;
 pub use names::{name_of, push_fault, push_line_text, push_names, signal};
 pub use patterns::{bits, drawn, patterns_of, push_bits, push_pattern};

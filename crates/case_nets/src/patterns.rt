@@ -3,7 +3,7 @@ ghost use Rattle.std.specs.Prelude.{◌≡◌, IfOk, IfSome, length};
 ghost use Rattle.std.specs.List.{All};
 ghost use Rattle.word_sim.specs.Words.{HasWidthsOf};
 
-use case_text::cut;
+use case_text::{cut, cut_at};
 use cubes::Pattern;
 use netlist::Core;
 use rand_core::Rng;
@@ -12,7 +12,11 @@ use std::alloc::{AllocError, Global};
 
 /// The bits of digits; every other byte than a `1` is a 0.
 pub fn bits(alloc: Global, digits: &str) -> Result<Vec<bool>, AllocError> {
-    digits.bytes().map(|digit| digit == b'1').collect(alloc)
+    let mut bits = Vec::with_capacity(alloc, digits.len())?;
+    for digit in digits.as_bytes() {
+        bits.push(*digit == b'1')?;
+    }
+    Ok(bits)
 }
 
 /// Adds bits as digits.
@@ -34,7 +38,7 @@ pub fn push_pattern(to: &mut Vec<u8>, pattern: &Pattern) -> Result<(), AllocErro
 fn pattern_of(alloc: Global, core: &Core, text: &str) -> Result<Option<Pattern>, AllocError>
     ensures { IfOk result (λ p. IfSome p (HasWidthsOf core.now)) }
 {
-    let (inputs, cells) = text.split_once('/').unwrap_or((text, ""));
+    let (inputs, cells) = cut_at(text, "/");
     let inputs = bits(alloc, inputs)?;
     let cells = bits(alloc, cells)?;
     if inputs.len() != core.netlist().inputs().len() {

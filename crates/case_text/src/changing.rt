@@ -1,5 +1,6 @@
 //! Texts in which a part is another.
 use crate::lines::push_line;
+use crate::words::cut_at;
 use std::alloc::{AllocError, Global};
 
 /// What stands before the first such part of a text, and behind it.
@@ -22,7 +23,7 @@ fn part_of(alloc: Global, told: &str) -> Result<Vec<u8>, AllocError> {
 
 /// The text with another part in the place of the first of a kind: `OLD|NEW`. It has no bytes where there is none.
 pub fn changed(alloc: Global, text: &[u8], change: &str) -> Result<Vec<u8>, AllocError> {
-    let (old, new) = change.split_once('|').unwrap_or((change, ""));
+    let (old, new) = cut_at(change, "|");
     let old = part_of(alloc, old)?;
     let new = part_of(alloc, new)?;
     let mut made = Vec::new(alloc);

@@ -5,9 +5,14 @@ use std::alloc::AllocError;
 /// What a call answers that adds to a buffer: memory may be refused to it.
 pub type Pushed = Result<(), AllocError>;
 
+/// What stands before the first such mark of a text, and behind it; all and nothing where there is none.
+pub fn cut_at<'a>(text: &'a str, mark: &str) -> (&'a str, &'a str) {
+    text.split_once(mark).unwrap_or((text, ""))
+}
+
 /// The first word of a text, and what stands behind its blank.
 pub fn cut(text: &str) -> (&str, &str) {
-    text.split_once(' ').unwrap_or((text, ""))
+    cut_at(text, " ")
 }
 
 /// A number; 0 where there is none.

@@ -1,10 +1,10 @@
 //! Certificates, read for a netlist.
 ghost use Rattle.netlist.specs.Designs.{IsDesign};
 
-use case_nets::{core_of, push_fault, push_tree};
+use case_nets::{push_fault, push_tree};
 use case_text::{checksum, push_numbers, show};
 use certificate::{CertFault, read_trees};
-use netlist::{Fault, Netlist};
+use netlist::{Core, Fault, Netlist};
 use redundancy_cert::Tree;
 use std::alloc::{AllocError, Global};
 
@@ -34,19 +34,18 @@ fn push_lines(to: &mut Vec<u8>, lines: &[u8], is_whole: bool) -> Result<(), Allo
 pub fn push_certificate(
     to: &mut Vec<u8>,
     alloc: Global,
-    netlist: &Netlist,
+    core: &Core,
     bytes: &[u8],
     is_whole: bool,
 ) -> Result<(), AllocError>
-    requires { IsDesign netlist.now }
+    requires { IsDesign core.now }
 {
-    let core = core_of(alloc, netlist)?;
-    match read_trees(alloc, &core, bytes) {
+    match read_trees(alloc, core, bytes) {
         Ok(trees) => {
             to.extend_from_slice(b"trees ")?;
             to.extend_from_slice(itoa::Buffer::new().format(trees.len()).as_bytes())?;
             to.push(b'\n')?;
-            let lines = lines_of(alloc, netlist, &trees)?;
+            let lines = lines_of(alloc, core.netlist(), &trees)?;
             push_lines(to, &lines, is_whole)
         }
         Err(CertFault::NotCertificate) => to.extend_from_slice(b"NotCertificate\n"),

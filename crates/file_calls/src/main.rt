@@ -1,7 +1,7 @@
 //! Reports, certificates and STIL files as data. The input names texts, and has a line for each call with its arguments; the output
 //! repeats the line and has what came of it. README.md has the lines.
 //!
-//! Tested: calls on reports, certificates, vectors and STIL files, as data.
+//! Tested: calls on reports, certificates, vectors and STIL files, and the first strobe that is known to be wrong, as data.
 #![tactic(auto)]
 
 mod certificates;
@@ -9,6 +9,7 @@ mod reports;
 mod script;
 mod stil_files;
 mod vectors;
+mod wrong;
 
 use case_text::play;
 use script::FileCalls;

@@ -4,28 +4,29 @@ ghost use Rattle.netlist.specs.Designs.{IsDesign};
 use crate::certificates::push_certificate;
 use crate::reports::{push_changed, push_report};
 use crate::stil_files::push_stil;
+use crate::wrong::push_wrong;
 use bench_text::BenchFault;
-use case_nets::design;
+use case_nets::{design_core, scanned_core};
 use case_text::{Named, Script, cut, repeated, text_of};
-use netlist::Netlist;
+use netlist::Core;
 use std::alloc::{AllocError, Global};
 
 /// A call for a netlist, with the text of the certificate that it may name.
 fn work(
     to: &mut Vec<u8>,
     alloc: Global,
-    netlist: &Netlist,
+    core: &Core,
     certificate: &[u8],
     verb: &str,
     rest: &str,
 ) -> Result<(), AllocError>
-    requires { IsDesign netlist.now }
+    requires { IsDesign core.now }
 {
     match verb {
         "certificate" | "certificate-sum" => {
-            push_certificate(to, alloc, netlist, certificate, verb == "certificate")
+            push_certificate(to, alloc, core, certificate, verb == "certificate")
         }
-        "vectors" | "stil" | "stil-but" => push_stil(to, alloc, netlist, verb, rest),
+        "vectors" | "stil" | "stil-but" => push_stil(to, alloc, core, verb, rest),
         _ => to.extend_from_slice(b"no such call\n"),
     }
 }
@@ -38,8 +39,24 @@ fn on_design(
     rest: &str,
 ) -> Result<(), AllocError> {
     let (name, more) = cut(rest);
-    match design(alloc, text_of(texts, name)) {
-        Ok(netlist) => work(to, alloc, &netlist, text_of(texts, more), verb, more),
+    match design_core(alloc, text_of(texts, name)) {
+        Ok(core) => work(to, alloc, &core, text_of(texts, more), verb, more),
+        Err(BenchFault::Refused(_)) => to.extend_from_slice(b"no netlist\n"),
+        Err(BenchFault::NoMemory) => Err(AllocError),
+    }
+}
+
+/// A call for a netlist with any names, a file and a fault: `NET STIL FAULT`.
+fn on_scanned(
+    to: &mut Vec<u8>,
+    alloc: Global,
+    texts: &[Named],
+    rest: &str,
+) -> Result<(), AllocError> {
+    let (name, rest) = cut(rest);
+    let (stil, fault) = cut(rest);
+    match scanned_core(alloc, text_of(texts, name)) {
+        Ok(core) => push_wrong(to, alloc, &core, text_of(texts, stil), fault),
         Err(BenchFault::Refused(_)) => to.extend_from_slice(b"no netlist\n"),
         Err(BenchFault::NoMemory) => Err(AllocError),
     }
@@ -57,6 +74,7 @@ impl Script for FileCalls {
         match verb {
             "report" => push_report(&mut said, alloc, text_of(texts, name))?,
             "report-with" => push_changed(&mut said, alloc, text_of(texts, name), change)?,
+            "first-wrong" => on_scanned(&mut said, alloc, texts, rest)?,
             _ => on_design(&mut said, alloc, texts, verb, rest)?,
         }
         Ok(said)

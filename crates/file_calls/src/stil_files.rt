@@ -5,11 +5,11 @@ ghost use Rattle.netlist.specs.Holds.{AreHoldsOf};
 ghost use Rattle.scan_insert.specs.Scanned.{AreChainsOf};
 
 use crate::vectors::push_vectors;
-use case_nets::{chains_of, core_of, holds_of, patterns_of as patterns_named, push_pattern};
-use case_text::{cut, show, small};
+use case_nets::{chains_of, holds_of, patterns_of as patterns_named, push_pattern};
+use case_text::{cut, cut_at, show, small};
 use chain_stitch::Chains;
 use cubes::Pattern;
-use netlist::{Core, Holds, Netlist};
+use netlist::{Core, Holds};
 use std::alloc::{AllocError, Global};
 use stil_patterns::{are_patterns, patterns_of, stil_of};
 use stil_read::{StilFault, read_stil};
@@ -150,17 +150,16 @@ fn push_named(
 pub fn push_stil(
     to: &mut Vec<u8>,
     alloc: Global,
-    netlist: &Netlist,
+    core: &Core,
     verb: &str,
     rest: &str,
 ) -> Result<(), AllocError>
-    requires { IsDesign netlist.now }
+    requires { IsDesign core.now }
 {
-    let (head, texts) = rest.split_once(": ").unwrap_or((rest, ""));
+    let (head, texts) = cut_at(rest, ": ");
     let (asked, head) = cut(head);
     let (held, words) = cut(head);
-    let core = core_of(alloc, netlist)?;
-    let holds = holds_of(alloc, &core, held)?;
+    let holds = holds_of(alloc, core, held)?;
     let asked = small(asked).max(1);
     let (old, new) = cut(words);
     let wanted = match verb {
@@ -168,5 +167,5 @@ pub fn push_stil(
         "stil" => Wanted::File,
         _ => Wanted::FileBut(old, new),
     };
-    push_named(to, alloc, &core, &holds, asked, texts, wanted)
+    push_named(to, alloc, core, &holds, asked, texts, wanted)
 }

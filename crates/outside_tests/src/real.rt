@@ -6,7 +6,8 @@ use std::io::{ErrorKind, Write};
 use std::test::Fail;
 use std::{fs, io};
 
-fn is_read(read: &Result<Vec<u8>, ReadRefusal>, want: Result<&[u8], ReadRefusal>) -> bool {
+/// Whether a read came to what is wanted.
+pub fn is_read(read: &Result<Vec<u8>, ReadRefusal>, want: Result<&[u8], ReadRefusal>) -> bool {
     match (read, want) {
         (Ok(bytes), Ok(wanted)) => bytes.as_slice() == wanted,
         (Err(refusal), Err(wanted)) => *refusal == wanted,

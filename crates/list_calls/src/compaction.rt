@@ -1,0 +1,79 @@
+//! What compaction keeps of a list after calls.
+ghost use Rattle.std.specs.Prelude.{◌≡◌, ◌+◌, ◌<◌, ◌≤◌, ◌^◌, length};
+ghost use Rattle.netlist.specs.Holds.{AreHoldsOf, none_held};
+ghost use Rattle.list_core.specs.Subjects.{HaveLines, class_count};
+
+use crate::list_text::{push_kept, push_verdict};
+use crate::lists::list_after;
+use fault_collapse::Classes;
+use list_core::{About, FaultList};
+use netlist::{Core, Holds, Netlist, NoMemory};
+use reverse_compact::{Finished, compact};
+use std::alloc::{AllocError, Global};
+use word_sim::last_tells;
+
+fn compacted<J: About>(
+    alloc: Global,
+    core: &Core,
+    classes: &Classes,
+    list: FaultList<J>,
+) -> Result<Finished, NoMemory>
+    requires core { core.now ≡ J.subject.netlist }
+    requires classes { classes.now ≡ J.subject.classes }
+    requires lines { HaveLines J.subject }
+    requires few { length list.patterns + 64 ≤ 2 ^ 32 }
+{
+    list.true_list();
+    let last = last_tells(alloc, core, classes.representatives(), list.patterns())?;
+    compact(alloc, list, &last)
+}
+
+/// Adds the patterns that are kept.
+fn push_patterns(to: &mut Vec<u8>, finished: &Finished) -> Result<(), AllocError> {
+    for pattern in &finished.patterns {
+        push_kept(to, pattern)?;
+    }
+    Ok(())
+}
+
+/// Adds the verdict of each class.
+fn push_verdicts(
+    to: &mut Vec<u8>,
+    netlist: &Netlist,
+    finished: &Finished,
+) -> Result<(), AllocError> {
+    let mut class = 0u32;
+    for verdict in &finished.verdicts {
+        push_verdict(to, netlist, class, verdict)?;
+        class = class.wrapping_add(1);
+    }
+    Ok(())
+}
+
+/// The calls of a text, one by one, and what is kept once the list is compacted.
+pub fn play_compacted<J: About>(
+    alloc: Global,
+    core: &Core,
+    classes: &Classes,
+    limit: u32,
+    holds: &Holds,
+    calls: &[u8],
+) -> Result<Vec<u8>, AllocError>
+    requires core { core.now ≡ J.subject.netlist }
+    requires classes { (classes.now ≡ J.subject.classes) × (class_count J.subject < 2 ^ 31) }
+    requires limit { (limit ≡ J.subject.limit) × (1 ≤ limit) }
+    requires lines { HaveLines J.subject }
+    requires held { (holds.now ≡ J.subject.holds) × (holds.now ≡ none_held core.now) × AreHoldsOf core.now holds.now }
+{
+    let mut said = Vec::new(alloc);
+    let list = list_after::<J>(&mut said, alloc, core, classes, limit, holds, calls)?;
+    if list.patterns().len() > 1_000_000 {
+        return Err(AllocError);
+    }
+    let Ok(finished) = compacted(alloc, core, classes, list) else {
+        return Err(AllocError);
+    };
+    push_patterns(&mut said, &finished)?;
+    push_verdicts(&mut said, core.netlist(), &finished)?;
+    Ok(said)
+}

@@ -1,0 +1,29 @@
+//! Two searches for slow lines run beside each other.
+use crate::meeting::MeetingEngine;
+use crate::runs::core_of;
+use redundancy_cert::Found;
+use std::alloc::{AllocError, Global};
+use std::test::Fail;
+use transition::search_all;
+
+/// A chain of so many inverters.
+fn chain_of(alloc: Global, length: u32) -> Result<String, AllocError> {
+    let mut text = format!(in alloc; "INPUT(n0)\nOUTPUT(n{length})\n")?;
+    for k in 1..=length {
+        text.push_str(format!(in alloc; "n{} = NOT(n{})\n", k, k - 1)?.as_str())?;
+    }
+    Ok(text)
+}
+
+/// 142 faults are two shares. No line is seen to change, since the input is held between the two captures.
+#[test]
+fn two_searches_for_slow_lines_meet(rt: HostRuntime) -> Result<(), Fail> {
+    let alloc = rt.alloc();
+    let core = core_of(alloc, chain_of(alloc, 70)?.as_bytes())?;
+    let engine = MeetingEngine::of(alloc, &core)?;
+    let found = search_all(&rt, alloc, core.netlist(), &engine, 4, 2)?;
+    assert!(rt; engine.went_well());
+    assert_eq!(rt; found.len(), 142);
+    assert!(rt; found.iter().all(|f| matches!(f, Found::Closed(_))));
+    Ok(())
+}

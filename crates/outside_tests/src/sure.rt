@@ -1,0 +1,30 @@
+//! Files and bytes in memory that never fail.
+
+use crate::real::is_read;
+use outside::{ReadRefusal, Shelf, Sink, SureShelf, SureSink};
+use std::test::Fail;
+
+#[test]
+fn files_that_never_fail(rt: HostRuntime) -> Result<(), Fail> {
+    let alloc = rt.alloc();
+    let mut shelf = SureShelf::new(alloc, &[("a", b"12345".as_slice())])?;
+    assert!(rt; is_read(&shelf.read(alloc, "a", 5), Ok(b"12345".as_slice())));
+    assert!(rt; is_read(&shelf.read(alloc, "a", 4), Err(ReadRefusal::TooLong(5))));
+    assert!(rt; is_read(&shelf.read(alloc, "b", 5), Err(ReadRefusal::Missing)));
+    assert_eq!(rt; shelf.write(alloc, "b", b"67"), Ok(()));
+    assert_eq!(rt; shelf.write(alloc, "a", b"8"), Ok(()));
+    assert!(rt; shelf.file("a") == Some(b"8".as_slice()));
+    assert!(rt; shelf.file("b") == Some(b"67".as_slice()));
+    assert_eq!(rt; shelf.file_count(), 2);
+    Ok(())
+}
+
+#[test]
+fn bytes_that_are_always_taken(rt: HostRuntime) -> Result<(), Fail> {
+    let mut sink = SureSink::new(rt.alloc());
+    assert_eq!(rt; sink.put(b"12"), Ok(()));
+    assert_eq!(rt; sink.put(b""), Ok(()));
+    assert_eq!(rt; sink.put(b"3"), Ok(()));
+    assert!(rt; sink.bytes() == b"123".as_slice());
+    Ok(())
+}
