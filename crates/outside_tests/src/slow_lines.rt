@@ -1,10 +1,11 @@
 //! Two searches for slow lines run beside each other.
 use crate::meeting::MeetingEngine;
 use crate::runs::core_of;
+use outside::OpenGate;
 use redundancy_cert::Found;
 use std::alloc::{AllocError, Global};
 use std::test::Fail;
-use transition::search_all;
+use transition::{Trees, search_all};
 
 /// A chain of so many inverters.
 fn chain_of(alloc: Global, length: u32) -> Result<String, AllocError> {
@@ -21,7 +22,16 @@ fn two_searches_for_slow_lines_meet(rt: HostRuntime) -> Result<(), Fail> {
     let alloc = rt.alloc();
     let core = core_of(alloc, chain_of(alloc, 70)?.as_bytes())?;
     let engine = MeetingEngine::of(alloc, &core)?;
-    let found = search_all(&rt, alloc, core.netlist(), &engine, 4, 2)?;
+    let found = search_all(
+        &rt,
+        alloc,
+        &OpenGate,
+        core.netlist(),
+        &engine,
+        4,
+        Trees::OfFrames,
+        2,
+    )?;
     assert!(rt; engine.went_well());
     assert_eq!(rt; found.len(), 142);
     assert!(rt; found.iter().all(|f| matches!(f, Found::Closed(_))));
