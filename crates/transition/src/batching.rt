@@ -2,7 +2,8 @@
 //!
 //! Lines of which no reader is late by two of them share a netlist of two frames, in which each has three gates of its own (`transition_batches`): it is made
 //! once, with an engine's room, and serves one search after the other. What is found there is evidence on the two frames in which the line alone is slow,
-//! if nothing is decided but signals of these frames; any other answer is dropped, and the line is searched on its own frames.
+//! if nothing is decided but signals of these frames; any other answer is dropped, and the line is searched on its own frames. So is a tree that breaks
+//! the engine's rule on these frames, if it has one (`places`).
 //!
 //! The alternative is a netlist for each line. What is made for a search then grows with the netlist, as the number of lines does, so that the time grows
 //! with the square of it, and nearly all of it goes into what is made. To rewire one line's frames for the next one saves less: readers, order and room

@@ -31,36 +31,28 @@ use transition_frames::source_of;
 struct Signal {
     role: Role,
     readers: usize,
-    /// The one gate that reads it, where that is all that does.
+    /// The gate, free as well, that alone reads what is free and no head line.
     above: Option<SignalId>,
 }
 
-/// The signals of the two frames with no slow line, by number; none where these can't be made.
+/// The signals of the two frames with no slow line, by number; none where these can't be made, and no tree is taken then.
 #[derive(Debug, Drop)]
 pub(crate) struct PlaceRule {
     signals: Vec<Signal>,
 }
 
-/// The signals in the two frames that a slow line is of.
+/// The numbers that a slow line's signal has in the two frames.
 #[derive(Clone, Copy, Debug)]
 struct SlowLine {
-    first: SignalId,
-    second: SignalId,
+    first: usize,
+    second: usize,
     is_stem: bool,
 }
 
-/// The gate that reads a signal, where nothing else does.
-fn only_gate(netlist: &Netlist, id: SignalId) -> Option<SignalId>
-    requires { id < length (signals netlist.now) }
-{
-    netlist.sound();
-    let readers = netlist.readers(id);
-    if readers.len() != 1 {
-        return None;
-    }
-    match readers[0] {
-        Line::Pin(z, _) => { if is_gate(netlist, z) { Some(z) } else { None } }
-        Line::Stem(_) | Line::Out(_) => None,
+fn gate_above(role: Role, readers: &[Line]) -> Option<SignalId> {
+    match (role, readers.first()) {
+        (Role::Inner, Some(Line::Pin(z, _))) => Some(*z),
+        _ => None,
     }
 }
 
@@ -71,27 +63,26 @@ fn signals_of(alloc: Global, netlist: &Netlist, roles: &[Role]) -> Result<Vec<Si
     netlist.sound();
     let mut signals = Vec::with_capacity(alloc, roles.len())?;
     for x in 0..roles.len() {
-        let id = SignalId(x as u32);
+        let readers = netlist.readers(SignalId(x as u32));
         signals.push(Signal {
             role: roles[x],
-            readers: netlist.readers(id).len(),
-            above: only_gate(netlist, id),
+            readers: readers.len(),
+            above: gate_above(roles[x], readers),
         })?;
     }
     Ok(signals)
 }
 
-/// The signals that a line is of.
 fn slow_line(netlist: &Netlist, fault: &Fault) -> SlowLine
     requires design { IsDesign netlist.now }
     requires line { IsLineOf netlist.now fault.now.line }
 {
     netlist.sound();
-    let first = source_of(netlist, &fault.line);
-    let second = if first.index() < netlist.inputs().len() {
+    let first = source_of(netlist, &fault.line).index();
+    let second = if first < netlist.inputs().len() {
         first
     } else {
-        SignalId(first.0 + netlist.definitions().len() as u32)
+        first + netlist.definitions().len()
     };
     SlowLine {
         first,
@@ -100,8 +91,16 @@ fn slow_line(netlist: &Netlist, fault: &Fault) -> SlowLine
     }
 }
 
+/// Whether two or more lines read a signal.
+fn is_fanout(slow: &SlowLine, x: usize, signal: &Signal) -> bool {
+    if x == slow.first {
+        return signal.readers > 0 || x == slow.second;
+    }
+    signal.readers > 1 && !(slow.is_stem && x == slow.second)
+}
+
 impl PlaceRule {
-    /// Those of a design.
+    /// That of a design's slow lines.
     pub(crate) fn of(alloc: Global, netlist: &Netlist) -> Result<PlaceRule, NoMemory>
         requires { IsDesign netlist.now }
     {
@@ -124,74 +123,66 @@ impl PlaceRule {
         Ok(PlaceRule { signals })
     }
 
-    fn is_bound_anyway(&self, id: SignalId) -> bool {
-        match self.signals.get(id.index()) {
-            Some(signal) => matches!(signal.role, Role::Bound),
-            None => false,
-        }
-    }
-
     /// Whether a signal stands in the chain of only readers that begins behind another.
-    fn is_above(&self, id: SignalId, start: SignalId) -> bool {
+    fn is_above(&self, x: usize, start: usize) -> bool {
         let mut at = start;
         for _step in 0..self.signals.len() {
-            let Some(signal) = self.signals.get(at.index()) else {
+            let Some(
+                Signal {
+                    above: Some(next),
+                    ..
+                },
+            ) = self.signals.get(at)
+            else {
                 return false;
             };
-            let Some(next) = signal.above else {
-                return false;
-            };
-            if next.0 == id.0 {
+            at = next.index();
+            if at == x {
                 return true;
             }
-            at = next;
         }
         false
     }
 
-    fn is_bound(&self, slow: &SlowLine, id: SignalId) -> bool {
-        self.is_bound_anyway(id) || self.is_above(id, slow.first) || self.is_above(id, slow.second)
+    fn is_bound(&self, slow: &SlowLine, x: usize, signal: &Signal) -> bool {
+        matches!(signal.role, Role::Bound)
+            || self.is_above(x, slow.first)
+            || self.is_above(x, slow.second)
     }
 
-    /// Whether two or more read it.
-    fn is_fanout(&self, slow: &SlowLine, id: SignalId, signal: &Signal) -> bool {
-        if id.0 == slow.first.0 {
-            return signal.readers > 0 || id.0 == slow.second.0;
-        }
-        signal.readers > 1 && !(slow.is_stem && id.0 == slow.second.0)
-    }
-
-    /// Whether something reads it that makes a head line of what is free.
-    fn is_read_there(&self, slow: &SlowLine, id: SignalId, signal: &Signal) -> bool {
-        if id.0 == slow.first.0 || id.0 == slow.second.0 || matches!(signal.role, Role::Head) {
+    /// Whether what is free is a head line, being read as it is.
+    fn has_end(&self, slow: &SlowLine, x: usize, signal: &Signal) -> bool {
+        if x == slow.first || x == slow.second || matches!(signal.role, Role::Head) {
             return true;
         }
         match signal.above {
-            Some(reader) => self.is_bound(slow, reader),
+            Some(gate) => {
+                self.is_above(gate.index(), slow.first) || self.is_above(gate.index(), slow.second)
+            }
             None => false,
         }
     }
 
-    fn may_split(&self, slow: &SlowLine, id: SignalId) -> bool {
-        let Some(signal) = self.signals.get(id.index()) else {
+    fn may_split(&self, slow: &SlowLine, x: usize) -> bool {
+        let Some(signal) = self.signals.get(x) else {
             return false;
         };
-        self.is_fanout(slow, id, signal)
-            || self.is_read_there(slow, id, signal) && !self.is_bound(slow, id)
+        is_fanout(slow, x, signal)
+            || self.has_end(slow, x, signal) && !self.is_bound(slow, x, signal)
     }
 
-    fn may_force(&self, slow: &SlowLine, id: SignalId) -> bool {
-        let Some(signal) = self.signals.get(id.index()) else {
+    fn may_force(&self, slow: &SlowLine, x: usize) -> bool {
+        let Some(signal) = self.signals.get(x) else {
             return false;
         };
-        self.is_read_there(slow, id, signal) || self.is_bound(slow, id)
+        self.has_end(slow, x, signal) || self.is_bound(slow, x, signal)
     }
 
     fn may_stand(&self, slow: &SlowLine, node: &Node) -> bool {
         match node {
             Node::Closed | Node::Open => true,
-            Node::Split(x) => self.may_split(slow, *x),
-            Node::Forced(x, _) => self.may_force(slow, *x),
+            Node::Split(x) => self.may_split(slow, x.index()),
+            Node::Forced(x, _) => self.may_force(slow, x.index()),
         }
     }
 

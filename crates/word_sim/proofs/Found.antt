@@ -180,9 +180,6 @@ module _ (first : List ℕ) (count : ℕ) (values : List ℕ) where
           (s.0, s.1, some_seen j s.2, first_seen j c s.3, λ i l low u. none_seen i (s.4 i l low u));
     }
 
--- one change more is listed, or not
-module _ (first : List ℕ) (count : ℕ) (values : List ℕ) (c : Change ℕ) where
-
 -- the same of one word that differs
 pub none_differing : (word used number : ℕ) → bit_and word used ≡ 0 → IsSole word used number None
 none_differing word used number e = record {
