@@ -1,3 +1,4 @@
 pub mod Chains
 pub mod Truth
 pub mod TreeLemmas
+pub mod Whole

@@ -10,7 +10,7 @@ use Rattle.netlist.specs.declared.lines.Fault.{Fault}
 use Rattle.netlist.specs.declared.lines.Point.{Point}
 use Rattle.netlist.specs.declared.lines.Line.{Line as Lead}
 use Rattle.netlist.specs.declared.lines.Line.TheVariants.{Stem, Pin, Out}
-use Rattle.netlist.specs.Netlist.{Definition, Netlist, is_cell, is_gate, name_of}
+use Rattle.netlist.specs.Netlist.{Definition, Netlist, is_cell, is_gate, name_of, signals}
 use Rattle.netlist.specs.Conditions.{IsSound}
 use Rattle.netlist.specs.Designs.{IsDesign}
 use Rattle.netlist.specs.Names.{IsName}
