@@ -598,6 +598,7 @@ class Case:
 
     def __init__(self):
         self.files, self.fails, self.showing = {}, plain_program.Fails({}, {}, {}), {"out": "whole", "err": "whole"}
+        self.said = {}  # by the words of a run the lines that stand for it
 
     def take(self, verb, rest, texts):
         """Takes a line that isn't a run."""
@@ -645,12 +646,23 @@ class Case:
         return lines
 
 
+def run_of_sample(case, seed, gates):
+    """What a run of the case says of the same netlist with the same seed, a line for each number behind that of the faults."""
+    assert case.files["n"] == sample(seed, gates)
+    _, _, shown = case.said[f"atpg run n p --seed {seed}"][:3]
+    words = shown[1:].split(" ")[2:]
+    return "".join(f"{word} {number}\n" for word, number in zip(words[::2], words[1::2]))
+
+
 def sweep_answer(case, words):
     """The lines that don't depend on the search; with so many cells on one chain there are (P + 4) * cells + P cycles."""
     gates = int(words[3])
     if case.fails.out:
         return case.told(words, plain_program.Ended(6, f"gates {gates}\n"[:case.fails.out[1]], "write failed: -\n", {}))
     faults, classes = next(iter(fault_list(sample(words[2], words[3])))).split(" ")[1::2]
+    if case.showing["out"] == "whole":
+        head = f"gates {gates}\ncells {gates // 8}\nfaults {faults}\nclasses {classes}\n"
+        return case.told(words, plain_program.Ended(0, head + run_of_sample(case, words[2], words[3]) + "play ok\n", "", case.files))
     return ["status 0", "out", f"|gates {gates}", f"|cells {gates // 8}", f"|faults {faults}", f"|classes {classes}",
             f"|detected, redundant or aborted {faults}", f"|cycles {gates // 8 + 1}P + {gates // 8 * 4}", "|play ok", "files 0"]
 
@@ -664,6 +676,15 @@ def keep_files(case, prefix, words, told):
     case.files |= {f"{prefix}.{end}": made.get(f"{prefix}.{end}") for end in plain_check.ENDS}
 
 
+def no_value(words):
+    """What is wrong with a number or an engine that clap takes, if anything."""
+    if "--engine" in words and words[words.index("--engine") + 1] not in ("podem", "fan"):
+        return "the engine is podem or fan"
+    if any(len(word) > 1 and word.isdigit() and word.startswith("0") for word in words):
+        return "a number is written in decimal digits, without a sign or a leading zero"
+    return None
+
+
 def case_answer(case, verb, rest, told):
     """The lines of a run; Unknown where this program can't say them."""
     name, _, behind = rest.partition(" ")
@@ -674,6 +695,9 @@ def case_answer(case, verb, rest, told):
     words = (behind if verb == "keep" else rest).split(" ")
     if case.showing["err"] == "hidden":
         raise plain_program.Unknown
+    if wrong := no_value(words):
+        text = f"error: {wrong}\n\nFor more information, try '--help'.\n"
+        return case.told(words, plain_program.Ended(2, "", text, case.files))
     if words[1] == "sweep":
         return sweep_answer(case, words)
     if case.showing["out"] not in ("whole", "totals"):
@@ -710,6 +734,7 @@ def check_cases():
                 known += 1
             except plain_program.Unknown:
                 pass
+            case.said[rest] = given
             if verb == "keep":
                 keep_files(case, rest.split(" ")[0], rest.split(" ")[1:], told)
     print(f"cases: {known} of {count} runs worked out, and all {len(checks)} checks of five files, {wrong} differ")

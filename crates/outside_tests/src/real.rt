@@ -22,6 +22,13 @@ fn real_files(rt: HostRuntime) -> Result<(), Fail> {
     let long = [b'x'; 5000];
     let mut shelf = FolderShelf::new(&rt);
     assert_eq!(rt; shelf.write(alloc, name, long.as_slice()), Ok(()));
+    assert!(rt; is_read(&shelf.read(alloc, name, 5000), Ok(long.as_slice())));
+    assert!(rt;
+        is_read(
+            &shelf.read(alloc, name, 4999),
+            Err(ReadRefusal::TooLong(5000))
+        )
+    );
     assert_eq!(rt; shelf.write(alloc, name, b"12345"), Ok(()));
     assert!(rt; is_read(&shelf.read(alloc, name, 5), Ok(b"12345".as_slice())));
     assert!(rt; is_read(&shelf.read(alloc, name, 4), Err(ReadRefusal::TooLong(5))));
