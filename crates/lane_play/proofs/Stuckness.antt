@@ -46,6 +46,9 @@ length-read rule z values pins =
     let blank : Lanes = record { known = 0; value = 0 } in
     length-on_pins rule z 0 (map (at values blank) pins) ∙ length-map pins (at values blank)
 
+pub place_read : (rule : Rule Lanes) (z : ℕ) (values : List Lanes) (pins : List ℕ) (place : ℕ) → place < length (on_pins rule z 0 (map (at values (record { known = 0; value = 0 })) pins)) → place < length pins
+place_read rule z values pins place l = let n = length-read rule z values pins in omega arith
+
 -- ---- faults passed over
 
 -- machine k may change the line's value; the others are passed over

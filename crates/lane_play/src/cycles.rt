@@ -1,11 +1,11 @@
 //! Cycles in which each gate is evaluated.
-ghost use Rattle.std.specs.Prelude.{◌≡◌, ◌+◌, ◌^◌, ◌<◌, ◌++◌, List, length, map, IfOk, OnOk};
+ghost use Rattle.std.specs.Prelude.{◌≡◌, ◌+◌, ◌^◌, ◌<◌, ◌++◌, length, map, IfOk, OnOk};
 ghost use Rattle.std.specs.List.{All};
-ghost use Rattle.netlist.specs.Netlist.{cells, signals};
+ghost use Rattle.netlist.specs.Netlist.{cells};
 ghost use Rattle.scan_play.specs.Bursts.{cycle_of, cycles_of};
-ghost use Rattle.scan_play.specs.Cycles.{Cycle, IsCycleOf};
+ghost use Rattle.scan_play.specs.Cycles.{IsCycleOf};
 ghost use Rattle.lane_play.specs.inner.Lanes.{always};
-ghost use Rattle.lane_play.specs.inner.Steps.{AreEnded, ArePlayed, AreSteps};
+ghost use Rattle.lane_play.specs.inner.Steps.{AreEnded, ArePlayedBehind, AreSized, AreSteps};
 
 use crate::evaluating::settle_into;
 use crate::judging::{Verdicts, judge_row};
@@ -57,8 +57,7 @@ pub(crate) fn end_cycle<J: Judge>(
     bench: &mut Bench,
     verdicts: Verdicts,
 ) -> Result<Verdicts, AllocError>
-    requires size { length bench.old.state.items ≡ length (cells core.now) }
-    requires room { length bench.old.values.items ≡ length (signals core.now) }
+    requires bench { AreSized core.now bench.old.state.items bench.old.values.items }
     requires strobes { length bench.old.strobe.items ≡ length core.now.outputs }
     ensures size { IfOk result (λ _. length bench.new.state.items ≡ length (cells core.now)) }
     ensures values { IfOk result (λ _. bench.new.values.items ≡ bench.old.values.items) }
@@ -84,10 +83,8 @@ fn play_cycle<J: Judge>(
 ) -> Result<Verdicts, AllocError>
     requires within { t < burst.now.count }
     requires fits { IsCycleOf core.now (cycle_of burst.now t) }
-    requires size { length bench.old.state.items ≡ length (cells core.now) }
-    requires room { length bench.old.values.items ≡ length (signals core.now) }
-    ensures size { IfOk result (λ _. length bench.new.state.items ≡ length (cells core.now)) }
-    ensures room { IfOk result (λ _. length bench.new.values.items ≡ length (signals core.now)) }
+    requires bench { AreSized core.now bench.old.state.items bench.old.values.items }
+    ensures bench { IfOk result (λ _. AreSized core.now bench.new.state.items bench.new.values.items) }
     ensures played { IfOk result (λ v. AreSteps (J.says judge.now) rule.now.faults.now core.now bench.old.state.items bench.new.state.items (cycle_of burst.now t) number verdicts.found.items v.found.items) }
 {
     let netlist = core.netlist();
@@ -117,13 +114,10 @@ pub(crate) fn play_cycles<J: Judge>(
     verdicts: Verdicts,
 ) -> Result<Verdicts, AllocError>
     requires fits { All (IsCycleOf core.now) (cycles_of burst.now) }
-    requires size { length bench.old.state.items ≡ length (cells core.now) }
-    requires room { length bench.old.values.items ≡ length (signals core.now) }
+    requires bench { AreSized core.now bench.old.state.items bench.old.values.items }
     requires few { first + burst.now.count < 2 ^ 64 }
-    ensures size { IfOk result (λ _. length bench.new.state.items ≡ length (cells core.now)) }
-    ensures room { IfOk result (λ _. length bench.new.values.items ≡ length (signals core.now)) }
-    ensures played { IfOk result (λ v. (before : List Cycle) → length before ≡ first → ArePlayed (J.says judge.now) rule.now.faults.now core.now before bench.old.state.items verdicts.found.items
-        → ArePlayed (J.says judge.now) rule.now.faults.now core.now (before ++ cycles_of burst.now) bench.new.state.items v.found.items) }
+    ensures bench { IfOk result (λ _. AreSized core.now bench.new.state.items bench.new.values.items) }
+    ensures played { IfOk result (λ v. ArePlayedBehind (J.says judge.now) rule.now.faults.now core.now first (cycles_of burst.now) bench.old.state.items bench.new.state.items verdicts.found.items v.found.items) }
 {
     let mut so_far = verdicts;
     for t in 0..burst.count {

@@ -1,11 +1,11 @@
 //! The player of up to 64 faulty machines: the cycles of vectors, from all cells X, until something is said of each machine.
-ghost use Rattle.std.specs.Prelude.{◌≡◌, ◌+◌, ◌^◌, ◌<◌, ◌≤◌, ◌++◌, List, [], length, replicate, IfOk};
+ghost use Rattle.std.specs.Prelude.{◌≡◌, ◌+◌, ◌^◌, ◌<◌, ◌≤◌, [], length, replicate, IfOk};
 ghost use Rattle.std.specs.List.{All};
-ghost use Rattle.netlist.specs.Netlist.{cells, signals};
+ghost use Rattle.netlist.specs.Netlist.{cells};
 ghost use Rattle.scan_play.specs.Bursts.{all_cycles, cycles_of};
-ghost use Rattle.scan_play.specs.Cycles.{Cycle, IsCycleOf};
+ghost use Rattle.scan_play.specs.Cycles.{IsCycleOf};
 ghost use Rattle.lane_play.specs.Judged.{AreJudged};
-ghost use Rattle.lane_play.specs.inner.Steps.{ArePlayed};
+ghost use Rattle.lane_play.specs.inner.Steps.{ArePlayed, ArePlayedBehind, AreSized};
 
 use crate::cycles::{Bench, play_cycles};
 use crate::judging::Verdicts;
@@ -33,14 +33,11 @@ fn play_burst<J: Judge>(
     verdicts: Verdicts,
 ) -> Result<Verdicts, AllocError>
     requires fits { All (IsCycleOf core.now) (cycles_of burst.now) }
-    requires size { length bench.old.state.items ≡ length (cells core.now) }
-    requires room { length bench.old.values.items ≡ length (signals core.now) }
+    requires bench { AreSized core.now bench.old.state.items bench.old.values.items }
     requires idle { idle.now ≡ replicate (length (cells core.now)) (record { known = 0; value = 0 }) }
     requires few { first + burst.now.count < 2 ^ 64 }
-    ensures size { IfOk result (λ _. length bench.new.state.items ≡ length (cells core.now)) }
-    ensures room { IfOk result (λ _. length bench.new.values.items ≡ length (signals core.now)) }
-    ensures played { IfOk result (λ v. (before : List Cycle) → length before ≡ first → ArePlayed (J.says judge.now) rule.now.faults.now core.now before bench.old.state.items verdicts.found.items
-        → ArePlayed (J.says judge.now) rule.now.faults.now core.now (before ++ cycles_of burst.now) bench.new.state.items v.found.items) }
+    ensures bench { IfOk result (λ _. AreSized core.now bench.new.state.items bench.new.values.items) }
+    ensures played { IfOk result (λ v. ArePlayedBehind (J.says judge.now) rule.now.faults.now core.now first (cycles_of burst.now) bench.old.state.items bench.new.state.items verdicts.found.items v.found.items) }
 {
     if burst.count < LONG {
         return play_cycles(core, rule, judge, burst, first, bench, verdicts);
@@ -73,8 +70,7 @@ fn play_bursts<J: Judge>(
     verdicts: Verdicts,
 ) -> Result<Verdicts, AllocError>
     requires fits { All (IsCycleOf core.now) (all_cycles bursts.now) }
-    requires size { length bench.old.state.items ≡ length (cells core.now) }
-    requires room { length bench.old.values.items ≡ length (signals core.now) }
+    requires bench { AreSized core.now bench.old.state.items bench.old.values.items }
     requires idle { idle.now ≡ replicate (length (cells core.now)) (record { known = 0; value = 0 }) }
     requires few { length (all_cycles bursts.now) < 2 ^ 64 }
     requires begun { ArePlayed (J.says judge.now) rule.now.faults.now core.now [] bench.old.state.items verdicts.found.items }
@@ -117,40 +113,6 @@ fn bench_of(alloc: Global, cells: usize, signals: usize) -> Result<Bench, AllocE
     })
 }
 
-/// Plays vectors on up to 64 machines, from all cells X.
-fn play_from_unknown<J: Judge>(
-    alloc: Global,
-    core: &Core,
-    faults: &[Fault],
-    vectors: &Vectors,
-    judge: &J,
-) -> Result<Verdicts, AllocError>
-    requires machines { length faults.now ≤ 64 }
-    requires fits { All (IsCycleOf core.now) vectors.now }
-    requires few { length vectors.now < 2 ^ 64 }
-    ensures { IfOk result (λ v. AreJudged (J.says judge.now) core.now faults.now vectors.now v.found.items) }
-{
-    let netlist = core.netlist();
-    netlist.sound();
-    let signals = netlist.inputs().len() + netlist.definitions().len();
-    let mut bench = bench_of(alloc, netlist.cells().len(), signals)?;
-    let idle = unknowns(alloc, netlist.cells().len())?;
-    let mut planner = Planner::new(alloc);
-    let rule = Stuck::new(alloc, faults, signals)?;
-    let verdicts = Verdicts::none(alloc, faults.len())?;
-    let found = play_bursts(
-        core,
-        &rule,
-        judge,
-        vectors.bursts(),
-        &idle,
-        &mut planner,
-        &mut bench,
-        verdicts,
-    )?;
-    Ok(found)
-}
-
 /// Plays vectors on a netlist for up to 64 stuck lines side by side: what the judge first says with each, if anything.
 pub fn play_lanes<J: Judge>(
     alloc: Global,
@@ -164,7 +126,24 @@ pub fn play_lanes<J: Judge>(
     requires few { length vectors.now < 2 ^ 64 }
     ensures { IfOk result (λ found. AreJudged (J.says judge.now) core.now faults.now vectors.now found.items) }
 {
-    let verdicts = play_from_unknown(alloc, core, faults, vectors, judge)?;
-    let Verdicts { found, left: _ } = verdicts;
+    let netlist = core.netlist();
+    netlist.sound();
+    let signals = netlist.inputs().len() + netlist.definitions().len();
+    let mut bench = bench_of(alloc, netlist.cells().len(), signals)?;
+    let idle = unknowns(alloc, netlist.cells().len())?;
+    let mut planner = Planner::new(alloc);
+    let rule = Stuck::new(alloc, faults, signals)?;
+    let verdicts = Verdicts::none(alloc, faults.len())?;
+    let judged = play_bursts(
+        core,
+        &rule,
+        judge,
+        vectors.bursts(),
+        &idle,
+        &mut planner,
+        &mut bench,
+        verdicts,
+    )?;
+    let Verdicts { found, left: _ } = judged;
     Ok(found)
 }

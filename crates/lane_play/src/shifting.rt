@@ -1,11 +1,11 @@
 //! Cycles in which only the gates of a plan are evaluated.
-ghost use Rattle.std.specs.Prelude.{◌≡◌, ◌+◌, ◌^◌, ◌<◌, ◌++◌, List, length, IfOk};
+ghost use Rattle.std.specs.Prelude.{◌≡◌, ◌+◌, ◌^◌, ◌<◌, length, IfOk};
 ghost use Rattle.std.specs.List.{All};
-ghost use Rattle.netlist.specs.Netlist.{cells, signals};
+ghost use Rattle.netlist.specs.Netlist.{cells};
 ghost use Rattle.scan_play.specs.Bursts.{cycle_of, cycles_of};
-ghost use Rattle.scan_play.specs.Cycles.{Cycle, IsCycleOf};
+ghost use Rattle.scan_play.specs.Cycles.{IsCycleOf};
 ghost use Rattle.lane_play.specs.inner.Shifts.{ArePlanned};
-ghost use Rattle.lane_play.specs.inner.Steps.{ArePlayed, AreSteps};
+ghost use Rattle.lane_play.specs.inner.Steps.{ArePlayedBehind, AreSized, AreSteps};
 
 use crate::cycles::{Bench, end_cycle, read_drive};
 use crate::evaluating::evaluate_all;
@@ -60,10 +60,8 @@ pub(crate) fn play_shifts<J: Judge>(
     requires size { length bench.old.state.items ≡ length (cells core.now) }
     requires planned { ArePlanned rule.now.faults.now core.now burst.now.drive.items burst.now.strobe.items steps.now bench.old.values.items }
     requires few { first + burst.now.count < 2 ^ 64 }
-    ensures size { IfOk result (λ _. length bench.new.state.items ≡ length (cells core.now)) }
-    ensures room { IfOk result (λ _. length bench.new.values.items ≡ length (signals core.now)) }
-    ensures played { IfOk result (λ v. (before : List Cycle) → length before ≡ first → ArePlayed (J.says judge.now) rule.now.faults.now core.now before bench.old.state.items verdicts.found.items
-        → ArePlayed (J.says judge.now) rule.now.faults.now core.now (before ++ cycles_of burst.now) bench.new.state.items v.found.items) }
+    ensures bench { IfOk result (λ _. AreSized core.now bench.new.state.items bench.new.values.items) }
+    ensures played { IfOk result (λ v. ArePlayedBehind (J.says judge.now) rule.now.faults.now core.now first (cycles_of burst.now) bench.old.state.items bench.new.state.items verdicts.found.items v.found.items) }
 {
     let mut so_far = verdicts;
     for t in 0..burst.count {

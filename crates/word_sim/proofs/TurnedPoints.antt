@@ -15,11 +15,10 @@ use Rattle.events.specs.Standing.{SettlesOver}
 use Rattle.regions.specs.Turned.{turned_bits, turned_words}
 use Rattle.events.specs.Words.{bit_of, ones, words}
 use Rattle.regions.proofs.TurnedBits.{turned_as_bits}
-use Rattle.events.proofs.WordBits.{bit_line, bit_of_and, words_as_bits}
+use Rattle.events.proofs.WordBits.{bit_line, bit_none, bit_not_word, bit_of_and, words_as_bits}
 use Rattle.regions.specs.Paths.{bits_at, IsReach}
 use Rattle.regions.specs.Sensitized.{reaches}
 use Rattle.regions.proofs.Changing.{zip_length}
-use Rattle.regions.proofs.GateBits.{bit_none, bit_not_word}
 use Rattle.regions.proofs.Faults.{observed_by_head, left_alone}
 use Rattle.word_sim.specs.inner.Differences.{AreDifferences, AreShown}
 use Rattle.word_sim.specs.inner.Groups.{IsFound, HoldChanges}

@@ -1,10 +1,10 @@
 -- How far machines were played side by side.
-use Rattle.std.specs.Prelude.{ℕ, ◌≡◌, ◌<◌, Bool, cond, List, length, replicate, Option}
+use Rattle.std.specs.Prelude.{ℕ, ◌≡◌, ◌<◌, Bool, cond, List, ◌++◌, length, replicate, Option}
 use Rattle.std.specs.List.{slice_get}
 use Rattle.netlist.specs.declared.kinds.Tri.{Tri}
 use Rattle.netlist.specs.declared.kinds.Tri.TheVariants.{X}
 use Rattle.netlist.specs.declared.lines.Fault.{Fault}
-use Rattle.netlist.specs.Netlist.{Netlist, cells}
+use Rattle.netlist.specs.Netlist.{Netlist, cells, signals}
 use Rattle.netlist.specs.Settled.{at, outs, next}
 use Rattle.scan_play.specs.declared.played.Played.{Played}
 use Rattle.scan_play.specs.Cycles.{Cycle}
@@ -13,6 +13,10 @@ use Rattle.scan_play.specs.inner.Steps.{IsStep, PlaysOn}
 use Rattle.lane_play.specs.declared.packed.Lanes.{Lanes}
 use Rattle.lane_play.specs.inner.Lanes.{lanes, lanes_rule}
 use Rattle.lane_play.specs.inner.Verdicts.{AreJudgedIn, found_at}
+
+-- a value for each cell, and one for each signal
+abbrev pub AreSized : Netlist → List Lanes → List Lanes → Type 0
+AreSized n state values = (length state ≡ length (cells n)) × (length values ≡ length (signals n))
 
 -- a cycle of this number was played: for each machine it is the step of its own player
 pub record IsLaneStep (says : Judging) (f : Option Fault) (n : Netlist) (state after : List Lanes) (cycle : Cycle) (number k : ℕ) (old new : Option Played) : Type 0 where
@@ -33,3 +37,8 @@ pub record AreEnded (says : Judging) (faults : List Fault) (n : Netlist) (pulse 
 pub record ArePlayed (says : Judging) (faults : List Fault) (n : Netlist) (cycles : List Cycle) (state : List Lanes) (found : List (Option Played)) : Type 0 where
   pub size : length found ≡ length faults
   pub each : (k : ℕ) → k < length faults → PlaysOn says (slice_get faults k) n cycles 0 (replicate (length (cells n)) X) (lanes k state) (found_at found k)
+
+-- where as many cycles as `first` were played, these were played behind them
+abbrev pub ArePlayedBehind : Judging → List Fault → Netlist → ℕ → List Cycle → List Lanes → List Lanes → List (Option Played) → List (Option Played) → Type 0
+ArePlayedBehind says faults n first cycles state after old new =
+    (before : List Cycle) → length before ≡ first → ArePlayed says faults n before state old → ArePlayed says faults n (before ++ cycles) after new

@@ -28,7 +28,7 @@ judge_row-found-requires-clause-few g c =
 pub returns-clause-size : goal.returns-clause-size
 returns-clause-size g c =
     size_kept c.args.rule.now.faults.now c.args.core.now c.args.pulse c.args.bench.now.state.items c.tick.new.state.items (at c.deref-4.result.now blank)
-    (subst IsSound c.netlist.ensures c.sound.ensures) c.requires.size (c.in_ok-tick.ensures blank)
+    (subst IsSound c.netlist.ensures c.sound.ensures) c.requires.bench.0 (c.in_ok-tick.ensures blank)
 
 pub returns-clause-ended : goal.returns-clause-ended
 unfolding blank

@@ -18,15 +18,15 @@ settle_into-requires-clause-inputs g c =
     ap length (c.deref.ensures.value ∙ c.in_ok-read_drive.ensures) ∙ (length-map (cycle_of c.args.burst.now c.args.t).drive always
     ∙ (c.requires.fits.drive ∙ ap (λ (m : Netlist). length m.inputs) (sym c.netlist-netlist.ensures)))
 
-pub end_cycle-requires-clause-room : goal.end_cycle-requires-clause-room
-end_cycle-requires-clause-room g c = c.settle_into.ensures.size ∙ ap (λ (m : Netlist). length (signals m)) c.netlist-netlist.ensures
+pub end_cycle-requires-clause-bench : goal.end_cycle-requires-clause-bench
+end_cycle-requires-clause-bench g c = (c.requires.bench.0, c.settle_into.ensures.size ∙ ap (λ (m : Netlist). length (signals m)) c.netlist-netlist.ensures)
 
 pub end_cycle-requires-clause-strobes : goal.end_cycle-requires-clause-strobes
 end_cycle-requires-clause-strobes g c = ap length c.in_ok-read_strobe.ensures ∙ c.requires.fits.strobe
 
-pub returns-clause-room : goal.returns-clause-room
-returns-clause-room g c =
-    ap length c.in_ok-found.ensures.values ∙ (c.settle_into.ensures.size ∙ ap (λ (m : Netlist). length (signals m)) c.netlist-netlist.ensures)
+pub returns-clause-bench : goal.returns-clause-bench
+returns-clause-bench g c =
+    (c.in_ok-found.ensures.size, ap length c.in_ok-found.ensures.values ∙ (c.settle_into.ensures.size ∙ ap (λ (m : Netlist). length (signals m)) c.netlist-netlist.ensures))
 
 pub returns-clause-played : goal.returns-clause-played
 returns-clause-played g c =
@@ -37,7 +37,7 @@ returns-clause-played g c =
     let state : List Lanes = c.args.bench.now.state.items in
     steps_from (g.J.Judge.says c.args.judge.now) faults n (cycle_of c.args.burst.now c.args.t) c.args.number state c.end_cycle.new.bench.state.items c.deref.result.now values
     _ c.args.verdicts.found.items c.in_ok-found.found.found.items c.args.rule.now.few (subst IsSound c.netlist-netlist.ensures c.sound.ensures) c.args.verdicts.few
-    (c.deref.ensures.value ∙ c.in_ok-read_drive.ensures) c.in_ok-read_strobe.ensures c.requires.size
+    (c.deref.ensures.value ∙ c.in_ok-read_drive.ensures) c.in_ok-read_strobe.ensures c.requires.bench.0
     (λ d. subst (λ (m : Netlist). Settles rule m c.deref.result.now state (at values d)) c.netlist-netlist.ensures
     (subst (λ (s : List Lanes). Settles rule c.netlist-netlist.result.now c.deref.result.now s (at values d)) c.deref-2.ensures.value (c.settle_into.ensures.settled d)))
     c.in_ok-found.ensures.ended

@@ -17,8 +17,7 @@ returns-then-so_far-eq0-clause-played g c before size h =
 
 pub loop-t-preserved : goal.loop-t-preserved
 loop-t-preserved g c = record {
-  size = c.in_ok-so_far.ensures.size;
-  room = c.in_ok-so_far.ensures.room;
+  bench = c.in_ok-so_far.ensures.bench;
   played = λ before size h.
       burst_more (g.J.Judge.says c.args.judge.now) c.args.rule.now.faults.now c.args.core.now before c.args.burst.now c.loop-t.t c.args.first (c.args.first + c.loop-t.t) c.loop-t.bench.state.items
       c.play_cycle.new.bench.state.items c.loop-t.so_far.found.items c.in_ok-so_far.so_far.found.items c.loop-t-test.true size refl (c.loop-t.invariant.played before size h) c.in_ok-so_far.ensures.played;

@@ -1,14 +1,10 @@
-use Rattle.std.proofs.Common.{◌≡◌, ◌++◌, List, length, take}
-use Rattle.netlist.specs.Netlist.{cells, signals}
+use Rattle.std.proofs.Common.{take}
 use Rattle.scan_play.specs.Bursts.{cycles_of}
-use Rattle.scan_play.specs.Cycles.{Cycle}
-use Rattle.lane_play.specs.inner.Steps.{ArePlayed}
+use Rattle.lane_play.specs.inner.Steps.{ArePlayedBehind, AreSized}
 use Rattle.lane_play.proofs.cycles.play_cycles.Given as goal
 
 abbrev pub invariant-loop-t : goal.invariant-loop-t
 invariant-loop-t g l = record {
-  size : length l.bench.state.items ≡ length (cells l.core);
-  room : length l.bench.values.items ≡ length (signals l.core);
-  played : (before : List Cycle) → length before ≡ l.first → ArePlayed (g.J.Judge.says l.judge) l.rule.faults.now l.core before l.initial.bench.state.items l.initial.so_far.found.items
-      → ArePlayed (g.J.Judge.says l.judge) l.rule.faults.now l.core (before ++ take l.t (cycles_of l.burst)) l.bench.state.items l.so_far.found.items;
+  bench : AreSized l.core l.bench.state.items l.bench.values.items;
+  played : ArePlayedBehind (g.J.Judge.says l.judge) l.rule.faults.now l.core l.first (take l.t (cycles_of l.burst)) l.initial.bench.state.items l.bench.state.items l.initial.so_far.found.items l.so_far.found.items;
 }

@@ -30,8 +30,7 @@ returns-then-so_far-eq0 g c =
 pub loop-burst-preserved : goal.loop-burst-preserved
 loop-burst-preserved g c = record {
   number = number_more (g.J.Judge.says c.args.judge.now) None c.args.core.now c.args.bursts.now c.loop-burst.burst-index c.loop-burst.first c.burst-item.result c.loop-burst-test.true c.burst-item.is c.loop-burst.invariant.number;
-  size = c.in_ok-so_far.ensures.size;
-  room = c.in_ok-so_far.ensures.room;
+  bench = c.in_ok-so_far.ensures.bench;
   played = bursts_more (g.J.Judge.says c.args.judge.now) c.args.rule.now.faults.now c.args.core.now c.args.bursts.now c.loop-burst.burst-index c.burst-item.result c.play_burst.new.bench.state.items
       c.in_ok-so_far.so_far.found.items c.loop-burst-test.true c.burst-item.is
       (c.in_ok-so_far.ensures.played (all_cycles (take c.loop-burst.burst-index c.args.bursts.now)) (sym c.loop-burst.invariant.number) c.loop-burst.invariant.played);

@@ -28,11 +28,13 @@ evaluate_all-requires-clause-size g c =
     ∙ (planned_size c.args.rule.now.faults.now c.args.core.now b.drive.items b.strobe.items c.args.steps.now c.args.bench.now.values.items c.requires.planned
     ∙ ap (λ (m : Netlist). length (signals m)) (sym c.netlist-netlist.ensures))
 
-pub end_cycle-requires-clause-room : goal.end_cycle-requires-clause-room
-end_cycle-requires-clause-room g c =
-    let b = c.args.burst.now in
-    c.evaluate_all.ensures.size
-    ∙ (c.drive_sources.ensures.size ∙ planned_size c.args.rule.now.faults.now c.args.core.now b.drive.items b.strobe.items c.args.steps.now c.args.bench.now.values.items c.requires.planned)
+pub end_cycle-requires-clause-bench : goal.end_cycle-requires-clause-bench
+end_cycle-requires-clause-bench g c =
+    let b = c.args.burst.now in (
+      c.requires.size,
+      c.evaluate_all.ensures.size
+          ∙ (c.drive_sources.ensures.size ∙ planned_size c.args.rule.now.faults.now c.args.core.now b.drive.items b.strobe.items c.args.steps.now c.args.bench.now.values.items c.requires.planned),
+    )
 
 pub end_cycle-requires-clause-strobes : goal.end_cycle-requires-clause-strobes
 end_cycle-requires-clause-strobes g c = ap length c.in_ok-read_strobe.ensures ∙ c.requires.fits.strobe

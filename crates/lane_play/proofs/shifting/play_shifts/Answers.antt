@@ -30,12 +30,12 @@ returns-clause-played g c before size h =
     burst_done (g.J.Judge.says c.args.judge.now) c.args.rule.now.faults.now c.args.core.now before c.args.burst.now c.loop-t.t c.loop-t.bench.state.items c.loop-t.so_far.found.items
     c.loop-t-test.false (c.loop-t.invariant.played before size h)
 
-pub returns-clause-room : goal.returns-clause-room
-returns-clause-room g c =
+pub returns-clause-bench : goal.returns-clause-bench
+returns-clause-bench g c =
     let b = c.args.burst.now in
-    planned_size c.args.rule.now.faults.now c.args.core.now b.drive.items b.strobe.items c.args.steps.now c.loop-t.bench.values.items c.loop-t.invariant.planned
+    (c.loop-t.invariant.size, planned_size c.args.rule.now.faults.now c.args.core.now b.drive.items b.strobe.items c.args.steps.now c.loop-t.bench.values.items c.loop-t.invariant.planned)
 
-pub returns-then-so_far-eq0-clause-room : goal.returns-then-so_far-eq0-clause-room
-returns-then-so_far-eq0-clause-room g c =
+pub returns-then-so_far-eq0-clause-bench : goal.returns-then-so_far-eq0-clause-bench
+returns-then-so_far-eq0-clause-bench g c =
     let b = c.args.burst.now in
-    planned_size c.args.rule.now.faults.now c.args.core.now b.drive.items b.strobe.items c.args.steps.now c.play_shift.new.bench.values.items c.in_ok-so_far.ensures.planned
+    (c.in_ok-so_far.ensures.size, planned_size c.args.rule.now.faults.now c.args.core.now b.drive.items b.strobe.items c.args.steps.now c.play_shift.new.bench.values.items c.in_ok-so_far.ensures.planned)

@@ -5,45 +5,39 @@ use Rattle.netlist.specs.Settled.{at}
 use Rattle.events.proofs.Stuck.{get_or-on_pins}
 use Rattle.lane_play.specs.declared.packed.Lanes.{Lanes}
 use Rattle.lane_play.specs.inner.Lanes.{lanes_rule}
-use Rattle.lane_play.proofs.Stuckness.{length-read}
+use Rattle.lane_play.proofs.Stuckness.{place_read}
 use Rattle.lane_play.proofs.pins.ForcedPins.value.Goals as goal
 
 pub overflow_cast-place : goal.overflow_cast-place
 overflow_cast-place c =
     let p = c.args.self.now in
-    let r = c.requires in
     let few = p.few in
-    let n = length-read (lanes_rule p.faults.now) p.id p.values.now p.pins.now in
+    let l = place_read (lanes_rule p.faults.now) p.id p.values.now p.pins.now c.args.place c.requires in
     omega arith
 
 pub offset_bounds-self-place : goal.offset_bounds-self-place
 offset_bounds-self-place c =
     let p = c.args.self.now in
-    let r = c.requires in
     let few = p.few in
-    let n = length-read (lanes_rule p.faults.now) p.id p.values.now p.pins.now in
+    let l = place_read (lanes_rule p.faults.now) p.id p.values.now p.pins.now c.args.place c.requires in
     omega arith
 
 pub bounds-self-place : goal.bounds-self-place
 bounds-self-place c =
     let p = c.args.self.now in
-    let r = c.requires in
-    let n = length-read (lanes_rule p.faults.now) p.id p.values.now p.pins.now in
-    omega arith
+    place_read (lanes_rule p.faults.now) p.id p.values.now p.pins.now c.args.place c.requires
 
 pub bounds-self-index : goal.bounds-self-index
 bounds-self-index c =
     let p = c.args.self.now in
-    let r = c.requires in
-    let n = length-read (lanes_rule p.faults.now) p.id p.values.now p.pins.now in
-    subst (λ x. x < length p.values.now) (sym c.index.ensures) (p.below c.args.place c.index-self-place.result (omega arith))
+    subst (λ x. x < length p.values.now) (sym c.index.ensures)
+    (p.below c.args.place c.index-self-place.result (place_read (lanes_rule p.faults.now) p.id p.values.now p.pins.now c.args.place c.requires))
 
 pub offset_bounds-self-index : goal.offset_bounds-self-index
 offset_bounds-self-index c =
     let p = c.args.self.now in
-    let r = c.requires in
-    let n = length-read (lanes_rule p.faults.now) p.id p.values.now p.pins.now in
-    let l : c.index.result < length p.values.now = subst (λ x. x < length p.values.now) (sym c.index.ensures) (p.below c.args.place c.index-self-place.result (omega arith)) in
+    let l = place_read (lanes_rule p.faults.now) p.id p.values.now p.pins.now c.args.place c.requires in
+    let inside : c.index.result < length p.values.now = subst (λ x. x < length p.values.now) (sym c.index.ensures) (p.below c.args.place c.index-self-place.result l) in
     omega arith
 
 pub returns : goal.returns
@@ -51,10 +45,8 @@ returns c =
     let p = c.args.self.now in
     let rule = lanes_rule p.faults.now in
     let vs : List Lanes = map (at p.values.now (record { known = 0; value = 0 })) p.pins.now in
-    let r = c.requires in
-    let n = length-read rule p.id p.values.now p.pins.now in
+    let l = place_read rule p.id p.values.now p.pins.now c.args.place c.requires in
     let b = length-map p.pins.now (at p.values.now (record { known = 0; value = 0 })) in
-    let l : c.args.place < length p.pins.now = omega arith in
     let inside : c.index.result < length p.values.now = subst (λ x. x < length p.values.now) (sym c.index.ensures) (p.below c.args.place c.index-self-place.result l) in
     let value : get_or vs c.args.place (record { known = 0; value = 0 }) ≡ get_or p.values.now c.index.result (record { known = 0; value = 0 }) =
     get_or-map (at p.values.now (record { known = 0; value = 0 })) p.pins.now c.args.place c.index-self-place.result (record { known = 0; value = 0 }) l

@@ -8,7 +8,7 @@ use Rattle.scan_play.specs.Cycles.{Cycle}
 use Rattle.lane_play.specs.declared.packed.Lanes.{Lanes}
 use Rattle.lane_play.specs.inner.Steps.{ArePlayed}
 use Rattle.lane_play.proofs.PlayedLemmas.{judged_all, played_nothing}
-use Rattle.lane_play.proofs.playing.play_from_unknown.Goals as goal
+use Rattle.lane_play.proofs.playing.play_lanes.Goals as goal
 
 blank : Lanes
 blank = record { known = 0; value = 0 }
@@ -30,8 +30,8 @@ pub returns : goal.returns
 returns g c =
     let says = g.J.Judge.says c.args.judge.now in
     let n : Netlist = c.args.core.now in
-    let found = c.in_ok-found.found.found.items in
+    let found = c.in_ok-judged.judged.found.items in
     let state = c.play_bursts.new.bench.state.items in
-    let own = subst (λ (fs : List Fault). ArePlayed says fs n (all_cycles c.bursts.result.now) state found) c.in_ok-rule.ensures.faults c.in_ok-found.ensures in
+    let own = subst (λ (fs : List Fault). ArePlayed says fs n (all_cycles c.bursts.result.now) state found) c.in_ok-rule.ensures.faults c.in_ok-judged.ensures in
     let played = subst (λ (cs : List Cycle). ArePlayed says c.args.faults.now n cs state found) (sym c.bursts.ensures) own in
     judged_all says c.args.faults.now n c.args.vectors.now state found (subst IsSound c.netlist-netlist.ensures c.sound.ensures) c.requires.fits played
