@@ -130,7 +130,7 @@ def test_program_answers():
 
 def test_program_splits_places_of_slow_lines():
     """Trees of slow lines that FAN makes split and force only what it may on the two frames in which the line alone is slow. On the first netlist six
-    trees don't where those of many lines' netlist are taken; on the other, by the limit of one closed end, 30 searches give up."""
+    trees don't where those of many lines' netlist are taken; on the other, by the limit of one closed end, 33 searches give up."""
     if not program("atpg_main").exists():
         return NO_PROGRAM
     deep = (ROOT / "bench/oracle/deep_cells.bench").read_bytes()
