@@ -4,7 +4,7 @@
 //! Gives: `write_trees`, `read_trees`, `is_one_tree`.
 //! Proved: `write_trees`: a certificate's one text; `read_trees` exactly; no two lists of trees have one text; `is_one_tree`: whether nodes are one
 //! tree in preorder.
-//! Tested: that it comes to these answers, by rows of `file_calls`.
+//! Tested: that it comes to these answers, by rows of `calls`.
 //! Neither: time.
 #![tactic(auto)]
 

@@ -3,7 +3,7 @@
 //! Gives: `stil_of`, `patterns_of`, `are_patterns`.
 //! Proved: `stil_of`: exactly the file of patterns; `patterns_of`: exactly the patterns that obey the held inputs and of which a file is that; the
 //! laws: their vectors, that it fits the scanned netlist, read back as itself, one file, one list, an item at least for each pattern.
-//! Tested: that it comes to these answers, by rows of `file_calls`.
+//! Tested: that it comes to these answers, by rows of `calls`.
 //! Neither: time.
 #![tactic(auto)]
 
