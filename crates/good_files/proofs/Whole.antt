@@ -1,6 +1,6 @@
 -- The statement and what goes with it say all that can be said in one piece, of the scanned netlist and its lines by their own numbers. Nothing
 -- rests on this: it shows that no conjunct of the statement is too weak, and tools/weaken tries it without each.
-use Rattle.std.proofs.Common.{◌≡◌, ◌≤◌, ℕ, ◌<◌, inl, inr, Bool, true, false, cond, List, [], ◌++◌, length, map, get_or, Option, Some, None, refl, sym, ◌∙◌, ap, subst, codes, length-append, arith}
+use Rattle.std.proofs.Common.{◌≡◌, ℕ, ◌<◌, inl, inr, Bool, true, false, cond, List, [], ◌++◌, length, map, get_or, Option, Some, None, sym, ◌∙◌, ap, subst, codes, length-append, arith}
 use Rattle.std.specs.List.{All, Contains, flat_map, slice_get}
 use Rattle.std.proofs.lemmas.Bool.{cases_lt, cases_order}
 use Rattle.std.proofs.lemmas.List.{get_or_past}

@@ -81,7 +81,7 @@ module _ (n : Netlist) (holds : Holds) (chains : List (List ℕ)) (scanned : Net
 -- Five texts of a netlist, with these inputs held and its cells in these chains. The first is the netlist's, the second that of a scanned one,
 -- which behaves as the netlist with scan off. The third is the test by some patterns: it passes on the scanned netlist, and with any fault or
 -- none there is a run from each power-up state. The report ends with the held inputs and a line for each fault of the netlist, in order, and what
--- each line says comes true.
+-- each line says comes true. The texts are those that a call which returned has written, or read.
 pub record Statement (n : Netlist) (holds : Holds) (chains : List (List ℕ)) (files : FiveFiles) : Type 0 where
   pub scanned : Netlist
   pub patterns : List Pattern
