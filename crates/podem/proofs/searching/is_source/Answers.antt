@@ -3,7 +3,7 @@ use Rattle.std.specs.List.{Contains}
 use Rattle.netlist.specs.Conditions.{IsSound}
 use Rattle.netlist.specs.Netlist.{Definition, Netlist, is_flip_flop}
 use Rattle.podem.specs.Sources.{all_sources}
-use Rattle.podem.proofs.Owns.{low_is_source, cell_is_source}
+use Rattle.podem.proofs.Owns.{cell_is_source}
 use Rattle.podem.proofs.searching.is_source.Goals as goal
 
 pub returns : goal.returns
