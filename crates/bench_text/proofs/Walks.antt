@@ -15,7 +15,6 @@ module _ {A : Type 0} (p : A → Bool) where
   find-ends xs i v h e = sym (at_drop_all (find p) xs i h) ∙ e
 
   module _ (xs : List A) (i : ℕ) (d : A) (h : i < length xs) where
-
     pub find-here : (v : Option A) → find p (drop i xs) ≡ v → p (get_or xs i d) ≡ true → Some (get_or xs i d) ≡ v
     find-here v e t = sym (at_drop_more (find p) xs i d h ∙ ap (λ b. cond b (Some (get_or xs i d)) (find p (drop (i + 1) xs))) t) ∙ e
 

@@ -56,7 +56,6 @@ module _ (first : ℕ → ℕ) (low high : ℕ) (less : low ≤ high) where
   ]
 
   module _ (p : List ℕ) (forest : IsForest p) (within : high < length p) (h : LeadsTo p first) (first_low : first low ≡ low) (first_high : first high ≡ high) where
-
     merged_kept : (k v : ℕ) → first v ≡ first k → merged first low high v ≡ merged first low high k
     merged_kept k v e = ap (λ f. cond (eqb f high) low f) e
 

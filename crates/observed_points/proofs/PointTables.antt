@@ -66,7 +66,6 @@ length-filter-le p [] = omega arith
 length-filter-le p (x ∷ xs) = let l = length-filter-le p xs in below_cond (p x) x (filter p xs) (length xs) l
 
 module _ (n : Netlist) (sound : IsSound n) where
-
   -- one cell more
   pub numbers_more : (ids numbers : List ℕ) (j i : ℕ) → ids ≡ map (λ (d : Definition). d.id) (cells n) → AreCellPoints n numbers j → j < length ids → i ≡ get_or ids j 0
       → AreCellPoints n (set numbers i (length n.outputs + j)) (j + 1)

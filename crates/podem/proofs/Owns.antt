@@ -28,7 +28,6 @@ cell_listed n d c = listed (cells n) d c
 -- ---- which signals are sources
 
 module _ (n : Netlist) (numbered : IsNumbered n) where
-
   -- and so is what a flip-flop defines
   pub cell_is_source : (d : Definition) (x : ℕ) → Contains n.definitions d → d.id ≡ x → is_cell d ≡ true → Contains (all_sources n) x
   cell_is_source d x c is cell = subst (Contains (all_sources n)) is

@@ -70,7 +70,6 @@ passes_here (y ∷ ys) x c =
 
 module _ (s : Netlist) (sound : IsSound s) (opens : (x : ℕ) → x < length s.names → IsOpen (name_of s x))
     (short : (x : ℕ) → Contains s.outputs x → length (name_of s x) ≤ 255) where
-
   same_name : (x y : ℕ) → x < length s.names → y < length s.names → name_of s x ≡ name_of s y → x ≡ y
   same_name x y v w e = elim (cases_order x y) [
     | inl same ↦ same
