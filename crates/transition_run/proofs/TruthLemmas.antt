@@ -1,7 +1,8 @@
 -- What is written of verdicts comes true.
-use Rattle.std.proofs.Common.{◌≡◌, ℕ, zero, suc, inl, inr, List, [], ◌∷◌, ◌++◌, length, map, get_or, Some, None, refl, sym, ◌∙◌, ap, ap₂, subst}
+use Rattle.std.proofs.Common.{◌≡◌, ◌+◌, ℕ, zero, suc, inl, inr, List, [], ◌∷◌, ◌++◌, length, map, get_or, Some, None, refl, sym, ◌∙◌, ap, ap₂, subst, arith}
 use Rattle.std.specs.List.{All, AllZip, Contains, slice_get, zip}
 use Rattle.std.proofs.lemmas.List.{length-map}
+use Rattle.std.proofs.lemmas.List.Sums.{sum_by-cons}
 use Rattle.std.proofs.lemmas.List.Elements.{Contains-append_right}
 use Rattle.std.proofs.lemmas.Option.{slice_get-get_or}
 use Rattle.netlist.specs.declared.lines.Fault.{Fault}
@@ -24,7 +25,8 @@ use Rattle.fault_universe.proofs.Elements.{contains_at}
 use Rattle.redundancy_cert.specs.declared.nodes.Node.{Node}
 use Rattle.report.specs.declared.outcomes.Outcome.{Outcome}
 use Rattle.report.specs.Reports.{Line}
-use Rattle.good_files.proofs.Truth.{all_kinds}
+use Rattle.run_report.specs.Heads.{count_of, one_if_detected, one_if_redundant, one_if_aborted}
+use Rattle.run_report.proofs.ListLemmas.{one_kind}
 use Rattle.transition_frames.specs.Transition.{DetectsTransition}
 use Rattle.transition.specs.Detections.{LastTransition}
 use Rattle.transition.specs.Laws.{ClosedTreeHasNoTransition}
@@ -53,6 +55,15 @@ pub record Laws : Type 0 where
   pub detected : DetectedFailsSlowly
   pub undetected : UndetectedPassesSlowly
   pub run : SomeSlowRun
+
+-- every line is of one of the three kinds
+all_kinds : (lines : List Line) → count_of one_if_detected lines + count_of one_if_redundant lines + count_of one_if_aborted lines ≡ length lines
+all_kinds [] = refl
+all_kinds (l ∷ ls) =
+    let d = sum_by-cons (λ (m : Line). one_if_detected m.outcome) l ls in
+    let r = sum_by-cons (λ (m : Line). one_if_redundant m.outcome) l ls in
+    let a = sum_by-cons (λ (m : Line). one_if_aborted m.outcome) l ls in
+    omega (arith, one_kind l.outcome, all_kinds ls, d, r, a)
 
 -- ---- verdicts, lines and trees, place by place
 
