@@ -1,6 +1,6 @@
 #!/usr/bin/env python3
-"""Works out what the rows of crates/calls, crates/list_calls and crates/cases have to print, by plain programs apart from
-the crates, and compares.
+"""Works out what the rows of crates/calls, crates/list_calls, crates/cases and crates/check_cases have to print, by plain
+programs apart from the crates, and compares.
 
 A row that this program doesn't know (a refusal, a line of an error output) is worked out by hand; how many there are is printed.
 
@@ -28,7 +28,6 @@ from sample_netlist import Pcg32
 ROOT = os.path.dirname(os.path.dirname(os.path.dirname(os.path.abspath(__file__))))
 WORDS = {"BUF": "BUFF"}
 RUNS = ("case ", "run ", "keep ", "twice ", "cut ")
-CHECK = "check "
 
 
 def shown(text):
@@ -713,17 +712,14 @@ def told_runs(texts):
 
 def check_cases():
     texts, rows = texts_and_rows(f"{ROOT}/crates/cases/stdin")
-    heads = ["run " + row.split(" ", 2)[2] if row.startswith("keep ") else row for row in rows if row.startswith((*RUNS, CHECK))]
+    heads = ["run " + row.split(" ", 2)[2] if row.startswith("keep ") else row for row in rows if row.startswith(RUNS)]
     stored = iter(answers(f"{ROOT}/crates/cases/stdout", heads))
-    checks = dict(check_checks.rows())
     wrong, known, count, case, runs = 0, 0, 0, Case(), told_runs(texts)
     for row in rows:
         verb, _, rest = row.partition(" ")
-        given = [line for line in next(stored, []) if line] if row.startswith((*RUNS, CHECK)) else []
+        given = [line for line in next(stored, []) if line] if row.startswith(RUNS) else []
         if verb == "case":
             case = Case()
-        elif row.startswith(CHECK):
-            wrong += differs(row, checks[row], given)
         elif not row.startswith(RUNS):
             case.take(verb, rest, texts)
         else:
@@ -737,9 +733,19 @@ def check_cases():
             case.said[rest] = given
             if verb == "keep":
                 keep_files(case, rest.split(" ")[0], rest.split(" ")[1:], told)
-    print(f"cases: {known} of {count} runs worked out, and all {len(checks)} checks of five files, {wrong} differ")
+    print(f"cases: {known} of {count} runs worked out, {wrong} differ")
+    return wrong
+
+
+def check_check_cases():
+    wanted = check_checks.wanted()
+    with open(f"{ROOT}/crates/check_cases/stdout", encoding="latin-1") as file:
+        given = file.read()
+    rows = wanted.count("\nstatus ")
+    wrong = differs("check_cases", wanted.split("\n"), given.split("\n"))
+    print(f"check_cases: {rows} of {rows} rows worked out, {'some' if wrong else 0} differ")
     return wrong
 
 
 if __name__ == "__main__":
-    sys.exit(1 if check_calls("calls") + check_calls("list_calls") + check_cases() else 0)
+    sys.exit(1 if check_calls("calls") + check_calls("list_calls") + check_cases() + check_check_cases() else 0)

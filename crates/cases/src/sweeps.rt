@@ -1,13 +1,13 @@
 //! The lines of `sweep`, shown so that they don't tell which tests a search has found.
 use crate::showing::push_number;
-use case_text::{cut, number, show};
+use case_text::show;
 use std::alloc::AllocError;
 
 /// The number behind a word at the beginning of a line; 0 where there is none.
 fn number_of(text: &str, word: &str) -> u64 {
     for line in text.lines() {
-        if let Some(count) = line.strip_prefix(word) {
-            return number(count);
+        if let Some(number) = line.strip_prefix(word) {
+            return number.parse().unwrap_or(0);
         }
     }
     0
@@ -49,7 +49,7 @@ pub fn push_sweep(to: &mut Vec<u8>, bytes: &[u8], each: u64, more: u64) -> Resul
         return show(to, bytes);
     };
     for line in text.lines() {
-        match cut(line).0 {
+        match line.split_once(' ').unwrap_or((line, "")).0 {
             "detected" | "redundant" | "patterns" => {}
             "aborted" => push_verdicts(to, text)?,
             "cycles" => push_cycles(to, text, each, more)?,
