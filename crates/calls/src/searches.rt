@@ -8,7 +8,7 @@ use case_text::{Pushed, cut, small};
 use fan::Fan;
 use netlist::{Core, Fault, Holds, NoMemory};
 use podem::Podem;
-use redundancy_cert::Found;
+use redundancy_cert::{Engine, Found};
 use std::alloc::{AllocError, Global};
 
 fn word_of(found: Result<Found, NoMemory>) -> Result<&'static str, AllocError> {
@@ -38,8 +38,8 @@ fn found_by(
     requires holds { AreHoldsOf core.now holds.now }
 {
     match by {
-        By::Podem => Podem::of(alloc, core)?.search_sources(alloc, core, fault, limit, holds),
-        By::Fan => Fan::of(alloc, core)?.search_places(alloc, core, fault, limit, holds),
+        By::Podem => Podem::of(alloc, core)?.search(alloc, core, fault, limit, holds),
+        By::Fan => Fan::of(alloc, core)?.search(alloc, core, fault, limit, holds),
     }
 }
 

@@ -3,9 +3,6 @@
 //! objectives together, and from the lowest. Four short ones more go back from the lowest to head lines, over pins by a hash: few faults that can be
 //! tested are missed by all of them. The last goes back from all objectives to head lines, up to the limit.
 ghost use Rattle.std.specs.Prelude.{◌≡◌, ◌≤◌, IfOk, IfSome, OnOk};
-ghost use Rattle.netlist.specs.Holds.{AreHoldsOf};
-ghost use Rattle.redundancy_cert.specs.Evidence.{HasEvidence};
-ghost use Rattle.fan.specs.Trees.{HasEvidenceOnPlaces};
 ghost use Rattle.fan.specs.inner.Searching.{IsRoledCase, IsReady, IsAnswer, IsKept};
 
 use crate::cases::RoledCase;
@@ -117,24 +114,31 @@ impl Fan {
         let measures = Measures::of(alloc, core)?;
         Ok(Fan { measures })
     }
+}
 
-    /// A test of the fault, a tree that shows it redundant, or a tree with as many Closed as the limit.
-    pub fn search_places(
+impl Engine for Fan {
+    ghost use Rattle.netlist.specs.Netlist.{Netlist};
+    ghost use Rattle.netlist.specs.Holds.{Holds};
+    ghost use Rattle.fan.specs.Trees.{HasEvidenceOnPlaces};
+    ghost use Rattle.pair_sim.specs.Rooms.{IsReusableLabelRoom};
+    ghost use Rattle.head_lines.specs.Rooms.{IsReusableRoleRoom, IsReusableWantRoom};
+
+    type Room = FanRoom;
+
+    ghost serves = { λ (n : Netlist) (holds : Holds) r. IsReusableLabelRoom n holds r.labels × IsReusableRoleRoom n holds r.roles × IsReusableWantRoom n r.wants };
+
+    // Splits decide places alone, and Forced bound signals and head lines alone: no Partial for a limit of 2 to the number of places or more, and no
+    // Open where the condition for a test is met.
+    ghost keeps_rule = { HasEvidenceOnPlaces };
+
+    fn search(
         &self,
         alloc: Global,
         core: &Core,
         fault: Fault,
         limit: u32,
         holds: &Holds,
-    ) -> Result<Found, NoMemory>
-        requires limit { 1 ≤ limit }
-        requires holds { AreHoldsOf core.now holds.now }
-        ensures evidence { IfOk result (HasEvidence fault core.now holds.now limit) }
-
-        // Splits decide places alone, and Forced bound signals and head lines alone: no Partial for a limit of 2 to the number of places, and no
-        // Open where the condition for a test is met.
-        ensures places { IfOk result (HasEvidenceOnPlaces fault core.now holds.now limit) }
-    {
+    ) -> Result<Found, NoMemory> {
         let room = GuideRoom::of(alloc, core)?;
         let mut guide = Guide::of(&self.measures, room);
         let mut labels = PairSim::new(alloc, core, fault, holds)?;
@@ -147,28 +151,6 @@ impl Fan {
         };
         let found = attempts(alloc, &roled, &mut guide, &mut labels, &mut wants, limit)?;
         Ok(found)
-    }
-}
-
-impl Engine for Fan {
-    ghost use Rattle.netlist.specs.Netlist.{Netlist};
-    ghost use Rattle.netlist.specs.Holds.{Holds};
-    ghost use Rattle.pair_sim.specs.Rooms.{IsReusableLabelRoom};
-    ghost use Rattle.head_lines.specs.Rooms.{IsReusableRoleRoom, IsReusableWantRoom};
-
-    type Room = FanRoom;
-
-    ghost serves = { λ (n : Netlist) (holds : Holds) r. IsReusableLabelRoom n holds r.labels × IsReusableRoleRoom n holds r.roles × IsReusableWantRoom n r.wants };
-
-    fn search(
-        &self,
-        alloc: Global,
-        core: &Core,
-        fault: Fault,
-        limit: u32,
-        holds: &Holds,
-    ) -> Result<Found, NoMemory> {
-        self.search_places(alloc, core, fault, limit, holds)
     }
 
     fn room(&self, alloc: Global, core: &Core, holds: &Holds) -> Result<FanRoom, NoMemory> {

@@ -89,10 +89,13 @@ impl MeetingEngine {
 
 impl Engine for MeetingEngine {
     ghost use Rattle.podem.specs.Rooms.{IsReusablePodemRoom};
+    ghost use Rattle.podem.specs.Sources.{HasSourceEvidence};
 
     type Room = PodemRoom;
 
     ghost serves = { IsReusablePodemRoom };
+
+    ghost keeps_rule = { HasSourceEvidence };
 
     fn search(
         &self,
@@ -103,7 +106,7 @@ impl Engine for MeetingEngine {
         holds: &Holds,
     ) -> Result<Found, NoMemory> {
         self.meeting.meet(self.begun.fetch_add(1, Ordering::SeqCst));
-        self.podem.search_sources(alloc, core, fault, limit, holds)
+        self.podem.search(alloc, core, fault, limit, holds)
     }
 
     fn room(&self, alloc: Global, core: &Core, holds: &Holds) -> Result<PodemRoom, NoMemory> {

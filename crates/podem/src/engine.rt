@@ -1,9 +1,6 @@
 //! The engine: up to four attempts, each a whole search, of which the last alone may give up. They differ in the pin that the backtrace goes to, so
 //! what one misses another may find; a fault that is redundant mostly stays so dear to all of them.
 ghost use Rattle.std.specs.Prelude.{◌≡◌, ◌≤◌, None, IfOk, IfSome, OnOk};
-ghost use Rattle.netlist.specs.Holds.{AreHoldsOf};
-ghost use Rattle.redundancy_cert.specs.Evidence.{HasEvidence};
-ghost use Rattle.podem.specs.Sources.{HasSourceEvidence};
 ghost use Rattle.podem.specs.inner.Searching.{IsReady, IsAnswer, IsKept};
 
 use crate::guides::{Guide, Pick};
@@ -97,38 +94,19 @@ impl Podem {
         let measures = Measures::of(alloc, core)?;
         Ok(Podem { measures })
     }
-
-    /// A test of the fault, a tree that shows it redundant, or a tree with as many Closed as the backtrack limit.
-    pub fn search_sources(
-        &self,
-        alloc: Global,
-        core: &Core,
-        fault: Fault,
-        limit: u32,
-        holds: &Holds,
-    ) -> Result<Found, NoMemory>
-        requires limit { 1 ≤ limit }
-        requires holds { AreHoldsOf core.now holds.now }
-        ensures evidence { IfOk result (HasEvidence fault core.now holds.now limit) }
-
-        // Only inputs that aren't held and cells are decided: no Partial for a backtrack limit of 2 to their number, and no Open where there is a test.
-        ensures sources { IfOk result (HasSourceEvidence fault core.now holds.now limit) }
-    {
-        let mut labels = PairSim::new(alloc, core, fault, holds)?;
-        let mut guide = Guide::of(&self.measures, &fault, Effects::new(alloc));
-        core.netlist().sound();
-        let case = Case { core, fault, holds };
-        let found = attempts(alloc, &case, &mut guide, &mut labels, limit)?;
-        Ok(found)
-    }
 }
 
 impl Engine for Podem {
     ghost use Rattle.podem.specs.Rooms.{IsReusablePodemRoom};
+    ghost use Rattle.podem.specs.Sources.{HasSourceEvidence};
 
     type Room = PodemRoom;
 
     ghost serves = { IsReusablePodemRoom };
+
+    // Only inputs that aren't held and cells are decided: no Partial for a backtrack limit of 2 to their number or more, and no Open where there is a
+    // test.
+    ghost keeps_rule = { HasSourceEvidence };
 
     fn search(
         &self,
@@ -138,7 +116,12 @@ impl Engine for Podem {
         limit: u32,
         holds: &Holds,
     ) -> Result<Found, NoMemory> {
-        self.search_sources(alloc, core, fault, limit, holds)
+        let mut labels = PairSim::new(alloc, core, fault, holds)?;
+        let mut guide = Guide::of(&self.measures, &fault, Effects::new(alloc));
+        core.netlist().sound();
+        let case = Case { core, fault, holds };
+        let found = attempts(alloc, &case, &mut guide, &mut labels, limit)?;
+        Ok(found)
     }
 
     fn room(&self, alloc: Global, core: &Core, holds: &Holds) -> Result<PodemRoom, NoMemory> {

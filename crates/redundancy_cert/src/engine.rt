@@ -1,5 +1,5 @@
 //! What a search answers.
-ghost use Rattle.std.specs.Prelude.{◌≤◌, IfOk};
+ghost use Rattle.std.specs.Prelude.{ℕ, ◌≤◌, IfOk};
 ghost use Rattle.netlist.specs.Holds.{AreHoldsOf};
 ghost use Rattle.netlist.specs.Lines.{IsLineOf};
 ghost use Rattle.redundancy_cert.specs.Evidence.{HasEvidence};
@@ -24,12 +24,18 @@ pub enum Found {
 pub trait Engine {
     ghost use Rattle.netlist.specs.Netlist.{Netlist};
     ghost use Rattle.netlist.specs.Holds.{Holds};
+    ghost use Rattle.netlist.specs.declared.lines.Fault.{Fault};
+    ghost use Rattle.redundancy_cert.specs.declared.engine.Found.{Found};
 
     /// What a search may keep for the next one: tables, labels, stacks. No evidence rests on it.
     type Room: Drop + Send;
 
     /// The room serves searches of this netlist under these held inputs.
     ghost serves: { Netlist → Holds → Self.Room → Type 0 };
+
+    /// The answer keeps this engine's own rule: which signals its trees decide, where they may be left open, and below which limit alone it gives up.
+    /// Code over any engine rests nothing on it.
+    ghost keeps_rule: { Fault → Netlist → Holds → ℕ → Found → Type 0 };
 
     /// A test of the fault, a tree that shows it redundant, or a tree of as many Closed as the backtrack limit.
     fn search(
@@ -42,15 +48,15 @@ pub trait Engine {
     ) -> Result<Found, NoMemory>
         requires limit { 1 ≤ limit }
         requires holds { AreHoldsOf core.now holds.now }
-        ensures { IfOk result (HasEvidence fault core.now holds.now limit) };
+        ensures evidence { IfOk result (HasEvidence fault core.now holds.now limit) }
+        ensures rule { IfOk result (keeps_rule fault core.now holds.now limit) };
 
     /// Room for one search after the other.
     fn room(&self, alloc: Global, core: &Core, holds: &Holds) -> Result<Self::Room, NoMemory>
         requires { AreHoldsOf core.now holds.now }
         ensures { IfOk result (serves core.now holds.now) };
 
-    /// A search in this room, whatever was searched in it before, and the room back. Its answer owes the same evidence as that of `search`, and may
-    /// be another.
+    /// A search in this room, whatever was searched in it before, and the room back. Its answer owes what that of `search` does, and may be another.
     fn search_in(
         &self,
         alloc: Global,
@@ -65,5 +71,6 @@ pub trait Engine {
         requires line { IsLineOf core.now fault.line }
         requires room { serves core.now holds.now room }
         ensures evidence { IfOk result (λ r. HasEvidence fault core.now holds.now limit r.0) }
+        ensures rule { IfOk result (λ r. keeps_rule fault core.now holds.now limit r.0) }
         ensures room { IfOk result (λ r. serves core.now holds.now r.1) };
 }
