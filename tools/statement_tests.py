@@ -66,7 +66,7 @@ def statement_is_found_by_contracts():
     tree = spec_words.Tree()
     root = trust.statement_root(tree)
     assert root[1] == "Statement"
-    assert ("Rattle.file_clauses.specs.Checks", "PassesWhereTrue") in spec_words.ensured(*trust.CHECK)
+    assert ("Rattle.good_files.specs.Checks", "PassesWhereTrue") in spec_words.ensured(*trust.CHECK)
     made = trust.page(tree, root)
     assert made == trust.page(spec_words.Tree(), root)
     named = {name for contract in (trust.CHECK, *trust.TOPS) for name in tree.reach_all(spec_words.ensured(*contract))}

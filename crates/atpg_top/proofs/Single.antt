@@ -16,7 +16,7 @@ use Rattle.commands.specs.Laws.{AreAlike}
 use Rattle.atpg_top.specs.Steps.{◌>>=◌, named_fault, netlist, test, value}
 use Rattle.atpg_top.specs.declared.refusal.Refusal.{Refusal}
 use Rattle.atpg_top.specs.declared.refusal.Refusal.TheVariants as refusal
-use Rattle.file_clauses.proofs.FirstOnLoop.{read_once, refusals_alike}
+use Rattle.good_files.proofs.FirstOnLoop.{read_once, refusals_alike}
 
 -- a step answers at most one value, or one refusal, and not both
 pub record IsSingle {A : Type 0} (step : Result A Refusal → Type 0) : Type 0 where

@@ -1,12 +1,10 @@
 -- The test of good files, read back and played, and the lines that `sweep` shows.
-use Rattle.std.proofs.Common.{◌≡◌, ◌∙◌, ◌++◌, ℕ, None, Result, Ok, Err, ap, append_assoc, subst, sym}
+use Rattle.std.proofs.Common.{◌≡◌, ◌∙◌, ◌++◌, None, Result, Ok, Err, ap, append_assoc, subst, sym}
 use Rattle.std.specs.Prelude.{OnOk}
 use Rattle.plain_text.specs.Texts.{Text}
 use Rattle.netlist.specs.Conditions.{IsSound}
 use Rattle.netlist.specs.Designs.{IsDesign}
-use Rattle.netlist.specs.Holds.{Holds}
-use Rattle.netlist.specs.Netlist.{Netlist}
-use Rattle.scan_insert.specs.Scanned.{scanned_of}
+use Rattle.scan_insert.specs.Scanned.{AreChainsOf, scanned_of}
 use Rattle.scan_play.specs.Laws.{VectorsDecide}
 use Rattle.scan_play.specs.Playing.{PlaysAs}
 use Rattle.scan_play.specs.declared.played.Played.{Played}
@@ -17,8 +15,8 @@ use Rattle.stil_patterns.specs.Laws.{FileVectors, FilesFit}
 use Rattle.stil_vectors.specs.FileVectors.{vectors_in}
 use Rattle.stil_vectors.specs.Fitting.{FitsNetlist}
 use Rattle.stil_write.specs.StilFiles.{StilFile}
-use Rattle.good_files.specs.GoodFiles.{AreGoodFiles, FiveFiles}
-use Rattle.good_files.specs.ScanOff.{design_chains}
+use Rattle.good_files.specs.GoodFiles.{AreGoodFiles, Contents, FiveFiles, chains_in, chains_said}
+use Rattle.good_files.proofs.Chains.{dealt}
 
 -- ---- the test
 
@@ -26,22 +24,27 @@ pub on_ok : {A E : Type 0} {P Q : Type 0} (r : Result A E) → (P → Q) → OnO
 on_ok (Ok x) f p = f p
 on_ok (Err e) f p = tt
 
-module _ (n : Netlist) (holds : Holds) (asked limit : ℕ) (files : FiveFiles) (sound : IsSound n) (design : IsDesign n) (good : AreGoodFiles n holds asked limit files) where
+module _ (files : FiveFiles) (c : Contents) (sound : IsSound c.netlist) (design : IsDesign c.netlist) (good : AreGoodFiles files c) where
   -- the text stands for one file
-  read_as : AtMostOne → (file : StilFile) → StandsFor files.stil file → file ≡ good.file
-  read_as one file stands = one files.stil file good.file stands good.stil_is
+  read_as : AtMostOne → (file : StilFile) → StandsFor files.stil file → file ≡ c.file
+  read_as one file stands = one files.stil file c.file stands good.stand.stil
 
-  pub fits : AtMostOne → FilesFit → (file : StilFile) → StandsFor files.stil file → FitsNetlist file (scanned_of n (design_chains n asked))
+  chains_dealt : AreChainsOf c.netlist (chains_in c)
+  chains_dealt = dealt c.netlist (chains_said c.said) good.tested.scan.allowed
+
+  pub fits : AtMostOne → FilesFit → (file : StilFile) → StandsFor files.stil file → FitsNetlist file (scanned_of c.netlist (chains_in c))
   fits one law file stands =
-      subst (λ (f : StilFile). FitsNetlist f (scanned_of n (design_chains n asked))) (sym (read_as one file stands))
-      (law n holds (design_chains n asked) good.patterns good.file sound design good.dealt good.is_file_of)
+      subst (λ (f : StilFile). FitsNetlist f (scanned_of c.netlist (chains_in c))) (sym (read_as one file stands))
+      (law c.netlist good.tested.holds (chains_in c) good.tested.patterns c.file sound design chains_dealt good.tested.test.is_file_of)
 
   pub passes : AtMostOne → FileVectors → VectorsDecide → (file : StilFile) → StandsFor files.stil file
-      → (answer : Played) → PlaysAs (scanned_of n (design_chains n asked)) None (vectors_in file) answer → answer ≡ Passes
+      → (answer : Played) → PlaysAs (scanned_of c.netlist (chains_in c)) None (vectors_in file) answer → answer ≡ Passes
   passes one vectors decide file stands answer plays =
-      let chains = design_chains n asked in
-      let are = vectors n holds chains good.patterns good.file good.is_file_of in
-      (decide n holds chains good.patterns (vectors_in good.file) sound good.dealt are).good answer
+      let n = c.netlist in
+      let t = good.tested in
+      let chains = chains_in c in
+      let are = vectors n t.holds chains t.patterns c.file t.test.is_file_of in
+      (decide n t.holds chains t.patterns (vectors_in c.file) sound chains_dealt are).good answer
       (subst (λ (f : StilFile). PlaysAs (scanned_of n chains) None (vectors_in f) answer) (read_as one file stands) plays)
 
 -- ---- the lines

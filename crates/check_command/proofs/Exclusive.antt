@@ -3,11 +3,11 @@ use Rattle.std.proofs.Common.{◌≡◌, inl, inr, [], ◌∷◌, Ok, Err, refl,
 use Rattle.commands.specs.Due.{Due, Deliver, Refuse}
 use Rattle.commands.specs.Laws.{AreAlike, IsExclusive}
 use Rattle.good_files.specs.GoodFiles.{FiveFiles}
-use Rattle.file_clauses.specs.declared.answers.Checked.{Checked}
-use Rattle.file_clauses.specs.declared.answers.Checked.TheVariants.{Faults, False}
-use Rattle.file_clauses.specs.declared.answers.CheckFault.{CheckFault}
-use Rattle.file_clauses.specs.declared.answers.CheckFault.TheVariants as fault
-use Rattle.file_clauses.specs.Laws.{AnswersAgree, AreConsistentAnswers}
+use Rattle.good_files.specs.declared.answers.Checked.{Checked}
+use Rattle.good_files.specs.declared.answers.Checked.TheVariants.{Faults, False}
+use Rattle.good_files.specs.declared.answers.CheckFault.{CheckFault}
+use Rattle.good_files.specs.declared.answers.CheckFault.TheVariants as fault
+use Rattle.good_files.specs.Laws.{AnswersAgree, AreConsistentAnswers}
 use Rattle.check_command.specs.Checking.{answer_line, five_texts_due, fault_of, files_due, checked_finding}
 use Rattle.check_command.specs.declared.refusal.CheckRefusal.{CheckRefusal}
 use Rattle.check_command.specs.declared.refusal.CheckRefusal.TheVariants as refusal

@@ -10,7 +10,7 @@ use Rattle.commands.specs.declared.product.Product.{Product}
 use Rattle.commands.specs.declared.product.Stop.{Stop}
 use Rattle.commands.specs.declared.product.Stop.TheVariants as stop
 use Rattle.good_files.specs.GoodFiles.{FiveFiles}
-use Rattle.file_clauses.specs.declared.answers.Checked.{Checked}
+use Rattle.good_files.specs.declared.answers.Checked.{Checked}
 use Rattle.check_command.specs.Checking.{five_texts_due}
 use Rattle.check_command.specs.declared.refusal.CheckRefusal.{CheckRefusal}
 use Rattle.check_command.specs.inner.Answers.{IsAnswered, answer_due}

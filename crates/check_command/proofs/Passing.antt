@@ -2,17 +2,16 @@
 use Rattle.std.proofs.Common.{◌≡◌, ◌∙◌, ◌⊎◌, inl, inr, ℕ, [], Ok, Err, refl, ap, length}
 use Rattle.std.specs.Prelude.{Result}
 use Rattle.netlist.specs.Conditions.{IsSound}
-use Rattle.netlist.specs.Holds.{Holds}
 use Rattle.netlist.specs.Netlist.{Netlist}
 use Rattle.fault_universe.specs.Universe.{universe_of}
 use Rattle.commands.specs.Due.{Due, Deliver}
 use Rattle.commands.specs.declared.ending.Finding.TheVariants.{Fine}
-use Rattle.good_files.specs.GoodFiles.{AreGoodFiles, FiveFiles}
-use Rattle.file_clauses.specs.declared.answers.Checked.{Checked}
-use Rattle.file_clauses.specs.declared.answers.Checked.TheVariants.{Faults}
-use Rattle.file_clauses.specs.declared.answers.CheckFault.{CheckFault}
-use Rattle.file_clauses.specs.declared.answers.CheckFault.TheVariants as fault
-use Rattle.file_clauses.specs.Laws.{GoodFilesPass}
+use Rattle.good_files.specs.GoodFiles.{AreGoodFiles, Contents, FiveFiles}
+use Rattle.good_files.specs.declared.answers.Checked.{Checked}
+use Rattle.good_files.specs.declared.answers.Checked.TheVariants.{Faults}
+use Rattle.good_files.specs.declared.answers.CheckFault.{CheckFault}
+use Rattle.good_files.specs.declared.answers.CheckFault.TheVariants as fault
+use Rattle.good_files.specs.Laws.{GoodFilesPass}
 use Rattle.check_command.specs.Checking.{answer_line, checked_line, fault_of, files_due, checked_finding}
 use Rattle.check_command.specs.declared.refusal.CheckRefusal.{CheckRefusal}
 use Rattle.check_command.specs.declared.refusal.CheckRefusal.TheVariants as refusal
@@ -30,10 +29,10 @@ no_refusal r refusal.NotCertificate answer is (inl none) = cc
 no_refusal r refusal.NotReport answer is (inl none) = cc
 no_refusal r why answer is (inr one) = cc
 
-module _ (pass : GoodFilesPass) (n : Netlist) (holds : Holds) (asked limit : ℕ) (files : FiveFiles) (sound : IsSound n) (good : AreGoodFiles n holds asked limit files) where
-  pub checked : (d : Due CheckRefusal) → files_due files d → d ≡ Deliver [] (checked_line (length (universe_of n))) Fine
+module _ (pass : GoodFilesPass) (files : FiveFiles) (c : Contents) (sound : IsSound c.netlist) (good : AreGoodFiles files c) where
+  pub checked : (d : Due CheckRefusal) → files_due files d → d ≡ Deliver [] (checked_line (length (universe_of c.netlist))) Fine
   checked d (inl due) =
       due.2 ∙ ap (λ (answer : Checked). let told : Due CheckRefusal = Deliver [] (answer_line answer) (checked_finding answer) in told)
-      (answer_is (Ok due.0) due.0 (length (universe_of n)) refl (pass n holds asked limit files sound good (Ok due.0) due.1.0))
+      (answer_is (Ok due.0) due.0 (length (universe_of c.netlist)) refl (pass files c sound good (Ok due.0) due.1.0))
   checked d (inr due) =
-      absurd (no_refusal (Err (fault_of due.0)) due.0 (Faults (length (universe_of n))) refl (pass n holds asked limit files sound good (Err (fault_of due.0)) due.1))
+      absurd (no_refusal (Err (fault_of due.0)) due.0 (Faults (length (universe_of c.netlist))) refl (pass files c sound good (Err (fault_of due.0)) due.1))

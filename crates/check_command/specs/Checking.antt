@@ -4,18 +4,16 @@ use Rattle.plain_text.specs.Texts.{Text}
 use Rattle.commands.specs.Due.{Due, Deliver, Refuse}
 use Rattle.commands.specs.declared.ending.Finding.{Finding}
 use Rattle.commands.specs.declared.ending.Finding.TheVariants.{Fine, Differs}
-use Rattle.file_clauses.specs.declared.answers.Checked.{Checked}
-use Rattle.file_clauses.specs.declared.answers.Checked.TheVariants.{Faults, False}
-use Rattle.file_clauses.specs.declared.answers.Clause.{Clause}
-use Rattle.file_clauses.specs.declared.answers.Clause.TheVariants as clause
-use Rattle.file_clauses.specs.declared.answers.CheckFault.{CheckFault}
-use Rattle.file_clauses.specs.declared.answers.CheckFault.TheVariants as fault
-use Rattle.file_clauses.specs.Checks.{IsOutside}
-use Rattle.file_clauses.specs.Laws.{IsWholeAnswer}
-use Rattle.good_files.specs.GoodFiles.{AreGoodFiles, FiveFiles}
+use Rattle.good_files.specs.declared.answers.Checked.{Checked}
+use Rattle.good_files.specs.declared.answers.Checked.TheVariants.{Faults, False}
+use Rattle.good_files.specs.declared.answers.Clause.{Clause}
+use Rattle.good_files.specs.declared.answers.Clause.TheVariants as clause
+use Rattle.good_files.specs.declared.answers.CheckFault.{CheckFault}
+use Rattle.good_files.specs.declared.answers.CheckFault.TheVariants as fault
+use Rattle.good_files.specs.Checks.{IsOutside}
+use Rattle.good_files.specs.Laws.{IsWholeAnswer}
+use Rattle.good_files.specs.GoodFiles.{AreGoodFiles, Contents, FiveFiles}
 use Rattle.netlist.specs.Conditions.{IsSound}
-use Rattle.netlist.specs.Holds.{Holds}
-use Rattle.netlist.specs.Netlist.{Netlist}
 use Rattle.fault_universe.specs.Universe.{universe_of}
 use Rattle.check_command.specs.declared.refusal.CheckRefusal.{CheckRefusal}
 use Rattle.check_command.specs.declared.refusal.CheckRefusal.TheVariants as refusal
@@ -67,5 +65,5 @@ five_texts_due texts = λ d. ⊥
 -- Of good files, whoever made them, nothing else is due than the line that says how many faults there are.
 abbrev pub GoodFilesChecked : Type 0
 GoodFilesChecked =
-    (n : Netlist) (holds : Holds) (asked limit : ℕ) (files : FiveFiles) → IsSound n → AreGoodFiles n holds asked limit files
-    → (d : Due CheckRefusal) → files_due files d → d ≡ Deliver [] (checked_line (length (universe_of n))) Fine
+    (files : FiveFiles) (c : Contents) → IsSound c.netlist → AreGoodFiles files c
+    → (d : Due CheckRefusal) → files_due files d → d ≡ Deliver [] (checked_line (length (universe_of c.netlist))) Fine

@@ -13,7 +13,7 @@ use crate::lines::{finding_of, line_of};
 use crate::refusal::CheckRefusal;
 use commands::{Ending, Product, Stop, Work, file_names, run_command};
 use file_check::check_files;
-use file_clauses::{CheckFault, Checked};
+use good_files::{CheckFault, Checked};
 use outside::{Shelf, Sink};
 use std::alloc::Global;
 

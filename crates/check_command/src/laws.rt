@@ -2,7 +2,7 @@
 ghost use Rattle.commands.specs.Laws.{IsExclusive};
 ghost use Rattle.check_command.specs.Checking.{GoodFilesChecked, five_texts_due};
 
-use file_clauses::{answers_agree, good_files_pass};
+use good_files::{answers_agree, good_files_pass};
 
 /// What is due of the same five texts is alike: the same refusal, or the same finding.
 pub fn check_exclusive()

@@ -3,7 +3,7 @@ ghost use Rattle.std.specs.Prelude.{◌≡◌, ◌++◌, IfOk, OnOk, codes, deci
 ghost use Rattle.check_command.specs.Checking.{answer_line, checked_line, clause_line, checked_finding};
 
 use commands::Finding;
-use file_clauses::{Checked, Clause};
+use good_files::{Checked, Clause};
 use itoa::Buffer;
 use std::alloc::{AllocError, Global};
 

@@ -1,14 +1,41 @@
--- The chains of a design, and what the law of insertion says with scan off.
-use Rattle.std.proofs.Common.{◌≡◌, ℕ, ◌<◌, false, List, [], ◌∷◌, length, take, min, None, refl, sym, ◌∙◌, ap, subst, arith}
+-- The chains of a design, by the number that a report says, and what the law of insertion says with scan off.
+use Rattle.std.proofs.Common.{◌≡◌, ℕ, zero, suc, ◌<◌, false, List, [], ◌∷◌, length, take, min, None, refl, sym, ◌∙◌, ap, subst, arith, inl, inr}
+use Rattle.std.proofs.lemmas.Bool.{cases_lt}
 use Rattle.std.proofs.lemmas.Option.{none-some}
 use Rattle.std.proofs.lemmas.List.{take_at, length-map}
-use Rattle.netlist.specs.Netlist.{Netlist, cells}
+use Rattle.netlist.specs.Netlist.{Definition, Netlist, cells}
 use Rattle.netlist.specs.Conditions.{IsSound}
 use Rattle.netlist.specs.Settled.{bits, outs}
 use Rattle.chain_stitch.specs.Chains.{chains_of, pieces, lengths_of}
 use Rattle.scan_insert.specs.Laws.{ScanBehaves, last_bits}
 use Rattle.scan_insert.specs.Scanned.{AreChainsOf, cell_ids, scanned_of}
+use Rattle.good_files.specs.GoodFiles.{IsChainCount}
 use Rattle.good_files.specs.ScanOff.{BehavesWithScanOff, design_chains}
+
+-- ---- so many chains
+
+-- without cells there is no chain, however many are asked for
+same_none : (ids : List ℕ) → length ids ≡ 0 → chains_of ids 0 ≡ chains_of ids 1
+same_none [] e = refl
+same_none (x ∷ ids) e = absurd (omega arith)
+
+pub ids_size : (n : Netlist) → length (cell_ids n) ≡ length (cells n)
+ids_size n = length-map (cells n) (λ (d : Definition). d.id)
+
+pub dealt : (n : Netlist) (count : ℕ) → IsChainCount n count → AreChainsOf n (design_chains n count)
+dealt n zero is = record {
+  asked = 1;
+  some = omega arith;
+  are =
+      let size = ids_size n in
+      elim (cases_lt 0 (length (cells n))) [
+        | inl cell ↦ let some = is.some cell in absurd (omega arith)
+        | inr never ↦ same_none (cell_ids n) (omega arith)
+      ];
+}
+dealt n (suc count) is = record { asked = suc count; some = omega arith; are = refl }
+
+-- ---- with scan off
 
 none : (count : ℕ) → count ≡ 0 → pieces (lengths_of 0 count) [] ≡ []
 none count e = ap (λ c. pieces (lengths_of 0 c) []) e
@@ -22,9 +49,9 @@ chained [] asked chain chains e = absurd (nil-cons (sym (none (min asked 0) (ome
 chained (x ∷ ids) asked chain chains e = omega arith
 
 pub behaves : ScanBehaves → (n : Netlist) (asked : ℕ) → IsSound n → AreChainsOf n (design_chains n asked) → (chains : List (List ℕ)) → design_chains n asked ≡ chains → BehavesWithScanOff n (scanned_of n chains) chains
-behaves law n asked sound dealt [] e = refl
-behaves law n asked sound dealt (chain ∷ chains) e = λ inputs state scan_inputs a b p q.
-    let many : length (cell_ids n) ≡ length (cells n) = length-map (cells n) (λ d. d.id) in
+behaves law n asked sound are [] e = refl
+behaves law n asked sound are (chain ∷ chains) e = λ inputs state scan_inputs a b p q.
+    let many : length (cell_ids n) ≡ length (cells n) = ids_size n in
     let cell : 0 < length (cells n) = (let c = chained (cell_ids n) asked chain chains e in omega arith) in
-    let w = law n (chain ∷ chains) None inputs state scan_inputs false a b sound (subst (AreChainsOf n) e dealt) cell (λ g none. absurd (none-some g none)) p q in
+    let w = law n (chain ∷ chains) None inputs state scan_inputs false a b sound (subst (AreChainsOf n) e are) cell (λ g none. absurd (none-some g none)) p q in
     (ap (take (length n.outputs)) (w.0) ∙ take_at (outs (bits None) n a) (last_bits (chain ∷ chains) state) (length n.outputs) (length-map n.outputs _), w.1)

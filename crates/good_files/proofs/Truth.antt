@@ -15,7 +15,7 @@ use Rattle.netlist.specs.Conditions.{IsSound}
 use Rattle.netlist.specs.Designs.{IsDesign}
 use Rattle.netlist.specs.Names.{IsName}
 use Rattle.netlist.specs.Lines.{IsLineOf}
-use Rattle.netlist.specs.Holds.{Holds, AreHoldsOf}
+use Rattle.netlist.specs.Holds.{AreHoldsOf}
 use Rattle.netlist.specs.Detection.{Detects, IsRedundant}
 use Rattle.cubes.specs.Cubes.{Pattern}
 use Rattle.bench_text.specs.declared.refusal.Names.TheVariants.{Scanned}
@@ -48,11 +48,10 @@ use Rattle.report.specs.Texts.{counts_text, fault_line, head, hold_line, report_
 use Rattle.run_report.specs.Outcomes.{Test, IsFirstTree, IsTrueAt, IsTrueOf, AreTrueLines}
 use Rattle.run_report.specs.Heads.{holds_named}
 use Rattle.run_report.proofs.ClassLemmas.{equivalent}
-use Rattle.good_files.specs.GoodFiles.{AreGoodFiles, FiveFiles, test_of}
+use Rattle.good_files.specs.GoodFiles.{AreGoodFiles, Contents, FiveFiles, chains_in, chains_said, limit_said, test_in}
 use Rattle.good_files.specs.RunTheorem.{HasEvidence, RunTheorem}
 use Rattle.good_files.specs.Statement.{ComesTrue, IsNamed, IsSite, StandsAt}
-use Rattle.good_files.specs.ScanOff.{design_chains}
-use Rattle.good_files.proofs.Chains.{behaves}
+use Rattle.good_files.proofs.Chains.{behaves, dealt}
 
 -- ---- the scanned netlist's text
 
@@ -113,7 +112,7 @@ pub record Laws : Type 1 where
   pub closed : ClosedTreeIsRedundant
 
 -- what a test and its file are
-record IsTested (t : Test) (cycles : List Cycle) : Type 0 where
+record IsPlayable (t : Test) (cycles : List Cycle) : Type 0 where
   sound : IsSound t.netlist
   held : AreHoldsOf t.netlist t.holds
   dealt : AreChainsOf t.netlist t.chains
@@ -149,7 +148,7 @@ stands_there n chains sound names (Out x) here = names.stems x (All-contains (Co
 abbrev moved_to : Test → Fault → Fault
 moved_to t f = record { line = line_at (sites_of t.netlist t.chains) f.line; value = f.value }
 
-comes_true : Laws → (t : Test) (cycles : List Cycle) → IsTested t cycles → (f representative : Fault) → IsLineOf t.netlist f.line → IsEquivalent t.netlist f representative
+comes_true : Laws → (t : Test) (cycles : List Cycle) → IsPlayable t cycles → (f representative : Fault) → IsLineOf t.netlist f.line → IsEquivalent t.netlist f representative
     → (o : Outcome) (pin : List ℕ) → IsTrueOf t f representative o pin
     → ComesTrue t.netlist t.holds t.chains (scanned_of t.netlist t.chains) t.patterns cycles f (moved_to t f) o pin
 comes_true laws t cycles are f g line same (Detected place cycle) pin seen =
@@ -211,46 +210,54 @@ ends_with r holds is =
 
 -- ---- good files
 
-pub truth : Laws → (n : Netlist) (holds : Holds) (asked limit : ℕ) (files : FiveFiles) → IsSound n → IsDesign n → (good : AreGoodFiles n holds asked limit files)
-    → RunTheorem n holds (design_chains n asked) limit good.file files
-truth laws n holds asked limit files sound design good =
-    let chains = design_chains n asked in
-    let t = test_of n holds asked limit good.patterns good.trees in
-    let cycles = vectors_in good.file in
-    let of_cells = good.dealt in
-    let vectors = laws.test n holds chains good.patterns good.file good.is_file_of in
+pub truth : Laws → (files : FiveFiles) (c : Contents) → IsSound c.netlist → IsDesign c.netlist → (good : AreGoodFiles files c)
+    → RunTheorem c.netlist good.tested.holds (chains_in c) (limit_said c.said) c.file files
+truth laws files c sound design good =
+    let n = c.netlist in
+    let tested = good.tested in
+    let holds = tested.holds in
+    let patterns = tested.patterns in
+    let classes = tested.classes in
+    let lines = c.said.lines in
+    let chains = chains_in c in
+    let t = test_in c tested in
+    let cycles = vectors_in c.file in
+    let are_true = good.faults.lines_true in
+    let scan_is = good.stand.scan ∙ tested.scan.text in
+    let of_cells = dealt n (chains_said c.said) tested.scan.allowed in
+    let vectors = laws.test n holds chains patterns c.file tested.test.is_file_of in
     let scanned = laws.sound n chains sound design of_cells in
     let sites = laws.sites n chains sound of_cells in
-    let tested : IsTested t cycles = record { sound = sound; held = good.held; dealt = of_cells; vectors = vectors } in
-    let same_fault : (place : ℕ) (f : Fault) → slice_get (universe_of n) place ≡ Some f → (w : IsTrueAt t good.classes good.said.lines place) → w.fault ≡ f =
+    let playable : IsPlayable t cycles = record { sound = sound; held = tested.held.held; dealt = of_cells; vectors = vectors } in
+    let same_fault : (place : ℕ) (f : Fault) → slice_get (universe_of n) place ≡ Some f → (w : IsTrueAt t classes lines place) → w.fault ≡ f =
     λ place f at w. same_member (universe_of n) place w.fault f w.member at in
-    let same_line : (place : ℕ) (line : Line) → slice_get good.said.lines place ≡ Some line → (w : IsTrueAt t good.classes good.said.lines place) → w.line ≡ line =
-    λ place line said w. same_member good.said.lines place w.line line w.said said in
-    let true_at : (place : ℕ) (f : Fault) → slice_get (universe_of n) place ≡ Some f → IsTrueAt t good.classes good.said.lines place =
-    λ place f at. good.lines.each place (slice_get_within (universe_of n) place f at) in
-    let of_class : (place : ℕ) → (w : IsTrueAt t good.classes good.said.lines place) → IsEquivalent n w.fault w.representative =
-    λ place w. equivalent n good.classes good.are_classes place w.class w.fault w.representative w.member w.of_class w.represents in
+    let same_line : (place : ℕ) (line : Line) → slice_get lines place ≡ Some line → (w : IsTrueAt t classes lines place) → w.line ≡ line =
+    λ place line said w. same_member lines place w.line line w.said said in
+    let true_at : (place : ℕ) (f : Fault) → slice_get (universe_of n) place ≡ Some f → IsTrueAt t classes lines place =
+    λ place f at. are_true.each place (slice_get_within (universe_of n) place f at) in
+    let of_class : (place : ℕ) → (w : IsTrueAt t classes lines place) → IsEquivalent n w.fault w.representative =
+    λ place w. equivalent n classes tested.are_classes place w.class w.fault w.representative w.member w.of_class w.represents in
     record {
-      said = good.said;
-      trees = good.trees;
+      said = c.said;
+      trees = c.trees;
       statement = record {
         scanned = scanned_of n chains;
-        patterns = good.patterns;
-        test = good.file;
-        above = above good.said;
-        lines = good.said.lines;
+        patterns = patterns;
+        test = c.file;
+        above = above c.said;
+        lines = lines;
         net_named = named n sound;
         scan_named = named (scanned_of n chains) scanned;
         net_is = refl;
-        scan_is = good.scan_is;
+        scan_is = scan_is;
         stil_is = refl;
-        report_is = good.report_is ∙ ends_with good.said (holds_named n holds) good.held_said;
-        behaves = behaves laws.scan n asked sound of_cells chains refl;
-        is_test = good.is_file_of;
-        passes = laws.good n holds chains good.patterns cycles sound of_cells vectors;
+        report_is = good.stand.report ∙ ends_with c.said (holds_named n holds) tested.held.said;
+        behaves = behaves laws.scan n (chains_said c.said) sound of_cells chains refl;
+        is_test = tested.test.is_file_of;
+        passes = laws.good n holds chains patterns cycles sound of_cells vectors;
         runs = λ f state size. laws.run false bit_table f (scanned_of n chains) state cycles scanned.formed.numbered scanned.closed scanned.acyclic size
-            (laws.fit n holds chains good.patterns cycles sound of_cells vectors);
-        once = once t good.classes good.said.lines good.lines;
+            (laws.fit n holds chains patterns cycles sound of_cells vectors);
+        once = once t classes lines are_true;
         comes_true = λ place f line at said.
             let w = true_at place f at in
             let here = laws.lines n w.fault sound (contains_at (universe_of n) place w.fault w.member) in
@@ -258,20 +265,20 @@ truth laws n holds asked limit files sound design good =
             (subst (λ (l : Line). ComesSomewhere t cycles w.fault l) (same_line place line said w) (
               moved_to t w.fault,
               record { line = stands_there n chains sound sites w.fault.line here; value = refl },
-              comes_true laws t cycles tested w.fault w.representative here (of_class place w) w.line.outcome w.line.pin w.is_true,
+              comes_true laws t cycles playable w.fault w.representative here (of_class place w) w.line.outcome w.line.pin w.is_true,
             ));
       };
       scanned_is = refl;
       test_is = refl;
       lines_are = refl;
-      net_is = good.net_is;
-      scan_is = read_back laws.read (scanned_of n chains) scanned files.scan good.scan_is;
-      stil_is = good.stil_is;
-      certificate_is = good.certificate_is;
-      report_is = good.report_is;
+      net_is = good.stand.net;
+      scan_is = read_back laws.read (scanned_of n chains) scanned files.scan scan_is;
+      stil_is = good.stand.stil;
+      certificate_is = good.stand.certificate.text;
+      report_is = good.stand.report;
       evidence = λ place f line at said.
           let w = true_at place f at in
-          subst (λ (g : Fault). HasEvidence n holds limit good.trees g line.outcome) (same_fault place f at w)
-          (subst (λ (l : Line). HasEvidence n holds limit good.trees w.fault l.outcome) (same_line place line said w)
+          subst (λ (g : Fault). HasEvidence n holds (limit_said c.said) c.trees g line.outcome) (same_fault place f at w)
+          (subst (λ (l : Line). HasEvidence n holds (limit_said c.said) c.trees w.fault l.outcome) (same_line place line said w)
           (evident t w.fault w.representative (of_class place w) w.line.outcome w.line.pin w.is_true));
     }

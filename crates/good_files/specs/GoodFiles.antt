@@ -1,24 +1,24 @@
--- The five files of a run, and when they are good, whoever made them.
-use Rattle.std.specs.Prelude.{ℕ, ◌≡◌, ◌≤◌, List, map, Ok}
+-- The five files of a run, what they stand for, and when they are good, whoever made them.
+use Rattle.std.specs.Prelude.{ℕ, ◌≡◌, ◌<◌, ◌≤◌, ◌^◌, List, length, map, Ok}
 use Rattle.std.specs.List.{All}
 use Rattle.limits.specs.Limits.{most_limit}
 use Rattle.plain_text.specs.Texts.{Text}
 use Rattle.netlist.specs.declared.lines.Fault.{Fault}
-use Rattle.netlist.specs.Netlist.{Netlist}
+use Rattle.netlist.specs.Netlist.{Netlist, cells}
 use Rattle.netlist.specs.Holds.{Holds, AreHoldsOf}
 use Rattle.cubes.specs.Cubes.{Pattern, IsPatternOf}
 use Rattle.bench_text.specs.Canonical.{canonical}
 use Rattle.bench_text.specs.Reading.{IsRead}
 use Rattle.bench_text.specs.declared.refusal.Names.TheVariants.{Design}
-use Rattle.scan_insert.specs.Scanned.{AreChainsOf, scanned_of}
+use Rattle.scan_insert.specs.Scanned.{scanned_of}
 use Rattle.stil_write.specs.StilFiles.{StilFile}
 use Rattle.stil_read.specs.Reading.{StandsFor}
 use Rattle.stil_patterns.specs.Tests.{IsFileOf}
 use Rattle.fault_collapse.specs.Classes.{AreClasses}
 use Rattle.fault_collapse.specs.Numbers.{Classes}
 use Rattle.redundancy_cert.specs.declared.nodes.Node.{Node}
-use Rattle.certificate.specs.Certificates.{certificate_text}
-use Rattle.report.specs.Reports.{Report, IsReport}
+use Rattle.certificate.specs.Certificates.{IsCertificate}
+use Rattle.report.specs.Reports.{Hold, Line, Report, IsReport}
 use Rattle.report.specs.Texts.{report_text}
 use Rattle.run_report.specs.Outcomes.{Test, AreTrueLines, AreUndetected}
 use Rattle.run_report.specs.Heads.{HasHead, holds_named}
@@ -32,33 +32,115 @@ pub record FiveFiles : Type 0 where
   pub certificate : Text
   pub report : Text
 
--- a test of a netlist with these inputs held, at most so many chains, and this backtrack limit
-abbrev pub test_of : Netlist → Holds → ℕ → ℕ → List Pattern → List (Fault × List Node) → Test
-test_of n holds asked limit patterns trees =
-    record { netlist = n; holds = holds; chains = design_chains n asked; limit = limit; patterns = patterns; trees = trees }
+-- ---- what five texts stand for
 
--- The first file stands for the netlist, the second is the canonical text of the scanned one, and the third stands for the file of some patterns,
--- all of which obey the held inputs. The report has for each fault a line that is true, and the numbers that follow;
--- the certificate has a tree for each class that no pattern detects, in order, and no other.
-pub record AreGoodFiles (n : Netlist) (holds : Holds) (asked limit : ℕ) (files : FiveFiles) : Type 0 where
-  pub patterns : List Pattern
-  pub trees : List (Fault × List Node)
-  pub classes : Classes
+-- The netlist, the text of the scanned one, the test, the certificate's trees, and the report.
+pub record Contents : Type 0 where
+  pub netlist : Netlist
+  pub scan : Text
   pub file : StilFile
+  pub trees : List (Fault × List Node)
   pub said : Report
-  pub net_is : IsRead Design files.net (Ok n)
-  pub scan_is : files.scan ≡ canonical (scanned_of n (design_chains n asked))
-  pub stil_is : StandsFor files.stil file
-  pub certificate_is : files.certificate ≡ certificate_text n trees
-  pub report_is : files.report ≡ report_text said
-  pub is_report : IsReport said
-  pub dealt : AreChainsOf n (design_chains n asked)
-  pub limit_is : (1 ≤ limit) × (limit ≤ most_limit)
+
+-- The texts stand for them. The scanned netlist's text has no grammar of its own: it is compared as it is.
+pub record StandFor (files : FiveFiles) (c : Contents) : Type 0 where
+  pub net : IsRead Design files.net (Ok c.netlist)
+  pub scan : files.scan ≡ c.scan
+  pub stil : StandsFor files.stil c.file
+  pub certificate : IsCertificate c.netlist files.certificate c.trees
+  pub is_report : IsReport c.said
+  pub report : files.report ≡ report_text c.said
+
+-- how many chains the report says
+abbrev pub chains_said : Report → ℕ
+chains_said r = r.counts.chains
+
+-- how many closed ends it says that a search was allowed
+abbrev pub limit_said : Report → ℕ
+limit_said r = r.counts.limit
+
+-- the netlist's cells in so many chains
+abbrev pub chains_in : Contents → List (List ℕ)
+chains_in c = design_chains c.netlist (chains_said c.said)
+
+-- ---- the scanned netlist
+
+-- so many chains: no more than 2^32 - 1, and one at least where there is a cell
+pub record IsChainCount (n : Netlist) (count : ℕ) : Type 0 where
+  pub few : count < 2 ^ 32
+  pub some : 0 < length (cells n) → 0 < count
+
+-- the text is the canonical one of the netlist scanned with so many chains
+pub record IsScanText (n : Netlist) (count : ℕ) (scan : Text) : Type 0 where
+  pub allowed : IsChainCount n count
+  pub text : scan ≡ canonical (scanned_of n (design_chains n count))
+
+-- the second text is that of the netlist scanned with the report's number of chains
+abbrev pub HasScan : Contents → Type 0
+HasScan c = IsScanText c.netlist (chains_said c.said) c.scan
+
+-- ---- the held inputs
+
+-- the lines name these held inputs: inputs of the netlist, each once at most, in their order
+pub record AreHeldBy (n : Netlist) (lines : List Hold) (holds : Holds) : Type 0 where
   pub held : AreHoldsOf n holds
-  pub held_said : said.holds ≡ holds_named n holds
+  pub said : lines ≡ holds_named n holds
+
+-- the report's held inputs are these
+abbrev pub HasHolds : Contents → Holds → Type 0
+HasHolds c holds = AreHeldBy c.netlist c.said.holds holds
+
+-- ---- the test
+
+-- the STIL file is that of these patterns, all of which obey the held inputs
+pub record ArePatternsOf (n : Netlist) (holds : Holds) (chains : List (List ℕ)) (file : StilFile) (patterns : List Pattern) : Type 0 where
   pub obey : All (IsPatternOf n holds) patterns
-  pub is_file_of : IsFileOf n holds (design_chains n asked) patterns file
-  pub are_classes : AreClasses n classes
-  pub lines : AreTrueLines (test_of n holds asked limit patterns trees) classes said.lines
-  pub left : AreUndetected n patterns classes.representatives (map (λ (p : Fault × List Node). p.0) trees)
-  pub head : HasHead (test_of n holds asked limit patterns trees) classes said
+  pub is_file_of : IsFileOf n holds chains patterns file
+
+abbrev pub HasPatterns : Contents → Holds → List Pattern → Type 0
+HasPatterns c holds patterns = ArePatternsOf c.netlist holds (chains_in c) c.file patterns
+
+-- these clauses hold: the files are a test of the netlist
+pub record IsTested (c : Contents) : Type 0 where
+  pub holds : Holds
+  pub patterns : List Pattern
+  pub classes : Classes
+  pub scan : HasScan c
+  pub held : HasHolds c holds
+  pub test : HasPatterns c holds patterns
+  pub are_classes : AreClasses c.netlist classes
+
+-- the test with these inputs held, and by these patterns
+abbrev pub test_with : Contents → Holds → List Pattern → Test
+test_with c holds patterns =
+    record { netlist = c.netlist; holds = holds; chains = chains_in c; limit = limit_said c.said; patterns = patterns; trees = c.trees }
+
+abbrev pub test_in : (c : Contents) → IsTested c → Test
+test_in c t = test_with c t.holds t.patterns
+
+-- ---- the faults
+
+abbrev pub faults_in_trees : List (Fault × List Node) → List Fault
+faults_in_trees trees = map (λ (p : Fault × List Node). p.0) trees
+
+-- what is said of the faults is true, and each class that no pattern detects has its tree, in order, and no other
+pub record AreTrueFaults (t : Test) (classes : Classes) (lines : List Line) : Type 0 where
+  pub lines_true : AreTrueLines t classes lines
+  pub left : AreUndetected t.netlist t.patterns classes.representatives (faults_in_trees t.trees)
+
+-- ---- the totals
+
+-- the numbers above the lines are those that follow; the backtrack limit does from 1 to 100,000
+pub record AreReportTotals (t : Test) (classes : Classes) (said : Report) : Type 0 where
+  pub limit : (1 ≤ t.limit) × (t.limit ≤ most_limit)
+  pub head : HasHead t classes said
+
+-- ---- good files
+
+-- The texts stand for these contents. By the report's own number of chains, held inputs and limit the second text is that of the scanned netlist
+-- and the third that of some patterns; each fault has a line that is true and each class that isn't detected its tree, and the numbers follow.
+pub record AreGoodFiles (files : FiveFiles) (c : Contents) : Type 0 where
+  pub stand : StandFor files c
+  pub tested : IsTested c
+  pub faults : AreTrueFaults (test_in c tested) tested.classes c.said.lines
+  pub totals : AreReportTotals (test_in c tested) tested.classes c.said

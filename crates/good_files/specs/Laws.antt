@@ -1,15 +1,51 @@
--- The law of good files, the contract of a function of its name.
-use Rattle.std.specs.Prelude.{ℕ}
+-- The laws of good files and of the check, each the contract of a function of its name.
+use Rattle.std.specs.Prelude.{ℕ, ◌≡◌, ◌⊎◌, ⊤, Result, Ok, Err, length}
 use Rattle.netlist.specs.Conditions.{IsSound}
 use Rattle.netlist.specs.Designs.{IsDesign}
-use Rattle.netlist.specs.Netlist.{Netlist}
-use Rattle.netlist.specs.Holds.{Holds}
-use Rattle.good_files.specs.GoodFiles.{FiveFiles, AreGoodFiles}
+use Rattle.fault_universe.specs.Universe.{universe_of}
+use Rattle.good_files.specs.declared.answers.Checked.{Checked}
+use Rattle.good_files.specs.declared.answers.Checked.TheVariants.{Faults, False}
+use Rattle.good_files.specs.declared.answers.CheckFault.{CheckFault}
+use Rattle.good_files.specs.declared.answers.CheckFault.TheVariants.{NoMemory}
+use Rattle.good_files.specs.GoodFiles.{AreGoodFiles, Contents, FiveFiles, StandFor, chains_in, limit_said}
 use Rattle.good_files.specs.RunTheorem.{RunTheorem}
-use Rattle.good_files.specs.ScanOff.{design_chains}
+use Rattle.good_files.specs.Checks.{ArePassed, IsAnswer, IsChecked, PassesWhereTrue}
 
 -- Good files tell the truth.
 abbrev pub GoodFilesTellTheTruth : Type 0
 GoodFilesTellTheTruth =
-    (n : Netlist) (holds : Holds) (asked limit : ℕ) (files : FiveFiles) → IsSound n → IsDesign n → (good : AreGoodFiles n holds asked limit files)
-    → RunTheorem n holds (design_chains n asked) limit good.file files
+    (files : FiveFiles) (c : Contents) → IsSound c.netlist → IsDesign c.netlist → (good : AreGoodFiles files c)
+    → RunTheorem c.netlist good.tested.holds (chains_in c) (limit_said c.said) c.file files
+
+-- Where no clause is false, the files are good.
+abbrev pub CheckedIsGood : Type 0
+CheckedIsGood =
+    (files : FiveFiles) (c : Contents) (count : ℕ) → IsSound c.netlist → IsDesign c.netlist → StandFor files c → IsAnswer c (Faults count) → ArePassed files
+
+-- For good files, whoever made them, the check has no other answer than how many faults there are, but for want of memory.
+abbrev pub GoodFilesPass : Type 0
+GoodFilesPass =
+    (files : FiveFiles) (c : Contents) → IsSound c.netlist → AreGoodFiles files c
+    → (answer : Result Checked CheckFault) → IsChecked files answer → (answer ≡ Err NoMemory) ⊎ (answer ≡ Ok (Faults (length (universe_of c.netlist))))
+
+-- Two answers to the same files: the same refusal, the same number of faults, or some clause that is false. Want of memory may stand beside each.
+abbrev pub AreConsistentAnswers : Result Checked CheckFault → Result Checked CheckFault → Type 0
+AreConsistentAnswers (Err NoMemory) b = ⊤
+AreConsistentAnswers (Err r) (Err NoMemory) = ⊤
+AreConsistentAnswers (Err r) (Err s) = r ≡ s
+AreConsistentAnswers (Err r) (Ok b) = ⊥
+AreConsistentAnswers (Ok a) (Err NoMemory) = ⊤
+AreConsistentAnswers (Ok a) (Err s) = ⊥
+AreConsistentAnswers (Ok (Faults m)) (Ok (Faults k)) = m ≡ k
+AreConsistentAnswers (Ok (Faults m)) (Ok (False c)) = ⊥
+AreConsistentAnswers (Ok (False c)) (Ok (Faults k)) = ⊥
+AreConsistentAnswers (Ok (False c)) (Ok (False d)) = ⊤
+
+-- an answer, and what it means where no clause is false
+abbrev pub IsWholeAnswer : FiveFiles → Result Checked CheckFault → Type 0
+IsWholeAnswer files (Ok answer) = IsChecked files (Ok answer) × PassesWhereTrue files answer
+IsWholeAnswer files (Err fault) = IsChecked files (Err fault)
+
+-- The same files are answered alike.
+abbrev pub AnswersAgree : Type 0
+AnswersAgree = (files : FiveFiles) (a b : Result Checked CheckFault) → IsWholeAnswer files a → IsWholeAnswer files b → AreConsistentAnswers a b

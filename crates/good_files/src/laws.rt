@@ -1,16 +1,19 @@
-//! The law of good files: a function that does nothing, whose contract is the law.
-ghost use Rattle.good_files.specs.Laws.{GoodFilesTellTheTruth};
+//! The laws of good files and of the check: functions that do nothing, whose contracts are the laws.
+ghost use Rattle.good_files.specs.Laws.{AnswersAgree, CheckedIsGood, GoodFilesPass, GoodFilesTellTheTruth};
 
 use bench_text::canonical_text_is_read;
-use fault_collapse::detected_alike;
+use certificate::one_certificate;
+use fault_collapse::{classes_once, detected_alike};
 use fault_universe::faults_have_lines;
 use redundancy_cert::closed_tree_is_redundant;
+use report::texts_tell_reports;
 use scan_insert::laws::{scan_behaves, scanned_is_sound, sites_have_names};
 use scan_play::{
     detected_fails, good_passes, no_sequence_detects_redundant, some_run, undetected_passes,
     vectors_fit,
 };
-use stil_patterns::laws::file_vectors;
+use stil_patterns::laws::{file_vectors, one_pattern_list};
+use stil_read::laws::at_most_one;
 
 /// What good files say comes true on the tester, for every fault.
 pub fn good_files_tell_the_truth()
@@ -30,4 +33,29 @@ pub fn good_files_tell_the_truth()
     faults_have_lines();
     detected_alike();
     closed_tree_is_redundant();
+}
+
+/// Files that pass the check are good, whoever made them.
+pub fn checked_is_good()
+    ensures { CheckedIsGood }
+{
+    good_files_tell_the_truth();
+}
+
+/// Good files pass the check.
+pub fn good_files_pass()
+    ensures { GoodFilesPass }
+{
+    one_certificate();
+    texts_tell_reports();
+    at_most_one();
+    one_pattern_list();
+    classes_once();
+}
+
+/// Files are refused or passed alike by every check.
+pub fn answers_agree()
+    ensures { AnswersAgree }
+{
+    good_files_pass();
 }

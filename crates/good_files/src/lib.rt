@@ -1,10 +1,14 @@
-//! The five files of a run: when they are good, and what good files say of the chip.
+//! Five files: when they are what they say, clause by clause in the order of the independent check, and what then comes true of the chip.
+//! Nothing here knows of searches, lists or workers.
 //!
-//! Gives: `Statement`, `AreGoodFiles`, `RunTheorem`, the law that joins them.
+//! Gives: `Statement`, `AreGoodFiles`, `RunTheorem`, `Checked`, `Clause`, `CheckFault`, the laws that join them.
 //! Proved: `good_files_tell_the_truth`: of five texts that are right by one whole definition (`AreGoodFiles`), whoever made them, the statement holds
-//! (`Statement`), with how they are read and the evidence of each line (`RunTheorem`).
+//! (`Statement`), with how they are read and the evidence of each line (`RunTheorem`); what a check of five files answers, clause by clause
+//! (`IsChecked`); the laws: files of which no clause is false are good and have the run theorem; good files pass; two answers to the same files agree.
 #![tactic(auto)]
 
+mod answers;
 mod laws;
 
-pub use laws::good_files_tell_the_truth;
+pub use answers::{CheckFault, Checked, Clause};
+pub use laws::{answers_agree, checked_is_good, good_files_pass, good_files_tell_the_truth};

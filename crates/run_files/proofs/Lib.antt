@@ -3,5 +3,6 @@ mod LeafLemmas
 mod SearchLemmas
 mod ReportLemmas
 mod TruthLemmas
+mod ChainLemmas
 mod RunLemmas
 mod PointLemmas

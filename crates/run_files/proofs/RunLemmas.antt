@@ -1,6 +1,7 @@
 -- The texts of verdicts are good files.
-use Rattle.std.proofs.Common.{◌≡◌, ℕ, Bool, not, false, List, Ok, refl, sym, ap, subst, IsTrue}
+use Rattle.std.proofs.Common.{◌≡◌, ◌∙◌, ℕ, Bool, not, false, List, Ok, refl, sym, ap, subst, length, IsTrue}
 use Rattle.std.proofs.lemmas.List.Elements.{All-weaker}
+use Rattle.netlist.specs.declared.lines.Fault.{Fault}
 use Rattle.netlist.specs.Netlist.{Netlist}
 use Rattle.netlist.specs.Conditions.{IsSound}
 use Rattle.netlist.specs.Designs.{IsDesign, is_reserved}
@@ -10,17 +11,25 @@ use Rattle.bench_text.specs.declared.refusal.Names.TheVariants.{Design}
 use Rattle.bench_text.specs.Canonical.{canonical}
 use Rattle.bench_text.specs.Laws.{CanonicalTextIsRead, IsReadable, is_free}
 use Rattle.bench_text.specs.Reading.{IsRead}
+use Rattle.scan_insert.specs.Scanned.{AreChainsOf, scanned_of}
 use Rattle.stil_read.specs.Laws.{WrittenStands}
 use Rattle.stil_read.specs.Reading.{StandsFor}
+use Rattle.stil_patterns.specs.Tests.{IsFileOf}
 use Rattle.fault_universe.specs.Laws.{TextsDiffer}
 use Rattle.fault_collapse.specs.Laws.{DetectedAlike}
 use Rattle.fault_collapse.specs.Numbers.{Classes}
+use Rattle.redundancy_cert.specs.declared.nodes.Node.{Node}
 use Rattle.list_core.specs.declared.verdicts.Verdict.{Verdict}
+use Rattle.report.specs.declared.counts.ReportCounts.{ReportCounts}
+use Rattle.run_report.specs.Outcomes.{Test}
+use Rattle.good_files.specs.GoodFiles.{AreReportTotals, AreTrueFaults, Contents, IsChainCount, IsTested, StandFor, chains_said, limit_said, test_with}
 use Rattle.good_files.specs.ScanOff.{design_chains}
+use Rattle.good_files.proofs.Named.{evidence}
 use Rattle.run_files.specs.declared.files.RunFiles.{RunFiles}
-use Rattle.run_files.specs.Runs.{files_of}
+use Rattle.run_files.specs.Runs.{contents_of, files_of}
 use Rattle.run_files.specs.inner.Laws.{AreGoodFilesBy, IsFinishedRun}
 use Rattle.run_files.specs.inner.Verdicts.{leaves_of}
+use Rattle.run_files.proofs.ChainLemmas.{counted, made_again}
 use Rattle.run_files.proofs.TruthLemmas.{leaves_left, true_lines}
 
 unreserved : (b : Bool) → b ≡ false → IsTrue (not b)
@@ -39,40 +48,96 @@ read_back law n sound design net is =
     let w = law Design n sound (design_fits n design) in
     subst (λ (t : List ℕ). IsRead Design t (Ok n)) (sym is) (sym w.1, w.0, sound.acyclic)
 
-pub good : CanonicalTextIsRead → WrittenStands → DetectedAlike → TextsDiffer
-    → (n : Netlist) (holds : Holds) (asked limit : ℕ) (classes : Classes) (patterns : List Pattern) (verdicts : List Verdict) (made : RunFiles)
-    → IsSound n → IsDesign n → IsFinishedRun n holds asked limit classes patterns verdicts made → AreGoodFilesBy n holds asked limit classes patterns (files_of made)
-good canonical_law stands alike texts n holds asked limit classes patterns verdicts made sound design run =
-    let w = run.written in
-    let found = run.found in
-    let chains = design_chains n asked in
-    let trees = leaves_of classes.representatives verdicts in
-    let numbers = w.said.numbers in
-    record {
-      good = record {
-        patterns = patterns;
-        trees = trees;
-        classes = classes;
-        file = w.stil.file;
-        said = made.said;
-        net_is = read_back canonical_law n sound design made.net.items w.net;
-        scan_is = w.scan;
-        stil_is = subst (λ (t : List ℕ). StandsFor t w.stil.file) (sym w.stil.text_is) (stands w.stil.file w.stil.is_file);
-        certificate_is = w.certificate;
-        report_is = w.report;
+module _ (alike : DetectedAlike) (texts : TextsDiffer) (n : Netlist) (holds : Holds) (asked limit : ℕ) (classes : Classes) (patterns : List Pattern) (verdicts : List Verdict)
+    (made : RunFiles) (sound : IsSound n) (run : IsFinishedRun n holds asked limit classes patterns verdicts made) where
+  abbrev trees : List (Fault × List Node)
+  trees = leaves_of classes.representatives verdicts
+
+  abbrev contents : Contents
+  contents = contents_of n run.written.stil.file trees made
+
+  abbrev said_test : Test
+  said_test = test_with contents holds patterns
+
+  -- the test by the options
+  abbrev asked_test : Test
+  asked_test = record { netlist = n; holds = holds; chains = design_chains n asked; limit = limit; patterns = patterns; trees = trees }
+
+  chains_dealt : AreChainsOf n (design_chains n asked)
+  chains_dealt = record { asked = asked; some = run.some; are = refl }
+
+  -- the report says as many chains as were made, and the limit
+  many : chains_said made.said ≡ length (design_chains n asked)
+  many = ap (λ (counts : ReportCounts). counts.chains) run.written.said.numbers.counts
+
+  most : limit_said made.said ≡ limit
+  most = ap (λ (counts : ReportCounts). counts.limit) run.written.said.numbers.counts
+
+  own_chains : design_chains n (chains_said made.said) ≡ design_chains n asked
+  own_chains = ap (design_chains n) many ∙ made_again n (design_chains n asked) chains_dealt
+
+  own_test : said_test ≡ asked_test
+  own_test i = record { netlist = n; holds = holds; chains = own_chains i; limit = most i; patterns = patterns; trees = trees }
+
+  true_faults : AreTrueFaults asked_test classes made.said.lines
+  true_faults = record {
+    lines_true =
+        true_lines alike texts n sound holds (design_chains n asked) classes run.are_classes limit patterns verdicts run.found made.said.lines run.written.said.lines;
+    left = leaves_left n holds limit patterns classes.representatives verdicts run.found.count run.found.each;
+  }
+
+  totals : AreReportTotals asked_test classes made.said
+  totals =
+      let numbers = run.written.said.numbers in
+      record { limit = run.limit_is; head = record { counts = numbers.counts; coverage = numbers.coverage; efficiency = numbers.efficiency } }
+
+  tested : IsTested contents
+  tested = record {
+    holds = holds;
+    patterns = patterns;
+    classes = classes;
+    scan = record {
+      allowed = subst (IsChainCount n) (sym many) (counted n sound (design_chains n asked) chains_dealt);
+      text = run.written.scan ∙ ap (λ (chains : List (List ℕ)). canonical (scanned_of n chains)) (sym own_chains);
+    };
+    held = record { held = run.held; said = run.written.said.numbers.held };
+    test = record {
+      obey = run.found.obey;
+      is_file_of = subst (λ (chains : List (List ℕ)). IsFileOf n holds chains patterns run.written.stil.file) (sym own_chains) run.written.stil.of_patterns;
+    };
+    are_classes = run.are_classes;
+  }
+
+  stand : CanonicalTextIsRead → WrittenStands → IsDesign n → StandFor (files_of made) contents
+  stand canonical_law stands design =
+      let w = run.written in
+      record {
+        net = read_back canonical_law n sound design made.net.items w.net;
+        scan = refl;
+        stil = subst (λ (t : List ℕ). StandsFor t w.stil.file) (sym w.stil.text_is) (stands w.stil.file w.stil.is_file);
+        certificate = record {
+          evidence = evidence texts asked_test sound classes run.are_classes made.said.lines true_faults;
+          text = w.certificate;
+        };
         is_report = w.is_report;
-        dealt = record { asked = asked; some = run.some; are = refl };
-        limit_is = run.limit_is;
-        held = run.held;
-        held_said = numbers.held;
-        obey = found.obey;
-        is_file_of = w.stil.of_patterns;
-        are_classes = run.are_classes;
-        lines = true_lines alike texts n sound holds chains classes run.are_classes limit patterns verdicts found made.said.lines w.said.lines;
-        left = leaves_left n holds limit patterns classes.representatives verdicts found.count found.each;
-        head = record { counts = numbers.counts; coverage = numbers.coverage; efficiency = numbers.efficiency };
-      };
-      stil_is = w.stil.text_is;
-      patterns_are = refl;
-      classes_are = refl;
-    }
+        report = w.report;
+      }
+
+  pub good : CanonicalTextIsRead → WrittenStands → IsDesign n → AreGoodFilesBy n holds asked limit classes patterns made
+  unfolding tested
+  good canonical_law stands design = record {
+    file = run.written.stil.file;
+    trees = trees;
+    good = record {
+      stand = stand canonical_law stands design;
+      tested = tested;
+      faults = subst (λ (t : Test). AreTrueFaults t classes made.said.lines) (sym own_test) true_faults;
+      totals = subst (λ (t : Test). AreReportTotals t classes made.said) (sym own_test) totals;
+    };
+    stil_is = run.written.stil.text_is;
+    holds_are = refl;
+    chains_are = own_chains;
+    limit_is = most;
+    patterns_are = refl;
+    classes_are = refl;
+  }

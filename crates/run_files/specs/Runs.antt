@@ -1,12 +1,14 @@
 -- What a run makes of a design.
-use Rattle.std.specs.Prelude.{ℕ, ◌≡◌, ◌<◌, length}
+use Rattle.std.specs.Prelude.{ℕ, ◌≡◌, ◌<◌, List, length}
+use Rattle.netlist.specs.declared.lines.Fault.{Fault}
 use Rattle.netlist.specs.Netlist.{Netlist}
 use Rattle.netlist.specs.Holds.{Holds}
 use Rattle.bench_text.specs.Canonical.{canonical}
-use Rattle.report.specs.Texts.{report_text}
+use Rattle.stil_write.specs.StilFiles.{StilFile}
+use Rattle.redundancy_cert.specs.declared.nodes.Node.{Node}
 use Rattle.reverse_compact.specs.Kept.{IsNeeded}
 use Rattle.run_files.specs.declared.files.RunFiles.{RunFiles}
-use Rattle.good_files.specs.GoodFiles.{AreGoodFiles, FiveFiles}
+use Rattle.good_files.specs.GoodFiles.{AreGoodFiles, Contents, FiveFiles, chains_said, limit_said}
 use Rattle.good_files.specs.RunTheorem.{RunTheorem}
 use Rattle.good_files.specs.ScanOff.{design_chains}
 use Rattle.good_files.specs.Statement.{Statement}
@@ -14,12 +16,20 @@ use Rattle.good_files.specs.Statement.{Statement}
 abbrev pub files_of : RunFiles → FiveFiles
 files_of f = record { net = f.net.items; scan = f.scan.items; stil = f.stil.items; certificate = f.certificate.items; report = f.report.items }
 
--- The five texts tell the truth by the statement. They are good files, the netlist's in its canonical text; each pattern of their test is the
--- last to detect some class. The report is at hand too.
+-- what they stand for, by this netlist, STIL file and trees; the report is at hand
+abbrev pub contents_of : Netlist → StilFile → List (Fault × List Node) → RunFiles → Contents
+contents_of n file trees f = record { netlist = n; scan = f.scan.items; file = file; trees = trees; said = f.said }
+
+-- The five texts tell the truth by the statement. They are good files, the netlist's in its canonical text, for these held inputs, chains and limit;
+-- each pattern of their test is the last to detect some class.
 pub record IsRun (n : Netlist) (holds : Holds) (asked limit : ℕ) (made : RunFiles) : Type 0 where
+  pub file : StilFile
+  pub trees : List (Fault × List Node)
   pub net_is : made.net.items ≡ canonical n
-  pub report_is : made.report.items ≡ report_text made.said
-  pub good : AreGoodFiles n holds asked limit (files_of made)
-  pub needed : (place : ℕ) → place < length good.patterns → IsNeeded n good.patterns good.classes.representatives place
+  pub good : AreGoodFiles (files_of made) (contents_of n file trees made)
+  pub holds_are : good.tested.holds ≡ holds
+  pub chains_are : design_chains n (chains_said made.said) ≡ design_chains n asked
+  pub limit_is : limit_said made.said ≡ limit
+  pub needed : (place : ℕ) → place < length good.tested.patterns → IsNeeded n good.tested.patterns good.tested.classes.representatives place
   pub statement : Statement n holds (design_chains n asked) (files_of made)
-  pub truth : RunTheorem n holds (design_chains n asked) limit good.file (files_of made)
+  pub truth : RunTheorem n holds (design_chains n asked) limit file (files_of made)

@@ -4,9 +4,9 @@ use Rattle.commands.specs.Due.{Due, Deliver}
 use Rattle.commands.specs.declared.product.Stop.{Stop}
 use Rattle.commands.specs.declared.product.Stop.TheVariants as stop
 use Rattle.good_files.specs.GoodFiles.{FiveFiles}
-use Rattle.file_clauses.specs.declared.answers.Checked.{Checked}
-use Rattle.file_clauses.specs.Checks.{IsOutside}
-use Rattle.file_clauses.specs.Laws.{IsWholeAnswer}
+use Rattle.good_files.specs.declared.answers.Checked.{Checked}
+use Rattle.good_files.specs.Checks.{IsOutside}
+use Rattle.good_files.specs.Laws.{IsWholeAnswer}
 use Rattle.check_command.specs.Checking.{answer_line, fault_of, checked_finding}
 use Rattle.check_command.specs.declared.refusal.CheckRefusal.{CheckRefusal}
 

@@ -1,19 +1,22 @@
 -- What is written of verdicts comes true.
 use Rattle.std.specs.Prelude.{ℕ, ◌≡◌, ◌≤◌, List}
 use Rattle.limits.specs.Limits.{most_limit}
+use Rattle.netlist.specs.declared.lines.Fault.{Fault}
 use Rattle.netlist.specs.Conditions.{IsSound}
 use Rattle.netlist.specs.Designs.{IsDesign}
 use Rattle.netlist.specs.Netlist.{Netlist}
 use Rattle.netlist.specs.Holds.{Holds, AreHoldsOf}
 use Rattle.cubes.specs.Cubes.{Pattern}
+use Rattle.stil_write.specs.StilFiles.{StilFile}
 use Rattle.stil_write.specs.Texts.{stil_text}
 use Rattle.fault_collapse.specs.Classes.{AreClasses}
 use Rattle.fault_collapse.specs.Numbers.{Classes}
+use Rattle.redundancy_cert.specs.declared.nodes.Node.{Node}
 use Rattle.list_core.specs.declared.verdicts.Verdict.{Verdict}
-use Rattle.good_files.specs.GoodFiles.{AreGoodFiles, FiveFiles}
+use Rattle.good_files.specs.GoodFiles.{AreGoodFiles, chains_said, limit_said}
 use Rattle.good_files.specs.ScanOff.{design_chains}
 use Rattle.run_files.specs.declared.files.RunFiles.{RunFiles}
-use Rattle.run_files.specs.Runs.{IsRun, files_of}
+use Rattle.run_files.specs.Runs.{IsRun, contents_of, files_of}
 use Rattle.run_files.specs.inner.Verdicts.{AreVerdicts}
 use Rattle.run_files.specs.inner.Written.{IsWritten}
 
@@ -26,17 +29,22 @@ pub record IsFinishedRun (n : Netlist) (holds : Holds) (asked limit : ℕ) (clas
   pub found : AreVerdicts n holds classes limit patterns verdicts
   pub written : IsWritten n holds (design_chains n asked) classes limit patterns verdicts made
 
--- good files by these patterns and classes, the test's in its written text
-pub record AreGoodFilesBy (n : Netlist) (holds : Holds) (asked limit : ℕ) (classes : Classes) (patterns : List Pattern) (files : FiveFiles) : Type 0 where
-  pub good : AreGoodFiles n holds asked limit files
-  pub stil_is : files.stil ≡ stil_text good.file
-  pub patterns_are : good.patterns ≡ patterns
-  pub classes_are : good.classes ≡ classes
+-- good files by these held inputs, chains, limit, classes and patterns, the test's in its written text
+pub record AreGoodFilesBy (n : Netlist) (holds : Holds) (asked limit : ℕ) (classes : Classes) (patterns : List Pattern) (made : RunFiles) : Type 0 where
+  pub file : StilFile
+  pub trees : List (Fault × List Node)
+  pub good : AreGoodFiles (files_of made) (contents_of n file trees made)
+  pub stil_is : made.stil.items ≡ stil_text file
+  pub holds_are : good.tested.holds ≡ holds
+  pub chains_are : design_chains n (chains_said made.said) ≡ design_chains n asked
+  pub limit_is : limit_said made.said ≡ limit
+  pub patterns_are : good.tested.patterns ≡ patterns
+  pub classes_are : good.tested.classes ≡ classes
 
 abbrev pub WrittenIsGood : Type 0
 WrittenIsGood =
     (n : Netlist) (holds : Holds) (asked limit : ℕ) (classes : Classes) (patterns : List Pattern) (verdicts : List Verdict) (made : RunFiles)
-    → IsSound n → IsDesign n → IsFinishedRun n holds asked limit classes patterns verdicts made → AreGoodFilesBy n holds asked limit classes patterns (files_of made)
+    → IsSound n → IsDesign n → IsFinishedRun n holds asked limit classes patterns verdicts made → AreGoodFilesBy n holds asked limit classes patterns made
 
 abbrev pub WrittenIsRun : Type 0
 WrittenIsRun =

@@ -1,22 +1,20 @@
 -- Two answers to the same files agree.
-use Rattle.std.proofs.Common.{◌≡◌, ℕ, ◌∙◌, ◌⊎◌, inl, inr, Ok, Err, refl, sym, ap, subst}
+use Rattle.std.proofs.Common.{◌≡◌, ℕ, ◌∙◌, inl, inr, Ok, Err, refl, sym, ap, subst}
 use Rattle.std.specs.Prelude.{Result, length}
 use Rattle.netlist.specs.Netlist.{Netlist}
 use Rattle.bench_text.specs.declared.refusal.BenchRefusal.{BenchRefusal}
 use Rattle.bench_text.specs.declared.refusal.Names.TheVariants.{Design}
-use Rattle.certificate.specs.Certificates.{IsCertificate, NoCertificate}
+use Rattle.certificate.specs.Certificates.{IsCertificate}
 use Rattle.fault_universe.specs.Universe.{universe_of}
 use Rattle.good_files.specs.GoodFiles.{FiveFiles}
-use Rattle.file_clauses.specs.declared.answers.Checked.{Checked}
-use Rattle.file_clauses.specs.declared.answers.Checked.TheVariants.{Faults, False}
-use Rattle.file_clauses.specs.declared.answers.Clause.{Clause}
-use Rattle.file_clauses.specs.declared.answers.CheckFault.{CheckFault}
-use Rattle.file_clauses.specs.declared.answers.CheckFault.TheVariants as fault
-use Rattle.file_clauses.specs.Contents.{chains_said, limit_said}
-use Rattle.file_clauses.specs.Checks.{ArePassed, IsChecked, IsOutside}
-use Rattle.file_clauses.specs.Laws.{AreConsistentAnswers, GoodFilesPass, IsWholeAnswer}
-use Rattle.file_clauses.proofs.FirstOnLoop.{read_once, refusals_alike}
-use Rattle.file_clauses.proofs.Passing.{same_net}
+use Rattle.good_files.specs.declared.answers.Checked.{Checked}
+use Rattle.good_files.specs.declared.answers.Checked.TheVariants.{Faults, False}
+use Rattle.good_files.specs.declared.answers.CheckFault.{CheckFault}
+use Rattle.good_files.specs.declared.answers.CheckFault.TheVariants as fault
+use Rattle.good_files.specs.Checks.{ArePassed, IsChecked, IsOutside}
+use Rattle.good_files.specs.Laws.{AreConsistentAnswers, GoodFilesPass, IsWholeAnswer}
+use Rattle.good_files.proofs.FirstOnLoop.{read_once, refusals_alike}
+use Rattle.good_files.proofs.Passing.{same_net}
 
 module _ (files : FiveFiles) where
   -- what is answered isn't outside its grammar
@@ -59,8 +57,8 @@ module _ (files : FiveFiles) where
   refused fault.NotReport fault.NotReport a b = refl
 
   -- what passes is passed by each check
-  passed_alone : GoodFilesPass → (p : ArePassed files) (a : Checked) → IsChecked files (Ok a) → a ≡ Faults (length (universe_of p.netlist))
-  passed_alone pass p a is = elim (pass p.netlist p.holds (chains_said p.said) (limit_said p.said) files p.sound p.good (Ok a) is) [
+  passed_alone : GoodFilesPass → (p : ArePassed files) (a : Checked) → IsChecked files (Ok a) → a ≡ Faults (length (universe_of p.contents.netlist))
+  passed_alone pass p a is = elim (pass files p.contents p.sound p.good (Ok a) is) [
     | inl none ↦ cc
     | inr one ↦ cc
   ]
