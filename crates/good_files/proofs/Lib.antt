@@ -1,11 +1,9 @@
 pub mod FirstOnLoop
 pub mod Chains
 pub mod Truth
-pub mod TreeLemmas
 pub mod Whole
 pub mod Passed
 pub mod Left
 pub mod Held
-pub mod Named
 pub mod Passing
 pub mod Agreeing

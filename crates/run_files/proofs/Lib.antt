@@ -3,6 +3,7 @@ mod LeafLemmas
 mod SearchLemmas
 mod ReportLemmas
 mod TruthLemmas
+mod TreeLemmas
+mod PointLemmas
 mod ChainLemmas
 mod RunLemmas
-mod PointLemmas

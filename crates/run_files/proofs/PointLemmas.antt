@@ -1,23 +1,23 @@
--- The points of verdicts are those of the netlist, and its faults and trees are named by signals of it.
-use Rattle.std.proofs.Common.{◌≡◌, ℕ, zero, suc, ◌<◌, List, [], ◌∷◌, ◌++◌, length, get_or, Some, refl, sym, ◌∙◌, ap, subst, arith, false}
-use Rattle.std.specs.List.{All, slice_get}
-use Rattle.std.proofs.lemmas.List.Elements.{All-append, All-nil, All-cons, All-from_get_or}
+-- The points of verdicts are those of the netlist, and their trees are evidence, named by signals of it.
+use Rattle.std.proofs.Common.{◌≡◌, ℕ, zero, suc, ◌<◌, List, [], ◌∷◌, length, get_or, Some, refl, sym, ◌∙◌, ap, subst, arith, false}
+use Rattle.std.specs.List.{All, Contains, slice_get}
+use Rattle.std.proofs.lemmas.List.Elements.{All-append, All-nil, All-cons, All-from_get_or, All-weaker}
 use Rattle.std.proofs.lemmas.Option.{slice_get-get_or, slice_get_within}
 use Rattle.netlist.proofs.Lists.{All-from_contains}
 use Rattle.netlist.specs.declared.lines.Line.TheVariants.{Stem}
 use Rattle.netlist.specs.declared.lines.Fault.{Fault}
-use Rattle.netlist.specs.Netlist.{Netlist, signal_count}
+use Rattle.netlist.specs.Netlist.{Netlist}
 use Rattle.netlist.specs.Conditions.{IsSound}
 use Rattle.netlist.specs.Holds.{Holds}
-use Rattle.netlist.specs.Lines.{IsLineOf, signal_of}
+use Rattle.netlist.specs.Lines.{IsLineOf}
 use Rattle.cubes.specs.Cubes.{Pattern}
 use Rattle.fault_universe.specs.Laws.{FaultsHaveLines, FaultsHaveSignals}
 use Rattle.fault_universe.proofs.Elements.{contains_at}
 use Rattle.fault_universe.specs.Universe.{universe_of}
 use Rattle.fault_collapse.specs.Classes.{AreClasses}
 use Rattle.fault_collapse.specs.Numbers.{Classes}
-use Rattle.certificate.specs.Certificates.{IsNamed}
-use Rattle.good_files.proofs.TreeLemmas.{fitting_named}
+use Rattle.redundancy_cert.specs.declared.nodes.Node.{Node}
+use Rattle.certificate.specs.Certificates.{IsEvidence, IsNamed}
 use Rattle.run_report.proofs.PointLemmas.{point_inside}
 use Rattle.list_core.specs.declared.verdicts.Verdict.{Verdict}
 use Rattle.list_core.specs.declared.verdicts.Verdict.TheVariants.{Open, Detected, Redundant, Aborted}
@@ -25,6 +25,7 @@ use Rattle.list_core.specs.Verdicts.{verdict_at}
 use Rattle.report.specs.Reports.{IsLine, Line}
 use Rattle.run_files.specs.inner.Outcomes.{AreLines}
 use Rattle.run_files.specs.inner.Verdicts.{AreVerdicts, IsInside, IsVerdict, leaf_at, leaves_of}
+use Rattle.run_files.proofs.TreeLemmas.{fitting_named}
 
 -- ---- points
 
@@ -55,33 +56,48 @@ all_sound n chains numbers verdicts lines all = All-from_contains IsLine lines (
     let same : w.0 ≡ line = cc in
     subst IsLine same w.2.sound)
 
--- ---- names
+-- ---- trees
 
-leaf_named : (n : Netlist) → IsSound n → (holds : Holds) (limit : ℕ) (patterns : List Pattern) (f : Fault) (v : Verdict) → signal_of f.line < signal_count n
-    → IsVerdict n holds limit patterns f v → All (IsNamed n) (leaf_at f v)
-leaf_named n sound holds limit patterns f Open lt is = absurd is
-leaf_named n sound holds limit patterns f (Detected place point) lt is = All-nil (IsNamed n)
-leaf_named n sound holds limit patterns f (Redundant tree) lt is =
-    All-cons (IsNamed n) (f, tree) [] (record { fault = lt; nodes = fitting_named f n holds sound tree is.1 }) (All-nil (IsNamed n))
-leaf_named n sound holds limit patterns f (Aborted tree) lt is =
-    All-cons (IsNamed n) (f, tree) [] (record { fault = lt; nodes = fitting_named f n holds sound tree is.1 }) (All-nil (IsNamed n))
+leaf_evident : (n : Netlist) → IsSound n → (holds : Holds) (limit : ℕ) (patterns : List Pattern) (f : Fault) (v : Verdict) → Contains (universe_of n) f
+    → IsVerdict n holds limit patterns f v → All (IsEvidence n) (leaf_at f v)
+leaf_evident n sound holds limit patterns f Open here is = absurd is
+leaf_evident n sound holds limit patterns f (Detected place point) here is = All-nil (IsEvidence n)
+leaf_evident n sound holds limit patterns f (Redundant tree) here is =
+    All-cons (IsEvidence n) (f, tree) [] (record { fault = here; nodes = fitting_named f n holds sound tree is.1; tree = (is.1.0, is.1.1) }) (All-nil (IsEvidence n))
+leaf_evident n sound holds limit patterns f (Aborted tree) here is =
+    All-cons (IsEvidence n) (f, tree) [] (record { fault = here; nodes = fitting_named f n holds sound tree is.1; tree = (is.1.0, is.1.1) }) (All-nil (IsEvidence n))
 
-leaves_named : (n : Netlist) → IsSound n → (holds : Holds) (limit : ℕ) (patterns : List Pattern) (fs : List Fault) (vs : List Verdict) → length vs ≡ length fs
-    → ((class : ℕ) (f : Fault) → slice_get fs class ≡ Some f → (signal_of f.line < signal_count n) × IsVerdict n holds limit patterns f (verdict_at vs class))
-    → All (IsNamed n) (leaves_of fs vs)
-leaves_named n sound holds limit patterns [] vs size each = All-nil (IsNamed n)
-leaves_named n sound holds limit patterns (f ∷ fs) [] size each = absurd (omega arith)
-leaves_named n sound holds limit patterns (f ∷ fs) (v ∷ vs) size each =
+leaves_evident : (n : Netlist) → IsSound n → (holds : Holds) (limit : ℕ) (patterns : List Pattern) (fs : List Fault) (vs : List Verdict) → length vs ≡ length fs
+    → ((class : ℕ) (f : Fault) → slice_get fs class ≡ Some f → Contains (universe_of n) f × IsVerdict n holds limit patterns f (verdict_at vs class))
+    → All (IsEvidence n) (leaves_of fs vs)
+leaves_evident n sound holds limit patterns [] vs size each = All-nil (IsEvidence n)
+leaves_evident n sound holds limit patterns (f ∷ fs) [] size each = absurd (omega arith)
+leaves_evident n sound holds limit patterns (f ∷ fs) (v ∷ vs) size each =
     let here = each zero f refl in
-    All-append (IsNamed n) (leaf_at f v) (leaves_of fs vs) (leaf_named n sound holds limit patterns f v here.0 here.1)
-    (leaves_named n sound holds limit patterns fs vs (omega arith) (λ class g at. each (suc class) g at))
+    All-append (IsEvidence n) (leaf_at f v) (leaves_of fs vs) (leaf_evident n sound holds limit patterns f v here.0 here.1)
+    (leaves_evident n sound holds limit patterns fs vs (omega arith) (λ class g at. each (suc class) g at))
+
+-- the trees of verdicts are evidence, each of a fault of the netlist
+pub all_evident : (n : Netlist) → IsSound n → (holds : Holds) (classes : Classes) → AreClasses n classes → (limit : ℕ) (patterns : List Pattern) (verdicts : List Verdict)
+    → AreVerdicts n holds classes limit patterns verdicts → All (IsEvidence n) (leaves_of classes.representatives verdicts)
+all_evident n sound holds classes are limit patterns verdicts found =
+    leaves_evident n sound holds limit patterns classes.representatives verdicts found.count (λ class f at.
+    let first = are.first class (slice_get_within classes.representatives class f at) in
+    (contains_at (universe_of n) first.place f (first.representative f at), found.each class f at))
+
+named_by : FaultsHaveSignals → (n : Netlist) → IsSound n → (p : Fault × List Node) → IsEvidence n p → IsNamed n p
+named_by law n sound p is =
+    let here = is.fault in
+    let at = slice_get-get_or (universe_of n) here.0 p.0 here.1 ∙ ap (λ (f : Fault). Some f) here.2 in
+    record { fault = law n here.0 p.0 sound at; nodes = is.nodes }
 
 pub all_named : FaultsHaveSignals → (n : Netlist) → IsSound n → (holds : Holds) (classes : Classes) → AreClasses n classes → (limit : ℕ) (patterns : List Pattern) (verdicts : List Verdict)
     → AreVerdicts n holds classes limit patterns verdicts → All (IsNamed n) (leaves_of classes.representatives verdicts)
 all_named law n sound holds classes are limit patterns verdicts found =
-    leaves_named n sound holds limit patterns classes.representatives verdicts found.count (λ class f at.
-    let first = are.first class (slice_get_within classes.representatives class f at) in
-    (law n first.place f sound (first.representative f at), found.each class f at))
+    All-weaker (IsEvidence n) (IsNamed n) (named_by law n sound) (leaves_of classes.representatives verdicts)
+    (all_evident n sound holds classes are limit patterns verdicts found)
+
+-- ---- lines of representatives
 
 -- each representative stands on a line of the netlist
 pub have_lines : FaultsHaveLines → (n : Netlist) → IsSound n → (classes : Classes) → AreClasses n classes → All (λ (f : Fault). IsLineOf n f.line) classes.representatives

@@ -24,12 +24,12 @@ use Rattle.report.specs.declared.counts.ReportCounts.{ReportCounts}
 use Rattle.run_report.specs.Outcomes.{Test}
 use Rattle.good_files.specs.GoodFiles.{AreReportTotals, AreTrueFaults, Contents, IsChainCount, IsTested, StandFor, chains_said, limit_said, test_with}
 use Rattle.good_files.specs.ScanOff.{design_chains}
-use Rattle.good_files.proofs.Named.{evidence}
 use Rattle.run_files.specs.declared.files.RunFiles.{RunFiles}
 use Rattle.run_files.specs.Runs.{contents_of, files_of}
 use Rattle.run_files.specs.inner.Laws.{AreGoodFilesBy, IsFinishedRun}
 use Rattle.run_files.specs.inner.Verdicts.{leaves_of}
 use Rattle.run_files.proofs.ChainLemmas.{counted, made_again}
+use Rattle.run_files.proofs.PointLemmas.{all_evident}
 use Rattle.run_files.proofs.TruthLemmas.{leaves_left, true_lines}
 
 unreserved : (b : Bool) → b ≡ false → IsTrue (not b)
@@ -115,10 +115,7 @@ module _ (alike : DetectedAlike) (texts : TextsDiffer) (n : Netlist) (holds : Ho
         net = read_back canonical_law n sound design made.net.items w.net;
         scan = refl;
         stil = subst (λ (t : List ℕ). StandsFor t w.stil.file) (sym w.stil.text_is) (stands w.stil.file w.stil.is_file);
-        certificate = record {
-          evidence = evidence texts asked_test sound classes run.are_classes made.said.lines true_faults;
-          text = w.certificate;
-        };
+        certificate = record { evidence = all_evident n sound holds classes run.are_classes limit patterns verdicts run.found; text = w.certificate };
         is_report = w.is_report;
         report = w.report;
       }

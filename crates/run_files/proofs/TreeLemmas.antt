@@ -1,5 +1,5 @@
 -- The names in a tree that fits are those of signals.
-use Rattle.std.proofs.Common.{◌≡◌, ℕ, false, true, List, [], ◌∷◌, ◌++◌, subst}
+use Rattle.std.proofs.Common.{false, true, List, [], ◌∷◌, ◌++◌, subst}
 use Rattle.std.specs.List.{All}
 use Rattle.std.proofs.lemmas.List.Elements.{All-append, All-cons, All-head, All-nil, All-tail}
 use Rattle.netlist.specs.declared.lines.Fault.{Fault}
