@@ -1,6 +1,6 @@
 -- What good files say comes true.
-use Rattle.std.proofs.Common.{◌≡◌, ◌≤◌, ℕ, inl, inr, Bool, true, false, not, cond, List, [], ◌∷◌, ◌++◌, length, map, get_or, Some, option_map, Ok, refl, sym, ◌∙◌, ap, subst, arith, IsTrue, codes, append_assoc}
-use Rattle.std.specs.List.{All, Contains, flat_map, slice_get}
+use Rattle.std.proofs.Common.{◌≡◌, ◌≤◌, ℕ, inl, inr, Bool, true, false, not, cond, List, [], ◌∷◌, ◌++◌, length, map, get_or, Option, Some, None, option_map, Ok, refl, sym, ◌∙◌, ap, subst, arith, IsTrue, codes, append_assoc}
+use Rattle.std.specs.List.{All, Contains, flat_map, slice_get, zip}
 use Rattle.std.proofs.lemmas.List.Elements.{All-contains, All-weaker}
 use Rattle.std.proofs.lemmas.Option.{get_or_from_slice_get, slice_get-get_or, slice_get-map, slice_get_within}
 use Rattle.std.proofs.lemmas.List.{ext_get_or, length-map}
@@ -46,11 +46,11 @@ use Rattle.report.specs.declared.outcomes.Outcome.TheVariants.{Detected, Redunda
 use Rattle.report.specs.Reports.{Hold, Line, Report}
 use Rattle.report.specs.Texts.{counts_text, fault_line, head, hold_line, report_text, share_line}
 use Rattle.run_report.specs.Outcomes.{Test, IsFirstTree, IsTrueAt, IsTrueOf, AreTrueLines}
-use Rattle.run_report.specs.Heads.{holds_named}
+use Rattle.run_report.specs.Heads.{hold_at, holds_named}
 use Rattle.run_report.proofs.ClassLemmas.{equivalent}
 use Rattle.good_files.specs.GoodFiles.{AreGoodFiles, Contents, FiveFiles, chains_in, chains_said, limit_said, test_in}
 use Rattle.good_files.specs.RunTheorem.{HasEvidence, RunTheorem}
-use Rattle.good_files.specs.Statement.{ComesTrue, IsNamed, IsSite, StandsAt}
+use Rattle.good_files.specs.Statement.{ComesTrue, IsNamed, IsSite, hold_text}
 use Rattle.good_files.proofs.Chains.{behaves, dealt}
 
 -- ---- the scanned netlist's text
@@ -173,7 +173,7 @@ comes_true laws t cycles are f g line same Aborted pin said =
 -- what is said of a fault comes true of the one at its site
 abbrev ComesSomewhere : Test → List Cycle → Fault → Line → Type 0
 ComesSomewhere t cycles f l =
-    (moved : Fault) × StandsAt t.netlist (scanned_of t.netlist t.chains) f moved
+    (moved : Fault) × IsSite t.netlist (scanned_of t.netlist t.chains) f.line moved.line × (moved.value ≡ f.value)
     × ComesTrue t.netlist t.holds t.chains (scanned_of t.netlist t.chains) t.patterns cycles f moved l.outcome l.pin
 
 evident : (t : Test) (f representative : Fault) → IsEquivalent t.netlist f representative → (o : Outcome) (pin : List ℕ) → IsTrueOf t f representative o pin
@@ -207,6 +207,12 @@ ends_with r holds is =
     four (head r.holds) (counts_text r.counts) (share_line (codes "coverage ") r.coverage) (share_line (codes "efficiency ") r.efficiency)
     (flat_map hold_line r.holds ++ flat_map fault_line r.lines)
     ∙ ap (λ hs. above r ++ (flat_map hold_line hs ++ flat_map fault_line r.lines)) is
+
+-- the lines of the held inputs
+pub held_lines : (n : Netlist) (inputs : List (ℕ × Option Bool)) → flat_map hold_line (flat_map (hold_at n) inputs) ≡ flat_map (hold_text n) inputs
+held_lines n [] = refl
+held_lines n ((x, None) ∷ inputs) = held_lines n inputs
+held_lines n ((x, Some bit) ∷ inputs) = ap (λ t. hold_text n (x, Some bit) ++ t) (held_lines n inputs)
 
 -- ---- good files
 
@@ -251,7 +257,8 @@ truth laws files c sound design good =
         net_is = refl;
         scan_is = scan_is;
         stil_is = refl;
-        report_is = good.stand.report ∙ ends_with c.said (holds_named n holds) tested.held.said;
+        report_is = good.stand.report ∙ ends_with c.said (holds_named n holds) tested.held.said
+            ∙ ap (λ hs. above c.said ++ (hs ++ flat_map fault_line lines)) (held_lines n (zip n.inputs holds));
         behaves = behaves laws.scan n (chains_said c.said) sound of_cells chains refl;
         is_test = tested.test.is_file_of;
         passes = laws.good n holds chains patterns cycles sound of_cells vectors;
@@ -264,7 +271,8 @@ truth laws files c sound design good =
             subst (λ (g : Fault). ComesSomewhere t cycles g line) (same_fault place f at w)
             (subst (λ (l : Line). ComesSomewhere t cycles w.fault l) (same_line place line said w) (
               moved_to t w.fault,
-              record { line = stands_there n chains sound sites w.fault.line here; value = refl },
+              stands_there n chains sound sites w.fault.line here,
+              refl,
               comes_true laws t cycles playable w.fault w.representative here (of_class place w) w.line.outcome w.line.pin w.is_true,
             ));
       };

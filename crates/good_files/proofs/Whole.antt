@@ -1,7 +1,7 @@
 -- The statement and what goes with it say all that can be said in one piece, of the scanned netlist and its lines by their own numbers. Nothing
 -- rests on this: it shows that no conjunct of the statement is too weak, and tools/weaken tries it without each.
 use Rattle.std.proofs.Common.{◌≡◌, ℕ, ◌<◌, inl, inr, Bool, true, false, cond, List, [], ◌++◌, length, map, get_or, Option, Some, None, sym, ◌∙◌, ap, subst, codes, length-append, arith}
-use Rattle.std.specs.List.{All, Contains, flat_map, slice_get}
+use Rattle.std.specs.List.{All, Contains, flat_map, slice_get, zip}
 use Rattle.std.proofs.lemmas.Bool.{cases_lt, cases_order}
 use Rattle.std.proofs.lemmas.List.{get_or_past}
 use Rattle.std.proofs.lemmas.List.Elements.{All-contains}
@@ -39,7 +39,8 @@ use Rattle.report.specs.Texts.{fault_line, hold_line}
 use Rattle.run_report.specs.Heads.{holds_named}
 use Rattle.good_files.specs.GoodFiles.{FiveFiles}
 use Rattle.good_files.specs.ScanOff.{BehavesWithScanOff}
-use Rattle.good_files.specs.Statement.{ComesTrue, IsNamed, IsSite, StandsAt, Statement, pins_name}
+use Rattle.good_files.specs.Statement.{ComesTrue, IsNamed, IsSite, Statement, pins_name}
+use Rattle.good_files.proofs.Truth.{held_lines}
 
 -- ---- a line is told by its name
 
@@ -152,7 +153,8 @@ whole_of n holds chains files file said sound sites s scan test lines = record {
   net_is = s.net_is;
   scan_is = s.scan_is ∙ ap canonical scan;
   stil_is = s.stil_is ∙ ap stil_text test;
-  report_is = s.report_is ∙ ap (λ (ls : List Line). s.above ++ (flat_map hold_line (holds_named n holds) ++ flat_map fault_line ls)) lines;
+  report_is = s.report_is ∙ ap (λ hs. s.above ++ (hs ++ flat_map fault_line s.lines)) (sym (held_lines n (zip n.inputs holds)))
+      ∙ ap (λ (ls : List Line). s.above ++ (flat_map hold_line (holds_named n holds) ++ flat_map fault_line ls)) lines;
   names = s.net_named;
   behaves = subst (λ m. BehavesWithScanOff n m chains) scan s.behaves;
   is_file_of = subst (IsFileOf n holds chains s.patterns) test s.is_test;
@@ -166,11 +168,11 @@ whole_of n holds chains files file said sound sites s scan test lines = record {
       let w = s.comes_true place f line at (ap (λ ls. slice_get ls place) lines ∙ said_so) in
       let m = scanned_of n chains in
       let named : IsNamed m = subst IsNamed scan s.scan_named in
-      let stands : StandsAt n m f w.0 = subst (λ k. StandsAt n k f w.0) scan w.1 in
-      let there = one_site n m sound named f.line here w.0.line (line_at (sites_of n chains) f.line) stands.line (sites f.line here) in
-      let same : w.0 ≡ moved n chains f = λ i. record { line = there i; value = stands.value i } in
+      let site : IsSite n m f.line w.0.line = subst (λ k. IsSite n k f.line w.0.line) scan w.1 in
+      let there = one_site n m sound named f.line here w.0.line (line_at (sites_of n chains) f.line) site (sites f.line here) in
+      let same : w.0 ≡ moved n chains f = λ i. record { line = there i; value = w.2 i } in
       tells n holds chains s.patterns (vectors_in file) f line.outcome line.pin
       (subst (λ g. ComesTrue n holds chains m s.patterns (vectors_in file) f g line.outcome line.pin) same
       (subst (λ t. ComesTrue n holds chains m s.patterns (vectors_in t) f w.0 line.outcome line.pin) test
-      (subst (λ k. ComesTrue n holds chains k s.patterns (vectors_in s.test) f w.0 line.outcome line.pin) scan w.2)));
+      (subst (λ k. ComesTrue n holds chains k s.patterns (vectors_in s.test) f w.0 line.outcome line.pin) scan w.3)));
 }

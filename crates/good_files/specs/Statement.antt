@@ -1,19 +1,18 @@
 -- The statement: what five texts of a run say of a chip, whoever made them.
-use Rattle.std.specs.Prelude.{ℕ, ◌≡◌, ◌≢◌, ◌++◌, Bool, cond, List, length, map, Option, Some, None, codes}
-use Rattle.std.specs.List.{All, AllPairs, Contains, flat_map, slice_get}
+use Rattle.std.specs.Prelude.{ℕ, ◌≡◌, ◌≢◌, ◌++◌, Bool, cond, if◌then◌else◌, List, [], length, map, Option, Some, None, codes, slice_index}
+use Rattle.std.specs.List.{All, AllPairs, Contains, EachIndex, flat_map, slice_get, zip}
 use Rattle.plain_text.specs.Texts.{Text}
 use Rattle.netlist.specs.declared.lines.Fault.{Fault}
 use Rattle.netlist.specs.declared.lines.Line.{Line as Lead}
 use Rattle.netlist.specs.declared.lines.Line.TheVariants.{Stem, Pin, Out}
 use Rattle.netlist.specs.declared.lines.Point.{Point}
 use Rattle.netlist.specs.Netlist.{Definition, Netlist, cells, is_cell, name_of, signals}
-use Rattle.netlist.specs.Conditions.{IsNumbered}
 use Rattle.netlist.specs.Names.{IsName}
 use Rattle.netlist.specs.Holds.{Holds, Obeys}
 use Rattle.netlist.specs.Settled.{bit_table}
 use Rattle.cubes.specs.Cubes.{Pattern}
 use Rattle.bench_text.specs.Canonical.{canonical}
-use Rattle.scan_insert.specs.Names.{pin_name_of}
+use Rattle.scan_insert.specs.Names.{output_name}
 use Rattle.scan_play.specs.Cycles.{Cycle}
 use Rattle.scan_play.specs.Runs.{Runs}
 use Rattle.scan_play.specs.Passing.{Passes, FailsAt}
@@ -28,14 +27,13 @@ use Rattle.word_sim.specs.Hits.{IsLastDetected}
 use Rattle.report.specs.declared.outcomes.Outcome.{Outcome}
 use Rattle.report.specs.declared.outcomes.Outcome.TheVariants.{Detected, Redundant, Aborted}
 use Rattle.report.specs.Reports.{Line}
-use Rattle.report.specs.Texts.{hold_line, fault_line}
-use Rattle.run_report.specs.Heads.{holds_named}
+use Rattle.report.specs.Texts.{fault_line}
 use Rattle.good_files.specs.GoodFiles.{FiveFiles}
 use Rattle.good_files.specs.ScanOff.{BehavesWithScanOff}
 
 -- The signals are 0, 1 and so on and have names that differ, and what is read is a signal: so the netlist's text tells it.
 pub record IsNamed (n : Netlist) : Type 0 where
-  pub numbered : IsNumbered n
+  pub numbered : EachIndex (signals n) (λ k. slice_index (signals n) k ≡ k)
   pub counted : length n.names ≡ length (signals n)
   pub names : All IsName n.names
   pub distinct : AllPairs (λ x y. x ≢ y) n.names
@@ -53,35 +51,30 @@ IsSite n scanned (Pin z k) (Pin y j) = (d : Definition) × Contains n.definition
 IsSite n scanned (Out x) (Out y) = name_of scanned y ≡ name_of n x
 IsSite n scanned _ _ = ⊥
 
--- the fault as it stands in the scanned netlist
-pub record StandsAt (n scanned : Netlist) (f moved : Fault) : Type 0 where
-  pub line : IsSite n scanned f.line moved.line
-  pub value : moved.value ≡ f.value
+-- `hold a 1`, for an input that is held
+abbrev pub hold_text : Netlist → ℕ × Option Bool → Text
+hold_text n (x, None) = []
+hold_text n (x, Some bit) = codes "hold " ++ (name_of n x ++ (if bit then codes " 1\n" else codes " 0\n"))
 
 module _ (n : Netlist) (holds : Holds) (chains : List (List ℕ)) (scanned : Netlist) (patterns : List Pattern) (cycles : List Cycle) where
-  -- No sequence of drives and pulses that obeys the held inputs, scan on or off, tells the scanned netlist with the fault from the good one:
-  -- from one power-up state all outputs agree in every cycle.
+  -- From each power-up state, whatever is driven and pulsed under the held inputs, all outputs are in every cycle as without the fault.
   abbrev pub IsNeverTold : Fault → Type 0
   IsNeverTold moved =
-      (state : List Bool) (driven : List Cycle) (good faulty : List (List Bool))
-      → All (λ (cycle : Cycle). Obeys holds cycle.drive) driven
-      → Runs bit_table None scanned state driven good
-      → Runs bit_table (Some moved) scanned state driven faulty
-      → good ≡ faulty
+      (state : List Bool) (driven : List Cycle) (good faulty : List (List Bool)) → All (λ (cycle : Cycle). Obeys holds cycle.drive) driven
+      → Runs bit_table None scanned state driven good → Runs bit_table (Some moved) scanned state driven faulty → good ≡ faulty
 
   -- What a line says of a fault comes true on the tester. Detected: by the last pattern that detects it, at its first point; in the cycle and at
   -- the pin at which that is strobed the test fails on the netlist with the fault. Redundant: nothing tells it. Aborted: the test passes on it.
   abbrev pub ComesTrue : Fault → Fault → Outcome → List ℕ → Type 0
   ComesTrue f moved (Detected place cycle) pin =
       (point : Point) × (output : ℕ) × IsLastDetected n patterns f place point × IsStrobedAt n chains place point cycle output
-      × (pin ≡ pin_name_of scanned output) × FailsAt scanned (Some moved) cycles cycle output
+      × (pin ≡ output_name scanned (slice_index scanned.outputs output)) × FailsAt scanned (Some moved) cycles cycle output
   ComesTrue f moved Redundant pin = IsNeverTold moved
   ComesTrue f moved Aborted pin = Passes scanned (Some moved) cycles
 
--- Five texts of a netlist, with these inputs held and its cells in these chains. The first is the netlist's, the second that of a scanned one,
--- which behaves as the netlist with scan off. The third is the test by some patterns: it passes on the scanned netlist, and with any fault or
--- none there is a run from each power-up state. The report ends with the held inputs and a line for each fault of the netlist, in order, and what
--- each line says comes true. The texts are those that a call which returned has written, or read.
+-- Five texts of a netlist with these inputs held and its cells in these chains: its own; that of a scanned one, which behaves as it does with scan off;
+-- the test by some patterns, which passes on the scanned one and runs there from each power-up state, with any fault or none; and a report that ends with
+-- the held inputs and a line for each fault of the netlist, in order, each of which comes true. A call that returned has written the texts, or read them.
 pub record Statement (n : Netlist) (holds : Holds) (chains : List (List ℕ)) (files : FiveFiles) : Type 0 where
   pub scanned : Netlist
   pub patterns : List Pattern
@@ -93,7 +86,7 @@ pub record Statement (n : Netlist) (holds : Holds) (chains : List (List ℕ)) (f
   pub net_is : files.net ≡ canonical n
   pub scan_is : files.scan ≡ canonical scanned
   pub stil_is : files.stil ≡ stil_text test
-  pub report_is : files.report ≡ above ++ (flat_map hold_line (holds_named n holds) ++ flat_map fault_line lines)
+  pub report_is : files.report ≡ above ++ (flat_map (hold_text n) (zip n.inputs holds) ++ flat_map fault_line lines)
   pub behaves : BehavesWithScanOff n scanned chains
   pub is_test : IsFileOf n holds chains patterns test
   pub passes : Passes scanned None (vectors_in test)
@@ -101,4 +94,4 @@ pub record Statement (n : Netlist) (holds : Holds) (chains : List (List ℕ)) (f
       → (shown : List (List Bool)) × Runs bit_table f scanned state (vectors_in test) shown
   pub once : map (λ (l : Line). l.fault) lines ≡ map (fault_text n) (universe_of n)
   pub comes_true : (place : ℕ) (f : Fault) (line : Line) → slice_get (universe_of n) place ≡ Some f → slice_get lines place ≡ Some line
-      → (moved : Fault) × StandsAt n scanned f moved × ComesTrue n holds chains scanned patterns (vectors_in test) f moved line.outcome line.pin
+      → (moved : Fault) × IsSite n scanned f.line moved.line × (moved.value ≡ f.value) × ComesTrue n holds chains scanned patterns (vectors_in test) f moved line.outcome line.pin

@@ -32,7 +32,7 @@ abbrev pub cells : Netlist → List Definition
 cells n = filter is_cell n.definitions
 
 abbrev pub gates : Netlist → List Definition
-gates n = filter is_gate n.definitions
+gates n = filter (λ (d : Definition). not (is_cell d)) n.definitions
 
 -- every signal has a place: inputs, then definitions
 abbrev pub signals : Netlist → List ℕ

@@ -8,8 +8,7 @@ use Rattle.netlist.specs.declared.lines.Fault.{Fault}
 use Rattle.netlist.specs.Netlist.{Definition, Netlist, cells, gates}
 use Rattle.netlist.specs.Gates.{gate_bit}
 
--- How values of a kind settle: what a line makes of the value that comes onto it (a stuck line makes the stuck value),
--- and what a gate makes of the values on its pins.
+-- How values settle: what a line makes of the value that comes onto it (a stuck line makes the stuck value), and what a gate makes of those on its pins.
 pub record Rule (V : Type 0) : Type 0 where
   pub line : Line → V → V
   pub gate : Definition → List V → V
@@ -32,8 +31,7 @@ pub record AreRead {V : Type 0} (rule : Rule V) (z : ℕ) (values : List V) (ids
 abbrev pub pins_of : {V : Type 0} → Rule V → (ℕ → V) → Definition → List V
 pins_of rule a d = on_pins rule d.id 0 (map a d.pins)
 
--- The assignment settles: each input and each cell has what its stem makes of the value that is driven there,
--- and each gate what its stem makes of what the gate makes of its pins.
+-- The assignment settles: each input and cell has what its stem makes of what is driven there, each gate what its stem makes of what it makes of its pins.
 abbrev pub Settles : {V : Type 0} → Rule V → Netlist → List V → List V → (ℕ → V) → Type 0
 Settles rule n inputs state a =
     AllZip (λ x v. a x ≡ rule.line (Stem x) v) n.inputs inputs
@@ -51,12 +49,7 @@ abbrev pub is_line : Line → Line → Bool
 is_line (Stem x) (Stem y) = x == y
 is_line (Pin x j) (Pin y k) = (x == y) && (j == k)
 is_line (Out x) (Out y) = x == y
-is_line (Stem x) (Pin y k) = false
-is_line (Stem x) (Out y) = false
-is_line (Pin x j) (Stem y) = false
-is_line (Pin x j) (Out y) = false
-is_line (Out x) (Stem y) = false
-is_line (Out x) (Pin y k) = false
+is_line _ _ = false
 
 -- the value on a line, where one line may be stuck at what stands for a bit
 abbrev pub stuck : {V : Type 0} → (Bool → V) → Option Fault → Line → V → V

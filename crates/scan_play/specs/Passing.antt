@@ -1,12 +1,12 @@
 -- Whether a netlist passes a test, whatever its cells hold at power-up.
-use Rattle.std.specs.Prelude.{ℕ, ◌≡◌, Bool, not, List, [], map, slice_get, slice_index_or, Option, Some}
+use Rattle.std.specs.Prelude.{ℕ, ◌≡◌, Bool, not, List, [], map, slice_get, slice_index_or, Option, Some, IsTrue}
 use Rattle.std.specs.List.{AllZip}
 use Rattle.netlist.specs.declared.kinds.Tri.{Tri}
 use Rattle.netlist.specs.declared.kinds.Tri.TheVariants.{X}
 use Rattle.netlist.specs.declared.lines.Fault.{Fault}
 use Rattle.netlist.specs.Netlist.{Netlist}
 use Rattle.netlist.specs.Settled.{bit_table}
-use Rattle.netlist.specs.ThreeValues.{known, AreAllowed}
+use Rattle.netlist.specs.ThreeValues.{allows, known}
 use Rattle.scan_play.specs.Cycles.{Cycle}
 use Rattle.scan_play.specs.Runs.{Runs}
 
@@ -20,7 +20,7 @@ shown_at shown c o = slice_get (slice_index_or shown c []) o
 -- From every power-up state each strobe of a bit meets that bit.
 abbrev pub Passes : Netlist → Option Fault → List Cycle → Type 0
 Passes n f cycles =
-    (state : List Bool) (shown : List (List Bool)) → Runs bit_table f n state cycles shown → AllZip (λ (cycle : Cycle) bits. AreAllowed cycle.strobe bits) cycles shown
+    (state : List Bool) (shown : List (List Bool)) → Runs bit_table f n state cycles shown → AllZip (λ (cycle : Cycle) bits. AllZip (λ v b. IsTrue (allows v b)) cycle.strobe bits) cycles shown
 
 -- From every power-up state the strobe of cycle c at output o is of a bit, and the other bit is shown there.
 abbrev pub FailsAt : Netlist → Option Fault → List Cycle → ℕ → ℕ → Type 0

@@ -17,27 +17,13 @@ driven_bit b = b == 49
 abbrev pub strobed_value : ℕ → Tri
 strobed_value b = if b == 72 then One else (if b == 76 then Zero else X)
 
-abbrev pub bits_of : Text → List Bool
-bits_of word = map driven_bit word
-
-abbrev pub values_of : Text → List Tri
-values_of word = map strobed_value word
-
 -- Cycle t of a call: the inputs have the word of a shift, and each scan input and scan output character t of its word.
 abbrev pub call_cycle : StilFile → List Text → ℕ → Cycle
 call_cycle f words t = record {
-  drive = bits_of f.shift_word ++ column false (map bits_of (take (length f.chains) words)) t;
-  strobe = replicate (length f.po) X ++ column X (map values_of (drop (length f.chains) words)) t;
+  drive = map driven_bit f.shift_word ++ column false (map (map driven_bit) (take (length f.chains) words)) t;
+  strobe = replicate (length f.po) X ++ column X (map (map strobed_value) (drop (length f.chains) words)) t;
   pulse = true;
 }
-
--- how often a call shifts
-abbrev pub call_size : List Text → ℕ
-call_size words = length (slice_index_or words 0 [])
-
--- the words one behind the other
-abbrev pub together : List Text → Text
-together words = flat_map (λ word. word) words
 
 -- the clock has a pulse: P stands for one
 abbrev pub has_pulse : ℕ → List Text → Bool
@@ -46,17 +32,34 @@ has_pulse (suc n) words = slice_index (slice_index_or words (suc (suc n)) []) 0 
 
 abbrev pub vector_cycle : StilFile → List Text → Cycle
 vector_cycle f words = record {
-  drive = bits_of (together (take (length f.chains + 1) words));
-  strobe = values_of (together (drop (length f.chains + 1 + length (clock f)) words));
+  drive = map driven_bit (flat_map (λ word. word) (take (length f.chains + 1) words));
+  strobe = map strobed_value (flat_map (λ word. word) (drop (length f.chains + 1 + length (clock f)) words));
   pulse = has_pulse (length f.chains) words;
 }
 
+-- a call shifts once for each character of its first word
 abbrev pub cycles_of_item : StilFile → Item → List Cycle
-cycles_of_item f (Call words) = map (call_cycle f words) (numbers_from 0 (call_size words))
+cycles_of_item f (Call words) = map (call_cycle f words) (numbers_from 0 (length (slice_index_or words 0 [])))
 cycles_of_item f (Vector words) = vector_cycle f words ∷ []
 
 abbrev pub vectors_in : StilFile → List Cycle
 vectors_in f = flat_map (cycles_of_item f) f.items
+
+-- ---- words of their own for what stands in these
+
+abbrev pub bits_of : Text → List Bool
+bits_of word = map driven_bit word
+
+abbrev pub values_of : Text → List Tri
+values_of word = map strobed_value word
+
+-- how often a call shifts
+abbrev pub call_size : List Text → ℕ
+call_size words = length (slice_index_or words 0 [])
+
+-- the words one behind the other
+abbrev pub together : List Text → Text
+together words = flat_map (λ word. word) words
 
 -- where there are chains, there is a word for the clock
 abbrev pub IsPulsed : ℕ → List Text → Type 0
