@@ -55,9 +55,9 @@ module _ (reading : Names) (before : List (List ℕ)) (line : List ℕ) where
   pub said-says : (s : Statement) → says reading line ≡ Some s → statement_on reading line ≡ s
   said-says s e = ap (λ o. unwrap_or o Nothing) e
 
-  pub line_err : (e : LineRefusal) → IsLine reading line (Err e) → IsRefusal {A = Draft} (line_refusal reading before line) (Err e)
-  line_err NoMemory h = tt
-  line_err (Refused k) h = refusal-own k h
+  pub line_err : (A : Type 0) (e : LineRefusal) → IsLine reading line (Err e) → IsRefusal {A = A} (line_refusal reading before line) (Err e)
+  line_err A NoMemory h = tt
+  line_err A (Refused k) h = refusal-own k h
 
 -- a line that is fine on its own has a known gate
 pub known-gate : (reading : Names) (line : List ℕ) (s : Statement) → own_refusal reading line ≡ None → says reading line ≡ Some s → has_unknown_gate s ≡ false

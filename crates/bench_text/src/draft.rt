@@ -289,6 +289,30 @@ impl<'a> Draft<'a> {
         }
     }
 
+    /// A line's statement by numbers, unless the line is refused.
+    fn number_line(
+        &mut self,
+        alloc: Global,
+        reading: Names,
+        line: &'a [u8],
+    ) -> Result<Option<Numbered>, LineRefusal>
+        ensures keeps { OnOk result (Keeps self.old self.new) }
+        ensures same { IfOk result (λ s. spelling_if_any (names_seen self.new) s ≡ statement_on reading line.now) }
+        ensures seen { IfOk result (λ s. are_seen self.new s ≡ true) }
+        ensures first { IfOk result (λ s. defines_one_of (signals_in self.new) (spelling_if_any (names_seen self.new) s) ≡ false) }
+        ensures refusal { IsRefusal (line_refusal reading (signals_in self.old) line.now) result }
+    {
+        let statement = read_line(alloc, reading, line)?;
+        let numbered = self.numbered(alloc, &statement)?;
+        if self.defines_again(&numbered) {
+            return Err(LineRefusal::Refused(BenchKind::DefinedTwice));
+        }
+        if reading.reserves(&statement) {
+            return Err(LineRefusal::Refused(BenchKind::Reserved));
+        }
+        Ok(numbered)
+    }
+
     /// Adds a line, unless it is refused.
     #[inline(always)]
     pub fn add_line(
@@ -302,15 +326,11 @@ impl<'a> Draft<'a> {
         ensures lines { IfOk result (λ d. d.lines ≡ self.entry.lines + 1) }
         ensures refusal { IsRefusal (line_refusal reading (signals_in self.entry) line.now) result }
     {
-        let statement = read_line(alloc, reading, line)?;
         let mut draft = self;
-        let numbered = draft.numbered(alloc, &statement)?;
-        if draft.defines_again(&numbered) {
-            return Err(LineRefusal::Refused(BenchKind::DefinedTwice));
-        }
-        if reading.reserves(&statement) {
-            return Err(LineRefusal::Refused(BenchKind::Reserved));
-        }
-        Ok(draft.push(numbered)?)
+        let statement = match draft.number_line(alloc, reading, line) {
+            Ok(statement) => statement,
+            Err(refusal) => return Err(refusal),
+        };
+        Ok(draft.push(statement)?)
     }
 }
