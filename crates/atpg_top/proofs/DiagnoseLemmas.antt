@@ -13,8 +13,8 @@ use Rattle.scan_insert.specs.Scanned.{Insertion, insertion_of}
 use Rattle.scan_play.specs.Cycles.{Cycle}
 use Rattle.stil_read.specs.Reading.{StandsFor}
 use Rattle.stil_write.specs.StilFiles.{StilFile}
-use Rattle.fail_log.specs.Failures.{Failing}
-use Rattle.fail_log.specs.Reading.{IsLogOf}
+use Rattle.diagnose.specs.Failures.{Failing}
+use Rattle.diagnose.specs.Reading.{IsLogOf}
 use Rattle.diagnose.specs.Candidates.{AreCandidates}
 use Rattle.commands.specs.Names.{texts_of}
 use Rattle.commands.specs.Worked.{IsWorked}

@@ -23,8 +23,8 @@ use Rattle.good_files.specs.ScanOff.{design_chains}
 use Rattle.scan_insert.specs.Scanned.{scanned_of}
 use Rattle.stil_vectors.specs.Fitting.{FitsNetlist}
 use Rattle.stil_write.specs.StilFiles.{StilFile}
-use Rattle.fail_log.specs.Laws.{OneLog}
-use Rattle.fail_log.specs.Reading.{IsLogOf}
+use Rattle.diagnose.specs.LogLaws.{OneLog}
+use Rattle.diagnose.specs.Reading.{IsLogOf}
 use Rattle.commands.specs.Due.{Due, Deliver, Refuse}
 use Rattle.commands.specs.Laws.{AreAlike, IsExclusive}
 use Rattle.commands.specs.declared.ending.Finding.TheVariants.{Fine}

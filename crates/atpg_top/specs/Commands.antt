@@ -10,7 +10,7 @@ use Rattle.stil_read.specs.Reading.{StandsFor}
 use Rattle.stil_vectors.specs.FileVectors.{vectors_in}
 use Rattle.stil_vectors.specs.Fitting.{FitsNetlist}
 use Rattle.scan_play.specs.declared.played.Played.{Played}
-use Rattle.fail_log.specs.Reading.{IsLogOf}
+use Rattle.diagnose.specs.Reading.{IsLogOf}
 use Rattle.command_line.specs.CommandLine.{CommandLine, chaintest, check, diagnose, faults, play, run, scan, sweep, transition}
 use Rattle.commands.specs.Due.{Due, Deliver}
 use Rattle.commands.specs.declared.ending.Finding.TheVariants.{Fine}

@@ -8,7 +8,7 @@ use Rattle.fault_universe.specs.Texts.{fault_text}
 use Rattle.fault_universe.specs.Universe.{universe_of}
 use Rattle.scan_insert.specs.Scanned.{insertion_of}
 use Rattle.scan_play.specs.Cycles.{Cycle}
-use Rattle.fail_log.specs.Failures.{Failing}
+use Rattle.diagnose.specs.Failures.{Failing}
 use Rattle.diagnose.specs.Candidates.{AreCandidates}
 use Rattle.diagnose.specs.Laws.{TellTheTruth}
 

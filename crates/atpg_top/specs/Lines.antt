@@ -5,7 +5,7 @@ use Rattle.commands.specs.Names.{file_name_of}
 use Rattle.commands.specs.declared.ending.Finding.TheVariants.{Fine, Differs}
 use Rattle.commands.specs.declared.ending.Ending.{Ending}
 use Rattle.commands.specs.declared.ending.Ending.TheVariants.{Ended, Refused, ReadFailed, WriteFailed, Missing, TooLong, Memory}
-use Rattle.status_lines.specs.Lines.{failure_line, netlist_line}
+use Rattle.commands.specs.Lines.{failure_line, netlist_line}
 use Rattle.atpg_top.specs.declared.refusal.Refusal.{Refusal}
 use Rattle.atpg_top.specs.declared.refusal.Refusal.TheVariants.{Netlist, NoSuchFault, NoSuchInput, NotStil, NotCertificate, NotReport, NotLog, StilDoesNotFit}
 use Rattle.atpg_top.specs.declared.status.Status.{Status}

@@ -7,7 +7,7 @@ use Rattle.commands.specs.World.{IsAsBefore, World}
 use Rattle.commands.specs.Rows.{CommandRow}
 use Rattle.commands.specs.declared.ending.Ending.{Ending}
 use Rattle.commands.specs.declared.ending.Ending.TheVariants as ending
-use Rattle.status_lines.specs.Lines.{IsSaid}
+use Rattle.commands.specs.Lines.{IsSaid}
 use Rattle.atpg_top.specs.Commands.{due}
 use Rattle.atpg_top.specs.Lines.{status_line}
 use Rattle.atpg_top.specs.declared.refusal.Refusal.{Refusal}

@@ -11,10 +11,9 @@ ghost use Rattle.atpg_top.specs.inner.Designs.{ReadsDesign};
 use crate::reading::netlist_of;
 use crate::refusal::Refusal;
 use bench_text::Names;
-use chain_stitch::stitch;
 use commands::Stop;
 use netlist::{Netlist, NoMemory};
-use scan_insert::{Scanned, insert};
+use scan_insert::{Scanned, insert, stitch};
 use std::alloc::Global;
 
 /// The design that the one text stands for. The text is let go.

@@ -1,7 +1,7 @@
 //! `diagnose`: the faults of a file's netlist that explain what failed on the tester.
 ghost use Rattle.std.specs.Prelude.{◌≡◌, ◌≤◌, ◌<◌, ◌^◌, ◌++◌, ◌∷◌, [], IfOk, OnOk, Some, length};
 ghost use Rattle.std.specs.List.{All};
-ghost use Rattle.limits.specs.Limits.{most_workers};
+ghost use Rattle.plain_text.specs.Limits.{most_workers};
 ghost use Rattle.netlist.specs.Designs.{IsDesign};
 ghost use Rattle.netlist.specs.Lines.{signal_of};
 ghost use Rattle.netlist.specs.Netlist.{signals};
@@ -28,8 +28,7 @@ use crate::refusal::Refusal;
 use bench_text::Names;
 use command_line::DiagnoseOptions;
 use commands::{Ending, FileName, Finding, Product, Stop, deliver, read_in_order};
-use diagnose::{candidates, candidates_tell_the_truth};
-use fail_log::FailLog;
+use diagnose::{FailLog, candidates, candidates_tell_the_truth};
 use fault_collapse::{Classes, collapse};
 use fault_universe::{FaultSet, faults_have_signals, push_text};
 use itoa::Buffer;

@@ -3,7 +3,7 @@ ghost use Rattle.atpg_top.specs.Checks.{RunsPass};
 ghost use Rattle.atpg_top.specs.Laws.{DeclinedExactly, EachExclusive, FailedExactly, MissingExactly, NothingElse, RefusedExactly, TooLongExactly};
 
 use check_command::{check_exclusive, good_files_checked};
-use fail_log::one_log;
+use diagnose::one_log;
 use stil_read::laws::at_most_one;
 
 /// Words that are no command line end with status 2, for the cause that they have.

@@ -1,6 +1,6 @@
 //! The lines on the error output: what the user is told of how the call ends.
 ghost use Rattle.std.specs.Prelude.{◌≡◌, ◌++◌, [], codes, slice_index_or};
-ghost use Rattle.status_lines.specs.Lines.{IsSaid};
+ghost use Rattle.commands.specs.Lines.{IsSaid};
 ghost use Rattle.atpg_top.specs.inner.Held.{names_held};
 ghost use Rattle.atpg_top.specs.Lines.{refusal_line};
 ghost use Rattle.atpg_top.specs.Rows.{ErrRow};
@@ -8,9 +8,8 @@ ghost use Rattle.atpg_top.specs.Rows.{ErrRow};
 use crate::refusal::Refusal;
 use crate::status::Status;
 use command_line::Held;
-use commands::Ending;
+use commands::{Ending, say, say_failed_write, say_name, say_netlist, say_text};
 use outside::Sink;
-use status_lines::{say, say_failed_write, say_name, say_netlist, say_text};
 
 /// A line that names a word of the command line.
 fn say_word<E: Sink>(err: &mut E, what: &[u8], word: &[u8])

@@ -11,13 +11,12 @@ ghost use Rattle.atpg_top.specs.Scans.{IsScanProduct, scan_line};
 use crate::design::design_of;
 use crate::refusal::Refusal;
 use bench_text::write;
-use chain_stitch::stitch;
 use commands::{Ending, FileName, Finding, Product, Stop, Work, run_command};
 use itoa::Buffer;
 use netlist::{Netlist, NoMemory};
 use outside::{Shelf, Sink};
-use scan_insert::insert;
 use scan_insert::laws::scan_behaves;
+use scan_insert::{insert, stitch};
 use std::alloc::{AllocError, Global};
 
 /// What `scan` writes and prints.

@@ -3,7 +3,7 @@
 //! No file is read or written. The texts of a run are good, so it is proved, and no answer, that the test is read back and that
 //! the scanned netlist passes it.
 ghost use Rattle.std.specs.Prelude.{◌≡◌, ◌≤◌, ◌++◌, [], IfOk, None, OnOk, length};
-ghost use Rattle.limits.specs.Limits.{fewest_gates, most_gates};
+ghost use Rattle.plain_text.specs.Limits.{fewest_gates, most_gates};
 ghost use Rattle.commands.specs.Rows.{CommandRow};
 ghost use Rattle.commands.specs.Worked.{IsWorked};
 ghost use Rattle.commands.specs.World.{world};
@@ -27,7 +27,6 @@ use crate::five_files::push_count;
 use crate::playing::answer_of;
 use crate::refusal::Refusal;
 use crate::running::made_of;
-use chain_stitch::stitch;
 use command_line::{EngineName, RunOptions};
 use commands::{Ending, Finding, Product, Stop, deliver};
 use net_gen::{generate, samples_are_designs};
@@ -35,7 +34,7 @@ use netlist::{Core, Holds, Netlist, NoMemory};
 use outside::{Gate, Shelf, Sink};
 use report::Report;
 use run_files::RunFiles;
-use scan_insert::insert;
+use scan_insert::{insert, stitch};
 use scan_play::{Played, vectors_decide};
 use std::alloc::{AllocError, Global};
 use std::sync::Wait;

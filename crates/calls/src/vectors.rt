@@ -4,9 +4,9 @@ ghost use Rattle.netlist.specs.Holds.{AreHoldsOf};
 ghost use Rattle.scan_insert.specs.Scanned.{AreChainsOf};
 
 use case_nets::push_bits;
-use chain_stitch::Chains;
 use cubes::Pattern;
 use netlist::{Core, Holds, Tri};
+use scan_insert::Chains;
 use scan_play::{Burst, Cycle, vectors_of};
 use std::alloc::{AllocError, Global};
 use stil_patterns::are_patterns;

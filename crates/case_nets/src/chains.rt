@@ -3,8 +3,8 @@ ghost use Rattle.std.specs.Prelude.{◌<◌, IfOk};
 ghost use Rattle.netlist.specs.Designs.{IsDesign};
 ghost use Rattle.scan_insert.specs.Scanned.{AreChainsOf};
 
-use chain_stitch::{Chains, stitch};
 use netlist::Netlist;
+use scan_insert::{Chains, stitch};
 use std::alloc::{AllocError, Global};
 
 /// The cells in so many chains.

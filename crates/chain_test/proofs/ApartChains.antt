@@ -8,7 +8,7 @@ use Rattle.netlist.specs.declared.lines.Line.TheVariants.{Stem, Pin}
 use Rattle.netlist.specs.declared.lines.Fault.{Fault}
 use Rattle.netlist.specs.Netlist.{Definition, Netlist, cells}
 use Rattle.netlist.specs.Settled.{is_line, stuck}
-use Rattle.chain_stitch.specs.Chains.{cells_of}
+use Rattle.scan_insert.specs.Chains.{cells_of}
 use Rattle.scan_insert.specs.Scan.{Naming}
 use Rattle.scan_insert.specs.Scanned.{last_of}
 use Rattle.scan_insert.proofs.Namings.{Origin, ScanIn, ScanOut, Shifted, Chosen, Held, IsNaming}

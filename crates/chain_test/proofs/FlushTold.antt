@@ -18,7 +18,7 @@ use Rattle.chain_test.specs.Laws.{FirstFailsAt}
 use Rattle.std.specs.List.{Contains}
 use Rattle.netlist.specs.Holds.{Holds, AreHoldsOf}
 use Rattle.cubes.specs.Cubes.{Pattern}
-use Rattle.chain_stitch.specs.Chains.{longest_of}
+use Rattle.scan_insert.specs.Chains.{longest_of}
 use Rattle.scan_insert.specs.Scanned.{AreChainsOf, scanned_of}
 use Rattle.scan_insert.proofs.Concrete.{bits_multiplex}
 use Rattle.scan_play.specs.Vectors.{Response, vectors}

@@ -8,7 +8,7 @@ use Rattle.netlist.specs.Netlist.{Netlist}
 use Rattle.netlist.specs.Holds.{Holds, AreHoldsOf}
 use Rattle.netlist.specs.Conditions.{IsSound}
 use Rattle.netlist.specs.Settled.{Table, next}
-use Rattle.chain_stitch.specs.Chains.{cells_of}
+use Rattle.scan_insert.specs.Chains.{cells_of}
 use Rattle.scan_insert.specs.Laws.{Multiplexes}
 use Rattle.scan_insert.specs.Scan.{Naming}
 use Rattle.scan_insert.specs.Scanned.{AreChainsOf, first_scan_out, naming_of, scanned_of}

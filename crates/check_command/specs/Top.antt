@@ -5,8 +5,8 @@ use Rattle.commands.specs.World.{IsAsBefore, World}
 use Rattle.commands.specs.Names.{run_files}
 use Rattle.commands.specs.Rows.{CommandRow}
 use Rattle.commands.specs.declared.ending.Ending.TheVariants.{Ended}
-use Rattle.status_lines.specs.Endings.{ending_code, ending_line}
-use Rattle.status_lines.specs.Lines.{IsSaid, netlist_line}
+use Rattle.commands.specs.Endings.{ending_code, ending_line}
+use Rattle.commands.specs.Lines.{IsSaid, netlist_line}
 use Rattle.check_command.specs.Checking.{five_texts_due}
 use Rattle.check_command.specs.declared.refusal.CheckRefusal.{CheckRefusal}
 use Rattle.check_command.specs.declared.refusal.CheckRefusal.TheVariants.{Netlist, NotStil, NotCertificate, NotReport}

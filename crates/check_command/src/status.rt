@@ -1,12 +1,13 @@
 //! How the program that only checks ends: the statuses, their numbers and their lines.
 ghost use Rattle.std.specs.Prelude.{◌≡◌};
-ghost use Rattle.status_lines.specs.Lines.{IsSaid};
+ghost use Rattle.commands.specs.Lines.{IsSaid};
 ghost use Rattle.check_command.specs.Top.{CheckErrRow, check_status_code, check_refusal_code, check_refusal_line};
 
 use crate::refusal::CheckRefusal;
-use commands::Ending;
+use commands::{
+    Ending, StatusCode, ending_code, say_failed_write, say_name, say_netlist, say_text,
+};
 use outside::Sink;
-use status_lines::{StatusCode, ending_code, say_failed_write, say_name, say_netlist, say_text};
 
 /// How a call ends.
 #[derive(Clone, Copy, Debug)]

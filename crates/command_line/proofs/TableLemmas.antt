@@ -1,7 +1,7 @@
 -- The table is made as it is written, and is one of which `clap`'s rule speaks.
 use Rattle.std.proofs.Common.{◌≡◌, Bor, List, [], ◌∷◌, ◌++◌, Option, Some, Result, IfOk, ap, codes, ◌∙◌, true, refl}
 use Rattle.std.proofs.lemmas.Result.{IfOk-weaker}
-use Rattle.limits.specs.Limits.{most_chains, most_limit, most_workers}
+use Rattle.plain_text.specs.Limits.{most_chains, most_limit, most_workers}
 use Rattle.clap.specs.Words.{App, Rule, Shape, Text, app_of, is_simple, new_app, shape_of, with_rule}
 use Rattle.clap.specs.Faults.{is_simple_and_free}
 use Rattle.clap.specs.Simple.{app_of_fields, on_top}

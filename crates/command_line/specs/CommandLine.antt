@@ -4,7 +4,7 @@ use Rattle.std.specs.Prelude.{Result, Ok, Err, option_and_then, option_map}
 use Rattle.std.specs.List.{ends_with, find, list_any}
 use Rattle.std.specs.Option.{ok_or}
 use Rattle.std.specs.Str.{bytes_eq}
-use Rattle.limits.specs.Limits.{most_chains, most_workers, most_limit, fewest_gates, most_gates}
+use Rattle.plain_text.specs.Limits.{most_chains, most_workers, most_limit, fewest_gates, most_gates}
 use Rattle.clap.specs.Words.{Kinds, Row, Text, first_of, subcommand_of}
 use Rattle.clap.specs.Faults.{fault_of}
 use Rattle.commands.specs.Names.{run_files}

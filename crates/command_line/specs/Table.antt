@@ -1,6 +1,6 @@
 -- The table of commands, in the terms of `clap`: what a parse reads of a command.
 use Rattle.std.specs.Prelude.{ℕ, ◌++◌, true, false, List, [], ◌∷◌, Some, codes}
-use Rattle.limits.specs.Limits.{most_chains, most_workers, most_limit, fewest_gates, most_gates}
+use Rattle.plain_text.specs.Limits.{most_chains, most_workers, most_limit, fewest_gates, most_gates}
 use Rattle.clap.specs.Words.{App, Rule, Shape, Text, new_rule}
 use Rattle.clap.specs.Simple.{new_shape}
 use Rattle.clap.specs.declared.builder.value_parser.ValueParser.TheVariants.{Unsigned}

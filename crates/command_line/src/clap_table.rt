@@ -23,7 +23,7 @@ ghost use Rattle.command_line.specs.inner.SearchTable.{with_search};
 
 use clap::builder::ValueParser;
 use clap::{Arg, Command};
-use limits::{FEWEST_GATES, MOST_CHAINS, MOST_GATES, MOST_LIMIT, MOST_WORKERS};
+use plain_text::{FEWEST_GATES, MOST_CHAINS, MOST_GATES, MOST_LIMIT, MOST_WORKERS};
 use std::alloc::{AllocError, Global};
 
 // The command with one more argument.

@@ -29,7 +29,7 @@ ghost use Rattle.command_line.specs.inner.Searches.{IsSearch};
 use crate::holds::{Held, holds_in};
 use crate::values::{number_of, number_or, text};
 use clap::ArgMatches;
-use limits::{FEWEST_GATES, MOST_CHAINS, MOST_GATES, MOST_LIMIT, MOST_WORKERS};
+use plain_text::{FEWEST_GATES, MOST_CHAINS, MOST_GATES, MOST_LIMIT, MOST_WORKERS};
 use std::alloc::Global;
 
 /// A search that there is.

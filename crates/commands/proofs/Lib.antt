@@ -4,3 +4,4 @@ pub mod PutLemmas
 pub mod Exclusive
 pub mod CommandLemmas
 pub mod NameLemmas
+pub mod Saying

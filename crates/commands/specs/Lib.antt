@@ -9,4 +9,6 @@ pub mod Worked
 pub mod Rows
 pub mod Delivered
 pub mod Laws
+pub mod Endings
+pub mod Lines
 pub mod inner

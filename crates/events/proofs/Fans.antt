@@ -8,8 +8,8 @@ use Rattle.netlist.specs.declared.lines.Line.{Line}
 use Rattle.netlist.specs.declared.lines.Line.TheVariants.{Stem, Pin, Out}
 use Rattle.netlist.specs.Netlist.{Netlist, signals}
 use Rattle.netlist.specs.Readers.{readers_of}
-use Rattle.rows.specs.Rows.{rows}
-use Rattle.rows.proofs.Buffers.{rows_count, pushed_rows, pushed_ends}
+use Rattle.plain_text.specs.Rows.{rows}
+use Rattle.plain_text.proofs.Buffers.{rows_count, pushed_rows, pushed_ends}
 use Rattle.events.specs.Agendas.{marked}
 use Rattle.events.specs.inner.Placing.{is_pin_at, called, AreFans, AreFansUpTo, Calls, Marks}
 use Rattle.events.proofs.Placing.{marked_set}

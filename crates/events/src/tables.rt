@@ -2,7 +2,7 @@
 ghost use Rattle.std.specs.Prelude.{◌≡◌, ◌++◌, ◌<◌, ◌≤◌, ◌∷◌, [], IfOk, OnOk, Some, length, slice_get, slice_index, slice_index_or};
 ghost use Rattle.std.specs.List.{All};
 ghost use Rattle.netlist.specs.Netlist.{signals};
-ghost use Rattle.rows.specs.Rows.{AreEnds, rows};
+ghost use Rattle.plain_text.specs.Rows.{AreEnds, rows};
 ghost use Rattle.netlist.specs.Lines.{IsPinBelow};
 ghost use Rattle.events.specs.inner.Placing.{AreFans, AreTables, called};
 
@@ -19,7 +19,7 @@ pub(crate) struct Fans {
 
 impl Model for Fans {
     ghost use Rattle.std.specs.Prelude.{ℕ, List};
-    ghost use Rattle.rows.specs.Rows.{AreEnds, rows};
+    ghost use Rattle.plain_text.specs.Rows.{AreEnds, rows};
 
     ghost Value = { List (List ℕ) };
 
@@ -104,7 +104,7 @@ fn start_of(ends: &[usize], place: usize) -> usize
 
 /// The list at a place.
 #[inline(always)]
-#[tactic(auto, using(rows::proofs::Buffers::begins_before_end, rows::proofs::Buffers::end_within))]
+#[tactic(auto, using(plain_text::proofs::Buffers::begins_before_end, plain_text::proofs::Buffers::end_within))]
 fn row<'a>(items: &'a [u32], ends: &[usize], place: usize) -> &'a [u32]
     requires ends { AreEnds 0 items.now ends.now }
     requires within { place < length ends.now }

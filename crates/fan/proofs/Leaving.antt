@@ -31,7 +31,7 @@ use Rattle.head_lines.proofs.GateTests.{no_gate_low}
 use Rattle.head_lines.proofs.Inner.{input_own}
 use Rattle.head_lines.proofs.Ends.{met_there}
 use Rattle.head_lines.proofs.Readers.{get_or_any}
-use Rattle.decision_stack.specs.declared.cases.Case.{Case}
+use Rattle.decisions.specs.declared.cases.Case.{Case}
 use Rattle.fan.specs.inner.Searching.{IsAt, IsGoing, IsEndPlace, IsFreeEnd, IsNoFreeEnd, IsSplit}
 use Rattle.fan.proofs.Placing.{places_may, head_place, source_place}
 use Rattle.fan.proofs.Turns.{all_on, none_on}

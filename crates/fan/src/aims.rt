@@ -7,14 +7,14 @@ ghost use Rattle.pair_sim.specs.Sims.{IsNotBlocked};
 use crate::cases::RoledCase;
 use crate::frontier::{FrontGates, frontier};
 use crate::guides::has_head;
+use decisions::{
+    Aim, Effects, count_pins, excitation, gate_of, is_inverting, is_own_unknown, is_unknown,
+    may_differ,
+};
 use netlist::{Core, Kind, SignalId};
 use pair_sim::PairSim;
 use redundancy_cert::Side;
 use std::alloc::{AllocError, Global};
-use testability::{
-    Aim, Effects, count_pins, excitation, gate_of, is_inverting, is_own_unknown, is_unknown,
-    may_differ,
-};
 
 /// Asks for a bit on each pin that is X.
 fn ask_all(

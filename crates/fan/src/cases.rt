@@ -1,6 +1,6 @@
 //! What a search is about, with what is read of it over and over. No part of the search changes it, so its functions are handed it as one, and
 //! beside it what they change: labels, stack, guide.
-use decision_stack::Case;
+use decisions::Case;
 use head_lines::Role;
 
 /// A case, and the roles that signals have in it.

@@ -8,13 +8,12 @@ ghost use Rattle.fan.specs.inner.Searching.{IsRoledCase, IsReady, IsAnswer, IsKe
 use crate::cases::RoledCase;
 use crate::guides::{Guide, GuideRoom, Objectives, Stop};
 use crate::searching::search_from;
-use decision_stack::Case;
+use decisions::{Case, Measures};
 use head_lines::{RoleRoom, WantRoom, roles_of};
 use netlist::{Core, Fault, Holds, NoMemory};
 use pair_sim::{PairSim, SimRoom};
 use redundancy_cert::{Engine, Found};
 use std::alloc::{AllocError, Global};
-use testability::Measures;
 
 /// As many Closed the first attempt may take before the search begins anew.
 const FEW: u32 = 16;

@@ -5,11 +5,11 @@ ghost use Rattle.fan.specs.inner.Searching.{IsRoledCase, IsAt, IsGoing, IsFreeTo
 
 use crate::cases::RoledCase;
 use crate::standing::go;
+use decisions::Aim;
 use head_lines::Role;
 use netlist::{Point, SignalId, Tri};
 use pair_sim::{PairSim, State};
 use redundancy_cert::Side;
-use testability::Aim;
 
 /// What was seen of signals that may be forced.
 #[derive(Drop)]

@@ -4,11 +4,10 @@ ghost use Rattle.std.specs.Prelude.{◌≡◌};
 ghost use Rattle.pair_sim.specs.Sims.{IsNotBlocked};
 
 use crate::paths::Paths;
-use decision_stack::Case;
+use decisions::{Case, Effects, Measures, may_get_effect, readers, signal_count};
 use netlist::{Core, Line, SignalId};
 use pair_sim::PairSim;
 use std::alloc::AllocError;
-use testability::{Effects, Measures, may_get_effect, readers, signal_count};
 
 /// The gates of the D-frontier among these readers: the only one so far, or that there are more.
 fn join_frontier(core: &Core, labels: &PairSim, signal: SignalId, start: FrontGates) -> FrontGates

@@ -7,16 +7,16 @@ use crate::cases::RoledCase;
 use crate::frontier::nearest;
 use crate::paths::Paths;
 use crate::tracing::{Course, Way, objective, trace_from};
+use decisions::{
+    Aim, Effects, Measures, count_pins, excitation, gate_of, is_inverting, is_own_unknown,
+    is_unknown, may_differ, place_of, readers, salt_of, signal_count,
+};
 use head_lines::Role;
 use netlist::{Core, Fault, Kind, SignalId};
 use pair_sim::PairSim;
 use redundancy_cert::Side;
 use std::alloc::{AllocError, Global};
 use std::collections::BinaryHeap;
-use testability::{
-    Aim, Effects, Measures, count_pins, excitation, gate_of, is_inverting, is_own_unknown,
-    is_unknown, may_differ, place_of, readers, salt_of, signal_count,
-};
 
 /// Whether a signal is a head line.
 pub(crate) fn has_head(roles: &[Role], signal: SignalId) -> bool {

@@ -3,10 +3,10 @@
 ghost use Rattle.std.specs.Prelude.{◌≡◌};
 ghost use Rattle.pair_sim.specs.Sims.{IsNotBlocked};
 
+use decisions::{gate_of, may_get_effect, readers, signal_count};
 use netlist::{Core, Line, SignalId};
 use pair_sim::PairSim;
 use std::alloc::{AllocError, Global};
-use testability::{gate_of, may_get_effect, readers, signal_count};
 
 /// The signals that were come to, round by round.
 #[derive(Drop)]

@@ -1,6 +1,6 @@
 //! The search from the path without decisions.
 //!
-//! As in `podem`, a stack of decisions stands for the tree (`decision_stack`), and both sides of a decision are looked at. But a turn looks first for a signal of
+//! As in `podem`, a stack of decisions stands for the tree (`decisions`), and both sides of a decision are looked at. But a turn looks first for a signal of
 //! which one side is closed already, and forces it to the other (`forcing`): FAN's unique implications, told by labels. Else it splits on what
 //! the backtrace wants (`guides`), a head line or a fanout stem sooner than an input. Where the condition for a test is met the head lines are
 //! justified without a decision (`head_lines`), so such a path is a test.
@@ -16,13 +16,12 @@ use crate::choosing::choose;
 use crate::forcing::{Seen, find_forced};
 use crate::guides::{Guide, best_aim};
 use crate::standing::go;
-use decision_stack::{Step, close_both, closed_tree, one_if, push, tree_so_far};
+use decisions::{Aim, Effects, Step, close_both, closed_tree, one_if, push, tree_so_far};
 use head_lines::{WantRoom, justified_cube};
 use netlist::{Point, SignalId};
 use pair_sim::{PairSim, State};
 use redundancy_cert::{Found, Other, Side, Tree};
 use std::alloc::{AllocError, Global};
-use testability::{Aim, Effects};
 
 /// A turn where this side is closed: goes to the other one.
 fn after_closed(

@@ -7,14 +7,14 @@ use crate::cases::RoledCase;
 use crate::frontier::nearest;
 use crate::guides::{Stop, has_head};
 use crate::paths::Paths;
+use decisions::{
+    Aim, Effects, Measures, count_pins, excitation, gate_of, hash_in, is_inverting, is_own_unknown,
+    is_unknown, may_differ, place_of, readers, signal_count,
+};
 use netlist::{Core, Kind, SignalId};
 use pair_sim::PairSim;
 use redundancy_cert::Side;
 use std::alloc::AllocError;
-use testability::{
-    Aim, Effects, Measures, count_pins, excitation, gate_of, hash_in, is_inverting, is_own_unknown,
-    is_unknown, may_differ, place_of, readers, signal_count,
-};
 
 /// Which pin of a gate is gone to, unless it is one by a hash.
 #[derive(Clone, Copy, Drop)]

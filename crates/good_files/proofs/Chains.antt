@@ -6,7 +6,7 @@ use Rattle.std.proofs.lemmas.List.{take_at, length-map}
 use Rattle.netlist.specs.Netlist.{Definition, Netlist, cells}
 use Rattle.netlist.specs.Conditions.{IsSound}
 use Rattle.netlist.specs.Settled.{bits, outs}
-use Rattle.chain_stitch.specs.Chains.{chains_of, pieces, lengths_of}
+use Rattle.scan_insert.specs.Chains.{chains_of, pieces, lengths_of}
 use Rattle.scan_insert.specs.Laws.{ScanBehaves, last_bits}
 use Rattle.scan_insert.specs.Scanned.{AreChainsOf, cell_ids, scanned_of}
 use Rattle.good_files.specs.GoodFiles.{IsChainCount}

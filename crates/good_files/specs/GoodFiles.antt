@@ -1,7 +1,7 @@
 -- The five files of a run, what they stand for, and when they are good, whoever made them.
 use Rattle.std.specs.Prelude.{ℕ, ◌≡◌, ◌<◌, ◌≤◌, ◌^◌, List, length, map, Ok}
 use Rattle.std.specs.List.{All}
-use Rattle.limits.specs.Limits.{most_limit}
+use Rattle.plain_text.specs.Limits.{most_limit}
 use Rattle.plain_text.specs.Texts.{Text}
 use Rattle.netlist.specs.declared.lines.Fault.{Fault}
 use Rattle.netlist.specs.Netlist.{Netlist, cells}

@@ -2,7 +2,7 @@
 use Rattle.std.specs.Prelude.{ℕ, ◌≡◌, Bool, false, List, [], ◌∷◌, ◌++◌, length, take, None}
 use Rattle.netlist.specs.Netlist.{Netlist}
 use Rattle.netlist.specs.Settled.{Settles, bits, outs, next}
-use Rattle.chain_stitch.specs.Chains.{chains_of}
+use Rattle.scan_insert.specs.Chains.{chains_of}
 use Rattle.scan_insert.specs.Scanned.{cell_ids}
 
 -- the chains of a design, at most so many as are asked for

@@ -6,9 +6,8 @@ ghost use Rattle.list_core.specs.Subjects.{HaveLines, class_count};
 use crate::list_text::{push_kept, push_verdict};
 use crate::lists::list_after;
 use fault_collapse::Classes;
-use list_core::{About, FaultList};
+use list_core::{About, FaultList, Finished, compact};
 use netlist::{Core, Holds, Netlist, NoMemory};
-use reverse_compact::{Finished, compact};
 use std::alloc::{AllocError, Global};
 use word_sim::last_tells;
 

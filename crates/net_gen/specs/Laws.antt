@@ -1,6 +1,6 @@
 -- What every sample netlist is.
 use Rattle.std.specs.Prelude.{ℕ, ◌≤◌}
-use Rattle.limits.specs.Limits.{fewest_gates, most_gates}
+use Rattle.plain_text.specs.Limits.{fewest_gates, most_gates}
 use Rattle.rand_core.specs.Stream.{Stream}
 use Rattle.netlist.specs.Conditions.{IsSound}
 use Rattle.netlist.specs.Designs.{IsDesign}

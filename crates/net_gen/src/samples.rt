@@ -1,7 +1,7 @@
 //! Sample netlists.
 ghost use Rattle.std.specs.Prelude.{◌≡◌, ◌+◌, ◌^◌, ◌<◌, ◌≤◌, IfOk};
 ghost use Rattle.std.specs.List.{range_with_len};
-ghost use Rattle.limits.specs.Limits.{fewest_gates, most_gates};
+ghost use Rattle.plain_text.specs.Limits.{fewest_gates, most_gates};
 ghost use Rattle.netlist.specs.Conditions.{whole};
 ghost use Rattle.net_gen.specs.Samples.{sample, words_from_seed};
 ghost use Rattle.net_gen.specs.Laws.{SamplesAreDesigns, SamplesAreSound};

@@ -4,7 +4,7 @@ ghost use Rattle.netlist.specs.Conditions.{whole};
 
 use crate::kinds::Kind;
 use crate::signals::SignalId;
-use rows::Texts;
+use plain_text::Texts;
 use smallvec::SmallVec;
 use std::alloc::{AllocError, Global};
 use std::marker::Model;

@@ -33,7 +33,7 @@ pub use laws::{holds_everywhere, settle_alike, settles_once, some_settles};
 pub use lines::{Fault, Line, Point};
 pub use netlists::{MOST_DESIGN_SIGNALS, MOST_SIGNALS, NetRefusal, Netlist};
 pub use no_memory::NoMemory;
-pub use rows::Texts as NameTable;
+pub use plain_text::Texts as NameTable;
 pub use rules::{Logic, drive_sources, evaluate_all};
 pub use schedules::Schedule;
 pub use signals::SignalId;

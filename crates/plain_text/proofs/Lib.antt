@@ -1,2 +1,4 @@
 pub mod Parts
 pub mod Numbers
+mod Appending
+pub mod Buffers

@@ -19,7 +19,7 @@ use Rattle.netlist.specs.ThreeValues.{known, is_x}
 use Rattle.tri.specs.Labels.{good_of, held_value, label_of, labels, AreLabels}
 use Rattle.tri.specs.Paths.{Path, decisions, IsGoingPath}
 use Rattle.pair_sim.proofs.Sure.{is_sure, sure_source, sure_on_line, none_differs, sure_outs, sure_next, sure_gate}
-use Rattle.decision_stack.specs.Turns.{undecided}
+use Rattle.decisions.specs.Turns.{undecided}
 use Rattle.podem.specs.Sources.{all_sources, sources, held}
 use Rattle.podem.proofs.Owns.{cell_listed, input_source, cell_source, input_label, cell_label}
 

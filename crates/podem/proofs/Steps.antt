@@ -13,12 +13,12 @@ use Rattle.tri.specs.Paths.{Path, decisions, IsUnknown, IsTestPath}
 use Rattle.redundancy_cert.specs.declared.nodes.Node.TheVariants.{Split}
 use Rattle.redundancy_cert.specs.declared.stacks.Side.{Side}
 use Rattle.redundancy_cert.specs.Stacks.{path_of_stack}
-use Rattle.decision_stack.specs.declared.cases.Case.{Case}
-use Rattle.decision_stack.specs.Cases.{sim_of}
+use Rattle.decisions.specs.declared.cases.Case.{Case}
+use Rattle.decisions.specs.Cases.{sim_of}
 use Rattle.pair_sim.specs.Sims.{Sim, assigned, HasGood}
-use Rattle.decision_stack.specs.Standing.{MayDecide}
-use Rattle.decision_stack.specs.Turns.{undecided}
-use Rattle.decision_stack.proofs.Standing.{of_case}
+use Rattle.decisions.specs.Standing.{MayDecide}
+use Rattle.decisions.specs.Turns.{undecided}
+use Rattle.decisions.proofs.Standing.{of_case}
 use Rattle.podem.specs.Sources.{all_sources, sources, PlaceInSources}
 use Rattle.podem.specs.inner.Searching.{IsAt, MayGoOn, IsFreeSource, IsChosen, IsKnownAt, IsTestAt, OnSources, IsKept}
 use Rattle.podem.proofs.Turns.{going_open, only_sources, none_only, known_decided}

@@ -20,7 +20,7 @@ use Rattle.redundancy_cert.specs.Fits.{NodeFits}
 use Rattle.redundancy_cert.specs.Stacks.{node_of, stack_onto, StandsAround}
 use Rattle.pair_sim.specs.Sims.{sim, HasGood}
 use Rattle.pair_sim.proofs.Free.{own_if_undecided}
-use Rattle.decision_stack.specs.Standing.{AsksFit, SplitsAmong}
+use Rattle.decisions.specs.Standing.{AsksFit, SplitsAmong}
 use Rattle.podem.specs.Sources.{sources, StandsInSources, PlaceInSources}
 use Rattle.podem.specs.inner.Searching.{OnSources}
 use Rattle.podem.proofs.Owns.{source_signal, any_source, source_own}

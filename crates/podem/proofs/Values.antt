@@ -4,8 +4,8 @@ use Rattle.std.specs.List.{Contains}
 use Rattle.netlist.specs.declared.kinds.Tri.{Tri}
 use Rattle.tri.specs.Labels.{good_of}
 use Rattle.tri.specs.Paths.{decisions}
-use Rattle.decision_stack.specs.declared.cases.Case.{Case}
-use Rattle.decision_stack.specs.Cases.{IsCase, sim_of}
+use Rattle.decisions.specs.declared.cases.Case.{Case}
+use Rattle.decisions.specs.Cases.{IsCase, sim_of}
 use Rattle.pair_sim.specs.Sims.{Sim, HasGood}
 use Rattle.pair_sim.proofs.Free.{good_is}
 use Rattle.podem.specs.Sources.{all_sources, value_of}

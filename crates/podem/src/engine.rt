@@ -5,12 +5,11 @@ ghost use Rattle.podem.specs.inner.Searching.{IsReady, IsAnswer, IsKept};
 
 use crate::guides::{Guide, Pick};
 use crate::searching::search_from;
-use decision_stack::Case;
+use decisions::{Case, Effects, Measures};
 use netlist::{Core, Fault, Holds, NoMemory};
 use pair_sim::{PairSim, SimRoom};
 use redundancy_cert::{Engine, Found};
 use std::alloc::{AllocError, Global};
-use testability::{Effects, Measures};
 
 /// A search that decides inputs and cells alone, with what guides it.
 #[derive(Debug, Drop)]

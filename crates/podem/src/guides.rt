@@ -2,13 +2,12 @@
 ghost use Rattle.std.specs.Prelude.{◌≡◌};
 ghost use Rattle.pair_sim.specs.Sims.{IsNotBlocked};
 
-use decision_stack::Case;
+use decisions::{
+    Aim, Case, Effects, Measures, count_pins, excitation, gate_of, hash_in, is_unknown,
+    may_get_effect, mixed, place_of, readers, salt_of, signal_count,
+};
 use netlist::{Core, Fault, Kind, Line, SignalId};
 use pair_sim::PairSim;
-use testability::{
-    Aim, Effects, Measures, count_pins, excitation, gate_of, hash_in, is_unknown, may_get_effect,
-    mixed, place_of, readers, salt_of, signal_count,
-};
 
 /// A gate that the fault's effect has reached, what it costs to see it, and what lets the effect through.
 #[derive(Clone, Copy)]

@@ -6,12 +6,12 @@
 //! A turn looks at the other side of a decision before it goes to the wanted one. Where that is closed already, the decision is Forced and
 //! takes nothing from the backtrack limit; where it is a test, the search is over.
 //!
-//! The decisions are a stack that stands for the tree at any time (`decision_stack`).
+//! The decisions are a stack that stands for the tree at any time (`decisions`).
 ghost use Rattle.std.specs.Prelude.{◌≡◌, ◌≤◌, ◌<◌, [], ◌∷◌, length, IfOk, IfSome, OnOk, MatchOption, IsTrue, map};
 ghost use Rattle.std.specs.List.{All, Contains};
 ghost use Rattle.netlist.specs.declared.kinds.Tri.TheVariants.{X};
 ghost use Rattle.netlist.specs.Netlist.{signals};
-ghost use Rattle.decision_stack.specs.Cases.{IsCase};
+ghost use Rattle.decisions.specs.Cases.{IsCase};
 ghost use Rattle.pair_sim.specs.Sims.{HasGood, IsFree};
 ghost use Rattle.redundancy_cert.specs.Evidence.{IsTestCube};
 ghost use Rattle.podem.specs.Sources.{all_sources, value_of};
@@ -19,12 +19,13 @@ ghost use Rattle.podem.specs.inner.Searching.{MayGoOn, IsFreeSource, IsChosen, I
 
 use crate::guides::{Guide, best_aim};
 use cubes::Cube;
-use decision_stack::{Case, Step, close_both, closed_tree, one_if, push, tree_so_far};
+use decisions::{
+    Aim, Case, Effects, Step, close_both, closed_tree, one_if, push, signal_count, tree_so_far,
+};
 use netlist::{Core, Point, SignalId, Tri};
 use pair_sim::{PairSim, State};
 use redundancy_cert::{Found, Other, Side, Tree};
 use std::alloc::{AllocError, Global};
-use testability::{Aim, Effects, signal_count};
 
 /// Looks at a side, and comes back unless it's a test.
 fn look(labels: &mut PairSim, signal: SignalId, bit: bool) -> State

@@ -3,8 +3,8 @@ use Rattle.std.proofs.Common.{◌≡◌, ℕ, ◌<◌, ◌≤◌, min, List, len
 use Rattle.netlist.specs.Netlist.{Netlist, cells, is_cell}
 use Rattle.netlist.specs.Conditions.{IsSound}
 use Rattle.netlist.proofs.Placed.{signals_length}
-use Rattle.chain_stitch.specs.Chains.{chains_of, pieces, lengths_of}
-use Rattle.chain_stitch.proofs.Dealing.{stitched_count}
+use Rattle.scan_insert.specs.Chains.{chains_of, pieces, lengths_of}
+use Rattle.scan_insert.proofs.Dealing.{stitched_count}
 use Rattle.scan_insert.proofs.Soundness.{filter_le}
 use Rattle.scan_insert.specs.Scanned.{AreChainsOf, cell_ids}
 use Rattle.good_files.specs.GoodFiles.{IsChainCount}

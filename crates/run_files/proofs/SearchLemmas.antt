@@ -17,8 +17,8 @@ use Rattle.redundancy_cert.specs.Fits.{Fits}
 use Rattle.redundancy_cert.specs.Laws.{ClosedTreeIsRedundant}
 use Rattle.word_sim.specs.Hits.{IsNeverDetected}
 use Rattle.word_sim.specs.Never.{AreNever}
-use Rattle.reverse_compact.proofs.KeepLemmas.{kept_all}
-use Rattle.reverse_compact.specs.Finished.{AreFinished}
+use Rattle.list_core.proofs.KeepLemmas.{kept_all}
+use Rattle.list_core.specs.Finished.{AreFinished}
 use Rattle.worker.specs.Working.{NoneOpen}
 use Rattle.list_core.specs.Subjects.{Subject, RepresentsIn, class_count}
 use Rattle.list_core.specs.States.{State, IsTrueList}

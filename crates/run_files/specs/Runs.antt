@@ -6,7 +6,7 @@ use Rattle.netlist.specs.Holds.{Holds}
 use Rattle.bench_text.specs.Canonical.{canonical}
 use Rattle.stil_write.specs.StilFiles.{StilFile}
 use Rattle.redundancy_cert.specs.declared.nodes.Node.{Node}
-use Rattle.reverse_compact.specs.Kept.{IsNeeded}
+use Rattle.list_core.specs.Kept.{IsNeeded}
 use Rattle.run_files.specs.declared.files.RunFiles.{RunFiles}
 use Rattle.good_files.specs.GoodFiles.{AreGoodFiles, Contents, FiveFiles, chains_said, limit_said}
 use Rattle.good_files.specs.RunTheorem.{RunTheorem}

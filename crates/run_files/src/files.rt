@@ -1,7 +1,7 @@
 //! From a design to its five files.
 ghost use Rattle.std.specs.Prelude.{◌≡◌, ◌<◌, ◌≤◌, ◌^◌, IfOk, length};
 ghost use Rattle.std.specs.List.{All};
-ghost use Rattle.limits.specs.Limits.{most_limit};
+ghost use Rattle.plain_text.specs.Limits.{most_limit};
 ghost use Rattle.netlist.specs.Designs.{IsDesign};
 ghost use Rattle.cubes.specs.Cubes.{IsPatternOf};
 ghost use Rattle.netlist.specs.Holds.{AreHoldsOf};
@@ -21,16 +21,15 @@ use crate::stitching::stitched;
 use crate::truth::written_is_run;
 use bench_text::write;
 use certificate::write_trees;
-use chain_stitch::Chains;
 use cubes::Pattern;
 use fault_universe::faults_have_signals;
+use list_core::Finished;
 use netlist::{Core, Holds, Netlist, NoMemory};
 use outside::Gate;
 use redundancy_cert::Engine;
 use report::{Report, write_report};
-use reverse_compact::Finished;
 use run_report::{Subject, pin_names, subject_of};
-use scan_insert::insert;
+use scan_insert::{Chains, insert};
 use std::alloc::Global;
 use std::sync::Wait;
 use std::thread::Threads;

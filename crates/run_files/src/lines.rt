@@ -10,13 +10,13 @@ ghost use Rattle.report.specs.Reports.{IsOutcome, IsBenchWord};
 ghost use Rattle.run_files.specs.inner.Outcomes.{AreLines, IsAdded, IsOutcomeOf};
 ghost use Rattle.run_files.specs.inner.Verdicts.{IsInside};
 
-use chain_stitch::Chains;
 use fault_collapse::Classes;
 use fault_universe::{FaultSet, faults_have_lines, faults_have_signals, push_text};
 use list_core::Verdict;
 use netlist::{Fault, NameTable, Netlist, NoMemory};
 use report::{FaultLines, Outcome};
 use run_report::sight_of;
+use scan_insert::Chains;
 use std::alloc::{AllocError, Global};
 
 /// What each fault of a class has in its line behind its name.

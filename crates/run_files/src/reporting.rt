@@ -8,10 +8,10 @@ ghost use Rattle.report.specs.Reports.{IsLine};
 ghost use Rattle.run_report.specs.Heads.{count_of, counts_of, one_if_detected, holds_named, one_if_redundant, share_of};
 ghost use Rattle.run_files.specs.inner.Reports.{IsReported};
 
-use chain_stitch::Chains;
 use netlist::{Holds, Netlist, NoMemory};
 use report::{FaultLines, Report};
 use run_report::{counts_of, hold_lines, share_of, tally_of};
+use scan_insert::Chains;
 use std::alloc::Global;
 
 /// The report of these lines, for so many faults, classes and patterns, with this backtrack limit.

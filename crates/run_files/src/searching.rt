@@ -1,7 +1,7 @@
 //! The search, by workers, and the compaction of what they found.
 ghost use Rattle.std.specs.Prelude.{◌≡◌, ◌+◌, ◌<◌, ◌≤◌, ◌^◌, ℕ, IfOk, false, length, slice_index_or};
 ghost use Rattle.std.specs.List.{All};
-ghost use Rattle.limits.specs.Limits.{most_workers};
+ghost use Rattle.plain_text.specs.Limits.{most_workers};
 ghost use Rattle.netlist.specs.declared.lines.Fault.{Fault as FaultOf};
 ghost use Rattle.netlist.specs.Designs.{IsDesign};
 ghost use Rattle.netlist.specs.Lines.{IsLineOf};
@@ -10,17 +10,16 @@ ghost use Rattle.fault_collapse.specs.Classes.{AreClasses};
 ghost use Rattle.fault_universe.specs.Laws.{most_design_faults};
 ghost use Rattle.list_core.specs.Subjects.{HaveLines, class_count};
 ghost use Rattle.list_core.specs.Verdicts.{verdict_at};
-ghost use Rattle.reverse_compact.specs.Finished.{AreFinished};
+ghost use Rattle.list_core.specs.Finished.{AreFinished};
 ghost use Rattle.run_files.specs.inner.Verdicts.{AreVerdicts, is_redundant};
 
 use crate::files::RunPlan;
 use fault_collapse::Classes;
 use fault_universe::{faults_have_lines, few_faults};
-use list_core::{About, FaultList, Verdict};
+use list_core::{About, FaultList, Finished, Verdict, compact};
 use netlist::{Core, Holds, NoMemory};
 use outside::{Gate, Stage};
 use redundancy_cert::{Engine, closed_tree_is_redundant};
-use reverse_compact::{Finished, compact};
 use std::alloc::{AllocError, Global};
 use std::marker::Brand;
 use std::sync::Wait;

@@ -2,8 +2,8 @@
 ghost use Rattle.std.specs.Prelude.{◌≡◌, ◌≤◌, IfOk};
 ghost use Rattle.good_files.specs.ScanOff.{design_chains};
 
-use chain_stitch::{Chains, stitch};
 use netlist::{Netlist, NoMemory};
+use scan_insert::{Chains, stitch};
 use std::alloc::Global;
 
 /// The cells of a design in at most so many chains.

@@ -5,7 +5,7 @@ use Rattle.std.proofs.lemmas.List.{length-map}
 use Rattle.std.proofs.lemmas.Option.{slice_get_read}
 use Rattle.netlist.specs.Netlist.{Definition, Netlist, cells}
 use Rattle.netlist.specs.Conditions.{IsSound}
-use Rattle.chain_stitch.specs.Chains.{cells_of, longest_of, IsAt}
+use Rattle.scan_insert.specs.Chains.{cells_of, longest_of, IsAt}
 use Rattle.scan_insert.specs.Scanned.{AreChainsOf, cell_ids}
 use Rattle.scan_insert.proofs.Concrete.{are_dealt}
 use Rattle.scan_play.specs.Vectors.{unload_cycle, IsUnloadedAt}

@@ -3,7 +3,7 @@ use Rattle.std.specs.Prelude.{ℕ, ◌≡◌, ◌+◌, ◌*◌, ◌/◌, List, [
 use Rattle.std.specs.List.{flat_map, zip}
 use Rattle.netlist.specs.Netlist.{Netlist, cells, gates, name_of}
 use Rattle.netlist.specs.Holds.{Holds}
-use Rattle.chain_stitch.specs.Chains.{longest_of}
+use Rattle.scan_insert.specs.Chains.{longest_of}
 use Rattle.fault_universe.specs.Universe.{universe_of}
 use Rattle.fault_collapse.specs.Numbers.{Classes}
 use Rattle.report.specs.declared.counts.ReportCounts.{ReportCounts}

@@ -4,9 +4,9 @@ ghost use Rattle.scan_insert.specs.Scanned.{AreChainsOf};
 ghost use Rattle.run_report.specs.Heads.{one_if_aborted, count_of, counts_of, counts_with, one_if_detected, one_if_redundant, share_of};
 ghost use Rattle.run_report.specs.inner.Tallies.{AreTallied};
 
-use chain_stitch::Chains;
 use netlist::Netlist;
 use report::{FaultLines, Outcome, ReportCounts};
+use scan_insert::Chains;
 
 /// How many lines are of each kind.
 #[derive(Clone, Copy, Debug, PartialEq, Eq)]

@@ -7,8 +7,8 @@ ghost use Rattle.run_report.specs.Outcomes.{IsSeenAt};
 ghost use Rattle.run_report.specs.Strobes.{IsPointOf};
 
 use crate::strobes::strobe_of;
-use chain_stitch::Chains;
 use netlist::{NameTable, Netlist, Point};
+use scan_insert::Chains;
 
 /// A cycle of the test, and the pin at which the tester then looks.
 #[derive(Clone, Copy)]

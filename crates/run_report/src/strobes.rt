@@ -1,12 +1,12 @@
 //! Where a point is strobed.
 ghost use Rattle.std.specs.Prelude.{◌≡◌, ◌+◌, ◌-◌, ◌*◌, ◌<◌, ◌≤◌, ◌^◌};
-ghost use Rattle.chain_stitch.specs.Chains.{longest_of};
+ghost use Rattle.scan_insert.specs.Chains.{longest_of};
 ghost use Rattle.scan_insert.specs.Scanned.{AreChainsOf};
 ghost use Rattle.scan_play.specs.Vectors.{IsStrobedAt, capture_cycle, unload_cycle};
 ghost use Rattle.run_report.specs.Strobes.{IsPointOf};
 
-use chain_stitch::Chains;
 use netlist::{Netlist, Point};
+use scan_insert::Chains;
 
 /// A cycle of the test, and an output of the scanned netlist by its place.
 #[derive(Clone, Copy, Debug, PartialEq, Eq)]

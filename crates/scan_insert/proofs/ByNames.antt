@@ -7,7 +7,7 @@ use Rattle.netlist.specs.declared.kinds.Kind.TheVariants.{And, Or, Not, Buff, Df
 use Rattle.netlist.specs.Netlist.{Definition, Netlist, is_cell, is_gate, cells, name_of, signals, define}
 use Rattle.netlist.specs.Conditions.{IsSound}
 use Rattle.netlist.proofs.Lists.{All-from_contains, contains_head, contains_tail, contains_filter, filter_contains, contains_map, map_agree, map_map}
-use Rattle.chain_stitch.specs.Chains.{cells_of}
+use Rattle.scan_insert.specs.Chains.{cells_of}
 use Rattle.scan_insert.specs.declared.sites.Site.{Site}
 use Rattle.scan_insert.specs.Names.{names_of, numbers_from}
 use Rattle.scan_insert.specs.Scan.{Naming, scan_cell, scan_definition, show_last, scanned}

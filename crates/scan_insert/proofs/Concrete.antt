@@ -13,8 +13,8 @@ use Rattle.netlist.specs.Conditions.{IsNumbered, IsSound}
 use Rattle.netlist.specs.Settled.{Table, Settles, bit_table, with_fault, outs, next}
 use Rattle.netlist.proofs.Lists.{contains_filter, contains_map, map_map, decides_beq}
 use Rattle.netlist.proofs.Settling.{cells_distinct}
-use Rattle.chain_stitch.specs.Chains.{cells_of}
-use Rattle.chain_stitch.proofs.Dealing.{stitched_cells, stitched_count, stitched_filled}
+use Rattle.scan_insert.specs.Chains.{cells_of}
+use Rattle.scan_insert.proofs.Dealing.{stitched_cells, stitched_count, stitched_filled}
 use Rattle.netlist.specs.Lines.{IsFaultOf}
 use Rattle.scan_insert.specs.Names.{numbers_from}
 use Rattle.scan_insert.specs.Scan.{scanned}

@@ -1,3 +1,6 @@
+pub mod Pieces
+pub mod Dealing
+pub mod Table
 pub mod Namings
 pub mod Equations
 pub mod Clean

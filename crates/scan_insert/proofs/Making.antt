@@ -8,7 +8,7 @@ use Rattle.netlist.specs.Netlist.{Definition, Netlist, signals}
 use Rattle.netlist.specs.Conditions.{IsNumbered}
 use Rattle.netlist.proofs.Lists.{All-from_contains}
 use Rattle.netlist.proofs.Placed.{definition_below}
-use Rattle.chain_stitch.specs.Chains.{cells_of}
+use Rattle.scan_insert.specs.Chains.{cells_of}
 use Rattle.scan_insert.specs.Names.{numbers_from}
 use Rattle.netlist.specs.Netlist.{name_of}
 use Rattle.scan_insert.specs.Scan.{show_last}

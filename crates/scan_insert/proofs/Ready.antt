@@ -11,7 +11,7 @@ use Rattle.netlist.specs.Designs.{IsDesign}
 use Rattle.netlist.proofs.Lists.{All-from_contains, contains_map, map_map, any_from, any_true}
 use Rattle.netlist.proofs.Placed.{signals_length, input_below, signal_below}
 use Rattle.netlist.proofs.Settling.{cells_distinct, cells_below}
-use Rattle.chain_stitch.specs.Chains.{cells_of}
+use Rattle.scan_insert.specs.Chains.{cells_of}
 use Rattle.scan_insert.specs.declared.sites.Site.{Site}
 use Rattle.scan_insert.specs.Names.{numbers_from, names_of}
 use Rattle.scan_insert.specs.Scan.{Naming, scan_cell, scan_definition, show_last, scanned}

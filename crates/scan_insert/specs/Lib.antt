@@ -1,3 +1,4 @@
+pub mod Chains
 pub mod Scan
 pub mod Names
 pub mod Scanned

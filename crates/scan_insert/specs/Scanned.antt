@@ -5,7 +5,7 @@ use Rattle.netlist.specs.declared.lines.Line.{Line}
 use Rattle.netlist.specs.declared.lines.Line.TheVariants.{Stem, Pin, Out}
 use Rattle.netlist.specs.declared.lines.Fault.{Fault}
 use Rattle.netlist.specs.Netlist.{Definition, Netlist, is_cell, cells, signals}
-use Rattle.chain_stitch.specs.Chains.{chains_of, cells_of}
+use Rattle.scan_insert.specs.Chains.{chains_of, cells_of}
 use Rattle.scan_insert.specs.declared.sites.Site.{Site}
 use Rattle.scan_insert.specs.Names.{numbers_from, names_of}
 use Rattle.scan_insert.specs.Scan.{Naming, scanned}

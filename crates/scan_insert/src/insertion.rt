@@ -6,9 +6,9 @@ ghost use Rattle.netlist.specs.Netlist.{signals};
 ghost use Rattle.scan_insert.specs.Scanned.{AreChainsOf, insertion_of, line_at};
 ghost use Rattle.netlist.specs.Lines.{signal_of};
 
+use crate::chains::Chains;
 use crate::parts::scanned_parts;
 use crate::sites::{Site, moved_sites, own_sites};
-use chain_stitch::Chains;
 use netlist::{Line, NetRefusal, Netlist, NoMemory, Parts};
 use std::alloc::Global;
 use std::marker::Model;

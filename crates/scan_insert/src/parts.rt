@@ -10,10 +10,10 @@ ghost use Rattle.scan_insert.specs.Scanned.{befores, first_scan_out, last_of, sc
 ghost use Rattle.scan_insert.specs.inner.Made.{IsReady, held_at, scan_definitions, stem_at};
 
 use crate::cells::{Enables, define, moved_gate, push_scan_cell};
+use crate::chains::Chains;
 use crate::shift_paths::{befores, push_scan_outputs};
 use crate::signal_names::signal_names;
 use crate::sites::Site;
-use chain_stitch::Chains;
 use netlist::{Definition, Kind, Netlist, Parts, SignalId};
 use std::alloc::{AllocError, Global};
 

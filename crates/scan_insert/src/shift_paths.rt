@@ -2,15 +2,15 @@
 ghost use Rattle.std.specs.Prelude.{◌≡◌, ◌++◌, ◌∷◌, ◌+◌, ◌<◌, ◌≤◌, length, map, take, IfOk, OnOk};
 ghost use Rattle.std.specs.List.{All, zip};
 ghost use Rattle.netlist.specs.Netlist.{Definition as Equation};
-ghost use Rattle.chain_stitch.specs.Chains.{cells_of};
+ghost use Rattle.scan_insert.specs.Chains.{cells_of};
 ghost use Rattle.scan_insert.specs.Names.{numbers_from};
 ghost use Rattle.scan_insert.specs.Scan.{show_last};
 ghost use Rattle.scan_insert.specs.Scanned.{befores, last_of};
 ghost use Rattle.scan_insert.specs.inner.Made.{held_at};
 
 use crate::cells::define;
+use crate::chains::Chains;
 use crate::sites::{Site, after};
-use chain_stitch::Chains;
 use netlist::{Definition, Kind, SignalId};
 use std::alloc::{AllocError, Global};
 

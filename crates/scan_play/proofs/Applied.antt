@@ -14,7 +14,7 @@ use Rattle.netlist.proofs.Alike.{zip_append, length-on_pins}
 use Rattle.netlist.proofs.WellFormed.{one_pin}
 use Rattle.netlist.specs.ThreeValues.{known}
 use Rattle.cubes.specs.Cubes.{Pattern}
-use Rattle.chain_stitch.specs.Chains.{cells_of}
+use Rattle.scan_insert.specs.Chains.{cells_of}
 use Rattle.scan_insert.specs.Names.{numbers_from}
 use Rattle.scan_insert.proofs.Numbers.{length-numbers_from}
 use Rattle.scan_play.specs.Cycles.{Cycle}

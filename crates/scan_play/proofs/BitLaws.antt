@@ -21,7 +21,7 @@ use Rattle.netlist.specs.Detection.{observed, Detects}
 use Rattle.tri.proofs.Choices.{no, known_allows_itself}
 use Rattle.tri.proofs.ClosedLemmas.{same_lists}
 use Rattle.cubes.specs.Cubes.{Pattern}
-use Rattle.chain_stitch.specs.Chains.{cells_of}
+use Rattle.scan_insert.specs.Chains.{cells_of}
 use Rattle.scan_insert.specs.Names.{numbers_from}
 use Rattle.netlist.specs.Lines.{IsLineOf, IsFaultOf}
 use Rattle.scan_insert.specs.Scanned.{AreChainsOf, sites_of, scanned_of, fault_at}

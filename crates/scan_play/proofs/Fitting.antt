@@ -11,7 +11,7 @@ use Rattle.netlist.specs.Holds.{Holds, AreHoldsOf}
 use Rattle.netlist.specs.Conditions.{IsSound}
 use Rattle.netlist.specs.ThreeValues.{known}
 use Rattle.cubes.specs.Cubes.{Pattern}
-use Rattle.chain_stitch.specs.Chains.{cells_of, longest_of}
+use Rattle.scan_insert.specs.Chains.{cells_of, longest_of}
 use Rattle.scan_insert.specs.Names.{numbers_from}
 use Rattle.scan_insert.specs.Scanned.{AreChainsOf, naming_of, scanned_of}
 use Rattle.scan_insert.proofs.Concrete.{are_dealt, ins_length, outs_length}

@@ -9,7 +9,7 @@ use Rattle.netlist.specs.Netlist.{Netlist}
 use Rattle.netlist.specs.Holds.{Holds}
 use Rattle.netlist.specs.Settled.{Table, Settles, with_fault, outs, next}
 use Rattle.netlist.proofs.Alike.{zip_append}
-use Rattle.chain_stitch.specs.Chains.{cells_of, longest_of}
+use Rattle.scan_insert.specs.Chains.{cells_of, longest_of}
 use Rattle.scan_insert.specs.Names.{numbers_from}
 use Rattle.scan_insert.specs.Laws.{shifted, last_values}
 use Rattle.scan_play.specs.Cycles.{Cycle}

@@ -8,7 +8,7 @@ use Rattle.netlist.specs.Netlist.{Netlist}
 use Rattle.netlist.specs.Holds.{Holds, Obeys}
 use Rattle.netlist.specs.ThreeValues.{known}
 use Rattle.cubes.specs.Cubes.{Pattern}
-use Rattle.chain_stitch.specs.Chains.{cells_of, longest_of}
+use Rattle.scan_insert.specs.Chains.{cells_of, longest_of}
 use Rattle.scan_insert.specs.Names.{numbers_from}
 use Rattle.scan_play.specs.Cycles.{Cycle}
 use Rattle.scan_play.specs.Shifts.{by_chain, word_in, word_out, held_or_zero, idle_inputs, shift, load}

@@ -14,7 +14,7 @@ use Rattle.netlist.specs.Conditions.{IsSound}
 use Rattle.netlist.proofs.Settling.{cells_distinct}
 use Rattle.netlist.specs.ThreeValues.{known}
 use Rattle.cubes.specs.Cubes.{Pattern}
-use Rattle.chain_stitch.specs.Chains.{IsAt, cells_of, longest_of}
+use Rattle.scan_insert.specs.Chains.{IsAt, cells_of, longest_of}
 use Rattle.scan_insert.specs.Names.{numbers_from}
 use Rattle.scan_insert.specs.Scanned.{AreChainsOf, cell_ids}
 use Rattle.scan_insert.proofs.Numbers.{length-numbers_from}

@@ -4,7 +4,7 @@ use Rattle.std.specs.List.{All, AllZip}
 use Rattle.std.proofs.lemmas.Bool.{cases_lt}
 use Rattle.std.proofs.lemmas.List.{append_assoc, reverse-append, length-reverse, length-replicate, take_more, take_at, take_all, take-append-le, take-take, drop_at, get_or-take, get_or_append_left, get_or-append_right, get_or-reverse, take-append-drop, reverse-reverse}
 use Rattle.std.proofs.lemmas.List.Elements.{All-head, All-tail}
-use Rattle.chain_stitch.specs.Chains.{cells_of, longest_of}
+use Rattle.scan_insert.specs.Chains.{cells_of, longest_of}
 use Rattle.scan_insert.specs.Laws.{shifted, last_values}
 use Rattle.scan_play.specs.Shifts.{by_chain, column}
 

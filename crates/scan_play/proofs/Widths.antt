@@ -5,7 +5,7 @@ use Rattle.std.proofs.lemmas.List.{length-map}
 use Rattle.netlist.specs.declared.lines.Fault.{Fault}
 use Rattle.netlist.specs.Netlist.{Definition, Netlist, cells}
 use Rattle.netlist.specs.Lines.{IsLineOf, IsFaultOf}
-use Rattle.chain_stitch.specs.Chains.{cells_of}
+use Rattle.scan_insert.specs.Chains.{cells_of}
 use Rattle.scan_insert.specs.Scanned.{AreChainsOf, scanned_of, naming_of}
 use Rattle.scan_insert.proofs.Concrete.{are_dealt}
 use Rattle.scan_insert.proofs.Equations.{held_cell, cells_scanned}

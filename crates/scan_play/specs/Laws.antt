@@ -14,7 +14,7 @@ use Rattle.netlist.specs.ThreeValues.{AreAllowed}
 use Rattle.tri.specs.Settled.{tri_table}
 use Rattle.netlist.specs.Detection.{Detects, IsRedundant}
 use Rattle.cubes.specs.Cubes.{Pattern}
-use Rattle.chain_stitch.specs.Chains.{longest_of}
+use Rattle.scan_insert.specs.Chains.{longest_of}
 use Rattle.netlist.specs.Lines.{IsLineOf, IsFaultOf}
 use Rattle.scan_insert.specs.Scanned.{AreChainsOf, sites_of, scanned_of, fault_at}
 use Rattle.scan_play.specs.declared.played.Played.{Played}

@@ -4,7 +4,7 @@ use Rattle.netlist.specs.declared.kinds.Tri.{Tri}
 use Rattle.netlist.specs.declared.kinds.Tri.TheVariants.{X}
 use Rattle.netlist.specs.Netlist.{Netlist}
 use Rattle.netlist.specs.Holds.{Holds}
-use Rattle.chain_stitch.specs.Chains.{longest_of}
+use Rattle.scan_insert.specs.Chains.{longest_of}
 use Rattle.scan_insert.specs.Names.{numbers_from}
 use Rattle.scan_play.specs.Cycles.{Cycle}
 

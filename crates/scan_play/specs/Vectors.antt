@@ -11,7 +11,7 @@ use Rattle.netlist.specs.Holds.{Holds, AreHoldsOf}
 use Rattle.netlist.specs.Settled.{Settles, bits, outs, next}
 use Rattle.netlist.specs.ThreeValues.{known}
 use Rattle.cubes.specs.Cubes.{Pattern}
-use Rattle.chain_stitch.specs.Chains.{cells_of, longest_of, IsAt}
+use Rattle.scan_insert.specs.Chains.{cells_of, longest_of, IsAt}
 use Rattle.scan_insert.specs.Names.{numbers_from}
 use Rattle.scan_play.specs.Cycles.{Cycle}
 use Rattle.scan_play.specs.Shifts.{load}

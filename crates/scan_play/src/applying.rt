@@ -6,7 +6,7 @@ ghost use Rattle.netlist.specs.Netlist.{cells};
 ghost use Rattle.netlist.specs.Holds.{AreHoldsOf};
 ghost use Rattle.netlist.specs.declared.kinds.Tri.TheVariants.{X};
 ghost use Rattle.netlist.specs.ThreeValues.{known};
-ghost use Rattle.chain_stitch.specs.Chains.{cells_of};
+ghost use Rattle.scan_insert.specs.Chains.{cells_of};
 ghost use Rattle.scan_insert.specs.Scanned.{AreChainsOf};
 ghost use Rattle.scan_play.specs.Shifts.{load};
 ghost use Rattle.scan_play.specs.Vectors.{Response, Responds, flush, capture, AreVectors};
@@ -17,9 +17,9 @@ ghost use Rattle.scan_play.specs.inner.Applied.{IsApplied, flushing, plain_cycle
 use crate::cycles::{Burst, Vectors, push_known, strobes_of};
 use crate::flushing::{complement, flush, push_zeros};
 use crate::loading::{load, no_strobes, zero_load};
-use chain_stitch::Chains;
 use cubes::Pattern;
 use netlist::{Bits, Core, Holds, Netlist, NoMemory, Tri};
+use scan_insert::Chains;
 use std::alloc::{AllocError, Global};
 
 /// One cycle as a burst.

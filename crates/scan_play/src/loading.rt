@@ -4,14 +4,14 @@ ghost use Rattle.std.specs.List.{flat_map};
 ghost use Rattle.netlist.specs.Holds.{AreHoldsOf};
 ghost use Rattle.scan_insert.specs.Names.{numbers_from};
 ghost use Rattle.netlist.specs.declared.kinds.Tri.TheVariants.{X};
-ghost use Rattle.chain_stitch.specs.Chains.{cells_of, longest_of};
+ghost use Rattle.scan_insert.specs.Chains.{cells_of, longest_of};
 ghost use Rattle.scan_play.specs.Shifts.{by_chain, column, word_in, word_out, held_or_zero, idle_inputs, load};
 ghost use Rattle.scan_play.specs.Bursts.{cycles_of};
 
 use crate::cycles::Burst;
 use crate::flushing::push_zeros;
-use chain_stitch::Chains;
 use netlist::{Holds, Netlist, Tri};
+use scan_insert::Chains;
 use std::alloc::{AllocError, Global};
 
 /// Character t of the word of m characters that brings these bits to a chain.

@@ -8,7 +8,7 @@
 //! A contract can't say what others did to a locked value meanwhile. Ledgers do: a share counts its holder's events, the books under the lock
 //! have the sums, and these are the numbers of the journal's events.
 ghost use Rattle.std.specs.Prelude.{◌≡◌, ℕ, ◌+◌, ◌-◌, ◌^◌, ◌<◌, ◌≤◌, true, false, [], length, sum_by, IfOk, OnOk, OnErr, IfErr, vec_len};
-ghost use Rattle.limits.specs.Limits.{most_workers};
+ghost use Rattle.plain_text.specs.Limits.{most_workers};
 ghost use Rattle.list_core.specs.Subjects.{class_count};
 ghost use Rattle.list_core.specs.Batches.{IsTrueBatch};
 ghost use Rattle.list_core.specs.Journal.{one_if_take, one_if_settle, one_if_publish};

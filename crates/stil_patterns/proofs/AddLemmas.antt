@@ -11,7 +11,7 @@ use Rattle.netlist.specs.Holds.{Holds, AreHoldsOf}
 use Rattle.netlist.specs.Conditions.{IsSound}
 use Rattle.netlist.specs.ThreeValues.{known}
 use Rattle.cubes.specs.Cubes.{Pattern}
-use Rattle.chain_stitch.specs.Chains.{cells_of}
+use Rattle.scan_insert.specs.Chains.{cells_of}
 use Rattle.scan_insert.specs.Names.{output_name}
 use Rattle.scan_play.specs.Vectors.{Responds, flush}
 use Rattle.scan_play.proofs.Applied.{taken_count}

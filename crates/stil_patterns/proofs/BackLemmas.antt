@@ -11,7 +11,7 @@ use Rattle.netlist.specs.Netlist.{Netlist, cells}
 use Rattle.netlist.specs.Holds.{Holds}
 use Rattle.netlist.specs.ThreeValues.{known}
 use Rattle.cubes.specs.Cubes.{Pattern, IsPatternOf}
-use Rattle.chain_stitch.specs.Chains.{cells_of, longest_of}
+use Rattle.scan_insert.specs.Chains.{cells_of, longest_of}
 use Rattle.scan_insert.specs.Scanned.{AreChainsOf}
 use Rattle.scan_play.specs.Shifts.{by_chain, word_in, word_out}
 use Rattle.scan_play.specs.Vectors.{Response, Responds, flush}

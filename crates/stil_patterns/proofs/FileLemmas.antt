@@ -19,8 +19,8 @@ use Rattle.netlist.specs.Names as bench
 use Rattle.netlist.proofs.Alike.{zip_append}
 use Rattle.netlist.proofs.Settling.{cells_below, inputs_below}
 use Rattle.cubes.specs.Cubes.{Pattern, IsPatternOf}
-use Rattle.chain_stitch.specs.Chains.{cells_of, chains_of, longest_of}
-use Rattle.chain_stitch.proofs.Dealing.{stitched_cells, stitched_count, stitched_filled}
+use Rattle.scan_insert.specs.Chains.{cells_of, chains_of, longest_of}
+use Rattle.scan_insert.proofs.Dealing.{stitched_cells, stitched_count, stitched_filled}
 use Rattle.scan_insert.specs.Names.{output_name}
 use Rattle.scan_insert.specs.Named.{HasTesterNames, tester_names}
 use Rattle.scan_insert.specs.Scanned.{AreChainsOf, cell_ids, scanned_of}

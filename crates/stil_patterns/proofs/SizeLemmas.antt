@@ -6,7 +6,7 @@ use Rattle.netlist.specs.declared.kinds.Tri.{Tri}
 use Rattle.netlist.specs.declared.kinds.Tri.TheVariants.{X}
 use Rattle.netlist.specs.ThreeValues.{known}
 use Rattle.cubes.specs.Cubes.{Pattern}
-use Rattle.chain_stitch.specs.Chains.{cells_of}
+use Rattle.scan_insert.specs.Chains.{cells_of}
 use Rattle.scan_play.specs.Vectors.{Response, flush}
 use Rattle.stil_write.specs.StilFiles.{StilFile}
 use Rattle.stil_vectors.specs.TestFiles.{applied_items, capture_item, load_items, test_items}

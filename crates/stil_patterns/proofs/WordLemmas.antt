@@ -1,7 +1,7 @@
 -- Words as they are made, character by character and chain by chain.
 use Rattle.std.proofs.Common.{Bool, true, ◌≡◌, ◌∙◌, ◌+◌, ◌<◌, ◌≤◌, ℕ, zero, suc, List, [], ◌∷◌, ◌++◌, ap, sym, append_assoc, length, map, take, drop, get_or, arith, Some, slice_get, length-append}
 use Rattle.std.proofs.lemmas.List.{drop-drop, map-append, map_more, map_push, take_all, take_more}
-use Rattle.chain_stitch.specs.Chains.{cells_of}
+use Rattle.scan_insert.specs.Chains.{cells_of}
 use Rattle.scan_play.specs.Shifts.{by_chain}
 use Rattle.scan_play.specs.Shifts.{held_or_zero, idle_inputs}
 use Rattle.netlist.specs.Holds.{Holds}

@@ -3,7 +3,7 @@ ghost use Rattle.std.specs.Prelude.{◌≡◌, ◌+◌, ◌^◌, ◌<◌, ◌≤
 ghost use Rattle.std.specs.List.{All};
 ghost use Rattle.netlist.specs.Netlist.{Netlist as Equations, cells};
 ghost use Rattle.cubes.specs.Cubes.{IsPatternOf};
-ghost use Rattle.chain_stitch.specs.Chains.{cells_of};
+ghost use Rattle.scan_insert.specs.Chains.{cells_of};
 ghost use Rattle.scan_insert.specs.Scanned.{AreChainsOf};
 ghost use Rattle.scan_play.specs.Vectors.{Responds};
 ghost use Rattle.events.specs.Words.{bit_of};
@@ -12,9 +12,9 @@ ghost use Rattle.stil_patterns.specs.inner.Added.{AreAll, AreBegun, IsAdded, flu
 
 use crate::capturing::push_capture;
 use crate::loading::{Room, push_load, push_zero_load};
-use chain_stitch::Chains;
 use cubes::Pattern;
 use netlist::{Core, Holds, NoMemory, Tri};
+use scan_insert::Chains;
 use scan_play::{cell_count, complement, flush, push_known, strobes_of};
 use std::alloc::{AllocError, Global};
 use stil_write::Items;

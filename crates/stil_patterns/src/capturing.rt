@@ -8,8 +8,8 @@ ghost use Rattle.stil_vectors.specs.TestFiles.{capture_item, char_of_value, laun
 
 use crate::loading::Room;
 use crate::words::{push_bits, push_strobes};
-use chain_stitch::Chains;
 use cubes::Pattern;
+use scan_insert::Chains;
 use std::alloc::AllocError;
 use stil_write::{ItemKind, Items, Texts};
 

@@ -1,12 +1,12 @@
 //! Calls that load the chains.
 ghost use Rattle.std.specs.Prelude.{◌≡◌, ◌^◌, ◌<◌, ◌++◌, false, length, map, replicate, OnOk};
-ghost use Rattle.chain_stitch.specs.Chains.{cells_of, longest_of};
+ghost use Rattle.scan_insert.specs.Chains.{cells_of, longest_of};
 ghost use Rattle.scan_play.specs.Shifts.{by_chain, word_in, word_out};
 ghost use Rattle.stil_vectors.specs.TestFiles.{load_items, text_of_bits, text_of_values};
 
 use crate::words::{set_word_in, set_word_out};
-use chain_stitch::Chains;
 use netlist::Tri;
+use scan_insert::Chains;
 use std::alloc::{AllocError, Global};
 use stil_write::{ItemKind, Items, Texts};
 

@@ -9,9 +9,8 @@ ghost use Rattle.stil_vectors.specs.TestFiles.{char_of_bit, shift_word_of};
 ghost use Rattle.scan_play.specs.Shifts.{held_or_zero};
 
 use crate::words::char_of_bit;
-use chain_stitch::Chains;
 use netlist::{Holds, Netlist, NoMemory, SignalId};
-use scan_insert::pin_name;
+use scan_insert::{Chains, pin_name};
 use std::alloc::{AllocError, Global};
 use stil_write::Texts;
 

@@ -11,9 +11,9 @@ ghost use Rattle.stil_patterns.specs.Tests.{IsFileOf};
 
 use crate::applying::items_of;
 use crate::names::{chain_names, input_names, output_names, shift_word};
-use chain_stitch::Chains;
 use cubes::Pattern;
 use netlist::{Core, Holds, NoMemory};
+use scan_insert::Chains;
 use std::alloc::Global;
 use stil_write::{Items, StilFile, StilParts};
 

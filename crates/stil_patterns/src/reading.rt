@@ -4,8 +4,8 @@ ghost use Rattle.stil_write.specs.StilFiles.{item_at, words_of};
 ghost use Rattle.stil_vectors.specs.FileVectors.{bits_of};
 ghost use Rattle.stil_patterns.specs.inner.Reading.{cells_in, chain_in, pattern_in, patterns_in, tests_in};
 
-use chain_stitch::Chains;
 use cubes::Pattern;
+use scan_insert::Chains;
 use std::alloc::{AllocError, Global};
 use stil_write::Items;
 

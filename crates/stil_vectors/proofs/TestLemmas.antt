@@ -11,7 +11,7 @@ use Rattle.netlist.specs.Holds.{Holds}
 use Rattle.netlist.specs.Netlist.{Netlist, name_of}
 use Rattle.netlist.specs.ThreeValues.{known}
 use Rattle.cubes.specs.Cubes.{Pattern}
-use Rattle.chain_stitch.specs.Chains.{cells_of, longest_of}
+use Rattle.scan_insert.specs.Chains.{cells_of, longest_of}
 use Rattle.scan_insert.specs.Names.{numbers_from, output_name}
 use Rattle.scan_play.specs.Cycles.{Cycle}
 use Rattle.scan_play.specs.Shifts.{by_chain, column, idle_inputs, load, shift, word_in, word_out}

@@ -8,7 +8,7 @@ use Rattle.netlist.specs.Holds.{Holds, AreHoldsOf}
 use Rattle.netlist.specs.Netlist.{Netlist, name_of}
 use Rattle.netlist.specs.ThreeValues.{known}
 use Rattle.cubes.specs.Cubes.{Pattern}
-use Rattle.chain_stitch.specs.Chains.{cells_of, longest_of}
+use Rattle.scan_insert.specs.Chains.{cells_of, longest_of}
 use Rattle.scan_insert.specs.Names.{output_name}
 use Rattle.scan_play.specs.Shifts.{by_chain, held_or_zero, word_in, word_out}
 use Rattle.scan_play.specs.Vectors.{Response, flush}

@@ -15,8 +15,8 @@ use Rattle.stil_write.specs.StilFiles.{Call, IsItem, IsStilFile, IsWord, Item, S
 use Rattle.stil_write.specs.Pieces.{HasTargets}
 use Rattle.stil_write.specs.Texts.{assigned, called}
 use Rattle.stil_write.specs.inner.Listed.{AreListed, listed}
-use Rattle.rows.specs.Rows.{rows}
-use Rattle.rows.proofs.Buffers.{begins_before_end, end_within, pushed_ends, pushed_rows, row_at, rows_count}
+use Rattle.plain_text.specs.Rows.{rows}
+use Rattle.plain_text.proofs.Buffers.{begins_before_end, end_within, pushed_ends, pushed_rows, row_at, rows_count}
 
 -- ---- in their buffers
 

@@ -9,7 +9,7 @@ use crate::items::{ItemKind, Items};
 use crate::parts::StilParts;
 use crate::signals::signals;
 use indexmap::IndexSet;
-use rows::Texts;
+use plain_text::Texts;
 use std::alloc::{AllocError, Global};
 
 /// The most bytes that a name has.

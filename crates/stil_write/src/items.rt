@@ -2,7 +2,7 @@
 ghost use Rattle.std.specs.Prelude.{◌≡◌, ◌<◌, ◌==◌, ◌∷◌, [], ◌++◌, length, OnOk, slice_get, Some};
 ghost use Rattle.stil_write.specs.StilFiles.{item_at, item_of, item_kind, words_of};
 
-use rows::{Texts, span};
+use plain_text::{Texts, span};
 use std::alloc::{AllocError, Global};
 use std::marker::Model;
 
@@ -32,7 +32,7 @@ impl Model for Items {
 
     ghost Value = { List Item };
 
-    ghost use Rattle.rows.specs.Rows.{rows, AreEnds};
+    ghost use Rattle.plain_text.specs.Rows.{rows, AreEnds};
     ghost use Rattle.stil_write.specs.inner.Listed.{listed, AreListed};
 
     ghost view = { λ t. listed t.kinds.items (rows 0 t.words t.ends.items) };

@@ -17,6 +17,6 @@ mod writer;
 
 pub use items::{ItemKind, Items};
 pub use parts::{StilFile, StilParts};
-pub use rows::Texts;
+pub use plain_text::Texts;
 pub use signals::{assigned, called, numbered};
 pub use writer::write_stil;

@@ -4,7 +4,7 @@ ghost use Rattle.stil_write.specs.Parts.{file_of};
 ghost use Rattle.stil_write.specs.StilFiles.{IsStilFile};
 
 use crate::items::Items;
-use rows::Texts;
+use plain_text::Texts;
 use std::marker::Model;
 
 /// What a block takes beside names, and what a name takes beside its bytes.

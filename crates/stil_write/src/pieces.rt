@@ -5,7 +5,7 @@ ghost use Rattle.stil_write.specs.Pieces.{assignment, assignments, chain_block, 
 
 use crate::items::{ItemKind, Items};
 use itoa::Buffer;
-use rows::Texts;
+use plain_text::Texts;
 use std::alloc::AllocError;
 
 fn push_number(out: &mut Vec<u8>, number: usize) -> Result<(), AllocError>

@@ -6,7 +6,7 @@ ghost use Rattle.stil_write.specs.Texts.{assigned, called};
 
 use crate::parts::StilParts;
 use itoa::Buffer;
-use rows::Texts;
+use plain_text::Texts;
 use std::alloc::{AllocError, Global};
 
 /// Adds a name for each of so many chains.

@@ -9,7 +9,7 @@ use crate::items::{ItemKind, Items};
 use crate::parts::StilFile;
 use crate::pieces::{push_chains, push_group, push_item, push_signals, push_waveforms};
 use crate::signals::{assigned, called, clock, numbered};
-use rows::Texts;
+use plain_text::Texts;
 use std::alloc::{AllocError, Global};
 
 /// Adds the signals' block behind its head.

@@ -4,7 +4,7 @@ use Rattle.netlist.specs.declared.lines.Point.{Point}
 use Rattle.netlist.specs.declared.lines.Point.TheVariants.{Output, Cell}
 use Rattle.netlist.specs.Conditions.{IsSound}
 use Rattle.netlist.specs.Netlist.{Netlist}
-use Rattle.chain_stitch.specs.Chains.{longest_of}
+use Rattle.scan_insert.specs.Chains.{longest_of}
 use Rattle.scan_insert.specs.Scanned.{AreChainsOf}
 use Rattle.scan_play.specs.Vectors.{IsStrobedAt, capture_cycle, unload_cycle}
 use Rattle.run_report.specs.Outcomes.{IsSeenAt}

@@ -11,10 +11,10 @@ ghost use Rattle.transition_report.specs.inner.Parts.{IsAdded};
 
 use crate::certificates::push_fault;
 use crate::sights::sight_behind;
-use chain_stitch::Chains;
 use fault_universe::{FaultSet, faults_have_signals};
 use netlist::{Fault, NameTable, Netlist, NoMemory};
 use report::{FaultLines, Outcome};
+use scan_insert::Chains;
 use std::alloc::{AllocError, Global};
 use transition_tests::TransitionVerdict;
 

@@ -5,10 +5,10 @@ ghost use Rattle.fault_universe.specs.Universe.{universe_of};
 ghost use Rattle.transition_report.specs.Texts.{transition_report_text};
 ghost use Rattle.transition_report.specs.Numbers.{IsReportOf, HasWritableShares};
 
-use chain_stitch::Chains;
 use netlist::{Netlist, NoMemory};
 use report::{FaultLines, ReportCounts, push_counts, push_faults, push_share};
 use run_report::{counts_with, share_of, tally_of};
+use scan_insert::Chains;
 use std::alloc::{AllocError, Global};
 
 /// What a test says of a design's transition faults: the counts of a report, coverage and efficiency in hundredths of a percent, and a line for

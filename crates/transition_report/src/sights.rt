@@ -6,9 +6,9 @@ ghost use Rattle.scan_insert.specs.Scanned.{AreChainsOf, scanned_of};
 ghost use Rattle.run_report.specs.Strobes.{IsPointOf};
 ghost use Rattle.transition_report.specs.Lines.{IsLaunchSeenAt};
 
-use chain_stitch::Chains;
 use netlist::{NameTable, Netlist, Point};
 use run_report::{Sight, sight_of};
+use scan_insert::Chains;
 
 /// Where the tester sees a point for the pattern at a place. `pins` has the names of the pins at the scanned netlist's outputs.
 pub(crate) fn sight_behind<'a>(

@@ -9,7 +9,7 @@ use Rattle.netlist.specs.Designs.{IsDesign}
 use Rattle.netlist.specs.Lines.{IsLineOf, signal_of}
 use Rattle.netlist.specs.Netlist.{Netlist, signals}
 use Rattle.cubes.specs.Cubes.{Pattern}
-use Rattle.chain_stitch.specs.Chains.{chains_of}
+use Rattle.scan_insert.specs.Chains.{chains_of}
 use Rattle.scan_insert.specs.Scanned.{AreChainsOf, cell_ids}
 use Rattle.fault_universe.specs.Laws.{FaultsHaveLines, FaultsHaveSignals}
 use Rattle.fault_universe.specs.Universe.{universe_of}

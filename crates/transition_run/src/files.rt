@@ -2,7 +2,7 @@
 //! searched, each on two frames of its own, and then all patterns are simulated: there is no list that workers share, and so no lock.
 ghost use Rattle.std.specs.Prelude.{◌≡◌, ◌<◌, ◌≤◌, ◌^◌, IfOk, length};
 ghost use Rattle.std.specs.List.{All};
-ghost use Rattle.limits.specs.Limits.{most_workers};
+ghost use Rattle.plain_text.specs.Limits.{most_workers};
 ghost use Rattle.netlist.specs.Designs.{IsDesign};
 ghost use Rattle.netlist.specs.Holds.{none_held};
 ghost use Rattle.cubes.specs.Cubes.{IsPatternOf};
@@ -14,14 +14,13 @@ ghost use Rattle.transition_run.specs.inner.Written.{IsLaunchText, IsSaid, IsWri
 
 use crate::truth::written_tells_the_truth;
 use bench_text::write;
-use chain_stitch::{Chains, stitch};
 use cubes::Pattern;
 use fault_universe::{FaultSet, faults_have_lines, faults_have_signals, few_faults, universe};
 use netlist::{Core, Netlist, NoMemory};
 use outside::{Gate, Stage};
 use redundancy_cert::Engine;
 use run_report::pin_names;
-use scan_insert::insert;
+use scan_insert::{Chains, insert, stitch};
 use std::alloc::Global;
 use std::thread::Threads;
 use stil_write::write_stil;

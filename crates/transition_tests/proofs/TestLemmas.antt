@@ -15,10 +15,10 @@ use Rattle.netlist.proofs.Lists.{contains_head}
 use Rattle.cubes.specs.Cubes.{Cube, Pattern, IsCubeOf, IsPatternOf}
 use Rattle.redundancy_cert.specs.declared.engine.Found.{Found}
 use Rattle.redundancy_cert.specs.declared.engine.Found.TheVariants.{Test, Closed, Partial}
-use Rattle.reverse_compact.specs.Kept.{is_last_at, kept_from, new_place}
-use Rattle.reverse_compact.specs.inner.Marks.{last_at}
-use Rattle.reverse_compact.proofs.KeepLemmas.{kept_all, source}
-use Rattle.reverse_compact.proofs.LastPlaces.{last_kept, marked_by, marked_where, never_kept, some_marked}
+use Rattle.list_core.specs.Kept.{is_last_at, kept_from, new_place}
+use Rattle.list_core.specs.inner.Marks.{last_at}
+use Rattle.list_core.proofs.KeepLemmas.{kept_all, source}
+use Rattle.list_core.proofs.LastPlaces.{last_kept, marked_by, marked_where, never_kept, some_marked}
 use Rattle.fault_universe.specs.Universe.{universe_of}
 use Rattle.transition_frames.specs.Frames.{frames_of, frame_fault}
 use Rattle.transition.specs.Detections.{IsLastTransition, LastTransition}

@@ -9,7 +9,7 @@ use Rattle.cubes.specs.Merging.{AreMerged}
 use Rattle.fault_universe.specs.Universe.{universe_of}
 use Rattle.redundancy_cert.specs.declared.engine.Found.{Found}
 use Rattle.redundancy_cert.specs.declared.engine.Found.TheVariants.{Test, Closed, Partial}
-use Rattle.reverse_compact.specs.Kept.{kept_from}
+use Rattle.list_core.specs.Kept.{kept_from}
 use Rattle.transition_tests.specs.Batches.{words_on_stream}
 use Rattle.transition_tests.specs.Verdicts.{IsNeededForTransitions}
 

@@ -4,7 +4,7 @@ ghost use Rattle.std.specs.Prelude.{◌≡◌, ◌+◌, ◌≤◌, ◌<◌, ◌^
 ghost use Rattle.std.specs.List.{All, AllZip};
 ghost use Rattle.netlist.specs.Designs.{IsDesign};
 ghost use Rattle.fault_universe.specs.Universe.{universe_of};
-ghost use Rattle.reverse_compact.specs.Kept.{is_last_at, kept_from, new_place};
+ghost use Rattle.list_core.specs.Kept.{is_last_at, kept_from, new_place};
 ghost use Rattle.netlist.specs.Holds.{none_held};
 ghost use Rattle.cubes.specs.Cubes.{IsPatternOf};
 ghost use Rattle.transition.specs.Searches.{AreFoundWhereLeft};
@@ -17,9 +17,9 @@ use crate::filling::{cubes_of, patterns_of};
 use crate::verdicts::{Tests, TransitionVerdict};
 use cubes::Pattern;
 use fault_universe::FaultSet;
+use list_core::{kept, needed, new_places};
 use netlist::{Core, NoMemory, Point};
 use redundancy_cert::Found;
-use reverse_compact::{kept, needed, new_places};
 use std::alloc::{AllocError, Global};
 use transition::last_tells2;
 

@@ -1,7 +1,7 @@
 //! Workers beside each other.
 ghost use Rattle.std.specs.Prelude.{◌≡◌, ◌+◌, ◌<◌, ◌≤◌, [], length, IfOk, vec_len};
 ghost use Rattle.std.specs.List.{All};
-ghost use Rattle.limits.specs.Limits.{most_workers};
+ghost use Rattle.plain_text.specs.Limits.{most_workers};
 ghost use Rattle.list_core.specs.Subjects.{class_count, HaveLines};
 ghost use Rattle.list_core.specs.States.{IsTrueList};
 ghost use Rattle.shared_list.specs.Tally.{Tally};

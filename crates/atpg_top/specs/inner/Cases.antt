@@ -10,8 +10,8 @@ use Rattle.stil_read.specs.Reading.{StandsFor}
 use Rattle.stil_vectors.specs.FileVectors.{vectors_in}
 use Rattle.stil_vectors.specs.Fitting.{FitsNetlist}
 use Rattle.stil_write.specs.StilFiles.{StilFile}
-use Rattle.fail_log.specs.Failures.{Failing}
-use Rattle.fail_log.specs.Reading.{IsLogOf}
+use Rattle.diagnose.specs.Failures.{Failing}
+use Rattle.diagnose.specs.Reading.{IsLogOf}
 use Rattle.commands.specs.Due.{Due, Deliver, Refuse}
 use Rattle.commands.specs.declared.ending.Finding.TheVariants.{Fine}
 use Rattle.commands.specs.declared.product.Stop.{Stop}

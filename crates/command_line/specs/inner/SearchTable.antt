@@ -1,6 +1,6 @@
 -- A part of the table.
 use Rattle.std.specs.Prelude.{codes}
-use Rattle.limits.specs.Limits.{most_chains, most_workers, most_limit}
+use Rattle.plain_text.specs.Limits.{most_chains, most_workers, most_limit}
 use Rattle.clap.specs.Words.{App, with_rule}
 use Rattle.command_line.specs.Table.{most_seed, number_option, required, text_option}
 

@@ -6,7 +6,7 @@ use Rattle.netlist.specs.declared.lines.Line.TheVariants.{Stem, Pin, Out}
 use Rattle.netlist.specs.Netlist.{Netlist, signals}
 use Rattle.netlist.specs.Orders.{IsOrder, ArePlaces}
 use Rattle.netlist.specs.Readers.{readers_of}
-use Rattle.rows.specs.Rows.{AreEnds, rows}
+use Rattle.plain_text.specs.Rows.{AreEnds, rows}
 use Rattle.events.specs.Agendas.{marked}
 
 -- a signal waits where its place is marked

@@ -11,14 +11,14 @@ use Rattle.redundancy_cert.specs.declared.engine.Found.{Found}
 use Rattle.redundancy_cert.specs.declared.stacks.Side.{Side}
 use Rattle.redundancy_cert.specs.Evidence.{HasEvidence}
 use Rattle.redundancy_cert.specs.Stacks.{path_of_stack, closed_around}
-use Rattle.decision_stack.specs.declared.cases.Case.{Case}
+use Rattle.decisions.specs.declared.cases.Case.{Case}
 use Rattle.pair_sim.specs.declared.states.State.{State}
 use Rattle.pair_sim.specs.declared.states.State.TheVariants.{Test, Blocked, Going}
-use Rattle.decision_stack.specs.Cases.{IsCase, sim_of, start}
+use Rattle.decisions.specs.Cases.{IsCase, sim_of, start}
 use Rattle.pair_sim.specs.Sims.{Sim, assigned, HasGood}
-use Rattle.decision_stack.specs.declared.turns.Step.{Step}
-use Rattle.decision_stack.specs.Standing.{StandsAt}
-use Rattle.decision_stack.specs.Turns.{IsSearchStep, IsOfCase}
+use Rattle.decisions.specs.declared.turns.Step.{Step}
+use Rattle.decisions.specs.Standing.{StandsAt}
+use Rattle.decisions.specs.Turns.{IsSearchStep, IsOfCase}
 use Rattle.podem.specs.Sources.{sources, PlaceInSources, HasSourceEvidence}
 
 -- The stack stands for a tree on sources that fits, and the simulation is at the end of its path.

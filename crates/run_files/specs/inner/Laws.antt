@@ -1,6 +1,6 @@
 -- What is written of verdicts comes true.
 use Rattle.std.specs.Prelude.{ℕ, ◌≡◌, ◌≤◌, List}
-use Rattle.limits.specs.Limits.{most_limit}
+use Rattle.plain_text.specs.Limits.{most_limit}
 use Rattle.netlist.specs.declared.lines.Fault.{Fault}
 use Rattle.netlist.specs.Conditions.{IsSound}
 use Rattle.netlist.specs.Designs.{IsDesign}

@@ -11,7 +11,7 @@ use Rattle.redundancy_cert.specs.declared.nodes.Node.{Node}
 use Rattle.redundancy_cert.specs.Trees.{closed_count, open_count}
 use Rattle.redundancy_cert.specs.Fits.{Fits}
 use Rattle.word_sim.specs.Hits.{IsLastDetected, IsNeverDetected}
-use Rattle.reverse_compact.specs.Kept.{IsNeeded}
+use Rattle.list_core.specs.Kept.{IsNeeded}
 use Rattle.list_core.specs.declared.verdicts.Verdict.{Verdict}
 use Rattle.list_core.specs.declared.verdicts.Verdict.TheVariants.{Open, Detected, Redundant, Aborted}
 use Rattle.list_core.specs.Verdicts.{verdict_at}

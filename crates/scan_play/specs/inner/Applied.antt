@@ -6,7 +6,7 @@ use Rattle.netlist.specs.Netlist.{Netlist}
 use Rattle.netlist.specs.Holds.{Holds}
 use Rattle.netlist.specs.declared.kinds.Tri.TheVariants.{X}
 use Rattle.netlist.specs.ThreeValues.{known}
-use Rattle.chain_stitch.specs.Chains.{cells_of}
+use Rattle.scan_insert.specs.Chains.{cells_of}
 use Rattle.scan_play.specs.Cycles.{Cycle}
 use Rattle.cubes.specs.Cubes.{Pattern}
 use Rattle.scan_play.specs.declared.cycles.Burst.{Burst}

@@ -6,7 +6,7 @@ use Rattle.netlist.specs.declared.kinds.Tri.TheVariants.{X}
 use Rattle.netlist.specs.Netlist.{Netlist}
 use Rattle.netlist.specs.ThreeValues.{known}
 use Rattle.cubes.specs.Cubes.{Pattern}
-use Rattle.chain_stitch.specs.Chains.{cells_of}
+use Rattle.scan_insert.specs.Chains.{cells_of}
 use Rattle.events.specs.Words.{bit_of}
 use Rattle.scan_play.specs.Vectors.{Response, Responds, flush}
 use Rattle.scan_play.specs.inner.Applied.{AreApplied}

@@ -3,7 +3,7 @@ use Rattle.std.specs.Prelude.{ℕ, ◌≡◌, List, [], ◌∷◌, length}
 use Rattle.plain_text.specs.Texts.{Text}
 use Rattle.stil_write.specs.declared.items.ItemKind.{ItemKind}
 use Rattle.stil_write.specs.StilFiles.{Item, item_of}
-use Rattle.rows.specs.Rows.{AreEnds}
+use Rattle.plain_text.specs.Rows.{AreEnds}
 
 abbrev pub listed : List ItemKind → List (List Text) → List Item
 listed [] rows = []

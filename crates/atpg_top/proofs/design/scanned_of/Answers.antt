@@ -1,5 +1,5 @@
 use Rattle.std.proofs.Common.{ℕ, List, ap, ◌∙◌, arith}
-use Rattle.chain_stitch.specs.Chains.{chains_of}
+use Rattle.scan_insert.specs.Chains.{chains_of}
 use Rattle.netlist.proofs.Settling.{cells_distinct}
 use Rattle.atpg_top.proofs.Cells.{few_cells}
 use Rattle.atpg_top.proofs.design.scanned_of.Goals as goal

@@ -1,5 +1,5 @@
 use Rattle.std.proofs.Common.{codes, refl}
-use Rattle.status_lines.proofs.Saying.{of_three, said_so}
+use Rattle.commands.proofs.Saying.{of_three, said_so}
 use Rattle.atpg_top.proofs.lines.say_word.Goals as goal
 
 pub returns : goal.returns

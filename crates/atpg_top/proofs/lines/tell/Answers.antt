@@ -1,6 +1,6 @@
 use Rattle.std.proofs.Common.{◌++◌, ap, codes, rules}
 use Rattle.plain_text.specs.Texts.{Text}
-use Rattle.status_lines.proofs.Saying.{said_so}
+use Rattle.commands.proofs.Saying.{said_so}
 use Rattle.atpg_top.proofs.lines.tell.Goals as goal
 
 pub returns-in-BadPrefix : goal.returns-in-BadPrefix

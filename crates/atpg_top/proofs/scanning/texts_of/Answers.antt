@@ -1,6 +1,6 @@
 use Rattle.std.proofs.Common.{◌≡◌, ℕ, List, ap, ◌∙◌, length, refl, arith}
 use Rattle.bench_text.specs.Canonical.{canonical}
-use Rattle.chain_stitch.specs.Chains.{chains_of}
+use Rattle.scan_insert.specs.Chains.{chains_of}
 use Rattle.scan_insert.specs.Scanned.{Insertion, scanned_of}
 use Rattle.good_files.specs.ScanOff.{design_chains}
 use Rattle.netlist.proofs.Settling.{cells_distinct}

@@ -1,5 +1,5 @@
 use Rattle.std.proofs.Common.{◌≡◌, ◌∙◌, ℕ, List, ap, arith}
-use Rattle.chain_stitch.specs.Chains.{chains_of}
+use Rattle.scan_insert.specs.Chains.{chains_of}
 use Rattle.netlist.proofs.Settling.{cells_distinct}
 use Rattle.scan_insert.specs.Scanned.{Insertion, scanned_of}
 use Rattle.good_files.specs.ScanOff.{design_chains}

@@ -1,5 +1,5 @@
 use Rattle.std.proofs.Common.{ap, codes, ◌∙◌}
-use Rattle.limits.specs.Limits.{most_chains}
+use Rattle.plain_text.specs.Limits.{most_chains}
 use Rattle.clap.specs.declared.builder.command.Command.{Command}
 use Rattle.clap.specs.declared.builder.command.Command.TheOpen.{Command-F}
 use Rattle.command_line.specs.Table.{number_option, required}

@@ -1,5 +1,5 @@
 use Rattle.std.proofs.Common.{ap, codes, ◌∙◌}
-use Rattle.limits.specs.Limits.{fewest_gates, most_gates}
+use Rattle.plain_text.specs.Limits.{fewest_gates, most_gates}
 use Rattle.clap.specs.declared.builder.command.Command.{Command}
 use Rattle.clap.specs.declared.builder.command.Command.TheOpen.{Command-F}
 use Rattle.command_line.specs.Table.{most_seed, required_number}

@@ -1,7 +1,7 @@
 use Rattle.std.proofs.Common.{[]}
 use Rattle.std.proofs.lemmas.Option.{get_or_from_slice_get}
-use Rattle.rows.specs.Rows.{rows}
-use Rattle.rows.proofs.Buffers.{row_at}
+use Rattle.plain_text.specs.Rows.{rows}
+use Rattle.plain_text.proofs.Buffers.{row_at}
 use Rattle.events.proofs.tables.row.Goals as goal
 
 pub returns : goal.returns

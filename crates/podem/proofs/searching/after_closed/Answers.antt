@@ -1,6 +1,6 @@
 use Rattle.std.proofs.Common.{not}
 use Rattle.tri.specs.Paths.{IsGoingPath}
-use Rattle.decision_stack.proofs.Standing.{seen, end_there, both_closed, this_closed}
+use Rattle.decisions.proofs.Standing.{seen, end_there, both_closed, this_closed}
 use Rattle.podem.specs.inner.Searching.{IsTestAt}
 use Rattle.podem.proofs.Turns.{source_fits}
 use Rattle.podem.proofs.Steps.{test_there, may_decide}

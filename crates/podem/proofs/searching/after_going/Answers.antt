@@ -1,6 +1,6 @@
 use Rattle.std.proofs.Common.{not}
 use Rattle.tri.specs.Paths.{IsGoingPath}
-use Rattle.decision_stack.proofs.Standing.{seen, free_there, other_closed, both_going}
+use Rattle.decisions.proofs.Standing.{seen, free_there, other_closed, both_going}
 use Rattle.podem.specs.inner.Searching.{IsTestAt}
 use Rattle.podem.proofs.Steps.{test_there, may_decide, split}
 use Rattle.podem.proofs.searching.after_going.Goals as goal

@@ -3,9 +3,9 @@ use Rattle.redundancy_cert.specs.declared.nodes.Node.{Node}
 use Rattle.redundancy_cert.specs.Trees.{closed_count, open_count}
 use Rattle.redundancy_cert.specs.Fits.{Fits}
 use Rattle.redundancy_cert.specs.Stacks.{path_of_stack, closed_around}
-use Rattle.decision_stack.specs.declared.turns.Step.{Step}
-use Rattle.decision_stack.proofs.Standing.{of_case, started}
-use Rattle.decision_stack.proofs.Finish.{one_tree, gave_up, whole_evidence, ends}
+use Rattle.decisions.specs.declared.turns.Step.{Step}
+use Rattle.decisions.proofs.Standing.{of_case, started}
+use Rattle.decisions.proofs.Finish.{one_tree, gave_up, whole_evidence, ends}
 use Rattle.podem.specs.Sources.{sources, IsSourceTree}
 use Rattle.podem.specs.inner.Searching.{IsTestAt, IsStepped}
 use Rattle.podem.proofs.Turns.{source_fits, splits_sources}

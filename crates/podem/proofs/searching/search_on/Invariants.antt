@@ -1,8 +1,8 @@
 use Rattle.std.proofs.Common.{◌+◌, ◌-◌, ◌*◌, ◌≤◌, length}
 use Rattle.netlist.specs.Netlist.{signals}
 use Rattle.redundancy_cert.specs.Stacks.{path_of_stack}
-use Rattle.decision_stack.specs.Standing.{SearchesAt}
-use Rattle.decision_stack.specs.Turns.{undecided}
+use Rattle.decisions.specs.Standing.{SearchesAt}
+use Rattle.decisions.specs.Turns.{undecided}
 use Rattle.podem.specs.Sources.{PlaceInSources}
 use Rattle.podem.proofs.searching.search_on.Given as goal
 

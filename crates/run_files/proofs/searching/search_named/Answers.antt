@@ -3,10 +3,10 @@ use Rattle.std.proofs.lemmas.Result.{IfOk-weaker}
 use Rattle.netlist.specs.Netlist.{Netlist}
 use Rattle.netlist.specs.Holds.{Holds}
 use Rattle.fault_collapse.specs.Numbers.{Classes}
-use Rattle.reverse_compact.specs.declared.compaction.Finished.{Finished}
-use Rattle.reverse_compact.specs.Finished.{AreFinished}
+use Rattle.list_core.specs.declared.compaction.Finished.{Finished}
+use Rattle.list_core.specs.Finished.{AreFinished}
 use Rattle.run_files.specs.inner.Verdicts.{AreVerdicts}
-use Rattle.reverse_compact.proofs.KeepLemmas.{kept_few}
+use Rattle.list_core.proofs.KeepLemmas.{kept_few}
 use Rattle.run_files.proofs.SearchLemmas.{verdicts_of}
 use Rattle.run_files.proofs.searching.search_named.Goals as goal
 

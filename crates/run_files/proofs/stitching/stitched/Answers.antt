@@ -3,7 +3,7 @@ use Rattle.std.proofs.lemmas.List.{length-map}
 use Rattle.std.proofs.lemmas.Result.{IfOk-weaker}
 use Rattle.netlist.specs.Netlist.{Definition, cells}
 use Rattle.netlist.proofs.Settling.{cells_distinct}
-use Rattle.chain_stitch.specs.Chains.{chains_of}
+use Rattle.scan_insert.specs.Chains.{chains_of}
 use Rattle.scan_play.proofs.ApplyLemmas.{few_cells}
 use Rattle.good_files.specs.ScanOff.{design_chains}
 use Rattle.run_files.proofs.stitching.stitched.Goals as goal

@@ -2,7 +2,7 @@ use Rattle.std.proofs.Common.{◌≡◌, ℕ, ◌<◌, List, length, subst, sym}
 use Rattle.netlist.specs.Holds.{Holds}
 use Rattle.cubes.specs.Cubes.{Pattern}
 use Rattle.fault_collapse.specs.Numbers.{Classes}
-use Rattle.reverse_compact.specs.Kept.{IsNeeded}
+use Rattle.list_core.specs.Kept.{IsNeeded}
 use Rattle.good_files.specs.GoodFiles.{FiveFiles, chains_said}
 use Rattle.good_files.specs.RunTheorem.{RunTheorem, as_written}
 use Rattle.good_files.specs.ScanOff.{design_chains}

@@ -1,6 +1,6 @@
 use Rattle.std.proofs.Common.{◌++◌, length, replicate, false, ◌∙◌, ap, sym, subst, arith, List}
 use Rattle.std.proofs.Math.Seq.{take-length}
-use Rattle.chain_stitch.specs.Chains.{cells_of}
+use Rattle.scan_insert.specs.Chains.{cells_of}
 use Rattle.cubes.specs.Cubes.{Pattern}
 use Rattle.stil_vectors.specs.TestFiles.{load_items}
 use Rattle.stil_patterns.specs.inner.Added.{AreBegun}

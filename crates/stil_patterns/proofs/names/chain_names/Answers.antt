@@ -2,8 +2,8 @@ use Rattle.std.proofs.Common.{◌<◌, ◌++◌, ◌∙◌, ap, length, map, ref
 use Rattle.plain_text.specs.Texts.{Text}
 use Rattle.netlist.specs.Netlist.{name_of, signals}
 use Rattle.netlist.proofs.Settling.{cells_below}
-use Rattle.chain_stitch.specs.Chains.{cells_of}
-use Rattle.chain_stitch.proofs.Dealing.{stitched_cells}
+use Rattle.scan_insert.specs.Chains.{cells_of}
+use Rattle.scan_insert.proofs.Dealing.{stitched_cells}
 use Rattle.scan_insert.specs.Scanned.{cell_ids}
 use Rattle.scan_insert.proofs.Making.{cells_of_chain}
 use Rattle.stil_patterns.proofs.WordLemmas.{got_more}

@@ -10,8 +10,8 @@ use Rattle.cubes.proofs.MergeLemmas.{netlist_widths}
 use Rattle.word_sim.specs.Words.{HasWidthsOf}
 use Rattle.word_sim.proofs.WidthLemmas.{widths}
 use Rattle.fault_universe.specs.Universe.{universe_of}
-use Rattle.reverse_compact.specs.Kept.{is_last_at}
-use Rattle.reverse_compact.proofs.KeepLemmas.{kept_few}
+use Rattle.list_core.specs.Kept.{is_last_at}
+use Rattle.list_core.proofs.KeepLemmas.{kept_few}
 use Rattle.transition.proofs.Gathering.{universe_few, universe_lines}
 use Rattle.transition_tests.specs.Making.{AreFilledFrom, cubes_in}
 use Rattle.transition_tests.specs.inner.Cubes.{HasAgreeing}

@@ -1,6 +1,6 @@
 use Rattle.std.proofs.Common.{◌≡◌, ◌<◌, List, ℕ, [], length, get_or, sym, ap, ◌∙◌, subst}
-use Rattle.rows.specs.Rows.{rows}
-use Rattle.rows.proofs.Buffers.{rows_count}
+use Rattle.plain_text.specs.Rows.{rows}
+use Rattle.plain_text.proofs.Buffers.{rows_count}
 use Rattle.events.proofs.tables.Fans.row.Goals as goal
 
 pub row-requires-clause-within : goal.row-requires-clause-within

@@ -1,6 +1,0 @@
-use Rattle.std.proofs.Common.{◌≡◌, vec_len}
-use Rattle.chain_stitch.specs.inner.Places.{HasPlaces}
-use Rattle.chain_stitch.proofs.place_table.place_table.Given as goal
-
-abbrev pub invariant-loop-k : goal.invariant-loop-k
-invariant-loop-k l = record { size : vec_len l.places ≡ l.span; told : HasPlaces l.least l.places.items l.cells l.k }

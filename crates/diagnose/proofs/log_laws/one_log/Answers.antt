@@ -1,0 +1,5 @@
+use Rattle.diagnose.proofs.FailureLemmas.{one_log}
+use Rattle.diagnose.proofs.log_laws.one_log.Goals as goal
+
+pub returns : goal.returns
+returns c = one_log

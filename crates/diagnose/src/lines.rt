@@ -1,0 +1,36 @@
+//! A line of a log.
+ghost use Rattle.std.specs.Prelude.{◌≡◌, ◌≢◌, MatchOption};
+ghost use Rattle.report.specs.inner.Lines.{Begins, NoneBegins};
+ghost use Rattle.diagnose.specs.Failures.{Failing, IsFailing};
+ghost use Rattle.diagnose.specs.Texts.{failing_line};
+ghost use Rattle.diagnose.specs.inner.Words.{failure_words};
+
+use crate::failures::Failure;
+use plain_text::{number, split_at};
+use report::is_word;
+
+/// `5 SC__so0`
+fn failure_in(line: &[u8]) -> Option<Failure<'_>>
+    ensures { MatchOption result
+        ((f : Failing) → IsFailing f → line.now ≢ failure_words f)
+        (λ f. IsFailing (record { cycle = f.cycle; signal = f.signal.now }) × (line.now ≡ failure_words (record { cycle = f.cycle; signal = f.signal.now }))) }
+{
+    let (digits, signal) = split_at(line, b' ')?;
+    let cycle = number(digits)?;
+    if is_word(signal) {
+        Some(Failure { cycle, signal })
+    } else {
+        None
+    }
+}
+
+/// The failure that the first line tells, and what stands behind the line.
+pub(crate) fn failure(text: &[u8]) -> Option<(Failure<'_>, &[u8])>
+    ensures { MatchOption result
+        (NoneBegins IsFailing failing_line text.now)
+        (λ p. Begins IsFailing failing_line text.now (record { cycle = p.0.cycle; signal = p.0.signal.now }) p.1.now) }
+{
+    let (line, rest) = split_at(text, b'\n')?;
+    let failure = failure_in(line)?;
+    Some((failure, rest))
+}

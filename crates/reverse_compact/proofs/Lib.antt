@@ -1,4 +1,0 @@
-pub mod KeepLemmas
-pub mod LastPlaces
-pub mod MarkLemmas
-pub mod FinishLemmas

@@ -1,3 +1,0 @@
-pub mod Kept
-pub mod Finished
-pub mod inner

@@ -1,5 +1,0 @@
-use Rattle.rows.proofs.Buffers.{row_at}
-use Rattle.rows.proofs.spans.row.Goals as goal
-
-pub returns : goal.returns
-returns g c = rw (c.span-start.ensures.start, c.span-start.ensures.end) (row_at 0 c.args.items.now c.args.ends.now c.args.place c.requires.within)

@@ -1,8 +1,0 @@
-use Rattle.std.proofs.Common.{◌==◌, length, sym, ap, ◌∙◌}
-use Rattle.rows.proofs.Buffers.{rows_count}
-use Rattle.rows.proofs.texts.Texts.is_empty.Goals as goal
-
-pub returns : goal.returns
-returns c =
-    c.is_empty.ensures ∙ ap (λ n. n == 0) (c.self.inside.ends.ok.0
-    ∙ (sym (rows_count 0 c.self.inside.bytes.items c.self.inside.ends.items) ∙ ap length c.self.view_is))

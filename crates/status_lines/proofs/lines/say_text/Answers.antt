@@ -1,6 +1,0 @@
-use Rattle.std.proofs.Common.{append-nil}
-use Rattle.status_lines.proofs.Saying.{said_so}
-use Rattle.status_lines.proofs.lines.say_text.Goals as goal
-
-pub returns : goal.returns
-returns g c = said_so _ _ _ _ _ _ _ (append-nil c.args.text.now) c.say.ensures
