@@ -2,7 +2,7 @@
 use Rattle.std.proofs.Common.{◌≡◌, ℕ, ◌≤◌, Bool, true, false, cond, List, [], ◌∷◌, map, length, ap, ◌∙◌, arith}
 use Rattle.std.specs.List.{filter}
 use Rattle.std.proofs.lemmas.List.{length-map}
-use Rattle.netlist.specs.Netlist.{Definition, Netlist, is_cell, cells, signals}
+use Rattle.statement.specs.Netlists.{Definition, Netlist, is_cell, cells, signals}
 use Rattle.netlist.proofs.Placed.{signals_length}
 use Rattle.std.specs.Prelude.{◌++◌, codes, decimal}
 use Rattle.atpg_top.specs.Scans.{scan_line}

@@ -6,24 +6,25 @@ use Rattle.std.specs.declared.alloc.Global.{Global}
 use Rattle.std.proofs.lemmas.List.{take_all}
 use Rattle.std.proofs.lemmas.Slice.Zip.{length-zip}
 use Rattle.std.proofs.lemmas.List.Elements.{All-nil, All-cons}
-use Rattle.plain_text.specs.Texts.{Text}
+use Rattle.statement.specs.Benches.{Text}
 use Rattle.netlist.specs.Lines.{signal_of}
 use Rattle.netlist.specs.Conditions.{IsSound}
-use Rattle.netlist.specs.Netlist.{Netlist, signals}
-use Rattle.netlist.specs.declared.lines.Fault.{Fault}
+use Rattle.statement.specs.Netlists.{Netlist, signals}
+use Rattle.statement.specs.declared.lines.Fault.{Fault}
 use Rattle.netlist.proofs.Lists.{All-from_contains, contains_filter}
 use Rattle.bench_text.specs.declared.refusal.Names.TheVariants.{Design}
 use Rattle.chain_test.specs.FirstWrong.{FirstWrongFails, IsFirstWrong}
 use Rattle.chain_test.specs.Hardware.{is_site}
 use Rattle.chain_test.specs.Laws.{FlushFails}
 use Rattle.fault_universe.specs.Laws.{FaultsHaveSignals}
-use Rattle.fault_universe.specs.Universe.{universe_of}
+use Rattle.statement.specs.Faults.{universe_of}
 use Rattle.good_files.specs.ScanOff.{design_chains}
 use Rattle.scan_insert.specs.Scanned.{Insertion, scanned_of, sites_of}
-use Rattle.scan_play.specs.Cycles.{Cycle, IsCycleOf}
+use Rattle.statement.specs.Runs.{Cycle}
+use Rattle.scan_play.specs.Cycles.{IsCycleOf}
 use Rattle.stil_read.specs.Reading.{StandsFor}
-use Rattle.stil_vectors.specs.FileVectors.{vectors_in}
-use Rattle.stil_write.specs.StilFiles.{StilFile}
+use Rattle.statement.specs.Tests.{vectors_in}
+use Rattle.statement.specs.Stils.{StilFile}
 use Rattle.commands.specs.Names.{texts_of}
 use Rattle.commands.specs.Due.{Deliver, Refuse}
 use Rattle.commands.specs.Worked.{IsWorked}

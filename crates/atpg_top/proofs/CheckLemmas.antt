@@ -1,6 +1,6 @@
 -- The check of five files, in the words of this program's refusals.
 use Rattle.std.proofs.Common.{◌≡◌, List, Ok, Err, refl, ap}
-use Rattle.plain_text.specs.Texts.{Text}
+use Rattle.statement.specs.Benches.{Text}
 use Rattle.commands.specs.Due.{Deliver, Refuse}
 use Rattle.commands.specs.Names.{texts_of}
 use Rattle.commands.specs.Worked.{IsWorked}

@@ -1,7 +1,7 @@
 -- What is due of the texts that were read.
 use Rattle.std.proofs.Common.{◌≡◌, inl, ℕ, List, [], ◌∷◌, Option, Ok, refl, subst}
-use Rattle.plain_text.specs.Texts.{Text}
-use Rattle.netlist.specs.Netlist.{Netlist}
+use Rattle.statement.specs.Benches.{Text}
+use Rattle.statement.specs.Netlists.{Netlist}
 use Rattle.outside.specs.Shelf.{Files}
 use Rattle.commands.specs.Contents.{FilesHold}
 use Rattle.commands.specs.World.{World}

@@ -1,6 +1,6 @@
 -- A call with a command line has the row of its command.
 use Rattle.std.proofs.Common.{◌≡◌, ◌∙◌, List, Result, Ok, Err, sym, subst}
-use Rattle.plain_text.specs.Texts.{Text}
+use Rattle.statement.specs.Benches.{Text}
 use Rattle.command_line.specs.CommandLine.{CommandLine, NoLine, bad_hold, bad_prefix, bad_words, command_line, writes_over}
 use Rattle.commands.specs.World.{World}
 use Rattle.commands.specs.declared.ending.Ending.{Ending}

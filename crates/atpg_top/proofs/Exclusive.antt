@@ -1,16 +1,15 @@
 -- What a command owes for the same texts is alike.
 use Rattle.std.proofs.Common.{◌≡◌, ◌∙◌, inl, inr, ℕ, Bool, true, false, List, [], ◌∷◌, Option, Some, refl, sym, ap, subst}
 use Rattle.std.specs.Prelude.{not}
-use Rattle.plain_text.specs.Texts.{Text}
+use Rattle.statement.specs.Benches.{Text}
 use Rattle.netlist.specs.Conditions.{IsSound}
-use Rattle.netlist.specs.Netlist.{Netlist}
-use Rattle.netlist.specs.ThreeValues.{known}
-use Rattle.netlist.specs.declared.kinds.Tri.{Tri}
-use Rattle.netlist.specs.declared.kinds.Tri.TheVariants.{X}
-use Rattle.netlist.specs.declared.lines.Fault.{Fault}
+use Rattle.statement.specs.Netlists.{Netlist}
+use Rattle.statement.specs.Values.{known}
+use Rattle.statement.specs.declared.kinds.Tri.{Tri}
+use Rattle.statement.specs.declared.kinds.Tri.TheVariants.{X}
+use Rattle.statement.specs.declared.lines.Fault.{Fault}
 use Rattle.bench_text.specs.declared.refusal.Names.TheVariants.{Design, Scanned}
-use Rattle.scan_play.specs.Cycles.{Cycle}
-use Rattle.scan_play.specs.Passing.{shown_at, strobe_at}
+use Rattle.statement.specs.Runs.{Cycle, shown_at, strobe_at}
 use Rattle.scan_play.specs.Playing.{IsStrobeMet, IsPlayed, PlaysAs}
 use Rattle.scan_play.specs.declared.played.Played.{Played}
 use Rattle.scan_play.specs.declared.played.Played.TheVariants.{Passes, Fails, Unknown}
@@ -18,11 +17,11 @@ use Rattle.scan_play.proofs.Instances.{same_tri, decides_tri}
 use Rattle.scan_play.proofs.RunLaws.{runs_once}
 use Rattle.stil_read.specs.Laws.{AtMostOne}
 use Rattle.stil_read.specs.Reading.{StandsFor}
-use Rattle.stil_vectors.specs.FileVectors.{vectors_in}
+use Rattle.statement.specs.Tests.{vectors_in}
 use Rattle.good_files.specs.ScanOff.{design_chains}
 use Rattle.scan_insert.specs.Scanned.{scanned_of}
 use Rattle.stil_vectors.specs.Fitting.{FitsNetlist}
-use Rattle.stil_write.specs.StilFiles.{StilFile}
+use Rattle.statement.specs.Stils.{StilFile}
 use Rattle.diagnose.specs.LogLaws.{OneLog}
 use Rattle.diagnose.specs.Reading.{IsLogOf}
 use Rattle.commands.specs.Due.{Due, Deliver, Refuse}

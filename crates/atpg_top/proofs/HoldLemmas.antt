@@ -5,9 +5,10 @@ use Rattle.std.proofs.Math.Seq.{take-suc}
 use Rattle.std.proofs.lemmas.Bool.{cases_order}
 use Rattle.std.proofs.lemmas.List.{map-append}
 use Rattle.std.proofs.lemmas.Option.{slice_get-get_or, slice_get_within, get_or_from_slice_get}
-use Rattle.netlist.specs.Netlist.{Netlist, name_of, signals}
+use Rattle.statement.specs.Netlists.{Netlist, name_of, signals}
 use Rattle.netlist.specs.Conditions.{IsSound}
-use Rattle.netlist.specs.Holds.{Holds, none_held}
+use Rattle.statement.specs.Patterns.{Holds}
+use Rattle.netlist.specs.Holds.{none_held}
 use Rattle.bench_text.proofs.Lists.{get_map, got_map}
 use Rattle.fault_universe.proofs.Names.{same_name}
 use Rattle.fault_collapse.proofs.Stems.{input_number}

@@ -1,6 +1,6 @@
 -- A line of six counts.
 use Rattle.std.proofs.Common.{◌≡◌, ◌∙◌, ◌++◌, ap, append_assoc}
-use Rattle.plain_text.specs.Texts.{Text}
+use Rattle.statement.specs.Benches.{Text}
 
 pub six_counts : (a p b q c r d s e t f u end l1 l2 l3 l4 l5 l6 line : Text) → l1 ≡ a ++ p → l2 ≡ l1 ++ (b ++ q) → l3 ≡ l2 ++ (c ++ r) → l4 ≡ l3 ++ (d ++ s) → l5 ≡ l4 ++ (e ++ t)
     → l6 ≡ l5 ++ (f ++ u) → line ≡ l6 ++ end

@@ -5,21 +5,21 @@ use Rattle.std.specs.declared.alloc.Global.{Global}
 use Rattle.std.proofs.Math.ListN.{get_or-eq_default}
 use Rattle.std.proofs.lemmas.Bool.{cases_lt}
 use Rattle.std.proofs.lemmas.List.Elements.{All-head, All-tail}
-use Rattle.plain_text.specs.Texts.{Text}
-use Rattle.netlist.specs.Netlist.{Netlist}
-use Rattle.netlist.specs.ThreeValues.{known}
-use Rattle.netlist.specs.declared.kinds.Tri.{Tri}
-use Rattle.netlist.specs.declared.kinds.Tri.TheVariants.{X}
-use Rattle.netlist.specs.declared.lines.Fault.{Fault}
+use Rattle.statement.specs.Benches.{Text}
+use Rattle.statement.specs.Netlists.{Netlist}
+use Rattle.statement.specs.Values.{known}
+use Rattle.statement.specs.declared.kinds.Tri.{Tri}
+use Rattle.statement.specs.declared.kinds.Tri.TheVariants.{X}
+use Rattle.statement.specs.declared.lines.Fault.{Fault}
 use Rattle.bench_text.specs.declared.refusal.Names.TheVariants.{Scanned}
-use Rattle.scan_play.specs.Cycles.{Cycle, IsCycleOf}
+use Rattle.statement.specs.Runs.{Cycle, strobe_at}
+use Rattle.scan_play.specs.Cycles.{IsCycleOf}
 use Rattle.scan_play.specs.Laws.{PlayTells}
-use Rattle.scan_play.specs.Passing.{strobe_at}
 use Rattle.scan_play.specs.Playing.{PlaysAs}
 use Rattle.scan_play.specs.declared.played.Played.{Played}
 use Rattle.scan_play.specs.declared.played.Played.TheVariants.{Passes, Fails, Unknown}
 use Rattle.stil_read.specs.Reading.{StandsFor}
-use Rattle.stil_write.specs.StilFiles.{StilFile}
+use Rattle.statement.specs.Stils.{StilFile}
 use Rattle.commands.specs.Names.{texts_of}
 use Rattle.commands.specs.Due.{Due}
 use Rattle.commands.specs.Worked.{IsWorked}

@@ -2,13 +2,12 @@
 use Rattle.std.proofs.Common.{◌≡◌, ◌∙◌, inl, inr, Option, Some, None, Ok, Err, refl, sym, subst, ap}
 use Rattle.std.specs.Prelude.{Result}
 use Rattle.std.proofs.lemmas.List.Elements.{All-contains}
-use Rattle.plain_text.specs.Texts.{Text}
+use Rattle.statement.specs.Benches.{Text}
 use Rattle.netlist.specs.Conditions.{IsSound}
-use Rattle.netlist.specs.Netlist.{Netlist}
-use Rattle.netlist.specs.declared.lines.Fault.{Fault}
+use Rattle.statement.specs.Netlists.{Netlist}
+use Rattle.statement.specs.declared.lines.Fault.{Fault}
 use Rattle.bench_text.specs.declared.refusal.Names.{Names}
-use Rattle.fault_universe.specs.Texts.{fault_text}
-use Rattle.fault_universe.specs.Universe.{universe_of}
+use Rattle.statement.specs.Faults.{fault_text, universe_of}
 use Rattle.fault_universe.proofs.LineTexts.{same_fault}
 use Rattle.fault_universe.proofs.Members.{line_written, member_line}
 use Rattle.commands.specs.Due.{Due, Refuse}

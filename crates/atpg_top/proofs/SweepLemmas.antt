@@ -1,7 +1,7 @@
 -- The test of good files, read back and played, and the lines that `sweep` shows.
 use Rattle.std.proofs.Common.{◌≡◌, ◌∙◌, ◌++◌, None, Result, Ok, Err, ap, append_assoc, subst, sym}
 use Rattle.std.specs.Prelude.{OnOk}
-use Rattle.plain_text.specs.Texts.{Text}
+use Rattle.statement.specs.Benches.{Text}
 use Rattle.netlist.specs.Conditions.{IsSound}
 use Rattle.netlist.specs.Designs.{IsDesign}
 use Rattle.scan_insert.specs.Scanned.{AreChainsOf, scanned_of}
@@ -12,10 +12,11 @@ use Rattle.scan_play.specs.declared.played.Played.TheVariants.{Passes}
 use Rattle.stil_read.specs.Laws.{AtMostOne}
 use Rattle.stil_read.specs.Reading.{StandsFor}
 use Rattle.stil_patterns.specs.Laws.{FileVectors, FilesFit}
-use Rattle.stil_vectors.specs.FileVectors.{vectors_in}
+use Rattle.statement.specs.Tests.{vectors_in}
 use Rattle.stil_vectors.specs.Fitting.{FitsNetlist}
-use Rattle.stil_write.specs.StilFiles.{StilFile}
-use Rattle.good_files.specs.GoodFiles.{AreGoodFiles, Contents, FiveFiles, chains_in, chains_said}
+use Rattle.statement.specs.Stils.{StilFile}
+use Rattle.good_files.specs.GoodFiles.{AreGoodFiles, Contents, chains_in, chains_said}
+use Rattle.statement.specs.Statement.{FiveFiles}
 use Rattle.good_files.proofs.Chains.{dealt}
 
 -- ---- the test

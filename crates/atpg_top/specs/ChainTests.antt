@@ -1,15 +1,13 @@
 -- What `chaintest` says of a design, its chains and the cycles of a STIL file.
 use Rattle.std.specs.Prelude.{ℕ, ◌++◌, List, Option, Some, None, IfSome, codes, decimal, is_none, is_some, length}
 use Rattle.std.specs.List.{AllZip, filter, flat_map, zip}
-use Rattle.plain_text.specs.Texts.{Text}
-use Rattle.netlist.specs.declared.lines.Fault.{Fault}
-use Rattle.netlist.specs.Netlist.{Netlist}
-use Rattle.fault_universe.specs.Texts.{fault_text}
-use Rattle.fault_universe.specs.Universe.{universe_of}
+use Rattle.statement.specs.Benches.{Text}
+use Rattle.statement.specs.declared.lines.Fault.{Fault}
+use Rattle.statement.specs.Netlists.{Netlist}
+use Rattle.statement.specs.Faults.{fault_text, universe_of}
 use Rattle.scan_insert.specs.Names.{pin_name_of}
 use Rattle.scan_insert.specs.Scanned.{insertion_of, scanned_of}
-use Rattle.scan_play.specs.Cycles.{Cycle}
-use Rattle.scan_play.specs.Passing.{FailsAt}
+use Rattle.statement.specs.Runs.{Cycle, FailsAt}
 use Rattle.chain_test.specs.FirstWrong.{IsFirstWrong}
 use Rattle.chain_test.specs.Hardware.{hardware_faults}
 use Rattle.chain_test.specs.Laws.{FlushFailsIn}

@@ -1,13 +1,13 @@
 -- The commands: for each command line what is due of the texts that it reads. Which files it reads and writes, `command_line` says.
 -- A command to come is an entry here and there.
 use Rattle.std.specs.Prelude.{◌≡◌, ℕ, List, [], ◌∷◌, Option}
-use Rattle.plain_text.specs.Texts.{Text}
+use Rattle.statement.specs.Benches.{Text}
 use Rattle.net_gen.specs.Samples.{sample, words_from_seed}
 use Rattle.bench_text.specs.declared.refusal.Names.TheVariants.{Design, Scanned}
 use Rattle.good_files.specs.ScanOff.{design_chains}
 use Rattle.scan_insert.specs.Scanned.{scanned_of}
 use Rattle.stil_read.specs.Reading.{StandsFor}
-use Rattle.stil_vectors.specs.FileVectors.{vectors_in}
+use Rattle.statement.specs.Tests.{vectors_in}
 use Rattle.stil_vectors.specs.Fitting.{FitsNetlist}
 use Rattle.scan_play.specs.declared.played.Played.{Played}
 use Rattle.diagnose.specs.Reading.{IsLogOf}

@@ -1,13 +1,12 @@
 -- What `diagnose` says of a design, the cycles of a STIL file and a tester's log.
 use Rattle.std.specs.Prelude.{ℕ, ◌≡◌, ◌++◌, List, [], Option, Some, None, codes, decimal, length}
 use Rattle.std.specs.List.{flat_map, slice_get}
-use Rattle.plain_text.specs.Texts.{Text}
-use Rattle.netlist.specs.declared.lines.Fault.{Fault}
-use Rattle.netlist.specs.Netlist.{Netlist}
-use Rattle.fault_universe.specs.Texts.{fault_text}
-use Rattle.fault_universe.specs.Universe.{universe_of}
+use Rattle.statement.specs.Benches.{Text}
+use Rattle.statement.specs.declared.lines.Fault.{Fault}
+use Rattle.statement.specs.Netlists.{Netlist}
+use Rattle.statement.specs.Faults.{fault_text, universe_of}
 use Rattle.scan_insert.specs.Scanned.{insertion_of}
-use Rattle.scan_play.specs.Cycles.{Cycle}
+use Rattle.statement.specs.Runs.{Cycle}
 use Rattle.diagnose.specs.Failures.{Failing}
 use Rattle.diagnose.specs.Candidates.{AreCandidates}
 use Rattle.diagnose.specs.Laws.{TellTheTruth}

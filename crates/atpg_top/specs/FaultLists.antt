@@ -1,10 +1,9 @@
 -- What `faults` prints of a design.
 use Rattle.std.specs.Prelude.{ℕ, ◌≡◌, ◌++◌, List, length, codes, decimal}
 use Rattle.std.specs.List.{flat_map, zip}
-use Rattle.netlist.specs.declared.lines.Fault.{Fault}
-use Rattle.netlist.specs.Netlist.{Netlist}
-use Rattle.fault_universe.specs.Universe.{universe_of}
-use Rattle.fault_universe.specs.Texts.{fault_text}
+use Rattle.statement.specs.declared.lines.Fault.{Fault}
+use Rattle.statement.specs.Netlists.{Netlist}
+use Rattle.statement.specs.Faults.{universe_of, fault_text}
 use Rattle.fault_collapse.specs.Classes.{AreClasses}
 use Rattle.fault_collapse.specs.Numbers.{Classes}
 

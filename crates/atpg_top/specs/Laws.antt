@@ -1,6 +1,6 @@
 -- The statuses exclude each other, so that "only where" in each row is "exactly where": by what the files hold, the status is one of few.
 use Rattle.std.specs.Prelude.{◌≡◌, ⊤, List, Some, Ok, Err}
-use Rattle.plain_text.specs.Texts.{Text}
+use Rattle.statement.specs.Benches.{Text}
 use Rattle.outside.specs.Causes.{Rose}
 use Rattle.outside.specs.Shelf.{Files}
 use Rattle.command_line.specs.CommandLine.{CommandLine, NoLine, bad_hold, bad_prefix, bad_words, command_line, reads, writes_over}

@@ -1,6 +1,6 @@
 -- The numbers of the statuses and their lines on the error output.
 use Rattle.std.specs.Prelude.{◌++◌, ℕ, List, [], codes, slice_index_or}
-use Rattle.plain_text.specs.Texts.{Text}
+use Rattle.statement.specs.Benches.{Text}
 use Rattle.commands.specs.Names.{file_name_of}
 use Rattle.commands.specs.declared.ending.Finding.TheVariants.{Fine, Differs}
 use Rattle.commands.specs.declared.ending.Ending.{Ending}

@@ -1,13 +1,13 @@
 -- What `play` says of a netlist, with a fault or none, and the cycles of a STIL file.
 use Rattle.std.specs.Prelude.{ℕ, ◌++◌, List, Option, codes, decimal}
-use Rattle.plain_text.specs.Texts.{Text}
-use Rattle.netlist.specs.declared.lines.Fault.{Fault}
-use Rattle.netlist.specs.Netlist.{Netlist}
+use Rattle.statement.specs.Benches.{Text}
+use Rattle.statement.specs.declared.lines.Fault.{Fault}
+use Rattle.statement.specs.Netlists.{Netlist}
 use Rattle.scan_insert.specs.Names.{pin_name_of}
 use Rattle.scan_play.specs.declared.played.Played.{Played}
 use Rattle.scan_play.specs.declared.played.Played.TheVariants as played
-use Rattle.scan_play.specs.Cycles.{Cycle}
-use Rattle.scan_play.specs.Passing as test
+use Rattle.statement.specs.Runs.{Cycle}
+use Rattle.statement.specs.Runs as test
 use Rattle.scan_play.specs.Playing.{PlaysAs}
 use Rattle.commands.specs.declared.ending.Finding.{Finding}
 use Rattle.commands.specs.declared.ending.Finding.TheVariants.{Fine, Differs}

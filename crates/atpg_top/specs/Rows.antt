@@ -1,6 +1,6 @@
 -- The status of a call of the program, and what it leaves.
 use Rattle.std.specs.Prelude.{◌≡◌, ℕ, Bool, List, [], Option, Result, Ok, Err, map}
-use Rattle.plain_text.specs.Texts.{Text}
+use Rattle.statement.specs.Benches.{Text}
 use Rattle.command_line.specs.CommandLine.{CommandLine, NoLine, bad_hold, bad_prefix, bad_words, command_line, reads, run, writes, writes_over}
 use Rattle.command_line.specs.HoldLists.{HoldItem}
 use Rattle.commands.specs.World.{IsAsBefore, World}

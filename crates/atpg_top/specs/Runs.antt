@@ -1,10 +1,10 @@
 -- What `run`, `transition` and `sweep` say.
 use Rattle.std.specs.Prelude.{ℕ, ◌≡◌, ◌<◌, ◌++◌, List, [], ◌∷◌, Some, codes, decimal, slice_set}
 use Rattle.std.specs.List.{slice_get}
-use Rattle.plain_text.specs.Texts.{Text}
-use Rattle.netlist.specs.Netlist.{Netlist, name_of}
-use Rattle.netlist.specs.Holds.{Holds}
-use Rattle.good_files.specs.GoodFiles.{FiveFiles}
+use Rattle.statement.specs.Benches.{Text}
+use Rattle.statement.specs.Netlists.{Netlist, name_of}
+use Rattle.statement.specs.Patterns.{Holds}
+use Rattle.statement.specs.Statement.{FiveFiles}
 use Rattle.report.specs.declared.counts.ReportCounts.{ReportCounts}
 use Rattle.command_line.specs.HoldLists.{HoldItem}
 use Rattle.run_files.specs.Runs.{files_of}

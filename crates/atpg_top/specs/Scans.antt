@@ -1,9 +1,10 @@
 -- What `scan` makes of a design.
 use Rattle.std.specs.Prelude.{ℕ, ◌≡◌, List, ◌++◌, length, codes, decimal}
-use Rattle.netlist.specs.Netlist.{Netlist, cells}
+use Rattle.statement.specs.Netlists.{Netlist, cells}
 use Rattle.scan_insert.specs.Scanned.{scanned_of}
-use Rattle.bench_text.specs.Canonical.{canonical}
-use Rattle.good_files.specs.ScanOff.{BehavesWithScanOff, design_chains}
+use Rattle.statement.specs.Benches.{canonical}
+use Rattle.statement.specs.Statement.{BehavesWithScanOff}
+use Rattle.good_files.specs.ScanOff.{design_chains}
 
 -- `cells 3 chains 1`
 abbrev pub scan_line : Netlist → List (List ℕ) → List ℕ

@@ -1,17 +1,17 @@
 -- What is due of texts step by step: each step gives a value, or refuses. The first step that refuses decides.
 use Rattle.std.specs.Prelude.{◌≡◌, ◌≢◌, ◌⊎◌, List, [], ◌∷◌, Option, Some, None, Result, Ok, Err}
 use Rattle.std.specs.List.{All, Contains}
-use Rattle.plain_text.specs.Texts.{Text}
-use Rattle.netlist.specs.declared.lines.Fault.{Fault}
-use Rattle.netlist.specs.Netlist.{Netlist}
+use Rattle.statement.specs.Benches.{Text}
+use Rattle.statement.specs.declared.lines.Fault.{Fault}
+use Rattle.statement.specs.Netlists.{Netlist}
 use Rattle.netlist.specs.Conditions.{IsSound}
-use Rattle.netlist.specs.Holds.{Holds, none_held}
+use Rattle.statement.specs.Patterns.{Holds}
+use Rattle.netlist.specs.Holds.{none_held}
 use Rattle.bench_text.specs.Reading.{IsRead}
 use Rattle.bench_text.specs.declared.refusal.Names.{Names}
 use Rattle.bench_text.specs.declared.refusal.Names.TheVariants.{Design}
 use Rattle.bench_text.specs.declared.refusal.BenchFault.TheVariants as bench
-use Rattle.fault_universe.specs.Texts.{fault_text}
-use Rattle.fault_universe.specs.Universe.{universe_of}
+use Rattle.statement.specs.Faults.{fault_text, universe_of}
 use Rattle.command_line.specs.HoldLists.{HoldItem}
 use Rattle.commands.specs.Due.{Due, Refuse}
 use Rattle.atpg_top.specs.Runs.{AreHeldFrom, IsFirstUnknown}

@@ -1,15 +1,15 @@
 -- What `sweep` makes of a sample netlist, and says of it.
 use Rattle.std.specs.Prelude.{ℕ, ◌++◌, codes, decimal, None}
-use Rattle.plain_text.specs.Texts.{Text}
-use Rattle.netlist.specs.Netlist.{Netlist}
+use Rattle.statement.specs.Benches.{Text}
+use Rattle.statement.specs.Netlists.{Netlist}
 use Rattle.netlist.specs.Holds.{none_held}
 use Rattle.scan_insert.specs.Scanned.{scanned_of}
 use Rattle.scan_play.specs.declared.played.Played.TheVariants.{Passes}
 use Rattle.good_files.specs.ScanOff.{design_chains}
 use Rattle.report.specs.Reports.{Report}
 use Rattle.stil_read.specs.Reading.{StandsFor}
-use Rattle.stil_vectors.specs.FileVectors.{vectors_in}
-use Rattle.stil_write.specs.StilFiles.{StilFile}
+use Rattle.statement.specs.Tests.{vectors_in}
+use Rattle.statement.specs.Stils.{StilFile}
 use Rattle.run_files.specs.declared.files.RunFiles.{RunFiles}
 use Rattle.run_files.specs.Runs.{IsRun}
 use Rattle.atpg_top.specs.Plays.{IsPlay}

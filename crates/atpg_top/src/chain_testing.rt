@@ -3,10 +3,10 @@ ghost use Rattle.std.specs.Prelude.{◌≡◌, ◌≤◌, ◌<◌, ◌∷◌, []
 ghost use Rattle.std.specs.List.{All, AllZip};
 ghost use Rattle.netlist.specs.Designs.{IsDesign};
 ghost use Rattle.netlist.specs.Lines.{signal_of};
-ghost use Rattle.netlist.specs.Netlist.{signals};
-ghost use Rattle.netlist.specs.declared.lines.Fault.{Fault as Stuck};
+ghost use Rattle.statement.specs.Netlists.{signals};
+ghost use Rattle.statement.specs.declared.lines.Fault.{Fault as Stuck};
 ghost use Rattle.good_files.specs.ScanOff.{design_chains};
-ghost use Rattle.stil_vectors.specs.FileVectors.{vectors_in};
+ghost use Rattle.statement.specs.Tests.{vectors_in};
 ghost use Rattle.stil_vectors.specs.Fitting.{FitsNetlist};
 ghost use Rattle.commands.specs.Contents.{most_bytes};
 ghost use Rattle.commands.specs.Rows.{CommandRow};

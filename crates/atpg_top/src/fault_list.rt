@@ -2,8 +2,8 @@
 //! It goes out in pieces, so that it never stands in memory as a whole.
 ghost use Rattle.std.specs.Prelude.{◌≡◌, ◌<◌, ◌++◌, IfOk, OnOk, length};
 ghost use Rattle.netlist.specs.Designs.{IsDesign};
-ghost use Rattle.netlist.specs.Netlist.{signals};
-ghost use Rattle.fault_universe.specs.Universe.{universe_of};
+ghost use Rattle.statement.specs.Netlists.{signals};
+ghost use Rattle.statement.specs.Faults.{universe_of};
 ghost use Rattle.netlist.specs.Lines.{signal_of};
 ghost use Rattle.fault_collapse.specs.Classes.{AreClasses};
 ghost use Rattle.atpg_top.specs.FaultLists.{counts_line, listed_fault_line, fault_lines};

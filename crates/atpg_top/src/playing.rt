@@ -4,7 +4,7 @@ ghost use Rattle.commands.specs.Contents.{most_bytes};
 ghost use Rattle.commands.specs.Rows.{CommandRow};
 ghost use Rattle.commands.specs.Worked.{IsWorked};
 ghost use Rattle.commands.specs.World.{world};
-ghost use Rattle.stil_vectors.specs.FileVectors.{vectors_in};
+ghost use Rattle.statement.specs.Tests.{vectors_in};
 ghost use Rattle.stil_vectors.specs.Fitting.{FitsNetlist};
 ghost use Rattle.atpg_top.specs.Commands.{play_due};
 ghost use Rattle.atpg_top.specs.Plays.{IsPlay, played_finding, played_line, strobe_text};

@@ -2,8 +2,8 @@
 ghost use Rattle.std.specs.Prelude.{◌≡◌, ◌≤◌, ◌<◌, ◌++◌, IfOk, OnOk, codes, decimal, is_some, length};
 ghost use Rattle.std.specs.List.{All, filter};
 ghost use Rattle.netlist.specs.Lines.{signal_of};
-ghost use Rattle.netlist.specs.Netlist.{signals};
-ghost use Rattle.netlist.specs.declared.lines.Fault.{Fault as Stuck};
+ghost use Rattle.statement.specs.Netlists.{signals};
+ghost use Rattle.statement.specs.declared.lines.Fault.{Fault as Stuck};
 ghost use Rattle.atpg_top.specs.ChainTests.{chain_test_text, told_counts, told_line, told_lines, told_text};
 ghost use Rattle.atpg_top.specs.inner.ChainTrials.{IsOutput, counts_text};
 

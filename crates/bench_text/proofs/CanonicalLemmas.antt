@@ -1,18 +1,16 @@
 -- What is written in canonical lines is read again.
 use Rattle.std.proofs.Common.{◌≡◌, ◌<◌, ℕ, true, false, not, List, [], ◌∷◌, ◌++◌, length, take, refl, sym, ap, ◌∙◌, append_assoc, arith, take_all, lit<, ⊎_elim}
 use Rattle.std.specs.Prelude.{Some, option_map, ◌==◌, codes}
-use Rattle.std.specs.List.{prefix_len, list_all, AllByRecursion}
-use Rattle.netlist.specs.declared.kinds.Kind.{Kind}
-use Rattle.netlist.specs.declared.kinds.Kind.TheVariants.{And, Nand, Or, Nor, Xor, Xnor, Not, Buff, Dff, Const0, Const1}
-use Rattle.bench_text.specs.Bytes.{code, is_allowed}
+use Rattle.std.specs.List.{prefix_len, list_all, AllByRecursion, onto_first}
+use Rattle.statement.specs.declared.kinds.Kind.{Kind}
+use Rattle.statement.specs.declared.kinds.Kind.TheVariants.{And, Nand, Or, Nor, Xor, Xnor, Not, Buff, Dff, Const0, Const1}
+use Rattle.bench_text.specs.Bytes.{code, is_allowed, lines}
 use Rattle.bench_text.specs.Tokens.{Word, Open, Close, Comma, Equals, is_word_byte, begins_in_word, tokens}
 use Rattle.bench_text.specs.Keywords.{kind_of}
 use Rattle.bench_text.specs.Forms.{Statement, Input, Output, Definition, closed_name, pins, more_pins, definition, statement}
-use Rattle.bench_text.specs.Keywords.{word}
-use Rattle.bench_text.specs.Canonical.{further, pin_list, port_line, definition_line, ended}
+use Rattle.statement.specs.Benches.{word, pin_list, port_line, definition_line}
+use Rattle.bench_text.specs.Canonical.{further, ended}
 use Rattle.bench_text.proofs.Plain.{is_plain, IsRun, Says}
-use Rattle.bench_text.specs.Bytes.{lines}
-use Rattle.std.specs.List.{onto_first}
 use Rattle.std.proofs.lemmas.Bool.{false≢true}
 use Rattle.std.proofs.lemmas.Bool.Decides.{nat_tests}
 use Rattle.bench_text.proofs.Lists.{both_true}

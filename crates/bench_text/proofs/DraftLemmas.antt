@@ -8,7 +8,7 @@ use Rattle.std.proofs.lemmas.Option.{slice_get-get_or, slice_get_within, slice_g
 use Rattle.std.proofs.lemmas.Bool.{false≢true}
 use Rattle.std.proofs.lemmas.Bool.Decides.{nat_tests}
 use Rattle.smallvec.specs.SmallVec.{SmallVec}
-use Rattle.netlist.specs.declared.kinds.Kind.{Kind}
+use Rattle.statement.specs.declared.kinds.Kind.{Kind}
 use Rattle.bench_text.specs.declared.numbered.Role.{Role}
 use Rattle.bench_text.specs.declared.numbered.Role.TheVariants as role
 use Rattle.bench_text.specs.declared.numbered.Numbered.{Numbered}
@@ -17,7 +17,7 @@ use Rattle.bench_text.specs.declared.numbered.Entry.{Entry}
 use Rattle.bench_text.specs.Said.{statements_of}
 use Rattle.bench_text.specs.Texts.{input, output, defined, inputs_of, definitions_of, signals_of}
 use Rattle.bench_text.specs.Whole.{outputs_of}
-use Rattle.bench_text.specs.Sights.{name_at}
+use Rattle.statement.specs.Benches.{name_at}
 use Rattle.bench_text.specs.inner.Numbered.{spelling_of, spelling_of_entry, input_number, definition_number, output_number, input_numbers, definition_numbers, output_numbers, are_below, with_number, IsDraft}
 use Rattle.bench_text.proofs.Lists.{list_any-append, list_any-map, all_append, flat_map-push, none-any, some-any, some_same, same_name, name_same, or_right, or_left, false_if}
 use Rattle.bench_text.proofs.RoleLemmas.{roles-defined, places-defined, roles-other, places-other}

@@ -3,9 +3,9 @@ use Rattle.std.proofs.Common.{◌≡◌, ◌≤◌, ◌+◌, ℕ, Bool, true, fa
 use Rattle.std.specs.Prelude.{Option, Some, None, option_map, nat_le, is_none, unwrap_or, ◌&&◌, ◌==◌, if◌then◌else◌, codes, IsTrue}
 use Rattle.std.specs.List.{list_all, AllByRecursion}
 use Rattle.std.proofs.lemmas.Bool.Decides.{nat_tests}
-use Rattle.netlist.specs.declared.kinds.Kind.{Kind}
+use Rattle.statement.specs.declared.kinds.Kind.{Kind}
 use Rattle.netlist.specs.Gates.{allows_pins}
-use Rattle.netlist.specs.Names.{is_name_byte, IsName}
+use Rattle.statement.specs.Netlists.{is_name_byte, IsName}
 use Rattle.bench_text.specs.declared.refusal.Names.{Names}
 use Rattle.bench_text.specs.declared.refusal.Names.TheVariants.{Design, Scanned}
 use Rattle.bench_text.specs.declared.refusal.BenchKind.{BenchKind}

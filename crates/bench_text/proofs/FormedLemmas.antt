@@ -7,8 +7,7 @@ use Rattle.std.proofs.lemmas.List.{length-map, map-append}
 use Rattle.std.proofs.lemmas.Option.{slice_get_within, slice_get-get_or, get_or_from_slice_get}
 use Rattle.std.proofs.lemmas.Bool.{false≢true}
 use Rattle.netlist.specs.Gates.{allows_pins}
-use Rattle.netlist.specs.Names.{IsName}
-use Rattle.netlist.specs.Netlist.{Netlist, Definition as Equation, signals}
+use Rattle.statement.specs.Netlists.{IsName, Netlist, Definition as Equation, signals}
 use Rattle.netlist.specs.Conditions.{IsWellFormed, HasReader}
 use Rattle.bench_text.specs.declared.refusal.BenchKind.{BenchKind}
 use Rattle.bench_text.specs.declared.refusal.BenchKind.TheVariants.{BadPins}

@@ -15,9 +15,9 @@ use Rattle.bench_text.specs.Forms.{Statement, Nothing, Input, Output, Definition
 use Rattle.netlist.specs.Designs.{is_reserved}
 use Rattle.bench_text.specs.Refusals.{longest, is_short, statement_names, says}
 use Rattle.bench_text.specs.inner.OneLine.{own_refusal, gate_refusal}
-use Rattle.bench_text.specs.declared.statement.Statement.{Statement as Borrowed}
-use Rattle.bench_text.specs.declared.statement.Statement.TheVariants as borrowed
-use Rattle.netlist.specs.declared.kinds.Kind.{Kind}
+use Rattle.bench_text.specs.declared.statements.Statement.{Statement as Borrowed}
+use Rattle.bench_text.specs.declared.statements.Statement.TheVariants as borrowed
+use Rattle.statement.specs.declared.kinds.Kind.{Kind}
 use Rattle.bench_text.specs.inner.Stated.{statement_of}
 use Rattle.bench_text.proofs.Lists.{list_any-names, both_true}
 use Rattle.bench_text.proofs.Runs.{either, drop-run_yes, take-run_yes, drop-run_no, take-run_no}

@@ -8,8 +8,9 @@ use Rattle.std.proofs.lemmas.Option.{slice_get-get_or, slice_get_within}
 use Rattle.std.proofs.lemmas.Bool.{false≢true}
 use Rattle.std.proofs.lemmas.Bool.Decides.{nat_tests}
 use Rattle.smallvec.specs.SmallVec.{SmallVec}
-use Rattle.netlist.specs.declared.kinds.Kind.{Kind}
-use Rattle.netlist.specs.Netlist.{is_gate, gates, IsOnLoop}
+use Rattle.statement.specs.declared.kinds.Kind.{Kind}
+use Rattle.netlist.specs.Netlist.{is_gate, IsOnLoop}
+use Rattle.statement.specs.Netlists.{gates}
 use Rattle.bench_text.specs.declared.numbered.Role.{Role}
 use Rattle.bench_text.specs.declared.numbered.Role.TheVariants as role
 use Rattle.bench_text.specs.declared.numbered.Numbered.{Numbered}
@@ -18,7 +19,7 @@ use Rattle.bench_text.specs.declared.numbered.Entry.{Entry}
 use Rattle.bench_text.specs.Forms.{Statement, Nothing, Input, Output, Definition}
 use Rattle.bench_text.specs.Said.{Said, statements_of}
 use Rattle.bench_text.specs.Texts.{defined, inputs_of, definitions_of, signals_of}
-use Rattle.bench_text.specs.Sights.{name_at}
+use Rattle.statement.specs.Benches.{name_at}
 use Rattle.bench_text.specs.inner.NewNames.{AreDistinct}
 use Rattle.bench_text.specs.inner.Numbered.{spelling_of, spelling_of_entry, definition_number, definition_numbers, defines_number, IsDraft}
 use Rattle.bench_text.specs.Netlists.{id_of, netlist_of}

@@ -8,8 +8,8 @@ use Rattle.std.proofs.lemmas.Option.{slice_get_within}
 use Rattle.std.proofs.lemmas.Bool.{false≢true}
 use Rattle.std.proofs.lemmas.Bool.Decides.{nat_tests}
 use Rattle.smallvec.specs.SmallVec.{SmallVec}
-use Rattle.netlist.specs.declared.kinds.Kind.{Kind}
-use Rattle.netlist.specs.Netlist.{Definition as Equation}
+use Rattle.statement.specs.declared.kinds.Kind.{Kind}
+use Rattle.statement.specs.Netlists.{Definition as Equation}
 use Rattle.bench_text.specs.declared.numbered.Role.{Role}
 use Rattle.bench_text.specs.declared.numbered.Role.TheVariants as role
 use Rattle.bench_text.specs.declared.numbered.Numbered.{Numbered}
@@ -18,7 +18,8 @@ use Rattle.bench_text.specs.declared.numbered.Entry.{Entry}
 use Rattle.bench_text.specs.Forms.{Statement}
 use Rattle.bench_text.specs.Said.{Said, statements_of}
 use Rattle.bench_text.specs.Texts.{inputs_of, signals_of}
-use Rattle.bench_text.specs.Sights.{name_at, with_name, distinct}
+use Rattle.statement.specs.Benches.{name_at}
+use Rattle.bench_text.specs.Sights.{with_name, distinct}
 use Rattle.bench_text.specs.inner.NewNames.{AreDistinct}
 use Rattle.bench_text.specs.inner.Numbered.{spelling_of, spelling_of_entry, output_number, output_numbers, definition_number, are_below, with_number, IsDraft}
 use Rattle.bench_text.specs.Whole.{outputs_of, reads_from}

@@ -6,7 +6,7 @@ use Rattle.std.specs.Str.{bytes_eq}
 use Rattle.std.proofs.lemmas.List.{map-append}
 use Rattle.std.proofs.lemmas.Option.{slice_get_within}
 use Rattle.std.proofs.lemmas.Bool.Decides.{nat_tests}
-use Rattle.netlist.specs.Names.{is_name_byte, IsName}
+use Rattle.statement.specs.Netlists.{is_name_byte, IsName}
 use Rattle.bench_text.specs.declared.refusal.Names.{Names}
 use Rattle.bench_text.specs.declared.refusal.BenchKind.TheVariants.{Undefined}
 use Rattle.bench_text.specs.Tokens.{is_word_byte}

@@ -7,7 +7,8 @@ use Rattle.std.proofs.lemmas.List.{length-map}
 use Rattle.netlist.specs.declared.equations.Parts.{Parts}
 use Rattle.netlist.specs.declared.netlists.NetRefusal.{NetRefusal}
 use Rattle.netlist.specs.declared.netlists.NetRefusal.TheVariants as net
-use Rattle.netlist.specs.Netlist.{Netlist, signals, IsOnLoop}
+use Rattle.statement.specs.Netlists.{Netlist, signals}
+use Rattle.netlist.specs.Netlist.{IsOnLoop}
 use Rattle.netlist.specs.Conditions.{whole, IsWellFormed, IsSound, IsCause, HasReader as IsNeeded}
 use Rattle.bench_text.specs.declared.refusal.Names.{Names}
 use Rattle.bench_text.specs.declared.refusal.BenchRefusal.{BenchRefusal}

@@ -7,30 +7,29 @@ use Rattle.std.proofs.lemmas.List.{length-map, map-append}
 use Rattle.std.proofs.lemmas.Bool.Decides.{nat_tests}
 use Rattle.std.proofs.lemmas.List.Concat.{flat_map-append}
 use Rattle.std.proofs.lemmas.Option.{slice_get_within, slice_get-get_or, get_or_from_slice_get}
-use Rattle.netlist.specs.declared.kinds.Kind.{Kind}
-use Rattle.netlist.specs.declared.kinds.Kind.TheVariants.{And, Nand, Or, Nor, Xor, Xnor, Not, Buff, Dff, Const0, Const1}
+use Rattle.statement.specs.declared.kinds.Kind.{Kind}
+use Rattle.statement.specs.declared.kinds.Kind.TheVariants.{And, Nand, Or, Nor, Xor, Xnor, Not, Buff, Dff, Const0, Const1}
 use Rattle.netlist.specs.Gates.{allows_pins}
-use Rattle.netlist.specs.Names.{IsName}
-use Rattle.netlist.specs.Netlist.{Netlist, Definition as Equation, signals}
+use Rattle.statement.specs.Netlists.{IsName, Netlist, Definition as Equation, signals}
 use Rattle.netlist.specs.Conditions.{IsSound, HasReader}
 use Rattle.bench_text.specs.declared.refusal.Names.{Names}
 use Rattle.bench_text.specs.declared.refusal.Names.TheVariants.{Design, Scanned}
 use Rattle.bench_text.specs.declared.refusal.BenchKind.TheVariants.{BadPins}
 use Rattle.bench_text.specs.Bytes.{lines}
 use Rattle.bench_text.specs.Tokens.{Word, Comma, Equals, tokens}
-use Rattle.bench_text.specs.Keywords.{word}
+use Rattle.statement.specs.Benches.{word, name_at, port_line, pin_list, definition_line, canonical_lines, canonical}
 use Rattle.bench_text.specs.Forms.{Statement, Input, Output, Definition}
 use Rattle.netlist.specs.Designs.{is_reserved}
 use Rattle.bench_text.specs.Refusals.{longest, is_short, has_reserved_name, statement_names}
 use Rattle.bench_text.specs.inner.OneLine.{gate_refusal}
 use Rattle.bench_text.specs.Said.{Said, note_at, notes_from, statements_of}
 use Rattle.bench_text.specs.Texts.{statement_on, statements, input, defined, output, inputs_of, definitions_of, signals_of, first_refusal}
-use Rattle.bench_text.specs.Sights.{name_at, with_name, distinct}
+use Rattle.bench_text.specs.Sights.{with_name, distinct}
 use Rattle.bench_text.specs.inner.NewNames.{AreDistinct}
 use Rattle.bench_text.specs.Whole.{outputs_of, reads_from, whole_refusal, or_else, refusal, notes}
 use Rattle.bench_text.specs.Netlists.{id_of, equation, netlist_of}
 use Rattle.bench_text.specs.Reading.{netlist_in}
-use Rattle.bench_text.specs.Canonical.{port_line, further, pin_list, definition_line, equation_line, canonical_lines, canonical}
+use Rattle.bench_text.specs.Canonical.{further, equation_line}
 use Rattle.bench_text.specs.Laws.{is_free, IsReadable}
 use Rattle.bench_text.proofs.Plain.{is_plain, IsRun, Says}
 use Rattle.bench_text.proofs.Lists.{list_all-map, all_append, index-all, get_front, get_back, got_map, some-any, some_same, name_same, false_if}

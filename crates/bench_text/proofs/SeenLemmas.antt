@@ -16,9 +16,9 @@ use Rattle.bench_text.specs.declared.numbered.Numbered.TheVariants.{Input, Outpu
 use Rattle.bench_text.specs.declared.numbered.Entry.{Entry}
 use Rattle.bench_text.specs.inner.Stated.{names}
 use Rattle.bench_text.specs.Forms as forms
-use Rattle.netlist.specs.declared.kinds.Kind.{Kind}
+use Rattle.statement.specs.declared.kinds.Kind.{Kind}
 use Rattle.smallvec.specs.SmallVec.{SmallVec}
-use Rattle.bench_text.specs.Sights.{name_at}
+use Rattle.statement.specs.Benches.{name_at}
 use Rattle.bench_text.specs.inner.NewNames.{AreDistinct, IsNumber}
 use Rattle.bench_text.specs.inner.Numbered.{spelling_of, spelling_of_entry, numbers, are_below, with_role, IsDraft}
 use Rattle.bench_text.specs.inner.Drafted.{Keeps, AreNumbers}

@@ -12,11 +12,11 @@ use Rattle.bench_text.specs.declared.numbered.Role.{Role}
 use Rattle.bench_text.specs.declared.numbered.Entry.{Entry}
 use Rattle.bench_text.specs.declared.numbered.Numbered.{Numbered}
 use Rattle.bench_text.specs.declared.numbered.Numbered.TheVariants.{Definition}
-use Rattle.netlist.specs.declared.kinds.Kind.{Kind}
+use Rattle.statement.specs.declared.kinds.Kind.{Kind}
 use Rattle.smallvec.specs.SmallVec.{SmallVec}
 use Rattle.bench_text.specs.Said.{Said, statements_of}
 use Rattle.bench_text.specs.Texts.{inputs_of, signals_of}
-use Rattle.bench_text.specs.Sights.{name_at}
+use Rattle.statement.specs.Benches.{name_at}
 use Rattle.bench_text.specs.inner.Numbered.{spelling_of, spelling_of_entry, input_numbers, output_numbers, with_number, IsDraft}
 use Rattle.bench_text.specs.Whole.{outputs_of, reads_from, most_in_text, refusal_at, whole_refusal}
 use Rattle.bench_text.proofs.Lists.{list_all-map}

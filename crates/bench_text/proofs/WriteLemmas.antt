@@ -4,7 +4,7 @@ use Rattle.std.specs.Prelude.{Some, slice_get}
 use Rattle.std.specs.List.{All, Contains}
 use Rattle.std.proofs.lemmas.List.Concat.{flat_map-append}
 use Rattle.std.proofs.lemmas.Option.{slice_get-get_or, slice_get_within, get_or_from_slice_get}
-use Rattle.netlist.specs.Netlist.{Netlist, Definition, signals}
+use Rattle.statement.specs.Netlists.{Netlist, Definition, signals}
 use Rattle.netlist.specs.Conditions.{IsSound, IsNumbered}
 use Rattle.bench_text.specs.Canonical.{ended}
 use Rattle.bench_text.specs.inner.Written.{AreSignals, IsWritable}

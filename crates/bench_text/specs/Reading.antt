@@ -1,7 +1,8 @@
 -- What the reading of a text answers.
 use Rattle.std.specs.Prelude.{ℕ, ◌≡◌, ⊤, List, ◌∷◌, ◌++◌, Option, Some, None, Result, Ok, Err}
 use Rattle.std.specs.List.{AllByRecursion}
-use Rattle.netlist.specs.Netlist.{Netlist, IsOnLoop, IsAcyclic}
+use Rattle.statement.specs.Netlists.{Netlist}
+use Rattle.netlist.specs.Netlist.{IsOnLoop, IsAcyclic}
 use Rattle.netlist.specs.Designs.{IsDesign}
 use Rattle.bench_text.specs.declared.refusal.Names.{Names}
 use Rattle.bench_text.specs.declared.refusal.Names.TheVariants.{Design, Scanned}

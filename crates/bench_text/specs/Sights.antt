@@ -1,5 +1,5 @@
 -- Names in the order of first sight. The number of a name is its place.
-use Rattle.std.specs.Prelude.{ℕ, ◌∷◌, ◌++◌, [], fold, if◌then◌else◌, List, slice_get, unwrap_or}
+use Rattle.std.specs.Prelude.{ℕ, ◌∷◌, ◌++◌, [], fold, if◌then◌else◌, List}
 use Rattle.std.specs.List.{list_any}
 use Rattle.std.specs.Str.{bytes_eq}
 
@@ -10,6 +10,3 @@ with_name xs x = if list_any (bytes_eq x) xs then xs else xs ++ x ∷ []
 -- the names in the order of their first places
 abbrev pub distinct : List (List ℕ) → List (List ℕ)
 distinct xs = fold with_name [] xs
-
-abbrev pub name_at : List (List ℕ) → ℕ → List ℕ
-name_at names n = unwrap_or (slice_get names n) []

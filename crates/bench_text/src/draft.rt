@@ -9,7 +9,7 @@ ghost use Rattle.bench_text.specs.Refusals.{has_unknown_gate, defines_one_of, li
 ghost use Rattle.bench_text.specs.Texts.{statement_on};
 ghost use Rattle.bench_text.specs.Said.{note_at};
 ghost use Rattle.bench_text.specs.inner.LineRead.{IsRefusal};
-ghost use Rattle.bench_text.specs.Sights.{name_at};
+ghost use Rattle.statement.specs.Benches.{name_at};
 ghost use Rattle.bench_text.specs.inner.Numbered.{IsDraft, are_below, spelling_of, spelling_if_any, with_role};
 ghost use Rattle.bench_text.specs.Forms as forms;
 
@@ -17,7 +17,7 @@ use crate::line::read_line;
 use crate::numbered::{Entry, Numbered, Role};
 use crate::refusal::{BenchKind, LineRefusal, Names};
 use crate::sights::Sights;
-use crate::statement::Statement;
+use crate::statements::Statement;
 use indexmap::IndexSet;
 use netlist::Kind;
 use smallvec::SmallVec;

@@ -16,7 +16,7 @@ mod parts;
 mod reader;
 mod refusal;
 mod sights;
-mod statement;
+mod statements;
 mod token;
 mod whole;
 mod writer;

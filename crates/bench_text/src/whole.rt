@@ -5,7 +5,7 @@ ghost use Rattle.std.specs.Option.{option_map};
 ghost use Rattle.std.specs.List.{list_any, list_all};
 ghost use Rattle.std.specs.Str.{bytes_eq};
 ghost use Rattle.bench_text.specs.Said.{Said};
-ghost use Rattle.bench_text.specs.Sights.{name_at};
+ghost use Rattle.statement.specs.Benches.{name_at};
 ghost use Rattle.bench_text.specs.inner.Numbered.{are_below, spelling_of};
 ghost use Rattle.bench_text.specs.Whole.{reads_from, most_in_text, refusal_at, whole_refusal};
 ghost use Rattle.bench_text.specs.inner.Drafted.{names_seen, notes_in, signals_in};

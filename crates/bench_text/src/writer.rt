@@ -2,9 +2,9 @@
 
 ghost use Rattle.std.specs.Prelude.{◌≡◌, ◌<◌, ◌++◌, ◌∷◌, [], length, map, IfOk, OnOk};
 ghost use Rattle.std.specs.List.{All};
-ghost use Rattle.netlist.specs.Netlist.{Definition as Equation, signals};
-ghost use Rattle.bench_text.specs.Sights.{name_at};
-ghost use Rattle.bench_text.specs.Canonical.{further, pin_list, port_line, definition_line, equation_line, ended, canonical};
+ghost use Rattle.statement.specs.Netlists.{Definition as Equation, signals};
+ghost use Rattle.statement.specs.Benches.{name_at, pin_list, port_line, definition_line, canonical};
+ghost use Rattle.bench_text.specs.Canonical.{further, equation_line, ended};
 ghost use Rattle.bench_text.specs.inner.Written.{AreSignals, IsWritable};
 
 use crate::keywords::word_of;

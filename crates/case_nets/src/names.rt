@@ -1,6 +1,6 @@
 //! Signals, lines and faults by their names.
 ghost use Rattle.std.specs.Prelude.{◌<◌, length, IfSome};
-ghost use Rattle.netlist.specs.Netlist.{signals};
+ghost use Rattle.statement.specs.Netlists.{signals};
 
 use case_text::push_number;
 use fault_universe::signal_count;

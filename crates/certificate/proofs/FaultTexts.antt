@@ -2,13 +2,13 @@
 use Rattle.std.proofs.Common.{◌≡◌, ◌≢◌, ◌+◌, ◌<◌, ℕ, Bool, true, false, List, ◌++◌, codes, decimal, refl, sym, ◌∙◌, ap, arith, append_assoc}
 use Rattle.std.specs.List.{All, Contains}
 use Rattle.std.proofs.lemmas.List.Elements.{All-append, All-cons, All-contains}
-use Rattle.netlist.specs.declared.lines.Line.{Line}
-use Rattle.netlist.specs.declared.lines.Line.TheVariants.{Stem, Pin, Out}
-use Rattle.netlist.specs.declared.lines.Fault.{Fault}
+use Rattle.statement.specs.declared.lines.Line.{Line}
+use Rattle.statement.specs.declared.lines.Line.TheVariants.{Stem, Pin, Out}
+use Rattle.statement.specs.declared.lines.Fault.{Fault}
 use Rattle.netlist.specs.Conditions.{IsSound}
-use Rattle.netlist.specs.Netlist.{Netlist, name_of, signal_count}
-use Rattle.fault_universe.specs.Texts.{fault_text, line_text, value_text}
-use Rattle.fault_universe.specs.Universe.{universe_of}
+use Rattle.statement.specs.Netlists.{Netlist, name_of}
+use Rattle.netlist.specs.Netlist.{signal_count}
+use Rattle.statement.specs.Faults.{fault_text, line_text, value_text, universe_of}
 use Rattle.fault_universe.specs.inner.Written.{IsWritten}
 use Rattle.fault_universe.proofs.LineTexts.{same_fault}
 use Rattle.fault_universe.proofs.Members.{line_written, member_line}

@@ -8,8 +8,8 @@ use Rattle.std.proofs.lemmas.Fmt.{decimal_is_IsNumeral}
 use Rattle.std.proofs.lemmas.List.Elements.{All-cons, All-get_or, All-nil, All-weaker}
 use Rattle.std.proofs.lemmas.Str.Parse.{digit_from_value}
 use Rattle.netlist.specs.Conditions.{IsSound}
-use Rattle.netlist.specs.Names.{IsName, is_name_byte}
-use Rattle.netlist.specs.Netlist.{Netlist, name_of, signal_count}
+use Rattle.statement.specs.Netlists.{IsName, is_name_byte, Netlist, name_of}
+use Rattle.netlist.specs.Netlist.{signal_count}
 use Rattle.netlist.proofs.WellFormed.{names_counted}
 
 -- whether a text lacks a byte

@@ -1,11 +1,11 @@
 -- Certificates as texts, which stand for them byte for byte.
 use Rattle.std.specs.Prelude.{if◌then◌else◌, List, ◌++◌, codes, ℕ, ◌<◌, ◌≡◌, ⊤}
 use Rattle.std.specs.List.{All, Contains, flat_map}
-use Rattle.netlist.specs.declared.lines.Fault.{Fault}
-use Rattle.netlist.specs.Netlist.{Netlist, name_of, signal_count}
+use Rattle.statement.specs.declared.lines.Fault.{Fault}
+use Rattle.statement.specs.Netlists.{Netlist, name_of}
+use Rattle.netlist.specs.Netlist.{signal_count}
 use Rattle.netlist.specs.Lines.{signal_of}
-use Rattle.fault_universe.specs.Texts.{fault_text}
-use Rattle.fault_universe.specs.Universe.{universe_of}
+use Rattle.statement.specs.Faults.{fault_text, universe_of}
 use Rattle.redundancy_cert.specs.declared.nodes.Node.{Node}
 use Rattle.redundancy_cert.specs.declared.nodes.Node.TheVariants.{Closed, Open, Split, Forced}
 use Rattle.redundancy_cert.specs.Trees.{IsOneTree}

@@ -1,7 +1,7 @@
 -- Laws of certificates, each the contract of a function of its name.
 use Rattle.std.specs.Prelude.{ℕ, ◌≡◌, List}
-use Rattle.netlist.specs.declared.lines.Fault.{Fault}
-use Rattle.netlist.specs.Netlist.{Netlist}
+use Rattle.statement.specs.declared.lines.Fault.{Fault}
+use Rattle.statement.specs.Netlists.{Netlist}
 use Rattle.netlist.specs.Conditions.{IsSound}
 use Rattle.redundancy_cert.specs.declared.nodes.Node.{Node}
 use Rattle.certificate.specs.Certificates.{IsCertificate}

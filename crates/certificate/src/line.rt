@@ -1,6 +1,6 @@
 //! A line: a fault and its tree.
 ghost use Rattle.std.specs.Prelude.{List, MatchOption, MatchResult};
-ghost use Rattle.netlist.specs.declared.lines.Fault.{Fault};
+ghost use Rattle.statement.specs.declared.lines.Fault.{Fault};
 ghost use Rattle.redundancy_cert.specs.declared.nodes.Node.{Node};
 ghost use Rattle.certificate.specs.Certificates.{IsCertFault};
 ghost use Rattle.certificate.specs.inner.Parts.{AreNodes, IsFaultAt, NoFaultAt, IsLineOf};

@@ -1,7 +1,8 @@
 //! Certificates as text.
 ghost use Rattle.std.specs.Prelude.{◌≡◌, ◌<◌, ◌++◌, codes, length, IfOk, OnOk};
 ghost use Rattle.std.specs.List.{All, flat_map};
-ghost use Rattle.netlist.specs.Netlist.{name_of, signal_count};
+ghost use Rattle.statement.specs.Netlists.{name_of};
+ghost use Rattle.netlist.specs.Netlist.{signal_count};
 ghost use Rattle.certificate.specs.Certificates.{node_text, tree_line, certificate_text, HasSignal, IsNamed};
 
 use fault_universe::push_text;

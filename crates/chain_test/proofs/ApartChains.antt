@@ -3,12 +3,12 @@ use Rattle.std.proofs.Common.{◌≡◌, ◌≢◌, ℕ, suc, zero, ◌+◌, ◌
 use Rattle.std.specs.List.{AllPairs, Contains}
 use Rattle.std.proofs.lemmas.Bool.{cases_lt, ne_eqb, and_left}
 use Rattle.std.proofs.lemmas.List.{get_or-map, get_or_append_left, get_or-append_right}
-use Rattle.netlist.specs.declared.lines.Line.{Line}
-use Rattle.netlist.specs.declared.lines.Line.TheVariants.{Stem, Pin}
-use Rattle.netlist.specs.declared.lines.Fault.{Fault}
-use Rattle.netlist.specs.Netlist.{Definition, Netlist, cells}
-use Rattle.netlist.specs.Settled.{is_line, stuck}
-use Rattle.scan_insert.specs.Chains.{cells_of}
+use Rattle.statement.specs.declared.lines.Line.{Line}
+use Rattle.statement.specs.declared.lines.Line.TheVariants.{Stem, Pin}
+use Rattle.statement.specs.declared.lines.Fault.{Fault}
+use Rattle.statement.specs.Netlists.{Definition, Netlist, cells}
+use Rattle.statement.specs.Values.{is_line, stuck}
+use Rattle.statement.specs.Tests.{cells_of}
 use Rattle.scan_insert.specs.Scan.{Naming}
 use Rattle.scan_insert.specs.Scanned.{last_of}
 use Rattle.scan_insert.proofs.Namings.{Origin, ScanIn, ScanOut, Shifted, Chosen, Held, IsNaming}

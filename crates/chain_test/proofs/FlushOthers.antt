@@ -3,26 +3,22 @@ use Rattle.std.proofs.Common.{◌≡◌, ℕ, suc, ◌+◌, ◌-◌, ◌*◌, �
 use Rattle.std.proofs.Math.ListN.{get_or-eq_default}
 use Rattle.std.proofs.lemmas.Bool.{cases_lt}
 use Rattle.std.proofs.lemmas.List.{length-map, length-replicate, length-reverse, map-append, get_or_append_left, get_or-append_right, get_or-reverse, get_or-map}
-use Rattle.netlist.specs.declared.kinds.Tri.{Tri}
-use Rattle.netlist.specs.declared.kinds.Tri.TheVariants.{X}
-use Rattle.netlist.specs.declared.lines.Fault.{Fault}
-use Rattle.netlist.specs.Netlist.{Netlist}
-use Rattle.netlist.specs.Holds.{Holds, AreHoldsOf}
+use Rattle.statement.specs.declared.kinds.Tri.{Tri}
+use Rattle.statement.specs.declared.kinds.Tri.TheVariants.{X}
+use Rattle.statement.specs.declared.lines.Fault.{Fault}
+use Rattle.statement.specs.Netlists.{Netlist}
+use Rattle.statement.specs.Patterns.{Holds, Pattern}
+use Rattle.netlist.specs.Holds.{AreHoldsOf}
 use Rattle.netlist.specs.Conditions.{IsSound}
-use Rattle.netlist.specs.Settled.{bit_table}
-use Rattle.netlist.specs.ThreeValues.{known}
+use Rattle.statement.specs.Values.{bit_table, known}
 use Rattle.netlist.proofs.Lists.{map_map}
-use Rattle.cubes.specs.Cubes.{Pattern}
-use Rattle.scan_insert.specs.Chains.{longest_of}
-use Rattle.scan_insert.specs.Names.{numbers_from}
+use Rattle.statement.specs.Tests.{longest_of, by_chain, column, held_or_zero, word_in, word_out, Response, flush}
+use Rattle.statement.specs.Runs.{numbers_from, Cycle, Runs, strobe_at, shown_at}
 use Rattle.scan_insert.specs.Scanned.{AreChainsOf, first_scan_out, naming_of, scanned_of}
 use Rattle.scan_insert.proofs.Concrete.{bits_multiplex}
 use Rattle.scan_insert.proofs.Numbers.{length-numbers_from, get_or-numbers_from}
-use Rattle.scan_play.specs.Cycles.{Cycle}
-use Rattle.scan_play.specs.Runs.{Runs}
-use Rattle.scan_play.specs.Passing.{strobe_at, shown_at}
-use Rattle.scan_play.specs.Shifts.{by_chain, column, held_or_zero, idle_inputs, word_in, word_out, shift, load}
-use Rattle.scan_play.specs.Vectors.{Response, flush, flush_bits, vectors}
+use Rattle.scan_play.specs.Shifts.{idle_inputs, shift, load}
+use Rattle.scan_play.specs.Vectors.{flush_bits, vectors}
 use Rattle.scan_play.proofs.Loads.{length-by_chain, length-column}
 use Rattle.scan_play.proofs.Places.{below_of, load_row, longest_above}
 use Rattle.scan_play.proofs.Widths.{cells_count, scanned_cells_count}

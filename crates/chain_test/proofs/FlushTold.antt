@@ -1,31 +1,28 @@
 -- The first strobe that is known to be wrong, where a line of a shift path is stuck.
 use Rattle.std.proofs.Common.{◌≡◌, ◌≢◌, ◌⊎◌, ℕ, ◌+◌, ◌*◌, ◌<◌, ◌≤◌, Bool, true, false, not, List, [], ◌∷◌, length, replicate, Option, Some, None, slice_get, refl, sym, ◌∙◌, ap, ap₂, subst, inl, inr, arith}
-use Rattle.std.specs.List.{All, zip}
+use Rattle.std.specs.List.{All, zip, Contains}
 use Rattle.std.proofs.lemmas.Bool.{cases_lt}
 use Rattle.std.proofs.lemmas.List.{length-replicate}
-use Rattle.netlist.specs.declared.kinds.Tri.TheVariants.{X}
-use Rattle.netlist.specs.declared.lines.Fault.{Fault}
-use Rattle.netlist.specs.Netlist.{Netlist, cells}
+use Rattle.statement.specs.declared.kinds.Tri.TheVariants.{X}
+use Rattle.statement.specs.declared.lines.Fault.{Fault}
+use Rattle.statement.specs.Netlists.{Netlist, cells}
 use Rattle.netlist.specs.Conditions.{IsSound}
-use Rattle.netlist.specs.Settled.{bit_table}
-use Rattle.netlist.specs.ThreeValues.{known}
-use Rattle.scan_play.specs.Cycles.{Cycle, IsCycleOf}
-use Rattle.scan_play.specs.Passing.{IsWrong, shown_at}
-use Rattle.scan_play.specs.Runs.{Runs}
+use Rattle.statement.specs.Values.{bit_table, known}
+use Rattle.statement.specs.Runs.{Cycle, shown_at, Runs}
+use Rattle.scan_play.specs.Cycles.{IsCycleOf}
+use Rattle.scan_play.specs.Passing.{IsWrong}
 use Rattle.scan_play.proofs.RunLaws.{some_run}
 use Rattle.chain_test.specs.FirstWrong.{IsFirstWrong}
-use Rattle.chain_test.specs.Laws.{FirstFailsAt}
-use Rattle.std.specs.List.{Contains}
-use Rattle.netlist.specs.Holds.{Holds, AreHoldsOf}
-use Rattle.cubes.specs.Cubes.{Pattern}
-use Rattle.scan_insert.specs.Chains.{longest_of}
+use Rattle.chain_test.specs.Laws.{FirstFailsAt, FlushTold, IsFlushCycle}
+use Rattle.statement.specs.Patterns.{Holds, Pattern}
+use Rattle.netlist.specs.Holds.{AreHoldsOf}
+use Rattle.statement.specs.Tests.{longest_of, Response}
 use Rattle.scan_insert.specs.Scanned.{AreChainsOf, scanned_of}
 use Rattle.scan_insert.proofs.Concrete.{bits_multiplex}
-use Rattle.scan_play.specs.Vectors.{Response, vectors}
+use Rattle.scan_play.specs.Vectors.{vectors}
 use Rattle.scan_play.proofs.Instances.{tris_multiplex}
 use Rattle.scan_play.proofs.Places.{longest_above}
 use Rattle.tri.specs.Settled.{tri_table}
-use Rattle.chain_test.specs.Laws.{FlushTold, IsFlushCycle}
 use Rattle.chain_test.specs.ShiftPaths.{shift_path}
 use Rattle.chain_test.proofs.FlushFails.{flush_fails, flush_shows, some}
 use Rattle.chain_test.proofs.KnownWrongs.{known_fails}

@@ -4,20 +4,16 @@ use Rattle.std.specs.Prelude.{Option}
 use Rattle.std.specs.List.{All}
 use Rattle.std.proofs.lemmas.List.{append_assoc, length-map}
 use Rattle.std.proofs.lemmas.List.Elements.{All-nil, All-cons, All-append}
-use Rattle.netlist.specs.declared.kinds.Tri.{Tri}
-use Rattle.netlist.specs.declared.lines.Fault.{Fault}
-use Rattle.netlist.specs.Netlist.{Netlist, cells}
-use Rattle.netlist.specs.Holds.{Holds}
-use Rattle.netlist.specs.Settled.{Table}
-use Rattle.netlist.specs.ThreeValues.{known}
-use Rattle.cubes.specs.Cubes.{Pattern}
-use Rattle.scan_insert.specs.Chains.{cells_of, longest_of}
-use Rattle.scan_insert.specs.Names.{numbers_from}
+use Rattle.statement.specs.declared.kinds.Tri.{Tri}
+use Rattle.statement.specs.declared.lines.Fault.{Fault}
+use Rattle.statement.specs.Netlists.{Netlist, cells}
+use Rattle.statement.specs.Patterns.{Holds, Pattern}
+use Rattle.statement.specs.Values.{Table, known}
+use Rattle.statement.specs.Tests.{cells_of, longest_of, by_chain, column, word_in, word_out, Response, flush}
+use Rattle.statement.specs.Runs.{numbers_from, Cycle, Runs}
 use Rattle.scan_insert.proofs.Numbers.{length-numbers_from}
-use Rattle.scan_play.specs.Cycles.{Cycle}
-use Rattle.scan_play.specs.Runs.{Runs}
-use Rattle.scan_play.specs.Shifts.{by_chain, column, word_in, word_out, shift, load}
-use Rattle.scan_play.specs.Vectors.{Response, flush, vectors}
+use Rattle.scan_play.specs.Shifts.{shift, load}
+use Rattle.scan_play.specs.Vectors.{vectors}
 use Rattle.scan_play.proofs.Loads.{length-by_chain, length-column}
 use Rattle.scan_play.proofs.Shifting.{zip_length}
 use Rattle.chain_test.proofs.StuckTicks.{IsShift}

@@ -3,19 +3,18 @@ use Rattle.std.proofs.Common.{◌≡◌, ℕ, suc, zero, ◌+◌, ◌-◌, ◌<�
 use Rattle.std.specs.List.{All}
 use Rattle.std.proofs.lemmas.List.{length-map, get_or-append_right, get_or-map}
 use Rattle.std.proofs.lemmas.List.Elements.{All-head, All-tail}
-use Rattle.netlist.specs.declared.lines.Fault.{Fault}
-use Rattle.netlist.specs.Netlist.{Netlist}
-use Rattle.netlist.specs.Holds.{Holds, AreHoldsOf}
+use Rattle.statement.specs.declared.lines.Fault.{Fault}
+use Rattle.statement.specs.Netlists.{Netlist}
+use Rattle.statement.specs.Patterns.{Holds}
+use Rattle.netlist.specs.Holds.{AreHoldsOf}
 use Rattle.netlist.specs.Conditions.{IsSound}
-use Rattle.netlist.specs.Settled.{Table, next}
-use Rattle.scan_insert.specs.Chains.{cells_of}
+use Rattle.statement.specs.Values.{Table, next}
+use Rattle.statement.specs.Tests.{cells_of, held_or_zero}
 use Rattle.scan_insert.specs.Laws.{Multiplexes}
 use Rattle.scan_insert.specs.Scan.{Naming}
 use Rattle.scan_insert.specs.Scanned.{AreChainsOf, first_scan_out, naming_of, scanned_of}
-use Rattle.scan_play.specs.Cycles.{Cycle}
-use Rattle.scan_play.specs.Runs.{Runs}
-use Rattle.scan_play.specs.Passing.{shown_at}
-use Rattle.scan_play.specs.Shifts.{held_or_zero, idle_inputs}
+use Rattle.statement.specs.Runs.{Cycle, Runs, shown_at}
+use Rattle.scan_play.specs.Shifts.{idle_inputs}
 use Rattle.scan_play.proofs.Places.{below_of}
 use Rattle.chain_test.proofs.ApartChains.{IsClear}
 use Rattle.chain_test.proofs.Filling.{length-stuck_shift, lasts_at, piece, shift_at}

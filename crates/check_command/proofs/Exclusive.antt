@@ -2,7 +2,7 @@
 use Rattle.std.proofs.Common.{◌≡◌, inl, inr, [], ◌∷◌, Ok, Err, refl, sym, ap, subst}
 use Rattle.commands.specs.Due.{Due, Deliver, Refuse}
 use Rattle.commands.specs.Laws.{AreAlike, IsExclusive}
-use Rattle.good_files.specs.GoodFiles.{FiveFiles}
+use Rattle.statement.specs.Statement.{FiveFiles}
 use Rattle.good_files.specs.declared.answers.Checked.{Checked}
 use Rattle.good_files.specs.declared.answers.Checked.TheVariants.{Faults, False}
 use Rattle.good_files.specs.declared.answers.CheckFault.{CheckFault}

@@ -2,11 +2,12 @@
 use Rattle.std.proofs.Common.{◌≡◌, ◌∙◌, ◌⊎◌, inl, inr, ℕ, [], Ok, Err, refl, ap, length}
 use Rattle.std.specs.Prelude.{Result}
 use Rattle.netlist.specs.Conditions.{IsSound}
-use Rattle.netlist.specs.Netlist.{Netlist}
-use Rattle.fault_universe.specs.Universe.{universe_of}
+use Rattle.statement.specs.Netlists.{Netlist}
+use Rattle.statement.specs.Faults.{universe_of}
 use Rattle.commands.specs.Due.{Due, Deliver}
 use Rattle.commands.specs.declared.ending.Finding.TheVariants.{Fine}
-use Rattle.good_files.specs.GoodFiles.{AreGoodFiles, Contents, FiveFiles}
+use Rattle.good_files.specs.GoodFiles.{AreGoodFiles, Contents}
+use Rattle.statement.specs.Statement.{FiveFiles}
 use Rattle.good_files.specs.declared.answers.Checked.{Checked}
 use Rattle.good_files.specs.declared.answers.Checked.TheVariants.{Faults}
 use Rattle.good_files.specs.declared.answers.CheckFault.{CheckFault}

@@ -1,6 +1,6 @@
 -- What `check` reads, and what is due of the texts.
 use Rattle.std.specs.Prelude.{ℕ, ◌≡◌, ◌⊎◌, ◌++◌, List, [], ◌∷◌, Ok, codes, decimal, length}
-use Rattle.plain_text.specs.Texts.{Text}
+use Rattle.statement.specs.Benches.{Text}
 use Rattle.commands.specs.Due.{Due, Deliver, Refuse}
 use Rattle.commands.specs.declared.ending.Finding.{Finding}
 use Rattle.commands.specs.declared.ending.Finding.TheVariants.{Fine, Differs}
@@ -12,9 +12,10 @@ use Rattle.good_files.specs.declared.answers.CheckFault.{CheckFault}
 use Rattle.good_files.specs.declared.answers.CheckFault.TheVariants as fault
 use Rattle.good_files.specs.Checks.{IsOutside}
 use Rattle.good_files.specs.Laws.{IsWholeAnswer}
-use Rattle.good_files.specs.GoodFiles.{AreGoodFiles, Contents, FiveFiles}
+use Rattle.good_files.specs.GoodFiles.{AreGoodFiles, Contents}
+use Rattle.statement.specs.Statement.{FiveFiles}
 use Rattle.netlist.specs.Conditions.{IsSound}
-use Rattle.fault_universe.specs.Universe.{universe_of}
+use Rattle.statement.specs.Faults.{universe_of}
 use Rattle.check_command.specs.declared.refusal.CheckRefusal.{CheckRefusal}
 use Rattle.check_command.specs.declared.refusal.CheckRefusal.TheVariants as refusal
 

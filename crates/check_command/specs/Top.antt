@@ -1,6 +1,6 @@
 -- The statuses of the program that only checks, and what each says.
 use Rattle.std.specs.Prelude.{◌≡◌, ℕ, Bool, List, [], ◌∷◌, Option, Some, None, codes}
-use Rattle.plain_text.specs.Texts.{Text}
+use Rattle.statement.specs.Benches.{Text}
 use Rattle.commands.specs.World.{IsAsBefore, World}
 use Rattle.commands.specs.Names.{run_files}
 use Rattle.commands.specs.Rows.{CommandRow}

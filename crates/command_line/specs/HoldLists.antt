@@ -1,10 +1,9 @@
 -- The list of held inputs, as `a=0,b=1`.
-use Rattle.std.specs.Prelude.{◌==◌, ◌&&◌, ◌++◌, Bool, true, false, not, List, [], ◌∷◌, length, map, nat_lt}
-use Rattle.std.specs.Prelude.{Option, Some, None, if◌then◌else◌, codes, option_and_then, option_map}
+use Rattle.std.specs.Prelude.{◌==◌, ◌&&◌, ◌++◌, Bool, true, false, not, List, [], ◌∷◌, length, map, nat_lt, Option, Some, None, if◌then◌else◌, codes, option_and_then, option_map}
 use Rattle.std.specs.List.{after_first, before_first, list_all, list_any, slice_split}
 use Rattle.std.specs.Str.{bytes_eq}
 use Rattle.clap.specs.Words.{Text}
-use Rattle.netlist.specs.Names.{is_name_byte}
+use Rattle.statement.specs.Netlists.{is_name_byte}
 
 -- an input's name, and the bit at which it is held
 abbrev pub HoldItem : Type 0

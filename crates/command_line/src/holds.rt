@@ -4,7 +4,7 @@ ghost use Rattle.std.specs.List.{list_all, slice_split};
 ghost use Rattle.command_line.specs.CommandLine.{hold_of};
 ghost use Rattle.command_line.specs.HoldLists.{are_new, bit_in, hold_in, holds_in, holds_of, is_name};
 ghost use Rattle.command_line.specs.inner.Held.{AreHeld};
-ghost use Rattle.netlist.specs.Names.{is_name_byte};
+ghost use Rattle.statement.specs.Netlists.{is_name_byte};
 
 use crate::requests::NoRequest;
 use indexmap::IndexSet;

@@ -1,6 +1,6 @@
 -- A command's row, put together of its reads, its work and what became of it.
 use Rattle.std.proofs.Common.{◌≡◌, inl, inr, ℕ, List, [], Option, Some, None, Result, Ok, Err, ap₂, refl, sym, subst, arith}
-use Rattle.plain_text.specs.Texts.{Text}
+use Rattle.statement.specs.Benches.{Text}
 use Rattle.outside.specs.Shelf.{Files}
 use Rattle.commands.specs.World.{World, world}
 use Rattle.commands.specs.Contents.{FilesHold}

@@ -7,7 +7,7 @@ use Rattle.std.proofs.lemmas.List.Elements.{All-append, All-cons, All-nil}
 use Rattle.std.proofs.lemmas.List.{map_push}
 use Rattle.std.specs.declared.alloc.Global.{Global}
 use Rattle.std.proofs.lemmas.Option.{slice_get-map, slice_get-get_or}
-use Rattle.plain_text.specs.Texts.{Text}
+use Rattle.statement.specs.Benches.{Text}
 use Rattle.outside.specs.Shelf.{Files}
 use Rattle.outside.specs.Told.{OnTold}
 use Rattle.commands.specs.Contents.{FilesHold, IsReached, ReadTexts, Whole, Missing, TooLong, contents_of, contents_at, with_first, most_bytes}

@@ -6,7 +6,7 @@ use Rattle.std.specs.Str.{bytes_eq}
 use Rattle.std.specs.declared.alloc.Global.{Global}
 use Rattle.std.proofs.lemmas.List.{take_all}
 use Rattle.std.proofs.lemmas.Option.{slice_get-map, slice_get-get_or}
-use Rattle.plain_text.specs.Texts.{Text}
+use Rattle.statement.specs.Benches.{Text}
 use Rattle.outside.specs.Shelf.{Files, GainsFile, SameFiles}
 use Rattle.outside.specs.Told.{Both}
 use Rattle.commands.specs.Written.{AreFirstWritten, AreWritten, AreWrittenUpTo, LeavesFiles, with_file, with_files}

@@ -1,7 +1,7 @@
 -- What becomes of a command's work: its product is delivered, or not, or there is none.
 use Rattle.std.specs.Prelude.{◌≡◌, List, Result, Ok, Err}
 use Rattle.std.specs.List.{zip}
-use Rattle.plain_text.specs.Texts.{Text}
+use Rattle.statement.specs.Benches.{Text}
 use Rattle.commands.specs.World.{World}
 use Rattle.commands.specs.Names.{texts_of}
 use Rattle.commands.specs.Rows.{Delivers, FailsToDeliver, StopsDelivering}

@@ -1,6 +1,6 @@
 -- The number and the line of how a command ends, by those of its refusals.
 use Rattle.std.specs.Prelude.{◌++◌, ℕ, [], codes}
-use Rattle.plain_text.specs.Texts.{Text}
+use Rattle.statement.specs.Benches.{Text}
 use Rattle.commands.specs.Names.{file_name_of}
 use Rattle.commands.specs.declared.ending.Finding.TheVariants.{Fine, Differs}
 use Rattle.commands.specs.declared.ending.Ending.{Ending}

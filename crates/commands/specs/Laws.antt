@@ -1,7 +1,7 @@
 -- Each ending comes exactly where it should, but for a failed read or write and want of memory.
 -- So each "only where" of the rows is "exactly where".
 use Rattle.std.specs.Prelude.{◌≡◌, ⊤, List, Some}
-use Rattle.plain_text.specs.Texts.{Text}
+use Rattle.statement.specs.Benches.{Text}
 use Rattle.outside.specs.Causes.{Rose}
 use Rattle.outside.specs.Shelf.{Files}
 use Rattle.commands.specs.World.{NoneFailed, OutFailed, ShelfFailed, World}

@@ -1,7 +1,7 @@
 -- A text that is put on a sink in pieces.
 use Rattle.std.specs.Prelude.{◌≡◌, ◌++◌, ℕ, List, Option, Result, Ok, Err}
 use Rattle.std.specs.List.{flat_map}
-use Rattle.plain_text.specs.Texts.{Text}
+use Rattle.statement.specs.Benches.{Text}
 use denote.Ref.{Bor}
 use Rattle.outside.specs.Causes.{HasWriteCause}
 use Rattle.outside.specs.Told.{Both}

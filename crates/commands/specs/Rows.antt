@@ -2,7 +2,7 @@
 -- A command is the names that it reads, the names that it writes, and what is due of the texts that it has read.
 use Rattle.std.specs.Prelude.{◌≡◌, ◌⊎◌, List, None}
 use Rattle.std.specs.List.{zip}
-use Rattle.plain_text.specs.Texts.{Text}
+use Rattle.statement.specs.Benches.{Text}
 use Rattle.outside.specs.Told.{Both, OnTold}
 use Rattle.commands.specs.World.{Grows, GrowsInPart, IsAsBefore, IsUntouched, NoneFailed, OutFailed, ShelfFailed, World}
 use Rattle.commands.specs.Contents.{FilesHold, IsReached, IsLonger}

@@ -1,6 +1,6 @@
 -- What a call of the program sees of the outside, before and after.
 use Rattle.std.specs.Prelude.{◌≡◌, ◌++◌, ℕ, Option, take}
-use Rattle.plain_text.specs.Texts.{Text}
+use Rattle.statement.specs.Benches.{Text}
 use Rattle.outside.specs.Causes.{Rose}
 use Rattle.outside.specs.Shelf.{Files}
 use Rattle.outside.specs.Told.{Both}

@@ -1,7 +1,7 @@
 //! A command from its reads to its output.
 ghost use Rattle.std.specs.Prelude.{◌≡◌, ◌≤◌, ℕ, List, length};
 ghost use Rattle.std.specs.List.{All};
-ghost use Rattle.plain_text.specs.Texts.{Text};
+ghost use Rattle.statement.specs.Benches.{Text};
 ghost use Rattle.commands.specs.World.{world};
 ghost use Rattle.commands.specs.Names.{file_names_of, texts_of};
 ghost use Rattle.commands.specs.Contents.{most_bytes};

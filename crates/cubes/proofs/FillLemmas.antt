@@ -4,12 +4,13 @@ use Rattle.std.specs.List.{All, AllZip, slice_get}
 use Rattle.std.proofs.lemmas.List.Elements.{All-nil, All-cons, All-head, All-tail}
 use Rattle.std.proofs.lemmas.Slice.Zip.{AllZip-long}
 use Rattle.rand_core.specs.Stream.{Stream, next_u32}
-use Rattle.netlist.specs.declared.kinds.Tri.{Tri}
-use Rattle.netlist.specs.declared.kinds.Tri.TheVariants.{Zero, One, X}
-use Rattle.netlist.specs.ThreeValues.{known, allows, AreAllowed}
-use Rattle.netlist.specs.Netlist.{Netlist}
-use Rattle.netlist.specs.Holds.{Holds}
-use Rattle.cubes.specs.Cubes.{Cube, Pattern, AgreesWith, IsCubeOf, IsPatternOf}
+use Rattle.statement.specs.declared.kinds.Tri.{Tri}
+use Rattle.statement.specs.declared.kinds.Tri.TheVariants.{Zero, One, X}
+use Rattle.statement.specs.Values.{known, allows}
+use Rattle.netlist.specs.ThreeValues.{AreAllowed}
+use Rattle.statement.specs.Netlists.{Netlist}
+use Rattle.statement.specs.Patterns.{Holds, Pattern}
+use Rattle.cubes.specs.Cubes.{Cube, AgreesWith, IsCubeOf, IsPatternOf}
 use Rattle.cubes.specs.Filling.{filled, words_after, filled_cube, words_after_cube, filled_all}
 
 pub filled_allowed : (vs : List Tri) (words : Stream) → AreAllowed vs (filled vs words)

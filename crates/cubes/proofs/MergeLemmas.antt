@@ -5,10 +5,10 @@ use Rattle.std.proofs.lemmas.Bool.{cases_lt, cases_eq, eq-eqb, ne_eqb, cond-true
 use Rattle.std.proofs.lemmas.List.{get_or_append_left, get_or-set_same, get_or-set_other, get_or_past, get_or_default}
 use Rattle.std.proofs.Math.Seq.{get_or-append_seam}
 use Rattle.std.proofs.lemmas.Option.{get_or_from_slice_get, slice_get-get_or, slice_get_within}
-use Rattle.netlist.specs.declared.kinds.Tri.TheVariants.{X}
-use Rattle.netlist.specs.Netlist.{Netlist}
-use Rattle.netlist.specs.Holds.{Holds}
-use Rattle.netlist.specs.ThreeValues.{known}
+use Rattle.statement.specs.declared.kinds.Tri.TheVariants.{X}
+use Rattle.statement.specs.Netlists.{Netlist}
+use Rattle.statement.specs.Patterns.{Holds}
+use Rattle.statement.specs.Values.{known}
 use Rattle.cubes.specs.Cubes.{Cube, HasBit, Contradicts, HasBitsOf, HaveSameWidths, IsCubeOf}
 use Rattle.cubes.specs.Merging.{cube_at, AreMergedBy, AreMerged}
 use Rattle.cubes.specs.inner.Joining.{IsAdded, IsJoinedCube}

@@ -1,16 +1,12 @@
--- Patterns, and cubes: patterns some of whose bits are left open. (Bushnell and Agrawal, Essentials of Electronic Testing.)
+-- Cubes: patterns some of whose bits are left open.
 use Rattle.std.specs.Prelude.{ℕ, ◌≡◌, Bool, not, List, ◌++◌, length, slice_index_or, Some}
 use Rattle.std.specs.List.{slice_get}
-use Rattle.netlist.specs.declared.kinds.Tri.{Tri}
-use Rattle.netlist.specs.declared.kinds.Tri.TheVariants.{X}
-use Rattle.netlist.specs.ThreeValues.{known, AreAllowed}
-use Rattle.netlist.specs.Netlist.{Netlist, cells}
-use Rattle.netlist.specs.Holds.{Holds, Obeys}
-
--- a bit for each input and for each cell
-pub record Pattern : Type 0 where
-  pub inputs : List Bool
-  pub cells : List Bool
+use Rattle.statement.specs.declared.kinds.Tri.{Tri}
+use Rattle.statement.specs.declared.kinds.Tri.TheVariants.{X}
+use Rattle.statement.specs.Values.{known}
+use Rattle.netlist.specs.ThreeValues.{AreAllowed}
+use Rattle.statement.specs.Netlists.{Netlist, cells}
+use Rattle.statement.specs.Patterns.{Holds, Obeys, Pattern}
 
 -- the same in three values: an X is a bit that is left open
 pub record Cube : Type 0 where

@@ -1,9 +1,10 @@
 -- What the Xs of a cube are filled with.
 use Rattle.std.specs.Prelude.{◌%◌, ◌==◌, Bool, true, false, List, [], ◌∷◌}
 use Rattle.rand_core.specs.Stream.{Stream, next_u32}
-use Rattle.netlist.specs.declared.kinds.Tri.{Tri}
-use Rattle.netlist.specs.declared.kinds.Tri.TheVariants.{Zero, One, X}
-use Rattle.cubes.specs.Cubes.{Cube, Pattern}
+use Rattle.statement.specs.declared.kinds.Tri.{Tri}
+use Rattle.statement.specs.declared.kinds.Tri.TheVariants.{Zero, One, X}
+use Rattle.cubes.specs.Cubes.{Cube}
+use Rattle.statement.specs.Patterns.{Pattern}
 
 -- bits stay, and each X takes the lowest bit of one word
 abbrev pub filled : List Tri → Stream → List Bool

@@ -1,8 +1,8 @@
 //! Cubes filled to patterns.
 ghost use Rattle.std.specs.Prelude.{◌≡◌, ◌+◌, ◌≤◌, ◌++◌, length, IfOk, OnOk, OnErr, vec_len, vec_capacity};
 ghost use Rattle.std.specs.List.{All, AllZip};
-ghost use Rattle.netlist.specs.Netlist.{Netlist};
-ghost use Rattle.netlist.specs.Holds.{Holds};
+ghost use Rattle.statement.specs.Netlists.{Netlist};
+ghost use Rattle.statement.specs.Patterns.{Holds};
 ghost use Rattle.cubes.specs.Cubes.{AgreesWith, IsCubeOf, IsPatternOf};
 ghost use Rattle.cubes.specs.Filling.{filled, words_after, filled_cube, words_after_cube, filled_all, words_after_all};
 

@@ -1,8 +1,8 @@
 //! Cubes merged into fewer.
 ghost use Rattle.std.specs.Prelude.{◌≡◌, ◌<◌, ◌≤◌, ℕ, length, IfOk, OnOk, MatchOption};
 ghost use Rattle.std.specs.List.{All, AllPairs, Contains};
-ghost use Rattle.netlist.specs.Netlist.{Netlist};
-ghost use Rattle.netlist.specs.Holds.{Holds};
+ghost use Rattle.statement.specs.Netlists.{Netlist};
+ghost use Rattle.statement.specs.Patterns.{Holds};
 ghost use Rattle.cubes.specs.Cubes.{Cube as Values, Contradicts, HaveSameWidths, HasBitsOf, IsCubeOf};
 ghost use Rattle.cubes.specs.Merging.{cube_at, AreMerged};
 ghost use Rattle.cubes.specs.inner.Joining.{IsAdded};

@@ -14,7 +14,7 @@ pub struct Pattern {
 }
 
 impl Model for Pattern {
-    ghost use Rattle.cubes.specs.Cubes.{Pattern};
+    ghost use Rattle.statement.specs.Patterns.{Pattern};
 
     ghost Value = { Pattern };
 

@@ -8,9 +8,9 @@ use Rattle.std.proofs.Math.Pow.{pow_mono}
 use Rattle.std.proofs.Math.Nat.{two-pow-succ}
 use Rattle.std.proofs.Math.Numerals.{add-one}
 use Rattle.std.proofs.lemmas.Nat.{pow_pos}
-use Rattle.netlist.specs.declared.lines.Fault.{Fault}
-use Rattle.netlist.specs.Holds.{Holds}
-use Rattle.netlist.specs.Netlist.{Netlist}
+use Rattle.statement.specs.declared.lines.Fault.{Fault}
+use Rattle.statement.specs.Patterns.{Holds}
+use Rattle.statement.specs.Netlists.{Netlist}
 use Rattle.netlist.proofs.Lists.{contains_cases, contains_nil, all_left, all_right}
 use Rattle.tri.specs.Paths.{Path, decisions}
 use Rattle.redundancy_cert.specs.declared.nodes.Node.{Node}

@@ -2,9 +2,9 @@
 use Rattle.std.proofs.Common.{◌-◌, ◌++◌, ◌+◌, ◌≡◌, ◌≢◌, ℕ, List, [], ◌∷◌, length, length-append, append_assoc, append-nil, get_or, refl, sym, ◌∙◌, ap, subst, arith}
 use Rattle.std.proofs.lemmas.List.{get_or-append-add}
 use Rattle.std.proofs.lemmas.List.Elements.{All-nil, All-cons, All-head, All-tail}
-use Rattle.netlist.specs.declared.lines.Fault.{Fault}
-use Rattle.netlist.specs.Holds.{Holds}
-use Rattle.netlist.specs.Netlist.{Netlist}
+use Rattle.statement.specs.declared.lines.Fault.{Fault}
+use Rattle.statement.specs.Patterns.{Holds}
+use Rattle.statement.specs.Netlists.{Netlist}
 use Rattle.tri.specs.Paths.{Path, IsUnknown}
 use Rattle.pair_sim.specs.Sims.{Sim, sim, assigned, backtracked}
 use Rattle.redundancy_cert.specs.declared.nodes.Node.{Node}

@@ -2,9 +2,9 @@
 -- value and the flag, and flagged nodes after it are removed.)
 use Rattle.std.specs.Prelude.{ℕ, ◌≡◌, ◌≢◌, Bool, List, [], ◌∷◌, ◌++◌, IsTrue}
 use Rattle.std.specs.List.{All}
-use Rattle.netlist.specs.declared.lines.Fault.{Fault}
-use Rattle.netlist.specs.Holds.{Holds}
-use Rattle.netlist.specs.Netlist.{Netlist}
+use Rattle.statement.specs.declared.lines.Fault.{Fault}
+use Rattle.statement.specs.Patterns.{Holds}
+use Rattle.statement.specs.Netlists.{Netlist}
 use Rattle.tri.specs.Paths.{Path, IsUnknown}
 use Rattle.pair_sim.specs.Sims.{Sim, sim}
 use Rattle.redundancy_cert.specs.declared.nodes.Node.{Node}

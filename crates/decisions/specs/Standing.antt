@@ -1,9 +1,9 @@
 -- Where a search stands in its tree. P is what the search asks of a node at its place.
 use Rattle.std.specs.Prelude.{ℕ, ◌≡◌, Bool, not, List, [], ◌∷◌}
 use Rattle.std.specs.List.{Contains}
-use Rattle.netlist.specs.declared.lines.Fault.{Fault}
-use Rattle.netlist.specs.Holds.{Holds}
-use Rattle.netlist.specs.Netlist.{Netlist}
+use Rattle.statement.specs.declared.lines.Fault.{Fault}
+use Rattle.statement.specs.Patterns.{Holds}
+use Rattle.statement.specs.Netlists.{Netlist}
 use Rattle.tri.specs.Paths.{Path, IsClosedPath, IsUnknown}
 use Rattle.pair_sim.specs.Sims.{Sim, sim}
 use Rattle.redundancy_cert.specs.declared.nodes.Node.{Node}

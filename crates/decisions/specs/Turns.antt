@@ -1,9 +1,9 @@
 -- What a turn of a search comes to. P is what the search asks of a node at its place, T when a simulation is at a test.
 use Rattle.std.specs.Prelude.{ℕ, ◌≡◌, ◌+◌, ◌<◌, ◌⊎◌, List, [], ◌∷◌, is_none, IsTrue, if◌then◌else◌}
-use Rattle.netlist.specs.declared.lines.Fault.{Fault}
-use Rattle.netlist.specs.declared.lines.Point.{Point}
-use Rattle.netlist.specs.Holds.{Holds}
-use Rattle.netlist.specs.Netlist.{Netlist, signals}
+use Rattle.statement.specs.declared.lines.Fault.{Fault}
+use Rattle.statement.specs.declared.lines.Point.{Point}
+use Rattle.statement.specs.Patterns.{Holds}
+use Rattle.statement.specs.Netlists.{Netlist, signals}
 use Rattle.tri.specs.Paths.{Path, decisions}
 use Rattle.pair_sim.specs.Sims.{Sim, sim}
 use Rattle.redundancy_cert.specs.declared.stacks.Side.{Side}

@@ -1,7 +1,7 @@
 //! What guides read of a netlist and its labels.
 ghost use Rattle.std.specs.Prelude.{◌≡◌, ◌≤◌, length, IsTrue};
 ghost use Rattle.std.specs.List.{Contains};
-ghost use Rattle.netlist.specs.Netlist.{signals};
+ghost use Rattle.statement.specs.Netlists.{signals};
 ghost use Rattle.pair_sim.specs.Sims.{IsNotBlocked};
 
 use netlist::{Core, Fault, Kind, Line, SignalId, Tri};

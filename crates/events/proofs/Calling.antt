@@ -4,12 +4,12 @@ use Rattle.std.specs.List.{Contains, list_any}
 use Rattle.std.proofs.lemmas.Bool.{cases_lt, both_ways, eqb-true, or_left, or_right, or_cases}
 use Rattle.std.proofs.lemmas.List.{get_or_past}
 use Rattle.std.proofs.lemmas.List.Folds.{list_any_more}
-use Rattle.netlist.specs.declared.lines.Line.{Line}
-use Rattle.netlist.specs.declared.lines.Line.TheVariants.{Pin}
-use Rattle.netlist.specs.Netlist.{Definition, Netlist, gates, signals}
+use Rattle.statement.specs.declared.lines.Line.{Line}
+use Rattle.statement.specs.declared.lines.Line.TheVariants.{Pin}
+use Rattle.statement.specs.Netlists.{Definition, Netlist, gates, signals}
 use Rattle.netlist.specs.Conditions.{IsNumbered}
 use Rattle.netlist.specs.Orders.{IsOrder, ArePlaces}
-use Rattle.netlist.specs.Settled.{Rule}
+use Rattle.statement.specs.Values.{Rule}
 use Rattle.netlist.proofs.Orders.{gate_placed, place_of, place_there}
 use Rattle.netlist.proofs.Settling.{above_inputs}
 use Rattle.netlist.proofs.Placed.{same_definition, gate_defined, definition_below}

@@ -1,7 +1,7 @@
 -- A definition of the parts of another.
 use Rattle.std.proofs.Common.{◌≡◌, ℕ, List, ap, ◌∙◌}
-use Rattle.netlist.specs.declared.kinds.Kind.{Kind}
-use Rattle.netlist.specs.Netlist.{Definition}
+use Rattle.statement.specs.declared.kinds.Kind.{Kind}
+use Rattle.statement.specs.Netlists.{Definition}
 
 definition : ℕ → Kind → List ℕ → Definition
 definition id kind pins = record { id = id; kind = kind; pins = pins }

@@ -4,11 +4,11 @@ use Rattle.std.specs.List.{Contains, list_any}
 use Rattle.std.proofs.lemmas.Bool.{cases_eq, cases_lt, both_ways, or_left, or_right}
 use Rattle.std.proofs.lemmas.List.{get_or-set_same, get_or-set_other, get_or_past, set-get_or, get_or-map, length-map}
 use Rattle.std.proofs.lemmas.List.Elements.{All-contains, Contains-get_or}
-use Rattle.netlist.specs.declared.lines.Line.TheVariants.{Stem}
+use Rattle.statement.specs.declared.lines.Line.TheVariants.{Stem}
 use Rattle.netlist.specs.Conditions.{IsSound}
-use Rattle.netlist.specs.Netlist.{Definition, Netlist, cells, gates, signals}
-use Rattle.netlist.specs.Readers.{readers_of}
-use Rattle.netlist.specs.Settled.{Rule, on_pins, pins_of, at}
+use Rattle.statement.specs.Netlists.{Definition, Netlist, cells, gates, signals, readers_of}
+use Rattle.statement.specs.Values.{Rule, on_pins, pins_of}
+use Rattle.netlist.specs.Settled.{at}
 use Rattle.netlist.specs.Settling.{IsDriven}
 use Rattle.netlist.proofs.Lists.{map_agree, All-from_contains}
 use Rattle.netlist.proofs.Placed.{gate_defined, signals_length}

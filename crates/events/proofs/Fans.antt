@@ -4,10 +4,9 @@ use Rattle.std.specs.List.{All, list_any}
 use Rattle.std.proofs.lemmas.Bool.{cases_eq, cases_Bool, both_ways, ne_eqb, lt-ltb, ltb-true}
 use Rattle.std.proofs.lemmas.List.{length-set, length_push, get_or_append_left, get_or_push, take_more, append_assoc}
 use Rattle.std.proofs.lemmas.List.Folds.{list_any_more}
-use Rattle.netlist.specs.declared.lines.Line.{Line}
-use Rattle.netlist.specs.declared.lines.Line.TheVariants.{Stem, Pin, Out}
-use Rattle.netlist.specs.Netlist.{Netlist, signals}
-use Rattle.netlist.specs.Readers.{readers_of}
+use Rattle.statement.specs.declared.lines.Line.{Line}
+use Rattle.statement.specs.declared.lines.Line.TheVariants.{Stem, Pin, Out}
+use Rattle.statement.specs.Netlists.{Netlist, signals, readers_of}
 use Rattle.plain_text.specs.Rows.{rows}
 use Rattle.plain_text.proofs.Buffers.{rows_count, pushed_rows, pushed_ends}
 use Rattle.events.specs.Agendas.{marked}

@@ -4,12 +4,11 @@ use Rattle.std.specs.List.{Contains, list_any, flat_map, filter}
 use Rattle.std.proofs.lemmas.Bool.{cases_eq, cases_Bool, both_ways, eqb-true, eq-eqb, ne_eqb, or_left, or_right, or_cases}
 use Rattle.std.proofs.lemmas.List.{get_or-set_same, get_or-set_other}
 use Rattle.std.proofs.lemmas.List.Folds.{list_any-append, list_any_more}
-use Rattle.netlist.specs.declared.lines.Line.{Line}
-use Rattle.netlist.specs.declared.lines.Line.TheVariants.{Pin, Out}
-use Rattle.netlist.specs.Netlist.{Definition, Netlist, gates}
+use Rattle.statement.specs.declared.lines.Line.{Line}
+use Rattle.statement.specs.declared.lines.Line.TheVariants.{Pin, Out}
+use Rattle.statement.specs.Netlists.{Definition, Netlist, gates, readers_of, pins_reading}
 use Rattle.netlist.specs.Conditions.{IsNumbered}
 use Rattle.netlist.specs.Orders.{IsOrder, ArePlaces}
-use Rattle.netlist.specs.Readers.{readers_of, pins_reading}
 use Rattle.netlist.proofs.Lists.{contains_cases, contains_nil, contains_head, contains_tail}
 use Rattle.netlist.proofs.Placed.{same_definition, gate_defined, definition_below}
 use Rattle.netlist.proofs.Orders.{gate_placed}

@@ -4,12 +4,13 @@ use Rattle.std.specs.List.{Contains, list_any}
 use Rattle.std.proofs.lemmas.Bool.{cases_eq, cases_lt, cases_Bool, both_ways, or_parts, or_from, or_cases, eqb-false, ne_eqb}
 use Rattle.std.proofs.lemmas.List.{append-nil, length-set, get_or-set_same, get_or-set_other, get_or_past}
 use Rattle.std.proofs.lemmas.List.Elements.{Contains-push_cases, Contains-append_cases}
-use Rattle.netlist.specs.declared.lines.Line.TheVariants.{Stem}
-use Rattle.netlist.specs.Netlist.{Definition, Netlist, is_cell, cells, gates, signals, also}
+use Rattle.statement.specs.declared.lines.Line.TheVariants.{Stem}
+use Rattle.statement.specs.Netlists.{Definition, Netlist, is_cell, cells, gates, signals, readers_of}
+use Rattle.netlist.specs.Netlist.{also}
 use Rattle.netlist.specs.Conditions.{IsSound}
 use Rattle.netlist.specs.Orders.{IsOrder, ArePlaces}
-use Rattle.netlist.specs.Readers.{readers_of}
-use Rattle.netlist.specs.Settled.{Rule, at}
+use Rattle.statement.specs.Values.{Rule}
+use Rattle.netlist.specs.Settled.{at}
 use Rattle.netlist.proofs.Lists.{contains_nil, contains_cases, contains_filter}
 use Rattle.netlist.proofs.Placed.{gate_defined, definition_below, input_below}
 use Rattle.netlist.proofs.Settling.{zip_kept}

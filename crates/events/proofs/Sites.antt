@@ -1,11 +1,11 @@
 -- The signal whose equation a pin enters.
 use Rattle.std.proofs.Common.{◌≡◌, ℕ, ◌<◌, ◌≤◌, List, length, get_or, refl, sym, subst, inl, arith}
 use Rattle.std.proofs.lemmas.Bool.{eq-eqb}
-use Rattle.netlist.specs.declared.lines.Line.{Line}
-use Rattle.netlist.specs.declared.lines.Line.TheVariants.{Stem, Pin}
+use Rattle.statement.specs.declared.lines.Line.{Line}
+use Rattle.statement.specs.declared.lines.Line.TheVariants.{Stem, Pin}
 use Rattle.netlist.specs.Conditions.{IsNumbered}
 use Rattle.netlist.specs.Lines.{IsLineOf}
-use Rattle.netlist.specs.Netlist.{Netlist, signals}
+use Rattle.statement.specs.Netlists.{Netlist, signals}
 use Rattle.netlist.specs.Orders.{IsOrder, ArePlaces}
 use Rattle.netlist.proofs.Placed.{definition_below, signal_below}
 use Rattle.events.specs.Stuck.{IsObservedOnly, IsSite}

@@ -2,12 +2,12 @@
 use Rattle.std.proofs.Common.{◌≡◌, ℕ, ◌+◌, Bool, false, cond, List, [], ◌∷◌, map, Some, None, refl, sym, ◌∙◌, ap, subst, inl, inr, eqb}
 use Rattle.std.specs.List.{AllZip, Contains}
 use Rattle.std.proofs.lemmas.Bool.{cases_eq, and_left, ne_eqb}
-use Rattle.netlist.specs.declared.lines.Line.{Line}
-use Rattle.netlist.specs.declared.lines.Line.TheVariants.{Stem, Pin, Out}
-use Rattle.netlist.specs.declared.lines.Fault.{Fault}
-use Rattle.netlist.specs.Netlist.{Definition, Netlist, is_cell, cells, gates}
+use Rattle.statement.specs.declared.lines.Line.{Line}
+use Rattle.statement.specs.declared.lines.Line.TheVariants.{Stem, Pin, Out}
+use Rattle.statement.specs.declared.lines.Fault.{Fault}
+use Rattle.statement.specs.Netlists.{Definition, Netlist, is_cell, cells, gates}
 use Rattle.netlist.specs.Conditions.{IsSound}
-use Rattle.netlist.specs.Settled.{Rule, Table, with_fault, is_line, on_pins, pins_of}
+use Rattle.statement.specs.Values.{Rule, Table, with_fault, is_line, on_pins, pins_of}
 use Rattle.netlist.proofs.Lists.{contains_filter, contains_head, contains_tail}
 use Rattle.netlist.proofs.Placed.{input_below, definition_below, gate_defined}
 use Rattle.events.specs.Waiting.{SettlesBut, IsSourceStep, IsDrivenTo, AgreeAt}

@@ -4,12 +4,14 @@ use Rattle.std.specs.List.{All}
 use Rattle.std.proofs.lemmas.Bool.{both_ways, eqb-true, eq-eqb, ne_eqb, false_from_ne_true}
 use Rattle.std.proofs.lemmas.List.{get_or_default}
 use Rattle.std.proofs.lemmas.List.Elements.{All-append, All-take, Contains-get_or}
-use Rattle.netlist.specs.declared.lines.Line.{Line}
-use Rattle.netlist.specs.declared.lines.Line.TheVariants.{Stem, Pin, Out}
-use Rattle.netlist.specs.declared.lines.Fault.{Fault}
-use Rattle.netlist.specs.Netlist.{Definition, Netlist, cells, signals, IsGateAt}
+use Rattle.statement.specs.declared.lines.Line.{Line}
+use Rattle.statement.specs.declared.lines.Line.TheVariants.{Stem, Pin, Out}
+use Rattle.statement.specs.declared.lines.Fault.{Fault}
+use Rattle.statement.specs.Netlists.{Definition, Netlist, cells, signals}
+use Rattle.netlist.specs.Netlist.{IsGateAt}
 use Rattle.netlist.specs.Conditions.{IsNumbered, IsSound}
-use Rattle.netlist.specs.Settled.{Rule, Settles, Table, with_fault, is_line, at}
+use Rattle.statement.specs.Values.{Rule, Settles, Table, with_fault, is_line}
+use Rattle.netlist.specs.Settled.{at}
 use Rattle.netlist.proofs.Orders.{gates_few}
 use Rattle.netlist.proofs.Settling.{zip_kept}
 use Rattle.events.specs.declared.trails.Change.{Change}

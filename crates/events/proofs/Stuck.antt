@@ -2,11 +2,12 @@
 use Rattle.std.proofs.Common.{◌≡◌, ℕ, zero, suc, ◌+◌, ◌<◌, false, List, [], ◌∷◌, map, length, get_or, Option, Some, None, refl, sym, ◌∙◌, ap, arith}
 use Rattle.std.specs.List.{All}
 use Rattle.std.proofs.lemmas.List.{get_or_default}
-use Rattle.netlist.specs.declared.kinds.Kind.{Kind}
-use Rattle.netlist.specs.declared.lines.Line.TheVariants.{Stem, Pin}
-use Rattle.netlist.specs.declared.lines.Fault.{Fault}
-use Rattle.netlist.specs.Netlist.{Definition}
-use Rattle.netlist.specs.Settled.{Rule, on_pins, at}
+use Rattle.statement.specs.declared.kinds.Kind.{Kind}
+use Rattle.statement.specs.declared.lines.Line.TheVariants.{Stem, Pin}
+use Rattle.statement.specs.declared.lines.Fault.{Fault}
+use Rattle.statement.specs.Netlists.{Definition}
+use Rattle.statement.specs.Values.{Rule, on_pins}
+use Rattle.netlist.specs.Settled.{at}
 use Rattle.netlist.proofs.Lists.{map_agree}
 use Rattle.events.specs.Waiting.{given}
 use Rattle.events.specs.Words.{words, word_table, gate_word, is_stuck_at}

@@ -1,10 +1,10 @@
 -- Laws of values that have settled but for some signals, each the contract of a function of its name.
 use Rattle.std.specs.Prelude.{ℕ, Bool, List, Some, None, IsFalse}
 use Rattle.std.specs.List.{Contains}
-use Rattle.netlist.specs.Netlist.{Definition, Netlist, gates}
+use Rattle.statement.specs.Netlists.{Definition, Netlist, gates}
 use Rattle.netlist.specs.Conditions.{IsSound}
-use Rattle.netlist.specs.declared.lines.Fault.{Fault}
-use Rattle.netlist.specs.Settled.{Rule, Settles, Table, with_fault}
+use Rattle.statement.specs.declared.lines.Fault.{Fault}
+use Rattle.statement.specs.Values.{Rule, Settles, Table, with_fault}
 use Rattle.events.specs.Stuck.{is_at, IsObservedOnly}
 use Rattle.events.specs.Waiting.{SettlesBut, IsStep, IsSourceStep, IsDrivenTo, AgreeAt}
 

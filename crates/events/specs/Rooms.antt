@@ -1,6 +1,6 @@
 -- What an evaluator keeps beside its netlist.
 use Rattle.std.specs.Prelude.{ℕ, ◌≡◌, Bool, List}
-use Rattle.netlist.specs.Netlist.{Netlist}
+use Rattle.statement.specs.Netlists.{Netlist}
 use Rattle.events.specs.declared.trails.Change.{Change}
 use Rattle.events.specs.Standing.{Standing, standing}
 use Rattle.events.specs.inner.Running.{AreReady}

@@ -1,9 +1,10 @@
 -- Values of a netlist's signals as they stand, with a trail of what changed.
 use Rattle.std.specs.Prelude.{ℕ, ◌≡◌, ◌==◌, ◌+◌, ◌-◌, ◌<◌, Bool, List, ◌++◌, length, IsFalse}
 use Rattle.std.specs.List.{All, Contains}
-use Rattle.netlist.specs.declared.lines.Line.TheVariants.{Stem}
-use Rattle.netlist.specs.Netlist.{Netlist, signals}
-use Rattle.netlist.specs.Settled.{Rule, Settles, at}
+use Rattle.statement.specs.declared.lines.Line.TheVariants.{Stem}
+use Rattle.statement.specs.Netlists.{Netlist, signals}
+use Rattle.statement.specs.Values.{Rule, Settles}
+use Rattle.netlist.specs.Settled.{at}
 use Rattle.events.specs.declared.trails.Change.{Change}
 use Rattle.events.specs.Trails.{AreChanges}
 use Rattle.events.specs.Waiting.{SettlesBut, IsDrivenTo}

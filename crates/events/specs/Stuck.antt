@@ -1,8 +1,9 @@
 -- Where a stuck line changes what a signal is.
 use Rattle.std.specs.Prelude.{ℕ, ◌≡◌, ◌==◌, ◌⊎◌, ⊤, Bool, false, IsTrue}
-use Rattle.netlist.specs.declared.lines.Line.{Line}
-use Rattle.netlist.specs.declared.lines.Line.TheVariants.{Stem, Pin, Out}
-use Rattle.netlist.specs.Netlist.{Netlist, IsGateAt}
+use Rattle.statement.specs.declared.lines.Line.{Line}
+use Rattle.statement.specs.declared.lines.Line.TheVariants.{Stem, Pin, Out}
+use Rattle.statement.specs.Netlists.{Netlist}
+use Rattle.netlist.specs.Netlist.{IsGateAt}
 
 -- the line is the stem of the signal, or a pin of what defines it
 abbrev pub is_at : Line → ℕ → Bool

@@ -2,9 +2,9 @@
 -- (Event-driven simulation, where only what a change reaches is evaluated: Ulrich, Exclusive simulation of activity in digital networks, 1969.)
 use Rattle.std.specs.Prelude.{ℕ, ◌≡◌, ◌≢◌, ◌<◌, Bool, List, length, IsFalse}
 use Rattle.std.specs.List.{AllZip, Contains}
-use Rattle.netlist.specs.declared.lines.Line.TheVariants.{Stem}
-use Rattle.netlist.specs.Netlist.{Definition, Netlist, cells, gates, signals}
-use Rattle.netlist.specs.Settled.{Rule, pins_of}
+use Rattle.statement.specs.declared.lines.Line.TheVariants.{Stem}
+use Rattle.statement.specs.Netlists.{Definition, Netlist, cells, gates, signals}
+use Rattle.statement.specs.Values.{Rule, pins_of}
 
 -- what the stem of a gate makes of what the gate makes of its pins
 abbrev pub given : {V : Type 0} → Rule V → (ℕ → V) → Definition → V

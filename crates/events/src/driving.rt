@@ -1,7 +1,7 @@
 //! Other values on the inputs and cells.
 ghost use Rattle.std.specs.Prelude.{◌≡◌, ◌≢◌, ◌<◌, ◌≤◌, length};
 ghost use Rattle.std.specs.List.{All, AllPairs};
-ghost use Rattle.netlist.specs.Netlist.{signals};
+ghost use Rattle.statement.specs.Netlists.{signals};
 ghost use Rattle.events.specs.inner.Placing.{AreTables};
 ghost use Rattle.events.specs.inner.Driving.{Puts, AreDriven};
 

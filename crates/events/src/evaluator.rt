@@ -2,8 +2,8 @@
 ghost use Rattle.std.specs.Prelude.{◌≡◌, ◌≢◌, ◌+◌, ◌^◌, ◌<◌, ◌≤◌, [], drop, length, slice_set, take, IfOk, IfSome, MatchOption, OnOk, None, Some, slice_get};
 ghost use Rattle.std.specs.List.{All, AllPairs};
 ghost use Rattle.netlist.specs.Lines.{IsLineOf};
-ghost use Rattle.netlist.specs.Netlist.{cells, signals};
-ghost use Rattle.netlist.specs.Settled.{Table, with_fault};
+ghost use Rattle.statement.specs.Netlists.{cells, signals};
+ghost use Rattle.statement.specs.Values.{Table, with_fault};
 ghost use Rattle.events.specs.Rooms.{IsReusableRoom, IsRoomOf, standing_in};
 ghost use Rattle.events.specs.Standing.{IsStanding, Moves, SettlesAnew, SettlesAllAnew, SettlesFor, SettlesOver};
 ghost use Rattle.events.specs.Stuck.{IsObservedOnly, IsSite};

@@ -2,7 +2,8 @@
 ghost use Rattle.std.specs.Prelude.{◌≡◌, ◌<◌, ◌≤◌, ℕ, List, length, map, slice_index};
 ghost use Rattle.std.specs.List.{All};
 ghost use Rattle.netlist.specs.Gates.{most_pins};
-ghost use Rattle.netlist.specs.Settled.{on_pins, at};
+ghost use Rattle.statement.specs.Values.{on_pins};
+ghost use Rattle.netlist.specs.Settled.{at};
 ghost use Rattle.events.specs.Words.{words};
 
 use crate::words::Words;

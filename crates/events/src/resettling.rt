@@ -2,10 +2,10 @@
 ghost use Rattle.std.specs.Prelude.{◌≡◌, ◌≢◌, ◌+◌, ◌<◌, ◌≤◌, ◌∷◌, [], length, slice_index, slice_index_or, slice_set, vec_capacity, IsTrue};
 ghost use Rattle.std.specs.List.{All, AllPairs, Contains};
 ghost use Rattle.netlist.specs.Gates.{most_pins};
-ghost use Rattle.netlist.specs.Netlist.{signals, IsGateAt};
+ghost use Rattle.statement.specs.Netlists.{signals, readers_of};
+ghost use Rattle.netlist.specs.Netlist.{IsGateAt};
 ghost use Rattle.netlist.specs.Conditions.{IsSound};
 ghost use Rattle.netlist.specs.Lines.{IsPinBelow};
-ghost use Rattle.netlist.specs.Readers.{readers_of};
 ghost use Rattle.netlist.specs.Settled.{at};
 ghost use Rattle.events.specs.Agendas.{AreClear};
 ghost use Rattle.events.specs.Waiting.{given};

@@ -1,7 +1,7 @@
 //! What the evaluator reads of a netlist, in flat tables: the order of evaluation, the place of each signal in it, and for each signal the places of the gates that read it.
 ghost use Rattle.std.specs.Prelude.{◌≡◌, ◌++◌, ◌<◌, ◌≤◌, ◌∷◌, [], IfOk, OnOk, Some, length, slice_get, slice_index, slice_index_or};
 ghost use Rattle.std.specs.List.{All};
-ghost use Rattle.netlist.specs.Netlist.{signals};
+ghost use Rattle.statement.specs.Netlists.{signals};
 ghost use Rattle.plain_text.specs.Rows.{AreEnds, rows};
 ghost use Rattle.netlist.specs.Lines.{IsPinBelow};
 ghost use Rattle.events.specs.inner.Placing.{AreFans, AreTables, called};

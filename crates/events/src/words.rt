@@ -2,7 +2,8 @@
 ghost use Rattle.std.specs.Prelude.{◌≡◌, ◌↔◌, ◌<◌, ◌≤◌, IsTrue, length, map};
 ghost use Rattle.std.specs.List.{All};
 ghost use Rattle.netlist.specs.Gates.{most_pins};
-ghost use Rattle.netlist.specs.Settled.{at, on_pins};
+ghost use Rattle.netlist.specs.Settled.{at};
+ghost use Rattle.statement.specs.Values.{on_pins};
 ghost use Rattle.events.specs.Words.{all_of, some_of, odd_of, only_of, gate_word, is_stuck_at, words, WordsSettleAsBits};
 
 use crate::comparing::Comparing;

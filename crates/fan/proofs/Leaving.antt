@@ -5,12 +5,14 @@ use Rattle.std.specs.Option.{is_some}
 use Rattle.std.specs.List.{Contains, list_any}
 use Rattle.std.proofs.lemmas.Bool.{both_ways, eq-eqb, eqb-true, not-true, not_from_false, false_from_ne_true, or_left, or_right, or_cases}
 use Rattle.std.proofs.lemmas.List.{length-map, get_or_past}
-use Rattle.netlist.specs.declared.kinds.Tri.TheVariants.{X}
-use Rattle.netlist.specs.declared.lines.Fault.{Fault}
-use Rattle.netlist.specs.Holds.{Holds, AreHoldsOf}
-use Rattle.netlist.specs.Netlist.{Definition, Netlist, is_cell, is_gate, cells, gates, signals, IsGateAt}
+use Rattle.statement.specs.declared.kinds.Tri.TheVariants.{X}
+use Rattle.statement.specs.declared.lines.Fault.{Fault}
+use Rattle.statement.specs.Patterns.{Holds}
+use Rattle.netlist.specs.Holds.{AreHoldsOf}
+use Rattle.statement.specs.Netlists.{Definition, Netlist, is_cell, cells, gates, signals}
+use Rattle.netlist.specs.Netlist.{is_gate, IsGateAt}
 use Rattle.netlist.specs.Conditions.{IsSound}
-use Rattle.netlist.specs.ThreeValues.{known}
+use Rattle.statement.specs.Values.{known}
 use Rattle.netlist.proofs.Lists.{contains_filter, any_true, any_from}
 use Rattle.netlist.proofs.Placed.{same_definition, signal_below, signal_cases, signal_from}
 use Rattle.netlist.proofs.Orders.{input_low}

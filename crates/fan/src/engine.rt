@@ -116,8 +116,8 @@ impl Fan {
 }
 
 impl Engine for Fan {
-    ghost use Rattle.netlist.specs.Netlist.{Netlist};
-    ghost use Rattle.netlist.specs.Holds.{Holds};
+    ghost use Rattle.statement.specs.Netlists.{Netlist};
+    ghost use Rattle.statement.specs.Patterns.{Holds};
     ghost use Rattle.fan.specs.Trees.{HasEvidenceOnPlaces};
     ghost use Rattle.pair_sim.specs.Rooms.{IsReusableLabelRoom};
     ghost use Rattle.head_lines.specs.Rooms.{IsReusableRoleRoom, IsReusableWantRoom};

@@ -4,13 +4,14 @@ use Rattle.std.specs.Bool.{Decides}
 use Rattle.std.specs.List.{All, AllZip, Contains, flat_map}
 use Rattle.std.proofs.lemmas.Bool.{both_ways, cases_Bool, cases_eq, or_cases, or_left, or_right}
 use Rattle.std.proofs.lemmas.List.Elements.{All-nil, All-cons, All-contains}
-use Rattle.netlist.specs.declared.lines.Line.{Line}
-use Rattle.netlist.specs.declared.lines.Line.TheVariants.{Stem, Pin, Out}
-use Rattle.netlist.specs.declared.lines.Fault.{Fault}
-use Rattle.netlist.specs.Netlist.{Definition, Netlist, is_cell, is_gate, cells, gates, signals}
+use Rattle.statement.specs.declared.lines.Line.{Line}
+use Rattle.statement.specs.declared.lines.Line.TheVariants.{Stem, Pin, Out}
+use Rattle.statement.specs.declared.lines.Fault.{Fault}
+use Rattle.statement.specs.Netlists.{Definition, Netlist, is_cell, cells, gates, signals}
+use Rattle.netlist.specs.Netlist.{is_gate}
 use Rattle.netlist.specs.Conditions.{IsSound}
 use Rattle.netlist.specs.Laws.{HoldsEverywhere}
-use Rattle.netlist.specs.Settled.{Settles, Table, is_line, next, on_pins, outs, pins_of, stuck, with_fault}
+use Rattle.statement.specs.Values.{Settles, Table, is_line, next, on_pins, outs, pins_of, stuck, with_fault}
 use Rattle.netlist.proofs.Lists.{All-from_contains, contains_filter, contains_head, contains_tail, map_agree}
 
 -- what a line makes of a value where a fault is elsewhere, and where it is there

@@ -6,17 +6,17 @@ use Rattle.std.proofs.lemmas.Bool.{both_ways, cases_Bool, cases_lt, eq-eqb, eqb-
 use Rattle.std.proofs.lemmas.List.{get_or_append_left, get_or_default, length-map}
 use Rattle.std.proofs.lemmas.Option.{slice_get-get_or}
 use Rattle.std.proofs.lemmas.List.Elements.{All-contains, Contains-append_cases}
-use Rattle.netlist.specs.declared.kinds.Kind.{Kind}
-use Rattle.netlist.specs.declared.kinds.Kind.TheVariants.{And, Nand, Or, Nor, Xor, Xnor, Not, Buff, Dff, Const0, Const1}
-use Rattle.netlist.specs.declared.lines.Line.{Line}
-use Rattle.netlist.specs.declared.lines.Line.TheVariants.{Stem, Pin, Out}
-use Rattle.netlist.specs.declared.lines.Fault.{Fault}
-use Rattle.netlist.specs.Netlist.{Definition, Netlist, is_cell, is_flip_flop, is_gate, cells, gates, signals}
+use Rattle.statement.specs.declared.kinds.Kind.{Kind}
+use Rattle.statement.specs.declared.kinds.Kind.TheVariants.{And, Nand, Or, Nor, Xor, Xnor, Not, Buff, Dff, Const0, Const1}
+use Rattle.statement.specs.declared.lines.Line.{Line}
+use Rattle.statement.specs.declared.lines.Line.TheVariants.{Stem, Pin, Out}
+use Rattle.statement.specs.declared.lines.Fault.{Fault}
+use Rattle.statement.specs.Netlists.{Definition, Netlist, is_cell, is_flip_flop, cells, gates, signals, readers_of}
+use Rattle.netlist.specs.Netlist.{is_gate}
 use Rattle.netlist.specs.Conditions.{IsSound}
 use Rattle.netlist.specs.Gates.{allows_pins}
 use Rattle.netlist.specs.Laws.{HoldsEverywhere, SettlesOnce, SomeSettles}
-use Rattle.netlist.specs.Readers.{readers_of}
-use Rattle.netlist.specs.Settled.{Rule, Settles, Table, is_line, next, on_pins, outs, pins_of, with_fault}
+use Rattle.statement.specs.Values.{Rule, Settles, Table, is_line, next, on_pins, outs, pins_of, with_fault}
 use Rattle.netlist.proofs.Lists.{All-from_contains, contains_cases, contains_filter, contains_head, contains_map, contains_nil, contains_tail, filter_contains, map_agree}
 use Rattle.netlist.proofs.Placed.{definition_below, same_definition}
 use Rattle.netlist.proofs.Settling.{above_inputs}

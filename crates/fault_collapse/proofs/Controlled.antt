@@ -2,9 +2,10 @@
 use Rattle.std.proofs.Common.{◌≡◌, ℕ, suc, zero, ◌&&◌, ◌||◌, Bool, true, false, not, List, [], ◌∷◌, length, refl, ◌∙◌, ap, Some, arith}
 use Rattle.std.specs.List.{slice_get}
 use Rattle.std.proofs.lemmas.Bool.{eqb-true}
-use Rattle.netlist.specs.declared.kinds.Kind.{Kind}
-use Rattle.netlist.specs.declared.kinds.Kind.TheVariants.{And, Nand, Or, Nor, Xor, Xnor, Not, Buff, Dff, Const0, Const1}
-use Rattle.netlist.specs.Gates.{allows_pins, conjunction, disjunction, gate_bit, only}
+use Rattle.statement.specs.declared.kinds.Kind.{Kind}
+use Rattle.statement.specs.declared.kinds.Kind.TheVariants.{And, Nand, Or, Nor, Xor, Xnor, Not, Buff, Dff, Const0, Const1}
+use Rattle.netlist.specs.Gates.{allows_pins}
+use Rattle.statement.specs.Values.{conjunction, disjunction, gate_bit, only}
 use Rattle.fault_collapse.specs.Joined.{output_value}
 
 and_false : (b : Bool) → (b && false) ≡ false

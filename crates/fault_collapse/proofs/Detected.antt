@@ -2,13 +2,13 @@
 use Rattle.std.proofs.Common.{◌≡◌, ℕ, Bool, false, List, ap, ◌∙◌, sym, Some}
 use Rattle.std.specs.List.{slice_get}
 use Rattle.std.proofs.lemmas.Slice.Zip.{AllZip-long}
-use Rattle.netlist.specs.declared.lines.Fault.{Fault}
-use Rattle.netlist.specs.declared.lines.Point.{Point}
-use Rattle.netlist.specs.declared.lines.Point.TheVariants.{Output, Cell}
-use Rattle.netlist.specs.Netlist.{Netlist, cells}
+use Rattle.statement.specs.declared.lines.Fault.{Fault}
+use Rattle.statement.specs.declared.lines.Point.{Point}
+use Rattle.statement.specs.declared.lines.Point.TheVariants.{Output, Cell}
+use Rattle.statement.specs.Netlists.{Netlist, cells}
 use Rattle.netlist.specs.Conditions.{IsSound}
-use Rattle.netlist.specs.Settled.{bits, outs, next}
-use Rattle.netlist.specs.Detection.{observed, Detects}
+use Rattle.statement.specs.Values.{bits, outs, next}
+use Rattle.statement.specs.Patterns.{observed, Detects}
 use Rattle.netlist.specs.Laws.{SomeSettles}
 use Rattle.fault_collapse.specs.Joined.{IsEquivalent}
 use Rattle.fault_collapse.specs.Laws.{EquivalentAgree}

@@ -1,9 +1,9 @@
 -- A fault at a pin, and the fault at the gate's output.
 use Rattle.std.proofs.Common.{◌≡◌, Bool, refl, sym, ◌∙◌, ap, Option, None, Some}
-use Rattle.netlist.specs.declared.lines.Line.{Line}
-use Rattle.netlist.specs.declared.lines.Line.TheVariants.{Stem}
-use Rattle.netlist.specs.declared.lines.Fault.{Fault}
-use Rattle.netlist.specs.Netlist.{Definition, Netlist}
+use Rattle.statement.specs.declared.lines.Line.{Line}
+use Rattle.statement.specs.declared.lines.Line.TheVariants.{Stem}
+use Rattle.statement.specs.declared.lines.Fault.{Fault}
+use Rattle.statement.specs.Netlists.{Definition, Netlist}
 use Rattle.netlist.specs.Conditions.{IsSound}
 use Rattle.fault_collapse.specs.declared.drivers.Driver.{Driver}
 use Rattle.fault_collapse.specs.Joined.{output_value, IsJoined}

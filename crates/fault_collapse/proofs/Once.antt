@@ -6,10 +6,10 @@ use Rattle.std.proofs.lemmas.Grind.{same_number_lists}
 use Rattle.std.proofs.lemmas.List.{ext_get_or}
 use Rattle.std.proofs.lemmas.List.Elements.{All-get_or}
 use Rattle.std.proofs.lemmas.Option.{get_or_from_slice_get, slice_get-get_or, slice_get_within}
-use Rattle.netlist.specs.declared.lines.Fault.{Fault}
-use Rattle.netlist.specs.declared.lines.Line.TheVariants.{Stem}
-use Rattle.netlist.specs.Netlist.{Netlist}
-use Rattle.fault_universe.specs.Universe.{universe_of}
+use Rattle.statement.specs.declared.lines.Fault.{Fault}
+use Rattle.statement.specs.declared.lines.Line.TheVariants.{Stem}
+use Rattle.statement.specs.Netlists.{Netlist}
+use Rattle.statement.specs.Faults.{universe_of}
 use Rattle.fault_collapse.specs.Numbers.{Classes}
 use Rattle.fault_collapse.specs.Classes.{AreClasses}
 

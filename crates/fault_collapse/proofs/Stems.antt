@@ -6,14 +6,14 @@ use Rattle.std.proofs.lemmas.List.{get_or_append_left, get_or_default}
 use Rattle.std.proofs.lemmas.List.Concat.{get_or-flat_map}
 use Rattle.std.proofs.lemmas.List.Folds.{length-flat_map-take}
 use Rattle.std.proofs.lemmas.Option.{slice_get-get_or}
-use Rattle.netlist.specs.declared.lines.Line.{Line}
-use Rattle.netlist.specs.declared.lines.Line.TheVariants.{Stem}
-use Rattle.netlist.specs.declared.lines.Fault.{Fault}
-use Rattle.netlist.specs.Netlist.{Definition, Netlist, signals}
+use Rattle.statement.specs.declared.lines.Line.{Line}
+use Rattle.statement.specs.declared.lines.Line.TheVariants.{Stem}
+use Rattle.statement.specs.declared.lines.Fault.{Fault}
+use Rattle.statement.specs.Netlists.{Definition, Netlist, signals, readers_of}
 use Rattle.netlist.specs.Conditions.{IsNumbered}
-use Rattle.netlist.specs.Readers.{readers_of}
 use Rattle.netlist.proofs.Placed.{signals_length}
-use Rattle.fault_universe.specs.Universe.{all_lines, branching, faults_of, lines_of}
+use Rattle.fault_universe.specs.Universe.{all_lines, branching}
+use Rattle.statement.specs.Faults.{faults_of, lines_of}
 use Rattle.fault_universe.proofs.LineLists.{one_more, room}
 use Rattle.fault_universe.proofs.FaultLists.{pair_at}
 use Rattle.fault_collapse.specs.inner.Merging.{stem_fault}

@@ -1,9 +1,9 @@
 -- The classes of a netlist's faults.
 use Rattle.std.specs.Prelude.{ℕ, ◌≡◌, ◌↔◌, ◌<◌, length, slice_index, Some}
 use Rattle.std.specs.List.{All, slice_get}
-use Rattle.netlist.specs.declared.lines.Fault.{Fault}
-use Rattle.netlist.specs.Netlist.{Netlist}
-use Rattle.fault_universe.specs.Universe.{universe_of}
+use Rattle.statement.specs.declared.lines.Fault.{Fault}
+use Rattle.statement.specs.Netlists.{Netlist}
+use Rattle.statement.specs.Faults.{universe_of}
 use Rattle.fault_collapse.specs.Joined.{IsEquivalent}
 use Rattle.fault_collapse.specs.Numbers.{Classes}
 

@@ -3,13 +3,12 @@
 -- Bushnell and Agrawal, Essentials of Electronic Testing, 2000, chapter 4.)
 use Rattle.std.specs.Prelude.{ℕ, ◌≡◌, Bool, true, false, not, if◌then◌else◌, nat_le, length, Option, Some, None}
 use Rattle.std.specs.List.{Contains, slice_get}
-use Rattle.netlist.specs.declared.kinds.Kind.{Kind}
-use Rattle.netlist.specs.declared.kinds.Kind.TheVariants.{And, Nand, Or, Nor, Xor, Xnor, Not, Buff, Dff, Const0, Const1}
-use Rattle.netlist.specs.declared.lines.Line.{Line}
-use Rattle.netlist.specs.declared.lines.Line.TheVariants.{Stem, Pin}
-use Rattle.netlist.specs.declared.lines.Fault.{Fault}
-use Rattle.netlist.specs.Netlist.{Definition, Netlist}
-use Rattle.netlist.specs.Readers.{readers_of}
+use Rattle.statement.specs.declared.kinds.Kind.{Kind}
+use Rattle.statement.specs.declared.kinds.Kind.TheVariants.{And, Nand, Or, Nor, Xor, Xnor, Not, Buff, Dff, Const0, Const1}
+use Rattle.statement.specs.declared.lines.Line.{Line}
+use Rattle.statement.specs.declared.lines.Line.TheVariants.{Stem, Pin}
+use Rattle.statement.specs.declared.lines.Fault.{Fault}
+use Rattle.statement.specs.Netlists.{Definition, Netlist, readers_of}
 
 -- what the output of a gate is stuck at where one of its pins is stuck at this bit, if that can't be told apart
 abbrev pub output_value : Kind → Bool → Option Bool

@@ -1,14 +1,14 @@
 -- Laws of classes, each the contract of a function of its name.
 use Rattle.std.specs.Prelude.{ℕ, ◌≡◌, ◌↔◌, Bool, List, length, slice_get, Some, IsTrue}
 use Rattle.std.specs.Bool.{Decides}
-use Rattle.netlist.specs.declared.kinds.Kind.{Kind}
-use Rattle.netlist.specs.declared.lines.Fault.{Fault}
-use Rattle.netlist.specs.declared.lines.Point.{Point}
-use Rattle.netlist.specs.Netlist.{Netlist}
+use Rattle.statement.specs.declared.kinds.Kind.{Kind}
+use Rattle.statement.specs.declared.lines.Fault.{Fault}
+use Rattle.statement.specs.declared.lines.Point.{Point}
+use Rattle.statement.specs.Netlists.{Netlist}
 use Rattle.netlist.specs.Conditions.{IsSound}
 use Rattle.netlist.specs.Gates.{allows_pins}
-use Rattle.netlist.specs.Settled.{Settles, Table, bit_table, bits, outs, next, with_fault}
-use Rattle.netlist.specs.Detection.{Detects}
+use Rattle.statement.specs.Values.{Settles, Table, bit_table, bits, outs, next, with_fault}
+use Rattle.statement.specs.Patterns.{Detects}
 use Rattle.fault_collapse.specs.Classes.{AreClasses}
 use Rattle.fault_collapse.specs.Joined.{IsEquivalent, output_value}
 use Rattle.fault_collapse.specs.Numbers.{Classes}

@@ -1,6 +1,6 @@
 -- What classes of faults are seen as.
 use Rattle.std.specs.Prelude.{ℕ, List}
-use Rattle.netlist.specs.declared.lines.Fault.{Fault}
+use Rattle.statement.specs.declared.lines.Fault.{Fault}
 
 -- the class of each fault, and the representative of each class
 pub record Classes : Type 0 where

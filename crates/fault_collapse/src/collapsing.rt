@@ -1,6 +1,6 @@
 //! The classes of a netlist's faults.
 ghost use Rattle.std.specs.Prelude.{◌≡◌, ◌^◌, ◌≤◌, IfOk, length};
-ghost use Rattle.fault_universe.specs.Universe.{universe_of};
+ghost use Rattle.statement.specs.Faults.{universe_of};
 ghost use Rattle.fault_collapse.specs.Classes.{AreClasses};
 ghost use Rattle.fault_collapse.specs.inner.Merging.{AreMerged};
 

@@ -1,8 +1,9 @@
 //! What drives each signal that is no input, in a table that is small beside the definitions.
 ghost use Rattle.std.specs.Prelude.{◌≡◌, ◌^◌, ◌<◌, IfOk, MatchOption, length, take};
 ghost use Rattle.std.specs.List.{Contains, flat_map};
-ghost use Rattle.netlist.specs.Netlist.{Definition as Equation, signals};
-ghost use Rattle.fault_universe.specs.Universe.{all_lines, lines_of};
+ghost use Rattle.statement.specs.Netlists.{Definition as Equation, signals};
+ghost use Rattle.fault_universe.specs.Universe.{all_lines};
+ghost use Rattle.statement.specs.Faults.{lines_of};
 ghost use Rattle.fault_collapse.specs.inner.Merging.{AreDrivers, IsDriver, IsReadBy};
 
 use crate::gates::reader_of;

@@ -1,9 +1,8 @@
 //! Which faults one gate makes equal.
 ghost use Rattle.std.specs.Prelude.{◌≡◌, ◌≢◌, ◌<◌, ◌∷◌, [], ℕ, MatchOption, length};
 ghost use Rattle.std.specs.List.{Contains};
-ghost use Rattle.netlist.specs.Netlist.{Definition as Equation, signals};
-ghost use Rattle.netlist.specs.declared.lines.Line.TheVariants.{Pin};
-ghost use Rattle.netlist.specs.Readers.{readers_of};
+ghost use Rattle.statement.specs.Netlists.{Definition as Equation, signals, readers_of};
+ghost use Rattle.statement.specs.declared.lines.Line.TheVariants.{Pin};
 ghost use Rattle.fault_universe.specs.Universe.{all_lines};
 ghost use Rattle.fault_collapse.specs.Joined.{output_value};
 ghost use Rattle.fault_collapse.specs.inner.Merging.{IsReadBy};

@@ -1,7 +1,8 @@
 //! Merging the classes of all joined faults.
 ghost use Rattle.std.specs.Prelude.{◌≡◌, ◌+◌, ◌*◌, ◌^◌, ◌<◌, ◌≤◌, ℕ, IfOk, Some, length, slice_get, slice_index, vec_len};
-ghost use Rattle.netlist.specs.Netlist.{Definition as Equation};
-ghost use Rattle.fault_universe.specs.Universe.{all_lines, universe_of};
+ghost use Rattle.statement.specs.Netlists.{Definition as Equation};
+ghost use Rattle.fault_universe.specs.Universe.{all_lines};
+ghost use Rattle.statement.specs.Faults.{universe_of};
 ghost use Rattle.fault_collapse.specs.inner.Merging.{AreDrivers, AreMerged, IsDriver, IsReadBy};
 
 use crate::drivers::{Driver, reading_driver};

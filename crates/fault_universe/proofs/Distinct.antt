@@ -5,15 +5,16 @@ use Rattle.std.proofs.lemmas.Bool.{both_ways, eqb-true}
 use Rattle.std.proofs.lemmas.List.Elements.{Contains-append_cases}
 use Rattle.std.specs.Option.{option_map_or}
 use Rattle.std.proofs.lemmas.List.{get_or_default}
-use Rattle.netlist.specs.declared.lines.Line.{Line}
-use Rattle.netlist.specs.declared.lines.Line.TheVariants.{Stem, Pin, Out}
-use Rattle.netlist.specs.declared.lines.Fault.{Fault}
-use Rattle.netlist.specs.Netlist.{Definition, Netlist, definition_of, signals}
+use Rattle.statement.specs.declared.lines.Line.{Line}
+use Rattle.statement.specs.declared.lines.Line.TheVariants.{Stem, Pin, Out}
+use Rattle.statement.specs.declared.lines.Fault.{Fault}
+use Rattle.statement.specs.Netlists.{Definition, Netlist, signals, pins_reading, readers_of}
+use Rattle.netlist.specs.Netlist.{definition_of}
 use Rattle.netlist.specs.Conditions.{IsSound}
-use Rattle.netlist.specs.Readers.{pins_reading, readers_of}
 use Rattle.netlist.proofs.Placed.{id_at, same_definition}
 use Rattle.netlist.proofs.Lists.{contains_cases, contains_head, contains_nil, contains_tail}
-use Rattle.fault_universe.specs.Universe.{all_lines, branching, faults_of, lines_of, universe_of}
+use Rattle.fault_universe.specs.Universe.{all_lines, branching}
+use Rattle.statement.specs.Faults.{faults_of, lines_of, universe_of}
 use Rattle.fault_universe.proofs.Elements.{contains_at, flat_map-source}
 use Rattle.fault_universe.proofs.Members.{at_pin, fault_line, in_branching}
 use Rattle.fault_universe.proofs.Readers.{IsPinOf, out_reading, reader_cases, reader_placed, reading_pin}

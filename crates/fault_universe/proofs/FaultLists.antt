@@ -2,8 +2,8 @@
 use Rattle.std.proofs.Common.{◌≡◌, ℕ, suc, zero, ◌+◌, ◌*◌, ◌/◌, ◌%◌, ◌<◌, ◌⊎◌, Bool, true, false, nat_eq, List, [], ◌∷◌, length, get_or, refl, sym, ◌∙◌, ap, Some, inl, inr, arith}
 use Rattle.std.specs.List.{flat_map, slice_get}
 use Rattle.std.proofs.lemmas.Option.{slice_get_read}
-use Rattle.netlist.specs.declared.lines.Line.{Line}
-use Rattle.fault_universe.specs.Universe.{faults_of}
+use Rattle.statement.specs.declared.lines.Line.{Line}
+use Rattle.statement.specs.Faults.{faults_of}
 
 pub length-faults : (lines : List Line) → length (flat_map faults_of lines) ≡ 2 * length lines
 length-faults [] = refl

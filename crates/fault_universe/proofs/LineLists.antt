@@ -4,11 +4,11 @@ use Rattle.std.specs.List.{flat_map}
 use Rattle.std.proofs.lemmas.Grind.{take_at_read, flat_map-append}
 use Rattle.std.proofs.lemmas.List.{append-nil}
 use Rattle.std.proofs.lemmas.List.Folds.{length-flat_map-take}
-use Rattle.netlist.specs.declared.lines.Line.{Line}
-use Rattle.netlist.specs.declared.lines.Line.TheVariants.{Stem}
-use Rattle.netlist.specs.Netlist.{Netlist, signals}
-use Rattle.netlist.specs.Readers.{readers_of}
-use Rattle.fault_universe.specs.Universe.{branching, lines_of}
+use Rattle.statement.specs.declared.lines.Line.{Line}
+use Rattle.statement.specs.declared.lines.Line.TheVariants.{Stem}
+use Rattle.statement.specs.Netlists.{Netlist, signals, readers_of}
+use Rattle.fault_universe.specs.Universe.{branching}
+use Rattle.statement.specs.Faults.{lines_of}
 use Rattle.netlist.specs.Conditions.{IsNumbered}
 
 module _ {X : Type 0} (n : Netlist) (numbered : IsNumbered n) (f : ℕ → List X) where

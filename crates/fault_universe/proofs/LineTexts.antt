@@ -3,16 +3,15 @@ use Rattle.std.proofs.Common.{◌≡◌, ◌≢◌, ℕ, ◌+◌, Bool, true, fa
 use Rattle.std.specs.List.{All, Contains}
 use Rattle.std.proofs.lemmas.Fmt.{decimal_injective}
 use Rattle.std.proofs.lemmas.List.{append_cancel_left, append_cancel_right, get_or-append-add}
-use Rattle.netlist.specs.declared.lines.Line.{Line}
-use Rattle.netlist.specs.declared.lines.Line.TheVariants.{Stem, Pin, Out}
-use Rattle.netlist.specs.declared.lines.Fault.{Fault}
-use Rattle.netlist.specs.Netlist.{Netlist}
+use Rattle.statement.specs.declared.lines.Line.{Line}
+use Rattle.statement.specs.declared.lines.Line.TheVariants.{Stem, Pin, Out}
+use Rattle.statement.specs.declared.lines.Fault.{Fault}
+use Rattle.statement.specs.Netlists.{Netlist, name_of}
 use Rattle.netlist.specs.Conditions.{IsSound}
 use Rattle.netlist.proofs.Lists.{All-from_contains}
-use Rattle.fault_universe.specs.Texts.{fault_text, line_text, value_text}
+use Rattle.statement.specs.Faults.{fault_text, line_text, value_text, universe_of}
 use Rattle.fault_universe.specs.inner.Written.{IsWritten}
-use Rattle.netlist.specs.Netlist.{name_of}
-use Rattle.fault_universe.specs.Universe.{all_lines, universe_of}
+use Rattle.fault_universe.specs.Universe.{all_lines}
 use Rattle.fault_universe.proofs.Members.{line_written, member_line}
 use Rattle.fault_universe.proofs.Names.{no_blank, same_name}
 use Rattle.plain_text.proofs.Parts.{same_parts}

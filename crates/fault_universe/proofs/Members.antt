@@ -5,18 +5,19 @@ use Rattle.std.specs.Option.{option_map_or}
 use Rattle.std.proofs.lemmas.Bool.{both_ways, eqb-true, le-leb, leb-true, ne_eqb}
 use Rattle.std.proofs.lemmas.Option.{get_or_from_slice_get, slice_get-get_or}
 use Rattle.std.proofs.lemmas.List.Elements.{All-contains}
-use Rattle.netlist.specs.declared.lines.Line.{Line}
-use Rattle.netlist.specs.declared.lines.Line.TheVariants.{Stem, Pin, Out}
-use Rattle.netlist.specs.declared.lines.Fault.{Fault}
-use Rattle.netlist.specs.Netlist.{Definition, Netlist, definition_of, signals}
+use Rattle.statement.specs.declared.lines.Line.{Line}
+use Rattle.statement.specs.declared.lines.Line.TheVariants.{Stem, Pin, Out}
+use Rattle.statement.specs.declared.lines.Fault.{Fault}
+use Rattle.statement.specs.Netlists.{Definition, Netlist, signals, readers_of}
+use Rattle.netlist.specs.Netlist.{definition_of}
 use Rattle.netlist.specs.Conditions.{IsSound}
-use Rattle.netlist.specs.Readers.{readers_of}
-use Rattle.netlist.specs.Settled.{is_line}
+use Rattle.statement.specs.Values.{is_line}
 use Rattle.netlist.proofs.Found.{defined}
 use Rattle.netlist.proofs.Placed.{definition_below, signal_below}
 use Rattle.netlist.proofs.WellFormed.{few_pins_of}
 use Rattle.netlist.proofs.Lists.{contains_cases, contains_head, contains_nil, contains_tail}
-use Rattle.fault_universe.specs.Universe.{all_lines, branching, faults_of, lines_of, universe_of}
+use Rattle.fault_universe.specs.Universe.{all_lines, branching}
+use Rattle.statement.specs.Faults.{faults_of, lines_of, universe_of}
 use Rattle.fault_universe.specs.inner.Written.{IsWritten}
 use Rattle.netlist.specs.Lines.{signal_of, IsLineOf}
 use Rattle.fault_universe.proofs.Elements.{contains_at, slice_get_below, Contains-flat_map, flat_map-source}

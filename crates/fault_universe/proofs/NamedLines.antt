@@ -2,13 +2,12 @@
 use Rattle.std.proofs.Common.{◌≡◌, ◌≢◌, ℕ, ◌^◌, ◌<◌, List, ◌∷◌, ◌++◌, length, get_or, refl, sym, ◌∙◌, ap, subst, codes, decimal, arith}
 use Rattle.std.specs.List.{All}
 use Rattle.std.proofs.lemmas.List.{append_cancel_left}
-use Rattle.netlist.specs.declared.lines.Line.{Line}
-use Rattle.netlist.specs.declared.lines.Line.TheVariants.{Stem, Pin, Out}
-use Rattle.netlist.specs.Netlist.{Netlist, signals}
+use Rattle.statement.specs.declared.lines.Line.{Line}
+use Rattle.statement.specs.declared.lines.Line.TheVariants.{Stem, Pin, Out}
+use Rattle.statement.specs.Netlists.{Netlist, signals, name_of}
 use Rattle.netlist.specs.Conditions.{IsSound}
-use Rattle.fault_universe.specs.Texts.{line_text}
+use Rattle.statement.specs.Faults.{line_text}
 use Rattle.fault_universe.specs.inner.Written.{IsWritten}
-use Rattle.netlist.specs.Netlist.{name_of}
 use Rattle.fault_universe.proofs.Names.{no_blank}
 use Rattle.plain_text.proofs.Parts.{byte_inside, same_parts}
 

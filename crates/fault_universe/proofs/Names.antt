@@ -5,11 +5,9 @@ use Rattle.std.proofs.lemmas.Bool.{cases_order, both_ways}
 use Rattle.std.proofs.lemmas.List.{get_or_default}
 use Rattle.std.proofs.lemmas.List.Elements.{All-contains, All-get_or, All-weaker}
 use Rattle.std.proofs.lemmas.Option.{get_or_from_slice_get}
-use Rattle.netlist.specs.Netlist.{Definition, Netlist, signals}
+use Rattle.statement.specs.Netlists.{Definition, Netlist, signals, IsName, is_name_byte, name_of}
 use Rattle.netlist.specs.Conditions.{IsNumbered, HasReader, IsSound}
-use Rattle.netlist.specs.Names.{IsName, is_name_byte}
 use Rattle.netlist.proofs.Placed.{signal_below}
-use Rattle.netlist.specs.Netlist.{name_of}
 
 pub is_signal : (n : Netlist) → IsNumbered n → (x : ℕ) → x < length (signals n) → Contains (signals n) x
 is_signal n numbered x l = (x, l, get_or_default (signals n) x x 0 l ∙ numbered x l)

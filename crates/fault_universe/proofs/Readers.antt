@@ -4,11 +4,10 @@ use Rattle.std.specs.List.{Contains, filter, flat_map, slice_get}
 use Rattle.std.proofs.lemmas.Bool.{and_parts, both_ways, eqb-true, eq-eqb}
 use Rattle.std.proofs.lemmas.List.{get_or-append-add}
 use Rattle.std.proofs.lemmas.List.Elements.{Contains-append_left, Contains-append_right, Contains-append_cases, Contains-get_or}
-use Rattle.netlist.specs.declared.lines.Line.{Line}
-use Rattle.netlist.specs.declared.lines.Line.TheVariants.{Stem, Pin, Out}
-use Rattle.netlist.specs.Netlist.{Definition, Netlist}
-use Rattle.netlist.specs.Readers.{pins_reading, readers_of}
-use Rattle.netlist.specs.Settled.{is_line}
+use Rattle.statement.specs.declared.lines.Line.{Line}
+use Rattle.statement.specs.declared.lines.Line.TheVariants.{Stem, Pin, Out}
+use Rattle.statement.specs.Netlists.{Definition, Netlist, pins_reading, readers_of}
+use Rattle.statement.specs.Values.{is_line}
 use Rattle.netlist.proofs.Lists.{contains_cases, contains_head, contains_nil, contains_tail}
 use Rattle.fault_universe.proofs.Elements.{Contains-flat_map, flat_map-source, contains_some}
 

@@ -3,14 +3,14 @@ use Rattle.std.proofs.Common.{◌≡◌, ℕ, ◌+◌, ◌*◌, ◌≤◌, Bool,
 use Rattle.std.specs.List.{Contains, filter, flat_map}
 use Rattle.std.proofs.lemmas.Bool.{eqb-true, ne_eqb}
 use Rattle.std.proofs.lemmas.List.{length-map}
-use Rattle.netlist.specs.declared.lines.Line.{Line}
-use Rattle.netlist.specs.declared.lines.Line.TheVariants.{Pin, Out}
-use Rattle.netlist.specs.Netlist.{Definition, Netlist, signals}
+use Rattle.statement.specs.declared.lines.Line.{Line}
+use Rattle.statement.specs.declared.lines.Line.TheVariants.{Pin, Out}
+use Rattle.statement.specs.Netlists.{Definition, Netlist, signals, pins_reading, readers_of}
 use Rattle.netlist.specs.Conditions.{IsSound}
-use Rattle.netlist.specs.Readers.{pins_reading, readers_of}
 use Rattle.netlist.proofs.Lists.{contains_head, contains_tail}
 use Rattle.netlist.proofs.WellFormed.{few_pins_of}
-use Rattle.fault_universe.specs.Universe.{all_lines, lines_of, universe_of}
+use Rattle.fault_universe.specs.Universe.{all_lines}
+use Rattle.statement.specs.Faults.{lines_of, universe_of}
 use Rattle.fault_universe.proofs.Distinct.{distinct_signals, from_places, IsDistinct}
 use Rattle.fault_universe.proofs.FaultLists.{length-faults}
 

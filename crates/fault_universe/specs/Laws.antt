@@ -1,13 +1,12 @@
 -- Laws of the list of faults, each the contract of a function of its name.
 use Rattle.std.specs.Prelude.{ℕ, ◌≡◌, ◌<◌, ◌≤◌, ◌+◌, ◌*◌, Some, length}
 use Rattle.std.specs.List.{slice_get, Contains}
-use Rattle.netlist.specs.declared.lines.Fault.{Fault}
-use Rattle.netlist.specs.Netlist.{Netlist, signals}
+use Rattle.statement.specs.declared.lines.Fault.{Fault}
+use Rattle.statement.specs.Netlists.{Netlist, signals}
 use Rattle.netlist.specs.Conditions.{IsSound}
 use Rattle.netlist.specs.Designs.{most_design_signals}
 use Rattle.netlist.specs.Gates.{most_pins}
-use Rattle.fault_universe.specs.Universe.{universe_of}
-use Rattle.fault_universe.specs.Texts.{fault_text}
+use Rattle.statement.specs.Faults.{universe_of, fault_text}
 use Rattle.netlist.specs.Lines.{signal_of, IsLineOf}
 
 -- two places of the list whose faults are written alike are one

@@ -1,4 +1,3 @@
 pub mod Universe
-pub mod Texts
 pub mod Laws
 pub mod inner

@@ -1,8 +1,8 @@
 //! The list of faults.
 ghost use Rattle.std.specs.Prelude.{◌≡◌, ◌^◌, ◌<◌, ◌==◌, IfOk, Some, length, slice_get};
-ghost use Rattle.netlist.specs.Netlist.{signals};
-ghost use Rattle.netlist.specs.Readers.{readers_of};
-ghost use Rattle.fault_universe.specs.Universe.{all_lines, branching, fault_limit, universe_of};
+ghost use Rattle.statement.specs.Netlists.{signals, readers_of};
+ghost use Rattle.fault_universe.specs.Universe.{all_lines, branching, fault_limit};
+ghost use Rattle.statement.specs.Faults.{universe_of};
 
 use netlist::{Fault, Line, Netlist, NoMemory, SignalId};
 use std::alloc::{AllocError, Global};
@@ -18,8 +18,8 @@ pub struct FaultSet {
 impl Model for FaultSet {
     ghost use Rattle.std.specs.Prelude.{◌^◌, ◌<◌, List, length};
     ghost use Rattle.std.specs.List.{flat_map};
-    ghost use Rattle.netlist.specs.declared.lines.Fault.{Fault};
-    ghost use Rattle.fault_universe.specs.Universe.{faults_of};
+    ghost use Rattle.statement.specs.declared.lines.Fault.{Fault};
+    ghost use Rattle.statement.specs.Faults.{faults_of};
 
     ghost Value = { List Fault };
 

@@ -1,8 +1,7 @@
 //! Faults as text.
 ghost use Rattle.std.specs.Prelude.{◌≡◌, ◌<◌, ◌++◌, IfOk, OnOk, length};
-ghost use Rattle.netlist.specs.Netlist.{signals};
-ghost use Rattle.fault_universe.specs.Texts.{fault_text, line_text, value_text};
-ghost use Rattle.netlist.specs.Netlist.{name_of};
+ghost use Rattle.statement.specs.Netlists.{signals, name_of};
+ghost use Rattle.statement.specs.Faults.{fault_text, line_text, value_text};
 ghost use Rattle.netlist.specs.Lines.{signal_of};
 
 use itoa::Buffer;

@@ -1,11 +1,11 @@
 //! Faults by their texts.
 ghost use Rattle.std.specs.Prelude.{◌≡◌, ◌≢◌, ◌^◌, ◌<◌, ◌↔◌, ◌++◌, ◌∷◌, ℕ, Bool, List, IfSome, IsTrue, MatchOption, Some, codes, decimal, length, slice_get};
 ghost use Rattle.std.specs.List.{All, Contains};
-ghost use Rattle.netlist.specs.declared.lines.Line.TheVariants.{Pin, Out};
-ghost use Rattle.netlist.specs.Netlist.{signals};
+ghost use Rattle.statement.specs.declared.lines.Line.TheVariants.{Pin, Out};
+ghost use Rattle.statement.specs.Netlists.{signals};
 ghost use Rattle.netlist.specs.Conditions.{IsSound};
-ghost use Rattle.fault_universe.specs.Universe.{all_lines, universe_of};
-ghost use Rattle.fault_universe.specs.Texts.{fault_text, value_text};
+ghost use Rattle.fault_universe.specs.Universe.{all_lines};
+ghost use Rattle.statement.specs.Faults.{universe_of, fault_text, value_text};
 ghost use Rattle.fault_universe.specs.inner.Written.{IsLineNamed};
 ghost use Rattle.netlist.specs.Lines.{signal_of};
 

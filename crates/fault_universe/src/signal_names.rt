@@ -1,6 +1,7 @@
 //! Where signals are looked up by their names.
 ghost use Rattle.std.specs.Prelude.{◌≡◌, ◌≢◌, ◌<◌, ℕ, MatchOption};
-ghost use Rattle.netlist.specs.Netlist.{name_of, signal_count};
+ghost use Rattle.statement.specs.Netlists.{name_of};
+ghost use Rattle.netlist.specs.Netlist.{signal_count};
 
 use crate::fault_sets::signal_count;
 use name_index::NameIndex;
@@ -8,7 +9,8 @@ use netlist::{Netlist, SignalId};
 
 /// Whoever can find a signal by its name: a netlist goes over its names, an index looks them up.
 pub trait SignalNames {
-    ghost use Rattle.netlist.specs.Netlist.{Netlist, name_of, signal_count};
+    ghost use Rattle.statement.specs.Netlists.{Netlist, name_of};
+    ghost use Rattle.netlist.specs.Netlist.{signal_count};
 
     /// Whose names they are.
     ghost named: { Self → Netlist };

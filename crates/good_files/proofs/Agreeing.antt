@@ -1,12 +1,12 @@
 -- Two answers to the same files agree.
 use Rattle.std.proofs.Common.{◌≡◌, ℕ, ◌∙◌, inl, inr, Ok, Err, refl, sym, ap, subst}
 use Rattle.std.specs.Prelude.{Result, length}
-use Rattle.netlist.specs.Netlist.{Netlist}
+use Rattle.statement.specs.Netlists.{Netlist}
 use Rattle.bench_text.specs.declared.refusal.BenchRefusal.{BenchRefusal}
 use Rattle.bench_text.specs.declared.refusal.Names.TheVariants.{Design}
 use Rattle.certificate.specs.Certificates.{IsCertificate}
-use Rattle.fault_universe.specs.Universe.{universe_of}
-use Rattle.good_files.specs.GoodFiles.{FiveFiles}
+use Rattle.statement.specs.Faults.{universe_of}
+use Rattle.statement.specs.Statement.{FiveFiles}
 use Rattle.good_files.specs.declared.answers.Checked.{Checked}
 use Rattle.good_files.specs.declared.answers.Checked.TheVariants.{Faults, False}
 use Rattle.good_files.specs.declared.answers.CheckFault.{CheckFault}

@@ -3,14 +3,15 @@ use Rattle.std.proofs.Common.{◌≡◌, ℕ, zero, suc, ◌<◌, false, List, [
 use Rattle.std.proofs.lemmas.Bool.{cases_lt}
 use Rattle.std.proofs.lemmas.Option.{none-some}
 use Rattle.std.proofs.lemmas.List.{take_at, length-map}
-use Rattle.netlist.specs.Netlist.{Definition, Netlist, cells}
+use Rattle.statement.specs.Netlists.{Definition, Netlist, cells}
 use Rattle.netlist.specs.Conditions.{IsSound}
-use Rattle.netlist.specs.Settled.{bits, outs}
+use Rattle.statement.specs.Values.{bits, outs}
 use Rattle.scan_insert.specs.Chains.{chains_of, pieces, lengths_of}
 use Rattle.scan_insert.specs.Laws.{ScanBehaves, last_bits}
 use Rattle.scan_insert.specs.Scanned.{AreChainsOf, cell_ids, scanned_of}
 use Rattle.good_files.specs.GoodFiles.{IsChainCount}
-use Rattle.good_files.specs.ScanOff.{BehavesWithScanOff, design_chains}
+use Rattle.statement.specs.Statement.{BehavesWithScanOff}
+use Rattle.good_files.specs.ScanOff.{design_chains}
 
 -- ---- so many chains
 

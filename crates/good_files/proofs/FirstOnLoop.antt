@@ -1,7 +1,8 @@
 -- A text has one refusal at most, and none beside a netlist.
 use Rattle.std.proofs.Common.{◌≡◌, ◌∙◌, ℕ, List, [], ◌∷◌, ◌++◌, Option, Some, None, Ok, Err, sym, ap, ap₂, subst}
 use Rattle.std.specs.List.{AllByRecursion}
-use Rattle.netlist.specs.Netlist.{Netlist, IsAcyclic}
+use Rattle.statement.specs.Netlists.{Netlist}
+use Rattle.netlist.specs.Netlist.{IsAcyclic}
 use Rattle.bench_text.specs.Forms.{Statement, Nothing, Input, Output, Definition}
 use Rattle.bench_text.specs.Said.{Said, statements_of}
 use Rattle.bench_text.specs.Whole.{notes, refusal}

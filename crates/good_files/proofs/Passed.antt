@@ -3,7 +3,8 @@ use Rattle.netlist.specs.Conditions.{IsSound}
 use Rattle.netlist.specs.Designs.{IsDesign}
 use Rattle.std.proofs.Common.{ℕ}
 use Rattle.good_files.specs.declared.answers.Checked.TheVariants.{Faults}
-use Rattle.good_files.specs.GoodFiles.{AreGoodFiles, Contents, FiveFiles, StandFor}
+use Rattle.good_files.specs.GoodFiles.{AreGoodFiles, Contents, StandFor}
+use Rattle.statement.specs.Statement.{FiveFiles}
 use Rattle.good_files.specs.Checks.{ArePassed, IsAnswer}
 use Rattle.good_files.specs.Laws.{GoodFilesTellTheTruth}
 

@@ -3,26 +3,27 @@ use Rattle.std.proofs.Common.{◌≡◌, ℕ, ◌∙◌, ◌⊎◌, inl, inr, Li
 use Rattle.std.specs.Prelude.{Result}
 use Rattle.std.specs.List.{All, slice_get}
 use Rattle.std.proofs.lemmas.Option.{slice_get_within}
-use Rattle.netlist.specs.declared.lines.Fault.{Fault}
-use Rattle.netlist.specs.Netlist.{Netlist}
+use Rattle.statement.specs.declared.lines.Fault.{Fault}
+use Rattle.statement.specs.Netlists.{Netlist}
 use Rattle.netlist.specs.Conditions.{IsSound}
-use Rattle.netlist.specs.Holds.{Holds}
+use Rattle.statement.specs.Patterns.{Holds}
 use Rattle.cubes.specs.Cubes.{IsPatternOf}
 use Rattle.bench_text.specs.declared.refusal.Names.TheVariants.{Design}
 use Rattle.bench_text.specs.Reading.{IsRead}
 use Rattle.scan_insert.specs.Scanned.{AreChainsOf}
 use Rattle.stil_read.specs.Laws.{AtMostOne}
 use Rattle.stil_patterns.specs.Laws.{OnePatternList}
-use Rattle.stil_patterns.specs.Tests.{IsFileOf}
-use Rattle.fault_universe.specs.Universe.{universe_of}
+use Rattle.statement.specs.Tests.{IsFileOf}
+use Rattle.statement.specs.Faults.{universe_of}
 use Rattle.fault_collapse.specs.Laws.{ClassesOnce}
 use Rattle.fault_collapse.specs.Numbers.{Classes}
 use Rattle.certificate.specs.Certificates.{IsCertificate}
 use Rattle.certificate.specs.Laws.{OneCertificate}
 use Rattle.report.specs.Laws.{TextsTellReports}
-use Rattle.report.specs.Reports.{Line}
+use Rattle.statement.specs.Reports.{Line}
 use Rattle.run_report.specs.Outcomes.{Test}
-use Rattle.good_files.specs.GoodFiles.{AreGoodFiles, AreReportTotals, AreTrueFaults, Contents, FiveFiles, HasHolds, HasPatterns, IsTested, StandFor, chains_in, chains_said, faults_in_trees, test_in, test_with}
+use Rattle.good_files.specs.GoodFiles.{AreGoodFiles, AreReportTotals, AreTrueFaults, Contents, HasHolds, HasPatterns, IsTested, StandFor, chains_in, chains_said, faults_in_trees, test_in, test_with}
+use Rattle.statement.specs.Statement.{FiveFiles}
 use Rattle.good_files.specs.declared.answers.Checked.{Checked}
 use Rattle.good_files.specs.declared.answers.Checked.TheVariants.{Faults, False}
 use Rattle.good_files.specs.declared.answers.Clause.TheVariants as clause

@@ -6,34 +6,33 @@ use Rattle.std.proofs.lemmas.Option.{get_or_from_slice_get, slice_get-get_or, sl
 use Rattle.std.proofs.lemmas.List.{ext_get_or, length-map}
 use Rattle.netlist.proofs.Lists.{All-from_contains, contains_head, contains_tail, filter_contains}
 use Rattle.netlist.proofs.WellFormed.{names_counted}
-use Rattle.netlist.specs.declared.lines.Fault.{Fault}
-use Rattle.netlist.specs.declared.lines.Point.{Point}
-use Rattle.netlist.specs.declared.lines.Line.{Line as Lead}
-use Rattle.netlist.specs.declared.lines.Line.TheVariants.{Stem, Pin, Out}
-use Rattle.netlist.specs.Netlist.{Definition, Netlist, is_cell, is_gate, name_of, signals}
+use Rattle.statement.specs.declared.lines.Fault.{Fault}
+use Rattle.statement.specs.declared.lines.Point.{Point}
+use Rattle.statement.specs.declared.lines.Line.{Line as Lead}
+use Rattle.statement.specs.declared.lines.Line.TheVariants.{Stem, Pin, Out}
+use Rattle.statement.specs.Netlists.{Definition, Netlist, is_cell, name_of, signals, IsName}
+use Rattle.netlist.specs.Netlist.{is_gate}
 use Rattle.netlist.specs.Conditions.{IsSound}
 use Rattle.netlist.specs.Designs.{IsDesign}
-use Rattle.netlist.specs.Names.{IsName}
 use Rattle.netlist.specs.Lines.{IsLineOf}
 use Rattle.netlist.specs.Holds.{AreHoldsOf}
-use Rattle.netlist.specs.Detection.{Detects, IsRedundant}
-use Rattle.cubes.specs.Cubes.{Pattern}
+use Rattle.statement.specs.Patterns.{Detects, Pattern}
+use Rattle.netlist.specs.Detection.{IsRedundant}
 use Rattle.bench_text.specs.declared.refusal.Names.TheVariants.{Scanned}
-use Rattle.bench_text.specs.Canonical.{canonical}
+use Rattle.statement.specs.Benches.{canonical}
 use Rattle.bench_text.specs.Laws.{CanonicalTextIsRead, IsReadable, is_free}
 use Rattle.bench_text.specs.Reading.{IsRead}
 use Rattle.scan_insert.specs.Laws.{ScanBehaves, ScannedIsSound}
 use Rattle.scan_insert.specs.Named.{HasSiteNames, SitesHaveNames}
 use Rattle.scan_insert.specs.Scanned.{AreChainsOf, line_at, scanned_of, site, sites_of}
-use Rattle.scan_play.specs.Cycles.{Cycle}
+use Rattle.statement.specs.Runs.{Cycle}
 use Rattle.scan_play.specs.Vectors.{AreVectors}
-use Rattle.netlist.specs.Settled.{bit_table}
+use Rattle.statement.specs.Values.{bit_table}
 use Rattle.scan_play.specs.Laws.{GoodPasses, UndetectedPasses, DetectedFails, VectorsFit, NoSequenceDetectsRedundant, SomeRun}
-use Rattle.stil_vectors.specs.FileVectors.{vectors_in}
+use Rattle.statement.specs.Tests.{vectors_in}
 use Rattle.stil_patterns.specs.Laws.{FileVectors}
 use Rattle.fault_universe.specs.Laws.{FaultsHaveLines}
-use Rattle.fault_universe.specs.Texts.{fault_text}
-use Rattle.fault_universe.specs.Universe.{universe_of}
+use Rattle.statement.specs.Faults.{fault_text, universe_of}
 use Rattle.fault_universe.proofs.Elements.{contains_at}
 use Rattle.fault_collapse.specs.Joined.{IsEquivalent}
 use Rattle.fault_collapse.specs.Laws.{DetectedAlike}
@@ -41,16 +40,17 @@ use Rattle.fault_collapse.specs.Numbers.{Classes}
 use Rattle.redundancy_cert.specs.declared.nodes.Node.{Node}
 use Rattle.redundancy_cert.specs.Laws.{ClosedTreeIsRedundant}
 use Rattle.word_sim.specs.Hits.{IsNeverDetected}
-use Rattle.report.specs.declared.outcomes.Outcome.{Outcome}
-use Rattle.report.specs.declared.outcomes.Outcome.TheVariants.{Detected, Redundant, Aborted}
-use Rattle.report.specs.Reports.{Hold, Line, Report}
-use Rattle.report.specs.Texts.{counts_text, fault_line, head, hold_line, report_text, share_line}
+use Rattle.statement.specs.declared.outcomes.Outcome.{Outcome}
+use Rattle.statement.specs.declared.outcomes.Outcome.TheVariants.{Detected, Redundant, Aborted}
+use Rattle.report.specs.Reports.{Hold, Report}
+use Rattle.statement.specs.Reports.{Line, fault_line}
+use Rattle.report.specs.Texts.{counts_text, head, hold_line, report_text, share_line}
 use Rattle.run_report.specs.Outcomes.{Test, IsFirstTree, IsTrueAt, IsTrueOf, AreTrueLines}
 use Rattle.run_report.specs.Heads.{hold_at, holds_named}
 use Rattle.run_report.proofs.ClassLemmas.{equivalent}
-use Rattle.good_files.specs.GoodFiles.{AreGoodFiles, Contents, FiveFiles, chains_in, chains_said, limit_said, test_in}
+use Rattle.good_files.specs.GoodFiles.{AreGoodFiles, Contents, chains_in, chains_said, limit_said, test_in}
+use Rattle.statement.specs.Statement.{FiveFiles, ComesTrue, IsNamed, IsSite, hold_text}
 use Rattle.good_files.specs.RunTheorem.{HasEvidence, RunTheorem}
-use Rattle.good_files.specs.Statement.{ComesTrue, IsNamed, IsSite, hold_text}
 use Rattle.good_files.proofs.Chains.{behaves, dealt}
 
 -- ---- the scanned netlist's text

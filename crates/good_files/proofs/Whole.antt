@@ -5,41 +5,30 @@ use Rattle.std.specs.List.{All, Contains, flat_map, slice_get, zip}
 use Rattle.std.proofs.lemmas.Bool.{cases_lt, cases_order}
 use Rattle.std.proofs.lemmas.List.{get_or_past}
 use Rattle.std.proofs.lemmas.List.Elements.{All-contains}
-use Rattle.netlist.specs.declared.lines.Fault.{Fault}
-use Rattle.netlist.specs.declared.lines.Line.{Line as Lead}
-use Rattle.netlist.specs.declared.lines.Line.TheVariants.{Stem, Pin, Out}
-use Rattle.netlist.specs.declared.lines.Point.{Point}
-use Rattle.netlist.specs.Netlist.{Definition, Netlist, cells, is_cell, name_of, signals}
+use Rattle.statement.specs.declared.lines.Fault.{Fault}
+use Rattle.statement.specs.declared.lines.Line.{Line as Lead}
+use Rattle.statement.specs.declared.lines.Line.TheVariants.{Stem, Pin, Out}
+use Rattle.statement.specs.declared.lines.Point.{Point}
+use Rattle.statement.specs.Netlists.{Definition, Netlist, cells, is_cell, name_of, signals, IsName}
 use Rattle.netlist.specs.Conditions.{IsSound}
 use Rattle.netlist.specs.Lines.{IsLineOf}
-use Rattle.netlist.specs.Names.{IsName}
 use Rattle.netlist.proofs.Placed.{definition_below, same_definition, signal_from}
-use Rattle.netlist.specs.Holds.{Holds, Obeys}
-use Rattle.netlist.specs.Settled.{bit_table}
-use Rattle.plain_text.specs.Texts.{Text}
-use Rattle.cubes.specs.Cubes.{Pattern}
-use Rattle.bench_text.specs.Canonical.{canonical}
+use Rattle.statement.specs.Patterns.{Holds, Obeys, Pattern, IsLastDetected}
+use Rattle.statement.specs.Values.{bit_table}
+use Rattle.statement.specs.Benches.{Text, canonical}
 use Rattle.scan_insert.specs.Names.{pin_name_of}
 use Rattle.scan_insert.specs.Scanned.{line_at, scanned_of, sites_of}
-use Rattle.scan_play.specs.Cycles.{Cycle}
-use Rattle.scan_play.specs.Runs.{Runs}
-use Rattle.scan_play.specs.Passing.{Passes, FailsAt}
-use Rattle.scan_play.specs.Vectors.{IsStrobedAt}
-use Rattle.stil_write.specs.StilFiles.{StilFile}
-use Rattle.stil_write.specs.Texts.{stil_text}
-use Rattle.stil_vectors.specs.FileVectors.{vectors_in}
-use Rattle.stil_patterns.specs.Tests.{IsFileOf}
-use Rattle.fault_universe.specs.Texts.{fault_text}
-use Rattle.fault_universe.specs.Universe.{universe_of}
-use Rattle.word_sim.specs.Hits.{IsLastDetected}
-use Rattle.report.specs.declared.outcomes.Outcome.{Outcome}
-use Rattle.report.specs.declared.outcomes.Outcome.TheVariants.{Detected, Redundant, Aborted}
-use Rattle.report.specs.Reports.{Line, Report}
-use Rattle.report.specs.Texts.{fault_line, hold_line}
+use Rattle.statement.specs.Runs.{Cycle, Runs, Passes, FailsAt}
+use Rattle.statement.specs.Tests.{IsStrobedAt, vectors_in, IsFileOf}
+use Rattle.statement.specs.Stils.{StilFile, stil_text}
+use Rattle.statement.specs.Faults.{fault_text, universe_of}
+use Rattle.statement.specs.declared.outcomes.Outcome.{Outcome}
+use Rattle.statement.specs.declared.outcomes.Outcome.TheVariants.{Detected, Redundant, Aborted}
+use Rattle.statement.specs.Reports.{Line, fault_line}
+use Rattle.report.specs.Reports.{Report}
+use Rattle.report.specs.Texts.{hold_line}
 use Rattle.run_report.specs.Heads.{holds_named}
-use Rattle.good_files.specs.GoodFiles.{FiveFiles}
-use Rattle.good_files.specs.ScanOff.{BehavesWithScanOff}
-use Rattle.good_files.specs.Statement.{ComesTrue, IsNamed, IsSite, Statement, pins_name}
+use Rattle.statement.specs.Statement.{FiveFiles, BehavesWithScanOff, ComesTrue, IsNamed, IsSite, Statement, pins_name}
 use Rattle.good_files.proofs.Truth.{held_lines}
 
 -- ---- a line is told by its name

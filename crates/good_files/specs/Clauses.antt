@@ -2,14 +2,13 @@
 use Rattle.std.specs.Prelude.{ℕ, ◌≡◌, ◌≢◌, ◌<◌, ◌⊎◌, List, Some, length, take}
 use Rattle.std.specs.List.{slice_get}
 use Rattle.std.specs.Option.{option_map_or}
-use Rattle.plain_text.specs.Texts.{Text}
-use Rattle.netlist.specs.declared.lines.Fault.{Fault}
-use Rattle.netlist.specs.Netlist.{Netlist}
-use Rattle.fault_universe.specs.Texts.{fault_text}
-use Rattle.fault_universe.specs.Universe.{universe_of}
+use Rattle.statement.specs.Benches.{Text}
+use Rattle.statement.specs.declared.lines.Fault.{Fault}
+use Rattle.statement.specs.Netlists.{Netlist}
+use Rattle.statement.specs.Faults.{fault_text, universe_of}
 use Rattle.fault_collapse.specs.Numbers.{Classes}
 use Rattle.redundancy_cert.specs.declared.nodes.Node.{Node}
-use Rattle.report.specs.Reports.{Line}
+use Rattle.statement.specs.Reports.{Line}
 use Rattle.run_report.specs.Outcomes.{Test, AreTrueLines, AreUndetected, IsTrueAt}
 use Rattle.good_files.specs.GoodFiles.{faults_in_trees}
 

@@ -1,36 +1,30 @@
 -- The five files of a run, what they stand for, and when they are good, whoever made them.
 use Rattle.std.specs.Prelude.{ℕ, ◌≡◌, ◌<◌, ◌≤◌, ◌^◌, List, length, map, Ok}
 use Rattle.std.specs.List.{All}
+use Rattle.statement.specs.Statement.{FiveFiles}
 use Rattle.plain_text.specs.Limits.{most_limit}
-use Rattle.plain_text.specs.Texts.{Text}
-use Rattle.netlist.specs.declared.lines.Fault.{Fault}
-use Rattle.netlist.specs.Netlist.{Netlist, cells}
-use Rattle.netlist.specs.Holds.{Holds, AreHoldsOf}
-use Rattle.cubes.specs.Cubes.{Pattern, IsPatternOf}
-use Rattle.bench_text.specs.Canonical.{canonical}
+use Rattle.statement.specs.Benches.{Text, canonical}
+use Rattle.statement.specs.declared.lines.Fault.{Fault}
+use Rattle.statement.specs.Netlists.{Netlist, cells}
+use Rattle.statement.specs.Patterns.{Holds, Pattern}
+use Rattle.netlist.specs.Holds.{AreHoldsOf}
+use Rattle.cubes.specs.Cubes.{IsPatternOf}
 use Rattle.bench_text.specs.Reading.{IsRead}
 use Rattle.bench_text.specs.declared.refusal.Names.TheVariants.{Design}
 use Rattle.scan_insert.specs.Scanned.{scanned_of}
-use Rattle.stil_write.specs.StilFiles.{StilFile}
+use Rattle.statement.specs.Stils.{StilFile}
 use Rattle.stil_read.specs.Reading.{StandsFor}
-use Rattle.stil_patterns.specs.Tests.{IsFileOf}
+use Rattle.statement.specs.Tests.{IsFileOf}
 use Rattle.fault_collapse.specs.Classes.{AreClasses}
 use Rattle.fault_collapse.specs.Numbers.{Classes}
 use Rattle.redundancy_cert.specs.declared.nodes.Node.{Node}
 use Rattle.certificate.specs.Certificates.{IsCertificate}
-use Rattle.report.specs.Reports.{Hold, Line, Report, IsReport}
+use Rattle.report.specs.Reports.{Hold, Report, IsReport}
+use Rattle.statement.specs.Reports.{Line}
 use Rattle.report.specs.Texts.{report_text}
 use Rattle.run_report.specs.Outcomes.{Test, AreTrueLines, AreUndetected}
 use Rattle.run_report.specs.Heads.{HasHead, holds_named}
 use Rattle.good_files.specs.ScanOff.{design_chains}
-
--- the netlist, the scanned netlist, the test, the certificate and the report
-pub record FiveFiles : Type 0 where
-  pub net : Text
-  pub scan : Text
-  pub stil : Text
-  pub certificate : Text
-  pub report : Text
 
 -- ---- what five texts stand for
 

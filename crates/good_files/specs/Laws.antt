@@ -2,12 +2,13 @@
 use Rattle.std.specs.Prelude.{ℕ, ◌≡◌, ◌⊎◌, ⊤, Result, Ok, Err, length}
 use Rattle.netlist.specs.Conditions.{IsSound}
 use Rattle.netlist.specs.Designs.{IsDesign}
-use Rattle.fault_universe.specs.Universe.{universe_of}
+use Rattle.statement.specs.Faults.{universe_of}
 use Rattle.good_files.specs.declared.answers.Checked.{Checked}
 use Rattle.good_files.specs.declared.answers.Checked.TheVariants.{Faults, False}
 use Rattle.good_files.specs.declared.answers.CheckFault.{CheckFault}
 use Rattle.good_files.specs.declared.answers.CheckFault.TheVariants.{NoMemory}
-use Rattle.good_files.specs.GoodFiles.{AreGoodFiles, Contents, FiveFiles, StandFor, chains_in, limit_said}
+use Rattle.good_files.specs.GoodFiles.{AreGoodFiles, Contents, StandFor, chains_in, limit_said}
+use Rattle.statement.specs.Statement.{FiveFiles}
 use Rattle.good_files.specs.RunTheorem.{RunTheorem}
 use Rattle.good_files.specs.Checks.{ArePassed, IsAnswer, IsChecked, PassesWhereTrue}
 

@@ -1,6 +1,5 @@
 pub mod ScanOff
 pub mod GoodFiles
-pub mod Statement
 pub mod RunTheorem
 pub mod Clauses
 pub mod Checks

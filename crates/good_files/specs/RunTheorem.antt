@@ -1,28 +1,27 @@
 -- What good files are beyond the statement: how their texts are read, and what the certificate shows.
 use Rattle.std.specs.Prelude.{ℕ, ◌≡◌, ◌≤◌, ⊤, List, Some, Ok}
 use Rattle.std.specs.List.{Contains, slice_get}
-use Rattle.netlist.specs.declared.lines.Fault.{Fault}
-use Rattle.netlist.specs.Netlist.{Netlist}
-use Rattle.netlist.specs.Holds.{Holds}
-use Rattle.bench_text.specs.Canonical.{canonical}
+use Rattle.statement.specs.declared.lines.Fault.{Fault}
+use Rattle.statement.specs.Netlists.{Netlist}
+use Rattle.statement.specs.Patterns.{Holds}
+use Rattle.statement.specs.Benches.{canonical}
 use Rattle.bench_text.specs.Reading.{IsRead}
 use Rattle.bench_text.specs.declared.refusal.Names.TheVariants.{Design, Scanned}
 use Rattle.scan_insert.specs.Scanned.{scanned_of}
-use Rattle.stil_write.specs.StilFiles.{StilFile}
-use Rattle.stil_write.specs.Texts.{stil_text}
+use Rattle.statement.specs.Stils.{StilFile, stil_text}
 use Rattle.stil_read.specs.Reading.{StandsFor}
-use Rattle.fault_universe.specs.Universe.{universe_of}
+use Rattle.statement.specs.Faults.{universe_of}
 use Rattle.fault_collapse.specs.Joined.{IsEquivalent}
 use Rattle.redundancy_cert.specs.declared.nodes.Node.{Node}
 use Rattle.redundancy_cert.specs.Trees.{closed_count, open_count}
 use Rattle.redundancy_cert.specs.Fits.{Fits}
 use Rattle.certificate.specs.Certificates.{certificate_text}
-use Rattle.report.specs.declared.outcomes.Outcome.{Outcome}
-use Rattle.report.specs.declared.outcomes.Outcome.TheVariants.{Detected, Redundant, Aborted}
-use Rattle.report.specs.Reports.{Line, Report}
+use Rattle.statement.specs.declared.outcomes.Outcome.{Outcome}
+use Rattle.statement.specs.declared.outcomes.Outcome.TheVariants.{Detected, Redundant, Aborted}
+use Rattle.statement.specs.Reports.{Line}
+use Rattle.report.specs.Reports.{Report}
 use Rattle.report.specs.Texts.{report_text}
-use Rattle.good_files.specs.GoodFiles.{FiveFiles}
-use Rattle.good_files.specs.Statement.{Statement}
+use Rattle.statement.specs.Statement.{FiveFiles, Statement}
 
 -- the same files, with the netlist and the test as a run writes them
 abbrev pub as_written : FiveFiles → Netlist → StilFile → FiveFiles

@@ -4,14 +4,14 @@ use Rattle.std.specs.Bool.{Decides}
 use Rattle.std.specs.List.{All, Contains}
 use Rattle.std.proofs.lemmas.Bool.{both_ways, cases_Bool, leb-true, le-leb, eqb-true, eq-eqb, cases_lt}
 use Rattle.std.proofs.lemmas.List.Elements.{All-contains, Contains-append_left, Contains-append_right, Contains-append_cases}
-use Rattle.netlist.specs.declared.lines.Line.{Line}
-use Rattle.netlist.specs.declared.lines.Line.TheVariants.{Stem, Pin, Out}
-use Rattle.netlist.specs.declared.lines.Fault.{Fault}
-use Rattle.netlist.specs.Holds.{Holds}
+use Rattle.statement.specs.declared.lines.Line.{Line}
+use Rattle.statement.specs.declared.lines.Line.TheVariants.{Stem, Pin, Out}
+use Rattle.statement.specs.declared.lines.Fault.{Fault}
+use Rattle.statement.specs.Patterns.{Holds}
 use Rattle.netlist.specs.Lines.{IsPinBelow}
-use Rattle.netlist.specs.Netlist.{Definition, Netlist, is_gate, gates, signals, Reads, IsGateAt}
+use Rattle.statement.specs.Netlists.{Definition, Netlist, gates, signals, readers_of}
+use Rattle.netlist.specs.Netlist.{is_gate, Reads, IsGateAt}
 use Rattle.netlist.specs.Conditions.{IsSound}
-use Rattle.netlist.specs.Readers.{readers_of}
 use Rattle.netlist.proofs.Lists.{All-from_contains, contains_cases, contains_filter, filter_contains, contains_head, contains_nil}
 use Rattle.netlist.proofs.Placed.{same_definition, signal_below, signal_from}
 use Rattle.tri.proofs.LabelLemmas.{defined_is_signal}

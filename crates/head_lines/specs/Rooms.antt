@@ -1,10 +1,10 @@
 -- What is kept from fault to fault: roles, and the bits that are wanted of signals.
 use Rattle.std.specs.Prelude.{ℕ, ◌≡◌, ◌⊎◌, Bool, false, List, [], length, Option, None, slice_index_or}
 use Rattle.std.specs.List.{Contains}
-use Rattle.netlist.specs.declared.lines.Line.TheVariants.{Out}
-use Rattle.netlist.specs.declared.lines.Fault.{Fault}
-use Rattle.netlist.specs.Holds.{Holds}
-use Rattle.netlist.specs.Netlist.{Netlist, signals}
+use Rattle.statement.specs.declared.lines.Line.TheVariants.{Out}
+use Rattle.statement.specs.declared.lines.Fault.{Fault}
+use Rattle.statement.specs.Patterns.{Holds}
+use Rattle.statement.specs.Netlists.{Netlist, signals}
 use Rattle.head_lines.specs.declared.roles.Role.{Role}
 use Rattle.head_lines.specs.declared.room.RoleRoom.{RoleRoom}
 use Rattle.head_lines.specs.declared.wants.WantRoom.{WantRoom}

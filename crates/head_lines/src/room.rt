@@ -5,7 +5,8 @@ ghost use Rattle.std.specs.Prelude.{◌≡◌, ◌≤◌, ◌<◌, ◌+◌, ℕ,
 ghost use Rattle.std.specs.Bool.{Decides};
 ghost use Rattle.std.specs.List.{All, Contains};
 ghost use Rattle.netlist.specs.Holds.{AreHoldsOf};
-ghost use Rattle.netlist.specs.Netlist.{signals, Reads};
+ghost use Rattle.statement.specs.Netlists.{signals};
+ghost use Rattle.netlist.specs.Netlist.{Reads};
 ghost use Rattle.head_lines.specs.HeadLines.{role_at, AreRoles};
 ghost use Rattle.head_lines.specs.Rooms.{AreBeside, IsReusableRoleRoom};
 ghost use Rattle.head_lines.specs.inner.Binding.{IsKeptBeside, IsPut, AreHeads, IsBoundNow, IsOnlyReader, IsSite, AreRolesBut, unbound, waiting};

@@ -2,7 +2,7 @@
 //! where to go on, and what to take back at last, so that a test costs the cones of its head lines and not the netlist.
 ghost use Rattle.std.specs.Prelude.{◌≡◌, ◌<◌, ℕ, [], None, slice_index, length, IfOk, OnOk};
 ghost use Rattle.std.specs.List.{All};
-ghost use Rattle.netlist.specs.Netlist.{signals};
+ghost use Rattle.statement.specs.Netlists.{signals};
 ghost use Rattle.head_lines.specs.Rooms.{IsReusableWantRoom};
 ghost use Rattle.head_lines.specs.Justified.{chosen};
 ghost use Rattle.head_lines.specs.inner.Wanting.{want_at, AreDistinct, IsQueue, IsLonger, IsWantPut, AreWanted, AreWantedIn};

@@ -3,16 +3,16 @@ use Rattle.std.proofs.Common.{◌≡◌, ◌≢◌, ℕ, zero, suc, ◌+◌, ◌
 use Rattle.std.specs.List.{Contains, list_any}
 use Rattle.std.proofs.lemmas.Bool.{cases_eq, cases_Bool, both_ways}
 use Rattle.std.proofs.lemmas.List.{get_or-set_same, get_or-set_other}
-use Rattle.netlist.specs.declared.kinds.Kind.{Kind}
-use Rattle.netlist.specs.declared.kinds.Kind.TheVariants.{And, Nand, Or, Nor, Xor, Xnor, Not, Buff, Dff, Const0, Const1}
-use Rattle.netlist.specs.declared.kinds.Tri.{Tri}
-use Rattle.netlist.specs.declared.kinds.Tri.TheVariants.{Zero, One, X}
-use Rattle.netlist.specs.declared.lines.Line.TheVariants.{Stem, Pin}
-use Rattle.netlist.specs.declared.lines.Fault.{Fault}
-use Rattle.netlist.specs.Gates.{parity}
-use Rattle.netlist.specs.Netlist.{Definition}
-use Rattle.netlist.specs.Settled.{Rule, on_pins, pins_of, at}
-use Rattle.netlist.specs.ThreeValues.{known, complement, is_zero, is_one, is_x}
+use Rattle.statement.specs.declared.kinds.Kind.{Kind}
+use Rattle.statement.specs.declared.kinds.Kind.TheVariants.{And, Nand, Or, Nor, Xor, Xnor, Not, Buff, Dff, Const0, Const1}
+use Rattle.statement.specs.declared.kinds.Tri.{Tri}
+use Rattle.statement.specs.declared.kinds.Tri.TheVariants.{Zero, One, X}
+use Rattle.statement.specs.declared.lines.Line.TheVariants.{Stem, Pin}
+use Rattle.statement.specs.declared.lines.Fault.{Fault}
+use Rattle.statement.specs.Values.{parity, Rule, on_pins, pins_of, known}
+use Rattle.statement.specs.Netlists.{Definition}
+use Rattle.netlist.specs.Settled.{at}
+use Rattle.netlist.specs.ThreeValues.{complement, is_zero, is_one, is_x}
 use Rattle.netlist.proofs.Lists.{contains_nil, contains_head, contains_tail, contains_cases, any_from}
 use Rattle.events.specs.Waiting.{given}
 use Rattle.tri.specs.declared.labels.Label.{Label}

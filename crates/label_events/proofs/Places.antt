@@ -3,11 +3,12 @@ use Rattle.std.proofs.Common.{◌≡◌, ℕ, zero, suc, ◌<◌, ◌≤◌, Boo
 use Rattle.std.specs.List.{All, Contains}
 use Rattle.std.proofs.lemmas.Bool.{both_ways, and_parts, and_from, eqb-true}
 use Rattle.std.proofs.lemmas.List.Elements.{All-contains}
-use Rattle.netlist.specs.declared.lines.Line.{Line}
-use Rattle.netlist.specs.declared.lines.Line.TheVariants.{Pin}
+use Rattle.statement.specs.declared.lines.Line.{Line}
+use Rattle.statement.specs.declared.lines.Line.TheVariants.{Pin}
 use Rattle.netlist.specs.Conditions.{IsSound}
 use Rattle.netlist.specs.Lines.{IsLineOf}
-use Rattle.netlist.specs.Netlist.{Definition, Netlist, is_flip_flop, is_cell, is_gate, cells, gates, signals}
+use Rattle.statement.specs.Netlists.{Definition, Netlist, is_flip_flop, is_cell, cells, gates, signals}
+use Rattle.netlist.specs.Netlist.{is_gate}
 use Rattle.netlist.proofs.Lists.{contains_filter, filter_contains}
 use Rattle.netlist.proofs.Placed.{same_definition, definition_below}
 use Rattle.netlist.proofs.Settling.{above_inputs}

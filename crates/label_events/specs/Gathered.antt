@@ -1,7 +1,7 @@
 -- What the labels on the pins of a gate are together (private to this crate).
 use Rattle.std.specs.Prelude.{◌≡◌, false, List, map}
 use Rattle.std.specs.List.{list_any}
-use Rattle.netlist.specs.declared.kinds.Tri.TheVariants.{X}
+use Rattle.statement.specs.declared.kinds.Tri.TheVariants.{X}
 use Rattle.tri.specs.declared.labels.Label.{Label}
 use Rattle.tri.specs.Gathered.{AreTriReductionsOf}
 use Rattle.label_events.specs.declared.rule.OnPins.{OnPins}

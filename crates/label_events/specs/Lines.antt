@@ -1,11 +1,11 @@
 -- Where a line enters: the equation of one signal, or what an observed point reads.
 use Rattle.std.specs.Prelude.{ℕ, ◌≡◌, ◌≢◌, ◌⊎◌, Option, IsTrue, IsFalse}
 use Rattle.std.specs.List.{All, Contains}
-use Rattle.netlist.specs.declared.lines.Line.{Line}
-use Rattle.netlist.specs.declared.lines.Line.TheVariants.{Stem, Pin, Out}
-use Rattle.netlist.specs.declared.lines.Fault.{Fault}
-use Rattle.netlist.specs.Netlist.{Definition, Netlist, cells, gates}
-use Rattle.netlist.specs.Settled.{is_line}
+use Rattle.statement.specs.declared.lines.Line.{Line}
+use Rattle.statement.specs.declared.lines.Line.TheVariants.{Stem, Pin, Out}
+use Rattle.statement.specs.declared.lines.Fault.{Fault}
+use Rattle.statement.specs.Netlists.{Definition, Netlist, cells, gates}
+use Rattle.statement.specs.Values.{is_line}
 use Rattle.tri.specs.declared.labels.Label.{Label}
 use Rattle.tri.specs.Labels.{on_line}
 use Rattle.label_events.specs.declared.line_places.LinePlace.{LinePlace}

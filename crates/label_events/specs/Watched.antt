@@ -1,9 +1,9 @@
 -- What one pin of a gate tells of the gate, while others turn (private to this crate).
 use Rattle.std.specs.Prelude.{◌≡◌, ◌⊎◌, Bool, true, false, List, map}
 use Rattle.std.specs.List.{AllZip, Contains, list_any}
-use Rattle.netlist.specs.declared.kinds.Kind.{Kind}
-use Rattle.netlist.specs.declared.kinds.Kind.TheVariants.{And, Nand, Or, Nor, Xor, Xnor}
-use Rattle.netlist.specs.declared.kinds.Tri.{Tri}
+use Rattle.statement.specs.declared.kinds.Kind.{Kind}
+use Rattle.statement.specs.declared.kinds.Kind.TheVariants.{And, Nand, Or, Nor, Xor, Xnor}
+use Rattle.statement.specs.declared.kinds.Tri.{Tri}
 use Rattle.tri.specs.declared.labels.Label.{Label}
 use Rattle.tri.specs.Gates.{gate_tri}
 use Rattle.tri.specs.Labels.{is_known_as}

@@ -3,13 +3,14 @@ use Rattle.std.proofs.Common.{◌≡◌, ℕ, suc, zero, ◌+◌, ◌<◌, ◌�
 use Rattle.std.specs.List.{slice_get}
 use Rattle.std.proofs.lemmas.List.{length-map, map-set, take_more}
 use Rattle.std.proofs.lemmas.List.Elements.{All-contains}
-use Rattle.netlist.specs.declared.kinds.Tri.{Tri}
-use Rattle.netlist.specs.declared.kinds.Tri.TheVariants.{Zero, One, X}
-use Rattle.netlist.specs.declared.lines.Fault.{Fault}
-use Rattle.netlist.specs.declared.lines.Line.TheVariants.{Stem, Out}
-use Rattle.netlist.specs.Netlist.{Definition, Netlist, cells, gates}
-use Rattle.netlist.specs.Settled.{Rule, Settles, at, on_pins, pins_of, outs, next}
-use Rattle.netlist.specs.ThreeValues.{known, is_x}
+use Rattle.statement.specs.declared.kinds.Tri.{Tri}
+use Rattle.statement.specs.declared.kinds.Tri.TheVariants.{Zero, One, X}
+use Rattle.statement.specs.declared.lines.Fault.{Fault}
+use Rattle.statement.specs.declared.lines.Line.TheVariants.{Stem, Out}
+use Rattle.statement.specs.Netlists.{Definition, Netlist, cells, gates}
+use Rattle.statement.specs.Values.{Rule, Settles, on_pins, pins_of, outs, next, known}
+use Rattle.netlist.specs.Settled.{at}
+use Rattle.netlist.specs.ThreeValues.{is_x}
 use Rattle.netlist.specs.Settling.{AreSourcesDriven, IsEvaluated, AreEvaluated}
 use Rattle.netlist.proofs.Alike.{zip_append}
 use Rattle.netlist.proofs.Lists.{All-from_contains, map_agree, map_map}

@@ -4,21 +4,21 @@ use Rattle.std.specs.List.{All, slice_get}
 use Rattle.std.proofs.lemmas.Bool.{both_ways}
 use Rattle.std.proofs.lemmas.List.{length-map, length-replicate, get_or-map, take_all, take_more, take-append-drop, append_assoc, append-nil}
 use Rattle.std.proofs.lemmas.Grind.{flat_map-append}
-use Rattle.netlist.specs.declared.kinds.Tri.{Tri}
-use Rattle.netlist.specs.declared.kinds.Tri.TheVariants.{X}
-use Rattle.netlist.specs.declared.lines.Fault.{Fault}
+use Rattle.statement.specs.declared.kinds.Tri.{Tri}
+use Rattle.statement.specs.declared.kinds.Tri.TheVariants.{X}
+use Rattle.statement.specs.declared.lines.Fault.{Fault}
 use Rattle.netlist.specs.Conditions.{IsSound}
-use Rattle.netlist.specs.Netlist.{Netlist, cells}
-use Rattle.netlist.specs.Settled.{Settles, at, next, outs}
-use Rattle.netlist.specs.ThreeValues.{known}
+use Rattle.statement.specs.Netlists.{Netlist, cells}
+use Rattle.statement.specs.Values.{Settles, next, outs, known}
+use Rattle.netlist.specs.Settled.{at}
 use Rattle.netlist.proofs.Settling.{zip_from}
 use Rattle.events.specs.Words.{bit_of}
-use Rattle.scan_insert.specs.Names.{numbers_from}
+use Rattle.statement.specs.Runs.{numbers_from, Cycle}
 use Rattle.scan_insert.proofs.Numbers.{length-numbers_from, get_or-numbers_from}
 use Rattle.scan_play.specs.declared.cycles.Burst.{Burst}
 use Rattle.scan_play.specs.declared.played.Played.{Played}
 use Rattle.scan_play.specs.Bursts.{all_cycles, cycle_of, cycles_of}
-use Rattle.scan_play.specs.Cycles.{Cycle, IsCycleOf}
+use Rattle.scan_play.specs.Cycles.{IsCycleOf}
 use Rattle.scan_play.specs.Judging.{IsJudged, Judging, judged_in, played_or_else}
 use Rattle.scan_play.specs.inner.Steps.{IsStep, PlaysOn}
 use Rattle.scan_play.proofs.PlayLemmas.{judged_as, plays_found, plays_nothing, plays_step, plays_then}

@@ -2,11 +2,13 @@
 use Rattle.std.proofs.Common.{◌≡◌, ℕ, ◌-◌, ◌<◌, ◌≤◌, Bool, cond, List, [], ◌++◌, map, length, replicate, Option, refl, sym, ◌∙◌, ap, arith}
 use Rattle.std.specs.List.{All, slice_get}
 use Rattle.std.proofs.lemmas.List.{length-map, map-append}
-use Rattle.netlist.specs.declared.kinds.Tri.{Tri}
-use Rattle.netlist.specs.declared.lines.Fault.{Fault}
+use Rattle.statement.specs.declared.kinds.Tri.{Tri}
+use Rattle.statement.specs.declared.lines.Fault.{Fault}
 use Rattle.netlist.specs.Conditions.{IsSound}
-use Rattle.netlist.specs.Netlist.{Netlist, cells, signals, IsGateAt}
-use Rattle.netlist.specs.Settled.{Settles, at, next, outs}
+use Rattle.statement.specs.Netlists.{Netlist, cells, signals}
+use Rattle.netlist.specs.Netlist.{IsGateAt}
+use Rattle.statement.specs.Values.{Settles, next, outs}
+use Rattle.netlist.specs.Settled.{at}
 use Rattle.netlist.specs.Settling.{AreSourcesDriven, AreEvaluated}
 use Rattle.scan_play.specs.declared.played.Played.{Played}
 use Rattle.scan_play.specs.Judging.{IsOpen, Judging, judged_in}

@@ -3,12 +3,13 @@ use Rattle.std.proofs.Common.{◌≡◌, ℕ, suc, zero, ◌+◌, ◌-◌, ◌<�
 use Rattle.std.specs.List.{All}
 use Rattle.std.proofs.lemmas.Bool.{eqb-true, cases_Bool, both_ways}
 use Rattle.std.proofs.lemmas.List.{length-map, drop_more, get_or_default, get_or-replicate, length-replicate}
-use Rattle.netlist.specs.declared.kinds.Kind.{Kind}
-use Rattle.netlist.specs.declared.lines.Fault.{Fault}
-use Rattle.netlist.specs.declared.lines.Line.{Line}
-use Rattle.netlist.specs.declared.lines.Line.TheVariants.{Stem, Pin, Out}
+use Rattle.statement.specs.declared.kinds.Kind.{Kind}
+use Rattle.statement.specs.declared.lines.Fault.{Fault}
+use Rattle.statement.specs.declared.lines.Line.{Line}
+use Rattle.statement.specs.declared.lines.Line.TheVariants.{Stem, Pin, Out}
 use Rattle.netlist.specs.Lines.{signal_of}
-use Rattle.netlist.specs.Settled.{Rule, is_line, on_pins, at}
+use Rattle.statement.specs.Values.{Rule, is_line, on_pins}
+use Rattle.netlist.specs.Settled.{at}
 use Rattle.netlist.proofs.Lists.{map_agree}
 use Rattle.events.proofs.Stuck.{length-on_pins}
 use Rattle.lane_play.specs.declared.packed.Lanes.{Lanes}

@@ -1,10 +1,12 @@
 //! The values of all machines, settled gate by gate: each gate is evaluated in one pass over its pins.
 ghost use Rattle.std.specs.Prelude.{◌≡◌, length};
 ghost use Rattle.std.specs.List.{All};
-ghost use Rattle.netlist.specs.Netlist.{cells, signals, IsGateAt};
+ghost use Rattle.statement.specs.Netlists.{cells, signals};
+ghost use Rattle.netlist.specs.Netlist.{IsGateAt};
 ghost use Rattle.netlist.specs.Conditions.{IsSound};
 ghost use Rattle.netlist.specs.Orders.{IsOrder};
-ghost use Rattle.netlist.specs.Settled.{Settles, at};
+ghost use Rattle.statement.specs.Values.{Settles};
+ghost use Rattle.netlist.specs.Settled.{at};
 ghost use Rattle.netlist.specs.Settling.{AreEvaluated, IsEvaluated};
 ghost use Rattle.lane_play.specs.inner.Lanes.{lanes_rule};
 ghost use Rattle.lane_play.specs.declared.packed.Lanes.{Lanes as Packed};

@@ -2,7 +2,8 @@
 ghost use Rattle.std.specs.Prelude.{◌≡◌, ◌<◌, ◌≤◌, ℕ, List, length, map, slice_index_or};
 ghost use Rattle.std.specs.List.{All};
 ghost use Rattle.netlist.specs.Gates.{most_pins};
-ghost use Rattle.netlist.specs.Settled.{on_pins, at};
+ghost use Rattle.statement.specs.Values.{on_pins};
+ghost use Rattle.netlist.specs.Settled.{at};
 ghost use Rattle.lane_play.specs.inner.Lanes.{all_of, some_of, odd_of, only_of, gate_lanes, lanes_rule};
 ghost use Rattle.lane_play.specs.inner.Spans.{IsSpanned};
 ghost use Rattle.lane_play.specs.declared.packed.Lanes.{Lanes as Packed};

@@ -3,7 +3,7 @@
 //! What settles where all that changes is X stays in a machine wherever it is known there. A gate is left out where that is so in every machine:
 //! while the chains shift, the shift path is evaluated, and of the other gates those that a machine's stuck line lets through to a cell.
 ghost use Rattle.std.specs.Prelude.{◌≡◌, ◌<◌, ◌≤◌, ◌++◌, ℕ, true, false, length, replicate, IfOk, OnOk};
-ghost use Rattle.netlist.specs.Netlist.{cells, signals};
+ghost use Rattle.statement.specs.Netlists.{cells, signals};
 ghost use Rattle.netlist.specs.ThreeValues.{is_x};
 ghost use Rattle.lane_play.specs.inner.Lanes.{lane};
 ghost use Rattle.lane_play.specs.inner.Shifts.{AreCommon, ArePlanned};

@@ -1,7 +1,7 @@
 //! The player of up to 64 faulty machines: the cycles of vectors, from all cells X, until something is said of each machine.
 ghost use Rattle.std.specs.Prelude.{◌≡◌, ◌+◌, ◌^◌, ◌<◌, ◌≤◌, [], length, replicate, IfOk};
 ghost use Rattle.std.specs.List.{All};
-ghost use Rattle.netlist.specs.Netlist.{cells};
+ghost use Rattle.statement.specs.Netlists.{cells};
 ghost use Rattle.scan_play.specs.Bursts.{all_cycles, cycles_of};
 ghost use Rattle.scan_play.specs.Cycles.{IsCycleOf};
 ghost use Rattle.lane_play.specs.Judged.{AreJudged};

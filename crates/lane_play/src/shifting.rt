@@ -1,7 +1,7 @@
 //! Cycles in which only the gates of a plan are evaluated.
 ghost use Rattle.std.specs.Prelude.{◌≡◌, ◌+◌, ◌^◌, ◌<◌, length, IfOk};
 ghost use Rattle.std.specs.List.{All};
-ghost use Rattle.netlist.specs.Netlist.{cells};
+ghost use Rattle.statement.specs.Netlists.{cells};
 ghost use Rattle.scan_play.specs.Bursts.{cycle_of, cycles_of};
 ghost use Rattle.scan_play.specs.Cycles.{IsCycleOf};
 ghost use Rattle.lane_play.specs.inner.Shifts.{ArePlanned};

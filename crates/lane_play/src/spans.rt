@@ -5,7 +5,7 @@
 ghost use Rattle.std.specs.Prelude.{◌≡◌, ◌+◌, ◌<◌, ◌≤◌, ℕ, true, false, length, replicate, if◌then◌else◌, IfOk};
 ghost use Rattle.netlist.specs.Lines.{signal_of};
 ghost use Rattle.lane_play.specs.inner.Lanes.{forced_from, with_lane};
-ghost use Rattle.netlist.specs.Settled.{is_line};
+ghost use Rattle.statement.specs.Values.{is_line};
 ghost use Rattle.lane_play.specs.inner.Spans.{AreSpans, IsSpanned};
 
 use crate::packed::Lanes;

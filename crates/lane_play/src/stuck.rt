@@ -2,7 +2,8 @@
 ghost use Rattle.std.specs.Prelude.{◌≡◌, ◌<◌, ◌≤◌, IfOk, length, map};
 ghost use Rattle.std.specs.List.{All};
 ghost use Rattle.netlist.specs.Gates.{most_pins};
-ghost use Rattle.netlist.specs.Settled.{at, on_pins};
+ghost use Rattle.netlist.specs.Settled.{at};
+ghost use Rattle.statement.specs.Values.{on_pins};
 ghost use Rattle.lane_play.specs.inner.Lanes.{gate_lanes, lanes_rule};
 ghost use Rattle.lane_play.specs.inner.Spans.{AreSpans, IsSpanned};
 

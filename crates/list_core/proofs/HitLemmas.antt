@@ -8,9 +8,9 @@ use Rattle.std.proofs.lemmas.List.{length-map, length-replicate, get_or-set_othe
 use Rattle.std.proofs.lemmas.List.Elements.{All-append}
 use Rattle.std.proofs.lemmas.List.Sums.{sum_by-set, sum_by-append, sum_by_push, sum_by-cons}
 use Rattle.std.proofs.lemmas.Option.{slice_get_within}
-use Rattle.netlist.specs.declared.lines.Fault.{Fault}
-use Rattle.netlist.specs.declared.lines.Point.{Point}
-use Rattle.cubes.specs.Cubes.{Pattern}
+use Rattle.statement.specs.declared.lines.Fault.{Fault}
+use Rattle.statement.specs.declared.lines.Point.{Point}
+use Rattle.statement.specs.Patterns.{Pattern}
 use Rattle.word_sim.specs.declared.batches.Hit.{Hit as HitOf}
 use Rattle.list_core.specs.declared.verdicts.Entry.{Entry}
 use Rattle.list_core.specs.declared.verdicts.Entry.TheVariants.{Publish, Hit}

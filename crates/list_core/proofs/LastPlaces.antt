@@ -3,12 +3,12 @@ use Rattle.std.proofs.Common.{zero, suc, ◌≡◌, ◌⊎◌, inl, inr, ℕ, �
 use Rattle.std.specs.List.{AllZip, Contains, slice_get}
 use Rattle.std.proofs.lemmas.Bool.Decides.{nat_tests}
 use Rattle.std.proofs.lemmas.Option.{slice_get_read}
-use Rattle.netlist.specs.declared.lines.Fault.{Fault}
-use Rattle.netlist.specs.declared.lines.Point.{Point}
-use Rattle.netlist.specs.Netlist.{Netlist}
+use Rattle.statement.specs.declared.lines.Fault.{Fault}
+use Rattle.statement.specs.declared.lines.Point.{Point}
+use Rattle.statement.specs.Netlists.{Netlist}
 use Rattle.netlist.proofs.Lists.{contains_head, contains_tail}
-use Rattle.cubes.specs.Cubes.{Pattern}
-use Rattle.word_sim.specs.Hits.{IsDetectedAt, IsLastDetected, IsNeverDetected}
+use Rattle.statement.specs.Patterns.{Pattern, IsDetectedAt, IsLastDetected}
+use Rattle.word_sim.specs.Hits.{IsNeverDetected}
 use Rattle.list_core.specs.Kept.{is_last_at, kept_from, new_place}
 use Rattle.list_core.specs.inner.Marks.{last_at}
 use Rattle.list_core.proofs.KeepLemmas.{kept_at, source, rises}

@@ -3,13 +3,12 @@ use Rattle.std.proofs.Common.{◌≡◌, ℕ, ◌+◌, ◌<◌, Bool, true, fals
 use Rattle.std.specs.Prelude.{if◌then◌else◌}
 use Rattle.std.specs.List.{All}
 use Rattle.std.proofs.lemmas.List.{append_assoc, get_or-set_same, get_or-set_other}
-use Rattle.std.proofs.lemmas.Option.{same_Some, slice_get_within}
+use Rattle.std.proofs.lemmas.Option.{same_Some, slice_get_within, get_or_from_slice_get}
 use Rattle.netlist.specs.Conditions.{IsSound}
-use Rattle.netlist.specs.declared.lines.Fault.{Fault}
-use Rattle.netlist.specs.declared.lines.Point.{Point}
-use Rattle.std.proofs.lemmas.Option.{slice_get_within, get_or_from_slice_get}
+use Rattle.statement.specs.declared.lines.Fault.{Fault}
+use Rattle.statement.specs.declared.lines.Point.{Point}
 use Rattle.cubes.specs.Cubes.{IsPatternOf}
-use Rattle.netlist.specs.Detection.{Detects}
+use Rattle.statement.specs.Patterns.{Detects}
 use Rattle.redundancy_cert.specs.declared.nodes.Node.{Node}
 use Rattle.redundancy_cert.proofs.Redundant.{redundant}
 use Rattle.word_sim.specs.declared.batches.Hit.{Hit as HitOf}

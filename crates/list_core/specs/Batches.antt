@@ -1,7 +1,8 @@
 -- When a batch of patterns and hits is true.
 use Rattle.std.specs.Prelude.{◌≢◌, List}
 use Rattle.std.specs.List.{All, AllPairs}
-use Rattle.cubes.specs.Cubes.{Pattern, IsPatternOf}
+use Rattle.statement.specs.Patterns.{Pattern}
+use Rattle.cubes.specs.Cubes.{IsPatternOf}
 use Rattle.word_sim.specs.declared.batches.Hit.{Hit}
 use Rattle.word_sim.specs.Hits.{Batch}
 use Rattle.list_core.specs.Subjects.{Subject, DetectsClass}

@@ -2,11 +2,11 @@
 -- here each class is left to the last pattern that detects it.)
 use Rattle.std.specs.Prelude.{ℕ, zero, suc, ◌≡◌, ◌+◌, ◌==◌, ◌||◌, ◌↔◌, Bool, false, cond, IsTrue, List, [], ◌∷◌, Option, Some, None}
 use Rattle.std.specs.List.{AllZip, Contains}
-use Rattle.netlist.specs.declared.lines.Fault.{Fault}
-use Rattle.netlist.specs.declared.lines.Point.{Point}
-use Rattle.netlist.specs.Netlist.{Netlist}
-use Rattle.cubes.specs.Cubes.{Pattern}
-use Rattle.word_sim.specs.Hits.{IsLastDetected, LastDetected}
+use Rattle.statement.specs.declared.lines.Fault.{Fault}
+use Rattle.statement.specs.declared.lines.Point.{Point}
+use Rattle.statement.specs.Netlists.{Netlist}
+use Rattle.statement.specs.Patterns.{Pattern, IsLastDetected}
+use Rattle.word_sim.specs.Hits.{LastDetected}
 
 -- where each of these faults is last detected, if at all
 abbrev pub AreLastDetected : Netlist → List Pattern → List Fault → List (Option (ℕ × Point)) → Type 0

@@ -2,8 +2,8 @@
 use Rattle.std.specs.Prelude.{ℕ, ◌≡◌, ◌<◌, ◌++◌, ⊤, true, List, [], ◌∷◌}
 use Rattle.std.specs.List.{All}
 use Rattle.netlist.specs.Conditions.{IsSound}
-use Rattle.netlist.specs.declared.lines.Fault.{Fault}
-use Rattle.cubes.specs.Cubes.{Pattern}
+use Rattle.statement.specs.declared.lines.Fault.{Fault}
+use Rattle.statement.specs.Patterns.{Pattern}
 use Rattle.redundancy_cert.specs.declared.nodes.Node.{Node}
 use Rattle.word_sim.specs.declared.batches.Hit.{Hit}
 use Rattle.list_core.specs.declared.verdicts.Entry.{Entry}

@@ -1,7 +1,7 @@
 -- What is known of a class of faults. (Fault coverage: detected, redundant, and aborted faults: Bushnell and Agrawal,
 -- Essentials of Electronic Testing.)
 use Rattle.std.specs.Prelude.{ℕ, ◌≡◌, ◌≤◌, ⊤, Bool, true, false, List, slice_index_or}
-use Rattle.cubes.specs.Cubes.{Pattern}
+use Rattle.statement.specs.Patterns.{Pattern}
 use Rattle.redundancy_cert.specs.Trees.{closed_count, open_count}
 use Rattle.list_core.specs.declared.verdicts.Verdict.{Verdict}
 use Rattle.list_core.specs.declared.verdicts.Verdict.TheVariants.{Open, Detected, Redundant, Aborted}

@@ -1,7 +1,7 @@
 //! The list, whose calls are the events.
 ghost use Rattle.std.specs.Prelude.{◌≡◌, ◌↔◌, ◌≢◌, ℕ, ◌+◌, ◌-◌, ◌*◌, ◌^◌, ◌<◌, ◌≤◌, ◌==◌, true, false, List, [], ◌∷◌, ◌++◌, length, map, IfOk, OnOk, OnErr, IfErr, IfSome, IfNone, vec_len, vec_capacity, slice_index, slice_index_or};
 ghost use Rattle.std.specs.List.{All, slice_get};
-ghost use Rattle.netlist.specs.declared.lines.Fault.{Fault as FaultOf};
+ghost use Rattle.statement.specs.declared.lines.Fault.{Fault as FaultOf};
 ghost use Rattle.redundancy_cert.specs.Trees.{open_count};
 ghost use Rattle.list_core.specs.Subjects.{Subject, class_count, RepresentsIn};
 ghost use Rattle.list_core.specs.Batches.{IsTrueBatch};

@@ -1,8 +1,7 @@
 //! What hits change.
-ghost use Rattle.std.specs.Prelude.{◌≡◌, ◌+◌, ◌<◌, ◌≤◌, ◌^◌, ◌++◌, ℕ, map, length, IfOk, vec_len, vec_capacity};
+ghost use Rattle.std.specs.Prelude.{◌≡◌, ◌+◌, ◌<◌, ◌≤◌, ◌^◌, ◌++◌, ℕ, map, length, IfOk, vec_len, vec_capacity, Some};
 ghost use Rattle.std.specs.List.{All, AllPairs, slice_get};
-ghost use Rattle.std.specs.Prelude.{Some};
-ghost use Rattle.netlist.specs.declared.lines.Fault.{Fault as FaultOf};
+ghost use Rattle.statement.specs.declared.lines.Fault.{Fault as FaultOf};
 ghost use Rattle.list_core.specs.Verdicts.{is_undetected};
 ghost use Rattle.list_core.specs.States.{hit_one, entry_of, hit_verdicts, hit_entries, undetected_from};
 ghost use Rattle.word_sim.specs.declared.batches.Hit.{Hit as HitOf};

@@ -6,7 +6,8 @@
 #![tactic(auto)]
 
 ghost use Rattle.std.specs.Prelude.{◌≡◌, ◌≢◌, ◌<◌, ℕ, IfOk, MatchOption};
-ghost use Rattle.netlist.specs.Netlist.{name_of, signal_count};
+ghost use Rattle.statement.specs.Netlists.{name_of};
+ghost use Rattle.netlist.specs.Netlist.{signal_count};
 ghost use Rattle.name_index.specs.inner.Keys.{AreNames};
 
 use indexmap::IndexSet;
@@ -22,7 +23,7 @@ pub struct NameIndex<'a> {
 }
 
 impl<'a> Model for NameIndex<'a> {
-    ghost use Rattle.netlist.specs.Netlist.{Netlist};
+    ghost use Rattle.statement.specs.Netlists.{Netlist};
     ghost use Rattle.name_index.specs.inner.Keys.{AreNames};
 
     ghost Value = { Netlist };

@@ -4,8 +4,8 @@ use Rattle.std.specs.Fmt.{decimal}
 use Rattle.std.specs.List.{range_with_len}
 use Rattle.std.proofs.lemmas.List.{append-nil, map-append}
 use Rattle.rand_core.specs.Stream.{Stream}
-use Rattle.netlist.specs.declared.kinds.Kind.TheVariants.{Dff}
-use Rattle.netlist.specs.Netlist.{Definition}
+use Rattle.statement.specs.declared.kinds.Kind.TheVariants.{Dff}
+use Rattle.statement.specs.Netlists.{Definition}
 use Rattle.net_gen.specs.Samples.{first_word, rest, drawn_gate, after_gate, drawn_gates, after_gates, drawn_cells, lettered_names}
 
 pub range-append : (a n m : ℕ) → range_with_len a (n + m) ≡ range_with_len a n ++ range_with_len (a + n) m

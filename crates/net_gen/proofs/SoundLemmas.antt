@@ -13,11 +13,11 @@ use Rattle.std.proofs.lemmas.List.FromFn.{length-range_with_len, get_or-range_wi
 use Rattle.std.proofs.lemmas.Nat.{mod_below}
 use Rattle.std.proofs.lemmas.Str.Parse.{digit_from_value}
 use Rattle.rand_core.specs.Stream.{Stream}
-use Rattle.netlist.specs.declared.kinds.Kind.{Kind}
-use Rattle.netlist.specs.declared.kinds.Kind.TheVariants.{And, Nand, Or, Nor, Xor, Xnor, Not, Dff}
+use Rattle.statement.specs.declared.kinds.Kind.{Kind}
+use Rattle.statement.specs.declared.kinds.Kind.TheVariants.{And, Nand, Or, Nor, Xor, Xnor, Not, Dff}
 use Rattle.netlist.specs.Gates.{allows_pins}
-use Rattle.netlist.specs.Names.{is_name_byte, IsName}
-use Rattle.netlist.specs.Netlist.{Definition, Netlist, is_gate, gates, signals, IsLoop}
+use Rattle.statement.specs.Netlists.{is_name_byte, IsName, Definition, Netlist, gates, signals}
+use Rattle.netlist.specs.Netlist.{is_gate, IsLoop}
 use Rattle.netlist.specs.declared.netlists.NetRefusal.{NetRefusal}
 use Rattle.netlist.specs.declared.netlists.NetRefusal.TheVariants.{TooMany, NoInput, NoOutput, Undefined, Loop, NoMemory}
 use Rattle.netlist.specs.Conditions.{IsCause, HasReader, IsWellFormed, IsClosed, IsSound}

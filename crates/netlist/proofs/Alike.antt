@@ -4,10 +4,11 @@ use Rattle.std.specs.Bool.{Decides}
 use Rattle.std.specs.List.{All, AllZip, Contains, flat_map}
 use Rattle.std.proofs.lemmas.List.{length-map}
 use Rattle.std.proofs.lemmas.List.Elements.{All-nil, All-cons, All-head, All-tail, All-contains}
-use Rattle.netlist.specs.declared.lines.Line.TheVariants.{Stem, Pin, Out}
-use Rattle.netlist.specs.Netlist.{Definition, Netlist, is_cell, cells, gates, signals, IsAcyclic}
+use Rattle.statement.specs.declared.lines.Line.TheVariants.{Stem, Pin, Out}
+use Rattle.statement.specs.Netlists.{Definition, Netlist, is_cell, cells, gates, signals}
+use Rattle.netlist.specs.Netlist.{IsAcyclic}
 use Rattle.netlist.specs.Conditions.{IsClosed}
-use Rattle.netlist.specs.Settled.{Rule, Settles, on_pins, pins_of, outs, next}
+use Rattle.statement.specs.Values.{Rule, Settles, on_pins, pins_of, outs, next}
 use Rattle.netlist.specs.Laws.{Keeps}
 use Rattle.netlist.proofs.Acyclic.{everywhere}
 use Rattle.netlist.proofs.Lists.{All-from_contains, contains_filter}

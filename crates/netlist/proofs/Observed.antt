@@ -4,10 +4,10 @@ use Rattle.std.specs.List.{Contains, flat_map}
 use Rattle.std.proofs.lemmas.Grind.{take_at_read, flat_map-append}
 use Rattle.std.proofs.lemmas.List.{get_or_default, get_or-map, length-map, append-nil, map-append}
 use Rattle.std.proofs.lemmas.List.Elements.{All-contains, Contains-get_or}
-use Rattle.netlist.specs.declared.lines.Line.TheVariants.{Pin, Out}
-use Rattle.netlist.specs.Netlist.{Definition, Netlist, is_cell, cells, signals}
+use Rattle.statement.specs.declared.lines.Line.TheVariants.{Pin, Out}
+use Rattle.statement.specs.Netlists.{Definition, Netlist, is_cell, cells, signals}
 use Rattle.netlist.specs.Conditions.{IsSound}
-use Rattle.netlist.specs.Settled.{Rule, on_pins, pins_of}
+use Rattle.statement.specs.Values.{Rule, on_pins, pins_of}
 use Rattle.netlist.proofs.Lists.{contains_filter}
 use Rattle.netlist.proofs.Placed.{signal_below, same_definition, definition_below}
 use Rattle.netlist.proofs.Settling.{pins_within, above_inputs}

@@ -3,7 +3,7 @@ use Rattle.std.proofs.Common.{◌≡◌, ℕ, ◌+◌, ◌<◌, List, [], ◌∷
 use Rattle.std.specs.List.{Contains}
 use Rattle.std.proofs.lemmas.List.{length-set, length_push, get_or-set_same, get_or-set_other}
 use Rattle.netlist.specs.declared.order.Placing.{Placing}
-use Rattle.netlist.specs.Netlist.{Definition, Netlist, gates}
+use Rattle.statement.specs.Netlists.{Definition, Netlist, gates}
 use Rattle.netlist.specs.Conditions.{IsNumbered}
 use Rattle.netlist.specs.inner.Placed.{zeros, IsPlaced}
 use Rattle.netlist.specs.inner.Sorting.{HasRoom, Places}

@@ -3,7 +3,8 @@ use Rattle.std.proofs.Common.{◌≡◌, ℕ, suc, zero, ◌+◌, ◌<◌, ◌�
 use Rattle.std.specs.List.{Contains}
 use Rattle.std.proofs.lemmas.Bool.{cases_lt, ltb-true, ltb-false}
 use Rattle.std.proofs.lemmas.List.Elements.{All-contains}
-use Rattle.netlist.specs.Netlist.{Definition, Netlist, gates, IsAcyclic}
+use Rattle.statement.specs.Netlists.{Definition, Netlist, gates}
+use Rattle.netlist.specs.Netlist.{IsAcyclic}
 use Rattle.netlist.specs.Conditions.{IsNumbered, IsClosed}
 use Rattle.netlist.specs.inner.Placed.{zeros, IsPlaced, IsSeen, IsSorted, start_ranks}
 use Rattle.netlist.specs.Orders.{IsOrder}

@@ -4,7 +4,8 @@ use Rattle.std.specs.List.{All, Contains}
 use Rattle.std.proofs.lemmas.Bool.{and_from, and_parts, lt-ltb, ltb-true, cases_eq, cases_lt, cases_Bool, eq-eqb, ne_eqb, eqb-true, not_from_false, not-true}
 use Rattle.std.proofs.lemmas.List.{length-set, get_or-set_same, get_or-set_other, get_or_append_left, get_or_push, get_or_default, get_or_past, length_push, length-map, get_or-append-add, get_or-map}
 use Rattle.std.proofs.lemmas.List.Elements.{All-contains, All-append, All-map, Contains-append_cases, Contains-append_left, Contains-push}
-use Rattle.netlist.specs.Netlist.{Definition, Netlist, is_cell, is_gate, cells, gates, signals, IsLoop, IsOnLoop, IsAcyclic}
+use Rattle.statement.specs.Netlists.{Definition, Netlist, is_cell, cells, gates, signals}
+use Rattle.netlist.specs.Netlist.{is_gate, IsLoop, IsOnLoop, IsAcyclic}
 use Rattle.netlist.specs.Conditions.{IsClosed, IsNumbered}
 use Rattle.netlist.specs.inner.Placed.{zeros, IsPlaced, IsSorted, start_ranks}
 use Rattle.netlist.proofs.Lists.{contains_filter, filter_contains, contains_map}

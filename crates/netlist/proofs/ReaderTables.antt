@@ -1,9 +1,8 @@
 -- The table of the readers of every signal, as its users see it.
 use Rattle.std.proofs.Common.{◌≡◌, ℕ, ◌<◌, [], map, length, get_or, ◌∙◌, ap}
 use Rattle.std.proofs.lemmas.List.{length-map, get_or-map}
-use Rattle.netlist.specs.Netlist.{Netlist, signals}
+use Rattle.statement.specs.Netlists.{Netlist, signals, readers_of}
 use Rattle.netlist.specs.Conditions.{IsNumbered}
-use Rattle.netlist.specs.Readers.{readers_of}
 
 pub table_count : (n : Netlist) → length (map (readers_of n) (signals n)) ≡ length (signals n)
 table_count n = length-map (signals n) (readers_of n)

@@ -5,10 +5,12 @@ use Rattle.std.proofs.lemmas.Bool.{cases_eq}
 use Rattle.std.proofs.lemmas.List.{length-set, get_or-set_same, get_or-set_other, get_or_default, get_or-map, get_or_append_left, length-map, length-append, map-append, length_push, length-take-le}
 use Rattle.std.proofs.lemmas.Grind.{take_at_read}
 use Rattle.std.proofs.lemmas.List.Elements.{All-contains, All-map, Contains-get_or}
-use Rattle.netlist.specs.Netlist.{Definition, Netlist, is_cell, cells, gates, signals, IsGateAt}
+use Rattle.statement.specs.Netlists.{Definition, Netlist, is_cell, cells, gates, signals}
+use Rattle.netlist.specs.Netlist.{IsGateAt}
 use Rattle.netlist.specs.Conditions.{IsClosed, IsNumbered}
-use Rattle.netlist.specs.declared.lines.Line.TheVariants.{Stem, Pin}
-use Rattle.netlist.specs.Settled.{Rule, Settles, on_pins, pins_of, at, AreRead}
+use Rattle.statement.specs.declared.lines.Line.TheVariants.{Stem, Pin}
+use Rattle.statement.specs.Values.{Rule, Settles, on_pins, pins_of}
+use Rattle.netlist.specs.Settled.{at, AreRead}
 use Rattle.netlist.specs.Settling.{IsDriven, AreSourcesDriven, IsEvaluated, AreEvaluated}
 use Rattle.netlist.specs.inner.Settling.{SettlesUpTo, AllSettleUpTo}
 use Rattle.netlist.specs.Orders.{IsOrder}

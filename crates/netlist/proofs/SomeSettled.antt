@@ -2,11 +2,13 @@
 use Rattle.std.proofs.Common.{◌≡◌, ℕ, suc, zero, ◌+◌, ◌<◌, ◌≤◌, ◌≢◌, List, map, length, get_or, set, replicate, refl, subst, arith}
 use Rattle.std.specs.List.{All, AllPairs}
 use Rattle.std.proofs.lemmas.List.{length-replicate, length-map, get_or_default}
-use Rattle.netlist.specs.declared.lines.Line.TheVariants.{Stem}
-use Rattle.netlist.specs.Netlist.{Definition, Netlist, cells, IsAcyclic}
+use Rattle.statement.specs.declared.lines.Line.TheVariants.{Stem}
+use Rattle.statement.specs.Netlists.{Definition, Netlist, cells}
+use Rattle.netlist.specs.Netlist.{IsAcyclic}
 use Rattle.netlist.specs.Conditions.{IsClosed, IsNumbered}
 use Rattle.netlist.specs.Orders.{IsOrder}
-use Rattle.netlist.specs.Settled.{Rule, Settles, pins_of, at}
+use Rattle.statement.specs.Values.{Rule, Settles, pins_of}
+use Rattle.netlist.specs.Settled.{at}
 use Rattle.netlist.specs.Settling.{IsDriven}
 use Rattle.netlist.specs.inner.Settling.{SettlesUpTo}
 use Rattle.netlist.proofs.OrderExists.{order_exists}

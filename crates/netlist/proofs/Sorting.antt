@@ -4,12 +4,12 @@ use Rattle.std.specs.List.{Contains}
 use Rattle.std.proofs.lemmas.Bool.{cases_Bool, cases_eq, cases_lt, eq-eqb, eqb-true, lt-ltb, le-ltb, ltb-true, ltb-false, and_from, and_parts, and_cases, and_left, or_cases, or_left, or_right}
 use Rattle.std.proofs.lemmas.List.{length-map, get_or_past, get_or-map, get_or-append-add, append-nil}
 use Rattle.std.proofs.lemmas.Option.{get_or_from_slice_get, slice_get_within}
-use Rattle.netlist.specs.declared.lines.Line.{Line}
+use Rattle.statement.specs.declared.lines.Line.{Line}
 use Rattle.netlist.specs.declared.order.Placing.{Placing}
-use Rattle.netlist.specs.Netlist.{Definition, Netlist, signals, also}
+use Rattle.statement.specs.Netlists.{Definition, Netlist, signals, readers_of}
+use Rattle.netlist.specs.Netlist.{also}
 use Rattle.netlist.specs.Conditions.{IsNumbered}
 use Rattle.netlist.specs.inner.Placed.{zeros, IsPlaced, IsSorted, start_ranks}
-use Rattle.netlist.specs.Readers.{readers_of}
 use Rattle.netlist.specs.inner.Sorting.{unvisited, pins_among, placed_below, sources_below, start_counts, IsCounted, IsStarted, HasRoom, Counts}
 use Rattle.netlist.proofs.Placed.{zeros-le, definition_below, gate_defined, id_at, ranked_at, start_placed, signals_length}
 use Rattle.netlist.proofs.Waiting.{unvisited_also, some_unvisited, unvisited_agree, pins_of_readers}

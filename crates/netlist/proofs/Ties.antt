@@ -2,7 +2,7 @@
 use Rattle.std.proofs.Common.{◌≡◌, ℕ, ◌+◌, ◌<◌, ◌≤◌, [], false, length, get_or, refl, ◌∙◌, ap, subst, sym, inl, inr, arith}
 use Rattle.std.proofs.lemmas.Bool.{both_ways, cases_eq}
 use Rattle.netlist.specs.declared.order.Placing.{Placing}
-use Rattle.netlist.specs.Netlist.{Netlist}
+use Rattle.statement.specs.Netlists.{Netlist}
 use Rattle.netlist.specs.Conditions.{IsNumbered}
 use Rattle.netlist.specs.inner.Sorting.{nothing, HasRoom, IsCounted, IsStarted, Places, PlacesTie}
 use Rattle.netlist.proofs.Placed.{definition_below, gate_defined, unplaced_gate}

@@ -2,10 +2,10 @@
 use Rattle.std.proofs.Common.{◌≡◌, ℕ, ◌<◌, ◌≤◌, true, false, ◌&&◌, length, refl, inl, inr, arith, eqb, leb}
 use Rattle.std.proofs.lemmas.Bool.{and_parts, both_ways, cases_lt, leb-true, eqb-true}
 use Rattle.std.specs.List.{All, Contains}
-use Rattle.netlist.specs.declared.kinds.Kind.{Kind}
-use Rattle.netlist.specs.declared.kinds.Kind.TheVariants.{And, Nand, Or, Nor, Xor, Xnor, Not, Buff, Dff, Const0, Const1}
+use Rattle.statement.specs.declared.kinds.Kind.{Kind}
+use Rattle.statement.specs.declared.kinds.Kind.TheVariants.{And, Nand, Or, Nor, Xor, Xnor, Not, Buff, Dff, Const0, Const1}
 use Rattle.netlist.specs.Gates.{allows_pins}
-use Rattle.netlist.specs.Netlist.{Definition, Netlist, cells, is_cell, is_flip_flop, signals}
+use Rattle.statement.specs.Netlists.{Definition, Netlist, cells, is_cell, is_flip_flop, signals}
 use Rattle.netlist.specs.Conditions.{IsWellFormed, IsClosed, HasReader, IsSound, IsUndefined}
 use Rattle.netlist.proofs.Lists.{All-from_contains, contains_filter}
 use Rattle.std.proofs.lemmas.List.Elements.{All-contains}

@@ -5,8 +5,8 @@ use Rattle.netlist.specs.declared.netlists.NetRefusal.{NetRefusal}
 use Rattle.netlist.specs.declared.netlists.NetRefusal.TheVariants.{TooMany, NoInput, NoOutput, Undefined, Loop, NoMemory}
 use Rattle.netlist.specs.declared.equations.Parts.{Parts}
 use Rattle.netlist.specs.Gates.{allows_pins}
-use Rattle.netlist.specs.Names.{IsName}
-use Rattle.netlist.specs.Netlist.{Definition, Netlist, signals, IsOnLoop, IsAcyclic}
+use Rattle.statement.specs.Netlists.{IsName, Definition, Netlist, signals}
+use Rattle.netlist.specs.Netlist.{IsOnLoop, IsAcyclic}
 
 -- the netlist of the parts
 abbrev pub whole : Parts → Netlist

@@ -1,7 +1,7 @@
 -- What may be scanned: the names that insertion makes begin with `SC__` and are up to six bytes longer than the design's.
 use Rattle.std.specs.Prelude.{ℕ, ◌≡◌, ◌≤◌, Bool, false, nat_eq, List, length, codes}
 use Rattle.std.specs.List.{All, starts_with}
-use Rattle.netlist.specs.Netlist.{Netlist, signals}
+use Rattle.statement.specs.Netlists.{Netlist, signals}
 
 -- a name that a design may not have
 abbrev pub is_reserved : List ℕ → Bool

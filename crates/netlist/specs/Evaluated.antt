@@ -1,8 +1,9 @@
 -- What an evaluation answers.
 use Rattle.std.specs.Prelude.{◌≡◌, Bool, false, List, length, Option}
-use Rattle.netlist.specs.declared.lines.Fault.{Fault}
-use Rattle.netlist.specs.Netlist.{Netlist, signals}
-use Rattle.netlist.specs.Settled.{Settles, bits, outs, next, at}
+use Rattle.statement.specs.declared.lines.Fault.{Fault}
+use Rattle.statement.specs.Netlists.{Netlist, signals}
+use Rattle.statement.specs.Values.{Settles, bits, outs, next}
+use Rattle.netlist.specs.Settled.{at}
 
 -- the settled bit of each signal, of each output pin and of each cell's pin, with or without a fault
 pub record AreSettledBits (n : Netlist) (f : Option Fault) (inputs state : List Bool) (signal_bits output_bits cell_bits : List Bool) : Type 0 where

@@ -1,37 +1,8 @@
--- What a gate gives, from the bits on its pins, and how many pins it may have.
-use Rattle.std.specs.Prelude.{ℕ, ◌≡◌, Bool, true, false, not, ◌&&◌, ◌||◌, ◌==◌, nat_le, cond, List, [], ◌∷◌}
-use Rattle.netlist.specs.declared.kinds.Kind.{Kind}
-use Rattle.netlist.specs.declared.kinds.Kind.TheVariants.{And, Nand, Or, Nor, Xor, Xnor, Not, Buff, Dff, Const0, Const1}
-
-abbrev pub conjunction : List Bool → Bool
-conjunction [] = true
-conjunction (b ∷ bs) = b && conjunction bs
-
-abbrev pub disjunction : List Bool → Bool
-disjunction [] = false
-disjunction (b ∷ bs) = b || disjunction bs
-
--- whether an odd number of them is 1
-abbrev pub parity : List Bool → Bool
-parity [] = false
-parity (b ∷ bs) = cond b (not (parity bs)) (parity bs)
-
-abbrev pub only : List Bool → Bool
-only [] = false
-only (b ∷ bs) = b
-
-abbrev pub gate_bit : Kind → List Bool → Bool
-gate_bit And bits = conjunction bits
-gate_bit Nand bits = not (conjunction bits)
-gate_bit Or bits = disjunction bits
-gate_bit Nor bits = not (disjunction bits)
-gate_bit Xor bits = parity bits
-gate_bit Xnor bits = not (parity bits)
-gate_bit Not bits = not (only bits)
-gate_bit Buff bits = only bits
-gate_bit Dff bits = only bits
-gate_bit Const0 bits = false
-gate_bit Const1 bits = true
+-- How many pins a gate may have, and what some bits are together.
+use Rattle.std.specs.Prelude.{ℕ, ◌≡◌, Bool, ◌&&◌, ◌==◌, nat_le, List}
+use Rattle.statement.specs.Values.{conjunction, disjunction, parity, only}
+use Rattle.statement.specs.declared.kinds.Kind.{Kind}
+use Rattle.statement.specs.declared.kinds.Kind.TheVariants.{And, Nand, Or, Nor, Xor, Xnor, Not, Buff, Dff, Const0, Const1}
 
 abbrev pub most_pins : ℕ
 most_pins = 1024

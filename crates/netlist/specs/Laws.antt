@@ -2,10 +2,11 @@
 use Rattle.std.specs.Prelude.{ℕ, ◌≡◌, Bool, List, length, IsTrue}
 use Rattle.std.specs.Bool.{Decides}
 use Rattle.std.specs.List.{All, AllZip, Contains}
-use Rattle.netlist.specs.declared.lines.Line.{Line}
+use Rattle.statement.specs.declared.lines.Line.{Line}
 use Rattle.netlist.specs.Conditions.{IsClosed, IsNumbered}
-use Rattle.netlist.specs.Netlist.{Definition, Netlist, cells, gates, signals, IsAcyclic}
-use Rattle.netlist.specs.Settled.{Rule, Settles, outs, next}
+use Rattle.statement.specs.Netlists.{Definition, Netlist, cells, gates, signals}
+use Rattle.netlist.specs.Netlist.{IsAcyclic}
+use Rattle.statement.specs.Values.{Rule, Settles, outs, next}
 
 -- Induction over an acyclic netlist: what holds of inputs and cells, and of each gate where it holds of all that the gate reads, holds of every signal.
 abbrev pub HoldsEverywhere : Type 0

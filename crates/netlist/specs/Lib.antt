@@ -4,12 +4,10 @@ pub mod ThreeValues
 pub mod Holds
 pub mod Detection
 pub mod Gates
-pub mod Names
 pub mod Settled
 pub mod Settling
 pub mod Conditions
 pub mod Designs
-pub mod Readers
 pub mod Orders
 pub mod Evaluated
 pub mod Laws

@@ -1,10 +1,10 @@
 -- The lines of a netlist and its faults. (Stems, branches and stuck-at faults: Bushnell and Agrawal, Essentials of Electronic Testing.)
 use Rattle.std.specs.Prelude.{ℕ, ◌≡◌, ◌<◌, length, Option, Some}
 use Rattle.std.specs.List.{Contains}
-use Rattle.netlist.specs.declared.lines.Line.{Line}
-use Rattle.netlist.specs.declared.lines.Line.TheVariants.{Stem, Pin, Out}
-use Rattle.netlist.specs.declared.lines.Fault.{Fault}
-use Rattle.netlist.specs.Netlist.{Definition, Netlist, signals}
+use Rattle.statement.specs.declared.lines.Line.{Line}
+use Rattle.statement.specs.declared.lines.Line.TheVariants.{Stem, Pin, Out}
+use Rattle.statement.specs.declared.lines.Fault.{Fault}
+use Rattle.statement.specs.Netlists.{Definition, Netlist, signals}
 
 -- a stem of a signal, a pin of a definition, or an output
 abbrev pub IsLineOf : Netlist → Line → Type 0

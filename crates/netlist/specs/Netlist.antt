@@ -1,48 +1,14 @@
--- Netlists as equations over signals, with names beside. A signal is a number: inputs and then definitions are 0, 1, 2 and so on.
--- (The .bench form of Brglez, Bryan and Kozminski, Combinational profiles of sequential benchmark circuits, 1989.)
-use Rattle.std.specs.Prelude.{ℕ, ◌≡◌, ◌==◌, ◌||◌, Bool, true, false, not, List, [], ◌++◌, map, length, slice_index_or, IsTrue, Option, find}
-use Rattle.std.specs.List.{Contains, filter}
-use Rattle.netlist.specs.declared.kinds.Kind.{Kind}
-use Rattle.netlist.specs.declared.kinds.Kind.TheVariants.{Dff}
-
--- `id = KIND(pins)`
-pub record Definition : Type 0 where
-  pub id : ℕ
-  pub kind : Kind
-  pub pins : List ℕ
-
-pub record Netlist : Type 0 where
-  pub names : List (List ℕ)
-  pub inputs : List ℕ
-  pub outputs : List ℕ
-  pub definitions : List Definition
-
-abbrev pub is_flip_flop : Kind → Bool
-is_flip_flop Dff = true
-is_flip_flop _ = false
-
-abbrev pub is_cell : Definition → Bool
-is_cell d = is_flip_flop d.kind
+-- What reads what in a netlist, and what a loop of gates is.
+use Rattle.std.specs.Prelude.{ℕ, ◌≡◌, ◌==◌, ◌||◌, Bool, not, List, length, IsTrue, Option, find}
+use Rattle.std.specs.List.{Contains}
+use Rattle.statement.specs.Netlists.{Definition, Netlist, is_cell, gates, signals}
+use Rattle.statement.specs.declared.kinds.Kind.{Kind}
 
 abbrev pub is_gate : Definition → Bool
 is_gate d = not (is_cell d)
 
--- the cells (flip-flops) and the gates of a netlist, in its order
-abbrev pub cells : Netlist → List Definition
-cells n = filter is_cell n.definitions
-
-abbrev pub gates : Netlist → List Definition
-gates n = filter (λ (d : Definition). not (is_cell d)) n.definitions
-
--- every signal has a place: inputs, then definitions
-abbrev pub signals : Netlist → List ℕ
-signals n = n.inputs ++ map (λ (d : Definition). d.id) n.definitions
-
 abbrev pub signal_count : Netlist → ℕ
 signal_count n = length (signals n)
-
-abbrev pub name_of : Netlist → ℕ → List ℕ
-name_of n x = slice_index_or n.names x []
 
 -- what defines a signal; nothing for an input
 abbrev pub definition_of : Netlist → ℕ → Option Definition

@@ -2,7 +2,8 @@
 -- Systems, 1976), and the place of each signal in one.
 use Rattle.std.specs.Prelude.{ℕ, ◌≡◌, ◌≢◌, ◌<◌, List, length, slice_index}
 use Rattle.std.specs.List.{All, AllPairs, Contains}
-use Rattle.netlist.specs.Netlist.{Definition, Netlist, gates, signals, Reads, IsGateAt}
+use Rattle.statement.specs.Netlists.{Definition, Netlist, gates, signals}
+use Rattle.netlist.specs.Netlist.{Reads, IsGateAt}
 
 -- it has gates alone, each of them, once, and each after the gates that it reads
 pub record IsOrder (n : Netlist) (order : List ℕ) : Type 0 where

@@ -1,9 +1,11 @@
 -- How values settle one by one: inputs and cells take what is driven, and then gates are evaluated one after the other.
 use Rattle.std.specs.Prelude.{ℕ, ◌≡◌, ◌≢◌, ◌<◌, List, [], ◌∷◌, length, slice_index, slice_set}
 use Rattle.std.specs.List.{AllZip, Contains}
-use Rattle.netlist.specs.declared.lines.Line.TheVariants.{Stem}
-use Rattle.netlist.specs.Netlist.{Definition, Netlist, cells, gates, IsGateAt}
-use Rattle.netlist.specs.Settled.{Rule, at, pins_of}
+use Rattle.statement.specs.declared.lines.Line.TheVariants.{Stem}
+use Rattle.statement.specs.Netlists.{Definition, Netlist, cells, gates}
+use Rattle.netlist.specs.Netlist.{IsGateAt}
+use Rattle.statement.specs.Values.{Rule, pins_of}
+use Rattle.netlist.specs.Settled.{at}
 
 -- the first m of these signals have what is driven onto them, and the others are as before
 pub record IsDriven {V : Type 0} (rule : Rule V) (ids : List ℕ) (driven old new : List V) (m : ℕ) : Type 0 where

@@ -1,12 +1,10 @@
 //! Bits, where one line may be stuck.
 ghost use Rattle.std.specs.Prelude.{◌≡◌, ◌≤◌, length};
-ghost use Rattle.netlist.specs.Settled.{stuck, bits};
-ghost use Rattle.netlist.specs.Gates.{conjunction, disjunction, parity, only};
+ghost use Rattle.statement.specs.Values.{stuck, bits, conjunction, disjunction, parity, only};
 
 use crate::equations::Definition;
-use crate::kinds::Kind;
-use crate::lines::{Fault, Line};
 use crate::rules::Logic;
+use statement::{Fault, Kind, Line};
 
 /// Bits, where one line may be stuck.
 #[derive(Clone, Copy, Debug, PartialEq, Eq)]

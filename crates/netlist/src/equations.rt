@@ -2,10 +2,9 @@
 ghost use Rattle.std.specs.Prelude.{◌≡◌, IfOk};
 ghost use Rattle.netlist.specs.Conditions.{whole};
 
-use crate::kinds::Kind;
-use crate::signals::SignalId;
 use plain_text::Texts;
 use smallvec::SmallVec;
+use statement::{Kind, SignalId};
 use std::alloc::{AllocError, Global};
 use std::marker::Model;
 
@@ -18,7 +17,7 @@ pub struct Definition {
 }
 
 impl Model for Definition {
-    ghost use Rattle.netlist.specs.Netlist.{Definition};
+    ghost use Rattle.statement.specs.Netlists.{Definition};
 
     ghost Value = { Definition };
 

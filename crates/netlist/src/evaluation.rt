@@ -3,19 +3,19 @@
 //! The order costs a pass over all pins, and many evaluations use it: so it is found once and kept beside the netlist. No result depends on
 //! which order it is, since exactly one assignment settles; so it is no part of the value.
 ghost use Rattle.std.specs.Prelude.{◌≡◌, length, MatchResult, IfOk, OnOk};
-ghost use Rattle.netlist.specs.Netlist.{cells, signals};
+ghost use Rattle.statement.specs.Netlists.{cells, signals};
 ghost use Rattle.netlist.specs.Orders.{IsOrder, IsSchedule};
-ghost use Rattle.netlist.specs.Settled.{Settles, at, outs, next};
+ghost use Rattle.statement.specs.Values.{Settles, outs, next};
+ghost use Rattle.netlist.specs.Settled.{at};
 ghost use Rattle.netlist.specs.Evaluated.{AreSettledBits};
 
 use crate::bits::Bits;
-use crate::lines::Fault;
 use crate::netlists::Netlist;
 use crate::no_memory::NoMemory;
 use crate::observing::{next_into, outs_into};
 use crate::rules::{Logic, settle, settle_into};
 use crate::schedules::{Schedule, places_of};
-use crate::signals::SignalId;
+use statement::{Fault, SignalId};
 use std::alloc::{AllocError, Global};
 use std::marker::Model;
 
@@ -28,7 +28,7 @@ pub struct Core {
 }
 
 impl Model for Core {
-    ghost use Rattle.netlist.specs.Netlist.{Netlist};
+    ghost use Rattle.statement.specs.Netlists.{Netlist};
     ghost use Rattle.netlist.specs.Orders.{IsSchedule};
 
     ghost Value = { Netlist };

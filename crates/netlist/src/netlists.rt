@@ -2,19 +2,17 @@
 ghost use Rattle.std.specs.Prelude.{◌≡◌, ◌<◌, ◌≤◌, ℕ, List, length, map, MatchResult, Some, [], slice_get, IfOk};
 ghost use Rattle.std.specs.List.{Contains, filter};
 ghost use Rattle.std.specs.Option.{option_map, option_map_or};
-ghost use Rattle.netlist.specs.Netlist.{Definition as Equation, cells, is_cell, signals, definition_of};
+ghost use Rattle.statement.specs.Netlists.{Definition as Equation, cells, is_cell, signals, readers_of};
+ghost use Rattle.netlist.specs.Netlist.{definition_of};
 ghost use Rattle.netlist.specs.Orders.{IsOrder};
-ghost use Rattle.netlist.specs.Readers.{readers_of};
 ghost use Rattle.netlist.specs.inner.Sorting.{AreReaders};
 ghost use Rattle.netlist.specs.Conditions.{IsWellFormed, IsSound, IsCause, whole};
 
 use crate::equations::{Definition, Parts};
-use crate::kinds::Kind;
-use crate::lines::Line;
 use crate::no_memory::NoMemory;
 use crate::order::{Sorting, first_left, sort};
 use crate::readings::ReaderTable;
-use crate::signals::SignalId;
+use statement::{Kind, Line, SignalId};
 use std::alloc::{AllocError, Global};
 use std::marker::Model;
 
@@ -48,7 +46,7 @@ pub struct Netlist {
 }
 
 impl Model for Netlist {
-    ghost use Rattle.netlist.specs.Netlist.{Netlist};
+    ghost use Rattle.statement.specs.Netlists.{Netlist};
     ghost use Rattle.netlist.specs.Conditions.{whole};
     ghost use Rattle.netlist.specs.inner.Kept.{IsKept};
 

@@ -1,12 +1,13 @@
 //! The values at observed points, into buffers that are used again.
 ghost use Rattle.std.specs.Prelude.{◌≡◌, length, OnOk};
-ghost use Rattle.netlist.specs.Netlist.{signals};
+ghost use Rattle.statement.specs.Netlists.{signals};
 ghost use Rattle.netlist.specs.Conditions.{IsSound};
-ghost use Rattle.netlist.specs.Settled.{at, outs, next};
+ghost use Rattle.netlist.specs.Settled.{at};
+ghost use Rattle.statement.specs.Values.{outs, next};
 
-use crate::lines::Line;
 use crate::netlists::Netlist;
 use crate::rules::Logic;
+use statement::Line;
 use std::alloc::AllocError;
 
 /// The values at the output pins.

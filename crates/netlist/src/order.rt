@@ -2,16 +2,15 @@
 ghost use Rattle.std.specs.Prelude.{◌≡◌, ◌<◌, ◌≤◌, ℕ, [], ◌∷◌, length, IfOk, OnOk, MatchOption, slice_get, slice_index};
 ghost use Rattle.std.specs.List.{All};
 ghost use Rattle.netlist.specs.Gates.{most_pins};
-ghost use Rattle.netlist.specs.Netlist.{Definition as Equation, signals};
+ghost use Rattle.statement.specs.Netlists.{Definition as Equation, signals};
 ghost use Rattle.netlist.specs.Conditions.{IsClosed, IsNumbered, whole, most_signals};
 ghost use Rattle.netlist.specs.inner.Placed.{IsSorted, HasRanks, start_ranks};
 ghost use Rattle.netlist.specs.inner.Sorting.{AreBelow, AreReaders, Counts, HasRoom, IsStarted, Places, PlacesTie, PlacesTies, VisitsSources, start_counts};
 ghost use Rattle.netlist.specs.Lines.{IsPinBelow};
 
 use crate::equations::Parts;
-use crate::lines::Line;
 use crate::readings::ReaderTable;
-use crate::signals::SignalId;
+use statement::{Line, SignalId};
 use std::alloc::{AllocError, Global};
 
 /// The gates that are placed, in order, and the rank of each signal: 1 for inputs and cells, from 2 on for gates in order, 0 for what isn't placed.

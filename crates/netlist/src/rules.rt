@@ -8,21 +8,22 @@
 ghost use Rattle.std.specs.Prelude.{◌≡◌, ◌≢◌, ◌<◌, ◌≤◌, length, IfOk, OnOk};
 ghost use Rattle.std.specs.List.{All, AllPairs};
 ghost use Rattle.netlist.specs.Gates.{most_pins};
-ghost use Rattle.netlist.specs.Netlist.{Definition as Equation, Netlist as Equations, cells, signals, IsGateAt};
+ghost use Rattle.statement.specs.Netlists.{Definition as Equation, Netlist as Equations, cells, signals};
+ghost use Rattle.netlist.specs.Netlist.{IsGateAt};
 ghost use Rattle.netlist.specs.Conditions.{IsSound};
 ghost use Rattle.netlist.specs.Orders.{IsOrder};
-ghost use Rattle.netlist.specs.Settled.{Settles, at, AreRead};
+ghost use Rattle.statement.specs.Values.{Settles};
+ghost use Rattle.netlist.specs.Settled.{at, AreRead};
 ghost use Rattle.netlist.specs.Settling.{IsDriven, AreSourcesDriven, IsEvaluated, AreEvaluated};
 
 use crate::equations::Definition;
-use crate::lines::Line;
 use crate::netlists::Netlist;
-use crate::signals::SignalId;
+use statement::{Line, SignalId};
 use std::alloc::{AllocError, Global};
 
 /// How values of a kind settle on a netlist: bits, three values, words, labels.
 pub trait Logic {
-    ghost use Rattle.netlist.specs.Settled.{Rule};
+    ghost use Rattle.statement.specs.Values.{Rule};
 
     type Value: Copy + Drop;
 

@@ -3,7 +3,7 @@ ghost use Rattle.std.specs.Prelude.{◌≡◌, IfOk};
 ghost use Rattle.netlist.specs.Orders.{IsOrder, ArePlaces};
 
 use crate::netlists::Netlist;
-use crate::signals::SignalId;
+use statement::SignalId;
 use std::alloc::{AllocError, Global};
 
 /// The gates, each after the gates that it reads, and the place of each signal among them.

@@ -3,11 +3,11 @@ use Rattle.std.proofs.Common.{◌≡◌, ℕ, ◌-◌, ◌<◌, ◌≤◌, ◌�
 use Rattle.std.proofs.lemmas.Bool.{cases_eq, cases_lt, both_ways, and_parts, and_from, eqb-true, eq-eqb, false_from_ne_true}
 use Rattle.std.proofs.lemmas.List.{get_or-map, length-map}
 use Rattle.std.proofs.lemmas.List.Elements.{Contains-get_or}
-use Rattle.netlist.specs.declared.lines.Line.{Line}
-use Rattle.netlist.specs.declared.lines.Line.TheVariants.{Stem, Pin, Out}
+use Rattle.statement.specs.declared.lines.Line.{Line}
+use Rattle.statement.specs.declared.lines.Line.TheVariants.{Stem, Pin, Out}
 use Rattle.netlist.specs.Conditions.{IsSound}
-use Rattle.netlist.specs.Netlist.{Definition, Netlist, cells}
-use Rattle.netlist.specs.Settled.{is_line}
+use Rattle.statement.specs.Netlists.{Definition, Netlist, cells}
+use Rattle.statement.specs.Values.{is_line}
 use Rattle.netlist.proofs.Orders.{cell_no_gate}
 use Rattle.netlist.proofs.Settling.{cells_distinct}
 use Rattle.events.specs.Stuck.{IsObservedOnly}

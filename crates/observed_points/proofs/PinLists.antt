@@ -2,7 +2,7 @@
 use Rattle.std.proofs.Common.{◌≡◌, ℕ, ◌+◌, ◌<◌, ◌++◌, ◌∷◌, [], List, map, length, get_or, take, sym, ◌∙◌, ap}
 use Rattle.std.proofs.lemmas.Grind.{take_at_read}
 use Rattle.std.proofs.lemmas.List.{get_or_default, map-append, append_assoc}
-use Rattle.netlist.specs.Netlist.{Definition}
+use Rattle.statement.specs.Netlists.{Definition}
 
 pub pins_more : (ds : List Definition) (k : ℕ) (d : Definition) (first old new pins : List ℕ) (x : ℕ) → k < length ds → get_or ds k d ≡ d → 0 < length pins → pins ≡ d.pins → x ≡ get_or pins 0 x
     → old ≡ first ++ map (λ (e : Definition). get_or e.pins 0 0) (take k ds) → new ≡ old ++ x ∷ [] → new ≡ first ++ map (λ (e : Definition). get_or e.pins 0 0) (take (k + 1) ds)

@@ -7,12 +7,13 @@ use Rattle.std.proofs.lemmas.List.Elements.{All-contains, Contains-get_or}
 use Rattle.std.proofs.lemmas.Map.Keys.{IsDistinct-from_apart}
 use Rattle.std.proofs.lemmas.Map.Steps.{length-le_from_distinct_below}
 use Rattle.std.proofs.lemmas.Map.Views.{Contains-from_any}
-use Rattle.netlist.specs.declared.kinds.Kind.TheVariants.{Dff}
-use Rattle.netlist.specs.declared.lines.Line.{Line}
-use Rattle.netlist.specs.declared.lines.Line.TheVariants.{Pin, Out}
+use Rattle.statement.specs.declared.kinds.Kind.TheVariants.{Dff}
+use Rattle.statement.specs.declared.lines.Line.{Line}
+use Rattle.statement.specs.declared.lines.Line.TheVariants.{Pin, Out}
 use Rattle.netlist.specs.Conditions.{IsSound}
 use Rattle.netlist.specs.Lines.{IsLineOf}
-use Rattle.netlist.specs.Netlist.{Definition, Netlist, is_cell, cells, signals, IsGateAt}
+use Rattle.statement.specs.Netlists.{Definition, Netlist, is_cell, cells, signals}
+use Rattle.netlist.specs.Netlist.{IsGateAt}
 use Rattle.netlist.proofs.Lists.{contains_filter}
 use Rattle.netlist.proofs.Orders.{cell_no_gate, input_low, definition_high}
 use Rattle.netlist.proofs.Placed.{definition_below, signal_below, signal_cases, signals_length, same_definition}

@@ -1,10 +1,10 @@
 -- Observed points by number: the outputs in order, then the cells.
 use Rattle.std.specs.Prelude.{ℕ, ◌≡◌, ◌≢◌, ◌<◌, ◌≤◌, ◌+◌, ◌-◌, nat_lt, cond, List, ◌++◌, map, length, slice_index, slice_index_or}
-use Rattle.netlist.specs.declared.lines.Line.{Line}
-use Rattle.netlist.specs.declared.lines.Line.TheVariants.{Pin, Out}
-use Rattle.netlist.specs.declared.lines.Point.{Point}
-use Rattle.netlist.specs.declared.lines.Point.TheVariants.{Output, Cell}
-use Rattle.netlist.specs.Netlist.{Definition, Netlist, cells, signals}
+use Rattle.statement.specs.declared.lines.Line.{Line}
+use Rattle.statement.specs.declared.lines.Line.TheVariants.{Pin, Out}
+use Rattle.statement.specs.declared.lines.Point.{Point}
+use Rattle.statement.specs.declared.lines.Point.TheVariants.{Output, Cell}
+use Rattle.statement.specs.Netlists.{Definition, Netlist, cells, signals}
 use Rattle.events.specs.Stuck.{IsObservedOnly}
 
 -- the line that a point reads, and the signal that the line reads

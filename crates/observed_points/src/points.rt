@@ -3,7 +3,7 @@ ghost use Rattle.std.specs.Prelude.{◌≡◌, ◌++◌, ◌+◌, ◌<◌, ◌�
 ghost use Rattle.std.specs.List.{All};
 ghost use Rattle.netlist.specs.Conditions.{IsSound};
 ghost use Rattle.netlist.specs.Lines.{IsLineOf};
-ghost use Rattle.netlist.specs.Netlist.{Definition as Equation, cells, signals};
+ghost use Rattle.statement.specs.Netlists.{Definition as Equation, cells, signals};
 ghost use Rattle.events.specs.Stuck.{IsObservedOnly};
 ghost use Rattle.observed_points.specs.Points.{AreCellPoints, AreFirst, ArePoints, IsReadAt, point_of, points, watched};
 

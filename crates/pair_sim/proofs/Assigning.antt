@@ -4,11 +4,11 @@ use Rattle.std.specs.Bool.{MatchBool}
 use Rattle.std.specs.List.{Contains}
 use Rattle.std.proofs.lemmas.Bool.{cases_eq}
 use Rattle.std.proofs.lemmas.List.{get_or-set_same, get_or-set_other, length-set, length-append, take_at, drop_at, map-append, append-nil}
-use Rattle.netlist.specs.declared.kinds.Tri.TheVariants.{X}
-use Rattle.netlist.specs.declared.lines.Fault.{Fault}
-use Rattle.netlist.specs.declared.lines.Line.TheVariants.{Stem}
-use Rattle.netlist.specs.Holds.{Holds}
-use Rattle.netlist.specs.Netlist.{Netlist, signals}
+use Rattle.statement.specs.declared.kinds.Tri.TheVariants.{X}
+use Rattle.statement.specs.declared.lines.Fault.{Fault}
+use Rattle.statement.specs.declared.lines.Line.TheVariants.{Stem}
+use Rattle.statement.specs.Patterns.{Holds}
+use Rattle.statement.specs.Netlists.{Netlist, signals}
 use Rattle.netlist.specs.Conditions.{IsSound}
 use Rattle.netlist.specs.Settled.{at}
 use Rattle.netlist.proofs.Placed.{signal_below, signal_from}

@@ -2,9 +2,10 @@
 use Rattle.std.proofs.Common.{◌≡◌, ℕ, zero, suc, ◌&&◌, ◌||◌, Bool, true, false, List, [], ◌∷◌, map, Some, refl, ◌∙◌, ap, subst}
 use Rattle.std.specs.List.{All, AllZip, slice_get}
 use Rattle.std.proofs.lemmas.List.Elements.{All-nil, All-cons}
-use Rattle.netlist.specs.declared.kinds.Tri.{Tri}
-use Rattle.netlist.specs.declared.kinds.Tri.TheVariants.{Zero, One, X}
-use Rattle.netlist.specs.ThreeValues.{known, is_zero, is_one, allows}
+use Rattle.statement.specs.declared.kinds.Tri.{Tri}
+use Rattle.statement.specs.declared.kinds.Tri.TheVariants.{Zero, One, X}
+use Rattle.statement.specs.Values.{known, allows}
+use Rattle.netlist.specs.ThreeValues.{is_zero, is_one}
 use Rattle.tri.specs.declared.labels.Label.{Label}
 use Rattle.tri.specs.Labels.{IsAbove, AreAbove}
 use Rattle.tri.specs.Paths.{IsFirstEffect}

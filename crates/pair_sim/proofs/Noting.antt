@@ -4,9 +4,9 @@ use Rattle.std.specs.List.{Contains}
 use Rattle.std.proofs.lemmas.Bool.{cases_Bool, cases_lt}
 use Rattle.std.proofs.lemmas.List.{ext_get_or, get_or_past, length-take-le}
 use Rattle.std.proofs.lemmas.List.Elements.{Contains-append_cases}
-use Rattle.netlist.specs.declared.lines.Fault.{Fault}
-use Rattle.netlist.specs.Holds.{Holds}
-use Rattle.netlist.specs.Netlist.{Netlist, signals}
+use Rattle.statement.specs.declared.lines.Fault.{Fault}
+use Rattle.statement.specs.Patterns.{Holds}
+use Rattle.statement.specs.Netlists.{Netlist, signals}
 use Rattle.netlist.specs.Conditions.{IsSound}
 use Rattle.netlist.specs.Settled.{at}
 use Rattle.netlist.proofs.Placed.{signal_from}

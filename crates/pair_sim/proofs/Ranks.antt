@@ -1,8 +1,8 @@
 -- Where more is known, the rank of a label is no less, and greater for another label.
 use Rattle.std.proofs.Common.{◌≡◌, ◌≢◌, ◌≤◌, ◌+◌, Bool, true, false, cond, refl, inl, inr, arith}
 use Rattle.std.proofs.lemmas.Bool.{cases_lt}
-use Rattle.netlist.specs.declared.kinds.Tri.{Tri}
-use Rattle.netlist.specs.declared.kinds.Tri.TheVariants.{Zero, One, X}
+use Rattle.statement.specs.declared.kinds.Tri.{Tri}
+use Rattle.statement.specs.declared.kinds.Tri.TheVariants.{Zero, One, X}
 use Rattle.tri.specs.declared.labels.Label.{Label}
 use Rattle.tri.specs.Known.{allows_tri}
 use Rattle.tri.specs.Labels.{AllowsLabel}

@@ -5,17 +5,17 @@ use Rattle.std.proofs.lemmas.Bool.{cases_Bool, cases_lt, cases_eq, both_ways, an
 use Rattle.std.proofs.lemmas.List.{get_or_append_left, get_or-append_right, get_or-map, get_or_default, length-map, length-append}
 use Rattle.std.proofs.lemmas.List.Elements.{All-nil, All-cons, All-contains, Contains-get_or, Contains-append_left, Contains-append_right, Contains-append_cases, Contains-push}
 use Rattle.std.proofs.lemmas.Option.{slice_get-get_or}
-use Rattle.netlist.specs.declared.kinds.Kind.TheVariants.{Dff}
-use Rattle.netlist.specs.declared.lines.Fault.{Fault}
-use Rattle.netlist.specs.declared.lines.Line.{Line}
-use Rattle.netlist.specs.declared.lines.Line.TheVariants.{Pin, Out}
-use Rattle.netlist.specs.declared.lines.Point.{Point}
-use Rattle.netlist.specs.declared.lines.Point.TheVariants.{Output, Cell}
+use Rattle.statement.specs.declared.kinds.Kind.TheVariants.{Dff}
+use Rattle.statement.specs.declared.lines.Fault.{Fault}
+use Rattle.statement.specs.declared.lines.Line.{Line}
+use Rattle.statement.specs.declared.lines.Line.TheVariants.{Pin, Out}
+use Rattle.statement.specs.declared.lines.Point.{Point}
+use Rattle.statement.specs.declared.lines.Point.TheVariants.{Output, Cell}
 use Rattle.netlist.specs.Conditions.{IsSound}
-use Rattle.netlist.specs.Holds.{Holds}
-use Rattle.netlist.specs.Netlist.{Definition, Netlist, is_cell, cells, signals}
-use Rattle.netlist.specs.Settled.{at, is_line, outs, next}
-use Rattle.netlist.specs.ThreeValues.{known}
+use Rattle.statement.specs.Patterns.{Holds}
+use Rattle.statement.specs.Netlists.{Definition, Netlist, is_cell, cells, signals}
+use Rattle.netlist.specs.Settled.{at}
+use Rattle.statement.specs.Values.{is_line, outs, next, known}
 use Rattle.netlist.proofs.Lists.{contains_nil, contains_head, contains_tail, contains_cases, contains_map, contains_filter, All-from_contains, map_agree}
 use Rattle.netlist.proofs.Orders.{cell_no_gate}
 use Rattle.netlist.proofs.Placed.{signal_below}

@@ -8,13 +8,13 @@ use Rattle.std.proofs.lemmas.Bool.{eqb-true, eq-eqb}
 use Rattle.std.proofs.lemmas.List.Sums.{length-filter, count_by-le-length}
 use Rattle.std.proofs.lemmas.Map.Steps.{length-le_from_distinct_below}
 use Rattle.std.proofs.lemmas.Map.Made.{IsDistinct-from_AllPairs}
-use Rattle.netlist.specs.Netlist.{Definition, Netlist, is_cell, cells, signals}
+use Rattle.statement.specs.Netlists.{Definition, Netlist, is_cell, cells, signals}
 use Rattle.netlist.specs.Conditions.{IsSound}
 use Rattle.netlist.proofs.Lists.{any_true}
 use Rattle.netlist.proofs.Placed.{signal_below, signals_length}
 use Rattle.netlist.proofs.Alike.{length-on_pins}
 use Rattle.netlist.proofs.WellFormed.{one_pin}
-use Rattle.netlist.specs.Settled.{Rule, pins_of}
+use Rattle.statement.specs.Values.{Rule, pins_of}
 use Rattle.tri.specs.declared.labels.Label.{Label}
 use Rattle.tri.specs.Paths.{has_effect, HaveNoEffect, IsFirstEffect}
 use Rattle.pair_sim.specs.declared.points.PointsSight.TheVariants.{Same}

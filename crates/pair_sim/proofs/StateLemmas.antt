@@ -6,11 +6,12 @@ use Rattle.std.proofs.lemmas.Bool.{cases_Bool, cases_lt, both_ways}
 use Rattle.std.proofs.lemmas.List.{length-map, get_or-map}
 use Rattle.std.proofs.lemmas.List.Sums.{sum_by-cons}
 use Rattle.std.proofs.lemmas.List.Elements.{All-contains}
-use Rattle.netlist.specs.declared.lines.Fault.{Fault}
-use Rattle.netlist.specs.Holds.{Holds}
-use Rattle.netlist.specs.Netlist.{Netlist, signals}
+use Rattle.statement.specs.declared.lines.Fault.{Fault}
+use Rattle.statement.specs.Patterns.{Holds}
+use Rattle.statement.specs.Netlists.{Netlist, signals}
 use Rattle.netlist.specs.Conditions.{IsSound}
-use Rattle.netlist.specs.Settled.{at, outs, next}
+use Rattle.netlist.specs.Settled.{at}
+use Rattle.statement.specs.Values.{outs, next}
 use Rattle.netlist.proofs.Lists.{contains_map, All-from_contains}
 use Rattle.netlist.proofs.Placed.{signal_from}
 use Rattle.tri.specs.declared.labels.Label.{Label}

@@ -1,8 +1,8 @@
 -- What bounds a path, the contract of a function of its name.
 use Rattle.std.specs.Prelude.{ℕ, ◌≡◌, None}
-use Rattle.netlist.specs.declared.lines.Fault.{Fault}
-use Rattle.netlist.specs.Holds.{Holds}
-use Rattle.netlist.specs.Netlist.{Netlist}
+use Rattle.statement.specs.declared.lines.Fault.{Fault}
+use Rattle.statement.specs.Patterns.{Holds}
+use Rattle.statement.specs.Netlists.{Netlist}
 use Rattle.tri.specs.Paths.{Path, decisions, IsUnknown}
 
 -- A signal that is X isn't decided: so a path on which each decision was made on an X decides no signal twice.

@@ -1,9 +1,9 @@
 -- What a simulation keeps beside its netlist and the held inputs.
 use Rattle.std.specs.Prelude.{ℕ, Bool, List, Option}
-use Rattle.netlist.specs.declared.lines.Fault.{Fault}
-use Rattle.netlist.specs.Holds.{Holds}
+use Rattle.statement.specs.declared.lines.Fault.{Fault}
+use Rattle.statement.specs.Patterns.{Holds}
 use Rattle.netlist.specs.Lines.{IsLineOf}
-use Rattle.netlist.specs.Netlist.{Netlist}
+use Rattle.statement.specs.Netlists.{Netlist}
 use Rattle.tri.specs.declared.labels.Label.{Label}
 use Rattle.events.specs.Rooms.{Room as EventRoom, IsReusableRoom, standing_in}
 use Rattle.pair_sim.specs.declared.levels.Level.{Level}

@@ -2,10 +2,10 @@
 -- and the path alone: how labels are kept is no part of the value.
 use Rattle.std.specs.Prelude.{ℕ, ◌≡◌, ◌≢◌, ◌≤◌, ◌==◌, ◌↔◌, Bool, List, [], ◌∷◌, Some}
 use Rattle.std.specs.List.{All, Contains, count_by}
-use Rattle.netlist.specs.declared.kinds.Tri.{Tri}
-use Rattle.netlist.specs.declared.lines.Fault.{Fault}
-use Rattle.netlist.specs.Netlist.{Netlist, signals}
-use Rattle.netlist.specs.Holds.{Holds}
+use Rattle.statement.specs.declared.kinds.Tri.{Tri}
+use Rattle.statement.specs.declared.lines.Fault.{Fault}
+use Rattle.statement.specs.Netlists.{Netlist, signals}
+use Rattle.statement.specs.Patterns.{Holds}
 use Rattle.tri.specs.declared.labels.Label.{Label}
 use Rattle.tri.specs.Labels.{AreLabels, IsContradicted}
 use Rattle.tri.specs.Paths.{Path, decisions, IsClosedPath, IsUnknown, IsTestPath, IsGoingPath}

@@ -2,8 +2,9 @@
 ghost use Rattle.std.specs.Prelude.{◌≡◌, ◌<◌, ◌∷◌, ◌++◌, [], List, length, IsFalse, IsTrue, map, take};
 ghost use Rattle.std.specs.List.{flat_map};
 ghost use Rattle.netlist.specs.Conditions.{IsSound};
-ghost use Rattle.netlist.specs.Netlist.{signals};
-ghost use Rattle.netlist.specs.Settled.{at, outs, next};
+ghost use Rattle.statement.specs.Netlists.{signals};
+ghost use Rattle.netlist.specs.Settled.{at};
+ghost use Rattle.statement.specs.Values.{outs, next};
 ghost use Rattle.tri.specs.declared.labels.Label.{Label as LabelOf};
 ghost use Rattle.tri.specs.Labels.{Decisions, labels};
 ghost use Rattle.tri.specs.Paths.{has_effect};

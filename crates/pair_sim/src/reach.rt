@@ -3,7 +3,7 @@
 ghost use Rattle.std.specs.Prelude.{◌≡◌, ◌+◌, ◌^◌, ◌≤◌, ◌<◌, ◌∷◌, ◌++◌, ◌&&◌, ◌||◌, [], false, nat_lt, if◌then◌else◌, ℕ, List, length, take, slice_index, vec_len, vec_capacity, IfOk, IsTrue};
 ghost use Rattle.std.specs.List.{All, flat_map};
 ghost use Rattle.netlist.specs.Lines.{IsLineOf};
-ghost use Rattle.netlist.specs.Netlist.{signals};
+ghost use Rattle.statement.specs.Netlists.{signals};
 ghost use Rattle.netlist.specs.Settled.{at};
 ghost use Rattle.tri.specs.declared.labels.Label.{Label as LabelOf};
 ghost use Rattle.events.specs.declared.trails.Change.{Change as ChangeOf};

@@ -4,7 +4,7 @@ ghost use Rattle.std.specs.List.{Contains};
 ghost use Rattle.netlist.specs.Holds.{AreHoldsOf};
 ghost use Rattle.netlist.specs.Conditions.{IsSound};
 ghost use Rattle.netlist.specs.Lines.{IsLineOf};
-ghost use Rattle.netlist.specs.Netlist.{signals};
+ghost use Rattle.statement.specs.Netlists.{signals};
 ghost use Rattle.pair_sim.specs.Rooms.{IsReusableLabelRoom};
 ghost use Rattle.pair_sim.specs.Sims.{sim, assigned, backtracked, HasGood, HasOwn, HasFaulty, MayDiffer, HasLabel, IsNotBlocked, IsState, IsFree, HasContradiction, AreChangedSignals};
 

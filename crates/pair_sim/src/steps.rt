@@ -3,7 +3,7 @@ ghost use Rattle.std.specs.Prelude.{◌≡◌, ◌+◌, ◌≤◌, ◌<◌, [], 
 ghost use Rattle.std.specs.Bool.{MatchBool};
 ghost use Rattle.netlist.specs.Holds.{AreHoldsOf};
 ghost use Rattle.netlist.specs.Lines.{IsLineOf};
-ghost use Rattle.netlist.specs.Netlist.{signals};
+ghost use Rattle.statement.specs.Netlists.{signals};
 ghost use Rattle.tri.specs.Labelling.{decided_in};
 ghost use Rattle.tri.specs.Labels.{source_label, held_value};
 ghost use Rattle.label_events.specs.Lines.{AgreeOnOtherLines};

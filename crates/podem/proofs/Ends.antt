@@ -4,18 +4,18 @@ use Rattle.std.specs.Option.{is_none}
 use Rattle.std.specs.List.{All, Contains}
 use Rattle.std.proofs.lemmas.Bool.{both_ways}
 use Rattle.std.proofs.lemmas.List.Elements.{All-nil, All-cons, All-contains, Contains-append_left, Contains-append_right, Contains-append_cases}
-use Rattle.netlist.specs.declared.kinds.Tri.{Tri}
-use Rattle.netlist.specs.declared.kinds.Tri.TheVariants.{X}
-use Rattle.netlist.specs.declared.lines.Fault.{Fault}
-use Rattle.netlist.specs.Holds.{Holds}
-use Rattle.netlist.specs.declared.lines.Line.TheVariants.{Stem}
-use Rattle.netlist.specs.Netlist.{Definition, Netlist, is_cell, cells, gates, signals}
+use Rattle.statement.specs.declared.kinds.Tri.{Tri}
+use Rattle.statement.specs.declared.kinds.Tri.TheVariants.{X}
+use Rattle.statement.specs.declared.lines.Fault.{Fault}
+use Rattle.statement.specs.Patterns.{Holds}
+use Rattle.statement.specs.declared.lines.Line.TheVariants.{Stem}
+use Rattle.statement.specs.Netlists.{Definition, Netlist, is_cell, cells, gates, signals}
 use Rattle.netlist.specs.Conditions.{IsSound}
-use Rattle.netlist.specs.Settled.{outs, next}
+use Rattle.statement.specs.Values.{outs, next, known}
 use Rattle.netlist.proofs.Acyclic.{everywhere}
 use Rattle.netlist.proofs.Lists.{All-from_contains, contains_filter}
 use Rattle.tri.specs.declared.labels.Label.{Label}
-use Rattle.netlist.specs.ThreeValues.{known, is_x}
+use Rattle.netlist.specs.ThreeValues.{is_x}
 use Rattle.tri.specs.Labels.{good_of, held_value, label_of, labels, AreLabels}
 use Rattle.tri.specs.Paths.{Path, decisions, IsGoingPath}
 use Rattle.pair_sim.proofs.Sure.{is_sure, sure_source, sure_on_line, none_differs, sure_outs, sure_next, sure_gate}

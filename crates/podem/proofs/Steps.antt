@@ -4,10 +4,10 @@ use Rattle.std.proofs.lemmas.Bool.{eqb-true}
 use Rattle.std.specs.Option.{is_none}
 use Rattle.std.specs.List.{All, Contains}
 use Rattle.std.proofs.lemmas.List.Elements.{All-head, All-tail, All-append, All-contains}
-use Rattle.netlist.specs.declared.kinds.Tri.TheVariants.{X}
-use Rattle.netlist.specs.Holds.{Holds}
-use Rattle.netlist.specs.declared.lines.Point.{Point}
-use Rattle.netlist.specs.Netlist.{Definition, Netlist, cells}
+use Rattle.statement.specs.declared.kinds.Tri.TheVariants.{X}
+use Rattle.statement.specs.Patterns.{Holds}
+use Rattle.statement.specs.declared.lines.Point.{Point}
+use Rattle.statement.specs.Netlists.{Definition, Netlist, cells}
 use Rattle.netlist.proofs.Lists.{All-from_contains}
 use Rattle.tri.specs.Paths.{Path, decisions, IsUnknown, IsTestPath}
 use Rattle.redundancy_cert.specs.declared.nodes.Node.TheVariants.{Split}

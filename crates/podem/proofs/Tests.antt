@@ -4,21 +4,20 @@ use Rattle.std.specs.List.{All, Contains}
 use Rattle.std.proofs.lemmas.Option.{slice_get_within, get_or_from_slice_get, slice_get-get_or}
 use Rattle.std.proofs.lemmas.List.{length-map, length-append, get_or-map, get_or_append_left}
 use Rattle.std.proofs.lemmas.List.Elements.{All-contains, All-map, All-append}
-use Rattle.netlist.specs.declared.kinds.Tri.TheVariants.{X}
-use Rattle.netlist.specs.declared.lines.Fault.{Fault}
-use Rattle.netlist.specs.Holds.{Holds, AreHoldsOf}
-use Rattle.netlist.specs.declared.lines.Point.{Point}
-use Rattle.netlist.specs.declared.lines.Point.TheVariants.{Output, Cell}
-use Rattle.netlist.specs.Netlist.{Definition, Netlist, cells}
+use Rattle.statement.specs.declared.kinds.Tri.TheVariants.{X}
+use Rattle.statement.specs.declared.lines.Fault.{Fault}
+use Rattle.statement.specs.Patterns.{Holds, observed, Detects, Pattern}
+use Rattle.netlist.specs.Holds.{AreHoldsOf}
+use Rattle.statement.specs.declared.lines.Point.{Point}
+use Rattle.statement.specs.declared.lines.Point.TheVariants.{Output, Cell}
+use Rattle.statement.specs.Netlists.{Definition, Netlist, cells}
 use Rattle.netlist.specs.Conditions.{IsSound}
-use Rattle.netlist.specs.Settled.{Settles, bits, outs, next}
+use Rattle.statement.specs.Values.{Settles, bits, outs, next, known, allows}
 use Rattle.netlist.proofs.SomeSettled.{some_settled}
-use Rattle.netlist.specs.ThreeValues.{known, allows}
 use Rattle.tri.specs.Labels.{good_of, held_value, labels, Follows, AreAbove}
-use Rattle.netlist.specs.Detection.{observed, Detects}
 use Rattle.tri.specs.Paths.{Path, decisions, IsTestPath}
 use Rattle.tri.proofs.LabelLemmas.{outs_above, next_above}
-use Rattle.cubes.specs.Cubes.{Pattern, AgreesWith, IsPatternOf, IsCubeOf}
+use Rattle.cubes.specs.Cubes.{AgreesWith, IsPatternOf, IsCubeOf}
 use Rattle.cubes.proofs.FillLemmas.{fill_fits}
 use Rattle.redundancy_cert.specs.Evidence.{IsTestCube}
 use Rattle.pair_sim.proofs.Differing.{differ_there, driven_allowed, known_is}

@@ -1,7 +1,7 @@
 -- The value of a source, as the labels have it.
 use Rattle.std.proofs.Common.{◌≡◌, ℕ, sym, ◌∙◌, ap, subst}
 use Rattle.std.specs.List.{Contains}
-use Rattle.netlist.specs.declared.kinds.Tri.{Tri}
+use Rattle.statement.specs.declared.kinds.Tri.{Tri}
 use Rattle.tri.specs.Labels.{good_of}
 use Rattle.tri.specs.Paths.{decisions}
 use Rattle.decisions.specs.declared.cases.Case.{Case}

@@ -1,6 +1,6 @@
 -- What a search leaves to the next one for another fault of the netlist.
-use Rattle.netlist.specs.Netlist.{Netlist}
-use Rattle.netlist.specs.Holds.{Holds}
+use Rattle.statement.specs.Netlists.{Netlist}
+use Rattle.statement.specs.Patterns.{Holds}
 use Rattle.pair_sim.specs.Rooms.{IsReusableLabelRoom}
 use Rattle.podem.specs.declared.engine.PodemRoom.{PodemRoom}
 

@@ -1,10 +1,10 @@
 -- Decisions on inputs and cells alone. (PODEM: Goel, An implicit enumeration algorithm to generate tests, 1981.)
 use Rattle.std.specs.Prelude.{ℕ, ◌^◌, ◌<◌, Bool, List, [], ◌++◌, map, length, Option, None, is_none, slice_index_or}
 use Rattle.std.specs.List.{Contains, filter}
-use Rattle.netlist.specs.declared.kinds.Tri.{Tri}
-use Rattle.netlist.specs.declared.lines.Fault.{Fault}
-use Rattle.netlist.specs.Holds.{Holds}
-use Rattle.netlist.specs.Netlist.{Definition, Netlist, cells}
+use Rattle.statement.specs.declared.kinds.Tri.{Tri}
+use Rattle.statement.specs.declared.lines.Fault.{Fault}
+use Rattle.statement.specs.Patterns.{Holds}
+use Rattle.statement.specs.Netlists.{Definition, Netlist, cells}
 use Rattle.tri.specs.Labels.{good_of, held_value}
 use Rattle.tri.specs.Paths.{Path, decisions, IsClosedPath, IsGoingPath}
 use Rattle.cubes.specs.Cubes.{Cube}

@@ -9,8 +9,8 @@
 //! The decisions are a stack that stands for the tree at any time (`decisions`).
 ghost use Rattle.std.specs.Prelude.{◌≡◌, ◌≤◌, ◌<◌, [], ◌∷◌, length, IfOk, IfSome, OnOk, MatchOption, IsTrue, map};
 ghost use Rattle.std.specs.List.{All, Contains};
-ghost use Rattle.netlist.specs.declared.kinds.Tri.TheVariants.{X};
-ghost use Rattle.netlist.specs.Netlist.{signals};
+ghost use Rattle.statement.specs.declared.kinds.Tri.TheVariants.{X};
+ghost use Rattle.statement.specs.Netlists.{signals};
 ghost use Rattle.decisions.specs.Cases.{IsCase};
 ghost use Rattle.pair_sim.specs.Sims.{HasGood, IsFree};
 ghost use Rattle.redundancy_cert.specs.Evidence.{IsTestCube};

@@ -5,7 +5,7 @@ use Rattle.std.proofs.lemmas.Bool.{both_ways, cases_eq, cases_lt}
 use Rattle.std.proofs.lemmas.Grind.{take_at_read, flat_map-append}
 use Rattle.std.proofs.lemmas.List.{get_or-set_same, get_or-set_other, length-set, get_or-replicate, get_or_past, length-replicate, append-nil}
 use Rattle.std.proofs.lemmas.List.Elements.{All-push, All-weaker, Contains-push, Contains-append_left, Contains-append_cases}
-use Rattle.netlist.specs.Netlist.{Definition, Netlist, cells, signals}
+use Rattle.statement.specs.Netlists.{Definition, Netlist, cells, signals}
 use Rattle.netlist.proofs.Lists.{all_flat_map, contains_nil, contains_head, contains_tail}
 use Rattle.redundancy_cert.specs.inner.Passing.{Marks, AreObserved}
 

@@ -2,11 +2,11 @@
 use Rattle.std.proofs.Common.{◌≡◌, ℕ, ◌<◌, ◌≤◌, Bool, true, false, not, List, length, Option, Some, None, get_or, refl, sym, ◌∙◌, ap, subst, inl, inr, nat_lt, arith}
 use Rattle.std.specs.Bool.{MatchBool}
 use Rattle.std.specs.List.{Contains}
-use Rattle.netlist.specs.declared.kinds.Tri.TheVariants.{Zero, One, X}
-use Rattle.netlist.specs.declared.kinds.Tri.{Tri}
-use Rattle.netlist.specs.declared.lines.Fault.{Fault}
+use Rattle.statement.specs.declared.kinds.Tri.TheVariants.{Zero, One, X}
+use Rattle.statement.specs.declared.kinds.Tri.{Tri}
+use Rattle.statement.specs.declared.lines.Fault.{Fault}
 use Rattle.netlist.specs.Conditions.{IsSound}
-use Rattle.netlist.specs.Netlist.{signals}
+use Rattle.statement.specs.Netlists.{signals}
 use Rattle.netlist.specs.Settled.{at}
 use Rattle.tri.specs.declared.labels.Label.{Label}
 use Rattle.tri.specs.Labels.{Decisions, AreLabels, IsUnobserved, IsContradicted, is_known_as}
@@ -14,7 +14,7 @@ use Rattle.tri.specs.Labelling.{decided_in}
 use Rattle.tri.specs.Paths.{Path, decisions, IsClosedPath, IsUnknown}
 use Rattle.tri.proofs.PathLemmas.{not_closed, not_unknown}
 use Rattle.std.proofs.lemmas.Bool.{both_ways, ltb-true, ltb-false}
-use Rattle.netlist.specs.ThreeValues.{known}
+use Rattle.statement.specs.Values.{known}
 use Rattle.netlist.proofs.Placed.{signal_below, signal_from}
 use Rattle.events.specs.declared.trails.Change.{Change}
 use Rattle.label_events.specs.Lines.{IsInner, IsPointLine}

@@ -3,15 +3,15 @@ use Rattle.std.proofs.Common.{◌≡◌, ℕ, zero, suc, ◌+◌, ◌<◌, ◌&&
 use Rattle.std.specs.List.{All, Contains, flat_map, list_any}
 use Rattle.std.proofs.lemmas.Bool.{both_ways, and_parts, not-true, true≢false}
 use Rattle.std.proofs.lemmas.List.Elements.{All-nil, All-append, All-map, All-contains, All-head, All-tail}
-use Rattle.netlist.specs.declared.kinds.Tri.TheVariants.{X}
-use Rattle.netlist.specs.declared.lines.Line.{Line}
-use Rattle.netlist.specs.declared.lines.Line.TheVariants.{Pin, Out}
-use Rattle.netlist.specs.declared.lines.Fault.{Fault}
+use Rattle.statement.specs.declared.kinds.Tri.TheVariants.{X}
+use Rattle.statement.specs.declared.lines.Line.{Line}
+use Rattle.statement.specs.declared.lines.Line.TheVariants.{Pin, Out}
+use Rattle.statement.specs.declared.lines.Fault.{Fault}
 use Rattle.netlist.specs.Conditions.{IsSound}
-use Rattle.netlist.specs.Holds.{Holds}
-use Rattle.netlist.specs.Netlist.{Definition, Netlist, is_cell, cells, gates, signals}
-use Rattle.netlist.specs.Settled.{is_line, on_pins, pins_of, at}
-use Rattle.netlist.specs.ThreeValues.{known}
+use Rattle.statement.specs.Patterns.{Holds}
+use Rattle.statement.specs.Netlists.{Definition, Netlist, is_cell, cells, gates, signals}
+use Rattle.statement.specs.Values.{is_line, on_pins, pins_of, known}
+use Rattle.netlist.specs.Settled.{at}
 use Rattle.netlist.proofs.Acyclic.{everywhere}
 use Rattle.netlist.proofs.Lists.{All-from_contains, all_flat_map, contains_filter}
 use Rattle.netlist.proofs.Placed.{signal_below}

@@ -2,14 +2,14 @@
 use Rattle.std.proofs.Common.{◌≡◌, ℕ, ◌+◌, Bool, true, false, cond, List, [], ◌∷◌, ◌++◌, Some, refl, ◌∙◌, ap, inl, inr, eqb, arith}
 use Rattle.std.proofs.lemmas.Bool.{cases_Bool, eqb-true}
 use Rattle.std.proofs.lemmas.List.Elements.{All-head, All-tail}
-use Rattle.netlist.specs.declared.lines.Fault.{Fault}
-use Rattle.netlist.specs.declared.lines.Point.{Point}
-use Rattle.netlist.specs.Netlist.{Netlist}
+use Rattle.statement.specs.declared.lines.Fault.{Fault}
+use Rattle.statement.specs.declared.lines.Point.{Point}
+use Rattle.statement.specs.Netlists.{Netlist}
 use Rattle.netlist.specs.Conditions.{IsSound}
 use Rattle.netlist.proofs.Lists.{all_left, all_right}
-use Rattle.netlist.specs.Holds.{Holds, Obeys}
+use Rattle.statement.specs.Patterns.{Holds, Obeys, Detects}
 use Rattle.tri.specs.Labels.{Follows}
-use Rattle.netlist.specs.Detection.{Detects, IsRedundant}
+use Rattle.netlist.specs.Detection.{IsRedundant}
 use Rattle.tri.specs.Paths.{Path, decisions, IsClosedPath}
 use Rattle.tri.proofs.ClosedLemmas.{closed_detects_nothing}
 use Rattle.redundancy_cert.specs.declared.nodes.Node.{Node}

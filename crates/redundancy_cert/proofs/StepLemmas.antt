@@ -5,15 +5,15 @@ use Rattle.std.proofs.lemmas.Bool.{cases_eq, eqb-true}
 use Rattle.std.proofs.lemmas.Grind.{take_at_read}
 use Rattle.std.proofs.lemmas.List.{get_or-set_same, get_or-set_other, set_at}
 use Rattle.std.proofs.lemmas.List.Elements.{All-head, All-push}
-use Rattle.netlist.specs.Netlist.{Netlist, signals}
+use Rattle.statement.specs.Netlists.{Netlist, signals}
 use Rattle.netlist.proofs.Lists.{all_left, all_right}
 use Rattle.tri.specs.declared.labels.Label.{Label}
 use Rattle.tri.specs.Labels.{Decisions}
 use Rattle.tri.specs.Labelling.{decided_in}
 use Rattle.tri.specs.Paths.{Path, decisions, IsClosedPath}
 use Rattle.std.specs.Bool.{MatchBool}
-use Rattle.netlist.specs.declared.lines.Fault.{Fault}
-use Rattle.netlist.specs.Holds.{Holds}
+use Rattle.statement.specs.declared.lines.Fault.{Fault}
+use Rattle.statement.specs.Patterns.{Holds}
 use Rattle.redundancy_cert.specs.declared.nodes.Node.TheVariants.{Forced}
 use Rattle.redundancy_cert.specs.declared.steps.Step.{Step}
 use Rattle.redundancy_cert.specs.inner.Passing.{Labelled, AreStanding, SameRun}

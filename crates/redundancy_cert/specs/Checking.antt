@@ -1,6 +1,6 @@
 -- What a check of many trees stands on.
-use Rattle.netlist.specs.Holds.{Holds}
-use Rattle.netlist.specs.Netlist.{Netlist}
+use Rattle.statement.specs.Patterns.{Holds}
+use Rattle.statement.specs.Netlists.{Netlist}
 
 pub record Checking : Type 0 where
   pub netlist : Netlist

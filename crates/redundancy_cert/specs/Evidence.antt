@@ -1,11 +1,10 @@
 -- What a search answers: each answer is its own evidence.
 use Rattle.std.specs.Prelude.{ℕ, ◌≡◌, ◌≤◌}
-use Rattle.netlist.specs.declared.lines.Fault.{Fault}
-use Rattle.netlist.specs.declared.lines.Point.{Point}
-use Rattle.netlist.specs.Netlist.{Netlist}
-use Rattle.netlist.specs.Holds.{Holds}
-use Rattle.netlist.specs.Detection.{Detects}
-use Rattle.cubes.specs.Cubes.{Cube, Pattern, AgreesWith, IsCubeOf}
+use Rattle.statement.specs.declared.lines.Fault.{Fault}
+use Rattle.statement.specs.declared.lines.Point.{Point}
+use Rattle.statement.specs.Netlists.{Netlist}
+use Rattle.statement.specs.Patterns.{Holds, Detects, Pattern}
+use Rattle.cubes.specs.Cubes.{Cube, AgreesWith, IsCubeOf}
 use Rattle.redundancy_cert.specs.declared.engine.Found.{Found}
 use Rattle.redundancy_cert.specs.declared.engine.Found.TheVariants.{Test, Closed as Complete, Partial}
 use Rattle.redundancy_cert.specs.Trees.{closed_count, open_count}

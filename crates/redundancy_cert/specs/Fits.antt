@@ -1,9 +1,9 @@
 -- When a tree fits a fault: it is then evidence that no pattern below its Closed nodes detects the fault.
 use Rattle.std.specs.Prelude.{ℕ, ◌≡◌, ⊤, not, List, [], ◌∷◌, take, slice_get, Some}
 use Rattle.std.specs.List.{All}
-use Rattle.netlist.specs.declared.lines.Fault.{Fault}
-use Rattle.netlist.specs.Netlist.{Netlist}
-use Rattle.netlist.specs.Holds.{Holds}
+use Rattle.statement.specs.declared.lines.Fault.{Fault}
+use Rattle.statement.specs.Netlists.{Netlist}
+use Rattle.statement.specs.Patterns.{Holds}
 use Rattle.tri.specs.Paths.{Path, IsClosedPath, IsUnknown}
 use Rattle.redundancy_cert.specs.declared.nodes.Node.{Node}
 use Rattle.redundancy_cert.specs.declared.nodes.Node.TheVariants.{Closed, Open, Split, Forced}

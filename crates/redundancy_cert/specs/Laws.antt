@@ -1,8 +1,8 @@
 -- The law of trees, the contract of a function of its name.
 use Rattle.std.specs.Prelude.{◌≡◌, List}
-use Rattle.netlist.specs.declared.lines.Fault.{Fault}
-use Rattle.netlist.specs.Netlist.{Netlist}
-use Rattle.netlist.specs.Holds.{Holds}
+use Rattle.statement.specs.declared.lines.Fault.{Fault}
+use Rattle.statement.specs.Netlists.{Netlist}
+use Rattle.statement.specs.Patterns.{Holds}
 use Rattle.netlist.specs.Conditions.{IsSound}
 use Rattle.netlist.specs.Detection.{IsRedundant}
 use Rattle.redundancy_cert.specs.declared.nodes.Node.{Node}

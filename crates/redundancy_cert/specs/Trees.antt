@@ -1,7 +1,7 @@
 -- Trees of decisions. (The decision tree of an implicit enumeration: Goel, An implicit enumeration algorithm to generate tests
 -- for combinational logic circuits, 1981.)
 use Rattle.std.specs.Prelude.{ℕ, ◌≡◌, ◌+◌, Bool, true, false, List, [], ◌∷◌, ◌++◌}
-use Rattle.netlist.specs.Netlist.{Netlist, signals}
+use Rattle.statement.specs.Netlists.{Netlist, signals}
 use Rattle.std.specs.List.{Contains}
 use Rattle.tri.specs.Paths.{Path}
 use Rattle.redundancy_cert.specs.declared.nodes.Node.{Node}

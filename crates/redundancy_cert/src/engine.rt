@@ -22,9 +22,9 @@ pub enum Found {
 
 /// A search for tests.
 pub trait Engine {
-    ghost use Rattle.netlist.specs.Netlist.{Netlist};
-    ghost use Rattle.netlist.specs.Holds.{Holds};
-    ghost use Rattle.netlist.specs.declared.lines.Fault.{Fault};
+    ghost use Rattle.statement.specs.Netlists.{Netlist};
+    ghost use Rattle.statement.specs.Patterns.{Holds};
+    ghost use Rattle.statement.specs.declared.lines.Fault.{Fault};
     ghost use Rattle.redundancy_cert.specs.declared.engine.Found.{Found};
 
     /// What a search may keep for the next one: tables, labels, stacks. No evidence rests on it.

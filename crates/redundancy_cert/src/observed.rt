@@ -1,7 +1,7 @@
 //! The signals that are observed: those that an output or a cell's pin reads.
 ghost use Rattle.std.specs.Prelude.{◌≡◌, length, IfOk};
 ghost use Rattle.std.specs.List.{flat_map};
-ghost use Rattle.netlist.specs.Netlist.{Definition as Equation, cells, signals};
+ghost use Rattle.statement.specs.Netlists.{Definition as Equation, cells, signals};
 ghost use Rattle.redundancy_cert.specs.inner.Passing.{AreObserved, Marks};
 
 use netlist::Core;

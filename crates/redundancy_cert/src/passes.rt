@@ -2,17 +2,16 @@
 ghost use Rattle.std.specs.Prelude.{◌≡◌, ◌<◌, [], None, Some, length, slice_index_or, slice_set, IfOk};
 ghost use Rattle.std.specs.Bool.{MatchBool};
 ghost use Rattle.std.specs.List.{Contains};
-ghost use Rattle.netlist.specs.declared.lines.Fault.{Fault as FaultOf};
+ghost use Rattle.statement.specs.declared.lines.Fault.{Fault as FaultOf};
 ghost use Rattle.netlist.specs.Holds.{AreHoldsOf};
 ghost use Rattle.netlist.specs.Lines.{IsLineOf, IsFaultOf};
-ghost use Rattle.netlist.specs.Netlist.{signals};
-ghost use Rattle.tri.specs.Labels.{held_value, source_label};
+ghost use Rattle.statement.specs.Netlists.{signals};
+ghost use Rattle.tri.specs.Labels.{held_value, source_label, IsUnobserved};
 ghost use Rattle.tri.specs.Labelling.{decided_in};
 ghost use Rattle.tri.specs.Paths.{Path, decisions, IsClosedPath, IsUnknown};
 ghost use Rattle.redundancy_cert.specs.inner.Tallies.{count_pairs, shows, contradicts};
 ghost use Rattle.redundancy_cert.specs.inner.Passing.{AreStanding, IsResettled, IsStart, no_label};
 ghost use Rattle.netlist.specs.Settled.{at};
-ghost use Rattle.tri.specs.Labels.{IsUnobserved};
 ghost use Rattle.label_events.specs.Lines.{AgreeOnOtherLines};
 
 use crate::observed::observed_marks;

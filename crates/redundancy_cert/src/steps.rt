@@ -2,7 +2,7 @@
 ghost use Rattle.std.specs.Prelude.{◌≡◌, ◌<◌, [], ◌∷◌, ◌++◌, None, Some, not, length, IsTrue, OnOk, IfOk};
 ghost use Rattle.std.specs.Bool.{MatchBool};
 ghost use Rattle.netlist.specs.Lines.{IsLineOf};
-ghost use Rattle.netlist.specs.Netlist.{signals};
+ghost use Rattle.statement.specs.Netlists.{signals};
 ghost use Rattle.tri.specs.Paths.{decisions, IsClosedPath};
 ghost use Rattle.redundancy_cert.specs.Trees.{DecidesSignal};
 ghost use Rattle.redundancy_cert.specs.Fits.{NodeFits};

@@ -6,9 +6,9 @@ use Rattle.std.proofs.lemmas.Bool.{cases_eq, ne_eqb, eqb-false, leb-false, lt-le
 use Rattle.std.proofs.lemmas.List.{length-map, get_or_default}
 use Rattle.std.proofs.lemmas.List.Elements.{All-contains, Contains-get_or}
 use Rattle.netlist.specs.Conditions.{IsSound}
-use Rattle.netlist.specs.Gates.{gate_bit, allows_pins}
-use Rattle.netlist.specs.Netlist.{Definition, Netlist, gates, signals}
-use Rattle.netlist.specs.Settled.{Rule, Settles, bits, on_pins, pins_of}
+use Rattle.statement.specs.Values.{gate_bit, Rule, Settles, bits, on_pins, pins_of}
+use Rattle.netlist.specs.Gates.{allows_pins}
+use Rattle.statement.specs.Netlists.{Definition, Netlist, gates, signals}
 use Rattle.netlist.proofs.Lists.{All-from_contains, map_agree, decides_beq}
 use Rattle.netlist.proofs.Placed.{definition_below, gate_defined, signal_from}
 use Rattle.regions.specs.Turned.{turned, turned_bits}

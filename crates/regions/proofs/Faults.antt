@@ -5,17 +5,17 @@ use Rattle.std.specs.List.{Contains, flat_map, slice_get}
 use Rattle.std.proofs.lemmas.Bool.{cases_Bool, eq-eqb, ne_eqb}
 use Rattle.std.proofs.lemmas.List.{length-map, get_or-map}
 use Rattle.std.proofs.lemmas.List.Elements.{All-contains}
-use Rattle.netlist.specs.declared.lines.Line.{Line}
-use Rattle.netlist.specs.declared.lines.Line.TheVariants.{Stem, Pin, Out}
-use Rattle.netlist.specs.declared.lines.Fault.{Fault}
-use Rattle.netlist.specs.declared.lines.Point.{Point}
-use Rattle.netlist.specs.declared.lines.Point.TheVariants.{Output, Cell}
+use Rattle.statement.specs.declared.lines.Line.{Line}
+use Rattle.statement.specs.declared.lines.Line.TheVariants.{Stem, Pin, Out}
+use Rattle.statement.specs.declared.lines.Fault.{Fault}
+use Rattle.statement.specs.declared.lines.Point.{Point}
+use Rattle.statement.specs.declared.lines.Point.TheVariants.{Output, Cell}
 use Rattle.netlist.specs.Conditions.{IsSound}
-use Rattle.netlist.specs.Detection.{Detects, observed}
-use Rattle.netlist.specs.Gates.{gate_bit, allows_pins}
+use Rattle.statement.specs.Patterns.{Detects, observed}
+use Rattle.statement.specs.Values.{gate_bit, Rule, Settles, bits, bit_table, is_line, on_pins, pins_of, outs, next}
+use Rattle.netlist.specs.Gates.{allows_pins}
 use Rattle.netlist.specs.Lines.{IsLineOf, signal_of}
-use Rattle.netlist.specs.Netlist.{Definition, Netlist, is_cell, cells, signals}
-use Rattle.netlist.specs.Settled.{Rule, Settles, bits, bit_table, is_line, on_pins, pins_of, outs, next}
+use Rattle.statement.specs.Netlists.{Definition, Netlist, is_cell, cells, signals}
 use Rattle.netlist.proofs.Lists.{All-from_contains, map_agree, decides_beq, contains_filter, contains_head, contains_tail}
 use Rattle.netlist.proofs.Alike.{settles_once}
 use Rattle.netlist.proofs.Placed.{gate_defined}

@@ -2,9 +2,10 @@
 use Rattle.std.proofs.Common.{◌≡◌, ℕ, zero, suc, ◌<◌, Bool, true, false, not, ◌&&◌, ◌||◌, cond, List, [], ◌∷◌, length, refl, sym, ◌∙◌, ap, arith}
 use Rattle.std.specs.List.{list_all}
 use Rattle.std.proofs.lemmas.Bool.{eqb-true}
-use Rattle.netlist.specs.declared.kinds.Kind.{Kind}
-use Rattle.netlist.specs.declared.kinds.Kind.TheVariants.{And, Nand, Or, Nor, Xor, Xnor, Not, Buff, Dff, Const0, Const1}
-use Rattle.netlist.specs.Gates.{conjunction, disjunction, parity, only, gate_bit, allows_pins}
+use Rattle.statement.specs.declared.kinds.Kind.{Kind}
+use Rattle.statement.specs.declared.kinds.Kind.TheVariants.{And, Nand, Or, Nor, Xor, Xnor, Not, Buff, Dff, Const0, Const1}
+use Rattle.statement.specs.Values.{conjunction, disjunction, parity, only, gate_bit}
+use Rattle.netlist.specs.Gates.{allows_pins}
 use Rattle.regions.specs.Turned.{turned}
 use Rattle.regions.specs.Sensitized.{is_noncontrolling, sides}
 

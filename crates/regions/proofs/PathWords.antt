@@ -3,8 +3,8 @@ use Rattle.std.proofs.Common.{◌≡◌, ℕ, zero, suc, ◌+◌, ◌<◌, ◌�
 use Rattle.std.specs.List.{All, Contains, list_all}
 use Rattle.std.proofs.lemmas.Bool.{cases_eq, not_from_false}
 use Rattle.std.proofs.lemmas.List.{take-append-drop, take_more, map-append, length-map, length-take-le, get_or_default, length-set, get_or-set_same, get_or-set_other}
-use Rattle.netlist.specs.declared.kinds.Kind.{Kind}
-use Rattle.netlist.specs.declared.lines.Line.TheVariants.{Stem, Pin}
+use Rattle.statement.specs.declared.kinds.Kind.{Kind}
+use Rattle.statement.specs.declared.lines.Line.TheVariants.{Stem, Pin}
 use Rattle.netlist.specs.Conditions.{IsSound}
 use Rattle.netlist.specs.Lines.{IsLineOf}
 use Rattle.netlist.proofs.Lists.{All-from_contains, filter_contains}
@@ -12,7 +12,8 @@ use Rattle.netlist.specs.Orders.{IsOrder}
 use Rattle.netlist.proofs.Orders.{definition_high}
 use Rattle.netlist.proofs.Placed.{same_definition, gate_defined, definition_below, signal_below}
 use Rattle.regions.proofs.Changing.{pin_signal}
-use Rattle.netlist.specs.Netlist.{Definition, Netlist, is_cell, is_gate, is_flip_flop, gates, signals, IsGateAt}
+use Rattle.statement.specs.Netlists.{Definition, Netlist, is_cell, is_flip_flop, gates, signals}
+use Rattle.netlist.specs.Netlist.{is_gate, IsGateAt}
 use Rattle.netlist.specs.Settled.{at}
 use Rattle.events.specs.Words.{bit_of, ones}
 use Rattle.events.proofs.WordBits.{bit_none, bit_of_and, bit_of_xor, bit_ones}

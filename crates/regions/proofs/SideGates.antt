@@ -2,10 +2,11 @@
 use Rattle.std.proofs.Common.{◌≡◌, ℕ, ◌+◌, ◌<◌, List, [], ◌∷◌, map, length, get_or, refl, sym, ◌∙◌, ap}
 use Rattle.std.specs.List.{All}
 use Rattle.std.proofs.lemmas.List.{get_or_default}
-use Rattle.netlist.specs.declared.kinds.Kind.{Kind}
-use Rattle.netlist.specs.declared.lines.Line.TheVariants.{Stem}
-use Rattle.netlist.specs.Netlist.{Netlist}
-use Rattle.netlist.specs.Settled.{Settles, on_pins, at}
+use Rattle.statement.specs.declared.kinds.Kind.{Kind}
+use Rattle.statement.specs.declared.lines.Line.TheVariants.{Stem}
+use Rattle.statement.specs.Netlists.{Netlist}
+use Rattle.statement.specs.Values.{Settles, on_pins}
+use Rattle.netlist.specs.Settled.{at}
 use Rattle.netlist.proofs.Lists.{map_agree}
 use Rattle.events.specs.Waiting.{given}
 use Rattle.events.specs.Words.{gate_word}

@@ -5,10 +5,11 @@ use Rattle.std.proofs.Math.ListN.{get_or-map}
 use Rattle.std.proofs.lemmas.Bool.{ne_eqb, or_parts}
 use Rattle.std.proofs.lemmas.List.Elements.{All-contains}
 use Rattle.std.proofs.lemmas.List.Folds.{list_any_none}
-use Rattle.netlist.specs.declared.kinds.Kind.{Kind}
-use Rattle.netlist.specs.declared.lines.Line.TheVariants.{Stem}
-use Rattle.netlist.specs.Netlist.{Definition, Netlist, cells, gates}
-use Rattle.netlist.specs.Settled.{Rule, Settles, on_pins, pins_of, at}
+use Rattle.statement.specs.declared.kinds.Kind.{Kind}
+use Rattle.statement.specs.declared.lines.Line.TheVariants.{Stem}
+use Rattle.statement.specs.Netlists.{Definition, Netlist, cells, gates}
+use Rattle.statement.specs.Values.{Rule, Settles, on_pins, pins_of}
+use Rattle.netlist.specs.Settled.{at}
 use Rattle.netlist.proofs.Lists.{All-from_contains, contains_head, contains_tail, map_agree}
 use Rattle.netlist.proofs.Settling.{zip_kept}
 use Rattle.events.specs.Standing.{SettlesAllAnew}

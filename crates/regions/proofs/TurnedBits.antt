@@ -1,8 +1,8 @@
 -- Words turned over at one stem: their bits, and what a gate makes of its pins.
 use Rattle.std.proofs.Common.{◌≡◌, ℕ, ◌<◌, Bool, true, false, not, cond, List, map, None, refl, sym, ◌∙◌, ap, bit_xor}
-use Rattle.netlist.specs.declared.lines.Line.TheVariants.{Stem}
-use Rattle.netlist.specs.Netlist.{Definition, Netlist}
-use Rattle.netlist.specs.Settled.{Settles, is_line}
+use Rattle.statement.specs.declared.lines.Line.TheVariants.{Stem}
+use Rattle.statement.specs.Netlists.{Definition, Netlist}
+use Rattle.statement.specs.Values.{Settles, is_line}
 use Rattle.regions.specs.Turned.{turned, turned_bits, turned_words}
 use Rattle.events.specs.Waiting.{given}
 use Rattle.events.specs.Words.{gate_word, bit_of, words}

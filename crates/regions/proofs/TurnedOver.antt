@@ -1,9 +1,10 @@
 -- One signal's word turned over: what settled without a fault settles anew.
 use Rattle.std.proofs.Common.{◌≡◌, ◌≢◌, ℕ, ◌+◌, List, [], ◌∷◌, map, None, refl, sym, ◌∙◌, ap, eqb, cond, bit_xor}
 use Rattle.std.proofs.lemmas.Bool.{eqb-false, ne_eqb}
-use Rattle.netlist.specs.declared.lines.Line.TheVariants.{Stem}
-use Rattle.netlist.specs.Netlist.{Definition, Netlist, cells}
-use Rattle.netlist.specs.Settled.{Settles, on_pins, at}
+use Rattle.statement.specs.declared.lines.Line.TheVariants.{Stem}
+use Rattle.statement.specs.Netlists.{Definition, Netlist, cells}
+use Rattle.statement.specs.Values.{Settles, on_pins}
+use Rattle.netlist.specs.Settled.{at}
 use Rattle.netlist.proofs.Settling.{zip_kept}
 use Rattle.events.specs.Standing.{SettlesAnew, SettlesOver}
 use Rattle.regions.specs.Turned.{turned_words}

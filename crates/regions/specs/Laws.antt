@@ -1,12 +1,12 @@
 -- Laws of faults in a fanout-free region, each the contract of a function of its name.
 use Rattle.std.specs.Prelude.{ℕ, ◌≡◌, ◌≢◌, ◌↔◌, Bool, true, List, Some, None, IsTrue}
 use Rattle.netlist.specs.Conditions.{IsSound}
-use Rattle.netlist.specs.Detection.{Detects, observed}
+use Rattle.statement.specs.Patterns.{Detects, observed}
 use Rattle.netlist.specs.Lines.{IsLineOf}
-use Rattle.netlist.specs.Netlist.{Netlist}
-use Rattle.netlist.specs.Settled.{Settles, bits}
-use Rattle.netlist.specs.declared.lines.Fault.{Fault}
-use Rattle.netlist.specs.declared.lines.Point.{Point}
+use Rattle.statement.specs.Netlists.{Netlist}
+use Rattle.statement.specs.Values.{Settles, bits}
+use Rattle.statement.specs.declared.lines.Fault.{Fault}
+use Rattle.statement.specs.declared.lines.Point.{Point}
 use Rattle.regions.specs.Turned.{turned, turned_bits}
 use Rattle.regions.specs.Regions.{GatePin, IsLinePath}
 use Rattle.regions.specs.Sensitized.{reaches}

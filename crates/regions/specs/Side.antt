@@ -1,7 +1,7 @@
 -- Four words side by side, where in each lane the stem of one signal turns its word over.
 use Rattle.std.specs.Prelude.{ℕ, ◌≡◌, List, [], ◌∷◌, None, map}
-use Rattle.netlist.specs.Netlist.{Netlist}
-use Rattle.netlist.specs.Settled.{Rule, Settles}
+use Rattle.statement.specs.Netlists.{Netlist}
+use Rattle.statement.specs.Values.{Rule, Settles}
 use Rattle.events.specs.Standing.{SettlesOver}
 use Rattle.events.specs.Words.{gate_word, words}
 use Rattle.regions.specs.Turned.{turned_words}

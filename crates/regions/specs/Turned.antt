@@ -2,10 +2,9 @@
 -- (Parallel-pattern single fault propagation from the head of a fanout-free region: Antreich and Schulz, Accelerated fault simulation and
 -- fault grading in combinational circuits, 1987.)
 use Rattle.std.specs.Prelude.{ℕ, ◌<◌, Bool, not, cond, List, map, bit_xor, if◌then◌else◌}
-use Rattle.netlist.specs.declared.lines.Line.TheVariants.{Stem}
-use Rattle.netlist.specs.Gates.{gate_bit}
-use Rattle.netlist.specs.Netlist.{Netlist}
-use Rattle.netlist.specs.Settled.{Rule, Settles, is_line}
+use Rattle.statement.specs.declared.lines.Line.TheVariants.{Stem}
+use Rattle.statement.specs.Values.{gate_bit, Rule, Settles, is_line}
+use Rattle.statement.specs.Netlists.{Netlist}
 use Rattle.events.specs.Words.{bit_of, gate_word}
 
 -- a bit turned over, or left as it is

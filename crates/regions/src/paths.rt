@@ -2,7 +2,8 @@
 ghost use Rattle.std.specs.Prelude.{◌≡◌, ◌<◌, ◌≤◌, length, IfOk, IfSome};
 ghost use Rattle.std.specs.List.{Contains};
 ghost use Rattle.netlist.specs.Lines.{IsLineOf};
-ghost use Rattle.netlist.specs.Netlist.{signals, IsGateAt};
+ghost use Rattle.statement.specs.Netlists.{signals};
+ghost use Rattle.netlist.specs.Netlist.{IsGateAt};
 ghost use Rattle.netlist.specs.Conditions.{most_signals};
 ghost use Rattle.regions.specs.Paths.{AreClosed, AreOpen, IsReach, IsReachOf};
 ghost use Rattle.regions.specs.inner.Controlled.{AreControlled};

@@ -1,7 +1,7 @@
 //! One signal's word turned over, and what that reaches; and the words of four signals, each in a lane of its own.
 ghost use Rattle.std.specs.Prelude.{ℕ, ◌≡◌, ◌≢◌, ◌<◌, ◌≤◌, ◌+◌, List, length, map, None};
 ghost use Rattle.std.specs.List.{All, AllPairs};
-ghost use Rattle.netlist.specs.Netlist.{signals};
+ghost use Rattle.statement.specs.Netlists.{signals};
 ghost use Rattle.events.specs.Standing.{Moves, SettlesOver};
 ghost use Rattle.regions.specs.Turned.{turned_words};
 ghost use Rattle.regions.specs.Side.{SettlesInLanes, spread, turned_signals};

@@ -4,8 +4,8 @@ use Rattle.std.specs.List.{All, list_all}
 use Rattle.std.proofs.lemmas.Bool.{and_from, and_parts, false≢true, leb-true, ltb-true}
 use Rattle.std.proofs.lemmas.Fmt.{decimal_by_steps}
 use Rattle.std.proofs.lemmas.List.Elements.{All-append, All-cons, All-head, All-nil, All-tail, All-weaker}
-use Rattle.netlist.specs.Names.{is_name_byte}
-use Rattle.fault_universe.specs.Texts.{value_text}
+use Rattle.statement.specs.Netlists.{is_name_byte}
+use Rattle.statement.specs.Faults.{value_text}
 use Rattle.report.specs.Reports.{IsBenchWord}
 
 abbrev pub Above : ℕ → List ℕ → Type 0

@@ -3,7 +3,7 @@ use Rattle.std.proofs.Common.{◌≡◌, ◌≢◌, ℕ, ◌^◌, ◌<◌, List,
 use Rattle.std.specs.List.{All}
 use Rattle.std.proofs.lemmas.List.{append_cancel_left, append_cancel_right}
 use Rattle.plain_text.proofs.Parts.{byte_inside, same_parts}
-use Rattle.fault_universe.specs.Texts.{value_text}
+use Rattle.statement.specs.Faults.{value_text}
 use Rattle.fault_universe.proofs.LineTexts.{same_ends}
 use Rattle.report.specs.Reports.{IsFaultText, IsNamedFault, IsPinFault, IsBenchWord, at_stem, at_output, at_pin}
 use Rattle.report.specs.inner.Faults.{FaultBegins, IsNamed, IsPlaced, NamedBegins, PinBegins, begins_stem, begins_output, begins_pin}

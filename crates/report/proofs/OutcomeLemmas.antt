@@ -5,10 +5,10 @@ use Rattle.std.proofs.Math.Seq.{take-append_seam}
 use Rattle.std.proofs.lemmas.Fmt.{decimal_injective}
 use Rattle.std.proofs.lemmas.List.{append_cancel_left}
 use Rattle.plain_text.proofs.Parts.{byte_inside, same_parts}
-use Rattle.report.specs.Reports.{IsFaultText, IsLine, IsOutcome, IsBenchWord, Line}
-use Rattle.report.specs.Texts.{fault_line, outcome_text}
-use Rattle.report.specs.declared.outcomes.Outcome.{Outcome}
-use Rattle.report.specs.declared.outcomes.Outcome.TheVariants.{Aborted, Detected, Redundant}
+use Rattle.report.specs.Reports.{IsFaultText, IsLine, IsOutcome, IsBenchWord}
+use Rattle.statement.specs.Reports.{Line, fault_line, outcome_text}
+use Rattle.statement.specs.declared.outcomes.Outcome.{Outcome}
+use Rattle.statement.specs.declared.outcomes.Outcome.TheVariants.{Aborted, Detected, Redundant}
 use Rattle.report.specs.inner.Faults.{FaultBegins}
 use Rattle.report.specs.inner.Lines.{fault_words}
 use Rattle.report.proofs.ByteLemmas.{Above, above_append, above_by_test, above_lacks, above_less, number_above, word_above}

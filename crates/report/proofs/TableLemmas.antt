@@ -1,8 +1,9 @@
 -- Lists kept in tables, part by part.
 use Rattle.std.proofs.Common.{◌≡◌, ℕ, zero, suc, Bool, List, [], ◌∷◌, ◌++◌, length, Some, refl, sym, ◌∙◌, ap, arith}
 use Rattle.std.specs.List.{slice_get}
-use Rattle.report.specs.declared.outcomes.Outcome.{Outcome}
-use Rattle.report.specs.Reports.{Line, Hold}
+use Rattle.statement.specs.declared.outcomes.Outcome.{Outcome}
+use Rattle.statement.specs.Reports.{Line}
+use Rattle.report.specs.Reports.{Hold}
 use Rattle.report.specs.inner.Tables.{lines_of, holds_of}
 
 pub lines_length : (fs : List (List ℕ)) (os : List Outcome) (ps : List (List ℕ)) → length fs ≡ length os → length ps ≡ length os

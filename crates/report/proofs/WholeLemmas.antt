@@ -7,8 +7,9 @@ use Rattle.std.proofs.lemmas.List.{append-nil, append_cancel_left}
 use Rattle.std.proofs.lemmas.List.Elements.{All-head}
 use Rattle.report.specs.declared.counts.ReportCounts.{ReportCounts}
 use Rattle.report.specs.Counts.{AreSmallCounts}
-use Rattle.report.specs.Reports.{Hold, IsFaultText, IsLine, IsReport, Line, Report, at_stem, at_output, at_pin}
-use Rattle.report.specs.Texts.{counts_text, fault_line, head, hold_line, outcome_text, report_text, share_line}
+use Rattle.report.specs.Reports.{Hold, IsFaultText, IsLine, IsReport, Report, at_stem, at_output, at_pin}
+use Rattle.statement.specs.Reports.{Line, fault_line, outcome_text}
+use Rattle.report.specs.Texts.{counts_text, head, hold_line, report_text, share_line}
 use Rattle.report.specs.inner.Lines.{Begins, IsHold, IsShare, NoneBegins, hold_words, fault_words, some_held, version_line}
 use Rattle.report.proofs.HoldLemmas.{hold_lined, hold_told}
 use Rattle.report.proofs.LineLemmas.{nothing_begins, same_lines}

@@ -1,18 +1,13 @@
 -- Reports: what is said of each fault, and the numbers above it.
 use Rattle.std.specs.Prelude.{ℕ, ◌≡◌, ◌<◌, ◌^◌, ◌/◌, ◌++◌, Bool, List, [], codes, decimal, length, IsTrue}
 use Rattle.std.specs.List.{All}
-use Rattle.netlist.specs.Names.{is_name_byte}
-use Rattle.fault_universe.specs.Texts.{value_text}
+use Rattle.statement.specs.Reports.{Line}
+use Rattle.statement.specs.Netlists.{is_name_byte}
+use Rattle.statement.specs.Faults.{value_text}
 use Rattle.report.specs.declared.counts.ReportCounts.{ReportCounts}
-use Rattle.report.specs.declared.outcomes.Outcome.{Outcome}
-use Rattle.report.specs.declared.outcomes.Outcome.TheVariants.{Detected, Redundant, Aborted}
+use Rattle.statement.specs.declared.outcomes.Outcome.{Outcome}
+use Rattle.statement.specs.declared.outcomes.Outcome.TheVariants.{Detected, Redundant, Aborted}
 use Rattle.report.specs.Counts.{AreSmallCounts}
-
--- A line of a fault: its text, what came of it, and where it is detected the name of the pin.
-pub record Line : Type 0 where
-  pub fault : List ℕ
-  pub outcome : Outcome
-  pub pin : List ℕ
 
 -- an input that is held, and its bit
 pub record Hold : Type 0 where

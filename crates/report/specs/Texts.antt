@@ -2,10 +2,9 @@
 use Rattle.std.specs.Prelude.{ℕ, ◌/◌, ◌%◌, if◌then◌else◌, List, [], ◌∷◌, ◌++◌, codes, decimal}
 use Rattle.std.specs.List.{flat_map}
 use Rattle.report.specs.declared.counts.ReportCounts.{ReportCounts}
-use Rattle.report.specs.declared.outcomes.Outcome.{Outcome}
-use Rattle.report.specs.declared.outcomes.Outcome.TheVariants.{Detected, Redundant, Aborted}
 use Rattle.report.specs.Counts.{worded}
-use Rattle.report.specs.Reports.{Line, Hold, Report}
+use Rattle.statement.specs.Reports.{fault_line}
+use Rattle.report.specs.Reports.{Hold, Report}
 
 -- `inputs 5`
 abbrev pub count_line : List ℕ → ℕ → List ℕ
@@ -22,15 +21,6 @@ share_line word share = word ++ (hundredths share ++ codes "\n")
 -- `hold a 1`
 abbrev pub hold_line : Hold → List ℕ
 hold_line h = codes "hold " ++ (h.name ++ (if h.bit then codes " 1\n" else codes " 0\n"))
-
-abbrev pub outcome_text : Outcome → List ℕ → List ℕ
-outcome_text (Detected pattern cycle) pin = codes " detected " ++ (decimal pattern ++ (codes " " ++ (decimal cycle ++ (codes " " ++ pin))))
-outcome_text Redundant pin = codes " redundant"
-outcome_text Aborted pin = codes " aborted"
-
--- `stem a/0 detected 1 1 y`
-abbrev pub fault_line : Line → List ℕ
-fault_line l = l.fault ++ (outcome_text l.outcome l.pin ++ codes "\n")
 
 -- The second version is written exactly where an input is held.
 abbrev pub head : List Hold → List ℕ

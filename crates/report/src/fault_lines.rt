@@ -1,8 +1,8 @@
 //! The lines of faults, each part in one table.
 ghost use Rattle.std.specs.Prelude.{◌≡◌, ◌<◌, ◌++◌, ◌∷◌, [], length, IfOk, slice_get, Some};
 
-use crate::outcomes::Outcome;
 use netlist::NameTable;
+use statement::Outcome;
 use std::alloc::{AllocError, Global};
 use std::marker::Model;
 
@@ -16,7 +16,7 @@ pub struct FaultLines {
 
 impl Model for FaultLines {
     ghost use Rattle.std.specs.Prelude.{◌≡◌, List, length};
-    ghost use Rattle.report.specs.Reports.{Line};
+    ghost use Rattle.statement.specs.Reports.{Line};
     ghost use Rattle.report.specs.inner.Tables.{lines_of};
 
     ghost Value = { List Line };

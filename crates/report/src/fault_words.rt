@@ -1,15 +1,15 @@
 //! The line of a fault, word by word.
 ghost use Rattle.std.specs.Prelude.{◌≡◌, ◌≢◌, ◌<◌, ◌^◌, ◌++◌, ◌∷◌, ◌↔◌, ℕ, List, IsTrue, MatchOption, codes, decimal};
-ghost use Rattle.report.specs.Reports.{Line, IsLine, IsOutcome, IsBenchWord};
-ghost use Rattle.report.specs.Texts.{outcome_text};
-ghost use Rattle.report.specs.declared.outcomes.Outcome.{Outcome};
+ghost use Rattle.statement.specs.Reports.{Line, outcome_text};
+ghost use Rattle.report.specs.Reports.{IsLine, IsOutcome, IsBenchWord};
+ghost use Rattle.statement.specs.declared.outcomes.Outcome.{Outcome};
 ghost use Rattle.report.specs.inner.Faults.{IsNamed, IsPlaced, NamedBegins, PinBegins, FaultBegins};
 ghost use Rattle.report.specs.inner.Lines.{fault_words};
 
 use crate::fault_lines::FaultLine;
-use crate::outcomes::Outcome;
 use crate::pieces::{before_value, behind, is_word};
 use plain_text::{number, split_at};
+use statement::Outcome;
 
 /// `x/0`
 fn is_named(text: &[u8]) -> bool

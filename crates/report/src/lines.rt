@@ -1,9 +1,9 @@
 //! The lines of a report, each at the front of a text.
 ghost use Rattle.std.specs.Prelude.{◌≡◌, ◌≢◌, ◌<◌, ◌+◌, ◌/◌, ◌^◌, ◌++◌, ◌∷◌, [], ◌%◌, ℕ, Bool, List, MatchOption};
-ghost use Rattle.report.specs.Reports.{IsLine};
-ghost use Rattle.report.specs.Texts.{count_line, hundredths, share_line, hold_line, fault_line};
+ghost use Rattle.report.specs.Reports.{IsLine, Hold};
+ghost use Rattle.report.specs.Texts.{count_line, hundredths, share_line, hold_line};
+ghost use Rattle.statement.specs.Reports.{fault_line};
 ghost use Rattle.report.specs.inner.Lines.{Begins, NoneBegins, IsCount, IsShare, IsHold, count_end, share_end, hold_words, version_line};
-ghost use Rattle.report.specs.Reports.{Hold};
 
 use crate::fault_lines::FaultLine;
 use crate::fault_words::fault_in;

@@ -1,8 +1,8 @@
 //! Pieces of a line.
 ghost use Rattle.std.specs.Prelude.{◌≡◌, ◌≢◌, ◌<◌, ◌+◌, ◌^◌, ◌++◌, ◌↔◌, ℕ, Bool, List, IsTrue, MatchOption};
 ghost use Rattle.std.specs.List.{list_all};
-ghost use Rattle.netlist.specs.Names.{is_name_byte};
-ghost use Rattle.fault_universe.specs.Texts.{value_text};
+ghost use Rattle.statement.specs.Netlists.{is_name_byte};
+ghost use Rattle.statement.specs.Faults.{value_text};
 ghost use Rattle.report.specs.Reports.{IsBenchWord};
 ghost use Rattle.report.specs.inner.Lines.{bit_text};
 

@@ -3,8 +3,9 @@ ghost use Rattle.std.specs.Prelude.{◌≡◌, ◌≢◌, ◌<◌, ◌++◌, Lis
 ghost use Rattle.std.specs.List.{All, flat_map};
 ghost use Rattle.report.specs.Counts.{AreSmallCounts};
 ghost use Rattle.report.specs.Reading.{IsReportRead};
-ghost use Rattle.report.specs.Reports.{Hold, Line, Report as Kept, IsLine, IsReport};
-ghost use Rattle.report.specs.Texts.{counts_text, hold_line, fault_line, report_text};
+ghost use Rattle.report.specs.Reports.{Hold, Report as Kept, IsLine, IsReport};
+ghost use Rattle.statement.specs.Reports.{Line, fault_line};
+ghost use Rattle.report.specs.Texts.{counts_text, hold_line, report_text};
 ghost use Rattle.report.specs.inner.Lines.{Begins, NoneBegins, IsHold, some_held};
 
 use crate::counts::{COUNTS, ReportCounts, count_word};

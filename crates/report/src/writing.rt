@@ -1,15 +1,16 @@
 //! Reports as text.
 ghost use Rattle.std.specs.Prelude.{◌≡◌, ◌<◌, ◌≤◌, ◌^◌, ◌/◌, ◌++◌, decimal, IfOk, OnOk};
 ghost use Rattle.std.specs.List.{flat_map};
-ghost use Rattle.report.specs.Texts.{count_line, counts_text, hundredths, share_line, hold_line, outcome_text, fault_line, head, report_text};
+ghost use Rattle.report.specs.Texts.{count_line, counts_text, hundredths, share_line, hold_line, head, report_text};
+ghost use Rattle.statement.specs.Reports.{outcome_text, fault_line};
 
 use crate::counts::{ReportCounts, count_word};
 use crate::fault_lines::FaultLines;
 use crate::hold_lines::HoldLines;
-use crate::outcomes::Outcome;
 use crate::reports::Report;
 use itoa::Buffer;
 use netlist::NoMemory;
+use statement::Outcome;
 use std::alloc::{AllocError, Global};
 
 fn push(out: &mut Vec<u8>, text: &[u8]) -> Result<(), AllocError>

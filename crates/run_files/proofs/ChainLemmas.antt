@@ -1,6 +1,6 @@
 -- The report says as many chains as were made: by that number they are made again.
 use Rattle.std.proofs.Common.{◌≡◌, ℕ, ◌<◌, ◌≤◌, min, List, length, sym, ◌∙◌, ap, arith}
-use Rattle.netlist.specs.Netlist.{Netlist, cells, is_cell}
+use Rattle.statement.specs.Netlists.{Netlist, cells, is_cell}
 use Rattle.netlist.specs.Conditions.{IsSound}
 use Rattle.netlist.proofs.Placed.{signals_length}
 use Rattle.scan_insert.specs.Chains.{chains_of, pieces, lengths_of}

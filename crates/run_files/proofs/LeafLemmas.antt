@@ -1,6 +1,6 @@
 -- One tree more.
 use Rattle.std.proofs.Common.{◌≡◌, ℕ, ◌<◌, List, [], ◌∷◌, ◌++◌, length, get_or, refl, sym, ◌∙◌, ap, arith, append_assoc, append-nil}
-use Rattle.netlist.specs.declared.lines.Fault.{Fault}
+use Rattle.statement.specs.declared.lines.Fault.{Fault}
 use Rattle.redundancy_cert.specs.declared.nodes.Node.{Node}
 use Rattle.list_core.specs.declared.verdicts.Verdict.{Verdict}
 use Rattle.run_files.specs.inner.Verdicts.{leaf_at, leaves_of}

@@ -3,16 +3,16 @@ use Rattle.std.proofs.Common.{◌≡◌, ℕ, zero, suc, ◌+◌, ◌<◌, inl, 
 use Rattle.std.specs.List.{slice_get}
 use Rattle.std.proofs.lemmas.Bool.{cases_order}
 use Rattle.std.proofs.lemmas.Option.{get_or_from_slice_get, slice_get-get_or}
-use Rattle.netlist.specs.declared.lines.Line.{Line as LineOf}
-use Rattle.netlist.specs.declared.lines.Line.TheVariants.{Stem, Pin, Out}
-use Rattle.netlist.specs.declared.lines.Fault.{Fault}
-use Rattle.netlist.specs.Netlist.{Netlist, name_of, signals}
+use Rattle.statement.specs.declared.lines.Line.{Line as LineOf}
+use Rattle.statement.specs.declared.lines.Line.TheVariants.{Stem, Pin, Out}
+use Rattle.statement.specs.declared.lines.Fault.{Fault}
+use Rattle.statement.specs.Netlists.{Netlist, name_of, signals}
 use Rattle.netlist.specs.Conditions.{IsSound}
 use Rattle.netlist.specs.Lines.{IsLineOf as IsNetlistLine, signal_of}
 use Rattle.netlist.proofs.WellFormed.{few_pins_of, names_counted}
-use Rattle.fault_universe.specs.Texts.{fault_text, line_text, value_text}
-use Rattle.fault_universe.specs.Universe.{universe_of}
-use Rattle.report.specs.Reports.{IsFaultText, at_stem, at_pin, at_output, Line}
+use Rattle.statement.specs.Faults.{fault_text, line_text, value_text, universe_of}
+use Rattle.report.specs.Reports.{IsFaultText, at_stem, at_pin, at_output}
+use Rattle.statement.specs.Reports.{Line}
 use Rattle.run_report.proofs.WordLemmas.{name_word}
 use Rattle.list_core.specs.declared.verdicts.Verdict.{Verdict}
 use Rattle.list_core.specs.declared.verdicts.Verdict.TheVariants.{Open}

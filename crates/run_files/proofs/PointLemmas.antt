@@ -4,16 +4,15 @@ use Rattle.std.specs.List.{All, Contains, slice_get}
 use Rattle.std.proofs.lemmas.List.Elements.{All-append, All-nil, All-cons, All-from_get_or, All-weaker}
 use Rattle.std.proofs.lemmas.Option.{slice_get-get_or, slice_get_within}
 use Rattle.netlist.proofs.Lists.{All-from_contains}
-use Rattle.netlist.specs.declared.lines.Line.TheVariants.{Stem}
-use Rattle.netlist.specs.declared.lines.Fault.{Fault}
-use Rattle.netlist.specs.Netlist.{Netlist}
+use Rattle.statement.specs.declared.lines.Line.TheVariants.{Stem}
+use Rattle.statement.specs.declared.lines.Fault.{Fault}
+use Rattle.statement.specs.Netlists.{Netlist}
 use Rattle.netlist.specs.Conditions.{IsSound}
-use Rattle.netlist.specs.Holds.{Holds}
+use Rattle.statement.specs.Patterns.{Holds, Pattern}
 use Rattle.netlist.specs.Lines.{IsLineOf}
-use Rattle.cubes.specs.Cubes.{Pattern}
 use Rattle.fault_universe.specs.Laws.{FaultsHaveLines, FaultsHaveSignals}
 use Rattle.fault_universe.proofs.Elements.{contains_at}
-use Rattle.fault_universe.specs.Universe.{universe_of}
+use Rattle.statement.specs.Faults.{universe_of}
 use Rattle.fault_collapse.specs.Classes.{AreClasses}
 use Rattle.fault_collapse.specs.Numbers.{Classes}
 use Rattle.redundancy_cert.specs.declared.nodes.Node.{Node}
@@ -22,7 +21,8 @@ use Rattle.run_report.proofs.PointLemmas.{point_inside}
 use Rattle.list_core.specs.declared.verdicts.Verdict.{Verdict}
 use Rattle.list_core.specs.declared.verdicts.Verdict.TheVariants.{Open, Detected, Redundant, Aborted}
 use Rattle.list_core.specs.Verdicts.{verdict_at}
-use Rattle.report.specs.Reports.{IsLine, Line}
+use Rattle.report.specs.Reports.{IsLine}
+use Rattle.statement.specs.Reports.{Line}
 use Rattle.run_files.specs.inner.Outcomes.{AreLines}
 use Rattle.run_files.specs.inner.Verdicts.{AreVerdicts, IsInside, IsVerdict, leaf_at, leaves_of}
 use Rattle.run_files.proofs.TreeLemmas.{fitting_named}

@@ -2,9 +2,9 @@
 use Rattle.std.proofs.Common.{ℕ, ◌<◌, Bool, List, [], ◌∷◌, ◌++◌, length, map, Option, Some, None}
 use Rattle.std.specs.List.{All, flat_map, zip}
 use Rattle.std.proofs.lemmas.List.Elements.{All-nil, All-cons, All-head, All-tail, Contains-append_left}
-use Rattle.netlist.specs.Netlist.{Definition, Netlist, name_of}
+use Rattle.statement.specs.Netlists.{Definition, Netlist, name_of}
 use Rattle.netlist.specs.Conditions.{IsSound}
-use Rattle.netlist.specs.Holds.{Holds}
+use Rattle.statement.specs.Patterns.{Holds}
 use Rattle.netlist.proofs.Lists.{All-from_contains}
 use Rattle.report.specs.Reports.{Hold, IsBenchWord}
 use Rattle.run_report.specs.Heads.{hold_at, holds_named}

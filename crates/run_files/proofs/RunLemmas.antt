@@ -1,20 +1,19 @@
 -- The texts of verdicts are good files.
 use Rattle.std.proofs.Common.{◌≡◌, ◌∙◌, ℕ, Bool, not, false, List, Ok, refl, sym, ap, subst, length, IsTrue}
 use Rattle.std.proofs.lemmas.List.Elements.{All-weaker}
-use Rattle.netlist.specs.declared.lines.Fault.{Fault}
-use Rattle.netlist.specs.Netlist.{Netlist}
+use Rattle.statement.specs.declared.lines.Fault.{Fault}
+use Rattle.statement.specs.Netlists.{Netlist}
 use Rattle.netlist.specs.Conditions.{IsSound}
 use Rattle.netlist.specs.Designs.{IsDesign, is_reserved}
-use Rattle.netlist.specs.Holds.{Holds}
-use Rattle.cubes.specs.Cubes.{Pattern}
+use Rattle.statement.specs.Patterns.{Holds, Pattern}
 use Rattle.bench_text.specs.declared.refusal.Names.TheVariants.{Design}
-use Rattle.bench_text.specs.Canonical.{canonical}
+use Rattle.statement.specs.Benches.{canonical}
 use Rattle.bench_text.specs.Laws.{CanonicalTextIsRead, IsReadable, is_free}
 use Rattle.bench_text.specs.Reading.{IsRead}
 use Rattle.scan_insert.specs.Scanned.{AreChainsOf, scanned_of}
 use Rattle.stil_read.specs.Laws.{WrittenStands}
 use Rattle.stil_read.specs.Reading.{StandsFor}
-use Rattle.stil_patterns.specs.Tests.{IsFileOf}
+use Rattle.statement.specs.Tests.{IsFileOf}
 use Rattle.fault_universe.specs.Laws.{TextsDiffer}
 use Rattle.fault_collapse.specs.Laws.{DetectedAlike}
 use Rattle.fault_collapse.specs.Numbers.{Classes}

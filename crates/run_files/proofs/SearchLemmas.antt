@@ -4,15 +4,14 @@ use Rattle.std.specs.List.{All, slice_get}
 use Rattle.std.proofs.lemmas.Bool.{cases_order}
 use Rattle.std.proofs.lemmas.List.{get_or_append_left, get_or_push}
 use Rattle.std.proofs.lemmas.Option.{slice_get-get_or, slice_get_within}
-use Rattle.netlist.specs.Netlist.{Netlist}
+use Rattle.statement.specs.Netlists.{Netlist}
 use Rattle.netlist.specs.Conditions.{IsSound}
-use Rattle.netlist.specs.Holds.{Holds}
-use Rattle.fault_universe.specs.Universe.{universe_of}
+use Rattle.statement.specs.Patterns.{Holds, Detects, Pattern}
+use Rattle.statement.specs.Faults.{universe_of}
 use Rattle.fault_collapse.specs.Classes.{AreClasses}
 use Rattle.fault_collapse.specs.Numbers.{Classes}
-use Rattle.netlist.specs.declared.lines.Fault.{Fault}
-use Rattle.netlist.specs.Detection.{Detects}
-use Rattle.cubes.specs.Cubes.{Pattern, IsPatternOf}
+use Rattle.statement.specs.declared.lines.Fault.{Fault}
+use Rattle.cubes.specs.Cubes.{IsPatternOf}
 use Rattle.redundancy_cert.specs.Fits.{Fits}
 use Rattle.redundancy_cert.specs.Laws.{ClosedTreeIsRedundant}
 use Rattle.word_sim.specs.Hits.{IsNeverDetected}

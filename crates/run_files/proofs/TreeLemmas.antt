@@ -2,10 +2,10 @@
 use Rattle.std.proofs.Common.{false, true, List, [], ◌∷◌, ◌++◌, subst}
 use Rattle.std.specs.List.{All}
 use Rattle.std.proofs.lemmas.List.Elements.{All-append, All-cons, All-head, All-nil, All-tail}
-use Rattle.netlist.specs.declared.lines.Fault.{Fault}
-use Rattle.netlist.specs.Netlist.{Netlist}
+use Rattle.statement.specs.declared.lines.Fault.{Fault}
+use Rattle.statement.specs.Netlists.{Netlist}
 use Rattle.netlist.specs.Conditions.{IsSound}
-use Rattle.netlist.specs.Holds.{Holds}
+use Rattle.statement.specs.Patterns.{Holds}
 use Rattle.netlist.proofs.Lists.{all_left, all_right}
 use Rattle.netlist.proofs.Placed.{signal_below}
 use Rattle.tri.specs.Paths.{Path}

@@ -1,17 +1,17 @@
 -- What a run makes of a design.
 use Rattle.std.specs.Prelude.{ℕ, ◌≡◌, ◌<◌, List, length}
-use Rattle.netlist.specs.declared.lines.Fault.{Fault}
-use Rattle.netlist.specs.Netlist.{Netlist}
-use Rattle.netlist.specs.Holds.{Holds}
-use Rattle.bench_text.specs.Canonical.{canonical}
-use Rattle.stil_write.specs.StilFiles.{StilFile}
+use Rattle.statement.specs.declared.lines.Fault.{Fault}
+use Rattle.statement.specs.Netlists.{Netlist}
+use Rattle.statement.specs.Patterns.{Holds}
+use Rattle.statement.specs.Benches.{canonical}
+use Rattle.statement.specs.Stils.{StilFile}
 use Rattle.redundancy_cert.specs.declared.nodes.Node.{Node}
 use Rattle.list_core.specs.Kept.{IsNeeded}
 use Rattle.run_files.specs.declared.files.RunFiles.{RunFiles}
-use Rattle.good_files.specs.GoodFiles.{AreGoodFiles, Contents, FiveFiles, chains_said, limit_said}
+use Rattle.good_files.specs.GoodFiles.{AreGoodFiles, Contents, chains_said, limit_said}
+use Rattle.statement.specs.Statement.{FiveFiles, Statement}
 use Rattle.good_files.specs.RunTheorem.{RunTheorem}
 use Rattle.good_files.specs.ScanOff.{design_chains}
-use Rattle.good_files.specs.Statement.{Statement}
 
 abbrev pub files_of : RunFiles → FiveFiles
 files_of f = record { net = f.net.items; scan = f.scan.items; stil = f.stil.items; certificate = f.certificate.items; report = f.report.items }

@@ -1,11 +1,11 @@
 //! A line for each fault, by its class's verdict.
 ghost use Rattle.std.specs.Prelude.{◌≡◌, ◌<◌, ⊤, IfOk, length, map, slice_index};
 ghost use Rattle.std.specs.List.{All};
-ghost use Rattle.netlist.specs.Netlist.{signals};
+ghost use Rattle.statement.specs.Netlists.{signals};
 ghost use Rattle.netlist.specs.Lines.{IsLineOf, signal_of};
-ghost use Rattle.scan_insert.specs.Names.{output_name};
+ghost use Rattle.statement.specs.Runs.{output_name};
 ghost use Rattle.scan_insert.specs.Scanned.{AreChainsOf, scanned_of};
-ghost use Rattle.fault_universe.specs.Universe.{universe_of};
+ghost use Rattle.statement.specs.Faults.{universe_of};
 ghost use Rattle.report.specs.Reports.{IsOutcome, IsBenchWord};
 ghost use Rattle.run_files.specs.inner.Outcomes.{AreLines, IsAdded, IsOutcomeOf};
 ghost use Rattle.run_files.specs.inner.Verdicts.{IsInside};

@@ -3,7 +3,7 @@ ghost use Rattle.std.specs.Prelude.{◌≡◌, ◌+◌, ◌<◌, ◌≤◌, ◌^
 ghost use Rattle.std.specs.List.{All};
 ghost use Rattle.netlist.specs.Holds.{AreHoldsOf};
 ghost use Rattle.scan_insert.specs.Scanned.{AreChainsOf};
-ghost use Rattle.fault_universe.specs.Universe.{universe_of};
+ghost use Rattle.statement.specs.Faults.{universe_of};
 ghost use Rattle.report.specs.Reports.{IsLine};
 ghost use Rattle.run_report.specs.Heads.{count_of, counts_of, one_if_detected, holds_named, one_if_redundant, share_of};
 ghost use Rattle.run_files.specs.inner.Reports.{IsReported};

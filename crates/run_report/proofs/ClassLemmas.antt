@@ -2,19 +2,20 @@
 use Rattle.std.proofs.Common.{◌≡◌, ℕ, ◌<◌, List, [], ◌∷◌, ◌++◌, length, map, get_or, Some, refl, sym, ◌∙◌, ap, arith, length-append}
 use Rattle.std.specs.List.{flat_map, slice_get}
 use Rattle.std.proofs.lemmas.Option.{get_or_from_slice_get, slice_get_within}
-use Rattle.netlist.specs.declared.lines.Fault.{Fault}
-use Rattle.netlist.specs.declared.lines.Point.{Point}
-use Rattle.netlist.specs.Netlist.{Definition, Netlist, signals}
+use Rattle.statement.specs.declared.lines.Fault.{Fault}
+use Rattle.statement.specs.declared.lines.Point.{Point}
+use Rattle.statement.specs.Netlists.{Definition, Netlist, signals}
 use Rattle.netlist.specs.Conditions.{IsSound}
-use Rattle.cubes.specs.Cubes.{Pattern}
+use Rattle.statement.specs.Patterns.{Pattern, IsDetectedAt, IsLastDetected}
 use Rattle.fault_universe.specs.Laws.{TextsDiffer}
-use Rattle.fault_universe.specs.Universe.{all_lines, lines_of, universe_of}
+use Rattle.fault_universe.specs.Universe.{all_lines}
+use Rattle.statement.specs.Faults.{lines_of, universe_of}
 use Rattle.fault_universe.proofs.FaultLists.{length-faults}
 use Rattle.fault_collapse.specs.Classes.{AreClasses, Represents}
 use Rattle.fault_collapse.specs.Joined.{IsEquivalent}
 use Rattle.fault_collapse.specs.Laws.{DetectedAlike}
 use Rattle.fault_collapse.specs.Numbers.{Classes}
-use Rattle.word_sim.specs.Hits.{IsDetectedAt, IsLastDetected, IsNeverDetected}
+use Rattle.word_sim.specs.Hits.{IsNeverDetected}
 
 -- ---- faults
 

@@ -3,12 +3,12 @@ use Rattle.std.proofs.Common.{zero, suc, ◌≡◌, ℕ, ◌+◌, ◌*◌, ◌/�
 use Rattle.std.specs.List.{Contains, slice_get}
 use Rattle.std.proofs.lemmas.List.{length-map}
 use Rattle.std.proofs.lemmas.Option.{slice_get_read}
-use Rattle.netlist.specs.Netlist.{Definition, Netlist, cells}
+use Rattle.statement.specs.Netlists.{Definition, Netlist, cells}
 use Rattle.netlist.specs.Conditions.{IsSound}
-use Rattle.scan_insert.specs.Chains.{cells_of, longest_of, IsAt}
+use Rattle.statement.specs.Tests.{cells_of, longest_of, IsAt, IsUnloadedAt}
 use Rattle.scan_insert.specs.Scanned.{AreChainsOf, cell_ids}
 use Rattle.scan_insert.proofs.Concrete.{are_dealt}
-use Rattle.scan_play.specs.Vectors.{unload_cycle, IsUnloadedAt}
+use Rattle.scan_play.specs.Vectors.{unload_cycle}
 use Rattle.scan_play.proofs.ApplyLemmas.{few_cells}
 use Rattle.scan_play.proofs.Widths.{cells_count}
 use Rattle.run_report.specs.Heads.{share_of}

@@ -4,12 +4,13 @@ use Rattle.std.specs.List.{flat_map, slice_get, zip}
 use Rattle.std.proofs.lemmas.List.{flat_map_more}
 use Rattle.std.proofs.lemmas.List.Filters.{length-filter_both}
 use Rattle.std.proofs.lemmas.Slice.Zip.{length-zip}
-use Rattle.netlist.specs.Netlist.{Netlist, cells, gates, is_cell, is_gate}
+use Rattle.statement.specs.Netlists.{Netlist, cells, gates, is_cell}
+use Rattle.netlist.specs.Netlist.{is_gate}
 use Rattle.std.proofs.lemmas.Option.{get_or_from_slice_get, slice_get_within}
 use Rattle.std.proofs.lemmas.List.Sums.{sum_by_more}
-use Rattle.report.specs.declared.outcomes.Outcome.{Outcome}
-use Rattle.report.specs.declared.outcomes.Outcome.TheVariants.{Detected, Redundant, Aborted}
-use Rattle.report.specs.Reports.{Line}
+use Rattle.statement.specs.declared.outcomes.Outcome.{Outcome}
+use Rattle.statement.specs.declared.outcomes.Outcome.TheVariants.{Detected, Redundant, Aborted}
+use Rattle.statement.specs.Reports.{Line}
 use Rattle.run_report.specs.Heads.{one_if_aborted, count_of, one_if_detected, one_if_redundant}
 
 -- one line more is counted

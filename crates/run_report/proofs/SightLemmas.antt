@@ -3,14 +3,15 @@ use Rattle.std.proofs.Common.{◌≡◌, ℕ, ◌+◌, ◌<◌, List, [], ◌∷
 use Rattle.std.specs.List.{slice_get}
 use Rattle.std.proofs.lemmas.List.{length-map}
 use Rattle.std.proofs.lemmas.Option.{slice_get-map, slice_get_within, slice_get-get_or}
-use Rattle.netlist.specs.declared.lines.Point.{Point}
-use Rattle.netlist.specs.declared.lines.Point.TheVariants.{Output, Cell}
-use Rattle.netlist.specs.Netlist.{Netlist}
+use Rattle.statement.specs.declared.lines.Point.{Point}
+use Rattle.statement.specs.declared.lines.Point.TheVariants.{Output, Cell}
+use Rattle.statement.specs.Netlists.{Netlist}
 use Rattle.netlist.specs.Conditions.{IsSound}
-use Rattle.scan_insert.specs.Names.{output_name, pin_name_of}
+use Rattle.statement.specs.Runs.{output_name}
+use Rattle.scan_insert.specs.Names.{pin_name_of}
 use Rattle.scan_insert.specs.Scanned.{AreChainsOf, naming_of, scanned_of}
 use Rattle.scan_insert.proofs.Concrete.{are_dealt, outs_length}
-use Rattle.scan_play.specs.Vectors.{IsStrobedAt}
+use Rattle.statement.specs.Tests.{IsStrobedAt}
 use Rattle.run_report.specs.Strobes.{IsPointOf}
 
 -- the scanned netlist has an output more for each chain

@@ -2,12 +2,11 @@
 use Rattle.std.proofs.Common.{◌≡◌, ℕ, ◌<◌, true, false, Bool, cond, List, [], ◌∷◌, ◌++◌, length, map, codes, refl, sym, subst, arith, IsTrue, length-append, ◌==◌}
 use Rattle.std.specs.List.{All, Contains, list_any}
 use Rattle.std.proofs.lemmas.List.Elements.{All-nil, All-cons, All-contains, All-get_or, All-head, All-tail}
-use Rattle.netlist.specs.Netlist.{Netlist, name_of, signals}
-use Rattle.netlist.specs.Names.{IsName, is_name_byte}
+use Rattle.statement.specs.Netlists.{Netlist, name_of, signals, IsName, is_name_byte}
 use Rattle.netlist.specs.Conditions.{IsSound}
 use Rattle.netlist.proofs.Lists.{All-from_contains, contains_map}
 use Rattle.report.specs.Reports.{IsBenchWord}
-use Rattle.scan_insert.specs.Names.{output_name}
+use Rattle.statement.specs.Runs.{output_name}
 
 both : {X : Type 0} (P : X → Type 0) (xs ys : List X) → All P xs → All P ys → All P (xs ++ ys)
 both P [] ys h k = k

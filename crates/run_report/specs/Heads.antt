@@ -1,15 +1,16 @@
 -- The numbers of a report, which follow from the netlist, its chains, the backtrack limit, the patterns and the lines.
 use Rattle.std.specs.Prelude.{ℕ, ◌≡◌, ◌+◌, ◌*◌, ◌/◌, List, [], ◌∷◌, length, sum_by, Option, Some, None, Bool}
 use Rattle.std.specs.List.{flat_map, zip}
-use Rattle.netlist.specs.Netlist.{Netlist, cells, gates, name_of}
-use Rattle.netlist.specs.Holds.{Holds}
-use Rattle.scan_insert.specs.Chains.{longest_of}
-use Rattle.fault_universe.specs.Universe.{universe_of}
+use Rattle.statement.specs.Netlists.{Netlist, cells, gates, name_of}
+use Rattle.statement.specs.Patterns.{Holds}
+use Rattle.statement.specs.Tests.{longest_of}
+use Rattle.statement.specs.Faults.{universe_of}
 use Rattle.fault_collapse.specs.Numbers.{Classes}
 use Rattle.report.specs.declared.counts.ReportCounts.{ReportCounts}
-use Rattle.report.specs.declared.outcomes.Outcome.{Outcome}
-use Rattle.report.specs.declared.outcomes.Outcome.TheVariants.{Detected, Redundant, Aborted}
-use Rattle.report.specs.Reports.{Line, Hold, Report}
+use Rattle.statement.specs.declared.outcomes.Outcome.{Outcome}
+use Rattle.statement.specs.declared.outcomes.Outcome.TheVariants.{Detected, Redundant, Aborted}
+use Rattle.statement.specs.Reports.{Line}
+use Rattle.report.specs.Reports.{Hold, Report}
 use Rattle.run_report.specs.Outcomes.{Test}
 
 -- 1 for an outcome of the kind

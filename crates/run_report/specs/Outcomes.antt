@@ -1,25 +1,23 @@
 -- What a report says of faults, and when it is true. (Detected, redundant and aborted faults: Bushnell and Agrawal, Essentials of Electronic Testing.)
 use Rattle.std.specs.Prelude.{ℕ, ◌≡◌, ◌≢◌, ◌≤◌, ◌<◌, ◌⊎◌, List, [], ◌∷◌, length, Some}
 use Rattle.std.specs.List.{slice_get}
-use Rattle.netlist.specs.declared.lines.Fault.{Fault}
-use Rattle.netlist.specs.declared.lines.Point.{Point}
-use Rattle.netlist.specs.Netlist.{Netlist}
-use Rattle.netlist.specs.Holds.{Holds}
-use Rattle.cubes.specs.Cubes.{Pattern}
+use Rattle.statement.specs.declared.lines.Fault.{Fault}
+use Rattle.statement.specs.declared.lines.Point.{Point}
+use Rattle.statement.specs.Netlists.{Netlist}
+use Rattle.statement.specs.Patterns.{Holds, Pattern, IsLastDetected}
 use Rattle.scan_insert.specs.Names.{pin_name_of}
 use Rattle.scan_insert.specs.Scanned.{scanned_of}
-use Rattle.scan_play.specs.Vectors.{IsStrobedAt}
-use Rattle.fault_universe.specs.Texts.{fault_text}
-use Rattle.fault_universe.specs.Universe.{universe_of}
+use Rattle.statement.specs.Tests.{IsStrobedAt}
+use Rattle.statement.specs.Faults.{fault_text, universe_of}
 use Rattle.fault_collapse.specs.Classes.{Represents}
 use Rattle.fault_collapse.specs.Numbers.{Classes}
 use Rattle.redundancy_cert.specs.declared.nodes.Node.{Node}
 use Rattle.redundancy_cert.specs.Trees.{closed_count, open_count}
 use Rattle.redundancy_cert.specs.Fits.{Fits}
-use Rattle.word_sim.specs.Hits.{IsLastDetected, IsNeverDetected}
-use Rattle.report.specs.declared.outcomes.Outcome.{Outcome}
-use Rattle.report.specs.declared.outcomes.Outcome.TheVariants.{Detected, Redundant, Aborted}
-use Rattle.report.specs.Reports.{Line}
+use Rattle.word_sim.specs.Hits.{IsNeverDetected}
+use Rattle.statement.specs.declared.outcomes.Outcome.{Outcome}
+use Rattle.statement.specs.declared.outcomes.Outcome.TheVariants.{Detected, Redundant, Aborted}
+use Rattle.statement.specs.Reports.{Line}
 
 -- A test of a netlist: the inputs that are held, the scan chains, the patterns in their order,
 -- how many closed ends a search might make, and the trees that it left.

@@ -1,8 +1,8 @@
 -- Observed points of a netlist.
 use Rattle.std.specs.Prelude.{◌<◌, length}
-use Rattle.netlist.specs.declared.lines.Point.{Point}
-use Rattle.netlist.specs.declared.lines.Point.TheVariants.{Output, Cell}
-use Rattle.netlist.specs.Netlist.{Netlist, cells}
+use Rattle.statement.specs.declared.lines.Point.{Point}
+use Rattle.statement.specs.declared.lines.Point.TheVariants.{Output, Cell}
+use Rattle.statement.specs.Netlists.{Netlist, cells}
 
 -- one of its outputs, or the pin of one of its cells
 abbrev pub IsPointOf : Netlist → Point → Type 0

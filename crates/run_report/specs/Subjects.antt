@@ -1,7 +1,7 @@
 -- What a report speaks of.
 use Rattle.std.specs.Prelude.{◌≡◌}
-use Rattle.netlist.specs.Netlist.{Netlist}
-use Rattle.fault_universe.specs.Universe.{universe_of}
+use Rattle.statement.specs.Netlists.{Netlist}
+use Rattle.statement.specs.Faults.{universe_of}
 use Rattle.fault_collapse.specs.Classes.{AreClasses}
 use Rattle.run_report.specs.declared.subjects.Subject.{Subject}
 

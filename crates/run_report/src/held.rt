@@ -1,6 +1,6 @@
 //! The held inputs by name.
 ghost use Rattle.std.specs.Prelude.{◌≡◌, ◌<◌, ◌++◌, length, slice_get, Some, IfOk};
-ghost use Rattle.netlist.specs.Netlist.{signals};
+ghost use Rattle.statement.specs.Netlists.{signals};
 ghost use Rattle.netlist.specs.Holds.{AreHoldsOf};
 ghost use Rattle.run_report.specs.Heads.{hold_at, holds_named};
 

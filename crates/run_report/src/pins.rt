@@ -2,7 +2,8 @@
 ghost use Rattle.std.specs.Prelude.{◌≡◌, ◌<◌, ◌++◌, ◌∷◌, [], length, map, IfOk, OnOk};
 ghost use Rattle.std.specs.List.{All};
 ghost use Rattle.report.specs.Reports.{IsBenchWord};
-ghost use Rattle.scan_insert.specs.Names.{output_name, pin_name_of};
+ghost use Rattle.statement.specs.Runs.{output_name};
+ghost use Rattle.scan_insert.specs.Names.{pin_name_of};
 
 use netlist::{NameTable, Netlist, NoMemory};
 use scan_insert::pin_name;

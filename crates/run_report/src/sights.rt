@@ -1,7 +1,7 @@
 //! What the tester sees of a point.
 ghost use Rattle.std.specs.Prelude.{◌≡◌, map};
 ghost use Rattle.std.specs.List.{Contains};
-ghost use Rattle.scan_insert.specs.Names.{output_name};
+ghost use Rattle.statement.specs.Runs.{output_name};
 ghost use Rattle.scan_insert.specs.Scanned.{AreChainsOf, scanned_of};
 ghost use Rattle.run_report.specs.Outcomes.{IsSeenAt};
 ghost use Rattle.run_report.specs.Strobes.{IsPointOf};

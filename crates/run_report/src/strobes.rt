@@ -1,8 +1,8 @@
 //! Where a point is strobed.
 ghost use Rattle.std.specs.Prelude.{◌≡◌, ◌+◌, ◌-◌, ◌*◌, ◌<◌, ◌≤◌, ◌^◌};
-ghost use Rattle.scan_insert.specs.Chains.{longest_of};
+ghost use Rattle.statement.specs.Tests.{longest_of, IsStrobedAt};
 ghost use Rattle.scan_insert.specs.Scanned.{AreChainsOf};
-ghost use Rattle.scan_play.specs.Vectors.{IsStrobedAt, capture_cycle, unload_cycle};
+ghost use Rattle.scan_play.specs.Vectors.{capture_cycle, unload_cycle};
 ghost use Rattle.run_report.specs.Strobes.{IsPointOf};
 
 use netlist::{Netlist, Point};

@@ -5,13 +5,14 @@ use Rattle.std.specs.List.{All, AllZip, Contains, flat_map}
 use Rattle.std.proofs.lemmas.Bool.{not-true}
 use Rattle.std.proofs.lemmas.List.{map-append}
 use Rattle.std.proofs.lemmas.List.Elements.{All-nil, All-cons, All-head, All-tail, All-contains, Contains-append_left}
-use Rattle.netlist.specs.declared.kinds.Kind.TheVariants.{And, Or, Not, Buff}
-use Rattle.netlist.specs.declared.lines.Line.{Line}
-use Rattle.netlist.specs.declared.lines.Line.TheVariants.{Stem, Pin, Out}
-use Rattle.netlist.specs.declared.lines.Fault.{Fault}
-use Rattle.netlist.specs.Netlist.{Definition, Netlist, is_cell, is_gate, cells, gates, signals, IsAcyclic, define}
+use Rattle.statement.specs.declared.kinds.Kind.TheVariants.{And, Or, Not, Buff}
+use Rattle.statement.specs.declared.lines.Line.{Line}
+use Rattle.statement.specs.declared.lines.Line.TheVariants.{Stem, Pin, Out}
+use Rattle.statement.specs.declared.lines.Fault.{Fault}
+use Rattle.statement.specs.Netlists.{Definition, Netlist, is_cell, cells, gates, signals}
+use Rattle.netlist.specs.Netlist.{is_gate, IsAcyclic, define}
 use Rattle.netlist.specs.Conditions.{IsNumbered, IsClosed}
-use Rattle.netlist.specs.Settled.{Table, Settles, stuck, with_fault, on_pins, pins_of, outs, next}
+use Rattle.statement.specs.Values.{Table, Settles, stuck, with_fault, on_pins, pins_of, outs, next}
 use Rattle.netlist.proofs.Lists.{all_right, all_filter, All-from_contains, contains_head, contains_tail, contains_filter, map_agree, map_map}
 use Rattle.netlist.proofs.WellFormed.{one_pin}
 use Rattle.scan_insert.specs.Scan.{Naming, scan_cell, scan_definition, show_last, scanned}

@@ -3,13 +3,15 @@ use Rattle.std.proofs.Common.{◌≡◌, ℕ, suc, zero, ◌+◌, ◌<◌, Bool,
 use Rattle.std.specs.List.{All, Contains, filter, flat_map, zip}
 use Rattle.std.proofs.lemmas.List.{length-map, get_or-map, map-append, take-map}
 use Rattle.std.proofs.lemmas.List.Elements.{All-head, All-tail, All-contains, Contains-append_left, Contains-append_right}
-use Rattle.netlist.specs.declared.kinds.Kind.TheVariants.{And, Or, Not, Buff, Dff}
-use Rattle.netlist.specs.Netlist.{Definition, Netlist, is_cell, is_gate, cells, name_of, signals, define}
+use Rattle.statement.specs.declared.kinds.Kind.TheVariants.{And, Or, Not, Buff, Dff}
+use Rattle.statement.specs.Netlists.{Definition, Netlist, is_cell, cells, name_of, signals}
+use Rattle.netlist.specs.Netlist.{is_gate, define}
 use Rattle.netlist.specs.Conditions.{IsSound}
 use Rattle.netlist.proofs.Lists.{All-from_contains, contains_head, contains_tail, contains_filter, filter_contains, contains_map, map_agree, map_map}
-use Rattle.scan_insert.specs.Chains.{cells_of}
+use Rattle.statement.specs.Tests.{cells_of}
 use Rattle.scan_insert.specs.declared.sites.Site.{Site}
-use Rattle.scan_insert.specs.Names.{names_of, numbers_from}
+use Rattle.scan_insert.specs.Names.{names_of}
+use Rattle.statement.specs.Runs.{numbers_from}
 use Rattle.scan_insert.specs.Scan.{Naming, scan_cell, scan_definition, show_last, scanned}
 use Rattle.scan_insert.specs.Scanned.{befores, last_of, first_scan_out, naming_of, scanned_of}
 use Rattle.scan_insert.proofs.Namings.{Origin, Original, Enable, EnableNot, ScanIn, ScanOut, Captured, Shifted, Chosen, Held}

@@ -4,11 +4,11 @@ use Rattle.std.specs.List.{All, AllPairs, AllZip, Contains, zip}
 use Rattle.std.proofs.lemmas.Bool.{eq-eqb, ne_eqb, cases_eq, both_ways}
 use Rattle.std.proofs.lemmas.List.{length-map, get_or-map, get_or_append_left, map-append, take-take, take-map, same_lists}
 use Rattle.std.proofs.lemmas.List.Elements.{All-head, All-tail, Contains-append_cases, Contains-append_left, Contains-append_right, Contains-get_or}
-use Rattle.netlist.specs.Netlist.{Definition, is_cell}
+use Rattle.statement.specs.Netlists.{Definition, is_cell}
 use Rattle.netlist.proofs.Lists.{contains_head, contains_tail, contains_cases, contains_nil, contains_map, map_map}
-use Rattle.scan_insert.specs.Chains.{cells_of}
+use Rattle.statement.specs.Tests.{cells_of}
 use Rattle.scan_insert.specs.declared.sites.Site.{Site}
-use Rattle.scan_insert.specs.Names.{numbers_from}
+use Rattle.statement.specs.Runs.{numbers_from}
 use Rattle.scan_insert.specs.Scanned.{own_site, sites_from, site, befores, beside, last_of}
 use Rattle.scan_insert.specs.Laws.{shifted, last_values}
 

@@ -3,12 +3,13 @@ use Rattle.std.proofs.Common.{◌≡◌, ℕ, ◌+◌, ◌<◌, Bool, false, con
 use Rattle.std.specs.List.{Contains}
 use Rattle.std.proofs.lemmas.Bool.{both_ways, cases_Bool, not_from_false, cases_eq, eq-eqb, ne_eqb, and_left, and_right, not-true}
 use Rattle.std.proofs.lemmas.List.Elements.{All-contains}
-use Rattle.netlist.specs.declared.lines.Line.{Line}
-use Rattle.netlist.specs.declared.lines.Line.TheVariants.{Stem, Pin, Out}
-use Rattle.netlist.specs.declared.lines.Fault.{Fault}
-use Rattle.netlist.specs.Netlist.{Definition, Netlist, is_cell, is_gate, cells, gates, signals}
+use Rattle.statement.specs.declared.lines.Line.{Line}
+use Rattle.statement.specs.declared.lines.Line.TheVariants.{Stem, Pin, Out}
+use Rattle.statement.specs.declared.lines.Fault.{Fault}
+use Rattle.statement.specs.Netlists.{Definition, Netlist, is_cell, cells, gates, signals}
+use Rattle.netlist.specs.Netlist.{is_gate}
 use Rattle.netlist.specs.Conditions.{IsNumbered, IsClosed}
-use Rattle.netlist.specs.Settled.{Table, is_line, stuck, with_fault, on_pins}
+use Rattle.statement.specs.Values.{Table, is_line, stuck, with_fault, on_pins}
 use Rattle.netlist.proofs.Lists.{filter_contains, contains_filter}
 use Rattle.netlist.proofs.Placed.{same_definition, signal_from, definition_below}
 use Rattle.netlist.proofs.WellFormed.{one_pin}

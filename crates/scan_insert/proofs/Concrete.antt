@@ -5,21 +5,22 @@ use Rattle.std.specs.List.{All, AllPairs, AllZip, Contains}
 use Rattle.std.proofs.lemmas.Bool.{not-true}
 use Rattle.std.proofs.lemmas.List.{length-map}
 use Rattle.std.proofs.lemmas.List.Elements.{All-contains}
-use Rattle.netlist.specs.declared.lines.Line.{Line}
-use Rattle.netlist.specs.declared.lines.Line.TheVariants.{Stem, Pin, Out}
-use Rattle.netlist.specs.declared.lines.Fault.{Fault}
-use Rattle.netlist.specs.Netlist.{Definition, Netlist, is_cell, is_gate, cells, gates, IsAcyclic}
+use Rattle.statement.specs.declared.lines.Line.{Line}
+use Rattle.statement.specs.declared.lines.Line.TheVariants.{Stem, Pin, Out}
+use Rattle.statement.specs.declared.lines.Fault.{Fault}
+use Rattle.statement.specs.Netlists.{Definition, Netlist, is_cell, cells, gates}
+use Rattle.netlist.specs.Netlist.{is_gate, IsAcyclic}
 use Rattle.netlist.specs.Conditions.{IsNumbered, IsSound}
-use Rattle.netlist.specs.Settled.{Table, Settles, bit_table, with_fault, outs, next}
+use Rattle.statement.specs.Values.{Table, Settles, bit_table, with_fault, outs, next}
 use Rattle.netlist.proofs.Lists.{contains_filter, contains_map, map_map, decides_beq}
 use Rattle.netlist.proofs.Settling.{cells_distinct}
-use Rattle.scan_insert.specs.Chains.{cells_of}
+use Rattle.statement.specs.Tests.{cells_of}
 use Rattle.scan_insert.proofs.Dealing.{stitched_cells, stitched_count, stitched_filled}
 use Rattle.netlist.specs.Lines.{IsFaultOf}
-use Rattle.scan_insert.specs.Names.{numbers_from}
+use Rattle.statement.specs.Runs.{numbers_from}
 use Rattle.scan_insert.specs.Scan.{scanned}
 use Rattle.scan_insert.proofs.Namings.{IsNaming, IsChained, named_line, named_fault}
-use Rattle.scan_insert.specs.Scanned.{cell_ids, AreChainsOf, sites_of, befores, last_of, first_scan_out, naming_of, scanned_of, line_at, fault_at}
+use Rattle.scan_insert.specs.Scanned.{cell_ids, AreChainsOf, sites_of, befores, last_of, first_scan_out, naming_of, scanned_of, line_at, fault_at, first_definition}
 use Rattle.scan_insert.specs.Laws.{shifted, last_values, Multiplexes, BitsMultiplex, ScanBehavesBy, ScanBehaves}
 use Rattle.scan_insert.proofs.Behaves.{AsOriginal, behaves}
 use Rattle.scan_insert.proofs.Loopless.{map_contains, scanned_acyclic}
@@ -27,7 +28,6 @@ use Rattle.scan_insert.proofs.Numbers.{length-numbers_from}
 use Rattle.scan_insert.proofs.Origins.{naming}
 use Rattle.scan_insert.proofs.Placing.{scanned_numbered, sites_of_definitions, seconds, length-zip}
 use Rattle.scan_insert.proofs.Chained.{gate_site, length-befores, before_cases, contains_beside, map-beside, shift_is, lasts_are, contains_last, contains_cells_of, contains_second}
-use Rattle.scan_insert.specs.Scanned.{first_definition}
 
 -- each cell stands in one chain, in order, and no chain is without cells
 pub record AreDealt (n : Netlist) (chains : List (List ℕ)) : Type 0 where

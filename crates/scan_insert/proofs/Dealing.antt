@@ -6,7 +6,8 @@ use Rattle.std.proofs.lemmas.Nat.{mul-le, div_below, mod_below, le-div}
 use Rattle.std.proofs.lemmas.Bool.{cases_lt, lt-ltb, le-ltb}
 use Rattle.std.proofs.lemmas.List.{length-replicate, get_or-replicate, take-replicate, get_or_append_left, get_or-append_right, get_or-take, get_or-drop, take_all, get_or_default}
 use Rattle.std.proofs.lemmas.Option.{slice_get-get_or, get_or_from_slice_get}
-use Rattle.scan_insert.specs.Chains.{pieces, lengths_of, chains_of, cells_of, longest_of, IsAt}
+use Rattle.scan_insert.specs.Chains.{pieces, lengths_of, chains_of}
+use Rattle.statement.specs.Tests.{cells_of, longest_of, IsAt}
 use Rattle.scan_insert.specs.inner.Places.{start_of, length_of, IsPlaced, AreDealt}
 use Rattle.scan_insert.proofs.Pieces.{total, greatest, length-pieces, get-pieces, cells_of-pieces, longest_of-pieces}
 

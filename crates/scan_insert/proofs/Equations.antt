@@ -3,8 +3,9 @@ use Rattle.std.proofs.Common.{◌≡◌, ℕ, Bool, true, false, cond, List, [],
 use Rattle.std.specs.List.{All, Contains, filter, flat_map}
 use Rattle.std.proofs.lemmas.List.{append-nil}
 use Rattle.std.proofs.lemmas.List.Elements.{All-contains, All-tail, filter-append}
-use Rattle.netlist.specs.declared.kinds.Kind.TheVariants.{Dff, Not}
-use Rattle.netlist.specs.Netlist.{Definition, Netlist, is_cell, cells, define}
+use Rattle.statement.specs.declared.kinds.Kind.TheVariants.{Dff, Not}
+use Rattle.statement.specs.Netlists.{Definition, Netlist, is_cell, cells}
+use Rattle.netlist.specs.Netlist.{define}
 use Rattle.netlist.proofs.Lists.{all_flat_map, all_left, contains_filter}
 use Rattle.scan_insert.specs.Scan.{Naming, scan_cell, scan_definition, show_last, scanned}
 

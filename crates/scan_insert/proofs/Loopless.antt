@@ -2,12 +2,12 @@
 use Rattle.std.proofs.Common.{◌≡◌, ℕ, Bool, true, false, cond, ◌&&◌, List, [], ◌∷◌, ◌++◌, map, refl, sym, ◌∙◌, ap, subst, inl, inr, eqb}
 use Rattle.std.specs.List.{All, Contains, flat_map, list_any}
 use Rattle.std.proofs.lemmas.Bool.{both_ways, not_from_false, and_parts, and_from, eqb-true, eq-eqb}
-use Rattle.std.proofs.lemmas.List.Elements.{Contains-append_cases, Contains-append_right}
-use Rattle.netlist.specs.declared.kinds.Kind.TheVariants.{And, Or, Not, Buff, Dff}
-use Rattle.netlist.specs.Netlist.{Definition, Netlist, is_cell, is_gate, cells, gates, signals, Reads, IsLoop, IsAcyclic, define}
+use Rattle.std.proofs.lemmas.List.Elements.{Contains-append_cases, Contains-append_right, All-contains}
+use Rattle.statement.specs.declared.kinds.Kind.TheVariants.{And, Or, Not, Buff, Dff}
+use Rattle.statement.specs.Netlists.{Definition, Netlist, is_cell, cells, gates, signals}
+use Rattle.netlist.specs.Netlist.{is_gate, Reads, IsLoop, IsAcyclic, define}
 use Rattle.netlist.specs.Conditions.{IsClosed}
 use Rattle.netlist.proofs.Lists.{contains_head, contains_tail, contains_cases, contains_nil, contains_filter, filter_contains, contains_map, any_true, any_from}
-use Rattle.std.proofs.lemmas.List.Elements.{All-contains}
 use Rattle.scan_insert.specs.Scan.{Naming, scan_cell, scan_definition, show_last, scanned}
 use Rattle.scan_insert.proofs.Namings.{Origin, Original, Enable, EnableNot, ScanIn, ScanOut, Captured, Shifted, Chosen, Held, IsNaming, IsChained}
 

@@ -4,13 +4,12 @@ use Rattle.std.specs.List.{All, Contains, slice_get, zip}
 use Rattle.std.proofs.lemmas.List.{map_more, append_assoc, map-append, length-map, get_or_read, get_or-map, take_more, drop_more}
 use Rattle.std.proofs.lemmas.List.Elements.{All-contains, Contains-get_or}
 use Rattle.std.proofs.lemmas.Option.{get_or_from_slice_get, slice_get_within}
-use Rattle.netlist.specs.Netlist.{Definition, Netlist, signals}
+use Rattle.statement.specs.Netlists.{Definition, Netlist, signals, name_of}
 use Rattle.netlist.specs.Conditions.{IsNumbered}
 use Rattle.netlist.proofs.Lists.{All-from_contains}
 use Rattle.netlist.proofs.Placed.{definition_below}
-use Rattle.scan_insert.specs.Chains.{cells_of}
-use Rattle.scan_insert.specs.Names.{numbers_from}
-use Rattle.netlist.specs.Netlist.{name_of}
+use Rattle.statement.specs.Tests.{cells_of}
+use Rattle.statement.specs.Runs.{numbers_from}
 use Rattle.scan_insert.specs.Scan.{show_last}
 use Rattle.scan_insert.specs.Scanned.{befores, last_of}
 use Rattle.scan_insert.proofs.Numbers.{then_one}

@@ -2,9 +2,9 @@
 use Rattle.std.proofs.Common.{◌≡◌, ℕ, suc, zero, ◌+◌, ◌<◌, List, [], ◌∷◌, ◌++◌, map, length, get_or, refl, sym, ◌∙◌, ap, arith}
 use Rattle.std.specs.List.{Contains}
 use Rattle.std.proofs.lemmas.List.{ext_get_or, length-map, get_or-map}
-use Rattle.netlist.specs.Netlist.{Netlist, signals}
+use Rattle.statement.specs.Netlists.{Netlist, signals}
 use Rattle.netlist.specs.Conditions.{IsNumbered}
-use Rattle.scan_insert.specs.Names.{numbers_from}
+use Rattle.statement.specs.Runs.{numbers_from}
 
 pub length-numbers_from : (a m : ℕ) → length (numbers_from a m) ≡ m
 length-numbers_from a zero = refl

@@ -3,10 +3,11 @@ use Rattle.std.proofs.Common.{◌≡◌, ℕ, ◌+◌, ◌<◌, Bool, true, fals
 use Rattle.std.specs.List.{Contains, flat_map}
 use Rattle.std.proofs.lemmas.List.{length-map, get_or-map, get_or_default, map-append, append_assoc}
 use Rattle.std.proofs.lemmas.List.Elements.{Contains-append_left, Contains-append_right, Contains-append_cases}
-use Rattle.netlist.specs.Netlist.{Definition, Netlist, is_cell, cells, gates, signals, define}
+use Rattle.statement.specs.Netlists.{Definition, Netlist, is_cell, cells, gates, signals}
+use Rattle.netlist.specs.Netlist.{define}
 use Rattle.netlist.specs.Conditions.{IsNumbered}
 use Rattle.netlist.proofs.Lists.{contains_head, contains_tail, contains_cases, contains_nil, contains_filter, contains_map, map_map}
-use Rattle.scan_insert.specs.Names.{numbers_from}
+use Rattle.statement.specs.Runs.{numbers_from}
 use Rattle.scan_insert.specs.Scan.{Naming, scan_cell, scan_definition, show_last, scanned}
 use Rattle.scan_insert.proofs.Namings.{Origin, Original, Enable, EnableNot, ScanIn, ScanOut, Captured, Shifted, Chosen, Held, IsNaming}
 use Rattle.scan_insert.proofs.Numbers.{map-numbers_from, numbers_contain}

@@ -3,7 +3,8 @@ use Rattle.std.proofs.Common.{◌≡◌, ℕ, suc, zero, ◌+◌, ◌<◌, ◌++
 use Rattle.std.proofs.lemmas.List.{drop-drop, take-append-drop, nil_from_length}
 use Rattle.std.specs.List.{Contains}
 use Rattle.std.proofs.lemmas.List.Elements.{Contains-append_left, Contains-append_right}
-use Rattle.scan_insert.specs.Chains.{pieces, cells_of, longest_of}
+use Rattle.scan_insert.specs.Chains.{pieces}
+use Rattle.statement.specs.Tests.{cells_of, longest_of}
 
 abbrev pub total : List ℕ → ℕ
 total [] = 0

@@ -2,13 +2,14 @@
 use Rattle.std.proofs.Common.{◌≡◌, ℕ, suc, ◌+◌, ◌*◌, ◌<◌, Bool, true, false, cond, List, [], ◌∷◌, ◌++◌, map, length, get_or, refl, sym, ◌∙◌, ap, arith, length-append}
 use Rattle.std.specs.List.{AllZip, filter, flat_map, zip}
 use Rattle.std.proofs.lemmas.List.{get_or-map, get_or_default, get_or_append_left, get_or-append_right, map-append, map-id, length-map}
-use Rattle.netlist.specs.Netlist.{Definition, Netlist, is_cell, cells, signals, define}
+use Rattle.statement.specs.Netlists.{Definition, Netlist, is_cell, cells, signals}
+use Rattle.netlist.specs.Netlist.{define}
 use Rattle.netlist.specs.Conditions.{IsNumbered}
 use Rattle.netlist.proofs.Lists.{map_map, map_agree}
 use Rattle.netlist.proofs.Placed.{id_at}
 use Rattle.netlist.proofs.Settling.{zip_from}
 use Rattle.scan_insert.specs.declared.sites.Site.{Site}
-use Rattle.scan_insert.specs.Names.{numbers_from}
+use Rattle.statement.specs.Runs.{numbers_from}
 use Rattle.scan_insert.specs.Scan.{Naming, scan_cell, scan_definition, show_last, scanned}
 use Rattle.scan_insert.specs.Scanned.{own_site, sites_from, first_definition, first_scan_out, sites_of, site, last_of, naming_of}
 use Rattle.scan_insert.proofs.Numbers.{length-numbers_from, numbers_from-append, numbers_from_places, places_from_numbers}

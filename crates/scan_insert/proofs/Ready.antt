@@ -4,16 +4,18 @@ use Rattle.std.specs.List.{All, Contains, filter, flat_map, list_any, zip}
 use Rattle.std.proofs.lemmas.Bool.{cases_Bool, cases_lt, lt-ltb, le-ltb, eq-eqb, eqb-true}
 use Rattle.std.proofs.lemmas.List.{length-map, get_or_append_left, get_or_default}
 use Rattle.std.proofs.lemmas.List.Elements.{All-append, All-cons, All-nil, All-head, All-tail, All-contains, Contains-get_or}
-use Rattle.netlist.specs.declared.kinds.Kind.TheVariants.{Not}
-use Rattle.netlist.specs.Netlist.{Definition, Netlist, is_cell, cells, signals, define}
+use Rattle.statement.specs.declared.kinds.Kind.TheVariants.{Not}
+use Rattle.statement.specs.Netlists.{Definition, Netlist, is_cell, cells, signals}
+use Rattle.netlist.specs.Netlist.{define}
 use Rattle.netlist.specs.Conditions.{IsSound}
 use Rattle.netlist.specs.Designs.{IsDesign}
 use Rattle.netlist.proofs.Lists.{All-from_contains, contains_map, map_map, any_from, any_true}
 use Rattle.netlist.proofs.Placed.{signals_length, input_below, signal_below}
 use Rattle.netlist.proofs.Settling.{cells_distinct, cells_below}
-use Rattle.scan_insert.specs.Chains.{cells_of}
+use Rattle.statement.specs.Tests.{cells_of}
 use Rattle.scan_insert.specs.declared.sites.Site.{Site}
-use Rattle.scan_insert.specs.Names.{numbers_from, names_of}
+use Rattle.statement.specs.Runs.{numbers_from}
+use Rattle.scan_insert.specs.Names.{names_of}
 use Rattle.scan_insert.specs.Scan.{Naming, scan_cell, scan_definition, show_last, scanned}
 use Rattle.scan_insert.specs.Scanned.{AreChainsOf, cell_ids, own_site, sites_from, first_definition, first_scan_out, sites_of, befores, last_of, naming_of, scanned_of}
 use Rattle.scan_insert.specs.inner.Made.{IsReady, held_at, naming_at, scan_definitions, stem_at}

@@ -5,13 +5,12 @@ use Rattle.std.proofs.lemmas.Bool.{and_parts, cases_order}
 use Rattle.std.proofs.lemmas.List.{map-append, append_assoc}
 use Rattle.std.proofs.lemmas.List.Elements.{All-nil, All-cons, All-append, All-push, Contains-append_cases, Contains-append_left}
 use Rattle.std.proofs.lemmas.Fmt.{decimal_injective, decimal_by_steps, length-decimal-le}
-use Rattle.netlist.specs.Netlist.{Definition, Netlist, is_cell, signals}
-use Rattle.netlist.specs.Names.{is_name_byte, IsName}
+use Rattle.statement.specs.Netlists.{Definition, Netlist, is_cell, signals, is_name_byte, IsName, name_of}
 use Rattle.netlist.specs.Conditions.{IsSound}
 use Rattle.netlist.proofs.Lists.{contains_cases, contains_map, map_map}
 use Rattle.netlist.specs.Designs.{is_reserved, IsDesign}
-use Rattle.scan_insert.specs.Names.{numbers_from, definition_names, names_of}
-use Rattle.netlist.specs.Netlist.{name_of}
+use Rattle.statement.specs.Runs.{numbers_from}
+use Rattle.scan_insert.specs.Names.{definition_names, names_of}
 use Rattle.scan_insert.proofs.Namings.{Origin, Original, Enable, EnableNot, ScanIn, ScanOut, Captured, Shifted, Chosen, Held}
 use Rattle.scan_insert.proofs.Loopless.{contains_flat_map, only_one, defined_signal}
 use Rattle.scan_insert.proofs.Numbers.{contains_numbers}

@@ -5,10 +5,10 @@ use Rattle.std.proofs.lemmas.Bool.{cases_Bool, not_from_false}
 use Rattle.std.proofs.lemmas.List.{length-map, get_or-map, get_or_default}
 use Rattle.std.proofs.lemmas.List.Kept.{AllPairs-cons}
 use Rattle.std.proofs.lemmas.List.Elements.{All-contains, All-append, Contains-append_cases, Contains-append_left, Contains-append_right, Contains-get_or}
-use Rattle.netlist.specs.declared.kinds.Kind.TheVariants.{And}
-use Rattle.netlist.specs.Netlist.{Definition, Netlist, is_cell, is_gate, cells, signals}
+use Rattle.statement.specs.declared.kinds.Kind.TheVariants.{And}
+use Rattle.statement.specs.Netlists.{Definition, Netlist, is_cell, cells, signals, IsName}
+use Rattle.netlist.specs.Netlist.{is_gate}
 use Rattle.netlist.specs.Gates.{allows_pins}
-use Rattle.netlist.specs.Names.{IsName}
 use Rattle.netlist.specs.declared.netlists.NetRefusal.{NetRefusal}
 use Rattle.netlist.specs.declared.netlists.NetRefusal.TheVariants.{TooMany, NoInput, NoOutput, Undefined, Loop, NoMemory}
 use Rattle.netlist.specs.Conditions.{HasReader, IsWellFormed, IsClosed, IsSized, IsSound, IsCause}

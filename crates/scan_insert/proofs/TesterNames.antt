@@ -6,12 +6,12 @@ use Rattle.std.proofs.lemmas.Bool.{both_ways, cases_order, eq-eqb}
 use Rattle.std.proofs.lemmas.List.{length-map, get_or-map, get_or_append_left, get_or_default}
 use Rattle.std.proofs.lemmas.List.Kept.{AllPairs-cons}
 use Rattle.std.proofs.lemmas.List.Elements.{All-contains, Contains-append_cases, Contains-append_left, Contains-get_or}
-use Rattle.netlist.specs.Names.{IsName}
-use Rattle.netlist.specs.Netlist.{Definition, Netlist, name_of, signals}
+use Rattle.statement.specs.Netlists.{IsName, Definition, Netlist, name_of, signals}
 use Rattle.netlist.specs.Conditions.{IsSound}
 use Rattle.netlist.specs.Designs.{IsDesign, is_reserved}
 use Rattle.netlist.proofs.Lists.{All-from_contains, contains_cases, contains_map, contains_nil}
-use Rattle.scan_insert.specs.Names.{names_of, numbers_from, output_name}
+use Rattle.scan_insert.specs.Names.{names_of}
+use Rattle.statement.specs.Runs.{numbers_from, output_name}
 use Rattle.scan_insert.specs.Scan.{scanned}
 use Rattle.scan_insert.specs.Scanned.{naming_of, scanned_of}
 use Rattle.scan_insert.proofs.Namings.{Origin, Original, Enable, EnableNot, ScanIn, ScanOut, Captured, Shifted, Chosen, Held}

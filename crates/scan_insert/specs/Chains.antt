@@ -1,6 +1,5 @@
 -- Scan chains: the cells in order, in chains whose lengths differ by one at most, the longer ones first.
-use Rattle.std.specs.Prelude.{ℕ, ◌≡◌, ◌+◌, ◌-◌, ◌/◌, ◌%◌, min, max, List, [], ◌∷◌, ◌++◌, length, take, drop, replicate, slice_get, Some}
-use Rattle.std.specs.List.{flat_map}
+use Rattle.std.specs.Prelude.{ℕ, ◌+◌, ◌-◌, ◌/◌, ◌%◌, min, List, [], ◌∷◌, ◌++◌, length, take, drop, replicate}
 
 -- a list in pieces of these lengths
 abbrev pub pieces : List ℕ → List ℕ → List (List ℕ)
@@ -14,17 +13,3 @@ lengths_of cells chains = replicate (cells % chains) (cells / chains + 1) ++ rep
 -- the cells in as many chains as are asked for, but in no more than there are cells
 abbrev pub chains_of : List ℕ → ℕ → List (List ℕ)
 chains_of cells asked = let count = min asked (length cells) in pieces (lengths_of (length cells) count) cells
-
--- the cells of all chains, one chain behind the other
-abbrev pub cells_of : List (List ℕ) → List ℕ
-cells_of chains = flat_map (λ chain. chain) chains
-
-abbrev pub longest_of : List (List ℕ) → ℕ
-longest_of [] = 0
-longest_of (chain ∷ chains) = max (length chain) (longest_of chains)
-
--- the cell stands in this chain at this place, which counts from 0 at the scan input
-pub record IsAt (chains : List (List ℕ)) (cell chain place : ℕ) : Type 0 where
-  pub chain_cells : List ℕ
-  pub has_chain : slice_get chains chain ≡ Some chain_cells
-  pub has_cell : slice_get chain_cells place ≡ Some cell

@@ -1,11 +1,11 @@
 -- What scan insertion changes, and that it changes nothing else.
 use Rattle.std.specs.Prelude.{ℕ, ◌≡◌, ◌-◌, ◌<◌, Bool, true, false, not, cond, List, [], ◌∷◌, ◌++◌, length, take, drop, slice_index_or, Option}
 use Rattle.std.specs.Bool.{Decides}
-use Rattle.netlist.specs.declared.kinds.Kind.TheVariants.{And, Or, Not, Buff}
-use Rattle.netlist.specs.declared.lines.Fault.{Fault}
-use Rattle.netlist.specs.Netlist.{Netlist, cells}
+use Rattle.statement.specs.declared.kinds.Kind.TheVariants.{And, Or, Not, Buff}
+use Rattle.statement.specs.declared.lines.Fault.{Fault}
+use Rattle.statement.specs.Netlists.{Netlist, cells}
 use Rattle.netlist.specs.Conditions.{IsSound}
-use Rattle.netlist.specs.Settled.{Table, Settles, bit_table, bits, with_fault, outs, next}
+use Rattle.statement.specs.Values.{Table, Settles, bit_table, bits, with_fault, outs, next}
 use Rattle.netlist.specs.Lines.{IsFaultOf}
 use Rattle.netlist.specs.Designs.{IsDesign}
 use Rattle.scan_insert.specs.Scanned.{AreChainsOf, sites_of, scanned_of, fault_at}

@@ -1,12 +1,12 @@
 -- The scanned netlist by the names of its signals.
 use Rattle.std.specs.Prelude.{ℕ, ◌≡◌, ◌≢◌, ◌+◌, ◌<◌, ◌≤◌, cond, List, [], ◌∷◌, ◌++◌, map, length, take, drop, slice_index_or, codes, decimal}
 use Rattle.std.specs.List.{All, AllPairs, Contains}
-use Rattle.netlist.specs.declared.kinds.Kind.{Kind}
-use Rattle.netlist.specs.declared.kinds.Kind.TheVariants.{And, Or, Not, Buff, Dff}
-use Rattle.netlist.specs.Netlist.{Definition, Netlist, is_cell, cells, gates, name_of, signals}
+use Rattle.statement.specs.declared.kinds.Kind.{Kind}
+use Rattle.statement.specs.declared.kinds.Kind.TheVariants.{And, Or, Not, Buff, Dff}
+use Rattle.statement.specs.Netlists.{Definition, Netlist, is_cell, cells, gates, name_of, signals}
 use Rattle.netlist.specs.Conditions.{IsSound}
 use Rattle.netlist.specs.Designs.{IsDesign}
-use Rattle.scan_insert.specs.Names.{numbers_from, output_name}
+use Rattle.statement.specs.Runs.{numbers_from, output_name}
 use Rattle.scan_insert.specs.Scanned.{AreChainsOf, last_of, site, sites_of, scanned_of}
 
 -- ---- equations by names

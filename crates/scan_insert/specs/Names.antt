@@ -1,12 +1,8 @@
 -- The names of the scanned netlist's signals.
-use Rattle.std.specs.Prelude.{ℕ, ◌+◌, ◌==◌, cond, suc, zero, List, [], ◌∷◌, ◌++◌, map, slice_index, codes, decimal}
-use Rattle.std.specs.List.{flat_map, list_any}
-use Rattle.netlist.specs.Netlist.{Definition, Netlist, is_cell, name_of}
-
--- so many numbers from one on
-abbrev pub numbers_from : ℕ → ℕ → List ℕ
-numbers_from first zero = []
-numbers_from first (suc count) = first ∷ numbers_from (first + 1) count
+use Rattle.std.specs.Prelude.{ℕ, cond, List, [], ◌∷◌, ◌++◌, map, slice_index, codes, decimal}
+use Rattle.std.specs.List.{flat_map}
+use Rattle.statement.specs.Runs.{numbers_from, output_name}
+use Rattle.statement.specs.Netlists.{Definition, Netlist, is_cell, name_of}
 
 -- a definition's names: a cell has four more
 abbrev pub definition_names : Netlist → Definition → List (List ℕ)
@@ -21,10 +17,6 @@ names_of n chains =
     ++ codes "SC__se" ∷ map (λ c. codes "SC__si" ++ decimal c) (numbers_from 0 chains)
     ++ codes "SC__nse" ∷ flat_map (definition_names n) n.definitions
     ++ map (λ c. codes "SC__so" ++ decimal c) (numbers_from 0 chains)
-
--- The name of the pin at an output: the signal's name, or another where the signal is an input too.
-abbrev pub output_name : Netlist → ℕ → List ℕ
-output_name n x = cond (list_any (λ y. y == x) n.inputs) (codes "SC__o_" ++ name_of n x) (name_of n x)
 
 abbrev pub pin_name_of : Netlist → ℕ → List ℕ
 pin_name_of n output = output_name n (slice_index n.outputs output)

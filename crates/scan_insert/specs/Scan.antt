@@ -2,9 +2,10 @@
 -- (Full scan by multiplexed cells: Bushnell and Agrawal, Essentials of Electronic Testing, 2000.)
 use Rattle.std.specs.Prelude.{ℕ, cond, List, [], ◌∷◌, ◌++◌, map}
 use Rattle.std.specs.List.{flat_map}
-use Rattle.netlist.specs.declared.kinds.Kind.{Kind}
-use Rattle.netlist.specs.declared.kinds.Kind.TheVariants.{And, Or, Not, Buff, Dff}
-use Rattle.netlist.specs.Netlist.{Definition, Netlist, is_cell, define}
+use Rattle.statement.specs.declared.kinds.Kind.{Kind}
+use Rattle.statement.specs.declared.kinds.Kind.TheVariants.{And, Or, Not, Buff, Dff}
+use Rattle.statement.specs.Netlists.{Definition, Netlist, is_cell}
+use Rattle.netlist.specs.Netlist.{define}
 
 -- the signals of the scanned netlist
 pub record Naming : Type 0 where

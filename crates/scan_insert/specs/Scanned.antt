@@ -1,13 +1,15 @@
 -- The scanned netlist of a netlist and its chains.
 use Rattle.std.specs.Prelude.{ℕ, ◌≡◌, ◌+◌, ◌-◌, ◌*◌, ◌<◌, ◌==◌, if◌then◌else◌, cond, List, [], ◌∷◌, ◌++◌, map, length, take, slice_index, slice_index_or, Option, Some, None}
 use Rattle.std.specs.List.{zip}
-use Rattle.netlist.specs.declared.lines.Line.{Line}
-use Rattle.netlist.specs.declared.lines.Line.TheVariants.{Stem, Pin, Out}
-use Rattle.netlist.specs.declared.lines.Fault.{Fault}
-use Rattle.netlist.specs.Netlist.{Definition, Netlist, is_cell, cells, signals}
-use Rattle.scan_insert.specs.Chains.{chains_of, cells_of}
+use Rattle.statement.specs.declared.lines.Line.{Line}
+use Rattle.statement.specs.declared.lines.Line.TheVariants.{Stem, Pin, Out}
+use Rattle.statement.specs.declared.lines.Fault.{Fault}
+use Rattle.statement.specs.Netlists.{Definition, Netlist, is_cell, cells, signals}
+use Rattle.scan_insert.specs.Chains.{chains_of}
+use Rattle.statement.specs.Tests.{cells_of}
 use Rattle.scan_insert.specs.declared.sites.Site.{Site}
-use Rattle.scan_insert.specs.Names.{numbers_from, names_of}
+use Rattle.statement.specs.Runs.{numbers_from}
+use Rattle.scan_insert.specs.Names.{names_of}
 use Rattle.scan_insert.specs.Scan.{Naming, scanned}
 
 abbrev pub cell_ids : Netlist → List ℕ

@@ -1,7 +1,8 @@
 //! Chains of scan cells.
 ghost use Rattle.std.specs.Prelude.{◌≡◌, ◌≢◌, ◌+◌, ◌^◌, ◌<◌, ◌≤◌, length, slice_get, IfOk, Some};
 ghost use Rattle.std.specs.List.{AllPairs, Contains};
-ghost use Rattle.scan_insert.specs.Chains.{chains_of, cells_of, longest_of, IsAt};
+ghost use Rattle.scan_insert.specs.Chains.{chains_of};
+ghost use Rattle.statement.specs.Tests.{cells_of, longest_of, IsAt};
 ghost use Rattle.scan_insert.specs.inner.Places.{start_of, length_of, IsPlaced};
 
 use crate::place_table::{PlaceTable, place_table};

@@ -2,7 +2,7 @@
 ghost use Rattle.std.specs.Prelude.{◌≡◌, ◌<◌, ◌≤◌, [], length, IfOk};
 ghost use Rattle.netlist.specs.Conditions.{IsSound, whole};
 ghost use Rattle.netlist.specs.Designs.{IsDesign, most_design_signals};
-ghost use Rattle.netlist.specs.Netlist.{signals};
+ghost use Rattle.statement.specs.Netlists.{signals};
 ghost use Rattle.scan_insert.specs.Scanned.{AreChainsOf, insertion_of, line_at};
 ghost use Rattle.netlist.specs.Lines.{signal_of};
 

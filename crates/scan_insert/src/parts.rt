@@ -2,9 +2,11 @@
 ghost use Rattle.std.specs.Prelude.{◌≡◌, ◌++◌, ◌∷◌, [], ◌+◌, ◌<◌, ◌≤◌, length, map, IfOk, OnOk};
 ghost use Rattle.std.specs.List.{All, zip};
 ghost use Rattle.netlist.specs.Conditions.{IsSound, whole};
-ghost use Rattle.netlist.specs.Netlist.{Definition as Equation, cells, signals, define};
-ghost use Rattle.netlist.specs.declared.kinds.Kind.TheVariants.{Not};
-ghost use Rattle.scan_insert.specs.Names.{names_of, numbers_from};
+ghost use Rattle.statement.specs.Netlists.{Definition as Equation, cells, signals};
+ghost use Rattle.netlist.specs.Netlist.{define};
+ghost use Rattle.statement.specs.declared.kinds.Kind.TheVariants.{Not};
+ghost use Rattle.scan_insert.specs.Names.{names_of};
+ghost use Rattle.statement.specs.Runs.{numbers_from};
 ghost use Rattle.scan_insert.specs.Scan.{show_last};
 ghost use Rattle.scan_insert.specs.Scanned.{befores, first_scan_out, last_of, scanned_of, sites_of};
 ghost use Rattle.scan_insert.specs.inner.Made.{IsReady, held_at, scan_definitions, stem_at};

@@ -2,8 +2,9 @@
 ghost use Rattle.std.specs.Prelude.{◌≡◌, ◌==◌, ◌<◌, ◌++◌, length, IfOk};
 ghost use Rattle.std.specs.List.{list_any};
 ghost use Rattle.netlist.specs.Conditions.{IsSound};
-ghost use Rattle.netlist.specs.Netlist.{signals};
-ghost use Rattle.scan_insert.specs.Names.{output_name, pin_name_of};
+ghost use Rattle.statement.specs.Netlists.{signals};
+ghost use Rattle.statement.specs.Runs.{output_name};
+ghost use Rattle.scan_insert.specs.Names.{pin_name_of};
 
 use netlist::{Netlist, NoMemory, SignalId};
 use std::alloc::{AllocError, Global};

@@ -1,9 +1,9 @@
 //! The paths on which the chains shift.
 ghost use Rattle.std.specs.Prelude.{◌≡◌, ◌++◌, ◌∷◌, ◌+◌, ◌<◌, ◌≤◌, length, map, take, IfOk, OnOk};
 ghost use Rattle.std.specs.List.{All, zip};
-ghost use Rattle.netlist.specs.Netlist.{Definition as Equation};
-ghost use Rattle.scan_insert.specs.Chains.{cells_of};
-ghost use Rattle.scan_insert.specs.Names.{numbers_from};
+ghost use Rattle.statement.specs.Netlists.{Definition as Equation};
+ghost use Rattle.statement.specs.Tests.{cells_of};
+ghost use Rattle.statement.specs.Runs.{numbers_from};
 ghost use Rattle.scan_insert.specs.Scan.{show_last};
 ghost use Rattle.scan_insert.specs.Scanned.{befores, last_of};
 ghost use Rattle.scan_insert.specs.inner.Made.{held_at};

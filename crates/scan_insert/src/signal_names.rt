@@ -1,10 +1,10 @@
 //! The names of the scanned netlist's signals.
 ghost use Rattle.std.specs.Prelude.{◌≡◌, ◌++◌, ◌∷◌, [], ◌<◌, ◌≤◌, length, map, codes, decimal, IfOk, OnOk};
 ghost use Rattle.std.specs.List.{All, flat_map};
-ghost use Rattle.netlist.specs.Netlist.{Definition as Equation, signals};
+ghost use Rattle.statement.specs.Netlists.{Definition as Equation, signals, name_of};
 ghost use Rattle.netlist.specs.Conditions.{IsSound};
-ghost use Rattle.scan_insert.specs.Names.{definition_names, names_of, numbers_from};
-ghost use Rattle.netlist.specs.Netlist.{name_of};
+ghost use Rattle.scan_insert.specs.Names.{definition_names, names_of};
+ghost use Rattle.statement.specs.Runs.{numbers_from};
 
 use itoa::Buffer;
 use netlist::{Definition, NameTable, Netlist, SignalId};

@@ -1,6 +1,6 @@
 //! Where the signals of a netlist stand in its scanned netlist.
 ghost use Rattle.std.specs.Prelude.{◌≡◌, ◌++◌, ◌+◌, ◌*◌, ◌<◌, ◌≤◌, length, map, IfOk, OnOk};
-ghost use Rattle.netlist.specs.Netlist.{Definition as Equation, signals};
+ghost use Rattle.statement.specs.Netlists.{Definition as Equation, signals};
 ghost use Rattle.netlist.specs.Conditions.{IsSound};
 ghost use Rattle.netlist.specs.Designs.{most_design_signals};
 ghost use Rattle.scan_insert.specs.Scanned.{own_site, sites_from, first_definition};

@@ -3,24 +3,20 @@ use Rattle.std.proofs.Common.{◌≡◌, ℕ, ◌-◌, ◌%◌, ◌<◌, nat_le,
 use Rattle.std.specs.List.{All, AllZip, flat_map}
 use Rattle.std.proofs.lemmas.List.{length-map, length-replicate, append_assoc, append-nil}
 use Rattle.std.proofs.lemmas.List.Elements.{All-head, All-tail}
-use Rattle.netlist.specs.declared.kinds.Tri.{Tri}
-use Rattle.netlist.specs.declared.kinds.Tri.TheVariants.{X}
-use Rattle.netlist.specs.declared.lines.Fault.{Fault}
-use Rattle.netlist.specs.Netlist.{Definition, Netlist, cells}
-use Rattle.netlist.specs.Holds.{Holds}
+use Rattle.statement.specs.declared.kinds.Tri.{Tri}
+use Rattle.statement.specs.declared.kinds.Tri.TheVariants.{X}
+use Rattle.statement.specs.declared.lines.Fault.{Fault}
+use Rattle.statement.specs.Netlists.{Definition, Netlist, cells}
+use Rattle.statement.specs.Patterns.{Holds, Pattern}
 use Rattle.netlist.specs.Conditions.{IsSound}
-use Rattle.netlist.specs.Settled.{Rule, Table, Settles, bits, with_fault, pins_of, outs, next}
+use Rattle.statement.specs.Values.{Rule, Table, Settles, bits, with_fault, pins_of, outs, next, known}
 use Rattle.netlist.proofs.Alike.{zip_append, length-on_pins}
 use Rattle.netlist.proofs.WellFormed.{one_pin}
-use Rattle.netlist.specs.ThreeValues.{known}
-use Rattle.cubes.specs.Cubes.{Pattern}
-use Rattle.scan_insert.specs.Chains.{cells_of}
-use Rattle.scan_insert.specs.Names.{numbers_from}
+use Rattle.statement.specs.Tests.{cells_of, Response, Responds, flush}
+use Rattle.statement.specs.Runs.{numbers_from, Cycle, Runs}
 use Rattle.scan_insert.proofs.Numbers.{length-numbers_from}
-use Rattle.scan_play.specs.Cycles.{Cycle}
-use Rattle.scan_play.specs.Runs.{Runs}
 use Rattle.scan_play.specs.Shifts.{load}
-use Rattle.scan_play.specs.Vectors.{Response, Responds, flush_bits, flush, capture, applied, vectors}
+use Rattle.scan_play.specs.Vectors.{flush_bits, capture, applied, vectors}
 use Rattle.scan_play.proofs.Shifting.{zip_length}
 use Rattle.scan_play.proofs.Loads.{ShiftLaw, open_front, load_met}
 

@@ -2,20 +2,20 @@
 use Rattle.std.proofs.Common.{◌≡◌, ℕ, ◌+◌, ◌<◌, ◌≤◌, ◌≢◌, Bool, false, true, List, [], ◌∷◌, ◌++◌, map, length, get_or, take, replicate, None, refl, sym, ◌∙◌, ap, arith}
 use Rattle.std.proofs.lemmas.List.{append_assoc, append-nil}
 use Rattle.std.proofs.lemmas.Grind.{flat_map-append}
-use Rattle.netlist.specs.declared.kinds.Tri.{Tri}
-use Rattle.netlist.specs.declared.kinds.Tri.TheVariants.{X}
-use Rattle.netlist.specs.Netlist.{Netlist, is_cell, cells}
-use Rattle.netlist.specs.Holds.{Holds, AreHoldsOf}
+use Rattle.statement.specs.declared.kinds.Tri.{Tri}
+use Rattle.statement.specs.declared.kinds.Tri.TheVariants.{X}
+use Rattle.statement.specs.Netlists.{Netlist, is_cell, cells}
+use Rattle.statement.specs.Patterns.{Holds, Pattern}
+use Rattle.netlist.specs.Holds.{AreHoldsOf}
 use Rattle.netlist.specs.Conditions.{IsSound}
 use Rattle.netlist.proofs.Placed.{signals_length}
-use Rattle.netlist.specs.ThreeValues.{known}
-use Rattle.cubes.specs.Cubes.{Pattern}
-use Rattle.scan_insert.specs.Chains.{cells_of}
+use Rattle.statement.specs.Values.{known}
+use Rattle.statement.specs.Tests.{cells_of, Response, Responds}
 use Rattle.scan_insert.proofs.Soundness.{filter_le}
 use Rattle.scan_play.specs.declared.cycles.Burst.{Burst}
-use Rattle.scan_play.specs.Cycles.{Cycle}
+use Rattle.statement.specs.Runs.{Cycle}
 use Rattle.scan_play.specs.Shifts.{load}
-use Rattle.scan_play.specs.Vectors.{Response, Responds, capture, applied, vectors, AreVectors}
+use Rattle.scan_play.specs.Vectors.{capture, applied, vectors, AreVectors}
 use Rattle.scan_play.specs.Bursts.{cycles_of, all_cycles}
 use Rattle.scan_play.specs.inner.Applied.{IsApplied, IsBegun, flushing, plain_cycle}
 use Rattle.scan_play.proofs.Applied.{taken_count}

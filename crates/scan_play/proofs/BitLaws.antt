@@ -3,33 +3,28 @@ use Rattle.std.proofs.Common.{◌≡◌, ◌≢◌, ℕ, suc, zero, Bool, true, 
 use Rattle.std.specs.List.{All, AllZip, zip}
 use Rattle.std.proofs.lemmas.List.{length-map}
 use Rattle.std.proofs.lemmas.List.Elements.{All-head, All-tail}
-use Rattle.netlist.specs.declared.kinds.Tri.{Tri}
-use Rattle.netlist.specs.declared.kinds.Tri.TheVariants.{X}
-use Rattle.netlist.specs.declared.lines.Fault.{Fault}
-use Rattle.netlist.specs.declared.lines.Point.{Point}
-use Rattle.netlist.specs.declared.lines.Point.TheVariants.{Output, Cell}
-use Rattle.netlist.specs.Netlist.{Netlist, cells}
-use Rattle.netlist.specs.Holds.{Holds, AreHoldsOf}
+use Rattle.statement.specs.declared.kinds.Tri.{Tri}
+use Rattle.statement.specs.declared.kinds.Tri.TheVariants.{X}
+use Rattle.statement.specs.declared.lines.Fault.{Fault}
+use Rattle.statement.specs.declared.lines.Point.{Point}
+use Rattle.statement.specs.declared.lines.Point.TheVariants.{Output, Cell}
+use Rattle.statement.specs.Netlists.{Netlist, cells}
+use Rattle.statement.specs.Patterns.{Holds, observed, Detects, Pattern}
+use Rattle.netlist.specs.Holds.{AreHoldsOf}
 use Rattle.netlist.specs.Conditions.{IsSound}
-use Rattle.netlist.specs.Settled.{Table, Settles, bit_table, bits, with_fault, outs, next}
+use Rattle.statement.specs.Values.{Table, Settles, bit_table, bits, with_fault, outs, next, known, allows}
 use Rattle.std.specs.Bool.{beq}
 use Rattle.netlist.proofs.Alike.{zip_append, outs_alike, next_alike, keeps_same}
 use Rattle.netlist.proofs.Lists.{decides_beq}
 use Rattle.netlist.proofs.SomeSettled.{some_settled}
-use Rattle.netlist.specs.ThreeValues.{known, allows}
-use Rattle.netlist.specs.Detection.{observed, Detects}
 use Rattle.tri.proofs.Choices.{no, known_allows_itself}
 use Rattle.tri.proofs.ClosedLemmas.{same_lists}
-use Rattle.cubes.specs.Cubes.{Pattern}
-use Rattle.scan_insert.specs.Chains.{cells_of}
-use Rattle.scan_insert.specs.Names.{numbers_from}
+use Rattle.statement.specs.Tests.{cells_of, Response, Responds, flush, IsStrobedAt}
+use Rattle.statement.specs.Runs.{numbers_from, Cycle, Runs, Passes, FailsAt, strobe_at, shown_at}
 use Rattle.netlist.specs.Lines.{IsLineOf, IsFaultOf}
 use Rattle.scan_insert.specs.Scanned.{AreChainsOf, sites_of, scanned_of, fault_at}
-use Rattle.scan_play.specs.Cycles.{Cycle}
-use Rattle.scan_play.specs.Runs.{Runs}
-use Rattle.scan_play.specs.Passing.{Passes, FailsAt, strobe_at, shown_at}
 use Rattle.scan_play.specs.Shifts.{load}
-use Rattle.scan_play.specs.Vectors.{Response, Responds, flush, capture, applied, vectors, AreVectors, IsStrobedAt}
+use Rattle.scan_play.specs.Vectors.{capture, applied, vectors, AreVectors}
 use Rattle.scan_play.proofs.Shifting.{zip_length}
 use Rattle.scan_play.proofs.Applied.{Answers, zip_known, length-next}
 use Rattle.scan_play.proofs.Widths.{cells_count, valid_fault, no_fault}

@@ -3,30 +3,29 @@ use Rattle.std.proofs.Common.{◌≡◌, ℕ, suc, ◌<◌, Bool, true, false, c
 use Rattle.std.specs.Bool.{Decides}
 use Rattle.std.specs.List.{AllZip}
 use Rattle.std.proofs.lemmas.List.{length-map, map-append, nil_from_length}
-use Rattle.netlist.specs.declared.kinds.Kind.{Kind}
-use Rattle.netlist.specs.declared.kinds.Tri.{Tri}
-use Rattle.netlist.specs.declared.kinds.Tri.TheVariants.{X}
-use Rattle.netlist.specs.declared.lines.Line.{Line}
-use Rattle.netlist.specs.declared.lines.Fault.{Fault}
-use Rattle.netlist.specs.Gates.{gate_bit}
-use Rattle.netlist.specs.Netlist.{Netlist, cells, IsAcyclic}
-use Rattle.netlist.specs.Holds.{Holds, AreHoldsOf}
+use Rattle.statement.specs.declared.kinds.Kind.{Kind}
+use Rattle.statement.specs.declared.kinds.Tri.{Tri}
+use Rattle.statement.specs.declared.kinds.Tri.TheVariants.{X}
+use Rattle.statement.specs.declared.lines.Line.{Line}
+use Rattle.statement.specs.declared.lines.Fault.{Fault}
+use Rattle.statement.specs.Values.{gate_bit, Table, Settles, is_line, stuck, bits, with_fault, outs, next, known}
+use Rattle.statement.specs.Netlists.{Netlist, cells}
+use Rattle.netlist.specs.Netlist.{IsAcyclic}
+use Rattle.statement.specs.Patterns.{Holds, Pattern}
+use Rattle.netlist.specs.Holds.{AreHoldsOf}
 use Rattle.netlist.specs.Lines.{IsFaultOf}
 use Rattle.netlist.specs.Conditions.{IsClosed, IsSound}
-use Rattle.netlist.specs.Settled.{Table, Settles, is_line, stuck, bits, with_fault, outs, next}
 use Rattle.netlist.specs.Laws.{Keeps}
-use Rattle.netlist.specs.ThreeValues.{known}
 use Rattle.netlist.proofs.Alike.{outs_alike, next_alike}
 use Rattle.netlist.proofs.SomeSettled.{some_settled}
-use Rattle.cubes.specs.Cubes.{Pattern}
 use Rattle.scan_insert.specs.Laws.{shifted, last_values, Multiplexes}
 use Rattle.scan_insert.specs.Scanned.{AreChainsOf, sites_of, scanned_of, fault_at}
 use Rattle.scan_insert.proofs.Concrete.{are_dealt, behaves_by}
 use Rattle.scan_insert.proofs.Unchanged.{nothing}
-use Rattle.scan_play.specs.Cycles.{Cycle}
-use Rattle.scan_play.specs.Runs.{Runs}
-use Rattle.scan_play.specs.Shifts.{held_or_zero, idle_inputs}
-use Rattle.scan_play.specs.Vectors.{Response, Responds, applied, vectors}
+use Rattle.statement.specs.Runs.{Cycle, Runs}
+use Rattle.statement.specs.Tests.{held_or_zero, Response, Responds}
+use Rattle.scan_play.specs.Shifts.{idle_inputs}
+use Rattle.scan_play.specs.Vectors.{applied, vectors}
 use Rattle.scan_play.proofs.Shifting.{zip_length}
 use Rattle.scan_play.proofs.Loads.{ShiftLaw}
 use Rattle.scan_play.proofs.Applied.{CaptureLaw, Answers, with_length, vectors_met}

@@ -2,14 +2,13 @@
 use Rattle.std.proofs.Common.{◌≡◌, ℕ, suc, zero, ◌+◌, ◌*◌, ◌<◌, ◌≤◌, Bool, false, true, List, [], ◌∷◌, ◌++◌, map, length, take, drop, replicate, refl, ◌∙◌, ap, subst, arith}
 use Rattle.std.specs.List.{flat_map}
 use Rattle.std.proofs.lemmas.List.{length-map, append_assoc, append-nil}
-use Rattle.netlist.specs.declared.kinds.Tri.{Tri}
-use Rattle.netlist.specs.declared.kinds.Tri.TheVariants.{X}
-use Rattle.netlist.specs.Netlist.{Netlist}
-use Rattle.netlist.specs.Holds.{Holds}
-use Rattle.scan_insert.specs.Chains.{longest_of}
-use Rattle.scan_insert.specs.Names.{numbers_from}
-use Rattle.scan_play.specs.Cycles.{Cycle}
-use Rattle.scan_play.specs.Shifts.{by_chain, column, word_in, word_out, idle_inputs, shift, load}
+use Rattle.statement.specs.declared.kinds.Tri.{Tri}
+use Rattle.statement.specs.declared.kinds.Tri.TheVariants.{X}
+use Rattle.statement.specs.Netlists.{Netlist}
+use Rattle.statement.specs.Patterns.{Holds}
+use Rattle.statement.specs.Tests.{longest_of, by_chain, column, word_in, word_out}
+use Rattle.statement.specs.Runs.{numbers_from, Cycle}
+use Rattle.scan_play.specs.Shifts.{idle_inputs, shift, load}
 use Rattle.scan_play.specs.Bursts.{cycle_at}
 use Rattle.scan_play.proofs.Loads.{length-column, length-by_chain}
 use Rattle.scan_play.proofs.LoadLemmas.{length-flat, row_of_flat}

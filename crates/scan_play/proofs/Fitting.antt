@@ -4,21 +4,21 @@ use Rattle.std.specs.List.{All, AllZip, zip}
 use Rattle.std.proofs.lemmas.List.{length-map, length-replicate}
 use Rattle.std.proofs.lemmas.List.Elements.{All-nil, All-cons, All-head, All-tail}
 use Rattle.std.proofs.Math.Nat.{suc-mul}
-use Rattle.netlist.specs.declared.kinds.Tri.{Tri}
-use Rattle.netlist.specs.declared.kinds.Tri.TheVariants.{X}
-use Rattle.netlist.specs.Netlist.{Netlist}
-use Rattle.netlist.specs.Holds.{Holds, AreHoldsOf}
+use Rattle.statement.specs.declared.kinds.Tri.{Tri}
+use Rattle.statement.specs.declared.kinds.Tri.TheVariants.{X}
+use Rattle.statement.specs.Netlists.{Netlist}
+use Rattle.statement.specs.Patterns.{Holds, Pattern}
+use Rattle.netlist.specs.Holds.{AreHoldsOf}
 use Rattle.netlist.specs.Conditions.{IsSound}
-use Rattle.netlist.specs.ThreeValues.{known}
-use Rattle.cubes.specs.Cubes.{Pattern}
-use Rattle.scan_insert.specs.Chains.{cells_of, longest_of}
-use Rattle.scan_insert.specs.Names.{numbers_from}
+use Rattle.statement.specs.Values.{known}
+use Rattle.statement.specs.Tests.{cells_of, longest_of, by_chain, column, word_in, word_out, held_or_zero, Response, Responds, flush}
+use Rattle.statement.specs.Runs.{numbers_from, Cycle}
 use Rattle.scan_insert.specs.Scanned.{AreChainsOf, naming_of, scanned_of}
 use Rattle.scan_insert.proofs.Concrete.{are_dealt, ins_length, outs_length}
 use Rattle.scan_insert.proofs.Numbers.{length-numbers_from}
-use Rattle.scan_play.specs.Cycles.{Cycle, IsCycleOf}
-use Rattle.scan_play.specs.Shifts.{by_chain, column, word_in, word_out, held_or_zero, idle_inputs, shift, load}
-use Rattle.scan_play.specs.Vectors.{Response, Responds, flush, capture, applied, vectors, AreVectors}
+use Rattle.scan_play.specs.Cycles.{IsCycleOf}
+use Rattle.scan_play.specs.Shifts.{idle_inputs, shift, load}
+use Rattle.scan_play.specs.Vectors.{capture, applied, vectors, AreVectors}
 use Rattle.scan_play.proofs.Shifting.{zip_length}
 use Rattle.scan_play.proofs.Loads.{length-column, length-by_chain}
 

@@ -2,12 +2,10 @@
 use Rattle.std.proofs.Common.{◌≡◌, Bool, true, false, not, [], ◌∷◌, refl, ap}
 use Rattle.std.specs.Bool.{Decides, beq}
 use Rattle.std.proofs.lemmas.List.{map-id}
-use Rattle.netlist.specs.declared.kinds.Kind.TheVariants.{And, Or, Not}
-use Rattle.netlist.specs.declared.kinds.Tri.{Tri}
-use Rattle.netlist.specs.declared.kinds.Tri.TheVariants.{Zero, One, X}
-use Rattle.netlist.specs.Gates.{gate_bit}
-use Rattle.netlist.specs.Settled.{bit_table}
-use Rattle.netlist.specs.ThreeValues.{known}
+use Rattle.statement.specs.declared.kinds.Kind.TheVariants.{And, Or, Not}
+use Rattle.statement.specs.declared.kinds.Tri.{Tri}
+use Rattle.statement.specs.declared.kinds.Tri.TheVariants.{Zero, One, X}
+use Rattle.statement.specs.Values.{gate_bit, bit_table, known}
 use Rattle.netlist.proofs.Lists.{decides_beq}
 use Rattle.tri.specs.Gates.{gate_tri}
 use Rattle.tri.specs.Settled.{tri_table}

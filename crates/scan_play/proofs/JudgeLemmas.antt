@@ -1,10 +1,9 @@
 -- What is first said of a run, and of which places nothing is said.
 use Rattle.std.proofs.Common.{◌≡◌, ℕ, suc, zero, ◌+◌, ◌<◌, ◌⊎◌, List, [], ◌∷◌, get_or, Some, None, slice_get, refl, sym, ◌∙◌, ap, subst, inl, inr, arith}
-use Rattle.netlist.specs.declared.kinds.Tri.{Tri}
-use Rattle.netlist.specs.declared.kinds.Tri.TheVariants.{X}
+use Rattle.statement.specs.declared.kinds.Tri.{Tri}
+use Rattle.statement.specs.declared.kinds.Tri.TheVariants.{X}
 use Rattle.scan_play.specs.declared.played.Played.{Played}
-use Rattle.scan_play.specs.Cycles.{Cycle}
-use Rattle.scan_play.specs.Passing.{strobe_at, shown_at}
+use Rattle.statement.specs.Runs.{Cycle, strobe_at, shown_at}
 use Rattle.scan_play.specs.Judging.{IsOpen, Judging, judged, judged_in}
 use Rattle.scan_play.proofs.PlayLemmas.{or_none, or_cases}
 

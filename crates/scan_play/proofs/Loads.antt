@@ -2,19 +2,17 @@
 use Rattle.std.proofs.Common.{◌≡◌, ℕ, suc, zero, ◌+◌, ◌-◌, ◌<◌, Bool, true, false, List, [], ◌∷◌, ◌++◌, map, length, get_or, take, drop, replicate, reverse, Option, refl, sym, ◌∙◌, ap, subst, arith}
 use Rattle.std.specs.List.{All, AllZip}
 use Rattle.std.proofs.lemmas.List.{length-map, map-append, reverse-append, take-map, drop-map}
-use Rattle.netlist.specs.declared.kinds.Tri.{Tri}
-use Rattle.netlist.specs.declared.kinds.Tri.TheVariants.{X}
-use Rattle.netlist.specs.declared.lines.Fault.{Fault}
-use Rattle.netlist.specs.Netlist.{Netlist}
-use Rattle.netlist.specs.Holds.{Holds}
-use Rattle.netlist.specs.Settled.{Table, Settles, with_fault, outs, next}
+use Rattle.statement.specs.declared.kinds.Tri.{Tri}
+use Rattle.statement.specs.declared.kinds.Tri.TheVariants.{X}
+use Rattle.statement.specs.declared.lines.Fault.{Fault}
+use Rattle.statement.specs.Netlists.{Netlist}
+use Rattle.statement.specs.Patterns.{Holds}
+use Rattle.statement.specs.Values.{Table, Settles, with_fault, outs, next}
 use Rattle.netlist.proofs.Alike.{zip_append}
-use Rattle.scan_insert.specs.Chains.{cells_of, longest_of}
-use Rattle.scan_insert.specs.Names.{numbers_from}
+use Rattle.statement.specs.Tests.{cells_of, longest_of, by_chain, column, word_in, word_out}
+use Rattle.statement.specs.Runs.{numbers_from, Cycle, Runs}
 use Rattle.scan_insert.specs.Laws.{shifted, last_values}
-use Rattle.scan_play.specs.Cycles.{Cycle}
-use Rattle.scan_play.specs.Runs.{Runs}
-use Rattle.scan_play.specs.Shifts.{by_chain, column, word_in, word_out, idle_inputs, shift, load}
+use Rattle.scan_play.specs.Shifts.{idle_inputs, shift, load}
 use Rattle.scan_play.proofs.Shifting.{held_at, held_at_start, held_at_more, held_at_end, word_before, words_are, strobes_meet}
 
 -- With scan on a pulse shifts, and the scan outputs show the last cells.

@@ -2,17 +2,15 @@
 use Rattle.std.proofs.Common.{◌≡◌, ℕ, suc, zero, Bool, false, not, List, [], ◌∷◌, ◌++◌, map, length, replicate, Option, Some, slice_get, ap, subst, sym}
 use Rattle.std.specs.List.{All, zip}
 use Rattle.std.proofs.lemmas.List.Elements.{All-nil, All-cons, All-head, All-tail, All-append}
-use Rattle.netlist.specs.declared.kinds.Tri.{Tri}
-use Rattle.netlist.specs.declared.kinds.Tri.TheVariants.{X}
-use Rattle.netlist.specs.Netlist.{Netlist}
-use Rattle.netlist.specs.Holds.{Holds, Obeys}
-use Rattle.netlist.specs.ThreeValues.{known}
-use Rattle.cubes.specs.Cubes.{Pattern}
-use Rattle.scan_insert.specs.Chains.{cells_of, longest_of}
-use Rattle.scan_insert.specs.Names.{numbers_from}
-use Rattle.scan_play.specs.Cycles.{Cycle}
-use Rattle.scan_play.specs.Shifts.{by_chain, word_in, word_out, held_or_zero, idle_inputs, shift, load}
-use Rattle.scan_play.specs.Vectors.{Response, flush, capture, applied, AreVectors}
+use Rattle.statement.specs.declared.kinds.Tri.{Tri}
+use Rattle.statement.specs.declared.kinds.Tri.TheVariants.{X}
+use Rattle.statement.specs.Netlists.{Netlist}
+use Rattle.statement.specs.Patterns.{Holds, Obeys, Pattern}
+use Rattle.statement.specs.Values.{known}
+use Rattle.statement.specs.Tests.{cells_of, longest_of, by_chain, word_in, word_out, held_or_zero, Response, flush}
+use Rattle.statement.specs.Runs.{numbers_from, Cycle}
+use Rattle.scan_play.specs.Shifts.{idle_inputs, shift, load}
+use Rattle.scan_play.specs.Vectors.{capture, applied, AreVectors}
 
 idle_obeys : (holds : Holds) (others : List Bool) → Obeys holds (idle_inputs holds ++ others)
 idle_obeys [] others k b e = cc

@@ -4,25 +4,22 @@ use Rattle.std.specs.List.{AllPairs}
 use Rattle.std.proofs.lemmas.Bool.{cases_lt}
 use Rattle.std.proofs.lemmas.List.{append_assoc, append-nil, length-map, length-replicate, length-reverse, map-append, get_or_append_left, get_or-append_right, get_or-reverse, get_or-map, get_or-take, get_or-drop}
 use Rattle.std.proofs.Math.Nat.{suc-mul}
-use Rattle.netlist.specs.declared.kinds.Tri.{Tri}
-use Rattle.netlist.specs.declared.kinds.Tri.TheVariants.{X}
-use Rattle.netlist.specs.declared.lines.Point.{Point}
-use Rattle.netlist.specs.declared.lines.Point.TheVariants.{Output, Cell}
-use Rattle.netlist.specs.Netlist.{Netlist}
-use Rattle.netlist.specs.Holds.{Holds}
+use Rattle.statement.specs.declared.kinds.Tri.{Tri}
+use Rattle.statement.specs.declared.kinds.Tri.TheVariants.{X}
+use Rattle.statement.specs.declared.lines.Point.{Point}
+use Rattle.statement.specs.declared.lines.Point.TheVariants.{Output, Cell}
+use Rattle.statement.specs.Netlists.{Netlist}
+use Rattle.statement.specs.Patterns.{Holds, Pattern}
 use Rattle.netlist.specs.Conditions.{IsSound}
 use Rattle.netlist.proofs.Settling.{cells_distinct}
-use Rattle.netlist.specs.ThreeValues.{known}
-use Rattle.cubes.specs.Cubes.{Pattern}
-use Rattle.scan_insert.specs.Chains.{IsAt, cells_of, longest_of}
-use Rattle.scan_insert.specs.Names.{numbers_from}
+use Rattle.statement.specs.Values.{known}
+use Rattle.statement.specs.Tests.{IsAt, cells_of, longest_of, by_chain, column, word_in, word_out, Response, flush, IsStrobedAt}
+use Rattle.statement.specs.Runs.{numbers_from, Cycle, strobe_at}
 use Rattle.scan_insert.specs.Scanned.{AreChainsOf, cell_ids}
 use Rattle.scan_insert.proofs.Numbers.{length-numbers_from}
 use Rattle.scan_insert.proofs.Concrete.{are_dealt}
-use Rattle.scan_play.specs.Cycles.{Cycle}
-use Rattle.scan_play.specs.Passing.{strobe_at}
-use Rattle.scan_play.specs.Shifts.{by_chain, column, word_in, word_out, shift, load}
-use Rattle.scan_play.specs.Vectors.{Response, flush, capture, applied, vectors, IsStrobedAt}
+use Rattle.scan_play.specs.Shifts.{shift, load}
+use Rattle.scan_play.specs.Vectors.{capture, applied, vectors}
 
 -- ---- elements by place
 

@@ -4,14 +4,15 @@ use Rattle.std.specs.List.{All, Contains, flat_map}
 use Rattle.std.proofs.lemmas.Bool.{cases_eq, both_ways}
 use Rattle.std.proofs.lemmas.List.{take_all, length-map, map-append, get_or-map, get_or_default, get_or-set_same, get_or-set_other}
 use Rattle.std.proofs.lemmas.List.Elements.{All-contains, Contains-append_cases}
-use Rattle.netlist.specs.declared.kinds.Tri.{Tri}
-use Rattle.netlist.specs.declared.kinds.Tri.TheVariants.{Zero, One, X}
-use Rattle.netlist.specs.declared.lines.Fault.{Fault}
-use Rattle.netlist.specs.declared.lines.Line.TheVariants.{Stem, Out}
-use Rattle.netlist.specs.Netlist.{Definition, Netlist, cells, gates, signals}
+use Rattle.statement.specs.declared.kinds.Tri.{Tri}
+use Rattle.statement.specs.declared.kinds.Tri.TheVariants.{Zero, One, X}
+use Rattle.statement.specs.declared.lines.Fault.{Fault}
+use Rattle.statement.specs.declared.lines.Line.TheVariants.{Stem, Out}
+use Rattle.statement.specs.Netlists.{Definition, Netlist, cells, gates, signals}
 use Rattle.netlist.specs.Conditions.{IsNumbered, IsSound}
-use Rattle.netlist.specs.Settled.{Rule, Settles, at, on_pins, pins_of, outs, next}
-use Rattle.netlist.specs.ThreeValues.{known, is_x}
+use Rattle.statement.specs.Values.{Rule, Settles, on_pins, pins_of, outs, next, known}
+use Rattle.netlist.specs.Settled.{at}
+use Rattle.netlist.specs.ThreeValues.{is_x}
 use Rattle.netlist.specs.Settling.{AreSourcesDriven, IsEvaluated, AreEvaluated}
 use Rattle.netlist.proofs.Alike.{signals_alike, zip_append}
 use Rattle.netlist.proofs.Lists.{All-from_contains, contains_cases, contains_map, contains_nil, map_agree, zip_same}

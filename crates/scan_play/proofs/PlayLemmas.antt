@@ -4,18 +4,17 @@ use Rattle.std.specs.List.{All, AllZip}
 use Rattle.std.specs.Option.{MatchOption}
 use Rattle.std.proofs.lemmas.List.{length-map, length-replicate, append_assoc, append-nil, drop_more}
 use Rattle.std.proofs.lemmas.List.Elements.{All-head, All-tail}
-use Rattle.netlist.specs.declared.kinds.Tri.{Tri}
-use Rattle.netlist.specs.declared.kinds.Tri.TheVariants.{Zero, One, X}
-use Rattle.netlist.specs.declared.lines.Fault.{Fault}
-use Rattle.netlist.specs.Netlist.{Netlist, cells}
+use Rattle.statement.specs.declared.kinds.Tri.{Tri}
+use Rattle.statement.specs.declared.kinds.Tri.TheVariants.{Zero, One, X}
+use Rattle.statement.specs.declared.lines.Fault.{Fault}
+use Rattle.statement.specs.Netlists.{Netlist, cells}
 use Rattle.netlist.specs.Conditions.{IsSound}
-use Rattle.netlist.specs.ThreeValues.{known}
+use Rattle.statement.specs.Values.{known}
 use Rattle.tri.specs.Settled.{tri_table}
 use Rattle.scan_play.specs.declared.played.Played.{Played}
 use Rattle.scan_play.specs.declared.played.Played.TheVariants.{Passes, Fails, Unknown}
-use Rattle.scan_play.specs.Cycles.{Cycle, IsCycleOf}
-use Rattle.scan_play.specs.Runs.{Runs}
-use Rattle.scan_play.specs.Passing.{strobe_at, shown_at}
+use Rattle.statement.specs.Runs.{Cycle, Runs, strobe_at, shown_at}
+use Rattle.scan_play.specs.Cycles.{IsCycleOf}
 use Rattle.scan_play.specs.Playing.{IsStrobeMet, AreMetBefore, IsPlayed, PlaysAs}
 use Rattle.scan_play.specs.Judging.{IsJudged, Judging, judged, judged_in, played_or_else}
 use Rattle.scan_play.specs.inner.Unmet.{unmet_by, or_passes}

@@ -8,21 +8,19 @@ use Rattle.std.proofs.lemmas.List.Elements.{All-contains}
 use Rattle.std.proofs.lemmas.Grind.{flat_map-append}
 use Rattle.std.proofs.lemmas.Map.Made.{IsDistinct-from_AllPairs}
 use Rattle.std.proofs.lemmas.Map.Steps.{length-le_from_distinct_below}
-use Rattle.netlist.specs.declared.kinds.Tri.{Tri}
-use Rattle.netlist.specs.declared.lines.Fault.{Fault}
-use Rattle.netlist.specs.Netlist.{Netlist, cells, signals}
+use Rattle.statement.specs.declared.kinds.Tri.{Tri}
+use Rattle.statement.specs.declared.lines.Fault.{Fault}
+use Rattle.statement.specs.Netlists.{Netlist, cells, signals}
 use Rattle.netlist.specs.Conditions.{IsSound}
-use Rattle.netlist.specs.Settled.{Settles, outs, next}
+use Rattle.statement.specs.Values.{Settles, outs, next, known}
 use Rattle.netlist.proofs.Lists.{all_flat_map, any_true}
 use Rattle.netlist.proofs.Placed.{signal_below}
-use Rattle.netlist.specs.ThreeValues.{known}
 use Rattle.tri.specs.Settled.{tri_table, tris}
-use Rattle.scan_insert.specs.Names.{numbers_from}
+use Rattle.statement.specs.Runs.{numbers_from, Cycle, Ticks}
 use Rattle.scan_insert.proofs.Numbers.{length-numbers_from}
 use Rattle.scan_play.specs.declared.cycles.Burst.{Burst}
 use Rattle.scan_play.specs.declared.played.Played.{Played}
-use Rattle.scan_play.specs.Cycles.{Cycle, IsCycleOf}
-use Rattle.scan_play.specs.Runs.{Ticks}
+use Rattle.scan_play.specs.Cycles.{IsCycleOf}
 use Rattle.scan_play.specs.Bursts.{cycle_of, cycles_of, all_cycles}
 use Rattle.scan_play.specs.Judging.{Judging, judged_in}
 use Rattle.scan_play.specs.inner.Steps.{IsStep, PlaysOn}

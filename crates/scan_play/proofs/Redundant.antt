@@ -1,19 +1,19 @@
 -- A redundant fault changes no run of the scanned netlist.
 use Rattle.std.proofs.Common.{◌≡◌, ℕ, suc, zero, Bool, cond, List, [], ◌∷◌, ◌++◌, map, length, Option, Some, None, refl, sym, ◌∙◌, ap, subst, arith}
-use Rattle.netlist.specs.declared.lines.Fault.{Fault}
+use Rattle.statement.specs.declared.lines.Fault.{Fault}
 use Rattle.std.specs.List.{All}
-use Rattle.netlist.specs.Netlist.{Netlist}
-use Rattle.netlist.specs.Holds.{Holds, AreHoldsOf, Obeys}
+use Rattle.statement.specs.Netlists.{Netlist}
+use Rattle.statement.specs.Patterns.{Holds, Obeys}
+use Rattle.netlist.specs.Holds.{AreHoldsOf}
 use Rattle.netlist.specs.Conditions.{IsSound}
-use Rattle.netlist.specs.Settled.{Settles, bit_table, bits}
+use Rattle.statement.specs.Values.{Settles, bit_table, bits}
 use Rattle.netlist.specs.Detection.{IsRedundant}
 use Rattle.tri.proofs.ClosedLemmas.{redundant_changes_nothing}
 use Rattle.netlist.specs.Lines.{IsLineOf}
 use Rattle.scan_insert.specs.Scanned.{AreChainsOf, sites_of, scanned_of, naming_of, fault_at}
 use Rattle.scan_insert.specs.Laws.{shifted, last_values}
 use Rattle.scan_insert.proofs.Unchanged.{nothing}
-use Rattle.scan_play.specs.Cycles.{Cycle}
-use Rattle.scan_play.specs.Runs.{Ticks, Runs}
+use Rattle.statement.specs.Runs.{Cycle, Ticks, Runs}
 use Rattle.std.proofs.lemmas.List.{length-map, map-id}
 use Rattle.std.proofs.lemmas.List.Elements.{All-head, All-tail}
 use Rattle.scan_play.proofs.Widths.{split_inputs, cells_count, valid_fault, no_fault}

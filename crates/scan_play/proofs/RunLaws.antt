@@ -4,22 +4,22 @@ use Rattle.std.specs.Bool.{Decides}
 use Rattle.std.specs.List.{All, AllZip}
 use Rattle.std.proofs.lemmas.List.{length-map}
 use Rattle.std.proofs.lemmas.List.Elements.{All-head, All-tail}
-use Rattle.netlist.specs.declared.kinds.Tri.{Tri}
-use Rattle.netlist.specs.declared.kinds.Tri.TheVariants.{X}
-use Rattle.netlist.specs.declared.lines.Fault.{Fault}
-use Rattle.netlist.specs.Netlist.{Netlist, cells, IsAcyclic}
+use Rattle.statement.specs.declared.kinds.Tri.{Tri}
+use Rattle.statement.specs.declared.kinds.Tri.TheVariants.{X}
+use Rattle.statement.specs.declared.lines.Fault.{Fault}
+use Rattle.statement.specs.Netlists.{Netlist, cells}
+use Rattle.netlist.specs.Netlist.{IsAcyclic}
 use Rattle.netlist.specs.Conditions.{IsClosed, IsNumbered}
-use Rattle.netlist.specs.Settled.{Rule, Table, bit_table, bits, with_fault, outs, next}
+use Rattle.statement.specs.Values.{Rule, Table, bit_table, bits, with_fault, outs, next, known, allows}
 use Rattle.netlist.proofs.Alike.{outs_alike, next_alike, keeps_same}
 use Rattle.netlist.proofs.SomeSettled.{some_settled}
 use Rattle.netlist.proofs.WellFormed.{one_pin}
-use Rattle.netlist.specs.ThreeValues.{known, allows, AreAllowed}
+use Rattle.netlist.specs.ThreeValues.{AreAllowed}
 use Rattle.tri.specs.Settled.{tri_table, tris}
 use Rattle.tri.proofs.AboveBits.{keeps_allowed}
 use Rattle.tri.proofs.Choices.{no, known_allows_itself}
-use Rattle.scan_play.specs.Cycles.{Cycle, IsCycleOf}
-use Rattle.scan_play.specs.Runs.{Ticks, Runs}
-use Rattle.scan_play.specs.Passing.{shown_at}
+use Rattle.statement.specs.Runs.{Cycle, Ticks, Runs, shown_at}
+use Rattle.scan_play.specs.Cycles.{IsCycleOf}
 use Rattle.scan_play.specs.Playing.{IsStrobeMet}
 use Rattle.scan_play.specs.Laws.{PlayTells}
 use Rattle.scan_play.proofs.Shifting.{zip_length}

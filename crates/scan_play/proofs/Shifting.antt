@@ -4,9 +4,8 @@ use Rattle.std.specs.List.{All, AllZip}
 use Rattle.std.proofs.lemmas.Bool.{cases_lt}
 use Rattle.std.proofs.lemmas.List.{append_assoc, reverse-append, length-reverse, length-replicate, take_more, take_at, take_all, take-append-le, take-take, drop_at, get_or-take, get_or_append_left, get_or-append_right, get_or-reverse, take-append-drop, reverse-reverse}
 use Rattle.std.proofs.lemmas.List.Elements.{All-head, All-tail}
-use Rattle.scan_insert.specs.Chains.{cells_of, longest_of}
+use Rattle.statement.specs.Tests.{cells_of, longest_of, by_chain, column}
 use Rattle.scan_insert.specs.Laws.{shifted, last_values}
-use Rattle.scan_play.specs.Shifts.{by_chain, column}
 
 -- what the cells hold once t characters of each word are shifted in
 abbrev pub held_at : {V : Type 0} → List (List ℕ) → List (List V) → ℕ → List V → List V

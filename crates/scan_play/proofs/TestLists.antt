@@ -2,12 +2,12 @@
 use Rattle.std.proofs.Common.{◌≡◌, ℕ, zero, suc, ◌+◌, ◌<◌, ◌≤◌, List, [], ◌∷◌, ◌++◌, map, length, get_or, take, replicate, slice_get, Some, refl, sym, ◌∙◌, ap, subst}
 use Rattle.std.specs.List.{AllZip, zip}
 use Rattle.std.proofs.lemmas.List.{length-map, length-replicate, append_assoc, append-nil, take_all, take_more}
-use Rattle.netlist.specs.declared.kinds.Tri.{Tri}
-use Rattle.netlist.specs.declared.kinds.Tri.TheVariants.{X}
-use Rattle.netlist.specs.ThreeValues.{known}
+use Rattle.statement.specs.declared.kinds.Tri.{Tri}
+use Rattle.statement.specs.declared.kinds.Tri.TheVariants.{X}
+use Rattle.statement.specs.Values.{known}
 use Rattle.netlist.proofs.Alike.{zip_append}
-use Rattle.cubes.specs.Cubes.{Pattern}
-use Rattle.scan_play.specs.Vectors.{Response}
+use Rattle.statement.specs.Patterns.{Pattern}
+use Rattle.statement.specs.Tests.{Response}
 use Rattle.scan_play.specs.inner.Applied.{AreApplied}
 
 module _ {E : Type 0} (answers : Pattern → Response → Type 0) (on : List Tri → List (Pattern × Response) → List E) (all : List (Pattern × Response) → List E) (cells : ℕ) where

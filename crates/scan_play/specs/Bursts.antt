@@ -1,10 +1,9 @@
 -- How vectors are kept: cycles one behind the other that differ in a few inputs and outputs alone.
 use Rattle.std.specs.Prelude.{ℕ, ◌*◌, Bool, List, ◌++◌, map, take, drop}
 use Rattle.std.specs.List.{flat_map}
-use Rattle.netlist.specs.declared.kinds.Tri.{Tri}
-use Rattle.scan_insert.specs.Names.{numbers_from}
+use Rattle.statement.specs.declared.kinds.Tri.{Tri}
+use Rattle.statement.specs.Runs.{numbers_from, Cycle}
 use Rattle.scan_play.specs.declared.cycles.Burst.{Burst}
-use Rattle.scan_play.specs.Cycles.{Cycle}
 
 -- cycle t: the first inputs and outputs are as in each cycle, and the others have their values of this one
 abbrev pub cycle_at : List Bool → List Tri → Bool → ℕ → List Bool → List Tri → ℕ → Cycle

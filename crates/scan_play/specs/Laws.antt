@@ -2,28 +2,28 @@
 use Rattle.std.specs.Prelude.{ℕ, ◌≡◌, ◌≢◌, ◌+◌, ◌*◌, Bool, List, length, slice_get, Option, Some, None}
 use Rattle.std.specs.Bool.{Decides}
 use Rattle.std.specs.List.{All, AllZip}
-use Rattle.netlist.specs.declared.kinds.Tri.{Tri}
-use Rattle.netlist.specs.declared.kinds.Tri.TheVariants.{X}
-use Rattle.netlist.specs.declared.lines.Fault.{Fault}
-use Rattle.netlist.specs.declared.lines.Point.{Point}
-use Rattle.netlist.specs.Netlist.{Netlist, cells, IsAcyclic}
-use Rattle.netlist.specs.Holds.{Holds, AreHoldsOf, Obeys}
+use Rattle.statement.specs.declared.kinds.Tri.{Tri}
+use Rattle.statement.specs.declared.kinds.Tri.TheVariants.{X}
+use Rattle.statement.specs.declared.lines.Fault.{Fault}
+use Rattle.statement.specs.declared.lines.Point.{Point}
+use Rattle.statement.specs.Netlists.{Netlist, cells}
+use Rattle.netlist.specs.Netlist.{IsAcyclic}
+use Rattle.statement.specs.Patterns.{Holds, Obeys, Detects, Pattern}
+use Rattle.netlist.specs.Holds.{AreHoldsOf}
 use Rattle.netlist.specs.Conditions.{IsClosed, IsNumbered, IsSound}
-use Rattle.netlist.specs.Settled.{Table, bit_table}
+use Rattle.statement.specs.Values.{Table, bit_table}
 use Rattle.netlist.specs.ThreeValues.{AreAllowed}
 use Rattle.tri.specs.Settled.{tri_table}
-use Rattle.netlist.specs.Detection.{Detects, IsRedundant}
-use Rattle.cubes.specs.Cubes.{Pattern}
-use Rattle.scan_insert.specs.Chains.{longest_of}
+use Rattle.netlist.specs.Detection.{IsRedundant}
+use Rattle.statement.specs.Tests.{longest_of, IsStrobedAt}
 use Rattle.netlist.specs.Lines.{IsLineOf, IsFaultOf}
 use Rattle.scan_insert.specs.Scanned.{AreChainsOf, sites_of, scanned_of, fault_at}
 use Rattle.scan_play.specs.declared.played.Played.{Played}
 use Rattle.scan_play.specs.declared.played.Played.TheVariants.{Passes, Fails, Unknown}
-use Rattle.scan_play.specs.Cycles.{Cycle, IsCycleOf}
-use Rattle.scan_play.specs.Runs.{Runs}
-use Rattle.scan_play.specs.Passing.{FailsAt}
-use Rattle.scan_play.specs.Passing as test
-use Rattle.scan_play.specs.Vectors.{AreVectors, IsStrobedAt}
+use Rattle.statement.specs.Runs.{Cycle, Runs, FailsAt}
+use Rattle.scan_play.specs.Cycles.{IsCycleOf}
+use Rattle.statement.specs.Runs as test
+use Rattle.scan_play.specs.Vectors.{AreVectors}
 use Rattle.scan_play.specs.Playing.{PlayRuns, PlaysAs}
 
 -- ---- runs

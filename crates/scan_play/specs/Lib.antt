@@ -1,6 +1,5 @@
 pub mod Cycles
 pub mod Bursts
-pub mod Runs
 pub mod Passing
 pub mod Shifts
 pub mod Vectors

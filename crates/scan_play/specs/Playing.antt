@@ -1,16 +1,14 @@
 -- What playing vectors in three values answers.
 use Rattle.std.specs.Prelude.{ℕ, ◌≡◌, ◌<◌, ◌⊎◌, Bool, not, List, length, replicate, Option, Some}
-use Rattle.netlist.specs.declared.kinds.Tri.{Tri}
-use Rattle.netlist.specs.declared.kinds.Tri.TheVariants.{X}
-use Rattle.netlist.specs.declared.lines.Fault.{Fault}
-use Rattle.netlist.specs.Netlist.{Netlist, cells}
-use Rattle.netlist.specs.ThreeValues.{known}
+use Rattle.statement.specs.declared.kinds.Tri.{Tri}
+use Rattle.statement.specs.declared.kinds.Tri.TheVariants.{X}
+use Rattle.statement.specs.declared.lines.Fault.{Fault}
+use Rattle.statement.specs.Netlists.{Netlist, cells}
+use Rattle.statement.specs.Values.{known}
 use Rattle.tri.specs.Settled.{tri_table}
 use Rattle.scan_play.specs.declared.played.Played.{Played}
 use Rattle.scan_play.specs.declared.played.Played.TheVariants.{Passes, Fails, Unknown}
-use Rattle.scan_play.specs.Cycles.{Cycle}
-use Rattle.scan_play.specs.Runs.{Runs}
-use Rattle.scan_play.specs.Passing.{strobe_at, shown_at}
+use Rattle.statement.specs.Runs.{Cycle, Runs, strobe_at, shown_at}
 
 -- nothing is strobed at this place, or what is shown is known and equal
 abbrev pub IsStrobeMet : List Cycle → List (List Tri) → ℕ → ℕ → Type 0

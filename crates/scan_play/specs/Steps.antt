@@ -2,9 +2,10 @@
 -- only those count that a cell's pin or a strobed output reads, by way of gates. (Constants folded, as in compiled-code simulation.)
 use Rattle.std.specs.Prelude.{ℕ, ◌≡◌, ◌≢◌, ◌<◌, ◌⊎◌, false, List, length, map, take, slice_get, slice_index, Some}
 use Rattle.std.specs.List.{All, Contains}
-use Rattle.netlist.specs.declared.kinds.Tri.{Tri}
-use Rattle.netlist.specs.declared.kinds.Tri.TheVariants.{X}
-use Rattle.netlist.specs.Netlist.{Definition, Netlist, cells, gates, IsGateAt}
+use Rattle.statement.specs.declared.kinds.Tri.{Tri}
+use Rattle.statement.specs.declared.kinds.Tri.TheVariants.{X}
+use Rattle.statement.specs.Netlists.{Definition, Netlist, cells, gates}
+use Rattle.netlist.specs.Netlist.{IsGateAt}
 use Rattle.netlist.specs.Settled.{at}
 use Rattle.netlist.specs.ThreeValues.{is_x}
 

@@ -1,35 +1,15 @@
 -- The vectors of a test: a flush of the chains, then each pattern loaded and captured, and what was captured unloaded.
-use Rattle.std.specs.Prelude.{ℕ, ◌≡◌, ◌+◌, ◌-◌, ◌*◌, ◌%◌, nat_le, Bool, true, false, not, List, [], ◌∷◌, ◌++◌, length, map, replicate, slice_get, Option, Some, None}
-use Rattle.std.specs.List.{AllZip, flat_map, zip}
-use Rattle.netlist.specs.declared.kinds.Tri.TheVariants.{X}
-use Rattle.netlist.specs.declared.kinds.Tri.{Tri}
-use Rattle.netlist.specs.declared.lines.Fault.{Fault}
-use Rattle.netlist.specs.declared.lines.Point.{Point}
-use Rattle.netlist.specs.declared.lines.Point.TheVariants.{Output, Cell}
-use Rattle.netlist.specs.Netlist.{Definition, Netlist, cells}
-use Rattle.netlist.specs.Holds.{Holds, AreHoldsOf}
-use Rattle.netlist.specs.Settled.{Settles, bits, outs, next}
-use Rattle.netlist.specs.ThreeValues.{known}
-use Rattle.cubes.specs.Cubes.{Pattern}
-use Rattle.scan_insert.specs.Chains.{cells_of, longest_of, IsAt}
-use Rattle.scan_insert.specs.Names.{numbers_from}
-use Rattle.scan_play.specs.Cycles.{Cycle}
+use Rattle.std.specs.Prelude.{ℕ, ◌≡◌, ◌+◌, ◌-◌, ◌*◌, ◌%◌, nat_le, Bool, true, false, not, List, [], ◌∷◌, ◌++◌, length, map, replicate, None}
+use Rattle.std.specs.List.{AllZip, zip}
+use Rattle.statement.specs.declared.kinds.Tri.TheVariants.{X}
+use Rattle.statement.specs.declared.kinds.Tri.{Tri}
+use Rattle.statement.specs.Netlists.{Netlist}
+use Rattle.statement.specs.Patterns.{Holds, Pattern}
+use Rattle.netlist.specs.Holds.{AreHoldsOf}
+use Rattle.statement.specs.Values.{known}
+use Rattle.statement.specs.Tests.{cells_of, Response, Responds, flush}
+use Rattle.statement.specs.Runs.{numbers_from, Cycle}
 use Rattle.scan_play.specs.Shifts.{load}
-
--- what the outputs show under a pattern, and what the cells capture
-pub record Response : Type 0 where
-  pub outputs : List Bool
-  pub cells : List Bool
-
-pub record Responds (n : Netlist) (f : Option Fault) (p : Pattern) (r : Response) : Type 0 where
-  pub values : ℕ → Bool
-  pub settles : Settles (bits f) n p.inputs p.cells values
-  pub outputs : r.outputs ≡ outs (bits f) n values
-  pub cells : r.cells ≡ next (bits f) n values
-
--- The usual sequence 0011, shifted through each chain: the bits that the cells then hold.
-abbrev pub flush : List (List ℕ) → List Bool
-flush chains = flat_map (λ chain. map (λ k. nat_le 2 ((length chain - 1 - k) % 4)) (numbers_from 0 (length chain))) chains
 
 -- those of a chain of so many cells
 abbrev pub flush_bits : ℕ → List Bool
@@ -71,18 +51,3 @@ capture_cycle m p = 3 * m + p * (m + 1) + m
 
 abbrev pub unload_cycle : ℕ → ℕ → ℕ → ℕ → ℕ
 unload_cycle m p count k = 3 * m + (p + 1) * (m + 1) + (count - 1 - k)
-
--- where a cell's captured bit is strobed: three loads come before, p + 1 loads each with a capture, and the shifts that bring it to the scan output
-pub record IsUnloadedAt (n : Netlist) (chains : List (List ℕ)) (p q c o : ℕ) : Type 0 where
-  pub cell : ℕ
-  pub is_cell : slice_get (map (λ (d : Definition). d.id) (cells n)) q ≡ Some cell
-  pub chain : ℕ
-  pub place : ℕ
-  pub is_at : IsAt chains cell chain place
-  pub cycle_is : c ≡ 3 * longest_of chains + (p + 1) * (longest_of chains + 1) + (length is_at.chain_cells - 1 - place)
-  pub output_is : o ≡ length n.outputs + chain
-
--- the cycle and the output at which a point is strobed for pattern p
-abbrev pub IsStrobedAt : Netlist → List (List ℕ) → ℕ → Point → ℕ → ℕ → Type 0
-IsStrobedAt n chains p (Output k) c o = (c ≡ 3 * longest_of chains + p * (longest_of chains + 1) + longest_of chains) × (o ≡ k)
-IsStrobedAt n chains p (Cell q) c o = IsUnloadedAt n chains p q c o

@@ -1,6 +1,6 @@
 //! Cycles of a tester, and vectors: lists of them.
 ghost use Rattle.std.specs.Prelude.{◌≡◌, ◌+◌, ◌*◌, ◌≤◌, ◌<◌, ◌++◌, [], ◌∷◌, length, map, IfOk, OnOk};
-ghost use Rattle.netlist.specs.ThreeValues.{known};
+ghost use Rattle.statement.specs.Values.{known};
 
 use netlist::Tri;
 use std::alloc::{AllocError, Global};
@@ -16,7 +16,7 @@ pub struct Cycle {
 }
 
 impl Model for Cycle {
-    ghost use Rattle.scan_play.specs.Cycles.{Cycle};
+    ghost use Rattle.statement.specs.Runs.{Cycle};
 
     ghost Value = { Cycle };
 
@@ -48,7 +48,7 @@ pub struct Vectors {
 
 impl Model for Vectors {
     ghost use Rattle.std.specs.Prelude.{List};
-    ghost use Rattle.scan_play.specs.Cycles.{Cycle};
+    ghost use Rattle.statement.specs.Runs.{Cycle};
 
     ghost Value = { List Cycle };
 

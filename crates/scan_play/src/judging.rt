@@ -1,7 +1,7 @@
 //! Judges: what is said of what is shown beside what is strobed.
 ghost use Rattle.std.specs.Prelude.{◌≡◌, ◌^◌, ◌<◌, ℕ, Option, None, length};
-ghost use Rattle.netlist.specs.declared.kinds.Tri.{Tri as Value};
-ghost use Rattle.netlist.specs.declared.kinds.Tri.TheVariants.{X};
+ghost use Rattle.statement.specs.declared.kinds.Tri.{Tri as Value};
+ghost use Rattle.statement.specs.declared.kinds.Tri.TheVariants.{X};
 ghost use Rattle.scan_play.specs.declared.played.Played.{Played as Said};
 ghost use Rattle.scan_play.specs.Judging.{judged_in};
 ghost use Rattle.scan_play.specs.inner.Unmet.{unmet_by};

@@ -2,10 +2,10 @@
 ghost use Rattle.std.specs.Prelude.{◌≡◌, ◌+◌, ◌*◌, ◌^◌, ◌<◌, ◌≤◌, ◌++◌, ◌∷◌, [], false, true, length, map, replicate, slice_index_or, IfOk, OnOk};
 ghost use Rattle.std.specs.List.{flat_map};
 ghost use Rattle.netlist.specs.Holds.{AreHoldsOf};
-ghost use Rattle.scan_insert.specs.Names.{numbers_from};
-ghost use Rattle.netlist.specs.declared.kinds.Tri.TheVariants.{X};
-ghost use Rattle.scan_insert.specs.Chains.{cells_of, longest_of};
-ghost use Rattle.scan_play.specs.Shifts.{by_chain, column, word_in, word_out, held_or_zero, idle_inputs, load};
+ghost use Rattle.statement.specs.Runs.{numbers_from};
+ghost use Rattle.statement.specs.declared.kinds.Tri.TheVariants.{X};
+ghost use Rattle.statement.specs.Tests.{cells_of, longest_of, by_chain, column, word_in, word_out, held_or_zero};
+ghost use Rattle.scan_play.specs.Shifts.{idle_inputs, load};
 ghost use Rattle.scan_play.specs.Bursts.{cycles_of};
 
 use crate::cycles::Burst;

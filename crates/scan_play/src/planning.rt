@@ -4,9 +4,10 @@
 //! are chosen that a cell's pin or a strobed output reads, backwards; that nothing is missing is then checked, forwards.
 ghost use Rattle.std.specs.Prelude.{◌≡◌, ◌≢◌, ◌<◌, ◌≤◌, ◌^◌, ◌⊎◌, ℕ, true, false, [], length, ◌++◌, ◌∷◌, IfOk, OnOk, Some, slice_get, slice_index_or};
 ghost use Rattle.std.specs.List.{All, Contains};
-ghost use Rattle.netlist.specs.Netlist.{Definition as Equation, gates, signals, is_cell, IsGateAt};
+ghost use Rattle.statement.specs.Netlists.{Definition as Equation, gates, signals, is_cell};
+ghost use Rattle.netlist.specs.Netlist.{IsGateAt};
 ghost use Rattle.netlist.specs.Conditions.{IsSound};
-ghost use Rattle.netlist.specs.declared.kinds.Tri.TheVariants.{X};
+ghost use Rattle.statement.specs.declared.kinds.Tri.TheVariants.{X};
 ghost use Rattle.netlist.specs.ThreeValues.{is_x};
 ghost use Rattle.scan_play.specs.Steps.{HasSteps, AreOrderedSteps, IsReady};
 ghost use Rattle.scan_play.specs.inner.Plans.{AreCellsMarked, AreMarked, AreOutputsMarked, AreReady};

@@ -1,9 +1,10 @@
 //! The player: vectors on a netlist in three values, from all cells X.
 ghost use Rattle.std.specs.Prelude.{◌≡◌, ◌+◌, ◌^◌, ◌<◌, ◌≤◌, ◌++◌, true, cond, length, replicate, IfOk, OnOk};
 ghost use Rattle.std.specs.List.{All};
-ghost use Rattle.netlist.specs.Netlist.{cells, signals};
-ghost use Rattle.netlist.specs.Settled.{at, next};
-ghost use Rattle.netlist.specs.declared.kinds.Tri.TheVariants.{X};
+ghost use Rattle.statement.specs.Netlists.{cells, signals};
+ghost use Rattle.netlist.specs.Settled.{at};
+ghost use Rattle.statement.specs.Values.{next};
+ghost use Rattle.statement.specs.declared.kinds.Tri.TheVariants.{X};
 ghost use Rattle.scan_play.specs.Cycles.{IsCycleOf};
 ghost use Rattle.scan_play.specs.Bursts.{cycle_of, cycles_of, all_cycles};
 ghost use Rattle.scan_play.specs.inner.Plans.{IsPlanned};

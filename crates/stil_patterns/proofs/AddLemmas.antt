@@ -3,22 +3,20 @@ use Rattle.std.proofs.Common.{◌≡◌, ◌∙◌, ◌+◌, ◌-◌, ◌<◌, �
 use Rattle.std.specs.List.{slice_get}
 use Rattle.std.proofs.lemmas.List.{get_or-drop, get_or-take, length-drop, length-take}
 use Rattle.std.proofs.lemmas.Option.{slice_get-get_or}
-use Rattle.plain_text.specs.Texts.{Text}
-use Rattle.netlist.specs.declared.kinds.Tri.{Tri}
-use Rattle.netlist.specs.declared.kinds.Tri.TheVariants.{X}
-use Rattle.netlist.specs.Netlist.{Netlist, cells, name_of}
-use Rattle.netlist.specs.Holds.{Holds, AreHoldsOf}
+use Rattle.statement.specs.Benches.{Text}
+use Rattle.statement.specs.declared.kinds.Tri.{Tri}
+use Rattle.statement.specs.declared.kinds.Tri.TheVariants.{X}
+use Rattle.statement.specs.Netlists.{Netlist, cells, name_of}
+use Rattle.statement.specs.Patterns.{Holds, Pattern}
+use Rattle.netlist.specs.Holds.{AreHoldsOf}
 use Rattle.netlist.specs.Conditions.{IsSound}
-use Rattle.netlist.specs.ThreeValues.{known}
-use Rattle.cubes.specs.Cubes.{Pattern}
-use Rattle.scan_insert.specs.Chains.{cells_of}
-use Rattle.scan_insert.specs.Names.{output_name}
-use Rattle.scan_play.specs.Vectors.{Responds, flush}
+use Rattle.statement.specs.Values.{known}
+use Rattle.statement.specs.Tests.{cells_of, Responds, flush, applied_items, capture_item, char_of_value, file_with, load_items, shift_word_of, test_items, IsFileOf}
+use Rattle.statement.specs.Runs.{output_name}
 use Rattle.scan_play.proofs.Applied.{taken_count}
 use Rattle.scan_play.proofs.TestLists.{none_applied, one_applied, all_applied}
-use Rattle.stil_write.specs.StilFiles.{Item, StilFile, where_chained}
-use Rattle.stil_vectors.specs.TestFiles.{applied_items, capture_item, char_of_value, file_with, load_items, shift_word_of, test_items, text_of_values}
-use Rattle.stil_patterns.specs.Tests.{IsFileOf}
+use Rattle.statement.specs.Stils.{Item, StilFile, where_chained}
+use Rattle.stil_vectors.specs.TestFiles.{text_of_values}
 use Rattle.stil_patterns.specs.inner.Added.{AreAll, AreBegun, IsAdded, flush_items}
 
 -- ---- words of a capture

@@ -4,22 +4,20 @@ use Rattle.std.specs.Prelude.{None}
 use Rattle.std.specs.List.{All, AllZip, zip}
 use Rattle.std.proofs.lemmas.List.{length-map, length-replicate, length-reverse, length-take, length-drop, take_at, take-append-drop, reverse-append, reverse-reverse, nil_from_length}
 use Rattle.std.proofs.lemmas.List.Elements.{All-head, All-tail}
-use Rattle.plain_text.specs.Texts.{Text}
-use Rattle.netlist.specs.declared.kinds.Tri.{Tri}
-use Rattle.netlist.specs.declared.kinds.Tri.TheVariants.{X}
-use Rattle.netlist.specs.Netlist.{Netlist, cells}
-use Rattle.netlist.specs.Holds.{Holds}
-use Rattle.netlist.specs.ThreeValues.{known}
-use Rattle.cubes.specs.Cubes.{Pattern, IsPatternOf}
-use Rattle.scan_insert.specs.Chains.{cells_of, longest_of}
+use Rattle.statement.specs.Benches.{Text}
+use Rattle.statement.specs.declared.kinds.Tri.{Tri}
+use Rattle.statement.specs.declared.kinds.Tri.TheVariants.{X}
+use Rattle.statement.specs.Netlists.{Netlist, cells}
+use Rattle.statement.specs.Patterns.{Holds, Pattern}
+use Rattle.statement.specs.Values.{known}
+use Rattle.cubes.specs.Cubes.{IsPatternOf}
+use Rattle.statement.specs.Tests.{cells_of, longest_of, by_chain, word_in, word_out, Response, Responds, flush, driven_bit, applied_items, capture_item, char_of_bit, load_items, test_items, IsFileOf}
 use Rattle.scan_insert.specs.Scanned.{AreChainsOf}
-use Rattle.scan_play.specs.Shifts.{by_chain, word_in, word_out}
-use Rattle.scan_play.specs.Vectors.{Response, Responds, flush}
 use Rattle.scan_play.proofs.Widths.{cells_count}
-use Rattle.stil_write.specs.StilFiles.{Call, Item, StilFile, Vector, where_chained, words_of}
-use Rattle.stil_vectors.specs.FileVectors.{driven_bit, bits_of}
-use Rattle.stil_vectors.specs.TestFiles.{applied_items, capture_item, char_of_bit, load_items, load_words, test_file, test_items, text_of_bits, text_of_values}
-use Rattle.stil_patterns.specs.Tests.{IsFileOf}
+use Rattle.statement.specs.Stils.{Call, Item, StilFile, Vector, where_chained}
+use Rattle.stil_write.specs.StilFiles.{words_of}
+use Rattle.stil_vectors.specs.FileVectors.{bits_of}
+use Rattle.stil_vectors.specs.TestFiles.{load_words, test_file, text_of_bits, text_of_values}
 use Rattle.stil_patterns.specs.inner.Reading.{cells_in, chain_in, inputs_in, pattern_in, patterns_in, tests_in}
 
 bit_back : (b : Bool) → driven_bit (char_of_bit b) ≡ b

@@ -6,37 +6,38 @@ use Rattle.std.proofs.lemmas.List.{length-map, length-replicate, length-reverse,
 use Rattle.std.proofs.lemmas.Option.{slice_get-get_or}
 use Rattle.std.proofs.lemmas.List.Elements.{All-append, All-cons, All-drop, All-filter, All-head, All-map, All-nil, All-tail, All-take, All-contains, All-weaker}
 use Rattle.std.proofs.lemmas.List.Quantifiers.{all_pairs_remove}
-use Rattle.plain_text.specs.Texts.{Text}
-use Rattle.netlist.specs.declared.kinds.Tri.{Tri}
-use Rattle.netlist.specs.declared.kinds.Tri.TheVariants.{Zero, One, X}
-use Rattle.netlist.specs.Netlist.{Definition, Netlist, cells, is_cell, name_of}
-use Rattle.netlist.specs.Netlist as net
+use Rattle.statement.specs.Benches.{Text}
+use Rattle.statement.specs.declared.kinds.Tri.{Tri}
+use Rattle.statement.specs.declared.kinds.Tri.TheVariants.{Zero, One, X}
+use Rattle.statement.specs.Netlists.{Definition, Netlist, cells, is_cell, name_of}
+use Rattle.statement.specs.Netlists as net
 use Rattle.netlist.specs.Conditions.{IsSound}
 use Rattle.netlist.specs.Designs.{IsDesign}
-use Rattle.netlist.specs.Holds.{Holds, AreHoldsOf}
-use Rattle.netlist.specs.ThreeValues.{known}
-use Rattle.netlist.specs.Names as bench
+use Rattle.statement.specs.Patterns.{Holds, Pattern}
+use Rattle.netlist.specs.Holds.{AreHoldsOf}
+use Rattle.statement.specs.Values.{known}
+use Rattle.statement.specs.Netlists as bench
 use Rattle.netlist.proofs.Alike.{zip_append}
 use Rattle.netlist.proofs.Settling.{cells_below, inputs_below}
-use Rattle.cubes.specs.Cubes.{Pattern, IsPatternOf}
-use Rattle.scan_insert.specs.Chains.{cells_of, chains_of, longest_of}
+use Rattle.cubes.specs.Cubes.{IsPatternOf}
+use Rattle.statement.specs.Tests.{cells_of, longest_of, by_chain, held_or_zero, word_in, word_out, Response, Responds, flush, applied_items, capture_item, char_of_bit, char_of_value, load_items, shift_word_of, test_items, IsFileOf}
+use Rattle.scan_insert.specs.Chains.{chains_of}
 use Rattle.scan_insert.proofs.Dealing.{stitched_cells, stitched_count, stitched_filled}
-use Rattle.scan_insert.specs.Names.{output_name}
+use Rattle.statement.specs.Runs.{output_name}
 use Rattle.scan_insert.specs.Named.{HasTesterNames, tester_names}
 use Rattle.scan_insert.specs.Scanned.{AreChainsOf, cell_ids, scanned_of}
 use Rattle.scan_insert.proofs.Making.{cells_of_chain}
 use Rattle.scan_insert.proofs.Ready.{outputs_within}
 use Rattle.scan_insert.proofs.Soundness.{scanned_is_sound}
 use Rattle.scan_insert.proofs.TesterNames.{tester_names_differ}
-use Rattle.scan_play.specs.Shifts.{by_chain, held_or_zero, idle_inputs, word_in, word_out}
-use Rattle.scan_play.specs.Vectors.{Response, Responds, flush}
+use Rattle.scan_play.specs.Shifts.{idle_inputs}
 use Rattle.stil_write.specs.declared.forms.Form.{Form}
 use Rattle.stil_write.specs.declared.forms.CharKind.TheVariants as values
-use Rattle.stil_write.specs.StilFiles.{Call, IsStilCall, IsItem, IsStilName, IsStilFile, IsWord, Item, StilFile, Vector, call_forms, is_stil_name_byte, is_value, numbered, declared_signals, vector_forms, where_chained}
-use Rattle.stil_vectors.specs.TestFiles.{applied_items, capture_item, char_of_bit, char_of_value, load_items, load_words, shift_word_of, test_file, test_items, text_of_bits, text_of_values}
+use Rattle.statement.specs.Stils.{Call, Item, StilFile, Vector, numbered, where_chained}
+use Rattle.stil_write.specs.StilFiles.{IsStilCall, IsItem, IsStilName, IsStilFile, IsWord, call_forms, is_stil_name_byte, is_value, declared_signals, vector_forms}
+use Rattle.stil_vectors.specs.TestFiles.{load_words, test_file, text_of_bits, text_of_values}
 use Rattle.stil_vectors.specs.Fitting.{FitsNetlist}
 use Rattle.scan_play.proofs.Widths.{scanned_cells_count}
-use Rattle.stil_patterns.specs.Tests.{IsFileOf}
 use Rattle.stil_patterns.specs.Laws.{FilesFit}
 use Rattle.stil_patterns.proofs.NameLemmas.{inputs_are, pins_are}
 

@@ -5,13 +5,13 @@ use Rattle.std.specs.List.{All, AllPairs, Contains, list_any}
 use Rattle.std.proofs.lemmas.Bool.{cases_lt, lt-ltb, le-ltb}
 use Rattle.std.proofs.lemmas.List.{length-map, map-append, map_push, get_or-append_right, drop_at}
 use Rattle.std.proofs.lemmas.List.Elements.{All-append, All-cons, All-nil, All-contains, All-weaker}
-use Rattle.plain_text.specs.Texts.{Text}
-use Rattle.netlist.specs.Netlist.{Definition, Netlist, cells, is_cell, name_of, signals}
+use Rattle.statement.specs.Benches.{Text}
+use Rattle.statement.specs.Netlists.{Definition, Netlist, cells, is_cell, name_of, signals}
 use Rattle.netlist.specs.Conditions.{IsSound}
 use Rattle.netlist.specs.Designs.{IsDesign}
 use Rattle.netlist.proofs.Placed.{signals_length}
 use Rattle.scan_insert.specs.declared.sites.Site.{Site}
-use Rattle.scan_insert.specs.Names.{numbers_from, output_name}
+use Rattle.statement.specs.Runs.{numbers_from, output_name}
 use Rattle.scan_insert.specs.Named.{HasSiteNames, HasScanNames, HasTesterNames, tester_names}
 use Rattle.scan_insert.specs.Scan.{scanned}
 use Rattle.scan_insert.specs.Scanned.{AreChainsOf, first_definition, first_scan_out, naming_of, own_site, scanned_of, site, sites_from, sites_of}
@@ -20,7 +20,7 @@ use Rattle.scan_insert.proofs.Numbers.{contains_numbers, length-numbers_from, th
 use Rattle.scan_insert.proofs.Placing.{length-sites_from, out_numbers, site_of_input}
 use Rattle.scan_insert.proofs.Ready.{is_input, outputs_within}
 use Rattle.scan_insert.proofs.Soundness.{scanned_is_sound}
-use Rattle.stil_write.specs.StilFiles.{numbered}
+use Rattle.statement.specs.Stils.{numbered}
 
 numbered_is : (stem : Text) (k : ℕ) → numbered stem k ≡ map (λ c. stem ++ decimal c) (numbers_from 0 k)
 numbered_is stem zero = refl

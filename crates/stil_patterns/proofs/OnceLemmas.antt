@@ -2,20 +2,19 @@
 use Rattle.std.proofs.Common.{◌≡◌, ◌∙◌, ℕ, suc, Bool, List, [], ◌∷◌, ◌++◌, ap, sym, refl, subst, length, map, arith, None}
 use Rattle.std.specs.List.{All, AllZip, Contains, flat_map, zip}
 use Rattle.std.proofs.lemmas.List.Elements.{All-contains}
-use Rattle.netlist.specs.declared.lines.Line.TheVariants.{Out}
-use Rattle.netlist.specs.Netlist.{Definition, Netlist, cells, is_cell, signals}
+use Rattle.statement.specs.declared.lines.Line.TheVariants.{Out}
+use Rattle.statement.specs.Netlists.{Definition, Netlist, cells, is_cell, signals}
 use Rattle.netlist.specs.Conditions.{IsSound}
-use Rattle.netlist.specs.Holds.{Holds}
-use Rattle.netlist.specs.Settled.{Rule, Settles, bits, next, on_pins, outs, pins_of}
+use Rattle.statement.specs.Patterns.{Holds, Pattern}
+use Rattle.statement.specs.Values.{Rule, Settles, bits, next, on_pins, outs, pins_of}
 use Rattle.netlist.proofs.Alike.{settles_once}
 use Rattle.std.specs.Bool.{beq}
 use Rattle.netlist.proofs.Lists.{contains_filter, decides_beq}
-use Rattle.cubes.specs.Cubes.{Pattern, IsPatternOf}
+use Rattle.cubes.specs.Cubes.{IsPatternOf}
 use Rattle.scan_insert.specs.Scanned.{AreChainsOf}
-use Rattle.scan_play.specs.Vectors.{Response, Responds}
-use Rattle.stil_write.specs.StilFiles.{Item, StilFile}
+use Rattle.statement.specs.Tests.{Response, Responds, IsFileOf}
+use Rattle.statement.specs.Stils.{Item, StilFile}
 use Rattle.stil_vectors.specs.TestFiles.{test_file}
-use Rattle.stil_patterns.specs.Tests.{IsFileOf}
 use Rattle.stil_patterns.specs.Laws.{OneFile, OnePatternList}
 use Rattle.stil_patterns.specs.inner.Reading.{patterns_in}
 use Rattle.stil_patterns.proofs.BackLemmas.{file_back}

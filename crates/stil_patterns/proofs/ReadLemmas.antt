@@ -1,10 +1,12 @@
 -- Patterns as they are read, word by word.
 use Rattle.std.proofs.Common.{◌≡◌, ◌∙◌, ◌+◌, ◌-◌, ◌*◌, ◌<◌, ◌≤◌, ◌==◌, ℕ, zero, suc, min, Bool, true, false, List, [], ◌∷◌, ◌++◌, ap, sym, refl, subst, append_assoc, append-nil, length, map, take, drop, get_or, arith, reverse, Some, slice_get}
 use Rattle.std.proofs.lemmas.List.{drop_more, get_or-drop, get_or-map, get_or-reverse, length-drop, length-map, length-reverse, take_min, take_more}
-use Rattle.plain_text.specs.Texts.{Text}
-use Rattle.cubes.specs.Cubes.{Pattern}
-use Rattle.stil_write.specs.StilFiles.{Item, Vector, item_at, words_of}
-use Rattle.stil_vectors.specs.FileVectors.{driven_bit, bits_of}
+use Rattle.statement.specs.Benches.{Text}
+use Rattle.statement.specs.Patterns.{Pattern}
+use Rattle.statement.specs.Stils.{Item, Vector}
+use Rattle.stil_write.specs.StilFiles.{item_at, words_of}
+use Rattle.statement.specs.Tests.{driven_bit}
+use Rattle.stil_vectors.specs.FileVectors.{bits_of}
 use Rattle.stil_patterns.specs.inner.Reading.{cells_in, chain_in, pattern_in, tests_in}
 
 -- ---- characters

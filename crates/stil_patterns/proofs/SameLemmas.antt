@@ -2,9 +2,9 @@
 use Rattle.std.proofs.Common.{◌≡◌, ◌∙◌, Bool, true, false, MatchBool, refl, ap, sym, subst}
 use Rattle.std.specs.Str.{bytes_eq}
 use Rattle.std.proofs.lemmas.Slice.Eq.{bytes_eq-Decides}
-use Rattle.plain_text.specs.Texts.{Text}
-use Rattle.stil_write.specs.StilFiles.{IsStilFile, StilFile}
-use Rattle.stil_write.specs.Texts.{stil_text}
+use Rattle.statement.specs.Benches.{Text}
+use Rattle.stil_write.specs.StilFiles.{IsStilFile}
+use Rattle.statement.specs.Stils.{StilFile, stil_text}
 use Rattle.stil_read.specs.Laws.{AtMostOne, WrittenStands}
 use Rattle.stil_read.specs.Reading.{StandsFor}
 

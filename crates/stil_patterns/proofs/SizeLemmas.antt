@@ -2,14 +2,12 @@
 use Rattle.std.proofs.Common.{◌≡◌, ℕ, ◌+◌, ◌≤◌, Bool, false, not, List, [], ◌∷◌, ◌++◌, length, map, length-append, ap, arith, None}
 use Rattle.std.specs.Prelude.{replicate}
 use Rattle.std.specs.List.{AllZip, zip}
-use Rattle.netlist.specs.declared.kinds.Tri.{Tri}
-use Rattle.netlist.specs.declared.kinds.Tri.TheVariants.{X}
-use Rattle.netlist.specs.ThreeValues.{known}
-use Rattle.cubes.specs.Cubes.{Pattern}
-use Rattle.scan_insert.specs.Chains.{cells_of}
-use Rattle.scan_play.specs.Vectors.{Response, flush}
-use Rattle.stil_write.specs.StilFiles.{StilFile}
-use Rattle.stil_vectors.specs.TestFiles.{applied_items, capture_item, load_items, test_items}
+use Rattle.statement.specs.declared.kinds.Tri.{Tri}
+use Rattle.statement.specs.declared.kinds.Tri.TheVariants.{X}
+use Rattle.statement.specs.Values.{known}
+use Rattle.statement.specs.Patterns.{Pattern}
+use Rattle.statement.specs.Tests.{cells_of, Response, flush, applied_items, capture_item, load_items, test_items}
+use Rattle.statement.specs.Stils.{StilFile}
 use Rattle.stil_patterns.specs.Laws.{PatternsTakeItems}
 
 zip_long : {X Y : Type 0} (R : X → Y → Type 0) (xs : List X) (ys : List Y) → AllZip R xs ys → length xs ≤ length (zip xs ys)

@@ -1,14 +1,13 @@
 -- Words as they are made, character by character and chain by chain.
 use Rattle.std.proofs.Common.{Bool, true, ◌≡◌, ◌∙◌, ◌+◌, ◌<◌, ◌≤◌, ℕ, zero, suc, List, [], ◌∷◌, ◌++◌, ap, sym, append_assoc, length, map, take, drop, get_or, arith, Some, slice_get, length-append}
 use Rattle.std.proofs.lemmas.List.{drop-drop, map-append, map_more, map_push, take_all, take_more}
-use Rattle.scan_insert.specs.Chains.{cells_of}
-use Rattle.scan_play.specs.Shifts.{by_chain}
-use Rattle.scan_play.specs.Shifts.{held_or_zero, idle_inputs}
-use Rattle.netlist.specs.Holds.{Holds}
+use Rattle.statement.specs.Tests.{cells_of, by_chain, held_or_zero, char_of_bit}
+use Rattle.scan_play.specs.Shifts.{idle_inputs}
+use Rattle.statement.specs.Patterns.{Holds}
 use Rattle.std.specs.Prelude.{Option}
 use Rattle.std.proofs.lemmas.Option.{get_or_from_slice_get, slice_get_within}
-use Rattle.plain_text.specs.Texts.{Text}
-use Rattle.stil_vectors.specs.TestFiles.{char_of_bit, text_of_bits}
+use Rattle.statement.specs.Benches.{Text}
+use Rattle.stil_vectors.specs.TestFiles.{text_of_bits}
 
 pub char_more : {V : Type 0} (f : V → ℕ) (z : V) (values : List V) (t : ℕ) (so_far after : Text) (v : V) (char : ℕ) → t < length values → so_far ≡ map f (take t values)
     → v ≡ get_or values t z → char ≡ f v → after ≡ so_far ++ char ∷ [] → after ≡ map f (take (t + 1) values)

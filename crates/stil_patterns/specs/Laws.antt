@@ -1,19 +1,17 @@
 -- Laws of the file of patterns.
 use Rattle.std.specs.Prelude.{ℕ, ◌≡◌, ◌≤◌, List, length}
 use Rattle.std.specs.List.{All}
-use Rattle.netlist.specs.Netlist.{Netlist}
-use Rattle.netlist.specs.Holds.{Holds}
+use Rattle.statement.specs.Netlists.{Netlist}
+use Rattle.statement.specs.Patterns.{Holds, Pattern}
 use Rattle.netlist.specs.Conditions.{IsSound}
 use Rattle.netlist.specs.Designs.{IsDesign}
-use Rattle.cubes.specs.Cubes.{Pattern, IsPatternOf}
+use Rattle.cubes.specs.Cubes.{IsPatternOf}
 use Rattle.scan_insert.specs.Scanned.{AreChainsOf, scanned_of}
 use Rattle.scan_play.specs.Vectors.{AreVectors}
-use Rattle.stil_write.specs.StilFiles.{StilFile}
-use Rattle.stil_write.specs.Texts.{stil_text}
+use Rattle.statement.specs.Stils.{StilFile, stil_text}
 use Rattle.stil_read.specs.Reading.{StandsFor}
-use Rattle.stil_vectors.specs.FileVectors.{vectors_in}
+use Rattle.statement.specs.Tests.{vectors_in, IsFileOf}
 use Rattle.stil_vectors.specs.Fitting.{FitsNetlist}
-use Rattle.stil_patterns.specs.Tests.{IsFileOf}
 
 -- The file of patterns has their vectors.
 abbrev pub FileVectors : Type 0

@@ -1,11 +1,10 @@
 //! The items of patterns. The responses to 64 patterns are settled at once, each a bit of a word: pattern by pattern that was a sixth of a run.
 ghost use Rattle.std.specs.Prelude.{◌≡◌, ◌+◌, ◌^◌, ◌<◌, ◌≤◌, ◌++◌, [], length, map, take, None, IfOk, OnOk};
 ghost use Rattle.std.specs.List.{All};
-ghost use Rattle.netlist.specs.Netlist.{Netlist as Equations, cells};
+ghost use Rattle.statement.specs.Netlists.{Netlist as Equations, cells};
 ghost use Rattle.cubes.specs.Cubes.{IsPatternOf};
-ghost use Rattle.scan_insert.specs.Chains.{cells_of};
+ghost use Rattle.statement.specs.Tests.{cells_of, Responds};
 ghost use Rattle.scan_insert.specs.Scanned.{AreChainsOf};
-ghost use Rattle.scan_play.specs.Vectors.{Responds};
 ghost use Rattle.events.specs.Words.{bit_of};
 ghost use Rattle.word_sim.specs.Words.{HasWidthsOf};
 ghost use Rattle.stil_patterns.specs.inner.Added.{AreAll, AreBegun, IsAdded, flush_items, response_at};

@@ -1,10 +1,10 @@
 //! Vectors that capture.
 ghost use Rattle.std.specs.Prelude.{◌≡◌, ◌++◌, ◌∷◌, [], codes, false, length, map, replicate, OnOk};
-ghost use Rattle.netlist.specs.declared.kinds.Tri.TheVariants.{X};
-ghost use Rattle.netlist.specs.ThreeValues.{known};
-ghost use Rattle.scan_play.specs.Vectors.{Response};
-ghost use Rattle.stil_write.specs.StilFiles.{where_chained};
-ghost use Rattle.stil_vectors.specs.TestFiles.{capture_item, char_of_value, launch_item, text_of_bits, text_of_values};
+ghost use Rattle.statement.specs.declared.kinds.Tri.TheVariants.{X};
+ghost use Rattle.statement.specs.Values.{known};
+ghost use Rattle.statement.specs.Tests.{Response, capture_item, char_of_value};
+ghost use Rattle.statement.specs.Stils.{where_chained};
+ghost use Rattle.stil_vectors.specs.TestFiles.{launch_item, text_of_bits, text_of_values};
 
 use crate::loading::Room;
 use crate::words::{push_bits, push_strobes};

@@ -1,8 +1,7 @@
 //! Calls that load the chains.
 ghost use Rattle.std.specs.Prelude.{◌≡◌, ◌^◌, ◌<◌, ◌++◌, false, length, map, replicate, OnOk};
-ghost use Rattle.scan_insert.specs.Chains.{cells_of, longest_of};
-ghost use Rattle.scan_play.specs.Shifts.{by_chain, word_in, word_out};
-ghost use Rattle.stil_vectors.specs.TestFiles.{load_items, text_of_bits, text_of_values};
+ghost use Rattle.statement.specs.Tests.{cells_of, longest_of, by_chain, word_in, word_out, load_items};
+ghost use Rattle.stil_vectors.specs.TestFiles.{text_of_bits, text_of_values};
 
 use crate::words::{set_word_in, set_word_out};
 use netlist::Tri;

@@ -1,12 +1,11 @@
 //! The names of a file's signals and cells, and the word of a shift.
 ghost use Rattle.std.specs.Prelude.{◌≡◌, ◌^◌, ◌<◌, ◌++◌, codes, length, map, IfOk, OnOk};
 ghost use Rattle.std.specs.List.{All};
-ghost use Rattle.netlist.specs.Netlist.{name_of, signals};
-ghost use Rattle.scan_insert.specs.Names.{output_name};
+ghost use Rattle.statement.specs.Netlists.{name_of, signals};
+ghost use Rattle.statement.specs.Runs.{output_name};
 ghost use Rattle.scan_insert.specs.Scanned.{AreChainsOf};
-ghost use Rattle.stil_write.specs.StilFiles.{where_chained};
-ghost use Rattle.stil_vectors.specs.TestFiles.{char_of_bit, shift_word_of};
-ghost use Rattle.scan_play.specs.Shifts.{held_or_zero};
+ghost use Rattle.statement.specs.Stils.{where_chained};
+ghost use Rattle.statement.specs.Tests.{char_of_bit, shift_word_of, held_or_zero};
 
 use crate::words::char_of_bit;
 use netlist::{Holds, Netlist, NoMemory, SignalId};

@@ -1,7 +1,8 @@
 //! Whether patterns are those of a netlist and obey its held inputs.
 ghost use Rattle.std.specs.Prelude.{◌≡◌, ◌^◌, ◌<◌, MatchBool, length};
 ghost use Rattle.std.specs.List.{All};
-ghost use Rattle.netlist.specs.Holds.{AreHoldsOf, Obeys};
+ghost use Rattle.netlist.specs.Holds.{AreHoldsOf};
+ghost use Rattle.statement.specs.Patterns.{Obeys};
 ghost use Rattle.cubes.specs.Cubes.{IsPatternOf};
 ghost use Rattle.stil_patterns.specs.inner.Obeying.{IsMet};
 

@@ -6,8 +6,7 @@ ghost use Rattle.netlist.specs.Holds.{AreHoldsOf};
 ghost use Rattle.cubes.specs.Cubes.{IsPatternOf};
 ghost use Rattle.scan_insert.specs.Scanned.{AreChainsOf};
 ghost use Rattle.stil_write.specs.Parts.{file_of};
-ghost use Rattle.stil_vectors.specs.TestFiles.{file_with};
-ghost use Rattle.stil_patterns.specs.Tests.{IsFileOf};
+ghost use Rattle.statement.specs.Tests.{file_with, IsFileOf};
 
 use crate::applying::items_of;
 use crate::names::{chain_names, input_names, output_names, shift_word};

@@ -1,11 +1,12 @@
 //! The patterns of a file.
 ghost use Rattle.std.specs.Prelude.{◌≡◌, IfOk, List, MatchBool, MatchOption};
-ghost use Rattle.cubes.specs.Cubes.{IsPatternOf, Pattern as Test};
+ghost use Rattle.cubes.specs.Cubes.{IsPatternOf};
+ghost use Rattle.statement.specs.Patterns.{Pattern as Test};
 ghost use Rattle.std.specs.List.{All};
 ghost use Rattle.netlist.specs.Designs.{IsDesign};
 ghost use Rattle.netlist.specs.Holds.{AreHoldsOf};
 ghost use Rattle.scan_insert.specs.Scanned.{AreChainsOf};
-ghost use Rattle.stil_patterns.specs.Tests.{IsFileOf};
+ghost use Rattle.statement.specs.Tests.{IsFileOf};
 
 use crate::obeying::are_patterns;
 use crate::pattern_files::stil_of;

@@ -1,9 +1,9 @@
 //! Words: bits and strobes as characters.
 ghost use Rattle.std.specs.Prelude.{◌≡◌, ◌≤◌, ◌++◌, length, map, OnOk};
-ghost use Rattle.netlist.specs.ThreeValues.{known};
-ghost use Rattle.scan_play.specs.Shifts.{word_in, word_out};
-ghost use Rattle.stil_write.specs.StilFiles.{where_chained};
-ghost use Rattle.stil_vectors.specs.TestFiles.{char_of_bit, char_of_value, text_of_bits, text_of_values};
+ghost use Rattle.statement.specs.Values.{known};
+ghost use Rattle.statement.specs.Tests.{word_in, word_out, char_of_bit, char_of_value};
+ghost use Rattle.statement.specs.Stils.{where_chained};
+ghost use Rattle.stil_vectors.specs.TestFiles.{text_of_bits, text_of_values};
 
 use netlist::Tri;
 use scan_play::{bit_in, value_out};

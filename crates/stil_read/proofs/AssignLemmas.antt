@@ -3,8 +3,8 @@ use Rattle.std.proofs.Common.{◌≡◌, ◌∙◌, ◌+◌, ◌<◌, ◌≤◌,
 use Rattle.std.specs.Prelude.{Some, slice_get}
 use Rattle.std.proofs.lemmas.List.{take-append-drop, take_more, take_all, map_push}
 use Rattle.std.proofs.lemmas.Option.{get_or_from_slice_get, slice_get_within}
-use Rattle.plain_text.specs.Texts.{Text}
-use Rattle.stil_write.specs.Pieces.{quoted}
+use Rattle.statement.specs.Benches.{Text}
+use Rattle.statement.specs.Stils.{quoted}
 use Rattle.stil_read.specs.Tokens.{Token}
 use Rattle.stil_read.specs.inner.Assigned.{AreAssigned, NoneAssigned, assigned_tokens, assignment_tokens}
 

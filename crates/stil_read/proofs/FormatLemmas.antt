@@ -1,6 +1,6 @@
 -- What stands at the front of a text, in the words of the format.
 use Rattle.std.proofs.Common.{suc, zero, ◌≡◌, ◌≢◌, ℕ, Bool, true, false, if◌then◌else◌, List, [], ◌∷◌, ◌++◌, length, take, drop, refl, sym, ap, ◌∙◌, append_assoc, eq-eqb}
-use Rattle.plain_text.specs.Texts.{Text}
+use Rattle.statement.specs.Benches.{Text}
 use Rattle.stil_read.specs.declared.bytes.Class.{Class}
 use Rattle.stil_read.specs.declared.bytes.Class.TheVariants as class
 use Rattle.stil_read.specs.Tokens.{Spelled, Stray, Between, InQuotes, InLine, InBlock, class_of, tokens_from, tokens}

@@ -2,8 +2,8 @@
 use Rattle.std.proofs.Common.{◌≡◌, ◌∙◌, List, [], ◌∷◌, ◌++◌, ap, sym, refl, append_assoc, append-nil, length, length-append, arith, ◌<◌, map}
 use Rattle.std.specs.List.{flat_map}
 use Rattle.std.proofs.lemmas.List.Elements.{All-append, All-cons, All-nil}
-use Rattle.plain_text.specs.Texts.{Text}
-use Rattle.stil_write.specs.StilFiles.{Item, Call, Vector}
+use Rattle.statement.specs.Benches.{Text}
+use Rattle.statement.specs.Stils.{Item, Call, Vector}
 use Rattle.stil_write.specs.Pieces.{HasTargets}
 use Rattle.stil_read.specs.Tokens.{Token, Spelled, class_of, tokens, tokens_from}
 use Rattle.stil_read.specs.inner.Assigned.{AreAssigned, assigned_tokens}

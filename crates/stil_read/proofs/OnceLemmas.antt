@@ -1,10 +1,9 @@
 -- The same tokens have one reading.
 use Rattle.std.proofs.Common.{◌≡◌, ◌∙◌, ◌≤◌, ◌<◌, ℕ, zero, suc, List, [], ◌∷◌, ◌++◌, ap, sym, refl, subst, length, arith}
 use Rattle.std.specs.Prelude.{Option, None, Some, codes, map}
-use Rattle.plain_text.specs.Texts.{Text}
-use Rattle.stil_write.specs.StilFiles.{Item, StilFile}
-use Rattle.stil_write.specs.Pieces.{quoted}
-use Rattle.stil_write.specs.Texts.{assigned, called, head_text}
+use Rattle.statement.specs.Benches.{Text}
+use Rattle.statement.specs.Stils.{Item, StilFile, quoted, assigned, called}
+use Rattle.stil_write.specs.Texts.{head_text}
 use Rattle.stil_read.specs.Tokens.{Spelled, Token, tokens}
 use Rattle.stil_read.specs.inner.Signals.{AreSignals}
 use Rattle.stil_read.specs.inner.Items.{AreAllItems}

@@ -3,10 +3,10 @@ use Rattle.std.proofs.Common.{◌≡◌, ◌∙◌, ◌+◌, ◌≤◌, ◌<◌,
 use Rattle.std.specs.Prelude.{◌==◌, ◌&&◌, codes, Some, None, if◌then◌else◌, ⊤}
 use Rattle.std.specs.List.{flat_map}
 use Rattle.std.specs.Str.{bytes_eq}
-use Rattle.plain_text.specs.Texts.{Text}
-use Rattle.stil_write.specs.StilFiles.{StilFile, clock, numbered, scan_inputs, scan_outputs, where_chained}
-use Rattle.stil_write.specs.Pieces.{chain_end, chain_head, expression, group_line, joined, quoted, signal_line, signal_lines, waveform_line, waveform_lines}
-use Rattle.stil_write.specs.Texts.{burst_text, clock_form, drive_form, groups_text, procedures_head, strobe_form, timing_head, timing_text}
+use Rattle.statement.specs.Benches.{Text}
+use Rattle.statement.specs.Stils.{StilFile, clock, numbered, scan_inputs, scan_outputs, where_chained, group_line, joined, quoted, timing_text}
+use Rattle.stil_write.specs.Pieces.{chain_end, chain_head, expression, signal_line, signal_lines, waveform_line, waveform_lines}
+use Rattle.stil_write.specs.Texts.{burst_text, clock_form, drive_form, groups_text, procedures_head, strobe_form, timing_head}
 use Rattle.stil_read.specs.declared.bytes.Class.TheVariants as class
 use Rattle.stil_read.specs.Tokens.{InQuotes, Spelled, Token, class_of, tokens, tokens_from}
 use Rattle.stil_read.specs.inner.Assigned.{assigned_tokens, assignment_tokens}

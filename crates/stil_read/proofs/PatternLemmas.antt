@@ -3,9 +3,9 @@ use Rattle.std.proofs.Common.{◌≡◌, ◌∙◌, List, [], ◌∷◌, ◌++�
 use Rattle.std.specs.Prelude.{codes, ⊤}
 use Rattle.std.specs.List.{All, flat_map}
 use Rattle.std.proofs.lemmas.List.Elements.{All-head, All-tail}
-use Rattle.plain_text.specs.Texts.{Text}
-use Rattle.stil_write.specs.StilFiles.{Item, Call, Vector}
-use Rattle.stil_write.specs.Pieces.{HasTargets, assignments, item_line, quoted}
+use Rattle.statement.specs.Benches.{Text}
+use Rattle.statement.specs.Stils.{Item, Call, Vector, assignments, quoted}
+use Rattle.stil_write.specs.Pieces.{HasTargets, item_line}
 use Rattle.stil_read.specs.Tokens.{Spelled, Token, class_of, tokens, tokens_from}
 use Rattle.stil_read.specs.inner.Assigned.{assigned_tokens}
 use Rattle.stil_read.specs.inner.Items.{AreAllItems, NoItem, begun_tokens, call_begins, item_ends, item_tokens, vector_begins}

@@ -1,8 +1,8 @@
 -- Reading as a whole.
 use Rattle.std.proofs.Common.{◌≡◌, ◌∙◌, ap, sym, refl, subst}
-use Rattle.plain_text.specs.Texts.{Text}
-use Rattle.stil_write.specs.StilFiles.{IsStilFile, StilFile}
-use Rattle.stil_write.specs.Texts.{stil_text}
+use Rattle.statement.specs.Benches.{Text}
+use Rattle.stil_write.specs.StilFiles.{IsStilFile}
+use Rattle.statement.specs.Stils.{StilFile, stil_text}
 use Rattle.stil_read.specs.Laws.{AtMostOne, WrittenStands}
 use Rattle.stil_read.specs.Reading.{StandsFor}
 use Rattle.stil_read.specs.Tokens.{tokens}

@@ -1,7 +1,7 @@
 -- Signals of one kind, one after the other.
 use Rattle.std.proofs.Common.{◌≡◌, ◌∙◌, List, [], ◌∷◌, ◌++◌, ap, sym, refl, append_assoc, append-nil}
-use Rattle.plain_text.specs.Texts.{Text}
-use Rattle.stil_write.specs.Pieces.{quoted}
+use Rattle.statement.specs.Benches.{Text}
+use Rattle.statement.specs.Stils.{quoted}
 use Rattle.stil_read.specs.Tokens.{Token, Spelled, tokens}
 use Rattle.stil_read.specs.inner.Signals.{AreSignals, NoSignal, signal_tokens}
 

@@ -2,7 +2,7 @@
 use Rattle.std.proofs.Common.{◌≡◌, ◌∙◌, Bool, true, false, List, [], ◌∷◌, ◌++◌, ap, sym, refl, append_assoc}
 use Rattle.std.specs.Prelude.{None, Some, if◌then◌else◌, Option}
 use Rattle.std.specs.List.{flat_map}
-use Rattle.plain_text.specs.Texts.{Text}
+use Rattle.statement.specs.Benches.{Text}
 use Rattle.stil_read.specs.Tokens.{Token, tokens}
 use Rattle.stil_read.specs.inner.Skips.{Passes, behind_first, is_spelled}
 

@@ -5,12 +5,13 @@ use Rattle.std.specs.List.{All, flat_map}
 use Rattle.std.specs.Str.{bytes_eq}
 use Rattle.std.proofs.lemmas.List.{length-map}
 use Rattle.std.proofs.lemmas.List.Elements.{All-cons, All-head, All-nil, All-tail, All-weaker}
-use Rattle.plain_text.specs.Texts.{Text}
+use Rattle.statement.specs.Benches.{Text}
 use Rattle.stil_write.specs.declared.forms.Form.{Form}
 use Rattle.stil_write.specs.declared.forms.CharKind.TheVariants as values
-use Rattle.stil_write.specs.StilFiles.{Call, IsItem, IsStilName, IsStilFile, Item, StilFile, Vector, call_forms, clock, item_kind, numbered, scan_inputs, scan_outputs, declared_signals, vector_forms, where_chained, words_of}
-use Rattle.stil_write.specs.Pieces.{HasTargets, assignments, chain_block, chain_blocks, chain_end, chain_head, item_line, item_text, joined, quoted, signal_lines, targets}
-use Rattle.stil_write.specs.Texts.{assigned, burst_text, called, groups_text, head_text, pattern_text, procedures_by, procedures_head, shift_words, signals_text, stil_text, structures_text, timing_text}
+use Rattle.statement.specs.Stils.{Call, Item, StilFile, Vector, clock, numbered, scan_inputs, scan_outputs, where_chained, assignments, chain_block, chain_blocks, item_text, joined, quoted, assigned, called, procedures_by, shift_words, signals_text, stil_text, structures_text, timing_text}
+use Rattle.stil_write.specs.StilFiles.{IsItem, IsStilName, IsStilFile, call_forms, item_kind, declared_signals, vector_forms, words_of}
+use Rattle.stil_write.specs.Pieces.{HasTargets, chain_end, chain_head, item_line, signal_lines, targets}
+use Rattle.stil_write.specs.Texts.{burst_text, groups_text, head_text, pattern_text, procedures_head}
 use Rattle.stil_write.proofs.ItemLemmas.{have_targets, length-numbered}
 use Rattle.stil_read.specs.declared.bytes.Class.TheVariants as class
 use Rattle.stil_read.specs.Tokens.{Spelled, Token, class_of, tokens, tokens_from}

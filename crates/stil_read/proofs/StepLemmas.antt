@@ -1,8 +1,8 @@
 -- What a reader that stopped says of every file.
 use Rattle.std.proofs.Common.{◌≡◌, ◌∙◌, ◌≤◌, ◌<◌, ◌+◌, ◌⊎◌, inl, inr, ℕ, zero, suc, List, [], ◌∷◌, ◌++◌, ap, sym, refl, subst, length, arith, add-one, length-append, ◌-◌}
 use Rattle.std.specs.Prelude.{Option, None, Some, codes}
-use Rattle.plain_text.specs.Texts.{Text}
-use Rattle.stil_write.specs.StilFiles.{Item, StilFile}
+use Rattle.statement.specs.Benches.{Text}
+use Rattle.statement.specs.Stils.{Item, StilFile}
 use Rattle.stil_write.specs.Texts.{head_text}
 use Rattle.stil_read.specs.Tokens.{Spelled, Token, class_of, tokens, tokens_from}
 use Rattle.stil_read.specs.inner.Signals.{AreSignals}

@@ -1,8 +1,9 @@
 -- The tokens of written lines.
 use Rattle.std.proofs.Common.{◌≡◌, ◌∙◌, ℕ, false, [], ◌∷◌, ◌++◌, ap, sym, refl, append_assoc, append-nil}
 use Rattle.std.specs.Prelude.{◌==◌, codes}
-use Rattle.plain_text.specs.Texts.{Text}
-use Rattle.stil_write.specs.Pieces.{assignment, assignments, quoted, signal_line, signal_lines}
+use Rattle.statement.specs.Benches.{Text}
+use Rattle.stil_write.specs.Pieces.{assignment, signal_line, signal_lines}
+use Rattle.statement.specs.Stils.{assignments, quoted}
 use Rattle.stil_read.specs.declared.bytes.Class.TheVariants as class
 use Rattle.stil_read.specs.Tokens.{InQuotes, InWord, Spelled, class_of, tokens, tokens_from}
 use Rattle.stil_read.specs.inner.Assigned.{assignment_tokens}

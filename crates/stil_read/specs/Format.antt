@@ -1,7 +1,7 @@
 -- The tokens of a text in the words of the format: what stands at the front, and the tokens behind it.
 use Rattle.std.specs.Prelude.{ℕ, ◌≡◌, ◌≢◌, ⊤, true, false, List, [], ◌∷◌, ◌++◌}
 use Rattle.std.specs.List.{AllByRecursion}
-use Rattle.plain_text.specs.Texts.{Text}
+use Rattle.statement.specs.Benches.{Text}
 use Rattle.stil_read.specs.declared.bytes.Class.{Class}
 use Rattle.stil_read.specs.declared.bytes.Class.TheVariants as class
 use Rattle.stil_read.specs.Tokens.{Spelled, Stray, class_of, tokens}

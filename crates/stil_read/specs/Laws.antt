@@ -1,8 +1,8 @@
 -- Laws of reading.
 use Rattle.std.specs.Prelude.{◌≡◌, ◌≤◌, length}
-use Rattle.plain_text.specs.Texts.{Text}
-use Rattle.stil_write.specs.StilFiles.{StilFile, IsStilFile}
-use Rattle.stil_write.specs.Texts.{stil_text}
+use Rattle.statement.specs.Benches.{Text}
+use Rattle.statement.specs.Stils.{StilFile, stil_text}
+use Rattle.stil_write.specs.StilFiles.{IsStilFile}
 use Rattle.stil_read.specs.Reading.{StandsFor}
 
 -- bytes stand for one file at most

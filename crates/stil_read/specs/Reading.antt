@@ -1,8 +1,8 @@
 -- What a STIL text stands for.
 use Rattle.std.specs.Prelude.{◌≡◌, ⊤, Result, Ok, Err}
-use Rattle.plain_text.specs.Texts.{Text}
-use Rattle.stil_write.specs.StilFiles.{StilFile, IsStilFile}
-use Rattle.stil_write.specs.Texts.{stil_text}
+use Rattle.statement.specs.Benches.{Text}
+use Rattle.statement.specs.Stils.{StilFile, stil_text}
+use Rattle.stil_write.specs.StilFiles.{IsStilFile}
 use Rattle.stil_read.specs.Tokens.{tokens}
 use Rattle.stil_read.specs.declared.reader.StilFault.{StilFault}
 use Rattle.stil_read.specs.declared.reader.StilFault.TheVariants as fault

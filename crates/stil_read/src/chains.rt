@@ -1,6 +1,6 @@
 //! The names of the chains' cells.
 ghost use Rattle.std.specs.Prelude.{List, IfOk, MatchOption};
-ghost use Rattle.plain_text.specs.Texts.{Text};
+ghost use Rattle.statement.specs.Benches.{Text};
 ghost use Rattle.stil_read.specs.Tokens.{Token as Piece, tokens};
 ghost use Rattle.stil_read.specs.inner.Grammar.{AreChains, IsChain};
 

@@ -1,7 +1,7 @@
 //! The parts that a text can stand for.
 ghost use Rattle.std.specs.Prelude.{IfOk, MatchOption};
 ghost use Rattle.stil_write.specs.Parts.{file_of};
-ghost use Rattle.stil_write.specs.StilFiles.{StilFile};
+ghost use Rattle.statement.specs.Stils.{StilFile};
 ghost use Rattle.stil_read.specs.Tokens.{tokens};
 ghost use Rattle.stil_read.specs.inner.Grammar.{IsSpelt};
 

@@ -1,7 +1,7 @@
 //! The vector of a shift, and the pattern.
 ghost use Rattle.std.specs.Prelude.{List, IfOk, MatchOption};
-ghost use Rattle.plain_text.specs.Texts.{Text};
-ghost use Rattle.stil_write.specs.StilFiles.{Item};
+ghost use Rattle.statement.specs.Benches.{Text};
+ghost use Rattle.statement.specs.Stils.{Item};
 ghost use Rattle.stil_read.specs.Tokens.{Token as Piece, tokens};
 ghost use Rattle.stil_read.specs.inner.Grammar.{ArePattern, IsShifted};
 

@@ -1,6 +1,6 @@
 //! The block of signals.
 ghost use Rattle.std.specs.Prelude.{◌≡◌, ◌≢◌, ◌++◌, ℕ, List, IfOk, MatchOption};
-ghost use Rattle.plain_text.specs.Texts.{Text};
+ghost use Rattle.statement.specs.Benches.{Text};
 ghost use Rattle.stil_read.specs.Tokens.{Token as Piece, tokens};
 ghost use Rattle.stil_read.specs.inner.Grammar.{AreDeclared, clock_tokens};
 

@@ -1,7 +1,7 @@
 //! Signals of one kind, line by line.
 ghost use Rattle.std.specs.Prelude.{◌≡◌, ◌≢◌, ◌<◌, ◌++◌, ◌∷◌, List, length, IfOk, IfSome, MatchOption};
-ghost use Rattle.plain_text.specs.Texts.{Text};
-ghost use Rattle.stil_write.specs.Pieces.{quoted};
+ghost use Rattle.statement.specs.Benches.{Text};
+ghost use Rattle.statement.specs.Stils.{quoted};
 ghost use Rattle.stil_read.specs.Tokens.{Token as Piece, Spelled, tokens};
 ghost use Rattle.stil_read.specs.inner.Signals.{AreSignals, NoSignal};
 

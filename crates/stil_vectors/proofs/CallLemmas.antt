@@ -5,20 +5,19 @@ use Rattle.std.specs.List.{All, flat_map}
 use Rattle.std.proofs.lemmas.List.{length-replicate, length-take, length-drop}
 use Rattle.std.proofs.lemmas.Option.{get_or_from_slice_get}
 use Rattle.std.proofs.lemmas.Slice.Zip.{AllZip-long}
-use Rattle.plain_text.specs.Texts.{Text}
-use Rattle.netlist.specs.declared.kinds.Tri.{Tri}
-use Rattle.netlist.specs.declared.kinds.Tri.TheVariants.{X}
-use Rattle.scan_insert.specs.Names.{numbers_from}
-use Rattle.scan_play.specs.Cycles.{Cycle}
+use Rattle.statement.specs.Benches.{Text}
+use Rattle.statement.specs.declared.kinds.Tri.{Tri}
+use Rattle.statement.specs.declared.kinds.Tri.TheVariants.{X}
+use Rattle.statement.specs.Runs.{numbers_from, Cycle}
 use Rattle.scan_play.specs.Bursts.{cycle_at}
-use Rattle.scan_play.specs.Shifts.{column}
-use Rattle.scan_play.proofs.BurstLemmas.{enough}
-use Rattle.scan_play.proofs.BurstLemmas.{map_numbers, same_cycle}
+use Rattle.statement.specs.Tests.{column, driven_bit, call_cycle, cycles_of_item, strobed_value}
+use Rattle.scan_play.proofs.BurstLemmas.{enough, map_numbers, same_cycle}
 use Rattle.scan_play.proofs.LoadLemmas.{row_of_flat}
 use Rattle.stil_write.specs.declared.forms.Form.{Form}
 use Rattle.stil_write.specs.declared.forms.CharKind.TheVariants as values
-use Rattle.stil_write.specs.StilFiles.{Call, IsStilCall, IsItem, IsStilFile, IsWord, Item, StilFile, Vector, call_forms, item_at}
-use Rattle.stil_vectors.specs.FileVectors.{driven_bit, bits_of, call_cycle, call_size, cycles_of_item, strobed_value, values_of}
+use Rattle.statement.specs.Stils.{Call, Item, StilFile, Vector}
+use Rattle.stil_write.specs.StilFiles.{IsStilCall, IsItem, IsStilFile, IsWord, call_forms, item_at}
+use Rattle.stil_vectors.specs.FileVectors.{bits_of, call_size, values_of}
 use Rattle.stil_vectors.proofs.CharLemmas.{all_at, length-chars, zip_all}
 
 -- what stays and what changes, cycle by cycle

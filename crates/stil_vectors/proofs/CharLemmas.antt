@@ -6,7 +6,7 @@ use Rattle.std.proofs.lemmas.List.{map_push, map-append, take_more, take_all, le
 use Rattle.std.proofs.lemmas.List.Concat.{flat_map-append}
 use Rattle.std.proofs.lemmas.List.Elements.{All-cons, All-head, All-nil, All-tail}
 use Rattle.std.proofs.lemmas.Option.{get_or_from_slice_get, slice_get-get_or, slice_get_within}
-use Rattle.plain_text.specs.Texts.{Text}
+use Rattle.statement.specs.Benches.{Text}
 use Rattle.stil_vectors.specs.FileVectors.{together}
 
 -- one more element

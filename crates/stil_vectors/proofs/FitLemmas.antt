@@ -11,12 +11,12 @@ use Rattle.std.proofs.lemmas.Map.Made.{IsDistinct-from_AllPairs}
 use Rattle.std.proofs.lemmas.Map.Steps.{length-le_from_distinct_below}
 use Rattle.std.proofs.lemmas.Slice.Eq.{bytes_eq-Decides}
 use Rattle.std.proofs.lemmas.Option.{get_or_from_slice_get, slice_get-get_or}
-use Rattle.plain_text.specs.Texts.{Text}
+use Rattle.statement.specs.Benches.{Text}
 use Rattle.netlist.specs.Conditions.{IsSound, most_signals}
-use Rattle.netlist.specs.Netlist.{Netlist, cells, name_of, signals}
+use Rattle.statement.specs.Netlists.{Netlist, cells, name_of, signals}
 use Rattle.netlist.proofs.Placed.{input_below, signal_below}
-use Rattle.scan_insert.specs.Names.{output_name}
-use Rattle.stil_write.specs.StilFiles.{StilFile, scan_inputs, scan_outputs}
+use Rattle.statement.specs.Runs.{output_name}
+use Rattle.statement.specs.Stils.{StilFile, scan_inputs, scan_outputs}
 use Rattle.stil_vectors.specs.Fitting.{FitsNetlist}
 use Rattle.stil_vectors.proofs.CharLemmas.{take_at}
 

@@ -3,12 +3,13 @@ use Rattle.std.proofs.Common.{◌≡◌, ◌∙◌, ◌+◌, ◌<◌, ◌≤◌,
 use Rattle.std.specs.List.{flat_map}
 use Rattle.std.proofs.lemmas.List.{append-nil, length-map, take-append-drop, take_more}
 use Rattle.std.proofs.lemmas.List.Concat.{flat_map-append}
-use Rattle.plain_text.specs.Texts.{Text}
-use Rattle.scan_insert.specs.Names.{numbers_from}
+use Rattle.statement.specs.Benches.{Text}
+use Rattle.statement.specs.Runs.{numbers_from, Cycle}
 use Rattle.scan_insert.proofs.Numbers.{length-numbers_from}
-use Rattle.scan_play.specs.Cycles.{Cycle}
-use Rattle.stil_write.specs.StilFiles.{Call, Item, StilFile, Vector, item_at, words_of}
-use Rattle.stil_vectors.specs.FileVectors.{call_cycle, call_size, cycles_of_item, vectors_in}
+use Rattle.statement.specs.Stils.{Call, Item, StilFile, Vector}
+use Rattle.stil_write.specs.StilFiles.{item_at, words_of}
+use Rattle.statement.specs.Tests.{call_cycle, cycles_of_item, vectors_in}
+use Rattle.stil_vectors.specs.FileVectors.{call_size}
 use Rattle.stil_vectors.proofs.CallLemmas.{first_size}
 
 pub call_count : (f : StilFile) (item : Item) (words : List Text) (first : Text) → item ≡ Call words → slice_get words 0 ≡ Some first → length first ≡ length (cycles_of_item f item)

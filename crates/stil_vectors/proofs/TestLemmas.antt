@@ -4,25 +4,23 @@ use Rattle.std.specs.Prelude.{codes, ◌==◌}
 use Rattle.std.specs.List.{flat_map}
 use Rattle.std.proofs.lemmas.List.{length-replicate, length-map, length-reverse, length-take, map-append}
 use Rattle.std.proofs.lemmas.List.Concat.{flat_map-append}
-use Rattle.plain_text.specs.Texts.{Text}
-use Rattle.netlist.specs.declared.kinds.Tri.{Tri}
-use Rattle.netlist.specs.declared.kinds.Tri.TheVariants.{Zero, One, X}
-use Rattle.netlist.specs.Holds.{Holds}
-use Rattle.netlist.specs.Netlist.{Netlist, name_of}
-use Rattle.netlist.specs.ThreeValues.{known}
-use Rattle.cubes.specs.Cubes.{Pattern}
-use Rattle.scan_insert.specs.Chains.{cells_of, longest_of}
-use Rattle.scan_insert.specs.Names.{numbers_from, output_name}
-use Rattle.scan_play.specs.Cycles.{Cycle}
-use Rattle.scan_play.specs.Shifts.{by_chain, column, idle_inputs, load, shift, word_in, word_out}
-use Rattle.scan_play.specs.Vectors.{Response, applied, capture, flush, vectors}
+use Rattle.statement.specs.Benches.{Text}
+use Rattle.statement.specs.declared.kinds.Tri.{Tri}
+use Rattle.statement.specs.declared.kinds.Tri.TheVariants.{Zero, One, X}
+use Rattle.statement.specs.Patterns.{Holds, Pattern}
+use Rattle.statement.specs.Netlists.{Netlist, name_of}
+use Rattle.statement.specs.Values.{known}
+use Rattle.statement.specs.Tests.{cells_of, longest_of, by_chain, column, word_in, word_out, Response, flush, driven_bit, call_cycle, cycles_of_item, has_pulse, strobed_value, applied_items, capture_item, char_of_bit, char_of_value, load_items, shift_word_of}
+use Rattle.statement.specs.Runs.{numbers_from, output_name, Cycle}
+use Rattle.scan_play.specs.Shifts.{idle_inputs, load, shift}
+use Rattle.scan_play.specs.Vectors.{applied, capture, vectors}
 use Rattle.scan_play.specs.inner.Applied.{plain_cycle}
 use Rattle.scan_play.proofs.ApplyLemmas.{capture_plain}
 use Rattle.scan_play.proofs.BurstLemmas.{same_cycle}
-use Rattle.stil_write.specs.StilFiles.{Item, StilFile, Vector, where_chained}
-use Rattle.stil_vectors.specs.FileVectors.{driven_bit, bits_of, call_cycle, call_size, cycles_of_item, has_pulse, together, strobed_value, values_of}
+use Rattle.statement.specs.Stils.{Item, StilFile, Vector, where_chained}
+use Rattle.stil_vectors.specs.FileVectors.{bits_of, call_size, together, values_of}
 use Rattle.stil_vectors.specs.Laws.{TestVectors}
-use Rattle.stil_vectors.specs.TestFiles.{applied_items, capture_item, char_of_bit, char_of_value, load_items, load_words, shift_word_of, test_file, text_of_bits, text_of_values}
+use Rattle.stil_vectors.specs.TestFiles.{load_words, test_file, text_of_bits, text_of_values}
 use Rattle.stil_vectors.proofs.WidthLemmas.{back_of, drop_more, front_of}
 
 -- ---- characters

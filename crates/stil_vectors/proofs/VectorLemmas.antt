@@ -6,18 +6,20 @@ use Rattle.std.proofs.lemmas.List.{length-replicate}
 use Rattle.std.proofs.lemmas.List.Concat.{flat_map-append}
 use Rattle.std.proofs.lemmas.Option.{get_or_from_slice_get, slice_get-get_or}
 use Rattle.std.proofs.lemmas.Slice.Zip.{AllZip-long}
-use Rattle.plain_text.specs.Texts.{Text}
-use Rattle.netlist.specs.declared.kinds.Tri.{Tri}
-use Rattle.netlist.specs.declared.kinds.Tri.TheVariants.{X}
-use Rattle.scan_play.specs.Cycles.{Cycle}
+use Rattle.statement.specs.Benches.{Text}
+use Rattle.statement.specs.declared.kinds.Tri.{Tri}
+use Rattle.statement.specs.declared.kinds.Tri.TheVariants.{X}
+use Rattle.statement.specs.Runs.{Cycle}
 use Rattle.scan_play.specs.Bursts.{all_cycles, cycles_of}
 use Rattle.scan_play.specs.declared.cycles.Burst.{Burst}
 use Rattle.stil_write.specs.declared.items.ItemKind.{ItemKind}
 use Rattle.stil_write.specs.declared.items.ItemKind.TheVariants as kind
 use Rattle.stil_write.specs.declared.forms.Form.{Form}
 use Rattle.stil_write.specs.declared.forms.CharKind.TheVariants as values
-use Rattle.stil_write.specs.StilFiles.{Call, IsItem, IsStilFile, IsWord, Item, StilFile, Vector, clock, item_at, item_of, item_kind, vector_forms, where_chained, words_of}
-use Rattle.stil_vectors.specs.FileVectors.{IsPulsed, has_pulse, cycles_of_item, vector_cycle}
+use Rattle.statement.specs.Stils.{Call, Item, StilFile, Vector, clock, where_chained}
+use Rattle.stil_write.specs.StilFiles.{IsItem, IsStilFile, IsWord, item_at, item_of, item_kind, vector_forms, words_of}
+use Rattle.stil_vectors.specs.FileVectors.{IsPulsed}
+use Rattle.statement.specs.Tests.{has_pulse, cycles_of_item, vector_cycle}
 use Rattle.scan_play.proofs.BurstLemmas.{same_cycle}
 use Rattle.stil_vectors.proofs.CallLemmas.{CallWords, call_item, call_words}
 use Rattle.stil_vectors.proofs.CharLemmas.{take_at, zip_has}

@@ -4,17 +4,19 @@ use Rattle.std.specs.Prelude.{codes, slice_index_or}
 use Rattle.std.specs.List.{All, AllZip, flat_map}
 use Rattle.std.proofs.lemmas.List.{length-replicate, length-take, length-drop, length-map, drop_at, take-append-le, take_all}
 use Rattle.std.proofs.lemmas.List.Elements.{All-append, All-cons, All-head, All-nil, All-tail, All-weaker}
-use Rattle.plain_text.specs.Texts.{Text}
-use Rattle.netlist.specs.declared.kinds.Tri.{Tri}
-use Rattle.netlist.specs.declared.kinds.Tri.TheVariants.{X}
-use Rattle.netlist.specs.Netlist.{Netlist, name_of}
-use Rattle.scan_insert.specs.Names.{numbers_from, output_name}
-use Rattle.scan_play.specs.Cycles.{Cycle, IsCycleOf}
+use Rattle.statement.specs.Benches.{Text}
+use Rattle.statement.specs.declared.kinds.Tri.{Tri}
+use Rattle.statement.specs.declared.kinds.Tri.TheVariants.{X}
+use Rattle.statement.specs.Netlists.{Netlist, name_of}
+use Rattle.statement.specs.Runs.{numbers_from, output_name, Cycle}
+use Rattle.scan_play.specs.Cycles.{IsCycleOf}
 use Rattle.stil_write.specs.declared.forms.Form.{Form}
 use Rattle.stil_write.specs.declared.forms.CharKind.TheVariants as values
-use Rattle.stil_write.specs.StilFiles.{Call, IsItem, IsStilFile, IsWord, Item, StilFile, Vector, clock, scan_inputs, scan_outputs, shift_size, vector_forms, where_chained}
+use Rattle.statement.specs.Stils.{Call, Item, StilFile, Vector, clock, scan_inputs, scan_outputs, where_chained}
+use Rattle.stil_write.specs.StilFiles.{IsItem, IsStilFile, IsWord, shift_size, vector_forms}
 use Rattle.stil_write.proofs.ItemLemmas.{length-numbered}
-use Rattle.stil_vectors.specs.FileVectors.{driven_bit, bits_of, call_cycle, call_size, cycles_of_item, together, strobed_value, values_of, vector_cycle, vectors_in}
+use Rattle.statement.specs.Tests.{driven_bit, call_cycle, cycles_of_item, strobed_value, vector_cycle, vectors_in}
+use Rattle.stil_vectors.specs.FileVectors.{bits_of, call_size, together, values_of}
 use Rattle.stil_vectors.specs.Fitting.{FitsNetlist, IsCycleFor}
 use Rattle.stil_vectors.specs.Laws.{FittingCycles}
 use Rattle.stil_vectors.proofs.CallLemmas.{call_words}

@@ -1,9 +1,8 @@
 -- Files and netlists that fit together.
 use Rattle.std.specs.Prelude.{ℕ, ◌≡◌, ◌+◌, ◌↔◌, List, [], ◌++◌, length, map}
-use Rattle.netlist.specs.Netlist.{Netlist, cells, name_of}
-use Rattle.scan_insert.specs.Names.{output_name}
-use Rattle.scan_play.specs.Cycles.{Cycle}
-use Rattle.stil_write.specs.StilFiles.{StilFile, scan_inputs, scan_outputs}
+use Rattle.statement.specs.Netlists.{Netlist, cells, name_of}
+use Rattle.statement.specs.Runs.{output_name, Cycle}
+use Rattle.statement.specs.Stils.{StilFile, scan_inputs, scan_outputs}
 
 -- The inputs and the scan inputs are the netlist's inputs, the outputs and the scan outputs the pins of its outputs, in order, and there are chains exactly where there are cells.
 pub record FitsNetlist (f : StilFile) (n : Netlist) : Type 0 where

@@ -1,13 +1,13 @@
 -- Laws of a file's vectors.
 use Rattle.std.specs.Prelude.{ℕ, ◌≡◌, List}
 use Rattle.std.specs.List.{All}
-use Rattle.netlist.specs.Netlist.{Netlist}
-use Rattle.netlist.specs.Holds.{Holds}
-use Rattle.cubes.specs.Cubes.{Pattern}
-use Rattle.scan_play.specs.Vectors.{Response, vectors}
+use Rattle.statement.specs.Netlists.{Netlist}
+use Rattle.statement.specs.Patterns.{Holds, Pattern}
+use Rattle.statement.specs.Tests.{Response, vectors_in}
+use Rattle.scan_play.specs.Vectors.{vectors}
 use Rattle.scan_play.specs.Cycles.{IsCycleOf}
-use Rattle.stil_write.specs.StilFiles.{IsStilFile, StilFile}
-use Rattle.stil_vectors.specs.FileVectors.{vectors_in}
+use Rattle.stil_write.specs.StilFiles.{IsStilFile}
+use Rattle.statement.specs.Stils.{StilFile}
 use Rattle.stil_vectors.specs.Fitting.{FitsNetlist}
 use Rattle.stil_vectors.specs.TestFiles.{test_file}
 

@@ -1,12 +1,13 @@
 //! The cycles of a call.
 ghost use Rattle.std.specs.Prelude.{◌≡◌, ◌+◌, ◌≤◌, ◌<◌, ◌++◌, [], false, length, map, take, drop, slice_index_or, IfOk, OnOk};
 ghost use Rattle.std.specs.List.{All, flat_map};
-ghost use Rattle.netlist.specs.declared.kinds.Tri.TheVariants.{X};
-ghost use Rattle.scan_insert.specs.Names.{numbers_from};
+ghost use Rattle.statement.specs.declared.kinds.Tri.TheVariants.{X};
+ghost use Rattle.statement.specs.Runs.{numbers_from};
 ghost use Rattle.scan_play.specs.Bursts.{cycles_of};
-ghost use Rattle.scan_play.specs.Shifts.{column};
-ghost use Rattle.stil_write.specs.StilFiles.{IsStilCall, Call, item_at, words_of};
-ghost use Rattle.stil_vectors.specs.FileVectors.{bits_of, call_size, cycles_of_item, values_of};
+ghost use Rattle.statement.specs.Tests.{column, cycles_of_item};
+ghost use Rattle.stil_write.specs.StilFiles.{IsStilCall, item_at, words_of};
+ghost use Rattle.statement.specs.Stils.{Call};
+ghost use Rattle.stil_vectors.specs.FileVectors.{bits_of, call_size, values_of};
 
 use crate::characters::{bit_of, push_bits, value_of};
 use netlist::Tri;

@@ -1,6 +1,7 @@
 //! The characters of words as bits and strobes.
 ghost use Rattle.std.specs.Prelude.{◌≡◌, ◌++◌, map, OnOk};
-ghost use Rattle.stil_vectors.specs.FileVectors.{driven_bit, bits_of, strobed_value, values_of};
+ghost use Rattle.statement.specs.Tests.{driven_bit, strobed_value};
+ghost use Rattle.stil_vectors.specs.FileVectors.{bits_of, values_of};
 
 use netlist::Tri;
 use std::alloc::AllocError;

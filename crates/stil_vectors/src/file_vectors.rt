@@ -1,8 +1,10 @@
 //! The vectors of a file.
 ghost use Rattle.std.specs.Prelude.{◌≡◌, ◌+◌, ◌≤◌, ◌<◌, ◌++◌, ◌^◌, [], length, take, drop, IfOk, OnOk};
 ghost use Rattle.scan_play.specs.Bursts.{all_cycles, cycles_of};
-ghost use Rattle.stil_write.specs.StilFiles.{Vector, item_at, words_of};
-ghost use Rattle.stil_vectors.specs.FileVectors.{IsPulsed, bits_of, cycles_of_item, has_pulse, together, values_of, vectors_in};
+ghost use Rattle.statement.specs.Stils.{Vector};
+ghost use Rattle.stil_write.specs.StilFiles.{item_at, words_of};
+ghost use Rattle.stil_vectors.specs.FileVectors.{IsPulsed, bits_of, together, values_of};
+ghost use Rattle.statement.specs.Tests.{cycles_of_item, has_pulse, vectors_in};
 
 use crate::calls::call_burst;
 use crate::characters::{push_bits, push_values};

@@ -1,8 +1,8 @@
 //! Whether a file fits a netlist.
 ghost use Rattle.std.specs.Prelude.{◌≡◌, ◌+◌, ◌<◌, ◌++◌, IfOk, MatchBool, length, map};
-ghost use Rattle.netlist.specs.Netlist.{name_of, signals};
-ghost use Rattle.scan_insert.specs.Names.{output_name};
-ghost use Rattle.stil_write.specs.StilFiles.{numbered};
+ghost use Rattle.statement.specs.Netlists.{name_of, signals};
+ghost use Rattle.statement.specs.Runs.{output_name};
+ghost use Rattle.statement.specs.Stils.{numbered};
 ghost use Rattle.stil_vectors.specs.Fitting.{FitsNetlist};
 
 use netlist::{Netlist, NoMemory};

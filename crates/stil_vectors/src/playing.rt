@@ -2,7 +2,7 @@
 ghost use Rattle.std.specs.Prelude.{◌≡◌, ◌^◌, ◌<◌, ◌≤◌, IfOk, MatchOption, length};
 ghost use Rattle.scan_play.specs.Playing.{PlaysAs};
 ghost use Rattle.stil_write.specs.StilFiles.{item_at};
-ghost use Rattle.stil_vectors.specs.FileVectors.{cycles_of_item, vectors_in};
+ghost use Rattle.statement.specs.Tests.{cycles_of_item, vectors_in};
 ghost use Rattle.stil_vectors.specs.Fitting.{FitsNetlist};
 
 use crate::file_vectors::vectors;

@@ -4,10 +4,11 @@ use Rattle.std.specs.Prelude.{◌==◌, Some, slice_get, MatchBool}
 use Rattle.std.specs.List.{AllZip}
 use Rattle.std.proofs.lemmas.List.{take_all}
 use Rattle.std.proofs.lemmas.Slice.Zip.{all_zipped_more}
-use Rattle.plain_text.specs.Texts.{Text}
+use Rattle.statement.specs.Benches.{Text}
 use Rattle.stil_write.specs.declared.forms.Form.{Form}
 use Rattle.stil_write.specs.declared.forms.CharKind.TheVariants as values
-use Rattle.stil_write.specs.StilFiles.{IsItem, IsItemBy, IsWord, Item, StilFile, call_forms, vector_forms}
+use Rattle.stil_write.specs.StilFiles.{IsItem, IsItemBy, IsWord, call_forms, vector_forms}
+use Rattle.statement.specs.Stils.{Item, StilFile}
 use Rattle.stil_write.proofs.LoopLemmas.{take_at}
 
 pub zip_more : {A B : Type 0} (R : A → B → Type 0) (xs : List A) (ys : List B) (i : ℕ) (x : A) (y : B) → slice_get xs i ≡ Some x → slice_get ys i ≡ Some y

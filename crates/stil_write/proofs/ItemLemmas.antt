@@ -6,14 +6,14 @@ use Rattle.std.proofs.lemmas.List.{length-replicate, length-take, length-drop, g
 use Rattle.std.proofs.lemmas.Option.{slice_get-get_or, get_or_from_slice_get}
 use Rattle.std.proofs.lemmas.List.Elements.{All-weaker}
 use Rattle.std.proofs.lemmas.Slice.Zip.{AllZip-long}
-use Rattle.plain_text.specs.Texts.{Text}
+use Rattle.statement.specs.Benches.{Text}
 use Rattle.stil_write.specs.declared.items.ItemKind.{ItemKind}
 use Rattle.stil_write.specs.declared.items.ItemKind.TheVariants as kind
 use Rattle.stil_write.specs.declared.forms.Form.{Form}
 use Rattle.stil_write.specs.declared.forms.CharKind.TheVariants as values
-use Rattle.stil_write.specs.StilFiles.{Call, IsItem, IsStilFile, IsWord, Item, StilFile, Vector, call_forms, item_at, item_of, item_kind, numbered, vector_forms, where_chained, words_of}
+use Rattle.statement.specs.Stils.{Call, Item, StilFile, Vector, numbered, where_chained, assigned, called}
+use Rattle.stil_write.specs.StilFiles.{IsItem, IsStilFile, IsWord, call_forms, item_at, item_of, item_kind, vector_forms, words_of}
 use Rattle.stil_write.specs.Pieces.{HasTargets}
-use Rattle.stil_write.specs.Texts.{assigned, called}
 use Rattle.stil_write.specs.inner.Listed.{AreListed, listed}
 use Rattle.plain_text.specs.Rows.{rows}
 use Rattle.plain_text.proofs.Buffers.{begins_before_end, end_within, pushed_ends, pushed_rows, row_at, rows_count}

@@ -5,8 +5,9 @@ use Rattle.std.specs.List.{flat_map}
 use Rattle.std.proofs.lemmas.List.{length-take}
 use Rattle.std.proofs.lemmas.List.Concat.{flat_map-append}
 use Rattle.std.proofs.lemmas.Option.{slice_get_within}
-use Rattle.plain_text.specs.Texts.{Text}
-use Rattle.stil_write.specs.Pieces.{assignment, assignments, chain_block, chain_blocks, joined, quoted}
+use Rattle.statement.specs.Benches.{Text}
+use Rattle.stil_write.specs.Pieces.{assignment}
+use Rattle.statement.specs.Stils.{assignments, chain_block, chain_blocks, joined, quoted}
 use Rattle.stil_write.proofs.LoopLemmas.{take_at}
 
 -- ---- quoted names with something between them

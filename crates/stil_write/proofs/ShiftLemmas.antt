@@ -2,10 +2,11 @@
 use Rattle.std.proofs.Common.{◌≡◌, ℕ, zero, suc, min, List, [], ◌∷◌, ◌++◌, length, refl, sym, ap, ◌∙◌, arith, replicate, length-append}
 use Rattle.std.specs.Prelude.{codes}
 use Rattle.std.proofs.lemmas.List.{length-replicate}
-use Rattle.plain_text.specs.Texts.{Text}
-use Rattle.stil_write.specs.StilFiles.{Item, StilFile, Vector, item_at, item_kind, numbered, where_chained, words_of}
-use Rattle.stil_write.specs.Pieces.{item_text, targets}
-use Rattle.stil_write.specs.Texts.{assigned, called, procedures_by, procedures_head, shift_words}
+use Rattle.statement.specs.Benches.{Text}
+use Rattle.statement.specs.Stils.{Item, StilFile, Vector, numbered, where_chained, item_text, assigned, called, procedures_by, shift_words}
+use Rattle.stil_write.specs.StilFiles.{item_at, item_kind, words_of}
+use Rattle.stil_write.specs.Pieces.{targets}
+use Rattle.stil_write.specs.Texts.{procedures_head}
 use Rattle.stil_write.proofs.ItemLemmas.{length-chained, length-numbered}
 use Rattle.stil_write.proofs.LoopLemmas.{behind}
 

@@ -1,6 +1,6 @@
 -- The parts of a file as they lie in memory.
 use Rattle.stil_write.specs.declared.parts.StilParts.{StilParts}
-use Rattle.stil_write.specs.StilFiles.{StilFile}
+use Rattle.statement.specs.Stils.{StilFile}
 
 -- the file that they would be
 abbrev pub file_of : StilParts → StilFile

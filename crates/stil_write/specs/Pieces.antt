@@ -1,47 +1,10 @@
--- The lines of a STIL text.
-use Rattle.std.specs.Prelude.{ℕ, ◌≡◌, ◌+◌, List, [], ◌∷◌, ◌++◌, codes, decimal, length}
-use Rattle.std.specs.List.{flat_map, zip}
-use Rattle.plain_text.specs.Texts.{Text}
+-- Items that have a word for each target.
+use Rattle.std.specs.Prelude.{ℕ, ◌≡◌, ◌+◌, List, ◌++◌, codes, decimal, length}
+use Rattle.statement.specs.Benches.{Text}
 use Rattle.stil_write.specs.declared.items.ItemKind.{ItemKind}
 use Rattle.stil_write.specs.declared.items.ItemKind.TheVariants as kind
-use Rattle.stil_write.specs.StilFiles.{Call, Item, Vector, item_kind, words_of}
-
-abbrev pub quoted : Text → Text
-quoted name = codes "\"" ++ (name ++ codes "\"")
-
--- quoted names with something between them
-abbrev pub joined : Text → List Text → Text
-joined between [] = []
-joined between (name ∷ names) = quoted name ++ flat_map (λ other. between ++ quoted other) names
-
--- for each name a line of it, quoted, with something before and behind
-abbrev pub quoted_lines : Text → Text → List Text → Text
-quoted_lines before behind names = flat_map (λ name. before ++ (quoted name ++ behind)) names
-
--- `"SC__pi" = '"a" + "b"';`
-abbrev pub group_line : Text → List Text → Text
-group_line group names = codes "  " ++ (quoted group ++ (codes " = '" ++ ((joined (codes " + ") names ++ codes "'") ++ codes ";\n")))
-
--- a chain by its number: what stands before the names of its cells, these, and what stands behind them
-abbrev pub chain_block : ℕ → List Text → Text
-chain_block k cells =
-    (codes "  ScanChain " ++ (quoted (codes "chain" ++ decimal k) ++ (codes " {\n    ScanLength " ++ (decimal (length cells) ++ (codes ";\n    ScanIn "
-    ++ (quoted (codes "SC__si" ++ decimal k) ++ (codes ";\n    ScanOut " ++ (quoted (codes "SC__so" ++ decimal k) ++ codes ";\n    ScanCells "))))))))
-    ++ (joined (codes " ") cells ++ codes ";\n    ScanMasterClock \"SC__ck\";\n  }\n")
-
--- from the chain of a number on
-abbrev pub chain_blocks : ℕ → List (List Text) → Text
-chain_blocks k [] = []
-chain_blocks k (cells ∷ chains) = chain_block k cells ++ chain_blocks (k + 1) chains
-
--- `"q" = H; ` of each signal and its word
-abbrev pub assignments : List Text → List Text → Text
-assignments signals words = flat_map (λ p. quoted p.0 ++ (codes " = " ++ (p.1 ++ codes "; "))) (zip signals words)
-
--- an item by what a call and what a vector assigns to
-abbrev pub item_text : List Text → List Text → Item → Text
-item_text called assigned (Call words) = codes "Call \"load_unload\" { " ++ (assignments called words ++ codes "}\n")
-item_text called assigned (Vector words) = codes "V { " ++ (assignments assigned words ++ codes "}\n")
+use Rattle.statement.specs.Stils.{Item, quoted, joined, quoted_lines, item_text}
+use Rattle.stil_write.specs.StilFiles.{item_kind, words_of}
 
 -- ---- what is written at a time
 

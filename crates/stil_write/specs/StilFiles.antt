@@ -1,18 +1,13 @@
 -- A STIL file of the project's profile as a value. (IEEE 1450-1999: Signals, ScanStructures, Procedures, Pattern.)
-use Rattle.std.specs.Prelude.{ℕ, ◌≡◌, ◌≢◌, ◌≤◌, ◌&&◌, ◌||◌, ◌==◌, not, nat_le, Bool, zero, suc, List, [], ◌∷◌, ◌++◌, codes, decimal, length, IsTrue, slice_index_or, replicate}
+use Rattle.std.specs.Prelude.{ℕ, ◌≡◌, ◌≢◌, ◌≤◌, ◌&&◌, ◌||◌, ◌==◌, not, nat_le, Bool, zero, suc, List, [], ◌∷◌, ◌++◌, length, IsTrue, slice_index_or, replicate}
 use Rattle.std.specs.List.{All, AllZip, AllPairs}
-use Rattle.plain_text.specs.Texts.{Text}
+use Rattle.statement.specs.Stils.{Item, StilFile, scan_inputs, scan_outputs, where_chained, clock, Call, Vector}
+use Rattle.statement.specs.Benches.{Text}
 use Rattle.stil_write.specs.declared.items.ItemKind.{ItemKind}
 use Rattle.stil_write.specs.declared.items.ItemKind.TheVariants as kind
 use Rattle.stil_write.specs.declared.forms.CharKind.{CharKind}
 use Rattle.stil_write.specs.declared.forms.CharKind.TheVariants as values
 use Rattle.stil_write.specs.declared.forms.Form.{Form}
-
-pub data Item : Type 0 where
-  -- a word for each scan input, and one for each scan output: the chains shift once a character
-  Call : List Text → Item
-  -- one cycle: a word for the inputs, for each scan input, for the clock where there is one, for the outputs, and for each scan output
-  Vector : List Text → Item
 
 abbrev pub item_of : ItemKind → List Text → Item
 item_of kind.Call words = Call words
@@ -29,35 +24,6 @@ words_of (Vector words) = words
 -- the item at a place
 abbrev pub item_at : List Item → ℕ → Item
 item_at items i = slice_index_or items i (Vector [])
-
-pub record StilFile : Type 0 where
-  -- inputs but scan inputs and the clock; outputs but scan outputs
-  pub pi : List Text
-  pub po : List Text
-  -- the names of each chain's cells, from scan in to scan out
-  pub chains : List (List Text)
-  -- what the inputs have while the chains shift
-  pub shift_word : Text
-  pub items : List Item
-
--- `SC__si0` and so on, so many
-abbrev pub numbered : Text → ℕ → List Text
-numbered stem zero = []
-numbered stem (suc n) = numbered stem n ++ (stem ++ decimal n) ∷ []
-
-abbrev pub scan_inputs : StilFile → List Text
-scan_inputs f = numbered (codes "SC__si") (length f.chains)
-
-abbrev pub scan_outputs : StilFile → List Text
-scan_outputs f = numbered (codes "SC__so") (length f.chains)
-
--- one thing where there is a chain
-abbrev pub where_chained : {X : Type 0} → ℕ → X → List X
-where_chained zero x = []
-where_chained (suc n) x = x ∷ []
-
-abbrev pub clock : StilFile → List Text
-clock f = where_chained (length f.chains) (codes "SC__ck")
 
 -- all signals, in the order in which they are declared
 abbrev pub declared_signals : StilFile → List Text

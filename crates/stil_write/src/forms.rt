@@ -2,7 +2,8 @@
 ghost use Rattle.std.specs.Prelude.{◌≡◌, ◌<◌, ◌++◌, IfOk, OnOk, MatchBool, length, replicate};
 ghost use Rattle.std.specs.List.{AllZip};
 ghost use Rattle.stil_write.specs.Parts.{file_of};
-ghost use Rattle.stil_write.specs.StilFiles.{IsWord, call_forms, is_value, item_at, vector_forms, where_chained, words_of};
+ghost use Rattle.stil_write.specs.StilFiles.{IsWord, call_forms, is_value, item_at, vector_forms, words_of};
+ghost use Rattle.statement.specs.Stils.{where_chained};
 
 use crate::items::Items;
 use crate::parts::StilParts;

@@ -28,7 +28,7 @@ pub struct Items {
 
 impl Model for Items {
     ghost use Rattle.std.specs.Prelude.{ℕ, List, length, ◌≡◌};
-    ghost use Rattle.stil_write.specs.StilFiles.{Item};
+    ghost use Rattle.statement.specs.Stils.{Item};
 
     ghost Value = { List Item };
 

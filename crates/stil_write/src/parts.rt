@@ -29,7 +29,8 @@ pub struct StilFile {
 }
 
 impl Model for StilFile {
-    ghost use Rattle.stil_write.specs.StilFiles.{StilFile, IsStilFile};
+    ghost use Rattle.statement.specs.Stils.{StilFile};
+    ghost use Rattle.stil_write.specs.StilFiles.{IsStilFile};
 
     ghost Value = { StilFile };
 

@@ -1,7 +1,8 @@
 //! The lines of a STIL text.
 ghost use Rattle.std.specs.Prelude.{◌≡◌, ◌++◌, ◌<◌, length, OnOk, codes, decimal};
 ghost use Rattle.stil_write.specs.StilFiles.{item_at, words_of, item_kind};
-ghost use Rattle.stil_write.specs.Pieces.{assignment, assignments, chain_block, chain_blocks, chain_head, expression, group_line, item_line, item_text, joined, opening, quoted, signal_line, signal_lines, targets, waveform_line, waveform_lines};
+ghost use Rattle.stil_write.specs.Pieces.{assignment, chain_head, expression, item_line, opening, signal_line, signal_lines, targets, waveform_line, waveform_lines};
+ghost use Rattle.statement.specs.Stils.{assignments, chain_block, chain_blocks, group_line, item_text, joined, quoted};
 
 use crate::items::{ItemKind, Items};
 use itoa::Buffer;

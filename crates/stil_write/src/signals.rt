@@ -1,8 +1,8 @@
 //! The names of a file's signals.
 ghost use Rattle.std.specs.Prelude.{◌≡◌, ◌++◌, ◌∷◌, [], codes, length, IfOk, OnOk};
-ghost use Rattle.stil_write.specs.StilFiles.{numbered, declared_signals, where_chained};
+ghost use Rattle.statement.specs.Stils.{numbered, where_chained, assigned, called};
+ghost use Rattle.stil_write.specs.StilFiles.{declared_signals};
 ghost use Rattle.stil_write.specs.Parts.{file_of};
-ghost use Rattle.stil_write.specs.Texts.{assigned, called};
 
 use crate::parts::StilParts;
 use itoa::Buffer;

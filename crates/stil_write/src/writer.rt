@@ -2,8 +2,8 @@
 ghost use Rattle.std.specs.Prelude.{◌≡◌, ◌++◌, ◌∷◌, [], length, replicate, IfOk, OnOk};
 ghost use Rattle.std.specs.List.{All, flat_map};
 ghost use Rattle.stil_write.specs.Pieces.{HasTargets, item_line};
-ghost use Rattle.stil_write.specs.StilFiles.{Vector, numbered};
-ghost use Rattle.stil_write.specs.Texts.{assigned, called, groups_text, pattern_text, procedures_by, shift_words, signals_text, stil_text, structures_text, timing_text};
+ghost use Rattle.statement.specs.Stils.{Vector, numbered, assigned, called, procedures_by, shift_words, signals_text, stil_text, structures_text, timing_text};
+ghost use Rattle.stil_write.specs.Texts.{groups_text, pattern_text};
 
 use crate::items::{ItemKind, Items};
 use crate::parts::StilFile;

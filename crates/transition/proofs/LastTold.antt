@@ -5,14 +5,14 @@ use Rattle.std.specs.Option.{is_some, option_map}
 use Rattle.std.proofs.lemmas.Bool.{cases_eq}
 use Rattle.std.proofs.lemmas.List.{length-set, length-replicate, get_or_default, get_or-replicate, get_or-set_same, get_or-set_other}
 use Rattle.std.proofs.lemmas.Option.{slice_get-get_or}
-use Rattle.netlist.specs.declared.lines.Fault.{Fault}
-use Rattle.netlist.specs.declared.lines.Point.{Point}
+use Rattle.statement.specs.declared.lines.Fault.{Fault}
+use Rattle.statement.specs.declared.lines.Point.{Point}
 use Rattle.netlist.specs.Conditions.{IsSound}
 use Rattle.netlist.specs.Lines.{IsLineOf}
-use Rattle.netlist.specs.Netlist.{Netlist}
+use Rattle.statement.specs.Netlists.{Netlist}
 use Rattle.netlist.proofs.Settling.{zip_from}
-use Rattle.cubes.specs.Cubes.{Pattern}
-use Rattle.word_sim.specs.Hits.{IsDetectedAt, LastMarked}
+use Rattle.statement.specs.Patterns.{Pattern, IsDetectedAt}
+use Rattle.word_sim.specs.Hits.{LastMarked}
 use Rattle.word_sim.specs.inner.Packed.{AreGoodFor, IsMarked, IsUsed}
 use Rattle.observed_points.specs.Points.{point_of}
 use Rattle.word_sim.specs.inner.Found.{IsFrom, IsMoved, IsTold}

@@ -5,22 +5,22 @@ use Rattle.std.specs.List.{All, AllZip, Contains, flat_map, slice_get}
 use Rattle.std.proofs.lemmas.Bool.{and_parts, and_from, lt-ltb, ltb-true}
 use Rattle.std.proofs.lemmas.List.{drop_at, take_all}
 use Rattle.std.proofs.lemmas.List.Elements.{All-contains, Contains-get_or}
-use Rattle.netlist.specs.declared.lines.Fault.{Fault}
-use Rattle.netlist.specs.declared.lines.Line.TheVariants.{Stem}
-use Rattle.netlist.specs.declared.lines.Point.{Point}
+use Rattle.statement.specs.declared.lines.Fault.{Fault}
+use Rattle.statement.specs.declared.lines.Line.TheVariants.{Stem}
+use Rattle.statement.specs.declared.lines.Point.{Point}
 use Rattle.netlist.specs.Conditions.{IsSound}
-use Rattle.netlist.specs.Detection.{Detects}
+use Rattle.statement.specs.Patterns.{Detects, Pattern, IsDetectedAt}
 use Rattle.netlist.specs.Lines.{IsLineOf}
-use Rattle.netlist.specs.Netlist.{Definition, Netlist, is_cell, cells, signals}
-use Rattle.netlist.specs.Settled.{Settles, at, bits, on_pins, pins_of, next}
+use Rattle.statement.specs.Netlists.{Definition, Netlist, is_cell, cells, signals}
+use Rattle.statement.specs.Values.{Settles, bits, on_pins, pins_of, next}
+use Rattle.netlist.specs.Settled.{at}
 use Rattle.netlist.proofs.Alike.{settles_once}
 use Rattle.netlist.proofs.Lists.{All-from_contains, contains_filter, contains_map, contains_head, contains_tail, decides_beq, map_map}
 use Rattle.netlist.proofs.Placed.{signal_below}
 use Rattle.netlist.proofs.WellFormed.{one_pin}
-use Rattle.cubes.specs.Cubes.{Pattern}
 use Rattle.events.specs.Words.{bit_of, ones, words}
 use Rattle.events.proofs.WordBits.{bit_of_and, bit_of_xor, bit_line, words_as_bits}
-use Rattle.word_sim.specs.Hits.{IsDetectedAt, LastDetected, LastMarked}
+use Rattle.word_sim.specs.Hits.{LastDetected, LastMarked}
 use Rattle.word_sim.specs.inner.Packed.{AreGoodFor, IsMarked, IsUsed}
 use Rattle.observed_points.specs.Points.{watched}
 use Rattle.word_sim.proofs.WordDetection.{some_below}

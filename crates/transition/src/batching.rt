@@ -13,7 +13,7 @@ ghost use Rattle.std.specs.List.{All, AllPairs};
 ghost use Rattle.netlist.specs.Designs.{IsDesign};
 ghost use Rattle.netlist.specs.Holds.{none_held};
 ghost use Rattle.netlist.specs.Lines.{IsLineOf};
-ghost use Rattle.netlist.specs.declared.lines.Fault.{Fault as FaultOf};
+ghost use Rattle.statement.specs.declared.lines.Fault.{Fault as FaultOf};
 ghost use Rattle.redundancy_cert.specs.declared.engine.Found.{Found as FoundOf};
 ghost use Rattle.transition_frames.specs.Frames.{frame_names as names_of};
 ghost use Rattle.transition_batches.specs.Batches.{AreApart, DecidesFrames, batch_fault, batch_of};

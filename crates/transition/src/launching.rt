@@ -1,7 +1,7 @@
 //! Up to 64 patterns in two frames: which of them launch a transition at a line, and the words behind the launch.
 ghost use Rattle.std.specs.Prelude.{◌≡◌, ◌<◌, [], length, map, IfOk, OnOk};
 ghost use Rattle.netlist.specs.Lines.{IsLineOf};
-ghost use Rattle.netlist.specs.Netlist.{signals};
+ghost use Rattle.statement.specs.Netlists.{signals};
 ghost use Rattle.word_sim.specs.inner.Packed.{AreSettledWords};
 ghost use Rattle.observed_points.specs.Points.{ArePoints};
 ghost use Rattle.netlist.specs.Settled.{at};

@@ -16,7 +16,7 @@
 //! A tree with an Open isn't taken at all: whether the search could have ended there depends on the head lines too.
 ghost use Rattle.netlist.specs.Designs.{IsDesign};
 ghost use Rattle.netlist.specs.Lines.{IsLineOf};
-ghost use Rattle.netlist.specs.Netlist.{signals};
+ghost use Rattle.statement.specs.Netlists.{signals};
 ghost use Rattle.std.specs.Prelude.{◌≡◌, ◌<◌, ◌≤◌, length};
 
 use head_lines::{Role, is_gate, roles_of};

@@ -4,7 +4,7 @@ ghost use Rattle.std.specs.List.{All, AllZip};
 ghost use Rattle.std.specs.Option.{option_map};
 ghost use Rattle.netlist.specs.Conditions.{IsSound};
 ghost use Rattle.netlist.specs.Lines.{IsLineOf};
-ghost use Rattle.netlist.specs.declared.lines.Fault.{Fault as FaultOf};
+ghost use Rattle.statement.specs.declared.lines.Fault.{Fault as FaultOf};
 ghost use Rattle.transition_frames.specs.Frames.{frames_of, frame_fault};
 ghost use Rattle.word_sim.specs.Words.{HasWidthsOf};
 ghost use Rattle.word_sim.specs.inner.Found.{IsTold};

@@ -4,10 +4,10 @@ use Rattle.std.proofs.lemmas.List.{length-map}
 use Rattle.std.proofs.lemmas.Bool.{eqb-true}
 use Rattle.std.proofs.lemmas.List.Elements.{All-head, All-tail, All-nil, All-cons, All-append}
 use Rattle.std.specs.List.{All, Contains}
-use Rattle.netlist.specs.declared.kinds.Tri.TheVariants.{X}
-use Rattle.netlist.specs.declared.lines.Fault.{Fault}
-use Rattle.netlist.specs.Netlist.{Netlist, signals, cells}
-use Rattle.netlist.specs.Holds.{Holds}
+use Rattle.statement.specs.declared.kinds.Tri.TheVariants.{X}
+use Rattle.statement.specs.declared.lines.Fault.{Fault}
+use Rattle.statement.specs.Netlists.{Netlist, signals, cells}
+use Rattle.statement.specs.Patterns.{Holds}
 use Rattle.netlist.specs.Conditions.{IsSound}
 use Rattle.netlist.proofs.Lists.{all_left, all_right}
 use Rattle.netlist.proofs.SomeSettled.{some_settled}

@@ -7,13 +7,14 @@ use Rattle.std.proofs.lemmas.List.{map-append, length-map, get_or-map, get_or_ap
 use Rattle.std.proofs.lemmas.List.FromFn.{length-map-range_with_len}
 use Rattle.std.proofs.lemmas.List.Elements.{All-nil, All-cons, All-head, All-tail, All-append, All-map, All-contains, All-weaker, Contains-get_or}
 use Rattle.std.proofs.lemmas.Option.{same_Some, slice_get_within}
-use Rattle.netlist.specs.declared.kinds.Kind.TheVariants.{And, Or, Buff, Const0, Const1}
-use Rattle.netlist.specs.declared.lines.Line.{Line}
-use Rattle.netlist.specs.declared.lines.Line.TheVariants.{Pin, Out}
-use Rattle.netlist.specs.declared.lines.Fault.{Fault}
+use Rattle.statement.specs.declared.kinds.Kind.TheVariants.{And, Or, Buff, Const0, Const1}
+use Rattle.statement.specs.declared.lines.Line.{Line}
+use Rattle.statement.specs.declared.lines.Line.TheVariants.{Pin, Out}
+use Rattle.statement.specs.declared.lines.Fault.{Fault}
 use Rattle.netlist.specs.Lines.{IsLineOf}
 use Rattle.netlist.specs.Gates.{allows_pins}
-use Rattle.netlist.specs.Netlist.{Definition, Netlist, is_cell, cells, signals, define}
+use Rattle.statement.specs.Netlists.{Definition, Netlist, is_cell, cells, signals}
+use Rattle.netlist.specs.Netlist.{define}
 use Rattle.netlist.specs.Conditions.{IsNumbered, HasReader, IsSound, IsWellFormed}
 use Rattle.netlist.proofs.Lists.{contains_map, map_map, map_agree, filter_contains, All-from_contains}
 use Rattle.netlist.proofs.Placed.{id_at, signal_below, signal_from, signals_length}

@@ -4,14 +4,12 @@ use Rattle.std.specs.Prelude.{if◌then◌else◌}
 use Rattle.std.specs.List.{All, AllZip, list_any}
 use Rattle.std.proofs.lemmas.Bool.{not-true}
 use Rattle.std.proofs.lemmas.List.Elements.{All-nil, All-cons, All-head, All-tail}
-use Rattle.netlist.specs.declared.kinds.Tri.{Tri}
-use Rattle.netlist.specs.declared.kinds.Tri.TheVariants.{Zero, One, X}
-use Rattle.netlist.specs.declared.kinds.Kind.TheVariants.{And, Or, Const0, Const1}
-use Rattle.netlist.specs.declared.lines.Line.{Line}
-use Rattle.netlist.specs.declared.lines.Fault.{Fault}
-use Rattle.netlist.specs.Gates.{gate_bit}
-use Rattle.netlist.specs.Settled.{is_line}
-use Rattle.netlist.specs.ThreeValues.{known}
+use Rattle.statement.specs.declared.kinds.Tri.{Tri}
+use Rattle.statement.specs.declared.kinds.Tri.TheVariants.{Zero, One, X}
+use Rattle.statement.specs.declared.kinds.Kind.TheVariants.{And, Or, Const0, Const1}
+use Rattle.statement.specs.declared.lines.Line.{Line}
+use Rattle.statement.specs.declared.lines.Fault.{Fault}
+use Rattle.statement.specs.Values.{gate_bit, is_line, known}
 use Rattle.tri.specs.declared.labels.Label.{Label}
 use Rattle.tri.specs.Gates.{gate_tri}
 use Rattle.tri.specs.Labels.{on_line, label_of, good_of, are_known_and_equal, is_known_as}

@@ -4,26 +4,24 @@ use Rattle.std.specs.List.{All, AllPairs, AllZip, Contains, list_any, slice_get}
 use Rattle.std.proofs.lemmas.Bool.{cases_lt}
 use Rattle.std.proofs.lemmas.List.Elements.{All-contains}
 use Rattle.std.proofs.lemmas.Option.{none-some, slice_get_within, get_or_from_slice_get}
-use Rattle.netlist.specs.declared.kinds.Kind.{Kind}
-use Rattle.netlist.specs.declared.kinds.Tri.{Tri}
-use Rattle.netlist.specs.declared.kinds.Tri.TheVariants.{X}
-use Rattle.netlist.specs.declared.lines.Line.{Line}
-use Rattle.netlist.specs.declared.lines.Line.TheVariants.{Stem}
-use Rattle.netlist.specs.declared.lines.Fault.{Fault}
-use Rattle.netlist.specs.declared.lines.Point.{Point}
-use Rattle.netlist.specs.declared.lines.Point.TheVariants.{Output, Cell}
-use Rattle.netlist.specs.Netlist.{Definition, Netlist, is_cell, is_gate, cells, signals, define}
+use Rattle.statement.specs.declared.kinds.Kind.{Kind}
+use Rattle.statement.specs.declared.kinds.Tri.{Tri}
+use Rattle.statement.specs.declared.kinds.Tri.TheVariants.{X}
+use Rattle.statement.specs.declared.lines.Line.{Line}
+use Rattle.statement.specs.declared.lines.Line.TheVariants.{Stem}
+use Rattle.statement.specs.declared.lines.Fault.{Fault}
+use Rattle.statement.specs.declared.lines.Point.{Point}
+use Rattle.statement.specs.declared.lines.Point.TheVariants.{Output, Cell}
+use Rattle.statement.specs.Netlists.{Definition, Netlist, is_cell, cells, signals}
+use Rattle.netlist.specs.Netlist.{is_gate, define}
 use Rattle.netlist.specs.Conditions.{IsSound}
 use Rattle.netlist.specs.Designs.{IsDesign}
-use Rattle.netlist.specs.Gates.{gate_bit}
+use Rattle.statement.specs.Values.{gate_bit, Rule, Settles, is_line, stuck, bits, outs, next, known}
 use Rattle.netlist.specs.Lines.{IsLineOf}
-use Rattle.netlist.specs.Holds.{Holds}
-use Rattle.netlist.specs.Settled.{Rule, Settles, is_line, stuck, bits, outs, next}
-use Rattle.netlist.specs.Detection.{Detects, observed}
+use Rattle.statement.specs.Patterns.{Holds, Detects, observed}
 use Rattle.netlist.proofs.Lists.{All-from_contains, contains_filter, map_map, map_agree}
 use Rattle.netlist.proofs.Placed.{signal_below, signal_from, signal_cases}
 use Rattle.tri.specs.declared.labels.Label.{Label}
-use Rattle.netlist.specs.ThreeValues.{known}
 use Rattle.tri.specs.Gates.{gate_tri}
 use Rattle.tri.specs.Labels.{Decisions, labels, source_label, held_value, input_labels, cell_labels, AreLabels, IsContradicted, IsUnobserved}
 use Rattle.tri.proofs.LabelLemmas.{mapped_zip}
@@ -33,8 +31,7 @@ use Rattle.transition_frames.proofs.Numbered.{frames_count, frames_numbered}
 use Rattle.transition_frames.proofs.Sources.{same_line, source_is_signal}
 use Rattle.transition_batches.specs.Batches.{tie_at, hold_at, late_at, in_first_of, batch_of, batch_fault, AreApart}
 use Rattle.transition_batches.proofs.Places.{to_batch, to_batch_below, to_batch_from, cells_batched, first_of_id, batch_signal}
-use Rattle.transition_batches.proofs.Passing.{IsAlike, IsReduced, itself, goods_alike, faults_alike, differing_alike, quiet_alike, alike_quiet}
-use Rattle.transition_batches.proofs.Passing.{label_of_alike, label_of_reduced, passes_bit, tie_firm, hold_firm, late_alike, line_clear, stuck_line, firm}
+use Rattle.transition_batches.proofs.Passing.{IsAlike, IsReduced, itself, goods_alike, faults_alike, differing_alike, quiet_alike, alike_quiet, label_of_alike, label_of_reduced, passes_bit, tie_firm, hold_firm, late_alike, line_clear, stuck_line, firm}
 use Rattle.transition_batches.proofs.Within.{input_value, again_value, taken_value, other_tie, hold_value, late_value, frames_settle, outs_alike, next_alike}
 
 zip_equal : {X : Type 0} (xs ys : List X) → AllZip (λ x y. x ≡ y) xs ys → xs ≡ ys

@@ -4,15 +4,16 @@ use Rattle.std.specs.List.{All, AllPairs, AllZip, Contains, flat_map, slice_get}
 use Rattle.std.proofs.lemmas.Bool.{cases_Bool, both_ways, ne_eqb, not-true, not_from_false}
 use Rattle.std.proofs.lemmas.List.Elements.{All-contains, Contains-get_or}
 use Rattle.std.proofs.lemmas.Option.{same_Some}
-use Rattle.netlist.specs.declared.kinds.Kind.{Kind}
-use Rattle.netlist.specs.declared.kinds.Kind.TheVariants.{And, Or, Buff, Const0, Const1}
-use Rattle.netlist.specs.declared.lines.Line.{Line}
-use Rattle.netlist.specs.declared.lines.Line.TheVariants.{Stem, Pin, Out}
-use Rattle.netlist.specs.declared.lines.Fault.{Fault}
-use Rattle.netlist.specs.Netlist.{Definition, Netlist, is_cell, is_gate, cells, gates, signals, define}
+use Rattle.statement.specs.declared.kinds.Kind.{Kind}
+use Rattle.statement.specs.declared.kinds.Kind.TheVariants.{And, Or, Buff, Const0, Const1}
+use Rattle.statement.specs.declared.lines.Line.{Line}
+use Rattle.statement.specs.declared.lines.Line.TheVariants.{Stem, Pin, Out}
+use Rattle.statement.specs.declared.lines.Fault.{Fault}
+use Rattle.statement.specs.Netlists.{Definition, Netlist, is_cell, cells, gates, signals}
+use Rattle.netlist.specs.Netlist.{is_gate, define}
 use Rattle.netlist.specs.Conditions.{IsNumbered, IsClosed}
 use Rattle.netlist.specs.Lines.{IsLineOf}
-use Rattle.netlist.specs.Settled.{Rule, Settles, is_line, on_pins, pins_of, outs, next}
+use Rattle.statement.specs.Values.{Rule, Settles, is_line, on_pins, pins_of, outs, next}
 use Rattle.netlist.proofs.Alike.{zip_append}
 use Rattle.netlist.proofs.Lists.{All-from_contains, contains_head, contains_tail, contains_filter, filter_contains}
 use Rattle.netlist.proofs.Placed.{signal_below, input_below, definition_below}
@@ -21,8 +22,7 @@ use Rattle.transition_frames.proofs.Framed.{cells_framed, first_cell, first_id, 
 use Rattle.transition_frames.proofs.Gates.{IsFrameGate, kept, again, holds, ties, keeps, lags, frame_gate}
 use Rattle.transition_frames.proofs.Sources.{source_at_pin, source_at_out, source_is_signal}
 use Rattle.transition_batches.specs.Batches.{tie_at, hold_at, late_at, read_late, late_pins, in_first_of, gates_at, batch_of, AreApart}
-use Rattle.transition_batches.proofs.Places.{to_batch, to_batch_below, to_batch_from, cells_batched, first_of_cell, first_of_gate, first_of_id, second_of_cell, second_of_gate}
-use Rattle.transition_batches.proofs.Places.{first_of_member, second_of_member, gate_member, gate_at_is_no_cell}
+use Rattle.transition_batches.proofs.Places.{to_batch, to_batch_below, to_batch_from, cells_batched, first_of_cell, first_of_gate, first_of_id, second_of_cell, second_of_gate, first_of_member, second_of_member, gate_member, gate_at_is_no_cell}
 use Rattle.transition_batches.proofs.LateReads.{is_late, one_late, late_source, late_cases}
 
 -- ---- lists

@@ -2,12 +2,13 @@
 -- each line the netlist is as the two frames in which it alone is slow.
 use Rattle.std.specs.Prelude.{ℕ, ◌≡◌, ◌+◌, ◌*◌, ◌<◌, ⊤, false, ◌||◌, cond, List, [], ◌∷◌, ◌++◌, map, length}
 use Rattle.std.specs.List.{All}
-use Rattle.netlist.specs.declared.kinds.Kind.TheVariants.{And, Or, Buff, Const0, Const1}
-use Rattle.netlist.specs.declared.lines.Line.{Line}
-use Rattle.netlist.specs.declared.lines.Line.TheVariants.{Stem, Pin, Out}
-use Rattle.netlist.specs.declared.lines.Fault.{Fault}
-use Rattle.netlist.specs.Netlist.{Definition, Netlist, is_cell, define}
-use Rattle.netlist.specs.Settled.{is_line}
+use Rattle.statement.specs.declared.kinds.Kind.TheVariants.{And, Or, Buff, Const0, Const1}
+use Rattle.statement.specs.declared.lines.Line.{Line}
+use Rattle.statement.specs.declared.lines.Line.TheVariants.{Stem, Pin, Out}
+use Rattle.statement.specs.declared.lines.Fault.{Fault}
+use Rattle.statement.specs.Netlists.{Definition, Netlist, is_cell}
+use Rattle.netlist.specs.Netlist.{define}
+use Rattle.statement.specs.Values.{is_line}
 use Rattle.redundancy_cert.specs.declared.nodes.Node.{Node}
 use Rattle.redundancy_cert.specs.declared.nodes.Node.TheVariants.{Closed, Open, Split, Forced}
 use Rattle.redundancy_cert.specs.declared.engine.Found.{Found}

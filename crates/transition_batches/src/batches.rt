@@ -7,7 +7,7 @@ ghost use Rattle.std.specs.Prelude.{◌≡◌, ◌≤◌, length, IfOk, IfSome};
 ghost use Rattle.std.specs.List.{All, AllPairs};
 ghost use Rattle.netlist.specs.Designs.{IsDesign};
 ghost use Rattle.netlist.specs.Lines.{IsLineOf};
-ghost use Rattle.netlist.specs.declared.lines.Fault.{Fault as FaultOf};
+ghost use Rattle.statement.specs.declared.lines.Fault.{Fault as FaultOf};
 ghost use Rattle.transition_batches.specs.Batches.{AreApart, batch_of};
 
 use crate::parts::batch_parts;

@@ -6,9 +6,10 @@ ghost use Rattle.std.specs.Prelude.{◌≡◌, ◌++◌, ◌<◌, ◌≤◌, len
 ghost use Rattle.std.specs.List.{All, Contains};
 ghost use Rattle.netlist.specs.Conditions.{IsSound, whole};
 ghost use Rattle.netlist.specs.Lines.{IsLineOf};
-ghost use Rattle.netlist.specs.Netlist.{signals, define as define_as};
-ghost use Rattle.netlist.specs.declared.lines.Fault.{Fault as FaultOf};
-ghost use Rattle.netlist.specs.declared.lines.Line.TheVariants.{Out};
+ghost use Rattle.statement.specs.Netlists.{signals};
+ghost use Rattle.netlist.specs.Netlist.{define as define_as};
+ghost use Rattle.statement.specs.declared.lines.Fault.{Fault as FaultOf};
+ghost use Rattle.statement.specs.declared.lines.Line.TheVariants.{Out};
 ghost use Rattle.net_gen.specs.Samples.{lettered_names};
 ghost use Rattle.transition_batches.specs.Batches.{in_first_of, in_second_of, gates_at, all_gates, read_late, batch_of};
 ghost use Rattle.transition_batches.specs.inner.Marks.{IsBatch};

@@ -7,8 +7,8 @@ ghost use Rattle.std.specs.Prelude.{◌≡◌, ◌<◌, ◌≤◌, length, IfOk}
 ghost use Rattle.std.specs.List.{All, Contains};
 ghost use Rattle.netlist.specs.Conditions.{IsSound};
 ghost use Rattle.netlist.specs.Lines.{IsLineOf};
-ghost use Rattle.netlist.specs.Netlist.{signals};
-ghost use Rattle.netlist.specs.declared.lines.Fault.{Fault as FaultOf};
+ghost use Rattle.statement.specs.Netlists.{signals};
+ghost use Rattle.statement.specs.declared.lines.Fault.{Fault as FaultOf};
 ghost use Rattle.transition_frames.specs.Frames.{source_of as source, second as in_next};
 ghost use Rattle.transition_batches.specs.Batches.{tie_at as tie_of, read_late, late_pins};
 ghost use Rattle.transition_batches.specs.inner.Marks.{AreSourcesMarked, IsBatch};

@@ -2,13 +2,13 @@
 use Rattle.std.proofs.Common.{◌≡◌, ℕ, suc, ◌+◌, ◌<◌, List, [], ◌∷◌, ◌++◌, length, Some, refl, sym, ◌∙◌, ap, arith, append_assoc, append-nil}
 use Rattle.std.specs.List.{All, AllZip, slice_get}
 use Rattle.std.proofs.lemmas.List.Elements.{All-append, All-nil, All-cons, All-head, All-tail}
-use Rattle.netlist.specs.declared.lines.Fault.{Fault}
+use Rattle.statement.specs.declared.lines.Fault.{Fault}
 use Rattle.netlist.specs.Conditions.{IsSound}
 use Rattle.netlist.specs.Designs.{IsDesign}
 use Rattle.netlist.specs.Holds.{none_held}
 use Rattle.netlist.specs.Lines.{IsLineOf, signal_of}
-use Rattle.netlist.specs.Netlist.{Netlist, signals}
-use Rattle.cubes.specs.Cubes.{Pattern}
+use Rattle.statement.specs.Netlists.{Netlist, signals}
+use Rattle.statement.specs.Patterns.{Pattern}
 use Rattle.redundancy_cert.specs.declared.nodes.Node.{Node}
 use Rattle.redundancy_cert.specs.Fits.{Fits}
 use Rattle.certificate.proofs.NamedTrees.{nodes_named}

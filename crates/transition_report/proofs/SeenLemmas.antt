@@ -1,12 +1,12 @@
 -- A point of a pattern is strobed so many cycles later as there are launches up to it.
 use Rattle.std.proofs.Common.{◌≡◌, ℕ, ◌+◌, ◌-◌, ◌*◌, ◌<◌, ◌≤◌, ◌^◌, List, length, arith, mul-add}
-use Rattle.netlist.specs.declared.lines.Point.{Point}
-use Rattle.netlist.specs.declared.lines.Point.TheVariants.{Output, Cell}
+use Rattle.statement.specs.declared.lines.Point.{Point}
+use Rattle.statement.specs.declared.lines.Point.TheVariants.{Output, Cell}
 use Rattle.netlist.specs.Conditions.{IsSound}
-use Rattle.netlist.specs.Netlist.{Netlist}
-use Rattle.scan_insert.specs.Chains.{longest_of}
+use Rattle.statement.specs.Netlists.{Netlist}
+use Rattle.statement.specs.Tests.{longest_of, IsStrobedAt}
 use Rattle.scan_insert.specs.Scanned.{AreChainsOf}
-use Rattle.scan_play.specs.Vectors.{IsStrobedAt, capture_cycle, unload_cycle}
+use Rattle.scan_play.specs.Vectors.{capture_cycle, unload_cycle}
 use Rattle.run_report.specs.Outcomes.{IsSeenAt}
 use Rattle.run_report.proofs.CycleLemmas.{small_product, longest_small, chain_small}
 use Rattle.transition_play.specs.LaunchVectors.{IsLaunchStrobedAt, second_cycle, second_unload}

@@ -1,15 +1,15 @@
 -- What a report says of transition faults, by their verdicts, and the trees that a certificate has of them.
 use Rattle.std.specs.Prelude.{ℕ, ◌≡◌, ⊤, List, [], ◌∷◌, ◌++◌}
 use Rattle.std.specs.List.{AllZip, zip}
-use Rattle.netlist.specs.declared.lines.Fault.{Fault}
-use Rattle.netlist.specs.declared.lines.Point.{Point}
-use Rattle.netlist.specs.Netlist.{Netlist}
+use Rattle.statement.specs.declared.lines.Fault.{Fault}
+use Rattle.statement.specs.declared.lines.Point.{Point}
+use Rattle.statement.specs.Netlists.{Netlist}
 use Rattle.scan_insert.specs.Names.{pin_name_of}
 use Rattle.scan_insert.specs.Scanned.{scanned_of}
 use Rattle.redundancy_cert.specs.declared.nodes.Node.{Node}
-use Rattle.report.specs.declared.outcomes.Outcome.{Outcome}
-use Rattle.report.specs.declared.outcomes.Outcome.TheVariants as outcome
-use Rattle.report.specs.Reports.{Line}
+use Rattle.statement.specs.declared.outcomes.Outcome.{Outcome}
+use Rattle.statement.specs.declared.outcomes.Outcome.TheVariants as outcome
+use Rattle.statement.specs.Reports.{Line}
 use Rattle.run_report.specs.Strobes.{IsPointOf}
 use Rattle.transition_play.specs.LaunchVectors.{IsLaunchStrobedAt}
 use Rattle.transition_tests.specs.declared.verdicts.TransitionVerdict.{TransitionVerdict}

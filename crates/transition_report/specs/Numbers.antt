@@ -1,9 +1,9 @@
 -- The numbers of a report of transition faults. Each fault is a class of its own.
 use Rattle.std.specs.Prelude.{ℕ, ◌≡◌, ◌+◌, ◌*◌, ◌/◌, ◌<◌, ◌^◌, List, length}
-use Rattle.netlist.specs.Netlist.{Netlist}
-use Rattle.scan_insert.specs.Chains.{longest_of}
-use Rattle.fault_universe.specs.Universe.{universe_of}
-use Rattle.report.specs.Reports.{Line}
+use Rattle.statement.specs.Netlists.{Netlist}
+use Rattle.statement.specs.Tests.{longest_of}
+use Rattle.statement.specs.Faults.{universe_of}
+use Rattle.statement.specs.Reports.{Line}
 use Rattle.run_report.specs.Heads.{count_of, counts_with, one_if_detected, one_if_redundant, share_of}
 use Rattle.transition_report.specs.declared.reporting.TransitionReport.{TransitionReport}
 

@@ -2,13 +2,14 @@
 -- and the names of the two frames.
 use Rattle.std.specs.Prelude.{ℕ, ◌<◌, Bool, true, false, List, ◌++◌, codes, length}
 use Rattle.std.specs.List.{All, flat_map}
-use Rattle.netlist.specs.declared.lines.Fault.{Fault}
-use Rattle.netlist.specs.Netlist.{Netlist, signals}
+use Rattle.statement.specs.declared.lines.Fault.{Fault}
+use Rattle.statement.specs.Netlists.{Netlist, signals}
 use Rattle.netlist.specs.Lines.{IsLineOf, signal_of}
-use Rattle.fault_universe.specs.Texts.{line_text}
+use Rattle.statement.specs.Faults.{line_text}
 use Rattle.redundancy_cert.specs.declared.nodes.Node.{Node}
 use Rattle.certificate.specs.Certificates.{HasSignal, node_text}
-use Rattle.report.specs.Texts.{counts_text, share_line, fault_line}
+use Rattle.report.specs.Texts.{counts_text, share_line}
+use Rattle.statement.specs.Reports.{fault_line}
 use Rattle.transition_frames.specs.Frames.{frames_of}
 use Rattle.transition_report.specs.declared.reporting.TransitionReport.{TransitionReport}
 

@@ -1,11 +1,11 @@
 //! Certificates of transition faults as text. Signals of the two frames have the same names for every slow line, so the frames of one serve for all.
 ghost use Rattle.std.specs.Prelude.{◌≡◌, ◌<◌, ◌++◌, List, length, IfOk, OnOk};
 ghost use Rattle.std.specs.List.{All, flat_map};
-ghost use Rattle.netlist.specs.declared.lines.Fault.{Fault as FaultOf};
+ghost use Rattle.statement.specs.declared.lines.Fault.{Fault as FaultOf};
 ghost use Rattle.redundancy_cert.specs.declared.nodes.Node.{Node};
 ghost use Rattle.netlist.specs.Designs.{IsDesign};
 ghost use Rattle.netlist.specs.Lines.{signal_of};
-ghost use Rattle.netlist.specs.Netlist.{signals};
+ghost use Rattle.statement.specs.Netlists.{signals};
 ghost use Rattle.certificate.specs.Certificates.{HasSignal};
 ghost use Rattle.transition_report.specs.Texts.{transition_text, transition_tree_line, transition_certificate, IsNamedInFrames};
 

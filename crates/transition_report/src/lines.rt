@@ -1,11 +1,11 @@
 //! A line for each transition fault, by its verdict.
 ghost use Rattle.std.specs.Prelude.{◌≡◌, ◌<◌, ◌++◌, ◌∷◌, [], ◌^◌, IfOk, length, map};
 ghost use Rattle.std.specs.List.{All};
-ghost use Rattle.netlist.specs.Netlist.{signals};
+ghost use Rattle.statement.specs.Netlists.{signals};
 ghost use Rattle.netlist.specs.Lines.{signal_of};
-ghost use Rattle.scan_insert.specs.Names.{output_name};
+ghost use Rattle.statement.specs.Runs.{output_name};
 ghost use Rattle.scan_insert.specs.Scanned.{AreChainsOf, scanned_of};
-ghost use Rattle.fault_universe.specs.Universe.{universe_of};
+ghost use Rattle.statement.specs.Faults.{universe_of};
 ghost use Rattle.transition_report.specs.Lines.{AreLines, IsInside, IsOutcomeOf};
 ghost use Rattle.transition_report.specs.inner.Parts.{IsAdded};
 

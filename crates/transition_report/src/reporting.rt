@@ -1,7 +1,7 @@
 //! The report of transition faults: its numbers, and its text.
 ghost use Rattle.std.specs.Prelude.{◌≡◌, ◌+◌, ◌*◌, ◌<◌, ◌≤◌, ◌^◌, ◌++◌, IfOk, OnOk, length};
 ghost use Rattle.scan_insert.specs.Scanned.{AreChainsOf};
-ghost use Rattle.fault_universe.specs.Universe.{universe_of};
+ghost use Rattle.statement.specs.Faults.{universe_of};
 ghost use Rattle.transition_report.specs.Texts.{transition_report_text};
 ghost use Rattle.transition_report.specs.Numbers.{IsReportOf, HasWritableShares};
 

@@ -1,7 +1,7 @@
 //! What the tester sees of a point by launch on capture. A launch is a cycle more for each pattern up to this one, and all else is as for stuck
 //! lines: so a point is seen where it would be seen there, and so many cycles later.
 ghost use Rattle.std.specs.Prelude.{◌≡◌, map};
-ghost use Rattle.scan_insert.specs.Names.{output_name};
+ghost use Rattle.statement.specs.Runs.{output_name};
 ghost use Rattle.scan_insert.specs.Scanned.{AreChainsOf, scanned_of};
 ghost use Rattle.run_report.specs.Strobes.{IsPointOf};
 ghost use Rattle.transition_report.specs.Lines.{IsLaunchSeenAt};

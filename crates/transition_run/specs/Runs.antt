@@ -1,7 +1,7 @@
 -- What a run makes of a design's transition faults.
 use Rattle.std.specs.Prelude.{ℕ, ◌≡◌}
-use Rattle.netlist.specs.Netlist.{Netlist}
-use Rattle.good_files.specs.GoodFiles.{FiveFiles}
+use Rattle.statement.specs.Netlists.{Netlist}
+use Rattle.statement.specs.Statement.{FiveFiles}
 use Rattle.good_files.specs.ScanOff.{design_chains}
 use Rattle.transition_report.specs.Texts.{transition_report_text}
 use Rattle.transition_run.specs.declared.files.TransitionFiles.{TransitionFiles}

@@ -1,26 +1,25 @@
 -- What five files say of a chip's slow lines.
 use Rattle.std.specs.Prelude.{ℕ, ◌≡◌, ◌<◌, ◌≤◌, ◌+◌, ◌⊎◌, Bool, List, [], ◌∷◌, map, length, Some, None}
 use Rattle.std.specs.List.{Contains, slice_get}
-use Rattle.netlist.specs.declared.lines.Fault.{Fault}
-use Rattle.netlist.specs.declared.lines.Point.{Point}
-use Rattle.netlist.specs.Netlist.{Netlist, cells}
-use Rattle.cubes.specs.Cubes.{Pattern}
-use Rattle.bench_text.specs.Canonical.{canonical}
+use Rattle.statement.specs.declared.lines.Fault.{Fault}
+use Rattle.statement.specs.declared.lines.Point.{Point}
+use Rattle.statement.specs.Netlists.{Netlist, cells}
+use Rattle.statement.specs.Patterns.{Pattern}
+use Rattle.statement.specs.Benches.{canonical}
 use Rattle.scan_insert.specs.Names.{pin_name_of}
 use Rattle.scan_insert.specs.Scanned.{scanned_of}
-use Rattle.scan_play.specs.Cycles.{Cycle}
-use Rattle.scan_play.specs.Passing.{Passes}
-use Rattle.stil_write.specs.StilFiles.{StilFile}
+use Rattle.statement.specs.Runs.{Cycle, Passes}
+use Rattle.statement.specs.Stils.{StilFile}
 use Rattle.stil_read.specs.Reading.{StandsFor}
-use Rattle.stil_vectors.specs.FileVectors.{vectors_in}
-use Rattle.fault_universe.specs.Universe.{universe_of}
+use Rattle.statement.specs.Tests.{vectors_in}
+use Rattle.statement.specs.Faults.{universe_of}
 use Rattle.redundancy_cert.specs.declared.nodes.Node.{Node}
 use Rattle.redundancy_cert.specs.Trees.{closed_count, open_count}
-use Rattle.report.specs.declared.outcomes.Outcome.{Outcome}
-use Rattle.report.specs.declared.outcomes.Outcome.TheVariants.{Detected, Redundant, Aborted}
-use Rattle.report.specs.Reports.{Line}
+use Rattle.statement.specs.declared.outcomes.Outcome.{Outcome}
+use Rattle.statement.specs.declared.outcomes.Outcome.TheVariants.{Detected, Redundant, Aborted}
+use Rattle.statement.specs.Reports.{Line}
 use Rattle.run_report.specs.Heads.{count_of, one_if_detected, one_if_redundant, one_if_aborted}
-use Rattle.good_files.specs.GoodFiles.{FiveFiles}
+use Rattle.statement.specs.Statement.{FiveFiles}
 use Rattle.transition_frames.specs.Transition.{DetectsTransition}
 use Rattle.transition.specs.Detections.{IsLastTransition, LastTransition}
 use Rattle.transition_play.specs.LaunchVectors.{IsLaunchStrobedAt}

@@ -7,7 +7,7 @@ ghost use Rattle.netlist.specs.Designs.{IsDesign};
 ghost use Rattle.netlist.specs.Holds.{none_held};
 ghost use Rattle.cubes.specs.Cubes.{IsPatternOf};
 ghost use Rattle.scan_insert.specs.Scanned.{AreChainsOf, scanned_of};
-ghost use Rattle.fault_universe.specs.Universe.{universe_of};
+ghost use Rattle.statement.specs.Faults.{universe_of};
 ghost use Rattle.transition_tests.specs.Verdicts.{AreTests};
 ghost use Rattle.transition_run.specs.Runs.{IsTransitionRun};
 ghost use Rattle.transition_run.specs.inner.Written.{IsLaunchText, IsSaid, IsWritten};

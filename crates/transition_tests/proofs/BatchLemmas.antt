@@ -5,10 +5,11 @@ use Rattle.std.proofs.lemmas.List.{length-replicate}
 use Rattle.std.proofs.lemmas.List.Elements.{All-replicate}
 use Rattle.std.proofs.lemmas.Slice.Zip.{AllZip-long}
 use Rattle.rand_core.specs.Stream.{Stream}
-use Rattle.netlist.specs.declared.kinds.Tri.TheVariants.{X}
+use Rattle.statement.specs.declared.kinds.Tri.TheVariants.{X}
 use Rattle.netlist.specs.Holds.{none_held}
-use Rattle.netlist.specs.Netlist.{Netlist, cells}
-use Rattle.cubes.specs.Cubes.{Cube, Pattern, AgreesWith, IsCubeOf, IsPatternOf}
+use Rattle.statement.specs.Netlists.{Netlist, cells}
+use Rattle.cubes.specs.Cubes.{Cube, AgreesWith, IsCubeOf, IsPatternOf}
+use Rattle.statement.specs.Patterns.{Pattern}
 use Rattle.cubes.specs.Filling.{filled_cube, words_after_cube, filled_all}
 use Rattle.cubes.proofs.FillLemmas.{filled_agree, filled_fit}
 use Rattle.transition_tests.specs.Batches.{open_cube, drawn}

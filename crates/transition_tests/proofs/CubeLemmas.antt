@@ -4,14 +4,16 @@ use Rattle.std.specs.List.{All, AllZip, Contains}
 use Rattle.std.proofs.lemmas.Bool.{cases_lt}
 use Rattle.std.proofs.lemmas.List.{get_or-append_right, get_or_past, length-map}
 use Rattle.std.proofs.lemmas.List.Elements.{All-nil, All-cons, All-append, Contains-append_right}
-use Rattle.netlist.specs.declared.kinds.Tri.{Tri}
-use Rattle.netlist.specs.declared.kinds.Tri.TheVariants.{Zero, One, X}
-use Rattle.netlist.specs.declared.lines.Fault.{Fault}
-use Rattle.netlist.specs.Holds.{Holds, none_held}
-use Rattle.netlist.specs.Netlist.{Netlist, cells}
-use Rattle.netlist.specs.ThreeValues.{known, allows, AreAllowed}
+use Rattle.statement.specs.declared.kinds.Tri.{Tri}
+use Rattle.statement.specs.declared.kinds.Tri.TheVariants.{Zero, One, X}
+use Rattle.statement.specs.declared.lines.Fault.{Fault}
+use Rattle.statement.specs.Patterns.{Holds, Pattern}
+use Rattle.netlist.specs.Holds.{none_held}
+use Rattle.statement.specs.Netlists.{Netlist, cells}
+use Rattle.statement.specs.Values.{known, allows}
+use Rattle.netlist.specs.ThreeValues.{AreAllowed}
 use Rattle.netlist.proofs.Lists.{contains_head, contains_tail}
-use Rattle.cubes.specs.Cubes.{Cube, Pattern, AgreesWith, HasBitsOf, HaveSameWidths, IsCubeOf, IsPatternOf}
+use Rattle.cubes.specs.Cubes.{Cube, AgreesWith, HasBitsOf, HaveSameWidths, IsCubeOf, IsPatternOf}
 use Rattle.cubes.proofs.RowLemmas.{bit_left, bit_right, known_is_no_x, row_left}
 use Rattle.fault_universe.specs.Universe.{fault_limit}
 use Rattle.redundancy_cert.specs.declared.engine.Found.{Found}

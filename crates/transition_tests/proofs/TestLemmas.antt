@@ -5,21 +5,22 @@ use Rattle.std.specs.List.{All, AllZip, Contains, slice_get}
 use Rattle.std.specs.Option.{is_some}
 use Rattle.std.proofs.lemmas.List.Elements.{All-nil, All-cons, All-head, All-tail}
 use Rattle.std.proofs.lemmas.Option.{slice_get_read, slice_get_within, slice_get-get_or}
-use Rattle.netlist.specs.declared.lines.Fault.{Fault}
-use Rattle.netlist.specs.declared.lines.Point.{Point}
+use Rattle.statement.specs.declared.lines.Fault.{Fault}
+use Rattle.statement.specs.declared.lines.Point.{Point}
 use Rattle.netlist.specs.Conditions.{IsSound}
 use Rattle.netlist.specs.Holds.{none_held}
 use Rattle.netlist.specs.Lines.{IsLineOf}
-use Rattle.netlist.specs.Netlist.{Netlist}
+use Rattle.statement.specs.Netlists.{Netlist}
 use Rattle.netlist.proofs.Lists.{contains_head}
-use Rattle.cubes.specs.Cubes.{Cube, Pattern, IsCubeOf, IsPatternOf}
+use Rattle.cubes.specs.Cubes.{Cube, IsCubeOf, IsPatternOf}
+use Rattle.statement.specs.Patterns.{Pattern}
 use Rattle.redundancy_cert.specs.declared.engine.Found.{Found}
 use Rattle.redundancy_cert.specs.declared.engine.Found.TheVariants.{Test, Closed, Partial}
 use Rattle.list_core.specs.Kept.{is_last_at, kept_from, new_place}
 use Rattle.list_core.specs.inner.Marks.{last_at}
 use Rattle.list_core.proofs.KeepLemmas.{kept_all, source}
 use Rattle.list_core.proofs.LastPlaces.{last_kept, marked_by, marked_where, never_kept, some_marked}
-use Rattle.fault_universe.specs.Universe.{universe_of}
+use Rattle.statement.specs.Faults.{universe_of}
 use Rattle.transition_frames.specs.Frames.{frames_of, frame_fault}
 use Rattle.transition.specs.Detections.{IsLastTransition, LastTransition}
 use Rattle.transition.specs.Searches.{AreFoundWhereLeft, IsFoundIfLeft}

@@ -6,11 +6,12 @@ use Rattle.rand_core.specs.Stream.{Stream}
 use Rattle.rand_core.specs.Steps.{stream_of, steps_u32}
 use Rattle.rand_pcg.specs.Lcg.{started, increment_of}
 use Rattle.rand_pcg.specs.Pcg.{multiplier_64, pcg32}
-use Rattle.netlist.specs.declared.kinds.Tri.TheVariants.{X}
-use Rattle.netlist.specs.declared.lines.Fault.{Fault}
-use Rattle.netlist.specs.declared.lines.Point.{Point}
-use Rattle.netlist.specs.Netlist.{Netlist, cells}
-use Rattle.cubes.specs.Cubes.{Cube, Pattern}
+use Rattle.statement.specs.declared.kinds.Tri.TheVariants.{X}
+use Rattle.statement.specs.declared.lines.Fault.{Fault}
+use Rattle.statement.specs.declared.lines.Point.{Point}
+use Rattle.statement.specs.Netlists.{Netlist, cells}
+use Rattle.cubes.specs.Cubes.{Cube}
+use Rattle.statement.specs.Patterns.{Pattern}
 use Rattle.cubes.specs.Filling.{filled_all}
 use Rattle.transition.specs.Detections.{IsLastTransition, LastTransition}
 

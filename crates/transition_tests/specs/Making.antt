@@ -2,11 +2,12 @@
 -- of Electronic Testing.)
 use Rattle.std.specs.Prelude.{ℕ, ◌≡◌, ◌++◌, ◌↔◌, Bool, IsTrue, List, [], ◌∷◌, Option, Some, None, length}
 use Rattle.std.specs.List.{flat_map}
-use Rattle.netlist.specs.Netlist.{Netlist}
-use Rattle.cubes.specs.Cubes.{Cube, Pattern}
+use Rattle.statement.specs.Netlists.{Netlist}
+use Rattle.cubes.specs.Cubes.{Cube}
+use Rattle.statement.specs.Patterns.{Pattern}
 use Rattle.cubes.specs.Filling.{filled_all}
 use Rattle.cubes.specs.Merging.{AreMerged}
-use Rattle.fault_universe.specs.Universe.{universe_of}
+use Rattle.statement.specs.Faults.{universe_of}
 use Rattle.redundancy_cert.specs.declared.engine.Found.{Found}
 use Rattle.redundancy_cert.specs.declared.engine.Found.TheVariants.{Test, Closed, Partial}
 use Rattle.list_core.specs.Kept.{kept_from}

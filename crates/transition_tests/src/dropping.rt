@@ -5,7 +5,7 @@ ghost use Rattle.std.specs.Option.{is_some};
 ghost use Rattle.netlist.specs.Designs.{IsDesign};
 ghost use Rattle.netlist.specs.Holds.{none_held};
 ghost use Rattle.cubes.specs.Cubes.{IsPatternOf};
-ghost use Rattle.fault_universe.specs.Universe.{universe_of};
+ghost use Rattle.statement.specs.Faults.{universe_of};
 ghost use Rattle.transition_tests.specs.Batches.{AreLeftBy, open_cube, drawn, batch_of};
 
 use cubes::{Cube, Pattern, fill};

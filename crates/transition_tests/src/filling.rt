@@ -2,8 +2,8 @@
 //! of each other; each pattern so has the bits of many.
 ghost use Rattle.std.specs.Prelude.{◌≡◌, ◌≤◌, ◌+◌, ◌++◌, length, IfOk, OnOk};
 ghost use Rattle.std.specs.List.{All, AllPairs, Contains};
-ghost use Rattle.netlist.specs.Holds.{Holds};
-ghost use Rattle.netlist.specs.Netlist.{Netlist};
+ghost use Rattle.statement.specs.Patterns.{Holds};
+ghost use Rattle.statement.specs.Netlists.{Netlist};
 ghost use Rattle.cubes.specs.Cubes.{Cube as Values, HaveSameWidths, IsCubeOf, IsPatternOf};
 ghost use Rattle.transition_tests.specs.Making.{AreBehind, AreFilledFrom, cube_of, cubes_in};
 ghost use Rattle.transition_tests.specs.inner.Cubes.{HasAgreeing};

@@ -3,7 +3,7 @@
 ghost use Rattle.std.specs.Prelude.{◌≡◌, ◌+◌, ◌≤◌, ◌<◌, ◌^◌, ℕ, length, slice_index, IfOk, IfSome};
 ghost use Rattle.std.specs.List.{All, AllZip};
 ghost use Rattle.netlist.specs.Designs.{IsDesign};
-ghost use Rattle.fault_universe.specs.Universe.{universe_of};
+ghost use Rattle.statement.specs.Faults.{universe_of};
 ghost use Rattle.list_core.specs.Kept.{is_last_at, kept_from, new_place};
 ghost use Rattle.netlist.specs.Holds.{none_held};
 ghost use Rattle.cubes.specs.Cubes.{IsPatternOf};

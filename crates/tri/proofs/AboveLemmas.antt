@@ -3,12 +3,12 @@ use Rattle.std.proofs.Common.{◌≡◌, Bool, true, false, not, cond, ◌&&◌,
 use Rattle.std.specs.Bool.{beq}
 use Rattle.std.specs.List.{list_any}
 use Rattle.std.proofs.lemmas.Bool.{both_ways, or_parts, and_parts, and_from}
-use Rattle.netlist.specs.declared.kinds.Tri.{Tri}
-use Rattle.netlist.specs.declared.kinds.Tri.TheVariants.{Zero, One, X}
-use Rattle.netlist.specs.declared.lines.Line.{Line}
-use Rattle.netlist.specs.declared.lines.Fault.{Fault}
-use Rattle.netlist.specs.Settled.{is_line, stuck}
-use Rattle.netlist.specs.ThreeValues.{known, allows, AreAllowed}
+use Rattle.statement.specs.declared.kinds.Tri.{Tri}
+use Rattle.statement.specs.declared.kinds.Tri.TheVariants.{Zero, One, X}
+use Rattle.statement.specs.declared.lines.Line.{Line}
+use Rattle.statement.specs.declared.lines.Fault.{Fault}
+use Rattle.statement.specs.Values.{is_line, stuck, known, allows}
+use Rattle.netlist.specs.ThreeValues.{AreAllowed}
 use Rattle.tri.specs.declared.labels.Label.{Label}
 use Rattle.tri.specs.Labels.{is_known_as, are_known_and_equal, on_line, good_of, label_of, IsAbove, AreAbove}
 use Rattle.tri.proofs.Choices.{no, known_allows_itself}

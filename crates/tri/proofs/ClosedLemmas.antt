@@ -2,20 +2,19 @@
 use Rattle.std.proofs.Common.{◌≡◌, ◌≢◌, ℕ, zero, suc, Bool, true, false, List, [], ◌∷◌, Some, None, refl, ◌∙◌, ap, subst, inl, inr}
 use Rattle.std.specs.List.{slice_get}
 use Rattle.std.proofs.lemmas.List.Folds.{list_any_none}
-use Rattle.netlist.specs.declared.lines.Fault.{Fault}
-use Rattle.netlist.specs.declared.lines.Point.{Point}
-use Rattle.netlist.specs.declared.lines.Point.TheVariants.{Output, Cell}
-use Rattle.netlist.specs.Netlist.{Netlist}
+use Rattle.statement.specs.declared.lines.Fault.{Fault}
+use Rattle.statement.specs.declared.lines.Point.{Point}
+use Rattle.statement.specs.declared.lines.Point.TheVariants.{Output, Cell}
+use Rattle.statement.specs.Netlists.{Netlist}
 use Rattle.netlist.specs.Conditions.{IsSound}
-use Rattle.netlist.specs.Settled.{Settles, bits, outs, next}
+use Rattle.statement.specs.Values.{Settles, bits, outs, next, allows}
 use Rattle.netlist.proofs.Alike.{settles_once}
 use Rattle.netlist.proofs.Lists.{decides_beq}
 use Rattle.std.specs.Bool.{beq}
-use Rattle.netlist.specs.ThreeValues.{allows}
-use Rattle.netlist.specs.Detection.{observed, Detects, IsRedundant}
+use Rattle.statement.specs.Patterns.{observed, Detects, Holds, Obeys}
+use Rattle.netlist.specs.Detection.{IsRedundant}
 use Rattle.tri.specs.declared.labels.Label.{Label}
 use Rattle.tri.specs.Labels.{Decisions, labels, AreLabels, IsClosedAt, IsContradicted, IsUnobserved, Follows, MeetsDecisions}
-use Rattle.netlist.specs.Holds.{Holds, Obeys}
 use Rattle.tri.proofs.AboveLemmas.{same_where_none_differs}
 use Rattle.tri.proofs.LabelLemmas.{other_bit, above_at, outs_above, next_above}
 

@@ -1,19 +1,19 @@
 -- Where all that is driven is known, three values are the bits.
 use Rattle.std.proofs.Common.{◌≡◌, ℕ, Bool, true, false, cond, List, [], ◌∷◌, map, Option, Some, None, refl, ◌∙◌, ap}
 use Rattle.std.specs.List.{All, AllZip}
-use Rattle.netlist.specs.declared.kinds.Kind.{Kind}
-use Rattle.netlist.specs.declared.kinds.Tri.{Tri}
-use Rattle.netlist.specs.declared.kinds.Tri.TheVariants.{Zero, One, X}
-use Rattle.netlist.specs.declared.lines.Line.{Line}
-use Rattle.netlist.specs.declared.lines.Fault.{Fault}
-use Rattle.netlist.specs.Gates.{gate_bit}
-use Rattle.netlist.specs.Netlist.{Netlist, signals, IsAcyclic}
+use Rattle.statement.specs.declared.kinds.Kind.{Kind}
+use Rattle.statement.specs.declared.kinds.Tri.{Tri}
+use Rattle.statement.specs.declared.kinds.Tri.TheVariants.{Zero, One, X}
+use Rattle.statement.specs.declared.lines.Line.{Line}
+use Rattle.statement.specs.declared.lines.Fault.{Fault}
+use Rattle.statement.specs.Values.{gate_bit, Settles, is_line, stuck, bits, outs, next, known}
+use Rattle.statement.specs.Netlists.{Netlist, signals}
+use Rattle.netlist.specs.Netlist.{IsAcyclic}
 use Rattle.netlist.specs.Conditions.{IsClosed}
-use Rattle.netlist.specs.Settled.{Settles, is_line, stuck, bits, outs, next}
 use Rattle.netlist.specs.Laws.{Keeps}
 use Rattle.netlist.proofs.Alike.{signals_alike, outs_alike, next_alike}
 use Rattle.netlist.proofs.Lists.{All-from_contains}
-use Rattle.netlist.specs.ThreeValues.{known, AreAllowed}
+use Rattle.netlist.specs.ThreeValues.{AreAllowed}
 use Rattle.tri.specs.Gates.{gate_tri}
 use Rattle.tri.specs.Labels.{is_known_as}
 use Rattle.tri.specs.Settled.{tris}

@@ -5,21 +5,20 @@ use Rattle.std.proofs.lemmas.Bool.{both_ways}
 use Rattle.std.proofs.lemmas.List.Elements.{All-nil, All-cons, All-head, All-tail, All-contains, Contains-append_left, Contains-append_right}
 use Rattle.std.proofs.lemmas.List.{get_or-map, length-map, length-append, get_or_append_left, get_or_default}
 use Rattle.std.proofs.lemmas.Option.{get_or_from_slice_get}
-use Rattle.netlist.specs.declared.kinds.Tri.{Tri}
-use Rattle.netlist.specs.declared.kinds.Tri.TheVariants.{X}
-use Rattle.netlist.specs.declared.lines.Line.TheVariants.{Stem, Pin, Out}
-use Rattle.netlist.specs.declared.lines.Fault.{Fault}
-use Rattle.netlist.specs.Netlist.{Definition, Netlist, is_cell, is_gate, cells, gates, signals}
+use Rattle.statement.specs.declared.kinds.Tri.{Tri}
+use Rattle.statement.specs.declared.kinds.Tri.TheVariants.{X}
+use Rattle.statement.specs.declared.lines.Line.TheVariants.{Stem, Pin, Out}
+use Rattle.statement.specs.declared.lines.Fault.{Fault}
+use Rattle.statement.specs.Netlists.{Definition, Netlist, is_cell, cells, gates, signals}
+use Rattle.netlist.specs.Netlist.{is_gate}
 use Rattle.netlist.specs.Conditions.{IsSound}
-use Rattle.netlist.specs.Gates.{gate_bit}
-use Rattle.netlist.specs.Settled.{Settles, stuck, on_pins, pins_of, bits, outs, next}
+use Rattle.statement.specs.Values.{gate_bit, Settles, stuck, on_pins, pins_of, bits, outs, next, known, allows}
 use Rattle.netlist.proofs.Acyclic.{everywhere}
 use Rattle.netlist.proofs.Lists.{All-from_contains, contains_filter}
-use Rattle.netlist.specs.ThreeValues.{known, allows}
 use Rattle.tri.specs.Gates.{gate_tri}
 use Rattle.tri.specs.declared.labels.Label.{Label}
 use Rattle.tri.specs.Labels.{Decisions, on_line, label_of, labels, source_label, held_value, AreLabels, Follows, IsAbove, AreAbove}
-use Rattle.netlist.specs.Holds.{Holds, Obeys}
+use Rattle.statement.specs.Patterns.{Holds, Obeys}
 use Rattle.tri.proofs.Choices.{gate_allows, known_allows_itself}
 use Rattle.tri.proofs.AboveLemmas.{is_above, IsAbove-from, is_above-from, on_line_above, label_of_above, goods_allowed, faults_allowed, same_where_none_differs, AreAbove-append}
 

@@ -4,18 +4,18 @@ use Rattle.std.specs.Bool.{Decides, beq}
 use Rattle.std.specs.List.{All, Contains, flat_map}
 use Rattle.std.proofs.lemmas.Bool.{and_parts, and_from}
 use Rattle.std.proofs.lemmas.List.Elements.{All-head, All-tail, All-contains}
-use Rattle.netlist.specs.declared.kinds.Tri.{Tri}
-use Rattle.netlist.specs.declared.kinds.Tri.TheVariants.{Zero, One, X}
-use Rattle.netlist.specs.declared.lines.Fault.{Fault}
-use Rattle.netlist.specs.declared.lines.Line.TheVariants.{Out}
-use Rattle.netlist.specs.Netlist.{Definition, Netlist, is_cell, cells, signals}
+use Rattle.statement.specs.declared.kinds.Tri.{Tri}
+use Rattle.statement.specs.declared.kinds.Tri.TheVariants.{Zero, One, X}
+use Rattle.statement.specs.declared.lines.Fault.{Fault}
+use Rattle.statement.specs.declared.lines.Line.TheVariants.{Out}
+use Rattle.statement.specs.Netlists.{Definition, Netlist, is_cell, cells, signals}
 use Rattle.netlist.specs.Conditions.{IsClosed, IsSound}
-use Rattle.netlist.specs.Settled.{Rule, on_pins, pins_of, outs, next}
+use Rattle.statement.specs.Values.{Rule, on_pins, pins_of, outs, next}
 use Rattle.netlist.proofs.Alike.{settles_once}
 use Rattle.netlist.proofs.Lists.{decides_beq, map_agree, All-from_contains, contains_filter}
 use Rattle.tri.specs.declared.labels.Label.{Label}
 use Rattle.tri.specs.Labels.{Decisions, labels, input_labels, cell_labels, AreLabels, IsContradicted, IsClosedAt}
-use Rattle.netlist.specs.Holds.{Holds}
+use Rattle.statement.specs.Patterns.{Holds}
 use Rattle.tri.specs.Paths.{Path, decisions, IsClosedPath, IsUnknown}
 
 -- ---- equal labels, by a test

@@ -1,14 +1,14 @@
 -- Three values against three values of which no fewer are known.
 use Rattle.std.proofs.Common.{◌≡◌, Bool, true, false, cond, List, [], ◌∷◌, Option, Some, None, refl, subst}
-use Rattle.netlist.specs.declared.kinds.Kind.{Kind}
-use Rattle.netlist.specs.declared.kinds.Tri.{Tri}
-use Rattle.netlist.specs.declared.kinds.Tri.TheVariants.{Zero, One, X}
-use Rattle.netlist.specs.declared.lines.Line.{Line}
-use Rattle.netlist.specs.declared.lines.Fault.{Fault}
-use Rattle.netlist.specs.Netlist.{Netlist}
-use Rattle.netlist.specs.Settled.{is_line, stuck}
+use Rattle.statement.specs.declared.kinds.Kind.{Kind}
+use Rattle.statement.specs.declared.kinds.Tri.{Tri}
+use Rattle.statement.specs.declared.kinds.Tri.TheVariants.{Zero, One, X}
+use Rattle.statement.specs.declared.lines.Line.{Line}
+use Rattle.statement.specs.declared.lines.Fault.{Fault}
+use Rattle.statement.specs.Netlists.{Netlist}
+use Rattle.statement.specs.Values.{is_line, stuck, known, allows}
 use Rattle.netlist.specs.Laws.{Keeps}
-use Rattle.netlist.specs.ThreeValues.{known, allows, AreAllowed}
+use Rattle.netlist.specs.ThreeValues.{AreAllowed}
 use Rattle.tri.specs.Known.{allows_tri, AreAllowedTris}
 use Rattle.tri.specs.Gates.{gate_tri}
 use Rattle.tri.specs.Settled.{tris}

@@ -1,8 +1,8 @@
 -- What three values are together, from which each kind of gate takes its value.
 use Rattle.std.specs.Prelude.{◌≡◌, List, map}
 use Rattle.std.specs.List.{list_any}
-use Rattle.netlist.specs.declared.kinds.Tri.{Tri}
-use Rattle.netlist.specs.Gates.{parity}
+use Rattle.statement.specs.declared.kinds.Tri.{Tri}
+use Rattle.statement.specs.Values.{parity}
 use Rattle.tri.specs.declared.together.Together.{Together}
 use Rattle.netlist.specs.ThreeValues.{is_zero, is_one, is_x}
 use Rattle.tri.specs.Gates.{only_tri}

@@ -1,8 +1,8 @@
 -- Three values of which no fewer are known.
 use Rattle.std.specs.Prelude.{Bool, true, List, IsTrue}
 use Rattle.std.specs.List.{AllZip}
-use Rattle.netlist.specs.declared.kinds.Tri.{Tri}
-use Rattle.netlist.specs.declared.kinds.Tri.TheVariants.{Zero, One, X}
+use Rattle.statement.specs.declared.kinds.Tri.{Tri}
+use Rattle.statement.specs.declared.kinds.Tri.TheVariants.{Zero, One, X}
 use Rattle.netlist.specs.ThreeValues.{is_zero, is_one}
 
 -- the value may stand where the first one does: X allows each

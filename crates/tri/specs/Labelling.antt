@@ -1,9 +1,9 @@
 -- Labels worked out.
 use Rattle.std.specs.Prelude.{ℕ, ◌≡◌, Bool, List, length, Option, None, slice_index_or}
 use Rattle.netlist.specs.Settled.{at}
-use Rattle.netlist.specs.declared.lines.Fault.{Fault}
-use Rattle.netlist.specs.Netlist.{Netlist, signals}
-use Rattle.netlist.specs.Holds.{Holds}
+use Rattle.statement.specs.declared.lines.Fault.{Fault}
+use Rattle.statement.specs.Netlists.{Netlist, signals}
+use Rattle.statement.specs.Patterns.{Holds}
 use Rattle.tri.specs.declared.labels.Label.{Label}
 use Rattle.tri.specs.declared.labelling.Labelling.{Labelling}
 use Rattle.tri.specs.Labels.{Decisions, AreLabels}

@@ -3,15 +3,15 @@
 -- (The composite values of the D-calculus, Roth 1966; decisions on inputs as in PODEM, Goel 1981.)
 use Rattle.std.specs.Prelude.{ℕ, ◌≡◌, ◌&&◌, ◌⊎◌, ⊤, Bool, true, false, not, List, [], ◌∷◌, map, Option, Some, None, if◌then◌else◌, IsTrue, IsFalse, slice_index_or}
 use Rattle.std.specs.List.{All, Contains, list_any}
-use Rattle.netlist.specs.declared.kinds.Tri.{Tri}
-use Rattle.netlist.specs.declared.kinds.Tri.TheVariants.{Zero, One, X}
-use Rattle.netlist.specs.declared.lines.Line.{Line}
-use Rattle.netlist.specs.declared.lines.Fault.{Fault}
-use Rattle.netlist.specs.Netlist.{Definition, Netlist, cells, signals}
-use Rattle.netlist.specs.Holds.{Holds}
-use Rattle.netlist.specs.Settled.{Rule, Settles, is_line, bits, outs, next}
+use Rattle.statement.specs.declared.kinds.Tri.{Tri}
+use Rattle.statement.specs.declared.kinds.Tri.TheVariants.{Zero, One, X}
+use Rattle.statement.specs.declared.lines.Line.{Line}
+use Rattle.statement.specs.declared.lines.Fault.{Fault}
+use Rattle.statement.specs.Netlists.{Definition, Netlist, cells, signals}
+use Rattle.statement.specs.Patterns.{Holds}
+use Rattle.statement.specs.Values.{Rule, Settles, is_line, bits, outs, next, known, allows}
 use Rattle.tri.specs.declared.labels.Label.{Label}
-use Rattle.netlist.specs.ThreeValues.{known, is_zero, is_one, allows}
+use Rattle.netlist.specs.ThreeValues.{is_zero, is_one}
 use Rattle.tri.specs.Known.{allows_tri}
 use Rattle.tri.specs.Gates.{gate_tri}
 

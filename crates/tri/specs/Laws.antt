@@ -1,17 +1,18 @@
 -- Laws of three values and labels, each the contract of a function of its name.
 use Rattle.std.specs.Prelude.{ℕ, ◌≡◌, Bool, List, map, Option, Some, None, IsTrue}
 use Rattle.std.specs.List.{All}
-use Rattle.netlist.specs.declared.kinds.Tri.{Tri}
-use Rattle.netlist.specs.declared.lines.Fault.{Fault}
-use Rattle.netlist.specs.declared.lines.Point.{Point}
+use Rattle.statement.specs.declared.kinds.Tri.{Tri}
+use Rattle.statement.specs.declared.lines.Fault.{Fault}
+use Rattle.statement.specs.declared.lines.Point.{Point}
 use Rattle.netlist.specs.Conditions.{IsClosed, IsSound}
-use Rattle.netlist.specs.Netlist.{Netlist, signals, IsAcyclic}
-use Rattle.netlist.specs.Settled.{Settles, bits, outs, next}
-use Rattle.netlist.specs.ThreeValues.{known, allows, AreAllowed}
+use Rattle.statement.specs.Netlists.{Netlist, signals}
+use Rattle.netlist.specs.Netlist.{IsAcyclic}
+use Rattle.statement.specs.Values.{Settles, bits, outs, next, known, allows}
+use Rattle.netlist.specs.ThreeValues.{AreAllowed}
 use Rattle.tri.specs.Known.{allows_tri, AreAllowedTris}
-use Rattle.netlist.specs.Holds.{Holds, Obeys}
+use Rattle.statement.specs.Patterns.{Holds, Obeys, Detects}
 use Rattle.tri.specs.Settled.{tris}
-use Rattle.netlist.specs.Detection.{Detects, IsRedundant}
+use Rattle.netlist.specs.Detection.{IsRedundant}
 use Rattle.tri.specs.declared.labels.Label.{Label}
 use Rattle.tri.specs.Labels.{Decisions, labels, AreLabels, AllowsLabel, IsContradicted, IsClosedAt, Follows, MeetsDecisions, IsAbove, AreAbove}
 

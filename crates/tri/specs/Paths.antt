@@ -1,13 +1,13 @@
 -- Decisions one after the other, and what the labels under them tell of the path.
 use Rattle.std.specs.Prelude.{ℕ, ◌≡◌, ◌==◌, ◌&&◌, ◌||◌, Bool, List, [], ◌∷◌, Some, None, take, slice_get, IsTrue, IsFalse, if◌then◌else◌}
 use Rattle.std.specs.List.{All, Contains}
-use Rattle.netlist.specs.declared.kinds.Tri.TheVariants.{X}
-use Rattle.netlist.specs.declared.lines.Fault.{Fault}
-use Rattle.netlist.specs.declared.lines.Point.{Point}
-use Rattle.netlist.specs.declared.lines.Point.TheVariants.{Output, Cell}
-use Rattle.netlist.specs.Netlist.{Netlist, signals}
-use Rattle.netlist.specs.Settled.{outs, next}
-use Rattle.netlist.specs.Holds.{Holds}
+use Rattle.statement.specs.declared.kinds.Tri.TheVariants.{X}
+use Rattle.statement.specs.declared.lines.Fault.{Fault}
+use Rattle.statement.specs.declared.lines.Point.{Point}
+use Rattle.statement.specs.declared.lines.Point.TheVariants.{Output, Cell}
+use Rattle.statement.specs.Netlists.{Netlist, signals}
+use Rattle.statement.specs.Values.{outs, next}
+use Rattle.statement.specs.Patterns.{Holds}
 use Rattle.netlist.specs.ThreeValues.{is_zero, is_one}
 use Rattle.tri.specs.declared.labels.Label.{Label}
 use Rattle.tri.specs.Labels.{Decisions, labels, AreLabels, IsContradicted, IsClosedAt}

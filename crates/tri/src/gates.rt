@@ -1,6 +1,6 @@
 //! Gates over three values.
 ghost use Rattle.std.specs.Prelude.{◌≡◌, ◌↔◌, Bool};
-ghost use Rattle.netlist.specs.ThreeValues.{known};
+ghost use Rattle.statement.specs.Values.{known};
 ghost use Rattle.tri.specs.Gates.{gate_tri, IsForced};
 
 use crate::together::Together;

@@ -1,8 +1,9 @@
 //! What three values are together, from which each kind of gate takes its value: gathered in one pass, without a copy of the values.
 ghost use Rattle.std.specs.Prelude.{◌≡◌, List, [], ◌∷◌};
-ghost use Rattle.netlist.specs.declared.kinds.Tri.{Tri as Value};
+ghost use Rattle.statement.specs.declared.kinds.Tri.{Tri as Value};
 ghost use Rattle.tri.specs.Gates.{gate_tri, conjunction_tri, disjunction_tri, parity_tri};
-ghost use Rattle.netlist.specs.ThreeValues.{known, complement};
+ghost use Rattle.statement.specs.Values.{known};
+ghost use Rattle.netlist.specs.ThreeValues.{complement};
 
 use netlist::{Kind, Tri};
 

@@ -2,9 +2,10 @@
 use Rattle.std.proofs.Common.{◌≡◌, ℕ, ◌≤◌, Bool, List, map, length, Some, None, sym, ◌∙◌, subst, arith}
 use Rattle.std.specs.List.{All, slice_get}
 use Rattle.std.proofs.lemmas.Option.{get_or_from_slice_get}
-use Rattle.netlist.specs.Netlist.{Netlist, cells, signals}
-use Rattle.netlist.specs.Settled.{Settles, at, bits}
-use Rattle.cubes.specs.Cubes.{Pattern}
+use Rattle.statement.specs.Netlists.{Netlist, cells, signals}
+use Rattle.statement.specs.Values.{Settles, bits}
+use Rattle.netlist.specs.Settled.{at}
+use Rattle.statement.specs.Patterns.{Pattern}
 use Rattle.events.specs.Words.{bit_of, words}
 use Rattle.events.proofs.WordBits.{words_as_bits}
 use Rattle.word_sim.specs.Words.{AreGoodWords, HasWidthsOf}

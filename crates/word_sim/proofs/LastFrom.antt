@@ -5,12 +5,12 @@ use Rattle.std.specs.Option.{option_map}
 use Rattle.std.proofs.lemmas.Bool.{cases_lt, cases_eq}
 use Rattle.std.proofs.lemmas.List.{length-set, length-replicate, length-take, get_or_default, get_or-replicate, get_or-set_same, get_or-set_other}
 use Rattle.std.proofs.lemmas.Option.{slice_get-get_or}
-use Rattle.netlist.specs.declared.lines.Fault.{Fault}
-use Rattle.netlist.specs.declared.lines.Point.{Point}
-use Rattle.netlist.specs.Netlist.{Netlist}
+use Rattle.statement.specs.declared.lines.Fault.{Fault}
+use Rattle.statement.specs.declared.lines.Point.{Point}
+use Rattle.statement.specs.Netlists.{Netlist}
 use Rattle.netlist.proofs.Settling.{zip_from}
-use Rattle.cubes.specs.Cubes.{Pattern}
-use Rattle.word_sim.specs.Hits.{IsDetectedAt, LastDetected}
+use Rattle.statement.specs.Patterns.{Pattern, IsDetectedAt}
+use Rattle.word_sim.specs.Hits.{LastDetected}
 use Rattle.word_sim.specs.inner.Found.{IsFrom, AreFrom, IsMoved, IsTold, AreFromUpTo}
 use Rattle.word_sim.proofs.WordDetection.{some_below}
 

@@ -2,10 +2,10 @@
 use Rattle.std.proofs.Common.{◌≡◌, ℕ, zero, suc, Bool, true, false, cond, ◌+◌, ◌<◌, ◌≤◌, List, [], ◌∷◌, ◌++◌, length, get_or, drop, Option, None, refl, sym, ◌∙◌, ap, arith}
 use Rattle.std.specs.List.{All, AllZip}
 use Rattle.std.proofs.lemmas.List.{append_assoc, append-nil, drop_all, drop_more}
-use Rattle.netlist.specs.declared.lines.Fault.{Fault}
-use Rattle.netlist.specs.declared.lines.Point.{Point}
-use Rattle.netlist.specs.Netlist.{Netlist}
-use Rattle.cubes.specs.Cubes.{Pattern}
+use Rattle.statement.specs.declared.lines.Fault.{Fault}
+use Rattle.statement.specs.declared.lines.Point.{Point}
+use Rattle.statement.specs.Netlists.{Netlist}
+use Rattle.statement.specs.Patterns.{Pattern}
 use Rattle.word_sim.specs.Hits.{LastDetected}
 use Rattle.word_sim.specs.Never.{AreNever, unmarked}
 use Rattle.word_sim.specs.inner.Leaving.{told_of_all}

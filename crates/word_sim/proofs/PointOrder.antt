@@ -1,10 +1,10 @@
 -- The order of observed points is that of their numbers.
 use Rattle.std.proofs.Common.{◌≡◌, ℕ, ◌-◌, ◌<◌, ◌≤◌, false, cond, ltb, length, ap, subst, inl, inr, arith}
 use Rattle.std.proofs.lemmas.Bool.{cases_lt, lt-ltb, ltb-true, false_from_ne_true}
-use Rattle.netlist.specs.declared.lines.Point.TheVariants.{Output, Cell}
+use Rattle.statement.specs.declared.lines.Point.TheVariants.{Output, Cell}
 use Rattle.netlist.specs.Conditions.{IsSound}
-use Rattle.netlist.specs.Netlist.{Netlist}
-use Rattle.word_sim.specs.Hits.{IsBefore}
+use Rattle.statement.specs.Netlists.{Netlist}
+use Rattle.statement.specs.Patterns.{IsBefore}
 use Rattle.observed_points.specs.Points.{point_of}
 
 not_below : (a b : ℕ) → b ≤ a → ltb a b ≡ false

@@ -3,9 +3,9 @@ use Rattle.std.proofs.Common.{◌≡◌, ℕ, ◌+◌, List, [], ◌∷◌, ◌+
 use Rattle.std.specs.List.{flat_map}
 use Rattle.std.proofs.lemmas.List.{map-append}
 use Rattle.netlist.proofs.Lists.{map_map}
-use Rattle.netlist.specs.declared.lines.Line.TheVariants.{Out}
-use Rattle.netlist.specs.Netlist.{Definition}
-use Rattle.netlist.specs.Settled.{bits, on_pins, pins_of}
+use Rattle.statement.specs.declared.lines.Line.TheVariants.{Out}
+use Rattle.statement.specs.Netlists.{Definition}
+use Rattle.statement.specs.Values.{bits, on_pins, pins_of}
 use Rattle.events.specs.Words.{bit_of, words}
 
 module _ (j : ℕ) (a : ℕ → ℕ) where

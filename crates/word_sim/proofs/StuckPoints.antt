@@ -2,10 +2,11 @@
 use Rattle.std.proofs.Common.{◌≡◌, ℕ, ◌<◌, ◌≤◌, ◌≢◌, ◌⊎◌, Bool, true, false, cond, ltb, List, [], ◌∷◌, length, get_or, Option, refl, sym, ◌∙◌, ap, subst, inl, inr, arith, bit_xor}
 use Rattle.std.specs.List.{Contains, list_any}
 use Rattle.std.proofs.lemmas.Bool.{cases_eq, cases_lt, both_ways, and_parts, and_from, lt-ltb, ltb-true, false_from_ne_true, or_left, or_right, or_cases}
-use Rattle.netlist.specs.declared.lines.Fault.{Fault}
+use Rattle.statement.specs.declared.lines.Fault.{Fault}
 use Rattle.netlist.specs.Conditions.{IsSound}
-use Rattle.netlist.specs.Netlist.{Netlist, signals}
-use Rattle.netlist.specs.Settled.{at, is_line}
+use Rattle.statement.specs.Netlists.{Netlist, signals}
+use Rattle.netlist.specs.Settled.{at}
+use Rattle.statement.specs.Values.{is_line}
 use Rattle.netlist.proofs.Lists.{contains_cases, contains_head, contains_nil, contains_tail}
 use Rattle.events.specs.declared.trails.Change.{Change}
 use Rattle.events.specs.Stuck.{IsObservedOnly}

@@ -5,11 +5,11 @@ use Rattle.std.specs.Prelude.{IfSome}
 use Rattle.std.proofs.lemmas.Bool.{cases_eq}
 use Rattle.std.proofs.lemmas.List.{get_or_default, length-map, length-set, get_or-set_same, get_or-set_other}
 use Rattle.std.proofs.lemmas.Option.{slice_get-get_or}
-use Rattle.netlist.specs.declared.lines.Fault.{Fault}
-use Rattle.netlist.specs.declared.lines.Line.TheVariants.{Stem}
+use Rattle.statement.specs.declared.lines.Fault.{Fault}
+use Rattle.statement.specs.declared.lines.Line.TheVariants.{Stem}
 use Rattle.netlist.specs.Conditions.{IsSound}
 use Rattle.netlist.specs.Lines.{IsLineOf}
-use Rattle.netlist.specs.Netlist.{Netlist, signals}
+use Rattle.statement.specs.Netlists.{Netlist, signals}
 use Rattle.events.specs.Standing.{SettlesOver}
 use Rattle.events.specs.Trails.{AreChanges}
 use Rattle.regions.specs.Turned.{turned_words}
@@ -18,7 +18,7 @@ use Rattle.std.specs.Option.{option_map}
 use Rattle.word_sim.specs.Hits.{LastDetected, LastMarked}
 use Rattle.word_sim.specs.inner.Packed.{AreGoodFor, IsMarked}
 use Rattle.observed_points.specs.Points.{point_of}
-use Rattle.cubes.specs.Cubes.{Pattern}
+use Rattle.statement.specs.Patterns.{Pattern}
 use Rattle.events.specs.declared.trails.Change.{Change}
 use Rattle.regions.specs.Paths.{IsReach}
 use Rattle.word_sim.specs.inner.Groups.{AreReaches, AreTold, IsFound, IsPass, IsToldOf, CanTellAll, HoldChanges, ShowAll}

@@ -2,14 +2,15 @@
 use Rattle.std.proofs.Common.{◌≡◌, ℕ, ◌<◌, Bool, true, false, ◌&&◌, cond, arith, List, map, length, Option, Some, None, sym, ◌∙◌, ap, subst, inl, inr, bit_and, bit_xor, not}
 use Rattle.std.specs.Option.{option_map}
 use Rattle.std.proofs.lemmas.Bool.{cases_Bool, and_parts, both_ways}
-use Rattle.netlist.specs.declared.lines.Fault.{Fault}
-use Rattle.netlist.specs.declared.lines.Line.TheVariants.{Stem}
+use Rattle.statement.specs.declared.lines.Fault.{Fault}
+use Rattle.statement.specs.declared.lines.Line.TheVariants.{Stem}
 use Rattle.netlist.specs.Conditions.{IsSound}
 use Rattle.netlist.specs.Lines.{IsLineOf}
-use Rattle.netlist.specs.Netlist.{Definition, Netlist, cells, signals}
-use Rattle.netlist.specs.Settled.{Settles, at, bits}
+use Rattle.statement.specs.Netlists.{Definition, Netlist, cells, signals}
+use Rattle.statement.specs.Values.{Settles, bits}
+use Rattle.netlist.specs.Settled.{at}
 use Rattle.netlist.proofs.SomeSettled.{some_settled}
-use Rattle.cubes.specs.Cubes.{Pattern}
+use Rattle.statement.specs.Patterns.{Pattern}
 use Rattle.events.specs.declared.trails.Change.{Change}
 use Rattle.events.specs.Standing.{SettlesOver}
 use Rattle.regions.specs.Turned.{turned_bits, turned_words}

@@ -4,13 +4,13 @@ use Rattle.std.specs.List.{All}
 use Rattle.std.specs.Prelude.{is_some}
 use Rattle.std.proofs.lemmas.Bool.{both_ways, cases_eq, eq-eqb, ne_eqb}
 use Rattle.std.proofs.lemmas.List.{append_assoc, drop_all, drop_more, drop-set-lt, append-nil}
-use Rattle.netlist.specs.declared.lines.Fault.{Fault}
-use Rattle.netlist.specs.declared.lines.Line.TheVariants.{Stem}
-use Rattle.netlist.specs.declared.lines.Point.{Point}
-use Rattle.netlist.specs.declared.lines.Point.TheVariants.{Output}
+use Rattle.statement.specs.declared.lines.Fault.{Fault}
+use Rattle.statement.specs.declared.lines.Line.TheVariants.{Stem}
+use Rattle.statement.specs.declared.lines.Point.{Point}
+use Rattle.statement.specs.declared.lines.Point.TheVariants.{Output}
 use Rattle.netlist.specs.Lines.{IsLineOf}
-use Rattle.netlist.specs.Netlist.{Netlist}
-use Rattle.cubes.specs.Cubes.{Pattern}
+use Rattle.statement.specs.Netlists.{Netlist}
+use Rattle.statement.specs.Patterns.{Pattern}
 use Rattle.word_sim.specs.declared.batches.Hit.{Hit}
 use Rattle.word_sim.specs.Hits.{AreHits}
 use Rattle.word_sim.specs.inner.Found.{IsTold, untold}

@@ -1,9 +1,9 @@
 -- Patterns of a netlist have its widths.
 use Rattle.std.proofs.Common.{List}
 use Rattle.std.specs.List.{All}
-use Rattle.netlist.specs.Netlist.{Netlist}
-use Rattle.netlist.specs.Holds.{Holds}
-use Rattle.cubes.specs.Cubes.{Pattern, IsPatternOf}
+use Rattle.statement.specs.Netlists.{Netlist}
+use Rattle.statement.specs.Patterns.{Holds, Pattern}
+use Rattle.cubes.specs.Cubes.{IsPatternOf}
 use Rattle.word_sim.specs.Words.{HasWidthsOf}
 
 pub widths : (n : Netlist) (holds : Holds) (patterns : List Pattern) → All (IsPatternOf n holds) patterns → All (HasWidthsOf n) patterns

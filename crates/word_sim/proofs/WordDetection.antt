@@ -5,18 +5,17 @@ use Rattle.std.specs.List.{slice_get}
 use Rattle.std.proofs.lemmas.Bool.{both_ways, lt-ltb, ltb-true}
 use Rattle.std.specs.Option.{option_map}
 use Rattle.std.proofs.lemmas.Option.{slice_get-get_or}
-use Rattle.netlist.specs.declared.lines.Fault.{Fault}
-use Rattle.netlist.specs.declared.lines.Point.{Point}
+use Rattle.statement.specs.declared.lines.Fault.{Fault}
+use Rattle.statement.specs.declared.lines.Point.{Point}
 use Rattle.netlist.specs.Conditions.{IsSound}
-use Rattle.netlist.specs.Detection.{Detects, observed}
-use Rattle.netlist.specs.Netlist.{Netlist}
-use Rattle.netlist.specs.Settled.{Settles, bits}
+use Rattle.statement.specs.Patterns.{Detects, observed, Pattern, IsDetectedAt, IsBefore}
+use Rattle.statement.specs.Netlists.{Netlist}
+use Rattle.statement.specs.Values.{Settles, bits}
 use Rattle.netlist.proofs.Alike.{settles_once}
 use Rattle.netlist.proofs.Lists.{decides_beq}
-use Rattle.cubes.specs.Cubes.{Pattern}
 use Rattle.events.specs.Words.{bit_of, words}
 use Rattle.events.proofs.WordBits.{words_as_bits, bit_line}
-use Rattle.word_sim.specs.Hits.{IsDetectedAt, IsBefore, LastDetected, LastMarked}
+use Rattle.word_sim.specs.Hits.{LastDetected, LastMarked}
 use Rattle.word_sim.specs.inner.Packed.{IsMarked, IsUsed}
 use Rattle.observed_points.specs.Points.{points, point_of}
 use Rattle.word_sim.specs.inner.Differences.{AreDifferences}

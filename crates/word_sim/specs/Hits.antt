@@ -1,13 +1,10 @@
 -- Patterns that are published together, and what patterns detect. (Fault dropping by the last detecting pattern, as static compaction
 -- in reverse order wants it: Bushnell and Agrawal, Essentials of Electronic Testing.)
-use Rattle.std.specs.Prelude.{ℕ, ◌≡◌, ◌<◌, ◌⊎◌, ⊤, true, List, [], ◌∷◌, Option, Some, None}
-use Rattle.std.specs.List.{slice_get}
-use Rattle.netlist.specs.declared.lines.Fault.{Fault}
-use Rattle.netlist.specs.declared.lines.Point.{Point}
-use Rattle.netlist.specs.declared.lines.Point.TheVariants.{Output, Cell}
-use Rattle.netlist.specs.Netlist.{Netlist}
-use Rattle.netlist.specs.Detection.{Detects}
-use Rattle.cubes.specs.Cubes.{Pattern}
+use Rattle.std.specs.Prelude.{ℕ, ◌≡◌, ◌<◌, ◌⊎◌, true, List, [], ◌∷◌, Option, Some, None}
+use Rattle.statement.specs.declared.lines.Fault.{Fault}
+use Rattle.statement.specs.declared.lines.Point.{Point}
+use Rattle.statement.specs.Netlists.{Netlist}
+use Rattle.statement.specs.Patterns.{Pattern, IsDetectedAt, IsBefore, IsLastDetected}
 use Rattle.events.specs.Words.{bit_of}
 use Rattle.word_sim.specs.declared.batches.Hit.{Hit}
 
@@ -15,25 +12,6 @@ use Rattle.word_sim.specs.declared.batches.Hit.{Hit}
 pub record Batch : Type 0 where
   pub patterns : List Pattern
   pub hits : List Hit
-
--- the pattern at this place of the list detects the fault at the point
-pub record IsDetectedAt (n : Netlist) (patterns : List Pattern) (f : Fault) (place : ℕ) (point : Point) : Type 0 where
-  pub pattern : Pattern
-  pub at : slice_get patterns place ≡ Some pattern
-  pub detects : Detects n f pattern.inputs pattern.cells point
-
--- observed points in order: outputs, then cells
-abbrev pub IsBefore : Point → Point → Type 0
-IsBefore (Output j) (Output k) = j < k
-IsBefore (Output j) (Cell k) = ⊤
-IsBefore (Cell j) (Output k) = ⊥
-IsBefore (Cell j) (Cell k) = j < k
-
--- the last pattern of the list that detects the fault, and the first point at which it does
-pub record IsLastDetected (n : Netlist) (patterns : List Pattern) (f : Fault) (place : ℕ) (point : Point) : Type 0 where
-  pub here : IsDetectedAt n patterns f place point
-  pub last : (later : ℕ) (p : Point) → place < later → ¬ IsDetectedAt n patterns f later p
-  pub first : (p : Point) → IsBefore p point → ¬ IsDetectedAt n patterns f place p
 
 -- the last pattern that is marked by its bit of a word and detects the fault, and the first point at which it does
 pub record IsLastMarked (n : Netlist) (patterns : List Pattern) (marks : ℕ) (f : Fault) (place : ℕ) (point : Point) : Type 0 where

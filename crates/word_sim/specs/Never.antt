@@ -1,9 +1,9 @@
 -- Faults that are known never to be detected, and those that are left beside them.
 use Rattle.std.specs.Prelude.{ℕ, ◌≡◌, Bool, true, false, List, [], ◌∷◌, cond, length, Some, slice_index_or}
 use Rattle.std.specs.List.{slice_get}
-use Rattle.netlist.specs.declared.lines.Fault.{Fault}
-use Rattle.netlist.specs.Netlist.{Netlist}
-use Rattle.cubes.specs.Cubes.{Pattern}
+use Rattle.statement.specs.declared.lines.Fault.{Fault}
+use Rattle.statement.specs.Netlists.{Netlist}
+use Rattle.statement.specs.Patterns.{Pattern}
 use Rattle.word_sim.specs.Hits.{IsNeverDetected}
 
 -- no pattern detects a fault that is marked

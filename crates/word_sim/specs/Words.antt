@@ -1,9 +1,10 @@
 -- What the words of up to 64 patterns say of each signal.
 use Rattle.std.specs.Prelude.{ℕ, ◌≡◌, Bool, List, None, Some, length, map}
 use Rattle.std.specs.List.{slice_get}
-use Rattle.netlist.specs.Netlist.{Netlist, cells, signals}
-use Rattle.netlist.specs.Settled.{Settles, at, bits, next, outs}
-use Rattle.cubes.specs.Cubes.{Pattern}
+use Rattle.statement.specs.Netlists.{Netlist, cells, signals}
+use Rattle.statement.specs.Values.{Settles, bits, next, outs}
+use Rattle.netlist.specs.Settled.{at}
+use Rattle.statement.specs.Patterns.{Pattern}
 use Rattle.events.specs.Words.{bit_of}
 
 -- a bit for each input and each cell of the netlist

@@ -2,12 +2,12 @@
 ghost use Rattle.std.specs.Prelude.{◌≡◌, ◌⊎◌, ◌<◌, ◌≤◌, ◌^◌, ◌==◌, ◌&&◌, [], ℕ, IsTrue, length, List, Option, slice_index, IfSome, if◌then◌else◌};
 ghost use Rattle.std.specs.List.{All, list_any};
 ghost use Rattle.netlist.specs.Lines.{IsLineOf};
-ghost use Rattle.netlist.specs.Netlist.{Netlist as Equations, signals};
+ghost use Rattle.statement.specs.Netlists.{Netlist as Equations, signals};
 ghost use Rattle.events.specs.declared.trails.Change.{Change as ChangeOf};
 ghost use Rattle.events.specs.Stuck.{IsObservedOnly};
 ghost use Rattle.events.specs.Words.{bit_of, ones};
 ghost use Rattle.word_sim.specs.inner.Differences.{shows, AreShown, IsFirstShown, IsSole};
-ghost use Rattle.cubes.specs.Cubes.{Pattern as Bits};
+ghost use Rattle.statement.specs.Patterns.{Pattern as Bits};
 ghost use Rattle.word_sim.specs.Hits.{LastMarked};
 ghost use Rattle.word_sim.specs.inner.Found.{IsFoundMarked};
 ghost use Rattle.word_sim.specs.inner.Packed.{AreGoodFor, IsMarked};

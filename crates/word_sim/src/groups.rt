@@ -2,8 +2,8 @@
 ghost use Rattle.std.specs.Prelude.{◌≡◌, ◌<◌, [], ℕ, length, replicate, None, Some, IfOk, OnOk};
 ghost use Rattle.std.specs.List.{All, list_any, slice_get};
 ghost use Rattle.netlist.specs.Lines.{IsLineOf};
-ghost use Rattle.netlist.specs.Netlist.{signals};
-ghost use Rattle.netlist.specs.declared.lines.Fault.{Fault as FaultOf};
+ghost use Rattle.statement.specs.Netlists.{signals};
+ghost use Rattle.statement.specs.declared.lines.Fault.{Fault as FaultOf};
 ghost use Rattle.events.specs.Words.{bit_of};
 ghost use Rattle.regions.specs.Paths.{AreOpen};
 ghost use Rattle.word_sim.specs.inner.Differences.{shows_under};

@@ -5,7 +5,7 @@
 //! heads is turned over one by one first, and what they change in common decides (`overlap`). What isn't told here is told one by one later.
 ghost use Rattle.std.specs.Prelude.{◌≡◌, ◌≢◌, ◌<◌, [], length, map, IfOk, IfSome, IsTrue};
 ghost use Rattle.std.specs.List.{All, AllPairs};
-ghost use Rattle.netlist.specs.Netlist.{signals};
+ghost use Rattle.statement.specs.Netlists.{signals};
 ghost use Rattle.regions.specs.Side.{lane_of, spread, turned_in, turned_signals};
 ghost use Rattle.word_sim.specs.inner.Differences.{in_lane};
 ghost use Rattle.word_sim.specs.inner.Groups.{AreTold, CanTellAll, IsBeside, IsPass, IsSpread};

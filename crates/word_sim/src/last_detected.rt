@@ -2,10 +2,10 @@
 ghost use Rattle.std.specs.Prelude.{◌≡◌, ◌==◌, ◌+◌, ◌-◌, ◌≤◌, ◌<◌, ◌^◌, ◌∷◌, ℕ, List, Option, None, Some, drop, take, length, replicate, IfOk, OnOk, if◌then◌else◌};
 ghost use Rattle.std.specs.List.{All, AllZip};
 ghost use Rattle.netlist.specs.Lines.{IsLineOf};
-ghost use Rattle.netlist.specs.Netlist.{Netlist as Equations};
-ghost use Rattle.netlist.specs.declared.lines.Fault.{Fault as FaultOf};
-ghost use Rattle.netlist.specs.declared.lines.Point.{Point as PointOf};
-ghost use Rattle.cubes.specs.Cubes.{Pattern as Bits};
+ghost use Rattle.statement.specs.Netlists.{Netlist as Equations};
+ghost use Rattle.statement.specs.declared.lines.Fault.{Fault as FaultOf};
+ghost use Rattle.statement.specs.declared.lines.Point.{Point as PointOf};
+ghost use Rattle.statement.specs.Patterns.{Pattern as Bits};
 ghost use Rattle.word_sim.specs.declared.batches.Hit.{Hit as HitOf};
 ghost use Rattle.word_sim.specs.Hits.{AreHits, LastDetected};
 ghost use Rattle.word_sim.specs.Words.{HasWidthsOf};

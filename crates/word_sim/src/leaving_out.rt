@@ -2,9 +2,9 @@
 ghost use Rattle.std.specs.Prelude.{◌≡◌, ◌≤◌, ◌∷◌, List, Bool, Option, ℕ, None, drop, length, IfOk};
 ghost use Rattle.std.specs.List.{All, AllZip};
 ghost use Rattle.netlist.specs.Lines.{IsLineOf};
-ghost use Rattle.netlist.specs.Netlist.{Netlist as Equations};
-ghost use Rattle.netlist.specs.declared.lines.Fault.{Fault as FaultOf};
-ghost use Rattle.cubes.specs.Cubes.{Pattern as Bits};
+ghost use Rattle.statement.specs.Netlists.{Netlist as Equations};
+ghost use Rattle.statement.specs.declared.lines.Fault.{Fault as FaultOf};
+ghost use Rattle.statement.specs.Patterns.{Pattern as Bits};
 ghost use Rattle.word_sim.specs.Hits.{LastDetected};
 ghost use Rattle.word_sim.specs.Never.{AreNever, unmarked};
 ghost use Rattle.word_sim.specs.inner.Leaving.{told_of_all};

@@ -1,7 +1,7 @@
 //! Patterns packed into words, a bit for each.
 ghost use Rattle.std.specs.Prelude.{◌≡◌, ◌≢◌, ◌<◌, ◌≤◌, ℕ, false, length, nat_lt, slice_index, IfOk};
 ghost use Rattle.std.specs.List.{All};
-ghost use Rattle.cubes.specs.Cubes.{Pattern as Bits};
+ghost use Rattle.statement.specs.Patterns.{Pattern as Bits};
 ghost use Rattle.events.specs.Words.{bit_of};
 ghost use Rattle.word_sim.specs.inner.Packed.{bits_in, ArePacked, IsColumn, IsUsed};
 

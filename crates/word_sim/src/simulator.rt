@@ -2,7 +2,7 @@
 ghost use Rattle.std.specs.Prelude.{◌≡◌, ◌≤◌, ℕ, [], length, IfOk};
 ghost use Rattle.std.specs.List.{All};
 ghost use Rattle.netlist.specs.Lines.{IsLineOf};
-ghost use Rattle.netlist.specs.declared.lines.Fault.{Fault as FaultOf};
+ghost use Rattle.statement.specs.declared.lines.Fault.{Fault as FaultOf};
 ghost use Rattle.word_sim.specs.Hits.{AreHits};
 ghost use Rattle.word_sim.specs.Words.{HasWidthsOf};
 
@@ -28,7 +28,7 @@ pub struct Simulator<'a> {
 }
 
 impl<'a> Model for Simulator<'a> {
-    ghost use Rattle.netlist.specs.Netlist.{Netlist};
+    ghost use Rattle.statement.specs.Netlists.{Netlist};
     ghost use Rattle.word_sim.specs.inner.Simulating.{CanSimulate};
 
     ghost Value = { Netlist };

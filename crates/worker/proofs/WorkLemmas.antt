@@ -6,13 +6,12 @@ use Rattle.std.specs.Result.{OnOk}
 use Rattle.std.proofs.lemmas.List.Elements.{All-cons, All-head, All-tail}
 use Rattle.std.proofs.lemmas.List.Kept.{AllPairs-cons}
 use Rattle.std.proofs.lemmas.Option.{get_or_from_slice_get, slice_get_within}
-use Rattle.netlist.specs.declared.lines.Fault.{Fault}
-use Rattle.netlist.specs.declared.lines.Point.{Point}
-use Rattle.netlist.specs.Netlist.{Netlist}
-use Rattle.netlist.specs.Holds.{Holds}
+use Rattle.statement.specs.declared.lines.Fault.{Fault}
+use Rattle.statement.specs.declared.lines.Point.{Point}
+use Rattle.statement.specs.Netlists.{Netlist}
+use Rattle.statement.specs.Patterns.{Holds, Detects, Pattern}
 use Rattle.netlist.specs.Lines.{IsLineOf}
-use Rattle.netlist.specs.Detection.{Detects}
-use Rattle.cubes.specs.Cubes.{Pattern, Cube, HaveSameWidths, AgreesWith, IsCubeOf, IsPatternOf}
+use Rattle.cubes.specs.Cubes.{Cube, HaveSameWidths, AgreesWith, IsCubeOf, IsPatternOf}
 use Rattle.word_sim.specs.declared.batches.Hit.{Hit}
 use Rattle.word_sim.specs.Hits.{AreHits}
 use Rattle.redundancy_cert.specs.declared.nodes.Node.{Node}

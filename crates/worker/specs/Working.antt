@@ -1,7 +1,8 @@
 -- When a list is done.
 use Rattle.std.specs.Prelude.{ℕ, ◌≡◌, ◌<◌, ◌≤◌, false, List, length}
-use Rattle.netlist.specs.Holds.{Holds, AreHoldsOf}
-use Rattle.netlist.specs.Netlist.{Netlist}
+use Rattle.statement.specs.Patterns.{Holds}
+use Rattle.netlist.specs.Holds.{AreHoldsOf}
+use Rattle.statement.specs.Netlists.{Netlist}
 use Rattle.list_core.specs.Subjects.{Subject, HaveLines}
 use Rattle.list_core.specs.declared.verdicts.Verdict.{Verdict}
 use Rattle.list_core.specs.Verdicts.{verdict_at, is_open}

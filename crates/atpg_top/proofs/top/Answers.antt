@@ -1,7 +1,7 @@
 use Rattle.std.proofs.Common.{◌≡◌, ◌∙◌, List, Ok, ap, subst, sym}
 use Rattle.std.specs.Prelude.{Result, IfOk, map}
 use Rattle.std.specs.String.{string_bytes}
-use Rattle.plain_text.specs.Texts.{Text}
+use Rattle.statement.specs.Benches.{Text}
 use Rattle.command_line.specs.CommandLine.{command_line, command_line_of}
 use Rattle.command_line.specs.declared.WordsRefusal.{WordsRefusal}
 use Rattle.command_line.specs.declared.requests.Request.{Request}

@@ -1,15 +1,15 @@
 -- What is diagnosed: a design, a test, and what failed.
 use Rattle.std.specs.Prelude.{ℕ, ◌≡◌, ⊤, List, [], ◌∷◌, Result, Ok, Err}
-use Rattle.plain_text.specs.Texts.{Text}
+use Rattle.statement.specs.Benches.{Text}
 use Rattle.bench_text.specs.declared.refusal.Names.TheVariants.{Design}
-use Rattle.netlist.specs.Netlist.{Netlist}
+use Rattle.statement.specs.Netlists.{Netlist}
 use Rattle.netlist.specs.Designs.{IsDesign}
 use Rattle.scan_insert.specs.Scanned.{scanned_of}
 use Rattle.good_files.specs.ScanOff.{design_chains}
 use Rattle.stil_read.specs.Reading.{StandsFor}
-use Rattle.stil_vectors.specs.FileVectors.{vectors_in}
+use Rattle.statement.specs.Tests.{vectors_in}
 use Rattle.stil_vectors.specs.Fitting.{FitsNetlist}
-use Rattle.stil_write.specs.StilFiles.{StilFile}
+use Rattle.statement.specs.Stils.{StilFile}
 use Rattle.diagnose.specs.Failures.{Failing}
 use Rattle.diagnose.specs.Reading.{IsLogOf}
 use Rattle.commands.specs.Due.{Due, Deliver, Refuse}

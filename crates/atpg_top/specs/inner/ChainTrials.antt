@@ -1,16 +1,16 @@
 -- What is tested of which scan hardware.
 use Rattle.std.specs.Prelude.{ℕ, ◌≡◌, ◌<◌, ◌++◌, ⊤, List, [], ◌∷◌, IfSome, Result, Ok, Err, codes, decimal, length}
 use Rattle.std.specs.List.{AllZip}
-use Rattle.plain_text.specs.Texts.{Text}
+use Rattle.statement.specs.Benches.{Text}
 use Rattle.bench_text.specs.declared.refusal.Names.TheVariants.{Design}
 use Rattle.netlist.specs.Designs.{IsDesign}
-use Rattle.netlist.specs.Netlist.{Netlist}
+use Rattle.statement.specs.Netlists.{Netlist}
 use Rattle.good_files.specs.ScanOff.{design_chains}
 use Rattle.scan_insert.specs.Scanned.{insertion_of, scanned_of}
 use Rattle.stil_read.specs.Reading.{StandsFor}
-use Rattle.stil_vectors.specs.FileVectors.{vectors_in}
+use Rattle.statement.specs.Tests.{vectors_in}
 use Rattle.stil_vectors.specs.Fitting.{FitsNetlist}
-use Rattle.stil_write.specs.StilFiles.{StilFile}
+use Rattle.statement.specs.Stils.{StilFile}
 use Rattle.commands.specs.Due.{Due, Deliver, Refuse}
 use Rattle.commands.specs.declared.ending.Finding.TheVariants.{Fine}
 use Rattle.commands.specs.declared.product.Stop.{Stop}

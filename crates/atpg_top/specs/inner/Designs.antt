@@ -1,7 +1,7 @@
 -- The design that is read of a command's one text.
 use Rattle.std.specs.Prelude.{⊤, List, [], ◌∷◌, Result, Ok, Err}
-use Rattle.plain_text.specs.Texts.{Text}
-use Rattle.netlist.specs.Netlist.{Netlist}
+use Rattle.statement.specs.Benches.{Text}
+use Rattle.statement.specs.Netlists.{Netlist}
 use Rattle.netlist.specs.Designs.{IsDesign}
 use Rattle.bench_text.specs.declared.refusal.Names.TheVariants.{Design}
 use Rattle.commands.specs.declared.product.Stop.{Stop}

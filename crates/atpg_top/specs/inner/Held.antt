@@ -1,6 +1,6 @@
 -- The inputs that are to be held.
 use Rattle.std.specs.Prelude.{List, map}
-use Rattle.plain_text.specs.Texts.{Text}
+use Rattle.statement.specs.Benches.{Text}
 use Rattle.command_line.specs.declared.holds.Held.{Held}
 
 abbrev pub names_held : List Held → List Text

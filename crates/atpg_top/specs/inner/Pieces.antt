@@ -1,7 +1,7 @@
 -- What has become of the list of faults, which is put on the output in pieces.
 use Rattle.std.specs.Prelude.{◌≡◌, ◌⊎◌, ℕ, Option, Result, Ok, Err}
-use Rattle.plain_text.specs.Texts.{Text}
-use Rattle.netlist.specs.Netlist.{Netlist}
+use Rattle.statement.specs.Benches.{Text}
+use Rattle.statement.specs.Netlists.{Netlist}
 use Rattle.outside.specs.declared.refusal.WriteRefusal.{WriteRefusal}
 use Rattle.outside.specs.declared.refusal.WriteRefusal.TheVariants as write
 use Rattle.commands.specs.Pieces.{PutsText, Waits}

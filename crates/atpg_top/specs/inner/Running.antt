@@ -1,8 +1,8 @@
 -- The steps of `run` and of `transition`.
 use Rattle.std.specs.Prelude.{ℕ, ◌≡◌, List, Option, Some, None}
-use Rattle.plain_text.specs.Texts.{Text}
-use Rattle.netlist.specs.Netlist.{Netlist}
-use Rattle.netlist.specs.Holds.{Holds}
+use Rattle.statement.specs.Benches.{Text}
+use Rattle.statement.specs.Netlists.{Netlist}
+use Rattle.statement.specs.Patterns.{Holds}
 use Rattle.command_line.specs.HoldLists.{HoldItem}
 use Rattle.command_line.specs.declared.requests.RunOptions.{RunOptions}
 use Rattle.commands.specs.Due.{Due, Deliver}

@@ -1,15 +1,15 @@
 -- What is played on what.
 use Rattle.std.specs.Prelude.{◌≡◌, ◌<◌, ⊤, [], ◌∷◌, Option, Result, Ok, Err, length}
-use Rattle.plain_text.specs.Texts.{Text}
+use Rattle.statement.specs.Benches.{Text}
 use Rattle.bench_text.specs.declared.refusal.Names.TheVariants.{Scanned}
-use Rattle.netlist.specs.declared.lines.Fault.{Fault}
-use Rattle.netlist.specs.Netlist.{Netlist}
+use Rattle.statement.specs.declared.lines.Fault.{Fault}
+use Rattle.statement.specs.Netlists.{Netlist}
 use Rattle.scan_play.specs.declared.played.Played.{Played}
 use Rattle.scan_play.specs.declared.played.Played.TheVariants as played
 use Rattle.stil_read.specs.Reading.{StandsFor}
-use Rattle.stil_vectors.specs.FileVectors.{vectors_in}
+use Rattle.statement.specs.Tests.{vectors_in}
 use Rattle.stil_vectors.specs.Fitting.{FitsNetlist}
-use Rattle.stil_write.specs.StilFiles.{StilFile}
+use Rattle.statement.specs.Stils.{StilFile}
 use Rattle.commands.specs.Due.{Due, Deliver, Refuse}
 use Rattle.commands.specs.declared.product.Stop.{Stop}
 use Rattle.commands.specs.declared.product.Stop.TheVariants as stop

@@ -1,6 +1,6 @@
 -- Where a loop stands in a text (private to this crate).
 use Rattle.std.specs.Prelude.{ℕ, ◌≡◌, ◌<◌, ◌≤◌, ⊤, length, List, ◌∷◌, ◌++◌, Option}
-use Rattle.netlist.specs.declared.kinds.Kind.{Kind}
+use Rattle.statement.specs.declared.kinds.Kind.{Kind}
 use Rattle.netlist.specs.declared.netlists.NetRefusal.{NetRefusal}
 use Rattle.netlist.specs.declared.netlists.NetRefusal.TheVariants as net
 use Rattle.netlist.specs.Netlist.{IsOnLoop}

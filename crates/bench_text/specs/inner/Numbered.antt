@@ -8,7 +8,7 @@ use Rattle.bench_text.specs.declared.numbered.Numbered.TheVariants as numbered
 use Rattle.bench_text.specs.declared.numbered.Entry.{Entry}
 use Rattle.bench_text.specs.Forms.{Statement, Nothing, Input, Output, Definition}
 use Rattle.bench_text.specs.Said.{Said}
-use Rattle.bench_text.specs.Sights.{name_at}
+use Rattle.statement.specs.Benches.{name_at}
 use Rattle.bench_text.specs.inner.NewNames.{AreDistinct}
 
 -- what a numbered statement says

@@ -1,7 +1,7 @@
 -- What may be written of a netlist.
 use Rattle.std.specs.Prelude.{ℕ, ◌<◌, List, length}
 use Rattle.std.specs.List.{All}
-use Rattle.netlist.specs.Netlist.{Netlist, Definition, signals}
+use Rattle.statement.specs.Netlists.{Netlist, Definition, signals}
 
 abbrev pub AreSignals : Netlist → List ℕ → Type 0
 AreSignals n ids = All (λ x. x < length (signals n)) ids

@@ -1,10 +1,9 @@
 -- What stands in a line and how it goes on.
 use Rattle.std.specs.Prelude.{ℕ, ◌≡◌, ◌++◌, Bool, true, false, List, codes}
 use Rattle.std.specs.List.{All, Contains, flat_map}
-use Rattle.netlist.specs.declared.lines.Fault.{Fault}
-use Rattle.netlist.specs.Netlist.{Netlist}
-use Rattle.fault_universe.specs.Universe.{universe_of}
-use Rattle.fault_universe.specs.Texts.{fault_text}
+use Rattle.statement.specs.declared.lines.Fault.{Fault}
+use Rattle.statement.specs.Netlists.{Netlist}
+use Rattle.statement.specs.Faults.{universe_of, fault_text}
 use Rattle.redundancy_cert.specs.declared.nodes.Node.{Node}
 use Rattle.certificate.specs.declared.node.Letter.{Letter}
 use Rattle.certificate.specs.declared.node.Letter.TheVariants.{Closed, Open, Split, Forced}

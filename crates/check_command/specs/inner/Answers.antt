@@ -3,7 +3,7 @@ use Rattle.std.specs.Prelude.{◌≡◌, ⊤, [], Result, Ok, Err}
 use Rattle.commands.specs.Due.{Due, Deliver}
 use Rattle.commands.specs.declared.product.Stop.{Stop}
 use Rattle.commands.specs.declared.product.Stop.TheVariants as stop
-use Rattle.good_files.specs.GoodFiles.{FiveFiles}
+use Rattle.statement.specs.Statement.{FiveFiles}
 use Rattle.good_files.specs.declared.answers.Checked.{Checked}
 use Rattle.good_files.specs.Checks.{IsOutside}
 use Rattle.good_files.specs.Laws.{IsWholeAnswer}

@@ -2,7 +2,7 @@
 use Rattle.std.specs.Prelude.{◌≡◌, ◌≤◌, ℕ, List, Option, Some, None, Result, Ok, Err, Vec, length, take}
 use Rattle.std.specs.List.{zip}
 use Rattle.std.specs.declared.alloc.Global.{Global}
-use Rattle.plain_text.specs.Texts.{Text}
+use Rattle.statement.specs.Benches.{Text}
 use Rattle.outside.specs.Causes.{Rose}
 use Rattle.outside.specs.Shelf.{Files, GainsFile, SameFiles}
 use Rattle.outside.specs.Told.{Both, OnTold}

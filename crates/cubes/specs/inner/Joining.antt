@@ -1,8 +1,8 @@
 -- How one more cube is merged (private to this crate).
 use Rattle.std.specs.Prelude.{ℕ, ◌≡◌, ◌<◌, ◌≤◌, ◌++◌, Bool, List, [], ◌∷◌, length, slice_index_or, slice_set, cond, ◌&&◌, ◌||◌}
 use Rattle.std.specs.List.{list_any, zip}
-use Rattle.netlist.specs.declared.kinds.Tri.{Tri}
-use Rattle.netlist.specs.declared.kinds.Tri.TheVariants.{X}
+use Rattle.statement.specs.declared.kinds.Tri.{Tri}
+use Rattle.statement.specs.declared.kinds.Tri.TheVariants.{X}
 use Rattle.netlist.specs.ThreeValues.{is_zero, is_one, is_x}
 use Rattle.cubes.specs.Cubes.{Cube, Contradicts}
 use Rattle.cubes.specs.Merging.{cube_at}

@@ -1,9 +1,9 @@
 -- Other values on inputs and cells, and the gates that these call.
 use Rattle.std.specs.Prelude.{ℕ, ◌≡◌, ◌<◌, ◌⊎◌, Bool, List, length, slice_set, IsTrue}
 use Rattle.std.specs.List.{list_any}
-use Rattle.netlist.specs.Netlist.{Netlist}
-use Rattle.netlist.specs.Readers.{readers_of}
-use Rattle.netlist.specs.Settled.{Rule, at}
+use Rattle.statement.specs.Netlists.{Netlist, readers_of}
+use Rattle.statement.specs.Values.{Rule}
+use Rattle.netlist.specs.Settled.{at}
 use Rattle.netlist.specs.Settling.{IsDriven}
 use Rattle.events.specs.Agendas.{marked}
 use Rattle.events.specs.inner.Placing.{is_pin_at}

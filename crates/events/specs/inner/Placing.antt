@@ -1,11 +1,10 @@
 -- The gates that a change calls, by their places in the order of evaluation.
 use Rattle.std.specs.Prelude.{ℕ, ◌≡◌, ◌<◌, ◌==◌, ◌||◌, nat_lt, cond, Bool, false, List, [], ◌∷◌, length, slice_index, slice_index_or}
 use Rattle.std.specs.List.{list_any}
-use Rattle.netlist.specs.declared.lines.Line.{Line}
-use Rattle.netlist.specs.declared.lines.Line.TheVariants.{Stem, Pin, Out}
-use Rattle.netlist.specs.Netlist.{Netlist, signals}
+use Rattle.statement.specs.declared.lines.Line.{Line}
+use Rattle.statement.specs.declared.lines.Line.TheVariants.{Stem, Pin, Out}
+use Rattle.statement.specs.Netlists.{Netlist, signals, readers_of}
 use Rattle.netlist.specs.Orders.{IsOrder, ArePlaces}
-use Rattle.netlist.specs.Readers.{readers_of}
 use Rattle.plain_text.specs.Rows.{AreEnds, rows}
 use Rattle.events.specs.Agendas.{marked}
 

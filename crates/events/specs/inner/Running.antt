@@ -1,11 +1,11 @@
 -- How values settle anew, gate by gate.
 use Rattle.std.specs.Prelude.{ℕ, ◌+◌, ◌≡◌, ◌≢◌, ◌<◌, ◌≤◌, ◌⊎◌, ◌||◌, Bool, List, [], ◌∷◌, ◌++◌, length, slice_index, slice_set, IsTrue, IsFalse}
 use Rattle.std.specs.List.{All, Contains, list_any}
-use Rattle.netlist.specs.declared.lines.Line.{Line}
-use Rattle.netlist.specs.declared.lines.Line.TheVariants.{Stem}
-use Rattle.netlist.specs.Netlist.{Definition, Netlist, gates, signals}
-use Rattle.netlist.specs.Readers.{readers_of}
-use Rattle.netlist.specs.Settled.{Rule, Settles, at}
+use Rattle.statement.specs.declared.lines.Line.{Line}
+use Rattle.statement.specs.declared.lines.Line.TheVariants.{Stem}
+use Rattle.statement.specs.Netlists.{Definition, Netlist, gates, signals, readers_of}
+use Rattle.statement.specs.Values.{Rule, Settles}
+use Rattle.netlist.specs.Settled.{at}
 use Rattle.events.specs.declared.trails.Change.{Change}
 use Rattle.events.specs.Agendas.{marked, AreClear}
 use Rattle.events.specs.inner.Placing.{waiting, is_pin_at, AreTables}

@@ -1,11 +1,12 @@
 -- Classes as they are merged and numbered (private to this crate).
 use Rattle.std.specs.Prelude.{ℕ, Bool, ◌≡◌, ◌==◌, ◌<◌, ◌≤◌, if◌then◌else◌, List, length, slice_index, Some}
 use Rattle.std.specs.List.{Contains, slice_get}
-use Rattle.netlist.specs.declared.lines.Line.{Line}
-use Rattle.netlist.specs.declared.lines.Line.TheVariants.{Stem}
-use Rattle.netlist.specs.declared.lines.Fault.{Fault}
-use Rattle.netlist.specs.Netlist.{Definition, Netlist}
-use Rattle.fault_universe.specs.Universe.{all_lines, universe_of}
+use Rattle.statement.specs.declared.lines.Line.{Line}
+use Rattle.statement.specs.declared.lines.Line.TheVariants.{Stem}
+use Rattle.statement.specs.declared.lines.Fault.{Fault}
+use Rattle.statement.specs.Netlists.{Definition, Netlist}
+use Rattle.fault_universe.specs.Universe.{all_lines}
+use Rattle.statement.specs.Faults.{universe_of}
 use Rattle.fault_collapse.specs.declared.drivers.Driver.{Driver}
 use Rattle.fault_collapse.specs.Joined.{IsEquivalent, IsJoined, line_at_pin}
 

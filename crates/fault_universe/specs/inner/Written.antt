@@ -1,9 +1,9 @@
 -- Lines by their texts (private to this crate).
 use Rattle.std.specs.Prelude.{ℕ, ◌≡◌, ◌≢◌, ◌^◌, ◌<◌, length, Option, None, Some, List}
-use Rattle.netlist.specs.declared.lines.Line.{Line}
-use Rattle.netlist.specs.declared.lines.Line.TheVariants.{Stem, Pin, Out}
-use Rattle.netlist.specs.Netlist.{Netlist, signals}
-use Rattle.fault_universe.specs.Texts.{line_text}
+use Rattle.statement.specs.declared.lines.Line.{Line}
+use Rattle.statement.specs.declared.lines.Line.TheVariants.{Stem, Pin, Out}
+use Rattle.statement.specs.Netlists.{Netlist, signals}
+use Rattle.statement.specs.Faults.{line_text}
 
 -- a line whose signal the netlist has, with a number of a pin below 2 ^ 32
 abbrev pub IsWritten : Netlist → Line → Type 0

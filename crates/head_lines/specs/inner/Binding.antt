@@ -2,10 +2,11 @@
 use Rattle.std.specs.Prelude.{ℕ, ◌≡◌, ◌≢◌, ◌+◌, ◌⊎◌, List, [], ◌∷◌, Option, Some, length, is_some, if◌then◌else◌}
 use Rattle.std.specs.Bool.{Decides}
 use Rattle.std.specs.List.{Contains}
-use Rattle.netlist.specs.declared.lines.Line.{Line}
-use Rattle.netlist.specs.declared.lines.Fault.{Fault}
-use Rattle.netlist.specs.Holds.{Holds}
-use Rattle.netlist.specs.Netlist.{Netlist, signals, Reads}
+use Rattle.statement.specs.declared.lines.Line.{Line}
+use Rattle.statement.specs.declared.lines.Fault.{Fault}
+use Rattle.statement.specs.Patterns.{Holds}
+use Rattle.statement.specs.Netlists.{Netlist, signals}
+use Rattle.netlist.specs.Netlist.{Reads}
 use Rattle.head_lines.specs.declared.roles.Role.{Role}
 use Rattle.head_lines.specs.declared.roles.Role.TheVariants.{Bound, Head, Inner}
 use Rattle.head_lines.specs.HeadLines.{IsSiteOf, IsOrigin, IsConstant, IsBound, IsEdgeOf, IsFanoutStem, is_head_role, role_at}

@@ -2,14 +2,13 @@
 -- (Parallel fault simulation: Seshu, On an improved diagnosis program, 1965.)
 use Rattle.std.specs.Prelude.{ℕ, ◌+◌, ◌*◌, ◌%◌, ◌^◌, Bool, true, false, List, [], ◌∷◌, map, bit_and, bit_or, bit_xor, if◌then◌else◌}
 use Rattle.std.specs.Int.{bit_not, w64}
-use Rattle.netlist.specs.declared.kinds.Kind.{Kind}
-use Rattle.netlist.specs.declared.kinds.Kind.TheVariants.{And, Nand, Or, Nor, Xor, Xnor, Not, Buff, Dff, Const0, Const1}
-use Rattle.netlist.specs.declared.kinds.Tri.{Tri}
-use Rattle.netlist.specs.declared.kinds.Tri.TheVariants.{X}
-use Rattle.netlist.specs.declared.lines.Fault.{Fault}
-use Rattle.netlist.specs.declared.lines.Line.{Line}
-use Rattle.netlist.specs.Settled.{Rule, is_line}
-use Rattle.netlist.specs.ThreeValues.{known}
+use Rattle.statement.specs.declared.kinds.Kind.{Kind}
+use Rattle.statement.specs.declared.kinds.Kind.TheVariants.{And, Nand, Or, Nor, Xor, Xnor, Not, Buff, Dff, Const0, Const1}
+use Rattle.statement.specs.declared.kinds.Tri.{Tri}
+use Rattle.statement.specs.declared.kinds.Tri.TheVariants.{X}
+use Rattle.statement.specs.declared.lines.Fault.{Fault}
+use Rattle.statement.specs.declared.lines.Line.{Line}
+use Rattle.statement.specs.Values.{Rule, is_line, known}
 use Rattle.events.specs.Words.{bit_of, ones}
 use Rattle.lane_play.specs.declared.packed.Lanes.{Lanes}
 

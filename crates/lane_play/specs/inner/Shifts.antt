@@ -1,9 +1,9 @@
 -- Which gates the cycles of a burst have to evaluate, where each machine has another line stuck.
 use Rattle.std.specs.Prelude.{ℕ, ◌≡◌, ◌<◌, Bool, false, List}
 use Rattle.std.specs.List.{AllZip, slice_get}
-use Rattle.netlist.specs.declared.kinds.Tri.{Tri}
-use Rattle.netlist.specs.declared.lines.Fault.{Fault}
-use Rattle.netlist.specs.Netlist.{Netlist}
+use Rattle.statement.specs.declared.kinds.Tri.{Tri}
+use Rattle.statement.specs.declared.lines.Fault.{Fault}
+use Rattle.statement.specs.Netlists.{Netlist}
 use Rattle.netlist.specs.ThreeValues.{is_x}
 use Rattle.scan_play.specs.inner.Plans.{IsPlanned}
 use Rattle.lane_play.specs.declared.packed.Lanes.{Lanes}

@@ -1,6 +1,6 @@
 -- Which machines may be stuck at the lines that a signal names.
 use Rattle.std.specs.Prelude.{ℕ, ◌≡◌, ◌<◌, ◌≤◌, List, length, slice_index_or}
-use Rattle.netlist.specs.declared.lines.Fault.{Fault}
+use Rattle.statement.specs.declared.lines.Fault.{Fault}
 use Rattle.netlist.specs.Lines.{signal_of}
 use Rattle.lane_play.specs.declared.spans.Span.{Span}
 

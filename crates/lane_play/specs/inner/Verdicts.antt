@@ -1,7 +1,7 @@
 -- What is said of each machine.
 use Rattle.std.specs.Prelude.{ℕ, ◌≡◌, ◌<◌, Bool, true, false, List, length, slice_index_or, Option, Some, None}
-use Rattle.netlist.specs.declared.kinds.Tri.{Tri}
-use Rattle.netlist.specs.declared.kinds.Tri.TheVariants.{Zero, One, X}
+use Rattle.statement.specs.declared.kinds.Tri.{Tri}
+use Rattle.statement.specs.declared.kinds.Tri.TheVariants.{Zero, One, X}
 use Rattle.events.specs.Words.{bit_of}
 use Rattle.scan_play.specs.declared.played.Played.{Played}
 use Rattle.scan_play.specs.Judging.{Judging, judged_in, played_or_else}

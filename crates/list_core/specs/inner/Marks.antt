@@ -1,6 +1,6 @@
 -- Verdicts by the new places of patterns.
 use Rattle.std.specs.Prelude.{ℕ, ◌≡◌, ◌<◌, Bool, List, length, slice_index, slice_index_or, Option, Some, None}
-use Rattle.netlist.specs.declared.lines.Point.{Point}
+use Rattle.statement.specs.declared.lines.Point.{Point}
 use Rattle.list_core.specs.declared.verdicts.Verdict.{Verdict}
 use Rattle.list_core.specs.declared.verdicts.Verdict.TheVariants.{Detected}
 use Rattle.list_core.specs.Verdicts.{verdict_at}

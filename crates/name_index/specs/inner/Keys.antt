@@ -1,7 +1,7 @@
 -- Keys of the index, without where they lie in memory.
 use denote.Ref.{Bor}
 use Rattle.std.specs.Prelude.{ℕ, ◌≡◌, List, map}
-use Rattle.netlist.specs.Netlist.{Netlist}
+use Rattle.statement.specs.Netlists.{Netlist}
 
 abbrev pub bytes_of : List (Bor (List ℕ)) → List (List ℕ)
 bytes_of keys = map (λ (key : Bor (List ℕ)). key.now) keys

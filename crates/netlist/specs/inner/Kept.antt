@@ -1,7 +1,7 @@
 -- What a netlist keeps beside its parts (private to this crate).
 use Rattle.std.specs.Prelude.{ℕ, ◌≡◌, List, map}
-use Rattle.netlist.specs.declared.lines.Line.{Line}
-use Rattle.netlist.specs.Netlist.{Definition, Netlist, cells}
+use Rattle.statement.specs.declared.lines.Line.{Line}
+use Rattle.statement.specs.Netlists.{Definition, Netlist, cells}
 use Rattle.netlist.specs.Conditions.{IsSound}
 use Rattle.netlist.specs.Orders.{IsOrder}
 use Rattle.netlist.specs.inner.Sorting.{AreReaders}

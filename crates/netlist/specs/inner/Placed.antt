@@ -1,7 +1,7 @@
 -- An order in which each gate comes after the gates that it reads, as it is built (private to this crate).
 use Rattle.std.specs.Prelude.{ℕ, map, ◌++◌, ◌≡◌, ◌≢◌, ◌+◌, ◌<◌, ◌≤◌, ◌==◌, ◌⊎◌, if◌then◌else◌, List, [], ◌∷◌, length, slice_index}
 use Rattle.std.specs.List.{Contains}
-use Rattle.netlist.specs.Netlist.{Definition, Netlist, is_cell, cells, gates, signals}
+use Rattle.statement.specs.Netlists.{Definition, Netlist, is_cell, cells, gates, signals}
 
 abbrev pub zeros : List ℕ → ℕ
 zeros [] = 0

@@ -1,9 +1,10 @@
 -- How far values have settled, as the gates are evaluated in order (private to this crate).
 use Rattle.std.specs.Prelude.{ℕ, ◌≡◌, ◌<◌, List, length, slice_index}
 use Rattle.std.specs.List.{AllZip, Contains}
-use Rattle.netlist.specs.declared.lines.Line.TheVariants.{Stem}
-use Rattle.netlist.specs.Netlist.{Definition, Netlist, cells, gates, signals}
-use Rattle.netlist.specs.Settled.{Rule, at, pins_of}
+use Rattle.statement.specs.declared.lines.Line.TheVariants.{Stem}
+use Rattle.statement.specs.Netlists.{Definition, Netlist, cells, gates, signals}
+use Rattle.statement.specs.Values.{Rule, pins_of}
+use Rattle.netlist.specs.Settled.{at}
 
 -- sources have settled, and the first m gates of the order
 pub record SettlesUpTo {V : Type 0} (rule : Rule V) (n : Netlist) (order : List ℕ) (inputs state values : List V) (m : ℕ) (d : V) : Type 0 where

@@ -2,14 +2,13 @@
 -- and then each pin that reads it no longer waits. A gate is placed as soon as none of its pins waits.
 use Rattle.std.specs.Prelude.{ℕ, IsTrue, Bool, false, map, ◌++◌, ◌≡◌, ◌+◌, ◌<◌, ◌≤◌, ◌==◌, ◌&&◌, ◌⊎◌, nat_lt, if◌then◌else◌, List, [], ◌∷◌, length, slice_index, slice_set}
 use Rattle.std.specs.List.{All, Contains}
-use Rattle.netlist.specs.declared.lines.Line.{Line}
-use Rattle.netlist.specs.declared.lines.Line.TheVariants.{Stem, Pin, Out}
+use Rattle.statement.specs.declared.lines.Line.{Line}
+use Rattle.statement.specs.declared.lines.Line.TheVariants.{Stem, Pin, Out}
 use Rattle.netlist.specs.declared.order.Placing.{Placing}
 use Rattle.netlist.specs.Lines.{IsPinBelow}
-use Rattle.netlist.specs.Netlist.{Definition, Netlist, gates, signals}
+use Rattle.statement.specs.Netlists.{Definition, Netlist, gates, signals, readers_of}
 use Rattle.netlist.specs.Conditions.{IsNumbered, most_signals}
 use Rattle.netlist.specs.inner.Placed.{IsPlaced, zeros}
-use Rattle.netlist.specs.Readers.{readers_of}
 
 -- how many of these pins read a signal that is not visited
 abbrev pub unvisited : (ℕ → Bool) → List ℕ → ℕ

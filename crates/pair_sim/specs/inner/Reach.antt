@@ -1,9 +1,9 @@
 -- The signals at observed points that a fault may reach, and what their labels tell (private to this crate).
 use Rattle.std.specs.Prelude.{ℕ, ◌≡◌, ◌≤◌, ◌<◌, ◌&&◌, Bool, true, false, nat_lt, List, [], ◌∷◌, length, slice_index, Some, IsTrue, IsFalse, if◌then◌else◌}
 use Rattle.std.specs.List.{All, Contains}
-use Rattle.netlist.specs.declared.lines.Fault.{Fault}
-use Rattle.netlist.specs.Holds.{Holds}
-use Rattle.netlist.specs.Netlist.{Netlist, signals}
+use Rattle.statement.specs.declared.lines.Fault.{Fault}
+use Rattle.statement.specs.Patterns.{Holds}
+use Rattle.statement.specs.Netlists.{Netlist, signals}
 use Rattle.netlist.specs.Settled.{at}
 use Rattle.tri.specs.declared.labels.Label.{Label}
 use Rattle.tri.specs.Labelling.{AreLabelled}

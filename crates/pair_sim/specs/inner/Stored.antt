@@ -1,8 +1,8 @@
 -- A simulation as it is stored.
 use Rattle.std.specs.Prelude.{ℕ, ◌≡◌, ◌*◌, ◌≤◌, Bool, List, length, Option, Some}
-use Rattle.netlist.specs.declared.lines.Fault.{Fault}
-use Rattle.netlist.specs.Holds.{Holds}
-use Rattle.netlist.specs.Netlist.{signals}
+use Rattle.statement.specs.declared.lines.Fault.{Fault}
+use Rattle.statement.specs.Patterns.{Holds}
+use Rattle.statement.specs.Netlists.{signals}
 use Rattle.tri.specs.declared.labels.Label.{Label}
 use Rattle.events.specs.Standing.{Standing}
 use Rattle.pair_sim.specs.declared.levels.Level.{Level}

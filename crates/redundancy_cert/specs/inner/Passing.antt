@@ -1,10 +1,11 @@
 -- The labels under a fault and decisions, as they stand while a tree is walked.
 use Rattle.std.specs.Prelude.{ℕ, ◌≡◌, ◌==◌, ◌⊎◌, Bool, false, List, [], length, Option, None, slice_index_or, IsTrue}
 use Rattle.std.specs.List.{All, Contains}
-use Rattle.netlist.specs.declared.kinds.Tri.TheVariants.{Zero}
-use Rattle.netlist.specs.declared.lines.Fault.{Fault}
-use Rattle.netlist.specs.Netlist.{Definition, Netlist, cells, signals}
-use Rattle.netlist.specs.Holds.{Holds, AreHoldsOf}
+use Rattle.statement.specs.declared.kinds.Tri.TheVariants.{Zero}
+use Rattle.statement.specs.declared.lines.Fault.{Fault}
+use Rattle.statement.specs.Netlists.{Definition, Netlist, cells, signals}
+use Rattle.statement.specs.Patterns.{Holds}
+use Rattle.netlist.specs.Holds.{AreHoldsOf}
 use Rattle.netlist.specs.Settled.{at}
 use Rattle.events.specs.Waiting.{SettlesBut}
 use Rattle.events.specs.declared.trails.Change.{Change}

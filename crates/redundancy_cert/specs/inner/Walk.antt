@@ -1,9 +1,9 @@
 -- How the check goes over the nodes of a tree: where each subtree that is still to come will stand.
 use Rattle.std.specs.Prelude.{ℕ, ◌≡◌, ◌<◌, ◌⊎◌, Bool, true, false, not, List, [], ◌∷◌, take, drop, length, None, IsTrue, if◌then◌else◌}
 use Rattle.std.specs.List.{All}
-use Rattle.netlist.specs.declared.lines.Fault.{Fault}
-use Rattle.netlist.specs.Holds.{Holds}
-use Rattle.netlist.specs.Netlist.{Netlist, signals}
+use Rattle.statement.specs.declared.lines.Fault.{Fault}
+use Rattle.statement.specs.Patterns.{Holds}
+use Rattle.statement.specs.Netlists.{Netlist, signals}
 use Rattle.tri.specs.Labelling.{decided_in}
 use Rattle.tri.specs.Paths.{Path, decisions, IsClosedPath}
 use Rattle.redundancy_cert.specs.declared.nodes.Node.{Node}

@@ -1,7 +1,7 @@
 -- How many pins of a gate have the controlling value: none, one, or more.
 use Rattle.std.specs.Prelude.{ℕ, ◌≡◌, ◌<◌, Bool, false, not, ◌&&◌, ◌||◌, List, [], ◌∷◌, map}
 use Rattle.std.specs.List.{list_any}
-use Rattle.netlist.specs.declared.kinds.Kind.{Kind}
+use Rattle.statement.specs.declared.kinds.Kind.{Kind}
 use Rattle.events.specs.Words.{bit_of}
 use Rattle.regions.specs.Paths.{bits_at}
 use Rattle.regions.specs.Sensitized.{is_noncontrolling}

@@ -1,6 +1,6 @@
 -- Lines that begin with a fault, word by word.
 use Rattle.std.specs.Prelude.{ℕ, ◌≡◌, ◌^◌, ◌<◌, ◌++◌, ◌∷◌, Bool, List, codes, decimal}
-use Rattle.fault_universe.specs.Texts.{value_text}
+use Rattle.statement.specs.Faults.{value_text}
 use Rattle.report.specs.Reports.{IsBenchWord}
 
 -- `x/0`

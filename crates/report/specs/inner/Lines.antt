@@ -1,7 +1,8 @@
 -- Texts that begin with a line, or with some lines.
 use Rattle.std.specs.Prelude.{ℕ, ◌≡◌, ◌≢◌, ◌/◌, ◌^◌, ◌<◌, ◌++◌, ◌∷◌, [], Bool, true, false, List, codes, decimal}
-use Rattle.report.specs.Reports.{Hold, Line, IsBenchWord}
-use Rattle.report.specs.Texts.{hundredths, outcome_text}
+use Rattle.report.specs.Reports.{Hold, IsBenchWord}
+use Rattle.statement.specs.Reports.{Line, outcome_text}
+use Rattle.report.specs.Texts.{hundredths}
 
 -- the text is what stands for this value, and then the rest
 abbrev pub Begins : {X : Type 0} → (X → Type 0) → (X → List ℕ) → List ℕ → X → List ℕ → Type 0

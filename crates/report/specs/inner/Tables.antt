@@ -1,7 +1,8 @@
 -- Lines and held inputs as they are kept: each part in a table of its own.
 use Rattle.std.specs.Prelude.{ℕ, Bool, List, [], ◌∷◌}
-use Rattle.report.specs.declared.outcomes.Outcome.{Outcome}
-use Rattle.report.specs.Reports.{Line, Hold}
+use Rattle.statement.specs.declared.outcomes.Outcome.{Outcome}
+use Rattle.statement.specs.Reports.{Line}
+use Rattle.report.specs.Reports.{Hold}
 
 abbrev pub lines_of : List (List ℕ) → List Outcome → List (List ℕ) → List Line
 lines_of [] outcomes pins = []

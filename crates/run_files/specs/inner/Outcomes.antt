@@ -1,16 +1,16 @@
 -- What is said of a class by its verdict.
 use Rattle.std.specs.Prelude.{ℕ, ◌≡◌, ◌<◌, List, [], ◌∷◌, ◌++◌, length, slice_index, Some}
 use Rattle.std.specs.List.{slice_get}
-use Rattle.netlist.specs.declared.lines.Fault.{Fault}
-use Rattle.netlist.specs.Netlist.{Netlist}
-use Rattle.fault_universe.specs.Texts.{fault_text}
-use Rattle.fault_universe.specs.Universe.{universe_of}
+use Rattle.statement.specs.declared.lines.Fault.{Fault}
+use Rattle.statement.specs.Netlists.{Netlist}
+use Rattle.statement.specs.Faults.{fault_text, universe_of}
 use Rattle.list_core.specs.declared.verdicts.Verdict.{Verdict}
 use Rattle.list_core.specs.declared.verdicts.Verdict.TheVariants as verdict
 use Rattle.list_core.specs.Verdicts.{verdict_at}
-use Rattle.report.specs.declared.outcomes.Outcome.{Outcome}
-use Rattle.report.specs.declared.outcomes.Outcome.TheVariants as outcome
-use Rattle.report.specs.Reports.{IsLine, Line}
+use Rattle.statement.specs.declared.outcomes.Outcome.{Outcome}
+use Rattle.statement.specs.declared.outcomes.Outcome.TheVariants as outcome
+use Rattle.report.specs.Reports.{IsLine}
+use Rattle.statement.specs.Reports.{Line}
 use Rattle.run_report.specs.Outcomes.{IsSeenAt}
 
 -- The pattern's place, and where the tester sees the point; or that no pattern detects it, by a tree without or with an open end.

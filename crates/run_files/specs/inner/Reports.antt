@@ -1,12 +1,12 @@
 -- The report of lines.
 use Rattle.std.specs.Prelude.{ℕ, ◌≡◌, ◌+◌, List, length}
-use Rattle.netlist.specs.Netlist.{Netlist}
-use Rattle.netlist.specs.Holds.{Holds}
-use Rattle.cubes.specs.Cubes.{Pattern}
-use Rattle.fault_universe.specs.Universe.{universe_of}
+use Rattle.statement.specs.Netlists.{Netlist}
+use Rattle.statement.specs.Patterns.{Holds, Pattern}
+use Rattle.statement.specs.Faults.{universe_of}
 use Rattle.fault_collapse.specs.Numbers.{Classes}
 use Rattle.list_core.specs.declared.verdicts.Verdict.{Verdict}
-use Rattle.report.specs.Reports.{Line, Report}
+use Rattle.statement.specs.Reports.{Line}
+use Rattle.report.specs.Reports.{Report}
 use Rattle.run_files.specs.inner.Outcomes.{AreLines}
 use Rattle.run_report.specs.Heads.{count_of, counts_of, one_if_detected, holds_named, one_if_redundant, share_of}
 

@@ -1,13 +1,12 @@
 -- The texts of verdicts and patterns.
 use Rattle.std.specs.Prelude.{ℕ, ◌≡◌, List}
-use Rattle.netlist.specs.Netlist.{Netlist}
-use Rattle.netlist.specs.Holds.{Holds}
-use Rattle.cubes.specs.Cubes.{Pattern}
-use Rattle.bench_text.specs.Canonical.{canonical}
+use Rattle.statement.specs.Netlists.{Netlist}
+use Rattle.statement.specs.Patterns.{Holds, Pattern}
+use Rattle.statement.specs.Benches.{canonical}
 use Rattle.scan_insert.specs.Scanned.{scanned_of}
-use Rattle.stil_write.specs.StilFiles.{IsStilFile, StilFile}
-use Rattle.stil_write.specs.Texts.{stil_text}
-use Rattle.stil_patterns.specs.Tests.{IsFileOf}
+use Rattle.stil_write.specs.StilFiles.{IsStilFile}
+use Rattle.statement.specs.Stils.{StilFile, stil_text}
+use Rattle.statement.specs.Tests.{IsFileOf}
 use Rattle.fault_collapse.specs.Numbers.{Classes}
 use Rattle.certificate.specs.Certificates.{certificate_text}
 use Rattle.report.specs.Reports.{IsReport}

@@ -1,6 +1,6 @@
 -- Lines counted by their kinds.
 use Rattle.std.specs.Prelude.{◌≡◌, ◌+◌, List, length}
-use Rattle.report.specs.Reports.{Line}
+use Rattle.statement.specs.Reports.{Line}
 use Rattle.run_report.specs.declared.heads.Tally.{Tally}
 use Rattle.run_report.specs.Heads.{one_if_aborted, count_of, one_if_detected, one_if_redundant}
 

@@ -1,8 +1,9 @@
 -- Parts of the scanned netlist as they are made.
 use Rattle.std.specs.Prelude.{ℕ, ◌≡◌, ◌+◌, ◌<◌, ◌≤◌, cond, List, [], ◌∷◌, ◌++◌, map, drop, length, slice_index}
 use Rattle.std.specs.List.{All}
-use Rattle.netlist.specs.Netlist.{Definition, Netlist, is_cell, signals, define}
-use Rattle.scan_insert.specs.Chains.{cells_of}
+use Rattle.statement.specs.Netlists.{Definition, Netlist, is_cell, signals}
+use Rattle.netlist.specs.Netlist.{define}
+use Rattle.statement.specs.Tests.{cells_of}
 use Rattle.scan_insert.specs.declared.sites.Site.{Site}
 use Rattle.scan_insert.specs.Scan.{Naming, scan_cell}
 use Rattle.scan_insert.specs.Scanned.{site, cell_ids, first_scan_out}

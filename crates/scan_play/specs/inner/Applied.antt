@@ -1,17 +1,16 @@
 -- One test as it is applied.
 use Rattle.std.specs.Prelude.{ℕ, ◌≡◌, Bool, true, false, not, List, [], ◌∷◌, ◌++◌, map, length, replicate, None}
 use Rattle.std.specs.List.{AllZip}
-use Rattle.netlist.specs.declared.kinds.Tri.{Tri}
-use Rattle.netlist.specs.Netlist.{Netlist}
-use Rattle.netlist.specs.Holds.{Holds}
-use Rattle.netlist.specs.declared.kinds.Tri.TheVariants.{X}
-use Rattle.netlist.specs.ThreeValues.{known}
-use Rattle.scan_insert.specs.Chains.{cells_of}
-use Rattle.scan_play.specs.Cycles.{Cycle}
-use Rattle.cubes.specs.Cubes.{Pattern}
+use Rattle.statement.specs.declared.kinds.Tri.{Tri}
+use Rattle.statement.specs.Netlists.{Netlist}
+use Rattle.statement.specs.Patterns.{Holds, Pattern}
+use Rattle.statement.specs.declared.kinds.Tri.TheVariants.{X}
+use Rattle.statement.specs.Values.{known}
+use Rattle.statement.specs.Tests.{cells_of, Response, Responds, flush}
+use Rattle.statement.specs.Runs.{Cycle}
 use Rattle.scan_play.specs.declared.cycles.Burst.{Burst}
 use Rattle.scan_play.specs.Shifts.{load}
-use Rattle.scan_play.specs.Vectors.{Response, Responds, flush, capture, applied, vectors}
+use Rattle.scan_play.specs.Vectors.{capture, applied, vectors}
 use Rattle.scan_play.specs.Bursts.{all_cycles}
 
 -- the pattern's load and capture stand behind the others, and its response is what the cells hold

@@ -1,12 +1,12 @@
 -- How the gates of a burst's cycles are chosen, and how its cycles are played by them.
 use Rattle.std.specs.Prelude.{ℕ, ◌≡◌, ◌≢◌, ◌-◌, ◌<◌, Bool, true, List, ◌++◌, map, length, replicate, slice_get, slice_index, Option, Some}
 use Rattle.std.specs.List.{All}
-use Rattle.netlist.specs.declared.kinds.Tri.{Tri}
-use Rattle.netlist.specs.declared.kinds.Tri.TheVariants.{X}
-use Rattle.netlist.specs.declared.lines.Fault.{Fault}
-use Rattle.netlist.specs.Netlist.{Definition, Netlist, cells, signals}
-use Rattle.netlist.specs.Settled.{Settles, at}
-use Rattle.netlist.specs.ThreeValues.{known}
+use Rattle.statement.specs.declared.kinds.Tri.{Tri}
+use Rattle.statement.specs.declared.kinds.Tri.TheVariants.{X}
+use Rattle.statement.specs.declared.lines.Fault.{Fault}
+use Rattle.statement.specs.Netlists.{Definition, Netlist, cells, signals}
+use Rattle.statement.specs.Values.{Settles, known}
+use Rattle.netlist.specs.Settled.{at}
 use Rattle.tri.specs.Settled.{tris}
 use Rattle.scan_play.specs.Steps.{HasSteps, IsReady, Stays}
 

@@ -1,14 +1,14 @@
 -- How far the player has come.
 use Rattle.std.specs.Prelude.{ℕ, ◌≡◌, ◌+◌, Bool, cond, List, ◌++◌, length, Option, MatchOption, Some}
-use Rattle.netlist.specs.declared.kinds.Tri.{Tri}
-use Rattle.netlist.specs.declared.kinds.Tri.TheVariants.{X}
-use Rattle.netlist.specs.declared.lines.Fault.{Fault}
-use Rattle.netlist.specs.Netlist.{Netlist, cells}
-use Rattle.netlist.specs.Settled.{at, outs, next}
+use Rattle.statement.specs.declared.kinds.Tri.{Tri}
+use Rattle.statement.specs.declared.kinds.Tri.TheVariants.{X}
+use Rattle.statement.specs.declared.lines.Fault.{Fault}
+use Rattle.statement.specs.Netlists.{Netlist, cells}
+use Rattle.netlist.specs.Settled.{at}
+use Rattle.statement.specs.Values.{outs, next}
 use Rattle.tri.specs.Settled.{tri_table, tris}
 use Rattle.scan_play.specs.declared.played.Played.{Played}
-use Rattle.scan_play.specs.Cycles.{Cycle}
-use Rattle.scan_play.specs.Runs.{Ticks, Runs}
+use Rattle.statement.specs.Runs.{Cycle, Ticks, Runs}
 use Rattle.scan_play.specs.Judging.{Judging, judged, judged_in}
 
 -- a cycle of this number was played: what is unmet in it, and what the cells hold after it

@@ -1,7 +1,7 @@
 -- What the player says: a strobe isn't met where the value isn't known and equal; and what is said where X is passed over.
 use Rattle.std.specs.Prelude.{ℕ, Option, Some, None}
-use Rattle.netlist.specs.declared.kinds.Tri.{Tri}
-use Rattle.netlist.specs.declared.kinds.Tri.TheVariants.{Zero, One, X}
+use Rattle.statement.specs.declared.kinds.Tri.{Tri}
+use Rattle.statement.specs.declared.kinds.Tri.TheVariants.{Zero, One, X}
 use Rattle.scan_play.specs.declared.played.Played.{Played}
 use Rattle.scan_play.specs.declared.played.Played.TheVariants.{Passes, Fails, Unknown}
 

@@ -1,17 +1,15 @@
 -- Items as they are added, test by test.
 use Rattle.std.specs.Prelude.{ℕ, ◌≡◌, false, not, List, [], ◌∷◌, ◌++◌, map, length, replicate, None}
 use Rattle.std.specs.List.{AllZip, zip}
-use Rattle.netlist.specs.declared.kinds.Tri.{Tri}
-use Rattle.netlist.specs.declared.kinds.Tri.TheVariants.{X}
-use Rattle.netlist.specs.Netlist.{Netlist}
-use Rattle.netlist.specs.ThreeValues.{known}
-use Rattle.cubes.specs.Cubes.{Pattern}
-use Rattle.scan_insert.specs.Chains.{cells_of}
+use Rattle.statement.specs.declared.kinds.Tri.{Tri}
+use Rattle.statement.specs.declared.kinds.Tri.TheVariants.{X}
+use Rattle.statement.specs.Netlists.{Netlist}
+use Rattle.statement.specs.Values.{known}
+use Rattle.statement.specs.Patterns.{Pattern}
+use Rattle.statement.specs.Tests.{cells_of, Response, Responds, flush, applied_items, capture_item, load_items, test_items}
 use Rattle.events.specs.Words.{bit_of}
-use Rattle.scan_play.specs.Vectors.{Response, Responds, flush}
 use Rattle.scan_play.specs.inner.Applied.{AreApplied}
-use Rattle.stil_write.specs.StilFiles.{Item}
-use Rattle.stil_vectors.specs.TestFiles.{applied_items, capture_item, load_items, test_items}
+use Rattle.statement.specs.Stils.{Item}
 
 -- the response of which these words have the bits at a place
 abbrev pub response_at : ℕ → List ℕ → List ℕ → Response

@@ -1,8 +1,9 @@
 -- The patterns that a file's words would be of, whatever file it is.
 use Rattle.std.specs.Prelude.{ℕ, Bool, List, [], ◌∷◌, ◌++◌, length, map, take, drop, reverse, slice_index_or}
-use Rattle.plain_text.specs.Texts.{Text}
-use Rattle.cubes.specs.Cubes.{Pattern}
-use Rattle.stil_write.specs.StilFiles.{Item, words_of}
+use Rattle.statement.specs.Benches.{Text}
+use Rattle.statement.specs.Patterns.{Pattern}
+use Rattle.statement.specs.Stils.{Item}
+use Rattle.stil_write.specs.StilFiles.{words_of}
 use Rattle.stil_vectors.specs.FileVectors.{bits_of}
 
 -- what a word brings to a chain of so many cells: its last character to the first

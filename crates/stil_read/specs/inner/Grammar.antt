@@ -1,9 +1,8 @@
 -- The parts of a file in its tokens: what stands where, as far as the reader looks.
 use Rattle.std.specs.Prelude.{ℕ, zero, suc, ◌≡◌, Option, Some, List, [], ◌∷◌, ◌++◌, codes, length, map}
-use Rattle.plain_text.specs.Texts.{Text}
-use Rattle.stil_write.specs.StilFiles.{StilFile, Item, where_chained}
-use Rattle.stil_write.specs.Pieces.{quoted}
-use Rattle.stil_write.specs.Texts.{assigned, called, head_text}
+use Rattle.statement.specs.Benches.{Text}
+use Rattle.statement.specs.Stils.{StilFile, Item, where_chained, quoted, assigned, called}
+use Rattle.stil_write.specs.Texts.{head_text}
 use Rattle.stil_read.specs.Tokens.{Token, Spelled, tokens}
 use Rattle.stil_read.specs.inner.Signals.{AreSignals, signal_tokens}
 use Rattle.stil_read.specs.inner.Items.{AreAllItems}

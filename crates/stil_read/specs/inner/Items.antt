@@ -2,10 +2,11 @@
 use Rattle.std.specs.Prelude.{ℕ, ◌≡◌, List, ◌++◌, Option, Some, None, codes, length, map}
 use Rattle.std.specs.Borrow.{Bor}
 use Rattle.std.specs.List.{All, flat_map}
-use Rattle.plain_text.specs.Texts.{Text}
+use Rattle.statement.specs.Benches.{Text}
 use Rattle.stil_write.specs.declared.items.ItemKind.{ItemKind}
 use Rattle.stil_write.specs.declared.items.ItemKind.TheVariants as kind
-use Rattle.stil_write.specs.StilFiles.{Item, Call, Vector, item_of}
+use Rattle.statement.specs.Stils.{Item, Call, Vector}
+use Rattle.stil_write.specs.StilFiles.{item_of}
 use Rattle.stil_write.specs.Pieces.{HasTargets}
 use Rattle.stil_read.specs.Tokens.{Token, tokens}
 use Rattle.stil_read.specs.inner.Assigned.{assigned_tokens}

@@ -1,8 +1,8 @@
 -- Signals of one kind, line by line: a quoted name, and then the tokens of the kind.
 use Rattle.std.specs.Prelude.{◌≡◌, List, ◌∷◌, ◌++◌}
 use Rattle.std.specs.List.{flat_map}
-use Rattle.plain_text.specs.Texts.{Text}
-use Rattle.stil_write.specs.Pieces.{quoted}
+use Rattle.statement.specs.Benches.{Text}
+use Rattle.statement.specs.Stils.{quoted}
 use Rattle.stil_read.specs.Tokens.{Token, Spelled, tokens}
 
 abbrev pub signal_tokens : Text → List Text → List Token

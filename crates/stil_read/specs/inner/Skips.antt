@@ -1,7 +1,7 @@
 -- What stands behind the first token that is spelled so.
 use Rattle.std.specs.Prelude.{◌≡◌, Bool, false, if◌then◌else◌, Option, Some, None, List, [], ◌∷◌, ◌++◌}
 use Rattle.std.specs.Str.{bytes_eq}
-use Rattle.plain_text.specs.Texts.{Text}
+use Rattle.statement.specs.Benches.{Text}
 use Rattle.stil_read.specs.Tokens.{Token, Spelled, Stray, tokens}
 
 abbrev pub is_spelled : Text → Token → Bool

@@ -1,7 +1,8 @@
 -- The tokens of written lines are those that the reader looks for.
 use Rattle.std.specs.Prelude.{◌≡◌, ◌==◌, ⊤, false, List, [], ◌∷◌, ◌++◌, codes, map}
-use Rattle.plain_text.specs.Texts.{Text}
-use Rattle.stil_write.specs.Pieces.{assignments, quoted, signal_lines}
+use Rattle.statement.specs.Benches.{Text}
+use Rattle.statement.specs.Stils.{assignments, quoted}
+use Rattle.stil_write.specs.Pieces.{signal_lines}
 use Rattle.stil_read.specs.declared.bytes.Class.TheVariants as class
 use Rattle.stil_read.specs.inner.Assigned.{assigned_tokens}
 use Rattle.stil_read.specs.Tokens.{Spelled, class_of, tokens}

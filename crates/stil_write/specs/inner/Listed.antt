@@ -1,8 +1,9 @@
 -- Items as they lie in memory: the kind of each, and where its words end.
 use Rattle.std.specs.Prelude.{ℕ, ◌≡◌, List, [], ◌∷◌, length}
-use Rattle.plain_text.specs.Texts.{Text}
+use Rattle.statement.specs.Benches.{Text}
 use Rattle.stil_write.specs.declared.items.ItemKind.{ItemKind}
-use Rattle.stil_write.specs.StilFiles.{Item, item_of}
+use Rattle.statement.specs.Stils.{Item}
+use Rattle.stil_write.specs.StilFiles.{item_of}
 use Rattle.plain_text.specs.Rows.{AreEnds}
 
 abbrev pub listed : List ItemKind → List (List Text) → List Item

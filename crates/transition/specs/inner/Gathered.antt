@@ -1,9 +1,9 @@
 -- Batches of slow lines that are gathered from a list of faults.
 use Rattle.std.specs.Prelude.{ℕ, ◌≡◌, ◌+◌, ◌<◌, ◌≤◌, Bool, true, List, Some, length, slice_index_or}
 use Rattle.std.specs.List.{All, AllPairs, AllZip, slice_get}
-use Rattle.netlist.specs.declared.lines.Fault.{Fault}
+use Rattle.statement.specs.declared.lines.Fault.{Fault}
 use Rattle.netlist.specs.Lines.{IsLineOf}
-use Rattle.netlist.specs.Netlist.{Netlist}
+use Rattle.statement.specs.Netlists.{Netlist}
 use Rattle.transition_batches.specs.Batches.{AreApart}
 
 -- the slot at this place, one of so many behind the first, is for this fault, which is left to be searched

@@ -1,9 +1,9 @@
 -- Marks of the signals that slow lines read.
 use Rattle.std.specs.Prelude.{◌≡◌, ◌≤◌, Bool, false, List, length, slice_index_or, IsTrue}
 use Rattle.std.specs.List.{All}
-use Rattle.netlist.specs.declared.lines.Fault.{Fault}
+use Rattle.statement.specs.declared.lines.Fault.{Fault}
 use Rattle.netlist.specs.Conditions.{IsSound}
-use Rattle.netlist.specs.Netlist.{Netlist, signals}
+use Rattle.statement.specs.Netlists.{Netlist, signals}
 use Rattle.transition_frames.specs.Frames.{source_of}
 
 -- a mark for each signal, and each of these lines reads one that is marked

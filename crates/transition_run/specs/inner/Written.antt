@@ -1,12 +1,12 @@
 -- The texts of patterns and verdicts.
 use Rattle.std.specs.Prelude.{ℕ, ◌≡◌, List, length}
-use Rattle.netlist.specs.Netlist.{Netlist}
-use Rattle.cubes.specs.Cubes.{Pattern}
-use Rattle.bench_text.specs.Canonical.{canonical}
+use Rattle.statement.specs.Netlists.{Netlist}
+use Rattle.statement.specs.Patterns.{Pattern}
+use Rattle.statement.specs.Benches.{canonical}
 use Rattle.scan_insert.specs.Scanned.{scanned_of}
-use Rattle.stil_write.specs.StilFiles.{IsStilFile, StilFile}
-use Rattle.stil_write.specs.Texts.{stil_text}
-use Rattle.fault_universe.specs.Universe.{universe_of}
+use Rattle.stil_write.specs.StilFiles.{IsStilFile}
+use Rattle.statement.specs.Stils.{StilFile, stil_text}
+use Rattle.statement.specs.Faults.{universe_of}
 use Rattle.transition_files.specs.LaunchFiles.{IsLaunchFileOf}
 use Rattle.transition_tests.specs.declared.verdicts.TransitionVerdict.{TransitionVerdict}
 use Rattle.transition_report.specs.declared.reporting.TransitionReport.{TransitionReport}

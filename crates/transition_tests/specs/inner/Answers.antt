@@ -1,8 +1,8 @@
 -- What is known of a fault before all patterns are simulated.
 use Rattle.std.specs.Prelude.{ℕ, List, Option, Some, None}
-use Rattle.netlist.specs.declared.lines.Fault.{Fault}
-use Rattle.netlist.specs.Netlist.{Netlist}
-use Rattle.cubes.specs.Cubes.{Pattern}
+use Rattle.statement.specs.declared.lines.Fault.{Fault}
+use Rattle.statement.specs.Netlists.{Netlist}
+use Rattle.statement.specs.Patterns.{Pattern}
 use Rattle.redundancy_cert.specs.declared.engine.Found.{Found}
 use Rattle.transition.specs.Searches.{HasFrameEvidence}
 use Rattle.transition_tests.specs.Batches.{IsDetected}

@@ -1,7 +1,8 @@
 -- Which patterns have the bits of cubes.
 use Rattle.std.specs.Prelude.{◌≡◌, ◌++◌, List}
 use Rattle.std.specs.List.{Contains}
-use Rattle.cubes.specs.Cubes.{Cube, Pattern, AgreesWith}
+use Rattle.cubes.specs.Cubes.{Cube, AgreesWith}
+use Rattle.statement.specs.Patterns.{Pattern}
 
 -- some pattern has the bits of the cube
 abbrev pub HasAgreeing : List Pattern → Cube → Type 0

@@ -2,12 +2,12 @@
 use Rattle.std.specs.Prelude.{ℕ, ◌≡◌, ◌+◌, ◌-◌, ◌≤◌, ◌<◌, List, [], ◌∷◌, take, drop, length, slice_index_or, Option, Some, None, ◌^◌, IfSome}
 use Rattle.std.specs.List.{slice_get}
 use Rattle.std.specs.Option.{option_map}
-use Rattle.netlist.specs.declared.lines.Fault.{Fault}
-use Rattle.netlist.specs.declared.lines.Point.{Point}
-use Rattle.netlist.specs.Netlist.{Netlist}
-use Rattle.cubes.specs.Cubes.{Pattern}
+use Rattle.statement.specs.declared.lines.Fault.{Fault}
+use Rattle.statement.specs.declared.lines.Point.{Point}
+use Rattle.statement.specs.Netlists.{Netlist}
+use Rattle.statement.specs.Patterns.{Pattern, IsDetectedAt, IsLastDetected}
 use Rattle.word_sim.specs.declared.batches.Hit.{Hit}
-use Rattle.word_sim.specs.Hits.{AreHits, IsDetectedAt, IsLastDetected, LastDetected, LastMarked}
+use Rattle.word_sim.specs.Hits.{AreHits, LastDetected, LastMarked}
 use Rattle.word_sim.specs.inner.Packed.{AreGoodFor, IsMarked}
 use Rattle.observed_points.specs.Points.{point_of}
 

@@ -2,9 +2,9 @@
 use Rattle.std.specs.Prelude.{ℕ, ◌≡◌, ◌≢◌, ◌<◌, ◌≤◌, ◌^◌, List, [], length, map, slice_index_or, Option, Some, None, IfSome}
 use Rattle.std.specs.List.{All, Contains, slice_get}
 use Rattle.std.specs.Option.{option_map}
-use Rattle.netlist.specs.declared.lines.Fault.{Fault}
+use Rattle.statement.specs.declared.lines.Fault.{Fault}
 use Rattle.netlist.specs.Lines.{IsLineOf}
-use Rattle.netlist.specs.Netlist.{Netlist, signals}
+use Rattle.statement.specs.Netlists.{Netlist, signals}
 use Rattle.events.specs.declared.trails.Change.{Change}
 use Rattle.netlist.specs.Settled.{at}
 use Rattle.events.specs.Standing.{SettlesOver, Standing}
@@ -13,7 +13,7 @@ use Rattle.regions.specs.declared.turned.TurnedWords.{TurnedWords}
 use Rattle.regions.specs.Side.{spread}
 use Rattle.regions.specs.Turned.{turned_words}
 use Rattle.events.specs.Words.{words}
-use Rattle.cubes.specs.Cubes.{Pattern}
+use Rattle.statement.specs.Patterns.{Pattern}
 use Rattle.regions.specs.Paths.{IsReach}
 use Rattle.word_sim.specs.Hits.{LastDetected}
 use Rattle.word_sim.specs.declared.passes.Pass.{Pass}

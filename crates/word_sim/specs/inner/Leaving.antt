@@ -1,6 +1,6 @@
 -- What is told of faults of which some are left out.
 use Rattle.std.specs.Prelude.{ℕ, Bool, true, false, List, [], ◌∷◌, Option, None}
-use Rattle.netlist.specs.declared.lines.Point.{Point}
+use Rattle.statement.specs.declared.lines.Point.{Point}
 
 -- nothing of a fault that is marked, and in order what is told of the others
 abbrev pub told_of_all : List Bool → List (Option (ℕ × Point)) → List (Option (ℕ × Point))

@@ -1,9 +1,10 @@
 -- Patterns packed into words, a bit for each.
 use Rattle.std.specs.Prelude.{ℕ, ◌≡◌, ◌<◌, ◌≤◌, Bool, true, false, List, map, length, None, Some, nat_lt, slice_index_or}
 use Rattle.std.specs.List.{slice_get}
-use Rattle.cubes.specs.Cubes.{Pattern}
-use Rattle.netlist.specs.Netlist.{Netlist}
-use Rattle.netlist.specs.Settled.{Settles, at}
+use Rattle.statement.specs.Patterns.{Pattern}
+use Rattle.statement.specs.Netlists.{Netlist}
+use Rattle.statement.specs.Values.{Settles}
+use Rattle.netlist.specs.Settled.{at}
 use Rattle.events.specs.Words.{bit_of, words}
 use Rattle.word_sim.specs.declared.packing.Part.{Part}
 use Rattle.word_sim.specs.declared.packing.Part.TheVariants.{Inputs, Cells}

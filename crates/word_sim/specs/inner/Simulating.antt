@@ -1,6 +1,6 @@
 -- What a simulator has between two batches.
 use Rattle.std.specs.Prelude.{ℕ, List, Option, IfSome}
-use Rattle.netlist.specs.Netlist.{Netlist}
+use Rattle.statement.specs.Netlists.{Netlist}
 use Rattle.events.specs.Standing.{Standing}
 use Rattle.regions.specs.declared.fours.Four.{Four}
 use Rattle.observed_points.specs.Points.{ArePoints}

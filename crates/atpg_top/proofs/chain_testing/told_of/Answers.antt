@@ -2,8 +2,9 @@ use Rattle.std.proofs.Common.{List, subst, sym}
 use Rattle.std.specs.List.{All, AllZip}
 use Rattle.std.proofs.lemmas.Result.{IfOk-weaker}
 use Rattle.chain_test.specs.FirstWrong.{IsFirstWrong}
-use Rattle.scan_play.specs.Cycles.{Cycle, IsCycleOf}
-use Rattle.stil_vectors.specs.FileVectors.{vectors_in}
+use Rattle.statement.specs.Runs.{Cycle}
+use Rattle.scan_play.specs.Cycles.{IsCycleOf}
+use Rattle.statement.specs.Tests.{vectors_in}
 use Rattle.atpg_top.proofs.ChainTestLemmas.{all_outputs, all_told}
 use Rattle.atpg_top.proofs.chain_testing.told_of.Goals as goal
 

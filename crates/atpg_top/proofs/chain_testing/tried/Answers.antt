@@ -1,6 +1,6 @@
 use Rattle.std.proofs.Common.{ap, subst, ◌∙◌}
 use Rattle.netlist.specs.Conditions.{IsSound}
-use Rattle.netlist.specs.Netlist.{Netlist}
+use Rattle.statement.specs.Netlists.{Netlist}
 use Rattle.good_files.specs.ScanOff.{design_chains}
 use Rattle.scan_insert.specs.Scanned.{Insertion, scanned_of}
 use Rattle.stil_vectors.specs.Fitting.{FitsNetlist}

@@ -1,5 +1,5 @@
 use Rattle.std.proofs.Common.{List, [], subst}
-use Rattle.plain_text.specs.Texts.{Text}
+use Rattle.statement.specs.Benches.{Text}
 use Rattle.commands.specs.Rows.{CommandRow}
 use Rattle.commands.specs.World.{world}
 use Rattle.atpg_top.specs.Checks.{check_due}

@@ -1,8 +1,8 @@
 use Rattle.std.proofs.Common.{◌++◌, ◌<◌, List, ℕ, length, refl, sym, subst, ap, ◌∙◌}
 use Rattle.std.specs.List.{All}
-use Rattle.fault_universe.specs.Universe.{universe_of}
+use Rattle.statement.specs.Faults.{universe_of}
 use Rattle.scan_insert.specs.Scanned.{AreChainsOf}
-use Rattle.stil_vectors.specs.FileVectors.{vectors_in}
+use Rattle.statement.specs.Tests.{vectors_in}
 use Rattle.good_files.specs.ScanOff.{design_chains}
 use Rattle.atpg_top.specs.Diagnoses.{candidates_line, suspect_lines}
 use Rattle.atpg_top.proofs.DiagnoseLemmas.{candidates_at, places_within}

@@ -1,5 +1,5 @@
 use Rattle.std.proofs.Common.{Err, subst, ap, ◌∙◌}
-use Rattle.netlist.specs.Netlist.{Netlist}
+use Rattle.statement.specs.Netlists.{Netlist}
 use Rattle.scan_insert.specs.Scanned.{Insertion, scanned_of}
 use Rattle.good_files.specs.ScanOff.{design_chains}
 use Rattle.stil_vectors.specs.Fitting.{FitsNetlist}

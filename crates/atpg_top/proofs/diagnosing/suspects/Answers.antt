@@ -1,8 +1,9 @@
 use Rattle.std.proofs.Common.{List, sym, subst}
 use Rattle.std.specs.List.{All}
-use Rattle.netlist.specs.Netlist.{Netlist}
-use Rattle.scan_play.specs.Cycles.{Cycle, IsCycleOf}
-use Rattle.stil_vectors.specs.FileVectors.{vectors_in}
+use Rattle.statement.specs.Netlists.{Netlist}
+use Rattle.statement.specs.Runs.{Cycle}
+use Rattle.scan_play.specs.Cycles.{IsCycleOf}
+use Rattle.statement.specs.Tests.{vectors_in}
 use Rattle.atpg_top.proofs.diagnosing.suspects.Goals as goal
 
 pub candidates-requires-clause-fits : goal.candidates-requires-clause-fits

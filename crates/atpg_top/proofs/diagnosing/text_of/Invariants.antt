@@ -1,6 +1,6 @@
 use Rattle.std.proofs.Common.{◌≡◌, ◌++◌, length, slice_get, take}
 use Rattle.std.specs.List.{flat_map}
-use Rattle.fault_universe.specs.Universe.{universe_of}
+use Rattle.statement.specs.Faults.{universe_of}
 use Rattle.atpg_top.specs.Diagnoses.{candidates_line, suspect_line}
 use Rattle.atpg_top.proofs.diagnosing.text_of.Given as goal
 

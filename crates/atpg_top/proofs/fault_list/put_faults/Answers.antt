@@ -1,9 +1,9 @@
 use Rattle.std.proofs.Common.{◌≡◌, ℕ, List, ◌∙◌, ◌+◌, ◌++◌, ap, subst, Some, get_or, length, take, arith}
 use Rattle.std.specs.List.{flat_map, slice_get, zip}
 use Rattle.std.proofs.lemmas.Result.{err_from_is_err_and}
-use Rattle.netlist.specs.declared.lines.Fault.{Fault}
-use Rattle.netlist.specs.Netlist.{Netlist}
-use Rattle.fault_universe.specs.Universe.{universe_of}
+use Rattle.statement.specs.declared.lines.Fault.{Fault}
+use Rattle.statement.specs.Netlists.{Netlist}
+use Rattle.statement.specs.Faults.{universe_of}
 use Rattle.atpg_top.specs.FaultLists.{listed_fault_line}
 use Rattle.atpg_top.proofs.Zipped.{all_taken, one_more, then_others}
 use Rattle.commands.proofs.PutLemmas.{last_put, line_put, line_refused}

@@ -1,6 +1,6 @@
 use Rattle.std.proofs.Common.{◌≡◌, ◌++◌, take}
 use Rattle.std.specs.List.{flat_map, zip}
-use Rattle.fault_universe.specs.Universe.{universe_of}
+use Rattle.statement.specs.Faults.{universe_of}
 use Rattle.atpg_top.specs.FaultLists.{listed_fault_line}
 use Rattle.commands.specs.Pieces.{Waits}
 use Rattle.atpg_top.proofs.fault_list.put_faults.Given as goal

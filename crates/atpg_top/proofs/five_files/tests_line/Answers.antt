@@ -1,5 +1,5 @@
 use Rattle.std.proofs.Common.{◌∙◌, ◌++◌, ap, codes, decimal}
-use Rattle.plain_text.specs.Texts.{Text}
+use Rattle.statement.specs.Benches.{Text}
 use Rattle.atpg_top.proofs.LineLemmas.{six_counts}
 use Rattle.atpg_top.proofs.five_files.tests_line.Goals as goal
 

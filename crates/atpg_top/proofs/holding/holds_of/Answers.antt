@@ -1,8 +1,9 @@
 use Rattle.std.proofs.Common.{◌∙◌, ◌+◌, List, Some, None, length, map, take, get_or, sym, subst, ap, arith, length-set}
 use Rattle.std.proofs.lemmas.List.{length-map, take_all}
 use Rattle.std.proofs.lemmas.Option.{slice_get_within}
-use Rattle.netlist.specs.Netlist.{Netlist}
-use Rattle.netlist.specs.Holds.{Holds, none_held}
+use Rattle.statement.specs.Netlists.{Netlist}
+use Rattle.statement.specs.Patterns.{Holds}
+use Rattle.netlist.specs.Holds.{none_held}
 use Rattle.command_line.specs.CommandLine.{hold_of}
 use Rattle.command_line.specs.declared.holds.Held.{Held}
 use Rattle.atpg_top.specs.Runs.{AreHeldFrom}

@@ -1,6 +1,6 @@
 use Rattle.std.proofs.Common.{◌∙◌, ℕ, length, subst, sym, ap, arith, Option}
 use Rattle.netlist.specs.Conditions.{IsSound}
-use Rattle.netlist.specs.Netlist.{Netlist, name_of}
+use Rattle.statement.specs.Netlists.{Netlist, name_of}
 use Rattle.atpg_top.specs.inner.Running.{IsFound}
 use Rattle.atpg_top.proofs.HoldLemmas.{input_at, no_input, no_signal}
 use Rattle.atpg_top.proofs.holding.input_named.Goals as goal

@@ -1,5 +1,5 @@
 use Rattle.std.proofs.Common.{◌++◌, ap, codes, rules}
-use Rattle.plain_text.specs.Texts.{Text}
+use Rattle.statement.specs.Benches.{Text}
 use Rattle.commands.proofs.Saying.{said_so}
 use Rattle.atpg_top.proofs.lines.tell.Goals as goal
 

@@ -1,5 +1,5 @@
 use Rattle.std.proofs.lemmas.Result.{IfOk-weaker}
-use Rattle.stil_vectors.specs.FileVectors.{vectors_in}
+use Rattle.statement.specs.Tests.{vectors_in}
 use Rattle.scan_play.specs.Playing.{PlaysAs}
 use Rattle.atpg_top.specs.Plays.{IsPlay}
 use Rattle.atpg_top.specs.inner.Trials.{IsShown}

@@ -1,5 +1,5 @@
 use Rattle.std.proofs.Common.{[], ◌∷◌, ap₂, refl, option_map}
-use Rattle.plain_text.specs.Texts.{Text}
+use Rattle.statement.specs.Benches.{Text}
 use Rattle.commands.specs.World.{world}
 use Rattle.commands.specs.Names.{file_name_of}
 use Rattle.atpg_top.specs.Commands.{play_due}

@@ -1,6 +1,6 @@
 use Rattle.std.proofs.Common.{◌∙◌, inl, map, refl, subst, None}
 use Rattle.std.proofs.lemmas.List.{length-map}
-use Rattle.netlist.specs.Netlist.{Netlist}
+use Rattle.statement.specs.Netlists.{Netlist}
 use Rattle.netlist.specs.Holds.{none_held}
 use Rattle.commands.specs.Due.{Deliver}
 use Rattle.commands.specs.Names.{texts_of}

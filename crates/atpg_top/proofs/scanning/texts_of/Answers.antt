@@ -1,5 +1,5 @@
 use Rattle.std.proofs.Common.{◌≡◌, ℕ, List, ap, ◌∙◌, length, refl, arith}
-use Rattle.bench_text.specs.Canonical.{canonical}
+use Rattle.statement.specs.Benches.{canonical}
 use Rattle.scan_insert.specs.Chains.{chains_of}
 use Rattle.scan_insert.specs.Scanned.{Insertion, scanned_of}
 use Rattle.good_files.specs.ScanOff.{design_chains}

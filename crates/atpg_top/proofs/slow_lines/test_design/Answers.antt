@@ -1,5 +1,5 @@
 use Rattle.std.proofs.Common.{refl, subst}
-use Rattle.netlist.specs.Netlist.{Netlist}
+use Rattle.statement.specs.Netlists.{Netlist}
 use Rattle.commands.specs.Due.{Deliver}
 use Rattle.commands.specs.Names.{texts_of}
 use Rattle.atpg_top.specs.inner.Running.{slow_due}

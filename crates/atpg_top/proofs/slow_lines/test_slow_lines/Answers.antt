@@ -1,5 +1,5 @@
 use Rattle.std.proofs.Common.{[], ◌∷◌, ap}
-use Rattle.plain_text.specs.Texts.{Text}
+use Rattle.statement.specs.Benches.{Text}
 use Rattle.commands.specs.Names.{file_name_of, file_names_of, run_files, texts_of}
 use Rattle.commands.specs.World.{world}
 use Rattle.commands.proofs.CommandLemmas.{command_row}

@@ -1,7 +1,7 @@
 use Rattle.std.proofs.Common.{None, arith, subst, ◌∙◌, ap, length}
 use Rattle.std.proofs.lemmas.List.{length-map}
 use Rattle.std.proofs.lemmas.Result.{IfOk-weaker}
-use Rattle.netlist.specs.Holds.{Holds}
+use Rattle.statement.specs.Patterns.{Holds}
 use Rattle.run_files.specs.declared.files.RunFiles.{RunFiles}
 use Rattle.run_files.specs.Runs.{IsRun}
 use Rattle.atpg_top.specs.Sweeps.{IsSweepRun, sweep_chains, sweep_limit}

@@ -1,5 +1,5 @@
 use Rattle.std.proofs.Common.{subst}
-use Rattle.netlist.specs.Netlist.{Netlist}
+use Rattle.statement.specs.Netlists.{Netlist}
 use Rattle.atpg_top.specs.Sweeps.{IsSweep}
 use Rattle.atpg_top.proofs.sweeping.swept.Goals as goal
 

@@ -1,5 +1,5 @@
 use Rattle.std.proofs.Common.{◌≡◌, ◌∙◌, ◌++◌, List, ℕ, ap, codes, get_or, subst}
-use Rattle.plain_text.specs.Texts.{Text}
+use Rattle.statement.specs.Benches.{Text}
 use Rattle.report.specs.declared.counts.ReportCounts.{ReportCounts}
 use Rattle.atpg_top.specs.Sweeps.{number_line}
 use Rattle.atpg_top.proofs.SweepLemmas.{nine_lines}

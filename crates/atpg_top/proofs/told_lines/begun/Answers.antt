@@ -1,5 +1,5 @@
 use Rattle.std.proofs.Common.{◌++◌, ◌-◌, ◌∙◌, ap, length, refl}
-use Rattle.plain_text.specs.Texts.{Text}
+use Rattle.statement.specs.Benches.{Text}
 use Rattle.atpg_top.specs.inner.ChainTrials.{counts_text}
 use Rattle.atpg_top.proofs.ChainTestLemmas.{counts_are}
 use Rattle.atpg_top.proofs.told_lines.begun.Goals as goal

@@ -1,6 +1,6 @@
 use Rattle.std.proofs.Common.{◌≡◌, ◌++◌, map, take}
-use Rattle.bench_text.specs.Sights.{name_at}
-use Rattle.bench_text.specs.Canonical.{port_line, ended}
+use Rattle.statement.specs.Benches.{name_at, port_line}
+use Rattle.bench_text.specs.Canonical.{ended}
 use Rattle.bench_text.proofs.writer.push_ports.Given as goal
 
 abbrev pub invariant-loop-id : goal.invariant-loop-id

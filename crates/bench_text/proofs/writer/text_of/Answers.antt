@@ -1,7 +1,7 @@
 use Rattle.std.proofs.Common.{◌++◌, map, ap, ◌∙◌}
 use Rattle.std.specs.Prelude.{codes}
-use Rattle.bench_text.specs.Sights.{name_at}
-use Rattle.bench_text.specs.Canonical.{port_line, equation_line, ended}
+use Rattle.statement.specs.Benches.{name_at, port_line}
+use Rattle.bench_text.specs.Canonical.{equation_line, ended}
 use Rattle.bench_text.proofs.WriteLemmas.{outputs-writable, definitions-writable, blocks}
 use Rattle.bench_text.proofs.writer.text_of.Goals as goal
 

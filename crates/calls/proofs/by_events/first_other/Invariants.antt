@@ -1,5 +1,5 @@
 use Rattle.std.proofs.Common.{◌≡◌, length}
-use Rattle.netlist.specs.Netlist.{cells}
+use Rattle.statement.specs.Netlists.{cells}
 use Rattle.calls.proofs.by_events.first_other.Given as goal
 
 abbrev pub invariant-loop-change : goal.invariant-loop-change

@@ -1,7 +1,7 @@
 use Rattle.std.proofs.Common.{ℕ}
 use Rattle.std.specs.List.{All}
 use Rattle.netlist.specs.Lines.{IsLineOf}
-use Rattle.netlist.specs.declared.lines.Fault.{Fault}
+use Rattle.statement.specs.declared.lines.Fault.{Fault}
 use Rattle.calls.proofs.detection.placed.Given as goal
 
 abbrev pub invariant-loop-fault : goal.invariant-loop-fault

@@ -1,6 +1,6 @@
 use Rattle.std.specs.List.{All}
 use Rattle.netlist.specs.Lines.{IsLineOf}
-use Rattle.netlist.specs.declared.lines.Fault.{Fault}
+use Rattle.statement.specs.declared.lines.Fault.{Fault}
 use Rattle.calls.proofs.faults.all_of.Given as goal
 
 abbrev pub invariant-loop-place : goal.invariant-loop-place

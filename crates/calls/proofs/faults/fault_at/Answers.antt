@@ -1,7 +1,7 @@
 use Rattle.std.proofs.Common.{◌≡◌, Some, subst, List}
 use Rattle.std.specs.List.{slice_get}
-use Rattle.netlist.specs.declared.lines.Fault.{Fault}
-use Rattle.fault_universe.specs.Universe.{universe_of}
+use Rattle.statement.specs.declared.lines.Fault.{Fault}
+use Rattle.statement.specs.Faults.{universe_of}
 use Rattle.fault_universe.proofs.Elements.{contains_at}
 use Rattle.calls.proofs.faults.fault_at.Goals as goal
 

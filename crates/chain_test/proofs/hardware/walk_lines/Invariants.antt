@@ -1,6 +1,6 @@
 use Rattle.std.proofs.Common.{map, take}
 use Rattle.std.specs.List.{flat_map}
-use Rattle.fault_universe.specs.Universe.{faults_of}
+use Rattle.statement.specs.Faults.{faults_of}
 use Rattle.chain_test.specs.Hardware.{at_site}
 use Rattle.chain_test.specs.inner.Merged.{Walks}
 use Rattle.chain_test.proofs.hardware.walk_lines.Given as goal

@@ -1,10 +1,10 @@
 use Rattle.std.proofs.Common.{◌∷◌, List, OnOk, ap, map, subst, ◌∙◌}
 use Rattle.std.specs.List.{flat_map}
-use Rattle.netlist.specs.Netlist.{Netlist}
-use Rattle.netlist.specs.Readers.{readers_of}
-use Rattle.netlist.specs.declared.lines.Line.{Line}
-use Rattle.netlist.specs.declared.lines.Line.TheVariants.{Stem}
-use Rattle.fault_universe.specs.Universe.{branching, faults_of}
+use Rattle.statement.specs.Netlists.{Netlist, readers_of}
+use Rattle.statement.specs.declared.lines.Line.{Line}
+use Rattle.statement.specs.declared.lines.Line.TheVariants.{Stem}
+use Rattle.fault_universe.specs.Universe.{branching}
+use Rattle.statement.specs.Faults.{faults_of}
 use Rattle.chain_test.specs.Hardware.{at_site}
 use Rattle.chain_test.specs.inner.Merged.{Walks}
 use Rattle.chain_test.proofs.LeftOver.{onwards_where}

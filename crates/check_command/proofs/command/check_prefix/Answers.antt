@@ -1,5 +1,5 @@
 use Rattle.std.proofs.Common.{List, [], subst}
-use Rattle.plain_text.specs.Texts.{Text}
+use Rattle.statement.specs.Benches.{Text}
 use Rattle.commands.specs.Rows.{CommandRow}
 use Rattle.commands.specs.World.{world}
 use Rattle.check_command.specs.Checking.{five_texts_due}

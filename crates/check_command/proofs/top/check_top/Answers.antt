@@ -1,5 +1,5 @@
 use Rattle.std.proofs.Common.{Option, subst}
-use Rattle.plain_text.specs.Texts.{Text}
+use Rattle.statement.specs.Benches.{Text}
 use Rattle.commands.specs.World.{world}
 use Rattle.check_command.specs.Top.{PrefixRow}
 use Rattle.check_command.specs.declared.status.CheckStatus.TheVariants.{Command}

@@ -1,7 +1,8 @@
 use Rattle.std.proofs.Common.{◌≡◌, List, sym, subst, arith}
 use Rattle.std.specs.List.{AllZip}
 use Rattle.std.proofs.lemmas.Grind.{common_steps}
-use Rattle.cubes.specs.Cubes.{Pattern, AgreesWith}
+use Rattle.statement.specs.Patterns.{Pattern}
+use Rattle.cubes.specs.Cubes.{AgreesWith}
 use Rattle.cubes.specs.Filling.{filled_all}
 use Rattle.cubes.proofs.FillLemmas.{filled_agree, filled_fit}
 use Rattle.cubes.proofs.filling.fill_all.Goals as goal

@@ -1,6 +1,6 @@
 use Rattle.std.proofs.Common.{◌≡◌, ℕ, ◌<◌, ◌≤◌, length}
 use Rattle.std.specs.List.{slice_index_or}
-use Rattle.netlist.specs.declared.kinds.Tri.TheVariants.{X}
+use Rattle.statement.specs.declared.kinds.Tri.TheVariants.{X}
 use Rattle.cubes.specs.inner.Joining.{join}
 use Rattle.cubes.proofs.patterns.join_values.Given as goal
 

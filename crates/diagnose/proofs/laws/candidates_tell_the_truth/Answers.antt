@@ -1,5 +1,5 @@
-use Rattle.netlist.specs.declared.lines.Fault.{Fault}
-use Rattle.fault_universe.specs.Universe.{universe_of}
+use Rattle.statement.specs.declared.lines.Fault.{Fault}
+use Rattle.statement.specs.Faults.{universe_of}
 use Rattle.fault_universe.proofs.Elements.{contains_at}
 use Rattle.scan_insert.specs.Scanned.{line_at, scanned_of, sites_of}
 use Rattle.diagnose.proofs.laws.candidates_tell_the_truth.Goals as goal

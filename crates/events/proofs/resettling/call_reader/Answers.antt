@@ -1,7 +1,7 @@
 use Rattle.std.proofs.Common.{◌≤◌, ◌<◌, ◌∷◌, [], length, set, get_or, refl, sym, subst, arith}
-use Rattle.netlist.specs.declared.lines.Line.{Line}
+use Rattle.statement.specs.declared.lines.Line.{Line}
 use Rattle.netlist.specs.Lines.{IsPinBelow}
-use Rattle.netlist.specs.Netlist.{signals}
+use Rattle.statement.specs.Netlists.{signals}
 use Rattle.netlist.proofs.Settling.{pins_within}
 use Rattle.events.specs.inner.Running.{CallsTurned}
 use Rattle.events.proofs.Calling.{after_inputs, cell_pin, hidden_pin}

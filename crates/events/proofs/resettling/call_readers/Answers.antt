@@ -1,8 +1,7 @@
 use Rattle.std.proofs.Common.{◌<◌, ◌∙◌, List, length, get_or, map, set, sym, subst, refl}
 use Rattle.std.specs.List.{All}
-use Rattle.netlist.specs.declared.lines.Line.{Line}
-use Rattle.netlist.specs.Netlist.{signals}
-use Rattle.netlist.specs.Readers.{readers_of}
+use Rattle.statement.specs.declared.lines.Line.{Line}
+use Rattle.statement.specs.Netlists.{signals, readers_of}
 use Rattle.netlist.proofs.Orders.{place_of}
 use Rattle.netlist.proofs.ReaderRows.{are_below, row_below}
 use Rattle.netlist.proofs.ReaderTables.{table_count, readers_at}

@@ -1,5 +1,5 @@
 use Rattle.std.proofs.Common.{◌≡◌, ◌≤◌, ◌<◌, ap, sym, subst, ◌∙◌, length, refl}
-use Rattle.netlist.specs.Netlist.{Definition, signals}
+use Rattle.statement.specs.Netlists.{Definition, signals}
 use Rattle.netlist.specs.Settled.{at}
 use Rattle.netlist.proofs.Placed.{definition_below, gate_defined, same_definition}
 use Rattle.netlist.proofs.Settling.{above_inputs, pins_within}

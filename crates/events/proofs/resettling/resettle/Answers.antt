@@ -1,6 +1,6 @@
 use Rattle.std.proofs.Common.{◌≡◌, ◌<◌, Bool, List, false, ap, sym, subst, ◌∙◌, length, refl, set, arith}
 use Rattle.std.proofs.lemmas.List.{get_or_read}
-use Rattle.netlist.specs.Netlist.{signals}
+use Rattle.statement.specs.Netlists.{signals}
 use Rattle.netlist.proofs.Placed.{definition_below, gate_defined}
 use Rattle.netlist.specs.Settled.{at}
 use Rattle.events.specs.Agendas.{IsFirst, AreClear}

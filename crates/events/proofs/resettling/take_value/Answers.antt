@@ -1,7 +1,7 @@
 use Rattle.std.proofs.Common.{ap, ◌∙◌, refl, inr, set, get_or, arith}
 use Rattle.std.proofs.lemmas.Bool.{iff_false}
 use Rattle.std.proofs.lemmas.List.{get_or_read}
-use Rattle.netlist.specs.Readers.{readers_of}
+use Rattle.statement.specs.Netlists.{readers_of}
 use Rattle.events.proofs.Calling.{same_called}
 use Rattle.events.proofs.resettling.take_value.Goals as goal
 

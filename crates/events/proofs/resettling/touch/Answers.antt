@@ -1,5 +1,5 @@
 use Rattle.std.proofs.Common.{◌≡◌, ◌∙◌, ap, subst, true, set, get_or, length, arith}
-use Rattle.netlist.specs.declared.lines.Line.TheVariants.{Stem}
+use Rattle.statement.specs.declared.lines.Line.TheVariants.{Stem}
 use Rattle.netlist.proofs.Orders.{place_bounded}
 use Rattle.events.specs.inner.Running.{PutsSource}
 use Rattle.events.proofs.Running.{gate_marked, source_takes}

@@ -1,7 +1,6 @@
 use Rattle.std.proofs.Common.{◌≤◌, ℕ, length, subst, ap, arith}
 use Rattle.netlist.specs.Conditions.{IsSound}
-use Rattle.netlist.specs.Netlist.{Netlist}
-use Rattle.netlist.specs.Readers.{readers_of}
+use Rattle.statement.specs.Netlists.{Netlist, readers_of}
 use Rattle.pair_sim.specs.Sims.{Sim}
 use Rattle.redundancy_cert.specs.Stacks.{path_of_stack}
 use Rattle.fan.proofs.Placing.{stem_place}

@@ -2,7 +2,7 @@ use Rattle.std.proofs.Common.{◌≡◌, ◌+◌, ◌∙◌, ap, length, refl, a
 use Rattle.fault_collapse.proofs.DriverTables.{definition_number, one_more_driver}
 use Rattle.fault_collapse.proofs.Stems.{lines_before, lines_within, more_lines}
 use Rattle.fault_universe.specs.Universe.{branching}
-use Rattle.netlist.specs.Readers.{readers_of}
+use Rattle.statement.specs.Netlists.{readers_of}
 use Rattle.fault_collapse.proofs.drivers.drivers.Goals as goal
 
 pub overflow_cast-next : goal.overflow_cast-next

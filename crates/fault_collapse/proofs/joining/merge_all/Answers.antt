@@ -1,5 +1,6 @@
 use Rattle.std.proofs.Common.{◌≡◌, ◌*◌, ap, length, subst, arith}
-use Rattle.fault_universe.specs.Universe.{all_lines, universe_of}
+use Rattle.fault_universe.specs.Universe.{all_lines}
+use Rattle.statement.specs.Faults.{universe_of}
 use Rattle.fault_universe.proofs.FaultLists.{length-faults}
 use Rattle.fault_collapse.specs.inner.Merging.{AreMerged}
 use Rattle.fault_collapse.proofs.joining.merge_all.Goals as goal

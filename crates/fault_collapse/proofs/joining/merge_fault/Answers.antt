@@ -1,6 +1,7 @@
 use Rattle.std.proofs.Common.{◌+◌, ◌*◌, arith}
 use Rattle.fault_universe.proofs.Elements.{slice_get_below}
-use Rattle.fault_universe.specs.Universe.{all_lines, universe_of}
+use Rattle.fault_universe.specs.Universe.{all_lines}
+use Rattle.statement.specs.Faults.{universe_of}
 use Rattle.fault_collapse.specs.inner.Merging.{stem_fault}
 use Rattle.fault_collapse.proofs.JoinedFaults.{joins, joins_no_other, none_made}
 use Rattle.fault_collapse.proofs.Stems.{stem_fault_at}

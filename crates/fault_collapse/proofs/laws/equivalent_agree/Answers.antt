@@ -1,6 +1,6 @@
 use Rattle.std.proofs.Common.{false}
 use Rattle.std.specs.Bool.{beq}
-use Rattle.netlist.specs.Settled.{bit_table}
+use Rattle.statement.specs.Values.{bit_table}
 use Rattle.netlist.proofs.Lists.{decides_beq}
 use Rattle.fault_collapse.proofs.laws.equivalent_agree.Goals as goal
 

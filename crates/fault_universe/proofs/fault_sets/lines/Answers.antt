@@ -1,5 +1,5 @@
 use Rattle.std.proofs.Common.{◌<◌, length, arith}
-use Rattle.netlist.specs.Netlist.{signals}
+use Rattle.statement.specs.Netlists.{signals}
 use Rattle.fault_universe.proofs.LineLists.{added}
 use Rattle.fault_universe.proofs.fault_sets.lines.Goals as goal
 

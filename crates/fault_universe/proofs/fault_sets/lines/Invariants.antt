@@ -1,7 +1,7 @@
 use Rattle.std.proofs.Common.{◌≡◌, take}
 use Rattle.std.specs.List.{flat_map}
-use Rattle.netlist.specs.Netlist.{signals}
-use Rattle.fault_universe.specs.Universe.{lines_of}
+use Rattle.statement.specs.Netlists.{signals}
+use Rattle.statement.specs.Faults.{lines_of}
 use Rattle.fault_universe.proofs.fault_sets.lines.Given as goal
 
 abbrev pub invariant-loop-x : goal.invariant-loop-x

@@ -1,8 +1,8 @@
 use Rattle.std.proofs.Common.{◌≡◌, ◌∙◌, ℕ, Some, ap}
 use Rattle.std.specs.List.{slice_get}
-use Rattle.netlist.specs.declared.lines.Fault.{Fault}
+use Rattle.statement.specs.declared.lines.Fault.{Fault}
 use Rattle.fault_universe.specs.inner.Written.{IsWritten}
-use Rattle.fault_universe.specs.Universe.{universe_of}
+use Rattle.statement.specs.Faults.{universe_of}
 use Rattle.fault_universe.proofs.Distinct.{distinct_faults, one_place}
 use Rattle.fault_universe.proofs.Elements.{contains_at}
 use Rattle.fault_universe.proofs.LineTexts.{same_fault}

@@ -1,6 +1,6 @@
 use Rattle.std.proofs.Common.{◌∙◌, ◌++◌, ap, sym}
 use Rattle.std.proofs.lemmas.Bool.{both_ways}
-use Rattle.fault_universe.specs.Texts.{value_text}
+use Rattle.statement.specs.Faults.{value_text}
 use Rattle.fault_universe.proofs.LineTexts.{no_fault, no_member}
 use Rattle.fault_universe.proofs.Members.{fault_is_member}
 use Rattle.fault_universe.proofs.named_faults.fault_named.Goals as goal

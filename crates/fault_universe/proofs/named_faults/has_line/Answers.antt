@@ -1,6 +1,6 @@
 use Rattle.std.proofs.Common.{◌<◌, length, refl, sym, subst}
 use Rattle.std.specs.List.{Contains}
-use Rattle.netlist.specs.Netlist.{signals}
+use Rattle.statement.specs.Netlists.{signals}
 use Rattle.fault_universe.specs.Universe.{all_lines}
 use Rattle.netlist.specs.Lines.{signal_of}
 use Rattle.fault_universe.proofs.Members.{stem_is_line}

@@ -1,5 +1,5 @@
 use Rattle.std.proofs.Common.{◌≢◌, ◌<◌, ℕ}
-use Rattle.netlist.specs.Netlist.{name_of}
+use Rattle.statement.specs.Netlists.{name_of}
 use Rattle.fault_universe.proofs.signal_names.signal_named.Given as goal
 
 abbrev pub invariant-loop-x : goal.invariant-loop-x

@@ -1,9 +1,9 @@
 use Rattle.std.proofs.Common.{List, subst, sym}
 use Rattle.std.specs.List.{All}
-use Rattle.netlist.specs.declared.lines.Fault.{Fault}
+use Rattle.statement.specs.declared.lines.Fault.{Fault}
 use Rattle.netlist.specs.Conditions.{IsSound}
 use Rattle.netlist.specs.Lines.{IsLineOf}
-use Rattle.netlist.specs.Netlist.{Netlist}
+use Rattle.statement.specs.Netlists.{Netlist}
 use Rattle.redundancy_cert.specs.declared.nodes.Node.{Node}
 use Rattle.certificate.specs.Certificates.{IsEvidence}
 use Rattle.file_check.proofs.findings.ends_of_class.Goals as goal

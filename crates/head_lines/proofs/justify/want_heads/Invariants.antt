@@ -1,6 +1,6 @@
 use Rattle.std.proofs.Common.{◌≡◌, take, length}
 use Rattle.std.specs.List.{All}
-use Rattle.netlist.specs.Netlist.{signals}
+use Rattle.statement.specs.Netlists.{signals}
 use Rattle.head_lines.specs.inner.Wanting.{IsHeadWant, AreHeadWants}
 use Rattle.head_lines.proofs.justify.want_heads.Given as goal
 

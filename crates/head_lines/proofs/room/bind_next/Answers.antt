@@ -1,6 +1,6 @@
 use Rattle.std.proofs.Common.{◌≡◌, ◌<◌, ◌∙◌, List, length, refl, ap, arith}
 use Rattle.std.proofs.lemmas.Bool.{both_ways}
-use Rattle.netlist.specs.Netlist.{signals}
+use Rattle.statement.specs.Netlists.{signals}
 use Rattle.netlist.proofs.Placed.{signal_below}
 use Rattle.head_lines.specs.declared.roles.Role.{Role}
 use Rattle.head_lines.specs.HeadLines.{role_at}

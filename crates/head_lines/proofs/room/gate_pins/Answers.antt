@@ -1,6 +1,7 @@
 use Rattle.std.proofs.Common.{◌≡◌, ◌∙◌, ◌<◌, true, false, length, ap, not, sym, arith}
 use Rattle.std.proofs.lemmas.Bool.{both_ways}
-use Rattle.netlist.specs.Netlist.{is_flip_flop, is_gate}
+use Rattle.statement.specs.Netlists.{is_flip_flop}
+use Rattle.netlist.specs.Netlist.{is_gate}
 use Rattle.head_lines.proofs.GateTests.{no_gate_low, gate_decided}
 use Rattle.head_lines.proofs.Chains.{pins_read, pins_all}
 use Rattle.head_lines.proofs.room.gate_pins.Goals as goal

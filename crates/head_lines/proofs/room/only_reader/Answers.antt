@@ -1,6 +1,6 @@
 use Rattle.std.proofs.Common.{◌≡◌, length, ap, sym, subst, arith}
 use Rattle.std.proofs.lemmas.Bool.{both_ways}
-use Rattle.netlist.specs.declared.lines.Line.TheVariants.{Stem, Pin, Out}
+use Rattle.statement.specs.declared.lines.Line.TheVariants.{Stem, Pin, Out}
 use Rattle.netlist.specs.Netlist.{IsGateAt}
 use Rattle.netlist.proofs.Placed.{signal_from}
 use Rattle.head_lines.proofs.Chains.{pin_same, stem_pin, out_pin, readers_not_one, no_pin_reads, pin_below, one_pin_reads}

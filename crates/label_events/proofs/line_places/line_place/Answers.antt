@@ -1,7 +1,7 @@
 use Rattle.std.proofs.Common.{◌≡◌, true, false, sym, ◌∙◌, ap, subst}
 use Rattle.std.specs.List.{Contains}
 use Rattle.netlist.specs.Conditions.{IsSound}
-use Rattle.netlist.specs.Netlist.{Netlist, is_flip_flop}
+use Rattle.statement.specs.Netlists.{Netlist, is_flip_flop}
 use Rattle.label_events.proofs.Places.{pin_defined, pin_inner, pin_read}
 use Rattle.label_events.proofs.line_places.line_place.Goals as goal
 

@@ -1,9 +1,10 @@
 use Rattle.std.proofs.Common.{◌≡◌, length, cond, List, sym, ◌∙◌, ap, subst, arith}
 use Rattle.std.proofs.lemmas.List.{length-map}
-use Rattle.netlist.specs.declared.kinds.Tri.{Tri}
-use Rattle.netlist.specs.Netlist.{Netlist}
+use Rattle.statement.specs.declared.kinds.Tri.{Tri}
+use Rattle.statement.specs.Netlists.{Netlist}
 use Rattle.netlist.specs.Conditions.{IsSound}
-use Rattle.netlist.specs.Settled.{at, outs, next}
+use Rattle.netlist.specs.Settled.{at}
+use Rattle.statement.specs.Values.{outs, next}
 use Rattle.scan_play.proofs.PlaySteps.{few_outputs}
 use Rattle.lane_play.specs.declared.packed.Lanes.{Lanes}
 use Rattle.lane_play.specs.inner.Lanes.{lanes_rule}

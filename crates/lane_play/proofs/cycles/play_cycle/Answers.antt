@@ -1,9 +1,10 @@
 use Rattle.std.proofs.Common.{length, List, sym, ◌∙◌, ap, subst}
 use Rattle.std.proofs.lemmas.List.{length-map}
-use Rattle.netlist.specs.Netlist.{Netlist, signals}
+use Rattle.statement.specs.Netlists.{Netlist, signals}
 use Rattle.netlist.specs.Conditions.{IsSound}
 use Rattle.netlist.specs.Orders.{IsOrder}
-use Rattle.netlist.specs.Settled.{Settles, at}
+use Rattle.statement.specs.Values.{Settles}
+use Rattle.netlist.specs.Settled.{at}
 use Rattle.scan_play.specs.Bursts.{cycle_of}
 use Rattle.lane_play.specs.declared.packed.Lanes.{Lanes}
 use Rattle.lane_play.specs.inner.Lanes.{always, lanes_rule}

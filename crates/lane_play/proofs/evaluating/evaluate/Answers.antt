@@ -1,8 +1,9 @@
 use Rattle.std.proofs.Common.{refl, ◌<◌, map, ap, ◌∙◌, length, arith}
 use Rattle.std.specs.List.{All}
 use Rattle.std.proofs.lemmas.List.{length-set}
-use Rattle.netlist.specs.declared.lines.Line.TheVariants.{Stem}
-use Rattle.netlist.specs.Settled.{at, on_pins}
+use Rattle.statement.specs.declared.lines.Line.TheVariants.{Stem}
+use Rattle.netlist.specs.Settled.{at}
+use Rattle.statement.specs.Values.{on_pins}
 use Rattle.netlist.proofs.Orders.{gate_below, gate_high}
 use Rattle.netlist.proofs.Settling.{pins_within, evaluated}
 use Rattle.lane_play.specs.inner.Lanes.{gate_lanes, lanes_rule}

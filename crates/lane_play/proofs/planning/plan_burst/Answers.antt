@@ -1,8 +1,9 @@
 use Rattle.std.proofs.Common.{◌++◌, List, length, map, sym, ◌∙◌, ap, subst, arith}
-use Rattle.netlist.specs.declared.kinds.Tri.{Tri}
-use Rattle.netlist.specs.Netlist.{Netlist, signals}
+use Rattle.statement.specs.declared.kinds.Tri.{Tri}
+use Rattle.statement.specs.Netlists.{Netlist, signals}
 use Rattle.netlist.specs.Orders.{IsOrder}
-use Rattle.netlist.specs.Settled.{Settles, at}
+use Rattle.statement.specs.Values.{Settles}
+use Rattle.netlist.specs.Settled.{at}
 use Rattle.scan_play.specs.Steps.{HasSteps}
 use Rattle.lane_play.specs.declared.packed.Lanes.{Lanes}
 use Rattle.lane_play.specs.inner.Lanes.{always, lanes_rule}

@@ -1,10 +1,10 @@
 use Rattle.std.proofs.Common.{◌≡◌, List, None, length, map, replicate, sym, ◌∙◌, ap, subst}
 use Rattle.std.proofs.lemmas.List.{length-map}
-use Rattle.netlist.specs.declared.lines.Fault.{Fault}
+use Rattle.statement.specs.declared.lines.Fault.{Fault}
 use Rattle.netlist.specs.Conditions.{IsSound}
-use Rattle.netlist.specs.Netlist.{Definition, Netlist, cells}
+use Rattle.statement.specs.Netlists.{Definition, Netlist, cells}
 use Rattle.scan_play.specs.Bursts.{all_cycles}
-use Rattle.scan_play.specs.Cycles.{Cycle}
+use Rattle.statement.specs.Runs.{Cycle}
 use Rattle.lane_play.specs.declared.packed.Lanes.{Lanes}
 use Rattle.lane_play.specs.inner.Steps.{ArePlayed}
 use Rattle.lane_play.proofs.PlayedLemmas.{judged_all, played_nothing}

@@ -1,7 +1,8 @@
 use Rattle.std.proofs.Common.{◌*◌, length, List, take, drop, sym, ◌∙◌, ap, subst}
 use Rattle.std.specs.List.{All}
 use Rattle.std.proofs.lemmas.List.{length-map}
-use Rattle.netlist.specs.Netlist.{Netlist, signals, IsGateAt}
+use Rattle.statement.specs.Netlists.{Netlist, signals}
+use Rattle.netlist.specs.Netlist.{IsGateAt}
 use Rattle.netlist.specs.Conditions.{IsSound}
 use Rattle.scan_play.specs.Bursts.{cycle_of}
 use Rattle.lane_play.specs.declared.packed.Lanes.{Lanes}

@@ -1,5 +1,5 @@
 use Rattle.std.proofs.Common.{◌≡◌, length, take}
-use Rattle.netlist.specs.Netlist.{cells}
+use Rattle.statement.specs.Netlists.{cells}
 use Rattle.scan_play.specs.Bursts.{cycles_of}
 use Rattle.lane_play.specs.inner.Shifts.{ArePlanned}
 use Rattle.lane_play.specs.inner.Steps.{ArePlayedBehind}

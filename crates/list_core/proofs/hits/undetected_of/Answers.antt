@@ -4,7 +4,7 @@ use Rattle.std.specs.List.{slice_get}
 use Rattle.std.proofs.lemmas.List.Elements.{All-push}
 use Rattle.std.proofs.lemmas.List.Quantifiers.{all_pairs_push}
 use Rattle.std.proofs.lemmas.Option.{slice_get_read, get_or_from_slice_get}
-use Rattle.netlist.specs.declared.lines.Fault.{Fault}
+use Rattle.statement.specs.declared.lines.Fault.{Fault}
 use Rattle.list_core.specs.declared.verdicts.Verdict.TheVariants.{Open}
 use Rattle.list_core.specs.Verdicts.{verdict_at, is_undetected}
 use Rattle.list_core.proofs.HitLemmas.{one_left, none_left, all_below}

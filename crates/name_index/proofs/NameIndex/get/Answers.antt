@@ -1,5 +1,6 @@
 use Rattle.std.proofs.Common.{◌≡◌, ◌≢◌, ◌<◌, ℕ, subst, sym, arith}
-use Rattle.netlist.specs.Netlist.{Netlist, name_of, signal_count}
+use Rattle.statement.specs.Netlists.{Netlist, name_of}
+use Rattle.netlist.specs.Netlist.{signal_count}
 use Rattle.netlist.proofs.WellFormed.{names_counted}
 use Rattle.name_index.proofs.NameLemmas.{found, found_nowhere}
 use Rattle.name_index.proofs.NameIndex.get.Goals as goal

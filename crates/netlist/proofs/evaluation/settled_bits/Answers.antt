@@ -1,5 +1,6 @@
 use Rattle.std.proofs.Common.{false, List, Bool, ap, ◌∙◌}
-use Rattle.netlist.specs.Settled.{at, bits, outs, next}
+use Rattle.netlist.specs.Settled.{at}
+use Rattle.statement.specs.Values.{bits, outs, next}
 use Rattle.netlist.proofs.evaluation.settled_bits.Goals as goal
 
 pub returns : goal.returns

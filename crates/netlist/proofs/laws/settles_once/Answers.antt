@@ -1,5 +1,5 @@
 use Rattle.std.proofs.Common.{◌≡◌}
-use Rattle.netlist.specs.Netlist.{signals}
+use Rattle.statement.specs.Netlists.{signals}
 use Rattle.netlist.proofs.Alike.{settles_once}
 use Rattle.netlist.proofs.Lists.{All-from_contains}
 use Rattle.netlist.proofs.laws.settles_once.Goals as goal

@@ -1,6 +1,6 @@
 use Rattle.std.proofs.Common.{◌≡◌, take, map}
 use Rattle.std.specs.List.{filter}
-use Rattle.netlist.specs.Netlist.{Definition, is_cell}
+use Rattle.statement.specs.Netlists.{Definition, is_cell}
 use Rattle.netlist.proofs.netlists.flip_flops.Given as goal
 
 abbrev pub invariant-loop-definition : goal.invariant-loop-definition

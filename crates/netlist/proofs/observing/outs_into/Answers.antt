@@ -1,6 +1,6 @@
 use Rattle.std.proofs.Common.{map, take, ap, sym, ◌∙◌, length, arith}
 use Rattle.std.proofs.lemmas.List.{get_or_default, take_all}
-use Rattle.netlist.specs.declared.lines.Line.TheVariants.{Out}
+use Rattle.statement.specs.declared.lines.Line.TheVariants.{Out}
 use Rattle.netlist.specs.Settled.{at}
 use Rattle.netlist.proofs.Observed.{output_below, output_more}
 use Rattle.netlist.proofs.observing.outs_into.Goals as goal

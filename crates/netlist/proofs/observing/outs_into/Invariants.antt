@@ -1,5 +1,5 @@
 use Rattle.std.proofs.Common.{◌≡◌, map, take}
-use Rattle.netlist.specs.declared.lines.Line.TheVariants.{Out}
+use Rattle.statement.specs.declared.lines.Line.TheVariants.{Out}
 use Rattle.netlist.specs.Settled.{at}
 use Rattle.netlist.proofs.observing.outs_into.Given as goal
 

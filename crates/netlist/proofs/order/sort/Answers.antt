@@ -1,10 +1,9 @@
 use Rattle.std.proofs.Common.{◌<◌, ◌+◌, ◌-◌, List, length, get_or, sym, subst, ◌∙◌, inl, inr, arith}
 use Rattle.std.proofs.lemmas.Bool.{cases_lt}
 use Rattle.std.proofs.lemmas.Option.{slice_get-get_or}
-use Rattle.netlist.specs.declared.lines.Line.{Line}
-use Rattle.netlist.specs.Netlist.{signals}
+use Rattle.statement.specs.declared.lines.Line.{Line}
+use Rattle.statement.specs.Netlists.{signals, readers_of}
 use Rattle.netlist.specs.Conditions.{whole}
-use Rattle.netlist.specs.Readers.{readers_of}
 use Rattle.netlist.specs.inner.Sorting.{AreBelow, Counts}
 use Rattle.netlist.proofs.ReaderRows.{are_below, row_below, row_is}
 use Rattle.netlist.proofs.Sorting.{gate_below, gate_visited, all_visited}

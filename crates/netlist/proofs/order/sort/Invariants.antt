@@ -1,5 +1,5 @@
 use Rattle.std.proofs.Common.{[], ◌+◌, ◌-◌, ◌≤◌, length}
-use Rattle.netlist.specs.Netlist.{signals}
+use Rattle.statement.specs.Netlists.{signals}
 use Rattle.netlist.specs.Conditions.{whole}
 use Rattle.netlist.specs.inner.Sorting.{HasRoom, IsCounted, placed_below}
 use Rattle.netlist.proofs.order.sort.Given as goal

@@ -1,6 +1,7 @@
 use Rattle.std.proofs.Common.{◌≡◌, ◌<◌, ◌+◌, List, ℕ, map, take, ap, sym, subst, ◌∙◌, length, get_or, arith}
 use Rattle.std.proofs.lemmas.List.{take_all, get_or_default}
-use Rattle.netlist.specs.Settled.{on_pins, at, AreRead}
+use Rattle.statement.specs.Values.{on_pins}
+use Rattle.netlist.specs.Settled.{at, AreRead}
 use Rattle.netlist.proofs.Settling.{read_more}
 use Rattle.netlist.proofs.rules.read_pins.Goals as goal
 

@@ -1,7 +1,7 @@
 use Rattle.std.proofs.Common.{◌<◌, ◌+◌, ℕ, List, ap, ◌∙◌, length, get_or, arith}
 use Rattle.std.proofs.lemmas.List.{get_or_read}
 use Rattle.std.proofs.lemmas.Grind.{common_steps}
-use Rattle.netlist.specs.Netlist.{Definition}
+use Rattle.statement.specs.Netlists.{Definition}
 use Rattle.netlist.proofs.Placed.{signals_length}
 use Rattle.netlist.proofs.Orders.{gates_few, gate_below, place_more, all_placed}
 use Rattle.netlist.proofs.schedules.places_of.Goals as goal

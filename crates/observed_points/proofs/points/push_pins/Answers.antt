@@ -1,6 +1,6 @@
 use Rattle.std.proofs.Common.{[], arith}
-use Rattle.netlist.specs.declared.kinds.Kind.TheVariants.{Dff}
-use Rattle.netlist.specs.Netlist.{Definition as Equation, cells}
+use Rattle.statement.specs.declared.kinds.Kind.TheVariants.{Dff}
+use Rattle.statement.specs.Netlists.{Definition as Equation, cells}
 use Rattle.netlist.proofs.Observed.{cell_at, the_cell, cell_within, the_pin}
 use Rattle.observed_points.proofs.PinLists.{pins_more}
 use Rattle.observed_points.proofs.points.push_pins.Goals as goal

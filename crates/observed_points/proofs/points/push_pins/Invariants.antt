@@ -1,5 +1,5 @@
 use Rattle.std.proofs.Common.{◌≡◌, ◌++◌, map, take, get_or}
-use Rattle.netlist.specs.Netlist.{Definition, cells}
+use Rattle.statement.specs.Netlists.{Definition, cells}
 use Rattle.observed_points.proofs.points.push_pins.Given as goal
 
 abbrev pub invariant-loop-cell : goal.invariant-loop-cell

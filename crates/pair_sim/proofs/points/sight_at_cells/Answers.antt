@@ -1,10 +1,11 @@
 use Rattle.std.proofs.Common.{◌≡◌, ℕ, take, ap, sym, ◌∙◌, length, subst, [], arith, List, refl}
 use Rattle.std.specs.List.{flat_map}
 use Rattle.std.proofs.lemmas.List.{get_or_default, take_all, length-map}
-use Rattle.netlist.specs.declared.kinds.Kind.TheVariants.{Dff}
-use Rattle.netlist.specs.declared.lines.Line.TheVariants.{Pin}
-use Rattle.netlist.specs.Netlist.{Definition, cells}
-use Rattle.netlist.specs.Settled.{at, pins_of}
+use Rattle.statement.specs.declared.kinds.Kind.TheVariants.{Dff}
+use Rattle.statement.specs.declared.lines.Line.TheVariants.{Pin}
+use Rattle.statement.specs.Netlists.{Definition, cells}
+use Rattle.netlist.specs.Settled.{at}
+use Rattle.statement.specs.Values.{pins_of}
 use Rattle.netlist.proofs.Observed.{cell_at, the_cell, cell_within, the_pin, first_pin_below, next_more}
 use Rattle.tri.specs.declared.labels.Label.{Label}
 use Rattle.tri.specs.Labels.{labels, on_line}

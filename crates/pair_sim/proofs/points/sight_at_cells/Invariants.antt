@@ -1,7 +1,8 @@
 use Rattle.std.proofs.Common.{take}
 use Rattle.std.specs.List.{flat_map}
-use Rattle.netlist.specs.Netlist.{cells}
-use Rattle.netlist.specs.Settled.{at, pins_of}
+use Rattle.statement.specs.Netlists.{cells}
+use Rattle.netlist.specs.Settled.{at}
+use Rattle.statement.specs.Values.{pins_of}
 use Rattle.tri.specs.Labels.{Decisions, labels}
 use Rattle.pair_sim.specs.inner.Levels.{blank}
 use Rattle.pair_sim.specs.inner.Points.{IsSight}

@@ -1,6 +1,6 @@
 use Rattle.std.proofs.Common.{◌≡◌, ℕ, map, take, ap, sym, ◌∙◌, length, subst, ◌++◌, ◌∷◌, [], arith, List, None, refl}
 use Rattle.std.proofs.lemmas.List.{get_or_default, take_all, length-take-le, length-map}
-use Rattle.netlist.specs.declared.lines.Line.TheVariants.{Out}
+use Rattle.statement.specs.declared.lines.Line.TheVariants.{Out}
 use Rattle.netlist.specs.Settled.{at}
 use Rattle.netlist.proofs.Observed.{output_below, output_more}
 use Rattle.tri.specs.declared.labels.Label.{Label}

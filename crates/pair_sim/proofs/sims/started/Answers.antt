@@ -1,7 +1,7 @@
 use Rattle.std.proofs.Common.{◌≡◌, List, [], length, Some, Option, sym, ◌∙◌, ap, subst, vec_capacity, arith}
 use Rattle.std.proofs.lemmas.Bool.{both_ways}
-use Rattle.netlist.specs.declared.lines.Fault.{Fault}
-use Rattle.netlist.specs.Netlist.{Netlist, signals}
+use Rattle.statement.specs.declared.lines.Fault.{Fault}
+use Rattle.statement.specs.Netlists.{Netlist, signals}
 use Rattle.netlist.proofs.Placed.{signals_length}
 use Rattle.tri.specs.declared.labels.Label.{Label}
 use Rattle.tri.specs.Labels.{Decisions}

@@ -1,5 +1,5 @@
 use Rattle.std.proofs.Common.{◌++◌, List, Option, Some, refl, sym, ◌∙◌, ap, subst}
-use Rattle.netlist.specs.declared.lines.Fault.{Fault}
+use Rattle.statement.specs.declared.lines.Fault.{Fault}
 use Rattle.tri.specs.declared.labels.Label.{Label}
 use Rattle.events.specs.declared.trails.Change.{Change}
 use Rattle.events.specs.Trails.{AreChanges}

@@ -1,7 +1,7 @@
 use Rattle.std.proofs.Common.{◌∙◌, ℕ, List, map, sym, ap, subst}
 use Rattle.std.specs.List.{All, Contains}
 use Rattle.std.proofs.lemmas.List.Elements.{Contains-append_left, Contains-append_right}
-use Rattle.netlist.specs.Netlist.{Definition, Netlist, cells, signals}
+use Rattle.statement.specs.Netlists.{Definition, Netlist, cells, signals}
 use Rattle.pair_sim.specs.Sims.{Sim}
 use Rattle.podem.proofs.Owns.{inputs_signals, cells_signals}
 use Rattle.podem.specs.inner.Searching.{IsKnownAt}

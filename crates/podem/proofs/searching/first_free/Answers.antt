@@ -3,7 +3,7 @@ use Rattle.std.specs.List.{All, Contains}
 use Rattle.std.proofs.lemmas.Bool.{both_ways}
 use Rattle.std.proofs.lemmas.List.{take_all}
 use Rattle.std.proofs.lemmas.List.Elements.{All-more}
-use Rattle.netlist.specs.Netlist.{signals}
+use Rattle.statement.specs.Netlists.{signals}
 use Rattle.podem.specs.inner.Searching.{IsKnownAt}
 use Rattle.podem.proofs.searching.first_free.Goals as goal
 use Rattle.podem.proofs.searching.first_free.Goals.{in-X, in_default}

@@ -1,5 +1,5 @@
 use Rattle.std.proofs.Common.{◌+◌, ◌-◌, ◌*◌, ◌≤◌, length}
-use Rattle.netlist.specs.Netlist.{signals}
+use Rattle.statement.specs.Netlists.{signals}
 use Rattle.redundancy_cert.specs.Stacks.{path_of_stack}
 use Rattle.decisions.specs.Standing.{SearchesAt}
 use Rattle.decisions.specs.Turns.{undecided}

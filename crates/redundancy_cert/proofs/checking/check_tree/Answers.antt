@@ -1,6 +1,6 @@
 use Rattle.std.proofs.Common.{MatchResult, subst}
-use Rattle.netlist.specs.Holds.{Holds}
-use Rattle.netlist.specs.Netlist.{Netlist}
+use Rattle.statement.specs.Patterns.{Holds}
+use Rattle.statement.specs.Netlists.{Netlist}
 use Rattle.redundancy_cert.specs.Fits.{Fits, AreCounts, IsTreeFault}
 use Rattle.redundancy_cert.proofs.checking.check_tree.Goals as goal
 

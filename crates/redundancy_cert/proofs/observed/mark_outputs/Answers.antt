@@ -1,6 +1,6 @@
 use Rattle.std.proofs.Common.{◌+◌, ◌<◌, length, set, take, true, refl, ap, ◌∙◌, subst, arith}
 use Rattle.netlist.specs.Conditions.{IsSound}
-use Rattle.netlist.specs.Netlist.{Netlist}
+use Rattle.statement.specs.Netlists.{Netlist}
 use Rattle.netlist.proofs.Observed.{output_below}
 use Rattle.redundancy_cert.proofs.MarkLemmas.{marks_more, outputs_more}
 use Rattle.redundancy_cert.proofs.observed.mark_outputs.Goals as goal

@@ -1,9 +1,9 @@
 use Rattle.std.proofs.Common.{◌+◌, ◌<◌, ◌≤◌, [], List, length, map, set, take, true, refl, ap, sym, ◌∙◌, subst, arith}
 use Rattle.std.specs.List.{Contains, flat_map}
 use Rattle.std.proofs.lemmas.List.{take_all, length-map}
-use Rattle.netlist.specs.declared.kinds.Kind.TheVariants.{Dff}
+use Rattle.statement.specs.declared.kinds.Kind.TheVariants.{Dff}
 use Rattle.netlist.specs.Conditions.{IsSound}
-use Rattle.netlist.specs.Netlist.{Definition, Netlist, cells, signals}
+use Rattle.statement.specs.Netlists.{Definition, Netlist, cells, signals}
 use Rattle.netlist.proofs.Observed.{cell_at, the_cell, cell_within, the_pin, first_pin_below}
 use Rattle.redundancy_cert.specs.inner.Passing.{Marks}
 use Rattle.redundancy_cert.proofs.MarkLemmas.{marks_more, pins_more}

@@ -1,6 +1,6 @@
 use Rattle.std.proofs.Common.{take}
 use Rattle.std.specs.List.{flat_map}
-use Rattle.netlist.specs.Netlist.{Definition, cells}
+use Rattle.statement.specs.Netlists.{Definition, cells}
 use Rattle.redundancy_cert.specs.inner.Passing.{Marks}
 use Rattle.redundancy_cert.proofs.observed.mark_pins.Given as goal
 

@@ -1,5 +1,5 @@
 use Rattle.std.proofs.Common.{◌≡◌, ◌+◌, rules, length, ap, ◌∙◌, arith}
-use Rattle.netlist.specs.Netlist.{Netlist, signals}
+use Rattle.statement.specs.Netlists.{Netlist, signals}
 use Rattle.netlist.proofs.Placed.{signals_length}
 use Rattle.redundancy_cert.proofs.MarkLemmas.{observed_from}
 use Rattle.redundancy_cert.proofs.observed.observed_marks.Goals as goal

@@ -1,6 +1,6 @@
 use Rattle.std.proofs.Common.{◌<◌, List, ℕ, length, sym, subst}
 use Rattle.std.specs.List.{All}
-use Rattle.netlist.specs.declared.kinds.Kind.{Kind}
+use Rattle.statement.specs.declared.kinds.Kind.{Kind}
 use Rattle.regions.specs.inner.Controlled.{AreControlled}
 use Rattle.regions.proofs.PathWords.{gate_low, pins_low}
 use Rattle.regions.proofs.paths.open_gate.Goals as goal

@@ -1,5 +1,5 @@
 use Rattle.std.proofs.Common.{◌≡◌, ◌<◌, length, get_or, set, refl, sym, ◌∙◌, ap, subst, arith, bit_and}
-use Rattle.netlist.specs.Netlist.{signals}
+use Rattle.statement.specs.Netlists.{signals}
 use Rattle.events.specs.Words.{bit_of}
 use Rattle.regions.specs.Paths.{AreOpen, IsReadOnlyAt}
 use Rattle.regions.specs.Sensitized.{is_noncontrolling}

@@ -1,5 +1,5 @@
 use Rattle.report.specs.Reports.{IsLine}
-use Rattle.report.specs.Texts.{fault_line}
+use Rattle.statement.specs.Reports.{fault_line}
 use Rattle.report.specs.inner.Lines.{fault_words}
 use Rattle.report.proofs.LineLemmas.{no_end, no_words}
 use Rattle.report.proofs.OutcomeLemmas.{fault_lined}

@@ -1,7 +1,7 @@
 use Rattle.std.proofs.Common.{ap, arith, length, sym, ◌∙◌}
 use Rattle.std.proofs.lemmas.Bool.Decides.{nat_tests}
 use Rattle.report.specs.Reports.{IsLine}
-use Rattle.report.specs.Texts.{fault_line}
+use Rattle.statement.specs.Reports.{fault_line}
 use Rattle.report.proofs.LineLemmas.{next_read, next_valid}
 use Rattle.report.proofs.WholeLemmas.{faults_told}
 use Rattle.report.proofs.reading.fault_lines.Goals as goal

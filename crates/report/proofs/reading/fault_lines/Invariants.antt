@@ -1,7 +1,7 @@
 use Rattle.std.proofs.Common.{◌≡◌, ◌++◌, length}
 use Rattle.std.specs.List.{All, flat_map}
 use Rattle.report.specs.Reports.{IsLine}
-use Rattle.report.specs.Texts.{fault_line}
+use Rattle.statement.specs.Reports.{fault_line}
 use Rattle.report.proofs.reading.fault_lines.Given as goal
 
 abbrev pub invariant-faults : goal.invariant-faults

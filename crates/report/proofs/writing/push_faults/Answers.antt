@@ -1,4 +1,4 @@
-use Rattle.report.specs.Texts.{fault_line}
+use Rattle.statement.specs.Reports.{fault_line}
 use Rattle.report.proofs.WriteLemmas.{next_written}
 use Rattle.report.proofs.writing.push_faults.Goals as goal
 

@@ -1,6 +1,6 @@
 use Rattle.std.proofs.Common.{◌≡◌, ◌++◌, take}
 use Rattle.std.specs.List.{flat_map}
-use Rattle.report.specs.Texts.{fault_line}
+use Rattle.statement.specs.Reports.{fault_line}
 use Rattle.report.proofs.writing.push_faults.Given as goal
 
 abbrev pub invariant-loop-k : goal.invariant-loop-k

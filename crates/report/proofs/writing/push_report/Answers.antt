@@ -1,8 +1,9 @@
 use Rattle.std.proofs.Common.{◌++◌, ◌∙◌, ℕ, List, ap, codes}
 use Rattle.std.specs.List.{flat_map}
 use Rattle.report.specs.declared.counts.ReportCounts.{ReportCounts}
-use Rattle.report.specs.Reports.{Line, Hold}
-use Rattle.report.specs.Texts.{head, counts_text, share_line, hold_line, fault_line}
+use Rattle.statement.specs.Reports.{Line, fault_line}
+use Rattle.report.specs.Reports.{Hold}
+use Rattle.report.specs.Texts.{head, counts_text, share_line, hold_line}
 use Rattle.report.proofs.WriteLemmas.{six_parts}
 use Rattle.report.proofs.writing.push_report.Goals as goal
 

@@ -1,8 +1,9 @@
 use Rattle.std.proofs.Common.{◌≡◌, List, length, subst, sym, ◌∙◌, ap, arith}
 use Rattle.std.specs.List.{All}
 use Rattle.std.proofs.lemmas.Result.{IfOk-weaker}
-use Rattle.fault_universe.specs.Universe.{universe_of}
-use Rattle.report.specs.Reports.{Line, Report}
+use Rattle.statement.specs.Faults.{universe_of}
+use Rattle.statement.specs.Reports.{Line}
+use Rattle.report.specs.Reports.{Report}
 use Rattle.list_core.specs.declared.verdicts.Verdict.{Verdict}
 use Rattle.run_files.specs.inner.Outcomes.{AreLines}
 use Rattle.run_files.specs.inner.Reports.{IsReported, IsSaid}

@@ -1,7 +1,8 @@
 use Rattle.std.proofs.Common.{◌≡◌, ◌++◌, ◌∷◌, [], ◌∙◌, ℕ, List, ap, subst, sym}
 use Rattle.std.proofs.lemmas.Result.{IfOk-weaker}
-use Rattle.fault_universe.specs.Texts.{fault_text}
-use Rattle.report.specs.Reports.{IsFaultText, Line}
+use Rattle.statement.specs.Faults.{fault_text}
+use Rattle.report.specs.Reports.{IsFaultText}
+use Rattle.statement.specs.Reports.{Line}
 use Rattle.run_files.specs.inner.Outcomes.{IsAdded}
 use Rattle.run_files.proofs.LineLemmas.{fault_said}
 use Rattle.run_files.proofs.lines.add_line.Goals as goal

@@ -1,8 +1,8 @@
 use Rattle.std.proofs.Common.{◌≡◌, ◌<◌, List, length, get_or, Some, subst, ◌∙◌, ap, arith}
 use Rattle.std.specs.List.{slice_get}
 use Rattle.std.proofs.lemmas.List.Elements.{All-get_or}
-use Rattle.netlist.specs.declared.lines.Fault.{Fault}
-use Rattle.fault_universe.specs.Universe.{universe_of}
+use Rattle.statement.specs.declared.lines.Fault.{Fault}
+use Rattle.statement.specs.Faults.{universe_of}
 use Rattle.fault_universe.proofs.Elements.{contains_at}
 use Rattle.run_files.proofs.LineLemmas.{lines_more}
 use Rattle.run_files.proofs.lines.lines_within.Goals as goal

@@ -1,5 +1,5 @@
 use Rattle.std.proofs.Common.{subst, arith, false}
-use Rattle.netlist.specs.declared.lines.Line.TheVariants.{Stem}
+use Rattle.statement.specs.declared.lines.Line.TheVariants.{Stem}
 use Rattle.netlist.specs.Conditions.{IsSound}
 use Rattle.run_files.proofs.PointLemmas.{have_lines}
 use Rattle.run_files.proofs.SearchLemmas.{few_classes}

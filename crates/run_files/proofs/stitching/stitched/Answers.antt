@@ -1,7 +1,7 @@
 use Rattle.std.proofs.Common.{◌≡◌, ℕ, List, length, ap, ◌∙◌, arith}
 use Rattle.std.proofs.lemmas.List.{length-map}
 use Rattle.std.proofs.lemmas.Result.{IfOk-weaker}
-use Rattle.netlist.specs.Netlist.{Definition, cells}
+use Rattle.statement.specs.Netlists.{Definition, cells}
 use Rattle.netlist.proofs.Settling.{cells_distinct}
 use Rattle.scan_insert.specs.Chains.{chains_of}
 use Rattle.scan_play.proofs.ApplyLemmas.{few_cells}

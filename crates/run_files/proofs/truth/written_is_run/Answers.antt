@@ -1,12 +1,11 @@
 use Rattle.std.proofs.Common.{◌≡◌, ℕ, ◌<◌, List, length, subst, sym}
-use Rattle.netlist.specs.Holds.{Holds}
-use Rattle.cubes.specs.Cubes.{Pattern}
+use Rattle.statement.specs.Patterns.{Holds, Pattern}
 use Rattle.fault_collapse.specs.Numbers.{Classes}
 use Rattle.list_core.specs.Kept.{IsNeeded}
-use Rattle.good_files.specs.GoodFiles.{FiveFiles, chains_said}
+use Rattle.statement.specs.Statement.{FiveFiles, Statement}
+use Rattle.good_files.specs.GoodFiles.{chains_said}
 use Rattle.good_files.specs.RunTheorem.{RunTheorem, as_written}
 use Rattle.good_files.specs.ScanOff.{design_chains}
-use Rattle.good_files.specs.Statement.{Statement}
 use Rattle.run_files.specs.Runs.{contents_of, files_of}
 use Rattle.run_files.proofs.truth.written_is_run.Goals as goal
 

@@ -1,6 +1,6 @@
 use Rattle.std.proofs.Common.{◌≡◌, ◌+◌, ◌-◌, length, ◌∙◌, ap, arith}
 use Rattle.std.proofs.lemmas.List.{length-map}
-use Rattle.netlist.specs.Netlist.{Definition, cells, gates}
+use Rattle.statement.specs.Netlists.{Definition, cells, gates}
 use Rattle.run_report.proofs.ListLemmas.{gates_and_cells}
 use Rattle.run_report.proofs.heads.counts_with.Goals as goal
 

@@ -1,5 +1,5 @@
 use Rattle.std.proofs.Common.{arith}
-use Rattle.report.specs.Reports.{Line}
+use Rattle.statement.specs.Reports.{Line}
 use Rattle.run_report.specs.Heads.{one_if_aborted, one_if_detected, one_if_redundant}
 use Rattle.run_report.proofs.ListLemmas.{counted_more, one_kind}
 use Rattle.run_report.proofs.heads.tally_of.Goals as goal

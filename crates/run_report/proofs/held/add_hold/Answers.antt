@@ -1,7 +1,7 @@
 use Rattle.std.proofs.Common.{◌≡◌, ◌++◌, ◌∷◌, [], sym, ◌∙◌, ap}
 use Rattle.std.proofs.lemmas.Result.{IfOk-weaker}
 use Rattle.std.proofs.lemmas.Option.{get_or_from_slice_get}
-use Rattle.netlist.specs.Netlist.{name_of}
+use Rattle.statement.specs.Netlists.{name_of}
 use Rattle.run_report.specs.Heads.{hold_at}
 use Rattle.run_report.proofs.held.add_hold.Goals as goal
 

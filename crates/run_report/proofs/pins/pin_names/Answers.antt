@@ -1,5 +1,5 @@
 use Rattle.std.proofs.Common.{length, map, ◌∙◌, ap, arith, take_all}
-use Rattle.scan_insert.specs.Names.{output_name}
+use Rattle.statement.specs.Runs.{output_name}
 use Rattle.run_report.proofs.WordLemmas.{pin_words}
 use Rattle.scan_play.proofs.PlaySteps.{few_outputs}
 use Rattle.run_report.proofs.pins.pin_names.Goals as goal

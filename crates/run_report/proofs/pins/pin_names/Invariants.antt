@@ -1,5 +1,5 @@
 use Rattle.std.proofs.Common.{◌≡◌, map, take}
-use Rattle.scan_insert.specs.Names.{output_name}
+use Rattle.statement.specs.Runs.{output_name}
 use Rattle.run_report.proofs.pins.pin_names.Given as goal
 
 abbrev pub invariant-loop-output : goal.invariant-loop-output

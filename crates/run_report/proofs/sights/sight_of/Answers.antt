@@ -1,7 +1,7 @@
 use Rattle.std.proofs.Common.{length, ap, arith}
 use Rattle.std.proofs.lemmas.List.{length-map}
 use Rattle.fault_universe.proofs.Elements.{contains_at}
-use Rattle.scan_insert.specs.Names.{output_name}
+use Rattle.statement.specs.Runs.{output_name}
 use Rattle.scan_insert.specs.Scanned.{scanned_of}
 use Rattle.run_report.proofs.SightLemmas.{is_output, pin_at}
 use Rattle.run_report.proofs.sights.sight_of.Goals as goal

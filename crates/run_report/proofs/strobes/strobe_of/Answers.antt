@@ -1,7 +1,7 @@
 use Rattle.std.proofs.Common.{◌+◌, ◌<◌, ℕ, List, length, sym, ap, subst, arith}
 use Rattle.std.proofs.lemmas.Option.{slice_get_within}
-use Rattle.netlist.specs.declared.lines.Point.{Point}
-use Rattle.scan_play.specs.Vectors.{IsStrobedAt}
+use Rattle.statement.specs.declared.lines.Point.{Point}
+use Rattle.statement.specs.Tests.{IsStrobedAt}
 use Rattle.scan_play.proofs.PlaySteps.{few_outputs}
 use Rattle.run_report.specs.Strobes.{IsPointOf}
 use Rattle.run_report.proofs.CycleLemmas.{longest_small, chain_small, chains_small, has_cell, same_chain, cell_at, at_unload}

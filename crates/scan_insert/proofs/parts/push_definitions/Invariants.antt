@@ -1,6 +1,6 @@
 use Rattle.std.proofs.Common.{◌≡◌, ◌++◌, ◌+◌, drop, length}
 use Rattle.std.specs.List.{filter}
-use Rattle.netlist.specs.Netlist.{is_cell}
+use Rattle.statement.specs.Netlists.{is_cell}
 use Rattle.scan_insert.specs.inner.Made.{scan_definitions}
 use Rattle.scan_insert.proofs.parts.push_definitions.Given as goal
 

@@ -1,6 +1,6 @@
 use Rattle.std.proofs.Common.{◌++◌, ◌+◌, ◌∷◌, [], refl, ◌∙◌, ap}
 use Rattle.std.proofs.lemmas.List.{append_assoc}
-use Rattle.scan_insert.specs.Names.{numbers_from}
+use Rattle.statement.specs.Runs.{numbers_from}
 use Rattle.scan_insert.proofs.Numbers.{then_one}
 use Rattle.scan_insert.proofs.parts.push_numbers.Goals as goal
 

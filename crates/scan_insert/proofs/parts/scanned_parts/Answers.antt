@@ -1,9 +1,11 @@
 use Rattle.std.proofs.Common.{◌≡◌, ◌<◌, ◌+◌, ◌*◌, ◌∷◌, [], ◌++◌, length, map, subst, sym, ◌∙◌, ap, ℕ, List, arith}
 use Rattle.std.specs.List.{All, zip}
 use Rattle.std.proofs.lemmas.List.{length-map}
-use Rattle.netlist.specs.declared.kinds.Kind.TheVariants.{Not}
-use Rattle.netlist.specs.Netlist.{Definition, cells, define}
-use Rattle.scan_insert.specs.Names.{names_of, numbers_from}
+use Rattle.statement.specs.declared.kinds.Kind.TheVariants.{Not}
+use Rattle.statement.specs.Netlists.{Definition, cells}
+use Rattle.netlist.specs.Netlist.{define}
+use Rattle.scan_insert.specs.Names.{names_of}
+use Rattle.statement.specs.Runs.{numbers_from}
 use Rattle.scan_insert.specs.Scan.{show_last}
 use Rattle.scan_insert.specs.Scanned.{befores, first_scan_out, last_of}
 use Rattle.scan_insert.specs.inner.Made.{held_at, scan_definitions, stem_at}

@@ -1,5 +1,5 @@
 use Rattle.std.proofs.Common.{◌≡◌, ◌++◌, ℕ, cond, List, codes, IfOk, sym, ◌∙◌, ap, subst}
-use Rattle.netlist.specs.Netlist.{name_of}
+use Rattle.statement.specs.Netlists.{name_of}
 use Rattle.scan_insert.proofs.Making.{name_read}
 use Rattle.scan_insert.proofs.pin_names.name_at_output.Goals as goal
 

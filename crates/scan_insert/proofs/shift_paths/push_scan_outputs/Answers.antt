@@ -1,8 +1,8 @@
 use Rattle.std.proofs.Common.{ℕ, ◌+◌, ◌<◌, List, [], ◌∷◌, ◌++◌, map, length, ◌∙◌, ap}
 use Rattle.std.specs.List.{zip}
 use Rattle.netlist.specs.Netlist.{define}
-use Rattle.netlist.specs.declared.kinds.Kind.TheVariants.{Buff}
-use Rattle.scan_insert.specs.Names.{numbers_from}
+use Rattle.statement.specs.declared.kinds.Kind.TheVariants.{Buff}
+use Rattle.statement.specs.Runs.{numbers_from}
 use Rattle.scan_insert.specs.Scan.{show_last}
 use Rattle.scan_insert.specs.Scanned.{last_of}
 use Rattle.scan_insert.specs.inner.Made.{held_at}

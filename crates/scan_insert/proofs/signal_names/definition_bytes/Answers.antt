@@ -1,5 +1,5 @@
 use Rattle.std.proofs.Common.{◌<◌, length, subst, sym, ℕ}
-use Rattle.netlist.specs.Netlist.{signals}
+use Rattle.statement.specs.Netlists.{signals}
 use Rattle.scan_insert.proofs.Making.{item_below}
 use Rattle.scan_insert.proofs.signal_names.definition_bytes.Goals as goal
 

@@ -1,6 +1,6 @@
 use Rattle.std.proofs.Common.{◌≡◌, ◌<◌, length, get_or, ◌∙◌, ap, subst, List, ℕ}
 use Rattle.std.proofs.lemmas.List.{get_or_read}
-use Rattle.netlist.specs.Netlist.{name_of}
+use Rattle.statement.specs.Netlists.{name_of}
 use Rattle.scan_insert.proofs.Making.{map_step, name_read}
 use Rattle.scan_insert.proofs.signal_names.push_inputs.Goals as goal
 

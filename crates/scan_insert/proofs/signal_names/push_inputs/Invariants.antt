@@ -1,5 +1,5 @@
 use Rattle.std.proofs.Common.{◌≡◌, ◌++◌, map, take}
-use Rattle.netlist.specs.Netlist.{name_of}
+use Rattle.statement.specs.Netlists.{name_of}
 use Rattle.scan_insert.proofs.signal_names.push_inputs.Given as goal
 
 abbrev pub invariant-loop-x : goal.invariant-loop-x

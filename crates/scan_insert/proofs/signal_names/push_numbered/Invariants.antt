@@ -1,5 +1,5 @@
 use Rattle.std.proofs.Common.{◌≡◌, ◌++◌, map, decimal}
-use Rattle.scan_insert.specs.Names.{numbers_from}
+use Rattle.statement.specs.Runs.{numbers_from}
 use Rattle.scan_insert.proofs.signal_names.push_numbered.Given as goal
 
 abbrev pub invariant-loop-c : goal.invariant-loop-c

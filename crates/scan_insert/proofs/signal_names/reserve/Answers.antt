@@ -1,5 +1,5 @@
 use Rattle.std.proofs.Common.{length, refl}
-use Rattle.netlist.specs.Netlist.{signals}
+use Rattle.statement.specs.Netlists.{signals}
 use Rattle.netlist.proofs.Settling.{cells_below}
 use Rattle.scan_insert.proofs.signal_names.reserve.Goals as goal
 

@@ -1,5 +1,5 @@
 use Rattle.std.proofs.Common.{◌<◌, [], length, sym, ap, arith}
-use Rattle.netlist.specs.Netlist.{signals}
+use Rattle.statement.specs.Netlists.{signals}
 use Rattle.scan_insert.specs.Scanned.{own_site}
 use Rattle.scan_insert.proofs.Making.{map_step}
 use Rattle.scan_insert.proofs.sites.own_sites.Goals as goal

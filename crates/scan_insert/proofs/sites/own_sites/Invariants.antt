@@ -1,5 +1,5 @@
 use Rattle.std.proofs.Common.{◌≡◌, map, take}
-use Rattle.netlist.specs.Netlist.{signals}
+use Rattle.statement.specs.Netlists.{signals}
 use Rattle.scan_insert.specs.Scanned.{own_site}
 use Rattle.scan_insert.proofs.sites.own_sites.Given as goal
 

@@ -1,6 +1,6 @@
 use Rattle.std.proofs.Common.{length, map, ◌∙◌, ap, subst, arith}
 use Rattle.std.proofs.lemmas.List.{length-map}
-use Rattle.netlist.specs.Netlist.{Netlist, Definition, cells}
+use Rattle.statement.specs.Netlists.{Netlist, Definition, cells}
 use Rattle.netlist.specs.Conditions.{IsSound}
 use Rattle.scan_play.proofs.Widths.{cells_count}
 use Rattle.scan_play.proofs.ApplyLemmas.{few_cells}

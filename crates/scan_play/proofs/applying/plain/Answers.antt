@@ -1,5 +1,5 @@
 use Rattle.std.proofs.Common.{◌∷◌, [], ap, ◌∙◌, sym, arith}
-use Rattle.scan_play.specs.Cycles.{Cycle}
+use Rattle.statement.specs.Runs.{Cycle}
 use Rattle.scan_play.proofs.ApplyLemmas.{plain_made, plain_unclocked}
 use Rattle.scan_play.proofs.applying.plain.Goals as goal
 

@@ -1,5 +1,6 @@
 use Rattle.std.proofs.Common.{false, None, List, Bool, ap, ◌∙◌, subst}
-use Rattle.netlist.specs.Settled.{Settles, at, bits, outs, next}
+use Rattle.statement.specs.Values.{Settles, bits, outs, next}
+use Rattle.netlist.specs.Settled.{at}
 use Rattle.scan_play.proofs.applying.respond.Goals as goal
 
 pub returns : goal.returns

@@ -1,6 +1,6 @@
 use Rattle.std.proofs.Common.{replicate, false, length, ◌∙◌, ap}
-use Rattle.netlist.specs.Netlist.{Netlist}
-use Rattle.scan_insert.specs.Chains.{cells_of}
+use Rattle.statement.specs.Netlists.{Netlist}
+use Rattle.statement.specs.Tests.{cells_of}
 use Rattle.scan_play.specs.Shifts.{load}
 use Rattle.scan_play.specs.inner.Applied.{flushing}
 use Rattle.scan_play.proofs.ApplyLemmas.{begun, begun_more, begun_done}

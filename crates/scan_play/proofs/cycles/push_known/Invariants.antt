@@ -1,5 +1,5 @@
 use Rattle.std.proofs.Common.{◌≡◌, ◌++◌, map, take}
-use Rattle.netlist.specs.ThreeValues.{known}
+use Rattle.statement.specs.Values.{known}
 use Rattle.scan_play.proofs.cycles.push_known.Given as goal
 
 abbrev pub invariant-loop-bit : goal.invariant-loop-bit

@@ -1,6 +1,6 @@
 use Rattle.std.proofs.Common.{false, true, refl, map, length, replicate, List, ℕ, ap, ◌∙◌}
-use Rattle.netlist.specs.declared.kinds.Tri.TheVariants.{X}
-use Rattle.scan_play.specs.Shifts.{by_chain, column, word_in, word_out}
+use Rattle.statement.specs.declared.kinds.Tri.TheVariants.{X}
+use Rattle.statement.specs.Tests.{by_chain, column, word_in, word_out}
 use Rattle.scan_play.proofs.BurstLemmas.{enough, column_width, load_cycles}
 use Rattle.scan_play.proofs.loading.load.Goals as goal
 

@@ -1,7 +1,7 @@
 use Rattle.std.proofs.Common.{◌<◌, [], length, sym, ◌∙◌, ap, arith}
 use Rattle.std.proofs.lemmas.Option.{get_or_from_slice_get}
 use Rattle.scan_insert.proofs.Making.{map_step}
-use Rattle.scan_play.specs.Shifts.{held_or_zero}
+use Rattle.statement.specs.Tests.{held_or_zero}
 use Rattle.scan_play.proofs.loading.shift_drive.Goals as goal
 
 pub loop-k-preserved : goal.loop-k-preserved

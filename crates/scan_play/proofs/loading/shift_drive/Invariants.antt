@@ -1,5 +1,5 @@
 use Rattle.std.proofs.Common.{◌≡◌, map, take}
-use Rattle.scan_play.specs.Shifts.{held_or_zero}
+use Rattle.statement.specs.Tests.{held_or_zero}
 use Rattle.scan_play.proofs.loading.shift_drive.Given as goal
 
 abbrev pub invariant-loop-k : goal.invariant-loop-k

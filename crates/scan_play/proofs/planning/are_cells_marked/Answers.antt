@@ -1,7 +1,7 @@
 use Rattle.std.proofs.Common.{◌≡◌, ◌+◌, true, List, length, take, ap, sym, subst, arith}
 use Rattle.std.specs.List.{All}
 use Rattle.std.proofs.lemmas.List.{take_all}
-use Rattle.netlist.specs.Netlist.{Definition, is_cell}
+use Rattle.statement.specs.Netlists.{Definition, is_cell}
 use Rattle.netlist.proofs.Lists.{filter_from}
 use Rattle.scan_play.specs.inner.Plans.{AreMarked}
 use Rattle.scan_play.proofs.PlanMarks.{all_more}

@@ -1,6 +1,6 @@
 use Rattle.std.proofs.Common.{take, ◌≡◌, true}
 use Rattle.std.specs.List.{All}
-use Rattle.netlist.specs.Netlist.{Definition, is_cell}
+use Rattle.statement.specs.Netlists.{Definition, is_cell}
 use Rattle.scan_play.specs.inner.Plans.{AreMarked}
 use Rattle.scan_play.proofs.planning.are_cells_marked.Given as goal
 

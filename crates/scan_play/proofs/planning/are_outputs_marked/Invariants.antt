@@ -1,5 +1,5 @@
 use Rattle.std.proofs.Common.{◌≡◌, ◌≢◌, ◌<◌, ℕ, true, Some, slice_get, get_or}
-use Rattle.netlist.specs.declared.kinds.Tri.TheVariants.{X}
+use Rattle.statement.specs.declared.kinds.Tri.TheVariants.{X}
 use Rattle.scan_play.proofs.planning.are_outputs_marked.Given as goal
 
 abbrev pub invariant-loop-k : goal.invariant-loop-k

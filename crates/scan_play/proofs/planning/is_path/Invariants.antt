@@ -1,6 +1,6 @@
 use Rattle.std.proofs.Common.{◌≡◌, ◌<◌, ℕ, take, get_or}
 use Rattle.std.specs.List.{All, Contains}
-use Rattle.netlist.specs.Netlist.{Definition, gates}
+use Rattle.statement.specs.Netlists.{Definition, gates}
 use Rattle.scan_play.specs.Steps.{IsReady}
 use Rattle.scan_play.specs.inner.Plans.{AreReady}
 use Rattle.scan_play.proofs.planning.is_path.Given as goal

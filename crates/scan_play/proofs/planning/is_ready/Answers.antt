@@ -1,6 +1,7 @@
 use Rattle.std.proofs.Common.{◌≡◌, true, ap, sym, ◌∙◌, inl, inr}
 use Rattle.std.proofs.lemmas.Bool.{not_from_false, not-true}
-use Rattle.netlist.specs.Netlist.{is_cell, is_flip_flop, is_gate}
+use Rattle.statement.specs.Netlists.{is_cell, is_flip_flop}
+use Rattle.netlist.specs.Netlist.{is_gate}
 use Rattle.netlist.proofs.Lists.{filter_contains}
 use Rattle.scan_play.proofs.PlanMarks.{cell_there}
 use Rattle.scan_play.proofs.planning.is_ready.Goals as goal

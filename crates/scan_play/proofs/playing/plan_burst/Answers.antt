@@ -1,8 +1,8 @@
 use Rattle.std.proofs.Common.{◌++◌, List, length, map, refl, ◌∙◌, ap, subst, arith}
-use Rattle.netlist.specs.declared.kinds.Tri.{Tri}
-use Rattle.netlist.specs.declared.kinds.Tri.TheVariants.{X}
-use Rattle.netlist.specs.Netlist.{Netlist}
-use Rattle.netlist.specs.ThreeValues.{known}
+use Rattle.statement.specs.declared.kinds.Tri.{Tri}
+use Rattle.statement.specs.declared.kinds.Tri.TheVariants.{X}
+use Rattle.statement.specs.Netlists.{Netlist}
+use Rattle.statement.specs.Values.{known}
 use Rattle.scan_play.specs.Steps.{HasSteps}
 use Rattle.scan_play.proofs.PlanLemmas.{planned_driven}
 use Rattle.scan_play.proofs.playing.plan_burst.Goals as goal

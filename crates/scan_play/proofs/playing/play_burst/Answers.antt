@@ -1,5 +1,5 @@
 use Rattle.std.proofs.Common.{List, IfOk, subst, arith}
-use Rattle.netlist.specs.declared.kinds.Tri.{Tri}
+use Rattle.statement.specs.declared.kinds.Tri.{Tri}
 use Rattle.scan_play.specs.Bursts.{cycles_of}
 use Rattle.scan_play.specs.inner.Steps.{PlaysOn}
 use Rattle.scan_play.proofs.PlanLemmas.{narrow}

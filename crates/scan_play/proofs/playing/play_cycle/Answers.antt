@@ -1,9 +1,10 @@
 use Rattle.std.proofs.Common.{length, List, refl, ◌∙◌, ap, subst}
-use Rattle.netlist.specs.declared.kinds.Tri.{Tri}
-use Rattle.netlist.specs.declared.kinds.Tri.TheVariants.{X}
-use Rattle.netlist.specs.Netlist.{Netlist}
+use Rattle.statement.specs.declared.kinds.Tri.{Tri}
+use Rattle.statement.specs.declared.kinds.Tri.TheVariants.{X}
+use Rattle.statement.specs.Netlists.{Netlist}
 use Rattle.netlist.specs.Conditions.{IsSound}
-use Rattle.netlist.specs.Settled.{Settles, at, outs}
+use Rattle.statement.specs.Values.{Settles, outs}
+use Rattle.netlist.specs.Settled.{at}
 use Rattle.tri.specs.Settled.{tris}
 use Rattle.scan_play.specs.Bursts.{cycle_of}
 use Rattle.scan_play.proofs.PlaySteps.{step_from}

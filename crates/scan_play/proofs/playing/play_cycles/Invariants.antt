@@ -1,5 +1,5 @@
 use Rattle.std.proofs.Common.{◌≡◌, length, take, None}
-use Rattle.netlist.specs.Netlist.{signals}
+use Rattle.statement.specs.Netlists.{signals}
 use Rattle.scan_play.specs.Bursts.{cycles_of}
 use Rattle.scan_play.specs.inner.Steps.{PlaysOn}
 use Rattle.scan_play.proofs.playing.play_cycles.Given as goal

@@ -1,9 +1,9 @@
 use Rattle.std.proofs.Common.{◌≡◌, length, List, replicate, map, ◌∙◌, ap, subst, sym}
 use Rattle.std.proofs.lemmas.List.{length-map}
-use Rattle.netlist.specs.declared.kinds.Tri.TheVariants.{X}
-use Rattle.netlist.specs.Netlist.{Netlist, Definition, cells}
+use Rattle.statement.specs.declared.kinds.Tri.TheVariants.{X}
+use Rattle.statement.specs.Netlists.{Netlist, Definition, cells}
 use Rattle.netlist.specs.Conditions.{IsSound}
-use Rattle.scan_play.specs.Cycles.{Cycle}
+use Rattle.statement.specs.Runs.{Cycle}
 use Rattle.scan_play.specs.inner.Steps.{PlaysOn}
 use Rattle.scan_play.proofs.PlayLemmas.{judged_as}
 use Rattle.scan_play.proofs.playing.play_from_unknown.Goals as goal

@@ -1,10 +1,12 @@
 use Rattle.std.proofs.Common.{◌*◌, length, List, take, drop, refl, sym, ◌∙◌, ap, subst}
 use Rattle.std.specs.List.{All}
-use Rattle.netlist.specs.declared.kinds.Tri.{Tri}
-use Rattle.netlist.specs.declared.kinds.Tri.TheVariants.{X}
-use Rattle.netlist.specs.Netlist.{Netlist, IsGateAt}
+use Rattle.statement.specs.declared.kinds.Tri.{Tri}
+use Rattle.statement.specs.declared.kinds.Tri.TheVariants.{X}
+use Rattle.statement.specs.Netlists.{Netlist}
+use Rattle.netlist.specs.Netlist.{IsGateAt}
 use Rattle.netlist.specs.Conditions.{IsSound}
-use Rattle.netlist.specs.Settled.{at, outs}
+use Rattle.netlist.specs.Settled.{at}
+use Rattle.statement.specs.Values.{outs}
 use Rattle.tri.specs.Settled.{tris}
 use Rattle.scan_play.specs.inner.Plans.{IsPlanned}
 use Rattle.scan_play.proofs.PlanLemmas.{shift_step, shift_planned}

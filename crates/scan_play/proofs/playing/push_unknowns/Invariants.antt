@@ -1,5 +1,5 @@
 use Rattle.std.proofs.Common.{◌≡◌, ◌++◌, replicate}
-use Rattle.netlist.specs.declared.kinds.Tri.TheVariants.{X}
+use Rattle.statement.specs.declared.kinds.Tri.TheVariants.{X}
 use Rattle.scan_play.proofs.playing.push_unknowns.Given as goal
 
 abbrev pub invariant-loop-done : goal.invariant-loop-done

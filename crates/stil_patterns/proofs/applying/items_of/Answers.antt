@@ -1,8 +1,7 @@
 use Rattle.std.proofs.Common.{◌++◌, length, replicate, false, ◌∙◌, ap, sym, subst, arith, List}
 use Rattle.std.proofs.Math.Seq.{take-length}
-use Rattle.scan_insert.specs.Chains.{cells_of}
-use Rattle.cubes.specs.Cubes.{Pattern}
-use Rattle.stil_vectors.specs.TestFiles.{load_items}
+use Rattle.statement.specs.Tests.{cells_of, load_items}
+use Rattle.statement.specs.Patterns.{Pattern}
 use Rattle.stil_patterns.specs.inner.Added.{AreBegun}
 use Rattle.stil_patterns.proofs.AddLemmas.{begun_done}
 use Rattle.stil_patterns.proofs.applying.items_of.Goals as goal

@@ -1,8 +1,8 @@
 use Rattle.std.proofs.Common.{◌++◌, ◌∷◌, [], ◌∙◌, ap, sym, map, List, Bool, ℕ}
-use Rattle.netlist.specs.declared.kinds.Tri.{Tri}
-use Rattle.netlist.specs.ThreeValues.{known}
+use Rattle.statement.specs.declared.kinds.Tri.{Tri}
+use Rattle.statement.specs.Values.{known}
 use Rattle.events.specs.Words.{bit_of}
-use Rattle.stil_vectors.specs.TestFiles.{capture_item, load_items}
+use Rattle.statement.specs.Tests.{capture_item, load_items}
 use Rattle.stil_patterns.specs.inner.Added.{response_at}
 use Rattle.stil_patterns.proofs.AddLemmas.{two_added}
 use Rattle.stil_patterns.proofs.applying.push_test.Goals as goal

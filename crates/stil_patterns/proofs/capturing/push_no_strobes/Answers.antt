@@ -1,7 +1,7 @@
 use Rattle.std.proofs.Common.{◌++◌, ◌∷◌, [], ◌∙◌, ap, List, replicate}
-use Rattle.plain_text.specs.Texts.{Text}
-use Rattle.netlist.specs.declared.kinds.Tri.TheVariants.{X}
-use Rattle.stil_vectors.specs.TestFiles.{char_of_value}
+use Rattle.statement.specs.Benches.{Text}
+use Rattle.statement.specs.declared.kinds.Tri.TheVariants.{X}
+use Rattle.statement.specs.Tests.{char_of_value}
 use Rattle.stil_patterns.proofs.AddLemmas.{unstrobed}
 use Rattle.stil_patterns.proofs.capturing.push_no_strobes.Goals as goal
 

@@ -1,6 +1,6 @@
 use Rattle.std.proofs.Common.{◌≡◌, ◌++◌, replicate}
-use Rattle.netlist.specs.declared.kinds.Tri.TheVariants.{X}
-use Rattle.stil_vectors.specs.TestFiles.{char_of_value}
+use Rattle.statement.specs.declared.kinds.Tri.TheVariants.{X}
+use Rattle.statement.specs.Tests.{char_of_value}
 use Rattle.stil_patterns.proofs.capturing.push_unstrobed.Given as goal
 
 abbrev pub invariant-loop : goal.invariant-loop

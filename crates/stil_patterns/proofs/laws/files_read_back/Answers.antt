@@ -1,4 +1,4 @@
-use Rattle.stil_write.specs.Texts.{stil_text}
+use Rattle.statement.specs.Stils.{stil_text}
 use Rattle.stil_patterns.proofs.FileLemmas.{test_is_file}
 use Rattle.stil_patterns.proofs.laws.files_read_back.Goals as goal
 

@@ -1,8 +1,7 @@
 use Rattle.std.proofs.Common.{◌≡◌, ◌+◌, ◌-◌, ◌≤◌, length, map, take, drop, ap, ◌∙◌, ◌++◌, arith, length-take, List}
 use Rattle.std.proofs.lemmas.List.{take_all}
-use Rattle.plain_text.specs.Texts.{Text}
-use Rattle.scan_insert.specs.Chains.{longest_of}
-use Rattle.scan_play.specs.Shifts.{by_chain, word_in}
+use Rattle.statement.specs.Benches.{Text}
+use Rattle.statement.specs.Tests.{longest_of, by_chain, word_in}
 use Rattle.scan_play.proofs.LoadLemmas.{start_more, start_within, chain_short}
 use Rattle.stil_vectors.specs.TestFiles.{text_of_bits}
 use Rattle.stil_patterns.proofs.WordLemmas.{words_more}

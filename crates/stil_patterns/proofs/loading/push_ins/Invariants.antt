@@ -1,6 +1,5 @@
 use Rattle.std.proofs.Common.{◌≡◌, ◌++◌, length, map, take}
-use Rattle.scan_insert.specs.Chains.{cells_of, longest_of}
-use Rattle.scan_play.specs.Shifts.{by_chain, word_in}
+use Rattle.statement.specs.Tests.{cells_of, longest_of, by_chain, word_in}
 use Rattle.stil_vectors.specs.TestFiles.{text_of_bits}
 use Rattle.stil_patterns.proofs.loading.push_ins.Given as goal
 

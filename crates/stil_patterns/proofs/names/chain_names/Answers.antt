@@ -1,8 +1,8 @@
 use Rattle.std.proofs.Common.{◌<◌, ◌++◌, ◌∙◌, ap, length, map, refl, arith, List, ℕ}
-use Rattle.plain_text.specs.Texts.{Text}
-use Rattle.netlist.specs.Netlist.{name_of, signals}
+use Rattle.statement.specs.Benches.{Text}
+use Rattle.statement.specs.Netlists.{name_of, signals}
 use Rattle.netlist.proofs.Settling.{cells_below}
-use Rattle.scan_insert.specs.Chains.{cells_of}
+use Rattle.statement.specs.Tests.{cells_of}
 use Rattle.scan_insert.proofs.Dealing.{stitched_cells}
 use Rattle.scan_insert.specs.Scanned.{cell_ids}
 use Rattle.scan_insert.proofs.Making.{cells_of_chain}

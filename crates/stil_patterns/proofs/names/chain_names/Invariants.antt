@@ -1,5 +1,5 @@
 use Rattle.std.proofs.Common.{◌≡◌, map, take}
-use Rattle.netlist.specs.Netlist.{name_of}
+use Rattle.statement.specs.Netlists.{name_of}
 use Rattle.stil_patterns.proofs.names.chain_names.Given as goal
 
 abbrev pub invariant-loop-c : goal.invariant-loop-c

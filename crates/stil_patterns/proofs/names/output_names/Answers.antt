@@ -1,7 +1,7 @@
 use Rattle.std.proofs.Common.{◌<◌, ◌∙◌, ap, length, arith}
 use Rattle.std.specs.Prelude.{slice_index}
 use Rattle.std.proofs.lemmas.List.{take_all}
-use Rattle.scan_insert.specs.Names.{output_name}
+use Rattle.statement.specs.Runs.{output_name}
 use Rattle.stil_vectors.proofs.FitLemmas.{output_at, output_small}
 use Rattle.stil_patterns.proofs.WordLemmas.{named_more}
 use Rattle.stil_patterns.proofs.names.output_names.Goals as goal

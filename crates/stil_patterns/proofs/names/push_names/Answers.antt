@@ -1,6 +1,6 @@
 use Rattle.std.proofs.Common.{[], sym}
 use Rattle.std.proofs.lemmas.Option.{get_or_from_slice_get}
-use Rattle.netlist.specs.Netlist.{name_of}
+use Rattle.statement.specs.Netlists.{name_of}
 use Rattle.stil_patterns.proofs.WordLemmas.{pushed_more}
 use Rattle.stil_patterns.proofs.names.push_names.Goals as goal
 

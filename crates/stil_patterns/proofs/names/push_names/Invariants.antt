@@ -1,5 +1,5 @@
 use Rattle.std.proofs.Common.{◌≡◌, ◌++◌, map, take}
-use Rattle.netlist.specs.Netlist.{name_of}
+use Rattle.statement.specs.Netlists.{name_of}
 use Rattle.stil_patterns.proofs.names.push_names.Given as goal
 
 abbrev pub invariant-loop-id : goal.invariant-loop-id

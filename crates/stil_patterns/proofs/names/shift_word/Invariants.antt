@@ -1,5 +1,5 @@
 use Rattle.std.proofs.Common.{◌≡◌, map, take}
-use Rattle.scan_play.specs.Shifts.{held_or_zero}
+use Rattle.statement.specs.Tests.{held_or_zero}
 use Rattle.stil_vectors.specs.TestFiles.{text_of_bits}
 use Rattle.stil_patterns.proofs.names.shift_word.Given as goal
 

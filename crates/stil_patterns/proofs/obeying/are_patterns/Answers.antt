@@ -2,7 +2,8 @@ use Rattle.std.proofs.Common.{List, subst}
 use Rattle.std.specs.List.{All}
 use Rattle.std.proofs.lemmas.List.{take_all}
 use Rattle.std.proofs.lemmas.List.Elements.{All-more}
-use Rattle.cubes.specs.Cubes.{Pattern, IsPatternOf}
+use Rattle.statement.specs.Patterns.{Pattern}
+use Rattle.cubes.specs.Cubes.{IsPatternOf}
 use Rattle.stil_patterns.proofs.obeying.are_patterns.Goals as goal
 
 pub loop-pattern-preserved : goal.loop-pattern-preserved

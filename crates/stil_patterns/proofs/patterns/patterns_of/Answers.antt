@@ -1,9 +1,10 @@
 use Rattle.std.proofs.Common.{◌≡◌, ◌∙◌, Bool, List, MatchBool, ap, sym, subst, length}
 use Rattle.std.specs.List.{All}
-use Rattle.netlist.specs.Netlist.{Netlist}
+use Rattle.statement.specs.Netlists.{Netlist}
 use Rattle.netlist.specs.Conditions.{IsSound}
-use Rattle.cubes.specs.Cubes.{Pattern, IsPatternOf}
-use Rattle.stil_patterns.specs.Tests.{IsFileOf}
+use Rattle.statement.specs.Patterns.{Pattern}
+use Rattle.cubes.specs.Cubes.{IsPatternOf}
+use Rattle.statement.specs.Tests.{IsFileOf}
 use Rattle.stil_patterns.proofs.OnceLemmas.{none_has, none_obey}
 use Rattle.stil_patterns.proofs.patterns.patterns_of.Goals as goal
 

@@ -1,5 +1,5 @@
 use Rattle.std.proofs.Common.{◌≡◌, ◌≤◌, ◌<◌, ◌∙◌, ◌+◌, ◌*◌, ap, drop, take, length, arith, List}
-use Rattle.plain_text.specs.Texts.{Text}
+use Rattle.statement.specs.Benches.{Text}
 use Rattle.stil_write.specs.StilFiles.{item_at, words_of}
 use Rattle.stil_vectors.specs.FileVectors.{bits_of}
 use Rattle.stil_patterns.specs.inner.Reading.{pattern_in, tests_in}

@@ -1,5 +1,5 @@
 use Rattle.std.proofs.Common.{◌≡◌, ◌++◌, map, take}
-use Rattle.netlist.specs.ThreeValues.{known}
+use Rattle.statement.specs.Values.{known}
 use Rattle.stil_vectors.specs.TestFiles.{text_of_values}
 use Rattle.stil_patterns.proofs.words.push_strobes.Given as goal
 

@@ -1,6 +1,5 @@
 use Rattle.std.proofs.Common.{◌≤◌, ◌<◌, false, length, arith}
-use Rattle.scan_play.specs.Shifts.{word_in}
-use Rattle.stil_vectors.specs.TestFiles.{char_of_bit}
+use Rattle.statement.specs.Tests.{word_in, char_of_bit}
 use Rattle.stil_patterns.proofs.FileLemmas.{length-word_in}
 use Rattle.stil_patterns.proofs.WordLemmas.{char_more, chars_end}
 use Rattle.stil_patterns.proofs.words.set_word_in.Goals as goal

@@ -1,5 +1,5 @@
 use Rattle.std.proofs.Common.{◌≡◌, take}
-use Rattle.scan_play.specs.Shifts.{word_in}
+use Rattle.statement.specs.Tests.{word_in}
 use Rattle.stil_vectors.specs.TestFiles.{text_of_bits}
 use Rattle.stil_patterns.proofs.words.set_word_in.Given as goal
 

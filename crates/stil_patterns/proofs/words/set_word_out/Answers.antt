@@ -1,7 +1,6 @@
 use Rattle.std.proofs.Common.{◌≤◌, ◌<◌, length, arith}
-use Rattle.netlist.specs.declared.kinds.Tri.TheVariants.{X}
-use Rattle.scan_play.specs.Shifts.{word_out}
-use Rattle.stil_vectors.specs.TestFiles.{char_of_value}
+use Rattle.statement.specs.declared.kinds.Tri.TheVariants.{X}
+use Rattle.statement.specs.Tests.{word_out, char_of_value}
 use Rattle.stil_patterns.proofs.FileLemmas.{length-word_out}
 use Rattle.stil_patterns.proofs.WordLemmas.{char_more, chars_end}
 use Rattle.stil_patterns.proofs.words.set_word_out.Goals as goal

@@ -1,5 +1,5 @@
 use Rattle.std.proofs.Common.{◌≡◌, take}
-use Rattle.scan_play.specs.Shifts.{word_out}
+use Rattle.statement.specs.Tests.{word_out}
 use Rattle.stil_vectors.specs.TestFiles.{text_of_values}
 use Rattle.stil_patterns.proofs.words.set_word_out.Given as goal
 

@@ -1,5 +1,5 @@
 use Rattle.std.proofs.Common.{◌≡◌, map, take}
-use Rattle.stil_write.specs.Pieces.{quoted}
+use Rattle.statement.specs.Stils.{quoted}
 use Rattle.stil_read.proofs.assigned.in_quotes.Given as goal
 
 abbrev pub invariant-loop-place : goal.invariant-loop-place

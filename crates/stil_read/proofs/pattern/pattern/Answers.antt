@@ -1,7 +1,6 @@
 use Rattle.std.proofs.Common.{ap, ◌∙◌, map, subst, List}
-use Rattle.plain_text.specs.Texts.{Text}
-use Rattle.stil_write.specs.Pieces.{quoted}
-use Rattle.stil_write.specs.Texts.{called}
+use Rattle.statement.specs.Benches.{Text}
+use Rattle.statement.specs.Stils.{quoted, called}
 use Rattle.stil_read.specs.Tokens.{tokens}
 use Rattle.stil_read.specs.inner.Items.{AreAllItems}
 use Rattle.stil_read.proofs.StepLemmas.{no_items_head}

@@ -1,6 +1,7 @@
 use Rattle.std.proofs.Common.{◌∙◌, ap, subst, sym}
 use Rattle.stil_write.specs.Parts.{file_of}
-use Rattle.stil_write.specs.StilFiles.{IsStilFile, StilFile}
+use Rattle.stil_write.specs.StilFiles.{IsStilFile}
+use Rattle.statement.specs.Stils.{StilFile}
 use Rattle.stil_read.specs.Tokens.{tokens}
 use Rattle.stil_read.specs.inner.Grammar.{IsSpelt}
 use Rattle.stil_read.proofs.ReadLemmas.{differs, no_file, not_found, stands}

@@ -1,5 +1,5 @@
 use Rattle.std.proofs.Common.{false, map, take, ◌∙◌, ap, ◌++◌}
-use Rattle.scan_play.specs.Shifts.{column}
+use Rattle.statement.specs.Tests.{column}
 use Rattle.scan_play.proofs.LoadLemmas.{flat_more}
 use Rattle.stil_write.specs.StilFiles.{item_at, words_of}
 use Rattle.stil_vectors.specs.FileVectors.{bits_of}

@@ -1,7 +1,7 @@
 use Rattle.std.proofs.Common.{◌≡◌, false, map, take}
 use Rattle.std.specs.List.{flat_map}
-use Rattle.scan_insert.specs.Names.{numbers_from}
-use Rattle.scan_play.specs.Shifts.{column}
+use Rattle.statement.specs.Runs.{numbers_from}
+use Rattle.statement.specs.Tests.{column}
 use Rattle.stil_write.specs.StilFiles.{item_at, words_of}
 use Rattle.stil_vectors.specs.FileVectors.{bits_of}
 use Rattle.stil_vectors.proofs.calls.all_ins.Given as goal

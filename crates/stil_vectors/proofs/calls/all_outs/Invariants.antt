@@ -1,8 +1,8 @@
 use Rattle.std.proofs.Common.{◌≡◌, map, drop}
 use Rattle.std.specs.List.{flat_map}
-use Rattle.netlist.specs.declared.kinds.Tri.TheVariants.{X}
-use Rattle.scan_insert.specs.Names.{numbers_from}
-use Rattle.scan_play.specs.Shifts.{column}
+use Rattle.statement.specs.declared.kinds.Tri.TheVariants.{X}
+use Rattle.statement.specs.Runs.{numbers_from}
+use Rattle.statement.specs.Tests.{column}
 use Rattle.stil_write.specs.StilFiles.{item_at, words_of}
 use Rattle.stil_vectors.specs.FileVectors.{values_of}
 use Rattle.stil_vectors.proofs.calls.all_outs.Given as goal

@@ -1,7 +1,8 @@
 use Rattle.std.proofs.Common.{◌++◌, ◌∙◌, ap, sym, refl, length, arith, replicate, List}
-use Rattle.plain_text.specs.Texts.{Text}
-use Rattle.netlist.specs.declared.kinds.Tri.TheVariants.{X}
-use Rattle.stil_write.specs.StilFiles.{Call, Item, item_at, words_of}
+use Rattle.statement.specs.Benches.{Text}
+use Rattle.statement.specs.declared.kinds.Tri.TheVariants.{X}
+use Rattle.statement.specs.Stils.{Call, Item}
+use Rattle.stil_write.specs.StilFiles.{item_at, words_of}
 use Rattle.stil_vectors.specs.FileVectors.{bits_of}
 use Rattle.stil_vectors.proofs.CallLemmas.{all_sized, call_cycles, ins_enough, outs_enough}
 use Rattle.stil_vectors.proofs.VectorLemmas.{call_facts}

@@ -1,7 +1,7 @@
 use Rattle.std.proofs.Common.{◌<◌, false, length, arith, ◌∙◌}
-use Rattle.plain_text.specs.Texts.{Text}
+use Rattle.statement.specs.Benches.{Text}
 use Rattle.stil_write.specs.StilFiles.{item_at, words_of}
-use Rattle.stil_vectors.specs.FileVectors.{driven_bit}
+use Rattle.statement.specs.Tests.{driven_bit}
 use Rattle.stil_vectors.proofs.CharLemmas.{all_at, chars_more}
 use Rattle.stil_vectors.proofs.calls.push_ins.Goals as goal
 

@@ -1,5 +1,5 @@
 use Rattle.std.proofs.Common.{◌≡◌, ◌++◌, false, map, take}
-use Rattle.scan_play.specs.Shifts.{column}
+use Rattle.statement.specs.Tests.{column}
 use Rattle.stil_write.specs.StilFiles.{item_at, words_of}
 use Rattle.stil_vectors.specs.FileVectors.{bits_of}
 use Rattle.stil_vectors.proofs.calls.push_ins.Given as goal

@@ -1,10 +1,10 @@
 use Rattle.std.proofs.Common.{◌≡◌, ◌<◌, ◌≤◌, ◌+◌, ◌-◌, ◌++◌, drop, take, map, length, arith, ◌∙◌, ap, subst, List}
 use Rattle.std.proofs.lemmas.List.{length-drop, take_all}
-use Rattle.plain_text.specs.Texts.{Text}
-use Rattle.netlist.specs.declared.kinds.Tri.TheVariants.{X}
-use Rattle.scan_play.specs.Shifts.{column}
+use Rattle.statement.specs.Benches.{Text}
+use Rattle.statement.specs.declared.kinds.Tri.TheVariants.{X}
+use Rattle.statement.specs.Tests.{column, strobed_value}
 use Rattle.stil_write.specs.StilFiles.{item_at, words_of}
-use Rattle.stil_vectors.specs.FileVectors.{strobed_value, values_of}
+use Rattle.stil_vectors.specs.FileVectors.{values_of}
 use Rattle.stil_vectors.proofs.CharLemmas.{all_at, behind_at, chars_more}
 use Rattle.stil_vectors.proofs.calls.push_outs.Goals as goal
 

@@ -1,6 +1,6 @@
 use Rattle.std.proofs.Common.{◌≡◌, ◌++◌, ◌-◌, map, take, drop}
-use Rattle.netlist.specs.declared.kinds.Tri.TheVariants.{X}
-use Rattle.scan_play.specs.Shifts.{column}
+use Rattle.statement.specs.declared.kinds.Tri.TheVariants.{X}
+use Rattle.statement.specs.Tests.{column}
 use Rattle.stil_write.specs.StilFiles.{item_at, words_of}
 use Rattle.stil_vectors.specs.FileVectors.{values_of}
 use Rattle.stil_vectors.proofs.calls.push_outs.Given as goal

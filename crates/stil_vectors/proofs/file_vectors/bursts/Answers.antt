@@ -1,8 +1,8 @@
 use Rattle.std.proofs.Common.{◌<◌, ◌≤◌, length, arith, ap, ◌∙◌, List}
 use Rattle.std.specs.List.{flat_map}
 use Rattle.std.proofs.lemmas.List.{take_all}
-use Rattle.stil_write.specs.StilFiles.{Item}
-use Rattle.stil_vectors.specs.FileVectors.{cycles_of_item}
+use Rattle.statement.specs.Stils.{Item}
+use Rattle.statement.specs.Tests.{cycles_of_item}
 use Rattle.stil_vectors.proofs.VectorLemmas.{bursts_more}
 use Rattle.stil_vectors.proofs.file_vectors.bursts.Goals as goal
 

@@ -1,7 +1,7 @@
 use Rattle.std.proofs.Common.{◌≡◌, take}
 use Rattle.std.specs.List.{flat_map}
 use Rattle.scan_play.specs.Bursts.{all_cycles}
-use Rattle.stil_vectors.specs.FileVectors.{cycles_of_item}
+use Rattle.statement.specs.Tests.{cycles_of_item}
 use Rattle.stil_vectors.proofs.file_vectors.bursts.Given as goal
 
 abbrev pub invariant-loop-place : goal.invariant-loop-place

@@ -1,5 +1,5 @@
 use Rattle.stil_write.specs.StilFiles.{item_at, words_of}
-use Rattle.stil_vectors.specs.FileVectors.{driven_bit}
+use Rattle.statement.specs.Tests.{driven_bit}
 use Rattle.stil_vectors.proofs.CharLemmas.{together_more}
 use Rattle.stil_vectors.proofs.file_vectors.driven.Goals as goal
 

@@ -1,8 +1,9 @@
 use Rattle.std.proofs.Common.{◌≡◌, ◌≤◌, ◌+◌, ◌-◌, drop, take, length, arith, ◌∙◌, ap, subst, List}
 use Rattle.std.proofs.lemmas.List.{length-drop, take_all}
-use Rattle.plain_text.specs.Texts.{Text}
+use Rattle.statement.specs.Benches.{Text}
 use Rattle.stil_write.specs.StilFiles.{item_at, words_of}
-use Rattle.stil_vectors.specs.FileVectors.{together, strobed_value, values_of}
+use Rattle.stil_vectors.specs.FileVectors.{together, values_of}
+use Rattle.statement.specs.Tests.{strobed_value}
 use Rattle.stil_vectors.proofs.CharLemmas.{behind_at, together_more}
 use Rattle.stil_vectors.proofs.file_vectors.strobed.Goals as goal
 

@@ -1,6 +1,8 @@
 use Rattle.std.proofs.Common.{◌≡◌, ◌+◌, ◌∙◌, ap, sym, subst, length, arith, take, drop, List}
-use Rattle.stil_write.specs.StilFiles.{Item, Vector, clock, item_at, words_of}
-use Rattle.stil_vectors.specs.FileVectors.{IsPulsed, bits_of, has_pulse, together, values_of}
+use Rattle.statement.specs.Stils.{Item, Vector, clock}
+use Rattle.stil_write.specs.StilFiles.{item_at, words_of}
+use Rattle.stil_vectors.specs.FileVectors.{IsPulsed, bits_of, together, values_of}
+use Rattle.statement.specs.Tests.{has_pulse}
 use Rattle.stil_vectors.proofs.VectorLemmas.{clock_count, vector_cycles, vector_facts}
 use Rattle.stil_vectors.proofs.file_vectors.vector_burst.Goals as goal
 

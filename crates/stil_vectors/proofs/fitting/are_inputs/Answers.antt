@@ -1,6 +1,6 @@
 use Rattle.std.proofs.Common.{◌≤◌, ◌∙◌, ap, sym, length, arith}
 use Rattle.std.proofs.lemmas.Option.{slice_get_read}
-use Rattle.netlist.specs.Netlist.{name_of}
+use Rattle.statement.specs.Netlists.{name_of}
 use Rattle.stil_vectors.proofs.FitLemmas.{got_at, input_within, named, names_differ, names_end, names_more, other_length, other_text, same_text}
 use Rattle.stil_vectors.proofs.fitting.are_inputs.Goals as goal
 

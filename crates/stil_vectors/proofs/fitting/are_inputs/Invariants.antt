@@ -1,5 +1,5 @@
 use Rattle.std.proofs.Common.{◌≡◌, map, take}
-use Rattle.netlist.specs.Netlist.{name_of}
+use Rattle.statement.specs.Netlists.{name_of}
 use Rattle.stil_vectors.proofs.fitting.are_inputs.Given as goal
 
 abbrev pub invariant-loop-place : goal.invariant-loop-place

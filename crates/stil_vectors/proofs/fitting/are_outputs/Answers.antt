@@ -1,6 +1,6 @@
 use Rattle.std.proofs.Common.{◌≤◌, ◌<◌, ◌∙◌, ap, sym, length, arith}
 use Rattle.std.specs.Prelude.{slice_index}
-use Rattle.scan_insert.specs.Names.{output_name}
+use Rattle.statement.specs.Runs.{output_name}
 use Rattle.stil_vectors.proofs.FitLemmas.{names_differ, names_end, names_more, other_length, other_text, output_at, output_small, same_text}
 use Rattle.stil_vectors.proofs.fitting.are_outputs.Goals as goal
 

@@ -1,5 +1,5 @@
 use Rattle.std.proofs.Common.{◌≡◌, map, take}
-use Rattle.scan_insert.specs.Names.{output_name}
+use Rattle.statement.specs.Runs.{output_name}
 use Rattle.stil_vectors.proofs.fitting.are_outputs.Given as goal
 
 abbrev pub invariant-loop-place : goal.invariant-loop-place

@@ -1,6 +1,6 @@
 use Rattle.std.proofs.Common.{◌≡◌, length, take}
 use Rattle.std.specs.List.{flat_map}
-use Rattle.stil_vectors.specs.FileVectors.{cycles_of_item}
+use Rattle.statement.specs.Tests.{cycles_of_item}
 use Rattle.stil_vectors.proofs.playing.cycle_count.Given as goal
 
 abbrev pub invariant-loop-place : goal.invariant-loop-place

@@ -1,5 +1,6 @@
 use Rattle.std.proofs.Common.{◌∙◌, ap, sym, List}
-use Rattle.stil_write.specs.StilFiles.{Call, Item, item_at, words_of}
+use Rattle.statement.specs.Stils.{Call, Item}
+use Rattle.stil_write.specs.StilFiles.{item_at, words_of}
 use Rattle.stil_vectors.proofs.PlayLemmas.{call_count}
 use Rattle.stil_vectors.proofs.VectorLemmas.{is_call}
 use Rattle.stil_vectors.proofs.playing.cycles_at.Goals as goal

@@ -1,6 +1,7 @@
 use Rattle.std.proofs.Common.{List, sym, subst}
 use Rattle.std.specs.List.{All}
-use Rattle.scan_play.specs.Cycles.{Cycle, IsCycleOf}
+use Rattle.statement.specs.Runs.{Cycle}
+use Rattle.scan_play.specs.Cycles.{IsCycleOf}
 use Rattle.stil_vectors.proofs.playing.play_file.Goals as goal
 
 pub play-requires-clause-fits : goal.play-requires-clause-fits

@@ -1,6 +1,7 @@
 use Rattle.std.proofs.Common.{[], arith, ◌∙◌}
 use Rattle.std.proofs.lemmas.Option.{slice_get-get_or}
-use Rattle.stil_write.specs.StilFiles.{IsItem, Vector, item_at}
+use Rattle.stil_write.specs.StilFiles.{IsItem, item_at}
+use Rattle.statement.specs.Stils.{Vector}
 use Rattle.stil_write.specs.Parts.{file_of}
 use Rattle.stil_write.proofs.FormLemmas.{item_by}
 use Rattle.stil_write.proofs.LoopLemmas.{all_at_end, all_more}

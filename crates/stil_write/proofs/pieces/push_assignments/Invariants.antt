@@ -1,5 +1,5 @@
 use Rattle.std.proofs.Common.{◌≡◌, ◌++◌, take}
-use Rattle.stil_write.specs.Pieces.{assignments}
+use Rattle.statement.specs.Stils.{assignments}
 use Rattle.stil_write.specs.StilFiles.{item_at, words_of}
 use Rattle.stil_write.proofs.pieces.push_assignments.Given as goal
 

@@ -1,4 +1,5 @@
-use Rattle.stil_write.specs.Pieces.{chain_end, chain_head, joined}
+use Rattle.stil_write.specs.Pieces.{chain_end, chain_head}
+use Rattle.statement.specs.Stils.{joined}
 use Rattle.std.proofs.Common.{codes, length, ◌++◌, ◌∙◌, ap}
 use Rattle.stil_write.proofs.LoopLemmas.{behind}
 use Rattle.stil_write.proofs.pieces.push_chain.Goals as goal

@@ -1,5 +1,5 @@
 use Rattle.std.proofs.Common.{◌≡◌, ◌++◌, take}
-use Rattle.stil_write.specs.Pieces.{chain_blocks}
+use Rattle.statement.specs.Stils.{chain_blocks}
 use Rattle.stil_write.proofs.pieces.push_chains.Given as goal
 
 abbrev pub invariant-loop-chain : goal.invariant-loop-chain

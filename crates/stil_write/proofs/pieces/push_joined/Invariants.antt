@@ -1,5 +1,5 @@
 use Rattle.std.proofs.Common.{◌≡◌, ◌++◌, take}
-use Rattle.stil_write.specs.Pieces.{joined}
+use Rattle.statement.specs.Stils.{joined}
 use Rattle.stil_write.proofs.pieces.push_joined.Given as goal
 
 abbrev pub invariant-loop-place : goal.invariant-loop-place

@@ -1,5 +1,5 @@
 use Rattle.std.proofs.Common.{◌≡◌, ◌++◌}
-use Rattle.stil_write.specs.StilFiles.{numbered}
+use Rattle.statement.specs.Stils.{numbered}
 use Rattle.stil_write.proofs.signals.push_numbered.Given as goal
 
 abbrev pub invariant-loop-chain : goal.invariant-loop-chain

@@ -1,5 +1,6 @@
 use Rattle.std.proofs.Common.{◌++◌, length}
-use Rattle.stil_write.specs.Texts.{burst_text, groups_text, head_text, pattern_text, procedures_by, signals_text, structures_text, timing_text}
+use Rattle.stil_write.specs.Texts.{burst_text, groups_text, head_text, pattern_text}
+use Rattle.statement.specs.Stils.{procedures_by, signals_text, structures_text, timing_text}
 use Rattle.stil_write.proofs.LoopLemmas.{behind}
 use Rattle.stil_write.proofs.writer.push_file.Goals as goal
 

@@ -1,5 +1,5 @@
 use Rattle.std.proofs.Common.{codes, ◌++◌, ◌∙◌, ap}
-use Rattle.stil_write.specs.Pieces.{group_line}
+use Rattle.statement.specs.Stils.{group_line}
 use Rattle.stil_write.proofs.LoopLemmas.{behind}
 use Rattle.stil_write.proofs.writer.push_groups.Goals as goal
 

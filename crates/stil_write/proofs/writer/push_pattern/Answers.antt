@@ -1,9 +1,8 @@
 use Rattle.std.proofs.Common.{ap, length, sym, subst, List, ◌∙◌}
 use Rattle.std.specs.List.{All}
-use Rattle.plain_text.specs.Texts.{Text}
-use Rattle.stil_write.specs.StilFiles.{Item}
+use Rattle.statement.specs.Benches.{Text}
+use Rattle.statement.specs.Stils.{Item, assigned, called}
 use Rattle.stil_write.specs.Pieces.{HasTargets}
-use Rattle.stil_write.specs.Texts.{assigned, called}
 use Rattle.stil_write.proofs.ItemLemmas.{have_targets}
 use Rattle.stil_write.proofs.writer.push_pattern.Goals as goal
 

@@ -1,8 +1,8 @@
 use Rattle.std.proofs.Common.{◌++◌, ◌∙◌, ap, codes, length, sym, List}
-use Rattle.plain_text.specs.Texts.{Text}
-use Rattle.stil_write.specs.StilFiles.{Item, Vector, item_at}
-use Rattle.stil_write.specs.Pieces.{item_text}
-use Rattle.stil_write.specs.Texts.{assigned, called, procedures_head, shift_words}
+use Rattle.statement.specs.Benches.{Text}
+use Rattle.statement.specs.Stils.{Item, Vector, item_text, assigned, called, shift_words}
+use Rattle.stil_write.specs.StilFiles.{item_at}
+use Rattle.stil_write.specs.Texts.{procedures_head}
 use Rattle.stil_write.proofs.LoopLemmas.{behind}
 use Rattle.stil_write.proofs.ShiftLemmas.{procedures_some, shift_item_targets}
 use Rattle.stil_write.proofs.writer.push_procedures.Goals as goal

@@ -1,6 +1,6 @@
 use Rattle.std.proofs.Common.{◌++◌, ◌∷◌, ◌∙◌, ap, codes, length, List}
-use Rattle.plain_text.specs.Texts.{Text}
-use Rattle.stil_write.specs.StilFiles.{clock, numbered, scan_inputs, scan_outputs, where_chained}
+use Rattle.statement.specs.Benches.{Text}
+use Rattle.statement.specs.Stils.{clock, numbered, scan_inputs, scan_outputs, where_chained}
 use Rattle.stil_write.specs.Pieces.{waveform_lines}
 use Rattle.stil_write.specs.Texts.{clock_form, drive_form, strobe_form, timing_head}
 use Rattle.stil_write.proofs.LoopLemmas.{behind}

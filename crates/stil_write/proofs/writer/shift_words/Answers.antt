@@ -1,5 +1,5 @@
 use Rattle.std.proofs.Common.{ap, length, ◌∙◌, ◌++◌, ◌∷◌, [], replicate}
-use Rattle.plain_text.specs.Texts.{Text}
+use Rattle.statement.specs.Benches.{Text}
 use Rattle.stil_write.proofs.ShiftLemmas.{made}
 use Rattle.stil_write.proofs.writer.shift_words.Goals as goal
 

@@ -1,6 +1,6 @@
 use Rattle.std.proofs.Common.{◌≡◌, ◌+◌, ◌<◌, ◌∷◌, ◌++◌, [], IsTrue, true, length, subst, arith, rules, get_or}
 use Rattle.std.specs.List.{All}
-use Rattle.netlist.specs.declared.lines.Fault.{Fault}
+use Rattle.statement.specs.declared.lines.Fault.{Fault}
 use Rattle.transition_batches.specs.Batches.{AreApart}
 use Rattle.transition.specs.inner.Gathered.{IsSlotOf}
 use Rattle.transition.proofs.BatchLemmas.{gathered_as, line_at, one_gathered}

@@ -1,7 +1,7 @@
 use Rattle.std.proofs.Common.{◌≤◌, IsTrue, length, subst, arith, rules}
 use Rattle.std.specs.List.{All}
 use Rattle.std.proofs.lemmas.List.{take_all}
-use Rattle.netlist.specs.declared.lines.Fault.{Fault}
+use Rattle.statement.specs.declared.lines.Fault.{Fault}
 use Rattle.transition_batches.specs.Batches.{AreApart}
 use Rattle.transition.proofs.BatchLemmas.{one_apart}
 use Rattle.transition.proofs.batching.is_apart.Goals as goal

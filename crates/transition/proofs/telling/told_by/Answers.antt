@@ -1,7 +1,7 @@
 use Rattle.std.proofs.Common.{◌≡◌, ◌∙◌, ◌+◌, ℕ, List, None, ap, sym, subst}
 use Rattle.std.specs.Option.{option_map}
 use Rattle.netlist.specs.Conditions.{IsSound}
-use Rattle.netlist.specs.Netlist.{Netlist}
+use Rattle.statement.specs.Netlists.{Netlist}
 use Rattle.word_sim.specs.inner.Packed.{AreGoodFor}
 use Rattle.observed_points.specs.Points.{point_of}
 use Rattle.transition.specs.inner.Launches.{IsLaunched}

@@ -1,6 +1,6 @@
 use Rattle.std.proofs.Common.{subst}
 use Rattle.std.proofs.lemmas.Option.{slice_get_within, get_or_from_slice_get}
-use Rattle.netlist.specs.declared.lines.Fault.{Fault}
+use Rattle.statement.specs.declared.lines.Fault.{Fault}
 use Rattle.netlist.specs.Lines.{IsLineOf}
 use Rattle.transition_batches.proofs.Evidence.{evidence_carries}
 use Rattle.transition_batches.proofs.laws.batch_carries.Goals as goal

@@ -1,5 +1,5 @@
 use Rattle.std.proofs.Common.{◌≡◌, map, take}
-use Rattle.netlist.specs.declared.lines.Line.TheVariants.{Out}
+use Rattle.statement.specs.declared.lines.Line.TheVariants.{Out}
 use Rattle.transition_batches.specs.Batches.{read_late}
 use Rattle.transition_batches.proofs.parts.outputs.Given as goal
 

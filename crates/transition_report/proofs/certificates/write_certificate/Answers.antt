@@ -1,6 +1,6 @@
 use Rattle.std.proofs.Common.{rules, ◌≡◌, ◌++◌, ℕ, List, codes, ◌∙◌, ap}
 use Rattle.std.specs.List.{flat_map}
-use Rattle.netlist.specs.Netlist.{Netlist}
+use Rattle.statement.specs.Netlists.{Netlist}
 use Rattle.transition_report.specs.Texts.{transition_tree_line}
 use Rattle.transition_report.proofs.NameLemmas.{same_lines}
 use Rattle.transition_report.proofs.certificates.write_certificate.Goals as goal

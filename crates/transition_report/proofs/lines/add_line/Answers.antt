@@ -1,6 +1,6 @@
 use Rattle.std.proofs.Common.{◌≡◌, ◌++◌, ◌∷◌, [], ◌∙◌, ℕ, List, ap}
 use Rattle.std.proofs.lemmas.Result.{IfOk-weaker}
-use Rattle.report.specs.Reports.{Line}
+use Rattle.statement.specs.Reports.{Line}
 use Rattle.transition_report.specs.Texts.{transition_text}
 use Rattle.transition_report.specs.inner.Parts.{IsAdded}
 use Rattle.transition_report.proofs.lines.add_line.Goals as goal

@@ -1,7 +1,7 @@
 use Rattle.std.proofs.Common.{◌≡◌, ◌<◌, List, length, Some, subst, ap, arith}
 use Rattle.std.specs.List.{slice_get}
-use Rattle.netlist.specs.declared.lines.Fault.{Fault}
-use Rattle.fault_universe.specs.Universe.{universe_of}
+use Rattle.statement.specs.declared.lines.Fault.{Fault}
+use Rattle.statement.specs.Faults.{universe_of}
 use Rattle.transition_report.proofs.LineLemmas.{lines_all, lines_more}
 use Rattle.transition_report.proofs.lines.lines_within.Goals as goal
 

@@ -1,6 +1,6 @@
 use Rattle.std.proofs.Common.{take}
 use Rattle.std.specs.List.{AllZip, zip}
-use Rattle.fault_universe.specs.Universe.{universe_of}
+use Rattle.statement.specs.Faults.{universe_of}
 use Rattle.transition_report.specs.Lines.{IsVerdictLine}
 use Rattle.transition_report.proofs.lines.lines_within.Given as goal
 

@@ -1,5 +1,5 @@
 use Rattle.std.proofs.Common.{◌≡◌, ℕ, ◌+◌, ◌*◌, length, refl, ◌∙◌, ap, ap₂, arith}
-use Rattle.fault_universe.specs.Universe.{universe_of}
+use Rattle.statement.specs.Faults.{universe_of}
 use Rattle.run_report.specs.Heads.{counts_with, share_of}
 use Rattle.run_report.proofs.CycleLemmas.{longest_small}
 use Rattle.run_report.proofs.ClassLemmas.{some_fault}

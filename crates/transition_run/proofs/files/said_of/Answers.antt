@@ -1,7 +1,7 @@
 use Rattle.std.proofs.Common.{◌≡◌, ℕ, List, length, subst, sym, ◌∙◌, ap, arith}
 use Rattle.std.specs.List.{All}
-use Rattle.fault_universe.specs.Universe.{universe_of}
-use Rattle.report.specs.Reports.{Line}
+use Rattle.statement.specs.Faults.{universe_of}
+use Rattle.statement.specs.Reports.{Line}
 use Rattle.transition.proofs.Gathering.{universe_few}
 use Rattle.transition_tests.specs.declared.verdicts.TransitionVerdict.{TransitionVerdict}
 use Rattle.transition_report.specs.Lines.{AreLines, IsInside}

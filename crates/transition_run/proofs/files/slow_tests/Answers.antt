@@ -1,12 +1,13 @@
 use Rattle.std.proofs.Common.{Bool, List, length, subst, sym, ◌∙◌, ap, arith}
 use Rattle.std.specs.List.{All}
 use Rattle.std.proofs.lemmas.Slice.Zip.{AllZip-long}
-use Rattle.netlist.specs.declared.lines.Fault.{Fault}
+use Rattle.statement.specs.declared.lines.Fault.{Fault}
 use Rattle.netlist.specs.Conditions.{IsSound}
 use Rattle.netlist.specs.Holds.{none_held}
-use Rattle.netlist.specs.Netlist.{Netlist}
-use Rattle.cubes.specs.Cubes.{Pattern, IsPatternOf}
-use Rattle.fault_universe.specs.Universe.{universe_of}
+use Rattle.statement.specs.Netlists.{Netlist}
+use Rattle.statement.specs.Patterns.{Pattern}
+use Rattle.cubes.specs.Cubes.{IsPatternOf}
+use Rattle.statement.specs.Faults.{universe_of}
 use Rattle.transition.specs.Searches.{AreFoundWhereLeft}
 use Rattle.transition.proofs.Gathering.{universe_few, universe_lines}
 use Rattle.transition_tests.specs.Batches.{AreLeftBy, IsLeftBy}

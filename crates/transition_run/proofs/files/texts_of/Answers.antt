@@ -1,10 +1,10 @@
 use Rattle.std.proofs.Common.{List, length, subst, sym, ◌∙◌, ap, arith}
 use Rattle.std.specs.List.{All}
-use Rattle.netlist.specs.declared.lines.Fault.{Fault}
-use Rattle.netlist.specs.Netlist.{Netlist}
+use Rattle.statement.specs.declared.lines.Fault.{Fault}
+use Rattle.statement.specs.Netlists.{Netlist}
 use Rattle.netlist.specs.Conditions.{IsSound}
-use Rattle.cubes.specs.Cubes.{Pattern}
-use Rattle.bench_text.specs.Canonical.{canonical}
+use Rattle.statement.specs.Patterns.{Pattern}
+use Rattle.statement.specs.Benches.{canonical}
 use Rattle.scan_insert.specs.Scanned.{Insertion, scanned_of}
 use Rattle.redundancy_cert.specs.declared.nodes.Node.{Node}
 use Rattle.transition.proofs.Gathering.{universe_few}

@@ -1,11 +1,11 @@
 use Rattle.std.proofs.Common.{◌≡◌, ℕ, List, length, refl, subst, ◌∙◌, ap, arith}
 use Rattle.std.proofs.lemmas.List.{length-map}
 use Rattle.netlist.specs.Conditions.{IsSound}
-use Rattle.netlist.specs.Netlist.{Definition, cells}
+use Rattle.statement.specs.Netlists.{Definition, cells}
 use Rattle.netlist.proofs.Settling.{cells_distinct}
 use Rattle.scan_play.proofs.ApplyLemmas.{few_cells}
 use Rattle.scan_insert.specs.Scanned.{cell_ids}
-use Rattle.fault_universe.specs.Universe.{universe_of}
+use Rattle.statement.specs.Faults.{universe_of}
 use Rattle.good_files.specs.ScanOff.{design_chains}
 use Rattle.transition_run.specs.inner.Written.{IsWritten}
 use Rattle.transition_run.proofs.FileLemmas.{are_chains, dealt}

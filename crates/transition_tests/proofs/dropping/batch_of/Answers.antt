@@ -5,7 +5,8 @@ use Rattle.rand_core.specs.Steps.{stream_of, steps_u32}
 use Rattle.rand_pcg.specs.Lcg.{Lcg}
 use Rattle.rand_pcg.specs.Pcg.{pcg32}
 use Rattle.netlist.specs.Holds.{none_held}
-use Rattle.cubes.specs.Cubes.{Cube, Pattern, IsPatternOf}
+use Rattle.cubes.specs.Cubes.{Cube, IsPatternOf}
+use Rattle.statement.specs.Patterns.{Pattern}
 use Rattle.transition_tests.specs.Batches.{batch_of, drawn, open_cube, words_on_stream}
 use Rattle.transition_tests.proofs.BatchLemmas.{drawn_count, drawn_obey}
 use Rattle.transition_tests.proofs.dropping.batch_of.Goals as goal

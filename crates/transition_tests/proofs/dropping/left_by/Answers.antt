@@ -1,12 +1,12 @@
 use Rattle.std.proofs.Common.{ℕ, Bool, List, length, map, not, subst, sym, ◌∙◌, ap, arith, Option}
 use Rattle.std.specs.List.{AllZip}
 use Rattle.std.specs.Option.{is_some}
-use Rattle.netlist.specs.declared.lines.Fault.{Fault}
-use Rattle.netlist.specs.declared.lines.Point.{Point}
+use Rattle.statement.specs.declared.lines.Fault.{Fault}
+use Rattle.statement.specs.declared.lines.Point.{Point}
 use Rattle.netlist.specs.Conditions.{IsSound}
 use Rattle.netlist.specs.Holds.{none_held}
 use Rattle.word_sim.proofs.WidthLemmas.{widths}
-use Rattle.fault_universe.specs.Universe.{universe_of}
+use Rattle.statement.specs.Faults.{universe_of}
 use Rattle.transition.specs.Detections.{LastTransition}
 use Rattle.transition.proofs.Gathering.{universe_few, universe_lines}
 use Rattle.transition_tests.specs.Batches.{AreLeftBy}

@@ -1,5 +1,5 @@
 use Rattle.std.proofs.Common.{◌≡◌, ℕ, ◌<◌, Bool, List, length, get_or, false, ◌∙◌, ap, arith}
-use Rattle.netlist.specs.declared.lines.Point.{Point}
+use Rattle.statement.specs.declared.lines.Point.{Point}
 use Rattle.list_core.specs.Kept.{is_last_at, new_place}
 use Rattle.list_core.proofs.FinishLemmas.{places_of_last}
 use Rattle.transition_tests.proofs.EndLemmas.{ends_renamed, within_at}

@@ -1,15 +1,16 @@
 use Rattle.std.proofs.Common.{◌≡◌, List, length, refl, subst, sym, ◌∙◌, ap, arith}
 use Rattle.std.specs.List.{All, Contains}
 use Rattle.std.proofs.lemmas.List.Elements.{All-contains}
-use Rattle.netlist.specs.declared.lines.Fault.{Fault}
+use Rattle.statement.specs.declared.lines.Fault.{Fault}
 use Rattle.netlist.specs.Conditions.{IsSound}
 use Rattle.netlist.specs.Holds.{none_held}
 use Rattle.netlist.specs.Lines.{IsLineOf}
-use Rattle.cubes.specs.Cubes.{Cube, Pattern}
+use Rattle.cubes.specs.Cubes.{Cube}
+use Rattle.statement.specs.Patterns.{Pattern}
 use Rattle.cubes.proofs.MergeLemmas.{netlist_widths}
 use Rattle.word_sim.specs.Words.{HasWidthsOf}
 use Rattle.word_sim.proofs.WidthLemmas.{widths}
-use Rattle.fault_universe.specs.Universe.{universe_of}
+use Rattle.statement.specs.Faults.{universe_of}
 use Rattle.list_core.specs.Kept.{is_last_at}
 use Rattle.list_core.proofs.KeepLemmas.{kept_few}
 use Rattle.transition.proofs.Gathering.{universe_few, universe_lines}

@@ -1,5 +1,5 @@
 use Rattle.std.proofs.Common.{◌≡◌, map, take}
-use Rattle.netlist.specs.declared.kinds.Tri.TheVariants.{X}
+use Rattle.statement.specs.declared.kinds.Tri.TheVariants.{X}
 use Rattle.tri.specs.Labels.{source_label}
 use Rattle.tri.specs.Labelling.{decided_in}
 use Rattle.tri.proofs.labelling.cell_labels.Given as goal

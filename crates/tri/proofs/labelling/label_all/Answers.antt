@@ -1,8 +1,9 @@
 use Rattle.std.proofs.Common.{◌≡◌, ℕ, List, None, map, length, get_or, ap, ◌∙◌, subst}
-use Rattle.netlist.specs.declared.kinds.Tri.TheVariants.{X}
-use Rattle.netlist.specs.Netlist.{Definition, Netlist, cells}
+use Rattle.statement.specs.declared.kinds.Tri.TheVariants.{X}
+use Rattle.statement.specs.Netlists.{Definition, Netlist, cells}
 use Rattle.netlist.specs.Conditions.{IsSound}
-use Rattle.netlist.specs.Settled.{Settles, at}
+use Rattle.statement.specs.Values.{Settles}
+use Rattle.netlist.specs.Settled.{at}
 use Rattle.netlist.proofs.Lists.{map_map}
 use Rattle.tri.specs.declared.labels.Label.{Label}
 use Rattle.tri.specs.Labels.{labels, source_label, held_value, input_labels, cell_labels}

@@ -1,6 +1,6 @@
 use Rattle.std.proofs.Common.{◌≡◌, ◌≤◌, ◌∙◌, Bool, ap, map, drop, arith}
 use Rattle.std.specs.List.{list_any}
-use Rattle.netlist.specs.declared.kinds.Tri.{Tri}
+use Rattle.statement.specs.declared.kinds.Tri.{Tri}
 use Rattle.tri.specs.declared.labels.Label.{Label}
 use Rattle.tri.specs.Gates.{gate_tri}
 use Rattle.tri.specs.Labels.{label_of}

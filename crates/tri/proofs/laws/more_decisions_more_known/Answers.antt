@@ -1,4 +1,4 @@
-use Rattle.netlist.specs.Netlist.{signals}
+use Rattle.statement.specs.Netlists.{signals}
 use Rattle.netlist.proofs.Lists.{All-from_contains}
 use Rattle.tri.specs.Labels.{AllowsLabel}
 use Rattle.tri.proofs.MoreKnown.{more_known}

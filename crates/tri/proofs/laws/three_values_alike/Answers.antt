@@ -1,5 +1,5 @@
 use Rattle.std.proofs.Common.{◌≡◌, true}
-use Rattle.netlist.specs.Netlist.{signals}
+use Rattle.statement.specs.Netlists.{signals}
 use Rattle.netlist.proofs.Alike.{signals_alike, outs_alike, next_alike}
 use Rattle.netlist.proofs.Lists.{All-from_contains}
 use Rattle.tri.specs.Known.{allows_tri}

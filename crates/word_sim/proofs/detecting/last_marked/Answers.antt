@@ -1,5 +1,5 @@
 use Rattle.std.proofs.Common.{◌∙◌, subst}
-use Rattle.netlist.specs.Netlist.{Netlist}
+use Rattle.statement.specs.Netlists.{Netlist}
 use Rattle.events.specs.Stuck.{IsObservedOnly}
 use Rattle.observed_points.specs.Points.{IsReadAt}
 use Rattle.word_sim.proofs.detecting.last_marked.Goals as goal

@@ -1,5 +1,5 @@
 use Rattle.std.proofs.Common.{◌∙◌, ℕ, List, ap, sym, subst, length}
-use Rattle.netlist.specs.Netlist.{Netlist, signals}
+use Rattle.statement.specs.Netlists.{Netlist, signals}
 use Rattle.word_sim.specs.inner.Groups.{AreReaches}
 use Rattle.word_sim.proofs.fault_hits.find_hits.Goals as goal
 

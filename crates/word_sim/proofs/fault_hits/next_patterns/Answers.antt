@@ -1,7 +1,8 @@
 use Rattle.std.proofs.Common.{◌≡◌, ◌∙◌, List, ℕ, None, ap, subst, length}
 use Rattle.std.proofs.lemmas.List.{length-map}
-use Rattle.netlist.specs.Netlist.{Definition, Netlist, cells}
-use Rattle.netlist.specs.Settled.{Settles, at}
+use Rattle.statement.specs.Netlists.{Definition, Netlist, cells}
+use Rattle.statement.specs.Values.{Settles}
+use Rattle.netlist.specs.Settled.{at}
 use Rattle.events.specs.Words.{words}
 use Rattle.word_sim.proofs.GoodLemmas.{good_for}
 use Rattle.word_sim.proofs.fault_hits.next_patterns.Goals as goal

@@ -1,6 +1,6 @@
 use Rattle.std.proofs.Common.{◌<◌, length, refl, sym, ap, subst, arith}
 use Rattle.std.proofs.lemmas.List.{get_or_default}
-use Rattle.netlist.specs.Netlist.{Netlist, signals}
+use Rattle.statement.specs.Netlists.{Netlist, signals}
 use Rattle.events.specs.Standing.{Standing}
 use Rattle.regions.specs.declared.fours.Four.{Four}
 use Rattle.word_sim.proofs.Spreading.{one_spread, all_spread}

@@ -1,6 +1,6 @@
 use Rattle.std.proofs.Common.{◌≡◌, ℕ, ◌<◌, List, length, map, sym, ◌∙◌, ap, subst, arith}
 use Rattle.std.specs.List.{All}
-use Rattle.netlist.specs.Netlist.{Netlist, signals}
+use Rattle.statement.specs.Netlists.{Netlist, signals}
 use Rattle.events.specs.declared.trails.Change.{Change}
 use Rattle.regions.specs.declared.fours.Four.{Four}
 use Rattle.regions.specs.declared.turned.TurnedWords.{TurnedWords}

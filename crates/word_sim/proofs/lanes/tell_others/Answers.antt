@@ -1,6 +1,6 @@
 use Rattle.std.proofs.Common.{◌∙◌, ℕ, List, length, sym, ap, subst, arith}
 use Rattle.std.specs.Prelude.{IfSome}
-use Rattle.netlist.specs.Netlist.{Netlist, signals}
+use Rattle.statement.specs.Netlists.{Netlist, signals}
 use Rattle.word_sim.specs.inner.Groups.{IsBeside}
 use Rattle.word_sim.proofs.Spreading.{spread_beside}
 use Rattle.word_sim.proofs.lanes.tell_others.Goals as goal

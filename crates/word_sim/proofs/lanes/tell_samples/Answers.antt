@@ -1,5 +1,5 @@
 use Rattle.std.proofs.Common.{◌∙◌, ℕ, sym, ap, subst}
-use Rattle.netlist.specs.Netlist.{Netlist}
+use Rattle.statement.specs.Netlists.{Netlist}
 use Rattle.events.specs.Standing.{Standing}
 use Rattle.word_sim.specs.inner.Groups.{AreTold, IsPass}
 use Rattle.word_sim.proofs.lanes.tell_samples.Goals as goal

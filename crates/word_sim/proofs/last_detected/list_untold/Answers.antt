@@ -1,5 +1,5 @@
 use Rattle.std.proofs.Common.{◌≡◌, ◌<◌, ◌+◌, ◌++◌, ◌∷◌, [], ℕ, List, None, drop, get_or, length, sym, subst, arith}
-use Rattle.netlist.specs.declared.lines.Fault.{Fault}
+use Rattle.statement.specs.declared.lines.Fault.{Fault}
 use Rattle.word_sim.specs.inner.Found.{untold}
 use Rattle.word_sim.proofs.Untold.{no_fault, list_all_told, list_more, list_same, none_when, some_when}
 use Rattle.word_sim.proofs.last_detected.list_untold.Goals as goal

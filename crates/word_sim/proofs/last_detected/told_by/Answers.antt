@@ -1,5 +1,5 @@
 use Rattle.std.proofs.Common.{◌∷◌, ℕ, Option, drop, sym, subst}
-use Rattle.netlist.specs.declared.lines.Point.{Point}
+use Rattle.statement.specs.declared.lines.Point.{Point}
 use Rattle.word_sim.specs.Hits.{AreHits}
 use Rattle.word_sim.specs.inner.Found.{IsTold, untold}
 use Rattle.word_sim.proofs.Untold.{known_here}

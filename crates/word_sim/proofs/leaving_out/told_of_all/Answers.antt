@@ -1,6 +1,6 @@
 use Rattle.std.proofs.Common.{List, Option, ℕ, subst, sym}
 use Rattle.std.specs.List.{AllZip}
-use Rattle.netlist.specs.declared.lines.Point.{Point}
+use Rattle.statement.specs.declared.lines.Point.{Point}
 use Rattle.word_sim.specs.Hits.{LastDetected}
 use Rattle.word_sim.proofs.Leaving.{all_of_told, all_told}
 use Rattle.word_sim.proofs.leaving_out.told_of_all.Goals as goal

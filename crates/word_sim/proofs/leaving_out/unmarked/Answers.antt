@@ -1,7 +1,7 @@
 use Rattle.std.proofs.Common.{◌≡◌, ◌<◌, ◌+◌, ◌++◌, ◌∷◌, [], List, drop, length, sym, subst, arith}
 use Rattle.std.specs.List.{All}
 use Rattle.netlist.specs.Lines.{IsLineOf}
-use Rattle.netlist.specs.declared.lines.Fault.{Fault}
+use Rattle.statement.specs.declared.lines.Fault.{Fault}
 use Rattle.word_sim.specs.Never.{unmarked}
 use Rattle.word_sim.proofs.Untold.{no_fault}
 use Rattle.word_sim.proofs.Leaving.{all_left, left_have, left_more, left_out}

@@ -1,6 +1,7 @@
 use Rattle.std.proofs.Common.{◌∙◌, None, List, ℕ, ap, map}
-use Rattle.netlist.specs.Netlist.{cells}
-use Rattle.netlist.specs.Settled.{at, outs, next}
+use Rattle.statement.specs.Netlists.{cells}
+use Rattle.netlist.specs.Settled.{at}
+use Rattle.statement.specs.Values.{outs, next}
 use Rattle.events.specs.Words.{bit_of, words}
 use Rattle.word_sim.proofs.ResponseLemmas.{bits_of_outs, bits_of_next}
 use Rattle.word_sim.proofs.words.response_words.Goals as goal

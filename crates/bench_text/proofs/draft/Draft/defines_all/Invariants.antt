@@ -1,7 +1,7 @@
 use Rattle.std.proofs.Common.{◌≡◌, drop}
 use Rattle.std.specs.List.{list_any, list_all}
 use Rattle.std.specs.Str.{bytes_eq}
-use Rattle.bench_text.specs.Sights.{name_at}
+use Rattle.statement.specs.Benches.{name_at}
 use Rattle.bench_text.specs.inner.Drafted.{names_seen, signals_in}
 use Rattle.bench_text.proofs.draft.Draft.defines_all.Given as goal
 

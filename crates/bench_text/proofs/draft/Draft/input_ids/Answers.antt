@@ -2,7 +2,7 @@ use Rattle.std.proofs.Common.{◌≡◌, ap, ◌∙◌, map, subst}
 use Rattle.std.specs.Prelude.{length, nat_lt, IfOk}
 use Rattle.std.specs.List.{list_all, list_any}
 use Rattle.std.specs.Str.{bytes_eq}
-use Rattle.bench_text.specs.Sights.{name_at}
+use Rattle.statement.specs.Benches.{name_at}
 use Rattle.bench_text.specs.Netlists.{id_of}
 use Rattle.bench_text.specs.inner.Drafted.{names_seen, signals_in}
 use Rattle.bench_text.proofs.PartLemmas.{inputs-seen, inputs-defined, put_in}

@@ -1,7 +1,7 @@
 use Rattle.std.proofs.Common.{ap, ◌∙◌, ◌++◌, map}
 use Rattle.std.specs.Prelude.{length, nat_lt}
 use Rattle.std.specs.List.{list_all}
-use Rattle.bench_text.specs.Sights.{name_at}
+use Rattle.statement.specs.Benches.{name_at}
 use Rattle.bench_text.specs.inner.Drafted.{names_seen}
 use Rattle.bench_text.proofs.PartLemmas.{inputs-seen, definitions-seen, table-of}
 use Rattle.bench_text.proofs.draft.Draft.names.Goals as goal

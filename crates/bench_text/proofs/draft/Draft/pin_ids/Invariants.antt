@@ -1,5 +1,5 @@
 use Rattle.std.proofs.Common.{◌≡◌, map, take}
-use Rattle.bench_text.specs.Sights.{name_at}
+use Rattle.statement.specs.Benches.{name_at}
 use Rattle.bench_text.specs.Netlists.{id_of}
 use Rattle.bench_text.specs.inner.Drafted.{names_seen, signals_in}
 use Rattle.bench_text.proofs.draft.Draft.pin_ids.Given as goal

@@ -1,7 +1,7 @@
 use Rattle.std.proofs.Common.{Bor, List, ℕ, arith, sym, ap}
 use Rattle.std.specs.Prelude.{unwrap_or, [], length}
 use Rattle.std.proofs.lemmas.List.{length-map}
-use Rattle.bench_text.specs.Sights.{name_at}
+use Rattle.statement.specs.Benches.{name_at}
 use Rattle.bench_text.specs.inner.Drafted.{names_seen}
 use Rattle.bench_text.proofs.PartLemmas.{seen-at, mapped-behind}
 use Rattle.bench_text.proofs.draft.Draft.push_names.Goals as goal

@@ -1,5 +1,5 @@
 use Rattle.std.proofs.Common.{◌≡◌, ◌++◌, map, take}
-use Rattle.bench_text.specs.Sights.{name_at}
+use Rattle.statement.specs.Benches.{name_at}
 use Rattle.bench_text.specs.inner.Drafted.{names_seen}
 use Rattle.bench_text.proofs.draft.Draft.push_names.Given as goal
 

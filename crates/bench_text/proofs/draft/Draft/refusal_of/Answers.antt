@@ -1,6 +1,6 @@
 use Rattle.std.proofs.Common.{arith, refl, ap, length}
 use Rattle.std.proofs.lemmas.List.{length-map}
-use Rattle.bench_text.specs.Sights.{name_at}
+use Rattle.statement.specs.Benches.{name_at}
 use Rattle.bench_text.specs.inner.Numbered.{input_numbers}
 use Rattle.bench_text.specs.inner.Drafted.{names_seen, notes_in}
 use Rattle.bench_text.proofs.DraftLemmas.{inputs-spelled}

@@ -1,6 +1,6 @@
 use Rattle.std.proofs.Common.{◌+◌, ◌-◌, ◌≤◌, ◌∙◌, sym, subst, length, vec_capacity, arith}
-use Rattle.netlist.specs.declared.lines.Line.TheVariants.{Stem}
-use Rattle.netlist.specs.Netlist.{Netlist, signals}
+use Rattle.statement.specs.declared.lines.Line.TheVariants.{Stem}
+use Rattle.statement.specs.Netlists.{Netlist, signals}
 use Rattle.events.specs.Standing.{Standing, standing, Moves, SettlesAnew}
 use Rattle.events.proofs.Running.{put_then_settled}
 use Rattle.events.proofs.Standing.{still_ready, order_few, settles_anew, moved}

@@ -1,5 +1,5 @@
 use Rattle.std.proofs.Common.{◌+◌, ◌-◌, ◌≤◌, ◌∙◌, sym, subst, length, vec_capacity, arith}
-use Rattle.netlist.specs.Netlist.{Netlist, signals}
+use Rattle.statement.specs.Netlists.{Netlist, signals}
 use Rattle.events.specs.Standing.{Standing, standing, Moves, SettlesAllAnew}
 use Rattle.events.proofs.Running.{touched_then_settled}
 use Rattle.events.proofs.Standing.{still_ready, order_few, settles_all, moved}

@@ -1,5 +1,5 @@
 use Rattle.std.proofs.Common.{◌≡◌, ap, sym, subst, refl, ◌∙◌, length, arith}
-use Rattle.netlist.specs.Netlist.{Netlist, cells, signals}
+use Rattle.statement.specs.Netlists.{Netlist, cells, signals}
 use Rattle.netlist.proofs.Settling.{cells_below, cells_distinct}
 use Rattle.events.specs.Standing.{Standing, SettlesFor}
 use Rattle.events.specs.inner.Placing.{AreTables}

@@ -1,7 +1,7 @@
 use Rattle.std.proofs.Common.{◌<◌, sym, subst, length, arith}
 use Rattle.netlist.specs.Conditions.{IsSound}
 use Rattle.netlist.specs.Lines.{IsLineOf}
-use Rattle.netlist.specs.Netlist.{signals}
+use Rattle.statement.specs.Netlists.{signals}
 use Rattle.events.specs.Standing.{Standing}
 use Rattle.events.specs.Stuck.{IsObservedOnly, IsSite}
 use Rattle.events.proofs.Sites.{pin_within, pin_site, pin_observed}

@@ -1,6 +1,6 @@
 use Rattle.std.proofs.Common.{subst}
 use Rattle.netlist.specs.Conditions.{IsSound}
-use Rattle.netlist.specs.Settled.{Rule}
+use Rattle.statement.specs.Values.{Rule}
 use Rattle.events.specs.Standing.{Standing, SettlesAnew}
 use Rattle.events.proofs.Standing.{stuck_settles, observed_settles}
 use Rattle.events.proofs.evaluator.Events.stick.Goals as goal

@@ -1,6 +1,6 @@
 use Rattle.std.proofs.Common.{◌≡◌, ◌<◌, ℕ, List, map, length, get_or, sym, ap, ◌∙◌, subst, zero-add, arith}
 use Rattle.std.proofs.lemmas.List.{length-map, get_or-map}
-use Rattle.netlist.specs.declared.lines.Line.TheVariants.{Pin}
+use Rattle.statement.specs.declared.lines.Line.TheVariants.{Pin}
 use Rattle.netlist.specs.Settled.{at}
 use Rattle.events.specs.Words.{words}
 use Rattle.events.proofs.Stuck.{length-on_pins, get_or-on_pins}

@@ -1,5 +1,5 @@
 use Rattle.std.proofs.Common.{◌∙◌, ℕ, [], List, length, sym, ap, subst}
-use Rattle.netlist.specs.Netlist.{Netlist, signals}
+use Rattle.statement.specs.Netlists.{Netlist, signals}
 use Rattle.head_lines.specs.declared.roles.Role.{Role}
 use Rattle.head_lines.specs.HeadLines.{AreRoles}
 use Rattle.head_lines.specs.Rooms.{nowhere, AreBeside}

@@ -1,6 +1,6 @@
 use Rattle.std.proofs.Common.{◌≡◌, ◌≢◌, ℕ, List, sym, ◌∙◌, ap, subst, get_or}
 use Rattle.std.proofs.lemmas.List.{get_or_default}
-use Rattle.netlist.specs.declared.kinds.Kind.{Kind}
+use Rattle.statement.specs.declared.kinds.Kind.{Kind}
 use Rattle.tri.specs.Labelling.{decided_in}
 use Rattle.label_events.specs.Watched.{HidesLabel}
 use Rattle.label_events.proofs.Hiding.{turn_hidden}

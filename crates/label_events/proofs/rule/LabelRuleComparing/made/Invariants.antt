@@ -1,5 +1,6 @@
 use Rattle.std.proofs.Common.{map, drop}
-use Rattle.netlist.specs.Settled.{on_pins, at}
+use Rattle.statement.specs.Values.{on_pins}
+use Rattle.netlist.specs.Settled.{at}
 use Rattle.tri.specs.Labels.{labels}
 use Rattle.tri.specs.Labelling.{decided_in}
 use Rattle.label_events.specs.Gathered.{AreOnPins, no_label}

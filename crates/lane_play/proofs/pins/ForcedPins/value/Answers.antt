@@ -1,6 +1,6 @@
 use Rattle.std.proofs.Common.{◌≡◌, ◌<◌, List, map, length, get_or, sym, ap, ◌∙◌, subst, zero-add, arith}
 use Rattle.std.proofs.lemmas.List.{length-map, get_or-map, get_or_default}
-use Rattle.netlist.specs.declared.lines.Line.TheVariants.{Pin}
+use Rattle.statement.specs.declared.lines.Line.TheVariants.{Pin}
 use Rattle.netlist.specs.Settled.{at}
 use Rattle.events.proofs.Stuck.{get_or-on_pins}
 use Rattle.lane_play.specs.declared.packed.Lanes.{Lanes}

@@ -1,6 +1,7 @@
 use Rattle.std.proofs.Common.{subst, OnOk}
-use Rattle.netlist.specs.Netlist.{Netlist}
-use Rattle.netlist.specs.Settled.{Settles, at}
+use Rattle.statement.specs.Netlists.{Netlist}
+use Rattle.statement.specs.Values.{Settles}
+use Rattle.netlist.specs.Settled.{at}
 use Rattle.netlist.proofs.evaluation.Core.settle_into.Goals as goal
 
 pub returns-clause-settled : goal.returns-clause-settled

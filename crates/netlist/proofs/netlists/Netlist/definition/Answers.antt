@@ -1,5 +1,5 @@
 use Rattle.std.proofs.Common.{◌≡◌, ◌-◌, ◌<◌, ℕ, ap, ◌∙◌, length, arith}
-use Rattle.netlist.specs.Netlist.{Netlist, Definition as Equation, signals}
+use Rattle.statement.specs.Netlists.{Netlist, Definition as Equation, signals}
 use Rattle.netlist.specs.Conditions.{whole}
 use Rattle.netlist.proofs.Placed.{signals_length, id_at}
 use Rattle.netlist.proofs.netlists.Netlist.definition.Goals as goal

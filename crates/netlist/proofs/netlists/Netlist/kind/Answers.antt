@@ -1,7 +1,8 @@
 use Rattle.std.proofs.Common.{ap, sym, ◌∙◌, arith, Some}
 use Rattle.std.specs.Option.{option_map}
 use Rattle.netlist.specs.Conditions.{whole}
-use Rattle.netlist.specs.Netlist.{Netlist, Definition as Equation, definition_of}
+use Rattle.statement.specs.Netlists.{Netlist, Definition as Equation}
+use Rattle.netlist.specs.Netlist.{definition_of}
 use Rattle.netlist.proofs.Found.{input_undefined, defined}
 use Rattle.netlist.proofs.netlists.Netlist.kind.Goals as goal
 

@@ -1,5 +1,5 @@
 use Rattle.std.proofs.Common.{ap, length, arith}
-use Rattle.netlist.specs.Netlist.{Netlist, signals}
+use Rattle.statement.specs.Netlists.{Netlist, signals}
 use Rattle.netlist.specs.Conditions.{whole}
 use Rattle.netlist.proofs.Placed.{signal_from}
 use Rattle.netlist.proofs.netlists.Netlist.name.Goals as goal

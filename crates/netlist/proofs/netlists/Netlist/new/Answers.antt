@@ -1,6 +1,6 @@
 use Rattle.std.proofs.Common.{◌≡◌, ◌+◌, ◌<◌, ◌≤◌, ℕ, List, length, sym, ◌∙◌, subst, arith, vec_len, slice_index}
 use Rattle.std.proofs.lemmas.Bool.{eqb-false}
-use Rattle.netlist.specs.Netlist.{Netlist, signals}
+use Rattle.statement.specs.Netlists.{Netlist, signals}
 use Rattle.netlist.specs.Conditions.{whole, IsSized, IsUndefined}
 use Rattle.netlist.specs.inner.Placed.{HasRanks}
 use Rattle.netlist.proofs.Placed.{acyclic, no_loop, on_loop, signals_length, definition_below, gate_defined}

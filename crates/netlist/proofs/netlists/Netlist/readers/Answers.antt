@@ -1,8 +1,7 @@
 use Rattle.std.proofs.Common.{◌<◌, List, [], ap, ◌∙◌, get_or, length, subst, sym}
-use Rattle.netlist.specs.declared.lines.Line.{Line}
-use Rattle.netlist.specs.Netlist.{Netlist, signals}
+use Rattle.statement.specs.declared.lines.Line.{Line}
+use Rattle.statement.specs.Netlists.{Netlist, signals, readers_of}
 use Rattle.netlist.specs.Conditions.{whole}
-use Rattle.netlist.specs.Readers.{readers_of}
 use Rattle.netlist.proofs.ReaderTables.{readers_at}
 use Rattle.netlist.proofs.netlists.Netlist.readers.Goals as goal
 

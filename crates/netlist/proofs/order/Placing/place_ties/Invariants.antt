@@ -1,5 +1,5 @@
 use Rattle.std.proofs.Common.{◌≡◌, length}
-use Rattle.netlist.specs.Netlist.{Netlist}
+use Rattle.statement.specs.Netlists.{Netlist}
 use Rattle.netlist.specs.Conditions.{IsNumbered}
 use Rattle.netlist.specs.inner.Sorting.{HasRoom, IsStarted}
 use Rattle.netlist.proofs.order.Placing.place_ties.Given as goal

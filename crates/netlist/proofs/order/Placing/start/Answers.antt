@@ -1,5 +1,5 @@
 use Rattle.std.proofs.Common.{◌≤◌, length}
-use Rattle.netlist.specs.Netlist.{Definition as Equation}
+use Rattle.statement.specs.Netlists.{Definition as Equation}
 use Rattle.netlist.specs.Conditions.{whole}
 use Rattle.netlist.proofs.Lists.{All-from_contains}
 use Rattle.netlist.proofs.WellFormed.{few_pins_of}

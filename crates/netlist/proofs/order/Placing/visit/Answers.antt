@@ -1,5 +1,5 @@
 use Rattle.std.proofs.Common.{[], ◌∷◌, sym, subst}
-use Rattle.netlist.specs.declared.lines.Line.{Line}
+use Rattle.statement.specs.declared.lines.Line.{Line}
 use Rattle.netlist.specs.declared.order.Placing.{Placing}
 use Rattle.netlist.specs.inner.Sorting.{Counts}
 use Rattle.netlist.proofs.Counting.{counts_line, counts_other}

@@ -1,6 +1,6 @@
 use Rattle.std.proofs.Common.{◌≡◌, ◌<◌, ◌+◌, [], List, length, get_or, sym, subst, ap, ◌∙◌, arith, vec_len}
 use Rattle.std.proofs.lemmas.List.{get_or_default}
-use Rattle.netlist.specs.declared.lines.Line.{Line}
+use Rattle.statement.specs.declared.lines.Line.{Line}
 use Rattle.netlist.specs.declared.order.Placing.{Placing}
 use Rattle.netlist.specs.inner.Sorting.{Counts, HasRoom, IsCounted, sources_below}
 use Rattle.netlist.proofs.ReaderRows.{row_is}

@@ -1,5 +1,5 @@
 use Rattle.std.proofs.Common.{◌≡◌, length, []}
-use Rattle.netlist.specs.Netlist.{Netlist}
+use Rattle.statement.specs.Netlists.{Netlist}
 use Rattle.netlist.specs.Conditions.{IsNumbered}
 use Rattle.netlist.specs.inner.Sorting.{AreReaders, HasRoom, IsCounted, nothing, sources_below}
 use Rattle.netlist.proofs.order.Placing.visit_sources.Given as goal

@@ -1,5 +1,5 @@
 use Rattle.std.proofs.Common.{◌+◌, ◌∙◌, List, ℕ, ap, length, arith}
-use Rattle.netlist.specs.Netlist.{Definition}
+use Rattle.statement.specs.Netlists.{Definition}
 use Rattle.netlist.proofs.Placed.{signals_length}
 use Rattle.observed_points.proofs.ObservedPoints.{watched_count}
 use Rattle.observed_points.proofs.PointTables.{points_few, watched_inside}

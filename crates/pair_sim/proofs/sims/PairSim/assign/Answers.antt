@@ -5,7 +5,7 @@ use Rattle.tri.specs.Paths.{IsUnknown}
 use Rattle.pair_sim.specs.Sims.{Sim, IsFree}
 use Rattle.pair_sim.specs.declared.levels.Level.{Level}
 use Rattle.pair_sim.specs.inner.Levels.{path_of, is_contradicted}
-use Rattle.netlist.specs.Netlist.{Netlist}
+use Rattle.statement.specs.Netlists.{Netlist}
 use Rattle.pair_sim.specs.inner.Reach.{IsReach}
 use Rattle.pair_sim.proofs.StoreLemmas.{trail_room, name_room, room_on_levels, same_netlist, stored_assigned}
 use Rattle.pair_sim.proofs.sims.PairSim.assign.Goals as goal

@@ -1,7 +1,7 @@
 use Rattle.std.proofs.Common.{◌<◌, List, length, get_or, sym, ◌∙◌, ap, subst, arith}
 use Rattle.std.specs.List.{Contains}
 use Rattle.std.proofs.lemmas.List.{get_or_default}
-use Rattle.netlist.specs.Netlist.{signals}
+use Rattle.statement.specs.Netlists.{signals}
 use Rattle.netlist.specs.Conditions.{IsSound}
 use Rattle.netlist.specs.Settled.{at}
 use Rattle.netlist.proofs.Placed.{signal_below}

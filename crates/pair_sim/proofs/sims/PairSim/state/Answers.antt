@@ -1,9 +1,10 @@
 use Rattle.std.proofs.Common.{◌≡◌, ◌<◌, false, length, sym, ◌∙◌, ap, subst, reverse, Some, List, Option}
 use Rattle.std.specs.List.{All}
 use Rattle.netlist.specs.Conditions.{IsSound}
-use Rattle.netlist.specs.declared.lines.Fault.{Fault}
-use Rattle.netlist.specs.Netlist.{Netlist}
-use Rattle.netlist.specs.Settled.{at, outs, next}
+use Rattle.statement.specs.declared.lines.Fault.{Fault}
+use Rattle.statement.specs.Netlists.{Netlist}
+use Rattle.netlist.specs.Settled.{at}
+use Rattle.statement.specs.Values.{outs, next}
 use Rattle.tri.specs.declared.labels.Label.{Label}
 use Rattle.tri.specs.Labels.{labels}
 use Rattle.tri.specs.Paths.{decisions}

@@ -2,7 +2,7 @@ use Rattle.std.proofs.Common.{◌≡◌, sym, ◌∙◌, subst, vec_capacity, Li
 use Rattle.netlist.specs.Conditions.{IsSound}
 use Rattle.pair_sim.specs.declared.levels.Level.{Level}
 use Rattle.pair_sim.specs.inner.Stored.{IsStored}
-use Rattle.netlist.specs.Netlist.{Netlist}
+use Rattle.statement.specs.Netlists.{Netlist}
 use Rattle.pair_sim.specs.inner.Reach.{IsReach}
 use Rattle.pair_sim.proofs.StoreLemmas.{trail_room, back_netlist, stored_undone}
 use Rattle.pair_sim.proofs.sims.PairSim.undo.Goals as goal

@@ -1,6 +1,6 @@
 use Rattle.std.proofs.Common.{length, ap, ◌∙◌, subst, arith}
 use Rattle.netlist.specs.Conditions.{IsSound}
-use Rattle.netlist.specs.Netlist.{signals}
+use Rattle.statement.specs.Netlists.{signals}
 use Rattle.redundancy_cert.specs.inner.Tallies.{count_pairs, shows}
 use Rattle.redundancy_cert.specs.inner.Passing.{Labelled}
 use Rattle.redundancy_cert.proofs.KeptLemmas.{decide_counts, small_count, kept_decided}

@@ -1,6 +1,6 @@
 use Rattle.std.proofs.Common.{ap, ◌∙◌, subst}
 use Rattle.netlist.specs.Conditions.{IsSound}
-use Rattle.netlist.specs.Netlist.{Netlist}
+use Rattle.statement.specs.Netlists.{Netlist}
 use Rattle.label_events.specs.Lines.{IsInner, IsPointLine}
 use Rattle.redundancy_cert.specs.inner.Passing.{Labelled, IsKept}
 use Rattle.redundancy_cert.proofs.PassLemmas.{observed_inner, observed_read}

@@ -1,7 +1,7 @@
 use Rattle.std.proofs.Common.{ap, sym, ◌∙◌, subst}
 use Rattle.netlist.specs.Conditions.{IsSound}
 use Rattle.netlist.specs.Lines.{IsLineOf}
-use Rattle.netlist.specs.Netlist.{Netlist}
+use Rattle.statement.specs.Netlists.{Netlist}
 use Rattle.label_events.specs.Lines.{IsInner, IsPointLine, AgreeOnOtherLines}
 use Rattle.redundancy_cert.specs.inner.Tallies.{count_pairs, shows}
 use Rattle.redundancy_cert.specs.inner.Passing.{Labelled}

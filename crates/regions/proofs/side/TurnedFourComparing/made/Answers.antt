@@ -1,5 +1,5 @@
 use Rattle.std.proofs.Common.{◌∙◌, ap}
-use Rattle.netlist.specs.declared.lines.Line.TheVariants.{Stem}
+use Rattle.statement.specs.declared.lines.Line.TheVariants.{Stem}
 use Rattle.regions.specs.Side.{side_words}
 use Rattle.regions.proofs.SideGates.{side_made}
 use Rattle.regions.proofs.side.TurnedFourComparing.made.Goals as goal

@@ -1,5 +1,5 @@
 use Rattle.std.proofs.Common.{◌∙◌, ap}
-use Rattle.netlist.specs.declared.lines.Line.TheVariants.{Stem}
+use Rattle.statement.specs.declared.lines.Line.TheVariants.{Stem}
 use Rattle.netlist.specs.Settled.{at}
 use Rattle.regions.specs.Turned.{turned_words}
 use Rattle.regions.proofs.TurnedBits.{turned_made}

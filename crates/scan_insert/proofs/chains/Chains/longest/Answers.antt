@@ -1,5 +1,5 @@
 use Rattle.std.proofs.Common.{◌+◌, ◌/◌, ◌%◌, min, sym, ◌∙◌, ap, arith}
-use Rattle.scan_insert.specs.Chains.{longest_of}
+use Rattle.statement.specs.Tests.{longest_of}
 use Rattle.scan_insert.proofs.Dealing.{longest_of-chains}
 use Rattle.scan_insert.proofs.chains.Chains.longest.Goals as goal
 

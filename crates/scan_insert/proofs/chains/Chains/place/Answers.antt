@@ -2,7 +2,8 @@ use Rattle.std.proofs.Common.{ℕ, List, length, ◌≡◌, ◌-◌, get_or, sym
 use Rattle.std.specs.List.{Contains}
 use Rattle.std.proofs.lemmas.List.{get_or_read}
 use Rattle.scan_insert.specs.declared.chains.Chains.TheInside.{Inside}
-use Rattle.scan_insert.specs.Chains.{chains_of, cells_of, IsAt}
+use Rattle.scan_insert.specs.Chains.{chains_of}
+use Rattle.statement.specs.Tests.{cells_of, IsAt}
 use Rattle.scan_insert.specs.inner.Places.{AreDealt, IsPlaced}
 use Rattle.scan_insert.proofs.Dealing.{IsFound, found, is_at}
 use Rattle.scan_insert.proofs.chains.Chains.place.Goals as goal

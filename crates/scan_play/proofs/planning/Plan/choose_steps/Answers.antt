@@ -1,6 +1,7 @@
 use Rattle.std.proofs.Common.{sym, subst}
 use Rattle.std.specs.List.{All}
-use Rattle.netlist.specs.Netlist.{Netlist, IsGateAt}
+use Rattle.statement.specs.Netlists.{Netlist}
+use Rattle.netlist.specs.Netlist.{IsGateAt}
 use Rattle.scan_play.proofs.planning.Plan.choose_steps.Goals as goal
 
 pub is_path-requires-clause-gates : goal.is_path-requires-clause-gates

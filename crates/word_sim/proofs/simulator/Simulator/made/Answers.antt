@@ -1,5 +1,5 @@
 use Rattle.std.proofs.Common.{◌∙◌, sym, subst}
-use Rattle.netlist.specs.Netlist.{Netlist}
+use Rattle.statement.specs.Netlists.{Netlist}
 use Rattle.observed_points.specs.Points.{ArePoints}
 use Rattle.word_sim.specs.inner.Groups.{HasRoom}
 use Rattle.word_sim.specs.inner.Packed.{AreSettledWords}

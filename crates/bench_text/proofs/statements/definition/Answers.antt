@@ -5,7 +5,7 @@ use Rattle.bench_text.specs.Keywords.{kind_of}
 use Rattle.bench_text.specs.Forms.{Definition}
 use Rattle.bench_text.specs.inner.Stated.{names}
 use Rattle.bench_text.proofs.FormLemmas.{definition-no_word, definition-fails, definition-goes_on}
-use Rattle.bench_text.proofs.statement.definition.Goals as goal
+use Rattle.bench_text.proofs.statements.definition.Goals as goal
 
 pub returns-in_default : goal.returns-in_default
 returns-in_default c = sym (definition-no_word _ _ c.in_default.ensures.next)

@@ -2,7 +2,7 @@ use Rattle.std.proofs.Common.{◌≡◌, ◌∷◌, ◌++◌, [], sym, ap, ◌�
 use Rattle.std.proofs.lemmas.List.{map_push}
 use Rattle.bench_text.specs.inner.Stated.{names}
 use Rattle.bench_text.proofs.FormLemmas.{pins-no_word, pins-none, pins-start, pins-fail, pins-fail_word, pins-end, pins-step}
-use Rattle.bench_text.proofs.statement.pins.Goals as goal
+use Rattle.bench_text.proofs.statements.pins.Goals as goal
 
 pub returns-then-not-closes : goal.returns-then-not-closes
 returns-then-not-closes c = sym (pins-no_word _ c.in_default.ensures.next c.if-not-closes.ensures)

@@ -1,35 +1,37 @@
 -- The statement: what five texts of a run say of a chip, whoever made them.
-use Rattle.std.specs.Prelude.{ℕ, ◌≡◌, ◌≢◌, ◌++◌, Bool, cond, if◌then◌else◌, List, [], length, map, Option, Some, None, codes, slice_index}
+use Rattle.std.specs.Prelude.{ℕ, ◌≡◌, Bool, false, List, [], ◌∷◌, ◌++◌, length, take, None, ◌≢◌, slice_index, cond, codes, if◌then◌else◌, Option, Some, map}
 use Rattle.std.specs.List.{All, AllPairs, Contains, EachIndex, flat_map, slice_get, zip}
-use Rattle.plain_text.specs.Texts.{Text}
-use Rattle.netlist.specs.declared.lines.Fault.{Fault}
-use Rattle.netlist.specs.declared.lines.Line.{Line as Lead}
-use Rattle.netlist.specs.declared.lines.Line.TheVariants.{Stem, Pin, Out}
-use Rattle.netlist.specs.declared.lines.Point.{Point}
-use Rattle.netlist.specs.Netlist.{Definition, Netlist, cells, is_cell, name_of, signals}
-use Rattle.netlist.specs.Names.{IsName}
-use Rattle.netlist.specs.Holds.{Holds, Obeys}
-use Rattle.netlist.specs.Settled.{bit_table}
-use Rattle.cubes.specs.Cubes.{Pattern}
-use Rattle.bench_text.specs.Canonical.{canonical}
-use Rattle.scan_insert.specs.Names.{output_name}
-use Rattle.scan_play.specs.Cycles.{Cycle}
-use Rattle.scan_play.specs.Runs.{Runs}
-use Rattle.scan_play.specs.Passing.{Passes, FailsAt}
-use Rattle.scan_play.specs.Vectors.{IsStrobedAt}
-use Rattle.stil_write.specs.StilFiles.{StilFile}
-use Rattle.stil_write.specs.Texts.{stil_text}
-use Rattle.stil_vectors.specs.FileVectors.{vectors_in}
-use Rattle.stil_patterns.specs.Tests.{IsFileOf}
-use Rattle.fault_universe.specs.Texts.{fault_text}
-use Rattle.fault_universe.specs.Universe.{universe_of}
-use Rattle.word_sim.specs.Hits.{IsLastDetected}
-use Rattle.report.specs.declared.outcomes.Outcome.{Outcome}
-use Rattle.report.specs.declared.outcomes.Outcome.TheVariants.{Detected, Redundant, Aborted}
-use Rattle.report.specs.Reports.{Line}
-use Rattle.report.specs.Texts.{fault_line}
-use Rattle.good_files.specs.GoodFiles.{FiveFiles}
-use Rattle.good_files.specs.ScanOff.{BehavesWithScanOff}
+use Rattle.statement.specs.declared.lines.Fault.{Fault}
+use Rattle.statement.specs.declared.lines.Line.{Line as Lead}
+use Rattle.statement.specs.declared.lines.Line.TheVariants.{Stem, Pin, Out}
+use Rattle.statement.specs.declared.lines.Point.{Point}
+use Rattle.statement.specs.declared.outcomes.Outcome.{Outcome}
+use Rattle.statement.specs.declared.outcomes.Outcome.TheVariants.{Detected, Redundant, Aborted}
+use Rattle.statement.specs.Netlists.{Netlist, Definition, signals, IsName, is_cell, name_of, cells}
+use Rattle.statement.specs.Values.{Settles, bits, outs, next, bit_table}
+use Rattle.statement.specs.Patterns.{Holds, Obeys, Pattern, IsLastDetected}
+use Rattle.statement.specs.Benches.{Text, canonical}
+use Rattle.statement.specs.Runs.{Cycle, Runs, output_name, Passes, FailsAt}
+use Rattle.statement.specs.Stils.{StilFile, stil_text}
+use Rattle.statement.specs.Tests.{IsStrobedAt, vectors_in, IsFileOf}
+use Rattle.statement.specs.Faults.{fault_text, universe_of}
+use Rattle.statement.specs.Reports.{Line, fault_line}
+
+-- With scan off it behaves as the original: at all inputs, states and scan-in values the same outputs and next cells. Without chains it is the original.
+abbrev pub BehavesWithScanOff : Netlist → Netlist → List (List ℕ) → Type 0
+BehavesWithScanOff n scanned [] = scanned ≡ n
+BehavesWithScanOff n scanned (chain ∷ chains) =
+    (inputs state scan_inputs : List Bool) (a b : ℕ → Bool)
+    → Settles (bits None) n inputs state a → Settles (bits None) scanned (inputs ++ false ∷ scan_inputs) state b
+    → (take (length n.outputs) (outs (bits None) scanned b) ≡ outs (bits None) n a) × (next (bits None) scanned b ≡ next (bits None) n a)
+
+-- the netlist, the scanned netlist, the test, the certificate and the report
+pub record FiveFiles : Type 0 where
+  pub net : Text
+  pub scan : Text
+  pub stil : Text
+  pub certificate : Text
+  pub report : Text
 
 -- The signals are 0, 1 and so on and have names that differ, and what is read is a signal: so the netlist's text tells it.
 pub record IsNamed (n : Netlist) : Type 0 where

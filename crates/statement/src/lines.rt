@@ -1,6 +1,6 @@
 //! Lines, stuck-at faults and observed points.
 ghost use Rattle.std.specs.Prelude.{◌≡◌};
-ghost use Rattle.netlist.specs.Settled.{is_line};
+ghost use Rattle.statement.specs.Values.{is_line};
 
 use crate::signals::SignalId;
 

@@ -1,0 +1,10 @@
+pub mod Netlists
+pub mod Values
+pub mod Patterns
+pub mod Benches
+pub mod Runs
+pub mod Stils
+pub mod Tests
+pub mod Faults
+pub mod Reports
+pub mod Statement
