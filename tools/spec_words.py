@@ -9,6 +9,7 @@ ROOT = pathlib.Path(__file__).resolve().parent.parent
 USE = re.compile(r"^use (\S+?)(?:\.\{(.*)\}|\s+as\s+(\S+))?$")
 GROUP = r"(?: *[({](?:[^(){}]|\([^()]*\)|\{[^{}]*\})*[)}])*"
 DEFINED = re.compile(rf"^( *)(?:(?:abbrev|unfoldable) )?(?:pub )?(?:(?:record|data) )?([^\s:(){{}}=.,]+){GROUP} *: *(.*)")
+COMMENT = re.compile(r"(?:^| ) *-- .*$")
 WORD = re.compile(r"[^\s(){}\[\],;=]+")
 
 # A definition: where it stands, the module around it, the comment above it and its text, each as lines, and the words that it names.
@@ -70,7 +71,8 @@ class Specs:
 
     def whole(self, word):
         around, comment, text = self.definitions[word]
-        return Definition(self.crate, self.file, word, around, comment, text, [name for line in around + text for name in WORD.findall(line)])
+        named = (COMMENT.sub("", line) for line in around + text)
+        return Definition(self.crate, self.file, word, around, comment, text, [name for line in named for name in WORD.findall(line)])
 
 
 class Tree:

@@ -15,7 +15,7 @@ NUMBERS = {"u8", "u16", "u32", "u64", "usize", "SignalId"}
 VIEWS = {
     "bool": ("Bool", None),
     "Texts": ("List (List ℕ)", None),
-    "Definition": ("Definition", "Rattle.netlist.specs.Netlist.{Definition}"),
+    "Definition": ("Definition", "Rattle.statement.specs.Netlists.{Definition}"),
     "Report": ("Report", "Rattle.report.specs.Reports.{Report}"),
     "Tree": ("List Node", "Rattle.redundancy_cert.specs.declared.nodes.Node.{Node}"),
 }

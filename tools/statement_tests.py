@@ -41,7 +41,7 @@ idle = 2
 def tree_of(text):
     """The specs of one file, as a tree."""
     with tempfile.TemporaryDirectory() as folder:
-        path = pathlib.Path(folder) / "crates/low/specs/Words.antt"
+        path = pathlib.Path(folder) / "crates/statement/specs/Words.antt"
         path.parent.mkdir(parents=True)
         path.write_text(text, encoding="utf-8")
         root, spec_words.ROOT = spec_words.ROOT, pathlib.Path(folder)
@@ -54,11 +54,11 @@ def tree_of(text):
 def statement_is_printed_whole():
     """A definition is printed with its comment and the comments in it, and what nothing reaches isn't, but is a fault."""
     tree = tree_of(SPECS)
-    root = ("Rattle.low.specs.Words", "Statement")
+    root = ("Rattle.statement.specs.Words", "Statement")
     reached = trust.Reached(tree, [root])
     assert reached.text(root[0]) == SPECS.split("\n\n", 1)[1].split("\n\nabbrev pub idle")[0].splitlines()
     assert reached.count() == 8
-    assert trust.faults(tree, root, "")[0] == "Statement doesn't reach idle, which stands in its file"
+    assert trust.faults(tree, root, "")[0] == "Statement doesn't reach idle of Words, which stands in its crate"
 
 
 def statement_is_found_by_contracts():
@@ -85,11 +85,11 @@ def limits_are_kept():
 
 def types_stand_as_data():
     """The types of the code as plain data: numbers, records, variants, and what they name."""
-    known = {"T_netlist_lines_Line": ("netlist", "lines", "Line")}
-    fault = specs_apart.types_text("netlist", "lines", "Fault", known)
+    known = {"T_statement_lines_Line": ("statement", "lines", "Line")}
+    fault = specs_apart.types_text("statement", "lines", "Fault", known)
     assert fault.endswith("pub record Fault : Type 0 where\n  pub line : Line\n  pub value : Bool\n")
-    assert "use Rattle.apart.specs.T_netlist_lines_Line.{Line}" in fault
-    assert "  Pin : ℕ → ℕ → Line\n" in specs_apart.types_text("netlist", "lines", "Line", {})
+    assert "use Rattle.apart.specs.T_statement_lines_Line.{Line}" in fault
+    assert "  Pin : ℕ → ℕ → Line\n" in specs_apart.types_text("statement", "lines", "Line", {})
 
 
 def conjuncts_fit():
