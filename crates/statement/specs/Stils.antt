@@ -88,7 +88,6 @@ timing_text f =
     ++ (quoted_lines (codes "      ") (codes " { 0 { '0ns' D; } P { '0ns' D; '45ns' U; '55ns' D; } }\n") (clock f)
     ++ (quoted_lines (codes "      ") (codes " { HLX { '40ns' H/L/X; } }\n") (codes "SC__po" ∷ scan_outputs f) ++ codes "    }\n  }\n}\n")))
 
--- where there are chains
 abbrev pub structures_text : List (List Text) → Text
 structures_text [] = []
 structures_text (chain ∷ chains) = codes "ScanStructures {\n" ++ (chain_blocks 0 (chain ∷ chains) ++ codes "}\n")
