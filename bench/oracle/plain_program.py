@@ -23,7 +23,8 @@ READ = {"scan": 1, "faults": 1, "run": 1, "transition": 1, "play": 2, "chaintest
 BY_PREFIX = ("run", "transition")  # what writes five files
 NAME = r"[!$-&*+\--<>-~]+"  # bytes of .bench's names
 HELD = re.compile(f"{NAME}=[01](,{NAME}=[01])*")
-LOG = re.compile(rf"atpg fail log 1\n((0|[1-9]\d*) {NAME}\n)*")
+NUMBER = r"(?:0|[1-9]\d*)"
+LOG = re.compile(rf"atpg fail log 1\n((?:{NUMBER} {NAME}\n)*)(?:end ({NUMBER})\n)?")
 
 
 class Unknown(Exception):
@@ -141,8 +142,16 @@ def need_stil(text):
         raise Refused(4, "not a stil file\n")
 
 
-def is_log(text):
-    return LOG.fullmatch(text) is not None and all(int(line.split(" ")[0]) < 2**64 for line in text.split("\n")[1:-1])
+def log_of(text):
+    """What a log says failed, each a cycle and a pin, and its end, or None. None where the text is no log."""
+    parts = LOG.fullmatch(text)
+    if parts is None:
+        return None
+    failures = [(int(cycle), pin) for cycle, pin in (line.split(" ") for line in parts[1].split("\n")[:-1])]
+    end = None if parts[2] is None else int(parts[2])
+    if end is not None and end >= 2**64 or any(cycle >= (2**64 if end is None else end) for cycle, _ in failures):
+        return None
+    return failures, end
 
 
 def scan(texts, options):
@@ -186,15 +195,17 @@ def failures_of(text, stil, chains):
 
 
 def diagnose(texts, options):
-    """The faults with which exactly what the log says fails."""
+    """The faults with which exactly what the log says fails, before its end."""
     netlist = netlist_of(texts[0])
     need_stil(texts[1])
-    if not is_log(texts[2]):
+    log = log_of(texts[2])
+    if log is None:
         raise Refused(4, "not a fail log\n")
     cycles_that_fit(texts[1], scanned_of(netlist, options))
-    said = [line.split(" ") for line in texts[2].split("\n")[1:-1]]
-    failures = {(int(cycle), pin, False) for cycle, pin in said}
-    found = [fault for fault, fails in failures_of(texts[0], texts[1], asked_chains(options)).items() if fails == failures]
+    said, end = log
+    failures = {(cycle, pin, False) for cycle, pin in said}
+    before = lambda fails: fails if end is None else {each for each in fails if each[0] < end}
+    found = [fault for fault, fails in failures_of(texts[0], texts[1], asked_chains(options)).items() if before(fails) == failures]
     return Due([], "".join(line + "\n" for line in [f"candidates {len(found)}"] + found))
 
 

@@ -15,6 +15,7 @@ use Rattle.stil_read.specs.Reading.{StandsFor}
 use Rattle.statement.specs.Stils.{StilFile}
 use Rattle.diagnose.specs.Failures.{Failing}
 use Rattle.diagnose.specs.Reading.{IsLogOf}
+use Rattle.diagnose.specs.declared.failures.FailLog.{FailLog}
 use Rattle.diagnose.specs.Candidates.{AreCandidates}
 use Rattle.commands.specs.Names.{texts_of}
 use Rattle.commands.specs.Worked.{IsWorked}
@@ -46,12 +47,12 @@ module _ (chains : ℕ) (net stil log : Text) where
   no_log n file (stop.Refused r) read test is = inl (n, read, inl (file, test, inr (r, is, refl)))
   no_log n file stop.NoMemory read test is = tt
 
-  diagnosed : (n : Netlist) (file : StilFile) (failures : List Failing) (count : ℕ) (r : Result Product (Stop Refusal)) → IsCase net stil log n file failures
-      → IsWorked (case_due chains n file failures) count r → IsWorked (diagnose_due chains (net ∷ stil ∷ log ∷ [])) count r
-  diagnosed n file failures count r c w =
+  diagnosed : (n : Netlist) (file : StilFile) (told : FailLog) (count : ℕ) (r : Result Product (Stop Refusal)) → IsCase net stil log n file told
+      → IsWorked (case_due chains n file told) count r → IsWorked (diagnose_due chains (net ∷ stil ∷ log ∷ [])) count r
+  diagnosed n file told count r c w =
       then_worked (netlist Design net) (test_due chains stil log) count n r c.net_is
       (then_worked (value StandsFor NotStil stil) (log_due chains log n) count file r c.file_is
-      (then_worked (value IsLogOf NotLog log) (case_due chains n file) count failures r c.log_is w))
+      (then_worked (value IsLogOf NotLog log) (case_due chains n file) count told r c.log_is w))
 
   undiagnosed : (count : ℕ) (s : Stop Refusal) → ReadsCase chains net stil log (Err s) → IsWorked (diagnose_due chains (net ∷ stil ∷ log ∷ [])) count (Err s)
   undiagnosed count (stop.Refused r) is = is

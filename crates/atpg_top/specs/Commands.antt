@@ -68,9 +68,9 @@ chaintest_due asked texts = λ d. ⊥
 -- the faults that explain what failed; how many workers look for them makes no difference
 abbrev pub diagnose_due : ℕ → List Text → Due Refusal → Type 0
 diagnose_due chains (net ∷ stil ∷ log ∷ []) =
-    netlist Design net >>= λ n. value StandsFor NotStil stil >>= λ file. value IsLogOf NotLog log >>= λ failures.
+    netlist Design net >>= λ n. value StandsFor NotStil stil >>= λ file. value IsLogOf NotLog log >>= λ told.
     test (FitsNetlist file (scanned_of n (design_chains n chains))) StilDoesNotFit >>= λ _ d.
-    (text : Text) × IsDiagnosis n (design_chains n chains) (vectors_in file) failures text × (d ≡ Deliver [] text Fine)
+    (text : Text) × IsDiagnosis n (design_chains n chains) (vectors_in file) told text × (d ≡ Deliver [] text Fine)
 diagnose_due chains texts = λ d. ⊥
 
 -- the numbers of a run of the sample netlist, whose test passes

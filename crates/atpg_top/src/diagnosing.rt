@@ -11,6 +11,7 @@ ghost use Rattle.good_files.specs.ScanOff.{design_chains};
 ghost use Rattle.statement.specs.Tests.{vectors_in};
 ghost use Rattle.stil_vectors.specs.Fitting.{FitsNetlist};
 ghost use Rattle.diagnose.specs.Candidates.{AreCandidates, IsScannedDesign};
+ghost use Rattle.diagnose.specs.Explaining.{told_cycles};
 ghost use Rattle.commands.specs.Contents.{most_bytes};
 ghost use Rattle.commands.specs.Names.{texts_of};
 ghost use Rattle.commands.specs.Rows.{CommandRow};
@@ -105,14 +106,14 @@ fn suspects<R: Threads + Sync, G: Gate + Sync>(
     requires design { IsScannedDesign scanned.now faults.now classes.now }
     requires fits { FitsNetlist case.now.file scanned.now.netlist }
     requires workers { (1 ≤ workers) × (workers ≤ most_workers) }
-    ensures { IfOk result (λ found. AreCandidates scanned.now faults.now (vectors_in case.now.file) case.now.log found.items) }
+    ensures { IfOk result (λ found. AreCandidates scanned.now faults.now (told_cycles case.now.log.end (vectors_in case.now.file)) case.now.log.failures found.items) }
 {
     case.file.sound();
     fitting_cycles();
     let core = core_of(alloc, scanned)?;
     let cycles = cycles_of(alloc, &case.file)?;
     candidates(
-        rt, alloc, stage, &core, scanned, faults, classes, &cycles, &case.log, workers,
+        rt, alloc, stage, &core, scanned, faults, classes, cycles, &case.log, workers,
     )
 }
 

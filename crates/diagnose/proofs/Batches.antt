@@ -13,7 +13,6 @@ use Rattle.statement.specs.Runs.{Cycle}
 use Rattle.scan_play.specs.Judging.{IsJudged}
 use Rattle.lane_play.specs.Judged.{AreJudged}
 use Rattle.diagnose.specs.declared.answers.Answer.{Answer}
-use Rattle.diagnose.specs.declared.answers.Answer.TheVariants as answer
 use Rattle.diagnose.specs.inner.Against.{against}
 use Rattle.diagnose.specs.inner.Answers.{AreAnswers, AreAnswersOf, ArePut, IsAnswer, answer_to, at_site}
 

@@ -1,15 +1,12 @@
 -- Lines of failures.
-use Rattle.std.proofs.Common.{◌≡◌, ◌≢◌, ℕ, ◌^◌, ◌<◌, List, [], ◌∷◌, ◌++◌, refl, sym, ◌∙◌, ap, subst, codes, decimal, drop, append_assoc, arith}
-use Rattle.std.specs.List.{All, flat_map}
+use Rattle.std.proofs.Common.{◌≡◌, ◌≢◌, ℕ, ◌^◌, ◌<◌, List, [], ◌∷◌, ◌++◌, refl, sym, ◌∙◌, ap, subst, codes, decimal, append_assoc, arith}
+use Rattle.std.specs.List.{All}
 use Rattle.std.proofs.lemmas.Fmt.{decimal_injective}
-use Rattle.std.proofs.lemmas.List.{append-nil}
 use Rattle.plain_text.proofs.Parts.{byte_inside, same_parts}
 use Rattle.report.specs.Reports.{IsBenchWord}
-use Rattle.report.specs.inner.Lines.{NoneBegins}
 use Rattle.report.proofs.ByteLemmas.{above_append, above_by_test, above_lacks, above_less, number_above, word_above}
-use Rattle.report.proofs.LineLemmas.{IsLined, IsTold, line_told, nothing_begins, same_lines}
+use Rattle.report.proofs.LineLemmas.{IsLined, IsTold, line_told}
 use Rattle.diagnose.specs.Failures.{Failing, IsFailing}
-use Rattle.diagnose.specs.Reading.{IsLogOf}
 use Rattle.diagnose.specs.Texts.{failing_line}
 use Rattle.diagnose.specs.inner.Words.{failure_words}
 
@@ -23,7 +20,7 @@ failure_lined = record {
       (above_append 31 (codes " ") f.signal (above_by_test 31 (codes " ") refl) (above_less 32 31 f.signal (omega arith) (word_above f.signal v.word))));
 }
 
-number_whole : (c : ℕ) → c < 2 ^ 64 → All (λ b. b ≢ 32) (decimal c)
+pub number_whole : (c : ℕ) → c < 2 ^ 64 → All (λ b. b ≢ 32) (decimal c)
 number_whole c l = above_lacks 47 32 (decimal c) (omega arith) (number_above c l)
 
 failure_same : (f g : Failing) → IsFailing f → IsFailing g → failure_words f ≡ failure_words g → f ≡ g
@@ -32,7 +29,7 @@ failure_same f g v w e =
     ap (λ (c : ℕ). record { cycle = c; signal = f.signal }) (decimal_injective f.cycle g.cycle v.small w.small p.0)
     ∙ ap (λ (s : List ℕ). record { cycle = g.cycle; signal = s }) p.1
 
-failure_told : IsTold IsFailing failing_line
+pub failure_told : IsTold IsFailing failing_line
 failure_told = line_told IsFailing failure_words failing_line failure_lined failure_same
 
 -- a line without a blank, with no number before it, or with no name behind it
@@ -48,16 +45,3 @@ module _ (line digits signal : List ℕ) (whole : All (λ b. b ≢ 32) digits) (
 
   pub no_name : (IsBenchWord signal → ⊥) → (f : Failing) → IsFailing f → line ≢ failure_words f
   no_name none f v e = none (subst IsBenchWord (sym (parts f v e).1) v.word)
-
--- lines of failures, with what is left of them
-pub failures_told : (xs ys : List Failing) (rest : List ℕ) → All IsFailing xs → All IsFailing ys → NoneBegins IsFailing failing_line rest
-    → flat_map failing_line xs ++ rest ≡ flat_map failing_line ys → (xs ≡ ys) × (rest ≡ [])
-failures_told xs ys rest v w none e =
-    same_lines IsFailing failing_line failure_told xs ys rest [] v w none (nothing_begins IsFailing failure_words failing_line failure_lined)
-    (e ∙ sym (append-nil (flat_map failing_line ys)))
-
--- behind the 16 bytes of its first line a text is the lines of one log's failures
-pub one_log : (bytes : List ℕ) (log other : List Failing) → IsLogOf bytes log → IsLogOf bytes other → log ≡ other
-one_log bytes log other p q =
-    let same : flat_map failing_line log ≡ flat_map failing_line other = ap (drop 16) (sym p.1 ∙ q.1) in
-    (failures_told log other [] p.0 q.0 (nothing_begins IsFailing failure_words failing_line failure_lined) (append-nil (flat_map failing_line log) ∙ same)).0

@@ -1,4 +1,4 @@
-//! Failures of a test.
+//! Failures of a test, and the logs that tell them.
 ghost use Rattle.std.specs.Prelude.{◌≡◌, ◌<◌, ◌++◌, ◌∷◌, [], length, IfOk, slice_get, Some};
 
 use netlist::NameTable;
@@ -7,12 +7,12 @@ use std::marker::Model;
 
 /// What a tester saw fail, in the order in which it says so. A failure may stand there more than once.
 #[derive(Drop)]
-pub struct FailLog {
+pub struct FailureLines {
     cycles: Vec<u64>,
     signals: NameTable,
 }
 
-impl Model for FailLog {
+impl Model for FailureLines {
     ghost use Rattle.std.specs.Prelude.{◌≡◌, List, length};
     ghost use Rattle.diagnose.specs.Failures.{Failing};
     ghost use Rattle.diagnose.specs.inner.Tables.{failures_of};
@@ -24,6 +24,13 @@ impl Model for FailLog {
     ghost invariant = { λ l. length l.signals ≡ length l.cycles.items };
 }
 
+/// A log: what a tester saw fail, and, where its memory was full, the first cycle of whose strobes it knows nothing.
+#[derive(Drop)]
+pub struct FailLog {
+    pub failures: FailureLines,
+    pub end: Option<u64>,
+}
+
 /// A failure, by reference: the cycle, and the name of the pin.
 #[derive(Clone, Copy)]
 pub struct Failure<'a> {
@@ -31,18 +38,18 @@ pub struct Failure<'a> {
     pub signal: &'a [u8],
 }
 
-impl FailLog {
+impl FailureLines {
     /// Nothing failed.
-    pub fn new(alloc: Global) -> FailLog
+    pub fn new(alloc: Global) -> FailureLines
         ensures { result ≡ [] }
     {
-        FailLog {
+        FailureLines {
             cycles: Vec::new(alloc),
             signals: NameTable::new(alloc),
         }
     }
 
-    /// How many failures the log has.
+    /// How many failures there are.
     pub fn len(&self) -> usize
         ensures { result ≡ length self.now }
     {
@@ -61,8 +68,8 @@ impl FailLog {
     }
 
     /// Adds a failure behind the others.
-    pub fn push(mut self, cycle: u64, signal: &[u8]) -> Result<FailLog, AllocError>
-        ensures { IfOk result (λ log. log ≡ self ++ (record { cycle = cycle; signal = signal.now }) ∷ []) }
+    pub fn push(mut self, cycle: u64, signal: &[u8]) -> Result<FailureLines, AllocError>
+        ensures { IfOk result (λ lines. lines ≡ self ++ (record { cycle = cycle; signal = signal.now }) ∷ []) }
     {
         self.cycles.push(cycle)?;
         self.signals.push(signal)?;

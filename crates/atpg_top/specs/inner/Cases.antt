@@ -10,8 +10,8 @@ use Rattle.stil_read.specs.Reading.{StandsFor}
 use Rattle.statement.specs.Tests.{vectors_in}
 use Rattle.stil_vectors.specs.Fitting.{FitsNetlist}
 use Rattle.statement.specs.Stils.{StilFile}
-use Rattle.diagnose.specs.Failures.{Failing}
 use Rattle.diagnose.specs.Reading.{IsLogOf}
+use Rattle.diagnose.specs.declared.failures.FailLog.{FailLog}
 use Rattle.commands.specs.Due.{Due, Deliver, Refuse}
 use Rattle.commands.specs.declared.ending.Finding.TheVariants.{Fine}
 use Rattle.commands.specs.declared.product.Stop.{Stop}
@@ -23,11 +23,11 @@ use Rattle.atpg_top.specs.declared.diagnosing.Case.{Case}
 use Rattle.atpg_top.specs.declared.refusal.Refusal.{Refusal}
 use Rattle.atpg_top.specs.declared.refusal.Refusal.TheVariants.{NotLog, NotStil, StilDoesNotFit}
 
--- the design, the file and the failures that the texts give
-pub record IsCase (net stil log : Text) (n : Netlist) (file : StilFile) (failures : List Failing) : Type 0 where
+-- the design, the file and the log that the texts give
+pub record IsCase (net stil log : Text) (n : Netlist) (file : StilFile) (told : FailLog) : Type 0 where
   pub net_is : netlist Design net (Ok n)
   pub file_is : value StandsFor NotStil stil (Ok file)
-  pub log_is : value IsLogOf NotLog log (Ok failures)
+  pub log_is : value IsLogOf NotLog log (Ok told)
   pub design : IsDesign n
 
 abbrev pub ReadsCase : ℕ → Text → Text → Text → Result Case (Stop Refusal) → Type 0
@@ -35,18 +35,18 @@ ReadsCase chains net stil log (Ok c) = IsCase net stil log c.netlist c.file c.lo
 ReadsCase chains net stil log (Err (stop.Refused r)) = diagnose_due chains (net ∷ stil ∷ log ∷ []) (Refuse r)
 ReadsCase chains net stil log (Err stop.NoMemory) = ⊤
 
--- what is due of a design, a file that fits its scanned netlist, and failures
-abbrev pub diagnosis_due : ℕ → Netlist → StilFile → List Failing → Due Refusal → Type 0
-diagnosis_due chains n file failures d =
-    (text : Text) × IsDiagnosis n (design_chains n chains) (vectors_in file) failures text × (d ≡ Deliver [] text Fine)
+-- what is due of a design, a file that fits its scanned netlist, and a log
+abbrev pub diagnosis_due : ℕ → Netlist → StilFile → FailLog → Due Refusal → Type 0
+diagnosis_due chains n file log d =
+    (text : Text) × IsDiagnosis n (design_chains n chains) (vectors_in file) log text × (d ≡ Deliver [] text Fine)
 
 -- the same of a file that may not fit
-abbrev pub case_due : ℕ → Netlist → StilFile → List Failing → Due Refusal → Type 0
-case_due chains n file failures = test (FitsNetlist file (scanned_of n (design_chains n chains))) StilDoesNotFit >>= λ _. diagnosis_due chains n file failures
+abbrev pub case_due : ℕ → Netlist → StilFile → FailLog → Due Refusal → Type 0
+case_due chains n file log = test (FitsNetlist file (scanned_of n (design_chains n chains))) StilDoesNotFit >>= λ _. diagnosis_due chains n file log
 
 -- the same of the bytes of a log, and of those of a file
 abbrev pub log_due : ℕ → Text → Netlist → StilFile → Due Refusal → Type 0
-log_due chains log n file = value IsLogOf NotLog log >>= λ failures. case_due chains n file failures
+log_due chains log n file = value IsLogOf NotLog log >>= λ told. case_due chains n file told
 
 abbrev pub test_due : ℕ → Text → Text → Netlist → Due Refusal → Type 0
 test_due chains stil log n = value StandsFor NotStil stil >>= λ file. log_due chains log n file

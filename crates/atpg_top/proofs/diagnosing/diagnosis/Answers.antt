@@ -4,6 +4,7 @@ use Rattle.statement.specs.Faults.{universe_of}
 use Rattle.scan_insert.specs.Scanned.{AreChainsOf}
 use Rattle.statement.specs.Tests.{vectors_in}
 use Rattle.good_files.specs.ScanOff.{design_chains}
+use Rattle.diagnose.specs.Explaining.{told_cycles}
 use Rattle.atpg_top.specs.Diagnoses.{candidates_line, suspect_lines}
 use Rattle.atpg_top.proofs.DiagnoseLemmas.{candidates_at, places_within}
 use Rattle.atpg_top.proofs.diagnosing.diagnosis.Goals as goal
@@ -24,20 +25,22 @@ pub text_of-requires-clause-within : goal.text_of-requires-clause-within
 text_of-requires-clause-within g c =
     let n = c.args.case.now.netlist in
     let chains = design_chains n c.args.options.chains in
-    let cycles = vectors_in c.args.case.now.file in
     let log = c.args.case.now.log in
+    let cycles = vectors_in c.args.case.now.file in
+    let told = told_cycles log.end cycles in
     let found = c.in_ok-found.found.items in
-    let are = candidates_at n chains c.args.scanned.now c.in_ok-faults.faults cycles log found c.requires.scanned c.in_ok-faults.ensures c.in_ok-found.ensures in
-    subst (λ (places : List ℕ). All (λ i. i < length (universe_of n)) places) (sym c.deref.ensures.value) (places_within n chains cycles log found are)
+    let are = candidates_at n chains c.args.scanned.now c.in_ok-faults.faults told log.failures found c.requires.scanned c.in_ok-faults.ensures c.in_ok-found.ensures in
+    subst (λ (places : List ℕ). All (λ i. i < length (universe_of n)) places) (sym c.deref.ensures.value) (places_within n chains told log.failures found are)
 
 pub returns-in-Ok : goal.returns-in-Ok
 returns-in-Ok g c =
     let n = c.args.case.now.netlist in
     let chains = design_chains n c.args.options.chains in
-    let cycles = vectors_in c.args.case.now.file in
     let log = c.args.case.now.log in
+    let cycles = vectors_in c.args.case.now.file in
+    let told = told_cycles log.end cycles in
     let found = c.in_ok-found.found.items in
-    let are = candidates_at n chains c.args.scanned.now c.in_ok-faults.faults cycles log found c.requires.scanned c.in_ok-faults.ensures c.in_ok-found.ensures in
+    let are = candidates_at n chains c.args.scanned.now c.in_ok-faults.faults told log.failures found c.requires.scanned c.in_ok-faults.ensures c.in_ok-found.ensures in
     let are_chains : AreChainsOf n chains = record { asked = c.args.options.chains; some = c.requires.range.chains.0; are = refl } in
     let scanned = c.scanned_is_sound.ensures n chains c.sound.ensures c.requires.design are_chains in
     record {

@@ -1,4 +1,4 @@
-use Rattle.diagnose.proofs.FailureLemmas.{one_log}
+use Rattle.diagnose.proofs.EndLemmas.{one_log}
 use Rattle.diagnose.proofs.log_laws.one_log.Goals as goal
 
 pub returns : goal.returns

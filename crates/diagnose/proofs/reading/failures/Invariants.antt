@@ -5,7 +5,7 @@ use Rattle.diagnose.specs.Texts.{failing_line}
 use Rattle.diagnose.proofs.reading.failures.Given as goal
 
 abbrev pub invariant-lines : goal.invariant-lines
-invariant-lines l = record { read : l.text ≡ flat_map failing_line l.log ++ l.rest; valid : All IsFailing l.log }
+invariant-lines l = record { read : l.text ≡ flat_map failing_line l.lines ++ l.rest; valid : All IsFailing l.lines }
 
 abbrev pub decreases-lines : goal.decreases-lines
 decreases-lines l = length l.rest

@@ -1,7 +1,7 @@
 use Rattle.std.proofs.Common.{◌<◌, length, refl, arith}
 use Rattle.std.proofs.lemmas.Option.{slice_get_read}
 use Rattle.diagnose.proofs.TableLemmas.{seen_failures, read_failure}
-use Rattle.diagnose.proofs.failures.FailLog.get.Goals as goal
+use Rattle.diagnose.proofs.failures.FailureLines.get.Goals as goal
 
 pub index-requires : goal.index-requires
 index-requires c =

@@ -1,5 +1,5 @@
 use Rattle.diagnose.proofs.TableLemmas.{pushed_failure}
-use Rattle.diagnose.proofs.failures.FailLog.push.Goals as goal
+use Rattle.diagnose.proofs.failures.FailureLines.push.Goals as goal
 
 pub returns : goal.returns
 returns c =

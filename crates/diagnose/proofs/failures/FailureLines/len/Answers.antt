@@ -1,6 +1,6 @@
 use Rattle.std.proofs.Common.{arith}
 use Rattle.diagnose.proofs.TableLemmas.{seen_failures}
-use Rattle.diagnose.proofs.failures.FailLog.len.Goals as goal
+use Rattle.diagnose.proofs.failures.FailureLines.len.Goals as goal
 
 pub returns : goal.returns
 returns c =
