@@ -1,5 +1,5 @@
 -- When a refutation is accepted.
-use Rattle.std.specs.Prelude.{ℕ, ⊤, ◌≡◌, ◌<◌, ◌||◌, ◌⊎◌, Bool, not, List, [], ◌∷◌, ◌++◌, map, length, take, slice_index_or, slice_set, Option, Some, None, IsTrue, IsFalse, if◌then◌else◌}
+use Rattle.std.specs.Prelude.{ℕ, ◌≡◌, ◌<◌, ◌||◌, ◌⊎◌, Bool, not, List, [], ◌∷◌, ◌++◌, map, length, take, slice_index_or, slice_set, Option, Some, None, IsTrue, IsFalse, if◌then◌else◌}
 use Rattle.std.specs.List.{All, Contains, slice_get}
 use Rattle.std.specs.Option.{option_map_or}
 use Rattle.statement.specs.declared.lines.Line.{Line}

@@ -26,6 +26,7 @@ use Rattle.refutation_check.specs.inner.Sweeps.{AreTouched, IsTouched, IsGateTou
 use Rattle.refutation_check.specs.inner.Trails.{Trailed}
 use Rattle.refutation_check.proofs.Plain.{plain_keeps, wide_keeps}
 use Rattle.refutation_check.proofs.SweepLemmas.{narrowed_there}
+use Rattle.refutation_check.proofs.SetLemmas.{set_of}
 
 stem_signal : (line : Line) (x : ℕ) → is_line line (Stem x) ≡ true → signal_of line ≡ x
 stem_signal (Stem y) x e = eqb-true y x e
@@ -45,9 +46,6 @@ entered_signal n (Out y) x e = absurd e
 and_true : (b : Bool) → (b && true) ≡ b
 and_true true = refl
 and_true false = refl
-
-abbrev set_of : Bool → Bool → Bool → Bool → Pairs
-set_of z r f o = record { zero = z; rises = r; falls = f; one = o }
 
 meet_any : (s : Pairs) → meet s any_pair ≡ s
 meet_any s =

@@ -16,6 +16,7 @@ use Rattle.refutation.specs.Refutations.{Told, told_of, IsKeeping, IsSwept, IsWi
 use Rattle.refutation_check.specs.inner.Trails.{Trailed, Grows, put, undone}
 use Rattle.refutation_check.specs.inner.Sweeps.{Keeps, Narrows, IsTouched, IsBeside, IsCalm, IsRestricted, AreLooked, bit, pair_count, pair_counts, room}
 use Rattle.refutation_check.proofs.SweepLemmas.{keeping_same, keeps_then}
+use Rattle.refutation_check.proofs.SetLemmas.{set_of}
 
 -- ---- what was touched
 
@@ -168,9 +169,6 @@ less_bits : (a b : Bool) → bit (a && b) ≤ bit a
 less_bits true true = omega arith
 less_bits true false = omega arith
 less_bits false b = omega arith
-
-abbrev set_of : Bool → Bool → Bool → Bool → Pairs
-set_of z r f o = record { zero = z; rises = r; falls = f; one = o }
 
 pub fewer_pairs : (s t : Pairs) → (meet s t ≡ s → ⊥) → pair_count (meet s t) + 1 ≤ pair_count s
 fewer_pairs s t ne =

@@ -34,9 +34,6 @@ append_nil : {X : Type 0} (xs : List X) → xs ++ [] ≡ xs
 append_nil [] = refl
 append_nil (x ∷ xs) = ap (λ ys. x ∷ ys) (append_nil xs)
 
-pub spreads_none : (P : ℕ → Type 0) (m : Marked) → Spreads P m m
-spreads_none P m = record { size = refl; ids = []; list = sym (append_nil m.list); kept = λ x h. h; only = λ x h. inl h; count = refl; listed = λ h. h }
-
 pub spreads_then : (P : ℕ → Type 0) (a b c : Marked) → Spreads P a b → Spreads P b c → Spreads P a c
 spreads_then P a b c g h = record {
   size = h.size ∙ g.size;

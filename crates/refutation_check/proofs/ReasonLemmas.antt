@@ -13,10 +13,6 @@ use Rattle.refutation_check.proofs.GateLemmas.{no_bit}
 
 -- ---- all of a list
 
--- where the one at place i fails
-pub all_fails : {X : Type 0} (P : X → Type 0) (xs : List X) (i : ℕ) (x : X) (b : Bool) → i < length xs → x ≡ get_or xs i x → (b ≡ true) ↔ P x → b ≡ false → (false ≡ true) ↔ All P xs
-all_fails P xs i x b l e is off = no_bit (λ h. both_ways b off (is.1 (subst P (sym e) (h i x l))))
-
 pub all_hold : {X : Type 0} (P : X → Type 0) (xs : List X) (i : ℕ) → length xs ≤ i → All P (take i xs) → (true ≡ true) ↔ All P xs
 all_hold P xs i l h = ((λ _. subst (All P) (take_all i xs l) h), (λ _. refl))
 
@@ -34,11 +30,6 @@ lemma_there steps lemmas told k step clause b e l is c none =
     ) where
       some_same : {x y : List Literal} → Some x ≡ Some y → x ≡ y
       some_same e = cc
-
-pub no_lemma : (steps : List Step) (told : Told) (k : ℕ) → length steps ≤ k → (false ≡ true) ↔ IsLemmaBlocked (clauses steps) told k
-no_lemma steps told k l = no_bit (λ w.
-    let within = slice_get_within (clauses steps) k w.clause w.there in
-    let size = length-map steps (λ (s : Step). s.clause) in omega arith)
 
 pub mapped_contains : {X Y : Type 0} (g : X → Y) (xs : List X) (x : X) → Contains xs x → Contains (map g xs) (g x)
 mapped_contains g xs x c = (c.0, (let e = length-map xs g in let l = c.1 in omega arith), get_or-map g xs c.0 x (g x) c.1 ∙ ap g c.2)

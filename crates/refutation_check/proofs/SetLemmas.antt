@@ -35,7 +35,7 @@ apart_none s t common is = ((λ h p. apart_of s t p.good p.faulty (sym is ∙ no
 
 -- ---- each pair of one set in another
 
-abbrev set_of : Bool → Bool → Bool → Bool → Pairs
+abbrev pub set_of : Bool → Bool → Bool → Bool → Pairs
 set_of z r f o = record { zero = z; rises = r; falls = f; one = o }
 
 keeps_bit : (a b : Bool) → (a && not b) ≡ false → (a && b) ≡ a

@@ -12,10 +12,6 @@ pub undone-append : (cs ds : List Change) (told : Told) → undone (cs ++ ds) to
 undone-append [] ds told = refl
 undone-append (c ∷ cs) ds told = ap (λ (t : Told). set t c.signal c.before) (undone-append cs ds told)
 
-pub length-undone : (cs : List Change) (told : Told) → length (undone cs told) ≡ length told
-length-undone [] told = refl
-length-undone (c ∷ cs) told = length-set (undone cs told) c.signal c.before ∙ length-undone cs told
-
 -- a value written back where it stood
 put_back : {X : Type 0} (xs : List X) (i : ℕ) (v d : X) → set (set xs i v) i (get_or xs i d) ≡ xs
 put_back [] zero v d = refl
@@ -53,14 +49,6 @@ had_back was now depth told trail long g told_is trail_is =
     let front : take depth now.trail ≡ was.trail = ap (take depth) g.trail ∙ take_at was.trail g.changes depth long in
     ap (λ (t : Told). record { told = t; trail = trail }) (told_is ∙ (ap (λ cs. undone cs now.told) rest ∙ g.told))
     ∙ ap (λ (ts : List Change). record { told = was.told; trail = ts }) (trail_is ∙ front)
-
--- one change more taken back
-pub undone_more : (trail : List Change) (k j : ℕ) (c : Change) (told now : Told) → k ≡ j + 1 → j < length trail → c ≡ get_or trail j c → now ≡ undone (drop k trail) told
-    → set now c.signal c.before ≡ undone (drop j trail) told
-undone_more trail k j c told now next l is h =
-    let here : drop j trail ≡ c ∷ drop k trail =
-    drop-cons trail j c l ∙ (ap (λ (d : Change). d ∷ drop (suc j) trail) (sym is) ∙ ap (λ i. c ∷ drop i trail) (let e : suc j ≡ k = omega arith in e)) in
-    ap (λ (t : Told). set t c.signal c.before) h ∙ ap (λ cs. undone cs told) (sym here)
 
 pub grows_by : {T E : Type 0} (r : Result T E) (t new : Trailed) (x : ℕ) (s : Pairs) → OnOk r (new ≡ put t x s) → OnErr r (new ≡ t) → Grows t new
 grows_by (Ok v) t new x s h k = subst (Grows t) (sym h) (grows_put t x s)

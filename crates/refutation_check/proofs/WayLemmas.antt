@@ -131,9 +131,6 @@ spreads_passer n sound told x line c start old new z k g is s t =
 
 -- ---- one signal after the other
 
-pub ways_none : (n : Netlist) (told : Told) (m : Marked) → AreOnWays n told m m
-ways_none n told m x h set closed = closed.marked x h
-
 pub ways_more : (n : Netlist) (told : Told) (start old new : Marked) (id : ℕ) → is_marked old.marks id ≡ true → Spreads (PassedBy n told id) old new → AreOnWays n told start old → AreOnWays n told start new
 ways_more n told start old new id here s h x m set closed = elim (s.only x m) [ inl w ↦ h x w set closed | inr r ↦ closed.passed id x (h id here set closed) r ]
 

@@ -1,7 +1,9 @@
 //! What gates allow of the pairs that signals may have: each gate beside a signal that was changed is looked at, until nothing changes.
 //!
 //! The trail is the list of work, since each change is noted there. A look at a gate narrows its signal to what its pins make, and then, unless they
-//! make nothing else, each pin to the pairs with which the gate isn't blocked. It ends since each change takes a pair.
+//! make nothing else, each pin to the pairs with which the gate isn't blocked. It ends since each change takes a pair. No gate is flagged as waiting, so
+//! some looks see nothing new; and each pair of each pin is tried, so that a look is square in the pins of a wide gate. By what the pins before one and
+//! those behind it make it would be linear, with the same answers.
 //! (Arc consistency: Mackworth, Consistency in networks of relations, 1977.)
 ghost use Rattle.std.specs.Prelude.{◌≡◌, ◌<◌, ◌↔◌, length, IfOk, IsTrue, OnOk};
 ghost use Rattle.std.specs.Bool.{MatchBool};

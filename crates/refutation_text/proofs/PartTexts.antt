@@ -12,7 +12,7 @@ use Rattle.refutation.specs.declared.steps.Reason.{Reason}
 use Rattle.refutation.specs.declared.steps.Reason.TheVariants.{Gate, Lemma, Way, Gates}
 use Rattle.refutation_text.specs.Texts.{bit_byte, implied_text, literal_text, move_text, pairs_text, reason_text, IsImplied, IsLiteral, IsMove, IsReason}
 use Rattle.refutation_text.specs.inner.Parts.{last_text, numbered, IsAt, IsMark, IsSmall, NoneAt}
-use Rattle.refutation_text.proofs.Codes.{IsCode, no_left, no_right, both_here, same_both}
+use Rattle.refutation_text.proofs.Codes.{IsCode, no_left, no_right, same_both}
 use Rattle.refutation_text.proofs.Numbered.{no_blank, no_colon, no_semicolon, no_tilde, same_number}
 
 same_bit : (b c : Bool) → bit_byte b ≡ bit_byte c → b ≡ c
@@ -66,10 +66,6 @@ pub no_pairs : (text : List ℕ) (x : ℕ) (t : List ℕ) → IsAt (numbered 58)
 no_pairs text x t first none =
     no_right (numbered 58) IsSmall pairs_text Any literal_text IsLiteral (λ l. l.signal) (λ l. l.pairs) literal_shape (λ l h. h) (λ l h. tt)
     (same_number 58 no_colon) text x t first (λ p r at. none p r at.parts)
-
-pub literal_here : (text t rest : List ℕ) (l : Literal) → IsLiteral l → text ≡ numbered 58 l.signal ++ t → t ≡ pairs_text l.pairs ++ rest → IsAt literal_text IsLiteral text l rest
-literal_here =
-    both_here (numbered 58) IsSmall pairs_text Any literal_text IsLiteral (λ l. l.signal) (λ l. l.pairs) literal_shape (λ l h. h) (λ l h. tt)
 
 -- no literal begins with `;` or `~`
 number_other : (mark : ℕ) (ds r s : List ℕ) → 58 < mark → All (λ b. b ≢ mark) ds → ds ++ 58 ∷ r ≡ mark ∷ s → ⊥
@@ -141,10 +137,6 @@ same_move Sweep Sweep r s p q e = (refl, append_cancel_left (codes "~ ") r s e)
 pub move_other : (m : Move) (r s : List ℕ) → IsMove m → move_text m ++ r ≡ 59 ∷ s → ⊥
 move_other (Imply i) r s valid e = implied_apart 59 (omega arith) no_semicolon i r s valid e
 move_other Sweep r s valid e = let differ : ◌≡◌ {A = ℕ} 126 59 = ap (λ zs. get_or zs 0 0) e in absurd (omega arith)
-
-pub no_move : (text : List ℕ) → ((r : List ℕ) → text ≢ codes "~ " ++ r) → NoneAt implied_text IsImplied text → NoneAt move_text IsMove text
-no_move text sweep none (Imply i) rest at = none i rest (record { valid = at.valid; parts = at.parts })
-no_move text sweep none Sweep rest at = sweep rest at.parts
 
 -- ---- the last reason
 

@@ -34,19 +34,10 @@ same_reasons =
     same_both (listed move_text) (All IsMove) last_text IsReason reasons_text AreReasons (λ p. p.0) (λ p. p.1) reasons_shape (λ p h. h.moves) (λ p h. h.last)
     same_moves same_last same_pair
 
-pub no_moves : (text : List ℕ) → NoneAt (listed move_text) (All IsMove) text → NoneAt reasons_text AreReasons text
-no_moves = no_left (listed move_text) (All IsMove) last_text IsReason reasons_text AreReasons (λ p. p.0) (λ p. p.1) reasons_shape (λ p h. h.moves) (λ p h. h.last)
-
 pub no_last : (text : List ℕ) (x : List Move) (t : List ℕ) → IsAt (listed move_text) (All IsMove) text x t → NoneAt last_text IsReason t → NoneAt reasons_text AreReasons text
 no_last =
     no_right (listed move_text) (All IsMove) last_text IsReason reasons_text AreReasons (λ p. p.0) (λ p. p.1) reasons_shape (λ p h. h.moves) (λ p h. h.last)
     same_moves
-
-pub reasons_here : (text : List ℕ) (xs : List Move) (t : List ℕ) (last : Reason) (rest : List ℕ) → IsAt (listed move_text) (All IsMove) text xs t → IsAt last_text IsReason t last rest
-    → IsAt reasons_text AreReasons text (xs, last) rest
-reasons_here text xs t last rest first second =
-    both_here (listed move_text) (All IsMove) last_text IsReason reasons_text AreReasons (λ p. p.0) (λ p. p.1) reasons_shape (λ p h. h.moves) (λ p h. h.last)
-    text t rest (xs, last) (record { moves = first.valid; last = second.valid }) first.parts second.parts
 
 -- ---- steps
 

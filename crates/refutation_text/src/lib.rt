@@ -1,7 +1,7 @@
 //! The steps of a refutation as text, both ways: on one line, each step behind a blank, as `( 5:0110 ; ~ 7:1000 =7 ; ! )`.
 //!
-//! Gives: `write_steps`, `push_steps`, `read_steps`.
-//! Proved: `write_steps`, `push_steps`: the one text of these steps; `read_steps` exactly; no two lists of steps have one text.
+//! Gives: `push_steps`, `read_steps`.
+//! Proved: `push_steps`: the one text of these steps; `read_steps` exactly; no two lists of steps have one text.
 //! Neither: time.
 #![tactic(auto)]
 
@@ -12,4 +12,4 @@ mod writing;
 
 pub use laws::one_text;
 pub use reading::{TextFault, read_steps};
-pub use writing::{push_steps, write_steps};
+pub use writing::push_steps;

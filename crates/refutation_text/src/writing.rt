@@ -1,13 +1,12 @@
 //! Steps as text.
-ghost use Rattle.std.specs.Prelude.{◌≡◌, ◌∷◌, ◌++◌, [], codes, decimal, IfOk, OnOk};
+ghost use Rattle.std.specs.Prelude.{◌≡◌, ◌∷◌, ◌++◌, [], codes, decimal, OnOk};
 ghost use Rattle.std.specs.List.{All, flat_map};
-ghost use Rattle.refutation_text.specs.Texts.{bit_byte, implied_text, literal_text, move_text, pairs_text, reason_text, step_text, text_of, AreSteps, IsImplied, IsLiteral, IsMove, IsReason, IsStep};
+ghost use Rattle.refutation_text.specs.Texts.{bit_byte, implied_text, literal_text, move_text, pairs_text, reason_text, step_text, text_of, IsImplied, IsLiteral, IsMove, IsReason, IsStep};
 ghost use Rattle.refutation_text.specs.inner.Parts.{AreReasons};
 
 use itoa::Buffer;
-use netlist::NoMemory;
 use refutation::{Implied, Literal, Move, Pairs, Reason, Step};
-use std::alloc::{AllocError, Global};
+use std::alloc::AllocError;
 
 fn bit_byte(bit: bool) -> u8
     ensures { result ≡ bit_byte bit }
@@ -132,15 +131,4 @@ pub fn push_steps(text: &mut Vec<u8>, steps: &[Step]) -> Result<(), AllocError>
         push_step(text, step)?;
     }
     Ok(())
-}
-
-/// The text of these steps, in this order.
-pub fn write_steps(alloc: Global, steps: &[Step]) -> Result<Vec<u8>, NoMemory>
-    ensures { IfOk result (λ text. AreSteps text.items steps.now) }
-{
-    let mut text = Vec::new(alloc);
-    match push_steps(&mut text, steps) {
-        Ok(()) => Ok(text),
-        Err(_) => Err(NoMemory),
-    }
 }
