@@ -12,7 +12,7 @@ use netlist::{Definition, Netlist, NoMemory, SignalId};
 use std::alloc::{AllocError, Global};
 
 /// Writes `keyword(name)` and LF.
-#[tactic(auto, unfolding(crate::specs::Canonical::port_line))]
+#[tactic(auto, unfolding(statement::specs::Benches::port_line))]
 fn push_port(out: &mut Vec<u8>, keyword: &[u8], name: &[u8]) -> Result<(), AllocError>
     ensures { OnOk result (out.new.items ≡ out.old.items ++ port_line keyword.now name.now ++ 10 ∷ []) }
 {
@@ -65,7 +65,7 @@ fn push_pins(out: &mut Vec<u8>, netlist: &Netlist, pins: &[SignalId]) -> Result<
 }
 
 /// Writes `name = KIND(a, b)` and LF.
-#[tactic(auto, unfolding(crate::specs::Canonical::definition_line))]
+#[tactic(auto, unfolding(statement::specs::Benches::definition_line))]
 fn push_equation(
     out: &mut Vec<u8>,
     netlist: &Netlist,

@@ -1,15 +1,18 @@
 -- The table is made as it is written, and is one of which `clap`'s rule speaks.
-use Rattle.std.proofs.Common.{◌≡◌, Bor, List, [], ◌∷◌, ◌++◌, Option, Some, Result, IfOk, ap, codes, ◌∙◌, true, refl}
+use Rattle.std.proofs.Common.{◌≡◌, ◌<◌, ◌+◌, ℕ, Bool, Bor, List, [], ◌∷◌, ◌++◌, Option, Some, Result, Ok, IfOk, ap, ap₂, sym, ◌∙◌, true, false, refl, length, get_or, take, map, append_assoc, append-nil}
+use Rattle.std.specs.Prelude.{◌||◌}
+use Rattle.std.proofs.lemmas.List.{map_push, take_more}
 use Rattle.std.proofs.lemmas.Result.{IfOk-weaker}
-use Rattle.plain_text.specs.Limits.{most_chains, most_limit, most_workers}
-use Rattle.clap.specs.Words.{App, Rule, Shape, Text, app_of, is_simple, new_app, shape_of, with_rule}
+use Rattle.clap.specs.Words.{AddsArg, AddsSubcommand, App, Rule, Shape, Text, app_of, is_simple, new_app, rule_of, with_rule, with_subcommand}
 use Rattle.clap.specs.Faults.{is_simple_and_free}
 use Rattle.clap.specs.Simple.{app_of_fields, on_top}
+use Rattle.clap.specs.declared.builder.arg.Arg.{Arg}
 use Rattle.clap.specs.declared.builder.command.Command.{Command}
 use Rattle.clap.specs.declared.builder.command.Command.TheOpen.{Command-F}
 use Rattle.clap.specs.declared.builder.command.Command.TheViews.{out-Command as fields_of}
-use Rattle.command_line.specs.Table.{command, command_table, most_seed, number_option, required, text_option}
-use Rattle.command_line.specs.inner.SearchTable.{with_search}
+use Rattle.command_line.specs.declared.clap_table.Argument.{Argument}
+use Rattle.command_line.specs.Table.{command, command_table}
+use Rattle.command_line.specs.inner.Arguments.{Adds, Grows, IsShaped, asked_by, with_rules}
 
 -- ---- a setting changes one field of many. The fields are a variable here: compared as a command's own, each one that differs would be unfolded first
 
@@ -30,6 +33,9 @@ module _ (f : Command-F Command) where
   name_apart g = refl
 
 module _ (old new : Command) where
+  pub about_local : (about : Option (Bor Text)) → fields_of new ≡ record (fields_of old) { about = about } → (fields_of new).has_globals ≡ (fields_of old).has_globals
+  about_local about is = ap (λ (f : Command-F Command). f.has_globals) is
+
   pub with_about : (about : Option (Bor Text)) → fields_of new ≡ record (fields_of old) { about = about } → app_of new ≡ app_of old
   with_about about is = ap app_of_fields is ∙ about_apart (fields_of old) about
 
@@ -47,38 +53,62 @@ module _ (old new : Command) where
 
 -- ---- a command grows by one argument after the other. Names and arguments are variables here, so that no proof about a command computes with them
 
--- it has this name and these arguments, and no command below it
-pub record IsAlone (app : App) (name : Text) (rules : List Rule) : Type 0 where
-  pub is : app ≡ record { top = command name rules; subs = [] }
+module _ (app : App) where
+  abbrev put : List Rule → App
+  put rules = record app { top = record app.top { rules = rules } }
 
-pub started : (name : Text) (app : App) → app ≡ new_app name → IsAlone app name []
-started name app is = record { is = is }
+  none_yet : app ≡ with_rules app []
+  none_yet = ap put (sym (append-nil app.top.rules))
 
-pub grown : {name : Text} {rules : List Rule} {before after : App} (rule : Rule) → IsAlone before name rules → after ≡ with_rule before rule
-    → IsAlone after name (rules ++ rule ∷ [])
-grown rule alone made = record { is = made ∙ ap (λ (a : App). with_rule a rule) alone.is }
+  one_more : (rules : List Rule) (rule : Rule) → with_rule (with_rules app rules) rule ≡ with_rules app (rules ++ rule ∷ [])
+  one_more rules rule = ap put (append_assoc app.top.rules rules (rule ∷ []))
 
--- by its last argument, which memory may be refused to
-pub completed : {E : Type 0} {name : Text} {rules : List Rule} {before : App} (r : Result Command E) (rule : Rule) → IsAlone before name rules
-    → IfOk r (λ c. app_of c ≡ with_rule before rule) → IfOk r (λ c. shape_of c ≡ command name (rules ++ rule ∷ []))
-completed {name = name} {rules = rules} {before = before} r rule alone made =
-    IfOk-weaker r (λ c. app_of c ≡ with_rule before rule) (λ c. shape_of c ≡ command name (rules ++ rule ∷ []))
-    (λ c e. ap (λ (a : App). a.top) (e ∙ ap (λ (a : App). with_rule a rule) alone.is)) made
+not_global : (b : Bool) → (b || false) ≡ b
+not_global true = refl
+not_global false = refl
 
--- the arguments of a search, one after the other, and the last
-pub searching : {E : Type 0} (start net prefix chains workers limit seed : App) (r : Result Command E) → net ≡ with_rule start (required (codes "NET"))
-    → prefix ≡ with_rule net (required (codes "PREFIX")) → chains ≡ with_rule prefix (number_option (codes "chains") 1 most_chains)
-    → workers ≡ with_rule chains (number_option (codes "workers") 1 most_workers) → limit ≡ with_rule workers (number_option (codes "limit") 1 most_limit)
-    → seed ≡ with_rule limit (number_option (codes "seed") 0 most_seed) → IfOk r (λ c. app_of c ≡ with_rule seed (text_option (codes "engine")))
-    → IfOk r (λ c. app_of c ≡ with_search start)
-searching start net prefix chains workers limit seed r is_net is_prefix is_chains is_workers is_limit is_seed made =
-    let to_prefix = is_prefix ∙ ap (λ (a : App). with_rule a (required (codes "PREFIX"))) is_net in
-    let to_chains = is_chains ∙ ap (λ (a : App). with_rule a (number_option (codes "chains") 1 most_chains)) to_prefix in
-    let to_workers = is_workers ∙ ap (λ (a : App). with_rule a (number_option (codes "workers") 1 most_workers)) to_chains in
-    let to_limit = is_limit ∙ ap (λ (a : App). with_rule a (number_option (codes "limit") 1 most_limit)) to_workers in
-    let to_seed = is_seed ∙ ap (λ (a : App). with_rule a (number_option (codes "seed") 0 most_seed)) to_limit in
-    IfOk-weaker r (λ c. app_of c ≡ with_rule seed (text_option (codes "engine"))) (λ c. app_of c ≡ with_search start)
-    (λ c e. e ∙ ap (λ (a : App). with_rule a (text_option (codes "engine"))) to_seed) made
+pub begun : (c : Command) → Grows c [] c
+begun c = record {
+  app = none_yet (app_of c);
+  local = refl;
+}
+
+-- by the argument at this place
+pub grown : (start before after : Command) (arguments : List Argument) (i : ℕ) (none : Argument) (a : Arg) → i < length arguments
+    → Grows start (map asked_by (take i arguments)) before → rule_of a ≡ asked_by (get_or arguments i none) → a.global ≡ false → AddsArg before a after
+    → Grows start (map asked_by (take (i + 1) arguments)) after
+grown start before after arguments i none a within so asked local added =
+    let rules = map asked_by (take i arguments) in
+    let here = get_or arguments i none in
+    let more : rules ++ asked_by here ∷ [] ≡ map asked_by (take (i + 1) arguments) =
+    sym (map_push asked_by (take i arguments) here) ∙ ap (map asked_by) (sym (take_more arguments i none within)) in
+    record {
+      app = added.shape local ∙ ap₂ with_rule so.app asked ∙ one_more (app_of start) rules (asked_by here) ∙ ap (with_rules (app_of start)) more;
+      local = added.globals ∙ ap (λ b. (fields_of before).has_globals || b) local ∙ not_global (fields_of before).has_globals ∙ so.local;
+    }
+
+-- a command with no argument yet
+pub started : (name : Text) (c : Command) → app_of c ≡ new_app name → (fields_of c).has_globals ≡ false → IsShaped (command name []) c
+started name c is local = record {
+  shape = ap (λ (a : App). a.top) is;
+  local = local;
+}
+
+pub shaped : {E : Type 0} (name : Text) (rules more : List Rule) (c : Command) (r : Result Command E) → IsShaped (command name rules) c → IfOk r (Grows c more)
+    → IfOk r (IsShaped (command name (rules ++ more)))
+shaped name rules more c r is grows =
+    IfOk-weaker r (Grows c more) (IsShaped (command name (rules ++ more)))
+    (λ k g. record { shape = ap (λ (a : App). a.top) g.app ∙ ap (λ (s : Shape). record s { rules = s.rules ++ more }) is.shape; local = g.local ∙ is.local }) grows
+
+-- ---- the table grows by one command after the other
+
+pub adds : {E : Type 0} (table command : Command) (t c r : Result Command E) → t ≡ Ok table → c ≡ Ok command → IfOk r (AddsSubcommand table command) → Adds t c r
+adds table command t c r is_table is_command added = record {
+  app = λ before shape made here.
+      let app : app_of table ≡ before = rw is_table at made in
+      let sub : IsShaped shape command = rw is_command at here in
+      IfOk-weaker r (AddsSubcommand table command) (λ k. app_of k ≡ with_subcommand before shape) (λ k g. g.shape sub.local ∙ ap₂ with_subcommand app sub.shape) added;
+}
 
 -- ---- what `clap`'s rule asks of it
 

@@ -1,238 +1,240 @@
 //! The table of commands, as `clap` takes it.
-ghost use Rattle.std.specs.Prelude.{◌≡◌, ◌≤◌, IfOk, false};
-ghost use Rattle.clap.specs.Words.{app_of, rule_of, shape_of, with_rule, with_subcommand};
+ghost use Rattle.std.specs.Prelude.{◌≡◌, ◌≤◌, IfOk, false, map};
+ghost use Rattle.clap.specs.Words.{app_of, rule_of};
 ghost use Rattle.clap.specs.declared.builder.command.Command.TheViews.{out-Command as fields_of};
 ghost use Rattle.command_line.specs.Table.{
   chaintest_command,
   check_command,
+  command,
   command_table,
   diagnose_command,
   faults_command,
-  number_option,
   play_command,
   program,
-  required,
-  required_number,
   run_command,
   scan_command,
+  search_rules,
   sweep_command,
-  text_option,
   transition_command,
 };
-ghost use Rattle.command_line.specs.inner.SearchTable.{with_search};
+ghost use Rattle.command_line.specs.inner.Arguments.{Adds, Grows, IsShaped, asked_by};
 
 use clap::builder::ValueParser;
 use clap::{Arg, Command};
 use plain_text::{FEWEST_GATES, MOST_CHAINS, MOST_GATES, MOST_LIMIT, MOST_WORKERS};
 use std::alloc::{AllocError, Global};
 
-// The command with one more argument.
-fn with_argument<'a>(command: Command<'a>, argument: Arg<'a>) -> Result<Command<'a>, AllocError>
-    requires { argument.global ≡ false }
-    ensures app { IfOk result (λ c. app_of c
-        ≡ with_rule (app_of command.entry) (rule_of argument.entry)) }
-    ensures local { (fields_of command.entry).has_globals ≡ false
-        → IfOk result (λ c. (fields_of c).has_globals ≡ false) }
-{
-    command.arg(argument)
+/// An argument of a command: its name, the least and the greatest of a number, and its help.
+#[derive(Clone, Copy)]
+enum Argument<'a> {
+    /// A value that must be there, known by its place.
+    Required(&'a str, &'a str),
+    /// A number that must be there, known by its place.
+    RequiredNumber(&'a str, u64, u64, &'a str),
+    /// `--name text`.
+    Text(&'a str, &'a str),
+    /// `--name number`.
+    Number(&'a str, u64, u64, &'a str),
 }
 
-// With a value that must be there, known by its place.
-fn with_required<'a>(
+use Argument::{Number, Required, RequiredNumber, Text};
+
+// The argument in the terms of `clap`.
+fn arg<'a>(alloc: Global, argument: Argument<'a>) -> Arg<'a>
+    ensures rule { rule_of result ≡ asked_by argument.entry }
+    ensures local { result.global ≡ false }
+{
+    match argument {
+        Required(name, help) => Arg::new(alloc, name).required(true).help(help),
+        RequiredNumber(name, low, high, help) => Arg::new(alloc, name)
+            .required(true)
+            .help(help)
+            .value_parser(ValueParser::unsigned(low, high)),
+        Text(name, help) => Arg::new(alloc, name).long(name).help(help),
+        Number(name, low, high, help) => Arg::new(alloc, name)
+            .long(name)
+            .help(help)
+            .value_parser(ValueParser::unsigned(low, high)),
+    }
+}
+
+// The command with more arguments.
+fn with_arguments<'a>(
     alloc: Global,
     command: Command<'a>,
-    id: &'a str,
-    help: &'a str,
+    arguments: &[Argument<'a>],
 ) -> Result<Command<'a>, AllocError>
-    ensures app { IfOk result (λ c. app_of c ≡ with_rule (app_of command.entry) (required id.entry.now)) }
-    ensures local { (fields_of command.entry).has_globals ≡ false
-        → IfOk result (λ c. (fields_of c).has_globals ≡ false) }
+    ensures { IfOk result (Grows command.entry (map asked_by arguments.now)) }
 {
-    let argument = Arg::new(alloc, id).required(true).help(help);
-    with_argument(command, argument)
+    let mut command = command;
+    for it in arguments {
+        command = command.arg(arg(alloc, *it))?;
+    }
+    Ok(command)
 }
 
-// With a number that must be there, from `low` to `high`.
-fn with_required_number<'a>(
+// A command by its name and its arguments.
+fn command<'a>(
     alloc: Global,
-    command: Command<'a>,
-    id: &'a str,
-    low: u64,
-    high: u64,
-    help: &'a str,
-) -> Result<Command<'a>, AllocError>
-    ensures app { IfOk result (λ c. app_of c ≡ with_rule (app_of command.entry) (required_number id.entry.now low high)) }
-    ensures local { (fields_of command.entry).has_globals ≡ false
-        → IfOk result (λ c. (fields_of c).has_globals ≡ false) }
-{
-    let argument = Arg::new(alloc, id).required(true).help(help);
-    let argument = argument.value_parser(ValueParser::unsigned(low, high));
-    with_argument(command, argument)
-}
-
-// With `--name text`.
-fn with_text<'a>(
-    alloc: Global,
-    command: Command<'a>,
     name: &'a str,
-    help: &'a str,
+    about: &'a str,
+    arguments: &[Argument<'a>],
 ) -> Result<Command<'a>, AllocError>
-    ensures app { IfOk result (λ c. app_of c ≡ with_rule (app_of command.entry) (text_option name.entry.now)) }
-    ensures local { (fields_of command.entry).has_globals ≡ false
-        → IfOk result (λ c. (fields_of c).has_globals ≡ false) }
+    ensures { IfOk result (IsShaped (command name.entry.now (map asked_by arguments.now))) }
 {
-    let argument = Arg::new(alloc, name).long(name).help(help);
-    with_argument(command, argument)
+    with_arguments(alloc, Command::new(alloc, name).about(about), arguments)
 }
 
-// With `--name number`, from `low` to `high`.
-fn with_number<'a>(
-    alloc: Global,
-    command: Command<'a>,
-    name: &'a str,
-    low: u64,
-    high: u64,
-    help: &'a str,
+// The table with one more command, where there was memory for both.
+fn with_command<'a>(
+    table: Result<Command<'a>, AllocError>,
+    command: Result<Command<'a>, AllocError>,
 ) -> Result<Command<'a>, AllocError>
-    ensures app { IfOk result (λ c. app_of c ≡ with_rule (app_of command.entry) (number_option name.entry.now low high)) }
-    ensures local { (fields_of command.entry).has_globals ≡ false
-        → IfOk result (λ c. (fields_of c).has_globals ≡ false) }
+    ensures { Adds table.entry command.entry result }
 {
-    let argument = Arg::new(alloc, name).long(name).help(help);
-    let argument = argument.value_parser(ValueParser::unsigned(low, high));
-    with_argument(command, argument)
-}
-
-// The program's words with one more command.
-fn with_command<'a>(table: Command<'a>, command: Command<'a>) -> Result<Command<'a>, AllocError>
-    requires { (fields_of command).has_globals ≡ false }
-    ensures { IfOk result (λ c. app_of c
-        ≡ with_subcommand (app_of table.entry) (shape_of command.entry)) }
-{
-    table.subcommand(command)
+    table?.subcommand(command?)
 }
 
 fn scan<'a>(alloc: Global) -> Result<Command<'a>, AllocError>
-    ensures shape { IfOk result (λ c. shape_of c ≡ scan_command) }
-    ensures local { IfOk result (λ c. (fields_of c).has_globals ≡ false) }
+    ensures { IfOk result (IsShaped scan_command) }
 {
-    let command = Command::new(alloc, "scan").about("Puts scan cells into a netlist");
-    let command = with_required(alloc, command, "NET", "The netlist, a .bench file")?;
-    let command = with_required(alloc, command, "OUT", "The file for the scanned netlist")?;
-    let help = "How many chains at most, 1 to 256 [default: 1]";
-    with_number(alloc, command, "chains", 1, MOST_CHAINS, help)
+    let about = "Puts scan cells into a netlist";
+    let chains = "How many chains at most, 1 to 256 [default: 1]";
+    command(
+        alloc,
+        "scan",
+        about,
+        &[
+            Required("NET", "The netlist, a .bench file"),
+            Required("OUT", "The file for the scanned netlist"),
+            Number("chains", 1, MOST_CHAINS, chains),
+        ],
+    )
 }
 
 fn faults<'a>(alloc: Global) -> Result<Command<'a>, AllocError>
-    ensures shape { IfOk result (λ c. shape_of c ≡ faults_command) }
-    ensures local { IfOk result (λ c. (fields_of c).has_globals ≡ false) }
+    ensures { IfOk result (IsShaped faults_command) }
 {
     let about = "Lists the faults of a netlist and their classes";
-    let command = Command::new(alloc, "faults").about(about);
-    with_required(alloc, command, "NET", "The netlist, a .bench file")
+    let net = Required("NET", "The netlist, a .bench file");
+    command(alloc, "faults", about, &[net])
 }
 
-// With what `run` and `transition` have alike.
-fn with_search<'a>(alloc: Global, command: Command<'a>) -> Result<Command<'a>, AllocError>
-    ensures app { IfOk result (λ c. app_of c ≡ with_search (app_of command.entry)) }
-    ensures local { (fields_of command.entry).has_globals ≡ false
-        → IfOk result (λ c. (fields_of c).has_globals ≡ false) }
+// What `run` and `transition` have alike.
+fn search_arguments<'a>() -> [Argument<'a>; 7]
+    ensures { map asked_by result ≡ search_rules }
 {
-    let command = with_required(alloc, command, "NET", "The netlist, a .bench file")?;
-    let help = "What the names of the five files begin with";
-    let command = with_required(alloc, command, "PREFIX", help)?;
-    let help = "How many chains at most, 1 to 256 [default: 1]";
-    let command = with_number(alloc, command, "chains", 1, MOST_CHAINS, help)?;
-    let help = "How many workers, 1 to 64 [default: 1]";
-    let command = with_number(alloc, command, "workers", 1, MOST_WORKERS, help)?;
-    let help = "The backtrack limit: how many ends a search may close, 1 to 100000 [default: 100]";
-    let command = with_number(alloc, command, "limit", 1, MOST_LIMIT, help)?;
-    let help = "What free bits are drawn from [default: 1]";
-    let command = with_number(alloc, command, "seed", 0, u64::MAX, help)?;
-    let help = "The search: podem or fan [default: podem]";
-    with_text(alloc, command, "engine", help)
+    let prefix = "What the names of the five files begin with";
+    let chains = "How many chains at most, 1 to 256 [default: 1]";
+    let workers = "How many workers, 1 to 64 [default: 1]";
+    let limit = "The backtrack limit: how many ends a search may close, 1 to 100000 [default: 100]";
+    [
+        Required("NET", "The netlist, a .bench file"),
+        Required("PREFIX", prefix),
+        Number("chains", 1, MOST_CHAINS, chains),
+        Number("workers", 1, MOST_WORKERS, workers),
+        Number("limit", 1, MOST_LIMIT, limit),
+        Number(
+            "seed",
+            0,
+            u64::MAX,
+            "What free bits are drawn from [default: 1]",
+        ),
+        Text("engine", "The search: podem or fan [default: podem]"),
+    ]
 }
 
 fn run<'a>(alloc: Global) -> Result<Command<'a>, AllocError>
-    ensures shape { IfOk result (λ c. shape_of c ≡ run_command) }
-    ensures local { IfOk result (λ c. (fields_of c).has_globals ≡ false) }
+    ensures { IfOk result (IsShaped run_command) }
 {
-    let command = Command::new(alloc, "run").about("Searches tests for the faults of a netlist");
-    let command = with_search(alloc, command)?;
-    let help = "Inputs that are held, as NAME=0,NAME=1";
-    with_text(alloc, command, "hold", help)
+    let about = "Searches tests for the faults of a netlist";
+    let command = command(alloc, "run", about, &search_arguments())?;
+    let hold = Text("hold", "Inputs that are held, as NAME=0,NAME=1");
+    with_arguments(alloc, command, &[hold])
 }
 
 fn transition<'a>(alloc: Global) -> Result<Command<'a>, AllocError>
-    ensures shape { IfOk result (λ c. shape_of c ≡ transition_command) }
-    ensures local { IfOk result (λ c. (fields_of c).has_globals ≡ false) }
+    ensures { IfOk result (IsShaped transition_command) }
 {
     let about = "Searches tests for the slow lines of a netlist";
-    let command = Command::new(alloc, "transition").about(about);
-    with_search(alloc, command)
+    command(alloc, "transition", about, &search_arguments())
 }
 
 fn play<'a>(alloc: Global) -> Result<Command<'a>, AllocError>
-    ensures shape { IfOk result (λ c. shape_of c ≡ play_command) }
-    ensures local { IfOk result (λ c. (fields_of c).has_globals ≡ false) }
+    ensures { IfOk result (IsShaped play_command) }
 {
-    let command = Command::new(alloc, "play").about("Plays a test on a netlist");
-    let command = with_required(alloc, command, "NET", "The scanned netlist, a .bench file")?;
-    let command = with_required(alloc, command, "STIL", "The test, a STIL file")?;
-    with_text(
+    let about = "Plays a test on a netlist";
+    command(
         alloc,
-        command,
-        "fault",
-        "A fault that the netlist has, as stem q/0",
+        "play",
+        about,
+        &[
+            Required("NET", "The scanned netlist, a .bench file"),
+            Required("STIL", "The test, a STIL file"),
+            Text("fault", "A fault that the netlist has, as stem q/0"),
+        ],
     )
 }
 
 fn check<'a>(alloc: Global) -> Result<Command<'a>, AllocError>
-    ensures shape { IfOk result (λ c. shape_of c ≡ check_command) }
-    ensures local { IfOk result (λ c. (fields_of c).has_globals ≡ false) }
+    ensures { IfOk result (IsShaped check_command) }
 {
-    let command = Command::new(alloc, "check").about("Checks the files of a run");
-    let help = "What the names of the five files begin with";
-    with_required(alloc, command, "PREFIX", help)
+    let prefix = Required("PREFIX", "What the names of the five files begin with");
+    command(alloc, "check", "Checks the files of a run", &[prefix])
 }
 
 fn sweep<'a>(alloc: Global) -> Result<Command<'a>, AllocError>
-    ensures shape { IfOk result (λ c. shape_of c ≡ sweep_command) }
-    ensures local { IfOk result (λ c. (fields_of c).has_globals ≡ false) }
+    ensures { IfOk result (IsShaped sweep_command) }
 {
     let about = "Searches tests for a sample netlist and plays them";
-    let command = Command::new(alloc, "sweep").about(about);
-    let help = "What the netlist and free bits are drawn from";
-    let command = with_required_number(alloc, command, "SEED", 0, u64::MAX, help)?;
-    let help = "How many gates, 16 to 20000";
-    with_required_number(alloc, command, "GATES", FEWEST_GATES, MOST_GATES, help)
+    let seed = "What the netlist and free bits are drawn from";
+    let gates = "How many gates, 16 to 20000";
+    command(
+        alloc,
+        "sweep",
+        about,
+        &[
+            RequiredNumber("SEED", 0, u64::MAX, seed),
+            RequiredNumber("GATES", FEWEST_GATES, MOST_GATES, gates),
+        ],
+    )
 }
 
 fn chaintest<'a>(alloc: Global) -> Result<Command<'a>, AllocError>
-    ensures shape { IfOk result (λ c. shape_of c ≡ chaintest_command) }
-    ensures local { IfOk result (λ c. (fields_of c).has_globals ≡ false) }
+    ensures { IfOk result (IsShaped chaintest_command) }
 {
     let about = "Says what a test shows of the faults in the scan hardware";
-    let command = Command::new(alloc, "chaintest").about(about);
-    let command = with_required(alloc, command, "NET", "The netlist, a .bench file")?;
-    let command = with_required(alloc, command, "STIL", "The test, a STIL file")?;
-    let help = "How many chains at most, 1 to 256 [default: 1]";
-    with_number(alloc, command, "chains", 1, MOST_CHAINS, help)
+    let chains = "How many chains at most, 1 to 256 [default: 1]";
+    command(
+        alloc,
+        "chaintest",
+        about,
+        &[
+            Required("NET", "The netlist, a .bench file"),
+            Required("STIL", "The test, a STIL file"),
+            Number("chains", 1, MOST_CHAINS, chains),
+        ],
+    )
 }
 
 fn diagnose<'a>(alloc: Global) -> Result<Command<'a>, AllocError>
-    ensures shape { IfOk result (λ c. shape_of c ≡ diagnose_command) }
-    ensures local { IfOk result (λ c. (fields_of c).has_globals ≡ false) }
+    ensures { IfOk result (IsShaped diagnose_command) }
 {
     let about = "Lists the faults that explain a tester's log";
-    let command = Command::new(alloc, "diagnose").about(about);
-    let command = with_required(alloc, command, "NET", "The netlist, a .bench file")?;
-    let command = with_required(alloc, command, "STIL", "The test, a STIL file")?;
-    let command = with_required(alloc, command, "LOG", "What failed on the tester")?;
-    let help = "How many chains at most, 1 to 256 [default: 1]";
-    let command = with_number(alloc, command, "chains", 1, MOST_CHAINS, help)?;
-    let help = "How many workers, 1 to 64 [default: 1]";
-    with_number(alloc, command, "workers", 1, MOST_WORKERS, help)
+    let chains = "How many chains at most, 1 to 256 [default: 1]";
+    let workers = "How many workers, 1 to 64 [default: 1]";
+    command(
+        alloc,
+        "diagnose",
+        about,
+        &[
+            Required("NET", "The netlist, a .bench file"),
+            Required("STIL", "The test, a STIL file"),
+            Required("LOG", "What failed on the tester"),
+            Number("chains", 1, MOST_CHAINS, chains),
+            Number("workers", 1, MOST_WORKERS, workers),
+        ],
+    )
 }
 
 // The program's own words, before its commands. Its texts call it by this name, however it is
@@ -247,25 +249,16 @@ fn program<'a>(alloc: Global) -> Result<Command<'a>, AllocError>
         .bin_name("atpg")
 }
 
-// The commands that read a netlist and search nothing.
-fn first_commands<'a>(alloc: Global) -> Result<Command<'a>, AllocError>
-    ensures { IfOk result (λ c. app_of c ≡ with_subcommand (with_subcommand program scan_command) faults_command) }
-{
-    let table = with_command(program(alloc)?, scan(alloc)?)?;
-    let table = with_command(table, faults(alloc)?)?;
-    Ok(table)
-}
-
 pub(crate) fn table<'a>(alloc: Global) -> Result<Command<'a>, AllocError>
     ensures { IfOk result (λ c. app_of c ≡ command_table) }
 {
-    let table = first_commands(alloc)?;
-    let table = with_command(table, run(alloc)?)?;
-    let table = with_command(table, play(alloc)?)?;
-    let table = with_command(table, check(alloc)?)?;
-    let table = with_command(table, sweep(alloc)?)?;
-    let table = with_command(table, chaintest(alloc)?)?;
-    let table = with_command(table, diagnose(alloc)?)?;
-    let table = with_command(table, transition(alloc)?)?;
-    Ok(table)
+    let table = with_command(program(alloc), scan(alloc));
+    let table = with_command(table, faults(alloc));
+    let table = with_command(table, run(alloc));
+    let table = with_command(table, play(alloc));
+    let table = with_command(table, check(alloc));
+    let table = with_command(table, sweep(alloc));
+    let table = with_command(table, chaintest(alloc));
+    let table = with_command(table, diagnose(alloc));
+    with_command(table, transition(alloc))
 }

@@ -16,7 +16,6 @@ use Rattle.netlist.specs.Designs.{IsDesign}
 use Rattle.statement.specs.Patterns.{Holds, Pattern}
 use Rattle.netlist.specs.Holds.{AreHoldsOf}
 use Rattle.statement.specs.Values.{known}
-use Rattle.statement.specs.Netlists as bench
 use Rattle.netlist.proofs.Alike.{zip_append}
 use Rattle.netlist.proofs.Settling.{cells_below, inputs_below}
 use Rattle.cubes.specs.Cubes.{IsPatternOf}
@@ -203,7 +202,7 @@ without_or true true y h = h
 without_or true false y h = refl
 without_or false x y h = h
 
-is_byte : (b : ℕ) → IsTrue (bench.is_name_byte b) → IsTrue (is_stil_name_byte b)
+is_byte : (b : ℕ) → IsTrue (net.is_name_byte b) → IsTrue (is_stil_name_byte b)
 is_byte b h =
     let p = nat_le 33 b && nat_le b 126 in
     without_or p (b == 34 || b == 39) (b == 35)
@@ -218,7 +217,7 @@ AreBytes name = All (λ b. IsTrue (is_stil_name_byte b)) name
 own_name : (s : Netlist) → IsSound s → (x : ℕ) → x < length (net.signals s) → IsStilName (name_of s x)
 own_name s sound x l =
     let is = sound.formed.names x [] (sound.formed.named x (x, l, get_or_default (net.signals s) x x 0 l ∙ sound.formed.numbered x l)) in
-    record { some = is.some; short = is.short; bytes = All-weaker (λ b. IsTrue (bench.is_name_byte b)) (λ b. IsTrue (is_stil_name_byte b)) is_byte (name_of s x) is.bytes }
+    record { some = is.some; short = is.short; bytes = All-weaker (λ b. IsTrue (net.is_name_byte b)) (λ b. IsTrue (is_stil_name_byte b)) is_byte (name_of s x) is.bytes }
 
 abbrev all_of : List ℕ → Bool
 all_of [] = true

@@ -1,15 +1,41 @@
-use Rattle.std.proofs.Common.{ap₂, ◌∙◌}
-use Rattle.clap.specs.Words.{with_subcommand}
-use Rattle.command_line.specs.Table.{command_table}
+use Rattle.clap.specs.Words.{App, with_subcommand}
+use Rattle.command_line.specs.Table.{chaintest_command, check_command, command_table, diagnose_command, faults_command, play_command, program, run_command, scan_command, sweep_command, transition_command}
 use Rattle.command_line.proofs.clap_table.table.Goals as goal
+
+-- the table, one command after the other
+abbrev to_scan : App
+to_scan = with_subcommand program scan_command
+
+abbrev to_faults : App
+to_faults = with_subcommand to_scan faults_command
+
+abbrev to_run : App
+to_run = with_subcommand to_faults run_command
+
+abbrev to_play : App
+to_play = with_subcommand to_run play_command
+
+abbrev to_check : App
+to_check = with_subcommand to_play check_command
+
+abbrev to_sweep : App
+to_sweep = with_subcommand to_check sweep_command
+
+abbrev to_chaintest : App
+to_chaintest = with_subcommand to_sweep chaintest_command
+
+abbrev to_diagnose : App
+to_diagnose = with_subcommand to_chaintest diagnose_command
 
 pub returns : goal.returns
 unfolding command_table
 returns c =
-    let run = c.in_ok-table-2.ensures ∙ ap₂ with_subcommand c.in_ok-table.ensures c.in_ok-run.ensures.shape in
-    let play = c.in_ok-table-3.ensures ∙ ap₂ with_subcommand run c.in_ok-play.ensures.shape in
-    let check = c.in_ok-table-4.ensures ∙ ap₂ with_subcommand play c.in_ok-check.ensures.shape in
-    let sweep = c.in_ok-table-5.ensures ∙ ap₂ with_subcommand check c.in_ok-sweep.ensures.shape in
-    let chaintest = c.in_ok-table-6.ensures ∙ ap₂ with_subcommand sweep c.in_ok-chaintest.ensures.shape in
-    let diagnose = c.in_ok-table-7.ensures ∙ ap₂ with_subcommand chaintest c.in_ok-diagnose.ensures.shape in
-    c.in_ok-table-8.ensures ∙ ap₂ with_subcommand diagnose c.in_ok-transition.ensures.shape
+    let scan = c.with_command-table.ensures.app program scan_command c.program.ensures c.scan.ensures in
+    let faults = c.with_command-table-2.ensures.app to_scan faults_command scan c.faults.ensures in
+    let run = c.with_command-table-3.ensures.app to_faults run_command faults c.run.ensures in
+    let play = c.with_command-table-4.ensures.app to_run play_command run c.play.ensures in
+    let check = c.with_command-table-5.ensures.app to_play check_command play c.check.ensures in
+    let sweep = c.with_command-table-6.ensures.app to_check sweep_command check c.sweep.ensures in
+    let chaintest = c.with_command-table-7.ensures.app to_sweep chaintest_command sweep c.chaintest.ensures in
+    let diagnose = c.with_command-table-8.ensures.app to_chaintest diagnose_command chaintest c.diagnose.ensures in
+    c.with_command.ensures.app to_diagnose transition_command diagnose c.transition.ensures
