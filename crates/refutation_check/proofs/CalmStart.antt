@@ -19,7 +19,7 @@ use Rattle.tri.proofs.LabelLemmas.{defined_is_signal}
 use Rattle.refutation.specs.declared.pairs.Pairs.{Pairs}
 use Rattle.refutation.specs.Pairs.{has, meet, no_pair, any_pair, same, good_is, faulty_is}
 use Rattle.refutation.specs.Cones.{Enters, IsClosedUnder, IsCone}
-use Rattle.refutation.specs.Refutations.{Told, told_of, carried, at_stem, held, may_have, start, IsKeeping}
+use Rattle.refutation.specs.Refutations.{Told, told_of, carried, at_stem, may_have, start, IsKeeping}
 use Rattle.refutation.proofs.PairLemmas.{pair, has_any, has_same}
 use Rattle.refutation_check.specs.inner.Starting.{AreFixed, IsPlain}
 use Rattle.refutation_check.specs.inner.Sweeps.{AreTouched, IsTouched, IsGateTouched, IsCalm}

@@ -14,7 +14,7 @@ use Rattle.refutation_check.specs.declared.sets.Change.{Change}
 use Rattle.refutation.specs.Pairs.{Pair, has, meet, no_pair}
 use Rattle.refutation.specs.Refutations.{Told, told_of, IsKeeping, IsSwept, IsWithin}
 use Rattle.refutation_check.specs.inner.Trails.{Trailed, Grows, put, undone}
-use Rattle.refutation_check.specs.inner.Sweeps.{Keeps, Narrows, IsTouched, IsBeside, IsCalm, IsRestricted, AreLooked, bit, pair_count, pair_counts, room}
+use Rattle.refutation_check.specs.inner.Sweeps.{Keeps, Narrows, IsTouched, IsBeside, IsCalm, IsRestricted, AreLooked, bit, pair_count, pair_counts}
 use Rattle.refutation_check.proofs.SweepLemmas.{keeping_same, keeps_then}
 use Rattle.refutation_check.proofs.SetLemmas.{set_of}
 

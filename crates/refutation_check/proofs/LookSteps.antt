@@ -1,7 +1,7 @@
 -- What looks find, from what their calls answer.
 use Rattle.std.specs.Result.{IfOk, OnOk}
 use Rattle.std.specs.Bool.{MatchBool}
-use Rattle.std.proofs.Common.{Result, Ok, Err, ◌≡◌, ◌↔◌, ℕ, ◌<◌, ◌≤◌, Bool, true, false, not, List, map, length, get_or, refl, sym, ◌∙◌, ap, subst, inr, arith}
+use Rattle.std.proofs.Common.{Result, Ok, Err, ◌≡◌, ◌↔◌, ℕ, ◌<◌, ◌≤◌, Bool, true, false, not, List, map, length, get_or, sym, ◌∙◌, ap, subst, inr, arith}
 use Rattle.std.specs.List.{Contains}
 use Rattle.std.proofs.lemmas.Result.{IfOk-weaker}
 use Rattle.statement.specs.declared.lines.Line.{Line}

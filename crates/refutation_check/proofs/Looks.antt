@@ -1,5 +1,5 @@
 -- What looks at gates come to, one after the other.
-use Rattle.std.proofs.Common.{◌≡◌, ◌↔◌, ℕ, ◌+◌, ◌-◌, ◌<◌, ◌≤◌, Bool, true, false, not, List, map, length, get_or, take, Result, refl, sym, ◌∙◌, ap, subst, inl, inr, ◌⊎◌, arith}
+use Rattle.std.proofs.Common.{◌≡◌, ◌↔◌, ℕ, ◌+◌, ◌<◌, ◌≤◌, Bool, true, false, not, List, map, length, get_or, take, Result, refl, sym, ◌∙◌, ap, subst, inl, inr, ◌⊎◌, arith}
 use Rattle.std.specs.Result.{IfOk}
 use Rattle.std.specs.List.{All, Contains}
 use Rattle.std.proofs.lemmas.Bool.{both_ways, cases_lt}
@@ -20,7 +20,7 @@ use Rattle.refutation.specs.Refutations.{Told, told_of, narrowed, IsKept, IsKeep
 use Rattle.refutation.proofs.PairLemmas.{pair}
 use Rattle.refutation_check.specs.inner.Images.{has_some, made_sets}
 use Rattle.refutation_check.specs.inner.Trails.{Trailed, Grows}
-use Rattle.refutation_check.specs.inner.Sweeps.{AreKept, Keeps, Narrows, IsBeside, IsGateTouched, IsKeepingAt, IsRestricted, IsLookedAt, ArePinsLookedAt, IsLooked, AreLooked, IsReaderLooked, room}
+use Rattle.refutation_check.specs.inner.Sweeps.{AreKept, Keeps, Narrows, IsBeside, IsGateTouched, IsKeepingAt, IsRestricted, IsLookedAt, ArePinsLookedAt, IsLooked, AreLooked, IsReaderLooked}
 use Rattle.refutation_check.proofs.SweepLemmas.{meet_has, no_some, narrowed_less, keeps_kept, keeps_made, own_kept, pin_kept, the_gate}
 use Rattle.refutation_check.proofs.LookLemmas.{touched_then, touched_later, narrows_then, looked_then, looked_fewer}
 use Rattle.refutation_check.proofs.MarkLemmas.{gate_reader}

@@ -1,15 +1,13 @@
 -- Whether a reason is contradicted, from what a check of it finds.
-use Rattle.std.proofs.Common.{◌≡◌, ◌↔◌, ℕ, ◌+◌, ◌<◌, ◌≤◌, Bool, true, false, List, map, length, get_or, take, Some, refl, sym, ◌∙◌, ap, subst, arith}
+use Rattle.std.proofs.Common.{◌≡◌, ◌↔◌, ℕ, ◌+◌, ◌<◌, ◌≤◌, Bool, true, List, map, length, get_or, take, Some, refl, sym, ◌∙◌, ap, subst, arith}
 use Rattle.std.specs.List.{All, Contains, slice_get}
-use Rattle.std.proofs.lemmas.Bool.{both_ways}
 use Rattle.std.proofs.lemmas.List.{take_all, get_or-map, length-map}
 use Rattle.std.proofs.lemmas.List.Elements.{All-more}
-use Rattle.std.proofs.lemmas.Option.{slice_get-get_or, slice_get_within}
+use Rattle.std.proofs.lemmas.Option.{slice_get-get_or}
 use Rattle.refutation.specs.declared.steps.Literal.{Literal}
 use Rattle.refutation.specs.Steps.{Step}
 use Rattle.refutation.specs.Refutations.{Told, IsNoneSo, IsLemmaBlocked, clauses}
 use Rattle.refutation_check.specs.inner.Reasons.{AreWithin}
-use Rattle.refutation_check.proofs.GateLemmas.{no_bit}
 
 -- ---- all of a list
 

@@ -1,6 +1,6 @@
 -- Changes that can be taken back.
 use Rattle.std.specs.Result.{OnOk, OnErr}
-use Rattle.std.proofs.Common.{Result, Ok, Err, ◌≡◌, ℕ, ◌+◌, ◌<◌, suc, zero, List, [], ◌∷◌, ◌++◌, length, get_or, set, take, drop, refl, sym, ◌∙◌, ap, subst, arith, drop-cons, append_assoc}
+use Rattle.std.proofs.Common.{Result, Ok, Err, ◌≡◌, ℕ, suc, zero, List, [], ◌∷◌, ◌++◌, length, get_or, set, take, drop, refl, sym, ◌∙◌, ap, subst, append_assoc}
 use Rattle.std.proofs.lemmas.List.{length-set, drop_at, take_at}
 use Rattle.refutation.specs.declared.pairs.Pairs.{Pairs}
 use Rattle.refutation_check.specs.declared.sets.Change.{Change}

@@ -1,4 +1,4 @@
-use Rattle.std.proofs.Common.{◌<◌, length, ap, sym, ◌∙◌, arith}
+use Rattle.std.proofs.Common.{length, ap, sym, ◌∙◌, arith}
 use Rattle.std.proofs.lemmas.Bool.{eqb-false, not-true}
 use Rattle.refutation_check.proofs.Touches.{any_within, plain_gate, plain_input}
 use Rattle.refutation_check.proofs.starting.is_plain.Goals as goal

@@ -1,6 +1,5 @@
-use Rattle.std.proofs.Common.{true, ap, ◌∙◌}
+use Rattle.std.proofs.Common.{ap, ◌∙◌}
 use Rattle.refutation.specs.Refutations.{Told, told_of, LeavesNothing}
-use Rattle.refutation_check.specs.inner.Images.{has_some}
 use Rattle.refutation_check.specs.inner.Sweeps.{IsMakerLooked}
 use Rattle.refutation_check.proofs.CheckLemmas.{at_true, at_false}
 use Rattle.refutation_check.proofs.LookSteps.{around_if, left_empty, left_some}
