@@ -1,0 +1,8 @@
+use Rattle.std.proofs.Common.{ap, ◌∙◌}
+use Rattle.refutation.specs.declared.pairs.Pairs.{Pairs}
+use Rattle.refutation_check.specs.inner.Images.{has_some}
+use Rattle.refutation_check.proofs.SetLemmas.{apart_none}
+use Rattle.refutation_check.proofs.pair_sets.is_apart.Goals as goal
+
+pub returns : goal.returns
+returns c = apart_none c.args.one c.args.other c.has_some.result (c.has_some.ensures ∙ ap (λ (s : Pairs). has_some s) c.meet.ensures)

@@ -1,0 +1,3 @@
+pub mod Checking
+pub mod Refusals
+pub mod inner

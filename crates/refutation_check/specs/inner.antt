@@ -1,0 +1,9 @@
+-- What the contracts of private functions cite.
+pub mod Images
+pub mod Reasons
+pub mod Trails
+pub mod Sweeps
+pub mod Checks
+pub mod Marks
+pub mod Starting
+pub mod Ways
