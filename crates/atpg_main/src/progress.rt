@@ -24,7 +24,7 @@ const AFTER: &str = "\x1b[?7h\x1b[K\r\x1b[1A";
 const GONE: &str = "\x1b[J";
 
 /// What the line speaks of.
-#[derive(Clone, Copy, Debug, PartialEq, Eq)]
+#[derive(Clone, Copy, PartialEq, Eq)]
 enum Counted {
     /// The classes of a run.
     Classes,
@@ -35,7 +35,7 @@ enum Counted {
 }
 
 /// How far a run is: of so many classes those that are settled, and those that a pattern detects.
-#[derive(Clone, Copy, Debug)]
+#[derive(Clone, Copy)]
 struct Standing {
     settled: u64,
     detected: u64,

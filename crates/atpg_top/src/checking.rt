@@ -22,7 +22,7 @@ fn refusal_of(refusal: CheckRefusal) -> Refusal
     }
 }
 
-#[derive(Clone, Copy, Debug)]
+#[derive(Clone, Copy)]
 struct Check;
 
 impl Work for Check {

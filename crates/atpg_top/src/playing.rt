@@ -189,7 +189,7 @@ pub fn play_test<'a, S: Shelf, T: Sink>(
 }
 
 /// The work of `play`, with the fault of this text or none.
-#[derive(Clone, Copy, Debug)]
+#[derive(Clone, Copy)]
 struct Play<'a> {
     fault: Option<&'a str>,
 }

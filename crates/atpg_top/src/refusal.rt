@@ -3,7 +3,7 @@
 use bench_text::BenchRefusal;
 
 /// Why a command is refused, once its words are taken and its files are read.
-#[derive(Clone, Copy, Debug)]
+#[derive(Clone, Copy)]
 pub enum Refusal {
     /// The netlist is outside its grammar, or none.
     Netlist(BenchRefusal),

@@ -94,7 +94,7 @@ pub fn scan_netlist<'a, S: Shelf, T: Sink>(
 }
 
 /// The work of `scan`, for at most so many chains.
-#[derive(Clone, Copy, Debug)]
+#[derive(Clone, Copy)]
 struct Scan {
     chains: u32,
 }

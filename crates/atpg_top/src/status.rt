@@ -6,7 +6,7 @@ use crate::refusal::Refusal;
 use commands::{Ending, Finding};
 
 /// How a call ends.
-#[derive(Clone, Copy, Debug)]
+#[derive(Clone, Copy)]
 pub enum Status<'a> {
     /// The words are no command line. The text is for the user.
     BadWords { text: &'a str },

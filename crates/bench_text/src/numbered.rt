@@ -4,7 +4,7 @@ use netlist::Kind;
 use smallvec::SmallVec;
 
 /// What is known of a name: it was only read so far, or it is that of an input or of a definition, with its place among them.
-#[derive(Clone, Copy, Debug, PartialEq, Eq)]
+#[derive(Clone, Copy, PartialEq, Eq)]
 pub enum Role {
     Read,
     Input(usize),

@@ -15,7 +15,7 @@ use std::alloc::{AllocError, Global};
 pub type Pins<'a> = SmallVec<&'a [u8], 4>;
 
 /// A statement. The gate of a definition is `None` where its word is none of a gate.
-#[derive(Debug, Drop)]
+#[derive(Drop)]
 pub enum Statement<'a> {
     Nothing,
     Input(&'a [u8]),

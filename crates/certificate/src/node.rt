@@ -8,7 +8,7 @@ use name_index::NameIndex;
 use redundancy_cert::Node;
 
 /// What a node's first word says.
-#[derive(Clone, Copy, Debug, PartialEq, Eq)]
+#[derive(Clone, Copy, PartialEq, Eq)]
 pub(crate) enum Letter {
     Closed,
     Open,

@@ -10,7 +10,7 @@ use redundancy_cert::Tree;
 use std::alloc::Global;
 
 /// Why there are no trees.
-#[derive(Clone, Copy, Debug, PartialEq, Eq)]
+#[derive(Clone, Copy, PartialEq, Eq)]
 pub enum CertFault {
     NotCertificate,
     NoMemory,

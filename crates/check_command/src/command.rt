@@ -74,7 +74,7 @@ pub fn check_texts(alloc: Global, texts: Vec<Vec<u8>>) -> Result<Product, Stop<C
     }
 }
 
-#[derive(Clone, Copy, Debug)]
+#[derive(Clone, Copy)]
 struct Check;
 
 impl Work for Check {

@@ -3,7 +3,7 @@
 use bench_text::BenchRefusal;
 
 /// The first text that is outside its grammar. That of the scanned netlist has none of its own.
-#[derive(Clone, Copy, Debug)]
+#[derive(Clone, Copy)]
 pub enum CheckRefusal {
     Netlist(BenchRefusal),
     NotStil,

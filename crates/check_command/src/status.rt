@@ -10,7 +10,7 @@ use commands::{
 use outside::Sink;
 
 /// How a call ends.
-#[derive(Clone, Copy, Debug)]
+#[derive(Clone, Copy)]
 pub enum CheckStatus<'a> {
     /// The words are not the program's name and a prefix.
     BadWords,

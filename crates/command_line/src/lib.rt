@@ -37,7 +37,7 @@ use requests::{NoRequest, request_of};
 use std::alloc::Global;
 
 /// Why the words are no request.
-#[derive(Debug, Drop)]
+#[derive(Drop)]
 pub enum WordsRefusal<'a> {
     /// They are no command line of the table. The text is for the user, its last line ended: what
     /// is wrong and how to get help, or the help or version that was asked for.

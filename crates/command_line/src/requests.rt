@@ -33,14 +33,14 @@ use plain_text::{FEWEST_GATES, MOST_CHAINS, MOST_GATES, MOST_LIMIT, MOST_WORKERS
 use std::alloc::Global;
 
 /// A search that there is.
-#[derive(Clone, Copy, Debug, PartialEq, Eq)]
+#[derive(Clone, Copy, PartialEq, Eq)]
 pub enum EngineName {
     Podem,
     Fan,
 }
 
 /// The engine and the numbers of `run` and of `transition`.
-#[derive(Clone, Copy, Debug, PartialEq, Eq)]
+#[derive(Clone, Copy, PartialEq, Eq)]
 pub struct RunOptions {
     pub engine: EngineName,
     /// How many chains at most.
@@ -53,7 +53,7 @@ pub struct RunOptions {
 }
 
 /// The numbers of `diagnose`.
-#[derive(Clone, Copy, Debug, PartialEq, Eq)]
+#[derive(Clone, Copy, PartialEq, Eq)]
 pub struct DiagnoseOptions {
     /// How many chains at most.
     pub chains: u32,
@@ -61,7 +61,7 @@ pub struct DiagnoseOptions {
 }
 
 /// What the words ask the program to do.
-#[derive(Debug, Drop)]
+#[derive(Drop)]
 pub enum Request<'a> {
     /// Write to the file `out` the netlist of the file `net` with scan cells in at most `chains`
     /// chains.
@@ -122,7 +122,7 @@ pub enum Request<'a> {
 }
 
 // What `run` and `transition` are given alike.
-#[derive(Clone, Copy, Debug)]
+#[derive(Clone, Copy)]
 struct SearchLine<'a> {
     net: &'a str,
     prefix: &'a str,
@@ -130,7 +130,7 @@ struct SearchLine<'a> {
 }
 
 /// Why the values of a command make no request.
-#[derive(Clone, Copy, Debug)]
+#[derive(Clone, Copy)]
 pub(crate) enum NoRequest {
     BadNumber,
     BadEngine,

@@ -15,7 +15,7 @@ use pair_sim::PairSim;
 use std::alloc::{AllocError, Global};
 
 /// A signal with an effect, and the place of the trail where it was found to have one.
-#[derive(Clone, Copy, Debug)]
+#[derive(Clone, Copy)]
 struct Effect {
     place: usize,
     signal: SignalId,
@@ -23,7 +23,7 @@ struct Effect {
 
 /// The signals with an effect: those before any decision, and then along the trail, first those that got it first, with how much of the trail has
 /// been looked at.
-#[derive(Debug, Drop)]
+#[derive(Drop)]
 pub struct Effects {
     first: Vec<SignalId>,
     has_begun: bool,

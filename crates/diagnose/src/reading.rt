@@ -13,7 +13,7 @@ use crate::lines::{end, failure};
 use report::behind;
 use std::alloc::{AllocError, Global};
 
-#[derive(Clone, Copy, Debug, PartialEq, Eq)]
+#[derive(Clone, Copy, PartialEq, Eq)]
 pub enum LogFault {
     NotLog,
     NoMemory,

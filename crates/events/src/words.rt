@@ -11,7 +11,7 @@ use crate::pins::{Free, Given, Pins, Stuck};
 use netlist::{Definition, Fault, Kind, Line, Logic, SignalId};
 
 /// Words, where one line may be stuck.
-#[derive(Clone, Copy, Debug, PartialEq, Eq)]
+#[derive(Clone, Copy, PartialEq, Eq)]
 pub struct Words {
     pub fault: Option<Fault>,
 }

@@ -25,7 +25,7 @@ const MORE: u32 = 64;
 const ROUNDS: u32 = 4;
 
 /// A search that stops at head lines, with what guides it.
-#[derive(Debug, Drop)]
+#[derive(Drop)]
 pub struct Fan {
     measures: Measures,
 }

@@ -5,7 +5,7 @@ ghost use Rattle.label_events.specs.Lines.{IsLinePlace};
 use netlist::{Core, Line, SignalId};
 
 /// What a line is for the evaluator: part of one signal's equation, or of what is observed and of no equation.
-#[derive(Clone, Copy, Debug, PartialEq, Eq)]
+#[derive(Clone, Copy, PartialEq, Eq)]
 pub enum LinePlace {
     /// The stem of the signal, or a pin of its gate.
     Signal(SignalId),

@@ -8,7 +8,7 @@ ghost use Rattle.lane_play.specs.inner.Lanes.{both, either, unequal, opposite, a
 use netlist::Tri;
 
 /// The value of machine k is known where bit k of `known` is 1, and then it is bit k of `value`.
-#[derive(Clone, Copy, Debug, PartialEq, Eq)]
+#[derive(Clone, Copy, PartialEq, Eq)]
 pub(crate) struct Lanes {
     pub known: u64,
     pub value: u64,

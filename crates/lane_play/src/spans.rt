@@ -13,7 +13,7 @@ use netlist::{Fault, Line, SignalId};
 use std::alloc::{AllocError, Global};
 
 /// Machines from one number up to another.
-#[derive(Clone, Copy, Debug, PartialEq, Eq)]
+#[derive(Clone, Copy, PartialEq, Eq)]
 pub(crate) struct Span {
     pub from: u32,
     pub to: u32,

@@ -7,7 +7,7 @@ use crate::rules::Logic;
 use statement::{Fault, Kind, Line};
 
 /// Bits, where one line may be stuck.
-#[derive(Clone, Copy, Debug, PartialEq, Eq)]
+#[derive(Clone, Copy, PartialEq, Eq)]
 pub struct Bits {
     pub fault: Option<Fault>,
 }

@@ -39,7 +39,7 @@ impl Model for Core {
 }
 
 /// The settled bits of a netlist: of each signal, of each output pin and of each cell's pin, in their orders.
-#[derive(Debug, Drop)]
+#[derive(Drop)]
 pub struct Values {
     pub signals: Vec<bool>,
     pub outputs: Vec<bool>,

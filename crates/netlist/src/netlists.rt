@@ -23,7 +23,7 @@ pub const MOST_SIGNALS: usize = 8_000_000;
 pub const MOST_DESIGN_SIGNALS: usize = 1_000_000;
 
 /// Why parts are refused: the first cause in this order, with the least signal.
-#[derive(Clone, Copy, Debug, PartialEq, Eq)]
+#[derive(Clone, Copy, PartialEq, Eq)]
 pub enum NetRefusal {
     /// More than 8,000,000 signals.
     TooMany,

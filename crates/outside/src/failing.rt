@@ -5,7 +5,7 @@ use std::alloc::{AllocError, Global};
 use std::marker::Model;
 
 /// A call of a shelf or a sink in memory that a test wants to fail.
-#[derive(Clone, Copy, Debug, PartialEq, Eq)]
+#[derive(Clone, Copy, PartialEq, Eq)]
 pub struct FailingCall {
     /// Its number. The first call is 1, and reads and writes are counted together.
     pub number: u64,

@@ -1,7 +1,7 @@
 //! Where a worker passes between its steps.
 
 /// Which step a worker has done. `run` speaks of fault classes, `diagnose` too; `transition` and `chaintest` of faults.
-#[derive(Clone, Copy, Debug, PartialEq, Eq)]
+#[derive(Clone, Copy, PartialEq, Eq)]
 pub enum Stage {
     /// So many are there in all. It comes before all other steps.
     Begun { count: u64 },
@@ -28,7 +28,7 @@ pub trait Gate {
 }
 
 /// A stage that lets each worker pass at once.
-#[derive(Clone, Copy, Debug, Default, PartialEq, Eq)]
+#[derive(Clone, Copy, Default, PartialEq, Eq)]
 pub struct OpenGate;
 
 impl Gate for OpenGate {

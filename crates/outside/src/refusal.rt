@@ -1,7 +1,7 @@
 //! Why a read or a write was not done.
 
 /// Why a read gives no bytes.
-#[derive(Clone, Copy, Debug, PartialEq, Eq)]
+#[derive(Clone, Copy, PartialEq, Eq)]
 pub enum ReadRefusal {
     /// The read failed, and the shelf has counted it.
     Failed,

@@ -2,7 +2,7 @@
 use netlist::Point;
 
 /// Where a path of decisions stands.
-#[derive(Clone, Copy, Debug, PartialEq, Eq)]
+#[derive(Clone, Copy, PartialEq, Eq)]
 pub enum State {
     /// No decision is contradicted, and this is the first point whose two values are known and differ.
     Test(Point),

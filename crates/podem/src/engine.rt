@@ -12,7 +12,7 @@ use redundancy_cert::{Engine, Found};
 use std::alloc::{AllocError, Global};
 
 /// A search that decides inputs and cells alone, with what guides it.
-#[derive(Debug, Drop)]
+#[derive(Drop)]
 pub struct Podem {
     measures: Measures,
 }

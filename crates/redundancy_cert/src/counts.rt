@@ -5,7 +5,7 @@ ghost use Rattle.redundancy_cert.specs.Trees.{closed_count, open_count};
 use crate::nodes::Node;
 
 /// How many nodes of a tree are Closed, and how many Open.
-#[derive(Clone, Copy, Debug, PartialEq, Eq)]
+#[derive(Clone, Copy, PartialEq, Eq)]
 pub struct Counts {
     pub closed: u64,
     pub left_open: u64,

@@ -6,7 +6,7 @@ use netlist::SignalId;
 use std::marker::Model;
 
 /// A node of a tree of decisions.
-#[derive(Clone, Copy, Debug, PartialEq, Eq)]
+#[derive(Clone, Copy, PartialEq, Eq)]
 pub enum Node {
     /// The path ends here: no pattern that agrees with it detects the fault.
     Closed,
@@ -19,7 +19,7 @@ pub enum Node {
 }
 
 /// A tree of decisions: a list of nodes that is one tree in preorder.
-#[derive(Debug, Drop)]
+#[derive(Drop)]
 pub struct Tree {
     nodes: Vec<Node>,
 }

@@ -3,7 +3,7 @@ ghost use Rattle.std.specs.Prelude.{◌≡◌};
 ghost use Rattle.refutation.specs.Pairs.{any_pair, faulty_is, good_is, meet, others, same};
 
 /// Which pairs a signal may have, of its bit without the fault and its bit with it.
-#[derive(Clone, Copy, Debug, PartialEq, Eq)]
+#[derive(Clone, Copy, PartialEq, Eq)]
 pub struct Pairs {
     /// 0 and 0.
     pub zero: bool,

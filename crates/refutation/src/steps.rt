@@ -7,14 +7,14 @@ use netlist::SignalId;
 use std::marker::Model;
 
 /// The signal has one of these pairs.
-#[derive(Clone, Copy, Debug, PartialEq, Eq)]
+#[derive(Clone, Copy, PartialEq, Eq)]
 pub struct Literal {
     pub signal: SignalId,
     pub pairs: Pairs,
 }
 
 /// What can't be where the literals so far are so.
-#[derive(Clone, Copy, Debug, PartialEq, Eq)]
+#[derive(Clone, Copy, PartialEq, Eq)]
 pub enum Reason {
     /// The gate makes of the pairs that its pins may have one that it may have.
     Gate(SignalId),
@@ -27,14 +27,14 @@ pub enum Reason {
 }
 
 /// A literal, and the reason why its opposite can't be.
-#[derive(Clone, Copy, Debug, PartialEq, Eq)]
+#[derive(Clone, Copy, PartialEq, Eq)]
 pub struct Implied {
     pub literal: Literal,
     pub reason: Reason,
 }
 
 /// What follows where the literals so far are so.
-#[derive(Clone, Copy, Debug, PartialEq, Eq)]
+#[derive(Clone, Copy, PartialEq, Eq)]
 pub enum Move {
     /// The literal is so.
     Imply(Implied),
@@ -43,7 +43,7 @@ pub enum Move {
 }
 
 /// A clause, of which a literal is so; what follows where none is; and the reason why that can't be.
-#[derive(Debug, Drop)]
+#[derive(Drop)]
 pub struct Step {
     clause: Vec<Literal>,
     moves: Vec<Move>,

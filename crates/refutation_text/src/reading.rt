@@ -9,7 +9,7 @@ use refutation::{Literal, Move, Reason, Step};
 use std::alloc::Global;
 
 /// Why there are no steps.
-#[derive(Clone, Copy, Debug, PartialEq, Eq)]
+#[derive(Clone, Copy, PartialEq, Eq)]
 pub enum TextFault {
     NotSteps,
     NoMemory,

@@ -8,7 +8,7 @@ ghost use Rattle.regions.specs.Side.{lane_by_lane, lane_of, spread};
 use netlist::{Kind, SignalId};
 
 /// A word for each lane.
-#[derive(Clone, Copy, Debug, PartialEq, Eq)]
+#[derive(Clone, Copy, PartialEq, Eq)]
 pub struct Four {
     pub a: u64,
     pub b: u64,
@@ -17,7 +17,7 @@ pub struct Four {
 }
 
 /// One of the four.
-#[derive(Clone, Copy, Debug, PartialEq, Eq)]
+#[derive(Clone, Copy, PartialEq, Eq)]
 pub enum Lane {
     A,
     B,

@@ -8,7 +8,7 @@ use events::Comparing;
 use netlist::{Definition, Kind, Line, Logic, SignalId};
 
 /// What is turned over in each lane.
-#[derive(Clone, Copy, Debug, PartialEq, Eq)]
+#[derive(Clone, Copy, PartialEq, Eq)]
 pub struct TurnedFour {
     pub a: TurnedWords,
     pub b: TurnedWords,

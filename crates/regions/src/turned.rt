@@ -6,7 +6,7 @@ use events::{Comparing, Words};
 use netlist::{Definition, Kind, Line, Logic, SignalId};
 
 /// Words, where the stem of a signal turns its word over in the patterns of a mask.
-#[derive(Clone, Copy, Debug, PartialEq, Eq)]
+#[derive(Clone, Copy, PartialEq, Eq)]
 pub struct TurnedWords {
     pub signal: SignalId,
     pub mask: u64,

@@ -26,7 +26,7 @@ const WORDS: [&'static [u8]; COUNTS] = [
 ];
 
 /// The fourteen counts of a report, each under its word in the text.
-#[derive(Clone, Copy, Debug, PartialEq, Eq)]
+#[derive(Clone, Copy, PartialEq, Eq)]
 pub struct ReportCounts {
     pub inputs: u64,
     pub outputs: u64,

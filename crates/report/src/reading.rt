@@ -15,7 +15,7 @@ use crate::lines::{count, fault, hold, share, version};
 use crate::reports::Report;
 use std::alloc::{AllocError, Global};
 
-#[derive(Clone, Copy, Debug, PartialEq, Eq)]
+#[derive(Clone, Copy, PartialEq, Eq)]
 pub enum ReportFault {
     NotReport,
     NoMemory,

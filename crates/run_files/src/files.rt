@@ -38,7 +38,7 @@ use stil_write::write_stil;
 
 /// How a run goes: at most so many chains, so many workers, at most so many closed ends a search,
 /// and the seed of the bits that cubes leave open.
-#[derive(Clone, Copy, Debug)]
+#[derive(Clone, Copy)]
 pub struct RunPlan {
     pub chains: u32,
     pub workers: u32,

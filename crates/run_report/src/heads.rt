@@ -9,7 +9,7 @@ use report::{FaultLines, Outcome, ReportCounts};
 use scan_insert::Chains;
 
 /// How many lines are of each kind.
-#[derive(Clone, Copy, Debug, PartialEq, Eq)]
+#[derive(Clone, Copy, PartialEq, Eq)]
 pub struct Tally {
     pub detected: u64,
     pub redundant: u64,

@@ -9,7 +9,7 @@ use netlist::{Netlist, Point};
 use scan_insert::Chains;
 
 /// A cycle of the test, and an output of the scanned netlist by its place.
-#[derive(Clone, Copy, Debug, PartialEq, Eq)]
+#[derive(Clone, Copy, PartialEq, Eq)]
 pub struct Strobe {
     pub cycle: u64,
     pub output: u32,

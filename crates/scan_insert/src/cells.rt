@@ -12,7 +12,7 @@ use smallvec::SmallVec;
 use std::alloc::{AllocError, Global};
 
 /// The scan enable, and its complement.
-#[derive(Clone, Copy, Debug, PartialEq, Eq)]
+#[derive(Clone, Copy, PartialEq, Eq)]
 pub(crate) struct Enables {
     pub enable: SignalId,
     pub enable_not: SignalId,

@@ -9,7 +9,7 @@ use netlist::{Definition, Netlist, SignalId};
 use std::alloc::{AllocError, Global};
 
 /// Where a signal of the original stands in the scanned netlist: what has its stem, and what has its pins.
-#[derive(Clone, Copy, Debug, PartialEq, Eq)]
+#[derive(Clone, Copy, PartialEq, Eq)]
 pub struct Site {
     pub stem: SignalId,
     pub pins: SignalId,

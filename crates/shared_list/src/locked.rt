@@ -167,7 +167,7 @@ fn join_all<T: Ledger, S: Ledger, P: Ledger, U: Ledger>(
 }
 
 /// How many events of each kind the journal has: the sums of what the shares counted.
-#[derive(Clone, Copy, PartialEq, Eq, Debug)]
+#[derive(Clone, Copy, PartialEq, Eq)]
 pub struct Events {
     pub takes: u64,
     pub settles: u64,

@@ -3,7 +3,7 @@ ghost use Rattle.std.specs.Prelude.{◌≡◌};
 ghost use Rattle.statement.specs.Netlists.{is_flip_flop};
 
 /// What a definition computes.
-#[derive(Clone, Copy, Debug, PartialEq, Eq)]
+#[derive(Clone, Copy, PartialEq, Eq)]
 pub enum Kind {
     And,
     Nand,
@@ -30,7 +30,7 @@ impl Kind {
 }
 
 /// A value that may be unknown: X stands for either bit.
-#[derive(Clone, Copy, Debug, PartialEq, Eq)]
+#[derive(Clone, Copy, PartialEq, Eq)]
 pub enum Tri {
     Zero,
     One,

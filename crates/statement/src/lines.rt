@@ -5,7 +5,7 @@ ghost use Rattle.statement.specs.Values.{is_line};
 use crate::signals::SignalId;
 
 /// A line: a stem, or a branch at a pin of a definition (from 0) or at an output.
-#[derive(Clone, Copy, Debug, PartialEq, Eq)]
+#[derive(Clone, Copy, PartialEq, Eq)]
 pub enum Line {
     Stem(SignalId),
     Pin(SignalId, u32),
@@ -35,14 +35,14 @@ impl Line {
 }
 
 /// A line stuck at a value.
-#[derive(Clone, Copy, Debug, PartialEq, Eq)]
+#[derive(Clone, Copy, PartialEq, Eq)]
 pub struct Fault {
     pub line: Line,
     pub value: bool,
 }
 
 /// Where a tester sees a value: at an output, or at a cell's pin, each by its place in the order of outputs or of cells.
-#[derive(Clone, Copy, Debug, PartialEq, Eq)]
+#[derive(Clone, Copy, PartialEq, Eq)]
 pub enum Point {
     Output(u32),
     Cell(u32),

@@ -7,7 +7,7 @@ use std::alloc::Global;
 use stil_write::{StilFile, write_stil};
 
 /// Why there is no file.
-#[derive(Clone, Copy, Debug, PartialEq, Eq)]
+#[derive(Clone, Copy, PartialEq, Eq)]
 pub enum StilFault {
     NotStil,
     NoMemory,

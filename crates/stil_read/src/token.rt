@@ -8,7 +8,7 @@ use crate::bytes::{Class, class_of};
 use crate::comment::{behind_block, behind_line};
 
 /// A token as it is spelled, or what stands in place of one.
-#[derive(Clone, Copy, Debug)]
+#[derive(Clone, Copy)]
 pub enum Token<'a> {
     Spelled(&'a [u8]),
     Stray,

@@ -10,7 +10,7 @@ use crate::parts::StilParts;
 use std::alloc::{AllocError, Global};
 
 /// What the characters of a word stand for.
-#[derive(Clone, Copy, Debug, PartialEq, Eq)]
+#[derive(Clone, Copy, PartialEq, Eq)]
 pub enum CharKind {
     Bits,
     Pulses,
@@ -18,7 +18,7 @@ pub enum CharKind {
 }
 
 /// The characters of a word and their number.
-#[derive(Clone, Copy, Debug, PartialEq, Eq)]
+#[derive(Clone, Copy, PartialEq, Eq)]
 pub struct Form {
     pub values: CharKind,
     pub size: usize,

@@ -12,7 +12,7 @@ const WORD_ROOM: usize = 18;
 const LINE_ROOM: usize = 30;
 
 /// What an item does: it calls the procedure that shifts the chains, or is one cycle.
-#[derive(Clone, Copy, Debug, PartialEq, Eq)]
+#[derive(Clone, Copy, PartialEq, Eq)]
 pub enum ItemKind {
     Call,
     Vector,

@@ -27,7 +27,7 @@ use transition_batches::batch;
 use transition_frames::source_of;
 
 /// A signal of the two frames with no slow line.
-#[derive(Clone, Copy, Debug)]
+#[derive(Clone, Copy)]
 struct Signal {
     role: Role,
     readers: usize,
@@ -36,13 +36,13 @@ struct Signal {
 }
 
 /// The signals of the two frames with no slow line, by number; none where these can't be made, and no tree is taken then.
-#[derive(Debug, Drop)]
+#[derive(Drop)]
 pub(crate) struct PlaceRule {
     signals: Vec<Signal>,
 }
 
 /// The numbers that a slow line's signal has in the two frames.
-#[derive(Clone, Copy, Debug)]
+#[derive(Clone, Copy)]
 struct SlowLine {
     first: usize,
     second: usize,

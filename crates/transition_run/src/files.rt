@@ -33,7 +33,7 @@ use transition_tests::{Tests, batch_of, left_by, tests_of};
 
 /// How a run goes: at most so many chains, so many workers, at most so many closed ends a search,
 /// the seed of the bits that cubes leave open, and which trees the engine's rule lets stand.
-#[derive(Clone, Copy, Debug)]
+#[derive(Clone, Copy)]
 pub struct TransitionPlan {
     pub chains: u32,
     pub workers: u32,

@@ -8,7 +8,7 @@ use crate::together::{Together, known};
 use netlist::{Fault, Kind, Line, Tri};
 
 /// What decisions tell of a signal.
-#[derive(Clone, Copy, Debug, PartialEq, Eq)]
+#[derive(Clone, Copy, PartialEq, Eq)]
 pub struct Label {
     /// Without the fault: what the pins tell.
     pub own: Tri,

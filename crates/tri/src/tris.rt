@@ -7,7 +7,7 @@ use crate::together::known;
 use netlist::{Definition, Fault, Line, Logic, Tri};
 
 /// Three values, where one line may be stuck.
-#[derive(Clone, Copy, Debug, PartialEq, Eq)]
+#[derive(Clone, Copy, PartialEq, Eq)]
 pub struct Tris {
     pub fault: Option<Fault>,
 }

@@ -6,7 +6,7 @@ use netlist::Point;
 use std::marker::Model;
 
 /// The pattern at this place of its batch detects the representative of the class at the point.
-#[derive(Clone, Copy, Debug, PartialEq, Eq)]
+#[derive(Clone, Copy, PartialEq, Eq)]
 pub struct Hit {
     pub class: u32,
     pub pattern: u32,

@@ -9,7 +9,7 @@ use cubes::Pattern;
 use std::alloc::{AllocError, Global};
 
 /// Which part of a pattern is packed: both are by the same code.
-#[derive(Clone, Copy, Debug, PartialEq, Eq)]
+#[derive(Clone, Copy, PartialEq, Eq)]
 pub(crate) enum Part {
     Inputs,
     Cells,
