@@ -5,10 +5,10 @@ ghost use Rattle.netlist.specs.Holds.{AreHoldsOf};
 use crate::names::stuck;
 use case_nets::holds_of;
 use case_text::{Pushed, cut, small};
+use evidence::{Engine, Found};
 use fan::Fan;
 use netlist::{Core, Fault, Holds, NoMemory};
 use podem::Podem;
-use redundancy_cert::{Engine, Found};
 use std::alloc::{AllocError, Global};
 
 fn word_of(found: Result<Found, NoMemory>) -> Result<&'static str, AllocError> {

@@ -9,10 +9,10 @@ use crate::cases::RoledCase;
 use crate::guides::{Guide, GuideRoom, Objectives, Stop};
 use crate::searching::search_from;
 use decisions::{Case, Measures};
+use evidence::{Engine, Found};
 use head_lines::{RoleRoom, WantRoom, roles_of};
 use netlist::{Core, Fault, Holds, NoMemory};
 use pair_sim::{PairSim, SimRoom};
-use redundancy_cert::{Engine, Found};
 use std::alloc::{AllocError, Global};
 
 /// As many Closed the first attempt may take before the search begins anew.

@@ -17,10 +17,11 @@ use crate::forcing::{Seen, find_forced};
 use crate::guides::{Guide, best_aim};
 use crate::standing::go;
 use decisions::{Aim, Effects, Step, close_both, closed_tree, one_if, push, tree_so_far};
+use evidence::Found;
 use head_lines::{WantRoom, justified_cube};
 use netlist::{Point, SignalId};
 use pair_sim::{PairSim, State};
-use redundancy_cert::{Found, Other, Side, Tree};
+use redundancy_cert::{Other, Side, Tree};
 use std::alloc::{AllocError, Global};
 
 /// A turn where this side is closed: goes to the other one.

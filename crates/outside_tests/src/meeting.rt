@@ -1,8 +1,8 @@
 //! Two that wait for each other.
+use evidence::{Engine, Found};
 use netlist::{Core, Fault, Holds, NoMemory};
 use outside::{Gate, Stage};
 use podem::{Podem, PodemRoom};
-use redundancy_cert::{Engine, Found};
 use std::alloc::Global;
 use std::sync::atomic::{AtomicU64, Ordering};
 use std::thread;

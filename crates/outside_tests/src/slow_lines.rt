@@ -1,8 +1,8 @@
 //! Two searches for slow lines run beside each other.
 use crate::meeting::MeetingEngine;
 use crate::runs::core_of;
+use evidence::Found;
 use outside::OpenGate;
-use redundancy_cert::Found;
 use std::alloc::{AllocError, Global};
 use std::test::Fail;
 use transition::{Trees, search_all};

@@ -19,7 +19,7 @@ use Rattle.tri.specs.Paths.{Path, decisions, IsTestPath}
 use Rattle.tri.proofs.LabelLemmas.{outs_above, next_above}
 use Rattle.cubes.specs.Cubes.{AgreesWith, IsPatternOf, IsCubeOf}
 use Rattle.cubes.proofs.FillLemmas.{fill_fits}
-use Rattle.redundancy_cert.specs.Evidence.{IsTestCube}
+use Rattle.redundancy_cert.specs.TestCubes.{IsTestCube}
 use Rattle.pair_sim.proofs.Differing.{differ_there, driven_allowed, known_is}
 use Rattle.podem.specs.Sources.{all_sources, sources, held, value_of, cube_of}
 use Rattle.podem.proofs.Owns.{source_cases, cell_behind, any_source}

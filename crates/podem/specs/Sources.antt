@@ -10,8 +10,8 @@ use Rattle.tri.specs.Paths.{Path, decisions, IsClosedPath, IsGoingPath}
 use Rattle.cubes.specs.Cubes.{Cube}
 use Rattle.redundancy_cert.specs.declared.nodes.Node.{Node}
 use Rattle.redundancy_cert.specs.declared.nodes.Node.TheVariants.{Closed, Open, Split, Forced}
-use Rattle.redundancy_cert.specs.declared.engine.Found.{Found}
-use Rattle.redundancy_cert.specs.declared.engine.Found.TheVariants.{Test, Closed as Complete, Partial}
+use Rattle.evidence.specs.declared.engine.Found.{Found}
+use Rattle.evidence.specs.declared.engine.Found.TheVariants.{Test, Closed as Complete, Partial}
 use Rattle.redundancy_cert.specs.Trees.{Place}
 use Rattle.redundancy_cert.specs.Fits.{NodeFits}
 use Rattle.redundancy_cert.specs.Stacks.{StandsBelow}

@@ -6,9 +6,9 @@ ghost use Rattle.podem.specs.inner.Searching.{IsReady, IsAnswer, IsKept};
 use crate::guides::{Guide, Pick};
 use crate::searching::search_from;
 use decisions::{Case, Effects, Measures};
+use evidence::{Engine, Found};
 use netlist::{Core, Fault, Holds, NoMemory};
 use pair_sim::{PairSim, SimRoom};
-use redundancy_cert::{Engine, Found};
 use std::alloc::{AllocError, Global};
 
 /// A search that decides inputs and cells alone, with what guides it.

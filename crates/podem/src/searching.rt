@@ -13,7 +13,7 @@ ghost use Rattle.statement.specs.declared.kinds.Tri.TheVariants.{X};
 ghost use Rattle.statement.specs.Netlists.{signals};
 ghost use Rattle.decisions.specs.Cases.{IsCase};
 ghost use Rattle.pair_sim.specs.Sims.{HasGood, IsFree};
-ghost use Rattle.redundancy_cert.specs.Evidence.{IsTestCube};
+ghost use Rattle.redundancy_cert.specs.TestCubes.{IsTestCube};
 ghost use Rattle.podem.specs.Sources.{all_sources, value_of};
 ghost use Rattle.podem.specs.inner.Searching.{MayGoOn, IsFreeSource, IsChosen, IsClosedSide, IsGoingSide, IsSeen, IsGone, IsKnownAt, IsTestAt, IsStepped, IsReady, IsAnswer, IsKept};
 
@@ -22,9 +22,10 @@ use cubes::Cube;
 use decisions::{
     Aim, Case, Effects, Step, close_both, closed_tree, one_if, push, signal_count, tree_so_far,
 };
+use evidence::Found;
 use netlist::{Core, Point, SignalId, Tri};
 use pair_sim::{PairSim, State};
-use redundancy_cert::{Found, Other, Side, Tree};
+use redundancy_cert::{Other, Side, Tree};
 use std::alloc::{AllocError, Global};
 
 /// Looks at a side, and comes back unless it's a test.

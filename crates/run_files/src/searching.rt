@@ -14,12 +14,13 @@ ghost use Rattle.list_core.specs.Finished.{AreFinished};
 ghost use Rattle.run_files.specs.inner.Verdicts.{AreVerdicts, is_redundant};
 
 use crate::files::RunPlan;
+use evidence::Engine;
 use fault_collapse::Classes;
 use fault_universe::{faults_have_lines, few_faults};
 use list_core::{About, FaultList, Finished, Verdict, compact};
 use netlist::{Core, Holds, NoMemory};
 use outside::{Gate, Stage};
-use redundancy_cert::{Engine, closed_tree_is_redundant};
+use redundancy_cert::closed_tree_is_redundant;
 use std::alloc::{AllocError, Global};
 use std::marker::Brand;
 use std::sync::Wait;

@@ -14,8 +14,8 @@ use Rattle.netlist.specs.Holds.{none_held}
 use Rattle.netlist.specs.Lines.{IsLineOf}
 use Rattle.statement.specs.Netlists.{Netlist, signals}
 use Rattle.netlist.proofs.Placed.{signal_from, signals_length}
-use Rattle.redundancy_cert.specs.declared.engine.Found.{Found}
-use Rattle.redundancy_cert.specs.Evidence.{HasEvidence}
+use Rattle.evidence.specs.declared.engine.Found.{Found}
+use Rattle.evidence.specs.Answers.{HasEvidence}
 use Rattle.transition_frames.specs.Frames.{tie}
 use Rattle.transition_batches.specs.Batches.{AreApart, DecidesFrames, all_gates, batch_fault, batch_of, in_first_of, in_second_of, tie_at}
 use Rattle.transition_batches.specs.Laws.{BatchCarries}

@@ -5,8 +5,8 @@ ghost use Rattle.netlist.specs.Lines.{IsLineOf};
 ghost use Rattle.transition_frames.specs.Frames.{frame_names as names_of};
 ghost use Rattle.transition.specs.Searches.{HasFrameEvidence};
 
+use evidence::{Engine, Found};
 use netlist::{Core, Fault, Holds, NameTable, Netlist, NoMemory};
-use redundancy_cert::{Engine, Found};
 use std::alloc::Global;
 use transition_frames::frames_named;
 

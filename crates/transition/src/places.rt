@@ -19,9 +19,10 @@ ghost use Rattle.netlist.specs.Lines.{IsLineOf};
 ghost use Rattle.statement.specs.Netlists.{signals};
 ghost use Rattle.std.specs.Prelude.{◌≡◌, ◌<◌, ◌≤◌, length};
 
+use evidence::Found;
 use head_lines::{Role, is_gate, roles_of};
 use netlist::{Core, Fault, Holds, Line, Netlist, NoMemory, SignalId};
-use redundancy_cert::{Found, Node};
+use redundancy_cert::Node;
 use std::alloc::{AllocError, Global};
 use transition_batches::batch;
 use transition_frames::source_of;

@@ -10,9 +10,9 @@ use Rattle.netlist.specs.Designs.{IsDesign}
 use Rattle.netlist.specs.Holds.{none_held}
 use Rattle.netlist.specs.Lines.{IsLineOf}
 use Rattle.netlist.proofs.Placed.{signal_from}
-use Rattle.redundancy_cert.specs.declared.engine.Found.{Found}
-use Rattle.redundancy_cert.specs.declared.engine.Found.TheVariants.{Test, Closed as Complete, Partial}
-use Rattle.redundancy_cert.specs.Evidence.{HasEvidence}
+use Rattle.evidence.specs.declared.engine.Found.{Found}
+use Rattle.evidence.specs.declared.engine.Found.TheVariants.{Test, Closed as Complete, Partial}
+use Rattle.evidence.specs.Answers.{HasEvidence}
 use Rattle.transition_frames.specs.Frames.{tie, in_first, frames_of, frame_fault}
 use Rattle.transition_frames.proofs.Framed.{cells_framed}
 use Rattle.transition_frames.proofs.Numbered.{frames_count}

@@ -11,8 +11,8 @@ use Rattle.netlist.specs.Netlist.{define}
 use Rattle.statement.specs.Values.{is_line}
 use Rattle.redundancy_cert.specs.declared.nodes.Node.{Node}
 use Rattle.redundancy_cert.specs.declared.nodes.Node.TheVariants.{Closed, Open, Split, Forced}
-use Rattle.redundancy_cert.specs.declared.engine.Found.{Found}
-use Rattle.redundancy_cert.specs.declared.engine.Found.TheVariants.{Test, Closed as Complete, Partial}
+use Rattle.evidence.specs.declared.engine.Found.{Found}
+use Rattle.evidence.specs.declared.engine.Found.TheVariants.{Test, Closed as Complete, Partial}
 use Rattle.net_gen.specs.Samples.{lettered_names}
 use Rattle.transition_frames.specs.Frames.{source_of, second, tie}
 

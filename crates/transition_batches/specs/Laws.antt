@@ -7,8 +7,8 @@ use Rattle.netlist.specs.Conditions.{IsSound}
 use Rattle.netlist.specs.Designs.{IsDesign}
 use Rattle.netlist.specs.Lines.{IsLineOf}
 use Rattle.netlist.specs.Holds.{none_held}
-use Rattle.redundancy_cert.specs.declared.engine.Found.{Found}
-use Rattle.redundancy_cert.specs.Evidence.{HasEvidence}
+use Rattle.evidence.specs.declared.engine.Found.{Found}
+use Rattle.evidence.specs.Answers.{HasEvidence}
 use Rattle.transition_frames.specs.Frames.{frames_of, frame_fault}
 use Rattle.transition_batches.specs.Batches.{batch_of, batch_fault, AreApart, DecidesFrames}
 

@@ -6,8 +6,9 @@ ghost use Rattle.std.specs.Prelude.{IsTrue};
 ghost use Rattle.std.specs.List.{All};
 ghost use Rattle.transition_batches.specs.Batches.{DecidesBelow, DecidesFrames};
 
+use evidence::Found;
 use netlist::Netlist;
-use redundancy_cert::{Found, Node};
+use redundancy_cert::Node;
 
 /// Whether a node decides nothing but signals below the bound.
 fn decides_below(bound: usize, node: &Node) -> bool

@@ -15,10 +15,10 @@ ghost use Rattle.transition_run.specs.inner.Written.{IsLaunchText, IsSaid, IsWri
 use crate::truth::written_tells_the_truth;
 use bench_text::write;
 use cubes::Pattern;
+use evidence::Engine;
 use fault_universe::{FaultSet, faults_have_lines, faults_have_signals, few_faults, universe};
 use netlist::{Core, Netlist, NoMemory};
 use outside::{Gate, Stage};
-use redundancy_cert::Engine;
 use run_report::pin_names;
 use scan_insert::{Chains, insert, stitch};
 use std::alloc::Global;

@@ -16,8 +16,8 @@ use Rattle.netlist.proofs.Lists.{contains_head, contains_tail}
 use Rattle.cubes.specs.Cubes.{Cube, AgreesWith, HasBitsOf, HaveSameWidths, IsCubeOf, IsPatternOf}
 use Rattle.cubes.proofs.RowLemmas.{bit_left, bit_right, known_is_no_x, row_left}
 use Rattle.fault_universe.specs.Universe.{fault_limit}
-use Rattle.redundancy_cert.specs.declared.engine.Found.{Found}
-use Rattle.redundancy_cert.specs.declared.engine.Found.TheVariants.{Test, Closed, Partial}
+use Rattle.evidence.specs.declared.engine.Found.{Found}
+use Rattle.evidence.specs.declared.engine.Found.TheVariants.{Test, Closed, Partial}
 use Rattle.transition_frames.specs.Frames.{frames_of, in_first}
 use Rattle.transition_frames.proofs.Framed.{cells_framed}
 use Rattle.transition_tests.specs.inner.Answers.{IsKnown}

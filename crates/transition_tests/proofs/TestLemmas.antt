@@ -14,8 +14,8 @@ use Rattle.statement.specs.Netlists.{Netlist}
 use Rattle.netlist.proofs.Lists.{contains_head}
 use Rattle.cubes.specs.Cubes.{Cube, IsCubeOf, IsPatternOf}
 use Rattle.statement.specs.Patterns.{Pattern}
-use Rattle.redundancy_cert.specs.declared.engine.Found.{Found}
-use Rattle.redundancy_cert.specs.declared.engine.Found.TheVariants.{Test, Closed, Partial}
+use Rattle.evidence.specs.declared.engine.Found.{Found}
+use Rattle.evidence.specs.declared.engine.Found.TheVariants.{Test, Closed, Partial}
 use Rattle.list_core.specs.Kept.{is_last_at, kept_from, new_place}
 use Rattle.list_core.specs.inner.Marks.{last_at}
 use Rattle.list_core.proofs.KeepLemmas.{kept_all, source}

@@ -8,8 +8,8 @@ use Rattle.statement.specs.Patterns.{Pattern}
 use Rattle.cubes.specs.Filling.{filled_all}
 use Rattle.cubes.specs.Merging.{AreMerged}
 use Rattle.statement.specs.Faults.{universe_of}
-use Rattle.redundancy_cert.specs.declared.engine.Found.{Found}
-use Rattle.redundancy_cert.specs.declared.engine.Found.TheVariants.{Test, Closed, Partial}
+use Rattle.evidence.specs.declared.engine.Found.{Found}
+use Rattle.evidence.specs.declared.engine.Found.TheVariants.{Test, Closed, Partial}
 use Rattle.list_core.specs.Kept.{kept_from}
 use Rattle.transition_tests.specs.Batches.{words_on_stream}
 use Rattle.transition_tests.specs.Verdicts.{IsNeededForTransitions}

@@ -9,9 +9,9 @@ ghost use Rattle.transition_tests.specs.Making.{AreBehind, AreFilledFrom, cube_o
 ghost use Rattle.transition_tests.specs.inner.Cubes.{HasAgreeing};
 
 use cubes::{Cube, Pattern, fill_all, merge};
+use evidence::Found;
 use netlist::NoMemory;
 use rand_pcg::Lcg64Xsh32;
-use redundancy_cert::Found;
 use std::alloc::{AllocError, Global};
 
 /// Adds the cube of a test.

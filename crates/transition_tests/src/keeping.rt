@@ -16,10 +16,10 @@ ghost use Rattle.transition_tests.specs.inner.Ends.{AreVerdictsOf, IsVerdictOf, 
 use crate::filling::{cubes_of, patterns_of};
 use crate::verdicts::{Tests, TransitionVerdict};
 use cubes::Pattern;
+use evidence::Found;
 use fault_universe::FaultSet;
 use list_core::{kept, needed, new_places};
 use netlist::{Core, NoMemory, Point};
-use redundancy_cert::Found;
 use std::alloc::{AllocError, Global};
 use transition::last_tells2;
 

@@ -15,10 +15,11 @@ use Rattle.cubes.specs.Cubes.{Cube, HaveSameWidths, AgreesWith, IsCubeOf, IsPatt
 use Rattle.word_sim.specs.declared.batches.Hit.{Hit}
 use Rattle.word_sim.specs.Hits.{AreHits}
 use Rattle.redundancy_cert.specs.declared.nodes.Node.{Node}
-use Rattle.redundancy_cert.specs.declared.engine.Found.{Found}
-use Rattle.redundancy_cert.specs.declared.engine.Found.TheVariants.{Test, Closed, Partial}
+use Rattle.evidence.specs.declared.engine.Found.{Found}
+use Rattle.evidence.specs.declared.engine.Found.TheVariants.{Test, Closed, Partial}
 use Rattle.redundancy_cert.specs.Fits.{Fits}
-use Rattle.redundancy_cert.specs.Evidence.{HasEvidence, IsTestCube}
+use Rattle.evidence.specs.Answers.{HasEvidence}
+use Rattle.redundancy_cert.specs.TestCubes.{IsTestCube}
 use Rattle.list_core.specs.States.{MaySettle}
 use Rattle.list_core.specs.Subjects.{Subject, RepresentsIn, HaveLines}
 use Rattle.list_core.specs.Batches.{IsTrueHit, IsTrueBatch}

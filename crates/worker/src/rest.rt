@@ -1,6 +1,6 @@
 //! What the caller works once the workers have ended.
 ghost use Rattle.std.specs.Prelude.{[], ◌∷◌, ◌≡◌, ℕ, ◌+◌, ◌<◌, ◌≤◌, ◌^◌, false, length, IfOk, OnOk};
-ghost use Rattle.redundancy_cert.specs.Evidence.{IsTestCube};
+ghost use Rattle.redundancy_cert.specs.TestCubes.{IsTestCube};
 ghost use Rattle.list_core.specs.Subjects.{class_count};
 ghost use Rattle.list_core.specs.Batches.{IsTrueBatch};
 ghost use Rattle.list_core.specs.Verdicts.{verdict_at, is_open};
@@ -10,11 +10,11 @@ ghost use Rattle.worker.specs.Working.{NoneOpen};
 
 use crate::adding::add;
 use cubes::{Cube, fill};
+use evidence::{Engine, Found};
 use list_core::{About, Claim, FaultList};
 use netlist::{Core, Holds, NoMemory, Point};
 use rand_core::Rng;
 use rand_pcg::Lcg64Xsh32;
-use redundancy_cert::{Engine, Found};
 use std::alloc::Global;
 use word_sim::{Batch, Hit};
 

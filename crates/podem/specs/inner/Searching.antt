@@ -7,9 +7,9 @@ use Rattle.statement.specs.Patterns.{Holds}
 use Rattle.statement.specs.declared.lines.Point.{Point}
 use Rattle.statement.specs.Netlists.{Netlist}
 use Rattle.tri.specs.Paths.{Path, decisions, IsClosedPath, IsUnknown, IsTestPath, IsGoingPath}
-use Rattle.redundancy_cert.specs.declared.engine.Found.{Found}
+use Rattle.evidence.specs.declared.engine.Found.{Found}
 use Rattle.redundancy_cert.specs.declared.stacks.Side.{Side}
-use Rattle.redundancy_cert.specs.Evidence.{HasEvidence}
+use Rattle.evidence.specs.Answers.{HasEvidence}
 use Rattle.redundancy_cert.specs.Stacks.{path_of_stack, closed_around}
 use Rattle.decisions.specs.declared.cases.Case.{Case}
 use Rattle.pair_sim.specs.declared.states.State.{State}

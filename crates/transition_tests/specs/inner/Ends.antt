@@ -1,8 +1,8 @@
 -- How faults end, once all patterns were simulated. A fault that wasn't searched has no answer.
 use Rattle.std.specs.Prelude.{ℕ, ◌≡◌, ⊤, List, [], ◌∷◌, Option, Some, None}
 use Rattle.statement.specs.declared.lines.Point.{Point}
-use Rattle.redundancy_cert.specs.declared.engine.Found.{Found}
-use Rattle.redundancy_cert.specs.declared.engine.Found.TheVariants.{Test, Closed, Partial}
+use Rattle.evidence.specs.declared.engine.Found.{Found}
+use Rattle.evidence.specs.declared.engine.Found.TheVariants.{Test, Closed, Partial}
 use Rattle.transition_tests.specs.declared.verdicts.TransitionVerdict.{TransitionVerdict}
 use Rattle.transition_tests.specs.declared.verdicts.TransitionVerdict.TheVariants.{Detected, Redundant, Aborted}
 

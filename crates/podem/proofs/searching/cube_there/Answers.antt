@@ -6,7 +6,7 @@ use Rattle.statement.specs.Netlists.{Definition, Netlist, cells}
 use Rattle.netlist.proofs.Lists.{All-from_contains, map_map}
 use Rattle.tri.specs.Paths.{Path}
 use Rattle.cubes.specs.Cubes.{Cube}
-use Rattle.redundancy_cert.specs.Evidence.{IsTestCube}
+use Rattle.redundancy_cert.specs.TestCubes.{IsTestCube}
 use Rattle.pair_sim.specs.Sims.{Sim}
 use Rattle.podem.specs.Sources.{all_sources, value_of, cube_of}
 use Rattle.podem.proofs.Tests.{test_cube}

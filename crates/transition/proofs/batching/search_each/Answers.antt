@@ -1,5 +1,5 @@
 use Rattle.std.proofs.Common.{◌+◌, List, take, sym, subst}
-use Rattle.redundancy_cert.specs.declared.engine.Found.{Found}
+use Rattle.evidence.specs.declared.engine.Found.{Found}
 use Rattle.transition.specs.Searches.{AreFound}
 use Rattle.transition.proofs.BatchLemmas.{one_found}
 use Rattle.transition.proofs.batching.search_each.Goals as goal

@@ -1,6 +1,6 @@
 use Rattle.std.proofs.Common.{◌+◌, List, take, sym, subst}
 use Rattle.netlist.specs.Conditions.{IsSound}
-use Rattle.redundancy_cert.specs.declared.engine.Found.{Found}
+use Rattle.evidence.specs.declared.engine.Found.{Found}
 use Rattle.transition.specs.Searches.{AreFound}
 use Rattle.transition.proofs.BatchLemmas.{carried, one_found, tie_line}
 use Rattle.transition.proofs.batching.search_together.Goals as goal

@@ -1,6 +1,6 @@
 use Rattle.std.proofs.Common.{◌≡◌, ◌<◌, ◌∙◌, ◌∷◌, ◌++◌, [], List, length, get_or, ap, sym, subst, arith, append_assoc, length-append}
 use Rattle.std.proofs.lemmas.List.{get_or_default}
-use Rattle.redundancy_cert.specs.declared.engine.Found.{Found}
+use Rattle.evidence.specs.declared.engine.Found.{Found}
 use Rattle.transition.specs.Searches.{AreFound}
 use Rattle.transition.proofs.BatchLemmas.{one_answered, place_within}
 use Rattle.transition.proofs.searching.answer_batch.Goals as goal

@@ -1,6 +1,6 @@
 use Rattle.std.proofs.Common.{◌≡◌, ◌++◌, ◌∷◌, [], ℕ, List, get_or, Option, None, sym, ◌∙◌, ap, arith, append_assoc, length-append}
 use Rattle.std.proofs.lemmas.List.{get_or_default}
-use Rattle.redundancy_cert.specs.declared.engine.Found.{Found}
+use Rattle.evidence.specs.declared.engine.Found.{Found}
 use Rattle.transition_tests.proofs.EndLemmas.{ends_all, ends_more, told_at}
 use Rattle.transition_tests.proofs.keeping.verdicts_of.Goals as goal
 

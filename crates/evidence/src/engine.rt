@@ -1,12 +1,13 @@
 //! What a search answers.
-ghost use Rattle.std.specs.Prelude.{ℕ, ◌≤◌, IfOk};
+ghost use Rattle.std.specs.Prelude.{ℕ, ◌≤◌, Bool, IfOk};
 ghost use Rattle.netlist.specs.Holds.{AreHoldsOf};
 ghost use Rattle.netlist.specs.Lines.{IsLineOf};
-ghost use Rattle.redundancy_cert.specs.Evidence.{HasEvidence};
+ghost use Rattle.evidence.specs.Answers.{HasEvidence, MayAnswer};
 
-use crate::nodes::Tree;
+use crate::kinds::Refutation;
 use cubes::Cube;
 use netlist::{Core, Fault, Holds, NoMemory, Point};
+use redundancy_cert::Tree;
 use std::alloc::Global;
 
 /// What a search found of a fault.
@@ -16,6 +17,8 @@ pub enum Found {
     Test(Cube, Point),
     /// A tree without Open: no pattern that obeys the held inputs detects the fault.
     Closed(Tree),
+    /// Steps that refute the fault: no pattern that obeys the held inputs detects it.
+    Refuted(Refutation),
     /// The search gave up: a tree with as many Closed as the backtrack limit allows.
     Partial(Tree),
 }
@@ -25,7 +28,7 @@ pub trait Engine {
     ghost use Rattle.statement.specs.Netlists.{Netlist};
     ghost use Rattle.statement.specs.Patterns.{Holds};
     ghost use Rattle.statement.specs.declared.lines.Fault.{Fault};
-    ghost use Rattle.redundancy_cert.specs.declared.engine.Found.{Found};
+    ghost use Rattle.evidence.specs.declared.engine.Found.{Found};
 
     /// What a search may keep for the next one: tables, labels, stacks. No evidence rests on it.
     type Room: Drop + Send;
@@ -37,7 +40,10 @@ pub trait Engine {
     /// Code over any engine rests nothing on it.
     ghost keeps_rule: { Fault → Netlist → Holds → ℕ → Found → Type 0 };
 
-    /// A test of the fault, a tree that shows it redundant, or a tree of as many Closed as the backtrack limit.
+    /// Whether it may answer a refutation. Where it doesn't, all its evidence is trees.
+    ghost refutes: { Bool };
+
+    /// A test of the fault, a tree or a refutation that shows it redundant, or a tree of as many Closed as the backtrack limit.
     fn search(
         &self,
         alloc: Global,
@@ -48,8 +54,10 @@ pub trait Engine {
     ) -> Result<Found, NoMemory>
         requires limit { 1 ≤ limit }
         requires holds { AreHoldsOf core.now holds.now }
+        requires line { IsLineOf core.now fault.line }
         ensures evidence { IfOk result (HasEvidence fault core.now holds.now limit) }
-        ensures rule { IfOk result (keeps_rule fault core.now holds.now limit) };
+        ensures rule { IfOk result (keeps_rule fault core.now holds.now limit) }
+        ensures kind { IfOk result (MayAnswer refutes) };
 
     /// Room for one search after the other.
     fn room(&self, alloc: Global, core: &Core, holds: &Holds) -> Result<Self::Room, NoMemory>
@@ -72,5 +80,6 @@ pub trait Engine {
         requires room { serves core.now holds.now room }
         ensures evidence { IfOk result (λ r. HasEvidence fault core.now holds.now limit r.0) }
         ensures rule { IfOk result (λ r. keeps_rule fault core.now holds.now limit r.0) }
+        ensures kind { IfOk result (λ r. MayAnswer refutes r.0) }
         ensures room { IfOk result (λ r. serves core.now holds.now r.1) };
 }
