@@ -13,7 +13,11 @@ use Rattle.command_line.specs.HoldLists.{HoldItem, holds_in}
 use Rattle.command_line.specs.Table.{command_table, most_seed}
 use Rattle.command_line.specs.declared.holds.Held.{Held}
 use Rattle.command_line.specs.declared.requests.EngineName.{EngineName}
-use Rattle.command_line.specs.declared.requests.EngineName.TheVariants.{Podem, Fan}
+use Rattle.command_line.specs.declared.requests.EngineName.TheVariants.{Trees, Clauses, TreesThenClauses}
+use Rattle.command_line.specs.declared.requests.TreeEngine.{TreeEngine}
+use Rattle.command_line.specs.declared.requests.TreeEngine.TheVariants.{Podem, Fan}
+use Rattle.command_line.specs.declared.requests.SearchNumbers.{SearchNumbers}
+use Rattle.command_line.specs.declared.requests.SlowOptions.{SlowOptions}
 use Rattle.command_line.specs.declared.requests.RunOptions.{RunOptions}
 use Rattle.command_line.specs.declared.requests.DiagnoseOptions.{DiagnoseOptions}
 use Rattle.command_line.specs.declared.requests.Request.{Request}
@@ -24,7 +28,7 @@ pub data CommandLine : Type 0 where
   scan : Text → Text → ℕ → CommandLine
   -- the netlist's file
   faults : Text → CommandLine
-  -- the netlist's file, what the names of the files written begin with, the numbers, and the inputs that are held
+  -- the netlist's file, what the names of the files written begin with, the engine and the numbers, and the inputs that are held
   run : Text → Text → RunOptions → List HoldItem → CommandLine
   -- the netlist's file, the STIL file, and the text of a fault
   play : Text → Text → Option Text → CommandLine
@@ -36,8 +40,8 @@ pub data CommandLine : Type 0 where
   chaintest : Text → Text → ℕ → CommandLine
   -- the design's file, the STIL file, the file of the tester's log, and the numbers
   diagnose : Text → Text → Text → DiagnoseOptions → CommandLine
-  -- the netlist's file, what the names of the files written begin with, and the numbers
-  transition : Text → Text → RunOptions → CommandLine
+  -- the netlist's file, what the names of the files written begin with, and the engine and the numbers
+  transition : Text → Text → SlowOptions → CommandLine
 
 -- Why words are no command line: by `clap`'s rule, or the form or range of a value; or, all else being in order, by the list of held inputs; or, that
 -- too being in order, by what the names of the files written begin with, or by the name of a file that is read and would be written over.
@@ -117,47 +121,61 @@ scan_of rows = option_and_then (λ net. option_and_then (λ out.
 abbrev pub faults_line_of : List Row → Option CommandLine
 faults_line_of rows = option_map (λ net. faults net) (first_of (codes "NET") rows)
 
--- the engine of this name, `podem` where none is given
-abbrev pub engine_given : Option Text → Option EngineName
-engine_given None = Some Podem
-engine_given (Some text) =
+-- the search by trees of this name, `podem` where none is given
+abbrev pub tree_engine_given : Option Text → Option TreeEngine
+tree_engine_given None = Some Podem
+tree_engine_given (Some text) =
     if bytes_eq text (codes "podem") then Some Podem
     else if bytes_eq text (codes "fan") then Some Fan
     else None
 
--- the engine of a command that searches, with its numbers, 1, 1, 100 and 1 where they aren't given
-abbrev pub options_of : EngineName → List Row → Option RunOptions
-options_of engine rows = option_and_then (λ chains. option_and_then (λ workers. option_and_then (λ limit.
-    option_map (λ seed. record { engine = engine; chains = chains; workers = workers; limit = limit; seed = seed })
+-- `clauses`, or a search by trees
+abbrev pub engine_alone_given : Option Text → Option EngineName
+engine_alone_given None = Some (Trees Podem)
+engine_alone_given (Some text) =
+    if bytes_eq text (codes "clauses") then Some Clauses
+    else option_map Trees (tree_engine_given (Some text))
+
+-- the engine of this name, and behind one by trees may follow `clauses`
+abbrev pub engine_given : Option Text → Option Text → Option EngineName
+engine_given name None = engine_alone_given name
+engine_given name (Some behind) = if bytes_eq behind (codes "clauses") then option_map TreesThenClauses (tree_engine_given name) else None
+
+-- the numbers of a command that searches, 1, 1, 100 and 1 where they aren't given
+abbrev pub numbers_of : List Row → Option SearchNumbers
+numbers_of rows = option_and_then (λ chains. option_and_then (λ workers. option_and_then (λ limit.
+    option_map (λ seed. record { chains = chains; workers = workers; limit = limit; seed = seed })
     (number_at (codes "seed") 1 0 most_seed rows))
     (number_at (codes "limit") 100 1 most_limit rows))
     (number_at (codes "workers") 1 1 most_workers rows))
     (number_at (codes "chains") 1 1 most_chains rows)
 
--- the netlist's file, what the names of the files written begin with, and the engine and the numbers
+-- the netlist's file, what the names of the files written begin with, and the numbers
 abbrev pub Search : Type 0
-Search = Text × Text × RunOptions
+Search = Text × Text × SearchNumbers
 
 -- what `run` and `transition` are given alike
 abbrev pub search_of : List Row → Option Search
-search_of rows = option_and_then (λ engine. option_and_then (λ net. option_and_then (λ prefix.
-    option_map (λ options. (net, prefix, options)) (options_of engine rows))
-    (first_of (codes "PREFIX") rows)) (first_of (codes "NET") rows)) (engine_given (first_of (codes "engine") rows))
+search_of rows = option_and_then (λ net. option_and_then (λ prefix.
+    option_map (λ numbers. (net, prefix, numbers)) (numbers_of rows))
+    (first_of (codes "PREFIX") rows)) (first_of (codes "NET") rows)
 
 abbrev pub holds_given : Option Text → Option (List HoldItem)
 holds_given None = Some []
 holds_given (Some text) = holds_in text
 
-abbrev pub run_where : Option Search → Option (List HoldItem) → Result CommandLine NoLine
-run_where (Some s) (Some holds) = Ok (run s.0 s.1 s.2 holds)
-run_where (Some s) None = Err bad_hold
-run_where None _ = Err bad_words
+abbrev pub run_where : Option EngineName → Option Search → Option (List HoldItem) → Result CommandLine NoLine
+run_where (Some engine) (Some s) (Some holds) = Ok (run s.0 s.1 (record { engine = engine; numbers = s.2 }) holds)
+run_where (Some engine) (Some s) None = Err bad_hold
+run_where (Some engine) None holds = Err bad_words
+run_where None s holds = Err bad_words
 
 abbrev pub run_of : List Row → Result CommandLine NoLine
-run_of rows = run_where (search_of rows) (holds_given (first_of (codes "hold") rows))
+run_of rows = run_where (engine_given (first_of (codes "engine") rows) (first_of (codes "then") rows)) (search_of rows) (holds_given (first_of (codes "hold") rows))
 
 abbrev pub transition_of : List Row → Option CommandLine
-transition_of rows = option_map (λ s. transition s.0 s.1 s.2) (search_of rows)
+transition_of rows = option_and_then (λ engine. option_map (λ s. transition s.0 s.1 (record { engine = engine; numbers = s.2 })) (search_of rows))
+    (tree_engine_given (first_of (codes "engine") rows))
 
 abbrev pub play_of : List Row → Option CommandLine
 play_of rows = option_and_then (λ net. option_map (λ stil. play net stil (first_of (codes "fault") rows))
@@ -231,10 +249,10 @@ command_line_of (request.ChainTest net stil chains) = chaintest net.now stil.now
 command_line_of (request.Diagnose net stil log options) = diagnose net.now stil.now log.now options
 command_line_of (request.Transition net prefix options) = transition net.now prefix.now options
 
-pub record AreInRange (options : RunOptions) : Type 0 where
-  pub chains : (1 ≤ options.chains) × (options.chains ≤ most_chains)
-  pub workers : (1 ≤ options.workers) × (options.workers ≤ most_workers)
-  pub limit : (1 ≤ options.limit) × (options.limit ≤ most_limit)
+pub record AreInRange (numbers : SearchNumbers) : Type 0 where
+  pub chains : (1 ≤ numbers.chains) × (numbers.chains ≤ most_chains)
+  pub workers : (1 ≤ numbers.workers) × (numbers.workers ≤ most_workers)
+  pub limit : (1 ≤ numbers.limit) × (numbers.limit ≤ most_limit)
 
 pub record AreWithin (options : DiagnoseOptions) : Type 0 where
   pub chains : (1 ≤ options.chains) × (options.chains ≤ most_chains)
@@ -243,9 +261,9 @@ pub record AreWithin (options : DiagnoseOptions) : Type 0 where
 -- each number of a request is in its range
 abbrev pub IsInRange : Request → Type 0
 IsInRange (request.Scan net out chains) = (1 ≤ chains) × (chains ≤ most_chains)
-IsInRange (request.Run net prefix options holds) = AreInRange options
+IsInRange (request.Run net prefix options holds) = AreInRange options.numbers
 IsInRange (request.Sweep seed gates) = (fewest_gates ≤ gates) × (gates ≤ most_gates)
 IsInRange (request.ChainTest net stil chains) = (1 ≤ chains) × (chains ≤ most_chains)
 IsInRange (request.Diagnose net stil log options) = AreWithin options
-IsInRange (request.Transition net prefix options) = AreInRange options
+IsInRange (request.Transition net prefix options) = AreInRange options.numbers
 IsInRange _ = ⊤

@@ -39,16 +39,16 @@ scan_command = command (codes "scan")
 abbrev pub faults_command : Shape
 faults_command = command (codes "faults") (required (codes "NET") ∷ [])
 
--- what `run` and `transition` have alike: NET PREFIX [--chains C] [--workers N] [--limit L] [--seed S] [--engine E]
+-- what `run` and `transition` have alike: NET PREFIX [--chains C] [--workers N] [--limit L] [--seed S]
 abbrev pub search_rules : List Rule
 search_rules =
     required (codes "NET") ∷ required (codes "PREFIX") ∷ number_option (codes "chains") 1 most_chains
     ∷ number_option (codes "workers") 1 most_workers ∷ number_option (codes "limit") 1 most_limit
-    ∷ number_option (codes "seed") 0 most_seed ∷ text_option (codes "engine") ∷ []
+    ∷ number_option (codes "seed") 0 most_seed ∷ []
 
--- run NET PREFIX .. [--hold LIST]
+-- run NET PREFIX .. [--engine E] [--then E] [--hold LIST]
 abbrev pub run_command : Shape
-run_command = command (codes "run") (search_rules ++ text_option (codes "hold") ∷ [])
+run_command = command (codes "run") (search_rules ++ text_option (codes "engine") ∷ text_option (codes "then") ∷ text_option (codes "hold") ∷ [])
 
 -- play NET STIL [--fault F]
 abbrev pub play_command : Shape
@@ -74,9 +74,9 @@ diagnose_command = command (codes "diagnose")
     (required (codes "NET") ∷ required (codes "STIL") ∷ required (codes "LOG") ∷ number_option (codes "chains") 1 most_chains
     ∷ number_option (codes "workers") 1 most_workers ∷ [])
 
--- transition NET PREFIX ..
+-- transition NET PREFIX .. [--engine E]
 abbrev pub transition_command : Shape
-transition_command = command (codes "transition") search_rules
+transition_command = command (codes "transition") (search_rules ++ text_option (codes "engine") ∷ [])
 
 -- the program, before its commands: it has a version and needs a command, and `help` is none
 abbrev pub program : App

@@ -121,7 +121,7 @@ fn faults<'a>(alloc: Global) -> Result<Command<'a>, AllocError>
 }
 
 // What `run` and `transition` have alike.
-fn search_arguments<'a>() -> [Argument<'a>; 7]
+fn search_arguments<'a>() -> [Argument<'a>; 6]
     ensures { map asked_by result ≡ search_rules }
 {
     let prefix = "What the names of the five files begin with";
@@ -140,7 +140,6 @@ fn search_arguments<'a>() -> [Argument<'a>; 7]
             u64::MAX,
             "What free bits are drawn from [default: 1]",
         ),
-        Text("engine", "The search: podem or fan [default: podem]"),
     ]
 }
 
@@ -149,15 +148,26 @@ fn run<'a>(alloc: Global) -> Result<Command<'a>, AllocError>
 {
     let about = "Searches tests for the faults of a netlist";
     let command = command(alloc, "run", about, &search_arguments())?;
-    let hold = Text("hold", "Inputs that are held, as NAME=0,NAME=1");
-    with_arguments(alloc, command, &[hold])
+    let engine = "The search: podem, fan or clauses [default: podem]";
+    let then = "What settles what podem or fan gives up: clauses";
+    with_arguments(
+        alloc,
+        command,
+        &[
+            Text("engine", engine),
+            Text("then", then),
+            Text("hold", "Inputs that are held, as NAME=0,NAME=1"),
+        ],
+    )
 }
 
 fn transition<'a>(alloc: Global) -> Result<Command<'a>, AllocError>
     ensures { IfOk result (IsShaped transition_command) }
 {
     let about = "Searches tests for the slow lines of a netlist";
-    command(alloc, "transition", about, &search_arguments())
+    let command = command(alloc, "transition", about, &search_arguments())?;
+    let engine = Text("engine", "The search: podem or fan [default: podem]");
+    with_arguments(alloc, command, &[engine])
 }
 
 fn play<'a>(alloc: Global) -> Result<Command<'a>, AllocError>

@@ -32,7 +32,9 @@ use clap_table::table;
 use files::with_files;
 pub use holds::Held;
 pub use laws::nothing_written_over;
-pub use requests::{DiagnoseOptions, EngineName, Request, RunOptions};
+pub use requests::{
+    DiagnoseOptions, EngineName, Request, RunOptions, SearchNumbers, SlowOptions, TreeEngine,
+};
 use requests::{NoRequest, request_of};
 use std::alloc::Global;
 
@@ -60,7 +62,13 @@ For more information, try '--help'.
 
 // Of engines that aren't there.
 const BAD_ENGINE: &str = "\
-error: the engine is podem or fan
+error: the engine is podem, fan or clauses, and then, behind podem or fan alone, clauses
+
+For more information, try '--help'.
+";
+
+const BAD_TREE_ENGINE: &str = "\
+error: the engine for slow lines is podem or fan
 
 For more information, try '--help'.
 ";
@@ -103,6 +111,7 @@ fn refusal_of<'a>(alloc: Global, none: NoRequest) -> WordsRefusal<'a>
     match none {
         NoRequest::BadNumber => bad_words(alloc, BAD_NUMBER),
         NoRequest::BadEngine => bad_words(alloc, BAD_ENGINE),
+        NoRequest::BadTreeEngine => bad_words(alloc, BAD_TREE_ENGINE),
         NoRequest::BadHold => WordsRefusal::BadHold,
         NoRequest::NoMemory => WordsRefusal::NoMemory,
     }

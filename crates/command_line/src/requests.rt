@@ -7,6 +7,7 @@ ghost use Rattle.command_line.specs.CommandLine.{
   chaintest_of,
   check_of,
   diagnose_of,
+  engine_alone_given,
   engine_given,
   faults_line_of,
   holds_given,
@@ -14,13 +15,14 @@ ghost use Rattle.command_line.specs.CommandLine.{
   line_by,
   line_from,
   command_line_of,
-  options_of,
+  numbers_of,
   play_of,
   run_of,
   scan_of,
   search_of,
   sweep_of,
   transition_of,
+  tree_engine_given,
 };
 ghost use Rattle.command_line.specs.inner.Errors.{IsAsked};
 ghost use Rattle.command_line.specs.inner.Held.{AreHeld};
@@ -32,17 +34,27 @@ use clap::ArgMatches;
 use plain_text::{FEWEST_GATES, MOST_CHAINS, MOST_GATES, MOST_LIMIT, MOST_WORKERS};
 use std::alloc::Global;
 
-/// A search that there is.
+/// A search by a tree of decisions.
 #[derive(Clone, Copy, PartialEq, Eq)]
-pub enum EngineName {
+pub enum TreeEngine {
     Podem,
     Fan,
 }
 
-/// The engine and the numbers of `run` and of `transition`.
+/// How tests are searched.
 #[derive(Clone, Copy, PartialEq, Eq)]
-pub struct RunOptions {
-    pub engine: EngineName,
+pub enum EngineName {
+    /// By a tree of decisions alone.
+    Trees(TreeEngine),
+    /// By clauses that are learned.
+    Clauses,
+    /// What a tree of decisions gives up by clauses.
+    TreesThenClauses(TreeEngine),
+}
+
+/// The numbers of a command that searches.
+#[derive(Clone, Copy, PartialEq, Eq)]
+pub struct SearchNumbers {
     /// How many chains at most.
     pub chains: u32,
     pub workers: u32,
@@ -50,6 +62,20 @@ pub struct RunOptions {
     pub limit: u32,
     /// What the bits that no search asks for are drawn from.
     pub seed: u64,
+}
+
+/// The engine and the numbers of `run`.
+#[derive(Clone, Copy, PartialEq, Eq)]
+pub struct RunOptions {
+    pub engine: EngineName,
+    pub numbers: SearchNumbers,
+}
+
+/// The engine and the numbers of `transition`.
+#[derive(Clone, Copy, PartialEq, Eq)]
+pub struct SlowOptions {
+    pub engine: TreeEngine,
+    pub numbers: SearchNumbers,
 }
 
 /// The numbers of `diagnose`.
@@ -117,7 +143,7 @@ pub enum Request<'a> {
     Transition {
         net: &'a str,
         prefix: &'a str,
-        options: RunOptions,
+        options: SlowOptions,
     },
 }
 
@@ -126,7 +152,7 @@ pub enum Request<'a> {
 struct SearchLine<'a> {
     net: &'a str,
     prefix: &'a str,
-    options: RunOptions,
+    numbers: SearchNumbers,
 }
 
 /// Why the values of a command make no request.
@@ -134,6 +160,7 @@ struct SearchLine<'a> {
 pub(crate) enum NoRequest {
     BadNumber,
     BadEngine,
+    BadTreeEngine,
     BadHold,
     NoMemory,
 }
@@ -225,16 +252,15 @@ fn diagnose<'a>(found: &ArgMatches<'a>) -> Option<Request<'a>>
     })
 }
 
-fn options(found: &ArgMatches<'_>, engine: EngineName) -> Option<RunOptions>
-    ensures value { result ≡ options_of engine (rows_of (found_of found.now)) }
+fn numbers(found: &ArgMatches<'_>) -> Option<SearchNumbers>
+    ensures value { result ≡ numbers_of (rows_of (found_of found.now)) }
     ensures in_range { IfSome result AreInRange }
 {
     let chains = number_or(found, "chains", 1, 1, MOST_CHAINS)?;
     let workers = number_or(found, "workers", 1, 1, MOST_WORKERS)?;
     let limit = number_or(found, "limit", 100, 1, MOST_LIMIT)?;
     let seed = number_or(found, "seed", 1, 0, u64::MAX)?;
-    Some(RunOptions {
-        engine,
+    Some(SearchNumbers {
         chains: chains as u32,
         workers: workers as u32,
         limit: limit as u32,
@@ -242,15 +268,36 @@ fn options(found: &ArgMatches<'_>, engine: EngineName) -> Option<RunOptions>
     })
 }
 
-// The engine, if it is one that there is.
-fn engine(found: &ArgMatches<'_>) -> Option<EngineName>
-    ensures { result ≡ engine_given (first_of (codes "engine") (rows_of (found_of found.now))) }
+// The search by a tree of decisions that has this name.
+fn tree_engine(name: Option<&str>) -> Option<TreeEngine>
+    ensures { result ≡ tree_engine_given (option_map (λ t. t.now) name.entry) }
 {
-    match text(found, "engine") {
-        Some("podem") => Some(EngineName::Podem),
-        Some("fan") => Some(EngineName::Fan),
+    match name {
+        Some("podem") => Some(TreeEngine::Podem),
+        Some("fan") => Some(TreeEngine::Fan),
         Some(_) => None,
-        None => Some(EngineName::Podem),
+        None => Some(TreeEngine::Podem),
+    }
+}
+
+// The search alone that has this name.
+fn engine_alone(name: Option<&str>) -> Option<EngineName>
+    ensures { result ≡ engine_alone_given (option_map (λ t. t.now) name.entry) }
+{
+    match name {
+        Some("clauses") => Some(EngineName::Clauses),
+        _ => Some(EngineName::Trees(tree_engine(name)?)),
+    }
+}
+
+// How tests are searched, if it is a way that there is.
+fn engine(name: Option<&str>, then: Option<&str>) -> Option<EngineName>
+    ensures { result ≡ engine_given (option_map (λ t. t.now) name.entry) (option_map (λ t. t.now) then.entry) }
+{
+    match then {
+        None => engine_alone(name),
+        Some("clauses") => Some(EngineName::TreesThenClauses(tree_engine(name)?)),
+        Some(_) => None,
     }
 }
 
@@ -267,22 +314,19 @@ fn holds<'a>(alloc: Global, found: &ArgMatches<'a>) -> Result<Vec<Held<'a>>, NoR
 // What a command that searches is given, or what is in the way.
 fn search_line<'a>(found: &ArgMatches<'a>) -> Result<SearchLine<'a>, NoRequest>
     ensures value { IsSearch (search_of (rows_of (found_of found.now))) result }
-    ensures in_range { IfOk result (λ line. AreInRange line.options) }
+    ensures in_range { IfOk result (λ line. AreInRange line.numbers) }
 {
-    let Some(engine) = engine(found) else {
-        return Err(NoRequest::BadEngine);
-    };
     let Some(net) = text(found, "NET") else {
         return Err(NoRequest::BadNumber);
     };
     let Some(prefix) = text(found, "PREFIX") else {
         return Err(NoRequest::BadNumber);
     };
-    match options(found, engine) {
-        Some(options) => Ok(SearchLine {
+    match numbers(found) {
+        Some(numbers) => Ok(SearchLine {
             net,
             prefix,
-            options,
+            numbers,
         }),
         None => Err(NoRequest::BadNumber),
     }
@@ -292,6 +336,9 @@ fn run<'a>(alloc: Global, found: &ArgMatches<'a>) -> Result<Request<'a>, NoReque
     ensures line { IsAsked (run_of (rows_of (found_of found.now))) result }
     ensures in_range { IfOk result IsInRange }
 {
+    let Some(engine) = engine(text(found, "engine"), text(found, "then")) else {
+        return Err(NoRequest::BadEngine);
+    };
     let line = match search_line(found) {
         Ok(line) => line,
         Err(none) => return Err(none),
@@ -300,7 +347,10 @@ fn run<'a>(alloc: Global, found: &ArgMatches<'a>) -> Result<Request<'a>, NoReque
         Ok(holds) => Ok(Request::Run {
             net: line.net,
             prefix: line.prefix,
-            options: line.options,
+            options: RunOptions {
+                engine,
+                numbers: line.numbers,
+            },
             holds,
         }),
         Err(none) => Err(none),
@@ -311,11 +361,17 @@ fn transition<'a>(found: &ArgMatches<'a>) -> Result<Request<'a>, NoRequest>
     ensures line { IsAsked (line_from (transition_of (rows_of (found_of found.now)))) result }
     ensures in_range { IfOk result IsInRange }
 {
+    let Some(engine) = tree_engine(text(found, "engine")) else {
+        return Err(NoRequest::BadTreeEngine);
+    };
     match search_line(found) {
         Ok(line) => Ok(Request::Transition {
             net: line.net,
             prefix: line.prefix,
-            options: line.options,
+            options: SlowOptions {
+                engine,
+                numbers: line.numbers,
+            },
         }),
         Err(none) => Err(none),
     }

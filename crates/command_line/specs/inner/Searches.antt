@@ -5,9 +5,8 @@ use Rattle.command_line.specs.declared.requests.NoRequest.{NoRequest}
 use Rattle.command_line.specs.declared.requests.NoRequest.TheVariants as none
 use Rattle.command_line.specs.declared.requests.SearchLine.{SearchLine}
 
--- they are these, or there are none and the engine or a number is bad
+-- they are these, or there are none and a number is bad
 abbrev pub IsSearch : Option Search → Result SearchLine NoRequest → Type 0
-IsSearch given (Ok line) = given ≡ Some (line.net.now, line.prefix.now, line.options)
-IsSearch given (Err none.BadEngine) = given ≡ None
+IsSearch given (Ok line) = given ≡ Some (line.net.now, line.prefix.now, line.numbers)
 IsSearch given (Err none.BadNumber) = given ≡ None
 IsSearch given (Err _) = ⊥
