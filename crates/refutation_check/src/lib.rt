@@ -6,6 +6,7 @@
 //! Neither: time.
 #![tactic(auto)]
 
+mod bases;
 mod checking;
 mod checks;
 mod cones;
