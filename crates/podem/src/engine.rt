@@ -20,8 +20,8 @@ pub struct Podem {
 /// What a search leaves to the next one: its labels, and the room of the signals with an effect.
 #[derive(Drop)]
 pub struct PodemRoom {
-    labels: SimRoom,
-    effects: Effects,
+    pub(crate) labels: SimRoom,
+    pub(crate) effects: Effects,
 }
 
 /// As many Closed an attempt may take before the search begins anew.
