@@ -1,6 +1,6 @@
 -- The kept patterns detect what all patterns did, each class at the new place of its last one.
 use Rattle.std.proofs.Common.{zero, suc, ◌≡◌, ◌⊎◌, inl, inr, ℕ, ◌+◌, ◌<◌, ◌≤◌, Bool, true, false, cond, List, [], ◌∷◌, length, get_or, Some, None, Option, refl, sym, ap, ◌∙◌, subst, arith}
-use Rattle.std.specs.List.{All, AllZip, slice_get}
+use Rattle.std.specs.List.{All, AllZip}
 use Rattle.std.specs.Prelude.{IfSome}
 use Rattle.std.proofs.lemmas.List.Elements.{All-cons}
 use Rattle.std.proofs.lemmas.Slice.Zip.{AllZip-long}
@@ -75,7 +75,7 @@ verdict_stays j ps kept c f (Detected place point) rep never held =
     let same : held.fault ≡ f = some_same held.fault f (sym held.represents ∙ rep) in
     let here : IsDetectedAt j.netlist ps held.fault place point = record { pattern = held.pattern; at = held.at; detects = held.detects } in
     absurd (never place point (let P : Fault → Type 0 = λ g. IsDetectedAt j.netlist ps g place point in subst P same here))
-verdict_stays j ps kept c f (Redundant tree) rep never held = held
+verdict_stays j ps kept c f (Redundant evidence) rep never held = held
 verdict_stays j ps kept c f (Aborted tree) rep never held = held
 
 module _ (j : Subject) (ps : List Pattern) (ls : List (Option (ℕ × Point))) (are : AreLastDetected j.netlist ps j.classes.representatives ls) where

@@ -33,7 +33,7 @@ detects_more j ps more c p o t = record { fault = t.fault; represents = t.repres
 pub holds_more : (j : Subject) (ps more : List Pattern) (c : ℕ) (v : Verdict) → VerdictHolds j ps c v → VerdictHolds j (ps ++ more) c v
 holds_more j ps more c Open h = tt
 holds_more j ps more c (Detected p o) h = detects_more j ps more c p o h
-holds_more j ps more c (Redundant t) h = h
+holds_more j ps more c (Redundant e) h = h
 holds_more j ps more c (Aborted t) h = h
 
 -- what a hit of a batch says stands at its place behind the older patterns
@@ -82,7 +82,7 @@ after vs all old = record { kinds = map verdict_kind vs; patterns = all; fresh =
 kinds_agree : (v : Verdict) → can_be_hit (verdict_kind v) ≡ is_undetected v
 kinds_agree Open = refl
 kinds_agree (Detected p o) = refl
-kinds_agree (Redundant t) = refl
+kinds_agree (Redundant e) = refl
 kinds_agree (Aborted t) = refl
 
 hit_step : (vs : List Verdict) (all old c p : ℕ) (o : Point) → c < length vs → is_undetected (verdict_at vs c) ≡ true → old ≤ p → p < all → step (after vs all old) (Hit c p o) ≡ Some (after (set vs c (Detected p o)) all old)

@@ -10,7 +10,8 @@ use Rattle.statement.specs.declared.lines.Point.{Point}
 use Rattle.cubes.specs.Cubes.{IsPatternOf}
 use Rattle.statement.specs.Patterns.{Detects}
 use Rattle.redundancy_cert.specs.declared.nodes.Node.{Node}
-use Rattle.redundancy_cert.proofs.Redundant.{redundant}
+use Rattle.evidence.specs.declared.kinds.Evidence.{Evidence}
+use Rattle.evidence.specs.Laws.{ShownIsRedundant}
 use Rattle.word_sim.specs.declared.batches.Hit.{Hit as HitOf}
 use Rattle.list_core.specs.declared.verdicts.Entry.TheVariants.{Take, Settle as SettleEntry, Publish as PublishEntry}
 use Rattle.list_core.specs.declared.verdicts.Verdict.{Verdict}
@@ -28,23 +29,23 @@ use Rattle.list_core.proofs.HitLemmas.{true_published, length-hit_one, hit_class
 stays : (v : Verdict) → MayBecome v v
 stays Open = tt
 stays (Detected p o) = refl
-stays (Redundant t) = refl
+stays (Redundant e) = refl
 stays (Aborted t) = refl
 
 -- from one to the next and on
 on : (u v w : Verdict) → MayBecome u v → MayBecome v w → MayBecome u w
 on Open v w h k = tt
 on (Detected p o) v w h k = let P : Verdict → Type 0 = λ x. MayBecome x w in subst P h k
-on (Redundant t) v w h k = let P : Verdict → Type 0 = λ x. MayBecome x w in subst P h k
+on (Redundant e) v w h k = let P : Verdict → Type 0 = λ x. MayBecome x w in subst P h k
 on (Aborted t) (Aborted u) w h k = let P : List Node → Type 0 = λ x. MayBecome (Aborted x) w in subst P h k
 on (Aborted t) (Detected p o) w h k = let P : Verdict → Type 0 = λ x. MayBecome (Aborted t) x in subst P (sym k) tt
 on (Aborted t) Open w h k = absurd cc
-on (Aborted t) (Redundant u) w h k = absurd cc
+on (Aborted t) (Redundant e) w h k = absurd cc
 
 becomes_detected : (v : Verdict) (p : ℕ) (o : Point) → is_undetected v ≡ true → MayBecome v (Detected p o)
 becomes_detected Open p o e = tt
 becomes_detected (Detected q r) p o e = absurd cc
-becomes_detected (Redundant t) p o e = absurd cc
+becomes_detected (Redundant shown) p o e = absurd cc
 becomes_detected (Aborted t) p o e = tt
 
 set_becomes : (vs : List Verdict) (c : ℕ) (v : Verdict) (k : ℕ) → c < length vs → MayBecome (verdict_at vs c) v → MayBecome (verdict_at vs k) (verdict_at (set vs c v) k)
@@ -81,18 +82,18 @@ settled_within j s c f h rep = omega (arith, h.count, slice_get_within j.classes
 pub true_after : (j : Subject) (s : State) (e : Event) → IsTrueList j s → MayCome j s e → IsTrueList j (after s e)
 true_after j s (Enter w c) h may = let parts = open_and_free j s c h may.0 may.1 in true_entered j s w c h may.0 parts.0 parts.1
 true_after j s (Claim w c) h may = true_claimed j s w c h may.0 may.1 may.2
-true_after j s (Settle w c t) h may = true_settled j s w c may.1 t h (settled_within j s c may.1 h may.2) may.0 may.2 may.3
+true_after j s (Settle w c e) h may = true_settled j s w c may.1 e h (settled_within j s c may.1 h may.2) may.0 may.2 may.3
 true_after j s (Publish w b) h may = true_published j s w b h may
 true_after j s (Reserve a b) h may = true_spared j s a b h
 
 pub later_after : (j : Subject) (s : State) (e : Event) → IsTrueList j s → MayCome j s e → IsLater s (after s e)
 later_after j s (Enter w c) h may = record { verdicts = λ k. stays (verdict_at s.verdicts k); more_patterns = []; patterns = nothing_behind s.patterns; more_entries = Take w c ∷ []; journal = refl }
 later_after j s (Claim w c) h may = record { verdicts = λ k. stays (verdict_at s.verdicts k); more_patterns = []; patterns = nothing_behind s.patterns; more_entries = Take w c ∷ []; journal = refl }
-later_after j s (Settle w c t) h may = record {
-  verdicts = λ k. set_becomes s.verdicts c (verdict_by t) k (settled_within j s c may.1 h may.2) (open_becomes (verdict_at s.verdicts c) (verdict_by t) may.0);
+later_after j s (Settle w c e) h may = record {
+  verdicts = λ k. set_becomes s.verdicts c (verdict_by e) k (settled_within j s c may.1 h may.2) (open_becomes (verdict_at s.verdicts c) (verdict_by e) may.0);
   more_patterns = [];
   patterns = nothing_behind s.patterns;
-  more_entries = SettleEntry w c (ended_by t) ∷ [];
+  more_entries = SettleEntry w c (ended_by e) ∷ [];
   journal = refl;
 }
 later_after j s (Publish w b) h may = record {
@@ -121,16 +122,17 @@ true_after_all j s (e ∷ es) h may =
     (rest.0, later_on s (after s e) (after_all (after s e) es) (later_after j s e h may.0) rest.1)
 
 -- no true batch hits a redundant class
-hit_not_redundant : (j : Subject) (s : State) (b : Batch) (h : HitOf) (tree : List Node) → IsSound j.netlist → IsTrueList j s
-    → All (IsPatternOf j.netlist j.holds) b.patterns → IsTrueHit j b.patterns h → verdict_at s.verdicts h.class ≡ Redundant tree → ⊥
-hit_not_redundant j s b h tree sound list patterns hit is =
-    let held : VerdictHolds j s.patterns h.class (Redundant tree) = (let P : Verdict → Type 0 = λ v. VerdictHolds j s.patterns h.class v in subst P is (list.hold h.class)) in
+hit_not_redundant : ShownIsRedundant → (j : Subject) (s : State) (b : Batch) (h : HitOf) (e : Evidence) → IsSound j.netlist → IsTrueList j s
+    → All (IsPatternOf j.netlist j.holds) b.patterns → IsTrueHit j b.patterns h → verdict_at s.verdicts h.class ≡ Redundant e → ⊥
+hit_not_redundant redundant j s b h e sound list patterns hit is =
+    let held : VerdictHolds j s.patterns h.class (Redundant e) = (let P : Verdict → Type 0 = λ v. VerdictHolds j s.patterns h.class v in subst P is (list.hold h.class)) in
     let same : hit.fault ≡ held.0.fault = same_Some hit.fault held.0.fault (sym hit.represents ∙ held.0.represents) in
     let within = slice_get_within b.patterns h.pattern hit.pattern hit.at in
     let pattern : IsPatternOf j.netlist j.holds hit.pattern =
     subst (IsPatternOf j.netlist j.holds) (get_or_from_slice_get b.patterns h.pattern hit.pattern hit.pattern hit.at) (patterns h.pattern hit.pattern within) in
-    redundant held.0.fault j.netlist j.holds tree sound held.0.fits held.1 hit.pattern.inputs hit.pattern.cells h.point pattern.obeys
+    redundant held.0.fault j.netlist j.holds e sound held.0.shows held.1 hit.pattern.inputs hit.pattern.cells h.point pattern.obeys
     (let P : Fault → Type 0 = λ f. Detects j.netlist f hit.pattern.inputs hit.pattern.cells h.point in subst P same hit.detects)
 
-pub no_hit : (j : Subject) (s : State) (b : Batch) → IsSound j.netlist → IsTrueList j s → IsTrueBatch j b → All (λ (h : HitOf). (tree : List Node) → ¬ (verdict_at s.verdicts h.class ≡ Redundant tree)) b.hits
-no_hit j s b sound list are = λ k d lt tree is. hit_not_redundant j s b (get_or b.hits k d) tree sound list are.patterns (are.hits k d lt) is
+pub no_hit : ShownIsRedundant → (j : Subject) (s : State) (b : Batch) → IsSound j.netlist → IsTrueList j s → IsTrueBatch j b
+    → All (λ (h : HitOf). (e : Evidence) → ¬ (verdict_at s.verdicts h.class ≡ Redundant e)) b.hits
+no_hit redundant j s b sound list are = λ k d lt e is. hit_not_redundant redundant j s b (get_or b.hits k d) e sound list are.patterns (are.hits k d lt) is

@@ -4,7 +4,7 @@ use Rattle.std.specs.List.{All}
 use Rattle.netlist.specs.Conditions.{IsSound}
 use Rattle.statement.specs.declared.lines.Fault.{Fault}
 use Rattle.statement.specs.Patterns.{Pattern}
-use Rattle.redundancy_cert.specs.declared.nodes.Node.{Node}
+use Rattle.evidence.specs.declared.kinds.Evidence.{Evidence}
 use Rattle.word_sim.specs.declared.batches.Hit.{Hit}
 use Rattle.list_core.specs.declared.verdicts.Entry.{Entry}
 use Rattle.list_core.specs.declared.verdicts.Verdict.{Verdict}
@@ -19,7 +19,7 @@ use Rattle.list_core.specs.States.{State, fresh_list, may_enter, entered, claime
 pub data Event : Type 0 where
   Enter : ℕ → ℕ → Event
   Claim : ℕ → ℕ → Event
-  Settle : ℕ → ℕ → List Node → Event
+  Settle : ℕ → ℕ → Evidence → Event
   Publish : ℕ → Batch → Event
   Reserve : ℕ → ℕ → Event
 
@@ -27,14 +27,14 @@ pub data Event : Type 0 where
 abbrev pub MayCome : Subject → State → Event → Type 0
 MayCome j s (Enter worker class) = (class < class_count j) × (may_enter s class ≡ true)
 MayCome j s (Claim worker class) = (class < class_count j) × (verdict_at s.verdicts class ≡ Open) × (s.claims < class_count j)
-MayCome j s (Settle worker class tree) = (verdict_at s.verdicts class ≡ Open) × (f : Fault) × RepresentsIn j class f × MaySettle j f tree
+MayCome j s (Settle worker class evidence) = (verdict_at s.verdicts class ≡ Open) × (f : Fault) × RepresentsIn j class f × MaySettle j f evidence
 MayCome j s (Publish worker batch) = IsTrueBatch j batch
 MayCome j s (Reserve patterns entries) = ⊤
 
 abbrev pub after : State → Event → State
 after s (Enter worker class) = entered s worker class
 after s (Claim worker class) = claimed s worker class
-after s (Settle worker class tree) = settled s worker class tree
+after s (Settle worker class evidence) = settled s worker class evidence
 after s (Publish worker batch) = published s worker batch
 after s (Reserve patterns entries) = spared s patterns entries
 
@@ -50,10 +50,10 @@ AllMayCome j s (e ∷ es) = MayCome j s e × AllMayCome j (after s e) es
 abbrev pub MayBecome : Verdict → Verdict → Type 0
 MayBecome Open w = ⊤
 MayBecome (Detected place point) w = w ≡ Detected place point
-MayBecome (Redundant tree) w = w ≡ Redundant tree
+MayBecome (Redundant evidence) w = w ≡ Redundant evidence
 MayBecome (Aborted tree) (Detected place point) = ⊤
 MayBecome (Aborted tree) Open = Aborted tree ≡ Open
-MayBecome (Aborted tree) (Redundant u) = Aborted tree ≡ Redundant u
+MayBecome (Aborted tree) (Redundant evidence) = Aborted tree ≡ Redundant evidence
 MayBecome (Aborted tree) (Aborted u) = u ≡ tree
 
 pub record IsLater (s t : State) : Type 0 where
@@ -75,4 +75,4 @@ FreshIsTrue = (j : Subject) → IsTrueList j (fresh_list (class_count j))
 abbrev pub NoHitIsRedundant : Type 0
 NoHitIsRedundant =
     (j : Subject) (s : State) (b : Batch) → IsSound j.netlist → IsTrueList j s → IsTrueBatch j b
-    → All (λ (h : Hit). (tree : List Node) → ¬ (verdict_at s.verdicts h.class ≡ Redundant tree)) b.hits
+    → All (λ (h : Hit). (evidence : Evidence) → ¬ (verdict_at s.verdicts h.class ≡ Redundant evidence)) b.hits

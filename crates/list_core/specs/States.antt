@@ -3,9 +3,10 @@ use Rattle.std.specs.Prelude.{sum_by, ℕ, ◌≡◌, ◌+◌, ◌-◌, ◌^◌,
 use Rattle.std.specs.List.{All}
 use Rattle.statement.specs.declared.lines.Fault.{Fault}
 use Rattle.statement.specs.Patterns.{Pattern}
-use Rattle.redundancy_cert.specs.declared.nodes.Node.{Node}
-use Rattle.redundancy_cert.specs.Trees.{closed_count, open_count}
-use Rattle.redundancy_cert.specs.Fits.{Fits}
+use Rattle.redundancy_cert.specs.Trees.{open_count}
+use Rattle.evidence.specs.declared.kinds.Evidence.{Evidence}
+use Rattle.evidence.specs.declared.kinds.Evidence.TheVariants.{Tree, Refutation}
+use Rattle.evidence.specs.Evidence.{Shows, open_ends, closed_ends, MayBe}
 use Rattle.word_sim.specs.declared.batches.Hit.{Hit as HitOf}
 use Rattle.list_core.specs.declared.verdicts.Entry.{Entry}
 use Rattle.list_core.specs.declared.verdicts.Entry.TheVariants.{Take, Settle, Publish, Hit}
@@ -42,15 +43,17 @@ entered s worker class = record s { journal = s.journal ++ Take worker class ∷
 abbrev pub claimed : State → ℕ → ℕ → State
 claimed s worker class = record s { journal = s.journal ++ Take worker class ∷ []; taken = slice_set s.taken class true; claims = s.claims + 1 }
 
--- Redundant where the tree has nothing open, else Aborted
-abbrev pub ended_by : List Node → Ended
-ended_by tree = if open_count tree == 0 then Ended.Redundant else Ended.Aborted
+-- Redundant where the evidence leaves nothing open, else Aborted
+abbrev pub ended_by : Evidence → Ended
+ended_by evidence = if open_ends evidence == 0 then Ended.Redundant else Ended.Aborted
 
-abbrev pub verdict_by : List Node → Verdict
-verdict_by tree = if open_count tree == 0 then Redundant tree else Aborted tree
+abbrev pub verdict_by : Evidence → Verdict
+verdict_by (Tree nodes) = if open_count nodes == 0 then Redundant (Tree nodes) else Aborted nodes
+verdict_by (Refutation steps) = Redundant (Refutation steps)
 
-abbrev pub settled : State → ℕ → ℕ → List Node → State
-settled s worker class tree = record s { verdicts = slice_set s.verdicts class (verdict_by tree); journal = s.journal ++ Settle worker class (ended_by tree) ∷ [] }
+abbrev pub settled : State → ℕ → ℕ → Evidence → State
+settled s worker class evidence =
+    record s { verdicts = slice_set s.verdicts class (verdict_by evidence); journal = s.journal ++ Settle worker class (ended_by evidence) ∷ [] }
 
 -- one hit: a class that is Open or Aborted becomes Detected, at the old number of patterns plus the hit's place, with an entry
 abbrev pub hit_one : ℕ → HitOf → List Verdict → List Verdict
@@ -89,10 +92,12 @@ spared s patterns entries = record s { spare_patterns = patterns; spare_entries 
 abbrev pub IsPublished : State → ℕ → Batch → State → Type 0
 IsPublished s worker b t = spared t 0 0 ≡ spared (published s worker b) 0 0
 
--- the tree fits the fault, and where it leaves an end open, it has as many closed ends as the backtrack limit
-pub record MaySettle (j : Subject) (fault : Fault) (tree : List Node) : Type 0 where
-  pub fits : Fits fault j.netlist j.holds tree
-  pub closed : 1 ≤ open_count tree → closed_count tree ≡ j.limit
+-- the evidence is of the fault; where it leaves an end open, it has as many closed ends as the backtrack limit; and it is a refutation only where
+-- there may be one
+pub record MaySettle (j : Subject) (fault : Fault) (evidence : Evidence) : Type 0 where
+  pub shows : Shows fault j.netlist j.holds evidence
+  pub closed : 1 ≤ open_ends evidence → closed_ends evidence ≡ j.limit
+  pub kind : MayBe j.refutes evidence
 
 -- what the journal's replay is
 abbrev pub replayed : State → ℕ → Replay

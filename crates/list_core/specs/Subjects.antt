@@ -1,5 +1,5 @@
 -- What a list of faults is about, and what is said of it.
-use Rattle.std.specs.Prelude.{ℕ, ◌≡◌, List, length, Some}
+use Rattle.std.specs.Prelude.{ℕ, ◌≡◌, Bool, List, length, Some}
 use Rattle.std.specs.List.{All, slice_get}
 use Rattle.statement.specs.declared.lines.Fault.{Fault}
 use Rattle.statement.specs.declared.lines.Point.{Point}
@@ -7,15 +7,16 @@ use Rattle.netlist.specs.Lines.{IsLineOf}
 use Rattle.statement.specs.Netlists.{Netlist}
 use Rattle.statement.specs.Patterns.{Holds, Detects, Pattern}
 use Rattle.fault_collapse.specs.Numbers.{Classes}
-use Rattle.redundancy_cert.specs.declared.nodes.Node.{Node}
-use Rattle.redundancy_cert.specs.Fits.{Fits}
+use Rattle.evidence.specs.declared.kinds.Evidence.{Evidence}
+use Rattle.evidence.specs.Evidence.{Shows, MayBe}
 
--- a netlist, the classes of its faults, how many closed ends a search may make, and the inputs that are held
+-- a netlist, the classes of its faults, how many closed ends a search may make, the inputs that are held, and whether evidence may be a refutation
 pub record Subject : Type 0 where
   pub netlist : Netlist
   pub classes : Classes
   pub limit : ℕ
   pub holds : Holds
+  pub refutes : Bool
 
 abbrev pub class_count : Subject → ℕ
 class_count j = length j.classes.representatives
@@ -36,8 +37,9 @@ pub record DetectsClass (j : Subject) (patterns : List Pattern) (class place : �
   pub at : slice_get patterns place ≡ Some pattern
   pub detects : Detects j.netlist fault pattern.inputs pattern.cells point
 
--- the tree fits the class's representative
-pub record FitsClass (j : Subject) (class : ℕ) (nodes : List Node) : Type 0 where
+-- the evidence is of the class's representative, and a refutation only where there may be one
+pub record ShowsClass (j : Subject) (class : ℕ) (evidence : Evidence) : Type 0 where
   pub fault : Fault
   pub represents : RepresentsIn j class fault
-  pub fits : Fits fault j.netlist j.holds nodes
+  pub shows : Shows fault j.netlist j.holds evidence
+  pub kind : MayBe j.refutes evidence

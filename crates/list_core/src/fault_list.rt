@@ -3,6 +3,7 @@ ghost use Rattle.std.specs.Prelude.{◌≡◌, ◌↔◌, ◌≢◌, ℕ, ◌+�
 ghost use Rattle.std.specs.List.{All, slice_get};
 ghost use Rattle.statement.specs.declared.lines.Fault.{Fault as FaultOf};
 ghost use Rattle.redundancy_cert.specs.Trees.{open_count};
+ghost use Rattle.evidence.specs.Evidence.{open_ends};
 ghost use Rattle.list_core.specs.Subjects.{Subject, class_count, RepresentsIn};
 ghost use Rattle.list_core.specs.Batches.{IsTrueBatch};
 ghost use Rattle.list_core.specs.Verdicts.{verdict_at, is_open};
@@ -17,9 +18,10 @@ use crate::marks::{all_open, none_taken, representatives};
 use crate::subjects::About;
 use crate::verdicts::{Ended, Entry, Totals, Verdict};
 use cubes::Pattern;
+use evidence::Evidence;
 use fault_collapse::Classes;
 use netlist::{Core, Fault, Holds, NoMemory};
-use redundancy_cert::{Node, Tree};
+use redundancy_cert::Node;
 use std::alloc::Global;
 use std::marker::{Model, PhantomData};
 use word_sim::Batch;
@@ -56,8 +58,8 @@ impl<J: About> Model for FaultList<J> {
 #[derive(Drop)]
 pub enum Settling<J: About> {
     Settled,
-    /// The class had its verdict: the tree comes back.
-    Already(Tree, Over<J>),
+    /// The class had its verdict: the evidence comes back.
+    Already(Evidence, Over<J>),
 }
 
 impl<J: About> FaultList<J> {
@@ -144,11 +146,11 @@ impl<J: About> FaultList<J> {
     }
 
     /// Gives the claim's class its verdict, where it is Open.
-    pub fn settle(&mut self, claim: Claim<J>, tree: Tree) -> Settling<J>
-        requires { MaySettle J.subject claim.fault tree }
+    pub fn settle(&mut self, claim: Claim<J>, evidence: Evidence) -> Settling<J>
+        requires { MaySettle J.subject claim.fault evidence }
         ensures { MatchSettling result
-            ((verdict_at self.old.verdicts claim.class ≡ Open) × (self.new ≡ settled self.old claim.worker claim.class tree))
-            (λ t class is_entered. (is_open (verdict_at self.old.verdicts claim.class) ≡ false) × (self.new ≡ self.old) × (t ≡ tree) × (class ≡ claim.class) × (is_entered ≡ false)) }
+            ((verdict_at self.old.verdicts claim.class ≡ Open) × (self.new ≡ settled self.old claim.worker claim.class evidence))
+            (λ e class is_entered. (is_open (verdict_at self.old.verdicts claim.class) ≡ false) × (self.new ≡ self.old) × (e ≡ evidence) × (class ≡ claim.class) × (is_entered ≡ false)) }
     {
         let Claim {
             worker,
@@ -159,7 +161,7 @@ impl<J: About> FaultList<J> {
         } = claim;
         if !is_open_now(&self.verdicts[class as usize]) {
             return Settling::Already(
-                tree,
+                evidence,
                 Over {
                     class,
                     entered: false,
@@ -167,10 +169,10 @@ impl<J: About> FaultList<J> {
                 },
             );
         }
-        let how = ended_of(&tree);
+        let how = ended_of(&evidence);
         self.journal
             .push_reserved(Entry::Settle(worker, class, how));
-        self.verdicts[class as usize] = verdict_of(tree);
+        self.verdicts[class as usize] = verdict_of(evidence);
         Settling::Settled
     }
 
@@ -297,23 +299,37 @@ fn has_open(nodes: &[Node]) -> bool
     false
 }
 
-fn ended_of(tree: &Tree) -> Ended
-    ensures { result ≡ ended_by tree.now }
+fn leaves_open(evidence: &Evidence) -> bool
+    ensures { (result ≡ false) ↔ (open_ends evidence.now ≡ 0) }
 {
-    if has_open(tree.nodes()) {
+    match evidence {
+        Evidence::Tree(tree) => has_open(tree.nodes()),
+        Evidence::Refutation(_) => false,
+    }
+}
+
+fn ended_of(evidence: &Evidence) -> Ended
+    ensures { result ≡ ended_by evidence.now }
+{
+    if leaves_open(evidence) {
         Ended::Aborted
     } else {
         Ended::Redundant
     }
 }
 
-fn verdict_of(tree: Tree) -> Verdict
-    ensures { result ≡ verdict_by tree }
+fn verdict_of(evidence: Evidence) -> Verdict
+    ensures { result ≡ verdict_by evidence }
 {
-    if has_open(tree.nodes()) {
-        Verdict::Aborted(tree)
-    } else {
-        Verdict::Redundant(tree)
+    match evidence {
+        Evidence::Tree(tree) => {
+            if has_open(tree.nodes()) {
+                Verdict::Aborted(tree)
+            } else {
+                Verdict::Redundant(Evidence::Tree(tree))
+            }
+        }
+        Evidence::Refutation(steps) => Verdict::Redundant(Evidence::Refutation(steps)),
     }
 }
 

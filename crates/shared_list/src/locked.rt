@@ -9,9 +9,9 @@ ghost use Rattle.list_core.specs.declared.verdicts.Verdict.TheVariants.{Open};
 ghost use Rattle.shared_list.specs.Tally.{Tally, took, gave, spent};
 
 use crate::share::{LedgerParts, Share};
+use evidence::Evidence;
 use list_core::{About, Claim, Entry, FaultList, Over, Settling};
 use netlist::NoMemory;
-use redundancy_cert::Tree;
 use std::sync::ledger::{Book, Ledger};
 use word_sim::Batch;
 
@@ -56,19 +56,19 @@ impl<J: About, T: Ledger, S: Ledger, P: Ledger, U: Ledger> Locked<J, T, S, P, U>
         &mut self,
         share: &mut Share<T, S, P, U>,
         claim: Claim<J>,
-        tree: Tree,
+        evidence: Evidence,
     ) -> Settling<J>
-        requires { MaySettle J.subject claim.fault tree }
+        requires { MaySettle J.subject claim.fault evidence }
         ensures { MatchSettling result
-            ((verdict_at self.old.list.verdicts claim.class ≡ Open) × (self.new.list ≡ settled self.old.list claim.worker claim.class tree) × (share.new ≡ gave share.old))
-            (λ t class is_entered. (is_open (verdict_at self.old.list.verdicts claim.class) ≡ false) × (self.new.list ≡ self.old.list) × (t ≡ tree) × (class ≡ claim.class) × (is_entered ≡ false) × (share.new ≡ share.old)) }
+            ((verdict_at self.old.list.verdicts claim.class ≡ Open) × (self.new.list ≡ settled self.old.list claim.worker claim.class evidence) × (share.new ≡ gave share.old))
+            (λ e class is_entered. (is_open (verdict_at self.old.list.verdicts claim.class) ≡ false) × (self.new.list ≡ self.old.list) × (e ≡ evidence) × (class ≡ claim.class) × (is_entered ≡ false) × (share.new ≡ share.old)) }
     {
-        match self.list.settle(claim, tree) {
+        match self.list.settle(claim, evidence) {
             Settling::Settled => {
                 self.settles.add(&mut share.settles, 1);
                 Settling::Settled
             }
-            Settling::Already(tree, over) => Settling::Already(tree, over),
+            Settling::Already(evidence, over) => Settling::Already(evidence, over),
         }
     }
 

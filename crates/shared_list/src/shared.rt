@@ -19,9 +19,9 @@ ghost use Rattle.shared_list.specs.Outcomes.{IsDraw, IsNone};
 use crate::draws::{Drawer, Word, another, open};
 use crate::locked::{Events, Locked};
 use crate::share::{LedgerParts, Share};
+use evidence::Evidence;
 use list_core::{About, Claim, FaultList, Left, Over, Settling};
 use netlist::NoMemory;
-use redundancy_cert::Tree;
 use std::alloc::{AllocError, Global};
 use std::sync::ledger::{Blank, Ledger};
 use std::sync::{Mutex, Wait};
@@ -146,13 +146,13 @@ impl<J: About, T: Ledger, S: Ledger, P: Ledger, U: Ledger> Shared<J, T, S, P, U>
         rt: &impl Wait,
         share: &mut Share<T, S, P, U>,
         claim: Claim<J>,
-        tree: Tree,
+        evidence: Evidence,
     ) -> Settling<J>
         requires table { share.old.table ≡ self.now.word.shared.table_id }
-        requires fits { MaySettle J.subject claim.fault tree }
-        ensures { MatchSettling result (share.new ≡ gave share.old) (λ t class is_entered. (t ≡ tree) × (class ≡ claim.class) × (is_entered ≡ false) × (share.new ≡ share.old)) }
+        requires shows { MaySettle J.subject claim.fault evidence }
+        ensures { MatchSettling result (share.new ≡ gave share.old) (λ e class is_entered. (e ≡ evidence) × (class ≡ claim.class) × (is_entered ≡ false) × (share.new ≡ share.old)) }
     {
-        self.lock.lock(rt).settle(share, claim, tree)
+        self.lock.lock(rt).settle(share, claim, evidence)
     }
 
     /// One hold of the lock.
