@@ -22,7 +22,7 @@ module _ (files : FiveFiles) where
   answered answer (fault.Netlist refusal) is out = absurd (read_once Design files.net is.0.netlist refusal is.1.net out)
   answered answer fault.NotStil is out = absurd (out.2 is.0.file is.1.stil)
   answered answer fault.NotCertificate is out =
-      absurd (out.4 is.0.trees (subst (λ (n : Netlist). IsCertificate n files.certificate is.0.trees) (same_net files.net is.0.netlist out.0 is.1.net out.2) is.1.certificate))
+      absurd (out.4 is.0.evidence (subst (λ (n : Netlist). IsCertificate n files.certificate is.0.evidence) (same_net files.net is.0.netlist out.0 is.1.net out.2) is.1.certificate))
   answered answer fault.NotReport is out = absurd (out.6 is.0.said is.1.is_report is.1.report)
   answered answer fault.NoMemory is out = refl
 

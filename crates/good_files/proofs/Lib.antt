@@ -1,6 +1,7 @@
 pub mod FirstOnLoop
 pub mod Chains
 pub mod Truth
+pub mod TreesAlone
 pub mod Whole
 pub mod Passed
 pub mod Left

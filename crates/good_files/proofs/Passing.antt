@@ -22,7 +22,7 @@ use Rattle.certificate.specs.Laws.{OneCertificate}
 use Rattle.report.specs.Laws.{TextsTellReports}
 use Rattle.statement.specs.Reports.{Line}
 use Rattle.run_report.specs.Outcomes.{Test}
-use Rattle.good_files.specs.GoodFiles.{AreGoodFiles, AreReportTotals, AreTrueFaults, Contents, HasHolds, HasPatterns, IsTested, StandFor, chains_in, chains_said, faults_in_trees, test_in, test_with}
+use Rattle.good_files.specs.GoodFiles.{AreGoodFiles, AreReportTotals, AreTrueFaults, Contents, HasHolds, HasPatterns, IsTested, StandFor, chains_in, chains_said, faults_in, test_in, test_with}
 use Rattle.statement.specs.Statement.{FiveFiles}
 use Rattle.good_files.specs.declared.answers.Checked.{Checked}
 use Rattle.good_files.specs.declared.answers.Checked.TheVariants.{Faults, False}
@@ -55,7 +55,7 @@ module _ (t : Test) (classes : Classes) (lines : List Line) (are : AreTrueFaults
       let count = are.lines_true.no_more in
       omega arith
   none_named text (inr (inr stray)) =
-      let same = undetected_once t.netlist t.patterns classes.representatives stray.left (faults_in_trees t.trees) stray.are_left are.left in
+      let same = undetected_once t.netlist t.patterns classes.representatives stray.left (faults_in t.evidence) stray.are_left are.left in
       stray.first.stray (ap (λ (fs : List Fault). slice_get fs stray.first.place) same ∙ stray.first.at)
 
 -- ---- clauses of contents determine the test
@@ -117,10 +117,10 @@ module _ (laws : Laws) (files : FiveFiles) (c : Contents) (sound : IsSound c.net
       let net = same_net files.net d.netlist c.netlist s.net own.net in
       let file = laws.stil files.stil d.file c.file s.stil own.stil in
       let said = laws.report d.said c.said s.is_report own.is_report (sym s.report ∙ own.report) in
-      let trees = laws.certificate c.netlist files.certificate d.trees c.trees sound
-      (subst (λ (m : Netlist). IsCertificate m files.certificate d.trees) net s.certificate) own.certificate in
+      let evidence = laws.certificate c.netlist files.certificate d.evidence c.evidence sound
+      (subst (λ (m : Netlist). IsCertificate m files.certificate d.evidence) net s.certificate) own.certificate in
       let scan = sym s.scan ∙ own.scan in
-      λ i. record { netlist = net i; scan = scan i; file = file i; trees = trees i; said = said i }
+      λ i. record { netlist = net i; scan = scan i; file = file i; evidence = evidence i; said = said i }
 
   pub passes : (answer : Result Checked CheckFault) → IsChecked files answer → (answer ≡ Err fault.NoMemory) ⊎ (answer ≡ Ok (Faults (length (universe_of c.netlist))))
   passes (Ok answer) is =
@@ -129,6 +129,6 @@ module _ (laws : Laws) (files : FiveFiles) (c : Contents) (sound : IsSound c.net
   passes (Err (fault.Netlist refusal)) is = absurd (read_once Design files.net c.netlist refusal good.stand.net is)
   passes (Err fault.NotStil) is = absurd (is.2 c.file good.stand.stil)
   passes (Err fault.NotCertificate) is =
-      absurd (is.4 c.trees (subst (λ (m : Netlist). IsCertificate m files.certificate c.trees) (same_net files.net c.netlist is.0 good.stand.net is.2) good.stand.certificate))
+      absurd (is.4 c.evidence (subst (λ (m : Netlist). IsCertificate m files.certificate c.evidence) (same_net files.net c.netlist is.0 good.stand.net is.2) good.stand.certificate))
   passes (Err fault.NotReport) is = absurd (is.6 c.said good.stand.is_report good.stand.report)
   passes (Err fault.NoMemory) is = inl refl

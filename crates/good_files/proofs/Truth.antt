@@ -37,15 +37,16 @@ use Rattle.fault_universe.proofs.Elements.{contains_at}
 use Rattle.fault_collapse.specs.Joined.{IsEquivalent}
 use Rattle.fault_collapse.specs.Laws.{DetectedAlike}
 use Rattle.fault_collapse.specs.Numbers.{Classes}
-use Rattle.redundancy_cert.specs.declared.nodes.Node.{Node}
-use Rattle.redundancy_cert.specs.Laws.{ClosedTreeIsRedundant}
+use Rattle.evidence.specs.declared.kinds.Evidence.{Evidence}
+use Rattle.evidence.specs.declared.kinds.Evidence.TheVariants.{Tree}
+use Rattle.evidence.specs.Laws.{ShownIsRedundant}
 use Rattle.word_sim.specs.Hits.{IsNeverDetected}
 use Rattle.statement.specs.declared.outcomes.Outcome.{Outcome}
 use Rattle.statement.specs.declared.outcomes.Outcome.TheVariants.{Detected, Redundant, Aborted}
 use Rattle.report.specs.Reports.{Hold, Report}
 use Rattle.statement.specs.Reports.{Line, fault_line}
 use Rattle.report.specs.Texts.{counts_text, head, hold_line, report_text, share_line}
-use Rattle.run_report.specs.Outcomes.{Test, IsFirstTree, IsTrueAt, IsTrueOf, AreTrueLines}
+use Rattle.run_report.specs.Outcomes.{Test, IsFirstOf, IsTrueAt, IsTrueOf, AreTrueLines}
 use Rattle.run_report.specs.Heads.{hold_at, holds_named}
 use Rattle.run_report.proofs.ClassLemmas.{equivalent}
 use Rattle.good_files.specs.GoodFiles.{AreGoodFiles, Contents, chains_in, chains_said, limit_said, test_in}
@@ -84,10 +85,10 @@ once t classes lines are =
     let w = are.each k (omega (arith, lt, length-map lines (λ l. l.fault), are.no_more)) in
     got (λ (l : Line). l.fault) lines k w.line [] w.said ∙ w.names_it ∙ sym (got (fault_text n) (universe_of n) k w.fault [] w.member))
 
-stands : (trees : List (Fault × List Node)) (f : Fault) (tree : List Node) → IsFirstTree trees f tree → Contains trees (f, tree)
-stands [] f tree e = absurd e
-stands (p ∷ ps) f tree (inl e) = subst (λ (q : Fault × List Node). Contains (p ∷ ps) q) (λ i. (e.0 i, e.1 i)) (contains_head p ps)
-stands (p ∷ ps) f tree (inr e) = contains_tail p (f, tree) ps (stands ps f tree e.1)
+stands : (ps : List (Fault × Evidence)) (f : Fault) (e : Evidence) → IsFirstOf ps f e → Contains ps (f, e)
+stands [] f e first = absurd first
+stands (p ∷ ps) f e (inl here) = subst (λ (q : Fault × Evidence). Contains (p ∷ ps) q) (λ i. (here.0 i, here.1 i)) (contains_head p ps)
+stands (p ∷ ps) f e (inr later) = contains_tail p (f, e) ps (stands ps f e later.1)
 
 same_member : {X : Type 0} (xs : List X) (k : ℕ) (x y : X) → slice_get xs k ≡ Some x → slice_get xs k ≡ Some y → x ≡ y
 same_member xs k x y p q = let both : Some x ≡ Some y = sym p ∙ q in cc
@@ -109,7 +110,7 @@ pub record Laws : Type 1 where
   pub test : FileVectors
   pub lines : FaultsHaveLines
   pub alike : DetectedAlike
-  pub closed : ClosedTreeIsRedundant
+  pub shown : ShownIsRedundant
 
 -- what a test and its file are
 record IsPlayable (t : Test) (cycles : List Cycle) : Type 0 where
@@ -164,7 +165,7 @@ comes_true laws t cycles are f g line same (Detected place cycle) pin seen =
 comes_true laws t cycles are f g line same Redundant pin said =
     let n = t.netlist in
     let left = said.1 in
-    let shown : IsRedundant n t.holds g = laws.closed g n t.holds said.0 are.sound left.fits said.2 in
+    let shown : IsRedundant n t.holds g = laws.shown g n t.holds said.0 are.sound left.shows said.2 in
     let none : IsRedundant n t.holds f = (λ inputs state point obeys detects. shown inputs state point obeys ((laws.alike n f g inputs state point are.sound same).0 detects)) in
     λ state driven good faulty obeys p q. laws.redundant n t.holds t.chains f state driven good faulty are.sound are.held are.dealt line none obeys p q
 comes_true laws t cycles are f g line same Aborted pin said =
@@ -177,10 +178,10 @@ ComesSomewhere t cycles f l =
     × ComesTrue t.netlist t.holds t.chains (scanned_of t.netlist t.chains) t.patterns cycles f moved l.outcome l.pin
 
 evident : (t : Test) (f representative : Fault) → IsEquivalent t.netlist f representative → (o : Outcome) (pin : List ℕ) → IsTrueOf t f representative o pin
-    → HasEvidence t.netlist t.holds t.limit t.trees f o
+    → HasEvidence t.netlist t.holds t.limit t.evidence f o
 evident t f g same (Detected place cycle) pin seen = tt
-evident t f g same Redundant pin said = (said.0, (g, same, stands t.trees g said.0 said.1.first, said.1.fits), said.2)
-evident t f g same Aborted pin said = (said.0, (g, same, stands t.trees g said.0 said.1.first, said.1.fits), said.2, said.3)
+evident t f g same Redundant pin said = (said.0, (g, same, stands t.evidence g said.0 said.1.first, said.1.shows), said.2)
+evident t f g same Aborted pin said = (said.0, (g, same, stands t.evidence g (Tree said.0) said.1.first, said.1.shows), said.2, said.3)
 
 -- ---- the texts
 
@@ -245,7 +246,7 @@ truth laws files c sound design good =
     λ place w. equivalent n classes tested.are_classes place w.class w.fault w.representative w.member w.of_class w.represents in
     record {
       said = c.said;
-      trees = c.trees;
+      certified = c.evidence;
       statement = record {
         scanned = scanned_of n chains;
         patterns = patterns;
@@ -282,11 +283,11 @@ truth laws files c sound design good =
       net_is = good.stand.net;
       scan_is = read_back laws.read (scanned_of n chains) scanned files.scan scan_is;
       stil_is = good.stand.stil;
-      certificate_is = good.stand.certificate.text;
+      certificate_is = good.stand.certificate;
       report_is = good.stand.report;
       evidence = λ place f line at said.
           let w = true_at place f at in
-          subst (λ (g : Fault). HasEvidence n holds (limit_said c.said) c.trees g line.outcome) (same_fault place f at w)
-          (subst (λ (l : Line). HasEvidence n holds (limit_said c.said) c.trees w.fault l.outcome) (same_line place line said w)
+          subst (λ (g : Fault). HasEvidence n holds (limit_said c.said) c.evidence g line.outcome) (same_fault place f at w)
+          (subst (λ (l : Line). HasEvidence n holds (limit_said c.said) c.evidence w.fault l.outcome) (same_line place line said w)
           (evident t w.fault w.representative (of_class place w) w.line.outcome w.line.pin w.is_true));
     }

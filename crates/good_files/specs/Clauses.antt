@@ -7,10 +7,10 @@ use Rattle.statement.specs.declared.lines.Fault.{Fault}
 use Rattle.statement.specs.Netlists.{Netlist}
 use Rattle.statement.specs.Faults.{fault_text, universe_of}
 use Rattle.fault_collapse.specs.Numbers.{Classes}
-use Rattle.redundancy_cert.specs.declared.nodes.Node.{Node}
+use Rattle.evidence.specs.declared.kinds.Evidence.{Evidence}
 use Rattle.statement.specs.Reports.{Line}
 use Rattle.run_report.specs.Outcomes.{Test, AreTrueLines, AreUndetected, IsTrueAt}
-use Rattle.good_files.specs.GoodFiles.{faults_in_trees}
+use Rattle.good_files.specs.GoodFiles.{faults_in}
 
 -- the fault that a report names at a place of the universe, or that of the universe where the report has ended
 abbrev pub named_at : List Line → ℕ → Text → Text
@@ -32,12 +32,12 @@ pub record IsFurther (t : Test) (classes : Classes) (lines : List Line) (text : 
   pub further : slice_get lines (length (universe_of t.netlist)) ≡ Some line
   pub names_it : text ≡ line.fault
 
--- The first tree of a certificate that isn't, in order, that of one of these faults.
-pub record IsFirstStray (n : Netlist) (trees : List (Fault × List Node)) (left : List Fault) (text : Text) : Type 0 where
+-- The first evidence of a certificate that isn't, in order, that of one of these faults.
+pub record IsFirstStray (n : Netlist) (evidence : List (Fault × Evidence)) (left : List Fault) (text : Text) : Type 0 where
   pub place : ℕ
   pub fault : Fault
-  pub at : slice_get (faults_in_trees trees) place ≡ Some fault
-  pub before : take place (faults_in_trees trees) ≡ take place left
+  pub at : slice_get (faults_in evidence) place ≡ Some fault
+  pub before : take place (faults_in evidence) ≡ take place left
   pub stray : slice_get left place ≢ Some fault
   pub names_it : text ≡ fault_text n fault
 
@@ -46,7 +46,7 @@ pub record IsStray (t : Test) (classes : Classes) (lines : List Line) (text : Te
   pub lines_true : AreTrueLines t classes lines
   pub left : List Fault
   pub are_left : AreUndetected t.netlist t.patterns classes.representatives left
-  pub first : IsFirstStray t.netlist t.trees left text
+  pub first : IsFirstStray t.netlist t.evidence left text
 
 -- the fault that is named, in this order
 abbrev pub IsFalseFault : Test → Classes → List Line → Text → Type 0

@@ -17,7 +17,7 @@ use Rattle.stil_read.specs.Reading.{StandsFor}
 use Rattle.statement.specs.Tests.{IsFileOf}
 use Rattle.fault_collapse.specs.Classes.{AreClasses}
 use Rattle.fault_collapse.specs.Numbers.{Classes}
-use Rattle.redundancy_cert.specs.declared.nodes.Node.{Node}
+use Rattle.evidence.specs.declared.kinds.Evidence.{Evidence}
 use Rattle.certificate.specs.Certificates.{IsCertificate}
 use Rattle.report.specs.Reports.{Hold, Report, IsReport}
 use Rattle.statement.specs.Reports.{Line}
@@ -28,12 +28,12 @@ use Rattle.good_files.specs.ScanOff.{design_chains}
 
 -- ---- what five texts stand for
 
--- The netlist, the text of the scanned one, the test, the certificate's trees, and the report.
+-- The netlist, the text of the scanned one, the test, the certificate's evidence, and the report.
 pub record Contents : Type 0 where
   pub netlist : Netlist
   pub scan : Text
   pub file : StilFile
-  pub trees : List (Fault × List Node)
+  pub evidence : List (Fault × Evidence)
   pub said : Report
 
 -- The texts stand for them. The scanned netlist's text has no grammar of its own: it is compared as it is.
@@ -41,7 +41,7 @@ pub record StandFor (files : FiveFiles) (c : Contents) : Type 0 where
   pub net : IsRead Design files.net (Ok c.netlist)
   pub scan : files.scan ≡ c.scan
   pub stil : StandsFor files.stil c.file
-  pub certificate : IsCertificate c.netlist files.certificate c.trees
+  pub certificate : IsCertificate c.netlist files.certificate c.evidence
   pub is_report : IsReport c.said
   pub report : files.report ≡ report_text c.said
 
@@ -107,20 +107,20 @@ pub record IsTested (c : Contents) : Type 0 where
 -- the test with these inputs held, and by these patterns
 abbrev pub test_with : Contents → Holds → List Pattern → Test
 test_with c holds patterns =
-    record { netlist = c.netlist; holds = holds; chains = chains_in c; limit = limit_said c.said; patterns = patterns; trees = c.trees }
+    record { netlist = c.netlist; holds = holds; chains = chains_in c; limit = limit_said c.said; patterns = patterns; evidence = c.evidence }
 
 abbrev pub test_in : (c : Contents) → IsTested c → Test
 test_in c t = test_with c t.holds t.patterns
 
 -- ---- the faults
 
-abbrev pub faults_in_trees : List (Fault × List Node) → List Fault
-faults_in_trees trees = map (λ (p : Fault × List Node). p.0) trees
+abbrev pub faults_in : List (Fault × Evidence) → List Fault
+faults_in evidence = map (λ (p : Fault × Evidence). p.0) evidence
 
--- what is said of the faults is true, and each class that no pattern detects has its tree, in order, and no other
+-- what is said of the faults is true, and each class that no pattern detects has its evidence, in order, and no other
 pub record AreTrueFaults (t : Test) (classes : Classes) (lines : List Line) : Type 0 where
   pub lines_true : AreTrueLines t classes lines
-  pub left : AreUndetected t.netlist t.patterns classes.representatives (faults_in_trees t.trees)
+  pub left : AreUndetected t.netlist t.patterns classes.representatives (faults_in t.evidence)
 
 -- ---- the totals
 
@@ -132,7 +132,7 @@ pub record AreReportTotals (t : Test) (classes : Classes) (said : Report) : Type
 -- ---- good files
 
 -- The texts stand for these contents. By the report's own number of chains, held inputs and limit the second text is that of the scanned netlist
--- and the third that of some patterns; each fault has a line that is true and each class that isn't detected its tree, and the numbers follow.
+-- and the third that of some patterns; each fault has a line that is true and each class that isn't detected its evidence, and the numbers follow.
 pub record AreGoodFiles (files : FiveFiles) (c : Contents) : Type 0 where
   pub stand : StandFor files c
   pub tested : IsTested c

@@ -1,7 +1,10 @@
 -- The laws of good files and of the check, each the contract of a function of its name.
-use Rattle.std.specs.Prelude.{ℕ, ◌≡◌, ◌⊎◌, ⊤, Result, Ok, Err, length}
+use Rattle.std.specs.Prelude.{ℕ, ◌≡◌, ◌⊎◌, ◌++◌, ⊤, List, Result, Ok, Err, codes, length}
 use Rattle.netlist.specs.Conditions.{IsSound}
 use Rattle.netlist.specs.Designs.{IsDesign}
+use Rattle.statement.specs.Netlists.{Netlist}
+use Rattle.statement.specs.Patterns.{Holds}
+use Rattle.statement.specs.Stils.{StilFile}
 use Rattle.statement.specs.Faults.{universe_of}
 use Rattle.good_files.specs.declared.answers.Checked.{Checked}
 use Rattle.good_files.specs.declared.answers.Checked.TheVariants.{Faults, False}
@@ -10,6 +13,7 @@ use Rattle.good_files.specs.declared.answers.CheckFault.TheVariants.{NoMemory}
 use Rattle.good_files.specs.GoodFiles.{AreGoodFiles, Contents, StandFor, chains_in, limit_said}
 use Rattle.statement.specs.Statement.{FiveFiles}
 use Rattle.good_files.specs.RunTheorem.{RunTheorem}
+use Rattle.good_files.specs.TreeTheorem.{TreeTheorem}
 use Rattle.good_files.specs.Checks.{ArePassed, IsAnswer, IsChecked, PassesWhereTrue}
 
 -- Good files tell the truth.
@@ -17,6 +21,12 @@ abbrev pub GoodFilesTellTheTruth : Type 0
 GoodFilesTellTheTruth =
     (files : FiveFiles) (c : Contents) → IsSound c.netlist → IsDesign c.netlist → (good : AreGoodFiles files c)
     → RunTheorem c.netlist good.tested.holds (chains_in c) (limit_said c.said) c.file files
+
+-- A certificate that begins as those of trees did has trees alone, and its files all that is said of these.
+abbrev pub TreesAsBefore : Type 0
+TreesAsBefore =
+    (n : Netlist) (holds : Holds) (chains : List (List ℕ)) (limit : ℕ) (file : StilFile) (files : FiveFiles) (rest : List ℕ)
+    → RunTheorem n holds chains limit file files → files.certificate ≡ codes "atpg certificate 1\n" ++ rest → TreeTheorem n holds chains limit file files
 
 -- Where no clause is false, the files are good.
 abbrev pub CheckedIsGood : Type 0

@@ -1,11 +1,11 @@
 //! The laws of good files and of the check: functions that do nothing, whose contracts are the laws.
-ghost use Rattle.good_files.specs.Laws.{AnswersAgree, CheckedIsGood, GoodFilesPass, GoodFilesTellTheTruth};
+ghost use Rattle.good_files.specs.Laws.{AnswersAgree, CheckedIsGood, GoodFilesPass, GoodFilesTellTheTruth, TreesAsBefore};
 
 use bench_text::canonical_text_is_read;
-use certificate::one_certificate;
+use certificate::{first_line_tells, one_certificate};
+use evidence::shown_is_redundant;
 use fault_collapse::{classes_once, detected_alike};
 use fault_universe::faults_have_lines;
-use redundancy_cert::closed_tree_is_redundant;
 use report::texts_tell_reports;
 use scan_insert::laws::{scan_behaves, scanned_is_sound, sites_have_names};
 use scan_play::{
@@ -32,7 +32,14 @@ pub fn good_files_tell_the_truth()
     file_vectors();
     faults_have_lines();
     detected_alike();
-    closed_tree_is_redundant();
+    shown_is_redundant();
+}
+
+/// A certificate that begins as those of trees did has trees alone, and its files all that is said of these.
+pub fn trees_as_before()
+    ensures { TreesAsBefore }
+{
+    first_line_tells();
 }
 
 /// Files that pass the check are good, whoever made them.

@@ -3,6 +3,7 @@ use Rattle.std.proofs.Common.{◌≡◌, ℕ, zero, suc, ◌<◌, ◌≤◌, inl
 use Rattle.std.specs.List.{All, slice_get}
 use Rattle.std.proofs.lemmas.Bool.{cases_order}
 use Rattle.std.proofs.lemmas.List.{get_or_append_left, get_or_push}
+use Rattle.std.proofs.lemmas.List.Elements.{All-from_get_or}
 use Rattle.std.proofs.lemmas.Option.{slice_get-get_or, slice_get_within}
 use Rattle.statement.specs.Netlists.{Netlist}
 use Rattle.netlist.specs.Conditions.{IsSound}
@@ -13,7 +14,8 @@ use Rattle.fault_collapse.specs.Numbers.{Classes}
 use Rattle.statement.specs.declared.lines.Fault.{Fault}
 use Rattle.cubes.specs.Cubes.{IsPatternOf}
 use Rattle.redundancy_cert.specs.Fits.{Fits}
-use Rattle.redundancy_cert.specs.Laws.{ClosedTreeIsRedundant}
+use Rattle.evidence.specs.Evidence.{Shows}
+use Rattle.evidence.specs.Laws.{ShownIsRedundant}
 use Rattle.word_sim.specs.Hits.{IsNeverDetected}
 use Rattle.word_sim.specs.Never.{AreNever}
 use Rattle.list_core.proofs.KeepLemmas.{kept_all}
@@ -24,7 +26,7 @@ use Rattle.list_core.specs.States.{State, IsTrueList}
 use Rattle.list_core.specs.declared.verdicts.Verdict.{Verdict}
 use Rattle.list_core.specs.declared.verdicts.Verdict.TheVariants.{Open, Detected, Redundant, Aborted}
 use Rattle.list_core.specs.Verdicts.{VerdictHolds, is_open, verdict_at}
-use Rattle.run_files.specs.inner.Verdicts.{AreVerdicts, IsVerdict, is_redundant}
+use Rattle.run_files.specs.inner.Verdicts.{AreVerdicts, IsVerdict, MayHave, is_redundant}
 
 same_fault : (j : Subject) (class : ℕ) (f g : Fault) → RepresentsIn j class f → RepresentsIn j class g → f ≡ g
 same_fault j class f g p q = let both : Some f ≡ Some g = sym p ∙ q in cc
@@ -36,12 +38,12 @@ held j kept class f represents never Open shut holds = absurd (true≢false shut
 held j kept class f represents never (Detected place point) shut holds =
     let same = same_fault j class holds.fault f holds.represents represents in
     absurd (never place point (record { pattern = holds.pattern; at = holds.at; detects = subst (λ g. Detects j.netlist g holds.pattern.inputs holds.pattern.cells point) same holds.detects }))
-held j kept class f represents never (Redundant tree) shut holds =
+held j kept class f represents never (Redundant e) shut holds =
     let same = same_fault j class holds.0.fault f holds.0.represents represents in
-    (never, subst (λ g. Fits g j.netlist j.holds tree) same holds.0.fits, holds.1)
+    (never, subst (λ g. Shows g j.netlist j.holds e) same holds.0.shows, holds.1)
 held j kept class f represents never (Aborted tree) shut holds =
     let same = same_fault j class holds.0.fault f holds.0.represents represents in
-    (never, subst (λ g. Fits g j.netlist j.holds tree) same holds.0.fits, holds.1, holds.2)
+    (never, subst (λ g. Fits g j.netlist j.holds tree) same holds.0.shows, holds.1, holds.2)
 
 pub verdicts_of : (j : Subject) (s : State) (kept : List Pattern) (verdicts : List Verdict) → IsTrueList j s → NoneOpen s.verdicts → AreFinished j s kept verdicts
     → AreVerdicts j.netlist j.holds j.classes j.limit kept verdicts
@@ -60,6 +62,16 @@ verdicts_of j s kept verdicts list shut done = record {
   ];
 }
 
+kind_at : (j : Subject) (kept : List Pattern) (class : ℕ) (v : Verdict) → VerdictHolds j kept class v → MayHave j.refutes v
+kind_at j kept class Open holds = tt
+kind_at j kept class (Detected place point) holds = tt
+kind_at j kept class (Redundant e) holds = holds.0.kind
+kind_at j kept class (Aborted tree) holds = tt
+
+pub kinds_of : (j : Subject) (s : State) (kept : List Pattern) (verdicts : List Verdict) → AreFinished j s kept verdicts → All (MayHave j.refutes) verdicts
+kinds_of j s kept verdicts done =
+    All-from_get_or (MayHave j.refutes) verdicts Open (λ class lt. kind_at j kept class (verdict_at verdicts class) (done.hold class))
+
 -- ---- no pattern detects a redundant class
 
 pattern_at : (n : Netlist) (holds : Holds) (patterns : List Pattern) → All (IsPatternOf n holds) patterns → (place : ℕ) (p : Pattern) → slice_get patterns place ≡ Some p → IsPatternOf n holds p
@@ -68,16 +80,16 @@ pattern_at n holds patterns all place p at =
     let same : get_or patterns place p ≡ p = (let both : Some (get_or patterns place p) ≡ Some p = sym (slice_get-get_or patterns place p lt) ∙ at in cc) in
     subst (IsPatternOf n holds) same (all place p lt)
 
-module _ (j : Subject) (patterns : List Pattern) (sound : IsSound j.netlist) (law : ClosedTreeIsRedundant) (obey : All (IsPatternOf j.netlist j.holds) patterns) where
+module _ (j : Subject) (patterns : List Pattern) (sound : IsSound j.netlist) (law : ShownIsRedundant) (obey : All (IsPatternOf j.netlist j.holds) patterns) where
   undetected : (class : ℕ) (f : Fault) → RepresentsIn j class f → (v : Verdict) → is_redundant v ≡ true → VerdictHolds j patterns class v → IsNeverDetected j.netlist patterns f
   undetected class f represents Open is holds = absurd (true≢false (sym is))
   undetected class f represents (Detected place point) is holds = absurd (true≢false (sym is))
   undetected class f represents (Aborted tree) is holds = absurd (true≢false (sym is))
-  undetected class f represents (Redundant tree) is holds = λ place point seen.
+  undetected class f represents (Redundant e) is holds = λ place point seen.
       let same = same_fault j class holds.0.fault f holds.0.represents represents in
-      let fits = subst (λ g. Fits g j.netlist j.holds tree) same holds.0.fits in
+      let shows = subst (λ g. Shows g j.netlist j.holds e) same holds.0.shows in
       let p = pattern_at j.netlist j.holds patterns obey place seen.pattern seen.at in
-      law f j.netlist j.holds tree sound fits holds.1 seen.pattern.inputs seen.pattern.cells point p.obeys seen.detects
+      law f j.netlist j.holds e sound shows holds.1 seen.pattern.inputs seen.pattern.cells point p.obeys seen.detects
 
 -- one mark more
 pub mark_more : (F : ℕ → Bool) (old new : List Bool) (k : ℕ) (x : Bool) → length old ≡ k → new ≡ old ++ x ∷ [] → x ≡ F k → ((i : ℕ) → i < k → get_or old i false ≡ F i)
@@ -90,7 +102,7 @@ mark_more F old new k x size added is so_far i lt = elim (cases_order i k) [
   ]
 ]
 
-pub never_redundant : (j : Subject) (s : State) → IsSound j.netlist → ClosedTreeIsRedundant → IsTrueList j s → (marks : List Bool) → length marks ≡ class_count j
+pub never_redundant : (j : Subject) (s : State) → IsSound j.netlist → ShownIsRedundant → IsTrueList j s → (marks : List Bool) → length marks ≡ class_count j
     → ((k : ℕ) → k < class_count j → get_or marks k false ≡ is_redundant (verdict_at s.verdicts k)) → AreNever j.netlist s.patterns j.classes.representatives marks
 never_redundant j s sound law list marks size each = record {
   size = size;

@@ -20,7 +20,7 @@ use crate::searching::search;
 use crate::stitching::stitched;
 use crate::truth::written_is_run;
 use bench_text::write;
-use certificate::write_trees;
+use certificate::write_evidence;
 use cubes::Pattern;
 use evidence::Engine;
 use fault_universe::faults_have_signals;
@@ -156,7 +156,7 @@ fn texts_of(
     let Finished { patterns, verdicts } = found;
     let stil = stil_text(alloc, core, chains, patterns.as_slice(), holds)?;
     let leaves = leaves_of(alloc, subject.classes.representatives(), verdicts)?;
-    let certificate = write_trees(alloc, core, leaves.as_slice())?;
+    let certificate = write_evidence(alloc, core, leaves.as_slice())?;
     let net = write(alloc, netlist)?;
     let scan = write(alloc, scanned.netlist())?;
     let report = write_report(alloc, &said)?;
@@ -186,7 +186,7 @@ pub fn make_files<R: Threads + Wait + Sync, E: Engine + Sync, G: Gate + Sync>(
     requires limit { (1 ≤ plan.limit) × (plan.limit ≤ most_limit) }
     requires workers { (0 < plan.workers) × (plan.workers ≤ 64) }
     requires held { AreHoldsOf core.now holds.now }
-    ensures { IfOk result (IsRun core.now holds.now plan.chains plan.limit) }
+    ensures { IfOk result (IsRun core.now holds.now plan.chains plan.limit E.refutes) }
 {
     let netlist = core.netlist();
     netlist.sound();

@@ -1,16 +1,15 @@
-//! The trees of the classes that no pattern detects.
+//! The evidence of the classes that no pattern detects.
 ghost use Rattle.std.specs.Prelude.{◌≡◌, ◌≤◌, ◌++◌, ◌∷◌, [], IfOk, OnOk, length};
-ghost use Rattle.redundancy_cert.specs.declared.nodes.Node.{Node};
 ghost use Rattle.run_files.specs.inner.Verdicts.{leaf_at, leaves_of};
 
+use evidence::Evidence;
 use list_core::Verdict;
 use netlist::{Fault, NoMemory};
-use redundancy_cert::Tree;
 use std::alloc::{AllocError, Global};
 
-/// Adds the tree of a class, where no pattern detects it, beside its representative.
+/// Adds the evidence of a class, where no pattern detects it, beside its representative.
 fn add_leaf(
-    leaves: &mut Vec<(Fault, Tree)>,
+    leaves: &mut Vec<(Fault, Evidence)>,
     representative: Fault,
     verdict: Verdict,
 ) -> Result<(), AllocError>
@@ -19,19 +18,19 @@ fn add_leaf(
     match verdict {
         Verdict::Open => Ok(()),
         Verdict::Detected(_, _) => Ok(()),
-        Verdict::Redundant(tree) => push_leaf(leaves, representative, tree),
-        Verdict::Aborted(tree) => push_leaf(leaves, representative, tree),
+        Verdict::Redundant(evidence) => push_leaf(leaves, representative, evidence),
+        Verdict::Aborted(tree) => push_leaf(leaves, representative, Evidence::Tree(tree)),
     }
 }
 
 fn push_leaf(
-    leaves: &mut Vec<(Fault, Tree)>,
+    leaves: &mut Vec<(Fault, Evidence)>,
     representative: Fault,
-    tree: Tree,
+    evidence: Evidence,
 ) -> Result<(), AllocError>
-    ensures { OnOk result (leaves.new.items ≡ leaves.old.items ++ (representative, tree) ∷ []) }
+    ensures { OnOk result (leaves.new.items ≡ leaves.old.items ++ (representative, evidence) ∷ []) }
 {
-    leaves.push((representative, tree))?;
+    leaves.push((representative, evidence))?;
     Ok(())
 }
 
@@ -39,7 +38,7 @@ fn leaves_within(
     alloc: Global,
     representatives: &[Fault],
     verdicts: Vec<Verdict>,
-) -> Result<Vec<(Fault, Tree)>, AllocError>
+) -> Result<Vec<(Fault, Evidence)>, AllocError>
     requires { length verdicts.items ≤ length representatives.now }
     ensures { IfOk result (λ v. v.items ≡ leaves_of representatives.now verdicts.items) }
 {
@@ -52,12 +51,12 @@ fn leaves_within(
     Ok(leaves)
 }
 
-/// Each such tree beside its class's representative, in the order of classes.
+/// Each beside its class's representative, in the order of classes.
 pub(crate) fn leaves_of(
     alloc: Global,
     representatives: &[Fault],
     verdicts: Vec<Verdict>,
-) -> Result<Vec<(Fault, Tree)>, NoMemory>
+) -> Result<Vec<(Fault, Evidence)>, NoMemory>
     requires { length verdicts.items ≤ length representatives.now }
     ensures { IfOk result (λ v. v.items ≡ leaves_of representatives.now verdicts.items) }
 {

@@ -11,16 +11,15 @@ ghost use Rattle.fault_universe.specs.Laws.{most_design_faults};
 ghost use Rattle.list_core.specs.Subjects.{HaveLines, class_count};
 ghost use Rattle.list_core.specs.Verdicts.{verdict_at};
 ghost use Rattle.list_core.specs.Finished.{AreFinished};
-ghost use Rattle.run_files.specs.inner.Verdicts.{AreVerdicts, is_redundant};
+ghost use Rattle.run_files.specs.inner.Verdicts.{AreVerdicts, MayHave, is_redundant};
 
 use crate::files::RunPlan;
-use evidence::Engine;
+use evidence::{Engine, shown_is_redundant};
 use fault_collapse::Classes;
 use fault_universe::{faults_have_lines, few_faults};
 use list_core::{About, FaultList, Finished, Verdict, compact};
 use netlist::{Core, Holds, NoMemory};
 use outside::{Gate, Stage};
-use redundancy_cert::closed_tree_is_redundant;
 use std::alloc::{AllocError, Global};
 use std::marker::Brand;
 use std::sync::Wait;
@@ -78,7 +77,7 @@ fn finish_beside<J: About, R: Threads + Sync>(
 {
     list.true_list();
     core.netlist().sound();
-    closed_tree_is_redundant();
+    shown_is_redundant();
     let redundant = redundant_marks(alloc, &list)?;
     let left = unmarked(alloc, classes.representatives(), &redundant)?;
     let told = last_tells_beside(rt, alloc, core, &left, list.patterns(), workers)?;
@@ -103,8 +102,10 @@ fn search_named<J: About + Send + Sync, E: Engine + Sync, G: Gate + Sync, R: Thr
     requires limit { (plan.limit ≡ J.subject.limit) × (1 ≤ plan.limit) }
     requires holds { (holds.now ≡ J.subject.holds) × AreHoldsOf core.now holds.now }
     requires lines { HaveLines J.subject }
+    requires kinds { E.refutes ≡ J.subject.refutes }
     requires workers { (0 < plan.workers) × (plan.workers ≤ most_workers) }
     ensures verdicts { IfOk result (λ f. AreVerdicts core.now holds.now classes.now plan.limit f.patterns.items f.verdicts.items) }
+    ensures kinds { IfOk result (λ f. All (MayHave E.refutes) f.verdicts.items) }
     ensures few { IfOk result (λ f. length f.patterns.items < 2 ^ 32) }
 {
     stage.at(
@@ -158,6 +159,7 @@ pub(crate) fn search<E: Engine + Sync, G: Gate + Sync, R: Threads + Wait + Sync>
     requires held { AreHoldsOf core.now holds.now }
     requires workers { (0 < plan.workers) × (plan.workers ≤ most_workers) }
     ensures verdicts { IfOk result (λ f. AreVerdicts core.now holds.now classes.now plan.limit f.patterns.items f.verdicts.items) }
+    ensures kinds { IfOk result (λ f. All (MayHave E.refutes) f.verdicts.items) }
     ensures few { IfOk result (λ f. length f.patterns.items < 2 ^ 32) }
 {
     represented(core, classes);

@@ -4,7 +4,7 @@ ghost use Rattle.run_files.specs.inner.Laws.{WrittenIsGood, WrittenIsRun};
 use bench_text::canonical_text_is_read;
 use fault_collapse::detected_alike;
 use fault_universe::texts_differ;
-use good_files::good_files_tell_the_truth;
+use good_files::{good_files_tell_the_truth, trees_as_before};
 use stil_read::laws::written_stands;
 
 /// The texts of verdicts are good files.
@@ -23,4 +23,5 @@ pub(crate) fn written_is_run()
 {
     written_is_good();
     good_files_tell_the_truth();
+    trees_as_before();
 }

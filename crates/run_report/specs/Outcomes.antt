@@ -13,21 +13,23 @@ use Rattle.fault_collapse.specs.Classes.{Represents}
 use Rattle.fault_collapse.specs.Numbers.{Classes}
 use Rattle.redundancy_cert.specs.declared.nodes.Node.{Node}
 use Rattle.redundancy_cert.specs.Trees.{closed_count, open_count}
-use Rattle.redundancy_cert.specs.Fits.{Fits}
+use Rattle.evidence.specs.declared.kinds.Evidence.{Evidence}
+use Rattle.evidence.specs.declared.kinds.Evidence.TheVariants.{Tree}
+use Rattle.evidence.specs.Evidence.{Shows, open_ends}
 use Rattle.word_sim.specs.Hits.{IsNeverDetected}
 use Rattle.statement.specs.declared.outcomes.Outcome.{Outcome}
 use Rattle.statement.specs.declared.outcomes.Outcome.TheVariants.{Detected, Redundant, Aborted}
 use Rattle.statement.specs.Reports.{Line}
 
 -- A test of a netlist: the inputs that are held, the scan chains, the patterns in their order,
--- how many closed ends a search might make, and the trees that it left.
+-- how many closed ends a search might make, and the evidence that it left.
 pub record Test : Type 0 where
   pub netlist : Netlist
   pub holds : Holds
   pub chains : List (List ℕ)
   pub limit : ℕ
   pub patterns : List Pattern
-  pub trees : List (Fault × List Node)
+  pub evidence : List (Fault × Evidence)
 
 -- the tester sees a point of this pattern in this cycle at this pin
 abbrev pub IsSeenAt : Netlist → List (List ℕ) → ℕ → Point → ℕ → List ℕ → Type 0
@@ -39,23 +41,23 @@ pub record IsSeen (t : Test) (f : Fault) (place cycle : ℕ) (pin : List ℕ) : 
   pub last : IsLastDetected t.netlist t.patterns f place point
   pub seen : IsSeenAt t.netlist t.chains place point cycle pin
 
--- the first of these trees that stands beside the fault
-abbrev pub IsFirstTree : List (Fault × List Node) → Fault → List Node → Type 0
-IsFirstTree [] f tree = ⊥
-IsFirstTree (p ∷ ps) f tree = ((p.0 ≡ f) × (p.1 ≡ tree)) ⊎ ((p.0 ≢ f) × IsFirstTree ps f tree)
+-- the first of this evidence that stands beside the fault
+abbrev pub IsFirstOf : List (Fault × Evidence) → Fault → Evidence → Type 0
+IsFirstOf [] f e = ⊥
+IsFirstOf (p ∷ ps) f e = ((p.0 ≡ f) × (p.1 ≡ e)) ⊎ ((p.0 ≢ f) × IsFirstOf ps f e)
 
--- No pattern detects the fault, and the tree of its representative fits that.
-pub record IsLeft (t : Test) (f representative : Fault) (tree : List Node) : Type 0 where
-  pub first : IsFirstTree t.trees representative tree
-  pub fits : Fits representative t.netlist t.holds tree
+-- No pattern detects the fault, and the evidence of its representative is a tree that fits that, or steps that refute it.
+pub record IsLeft (t : Test) (f representative : Fault) (e : Evidence) : Type 0 where
+  pub first : IsFirstOf t.evidence representative e
+  pub shows : Shows representative t.netlist t.holds e
   pub never : IsNeverDetected t.netlist t.patterns f
 
--- What is said of a fault is true: where it is seen; or a tree that leaves nothing open; or one that leaves an end open
+-- What is said of a fault is true: where it is seen; or evidence that leaves nothing open; or a tree that leaves an end open
 -- and has as many closed ends as the backtrack limit.
 abbrev pub IsTrueOf : Test → Fault → Fault → Outcome → List ℕ → Type 0
 IsTrueOf t f representative (Detected place cycle) pin = IsSeen t f place cycle pin
-IsTrueOf t f representative Redundant pin = (tree : List Node) × IsLeft t f representative tree × (open_count tree ≡ 0)
-IsTrueOf t f representative Aborted pin = (tree : List Node) × IsLeft t f representative tree × (closed_count tree ≡ t.limit) × (1 ≤ open_count tree)
+IsTrueOf t f representative Redundant pin = (e : Evidence) × IsLeft t f representative e × (open_ends e ≡ 0)
+IsTrueOf t f representative Aborted pin = (tree : List Node) × IsLeft t f representative (Tree tree) × (closed_count tree ≡ t.limit) × (1 ≤ open_count tree)
 
 -- the line at a place is that of the fault at this place, and what it says is true
 pub record IsTrueAt (t : Test) (classes : Classes) (lines : List Line) (place : ℕ) : Type 0 where

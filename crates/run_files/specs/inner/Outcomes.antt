@@ -13,11 +13,11 @@ use Rattle.report.specs.Reports.{IsLine}
 use Rattle.statement.specs.Reports.{Line}
 use Rattle.run_report.specs.Outcomes.{IsSeenAt}
 
--- The pattern's place, and where the tester sees the point; or that no pattern detects it, by a tree without or with an open end.
+-- The pattern's place, and where the tester sees the point; or that no pattern detects it, by evidence without or with an open end.
 abbrev pub IsOutcomeOf : Netlist → List (List ℕ) → Verdict → Outcome → List ℕ → Type 0
 IsOutcomeOf n chains (verdict.Detected place point) o pin =
     (cycle : ℕ) × (o ≡ outcome.Detected place cycle) × IsSeenAt n chains place point cycle pin
-IsOutcomeOf n chains (verdict.Redundant tree) o pin = (o ≡ outcome.Redundant) × (pin ≡ [])
+IsOutcomeOf n chains (verdict.Redundant e) o pin = (o ≡ outcome.Redundant) × (pin ≡ [])
 IsOutcomeOf n chains (verdict.Aborted tree) o pin = (o ≡ outcome.Aborted) × (pin ≡ [])
 IsOutcomeOf n chains verdict.Open o pin = ⊥
 

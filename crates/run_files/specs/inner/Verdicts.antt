@@ -10,6 +10,9 @@ use Rattle.fault_collapse.specs.Numbers.{Classes}
 use Rattle.redundancy_cert.specs.declared.nodes.Node.{Node}
 use Rattle.redundancy_cert.specs.Trees.{closed_count, open_count}
 use Rattle.redundancy_cert.specs.Fits.{Fits}
+use Rattle.evidence.specs.declared.kinds.Evidence.{Evidence}
+use Rattle.evidence.specs.declared.kinds.Evidence.TheVariants.{Tree}
+use Rattle.evidence.specs.Evidence.{MayBe, Shows, open_ends}
 use Rattle.word_sim.specs.Hits.{IsNeverDetected}
 use Rattle.list_core.specs.Kept.{IsNeeded}
 use Rattle.list_core.specs.declared.verdicts.Verdict.{Verdict}
@@ -17,12 +20,12 @@ use Rattle.list_core.specs.declared.verdicts.Verdict.TheVariants.{Open, Detected
 use Rattle.list_core.specs.Verdicts.{verdict_at}
 use Rattle.run_report.specs.Strobes.{IsPointOf}
 
--- Detected: by the last pattern that detects the fault, at its first point. Else no pattern does, and a tree fits the fault:
--- one that leaves nothing open, or one that does, with as many closed ends as the limit.
+-- Detected: by the last pattern that detects the fault, at its first point. Else no pattern does, and there is evidence of the fault:
+-- what leaves nothing open, or a tree that does, with as many closed ends as the limit.
 abbrev pub IsVerdict : Netlist → Holds → ℕ → List Pattern → Fault → Verdict → Type 0
 IsVerdict n holds limit patterns f Open = ⊥
 IsVerdict n holds limit patterns f (Detected place point) = IsLastDetected n patterns f place point
-IsVerdict n holds limit patterns f (Redundant tree) = IsNeverDetected n patterns f × Fits f n holds tree × (open_count tree ≡ 0)
+IsVerdict n holds limit patterns f (Redundant e) = IsNeverDetected n patterns f × Shows f n holds e × (open_ends e ≡ 0)
 IsVerdict n holds limit patterns f (Aborted tree) = IsNeverDetected n patterns f × Fits f n holds tree × (closed_count tree ≡ limit) × (1 ≤ open_count tree)
 
 -- one for each class; all patterns are of the netlist, and each is the last to detect some class
@@ -32,15 +35,15 @@ pub record AreVerdicts (n : Netlist) (holds : Holds) (classes : Classes) (limit 
   pub needed : (place : ℕ) → place < length patterns → IsNeeded n patterns classes.representatives place
   pub each : (class : ℕ) (f : Fault) → Represents classes class f → IsVerdict n holds limit patterns f (verdict_at verdicts class)
 
--- the tree of a class that no pattern detects
-abbrev pub leaf_at : Fault → Verdict → List (Fault × List Node)
+-- the evidence of a class that no pattern detects
+abbrev pub leaf_at : Fault → Verdict → List (Fault × Evidence)
 leaf_at f Open = []
 leaf_at f (Detected place point) = []
-leaf_at f (Redundant tree) = (f, tree) ∷ []
-leaf_at f (Aborted tree) = (f, tree) ∷ []
+leaf_at f (Redundant e) = (f, e) ∷ []
+leaf_at f (Aborted tree) = (f, Tree tree) ∷ []
 
--- the trees of all such classes, each beside its representative, in order
-abbrev pub leaves_of : List Fault → List Verdict → List (Fault × List Node)
+-- the evidence of all such classes, each beside its representative, in order
+abbrev pub leaves_of : List Fault → List Verdict → List (Fault × Evidence)
 leaves_of [] verdicts = []
 leaves_of (f ∷ fs) [] = []
 leaves_of (f ∷ fs) (v ∷ vs) = leaf_at f v ++ leaves_of fs vs
@@ -49,11 +52,18 @@ leaves_of (f ∷ fs) (v ∷ vs) = leaf_at f v ++ leaves_of fs vs
 abbrev pub IsInside : Netlist → Verdict → Type 0
 IsInside n Open = ⊥
 IsInside n (Detected place point) = IsPointOf n point
-IsInside n (Redundant tree) = ⊤
+IsInside n (Redundant e) = ⊤
 IsInside n (Aborted tree) = ⊤
+
+-- a refutation only where refutations are given
+abbrev pub MayHave : Bool → Verdict → Type 0
+MayHave refutes Open = ⊤
+MayHave refutes (Detected place point) = ⊤
+MayHave refutes (Redundant e) = MayBe refutes e
+MayHave refutes (Aborted tree) = ⊤
 
 abbrev pub is_redundant : Verdict → Bool
 is_redundant Open = false
 is_redundant (Detected place point) = false
-is_redundant (Redundant tree) = true
+is_redundant (Redundant e) = true
 is_redundant (Aborted tree) = false

@@ -16,5 +16,5 @@ returns c = truth (record {
   test = c.file_vectors.ensures;
   lines = c.faults_have_lines.ensures;
   alike = c.detected_alike.ensures;
-  closed = c.closed_tree_is_redundant.ensures;
+  shown = c.shown_is_redundant.ensures;
 })

@@ -29,7 +29,7 @@ compact-requires-clause-last g c =
     let fs = j.classes.representatives in
     let reps : c.representatives.result.now ≡ fs = c.representatives.ensures ∙ ap (λ (cs : Classes). cs.representatives) c.requires.classes in
     let sound = subst IsSound (c.netlist.ensures ∙ c.requires.core) c.sound.ensures in
-    let none = never_redundant j c.args.list sound c.closed_tree_is_redundant.ensures c.true_list.ensures.true_list c.in_ok-redundant.redundant.items c.in_ok-redundant.ensures.size c.in_ok-redundant.ensures.each in
+    let none = never_redundant j c.args.list sound c.shown_is_redundant.ensures c.true_list.ensures.true_list c.in_ok-redundant.redundant.items c.in_ok-redundant.ensures.size c.in_ok-redundant.ensures.each in
     let never = subst (λ (ms : List Bool). AreNever n ps fs ms) (sym c.deref-3.ensures.value) none in
     let left : c.deref-2.result.now ≡ unmarked c.deref-3.result.now fs =
     c.deref-2.ensures.value ∙ (c.in_ok-left.ensures.exactly
