@@ -10,7 +10,7 @@ use refutation::Step;
 use std::alloc::{AllocError, Global};
 
 /// A bit for an input or a cell.
-#[derive(Clone, Copy, Debug, PartialEq, Eq)]
+#[derive(Clone, Copy, PartialEq, Eq)]
 pub struct SourceBit {
     pub signal: SignalId,
     pub bit: bool,
