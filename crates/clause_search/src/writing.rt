@@ -55,6 +55,19 @@ enum Why {
     Said(Reason),
 }
 
+impl Why {
+    /// The last reason of a step.
+    fn reason(self) -> Reason {
+        match self {
+            Why::Said(reason) => reason,
+            Why::Known | Why::ByGates => Reason::Gates,
+        }
+    }
+}
+
+/// No place of a lemma.
+const NOTHING: (u32, u32) = (0, 0);
+
 /// What is needed of a search, and the refutation as far as it is written.
 #[derive(Drop)]
 struct Writing {
@@ -309,21 +322,6 @@ impl Writing {
         Ok(false)
     }
 
-    /// What follows without a decision from this reason, where that has to be told: a sweep first, if it rests on one.
-    fn moves_before(
-        &mut self,
-        alloc: Global,
-        search: &Search,
-        asked: &Asked,
-        reason: u32,
-    ) -> Result<Vec<Move>, AllocError> {
-        let mut moves = Vec::new(alloc);
-        if self.rests_on_gates(search, asked, reason)? {
-            moves.push(Move::Sweep)?;
-        }
-        Ok(moves)
-    }
-
     /// The step of a literal that was known without a decision, unless gates tell it or a lemma is that step.
     fn write_root(
         &mut self,
@@ -343,11 +341,12 @@ impl Writing {
             return Ok(());
         }
         let place = search.trail.place_of(variable);
-        let moves = self.moves_before(alloc, search, &Asked { variable, place }, reason)?;
+        let rests = self.rests_on_gates(search, &Asked { variable, place }, reason)?;
         let mut clause = Vec::new(alloc);
         clause.push(written(&search.cone, literal))?;
-        self.written.push(Step::new(clause, moves, last))?;
-        Ok(())
+        let why = Why::Said(last);
+        let moves = self.moves(alloc, search, NOTHING, rests, &why)?;
+        self.push_step(clause, moves, why)
     }
 
     /// The steps of what was known without a decision, up to a place.
@@ -386,12 +385,19 @@ impl Writing {
         }
     }
 
-    /// What a lemma took: a sweep stands for all that gates imply up to the next literal of another reason, and up to the end.
-    fn moves(&self, alloc: Global, search: &Search, lemma: u32) -> Result<Moves, AllocError> {
+    /// What a lemma took at these places, and what it rests on before: a sweep stands for all that gates imply up to the next literal of another reason,
+    /// and up to the last reason; where that is gates, they leave nothing without a sweep before.
+    fn moves(
+        &self,
+        alloc: Global,
+        search: &Search,
+        places: (u32, u32),
+        rests: bool,
+        last: &Why,
+    ) -> Result<Vec<Move>, AllocError> {
         let mut list = Vec::new(alloc);
-        let mut sweeps = false;
-        let (start, end) = search.lemmas.range(lemma);
-        for place in start..end {
+        let mut sweeps = rests;
+        for place in places.0..places.1 {
             match self.why_at(search, place) {
                 Why::Known => {}
                 Why::ByGates => sweeps = true,
@@ -405,27 +411,19 @@ impl Writing {
                 }
             }
         }
-        Ok(Moves { list, sweeps })
+        if sweeps && matches!(last, Why::Said(_)) {
+            list.push(Move::Sweep)?;
+        }
+        Ok(list)
     }
 
-    /// A step, up to its last reason: where gates alone leave nothing, that says so without a sweep before.
     fn push_step(
         &mut self,
         clause: Vec<Literal>,
-        moves: Moves,
-        why: Why,
+        moves: Vec<Move>,
+        last: Why,
     ) -> Result<(), AllocError> {
-        let mut list = moves.list;
-        let last = match why {
-            Why::Said(reason) => {
-                if moves.sweeps {
-                    list.push(Move::Sweep)?;
-                }
-                reason
-            }
-            _ => Reason::Gates,
-        };
-        self.written.push(Step::new(clause, list, last))?;
+        self.written.push(Step::new(clause, moves, last.reason()))?;
         Ok(())
     }
 
@@ -441,8 +439,8 @@ impl Writing {
             self.write_roots(alloc, search, root)?;
         }
         let clause = self.clause(alloc, search, search.lemmas.clause(lemma))?;
-        let moves = self.moves(alloc, search, lemma)?;
         let why = self.why(search, search.lemmas.last(lemma));
+        let moves = self.moves(alloc, search, search.lemmas.range(lemma), false, &why)?;
         put(&mut self.steps, lemma, number_of(self.written.len()));
         self.push_step(clause, moves, why)
     }
@@ -466,10 +464,10 @@ impl Writing {
         if root > self.root {
             self.write_roots(alloc, search, root)?;
         }
-        let list = Vec::new(alloc);
-        let sweeps = self.rests_on_gates(search, &contradicted(), reason)?;
+        let rests = self.rests_on_gates(search, &contradicted(), reason)?;
         let why = self.why(search, reason);
-        self.push_step(Vec::new(alloc), Moves { list, sweeps }, why)
+        let moves = self.moves(alloc, search, NOTHING, rests, &why)?;
+        self.push_step(Vec::new(alloc), moves, why)
     }
 }
 
@@ -487,13 +485,6 @@ fn is_alone(search: &Search, reason: u32) -> bool {
         None => false,
         Some(place) => search.clauses.length(place) == 1,
     }
-}
-
-/// What a lemma took, and whether gates imply some of it behind the last one.
-#[derive(Drop)]
-struct Moves {
-    list: Vec<Move>,
-    sweeps: bool,
 }
 
 /// The refutation of a fault with no open way.
