@@ -9,26 +9,12 @@ use netlist::{Core, Fault, Holds, NoMemory, SignalId};
 use refutation::Step;
 use std::alloc::{AllocError, Global};
 
-/// A bit for an input or a cell.
-#[derive(Clone, Copy, PartialEq, Eq)]
-pub struct SourceBit {
-    pub signal: SignalId,
-    pub bit: bool,
-}
-
-/// Bits under which the fault should be detected, whatever the other inputs and cells have. The held inputs aren't among them.
-#[derive(Drop)]
-pub struct Candidate {
-    /// What a difference at an observed signal rests on.
-    pub needed: Vec<SourceBit>,
-    /// What the search gave a bit too.
-    pub others: Vec<SourceBit>,
-}
-
-/// What a search found of a fault. Whoever takes it verifies it: a candidate by simulation, a refutation by a checker.
+/// What a search found of a fault. Whoever takes it verifies it: bits by simulation, steps by a checker.
 #[derive(Drop)]
 pub enum Settled {
-    Found(Candidate),
+    /// Bits of inputs that aren't held and of cells under which the fault should be detected, whatever the others have: first those on which a difference
+    /// at an observed signal rests.
+    Found(Vec<(SignalId, bool)>),
     /// Steps that should show that no pattern which obeys the held inputs detects the fault.
     Refuted(Vec<Step>),
     /// The limit was reached.
@@ -97,7 +83,7 @@ fn is_held(core: &Core, holds: &Holds, signal: SignalId) -> bool
 }
 
 /// The bit that the search gave an input or a cell that isn't held.
-fn source_bit(search: &Search, core: &Core, holds: &Holds, number: u32) -> Option<SourceBit>
+fn source_bit(search: &Search, core: &Core, holds: &Holds, number: u32) -> Option<(SignalId, bool)>
     requires { AreHoldsOf core.now holds.now }
 {
     let value = search.trail.value(number);
@@ -108,32 +94,41 @@ fn source_bit(search: &Search, core: &Core, holds: &Holds, number: u32) -> Optio
     {
         return None;
     }
-    Some(SourceBit {
-        signal,
-        bit: value == 1,
-    })
+    Some((signal, value == 1))
 }
 
-/// The bits of a test; all of them are needed where it isn't known of which.
+/// The bits that the point rests on, or the others.
+fn push_bits(
+    bits: &mut Vec<(SignalId, bool)>,
+    search: &Search,
+    core: &Core,
+    holds: &Holds,
+    rests: bool,
+) -> Result<(), AllocError>
+    requires { AreHoldsOf core.now holds.now }
+{
+    for number in 0..search.cone.count() {
+        if search.rests_on(number) == rests {
+            if let Some(bit) = source_bit(search, core, holds, number) {
+                bits.push(bit)?;
+            }
+        }
+    }
+    Ok(())
+}
+
+/// The bits of a test. Where it isn't known on which the point rests, they come as they are met.
 fn test_of(
     alloc: Global,
     search: &mut Search,
     core: &Core,
     holds: &Holds,
-) -> Result<Candidate, AllocError>
+) -> Result<Vec<(SignalId, bool)>, AllocError>
     requires { AreHoldsOf core.now holds.now }
 {
-    let is_known = search.justify()?;
-    let mut needed = Vec::new(alloc);
-    let mut others = Vec::new(alloc);
-    for number in 0..search.cone.count() {
-        if let Some(bit) = source_bit(search, core, holds, number) {
-            if is_known && !search.rests_on(number) {
-                others.push(bit)?;
-            } else {
-                needed.push(bit)?;
-            }
-        }
-    }
-    Ok(Candidate { needed, others })
+    search.justify()?;
+    let mut bits = Vec::new(alloc);
+    push_bits(&mut bits, search, core, holds, true)?;
+    push_bits(&mut bits, search, core, holds, false)?;
+    Ok(bits)
 }

@@ -4,7 +4,7 @@
 //! all that is read there, takes part: a difference is driven to the nearest observed signal, and what that rests on is made; after four contradictions
 //! decisions go by weight. A room keeps weights from fault to fault, and facts: bits that signals have whatever the fault.
 //!
-//! Gives: `Room` with its `search`; `Settled`, `Candidate`, `SourceBit`.
+//! Gives: `Room` with its `search`; `Settled`.
 //! Proved: its calls are safe and end, whatever the room held. What it answers is verified by whoever takes it.
 //! Neither: how soon an answer comes.
 #![tactic(auto)]
@@ -34,4 +34,4 @@ mod ways;
 mod wholes;
 mod writing;
 
-pub use engine::{Candidate, Room, Settled, SourceBit};
+pub use engine::{Room, Settled};

@@ -343,10 +343,10 @@ impl Search {
         Ok(self.choose_by_weight())
     }
 
-    /// Marks the bits on which a test rests; false where they aren't known.
-    pub(crate) fn justify(&mut self) -> Result<bool, AllocError> {
-        let wish = self.walk.wish(&self.whole, &self.cone, &self.trail, false)?;
-        Ok(matches!(wish, Wish::Done))
+    /// Marks the bits on which a test rests, as far as they are known.
+    pub(crate) fn justify(&mut self) -> Result<(), AllocError> {
+        self.walk.wish(&self.whole, &self.cone, &self.trail, false)?;
+        Ok(())
     }
 
     /// Whether the test rests on the bit of a signal.

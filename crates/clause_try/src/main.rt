@@ -5,9 +5,9 @@
 #![tactic(auto)]
 
 use case_nets::{classes_of, design_core, name_of, push_fault};
-use clause_search::{Room, Settled, SourceBit};
+use clause_search::{Room, Settled};
 use fault_collapse::Classes;
-use netlist::{Core, Fault, Holds, Netlist, NoMemory};
+use netlist::{Core, Fault, Holds, Netlist, NoMemory, SignalId};
 use refutation_text::push_steps;
 use std::alloc::{AllocError, Global};
 use std::io::{self, Error, ErrorKind, Write};
@@ -17,22 +17,24 @@ fn refusal() -> Error {
     Error::from(ErrorKind::InvalidInput)
 }
 
-fn push_bits(to: &mut Vec<u8>, netlist: &Netlist, bits: &[SourceBit]) -> Result<(), AllocError> {
-    for item in bits {
+fn push_bits(
+    to: &mut Vec<u8>,
+    netlist: &Netlist,
+    bits: &[(SignalId, bool)],
+) -> Result<(), AllocError> {
+    for given in bits {
         to.extend_from_slice(b" ")?;
-        to.extend_from_slice(name_of(netlist, item.signal))?;
-        to.extend_from_slice(if item.bit { b"=1" } else { b"=0" })?;
+        to.extend_from_slice(name_of(netlist, given.0))?;
+        to.extend_from_slice(if given.1 { b"=1" } else { b"=0" })?;
     }
     Ok(())
 }
 
 fn push_settled(to: &mut Vec<u8>, netlist: &Netlist, settled: &Settled) -> Result<(), AllocError> {
     match settled {
-        Settled::Found(found) => {
+        Settled::Found(bits) => {
             to.extend_from_slice(b" T")?;
-            push_bits(to, netlist, &found.needed)?;
-            to.extend_from_slice(b" ;")?;
-            push_bits(to, netlist, &found.others)
+            push_bits(to, netlist, bits)
         }
         Settled::Refuted(steps) => {
             to.extend_from_slice(b" R")?;

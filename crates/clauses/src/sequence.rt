@@ -1,5 +1,6 @@
 //! Two engines, one after the other.
-ghost use Rattle.std.specs.Prelude.{IfOk};
+ghost use Rattle.std.specs.Prelude.{◌≡◌, ◌≤◌, IfSome};
+ghost use Rattle.clauses.specs.inner.Answered.{IsSettled};
 
 use evidence::{Engine, Found};
 use netlist::{Core, Fault, Holds, NoMemory};
@@ -21,6 +22,18 @@ pub struct ThenRoom<R, S> {
     second: S,
 }
 
+/// What was found, unless it is that the search gave up.
+fn settled(found: Found) -> Option<Found>
+    ensures { IfSome result (λ f. (f ≡ found) × IsSettled f) }
+{
+    match found {
+        Found::Test(cube, point) => Some(Found::Test(cube, point)),
+        Found::Closed(tree) => Some(Found::Closed(tree)),
+        Found::Refuted(steps) => Some(Found::Refuted(steps)),
+        Found::Partial(_) => None,
+    }
+}
+
 impl<E, F> Then<E, F> {
     /// The backtrack limit of the first one.
     fn few_of(&self, limit: u32) -> u32
@@ -38,7 +51,7 @@ impl<E: Engine, F: Engine> Engine for Then<E, F> {
 
     ghost serves = { λ n holds r. E.serves n holds r.first × F.serves n holds r.second };
 
-    // The rule of the first one at some limit that isn't higher, or that of the second.
+    // The rule of the first one at a limit that isn't higher, or that of the second.
     ghost keeps_rule = { λ f n holds limit found. ((few : ℕ) × (few ≤ limit) × E.keeps_rule f n holds few found) ⊎ F.keeps_rule f n holds limit found };
 
     ghost refutes = { E.refutes || F.refutes };
@@ -52,11 +65,11 @@ impl<E: Engine, F: Engine> Engine for Then<E, F> {
         holds: &Holds,
     ) -> Result<Found, NoMemory> {
         let few = self.few_of(limit);
-        match self.first.search(alloc, core, fault, few, holds)? {
-            Found::Test(cube, point) => Ok(Found::Test(cube, point)),
-            Found::Closed(tree) => Ok(Found::Closed(tree)),
-            Found::Refuted(steps) => Ok(Found::Refuted(steps)),
-            Found::Partial(_) => self.second.search(alloc, core, fault, limit, holds),
+        let same = fault;
+        let found = self.first.search(alloc, core, same, few, holds)?;
+        match settled(found) {
+            Some(found) => Ok(found),
+            None => self.second.search(alloc, core, fault, limit, holds),
         }
     }
 
@@ -80,19 +93,16 @@ impl<E: Engine, F: Engine> Engine for Then<E, F> {
         limit: u32,
         holds: &Holds,
     ) -> Result<(Found, ThenRoom<E::Room, F::Room>), NoMemory> {
-        let ThenRoom { first, second } = room;
         let few = self.few_of(limit);
-        let (found, first) = self.first.search_in(alloc, first, core, fault, few, holds)?;
-        match found {
-            Found::Test(cube, point) => Ok((Found::Test(cube, point), ThenRoom { first, second })),
-            Found::Closed(tree) => Ok((Found::Closed(tree), ThenRoom { first, second })),
-            Found::Refuted(steps) => Ok((Found::Refuted(steps), ThenRoom { first, second })),
-            Found::Partial(_) => {
-                let (found, second) =
-                    self.second
-                        .search_in(alloc, second, core, fault, limit, holds)?;
-                Ok((found, ThenRoom { first, second }))
-            }
+        let same = fault;
+        let ThenRoom { first, second } = room;
+        let (found, first) = self.first.search_in(alloc, first, core, same, few, holds)?;
+        if let Some(found) = settled(found) {
+            return Ok((found, ThenRoom { first, second }));
         }
+        let (found, second) = self
+            .second
+            .search_in(alloc, second, core, fault, limit, holds)?;
+        Ok((found, ThenRoom { first, second }))
     }
 }
