@@ -1,0 +1,2 @@
+-- What this crate's own proofs cite, and no public contract.
+pub mod Answered
