@@ -1,20 +1,24 @@
-//! A line: a fault and its tree.
+//! A line: a fault and its evidence.
 ghost use Rattle.std.specs.Prelude.{List, MatchOption, MatchResult};
 ghost use Rattle.statement.specs.declared.lines.Fault.{Fault};
 ghost use Rattle.redundancy_cert.specs.declared.nodes.Node.{Node};
 ghost use Rattle.certificate.specs.Certificates.{IsCertFault};
-ghost use Rattle.certificate.specs.inner.Parts.{AreNodes, IsFaultAt, NoFaultAt, IsLineOf};
+ghost use Rattle.certificate.specs.inner.Parts.{AreNodes, IsFaultAt, NoFaultAt, IsLineOf, IsTextOf, NoText};
 ghost use Rattle.certificate.specs.inner.Words.{IsEnd};
 ghost use Rattle.redundancy_cert.specs.Trees.{IsOneTree};
+ghost use Rattle.refutation_text.specs.Texts.{AreSteps, NoSteps};
+ghost use Rattle.evidence.specs.declared.kinds.Evidence.{Evidence};
 
 use crate::node::node_at;
 use crate::one_tree::is_one_tree;
 use crate::reading::CertFault;
 use crate::word::cut_fault;
+use evidence::{Evidence, Refutation};
 use fault_universe::fault_named;
 use name_index::NameIndex;
 use netlist::Fault;
 use redundancy_cert::{Node, Tree};
+use refutation_text::{TextFault, read_steps};
 use std::alloc::Global;
 
 /// The fault that a line begins with, and the text behind it.
@@ -65,18 +69,42 @@ fn read_tree(alloc: Global, names: &NameIndex, text: &[u8]) -> Result<Tree, Cert
     }
 }
 
-/// The fault and the tree that a line stands for.
+/// The refutation whose steps a text stands for.
+fn read_refutation(alloc: Global, text: &[u8]) -> Result<Refutation, CertFault>
+    ensures { MatchResult result (AreSteps text.now) (IsCertFault (NoSteps text.now)) }
+{
+    match read_steps(alloc, text) {
+        Ok(steps) => Ok(Refutation::new(steps)),
+        Err(TextFault::NotSteps) => Err(CertFault::NotCertificate),
+        Err(TextFault::NoMemory) => Err(CertFault::NoMemory),
+    }
+}
+
+/// The evidence that a text stands for.
+fn evidence_of(alloc: Global, names: &NameIndex, text: &[u8]) -> Result<Evidence, CertFault>
+    requires { IsEnd text.now }
+    ensures { MatchResult result (IsTextOf names.now text.now) (IsCertFault (NoText names.now text.now)) }
+{
+    if let Some(steps) = text.strip_prefix(b" R") {
+        let refutation = read_refutation(alloc, steps)?;
+        return Ok(Evidence::Refutation(refutation));
+    }
+    let tree = read_tree(alloc, names, text)?;
+    Ok(Evidence::Tree(tree))
+}
+
+/// The fault and the evidence that a line stands for.
 pub(crate) fn read_line(
     alloc: Global,
     names: &NameIndex,
     line: &[u8],
-) -> Result<(Fault, Tree), CertFault>
-    ensures { MatchResult result (IsLineOf names.now line.now) (IsCertFault ((p : Fault × List Node) → ¬ IsLineOf names.now line.now p)) }
+) -> Result<(Fault, Evidence), CertFault>
+    ensures { MatchResult result (IsLineOf names.now line.now) (IsCertFault ((p : Fault × Evidence) → ¬ IsLineOf names.now line.now p)) }
 {
     names.netlist().sound();
     let Some(fault) = fault_at(names, line) else {
         return Err(CertFault::NotCertificate);
     };
-    let tree = read_tree(alloc, names, fault.1)?;
-    Ok((fault.0, tree))
+    let evidence = evidence_of(alloc, names, fault.1)?;
+    Ok((fault.0, evidence))
 }

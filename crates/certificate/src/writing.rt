@@ -3,11 +3,16 @@ ghost use Rattle.std.specs.Prelude.{◌≡◌, ◌<◌, ◌++◌, codes, length,
 ghost use Rattle.std.specs.List.{All, flat_map};
 ghost use Rattle.statement.specs.Netlists.{name_of};
 ghost use Rattle.netlist.specs.Netlist.{signal_count};
-ghost use Rattle.certificate.specs.Certificates.{node_text, tree_line, certificate_text, HasSignal, IsNamed};
+ghost use Rattle.statement.specs.declared.lines.Fault.{Fault};
+ghost use Rattle.evidence.specs.declared.kinds.Evidence.{Evidence};
+ghost use Rattle.certificate.specs.Certificates.{node_text, evidence_text, evidence_line, certificate_text, HasSignal, HasSignals, HasSmallNumbers, IsNamed};
 
+use crate::kinds::{first_line, has_refutation};
+use evidence::Evidence;
 use fault_universe::push_text;
 use netlist::{Core, Fault, Netlist, NoMemory, SignalId};
-use redundancy_cert::{Node, Tree};
+use redundancy_cert::Node;
+use refutation_text::push_steps;
 use std::alloc::{AllocError, Global};
 
 /// Adds a word and a signal's name.
@@ -51,45 +56,72 @@ pub fn push_nodes(text: &mut Vec<u8>, netlist: &Netlist, nodes: &[Node]) -> Resu
     Ok(())
 }
 
-fn push_tree(
+/// Adds the nodes of a tree, or `R` and the steps of a refutation, each behind a blank.
+pub fn push_evidence(
+    text: &mut Vec<u8>,
+    netlist: &Netlist,
+    evidence: &Evidence,
+) -> Result<(), AllocError>
+    requires { HasSignals netlist.now evidence.now }
+    ensures text { OnOk result (text.new.items ≡ text.old.items ++ evidence_text netlist.now evidence.now) }
+    ensures within { OnOk result (HasSmallNumbers evidence.now) }
+{
+    match evidence {
+        Evidence::Tree(tree) => push_nodes(text, netlist, tree.nodes()),
+        Evidence::Refutation(refutation) => {
+            text.extend_from_slice(b" R")?;
+            push_steps(text, refutation.steps())
+        }
+    }
+}
+
+fn push_line(
     text: &mut Vec<u8>,
     netlist: &Netlist,
     fault: Fault,
-    tree: &Tree,
+    evidence: &Evidence,
 ) -> Result<(), AllocError>
-    requires { IsNamed netlist.now (fault, tree.now) }
-    ensures { OnOk result (text.new.items ≡ text.old.items ++ tree_line netlist.now (fault, tree.now)) }
+    requires { IsNamed netlist.now (fault, evidence.now) }
+    ensures text { OnOk result (text.new.items ≡ text.old.items ++ evidence_line netlist.now (fault, evidence.now)) }
+    ensures within { OnOk result (HasSmallNumbers evidence.now) }
 {
     push_text(text, netlist, fault)?;
-    push_nodes(text, netlist, tree.nodes())?;
+    push_evidence(text, netlist, evidence)?;
     text.extend_from_slice(b"\n")?;
     Ok(())
 }
 
-fn push_trees(
+fn push_lines(
     text: &mut Vec<u8>,
     netlist: &Netlist,
-    trees: &[(Fault, Tree)],
+    evidence: &[(Fault, Evidence)],
 ) -> Result<(), AllocError>
-    requires { All (IsNamed netlist.now) trees.now }
-    ensures { OnOk result (text.new.items ≡ text.old.items ++ flat_map (tree_line netlist.now) trees.now) }
+    requires { All (IsNamed netlist.now) evidence.now }
+    ensures text { OnOk result (text.new.items ≡ text.old.items ++ flat_map (evidence_line netlist.now) evidence.now) }
+    ensures within { OnOk result (All (λ (p : Fault × Evidence). HasSmallNumbers p.1) evidence.now) }
 {
-    for pair in trees {
-        push_tree(text, netlist, pair.0, &pair.1)?;
+    for pair in evidence {
+        push_line(text, netlist, pair.0, &pair.1)?;
     }
     Ok(())
 }
 
-/// The certificate of these trees, each with its fault, in this order.
-pub fn write_trees(alloc: Global, core: &Core, trees: &[(Fault, Tree)]) -> Result<Vec<u8>, NoMemory>
-    requires { All (IsNamed core.now) trees.now }
-    ensures { IfOk result (λ text. text.items ≡ certificate_text core.now trees.now) }
+/// The certificate of this evidence, each with its fault, in this order.
+pub fn write_evidence(
+    alloc: Global,
+    core: &Core,
+    evidence: &[(Fault, Evidence)],
+) -> Result<Vec<u8>, NoMemory>
+    requires { All (IsNamed core.now) evidence.now }
+    ensures text { IfOk result (λ text. text.items ≡ certificate_text core.now evidence.now) }
+    ensures within { IfOk result (λ text. All (λ (p : Fault × Evidence). HasSmallNumbers p.1) evidence.now) }
 {
     let mut text = Vec::new(alloc);
-    if text.extend_from_slice(b"atpg certificate 1\n").is_err() {
+    let first = first_line(has_refutation(evidence));
+    if text.extend_from_slice(first).is_err() {
         return Err(NoMemory);
     }
-    match push_trees(&mut text, core.netlist(), trees) {
+    match push_lines(&mut text, core.netlist(), evidence) {
         Ok(()) => Ok(text),
         Err(_) => Err(NoMemory),
     }

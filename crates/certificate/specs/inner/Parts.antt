@@ -5,9 +5,10 @@ use Rattle.statement.specs.declared.lines.Fault.{Fault}
 use Rattle.statement.specs.Netlists.{Netlist}
 use Rattle.statement.specs.Faults.{universe_of, fault_text}
 use Rattle.redundancy_cert.specs.declared.nodes.Node.{Node}
+use Rattle.evidence.specs.declared.kinds.Evidence.{Evidence}
 use Rattle.certificate.specs.declared.node.Letter.{Letter}
 use Rattle.certificate.specs.declared.node.Letter.TheVariants.{Closed, Open, Split, Forced}
-use Rattle.certificate.specs.Certificates.{node_text, HasSignal, IsEvidence}
+use Rattle.certificate.specs.Certificates.{evidence_line, evidence_text, node_text, HasSignal, IsEvidence, IsWellFormed}
 use Rattle.certificate.specs.inner.Words.{IsEnd}
 
 -- how a node begins
@@ -44,7 +45,23 @@ pub record AreNodes (n : Netlist) (text : List ℕ) (nodes : List Node) : Type 0
   pub signals : All (HasSignal n) nodes
   pub is : text ≡ flat_map (node_text n) nodes
 
--- the line, without its end, is that of the fault and its tree
-pub record IsLineOf (n : Netlist) (line : List ℕ) (p : Fault × List Node) : Type 0 where
+-- the text is that of the evidence
+pub record IsTextOf (n : Netlist) (text : List ℕ) (e : Evidence) : Type 0 where
+  pub formed : IsWellFormed n e
+  pub is : text ≡ evidence_text n e
+
+abbrev pub NoText : Netlist → List ℕ → Type 0
+NoText n text = (e : Evidence) → ¬ IsTextOf n text e
+
+-- the line, without its end, is that of the fault and its evidence
+pub record IsLineOf (n : Netlist) (line : List ℕ) (p : Fault × Evidence) : Type 0 where
   pub evidence : IsEvidence n p
-  pub text : line ≡ fault_text n p.0 ++ flat_map (node_text n) p.1
+  pub text : line ≡ fault_text n p.0 ++ evidence_text n p.1
+
+-- the text has these lines
+pub record AreLines (n : Netlist) (text : List ℕ) (evidence : List (Fault × Evidence)) : Type 0 where
+  pub each : All (IsEvidence n) evidence
+  pub is : text ≡ flat_map (evidence_line n) evidence
+
+abbrev pub NoLines : Netlist → List ℕ → Type 0
+NoLines n text = (evidence : List (Fault × Evidence)) → ¬ AreLines n text evidence
