@@ -5,5 +5,8 @@ pub mod Followers
 pub mod NodeTexts
 pub mod NodeWords
 pub mod FaultTexts
+pub mod StepBytes
+pub mod EvidenceTexts
 pub mod LineTexts
+pub mod FirstLines
 pub mod NamedTrees

@@ -27,13 +27,13 @@ node_some n (Split x) rest e = cc
 node_some n (Forced x bit) rest e = cc
 
 -- the byte behind the blank says which node it is
-abbrev kind : Node → ℕ
+abbrev pub kind : Node → ℕ
 kind Closed = 33
 kind Open = 63
 kind (Split x) = 83
 kind (Forced x bit) = 70
 
-kind_byte : (n : Netlist) (node : Node) (rest : List ℕ) → get_or (node_text n node ++ rest) 1 0 ≡ kind node
+pub kind_byte : (n : Netlist) (node : Node) (rest : List ℕ) → get_or (node_text n node ++ rest) 1 0 ≡ kind node
 kind_byte n Closed rest = refl
 kind_byte n Open rest = refl
 kind_byte n (Split x) rest = refl

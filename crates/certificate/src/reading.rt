@@ -60,6 +60,7 @@ pub fn read_evidence(
 ) -> Result<Vec<(Fault, Evidence)>, CertFault>
     ensures { MatchResult result (λ evidence. IsCertificate core.now bytes.now evidence.items) (IsCertFault (NoCertificate core.now bytes.now)) }
 {
+    core.netlist().sound();
     let Some(first) = behind_first(bytes) else {
         return Err(CertFault::NotCertificate);
     };

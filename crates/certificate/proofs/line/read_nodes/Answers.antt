@@ -1,7 +1,7 @@
 use Rattle.std.proofs.Common.{subst}
 use Rattle.netlist.specs.Conditions.{IsSound}
 use Rattle.certificate.specs.Certificates.{HasSignal}
-use Rattle.certificate.proofs.LineTexts.{no_nodes, node_more, push_more, some_left}
+use Rattle.certificate.proofs.EvidenceTexts.{no_nodes, node_more, push_more, some_left}
 use Rattle.certificate.proofs.line.read_nodes.Goals as goal
 
 pub returns-in_default : goal.returns-in_default

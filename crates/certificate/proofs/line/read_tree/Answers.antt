@@ -3,7 +3,7 @@ use Rattle.std.proofs.lemmas.Bool.{both_ways}
 use Rattle.std.proofs.lemmas.Result.{err_from_is_err_and}
 use Rattle.netlist.specs.Conditions.{IsSound}
 use Rattle.redundancy_cert.specs.Trees.{IsOneTree}
-use Rattle.certificate.proofs.LineTexts.{refused_more, same_nodes}
+use Rattle.certificate.proofs.EvidenceTexts.{refused_more, same_nodes}
 use Rattle.certificate.proofs.line.read_tree.Goals as goal
 
 pub returns-in_err-nodes : goal.returns-in_err-nodes
