@@ -30,6 +30,7 @@ use Rattle.commands.specs.declared.ending.Finding.TheVariants.{Fine}
 use Rattle.command_line.specs.CommandLine.{CommandLine, chaintest, check, diagnose, faults, play, run, scan, sweep, transition}
 use Rattle.command_line.specs.HoldLists.{HoldItem}
 use Rattle.command_line.specs.declared.requests.RunOptions.{RunOptions}
+use Rattle.command_line.specs.declared.requests.SlowOptions.{SlowOptions}
 use Rattle.check_command.specs.Checking as command
 use Rattle.check_command.specs.declared.refusal.CheckRefusal.{CheckRefusal}
 use Rattle.atpg_top.specs.Checks.{check_due, refusal_of, told}
@@ -136,7 +137,7 @@ run_exclusive options named =
 
 -- ---- `transition`
 
-transition_exclusive : (options : RunOptions) → IsExclusive (transition_due options)
+transition_exclusive : (options : SlowOptions) → IsExclusive (transition_due options)
 transition_exclusive options =
     design_exclusive (slow_due options) (λ n sound x y a b. let due : TransitionFiles → Due Refusal = λ made. Deliver (texts_in (transition_files_of made)) (tests_line made.said.counts) Fine in
     given x y (due a.0) (due b.0) a.2 b.2 refl)

@@ -16,13 +16,14 @@ use Rattle.commands.specs.Due.{Due, Deliver}
 use Rattle.commands.specs.declared.ending.Finding.TheVariants.{Fine}
 use Rattle.command_line.specs.HoldLists.{HoldItem}
 use Rattle.command_line.specs.declared.requests.RunOptions.{RunOptions}
+use Rattle.command_line.specs.declared.requests.SlowOptions.{SlowOptions}
 use Rattle.run_files.specs.declared.files.RunFiles.{RunFiles}
 use Rattle.run_files.specs.Runs.{IsRun}
 use Rattle.transition_run.specs.declared.files.TransitionFiles.{TransitionFiles}
 use Rattle.transition_run.specs.Runs.{IsTransitionRun, transition_files_of}
 use Rattle.atpg_top.specs.Checks.{check_due}
 use Rattle.atpg_top.specs.Steps.{◌>>=◌, design_due, named_fault, named_holds, netlist, test, value}
-use Rattle.atpg_top.specs.Runs.{tests_line, texts_in, texts_made}
+use Rattle.atpg_top.specs.Runs.{may_refute, tests_line, texts_in, texts_made}
 use Rattle.atpg_top.specs.Scans.{IsScanProduct}
 use Rattle.atpg_top.specs.FaultLists.{IsFaultList}
 use Rattle.atpg_top.specs.ChainTests.{IsChainTest, Strobe, chain_test_text, hardware_of}
@@ -47,15 +48,15 @@ play_due fault (net ∷ stil ∷ []) =
     (answer : Played) × IsPlay n f (vectors_in file) answer × (d ≡ Deliver [] (played_line n answer) (played_finding answer))
 play_due fault texts = λ d. ⊥
 
--- the five texts of a run, whose certificate has trees alone, and the line with the report's numbers
+-- the five texts of a run, and the line with the report's numbers; by PODEM and FAN alone the certificate has trees alone
 abbrev pub run_due : RunOptions → List HoldItem → List Text → Due Refusal → Type 0
 run_due options named = design_due (λ n. named_holds n named >>= λ holds d.
-    (made : RunFiles) × IsRun n holds options.chains options.limit false made × (d ≡ Deliver (texts_made made) (tests_line made.said.counts) Fine))
+    (made : RunFiles) × IsRun n holds options.numbers.chains options.numbers.limit (may_refute options.engine) made × (d ≡ Deliver (texts_made made) (tests_line made.said.counts) Fine))
 
 -- the five texts of a design's slow lines, and the line with the report's numbers
-abbrev pub transition_due : RunOptions → List Text → Due Refusal → Type 0
+abbrev pub transition_due : SlowOptions → List Text → Due Refusal → Type 0
 transition_due options = design_due (λ n d.
-    (made : TransitionFiles) × IsTransitionRun n options.chains options.limit made × (d ≡ Deliver (texts_in (transition_files_of made)) (tests_line made.said.counts) Fine))
+    (made : TransitionFiles) × IsTransitionRun n options.numbers.chains options.numbers.limit made × (d ≡ Deliver (texts_in (transition_files_of made)) (tests_line made.said.counts) Fine))
 
 -- the lines of what the file shows of the scan hardware, the file fitting the scanned netlist
 abbrev pub chaintest_due : ℕ → List Text → Due Refusal → Type 0

@@ -1,5 +1,5 @@
 -- What `run`, `transition` and `sweep` say.
-use Rattle.std.specs.Prelude.{ℕ, ◌≡◌, ◌<◌, ◌++◌, List, [], ◌∷◌, Some, codes, decimal, slice_set}
+use Rattle.std.specs.Prelude.{ℕ, ◌≡◌, ◌<◌, ◌++◌, Bool, true, false, List, [], ◌∷◌, Some, codes, decimal, slice_set}
 use Rattle.std.specs.List.{slice_get}
 use Rattle.statement.specs.Benches.{Text}
 use Rattle.statement.specs.Netlists.{Netlist, name_of}
@@ -7,8 +7,18 @@ use Rattle.statement.specs.Patterns.{Holds}
 use Rattle.statement.specs.Statement.{FiveFiles}
 use Rattle.report.specs.declared.counts.ReportCounts.{ReportCounts}
 use Rattle.command_line.specs.HoldLists.{HoldItem}
+use Rattle.command_line.specs.declared.requests.EngineName.{EngineName}
+use Rattle.command_line.specs.declared.requests.EngineName.TheVariants.{Trees, Clauses, TreesThenClauses}
 use Rattle.run_files.specs.Runs.{files_of}
 use Rattle.run_files.specs.declared.files.RunFiles.{RunFiles}
+
+-- ---- engines
+
+-- whether a certificate may have refutations: else it has trees alone
+abbrev pub may_refute : EngineName → Bool
+may_refute (Trees engine) = false
+may_refute Clauses = true
+may_refute (TreesThenClauses engine) = true
 
 -- ---- held inputs by name
 

@@ -1,5 +1,5 @@
 -- What `sweep` makes of a sample netlist, and says of it.
-use Rattle.std.specs.Prelude.{ℕ, ◌++◌, codes, decimal, None, false}
+use Rattle.std.specs.Prelude.{ℕ, ◌++◌, false, codes, decimal, None}
 use Rattle.statement.specs.Benches.{Text}
 use Rattle.statement.specs.Netlists.{Netlist}
 use Rattle.netlist.specs.Holds.{none_held}
@@ -22,7 +22,7 @@ sweep_chains = 1
 abbrev pub sweep_limit : ℕ
 sweep_limit = 100
 
--- a run in one chain, with at most a hundred closed ends a search, no input being held
+-- a run in one chain, with at most a hundred closed ends a search, no input being held, and trees alone
 abbrev pub IsSweepRun : Netlist → RunFiles → Type 0
 IsSweepRun n made = IsRun n (none_held n) sweep_chains sweep_limit false made
 

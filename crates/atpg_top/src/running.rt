@@ -1,5 +1,5 @@
 //! `run`: the five files of a file's netlist.
-ghost use Rattle.std.specs.Prelude.{◌≡◌, ◌≤◌, ◌∷◌, [], IfOk, false, length, map};
+ghost use Rattle.std.specs.Prelude.{◌≡◌, ◌≤◌, ◌∷◌, [], false, true, IfOk, length, map};
 ghost use Rattle.std.specs.List.{All};
 ghost use Rattle.netlist.specs.Designs.{IsDesign};
 ghost use Rattle.netlist.specs.Holds.{AreHoldsOf};
@@ -12,14 +12,15 @@ ghost use Rattle.commands.specs.declared.ending.Finding.TheVariants.{Fine};
 ghost use Rattle.command_line.specs.CommandLine.{AreInRange, hold_of};
 ghost use Rattle.run_files.specs.Runs.{IsRun};
 ghost use Rattle.atpg_top.specs.Commands.{run_due};
-ghost use Rattle.atpg_top.specs.Runs.{tests_line, texts_made};
+ghost use Rattle.atpg_top.specs.Runs.{may_refute, tests_line, texts_made};
 ghost use Rattle.atpg_top.specs.inner.Running.{made_due, held_due};
 
 use crate::design::design_of;
 use crate::five_files::{product_of, tests_line};
 use crate::holding::holds_of;
 use crate::refusal::Refusal;
-use command_line::{EngineName, Held, RunOptions};
+use clauses::{Clauses, Then};
+use command_line::{EngineName, Held, RunOptions, SearchNumbers, TreeEngine};
 use commands::{Ending, FileName, Product, Stop, deliver, file_names, read_in_order};
 use evidence::Engine;
 use fan::Fan;
@@ -55,27 +56,103 @@ fn made_by<R: Threads + Wait + Sync, E: Engine + Sync, G: Gate + Sync>(
     rt: &R,
     alloc: Global,
     core: &Core,
-    options: RunOptions,
     engine: &E,
+    numbers: SearchNumbers,
     holds: &Holds,
     stage: &G,
 ) -> Result<RunFiles, NoMemory>
     requires design { IsDesign core.now }
-    requires range { AreInRange options }
+    requires range { AreInRange numbers }
     requires held { AreHoldsOf core.now holds.now }
-    ensures { IfOk result (IsRun core.now holds.now options.chains options.limit E.refutes) }
+    ensures { IfOk result (IsRun core.now holds.now numbers.chains numbers.limit E.refutes) }
 {
     let plan = RunPlan {
-        chains: options.chains,
-        workers: options.workers,
-        limit: options.limit,
-        seed: options.seed,
+        chains: numbers.chains,
+        workers: numbers.workers,
+        limit: numbers.limit,
+        seed: numbers.seed,
     };
     make_files(rt, alloc, core, plan, engine, holds, stage)
 }
 
+/// The five files, by a tree of decisions for each class.
+pub(crate) fn by_trees<R: Threads + Wait + Sync, G: Gate + Sync>(
+    rt: &R,
+    alloc: Global,
+    core: &Core,
+    engine: TreeEngine,
+    numbers: SearchNumbers,
+    holds: &Holds,
+    stage: &G,
+) -> Result<RunFiles, NoMemory>
+    requires design { IsDesign core.now }
+    requires range { AreInRange numbers }
+    requires held { AreHoldsOf core.now holds.now }
+    ensures { IfOk result (IsRun core.now holds.now numbers.chains numbers.limit false) }
+{
+    match engine {
+        TreeEngine::Podem => {
+            let podem = Podem::of(alloc, core)?;
+            made_by(rt, alloc, core, &podem, numbers, holds, stage)
+        }
+        TreeEngine::Fan => {
+            let fan = Fan::of(alloc, core)?;
+            made_by(rt, alloc, core, &fan, numbers, holds, stage)
+        }
+    }
+}
+
+/// The five files, by clauses that are learned.
+fn by_clauses<R: Threads + Wait + Sync, G: Gate + Sync>(
+    rt: &R,
+    alloc: Global,
+    core: &Core,
+    numbers: SearchNumbers,
+    holds: &Holds,
+    stage: &G,
+) -> Result<RunFiles, NoMemory>
+    requires design { IsDesign core.now }
+    requires range { AreInRange numbers }
+    requires held { AreHoldsOf core.now holds.now }
+    ensures { IfOk result (IsRun core.now holds.now numbers.chains numbers.limit true) }
+{
+    let clauses = Clauses::of(alloc, core)?;
+    made_by(rt, alloc, core, &clauses, numbers, holds, stage)
+}
+
+/// The five files, by a tree of decisions for each class, or, where the search gives up, by clauses.
+fn by_trees_then_clauses<R: Threads + Wait + Sync, G: Gate + Sync>(
+    rt: &R,
+    alloc: Global,
+    core: &Core,
+    engine: TreeEngine,
+    numbers: SearchNumbers,
+    holds: &Holds,
+    stage: &G,
+) -> Result<RunFiles, NoMemory>
+    requires design { IsDesign core.now }
+    requires range { AreInRange numbers }
+    requires held { AreHoldsOf core.now holds.now }
+    ensures { IfOk result (IsRun core.now holds.now numbers.chains numbers.limit true) }
+{
+    let second = Clauses::of(alloc, core)?;
+    let few = numbers.limit;
+    match engine {
+        TreeEngine::Podem => {
+            let first = Podem::of(alloc, core)?;
+            let both = Then { first, few, second };
+            made_by(rt, alloc, core, &both, numbers, holds, stage)
+        }
+        TreeEngine::Fan => {
+            let first = Fan::of(alloc, core)?;
+            let both = Then { first, few, second };
+            made_by(rt, alloc, core, &both, numbers, holds, stage)
+        }
+    }
+}
+
 /// The five files, as the engine that was asked for finds them.
-pub(crate) fn made_of<R: Threads + Wait + Sync, G: Gate + Sync>(
+fn made_of<R: Threads + Wait + Sync, G: Gate + Sync>(
     rt: &R,
     alloc: Global,
     core: &Core,
@@ -84,18 +161,16 @@ pub(crate) fn made_of<R: Threads + Wait + Sync, G: Gate + Sync>(
     stage: &G,
 ) -> Result<RunFiles, NoMemory>
     requires design { IsDesign core.now }
-    requires range { AreInRange options }
+    requires range { AreInRange options.numbers }
     requires held { AreHoldsOf core.now holds.now }
-    ensures { IfOk result (IsRun core.now holds.now options.chains options.limit false) }
+    ensures { IfOk result (IsRun core.now holds.now options.numbers.chains options.numbers.limit (may_refute options.engine)) }
 {
+    let numbers = options.numbers;
     match options.engine {
-        EngineName::Podem => {
-            let podem = Podem::of(alloc, core)?;
-            made_by(rt, alloc, core, options, &podem, holds, stage)
-        }
-        EngineName::Fan => {
-            let fan = Fan::of(alloc, core)?;
-            made_by(rt, alloc, core, options, &fan, holds, stage)
+        EngineName::Trees(engine) => by_trees(rt, alloc, core, engine, numbers, holds, stage),
+        EngineName::Clauses => by_clauses(rt, alloc, core, numbers, holds, stage),
+        EngineName::TreesThenClauses(engine) => {
+            by_trees_then_clauses(rt, alloc, core, engine, numbers, holds, stage)
         }
     }
 }
@@ -110,7 +185,7 @@ fn run_design<R: Threads + Wait + Sync, G: Gate + Sync>(
     stage: &G,
 ) -> Result<Product, Stop<Refusal>>
     requires design { IsDesign netlist }
-    requires range { AreInRange options }
+    requires range { AreInRange options.numbers }
     ensures { IsWorked (held_due options (map hold_of named.now) netlist) 5 result }
 {
     let Ok(core) = Core::of(alloc, netlist) else {
@@ -140,7 +215,7 @@ fn work<R: Threads + Wait + Sync, G: Gate + Sync>(
 ) -> Result<Product, Stop<Refusal>>
     requires count { length texts.items ≡ 1 }
     requires within { All (λ text. length text ≤ most_bytes) (texts_of texts.items) }
-    requires range { AreInRange options }
+    requires range { AreInRange options.numbers }
     ensures { IsWorked (run_due options (map hold_of named.now) (texts_of texts.items)) 5 result }
 {
     match design_of(alloc, texts) {
@@ -161,7 +236,7 @@ pub fn run_netlist<'a, R: Threads + Wait + Sync, S: Shelf, T: Sink, G: Gate + Sy
     options: RunOptions,
     named: &[Held<'_>],
 ) -> Ending<'a, Refusal>
-    requires { AreInRange options }
+    requires { AreInRange options.numbers }
     ensures { CommandRow (net.now ∷ []) (run_files prefix.now) (run_due options (map hold_of named.now))
         (world (S.files shelf.old) (S.failures shelf.old) (T.taken out.old) (T.failures out.old))
         (world (S.files shelf.new) (S.failures shelf.new) (T.taken out.new) (T.failures out.new)) result }

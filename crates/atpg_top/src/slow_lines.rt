@@ -17,7 +17,7 @@ ghost use Rattle.atpg_top.specs.inner.Running.{slow_due};
 use crate::design::design_of;
 use crate::five_files::{product_of, tests_line};
 use crate::refusal::Refusal;
-use command_line::{EngineName, RunOptions};
+use command_line::{SlowOptions, TreeEngine};
 use commands::{Ending, FileName, Product, Stop, deliver, file_names, read_in_order};
 use evidence::Engine;
 use fan::Fan;
@@ -72,20 +72,20 @@ fn made_by<R: Threads + Sync, E: Engine + Sync, G: Gate + Sync>(
     alloc: Global,
     stage: &G,
     core: &Core,
-    options: RunOptions,
+    options: SlowOptions,
     trees: Trees,
     engine: &E,
 ) -> Result<TransitionFiles, NoMemory>
     requires design { IsDesign core.now }
-    requires range { AreInRange options }
+    requires range { AreInRange options.numbers }
     requires kind { E.refutes ≡ false }
-    ensures { IfOk result (IsTransitionRun core.now options.chains options.limit) }
+    ensures { IfOk result (IsTransitionRun core.now options.numbers.chains options.numbers.limit) }
 {
     let plan = TransitionPlan {
-        chains: options.chains,
-        workers: options.workers,
-        limit: options.limit,
-        seed: options.seed,
+        chains: options.numbers.chains,
+        workers: options.numbers.workers,
+        limit: options.numbers.limit,
+        seed: options.numbers.seed,
         trees,
     };
     transition_files(rt, alloc, stage, core, plan, engine)
@@ -97,19 +97,19 @@ fn made_of<R: Threads + Sync, G: Gate + Sync>(
     alloc: Global,
     stage: &G,
     core: &Core,
-    options: RunOptions,
+    options: SlowOptions,
 ) -> Result<TransitionFiles, NoMemory>
     requires design { IsDesign core.now }
-    requires range { AreInRange options }
-    ensures { IfOk result (IsTransitionRun core.now options.chains options.limit) }
+    requires range { AreInRange options.numbers }
+    ensures { IfOk result (IsTransitionRun core.now options.numbers.chains options.numbers.limit) }
 {
     let guide = some_frames(alloc, core.netlist())?;
     match options.engine {
-        EngineName::Podem => {
+        TreeEngine::Podem => {
             let podem = Podem::of(alloc, &guide)?;
             made_by(rt, alloc, stage, core, options, Trees::OfFrames, &podem)
         }
-        EngineName::Fan => {
+        TreeEngine::Fan => {
             let fan = Fan::of(alloc, &guide)?;
             made_by(rt, alloc, stage, core, options, Trees::OnPlaces, &fan)
         }
@@ -122,10 +122,10 @@ fn test_design<R: Threads + Sync, G: Gate + Sync>(
     alloc: Global,
     stage: &G,
     netlist: Netlist,
-    options: RunOptions,
+    options: SlowOptions,
 ) -> Result<Product, Stop<Refusal>>
     requires design { IsDesign netlist }
-    requires range { AreInRange options }
+    requires range { AreInRange options.numbers }
     ensures { IsWorked (slow_due options netlist) 5 result }
 {
     let Ok(core) = Core::of(alloc, netlist) else {
@@ -146,11 +146,11 @@ fn work<R: Threads + Sync, G: Gate + Sync>(
     alloc: Global,
     stage: &G,
     texts: Vec<Vec<u8>>,
-    options: RunOptions,
+    options: SlowOptions,
 ) -> Result<Product, Stop<Refusal>>
     requires count { length texts.items ≡ 1 }
     requires within { All (λ text. length text ≤ most_bytes) (texts_of texts.items) }
-    requires range { AreInRange options }
+    requires range { AreInRange options.numbers }
     ensures { IsWorked (transition_due options (texts_of texts.items)) 5 result }
 {
     match design_of(alloc, texts) {
@@ -168,9 +168,9 @@ pub fn test_slow_lines<'a, R: Threads + Sync, S: Shelf, T: Sink, G: Gate + Sync>
     stage: &G,
     net: &'a str,
     prefix: &'a str,
-    options: RunOptions,
+    options: SlowOptions,
 ) -> Ending<'a, Refusal>
-    requires { AreInRange options }
+    requires { AreInRange options.numbers }
     ensures { CommandRow (net.now ∷ []) (run_files prefix.now) (transition_due options)
         (world (S.files shelf.old) (S.failures shelf.old) (T.taken out.old) (T.failures out.old))
         (world (S.files shelf.new) (S.failures shelf.new) (T.taken out.new) (T.failures out.new)) result }

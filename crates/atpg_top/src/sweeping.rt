@@ -26,8 +26,8 @@ ghost use Rattle.atpg_top.specs.Sweeps.{IsPlayedBack, IsSweep, IsSweepRun, numbe
 use crate::five_files::push_count;
 use crate::playing::answer_of;
 use crate::refusal::Refusal;
-use crate::running::made_of;
-use command_line::{EngineName, RunOptions};
+use crate::running::by_trees;
+use command_line::{SearchNumbers, TreeEngine};
 use commands::{Ending, Finding, Product, Stop, deliver};
 use net_gen::{generate, samples_are_designs};
 use netlist::{Core, Holds, Netlist, NoMemory};
@@ -74,15 +74,14 @@ fn run_sample<R: Threads + Wait + Sync, G: Gate + Sync>(
     requires { IsDesign core.now }
     ensures { IfOk result (IsSweepRun core.now) }
 {
-    let options = RunOptions {
+    let numbers = SearchNumbers {
         chains: CHAINS,
         workers: 1,
         limit: LIMIT,
         seed,
-        engine: EngineName::Podem,
     };
     let holds = Holds::none(alloc, core)?;
-    made_of(rt, alloc, core, options, &holds, stage)
+    by_trees(rt, alloc, core, TreeEngine::Podem, numbers, &holds, stage)
 }
 
 /// The scanned netlist of a design, in one chain.
