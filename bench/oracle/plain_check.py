@@ -16,6 +16,7 @@ import re
 import sys
 
 import plain_design as plain
+import plain_refutation
 from plain_stil import is_stil
 
 ENDS = ("net", "scan", "stil", "cert", "rep")
@@ -28,6 +29,10 @@ X = None
 
 class NotText(Exception):
     """A text that is outside its grammar."""
+
+
+class Steps(list):
+    """The steps of a refutation, where trees are plain lists."""
 
 
 def fault_text(fault):
@@ -60,21 +65,31 @@ def nodes_of(words, names):
     return nodes
 
 
+def steps_of(text):
+    """The steps of a refutation."""
+    try:
+        return Steps(plain_refutation.steps_of(text))
+    except plain_refutation.NoText:
+        raise NotText from None
+
+
 def read_certificate(text, netlist, faults):
-    """Pairs of a fault's text and a tree."""
+    """Pairs of a fault's text and its evidence: the nodes of a tree, or the steps of a refutation."""
     lines = text.split(b"\n")
-    if lines[0] != b"atpg certificate 1" or lines[-1] != b"":
+    if lines[0] not in (b"atpg certificate 1", b"atpg certificate 2") or lines[-1] != b"":
         raise NotText
     texts, names = {fault_text(fault) for fault in faults}, set(netlist.signals)
-    trees = []
+    evidence = []
     for line in lines[1:-1]:
         words = line.decode("latin-1").split(" ")
         place = 3 if words[0] == "pin" else 2
-        fault = " ".join(words[:place])
+        fault, behind = " ".join(words[:place]), words[place:]
         if fault not in texts:
             raise NotText
-        trees.append((fault, nodes_of(words[place:], names)))
-    return trees
+        evidence.append((fault, steps_of("".join(f" {word}" for word in behind[1:])) if behind[:1] == ["R"] else nodes_of(behind, names)))
+    if (lines[0] == b"atpg certificate 2") != any(isinstance(one, Steps) for _, one in evidence):
+        raise NotText
+    return evidence
 
 
 NUMBER = r"(0|[1-9][0-9]*)"
@@ -225,6 +240,17 @@ def counts_of(netlist, fault, nodes, held):
     return closed, left_open
 
 
+def ends_of(netlist, fault, evidence, held):
+    """How many closed and open ends evidence has, a refutation none; None where it shows nothing."""
+    if not isinstance(evidence, Steps):
+        return counts_of(netlist, fault, evidence, held)
+    try:
+        plain_refutation.Question(netlist, fault_text(fault), held.items()).check(evidence)
+    except plain_refutation.Wrong:
+        return None
+    return 0, 0
+
+
 # The check.
 
 class Situation:
@@ -275,11 +301,11 @@ class Situation:
                 "efficiency": 10_000 * (detected + redundant) // faults}
 
 
-def false_fault(situation, said, trees, limit):
+def false_fault(situation, said, evidence, limit):
     """The first fault of which the report's line is missing, another's or false."""
     by_fault = {}
-    for fault, nodes in trees:
-        by_fault.setdefault(fault, nodes)
+    for fault, one in evidence:
+        by_fault.setdefault(fault, one)
     counted = {}
     for k, fault in enumerate(situation.faults):
         text = fault_text(fault)
@@ -295,8 +321,8 @@ def false_fault(situation, said, trees, limit):
         first = situation.first[k]
         if first not in counted:
             representative = situation.faults[first]
-            nodes = by_fault.get(fault_text(representative))
-            counted[first] = nodes and counts_of(situation.netlist, representative, nodes, situation.held)
+            one = by_fault.get(fault_text(representative))
+            counted[first] = None if one is None else ends_of(situation.netlist, representative, one, situation.held)
         counts = counted[first]
         wanted = counts is not None and (counts[1] == 0 if verdict[0] == "redundant" else counts[0] == limit and counts[1] > 0)
         if last is not None or not wanted:
@@ -304,12 +330,12 @@ def false_fault(situation, said, trees, limit):
     return None
 
 
-def further_fault(situation, said, trees):
+def further_fault(situation, said, evidence):
     """A further line of the report, or the first line of the certificate that isn't the next class's."""
     if len(said) > len(situation.faults):
         return said[len(situation.faults)][0]
     left = [fault_text(situation.faults[k]) for k in situation.representatives if said[k][1][0] != "detected"]
-    return next((fault for k, (fault, _) in enumerate(trees) if k >= len(left) or left[k] != fault), None)
+    return next((fault for k, (fault, _) in enumerate(evidence) if k >= len(left) or left[k] != fault), None)
 
 
 def are_holds(netlist, held):
@@ -327,17 +353,17 @@ def check(files):
         return 4, "not a stil file"
     faults = plain.universe(netlist)
     try:
-        trees = read_certificate(files["cert"], netlist, faults)
+        evidence = read_certificate(files["cert"], netlist, faults)
     except NotText:
         return 4, "not a certificate"
     try:
         head, held, said = read_report(files["rep"])
     except NotText:
         return 4, "not a report"
-    return clauses(files, netlist, trees, head, held, said)
+    return clauses(files, netlist, evidence, head, held, said)
 
 
-def clauses(files, netlist, trees, head, held, said):
+def clauses(files, netlist, evidence, head, held, said):
     asked = head["chains"]
     if (asked == 0 and netlist.cells) or asked >= 2 ** 32:
         return 1, "scan differs"
@@ -351,7 +377,7 @@ def clauses(files, netlist, trees, head, held, said):
     if patterns is None:
         return 1, "stil differs"
     situation = Situation(netlist, chains, held, patterns)
-    false = false_fault(situation, said, trees, head["limit"]) or further_fault(situation, said, trees)
+    false = false_fault(situation, said, evidence, head["limit"]) or further_fault(situation, said, evidence)
     if false is not None:
         return 1, f"fault {false}"
     if head != situation.head(said, head["limit"]) or not 1 <= head["limit"] <= MOST_LIMIT:
