@@ -2,9 +2,10 @@
 """What `atpg check` has to answer, by a plain program apart from the crates; and five good files of small designs, made without `run`.
 
     bench/oracle/plain_check.py PREFIX                     checks PREFIX.net, .scan, .stil, .cert and .rep
-    bench/oracle/plain_check.py --make NET PREFIX [--chains C] [--limit L] [--hold LIST] [--patterns N] [--seed S]
+    bench/oracle/plain_check.py --make NET PREFIX [--chains C] [--limit L] [--hold LIST] [--patterns N] [--seed S] [--refute]
                                                     makes the files: patterns are drawn, those that are no last detector are left out,
-                                                    and trees split inputs and cells in order
+                                                    and trees split inputs and cells in order; or, for redundant faults, refutations by
+                                                    the same cases
 
 It ends with the status and prints the line that `check` has to print. It is for designs of up to some hundred gates.
 """
@@ -29,10 +30,6 @@ X = None
 
 class NotText(Exception):
     """A text that is outside its grammar."""
-
-
-class Steps(list):
-    """The steps of a refutation, where trees are plain lists."""
 
 
 def fault_text(fault):
@@ -65,29 +62,31 @@ def nodes_of(words, names):
     return nodes
 
 
-def steps_of(text):
-    """The steps of a refutation."""
+def evidence_of(line, place, words, names):
+    """The kind of a line's evidence, and its nodes or its steps."""
+    if words[place:place + 1] != ["R"]:
+        return "tree", nodes_of(words[place:], names)
     try:
-        return Steps(plain_refutation.steps_of(text))
+        return "refutation", plain_refutation.steps_of(line[len(" ".join(words[:place + 1])):])
     except plain_refutation.NoText:
-        raise NotText from None
+        raise NotText
 
 
 def read_certificate(text, netlist, faults):
-    """Pairs of a fault's text and its evidence: the nodes of a tree, or the steps of a refutation."""
-    lines = text.split(b"\n")
-    if lines[0] not in (b"atpg certificate 1", b"atpg certificate 2") or lines[-1] != b"":
+    """Pairs of a fault's text and its evidence."""
+    first, *lines = text.split(b"\n")
+    if first not in (b"atpg certificate 1", b"atpg certificate 2") or lines[-1:] != [b""]:
         raise NotText
     texts, names = {fault_text(fault) for fault in faults}, set(netlist.signals)
     evidence = []
-    for line in lines[1:-1]:
-        words = line.decode("latin-1").split(" ")
+    for line in [line.decode("latin-1") for line in lines[:-1]]:
+        words = line.split(" ")
         place = 3 if words[0] == "pin" else 2
-        fault, behind = " ".join(words[:place]), words[place:]
+        fault = " ".join(words[:place])
         if fault not in texts:
             raise NotText
-        evidence.append((fault, steps_of("".join(f" {word}" for word in behind[1:])) if behind[:1] == ["R"] else nodes_of(behind, names)))
-    if (lines[0] == b"atpg certificate 2") != any(isinstance(one, Steps) for _, one in evidence):
+        evidence.append((fault, evidence_of(line, place, words, names)))
+    if any(kind == "refutation" for _, (kind, _) in evidence) != first.endswith(b"2"):
         raise NotText
     return evidence
 
@@ -241,11 +240,12 @@ def counts_of(netlist, fault, nodes, held):
 
 
 def ends_of(netlist, fault, evidence, held):
-    """How many closed and open ends evidence has, a refutation none; None where it shows nothing."""
-    if not isinstance(evidence, Steps):
-        return counts_of(netlist, fault, evidence, held)
+    """How many ends of evidence are closed and how many open, or None where a tree doesn't fit or steps don't refute the fault."""
+    kind, told = evidence
+    if kind == "tree":
+        return counts_of(netlist, fault, told, held)
     try:
-        plain_refutation.Question(netlist, fault_text(fault), held.items()).check(evidence)
+        plain_refutation.Question(netlist, fault_text(fault), held.items()).check(told)
     except plain_refutation.Wrong:
         return None
     return 0, 0
@@ -304,8 +304,8 @@ class Situation:
 def false_fault(situation, said, evidence, limit):
     """The first fault of which the report's line is missing, another's or false."""
     by_fault = {}
-    for fault, one in evidence:
-        by_fault.setdefault(fault, one)
+    for fault, told in evidence:
+        by_fault.setdefault(fault, told)
     counted = {}
     for k, fault in enumerate(situation.faults):
         text = fault_text(fault)
@@ -321,8 +321,8 @@ def false_fault(situation, said, evidence, limit):
         first = situation.first[k]
         if first not in counted:
             representative = situation.faults[first]
-            one = by_fault.get(fault_text(representative))
-            counted[first] = None if one is None else ends_of(situation.netlist, representative, one, situation.held)
+            told = by_fault.get(fault_text(representative))
+            counted[first] = told and ends_of(situation.netlist, representative, told, situation.held)
         counts = counted[first]
         wanted = counts is not None and (counts[1] == 0 if verdict[0] == "redundant" else counts[0] == limit and counts[1] > 0)
         if last is not None or not wanted:
@@ -408,6 +408,31 @@ def tree_of(netlist, fault, limit, held):
     return nodes
 
 
+def cases_of(netlist, fault, held):
+    """The steps of a refutation by cases of sources in order: each says that its path can't be, by what gates then allow or by both cases of a source."""
+    asked = plain_refutation.Question(netlist, fault_text(fault), held.items())
+    free = [asked.names.index(name) for name in netlist.inputs + netlist.cells if name not in held]
+    has = [frozenset(pair for pair in plain_refutation.PAIRS if pair[0] == bit) for bit in (0, 1)]
+    steps = []
+
+    def add(path):
+        clause = "".join(f"{signal}:{'1100' if bit else '0011'} " for signal, bit in path)
+        told = asked.told
+        for signal, bit in path:
+            told = asked.narrow(told, signal, has[bit])
+        told = asked.swept(told)
+        if told is None or not asked.is_open(told):
+            steps.append(f"( {clause}; ~ ; ! )")
+        else:
+            source = free[len(path)]
+            zero, one = (add(path + [(source, bit)]) for bit in (0, 1))
+            steps.append(f"( {clause}; {source}:0011 *{zero} ; *{one} )")
+        return len(steps) - 1
+
+    add([])
+    return steps
+
+
 def kept_patterns(situation):
     """The patterns that are the last to detect some fault."""
     kept = sorted({last[0] for last in situation.last if last is not None})
@@ -418,19 +443,20 @@ def percent(share):
     return f"{share // 100}.{share % 100:02}"
 
 
-def make(netlist, chains, limit, held, count, seed):
-    """The five texts."""
+def make(netlist, chains, limit, held, count, seed, refutes=False):
+    """The five texts; with refutations of redundant faults, or with trees alone."""
     rng = random.Random(seed)
     drawn = [{name: held.get(name, rng.randrange(2)) for name in netlist.inputs + netlist.cells} for _ in range(count)]
     situation = Situation(netlist, chains, held, kept_patterns(Situation(netlist, chains, held, drawn)))
-    trees, ends = [], {}
+    evidence, ends = [], {}
     for k in situation.representatives:
         if situation.last[k] is None:
             nodes = tree_of(netlist, situation.faults[k], limit, held)
             if nodes is None:
                 sys.exit(f"plain_check: no tree of {fault_text(situation.faults[k])} with this limit")
             ends[k] = "aborted" if "?" in nodes else "redundant"
-            trees.append(f"{fault_text(situation.faults[k])} {' '.join(nodes)}")
+            words = ["R", *cases_of(netlist, situation.faults[k], held)] if refutes and ends[k] == "redundant" else nodes
+            evidence.append(f"{fault_text(situation.faults[k])} {' '.join(words)}")
     said = [(fault_text(fault), situation.detected(last) if last else (ends[first],))
             for fault, last, first in zip(situation.faults, situation.last, situation.first)]
     head = situation.head(said, limit)
@@ -441,7 +467,7 @@ def make(netlist, chains, limit, held, count, seed):
     join = lambda lines: "".join(line + "\n" for line in lines).encode()
     return {"net": plain.canonical(netlist), "scan": plain.canonical(plain.scanned(netlist, chains)),
             "stil": plain.stil_text(netlist, chains, held, plain.items_of(netlist, chains, situation.patterns)),
-            "cert": join(["atpg certificate 1"] + trees), "rep": join(lines)}
+            "cert": join([f"atpg certificate {2 if refutes and 'redundant' in ends.values() else 1}"] + evidence), "rep": join(lines)}
 
 
 def path_of(prefix, end):
@@ -461,6 +487,7 @@ def main():
     parser.add_argument("--hold", default="")
     parser.add_argument("--patterns", type=int, default=64)
     parser.add_argument("--seed", type=int, default=1)
+    parser.add_argument("--refute", action="store_true")
     arguments = parser.parse_args()
     if arguments.make is None:
         status, line = check(read_files(arguments.prefix))
@@ -468,7 +495,8 @@ def main():
         sys.exit(status)
     netlist = plain.read(arguments.make.read_bytes())
     held = {name: int(bit) for name, bit in (item.split("=") for item in arguments.hold.split(",") if item)}
-    files = make(netlist, plain.chains_of(netlist.cells, arguments.chains), arguments.limit, held, arguments.patterns, arguments.seed)
+    chains = plain.chains_of(netlist.cells, arguments.chains)
+    files = make(netlist, chains, arguments.limit, held, arguments.patterns, arguments.seed, arguments.refute)
     for end, text in files.items():
         path_of(arguments.prefix, end).write_bytes(text)
 
