@@ -399,8 +399,9 @@ def certificate(verb, text, read):
     lines = check_certificates.answer(set(Netlist(text).signals), faults, read)
     if lines is None:
         return ["NotCertificate"]
-    whole = "".join(lines)
-    return [f"trees {len(lines)}"] + (shown(whole) if verb == "certificate" else [f"sum {checksum(whole)}"])
+    kinds, whole = [kind for kind, _ in lines], "".join(line for _, line in lines)
+    counts = [f"{kind}s {kinds.count(kind)}" for kind in ("refutation", "tree") if kind == "tree" or kind in kinds]
+    return counts + (shown(whole) if verb == "certificate" else [f"sum {checksum(whole)}"])
 
 
 def texts_and_rows(path):

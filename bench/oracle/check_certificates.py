@@ -42,9 +42,9 @@ def kind_of(signals, faults, line):
 
 
 def answer(signals, faults, text):
-    """The lines of a certificate behind its first, each with its end; None where the text is no certificate."""
+    """The lines of a certificate behind its first, each with its end and beside its kind; None where the text is no certificate."""
     first, *lines = text.split("\n")
     if first not in FIRST or not lines or lines.pop() != "":
         return None
     kinds = [kind_of(signals, faults, line) for line in lines]
-    return [line + "\n" for line in lines] if None not in kinds and ("refutation" in kinds) == FIRST[first] else None
+    return [(kind, line + "\n") for kind, line in zip(kinds, lines)] if None not in kinds and ("refutation" in kinds) == FIRST[first] else None

@@ -1,28 +1,49 @@
-//! Certificates, read for a netlist.
+//! Certificates, read for a netlist and written again.
 ghost use Rattle.netlist.specs.Designs.{IsDesign};
+ghost use Rattle.certificate.specs.Certificates.{IsCertificate};
 
+use crate::refutations::push_refutation;
 use case_nets::{push_fault, push_tree};
-use case_text::{checksum, push_numbers, show};
-use certificate::{CertFault, read_trees};
+use case_text::{Pushed, checksum, push_numbers, show};
+use certificate::{CertFault, has_refutation, read_evidence, write_evidence};
+use evidence::Evidence;
 use netlist::{Core, Fault, Netlist};
-use redundancy_cert::Tree;
 use std::alloc::{AllocError, Global};
+
+/// Adds how many trees there are, and how many refutations where there are any.
+fn push_counts(to: &mut Vec<u8>, evidence: &[(Fault, Evidence)]) -> Pushed {
+    let mut trees = 0u32;
+    let mut refutations = 0u32;
+    for pair in evidence {
+        match &pair.1 {
+            Evidence::Tree(_) => trees = trees.wrapping_add(1),
+            Evidence::Refutation(_) => refutations = refutations.wrapping_add(1),
+        }
+    }
+    if has_refutation(evidence) {
+        push_numbers(to, b"refutations", &[refutations])?;
+    }
+    push_numbers(to, b"trees", &[trees])
+}
 
 fn lines_of(
     alloc: Global,
     netlist: &Netlist,
-    trees: &[(Fault, Tree)],
+    evidence: &[(Fault, Evidence)],
 ) -> Result<Vec<u8>, AllocError> {
     let mut lines = Vec::new(alloc);
-    for pair in trees {
+    for pair in evidence {
         push_fault(&mut lines, netlist, &pair.0)?;
-        push_tree(&mut lines, netlist, b"", &pair.1)?;
+        match &pair.1 {
+            Evidence::Tree(tree) => push_tree(&mut lines, netlist, b"", tree)?,
+            Evidence::Refutation(refutation) => push_refutation(&mut lines, refutation.steps())?,
+        }
     }
     Ok(lines)
 }
 
 /// Adds what was read: the lines, or their checksum.
-fn push_lines(to: &mut Vec<u8>, lines: &[u8], is_whole: bool) -> Result<(), AllocError> {
+fn push_lines(to: &mut Vec<u8>, lines: &[u8], is_whole: bool) -> Pushed {
     if is_whole {
         show(to, lines)
     } else {
@@ -30,23 +51,40 @@ fn push_lines(to: &mut Vec<u8>, lines: &[u8], is_whole: bool) -> Result<(), Allo
     }
 }
 
-/// `certificate TEXT CERTIFICATE`: the trees of the certificate, or that it is none. `certificate-sum` has the checksum of their lines.
+/// Says so where what was read is written otherwise.
+fn push_rewritten(
+    to: &mut Vec<u8>,
+    alloc: Global,
+    core: &Core,
+    bytes: &[u8],
+    evidence: &[(Fault, Evidence)],
+) -> Pushed
+    requires { IsCertificate core.now bytes.now evidence.now }
+{
+    core.netlist().sound();
+    match write_evidence(alloc, core, evidence) {
+        Ok(text) if text.as_slice() == bytes => Ok(()),
+        Ok(_) => to.extend_from_slice(b"written otherwise\n"),
+        Err(_) => Err(AllocError),
+    }
+}
+
+/// `certificate TEXT CERTIFICATE`: the evidence of the certificate, or that it is none. `certificate-sum` has the checksum of its lines.
 pub fn push_certificate(
     to: &mut Vec<u8>,
     alloc: Global,
     core: &Core,
     bytes: &[u8],
     is_whole: bool,
-) -> Result<(), AllocError>
+) -> Pushed
     requires { IsDesign core.now }
 {
-    match read_trees(alloc, core, bytes) {
-        Ok(trees) => {
-            to.extend_from_slice(b"trees ")?;
-            to.extend_from_slice(itoa::Buffer::new().format(trees.len()).as_bytes())?;
-            to.push(b'\n')?;
-            let lines = lines_of(alloc, core.netlist(), &trees)?;
-            push_lines(to, &lines, is_whole)
+    match read_evidence(alloc, core, bytes) {
+        Ok(evidence) => {
+            push_counts(to, &evidence)?;
+            let lines = lines_of(alloc, core.netlist(), &evidence)?;
+            push_lines(to, &lines, is_whole)?;
+            push_rewritten(to, alloc, core, bytes, &evidence)
         }
         Err(CertFault::NotCertificate) => to.extend_from_slice(b"NotCertificate\n"),
         Err(CertFault::NoMemory) => Err(AllocError),
