@@ -8,8 +8,8 @@ from run_files import ENDS, Bad, evaluation_order
 # How many faults the first and the last k patterns detect together, for k from 0; and whether the first are known exactly.
 Curves = collections.namedtuple("Curves", "first last is_exact")
 
-# How many trees there are of each size, redundant and aborted apart; and the greatest with its fault.
-Sizes = collections.namedtuple("Sizes", "redundant aborted greatest")
+# How many trees there are of each size, redundant and aborted apart; the greatest with its fault; and the same of refutations, which have steps.
+Sizes = collections.namedtuple("Sizes", "redundant aborted greatest refuted longest")
 
 NO_MODULE = "(no module in the name)"
 TOP = "(top)"
@@ -189,12 +189,17 @@ def reached(curve, faults, below):
     return next(k for k, detected in enumerate(curve) if 10_000 * detected >= 10_000 * curve[-1] - below * faults)
 
 
-# Trees.
+# Trees and refutations.
 
-def sizes_of(trees):
-    redundant, aborted, greatest = collections.Counter(), collections.Counter(), (0, "")
-    for tree in trees:
+def sizes_of(evidence):
+    redundant, aborted, refuted = (collections.Counter() for _ in range(3))
+    greatest = longest = (0, "")
+    for each in evidence:
         # sizes go by powers of two: 1, 2 to 3, 4 to 7, ..
-        (aborted if tree.is_open else redundant)[tree.nodes.bit_length() - 1] += 1
-        greatest = max(greatest, (tree.nodes, tree.fault))
-    return Sizes(redundant, aborted, greatest)
+        if each.nodes:
+            (aborted if each.is_open else redundant)[each.nodes.bit_length() - 1] += 1
+            greatest = max(greatest, (each.nodes, each.fault))
+        else:
+            refuted[max(1, each.steps).bit_length() - 1] += 1
+            longest = max(longest, (each.steps, each.fault))
+    return Sizes(redundant, aborted, greatest, refuted, longest)

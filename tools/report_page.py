@@ -82,7 +82,7 @@ def driver(design, line):
 
 def fault_rows(run, end):
     """A row for each fault that ended so: the fault, if it is redundant why, its gate, its cone, and a link to the certificate's line."""
-    cones, numbers = Cones(run.design), {tree.fault: tree.number for tree in run.trees}
+    cones, numbers = Cones(run.design), {each.fault: each.number for each in run.evidence}
     for verdict in run.counts.verdicts:
         if verdict.end != end:
             continue
@@ -108,12 +108,17 @@ def fault_part(run, end, reasons):
     return parts
 
 
-def certificate_part(prefix, trees):
+def size_of(each):
+    return f"{each.nodes:,} nodes" if each.nodes else f"{each.steps:,} steps"
+
+
+def certificate_part(prefix, evidence):
     parts = [f"<h2>Certificate</h2>\n<p>Lines of <code>{html.escape(prefix.name)}.cert</code>, one for each class without a detecting "
-             "pattern. <code>!</code> is a closed end, <code>?</code> an open one, <code>S</code> a split, <code>F</code> a forced bit.</p>"]
-    for tree in trees:
-        text = tree.text if len(tree.text) <= MOST_BYTES else f"{tree.text[:MOST_BYTES]} .. ({tree.nodes:,} nodes in all)"
-        parts.append(f'<pre id="line-{tree.number}">{tree.number}: {html.escape(text)}</pre>')
+             "pattern. <code>!</code> is a closed end, <code>?</code> an open one, <code>S</code> a split, <code>F</code> a forced bit; "
+             "behind <code>R</code> are the steps of a refutation.</p>"]
+    for each in evidence:
+        text = each.text if len(each.text) <= MOST_BYTES else f"{each.text[:MOST_BYTES]} .. ({size_of(each)} in all)"
+        parts.append(f'<pre id="line-{each.number}">{each.number}: {html.escape(text)}</pre>')
     return parts
 
 
@@ -142,4 +147,4 @@ def page(run, reasons, tables, pictures):
         parts += fault_part(run, end, reasons)
     for title, columns, rows in tables:
         parts += [f"<h2>{html.escape(title)}</h2>", table(columns, rows)]
-    return "\n".join(parts + certificate_part(run.prefix, run.trees) + ["</body></html>"]) + "\n"
+    return "\n".join(parts + certificate_part(run.prefix, run.evidence) + ["</body></html>"]) + "\n"

@@ -6,7 +6,8 @@ them is.
   which it is stuck, or each way to an observed point ends at a gate that they decide. A slow line is tied as well where it never changes.
 - still (slow lines): no cell leads to the line, and inputs don't change between the two captures.
 - untestable as held: of patterns that are drawn with no input held, one detects it.
-- redundant in itself: no input is held; or its class's tree of the certificate fits with no input held too.
+- redundant in itself: no input is held; or its class's tree of the certificate fits with no input held too. (A refutation of the class isn't
+  looked at.)
 """
 
 import heapq
@@ -29,7 +30,7 @@ MEANS = {
     STILL: "only inputs lead to it, which don't change between the captures",
     AS_HELD: "a pattern that doesn't obey the held inputs detects it",
     IN_ITSELF: "no pattern detects it, with held inputs or without",
-    EITHER: "told by no drawn pattern, nor by its tree",
+    EITHER: "told by no drawn pattern, nor by a tree",
 }
 DRAWN = 512  # patterns with no input held
 MOST_STEPS = 4_000_000  # gates evaluated, for drawn patterns and for trees each: some fifteen seconds
@@ -145,9 +146,9 @@ def detected_unheld(design, faults):
 class Trees:
     """Which trees of the certificate fit with no input held too."""
 
-    def __init__(self, design, trees):
+    def __init__(self, design, evidence):
         self.netlist, self.left = design.as_plain(), MOST_STEPS
-        self.by_fault, self.found = {tree.fault: tree for tree in trees}, {}
+        self.by_fault, self.found = {each.fault: each for each in evidence if each.nodes}, {}
 
     def fits(self, fault):
         """Whether the tree of this representative does; where it would take long, it isn't said to."""
@@ -167,14 +168,14 @@ class Trees:
         return plain_check.counts_of(self.netlist, (line, int(bit)), nodes, {}) is not None
 
 
-def reasons_of(design, head, verdicts, trees, representatives):
+def reasons_of(design, head, verdicts, evidence, representatives):
     """For each redundant fault's text why it is so. `representatives` has the text of each fault's class, as the certificate names it."""
     structure, redundant = Structure(design), [verdict for verdict in verdicts if verdict.end == "redundant"]
     reasons = {verdict.fault: structure.reason(verdict, head.is_slow) for verdict in redundant}
     left = [verdict for verdict in redundant if reasons[verdict.fault] is None]
     if not head.held:
         return reasons | {verdict.fault: IN_ITSELF for verdict in left}
-    detected, certified = detected_unheld(design, left), Trees(design, trees)
+    detected, certified = detected_unheld(design, left), Trees(design, evidence)
     for verdict in left:
         if verdict.fault in detected:
             reasons[verdict.fault] = AS_HELD

@@ -114,11 +114,11 @@ def test_bad_reports():
 
 # The first detections, and what is made of them, on files of the plain program.
 
-def plain_run(folder, bench, chains, held=None, patterns=60):
+def plain_run(folder, bench, chains, held=None, patterns=60, refutes=False):
     """Good files of a small design, an example or a text, and what they are of."""
     netlist = plain_design.read((ROOT / "examples" / bench).read_bytes() if bench.endswith(".bench") else bench.encode())
     dealt = plain_design.chains_of(netlist.cells, chains)
-    files = plain_check.make(netlist, dealt, 128, held or {}, patterns, 1)
+    files = plain_check.make(netlist, dealt, 128, held or {}, patterns, 1, refutes)
     for end, text in files.items():
         (folder / f"run.{end}").write_bytes(text)
     tests = plain_check.patterns_of(plain_design.stil_tokens(files["stil"]), netlist, dealt, held or {})
@@ -336,6 +336,27 @@ def test_modules():
         assert "By module" not in said_by(TOOL, plain_run(folder, "c17.bench", 1)[0], "--names", folder / "other.names")[1]
 
 
+REDUNDANT = """INPUT(a)
+INPUT(b)
+OUTPUT(y)
+x = AND(a, b)
+y = OR(a, x)
+"""
+
+
+def test_refutations():
+    """A certificate with refutations: good files, their sizes, and each line on the page."""
+    with tempfile.TemporaryDirectory() as name:
+        folder = pathlib.Path(name)
+        prefix, situation = plain_run(folder, REDUNDANT, 1, refutes=True)
+        assert plain_check.check(plain_check.read_files(prefix)) == (0, f"checked {len(situation.faults)} faults")
+        lines = run_files.beside(prefix, "cert").read_text().splitlines()
+        assert lines[0] == "atpg certificate 2" and all(" R ( " in line for line in lines[1:]), lines
+        status, said, errors = said_by(TOOL, prefix, "--html", folder)
+        assert status == 0 and "Refutations of the certificate" in said and re.search(r"the longest: 3 steps, stem b/1$", said, re.M), errors
+        assert all(html.escape(line) in (folder / "run.html").read_text() for line in lines[1:])
+
+
 # What is seen in pictures, and how numbers and points are written.
 
 def test_last_percent():
@@ -353,7 +374,7 @@ def test_last_percent():
 
 def test_logarithmic_bars():
     """From 1 tree to 10 a bar grows as much as from 10 to 100, and one tree is seen."""
-    sizes = report_counts.Sizes(collections.Counter({0: 1, 1: 10, 2: 100, 3: 10_000}), collections.Counter(), (15, "stem a/0"))
+    sizes = report_counts.Sizes(collections.Counter({0: 1, 1: 10, 2: 100, 3: 10_000}), collections.Counter(), (15, "stem a/0"), collections.Counter(), (0, ""))
     drawn = report_pictures.draw_trees("x", sizes)
     one, ten, hundred, many = (float(high) for high in re.findall(r'<rect x="[^"]*" y="[^"]*" width="[^"]*" height="([^"]*)" fill="#1f5fa8"', drawn))
     assert one > 5 and abs((hundred - ten) - (ten - one)) < 0.3 and abs((many - hundred) - 2 * (ten - one)) < 0.4, (one, ten, hundred, many)

@@ -18,8 +18,9 @@ Verdict = collections.namedtuple("Verdict", "fault line bit end pattern cycle pi
 # A report's head: its sixteen numbers as they are written, the held inputs as pairs of name and bit, and whether it is of slow lines.
 Head = collections.namedtuple("Head", "numbers held is_slow")
 
-# A line of the certificate: its number, the fault, the nodes of its tree, whether a part is open, the closed ends, and the line's text.
-Tree = collections.namedtuple("Tree", "number fault nodes is_open closed text")
+# A line of the certificate: its number, the fault, how many nodes its tree has (0: it is a refutation) or steps its refutation, whether an end is
+# open, and the line's text.
+Evidence = collections.namedtuple("Evidence", "number fault nodes steps is_open text")
 
 PlainNetlist = collections.namedtuple("PlainNetlist", "inputs outputs cells definitions kind pins order signals points")
 
@@ -133,24 +134,33 @@ def read_report(path, take):
     return head
 
 
-def read_trees(path, is_slow=False):
+def nodes_in(words):
+    """How many nodes the words of a tree are, and whether an end is open."""
+    nodes = opens = skip = 0
+    for word in words:
+        if skip:
+            skip -= 1
+            continue
+        nodes += 1
+        skip = {"S": 1, "F": 2}.get(word, 0)
+        opens += word == "?"
+    return nodes, opens > 0
+
+
+def read_evidence(path, is_slow=False):
     """Each line of the certificate."""
     with open(path, encoding="ascii") as lines:
-        if next(lines, "").rstrip("\n") != f"atpg{' transition' * is_slow} certificate 1":
+        if next(lines, "").rstrip("\n") not in [f"atpg{' transition' * is_slow} certificate {version}" for version in (1, 2)]:
             raise Bad(f"{path}: no certificate{' of slow lines' * is_slow}")
         for number, text in enumerate(lines, 2):
             words = text.split()
             place = (3 if words[0] == "pin" else 2) + is_slow
-            nodes = closed = opens = skip = 0
-            for word in words[place:]:
-                if skip:
-                    skip -= 1
-                    continue
-                nodes += 1
-                skip = {"S": 1, "F": 2}.get(word, 0)
-                closed += word == "!"
-                opens += word == "?"
-            yield Tree(number, " ".join(words[:place]), nodes, opens > 0, closed, text.rstrip("\n"))
+            fault, line = " ".join(words[:place]), text.rstrip("\n")
+            if words[place:place + 1] == ["R"]:
+                yield Evidence(number, fault, 0, words[place:].count("("), False, line)
+            else:
+                nodes, is_open = nodes_in(words[place:])
+                yield Evidence(number, fault, nodes, 0, is_open, line)
 
 
 def evaluation_order(design):

@@ -1,11 +1,21 @@
-"""Certificates, read by their format alone: a line begins with the text of one of the netlist's faults, and its nodes are counted off."""
+"""Certificates, read by their format alone: a line begins with the text of one of the netlist's faults; the nodes of a tree are counted off, and the
+steps of a refutation go by regular expressions."""
+
+import plain_refutation
+
+FIRST = {"atpg certificate 1": False, "atpg certificate 2": True}  # whether a line is a refutation's
 
 
-def is_line(signals, faults, line):
-    fault = next((fault for fault in faults if line.startswith(fault + " ")), None)
-    if fault is None:
+def are_steps(text):
+    try:
+        plain_refutation.steps_of(text)
+    except plain_refutation.NoText:
         return False
-    words, waiting, place = line[len(fault) + 1 :].split(" "), 1, 0
+    return True
+
+
+def is_tree(signals, text):
+    words, waiting, place = text.split(" "), 1, 0
     while waiting and place < len(words):
         node = words[place : place + {"S": 2, "F": 3}.get(words[place], 1)]
         place += len(node)
@@ -20,9 +30,21 @@ def is_line(signals, faults, line):
     return waiting == 0 and place == len(words)
 
 
+def kind_of(signals, faults, line):
+    """What the line has: `tree` or `refutation`, or None."""
+    fault = next((fault for fault in faults if line.startswith(fault + " ")), None)
+    if fault is None:
+        return None
+    behind = line[len(fault) + 1 :]
+    if behind.startswith("R"):
+        return "refutation" if are_steps(behind[1:]) else None
+    return "tree" if is_tree(signals, behind) else None
+
+
 def answer(signals, faults, text):
     """The lines of a certificate behind its first, each with its end; None where the text is no certificate."""
     first, *lines = text.split("\n")
-    if first != "atpg certificate 1" or not lines or lines.pop() != "":
+    if first not in FIRST or not lines or lines.pop() != "":
         return None
-    return [line + "\n" for line in lines] if all(is_line(signals, faults, line) for line in lines) else None
+    kinds = [kind_of(signals, faults, line) for line in lines]
+    return [line + "\n" for line in lines] if None not in kinds and ("refutation" in kinds) == FIRST[first] else None

@@ -14,7 +14,7 @@ import plain_design as plain
 import plain_transition
 from plain_check import fault_text, nodes_of, path_of
 
-FIRST = {"atpg certificate 1": fault_text, "atpg transition certificate 1": plain_transition.fault_text}
+FIRST = {f"atpg {kind}certificate {version}": text for version in (1, 2) for kind, text in (("", fault_text), ("transition ", plain_transition.fault_text))}
 
 
 def situation_of(netlist, fault, is_slow):
@@ -30,19 +30,26 @@ def held_in(report):
     return {line.split(" ")[1] for line in report.split("\n") if line.startswith("hold ")}
 
 
+def trees_in(lines, is_slow):
+    """Of each line that has a tree the fault and the words of the nodes; refutations are passed over."""
+    for line in lines:
+        words = line.split(" ")
+        count = (3 if words[0] == "pin" else 2) + is_slow
+        if words[count] != "R":
+            yield " ".join(words[:count]), words[count:]
+
+
 def wrong_trees(netlist, certificate, held=()):
     """How many trees there are; and of each that breaks a rule the fault and the node."""
     first, *lines = certificate.split("\n")[:-1]
     faults, is_slow, wrong = {FIRST[first](fault): fault for fault in plain.universe(netlist)}, "transition" in first, []
-    for line in lines:
-        words = line.split(" ")
-        count = (3 if words[0] == "pin" else 2) + is_slow
-        text = " ".join(words[:count])
+    trees = list(trees_in(lines, is_slow))
+    for text, nodes in trees:
         searched, site = situation_of(netlist, faults[text], is_slow)
-        node = plain_transition.Roles(searched, site, held).first_wrong(nodes_of(words[count:], set(searched.signals)))
+        node = plain_transition.Roles(searched, site, held).first_wrong(nodes_of(nodes, set(searched.signals)))
         if node is not None:
             wrong.append((text, " ".join(node)))
-    return len(lines), wrong
+    return len(trees), wrong
 
 
 def main():

@@ -2,9 +2,10 @@
 """What `atpg check` has to answer, by a plain program apart from the crates; and five good files of small designs, made without `run`.
 
     bench/oracle/plain_check.py PREFIX                     checks PREFIX.net, .scan, .stil, .cert and .rep
-    bench/oracle/plain_check.py --make NET PREFIX [--chains C] [--limit L] [--hold LIST] [--patterns N] [--seed S]
+    bench/oracle/plain_check.py --make NET PREFIX [--chains C] [--limit L] [--hold LIST] [--patterns N] [--seed S] [--refute]
                                                     makes the files: patterns are drawn, those that are no last detector are left out,
-                                                    and trees split inputs and cells in order
+                                                    and trees split inputs and cells in order; or, for redundant faults, refutations by
+                                                    the same cases
 
 It ends with the status and prints the line that `check` has to print. It is for designs of up to some hundred gates.
 """
@@ -16,6 +17,7 @@ import re
 import sys
 
 import plain_design as plain
+import plain_refutation
 from plain_stil import is_stil
 
 ENDS = ("net", "scan", "stil", "cert", "rep")
@@ -60,21 +62,33 @@ def nodes_of(words, names):
     return nodes
 
 
+def evidence_of(line, place, words, names):
+    """The kind of a line's evidence, and its nodes or its steps."""
+    if words[place:place + 1] != ["R"]:
+        return "tree", nodes_of(words[place:], names)
+    try:
+        return "refutation", plain_refutation.steps_of(line[len(" ".join(words[:place + 1])):])
+    except plain_refutation.NoText:
+        raise NotText
+
+
 def read_certificate(text, netlist, faults):
-    """Pairs of a fault's text and a tree."""
-    lines = text.split(b"\n")
-    if lines[0] != b"atpg certificate 1" or lines[-1] != b"":
+    """Pairs of a fault's text and its evidence."""
+    first, *lines = text.split(b"\n")
+    if first not in (b"atpg certificate 1", b"atpg certificate 2") or lines[-1:] != [b""]:
         raise NotText
     texts, names = {fault_text(fault) for fault in faults}, set(netlist.signals)
-    trees = []
-    for line in lines[1:-1]:
-        words = line.decode("latin-1").split(" ")
+    evidence = []
+    for line in [line.decode("latin-1") for line in lines[:-1]]:
+        words = line.split(" ")
         place = 3 if words[0] == "pin" else 2
         fault = " ".join(words[:place])
         if fault not in texts:
             raise NotText
-        trees.append((fault, nodes_of(words[place:], names)))
-    return trees
+        evidence.append((fault, evidence_of(line, place, words, names)))
+    if any(kind == "refutation" for _, (kind, _) in evidence) != first.endswith(b"2"):
+        raise NotText
+    return evidence
 
 
 NUMBER = r"(0|[1-9][0-9]*)"
@@ -225,6 +239,18 @@ def counts_of(netlist, fault, nodes, held):
     return closed, left_open
 
 
+def ends_of(netlist, fault, evidence, held):
+    """How many ends of evidence are closed and how many open, or None where a tree doesn't fit or steps don't refute the fault."""
+    kind, told = evidence
+    if kind == "tree":
+        return counts_of(netlist, fault, told, held)
+    try:
+        plain_refutation.Question(netlist, fault_text(fault), held.items()).check(told)
+    except plain_refutation.Wrong:
+        return None
+    return 0, 0
+
+
 # The check.
 
 class Situation:
@@ -275,11 +301,11 @@ class Situation:
                 "efficiency": 10_000 * (detected + redundant) // faults}
 
 
-def false_fault(situation, said, trees, limit):
+def false_fault(situation, said, evidence, limit):
     """The first fault of which the report's line is missing, another's or false."""
     by_fault = {}
-    for fault, nodes in trees:
-        by_fault.setdefault(fault, nodes)
+    for fault, told in evidence:
+        by_fault.setdefault(fault, told)
     counted = {}
     for k, fault in enumerate(situation.faults):
         text = fault_text(fault)
@@ -295,8 +321,8 @@ def false_fault(situation, said, trees, limit):
         first = situation.first[k]
         if first not in counted:
             representative = situation.faults[first]
-            nodes = by_fault.get(fault_text(representative))
-            counted[first] = nodes and counts_of(situation.netlist, representative, nodes, situation.held)
+            told = by_fault.get(fault_text(representative))
+            counted[first] = told and ends_of(situation.netlist, representative, told, situation.held)
         counts = counted[first]
         wanted = counts is not None and (counts[1] == 0 if verdict[0] == "redundant" else counts[0] == limit and counts[1] > 0)
         if last is not None or not wanted:
@@ -304,12 +330,12 @@ def false_fault(situation, said, trees, limit):
     return None
 
 
-def further_fault(situation, said, trees):
+def further_fault(situation, said, evidence):
     """A further line of the report, or the first line of the certificate that isn't the next class's."""
     if len(said) > len(situation.faults):
         return said[len(situation.faults)][0]
     left = [fault_text(situation.faults[k]) for k in situation.representatives if said[k][1][0] != "detected"]
-    return next((fault for k, (fault, _) in enumerate(trees) if k >= len(left) or left[k] != fault), None)
+    return next((fault for k, (fault, _) in enumerate(evidence) if k >= len(left) or left[k] != fault), None)
 
 
 def are_holds(netlist, held):
@@ -327,17 +353,17 @@ def check(files):
         return 4, "not a stil file"
     faults = plain.universe(netlist)
     try:
-        trees = read_certificate(files["cert"], netlist, faults)
+        evidence = read_certificate(files["cert"], netlist, faults)
     except NotText:
         return 4, "not a certificate"
     try:
         head, held, said = read_report(files["rep"])
     except NotText:
         return 4, "not a report"
-    return clauses(files, netlist, trees, head, held, said)
+    return clauses(files, netlist, evidence, head, held, said)
 
 
-def clauses(files, netlist, trees, head, held, said):
+def clauses(files, netlist, evidence, head, held, said):
     asked = head["chains"]
     if (asked == 0 and netlist.cells) or asked >= 2 ** 32:
         return 1, "scan differs"
@@ -351,7 +377,7 @@ def clauses(files, netlist, trees, head, held, said):
     if patterns is None:
         return 1, "stil differs"
     situation = Situation(netlist, chains, held, patterns)
-    false = false_fault(situation, said, trees, head["limit"]) or further_fault(situation, said, trees)
+    false = false_fault(situation, said, evidence, head["limit"]) or further_fault(situation, said, evidence)
     if false is not None:
         return 1, f"fault {false}"
     if head != situation.head(said, head["limit"]) or not 1 <= head["limit"] <= MOST_LIMIT:
@@ -382,6 +408,31 @@ def tree_of(netlist, fault, limit, held):
     return nodes
 
 
+def cases_of(netlist, fault, held):
+    """The steps of a refutation by cases of sources in order: each says that its path can't be, by what gates then allow or by both cases of a source."""
+    asked = plain_refutation.Question(netlist, fault_text(fault), held.items())
+    free = [asked.names.index(name) for name in netlist.inputs + netlist.cells if name not in held]
+    has = [frozenset(pair for pair in plain_refutation.PAIRS if pair[0] == bit) for bit in (0, 1)]
+    steps = []
+
+    def add(path):
+        clause = "".join(f"{signal}:{'1100' if bit else '0011'} " for signal, bit in path)
+        told = asked.told
+        for signal, bit in path:
+            told = asked.narrow(told, signal, has[bit])
+        told = asked.swept(told)
+        if told is None or not asked.is_open(told):
+            steps.append(f"( {clause}; ~ ; ! )")
+        else:
+            source = free[len(path)]
+            zero, one = (add(path + [(source, bit)]) for bit in (0, 1))
+            steps.append(f"( {clause}; {source}:0011 *{zero} ; *{one} )")
+        return len(steps) - 1
+
+    add([])
+    return steps
+
+
 def kept_patterns(situation):
     """The patterns that are the last to detect some fault."""
     kept = sorted({last[0] for last in situation.last if last is not None})
@@ -392,19 +443,20 @@ def percent(share):
     return f"{share // 100}.{share % 100:02}"
 
 
-def make(netlist, chains, limit, held, count, seed):
-    """The five texts."""
+def make(netlist, chains, limit, held, count, seed, refutes=False):
+    """The five texts; with refutations of redundant faults, or with trees alone."""
     rng = random.Random(seed)
     drawn = [{name: held.get(name, rng.randrange(2)) for name in netlist.inputs + netlist.cells} for _ in range(count)]
     situation = Situation(netlist, chains, held, kept_patterns(Situation(netlist, chains, held, drawn)))
-    trees, ends = [], {}
+    evidence, ends = [], {}
     for k in situation.representatives:
         if situation.last[k] is None:
             nodes = tree_of(netlist, situation.faults[k], limit, held)
             if nodes is None:
                 sys.exit(f"plain_check: no tree of {fault_text(situation.faults[k])} with this limit")
             ends[k] = "aborted" if "?" in nodes else "redundant"
-            trees.append(f"{fault_text(situation.faults[k])} {' '.join(nodes)}")
+            words = ["R", *cases_of(netlist, situation.faults[k], held)] if refutes and ends[k] == "redundant" else nodes
+            evidence.append(f"{fault_text(situation.faults[k])} {' '.join(words)}")
     said = [(fault_text(fault), situation.detected(last) if last else (ends[first],))
             for fault, last, first in zip(situation.faults, situation.last, situation.first)]
     head = situation.head(said, limit)
@@ -415,7 +467,7 @@ def make(netlist, chains, limit, held, count, seed):
     join = lambda lines: "".join(line + "\n" for line in lines).encode()
     return {"net": plain.canonical(netlist), "scan": plain.canonical(plain.scanned(netlist, chains)),
             "stil": plain.stil_text(netlist, chains, held, plain.items_of(netlist, chains, situation.patterns)),
-            "cert": join(["atpg certificate 1"] + trees), "rep": join(lines)}
+            "cert": join([f"atpg certificate {2 if refutes and 'redundant' in ends.values() else 1}"] + evidence), "rep": join(lines)}
 
 
 def path_of(prefix, end):
@@ -435,6 +487,7 @@ def main():
     parser.add_argument("--hold", default="")
     parser.add_argument("--patterns", type=int, default=64)
     parser.add_argument("--seed", type=int, default=1)
+    parser.add_argument("--refute", action="store_true")
     arguments = parser.parse_args()
     if arguments.make is None:
         status, line = check(read_files(arguments.prefix))
@@ -442,7 +495,8 @@ def main():
         sys.exit(status)
     netlist = plain.read(arguments.make.read_bytes())
     held = {name: int(bit) for name, bit in (item.split("=") for item in arguments.hold.split(",") if item)}
-    files = make(netlist, plain.chains_of(netlist.cells, arguments.chains), arguments.limit, held, arguments.patterns, arguments.seed)
+    chains = plain.chains_of(netlist.cells, arguments.chains)
+    files = make(netlist, chains, arguments.limit, held, arguments.patterns, arguments.seed, arguments.refute)
     for end, text in files.items():
         path_of(arguments.prefix, end).write_bytes(text)
 

@@ -47,7 +47,7 @@ module _ (n : Netlist) (sound : IsSound n) where
       let due : fault_blanks (line_text n (Out y) ++ more) ≡ 1 = refl in
       omega (arith, whole, due, name_blanks y w)
 
-  member_written : (f : Fault) → Contains (universe_of n) f → IsWritten n f.line
+  pub member_written : (f : Fault) → Contains (universe_of n) f → IsWritten n f.line
   member_written f m = line_written n sound f.line (member_line n f m)
 
   -- a fault's text has as many blanks as its first byte says

@@ -10,3 +10,4 @@ pub mod EvidenceTexts
 pub mod LineTexts
 pub mod FirstLines
 pub mod NamedTrees
+pub mod NamedEvidence

@@ -1,4 +1,4 @@
--- The nodes of a tree that fits decide signals of the netlist, so evidence that shows something has a text.
+-- The nodes of a tree that fits decide signals of the netlist.
 use Rattle.std.proofs.Common.{true, false, List, [], ◌∷◌, ◌++◌, subst}
 use Rattle.std.specs.List.{All}
 use Rattle.std.proofs.lemmas.List.Elements.{All-append, All-nil, All-cons, All-head, All-tail}
@@ -13,10 +13,7 @@ use Rattle.redundancy_cert.specs.declared.nodes.Node.{Node}
 use Rattle.redundancy_cert.specs.declared.nodes.Node.TheVariants as node
 use Rattle.redundancy_cert.specs.Trees.{Tree, ClosedEnd, OpenEnd, SplitOn, ForcedTo, Place, places, preorder}
 use Rattle.redundancy_cert.specs.Fits.{Fits, PlaceFits}
-use Rattle.evidence.specs.declared.kinds.Evidence.{Evidence}
-use Rattle.evidence.specs.declared.kinds.Evidence.TheVariants as kind
-use Rattle.evidence.specs.Evidence.{Shows}
-use Rattle.certificate.specs.Certificates.{HasSignal, HasSignals, HasSmallNumbers, IsWellFormed}
+use Rattle.certificate.specs.Certificates.{HasSignal}
 
 tree_named : (n : Netlist) → IsSound n → (f : Fault) (holds : Holds) (path : Path) (t : Tree) → All (PlaceFits f n holds) (places path t) → All (HasSignal n) (preorder t)
 tree_named n sound f holds path ClosedEnd fits = All-cons (HasSignal n) node.Closed [] tt (All-nil (HasSignal n))
@@ -41,11 +38,3 @@ tree_named n sound f holds path (ForcedTo x b t) fits =
 
 pub nodes_named : (n : Netlist) → IsSound n → (f : Fault) (holds : Holds) (nodes : List Node) → Fits f n holds nodes → All (HasSignal n) nodes
 nodes_named n sound f holds nodes fits = subst (All (HasSignal n)) fits.1 (tree_named n sound f holds [] fits.0 fits.2)
-
-pub shown_named : (n : Netlist) → IsSound n → (f : Fault) (holds : Holds) (e : Evidence) → Shows f n holds e → HasSignals n e
-shown_named n sound f holds (kind.Tree nodes) shows = nodes_named n sound f holds nodes shows
-shown_named n sound f holds (kind.Refutation steps) shows = tt
-
-pub shown_formed : (n : Netlist) → IsSound n → (f : Fault) (holds : Holds) (e : Evidence) → Shows f n holds e → HasSmallNumbers e → IsWellFormed n e
-shown_formed n sound f holds (kind.Tree nodes) shows small = (nodes_named n sound f holds nodes shows, (shows.0, shows.1))
-shown_formed n sound f holds (kind.Refutation steps) shows small = small

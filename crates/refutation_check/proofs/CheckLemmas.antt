@@ -7,7 +7,7 @@ use Rattle.std.proofs.lemmas.Bool.{both_ways, cases_lt}
 use Rattle.std.proofs.lemmas.Grind.{take_at_read}
 use Rattle.std.proofs.lemmas.List.{drop_all, drop_more, length-append}
 use Rattle.std.proofs.lemmas.List.Elements.{All-more, All-push, All-weaker}
-use Rattle.std.proofs.lemmas.Option.{slice_get-get_or, slice_get_within, get_or_from_slice_get}
+use Rattle.std.proofs.lemmas.Option.{slice_get-get_or}
 use Rattle.std.proofs.lemmas.Result.{IfOk-weaker}
 use Rattle.statement.specs.declared.lines.Fault.{Fault}
 use Rattle.statement.specs.Netlists.{Netlist, signals}
@@ -22,7 +22,7 @@ use Rattle.refutation.specs.Steps.{Step}
 use Rattle.refutation.specs.Refutations.{Told, narrowed, denied, denying, learned, knowing, IsImplied, IsSwept, LeavesNothing, Leads, StepHolds, HoldsAt, clauses}
 use Rattle.refutation.proofs.Sweeping.{something_left, swept_once}
 use Rattle.refutation_check.specs.declared.checks.Played.TheVariants.{On, Ends, Fails}
-use Rattle.refutation_check.specs.inner.Checks.{IsTaken, IsBadAt, IsPlayed}
+use Rattle.refutation_check.specs.inner.Checks.{IsTaken, IsPlayed}
 use Rattle.refutation_check.specs.inner.Reasons.{AreWithin}
 use Rattle.refutation_check.specs.inner.Trails.{Trailed, Grows}
 use Rattle.refutation_check.proofs.TrailLemmas.{grows_none}
@@ -151,9 +151,6 @@ knowing_push : (told : Told) (cs : List (List Literal)) (c : List Literal) → k
 knowing_push told [] c = refl
 knowing_push told (d ∷ cs) c = knowing_push (learned told d) cs c
 
-at_place : (steps : List Step) (k : ℕ) (step : Step) → slice_get steps k ≡ Some step → (k < length steps) × (step ≡ get_or steps k step)
-at_place steps k step there = (slice_get_within steps k step there, sym (get_or_from_slice_get steps k step step there))
-
 some_same : {x y : Step} → Some x ≡ Some y → x ≡ y
 some_same e = cc
 
@@ -163,36 +160,24 @@ there_same steps k x step l is there = some_same (sym there ∙ (slice_get-get_o
 pub is_there : (steps : List Step) (k : ℕ) (x : Step) → k < length steps → x ≡ get_or steps k x → slice_get steps k ≡ Some x
 is_there steps k x l is = slice_get-get_or steps k x l ∙ ap (λ (s : Step). Some s) (sym is)
 
-module _ (n : Netlist) (sound : IsSound n) (f : Fault) (steps : List Step) (k : ℕ) (told0 old new : Told) where
-  pub known_more : IsTaken n f steps k old new → old ≡ knowing told0 (clauses (take k steps)) → new ≡ knowing told0 (clauses (take (k + 1) steps))
+module _ (n : Netlist) (f : Fault) (steps : List Step) (k : ℕ) (step : Step) (l : k < length steps) (is : step ≡ get_or steps k step) (told0 old new : Told) where
+  pub known_more : IsTaken n f (clauses (take k steps)) step old new → old ≡ knowing told0 (clauses (take k steps)) → new ≡ knowing told0 (clauses (take (k + 1) steps))
   known_more w known =
-      let at = at_place steps k w.step w.there in
-      w.now ∙ (ap (λ (t : Told). learned t w.step.clause) known
-      ∙ (sym (knowing_push told0 (clauses (take k steps)) w.step.clause) ∙ ap (knowing told0) (sym (clauses_more steps k w.step at.0 at.1))))
+      w.now ∙ (ap (λ (t : Told). learned t step.clause) known ∙ (sym (knowing_push told0 (clauses (take k steps)) step.clause) ∙ ap (knowing told0) (sym (clauses_more steps k step l is))))
 
-  pub within_all_more : IsTaken n f steps k old new → All (AreWithin (length (signals n))) (clauses (take k steps)) → All (AreWithin (length (signals n))) (clauses (take (k + 1) steps))
-  within_all_more w h =
-      let at = at_place steps k w.step w.there in
-      subst (All (AreWithin (length (signals n)))) (sym (clauses_more steps k w.step at.0 at.1))
-      (All-push (AreWithin (length (signals n))) (clauses (take k steps)) w.step.clause h (signals_within n sound (length (signals n)) w.step.clause refl w.holds.within))
+  pub within_all_more : IsSound n → IsTaken n f (clauses (take k steps)) step old new → All (AreWithin (length (signals n))) (clauses (take k steps))
+      → All (AreWithin (length (signals n))) (clauses (take (k + 1) steps))
+  within_all_more sound w h =
+      subst (All (AreWithin (length (signals n)))) (sym (clauses_more steps k step l is))
+      (All-push (AreWithin (length (signals n))) (clauses (take k steps)) step.clause h (signals_within n sound (length (signals n)) step.clause refl w.holds.within))
 
-  pub holds_at : IsTaken n f steps k old new → old ≡ knowing told0 (clauses (take k steps)) → HoldsAt n f told0 steps k
-  holds_at w known = (w.step, w.there, subst (λ (t : Told). StepHolds n f (clauses (take k steps)) t w.step) known w.holds)
+  pub holds_at : IsTaken n f (clauses (take k steps)) step old new → old ≡ knowing told0 (clauses (take k steps)) → HoldsAt n f told0 steps k
+  holds_at w known = (step, is_there steps k step l is, subst (λ (t : Told). StepHolds n f (clauses (take k steps)) t step) known w.holds)
 
-  pub not_at : IsBadAt n f steps k old → old ≡ knowing told0 (clauses (take k steps)) → HoldsAt n f told0 steps k → ⊥
-  not_at bad known w = bad w.0 w.1 (subst (λ (t : Told). StepHolds n f (clauses (take k steps)) t w.0) (sym known) w.2)
+  pub not_at : (StepHolds n f (clauses (take k steps)) old step → ⊥) → old ≡ knowing told0 (clauses (take k steps)) → HoldsAt n f told0 steps k → ⊥
+  not_at bad known w =
+      bad (subst (λ (s : Step). StepHolds n f (clauses (take k steps)) old s) (there_same steps k step w.0 l is w.1)
+      (subst (λ (t : Told). StepHolds n f (clauses (take k steps)) t w.0) (sym known) w.2))
 
 pub each_more : (P : ℕ → Type 0) (k : ℕ) → ((j : ℕ) → j < k → P j) → P k → (j : ℕ) → j < k + 1 → P j
 each_more P k before here j l = elim (cases_lt j k) [ inl low ↦ before j low | inr high ↦ subst P (let e : k ≡ j = omega arith in e) here ]
-
-module _ (n : Netlist) (f : Fault) (steps : List Step) (k : ℕ) (told : Told) (x : Step) (holds : Bool) (l : k < length steps) (is : x ≡ get_or steps k x)
-    (so : (holds ≡ true) ↔ StepHolds n f (clauses (take k steps)) told x) where
-  pub step_bad : holds ≡ false → IsBadAt n f steps k told
-  step_bad off step there w =
-      both_ways holds off (so.1 (subst (λ (s : Step). StepHolds n f (clauses (take k steps)) told s) (there_same steps k x step l is there) w))
-
-  pub step_so : holds ≡ true → StepHolds n f (clauses (take k steps)) told x
-  step_so on = so.0 on
-
-  pub step_taken : holds ≡ true → (now : Told) (clause : List Literal) → clause ≡ x.clause → now ≡ learned told clause → IsTaken n f steps k told now
-  step_taken on now clause c made = record { step = x; there = is_there steps k x l is; holds = step_so on; now = made ∙ ap (learned told) c }

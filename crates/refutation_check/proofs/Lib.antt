@@ -14,6 +14,7 @@ pub mod CalmStart
 pub mod Looks
 pub mod LookSteps
 pub mod CheckLemmas
+pub mod BaseLemmas
 pub mod StartLemmas
 pub mod Refusals
 pub mod WayLemmas

@@ -1,3 +1,4 @@
 pub mod Checking
 pub mod Refusals
+pub mod Rooms
 pub mod inner

@@ -6,6 +6,7 @@ ghost use Rattle.netlist.specs.Lines.{IsLineOf};
 ghost use Rattle.statement.specs.Netlists.{signals};
 ghost use Rattle.refutation.specs.Refutations.{Refutes};
 ghost use Rattle.refutation_check.specs.Refusals.{IsRefutationFault};
+ghost use Rattle.refutation_check.specs.Rooms.{IsReusableCheckRoom};
 ghost use Rattle.refutation_check.specs.inner.Marks.{AreListed, IsClear, marked};
 ghost use Rattle.refutation_check.specs.inner.Starting.{AreFixed, idle};
 ghost use Rattle.refutation_check.specs.inner.Trails.{Grows};
@@ -14,8 +15,9 @@ use crate::checks::check_steps;
 use crate::cones::reach;
 use crate::faults::RefutationFault;
 use crate::marks::clear;
+use crate::rooms::CheckRoom;
 use crate::sets::Sets;
-use crate::starting::{fixed, idle, start};
+use crate::starting::start;
 use netlist::{Core, Fault, Holds, Netlist, NoMemory, SignalId};
 use refutation::Step;
 use std::alloc::Global;
@@ -82,20 +84,49 @@ impl<'a> Checker<'a> {
         requires { AreHoldsOf core.now holds.now }
         ensures { IfOk result (λ c. (c.netlist ≡ core.now) × (c.holds ≡ holds.now)) }
     {
-        core.netlist().sound();
-        let told = idle(alloc, core, holds)?;
-        let fixed = fixed(alloc, core.netlist(), holds)?;
-        let count = core.netlist().inputs().len() + core.netlist().definitions().len();
-        let marks = vec![in alloc; false; count]?;
-        let sets = Sets::new(alloc, told)?;
-        Ok(Checker {
+        let room = CheckRoom::new(alloc, core, holds)?;
+        Ok(Checker::in_room(room, core, holds))
+    }
+
+    /// The check in room that was kept.
+    pub fn in_room(room: CheckRoom, core: &'a Core, holds: &'a Holds) -> Checker<'a>
+        requires { IsReusableCheckRoom core.now holds.now room }
+        ensures { (result.netlist ≡ core.now) × (result.holds ≡ holds.now) }
+    {
+        let CheckRoom {
+            fixed,
+            marks,
+            list,
+            sets,
+        } = room;
+        Checker {
             core,
             holds,
             fixed,
             marks,
-            list: Vec::new(alloc),
+            list,
             sets,
-        })
+        }
+    }
+
+    /// The room, for the next refutations of the same netlist under the same held inputs.
+    pub fn into_room(self) -> CheckRoom
+        ensures { IsReusableCheckRoom self.entry.netlist self.entry.holds result }
+    {
+        let Checker {
+            core: _,
+            holds: _,
+            fixed,
+            marks,
+            list,
+            sets,
+        } = self;
+        CheckRoom {
+            fixed,
+            marks,
+            list,
+            sets,
+        }
     }
 
     /// Whether the steps refute the fault: exactly where they do; else the first step that doesn't hold.

@@ -1,17 +1,14 @@
 //! Whether the steps of a refutation hold, one after the other.
-ghost use Rattle.std.specs.Prelude.{◌≡◌, ◌↔◌, ◌<◌, ◌≤◌, length, take, IfOk, IsTrue, MatchResult, OnOk};
+ghost use Rattle.std.specs.Prelude.{◌≡◌, ◌↔◌, ◌<◌, length, IfOk, IsTrue, MatchResult, OnOk};
 ghost use Rattle.std.specs.Bool.{MatchBool};
-ghost use Rattle.std.specs.List.{All};
-ghost use Rattle.netlist.specs.Conditions.{IsSound};
-ghost use Rattle.netlist.specs.Lines.{IsLineOf};
-ghost use Rattle.statement.specs.Netlists.{signals};
 ghost use Rattle.refutation.specs.Refutations.{AllHold, EndsEmpty, IsContradicted, IsImplied, Leads, StepHolds, clauses, denied, denying, learned, narrowed};
 ghost use Rattle.refutation_check.specs.Refusals.{AreRefused};
-ghost use Rattle.refutation_check.specs.inner.Checks.{IsBadAt, IsPlayed, IsTaken};
+ghost use Rattle.refutation_check.specs.inner.Bases.{AreSetsFor, IsBasisOf};
+ghost use Rattle.refutation_check.specs.inner.Checks.{IsPlayed, IsTaken};
 ghost use Rattle.refutation_check.specs.inner.Reasons.{AreWithin};
-ghost use Rattle.refutation_check.specs.inner.Sweeps.{IsCalm};
 ghost use Rattle.refutation_check.specs.inner.Trails.{Grows};
 
+use crate::bases::Basis;
 use crate::faults::RefutationFault;
 use crate::reasons::is_contradicted;
 use crate::sets::Sets;
@@ -22,56 +19,39 @@ use std::alloc::AllocError;
 
 /// Whether the opposite of the literal can't be, by its reason.
 fn is_opposite_never(
-    netlist: &Netlist,
-    fault: &Fault,
-    lemmas: &[Step],
+    basis: &Basis<'_>,
     sets: &mut Sets,
-    from: usize,
     implied: &Implied,
 ) -> Result<bool, AllocError>
-    requires sound { IsSound netlist.now }
-    requires line { IsLineOf netlist.now fault.now.line }
-    requires size { length sets.old.told ≡ length (signals netlist.now) }
-    requires lemmas { All (AreWithin (length (signals netlist.now))) (clauses lemmas.now) }
+    requires basis { IsBasisOf sets.old basis.now }
     requires within { implied.now.literal.signal < length sets.old.told }
-    requires calm { IsCalm netlist.now fault.now sets.old from }
-    requires from { from ≤ length sets.old.trail }
     ensures grows { Grows sets.old sets.new }
     ensures back { OnOk result (sets.new ≡ sets.old) }
-    ensures so { IfOk result (λ b. IsTrue b ↔ IsContradicted netlist.now fault.now (clauses lemmas.now) (narrowed sets.old.told (denied implied.now.literal)) implied.now.reason) }
+    ensures so { IfOk result (λ b. IsTrue b
+        ↔ IsContradicted basis.now.netlist.now basis.now.fault.now (clauses basis.now.lemmas.now)
+        (narrowed sets.old.told (denied implied.now.literal)) implied.now.reason) }
 {
     let depth = sets.depth();
     let denied = implied.literal.denied();
     sets.narrow(&denied)?;
-    let never = is_contradicted(netlist, fault, lemmas, sets, from, &implied.reason)?;
+    let never = is_contradicted(basis, sets, &implied.reason)?;
     sets.undo(depth);
     Ok(never)
 }
 
 /// Whether the literal is implied; then it is so.
-fn imply(
-    netlist: &Netlist,
-    fault: &Fault,
-    lemmas: &[Step],
-    sets: &mut Sets,
-    from: usize,
-    implied: &Implied,
-) -> Result<bool, AllocError>
-    requires sound { IsSound netlist.now }
-    requires line { IsLineOf netlist.now fault.now.line }
-    requires size { length sets.old.told ≡ length (signals netlist.now) }
-    requires lemmas { All (AreWithin (length (signals netlist.now))) (clauses lemmas.now) }
-    requires calm { IsCalm netlist.now fault.now sets.old from }
-    requires from { from ≤ length sets.old.trail }
+fn imply(basis: &Basis<'_>, sets: &mut Sets, implied: &Implied) -> Result<bool, AllocError>
+    requires { IsBasisOf sets.old basis.now }
     ensures grows { Grows sets.old sets.new }
     ensures so { IfOk result (λ b. MatchBool b
-        (IsImplied netlist.now fault.now (clauses lemmas.now) sets.old.told implied.now × (sets.new.told ≡ narrowed sets.old.told implied.now.literal))
-        (¬ IsImplied netlist.now fault.now (clauses lemmas.now) sets.old.told implied.now)) }
+        (IsImplied basis.now.netlist.now basis.now.fault.now (clauses basis.now.lemmas.now) sets.old.told implied.now
+        × (sets.new.told ≡ narrowed sets.old.told implied.now.literal))
+        (¬ IsImplied basis.now.netlist.now basis.now.fault.now (clauses basis.now.lemmas.now) sets.old.told implied.now)) }
 {
     if implied.literal.signal.index() >= sets.told().len() {
         return Ok(false);
     }
-    let never = is_opposite_never(netlist, fault, lemmas, sets, from, implied)?;
+    let never = is_opposite_never(basis, sets, implied)?;
     if !never {
         return Ok(false);
     }
@@ -90,26 +70,15 @@ pub(crate) enum Played {
 }
 
 /// Puts in what a move says, if it is so.
-fn play(
-    netlist: &Netlist,
-    fault: &Fault,
-    lemmas: &[Step],
-    sets: &mut Sets,
-    from: usize,
-    played: &Move,
-) -> Result<Played, AllocError>
-    requires sound { IsSound netlist.now }
-    requires line { IsLineOf netlist.now fault.now.line }
-    requires size { length sets.old.told ≡ length (signals netlist.now) }
-    requires lemmas { All (AreWithin (length (signals netlist.now))) (clauses lemmas.now) }
-    requires calm { IsCalm netlist.now fault.now sets.old from }
-    requires from { from ≤ length sets.old.trail }
+fn play(basis: &Basis<'_>, sets: &mut Sets, played: &Move) -> Result<Played, AllocError>
+    requires { IsBasisOf sets.old basis.now }
     ensures grows { Grows sets.old sets.new }
-    ensures so { IfOk result (IsPlayed netlist.now fault.now (clauses lemmas.now) sets.old.told played.now sets.new.told) }
+    ensures so { IfOk result
+        (IsPlayed basis.now.netlist.now basis.now.fault.now (clauses basis.now.lemmas.now) sets.old.told played.now sets.new.told) }
 {
     match played {
         Move::Imply(implied) => {
-            let is = imply(netlist, fault, lemmas, sets, from, implied)?;
+            let is = imply(basis, sets, implied)?;
             if is {
                 Ok(Played::On)
             } else {
@@ -117,7 +86,7 @@ fn play(
             }
         }
         Move::Sweep => {
-            let some = sweep(netlist, fault, sets, from)?;
+            let some = sweep(basis.netlist, basis.fault, sets, basis.from)?;
             if some {
                 Ok(Played::On)
             } else {
@@ -128,32 +97,21 @@ fn play(
 }
 
 /// Whether each move of the step is so, and then its last reason can't be.
-fn leads(
-    netlist: &Netlist,
-    fault: &Fault,
-    lemmas: &[Step],
-    sets: &mut Sets,
-    from: usize,
-    step: &Step,
-) -> Result<bool, AllocError>
-    requires sound { IsSound netlist.now }
-    requires line { IsLineOf netlist.now fault.now.line }
-    requires size { length sets.old.told ≡ length (signals netlist.now) }
-    requires lemmas { All (AreWithin (length (signals netlist.now))) (clauses lemmas.now) }
-    requires calm { IsCalm netlist.now fault.now sets.old from }
-    requires from { from ≤ length sets.old.trail }
+fn leads(basis: &Basis<'_>, sets: &mut Sets, step: &Step) -> Result<bool, AllocError>
+    requires { IsBasisOf sets.old basis.now }
     ensures grows { Grows sets.old sets.new }
-    ensures so { IfOk result (λ b. IsTrue b ↔ Leads netlist.now fault.now (clauses lemmas.now) sets.old.told step.now.moves step.now.last) }
+    ensures so { IfOk result (λ b. IsTrue b
+        ↔ Leads basis.now.netlist.now basis.now.fault.now (clauses basis.now.lemmas.now) sets.old.told step.now.moves step.now.last) }
 {
     let moves = step.moves();
     for k in 0..moves.len() {
-        match play(netlist, fault, lemmas, sets, from, &moves[k])? {
+        match play(basis, sets, &moves[k])? {
             Played::On => {}
             Played::Ends => return Ok(true),
             Played::Fails => return Ok(false),
         }
     }
-    is_contradicted(netlist, fault, lemmas, sets, from, step.last())
+    is_contradicted(basis, sets, step.last())
 }
 
 /// Whether each literal names a signal; then none of them is so.
@@ -174,51 +132,29 @@ fn deny(sets: &mut Sets, clause: &[Literal]) -> Result<bool, AllocError>
 }
 
 /// Whether the step holds, where the signals may have these pairs after those before it.
-fn follows(
-    netlist: &Netlist,
-    fault: &Fault,
-    lemmas: &[Step],
-    sets: &mut Sets,
-    from: usize,
-    step: &Step,
-) -> Result<bool, AllocError>
-    requires sound { IsSound netlist.now }
-    requires line { IsLineOf netlist.now fault.now.line }
-    requires size { length sets.old.told ≡ length (signals netlist.now) }
-    requires lemmas { All (AreWithin (length (signals netlist.now))) (clauses lemmas.now) }
-    requires calm { IsCalm netlist.now fault.now sets.old from }
-    requires from { from ≤ length sets.old.trail }
+fn follows(basis: &Basis<'_>, sets: &mut Sets, step: &Step) -> Result<bool, AllocError>
+    requires { IsBasisOf sets.old basis.now }
     ensures grows { Grows sets.old sets.new }
-    ensures so { IfOk result (λ b. IsTrue b ↔ StepHolds netlist.now fault.now (clauses lemmas.now) sets.old.told step.now) }
+    ensures so { IfOk result (λ b. IsTrue b
+        ↔ StepHolds basis.now.netlist.now basis.now.fault.now (clauses basis.now.lemmas.now) sets.old.told step.now) }
 {
     let within = deny(sets, step.clause())?;
     if !within {
         return Ok(false);
     }
-    leads(netlist, fault, lemmas, sets, from, step)
+    leads(basis, sets, step)
 }
 
 /// The same, and the signals may have what they might.
-fn step_holds(
-    netlist: &Netlist,
-    fault: &Fault,
-    lemmas: &[Step],
-    sets: &mut Sets,
-    from: usize,
-    step: &Step,
-) -> Result<bool, AllocError>
-    requires sound { IsSound netlist.now }
-    requires line { IsLineOf netlist.now fault.now.line }
-    requires size { length sets.old.told ≡ length (signals netlist.now) }
-    requires lemmas { All (AreWithin (length (signals netlist.now))) (clauses lemmas.now) }
-    requires calm { IsCalm netlist.now fault.now sets.old from }
-    requires from { from ≤ length sets.old.trail }
+fn step_holds(basis: &Basis<'_>, sets: &mut Sets, step: &Step) -> Result<bool, AllocError>
+    requires { IsBasisOf sets.old basis.now }
     ensures grows { Grows sets.old sets.new }
     ensures back { OnOk result (sets.new ≡ sets.old) }
-    ensures so { IfOk result (λ b. IsTrue b ↔ StepHolds netlist.now fault.now (clauses lemmas.now) sets.old.told step.now) }
+    ensures so { IfOk result (λ b. IsTrue b
+        ↔ StepHolds basis.now.netlist.now basis.now.fault.now (clauses basis.now.lemmas.now) sets.old.told step.now) }
 {
     let depth = sets.depth();
-    let holds = follows(netlist, fault, lemmas, sets, from, step)?;
+    let holds = follows(basis, sets, step)?;
     sets.undo(depth);
     Ok(holds)
 }
@@ -246,27 +182,15 @@ fn ends_empty(steps: &[Step]) -> bool
     steps[count - 1].clause().is_empty()
 }
 
-/// Whether step k holds after those before it; then its clause is known.
-fn take_step(
-    netlist: &Netlist,
-    fault: &Fault,
-    sets: &mut Sets,
-    from: usize,
-    steps: &[Step],
-    k: usize,
-) -> Result<bool, AllocError>
-    requires sound { IsSound netlist.now }
-    requires line { IsLineOf netlist.now fault.now.line }
-    requires size { length sets.old.told ≡ length (signals netlist.now) }
-    requires lemmas { All (AreWithin (length (signals netlist.now))) (clauses (take k steps.now)) }
-    requires there { k < length steps.now }
-    requires calm { IsCalm netlist.now fault.now sets.old from }
-    requires from { from ≤ length sets.old.trail }
+/// Whether the step holds after those before it; then its clause is known.
+fn take_step(basis: &Basis<'_>, sets: &mut Sets, step: &Step) -> Result<bool, AllocError>
+    requires { IsBasisOf sets.old basis.now }
     ensures grows { Grows sets.old sets.new }
-    ensures so { IfOk result (λ b. MatchBool b (IsTaken netlist.now fault.now steps.now k sets.old.told sets.new.told) (IsBadAt netlist.now fault.now steps.now k sets.old.told)) }
+    ensures so { IfOk result (λ b. MatchBool b
+        (IsTaken basis.now.netlist.now basis.now.fault.now (clauses basis.now.lemmas.now) step.now sets.old.told sets.new.told)
+        (¬ StepHolds basis.now.netlist.now basis.now.fault.now (clauses basis.now.lemmas.now) sets.old.told step.now)) }
 {
-    let step = &steps[k];
-    let holds = step_holds(netlist, fault, &steps[..k], sets, from, step)?;
+    let holds = step_holds(basis, sets, step)?;
     if !holds {
         return Ok(false);
     }
@@ -282,17 +206,19 @@ pub(crate) fn check_steps(
     from: usize,
     steps: &[Step],
 ) -> Result<(), RefutationFault>
-    requires sound { IsSound netlist.now }
-    requires line { IsLineOf netlist.now fault.now.line }
-    requires size { length sets.old.told ≡ length (signals netlist.now) }
-    requires calm { IsCalm netlist.now fault.now sets.old from }
-    requires from { from ≤ length sets.old.trail }
+    requires { AreSetsFor netlist.now fault.now from sets.old }
     ensures grows { Grows sets.old sets.new }
     ensures answer { MatchResult result (λ _. AllHold netlist.now fault.now sets.old.told steps.now × EndsEmpty steps.now)
         (AreRefused netlist.now fault.now sets.old.told steps.now) }
 {
     for k in 0..steps.len() {
-        let Ok(holds) = take_step(netlist, fault, sets, from, steps, k) else {
+        let basis = Basis {
+            netlist,
+            fault,
+            lemmas: &steps[..k],
+            from,
+        };
+        let Ok(holds) = take_step(&basis, sets, &steps[k]) else {
             return Err(RefutationFault::NoMemory);
         };
         if !holds {

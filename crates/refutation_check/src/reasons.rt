@@ -1,20 +1,17 @@
 //! Whether a reason can't be, where the signals may have these pairs.
-ghost use Rattle.std.specs.Prelude.{◌≡◌, ◌<◌, ◌≤◌, ◌↔◌, length, IfOk, IsTrue, OnOk};
+ghost use Rattle.std.specs.Prelude.{◌≡◌, ◌<◌, ◌↔◌, length, IfOk, IsTrue, OnOk};
 ghost use Rattle.std.specs.List.{All};
-ghost use Rattle.netlist.specs.Conditions.{IsSound};
-ghost use Rattle.netlist.specs.Lines.{IsLineOf};
-ghost use Rattle.statement.specs.Netlists.{signals};
 ghost use Rattle.refutation.specs.Refutations.{IsContradicted, IsLemmaBlocked, IsNever, IsNoneSo, clauses};
+ghost use Rattle.refutation_check.specs.inner.Bases.{IsBasisOf};
 ghost use Rattle.refutation_check.specs.inner.Reasons.{AreWithin};
-ghost use Rattle.refutation_check.specs.inner.Sweeps.{IsCalm};
 ghost use Rattle.refutation_check.specs.inner.Trails.{Grows};
 
+use crate::bases::Basis;
 use crate::gates::is_gate_blocked;
 use crate::images::told_at;
 use crate::pair_sets::is_apart;
 use crate::sets::Sets;
 use crate::sweeps::leaves_nothing;
-use netlist::{Fault, Netlist};
 use refutation::{Literal, Pairs, Reason, Step};
 use std::alloc::AllocError;
 
@@ -54,27 +51,22 @@ fn is_lemma_blocked(lemmas: &[Step], told: &[Pairs], k: u32) -> bool
 
 /// Whether the reason can't be.
 pub(crate) fn is_contradicted(
-    netlist: &Netlist,
-    fault: &Fault,
-    lemmas: &[Step],
+    basis: &Basis<'_>,
     sets: &mut Sets,
-    from: usize,
     reason: &Reason,
 ) -> Result<bool, AllocError>
-    requires sound { IsSound netlist.now }
-    requires line { IsLineOf netlist.now fault.now.line }
-    requires size { length sets.old.told ≡ length (signals netlist.now) }
-    requires within { All (AreWithin (length sets.old.told)) (clauses lemmas.now) }
-    requires calm { IsCalm netlist.now fault.now sets.old from }
-    requires from { from ≤ length sets.old.trail }
+    requires { IsBasisOf sets.old basis.now }
     ensures grows { Grows sets.old sets.new }
     ensures same { OnOk result (sets.new ≡ sets.old) }
-    ensures so { IfOk result (λ b. IsTrue b ↔ IsContradicted netlist.now fault.now (clauses lemmas.now) sets.old.told reason.now) }
+    ensures so { IfOk result (λ b. IsTrue b
+        ↔ IsContradicted basis.now.netlist.now basis.now.fault.now (clauses basis.now.lemmas.now) sets.old.told reason.now) }
 {
+    let netlist = basis.netlist;
+    let fault = basis.fault;
     match reason {
         Reason::Gate(id) => Ok(is_gate_blocked(netlist, fault, sets.told(), *id)),
-        Reason::Lemma(k) => Ok(is_lemma_blocked(lemmas, sets.told(), *k)),
+        Reason::Lemma(k) => Ok(is_lemma_blocked(basis.lemmas, sets.told(), *k)),
         Reason::Way => sets.is_no_way(netlist, fault),
-        Reason::Gates => leaves_nothing(netlist, fault, sets, from),
+        Reason::Gates => leaves_nothing(netlist, fault, sets, basis.from),
     }
 }

@@ -2,10 +2,10 @@ use Rattle.std.proofs.Common.{◌≡◌, ◌∙◌, List, ap, arith, length, sub
 use Rattle.std.specs.List.{All}
 use Rattle.statement.specs.declared.lines.Fault.{Fault}
 use Rattle.statement.specs.Netlists.{Netlist}
-use Rattle.redundancy_cert.specs.declared.nodes.Node.{Node}
+use Rattle.evidence.specs.declared.kinds.Evidence.{Evidence}
 use Rattle.redundancy_cert.specs.Checking.{Checking}
 use Rattle.certificate.specs.Certificates.{IsEvidence}
-use Rattle.file_check.specs.inner.Findings.{IsCheckerOf, IsEnds}
+use Rattle.file_check.specs.inner.Findings.{AreCheckersOf, IsEnds}
 use Rattle.file_check.specs.inner.Trials.{test_of}
 use Rattle.file_check.proofs.FindingLemmas.{all_of_them, ends_so, in_universe, one_more, represented}
 use Rattle.file_check.proofs.findings.all_ends.Goals as goal
@@ -13,7 +13,7 @@ use Rattle.file_check.proofs.findings.all_ends.Goals as goal
 pub of-requires : goal.of-requires
 of-requires c =
     subst (λ (n : Netlist). All (IsEvidence n) c.deref.result.now) (sym c.netlist.ensures)
-    (subst (λ (trees : List (Fault × List Node)). All (IsEvidence c.args.trial.now.core) trees) (sym c.deref.ensures.value) c.requires.trial.evidence)
+    (subst (λ (evidence : List (Fault × Evidence)). All (IsEvidence c.args.trial.now.core) evidence) (sym c.deref.ensures.value) c.requires.trial.evidence)
 
 pub ends_of_class-requires-clause-member : goal.ends_of_class-requires-clause-member
 ends_of_class-requires-clause-member c =
@@ -26,7 +26,7 @@ loop-class-preserved c =
     let at = represented c.args.classes.now c.representatives-fault-items.result.now c.loop-class.class c.fault-item.result c.representatives-fault-items.ensures c.loop-class-test.true c.fault-item.is in (
       one_more (IsEnds t) c.args.classes.now c.loop-class.class c.in_ok-one.one c.loop-class.ends.items c.push.new.self.items
           (ends_so t c.args.classes.now c.loop-class.class c.fault-item.result c.in_ok-one.one at c.in_ok-one.ensures.ends) c.in_ok-push.ensures.items c.loop-class.invariant.0,
-      subst (λ (k : Checking). IsCheckerOf c.args.trial.now k) (sym c.in_ok-one.ensures.same) c.loop-class.invariant.1,
+      subst (λ (k : Checking). AreCheckersOf c.args.trial.now k) (sym c.in_ok-one.ensures.same) c.loop-class.invariant.1,
     )
 
 pub returns : goal.returns

@@ -1,12 +1,11 @@
 use Rattle.std.proofs.Common.{refl, sym}
+use Rattle.refutation_check.proofs.BaseLemmas.{basis_stays}
 use Rattle.refutation_check.proofs.CheckLemmas.{grows_to}
-use Rattle.refutation_check.proofs.LookLemmas.{calm_grows}
 use Rattle.refutation_check.proofs.TrailLemmas.{grows_then}
 use Rattle.refutation_check.proofs.checks.is_opposite_never.Goals as goal
 
-pub is_contradicted-requires-clause-calm : goal.is_contradicted-requires-clause-calm
-is_contradicted-requires-clause-calm c =
-    calm_grows c.args.netlist.now c.args.fault.now c.args.sets.now c.narrow.new.self c.args.from c.in_ok-narrow.ensures.grows c.requires.from c.requires.calm
+pub is_contradicted-requires : goal.is_contradicted-requires
+is_contradicted-requires c = basis_stays c.args.basis.now c.args.sets.now c.narrow.new.self c.in_ok-narrow.ensures.grows c.requires.basis
 
 pub returns-in_err-never-clause-grows : goal.returns-in_err-never-clause-grows
 returns-in_err-never-clause-grows c = grows_then c.args.sets.now c.narrow.new.self c.is_contradicted.new.sets c.in_ok-narrow.ensures.grows c.in_err-never.ensures.grows

@@ -8,9 +8,9 @@ use Rattle.refutation_check.proofs.checks.play.Goals as goal
 
 pub returns-then-some-clause-so : goal.returns-then-some-clause-so
 returns-then-some-clause-so c =
-    let n = c.args.netlist.now in
-    let f = c.args.fault.now in
-    let lemmas = clauses c.args.lemmas.now in
+    let n = c.args.basis.now.netlist.now in
+    let f = c.args.basis.now.fault.now in
+    let lemmas = clauses c.args.basis.now.lemmas.now in
     let told = c.args.sets.now.told in
     let new = c.sweep.new.sets.told in
     subst (λ (m : Move). IsPlayed n f lemmas told m new On) (sym c.in-Sweep.is)
