@@ -1,6 +1,6 @@
 -- The commands: for each command line what is due of the texts that it reads. Which files it reads and writes, `command_line` says.
 -- A command to come is an entry here and there.
-use Rattle.std.specs.Prelude.{◌≡◌, ℕ, List, [], ◌∷◌, Option}
+use Rattle.std.specs.Prelude.{◌≡◌, ℕ, false, List, [], ◌∷◌, Option}
 use Rattle.statement.specs.Benches.{Text}
 use Rattle.net_gen.specs.Samples.{sample, words_from_seed}
 use Rattle.bench_text.specs.declared.refusal.Names.TheVariants.{Design, Scanned}
@@ -47,10 +47,10 @@ play_due fault (net ∷ stil ∷ []) =
     (answer : Played) × IsPlay n f (vectors_in file) answer × (d ≡ Deliver [] (played_line n answer) (played_finding answer))
 play_due fault texts = λ d. ⊥
 
--- the five texts of a run, and the line with the report's numbers
+-- the five texts of a run, whose certificate has trees alone, and the line with the report's numbers
 abbrev pub run_due : RunOptions → List HoldItem → List Text → Due Refusal → Type 0
 run_due options named = design_due (λ n. named_holds n named >>= λ holds d.
-    (made : RunFiles) × IsRun n holds options.chains options.limit made × (d ≡ Deliver (texts_made made) (tests_line made.said.counts) Fine))
+    (made : RunFiles) × IsRun n holds options.chains options.limit false made × (d ≡ Deliver (texts_made made) (tests_line made.said.counts) Fine))
 
 -- the five texts of a design's slow lines, and the line with the report's numbers
 abbrev pub transition_due : RunOptions → List Text → Due Refusal → Type 0

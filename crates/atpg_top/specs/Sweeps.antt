@@ -1,5 +1,5 @@
 -- What `sweep` makes of a sample netlist, and says of it.
-use Rattle.std.specs.Prelude.{ℕ, ◌++◌, codes, decimal, None}
+use Rattle.std.specs.Prelude.{ℕ, ◌++◌, codes, decimal, None, false}
 use Rattle.statement.specs.Benches.{Text}
 use Rattle.statement.specs.Netlists.{Netlist}
 use Rattle.netlist.specs.Holds.{none_held}
@@ -24,7 +24,7 @@ sweep_limit = 100
 
 -- a run in one chain, with at most a hundred closed ends a search, no input being held
 abbrev pub IsSweepRun : Netlist → RunFiles → Type 0
-IsSweepRun n made = IsRun n (none_held n) sweep_chains sweep_limit made
+IsSweepRun n made = IsRun n (none_held n) sweep_chains sweep_limit false made
 
 -- The text of a test, read back and played on the scanned netlist, passes.
 pub record IsPlayedBack (n : Netlist) (stil : Text) : Type 0 where

@@ -1,5 +1,5 @@
 //! `run`: the five files of a file's netlist.
-ghost use Rattle.std.specs.Prelude.{◌≡◌, ◌≤◌, ◌∷◌, [], IfOk, length, map};
+ghost use Rattle.std.specs.Prelude.{◌≡◌, ◌≤◌, ◌∷◌, [], IfOk, false, length, map};
 ghost use Rattle.std.specs.List.{All};
 ghost use Rattle.netlist.specs.Designs.{IsDesign};
 ghost use Rattle.netlist.specs.Holds.{AreHoldsOf};
@@ -63,7 +63,7 @@ fn made_by<R: Threads + Wait + Sync, E: Engine + Sync, G: Gate + Sync>(
     requires design { IsDesign core.now }
     requires range { AreInRange options }
     requires held { AreHoldsOf core.now holds.now }
-    ensures { IfOk result (IsRun core.now holds.now options.chains options.limit) }
+    ensures { IfOk result (IsRun core.now holds.now options.chains options.limit E.refutes) }
 {
     let plan = RunPlan {
         chains: options.chains,
@@ -86,7 +86,7 @@ pub(crate) fn made_of<R: Threads + Wait + Sync, G: Gate + Sync>(
     requires design { IsDesign core.now }
     requires range { AreInRange options }
     requires held { AreHoldsOf core.now holds.now }
-    ensures { IfOk result (IsRun core.now holds.now options.chains options.limit) }
+    ensures { IfOk result (IsRun core.now holds.now options.chains options.limit false) }
 {
     match options.engine {
         EngineName::Podem => {

@@ -1,5 +1,5 @@
 //! `transition`: the five files of the slow lines of a file's netlist.
-ghost use Rattle.std.specs.Prelude.{◌≡◌, ◌≤◌, ◌∷◌, [], IfOk, length};
+ghost use Rattle.std.specs.Prelude.{◌≡◌, ◌≤◌, ◌∷◌, [], IfOk, false, length};
 ghost use Rattle.std.specs.List.{All};
 ghost use Rattle.netlist.specs.Designs.{IsDesign};
 ghost use Rattle.commands.specs.Contents.{most_bytes};
@@ -78,6 +78,7 @@ fn made_by<R: Threads + Sync, E: Engine + Sync, G: Gate + Sync>(
 ) -> Result<TransitionFiles, NoMemory>
     requires design { IsDesign core.now }
     requires range { AreInRange options }
+    requires kind { E.refutes ≡ false }
     ensures { IfOk result (IsTransitionRun core.now options.chains options.limit) }
 {
     let plan = TransitionPlan {

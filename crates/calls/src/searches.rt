@@ -1,8 +1,9 @@
 //! Searches for a test of a fault.
 ghost use Rattle.std.specs.Prelude.{◌≤◌};
 ghost use Rattle.netlist.specs.Holds.{AreHoldsOf};
+ghost use Rattle.netlist.specs.Lines.{IsLineOf};
 
-use crate::names::stuck;
+use crate::faults::listed;
 use case_nets::holds_of;
 use case_text::{Pushed, cut, small};
 use evidence::{Engine, Found};
@@ -15,6 +16,7 @@ fn word_of(found: Result<Found, NoMemory>) -> Result<&'static str, AllocError> {
     match found {
         Ok(Found::Test(_, _)) => Ok("test\n"),
         Ok(Found::Closed(_)) => Ok("closed\n"),
+        Ok(Found::Refuted(_)) => Ok("refuted\n"),
         Ok(Found::Partial(_)) => Ok("partial\n"),
         Err(_) => Err(AllocError),
     }
@@ -36,6 +38,7 @@ fn found_by(
 ) -> Result<Found, NoMemory>
     requires limit { 1 ≤ limit }
     requires holds { AreHoldsOf core.now holds.now }
+    requires line { IsLineOf core.now fault.line }
 {
     match by {
         By::Podem => Podem::of(alloc, core)?.search(alloc, core, fault, limit, holds),
@@ -48,7 +51,7 @@ pub fn push_search(to: &mut Vec<u8>, alloc: Global, core: &Core, rest: &str, by:
     let (held, rest) = cut(rest);
     let (limit, fault) = cut(rest);
     let holds = holds_of(alloc, core, held)?;
-    let Some(fault) = stuck(core.netlist(), fault) else {
+    let Some(fault) = listed(core.netlist(), fault) else {
         return to.extend_from_slice(b"no fault\n");
     };
     let found = found_by(by, alloc, core, fault, small(limit).max(1), &holds);

@@ -63,6 +63,7 @@ fn short_attempt(
     match search_from(alloc, roled, guide, labels, wants, few)? {
         Found::Test(cube, point) => Ok(Some(Found::Test(cube, point))),
         Found::Closed(tree) => Ok(Some(Found::Closed(tree))),
+        Found::Refuted(_) => unreachable!(),
         Found::Partial(_) => {
             labels.undo_all();
             Ok(None)
@@ -116,6 +117,7 @@ impl Fan {
 }
 
 impl Engine for Fan {
+    ghost use Rattle.std.specs.Prelude.{false};
     ghost use Rattle.statement.specs.Netlists.{Netlist};
     ghost use Rattle.statement.specs.Patterns.{Holds};
     ghost use Rattle.fan.specs.Trees.{HasEvidenceOnPlaces};
@@ -129,6 +131,8 @@ impl Engine for Fan {
     // Splits decide places alone, and Forced bound signals and head lines alone: no Partial for a limit of 2 to the number of places or more, and no
     // Open where the condition for a test is met.
     ghost keeps_rule = { HasEvidenceOnPlaces };
+
+    ghost refutes = { false };
 
     fn search(
         &self,

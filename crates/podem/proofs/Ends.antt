@@ -11,7 +11,7 @@ use Rattle.statement.specs.Patterns.{Holds}
 use Rattle.statement.specs.declared.lines.Line.TheVariants.{Stem}
 use Rattle.statement.specs.Netlists.{Definition, Netlist, is_cell, cells, gates, signals}
 use Rattle.netlist.specs.Conditions.{IsSound}
-use Rattle.statement.specs.Values.{outs, next, known}
+use Rattle.statement.specs.Values.{outs, next}
 use Rattle.netlist.proofs.Acyclic.{everywhere}
 use Rattle.netlist.proofs.Lists.{All-from_contains, contains_filter}
 use Rattle.tri.specs.declared.labels.Label.{Label}

@@ -4,3 +4,4 @@ pub mod Tests
 pub mod Turns
 pub mod Steps
 pub mod Values
+pub mod Bits

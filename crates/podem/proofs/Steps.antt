@@ -1,5 +1,5 @@
 -- What a turn decides, and that something is left to decide.
-use Rattle.std.proofs.Common.{◌≡◌, ℕ, ◌+◌, Bool, true, false, not, cond, map, List, [], ◌∷◌, Some, eqb, refl, sym, ◌∙◌, ap, subst, arith}
+use Rattle.std.proofs.Common.{◌≡◌, ℕ, ◌+◌, Bool, true, false, cond, map, List, [], ◌∷◌, Some, eqb, refl, sym, ◌∙◌, ap, subst, arith}
 use Rattle.std.proofs.lemmas.Bool.{eqb-true}
 use Rattle.std.specs.Option.{is_none}
 use Rattle.std.specs.List.{All, Contains}
@@ -25,7 +25,7 @@ use Rattle.podem.proofs.Turns.{going_open, only_sources, none_only, known_decide
 use Rattle.podem.proofs.Ends.{not_going}
 use Rattle.podem.proofs.Owns.{source_signal, any_source, free_is_source}
 
-one_more_source : (n : Netlist) (holds : Holds) (x : ℕ) (b : Bool) (p : Path) → OnSources n holds p → Contains (sources n holds) x → OnSources n holds ((x, b) ∷ p)
+pub one_more_source : (n : Netlist) (holds : Holds) (x : ℕ) (b : Bool) (p : Path) → OnSources n holds p → Contains (sources n holds) x → OnSources n holds ((x, b) ∷ p)
 one_more_source n holds x b p h k y c e =
     let step : (t : Bool) → eqb y x ≡ t → cond t (Some b) (decisions p y) ≡ Some c → Contains (sources n holds) y =
     elim [

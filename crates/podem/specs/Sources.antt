@@ -11,7 +11,7 @@ use Rattle.cubes.specs.Cubes.{Cube}
 use Rattle.redundancy_cert.specs.declared.nodes.Node.{Node}
 use Rattle.redundancy_cert.specs.declared.nodes.Node.TheVariants.{Closed, Open, Split, Forced}
 use Rattle.evidence.specs.declared.engine.Found.{Found}
-use Rattle.evidence.specs.declared.engine.Found.TheVariants.{Test, Closed as Complete, Partial}
+use Rattle.evidence.specs.declared.engine.Found.TheVariants.{Test, Closed as Complete, Refuted, Partial}
 use Rattle.redundancy_cert.specs.Trees.{Place}
 use Rattle.redundancy_cert.specs.Fits.{NodeFits}
 use Rattle.redundancy_cert.specs.Stacks.{StandsBelow}
@@ -49,8 +49,9 @@ PlaceInSources f n holds p = StandsInSources f n holds p.path p.node
 abbrev pub IsSourceTree : Fault → Netlist → Holds → List Node → Type 0
 IsSourceTree f n holds nodes = StandsBelow (PlaceInSources f n holds) [] nodes
 
--- what more a search on sources answers: such trees, and Partial only with a backtrack limit below 2 to the number of sources
+-- what more a search on sources answers: such trees, no refutation, and Partial only with a backtrack limit below 2 to the number of sources
 abbrev pub HasSourceEvidence : Fault → Netlist → Holds → ℕ → Found → Type 0
 HasSourceEvidence f n holds limit (Test cube point) = Unit {0}
 HasSourceEvidence f n holds limit (Complete tree) = IsSourceTree f n holds tree
+HasSourceEvidence f n holds limit (Refuted steps) = ⊥
 HasSourceEvidence f n holds limit (Partial tree) = IsSourceTree f n holds tree × (limit < 2 ^ length (sources n holds))

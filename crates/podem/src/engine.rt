@@ -20,8 +20,8 @@ pub struct Podem {
 /// What a search leaves to the next one: its labels, and the room of the signals with an effect.
 #[derive(Drop)]
 pub struct PodemRoom {
-    labels: SimRoom,
-    effects: Effects,
+    pub(crate) labels: SimRoom,
+    pub(crate) effects: Effects,
 }
 
 /// As many Closed an attempt may take before the search begins anew.
@@ -49,6 +49,7 @@ fn short_attempt(
     match search_from(alloc, case, guide, labels, FEW)? {
         Found::Test(cube, point) => Ok(Some(Found::Test(cube, point))),
         Found::Closed(tree) => Ok(Some(Found::Closed(tree))),
+        Found::Refuted(_) => unreachable!(),
         Found::Partial(_) => {
             labels.undo_all();
             Ok(None)
@@ -96,6 +97,7 @@ impl Podem {
 }
 
 impl Engine for Podem {
+    ghost use Rattle.std.specs.Prelude.{false};
     ghost use Rattle.podem.specs.Rooms.{IsReusablePodemRoom};
     ghost use Rattle.podem.specs.Sources.{HasSourceEvidence};
 
@@ -106,6 +108,8 @@ impl Engine for Podem {
     // Only inputs that aren't held and cells are decided: no Partial for a backtrack limit of 2 to their number or more, and no Open where there is a
     // test.
     ghost keeps_rule = { HasSourceEvidence };
+
+    ghost refutes = { false };
 
     fn search(
         &self,

@@ -99,7 +99,7 @@ fn is_source(core: &Core, signal: SignalId) -> bool
 }
 
 /// This signal, if it is an input or a cell and is X.
-fn wanted_source(core: &Core, labels: &PairSim, wanted: SignalId) -> Option<SignalId>
+pub(crate) fn wanted_source(core: &Core, labels: &PairSim, wanted: SignalId) -> Option<SignalId>
     requires { labels.now.netlist ≡ core.now }
     ensures { IfSome result (λ x. Contains (all_sources core.now) x × HasGood labels.now x X) }
 {
@@ -225,7 +225,7 @@ fn source_values(
 }
 
 /// The cube of a test.
-fn cube_there(
+pub(crate) fn cube_there(
     alloc: Global,
     case: &Case,
     labels: &PairSim,

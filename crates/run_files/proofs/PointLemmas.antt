@@ -1,7 +1,7 @@
--- The points of verdicts are those of the netlist, and their trees are evidence, named by signals of it.
-use Rattle.std.proofs.Common.{◌≡◌, ℕ, zero, suc, ◌<◌, List, [], ◌∷◌, length, get_or, Some, refl, sym, ◌∙◌, ap, subst, arith, false}
+-- The points of verdicts are those of the netlist, and their evidence is a certificate's, named by signals of it.
+use Rattle.std.proofs.Common.{◌≡◌, ℕ, zero, suc, ◌<◌, List, [], ◌∷◌, length, get_or, Some, Bool, refl, sym, ◌∙◌, ap, subst, arith, false}
 use Rattle.std.specs.List.{All, Contains, slice_get}
-use Rattle.std.proofs.lemmas.List.Elements.{All-append, All-nil, All-cons, All-from_get_or, All-weaker}
+use Rattle.std.proofs.lemmas.List.Elements.{All-append, All-contains, All-head, All-tail, All-nil, All-cons, All-from_get_or}
 use Rattle.std.proofs.lemmas.Option.{slice_get-get_or, slice_get_within}
 use Rattle.netlist.proofs.Lists.{All-from_contains}
 use Rattle.statement.specs.declared.lines.Line.TheVariants.{Stem}
@@ -15,8 +15,10 @@ use Rattle.fault_universe.proofs.Elements.{contains_at}
 use Rattle.statement.specs.Faults.{universe_of}
 use Rattle.fault_collapse.specs.Classes.{AreClasses}
 use Rattle.fault_collapse.specs.Numbers.{Classes}
-use Rattle.redundancy_cert.specs.declared.nodes.Node.{Node}
-use Rattle.certificate.specs.Certificates.{IsEvidence, IsNamed}
+use Rattle.evidence.specs.declared.kinds.Evidence.{Evidence}
+use Rattle.evidence.specs.declared.kinds.Evidence.TheVariants.{Tree, Refutation}
+use Rattle.evidence.specs.Evidence.{MayBe, Shows}
+use Rattle.certificate.specs.Certificates.{HasSignals, HasSmallNumbers, IsEvidence, IsNamed, IsWellFormed}
 use Rattle.run_report.proofs.PointLemmas.{point_inside}
 use Rattle.list_core.specs.declared.verdicts.Verdict.{Verdict}
 use Rattle.list_core.specs.declared.verdicts.Verdict.TheVariants.{Open, Detected, Redundant, Aborted}
@@ -24,7 +26,7 @@ use Rattle.list_core.specs.Verdicts.{verdict_at}
 use Rattle.report.specs.Reports.{IsLine}
 use Rattle.statement.specs.Reports.{Line}
 use Rattle.run_files.specs.inner.Outcomes.{AreLines}
-use Rattle.run_files.specs.inner.Verdicts.{AreVerdicts, IsInside, IsVerdict, leaf_at, leaves_of}
+use Rattle.run_files.specs.inner.Verdicts.{AreVerdicts, IsInside, IsVerdict, MayHave, leaf_at, leaves_of}
 use Rattle.run_files.proofs.TreeLemmas.{fitting_named}
 
 -- ---- points
@@ -32,7 +34,7 @@ use Rattle.run_files.proofs.TreeLemmas.{fitting_named}
 inside : (n : Netlist) → IsSound n → (holds : Holds) (limit : ℕ) (patterns : List Pattern) (f : Fault) (v : Verdict) → IsVerdict n holds limit patterns f v → IsInside n v
 inside n sound holds limit patterns f Open is = is
 inside n sound holds limit patterns f (Detected place point) is = point_inside n sound f is.here.pattern.inputs is.here.pattern.cells point is.here.detects
-inside n sound holds limit patterns f (Redundant tree) is = tt
+inside n sound holds limit patterns f (Redundant e) is = tt
 inside n sound holds limit patterns f (Aborted tree) is = tt
 
 blank : Fault
@@ -56,46 +58,79 @@ all_sound n chains numbers verdicts lines all = All-from_contains IsLine lines (
     let same : w.0 ≡ line = cc in
     subst IsLine same w.2.sound)
 
--- ---- trees
+-- ---- evidence
 
-leaf_evident : (n : Netlist) → IsSound n → (holds : Holds) (limit : ℕ) (patterns : List Pattern) (f : Fault) (v : Verdict) → Contains (universe_of n) f
-    → IsVerdict n holds limit patterns f v → All (IsEvidence n) (leaf_at f v)
-leaf_evident n sound holds limit patterns f Open here is = absurd is
-leaf_evident n sound holds limit patterns f (Detected place point) here is = All-nil (IsEvidence n)
-leaf_evident n sound holds limit patterns f (Redundant tree) here is =
-    All-cons (IsEvidence n) (f, tree) [] (record { fault = here; nodes = fitting_named f n holds sound tree is.1; tree = (is.1.0, is.1.1) }) (All-nil (IsEvidence n))
-leaf_evident n sound holds limit patterns f (Aborted tree) here is =
-    All-cons (IsEvidence n) (f, tree) [] (record { fault = here; nodes = fitting_named f n holds sound tree is.1; tree = (is.1.0, is.1.1) }) (All-nil (IsEvidence n))
+leaf_all : (P : Fault × Evidence → Type 0) (n : Netlist) (holds : Holds) (limit : ℕ) (patterns : List Pattern) (f : Fault) (v : Verdict)
+    → IsVerdict n holds limit patterns f v → ((e : Evidence) → Shows f n holds e → P (f, e)) → All P (leaf_at f v)
+leaf_all P n holds limit patterns f Open is each = absurd is
+leaf_all P n holds limit patterns f (Detected place point) is each = All-nil P
+leaf_all P n holds limit patterns f (Redundant e) is each = All-cons P (f, e) [] (each e is.1) (All-nil P)
+leaf_all P n holds limit patterns f (Aborted tree) is each = All-cons P (f, Tree tree) [] (each (Tree tree) is.1) (All-nil P)
 
-leaves_evident : (n : Netlist) → IsSound n → (holds : Holds) (limit : ℕ) (patterns : List Pattern) (fs : List Fault) (vs : List Verdict) → length vs ≡ length fs
-    → ((class : ℕ) (f : Fault) → slice_get fs class ≡ Some f → Contains (universe_of n) f × IsVerdict n holds limit patterns f (verdict_at vs class))
-    → All (IsEvidence n) (leaves_of fs vs)
-leaves_evident n sound holds limit patterns [] vs size each = All-nil (IsEvidence n)
-leaves_evident n sound holds limit patterns (f ∷ fs) [] size each = absurd (omega arith)
-leaves_evident n sound holds limit patterns (f ∷ fs) (v ∷ vs) size each =
+leaves_all : (P : Fault × Evidence → Type 0) (n : Netlist) (holds : Holds) (limit : ℕ) (patterns : List Pattern) (fs : List Fault) (vs : List Verdict) → length vs ≡ length fs
+    → ((class : ℕ) (f : Fault) → slice_get fs class ≡ Some f → IsVerdict n holds limit patterns f (verdict_at vs class) × ((e : Evidence) → Shows f n holds e → P (f, e)))
+    → All P (leaves_of fs vs)
+leaves_all P n holds limit patterns [] vs size each = All-nil P
+leaves_all P n holds limit patterns (f ∷ fs) [] size each = absurd (omega arith)
+leaves_all P n holds limit patterns (f ∷ fs) (v ∷ vs) size each =
     let here = each zero f refl in
-    All-append (IsEvidence n) (leaf_at f v) (leaves_of fs vs) (leaf_evident n sound holds limit patterns f v here.0 here.1)
-    (leaves_evident n sound holds limit patterns fs vs (omega arith) (λ class g at. each (suc class) g at))
+    All-append P (leaf_at f v) (leaves_of fs vs) (leaf_all P n holds limit patterns f v here.0 here.1)
+    (leaves_all P n holds limit patterns fs vs (omega arith) (λ class g at. each (suc class) g at))
 
--- the trees of verdicts are evidence, each of a fault of the netlist
-pub all_evident : (n : Netlist) → IsSound n → (holds : Holds) (classes : Classes) → AreClasses n classes → (limit : ℕ) (patterns : List Pattern) (verdicts : List Verdict)
-    → AreVerdicts n holds classes limit patterns verdicts → All (IsEvidence n) (leaves_of classes.representatives verdicts)
-all_evident n sound holds classes are limit patterns verdicts found =
-    leaves_evident n sound holds limit patterns classes.representatives verdicts found.count (λ class f at.
-    let first = are.first class (slice_get_within classes.representatives class f at) in
-    (contains_at (universe_of n) first.place f (first.representative f at), found.each class f at))
+module _ (n : Netlist) (sound : IsSound n) (holds : Holds) (classes : Classes) (are : AreClasses n classes) (limit : ℕ) (patterns : List Pattern) (verdicts : List Verdict)
+    (found : AreVerdicts n holds classes limit patterns verdicts) where
+  -- what is so of the evidence of each fault of the netlist is so of that of verdicts
+  all_leaves : (P : Fault × Evidence → Type 0) → ((f : Fault) → Contains (universe_of n) f → (e : Evidence) → Shows f n holds e → P (f, e))
+      → All P (leaves_of classes.representatives verdicts)
+  all_leaves P each =
+      leaves_all P n holds limit patterns classes.representatives verdicts found.count (λ class f at.
+      let first = are.first class (slice_get_within classes.representatives class f at) in
+      (found.each class f at, each f (contains_at (universe_of n) first.place f (first.representative f at))))
 
-named_by : FaultsHaveSignals → (n : Netlist) → IsSound n → (p : Fault × List Node) → IsEvidence n p → IsNamed n p
-named_by law n sound p is =
-    let here = is.fault in
-    let at = slice_get-get_or (universe_of n) here.0 p.0 here.1 ∙ ap (λ (f : Fault). Some f) here.2 in
-    record { fault = law n here.0 p.0 sound at; nodes = is.nodes }
+  signals_of : (f : Fault) (e : Evidence) → Shows f n holds e → HasSignals n e
+  signals_of f (Tree nodes) shows = fitting_named f n holds sound nodes shows
+  signals_of f (Refutation steps) shows = tt
 
-pub all_named : FaultsHaveSignals → (n : Netlist) → IsSound n → (holds : Holds) (classes : Classes) → AreClasses n classes → (limit : ℕ) (patterns : List Pattern) (verdicts : List Verdict)
-    → AreVerdicts n holds classes limit patterns verdicts → All (IsNamed n) (leaves_of classes.representatives verdicts)
-all_named law n sound holds classes are limit patterns verdicts found =
-    All-weaker (IsEvidence n) (IsNamed n) (named_by law n sound) (leaves_of classes.representatives verdicts)
-    (all_evident n sound holds classes are limit patterns verdicts found)
+  formed_of : (f : Fault) (e : Evidence) → Shows f n holds e → HasSmallNumbers e → IsWellFormed n e
+  formed_of f (Tree nodes) shows small = (fitting_named f n holds sound nodes shows, (shows.0, shows.1))
+  formed_of f (Refutation steps) shows small = small
+
+  pub all_named : FaultsHaveSignals → All (IsNamed n) (leaves_of classes.representatives verdicts)
+  all_named law = all_leaves (IsNamed n) (λ f here e shows.
+      let at = slice_get-get_or (universe_of n) here.0 f here.1 ∙ ap (λ (g : Fault). Some g) here.2 in
+      record { fault = law n here.0 f sound at; signals = signals_of f e shows })
+
+  abbrev IsSmall : Fault × Evidence → Type 0
+  IsSmall p = HasSmallNumbers p.1
+
+  abbrev MayBeFormed : Fault × Evidence → Type 0
+  MayBeFormed p = Contains (universe_of n) p.0 × (HasSmallNumbers p.1 → IsWellFormed n p.1)
+
+  -- the evidence of verdicts is a certificate's, each of a fault of the netlist
+  pub all_evident : All IsSmall (leaves_of classes.representatives verdicts) → All (IsEvidence n) (leaves_of classes.representatives verdicts)
+  all_evident small =
+      let leaves = leaves_of classes.representatives verdicts in
+      let ready = all_leaves MayBeFormed (λ f here e shows. (here, formed_of f e shows)) in
+      All-from_contains (IsEvidence n) leaves (λ p here.
+      let may = All-contains MayBeFormed leaves p ready here in
+      record { fault = may.0; formed = may.1 (All-contains IsSmall leaves p small here) })
+
+-- ---- kinds
+
+leaf_kind : (refutes : Bool) (f : Fault) (v : Verdict) → MayHave refutes v → All (λ (p : Fault × Evidence). MayBe refutes p.1) (leaf_at f v)
+leaf_kind refutes f Open may = All-nil (λ (p : Fault × Evidence). MayBe refutes p.1)
+leaf_kind refutes f (Detected place point) may = All-nil (λ (p : Fault × Evidence). MayBe refutes p.1)
+leaf_kind refutes f (Redundant e) may = All-cons (λ (p : Fault × Evidence). MayBe refutes p.1) (f, e) [] may (All-nil (λ (p : Fault × Evidence). MayBe refutes p.1))
+leaf_kind refutes f (Aborted tree) may = All-cons (λ (p : Fault × Evidence). MayBe refutes p.1) (f, Tree tree) [] tt (All-nil (λ (p : Fault × Evidence). MayBe refutes p.1))
+
+-- a refutation only where refutations are given
+pub leaves_kinds : (refutes : Bool) (fs : List Fault) (vs : List Verdict) → All (MayHave refutes) vs → All (λ (p : Fault × Evidence). MayBe refutes p.1) (leaves_of fs vs)
+leaves_kinds refutes [] vs may = All-nil (λ (p : Fault × Evidence). MayBe refutes p.1)
+leaves_kinds refutes (f ∷ fs) [] may = All-nil (λ (p : Fault × Evidence). MayBe refutes p.1)
+leaves_kinds refutes (f ∷ fs) (v ∷ vs) may =
+    All-append (λ (p : Fault × Evidence). MayBe refutes p.1) (leaf_at f v) (leaves_of fs vs)
+    (leaf_kind refutes f v (All-head (MayHave refutes) v vs may))
+    (leaves_kinds refutes fs vs (All-tail (MayHave refutes) v vs may))
 
 -- ---- lines of representatives
 

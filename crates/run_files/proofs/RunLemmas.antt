@@ -17,7 +17,7 @@ use Rattle.statement.specs.Tests.{IsFileOf}
 use Rattle.fault_universe.specs.Laws.{TextsDiffer}
 use Rattle.fault_collapse.specs.Laws.{DetectedAlike}
 use Rattle.fault_collapse.specs.Numbers.{Classes}
-use Rattle.redundancy_cert.specs.declared.nodes.Node.{Node}
+use Rattle.evidence.specs.declared.kinds.Evidence.{Evidence}
 use Rattle.list_core.specs.declared.verdicts.Verdict.{Verdict}
 use Rattle.report.specs.declared.counts.ReportCounts.{ReportCounts}
 use Rattle.run_report.specs.Outcomes.{Test}
@@ -47,20 +47,20 @@ read_back law n sound design net is =
     let w = law Design n sound (design_fits n design) in
     subst (λ (t : List ℕ). IsRead Design t (Ok n)) (sym is) (sym w.1, w.0, sound.acyclic)
 
-module _ (alike : DetectedAlike) (texts : TextsDiffer) (n : Netlist) (holds : Holds) (asked limit : ℕ) (classes : Classes) (patterns : List Pattern) (verdicts : List Verdict)
-    (made : RunFiles) (sound : IsSound n) (run : IsFinishedRun n holds asked limit classes patterns verdicts made) where
-  abbrev trees : List (Fault × List Node)
-  trees = leaves_of classes.representatives verdicts
+module _ (alike : DetectedAlike) (texts : TextsDiffer) (n : Netlist) (holds : Holds) (asked limit : ℕ) (refutes : Bool) (classes : Classes) (patterns : List Pattern) (verdicts : List Verdict)
+    (made : RunFiles) (sound : IsSound n) (run : IsFinishedRun n holds asked limit refutes classes patterns verdicts made) where
+  abbrev evidence : List (Fault × Evidence)
+  evidence = leaves_of classes.representatives verdicts
 
   abbrev contents : Contents
-  contents = contents_of n run.written.stil.file trees made
+  contents = contents_of n run.written.stil.file evidence made
 
   abbrev said_test : Test
   said_test = test_with contents holds patterns
 
   -- the test by the options
   abbrev asked_test : Test
-  asked_test = record { netlist = n; holds = holds; chains = design_chains n asked; limit = limit; patterns = patterns; trees = trees }
+  asked_test = record { netlist = n; holds = holds; chains = design_chains n asked; limit = limit; patterns = patterns; evidence = evidence }
 
   chains_dealt : AreChainsOf n (design_chains n asked)
   chains_dealt = record { asked = asked; some = run.some; are = refl }
@@ -76,7 +76,7 @@ module _ (alike : DetectedAlike) (texts : TextsDiffer) (n : Netlist) (holds : Ho
   own_chains = ap (design_chains n) many ∙ made_again n (design_chains n asked) chains_dealt
 
   own_test : said_test ≡ asked_test
-  own_test i = record { netlist = n; holds = holds; chains = own_chains i; limit = most i; patterns = patterns; trees = trees }
+  own_test i = record { netlist = n; holds = holds; chains = own_chains i; limit = most i; patterns = patterns; evidence = evidence }
 
   true_faults : AreTrueFaults asked_test classes made.said.lines
   true_faults = record {
@@ -114,7 +114,7 @@ module _ (alike : DetectedAlike) (texts : TextsDiffer) (n : Netlist) (holds : Ho
         net = read_back canonical_law n sound design made.net.items w.net;
         scan = refl;
         stil = subst (λ (t : List ℕ). StandsFor t w.stil.file) (sym w.stil.text_is) (stands w.stil.file w.stil.is_file);
-        certificate = record { evidence = all_evident n sound holds classes run.are_classes limit patterns verdicts run.found; text = w.certificate };
+        certificate = record { each = all_evident n sound holds classes run.are_classes limit patterns verdicts run.found w.small; text = w.certificate };
         is_report = w.is_report;
         report = w.report;
       }
@@ -123,7 +123,7 @@ module _ (alike : DetectedAlike) (texts : TextsDiffer) (n : Netlist) (holds : Ho
   unfolding tested
   good canonical_law stands design = record {
     file = run.written.stil.file;
-    trees = trees;
+    evidence = evidence;
     good = record {
       stand = stand canonical_law stands design;
       tested = tested;

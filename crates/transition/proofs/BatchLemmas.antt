@@ -15,7 +15,8 @@ use Rattle.netlist.specs.Lines.{IsLineOf}
 use Rattle.statement.specs.Netlists.{Netlist, signals}
 use Rattle.netlist.proofs.Placed.{signal_from, signals_length}
 use Rattle.evidence.specs.declared.engine.Found.{Found}
-use Rattle.evidence.specs.Answers.{HasEvidence}
+use Rattle.evidence.specs.declared.engine.Found.TheVariants.{Test, Closed, Refuted, Partial}
+use Rattle.evidence.specs.Answers.{HasEvidence, MayAnswer}
 use Rattle.transition_frames.specs.Frames.{tie}
 use Rattle.transition_batches.specs.Batches.{AreApart, DecidesFrames, all_gates, batch_fault, batch_of, in_first_of, in_second_of, tie_at}
 use Rattle.transition_batches.specs.Laws.{BatchCarries}
@@ -100,15 +101,24 @@ tie_line n fs j f core t same sound l is =
     subst (λ (m : Netlist). IsLineOf m t.line) (sym same)
     (subst (λ (g : Fault). IsLineOf (batch_of n fs) g.line) (sym is) (tie_there n fs j f (subst IsSound same sound) l))
 
+-- what decides signals of the frames is no refutation
+no_refutation : (n : Netlist) (found : Found) → DecidesFrames n found → MayAnswer false found
+no_refutation n (Test cube point) decides = tt
+no_refutation n (Closed tree) decides = tt
+no_refutation n (Refuted steps) decides = absurd decides
+no_refutation n (Partial tree) decides = tt
+
 -- and what it answers is evidence on the line's own two frames
 pub carried : BatchCarries → (n : Netlist) (fs : List Fault) (j : ℕ) (f : Fault) (limit : ℕ) (found : Found) (core : Netlist) (holds : Holds) (t : Fault)
     → IsSound n → IsDesign n → All (λ (g : Fault). IsLineOf n g.line) fs → AllPairs (AreApart n) fs → core ≡ batch_of n fs → IsSound core → holds ≡ none_held core
     → t ≡ batch_fault n j f → j < length fs → get_or fs j f ≡ f → HasEvidence t core holds limit found → DecidesFrames n found → HasFrameEvidence n limit f found
-carried law n fs j f limit found core holds t sound design lines apart same whole held is l at evidence decides =
-    law n fs j f limit found sound design lines apart (subst IsSound same whole) (slice_get-get_or fs j f l ∙ ap (λ (g : Fault). Some g) at) decides
-    (subst (λ (m : Netlist). HasEvidence (batch_fault n j f) m (none_held m) limit found) same
-    (subst (λ (g : Fault). HasEvidence g core (none_held core) limit found) is
-    (subst (λ (h : Holds). HasEvidence t core h limit found) held evidence)))
+carried law n fs j f limit found core holds t sound design lines apart same whole held is l at evidence decides = record {
+  evidence = law n fs j f limit found sound design lines apart (subst IsSound same whole) (slice_get-get_or fs j f l ∙ ap (λ (g : Fault). Some g) at) decides
+      (subst (λ (m : Netlist). HasEvidence (batch_fault n j f) m (none_held m) limit found) same
+      (subst (λ (g : Fault). HasEvidence g core (none_held core) limit found) is
+      (subst (λ (h : Holds). HasEvidence t core h limit found) held evidence)));
+  kind = no_refutation n found decides;
+}
 
 -- ---- their answers in the slots
 

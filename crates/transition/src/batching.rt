@@ -8,7 +8,7 @@
 //! The alternative is a netlist for each line. What is made for a search then grows with the netlist, as the number of lines does, so that the time grows
 //! with the square of it, and nearly all of it goes into what is made. To rewire one line's frames for the next one saves less: readers, order and room
 //! have to be made anew.
-ghost use Rattle.std.specs.Prelude.{◌≡◌, ◌+◌, ◌≤◌, ◌<◌, ◌^◌, ℕ, length, IfOk, IsTrue};
+ghost use Rattle.std.specs.Prelude.{◌≡◌, ◌+◌, ◌≤◌, ◌<◌, ◌^◌, ℕ, false, length, IfOk, IsTrue};
 ghost use Rattle.std.specs.List.{All, AllPairs};
 ghost use Rattle.netlist.specs.Designs.{IsDesign};
 ghost use Rattle.netlist.specs.Holds.{none_held};
@@ -126,6 +126,7 @@ fn own_answer<E: Engine>(
     requires names { names.now ≡ names_of netlist.now }
     requires line { IsLineOf netlist.now fault.line }
     requires limit { 1 ≤ limit }
+    requires trees { E.refutes ≡ false }
     requires carries { DecidesFrames netlist.now found → HasFrameEvidence netlist.now limit fault found }
     ensures { IfOk result (HasFrameEvidence netlist.now limit fault) }
 {
@@ -155,6 +156,7 @@ fn search_together<E: Engine>(
     requires core { core.now ≡ batch_of netlist.now slow.now }
     requires holds { holds.now ≡ none_held core.now }
     requires limit { 1 ≤ limit }
+    requires trees { E.refutes ≡ false }
     ensures { IfOk result (λ v. AreFound netlist.now limit slow.now v.items) }
 {
     batch_carries();
@@ -185,6 +187,7 @@ fn search_each<E: Engine>(
     requires names { names.now ≡ names_of netlist.now }
     requires lines { All (λ (f : FaultOf). IsLineOf netlist.now f.line) slow.now }
     requires limit { 1 ≤ limit }
+    requires trees { E.refutes ≡ false }
     ensures { IfOk result (λ v. AreFound netlist.now limit slow.now v.items) }
 {
     let mut answers = Vec::with_capacity(alloc, slow.len())?;
@@ -210,6 +213,7 @@ pub(crate) fn search_batch<E: Engine>(
     requires apart { AllPairs (AreApart netlist.now) slow.now }
     requires few { length slow.now ≤ 1024 }
     requires limit { 1 ≤ limit }
+    requires trees { E.refutes ≡ false }
     ensures { IfOk result (λ v. AreFound netlist.now limit slow.now v.items) }
 {
     match batch(alloc, netlist, slow)? {

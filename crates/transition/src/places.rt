@@ -196,7 +196,7 @@ impl PlaceRule {
         match found {
             Found::Test(_, _) => true,
             Found::Closed(tree) => tree.nodes().iter().all(|node| self.may_stand(&slow, node)),
-            Found::Partial(_) => false,
+            Found::Refuted(_) | Found::Partial(_) => false,
         }
     }
 }

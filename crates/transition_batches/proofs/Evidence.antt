@@ -11,7 +11,7 @@ use Rattle.netlist.specs.Holds.{none_held}
 use Rattle.netlist.specs.Lines.{IsLineOf}
 use Rattle.netlist.proofs.Placed.{signal_from}
 use Rattle.evidence.specs.declared.engine.Found.{Found}
-use Rattle.evidence.specs.declared.engine.Found.TheVariants.{Test, Closed as Complete, Partial}
+use Rattle.evidence.specs.declared.engine.Found.TheVariants.{Test, Closed as Complete, Refuted, Partial}
 use Rattle.evidence.specs.Answers.{HasEvidence}
 use Rattle.transition_frames.specs.Frames.{tie, in_first, frames_of, frame_fault}
 use Rattle.transition_frames.proofs.Framed.{cells_framed}
@@ -60,6 +60,7 @@ module _ (n : Netlist) (sound : IsSound n) (design : IsDesign n) (fs : List Faul
     w.1,
     w.2,
   )
+  evidence_carries limit (Refuted steps) d w = absurd d
   evidence_carries limit (Partial tree) d w = (
     carried (tie n) (batch_of n fs) (frames_of n f) (batch_fault n j f) (frame_fault n f) (none_held (batch_of n fs)) (none_held (frames_of n f)) (to_batch n j) carries whole two
         (length-map n.inputs _) tree d w.0,

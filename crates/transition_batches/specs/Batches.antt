@@ -12,7 +12,7 @@ use Rattle.statement.specs.Values.{is_line}
 use Rattle.redundancy_cert.specs.declared.nodes.Node.{Node}
 use Rattle.redundancy_cert.specs.declared.nodes.Node.TheVariants.{Closed, Open, Split, Forced}
 use Rattle.evidence.specs.declared.engine.Found.{Found}
-use Rattle.evidence.specs.declared.engine.Found.TheVariants.{Test, Closed as Complete, Partial}
+use Rattle.evidence.specs.declared.engine.Found.TheVariants.{Test, Closed as Complete, Refuted, Partial}
 use Rattle.net_gen.specs.Samples.{lettered_names}
 use Rattle.transition_frames.specs.Frames.{source_of, second, tie}
 
@@ -88,7 +88,9 @@ DecidesBelow bound Open = ⊤
 DecidesBelow bound (Split x) = x < bound
 DecidesBelow bound (Forced x b) = x < bound
 
+-- an answer of a batch that carries over: no refutation, since its steps read pins, and readers of the other slow lines have others in a batch
 abbrev pub DecidesFrames : Netlist → Found → Type 0
 DecidesFrames n (Test cube point) = ⊤
 DecidesFrames n (Complete tree) = All (DecidesBelow (tie n)) tree
+DecidesFrames n (Refuted steps) = ⊥
 DecidesFrames n (Partial tree) = All (DecidesBelow (tie n)) tree

@@ -2,6 +2,8 @@
 //!
 //! A tree that splits at a signal of the two frames splits there alike; one that splits at a gate of another slow line means nothing there. An engine
 //! decides inputs and cells, or signals on the way to them, so that this is a test that hardly ever fails: whoever fails it is searched alone.
+//!
+//! A refutation never carries over: its steps read the pins of gates, and in a batch readers of the other slow lines have others.
 ghost use Rattle.std.specs.Prelude.{IsTrue};
 ghost use Rattle.std.specs.List.{All};
 ghost use Rattle.transition_batches.specs.Batches.{DecidesBelow, DecidesFrames};
@@ -43,6 +45,7 @@ pub fn decides_frames(netlist: &Netlist, found: &Found) -> bool
     match found {
         Found::Test(_, _) => true,
         Found::Closed(tree) => all_decide_below(bound, tree.nodes()),
+        Found::Refuted(_) => false,
         Found::Partial(tree) => all_decide_below(bound, tree.nodes()),
     }
 }

@@ -1,5 +1,5 @@
 -- A point of a pattern is strobed so many cycles later as there are launches up to it.
-use Rattle.std.proofs.Common.{◌≡◌, ℕ, ◌+◌, ◌-◌, ◌*◌, ◌<◌, ◌≤◌, ◌^◌, List, length, arith, mul-add}
+use Rattle.std.proofs.Common.{◌≡◌, ℕ, ◌+◌, ◌*◌, ◌<◌, ◌^◌, List, length, arith, mul-add}
 use Rattle.statement.specs.declared.lines.Point.{Point}
 use Rattle.statement.specs.declared.lines.Point.TheVariants.{Output, Cell}
 use Rattle.netlist.specs.Conditions.{IsSound}

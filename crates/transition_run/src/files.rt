@@ -1,6 +1,6 @@
 //! From a design to the five files of its transition faults. A batch of drawn patterns drops most faults that can be detected; the others are
 //! searched, each on two frames of its own, and then all patterns are simulated: there is no list that workers share, and so no lock.
-ghost use Rattle.std.specs.Prelude.{◌≡◌, ◌<◌, ◌≤◌, ◌^◌, IfOk, length};
+ghost use Rattle.std.specs.Prelude.{◌≡◌, ◌<◌, ◌≤◌, ◌^◌, false, IfOk, length};
 ghost use Rattle.std.specs.List.{All};
 ghost use Rattle.plain_text.specs.Limits.{most_workers};
 ghost use Rattle.netlist.specs.Designs.{IsDesign};
@@ -172,6 +172,7 @@ fn slow_tests<R: Threads + Sync, E: Engine + Sync, G: Gate + Sync>(
     requires design { IsDesign core.now }
     requires faults { faults.now ≡ universe_of core.now }
     requires limit { 1 ≤ plan.limit }
+    requires trees { E.refutes ≡ false }
     requires workers { 0 < plan.workers }
     ensures tests { IfOk result (λ t. AreTests core.now plan.limit t.patterns.items t.verdicts.items) }
     ensures few { IfOk result (λ t. length t.patterns.items < 2 ^ 32) }
@@ -217,6 +218,7 @@ pub fn transition_files<R: Threads + Sync, E: Engine + Sync, G: Gate + Sync>(
     requires design { IsDesign core.now }
     requires some { 1 ≤ plan.chains }
     requires limit { 1 ≤ plan.limit }
+    requires trees { E.refutes ≡ false }
     requires workers { (0 < plan.workers) × (plan.workers ≤ most_workers) }
     ensures { IfOk result (IsTransitionRun core.now plan.chains plan.limit) }
 {

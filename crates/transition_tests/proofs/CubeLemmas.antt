@@ -17,7 +17,7 @@ use Rattle.cubes.specs.Cubes.{Cube, AgreesWith, HasBitsOf, HaveSameWidths, IsCub
 use Rattle.cubes.proofs.RowLemmas.{bit_left, bit_right, known_is_no_x, row_left}
 use Rattle.fault_universe.specs.Universe.{fault_limit}
 use Rattle.evidence.specs.declared.engine.Found.{Found}
-use Rattle.evidence.specs.declared.engine.Found.TheVariants.{Test, Closed, Partial}
+use Rattle.evidence.specs.declared.engine.Found.TheVariants.{Test, Closed, Refuted, Partial}
 use Rattle.transition_frames.specs.Frames.{frames_of, in_first}
 use Rattle.transition_frames.proofs.Framed.{cells_framed}
 use Rattle.transition_tests.specs.inner.Answers.{IsKnown}
@@ -41,8 +41,9 @@ all_cubes n limit batch [] (x ∷ xs) are = elim are [ ]
 all_cubes n limit batch (f ∷ fs) [] are = elim are [ ]
 all_cubes n limit batch (f ∷ fs) (None ∷ xs) are = all_cubes n limit batch fs xs are.1
 all_cubes n limit batch (f ∷ fs) (Some (Test c o) ∷ xs) are =
-    All-cons (IsCubeOf n (none_held n)) c (cubes_in xs) (frame_cube n f c are.0.is_cube) (all_cubes n limit batch fs xs are.1)
+    All-cons (IsCubeOf n (none_held n)) c (cubes_in xs) (frame_cube n f c are.0.evidence.is_cube) (all_cubes n limit batch fs xs are.1)
 all_cubes n limit batch (f ∷ fs) (Some (Closed t) ∷ xs) are = all_cubes n limit batch fs xs are.1
+all_cubes n limit batch (f ∷ fs) (Some (Refuted s) ∷ xs) are = all_cubes n limit batch fs xs are.1
 all_cubes n limit batch (f ∷ fs) (Some (Partial t) ∷ xs) are = all_cubes n limit batch fs xs are.1
 
 pub few_cubes : (found : List (Option Found)) → length (cubes_in found) ≤ length found
@@ -50,6 +51,7 @@ few_cubes [] = omega arith
 few_cubes (None ∷ xs) = let rest = few_cubes xs in omega arith
 few_cubes (Some (Test c o) ∷ xs) = let rest = few_cubes xs in omega arith
 few_cubes (Some (Closed t) ∷ xs) = let rest = few_cubes xs in omega arith
+few_cubes (Some (Refuted s) ∷ xs) = let rest = few_cubes xs in omega arith
 few_cubes (Some (Partial t) ∷ xs) = let rest = few_cubes xs in omega arith
 
 -- behind the batch patterns are no more than cubes, and so than faults
@@ -65,6 +67,7 @@ pub other_cube : (x : Option Found) (xs : List (Option Found)) (c : Cube) → Co
 other_cube None xs c is = is
 other_cube (Some (Test d o)) xs c is = contains_tail d c (cubes_in xs) is
 other_cube (Some (Closed t)) xs c is = is
+other_cube (Some (Refuted s)) xs c is = is
 other_cube (Some (Partial t)) xs c is = is
 
 -- ---- bits of a part

@@ -9,7 +9,7 @@ use Rattle.std.proofs.lemmas.Option.{none-some}
 use Rattle.std.proofs.lemmas.Slice.Zip.{AllZip-long}
 use Rattle.statement.specs.declared.lines.Point.{Point}
 use Rattle.evidence.specs.declared.engine.Found.{Found}
-use Rattle.evidence.specs.declared.engine.Found.TheVariants.{Test, Closed, Partial}
+use Rattle.evidence.specs.declared.engine.Found.TheVariants.{Test, Closed, Refuted, Partial}
 use Rattle.list_core.specs.inner.Marks.{last_at}
 use Rattle.transition_tests.specs.declared.verdicts.TransitionVerdict.{TransitionVerdict}
 use Rattle.transition_tests.specs.declared.verdicts.TransitionVerdict.TheVariants.{Detected}
@@ -39,6 +39,7 @@ end_renamed a b x (Some l) v same is = is ∙ ap (λ k. Detected k l.1) (same l 
 end_renamed a b None None v same is = is
 end_renamed a b (Some (Test c o)) None v same is = is
 end_renamed a b (Some (Closed t)) None v same is = is
+end_renamed a b (Some (Refuted s)) None v same is = is
 end_renamed a b (Some (Partial t)) None v same is = is
 
 -- the same places by another name

@@ -15,7 +15,7 @@ use Rattle.netlist.proofs.Lists.{contains_head}
 use Rattle.cubes.specs.Cubes.{Cube, IsCubeOf, IsPatternOf}
 use Rattle.statement.specs.Patterns.{Pattern}
 use Rattle.evidence.specs.declared.engine.Found.{Found}
-use Rattle.evidence.specs.declared.engine.Found.TheVariants.{Test, Closed, Partial}
+use Rattle.evidence.specs.declared.engine.Found.TheVariants.{Test, Closed, Refuted, Partial}
 use Rattle.list_core.specs.Kept.{is_last_at, kept_from, new_place}
 use Rattle.list_core.specs.inner.Marks.{last_at}
 use Rattle.list_core.proofs.KeepLemmas.{kept_all, source}
@@ -103,9 +103,10 @@ module _ (n : Netlist) (sound : IsSound n) (limit : ℕ) (batch patterns : List 
       never p.1.0 o (record {
         pattern = p.0;
         at = slice_get_read patterns (length patterns) p.1.0 p.0 refl p.1.1 (sym p.1.2);
-        detects = test_detects_transition n f c o p.0 sound line evidence p.2;
+        detects = test_detects_transition n f c o p.0 sound line evidence.evidence p.2;
       })
   told_one f (Some (Closed t)) None line evidence is agree = tt
+  told_one f (Some (Refuted s)) None line evidence is agree = let never = evidence.kind in cc
   told_one f (Some (Partial t)) None line evidence is agree = tt
 
   first_cube : (x : Option Found) (xs : List (Option Found)) (c : Cube) → Contains (cubes_in (x ∷ [])) c → Contains (cubes_in (x ∷ xs)) c
@@ -117,6 +118,7 @@ module _ (n : Netlist) (sound : IsSound n) (limit : ℕ) (batch patterns : List 
           let first : k ≡ zero = omega arith in
           (zero, omega arith, subst (λ (i : ℕ). get_or (d ∷ []) i c ≡ c) first e)
   first_cube (Some (Closed t)) xs c is = absurd (let lt = is.1 in omega arith)
+  first_cube (Some (Refuted s)) xs c is = absurd (let lt = is.1 in omega arith)
   first_cube (Some (Partial t)) xs c is = absurd (let lt = is.1 in omega arith)
 
   pub all_told : (faults : List Fault) (found : List (Option Found)) (lasts : List (Option (ℕ × Point))) → All (λ (f : Fault). IsLineOf n f.line) faults
@@ -174,9 +176,10 @@ module _ (n : Netlist) (sound : IsSound n) (limit : ℕ) (batch patterns : List 
   verdict_is f None None v line known never mark end = elim end [ ]
   verdict_is f (Some (Test c o)) None v line evidence never mark end = elim end [ ]
   verdict_is f (Some (Closed t)) None v line evidence never mark end =
-      subst (IsVerdict n limit (kept_from marked 0 patterns) f) (sym end) (kept_never f line never, evidence.0, evidence.1)
+      subst (IsVerdict n limit (kept_from marked 0 patterns) f) (sym end) (kept_never f line never, evidence.evidence.0, evidence.evidence.1)
+  verdict_is f (Some (Refuted s)) None v line evidence never mark end = elim end [ ]
   verdict_is f (Some (Partial t)) None v line evidence never mark end =
-      subst (IsVerdict n limit (kept_from marked 0 patterns) f) (sym end) (kept_never f line never, evidence.0, evidence.1, evidence.2)
+      subst (IsVerdict n limit (kept_from marked 0 patterns) f) (sym end) (kept_never f line never, evidence.evidence.0, evidence.evidence.1, evidence.evidence.2)
 
   verdicts_are : (faults : List Fault) (found : List (Option Found)) (lasts : List (Option (ℕ × Point))) (vs : List TransitionVerdict) → All (λ (f : Fault). IsLineOf n f.line) faults
       → AllZip (IsKnown n limit batch) faults found → AllZip (LastTransition n patterns) faults lasts → ((c : ℕ) (l : ℕ × Point) → last_at lasts c ≡ Some l → marked l.0 ≡ true)

@@ -9,7 +9,7 @@ use Rattle.cubes.specs.Filling.{filled_all}
 use Rattle.cubes.specs.Merging.{AreMerged}
 use Rattle.statement.specs.Faults.{universe_of}
 use Rattle.evidence.specs.declared.engine.Found.{Found}
-use Rattle.evidence.specs.declared.engine.Found.TheVariants.{Test, Closed, Partial}
+use Rattle.evidence.specs.declared.engine.Found.TheVariants.{Test, Closed, Refuted, Partial}
 use Rattle.list_core.specs.Kept.{kept_from}
 use Rattle.transition_tests.specs.Batches.{words_on_stream}
 use Rattle.transition_tests.specs.Verdicts.{IsNeededForTransitions}
@@ -19,6 +19,7 @@ abbrev pub cube_of : Option Found → List Cube
 cube_of None = []
 cube_of (Some (Test cube point)) = cube ∷ []
 cube_of (Some (Closed tree)) = []
+cube_of (Some (Refuted steps)) = []
 cube_of (Some (Partial tree)) = []
 
 -- those of all answers, in order

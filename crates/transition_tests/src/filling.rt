@@ -20,7 +20,7 @@ fn push_cube(alloc: Global, cubes: &mut Vec<Cube>, answer: &Option<Found>) -> Re
 {
     match answer {
         Some(Found::Test(cube, _)) => cubes.push(cube.copy(alloc)?)?,
-        Some(Found::Closed(_) | Found::Partial(_)) | None => {}
+        Some(Found::Closed(_) | Found::Refuted(_) | Found::Partial(_)) | None => {}
     }
     Ok(())
 }

@@ -37,7 +37,7 @@ fn verdict_of(
         return TransitionVerdict::Detected(places[*place as usize], *point);
     }
     match answer {
-        None | Some(Found::Test(_, _)) => unreachable!(),
+        None | Some(Found::Test(_, _) | Found::Refuted(_)) => unreachable!(),
         Some(Found::Closed(tree)) => TransitionVerdict::Redundant(tree),
         Some(Found::Partial(tree)) => TransitionVerdict::Aborted(tree),
     }

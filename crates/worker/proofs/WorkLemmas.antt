@@ -1,7 +1,7 @@
 -- Cubes, patterns and hits of a batch.
 use Rattle.std.proofs.Common.{zero, suc, ◌≡◌, ◌≢◌, inl, inr, ℕ, ◌<◌, List, [], ◌∷◌, get_or, refl, sym, ◌∙◌, ap, subst, arith}
 use Rattle.std.specs.List.{All, AllPairs}
-use Rattle.std.specs.Prelude.{true, Result, Ok, Err}
+use Rattle.std.specs.Prelude.{true, Bool, Result, Ok, Err}
 use Rattle.std.specs.Result.{OnOk}
 use Rattle.std.proofs.lemmas.List.Elements.{All-cons, All-head, All-tail}
 use Rattle.std.proofs.lemmas.List.Kept.{AllPairs-cons}
@@ -9,16 +9,18 @@ use Rattle.std.proofs.lemmas.Option.{get_or_from_slice_get, slice_get_within}
 use Rattle.statement.specs.declared.lines.Fault.{Fault}
 use Rattle.statement.specs.declared.lines.Point.{Point}
 use Rattle.statement.specs.Netlists.{Netlist}
-use Rattle.statement.specs.Patterns.{Holds, Detects, Pattern}
+use Rattle.statement.specs.Patterns.{Holds, Pattern}
 use Rattle.netlist.specs.Lines.{IsLineOf}
 use Rattle.cubes.specs.Cubes.{Cube, HaveSameWidths, AgreesWith, IsCubeOf, IsPatternOf}
 use Rattle.word_sim.specs.declared.batches.Hit.{Hit}
 use Rattle.word_sim.specs.Hits.{AreHits}
 use Rattle.redundancy_cert.specs.declared.nodes.Node.{Node}
+use Rattle.evidence.specs.declared.kinds.Evidence.{Evidence}
+use Rattle.evidence.specs.declared.kinds.Evidence.TheVariants.{Tree, Refutation}
 use Rattle.evidence.specs.declared.engine.Found.{Found}
-use Rattle.evidence.specs.declared.engine.Found.TheVariants.{Test, Closed, Partial}
-use Rattle.redundancy_cert.specs.Fits.{Fits}
-use Rattle.evidence.specs.Answers.{HasEvidence}
+use Rattle.evidence.specs.declared.engine.Found.TheVariants.{Test, Closed, Refuted, Partial}
+use Rattle.evidence.specs.Evidence.{Shows}
+use Rattle.evidence.specs.Answers.{HasEvidence, MayAnswer}
 use Rattle.redundancy_cert.specs.TestCubes.{IsTestCube}
 use Rattle.list_core.specs.States.{MaySettle}
 use Rattle.list_core.specs.Subjects.{Subject, RepresentsIn, HaveLines}
@@ -103,24 +105,33 @@ true_batch j ps left hits are reps rising h = record {
 
 -- ---- what a search found may settle the claim
 
-fits_for : (j : Subject) (f g : Fault) (n : Netlist) (holds : Holds) (t : List Node) → f ≡ g → n ≡ j.netlist → holds ≡ j.holds → Fits f n holds t → Fits g j.netlist j.holds t
-fits_for j f g n holds t ef en eh fits =
-    let P : Holds → Type 0 = λ k. Fits g j.netlist k t in
-    let Q : Netlist → Type 0 = λ m. Fits g m holds t in
-    let R : Fault → Type 0 = λ h. Fits h n holds t in
-    subst P eh (subst Q en (subst R ef fits))
+shows_for : (j : Subject) (f g : Fault) (n : Netlist) (holds : Holds) (e : Evidence) → f ≡ g → n ≡ j.netlist → holds ≡ j.holds
+    → Shows f n holds e → Shows g j.netlist j.holds e
+shows_for j f g n holds e ef en eh shows =
+    let P : Holds → Type 0 = λ k. Shows g j.netlist k e in
+    let Q : Netlist → Type 0 = λ m. Shows g m holds e in
+    let R : Fault → Type 0 = λ h. Shows h n holds e in
+    subst P eh (subst Q en (subst R ef shows))
 
 pub closed_settles : (j : Subject) (f g : Fault) (n : Netlist) (holds : Holds) (limit : ℕ) (found : Found) (t : List Node) → HasEvidence f n holds limit found → found ≡ Closed t
-    → f ≡ g → n ≡ j.netlist → holds ≡ j.holds → MaySettle j g t
+    → f ≡ g → n ≡ j.netlist → holds ≡ j.holds → MaySettle j g (Tree t)
 closed_settles j f g n holds limit found t h e ef en eh =
     let ev = (let P : Found → Type 0 = λ x. HasEvidence f n holds limit x in subst P e h) in
-    record { fits = fits_for j f g n holds t ef en eh ev.0; closed = λ some. absurd (omega (arith, some, ev.1)) }
+    record { shows = shows_for j f g n holds (Tree t) ef en eh ev.0; closed = λ some. absurd (omega (arith, some, ev.1)); kind = tt }
 
 pub partial_settles : (j : Subject) (f g : Fault) (n : Netlist) (holds : Holds) (limit : ℕ) (found : Found) (t : List Node) → HasEvidence f n holds limit found → found ≡ Partial t
-    → f ≡ g → n ≡ j.netlist → holds ≡ j.holds → limit ≡ j.limit → MaySettle j g t
+    → f ≡ g → n ≡ j.netlist → holds ≡ j.holds → limit ≡ j.limit → MaySettle j g (Tree t)
 partial_settles j f g n holds limit found t h e ef en eh el =
     let ev = (let P : Found → Type 0 = λ x. HasEvidence f n holds limit x in subst P e h) in
-    record { fits = fits_for j f g n holds t ef en eh ev.0; closed = λ some. ev.1 ∙ el }
+    record { shows = shows_for j f g n holds (Tree t) ef en eh ev.0; closed = λ some. ev.1 ∙ el; kind = tt }
+
+pub refuted_settles : (j : Subject) (f g : Fault) (n : Netlist) (holds : Holds) (limit : ℕ) (refutes : Bool) (found : Found) (steps : _)
+    → HasEvidence f n holds limit found → MayAnswer refutes found → found ≡ Refuted steps
+    → f ≡ g → n ≡ j.netlist → holds ≡ j.holds → refutes ≡ j.refutes → MaySettle j g (Refutation steps)
+refuted_settles j f g n holds limit refutes found steps h may e ef en eh er =
+    let ev = (let P : Found → Type 0 = λ x. HasEvidence f n holds limit x in subst P e h) in
+    let kind = (let P : Bool → Type 0 = λ b. MayAnswer b (Refuted steps) in subst P er (subst (MayAnswer refutes) e may)) in
+    record { shows = shows_for j f g n holds (Refutation steps) ef en eh ev; closed = λ some. absurd (omega (arith, some)); kind = kind }
 
 pub test_is_cube : (f : Fault) (n : Netlist) (holds : Holds) (limit : ℕ) (found : Found) (c : Cube) (o : Point) → HasEvidence f n holds limit found → found ≡ Test c o → IsCubeOf n holds c
 test_is_cube f n holds limit found c o h e =

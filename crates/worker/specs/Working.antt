@@ -1,5 +1,5 @@
 -- When a list is done.
-use Rattle.std.specs.Prelude.{ℕ, ◌≡◌, ◌<◌, ◌≤◌, false, List, length}
+use Rattle.std.specs.Prelude.{ℕ, ◌≡◌, ◌<◌, ◌≤◌, Bool, false, List, length}
 use Rattle.statement.specs.Patterns.{Holds}
 use Rattle.netlist.specs.Holds.{AreHoldsOf}
 use Rattle.statement.specs.Netlists.{Netlist}
@@ -7,9 +7,9 @@ use Rattle.list_core.specs.Subjects.{Subject, HaveLines}
 use Rattle.list_core.specs.declared.verdicts.Verdict.{Verdict}
 use Rattle.list_core.specs.Verdicts.{verdict_at, is_open}
 
--- its classes may be searched on this netlist with these held inputs
-abbrev pub MaySearch : Subject → Netlist → Holds → Type 0
-MaySearch j n holds = (n ≡ j.netlist) × HaveLines j × (1 ≤ j.limit) × (holds ≡ j.holds) × AreHoldsOf n holds
+-- its classes may be searched on this netlist with these held inputs, by an engine that answers refutations or doesn't
+abbrev pub MaySearch : Subject → Netlist → Holds → Bool → Type 0
+MaySearch j n holds refutes = (n ≡ j.netlist) × HaveLines j × (1 ≤ j.limit) × (holds ≡ j.holds) × AreHoldsOf n holds × (refutes ≡ j.refutes)
 
 -- no class is Open
 abbrev pub NoneOpen : List Verdict → Type 0

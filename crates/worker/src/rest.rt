@@ -1,7 +1,7 @@
 //! What the caller works once the workers have ended.
 ghost use Rattle.std.specs.Prelude.{[], ◌∷◌, ◌≡◌, ℕ, ◌+◌, ◌<◌, ◌≤◌, ◌^◌, false, length, IfOk, OnOk};
 ghost use Rattle.redundancy_cert.specs.TestCubes.{IsTestCube};
-ghost use Rattle.list_core.specs.Subjects.{class_count};
+ghost use Rattle.list_core.specs.Subjects.{HaveLines, class_count};
 ghost use Rattle.list_core.specs.Batches.{IsTrueBatch};
 ghost use Rattle.list_core.specs.Verdicts.{verdict_at, is_open};
 ghost use Rattle.list_core.specs.States.{IsTrueList};
@@ -10,7 +10,7 @@ ghost use Rattle.worker.specs.Working.{NoneOpen};
 
 use crate::adding::add;
 use cubes::{Cube, fill};
-use evidence::{Engine, Found};
+use evidence::{Engine, Evidence, Found};
 use list_core::{About, Claim, FaultList};
 use netlist::{Core, Holds, NoMemory, Point};
 use rand_core::Rng;
@@ -58,8 +58,10 @@ fn work_one<J: About, E: Engine, N: Rng>(
     holds: &Holds,
 ) -> Result<(), NoMemory>
     requires core { core.now ≡ J.subject.netlist }
+    requires lines { HaveLines J.subject }
     requires limit { 1 ≤ J.subject.limit }
     requires held { (holds.now ≡ J.subject.holds) × AreHoldsOf core.now holds.now }
+    requires kind { E.refutes ≡ J.subject.refutes }
     requires class { class < class_count J.subject }
     requires claims { list.old.claims < class_count J.subject }
     requires few { length list.old.patterns + 1 < 2 ^ 32 }
@@ -79,10 +81,13 @@ fn work_one<J: About, E: Engine, N: Rng>(
             list.publish(worker, batch);
         }
         Found::Closed(tree) => {
-            let _ = list.settle(claim, tree);
+            let _ = list.settle(claim, Evidence::Tree(tree));
+        }
+        Found::Refuted(steps) => {
+            let _ = list.settle(claim, Evidence::Refutation(steps));
         }
         Found::Partial(tree) => {
-            let _ = list.settle(claim, tree);
+            let _ = list.settle(claim, Evidence::Tree(tree));
         }
     }
     Ok(())
@@ -99,8 +104,10 @@ pub fn work_rest<J: About, E: Engine>(
     holds: &Holds,
 ) -> Result<FaultList<J>, NoMemory>
     requires core { core.now ≡ J.subject.netlist }
+    requires lines { HaveLines J.subject }
     requires limit { 1 ≤ J.subject.limit }
     requires held { (holds.now ≡ J.subject.holds) × AreHoldsOf core.now holds.now }
+    requires kind { E.refutes ≡ J.subject.refutes }
     requires claims { list.claims ≡ 0 }
     requires few { length list.patterns ≤ class_count J.subject }
     ensures closed { IfOk result (λ l. NoneOpen l.verdicts) }

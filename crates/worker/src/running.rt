@@ -51,7 +51,7 @@ fn work_in<J: About, T: Ledger, S: Ledger, P: Ledger, U: Ledger, E: Engine, G: G
     holds: &Holds,
 )
     requires table { job.old.table ≡ shared.now.word.shared.table_id }
-    requires subject { MaySearch J.subject core.now holds.now }
+    requires subject { MaySearch J.subject core.now holds.now E.refutes }
 {
     job.refused = work_beside(
         rt,
@@ -132,7 +132,7 @@ fn run_named<
     publishes: Blank,
     unspent: Blank,
 ) -> Result<FaultList<J>, NoMemory>
-    requires subject { MaySearch J.subject core.now holds.now }
+    requires subject { MaySearch J.subject core.now holds.now E.refutes }
     requires empty { list.journal ≡ [] }
     requires workers { (0 < workers) × (workers ≤ most_workers) }
     requires takes { (takes.name ≡ T.name) × (takes.parts ≡ T.parts) × (T.parts ≡ workers) }
@@ -149,7 +149,7 @@ fn run_named<
     let mut jobs = jobs_of(alloc, shares)?;
     let behind = &shared;
     let step = move |_i: usize, job: &mut Job<T, S, P, U>|
-        requires { (job.now.table ≡ behind.now.word.shared.table_id) × MaySearch J.subject core.now holds.now }
+        requires { (job.now.table ≡ behind.now.word.shared.table_id) × MaySearch J.subject core.now holds.now E.refutes }
     {
         work_in(
             rt, alloc, behind, job, core, engine, stage, workers, seed, holds,
@@ -180,6 +180,7 @@ pub fn run_all<J: About + Send + Sync, E: Engine + Sync, G: Gate + Sync, R: Thre
     requires lines { HaveLines J.subject }
     requires limit { 1 ≤ J.subject.limit }
     requires held { (holds.now ≡ J.subject.holds) × AreHoldsOf core.now holds.now }
+    requires kind { E.refutes ≡ J.subject.refutes }
     requires empty { list.journal ≡ [] }
     requires workers { (0 < workers) × (workers ≤ most_workers) }
     ensures closed { IfOk result (λ l. NoneOpen l.verdicts) }

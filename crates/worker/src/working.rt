@@ -10,7 +10,7 @@ ghost use Rattle.std.specs.Prelude.{◌≡◌, ◌+◌, ◌≤◌, ◌<◌, ◌�
 ghost use Rattle.std.specs.List.{All};
 ghost use Rattle.netlist.specs.Holds.{AreHoldsOf};
 ghost use Rattle.cubes.specs.Cubes.{IsCubeOf};
-ghost use Rattle.evidence.specs.Answers.{HasEvidence};
+ghost use Rattle.evidence.specs.Answers.{HasEvidence, MayAnswer};
 ghost use Rattle.list_core.specs.States.{MaySettle};
 ghost use Rattle.list_core.specs.Subjects.{HaveLines};
 ghost use Rattle.shared_list.specs.Tally.{gave};
@@ -18,13 +18,12 @@ ghost use Rattle.shared_list.specs.Tally.{gave};
 use crate::adding::add;
 use crate::publishing::publish_cubes;
 use cubes::Cube;
-use evidence::{Engine, Found};
+use evidence::{Engine, Evidence, Found};
 use list_core::{About, Claim, Settling};
 use netlist::{Core, Holds, NoMemory};
 use outside::{Gate, Stage};
 use rand_core::Rng;
 use rand_pcg::Lcg64Xsh32;
-use redundancy_cert::Tree;
 use shared_list::{Drawn, Share, Shared};
 use std::alloc::Global;
 use std::sync::Wait;
@@ -61,6 +60,7 @@ pub fn work<J: About, T: Ledger, S: Ledger, P: Ledger, U: Ledger, E: Engine, G: 
     requires lines { HaveLines J.subject }
     requires limit { 1 ≤ J.subject.limit }
     requires held { (holds.now ≡ J.subject.holds) × AreHoldsOf core.now holds.now }
+    requires kind { E.refutes ≡ J.subject.refutes }
     ensures table { share.new.table ≡ share.old.table }
     ensures ended { OnOk result (share.new.ended ≡ true) }
 {
@@ -69,26 +69,26 @@ pub fn work<J: About, T: Ledger, S: Ledger, P: Ledger, U: Ledger, E: Engine, G: 
     )
 }
 
-/// Hands a claim back with its tree, and passes the stage if the class took it.
+/// Hands a claim back with its evidence, and passes the stage if the class took it.
 fn settle<J: About, T: Ledger, S: Ledger, P: Ledger, U: Ledger, G: Gate, R: Wait>(
     rt: &R,
     shared: &Shared<J, T, S, P, U>,
     share: &mut Share<T, S, P, U>,
     stage: &G,
     claim: Claim<J>,
-    tree: Tree,
+    evidence: Evidence,
     settled: Stage,
 )
     requires table { share.old.table ≡ shared.now.word.shared.table_id }
-    requires fits { MaySettle J.subject claim.fault tree }
+    requires shows { MaySettle J.subject claim.fault evidence }
     ensures { (share.new ≡ gave share.old) ⊎ (share.new ≡ share.old) }
 {
-    if let Settling::Settled = shared.settle(rt, share, claim, tree) {
+    if let Settling::Settled = shared.settle(rt, share, claim, evidence) {
         stage.at(share.worker(), settled);
     }
 }
 
-/// Keeps the cube of a test; a tree settles the claim.
+/// Keeps the cube of a test; evidence settles the claim.
 fn answer<J: About, T: Ledger, S: Ledger, P: Ledger, U: Ledger, G: Gate, R: Wait>(
     rt: &R,
     shared: &Shared<J, T, S, P, U>,
@@ -100,6 +100,7 @@ fn answer<J: About, T: Ledger, S: Ledger, P: Ledger, U: Ledger, G: Gate, R: Wait
 ) -> Result<(), NoMemory>
     requires table { share.old.table ≡ shared.now.word.shared.table_id }
     requires evidence { HasEvidence claim.fault J.subject.netlist J.subject.holds J.subject.limit found }
+    requires kind { MayAnswer J.subject.refutes found }
     requires wide { All (IsCubeOf J.subject.netlist J.subject.holds) cubes.old.items }
     ensures table { share.new.table ≡ share.old.table }
     ensures ended { share.new.ended ≡ share.old.ended }
@@ -107,11 +108,13 @@ fn answer<J: About, T: Ledger, S: Ledger, P: Ledger, U: Ledger, G: Gate, R: Wait
     ensures few { OnOk result (vec_len cubes.new ≤ vec_len cubes.old + 1) }
     ensures wide { OnOk result (All (IsCubeOf J.subject.netlist J.subject.holds) cubes.new.items) }
 {
-    match found {
-        Found::Test(cube, _) => add(cubes, cube)?,
-        Found::Closed(tree) => settle(rt, shared, share, stage, claim, tree, Stage::Redundant),
-        Found::Partial(tree) => settle(rt, shared, share, stage, claim, tree, Stage::Aborted),
-    }
+    let (evidence, settled) = match found {
+        Found::Test(cube, _) => return add(cubes, cube),
+        Found::Closed(tree) => (Evidence::Tree(tree), Stage::Redundant),
+        Found::Refuted(steps) => (Evidence::Refutation(steps), Stage::Redundant),
+        Found::Partial(tree) => (Evidence::Tree(tree), Stage::Aborted),
+    };
+    settle(rt, shared, share, stage, claim, evidence, settled);
     Ok(())
 }
 
@@ -150,6 +153,62 @@ fn publish_full<J: About, T: Ledger, S: Ledger, P: Ledger, U: Ledger, G: Gate, N
     Ok((2 * enough).min(FULL))
 }
 
+/// Searches a claim that was drawn, answers it, and publishes once there are enough cubes: the room back, and how many are enough from then on.
+fn work_claim<
+    J: About,
+    T: Ledger,
+    S: Ledger,
+    P: Ledger,
+    U: Ledger,
+    E: Engine,
+    G: Gate,
+    N: Rng,
+    R: Wait,
+>(
+    rt: &R,
+    alloc: Global,
+    shared: &Shared<J, T, S, P, U>,
+    share: &mut Share<T, S, P, U>,
+    core: &Core,
+    engine: &E,
+    stage: &G,
+    holds: &Holds,
+    claim: Claim<J>,
+    room: E::Room,
+    simulator: &mut Simulator<'_>,
+    rng: &mut N,
+    cubes: &mut Vec<Cube>,
+    enough: usize,
+) -> Result<(E::Room, usize), NoMemory>
+    requires table { share.old.table ≡ shared.now.word.shared.table_id }
+    requires core { core.now ≡ J.subject.netlist }
+    requires lines { HaveLines J.subject }
+    requires limit { 1 ≤ J.subject.limit }
+    requires held { (holds.now ≡ J.subject.holds) × AreHoldsOf core.now holds.now }
+    requires kind { E.refutes ≡ J.subject.refutes }
+    requires room { E.serves core.now holds.now room }
+    requires simulator { simulator.old ≡ J.subject.netlist }
+    requires wide { All (IsCubeOf J.subject.netlist J.subject.holds) cubes.old.items }
+    requires full { enough ≤ 64 }
+    requires few { vec_len cubes.old < enough }
+    requires unspent { vec_len cubes.old < share.old.unspent }
+    ensures table { share.new.table ≡ share.old.table }
+    ensures ended { share.new.ended ≡ share.old.ended }
+    ensures simulator { simulator.new ≡ simulator.old }
+    ensures room { IfOk result (λ r. E.serves core.now holds.now r.0) }
+    ensures few { IfOk result (λ r. (vec_len cubes.new < r.1) × (r.1 ≤ 64)) }
+    ensures unspent { OnOk result (vec_len cubes.new ≤ share.new.unspent) }
+    ensures wide { OnOk result (All (IsCubeOf J.subject.netlist J.subject.holds) cubes.new.items) }
+{
+    stage.at(share.worker(), Stage::Claimed);
+    let (found, kept) = engine.search_in(alloc, room, core, claim.fault(), claim.limit(), holds)?;
+    answer(rt, shared, share, stage, claim, found, cubes)?;
+    let more = publish_full(
+        rt, alloc, shared, share, simulator, stage, rng, cubes, enough,
+    )?;
+    Ok((kept, more))
+}
+
 /// The work of one of so many workers: searches claim after claim, until there is none. Room for searches and for simulation is made once.
 pub(crate) fn work_beside<
     J: About,
@@ -177,6 +236,7 @@ pub(crate) fn work_beside<
     requires lines { HaveLines J.subject }
     requires limit { 1 ≤ J.subject.limit }
     requires held { (holds.now ≡ J.subject.holds) × AreHoldsOf core.now holds.now }
+    requires kind { E.refutes ≡ J.subject.refutes }
     ensures table { share.new.table ≡ share.old.table }
     ensures ended { OnOk result (share.new.ended ≡ true) }
 {
@@ -191,28 +251,24 @@ pub(crate) fn work_beside<
             Drawn::Gone(_) => continue,
             Drawn::None => break,
         };
-        stage.at(share.worker(), Stage::Claimed);
-        let (found, kept) = engine.search_in(
-            alloc,
-            room,
-            core,
-            claim.fault(),
-            claim.limit(),
-            holds,
-        )?;
-        room = kept;
-        answer(rt, shared, share, stage, claim, found, &mut cubes)?;
-        enough = publish_full(
+        let (kept, more) = work_claim(
             rt,
             alloc,
             shared,
             share,
-            &mut simulator,
+            core,
+            engine,
             stage,
+            holds,
+            claim,
+            room,
+            &mut simulator,
             &mut rng,
             &mut cubes,
             enough,
         )?;
+        room = kept;
+        enough = more;
     }
     publish_cubes(
         rt,

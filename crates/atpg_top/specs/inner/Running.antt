@@ -1,5 +1,5 @@
 -- The steps of `run` and of `transition`.
-use Rattle.std.specs.Prelude.{ℕ, ◌≡◌, List, Option, Some, None}
+use Rattle.std.specs.Prelude.{ℕ, ◌≡◌, false, List, Option, Some, None}
 use Rattle.statement.specs.Benches.{Text}
 use Rattle.statement.specs.Netlists.{Netlist}
 use Rattle.statement.specs.Patterns.{Holds}
@@ -22,7 +22,7 @@ IsFound n name None = (k : ℕ) → ¬ IsInputAt n k name
 
 -- what is due of a design with its held inputs
 abbrev pub made_due : RunOptions → Netlist → Holds → Due Refusal → Type 0
-made_due options n holds d = (made : RunFiles) × IsRun n holds options.chains options.limit made × (d ≡ Deliver (texts_made made) (tests_line made.said.counts) Fine)
+made_due options n holds d = (made : RunFiles) × IsRun n holds options.chains options.limit false made × (d ≡ Deliver (texts_made made) (tests_line made.said.counts) Fine)
 
 -- the same of the names of inputs
 abbrev pub held_due : RunOptions → List HoldItem → Netlist → Due Refusal → Type 0

@@ -87,6 +87,11 @@ pub record IsReady (c : Case) (s : Sim) : Type 0 where
 abbrev pub IsKept : Case → Sim → Type 0
 IsKept c s = IsOfCase c.fault c.core.now c.holds.now s
 
+-- labels of the case, after decisions on sources alone
+pub record AreOnSources (c : Case) (s : Sim) : Type 0 where
+  pub at : IsKept c s
+  pub only : OnSources c.core.now c.holds.now s.path
+
 -- what a search answers
 pub record IsAnswer (c : Case) (limit : ℕ) (found : Found) : Type 0 where
   pub evidence : HasEvidence c.fault c.core.now c.holds.now limit found

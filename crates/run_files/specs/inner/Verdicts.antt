@@ -7,7 +7,6 @@ use Rattle.statement.specs.Patterns.{Holds, Pattern, IsLastDetected}
 use Rattle.cubes.specs.Cubes.{IsPatternOf}
 use Rattle.fault_collapse.specs.Classes.{Represents}
 use Rattle.fault_collapse.specs.Numbers.{Classes}
-use Rattle.redundancy_cert.specs.declared.nodes.Node.{Node}
 use Rattle.redundancy_cert.specs.Trees.{closed_count, open_count}
 use Rattle.redundancy_cert.specs.Fits.{Fits}
 use Rattle.evidence.specs.declared.kinds.Evidence.{Evidence}

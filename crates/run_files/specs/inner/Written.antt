@@ -1,5 +1,7 @@
 -- The texts of verdicts and patterns.
 use Rattle.std.specs.Prelude.{ℕ, ◌≡◌, List}
+use Rattle.std.specs.List.{All}
+use Rattle.statement.specs.declared.lines.Fault.{Fault}
 use Rattle.statement.specs.Netlists.{Netlist}
 use Rattle.statement.specs.Patterns.{Holds, Pattern}
 use Rattle.statement.specs.Benches.{canonical}
@@ -8,7 +10,8 @@ use Rattle.stil_write.specs.StilFiles.{IsStilFile}
 use Rattle.statement.specs.Stils.{StilFile, stil_text}
 use Rattle.statement.specs.Tests.{IsFileOf}
 use Rattle.fault_collapse.specs.Numbers.{Classes}
-use Rattle.certificate.specs.Certificates.{certificate_text}
+use Rattle.evidence.specs.declared.kinds.Evidence.{Evidence}
+use Rattle.certificate.specs.Certificates.{HasSmallNumbers, certificate_text}
 use Rattle.report.specs.Reports.{IsReport}
 use Rattle.report.specs.Texts.{report_text}
 use Rattle.list_core.specs.declared.verdicts.Verdict.{Verdict}
@@ -28,6 +31,7 @@ pub record IsWritten (n : Netlist) (holds : Holds) (chains : List (List ℕ)) (c
   pub scan : made.scan.items ≡ canonical (scanned_of n chains)
   pub stil : IsTestText n holds chains patterns made.stil.items
   pub certificate : made.certificate.items ≡ certificate_text n (leaves_of classes.representatives verdicts)
+  pub small : All (λ (p : Fault × Evidence). HasSmallNumbers p.1) (leaves_of classes.representatives verdicts)
   pub report : made.report.items ≡ report_text made.said
   pub is_report : IsReport made.said
   pub said : IsSaid n chains holds classes limit patterns verdicts made.said

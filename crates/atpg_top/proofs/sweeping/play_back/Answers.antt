@@ -42,7 +42,7 @@ play_passing-requires-clause-fits c =
     let scanned : c.in_ok-scanned.scanned ≡ scanned_by n = c.in_ok-scanned.ensures ∙ ap scanned_by c.netlist-netlist.ensures in
     let stands : StandsFor made.stil.items c.in_ok-file.file = subst (λ (t : Text). StandsFor t c.in_ok-file.file) c.as_slice.ensures.value c.in_ok-file.ensures in
     subst (λ (m : Netlist). FitsNetlist c.in_ok-file.file m) (same_scanned n made run ∙ sym scanned)
-    (fits (files_of made) (contents_of n run.file run.trees made) sound c.requires.design run.good c.at_most_one.ensures c.files_fit.ensures c.in_ok-file.file stands)
+    (fits (files_of made) (contents_of n run.file run.evidence made) sound c.requires.design run.good c.at_most_one.ensures c.files_fit.ensures c.in_ok-file.file stands)
 
 pub play_passing-requires-clause-passes : goal.play_passing-requires-clause-passes
 play_passing-requires-clause-passes c =
@@ -53,7 +53,7 @@ play_passing-requires-clause-passes c =
     let scanned : c.in_ok-scanned.scanned ≡ scanned_by n = c.in_ok-scanned.ensures ∙ ap scanned_by c.netlist-netlist.ensures in
     let stands : StandsFor made.stil.items c.in_ok-file.file = subst (λ (t : Text). StandsFor t c.in_ok-file.file) c.as_slice.ensures.value c.in_ok-file.ensures in
     subst (λ (m : Netlist). (answer : Played) → PlaysAs m None (vectors_in c.in_ok-file.file) answer → answer ≡ Passes) (same_scanned n made run ∙ sym scanned)
-    (passes (files_of made) (contents_of n run.file run.trees made) sound c.requires.design run.good c.at_most_one.ensures c.file_vectors.ensures c.vectors_decide.ensures
+    (passes (files_of made) (contents_of n run.file run.evidence made) sound c.requires.design run.good c.at_most_one.ensures c.file_vectors.ensures c.vectors_decide.ensures
     c.in_ok-file.file stands)
 
 pub returns : goal.returns

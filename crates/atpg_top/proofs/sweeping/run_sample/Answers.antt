@@ -1,4 +1,4 @@
-use Rattle.std.proofs.Common.{None, arith, subst, ◌∙◌, ap, length}
+use Rattle.std.proofs.Common.{None, false, arith, subst, ◌∙◌, ap, length}
 use Rattle.std.proofs.lemmas.List.{length-map}
 use Rattle.std.proofs.lemmas.Result.{IfOk-weaker}
 use Rattle.statement.specs.Patterns.{Holds}
@@ -20,5 +20,5 @@ made_of-requires-clause-held g c κs within = ap length c.in_ok-holds.ensures �
 pub returns : goal.returns
 returns g c =
     let n = c.args.core.now in
-    IfOk-weaker c.made_of.result (IsRun n c.in_ok-holds.holds sweep_chains sweep_limit) (IsSweepRun n)
-    (λ made is. subst (λ (h : Holds). IsRun n h sweep_chains sweep_limit made) c.in_ok-holds.ensures is) c.made_of.ensures
+    IfOk-weaker c.made_of.result (IsRun n c.in_ok-holds.holds sweep_chains sweep_limit false) (IsSweepRun n)
+    (λ made is. subst (λ (h : Holds). IsRun n h sweep_chains sweep_limit false made) c.in_ok-holds.ensures is) c.made_of.ensures

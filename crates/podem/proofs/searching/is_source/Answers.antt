@@ -1,8 +1,7 @@
-use Rattle.std.proofs.Common.{sym, ◌∙◌, ap, subst, length, arith}
+use Rattle.std.proofs.Common.{sym, ◌∙◌, ap, subst}
 use Rattle.std.specs.List.{Contains}
 use Rattle.netlist.specs.Conditions.{IsSound}
-use Rattle.statement.specs.Netlists.{Definition, Netlist, is_flip_flop}
-use Rattle.podem.specs.Sources.{all_sources}
+use Rattle.statement.specs.Netlists.{Netlist, is_flip_flop}
 use Rattle.podem.proofs.Owns.{cell_is_source}
 use Rattle.podem.proofs.searching.is_source.Goals as goal
 

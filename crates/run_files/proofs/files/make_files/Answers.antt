@@ -9,7 +9,7 @@ returns g c =
     let n = c.args.core.now in
     let classes = c.in_ok-subject.subject.classes in
     let found = c.in_ok-found.found in
-    c.written_is_run.ensures n c.args.holds.now c.args.plan.chains c.args.plan.limit classes found.patterns.items found.verdicts.items c.in_ok-files.files
+    c.written_is_run.ensures n c.args.holds.now c.args.plan.chains c.args.plan.limit g.E.Engine.refutes classes found.patterns.items found.verdicts.items c.in_ok-files.files
     (subst IsSound c.netlist-netlist.ensures c.sound.ensures) c.requires.design
     (record {
       some = c.requires.some;
@@ -17,5 +17,6 @@ returns g c =
       held = c.requires.held;
       are_classes = subst (λ (m : Netlist). AreClasses m classes) c.netlist-netlist.ensures c.in_ok-subject.ensures.classes;
       found = c.in_ok-found.ensures.verdicts;
+      kinds = c.in_ok-found.ensures.kinds;
       written = c.in_ok-files.ensures;
     })

@@ -6,8 +6,8 @@ use Rattle.netlist.specs.Conditions.{IsSound}
 use Rattle.statement.specs.Patterns.{Pattern}
 use Rattle.statement.specs.Benches.{canonical}
 use Rattle.scan_insert.specs.Scanned.{Insertion, scanned_of}
-use Rattle.redundancy_cert.specs.declared.nodes.Node.{Node}
-use Rattle.certificate.specs.Certificates.{IsNamed, certificate_text}
+use Rattle.evidence.specs.declared.kinds.Evidence.{Evidence}
+use Rattle.certificate.specs.Certificates.{HasSmallNumbers, IsNamed, certificate_text}
 use Rattle.good_files.specs.ScanOff.{design_chains}
 use Rattle.run_files.specs.inner.Reports.{IsSaid}
 use Rattle.run_files.specs.inner.Verdicts.{leaves_of}
@@ -15,14 +15,14 @@ use Rattle.run_files.specs.inner.Written.{IsTestText}
 use Rattle.run_files.proofs.PointLemmas.{all_named}
 use Rattle.run_files.proofs.files.texts_of.Goals as goal
 
-pub write_trees-requires : goal.write_trees-requires
-write_trees-requires c =
+pub write_evidence-requires : goal.write_evidence-requires
+write_evidence-requires c =
     let n = c.args.core.now in
     let s = c.args.subject.now in
     let sound = subst IsSound c.netlist-netlist.ensures c.sound.ensures in
-    let named = all_named c.faults_have_signals.ensures n sound c.args.holds.now s.classes c.requires.subject.classes c.args.plan.limit c.args.found.patterns.items c.args.found.verdicts.items c.requires.verdicts in
+    let named = all_named n sound c.args.holds.now s.classes c.requires.subject.classes c.args.plan.limit c.args.found.patterns.items c.args.found.verdicts.items c.requires.verdicts c.faults_have_signals.ensures in
     let reps = ap (λ (fs : List Fault). leaves_of fs c.args.found.verdicts.items) c.representatives.ensures in
-    subst (λ (ls : List (Fault × List Node)). All (IsNamed n) ls) (sym (c.as_slice-2.ensures.value ∙ (c.in_ok-leaves.ensures ∙ reps))) named
+    subst (λ (ls : List (Fault × Evidence)). All (IsNamed n) ls) (sym (c.as_slice-2.ensures.value ∙ (c.in_ok-leaves.ensures ∙ reps))) named
 
 pub returns : goal.returns
 returns c =
@@ -42,7 +42,8 @@ returns c =
       scan = c.in_ok-scan.ensures ∙ ap canonical (c.netlist-2.ensures ∙ scanned);
       stil = subst (λ (cs : List (List ℕ)). IsTestText n holds cs found.patterns.items c.in_ok-stil.stil.items) same_chains
           (subst (λ (ps : List Pattern). IsTestText n holds c.args.chains.now ps c.in_ok-stil.stil.items) c.as_slice.ensures.value c.in_ok-stil.ensures);
-      certificate = c.in_ok-certificate.ensures ∙ ap (λ (ls : List (Fault × List Node)). certificate_text n ls) (c.as_slice-2.ensures.value ∙ (c.in_ok-leaves.ensures ∙ reps));
+      certificate = c.in_ok-certificate.ensures.text ∙ ap (λ (ls : List (Fault × Evidence)). certificate_text n ls) (c.as_slice-2.ensures.value ∙ (c.in_ok-leaves.ensures ∙ reps));
+      small = subst (λ (ls : List (Fault × Evidence)). All (λ (p : Fault × Evidence). HasSmallNumbers p.1) ls) (c.as_slice-2.ensures.value ∙ (c.in_ok-leaves.ensures ∙ reps)) c.in_ok-certificate.ensures.within;
       report = c.in_ok-report.ensures;
       is_report = c.sound-2.ensures;
       said = subst (λ (cs : List (List ℕ)). IsSaid n cs holds s.classes limit found.patterns.items found.verdicts.items c.in_ok-said.said) same_chains

@@ -1,4 +1,4 @@
-use Rattle.std.proofs.Common.{◌+◌, ◌/◌, ◌<◌, List, length, subst, sym, ◌∙◌, ap, ap₂, arith}
+use Rattle.std.proofs.Common.{◌+◌, ◌/◌, ◌<◌, List, subst, sym, ◌∙◌, ap, ap₂, arith}
 use Rattle.std.specs.List.{All}
 use Rattle.report.specs.Reports.{Hold, IsBenchWord, Report}
 use Rattle.run_report.specs.Heads.{share_of}

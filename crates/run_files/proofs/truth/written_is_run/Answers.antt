@@ -1,22 +1,27 @@
-use Rattle.std.proofs.Common.{◌≡◌, ℕ, ◌<◌, List, length, subst, sym}
+use Rattle.std.proofs.Common.{◌≡◌, ◌∙◌, ℕ, ◌<◌, Bool, false, List, length, subst, sym}
+use Rattle.std.specs.List.{All, flat_map}
 use Rattle.statement.specs.Patterns.{Holds, Pattern}
 use Rattle.fault_collapse.specs.Numbers.{Classes}
+use Rattle.certificate.specs.Certificates.{evidence_line}
 use Rattle.list_core.specs.Kept.{IsNeeded}
 use Rattle.statement.specs.Statement.{FiveFiles, Statement}
 use Rattle.good_files.specs.GoodFiles.{chains_said}
 use Rattle.good_files.specs.RunTheorem.{RunTheorem, as_written}
 use Rattle.good_files.specs.ScanOff.{design_chains}
 use Rattle.run_files.specs.Runs.{contents_of, files_of}
+use Rattle.run_files.specs.inner.Verdicts.{MayHave, leaves_of}
+use Rattle.good_files.proofs.TreesAlone.{begins_alone}
+use Rattle.run_files.proofs.PointLemmas.{leaves_kinds}
 use Rattle.run_files.proofs.truth.written_is_run.Goals as goal
 
 pub returns : goal.returns
-returns c = λ n holds asked limit classes patterns verdicts made sound design run.
-    let by = c.written_is_good.ensures n holds asked limit classes patterns verdicts made sound design run in
+returns c = λ n holds asked limit refutes classes patterns verdicts made sound design run.
+    let by = c.written_is_good.ensures n holds asked limit refutes classes patterns verdicts made sound design run in
     let files = files_of made in
     let chains = design_chains n asked in
     let own : RunTheorem n by.good.tested.holds (design_chains n (chains_said made.said)) limit by.file files =
     subst (λ (l : ℕ). RunTheorem n by.good.tested.holds (design_chains n (chains_said made.said)) l by.file files) by.limit_is
-    (c.good_files_tell_the_truth.ensures files (contents_of n by.file by.trees made) sound design by.good) in
+    (c.good_files_tell_the_truth.ensures files (contents_of n by.file by.evidence made) sound design by.good) in
     let truth : RunTheorem n holds chains limit by.file files =
     subst (λ (h : Holds). RunTheorem n h chains limit by.file files) by.holds_are
     (subst (λ (cs : List (List ℕ)). RunTheorem n by.good.tested.holds cs limit by.file files) by.chains_are own) in
@@ -24,7 +29,7 @@ returns c = λ n holds asked limit classes patterns verdicts made sound design r
     λ i. record { net = sym run.written.net i; scan = files.scan; stil = sym by.stil_is i; certificate = files.certificate; report = files.report } in
     record {
       file = by.file;
-      trees = by.trees;
+      evidence = by.evidence;
       net_is = run.written.net;
       good = by.good;
       holds_are = by.holds_are;
@@ -35,4 +40,8 @@ returns c = λ n holds asked limit classes patterns verdicts made sound design r
           (subst (λ (cs : Classes). (place : ℕ) → place < length patterns → IsNeeded n patterns cs.representatives place) (sym by.classes_are) run.found.needed);
       statement = subst (λ (f : FiveFiles). Statement n holds chains f) written truth.statement;
       truth = truth;
+      trees = λ none.
+          let leaves = leaves_of classes.representatives verdicts in
+          let alone = leaves_kinds false classes.representatives verdicts (subst (λ (b : Bool). All (MayHave b) verdicts) none run.kinds) in
+          c.trees_as_before.ensures n holds chains limit by.file files (flat_map (evidence_line n) leaves) truth (run.written.certificate ∙ begins_alone n leaves alone);
     }

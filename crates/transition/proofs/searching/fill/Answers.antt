@@ -11,6 +11,7 @@ for_each_chunk_mut-requires-clause-accepts g c κs within start p chunk =
         c.requires.names,
         c.requires.lines,
         c.requires.limit,
+        c.requires.trees,
         c.requires.few,
         c.requires.left,
         c.share_size-size.ensures,

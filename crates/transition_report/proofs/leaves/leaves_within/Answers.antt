@@ -1,4 +1,4 @@
-use Rattle.std.proofs.Common.{◌<◌, length, refl, sym, ◌∙◌, ap, arith, length-append}
+use Rattle.std.proofs.Common.{length, refl, sym, ◌∙◌, ap, arith, length-append}
 use Rattle.transition_report.proofs.LeafLemmas.{leaves_more, leaves_none}
 use Rattle.transition_report.proofs.leaves.leaves_within.Goals as goal
 

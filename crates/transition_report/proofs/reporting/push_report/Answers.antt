@@ -1,4 +1,4 @@
-use Rattle.std.proofs.Common.{◌++◌, ◌∙◌, ℕ, List, ap, codes}
+use Rattle.std.proofs.Common.{codes}
 use Rattle.std.specs.List.{flat_map}
 use Rattle.report.specs.Texts.{counts_text, share_line}
 use Rattle.statement.specs.Reports.{fault_line}
