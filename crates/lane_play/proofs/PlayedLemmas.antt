@@ -9,7 +9,7 @@ use Rattle.statement.specs.declared.kinds.Tri.TheVariants.{X}
 use Rattle.statement.specs.declared.lines.Fault.{Fault}
 use Rattle.netlist.specs.Conditions.{IsSound}
 use Rattle.statement.specs.Netlists.{Netlist, cells}
-use Rattle.statement.specs.Values.{Settles, next, outs, known}
+use Rattle.statement.specs.Values.{Settles, next, known}
 use Rattle.netlist.specs.Settled.{at}
 use Rattle.netlist.proofs.Settling.{zip_from}
 use Rattle.events.specs.Words.{bit_of}

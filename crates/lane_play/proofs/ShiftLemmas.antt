@@ -1,5 +1,5 @@
 -- A cycle that is played by the steps of a plan is each machine's step of its own player.
-use Rattle.std.proofs.Common.{◌≡◌, ℕ, ◌-◌, ◌<◌, ◌≤◌, Bool, cond, List, [], ◌++◌, map, length, replicate, None, refl, sym, ◌∙◌, ap, arith}
+use Rattle.std.proofs.Common.{◌≡◌, ℕ, ◌-◌, ◌≤◌, Bool, cond, List, [], ◌++◌, map, length, replicate, None, refl, sym, ◌∙◌, ap, arith}
 use Rattle.std.specs.List.{All, slice_get}
 use Rattle.std.proofs.lemmas.List.{length-map, map-append}
 use Rattle.statement.specs.declared.kinds.Tri.{Tri}
@@ -7,7 +7,7 @@ use Rattle.statement.specs.declared.lines.Fault.{Fault}
 use Rattle.netlist.specs.Conditions.{IsSound}
 use Rattle.statement.specs.Netlists.{Netlist, cells, signals}
 use Rattle.netlist.specs.Netlist.{IsGateAt}
-use Rattle.statement.specs.Values.{Settles, next, outs}
+use Rattle.statement.specs.Values.{Settles, next}
 use Rattle.netlist.specs.Settled.{at}
 use Rattle.netlist.specs.Settling.{AreSourcesDriven, AreEvaluated}
 use Rattle.scan_play.specs.Judging.{Judging, judged_in}

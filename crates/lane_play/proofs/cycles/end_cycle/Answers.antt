@@ -37,8 +37,7 @@ returns-clause-ended g c =
     let rule = lanes_rule c.args.rule.now.faults.now in
     let n : Netlist = c.args.core.now in
     let state : List Lanes = c.args.bench.now.state.items in
-    let kept = g.W.Watch.kept c.args.judge.now in
-    (
+    let kept = g.W.Watch.kept c.args.judge.now in (
       c.deref-3.result.now,
       subst (λ (ss : List Tri). KeepsOn (kept c.args.watch) (kept c.in_ok-heard.heard) c.args.number ss c.deref-3.result.now) c.deref-2.ensures.value c.in_ok-heard.ensures,
       record {

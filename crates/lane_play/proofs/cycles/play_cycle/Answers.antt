@@ -39,8 +39,7 @@ returns-clause-played g c =
     let values = c.settle_into.new.values.items in
     let state : List Lanes = c.args.bench.now.state.items in
     let e = c.in_ok-heard.ensures.ended in
-    let kept = g.W.Watch.kept c.args.judge.now in
-    (
+    let kept = g.W.Watch.kept c.args.judge.now in (
       e.0,
       subst (λ (ss : List Tri). KeepsOn (kept c.args.watch) (kept c.in_ok-heard.heard) c.args.number ss e.0) c.in_ok-read_strobe.ensures e.1,
       steps_from faults n (cycle_of c.args.burst.now c.args.t) c.args.number state c.end_cycle.new.bench.state.items c.deref.result.now values e.0

@@ -3,6 +3,7 @@ use Rattle.std.proofs.lemmas.List.{length-map}
 use Rattle.statement.specs.declared.lines.Fault.{Fault}
 use Rattle.statement.specs.Netlists.{Definition, Netlist, cells}
 use Rattle.statement.specs.Runs.{Cycle}
+use Rattle.scan_play.specs.Bursts.{all_cycles}
 use Rattle.lane_play.specs.declared.packed.Lanes.{Lanes}
 use Rattle.lane_play.proofs.playing.play.Goals as goal
 
@@ -26,9 +27,8 @@ pub returns : goal.returns
 returns g c =
     let n : Netlist = c.args.core.now in
     let state = c.play_bursts.new.bench.state.items in
-    let kept = g.W.Watch.kept c.args.judge.now c.in_ok-watched.watched in
-    (
+    let kept = g.W.Watch.kept c.args.judge.now c.in_ok-watched.watched in (
       state,
       subst (λ (cs : List Cycle). kept c.args.faults.now n cs state) (sym c.bursts-bursts.ensures)
-          (subst (λ (fs : List Fault). kept fs n _ state) c.in_ok-rule.ensures.faults c.in_ok-watched.ensures),
+          (subst (λ (fs : List Fault). kept fs n (all_cycles c.bursts-bursts.result.now) state) c.in_ok-rule.ensures.faults c.in_ok-watched.ensures),
     )

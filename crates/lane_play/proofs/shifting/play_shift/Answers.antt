@@ -56,8 +56,7 @@ pub returns-clause-played : goal.returns-clause-played
 returns-clause-played g c =
     let b = c.args.burst.now in
     let e = c.in_ok-heard.ensures.ended in
-    let kept = g.W.Watch.kept c.args.judge.now in
-    (
+    let kept = g.W.Watch.kept c.args.judge.now in (
       e.0,
       subst (λ (ss : List Tri). KeepsOn (kept c.args.watch) (kept c.in_ok-heard.heard) c.args.number ss e.0) c.in_ok-read_strobe.ensures e.1,
       shift_steps c.args.rule.now.faults.now c.args.rule.now.few c.args.core.now c.netlist-netlist.result.now b.drive.items b.strobe.items
