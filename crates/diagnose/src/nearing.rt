@@ -70,7 +70,7 @@ fn nearest<G: Gate>(
     classes: &Classes,
     vectors: &Vectors,
     failures: &FailureLines,
-    count: u32,
+    count: u64,
 ) -> Result<Vec<Ranked>, NoMemory>
     requires design { IsScannedDesign scanned.now faults.now classes.now }
     requires core { core.now ≡ scanned.now.netlist }
@@ -104,7 +104,7 @@ pub fn ranking<G: Gate>(
     classes: &Classes,
     vectors: Vectors,
     log: &FailLog,
-    count: u32,
+    count: u64,
 ) -> Result<Vec<Ranked>, NoMemory>
     requires design { IsScannedDesign scanned.now faults.now classes.now }
     requires core { core.now ≡ scanned.now.netlist }
