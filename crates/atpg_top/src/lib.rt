@@ -35,6 +35,7 @@ mod holding;
 mod laws;
 mod lines;
 mod listing;
+mod nearest_faults;
 mod playing;
 mod reading;
 mod refusal;
