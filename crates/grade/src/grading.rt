@@ -90,11 +90,13 @@ fn batch_grades(
 {
     core.netlist().sound();
     let unmet = play_lanes(alloc, core, lines, vectors, &Strict)?;
-    if !are_open(&unmet) {
-        return grades_told(alloc, &unmet).map_err(|_| NoMemory);
+    if are_open(&unmet) {
+        let wrong = first_wrongs(alloc, &OpenGate, core, lines, vectors)?;
+        let grades = grades_of(alloc, &unmet, &wrong)?;
+        return Ok(grades);
     }
-    let wrong = first_wrongs(alloc, &OpenGate, core, lines, vectors)?;
-    grades_of(alloc, &unmet, &wrong).map_err(|_| NoMemory)
+    let grades = grades_told(alloc, &unmet)?;
+    Ok(grades)
 }
 
 /// The next 64 lines, or as many as there are.
