@@ -71,7 +71,7 @@ fn case_of(alloc: Global, net: &[u8], stil: &[u8], log: &[u8]) -> Result<Case, S
 }
 
 /// The cycles of a file, which have to be fewer than 2 to the 64.
-fn cycles_of(alloc: Global, file: &StilFile) -> Result<Vectors, NoMemory>
+pub(crate) fn cycles_of(alloc: Global, file: &StilFile) -> Result<Vectors, NoMemory>
     ensures cycles { IfOk result (λ v. v ≡ vectors_in file.now) }
     ensures few { IfOk result (λ v. length v < 2 ^ 64) }
 {
@@ -82,7 +82,7 @@ fn cycles_of(alloc: Global, file: &StilFile) -> Result<Vectors, NoMemory>
 }
 
 /// A core for the scanned netlist.
-fn core_of(alloc: Global, scanned: &Scanned) -> Result<Core, NoMemory>
+pub(crate) fn core_of(alloc: Global, scanned: &Scanned) -> Result<Core, NoMemory>
     ensures { IfOk result (λ core. core ≡ scanned.now.netlist) }
 {
     let copy = scanned.netlist().copy(alloc)?;
