@@ -111,7 +111,7 @@ zip_length R (x ∷ xs) (y ∷ ys) all = ap suc (zip_length R xs ys all.1)
 
 -- ---- the scan hardware
 
-signals_of : FaultsHaveSignals → (n : Netlist) → IsSound n → All (λ (f : Fault). signal_of f.line < length (signals n)) (universe_of n)
+pub signals_of : FaultsHaveSignals → (n : Netlist) → IsSound n → All (λ (f : Fault). signal_of f.line < length (signals n)) (universe_of n)
 signals_of law n sound k d l = law n k (get_or (universe_of n) k d) sound (at (universe_of n) k d l)
   where
     at : (fs : List Fault) (k : ℕ) (d : Fault) → k < length fs → slice_get fs k ≡ Some (get_or fs k d)
