@@ -18,7 +18,9 @@ import check_trees
 import list_play
 import plain_chains
 import plain_check
+import plain_design
 import plain_program
+import plain_refutation
 import stil_file
 from check_reports import is_report
 from fault_list import fault_list, netlist_of, readers_of
@@ -570,7 +572,15 @@ def on_fault_list(verb, name, text, rest, given):
     if verb == "searches":
         return searched_all(name, text, limit, given)
     netlist = Netlist(text)
-    faults = list_play.List(first_members(text), int(limit), lambda fault, patterns: last_detected(netlist, fault, " ".join(patterns)), merged)
+    design = plain_design.read(text.encode())
+
+    def last(fault, patterns):
+        return last_detected(netlist, fault, " ".join(patterns))
+
+    def refutes(fault, steps):
+        return plain_refutation.cause_of(design, f"{fault} R{steps}", []) is None
+
+    faults = list_play.List(first_members(text), int(limit), last, merged, refutes)
     if verb == "list":
         return list(list_play.on_list(faults, calls))
     if verb == "compacted":

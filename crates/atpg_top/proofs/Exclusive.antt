@@ -193,18 +193,18 @@ check_exclusive checks texts c d p q = given c d (told p.0) (told q.0) p.2 q.2 (
 
 -- ---- `diagnose`
 
-diagnose_exclusive : AtMostOne → OneLog → (chains : ℕ) → IsExclusive (diagnose_due chains)
-diagnose_exclusive one once chains [] c d p q = absurd p
-diagnose_exclusive one once chains (net ∷ []) c d p q = absurd p
-diagnose_exclusive one once chains (net ∷ stil ∷ []) c d p q = absurd p
-diagnose_exclusive one once chains (net ∷ stil ∷ log ∷ []) c d p q =
-    then_one (netlist Design net) (cases.test_due chains stil log) (netlist_single Design net)
-    (λ n. then_one (value StandsFor NotStil stil) (cases.log_due chains log n) (value_single StandsFor NotStil stil (one stil))
-    (λ file. then_one (value IsLogOf NotLog log) (cases.case_due chains n file) (value_single IsLogOf NotLog log (once log))
+diagnose_exclusive : AtMostOne → OneLog → (chains : ℕ) (rank : Option ℕ) → IsExclusive (diagnose_due chains rank)
+diagnose_exclusive one once chains rank [] c d p q = absurd p
+diagnose_exclusive one once chains rank (net ∷ []) c d p q = absurd p
+diagnose_exclusive one once chains rank (net ∷ stil ∷ []) c d p q = absurd p
+diagnose_exclusive one once chains rank (net ∷ stil ∷ log ∷ []) c d p q =
+    then_one (netlist Design net) (cases.test_due chains rank stil log) (netlist_single Design net)
+    (λ n. then_one (value StandsFor NotStil stil) (cases.log_due chains rank log n) (value_single StandsFor NotStil stil (one stil))
+    (λ file. then_one (value IsLogOf NotLog log) (cases.case_due chains rank n file) (value_single IsLogOf NotLog log (once log))
     (λ failures. let fits = FitsNetlist file (scanned_of n (design_chains n chains)) in
-    then_one (test fits StilDoesNotFit) (λ _. cases.diagnosis_due chains n file failures) (test_single fits StilDoesNotFit)
+    then_one (test fits StilDoesNotFit) (λ _. cases.diagnosis_due chains rank n file failures) (test_single fits StilDoesNotFit)
     (λ u x y a b. given x y (Deliver [] a.0 Fine) (Deliver [] b.0 Fine) a.2 b.2 refl)))) c d p q
-diagnose_exclusive one once chains (net ∷ stil ∷ log ∷ more ∷ others) c d p q = absurd p
+diagnose_exclusive one once chains rank (net ∷ stil ∷ log ∷ more ∷ others) c d p q = absurd p
 
 -- ---- `sweep`
 
@@ -220,6 +220,6 @@ each_exclusive one checks once (run net prefix options holds) = run_exclusive op
 each_exclusive one checks once (check prefix) = check_exclusive checks
 each_exclusive one checks once (sweep seed gates) = sweep_exclusive seed gates
 each_exclusive one checks once (chaintest net stil chains) = chaintest_exclusive one chains
-each_exclusive one checks once (diagnose net stil log options) = diagnose_exclusive one once options.chains
+each_exclusive one checks once (diagnose net stil log options) = diagnose_exclusive one once options.chains options.rank
 each_exclusive one checks once (transition net prefix options) = transition_exclusive options
 each_exclusive one checks once (grade net stil prefix chains) = grade_exclusive one chains

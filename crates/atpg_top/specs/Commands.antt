@@ -29,7 +29,7 @@ use Rattle.atpg_top.specs.FaultLists.{IsFaultList}
 use Rattle.atpg_top.specs.ChainTests.{IsChainTest, Strobe, chain_test_text, hardware_of}
 use Rattle.atpg_top.specs.Grades.{IsGradeProduct}
 use Rattle.atpg_top.specs.Plays.{IsPlay, played_finding, played_line}
-use Rattle.atpg_top.specs.Diagnoses.{IsDiagnosis}
+use Rattle.atpg_top.specs.Diagnoses.{IsSaidOf}
 use Rattle.atpg_top.specs.Sweeps.{IsSweep, sweep_text}
 use Rattle.atpg_top.specs.declared.refusal.Refusal.{Refusal}
 use Rattle.atpg_top.specs.declared.refusal.Refusal.TheVariants.{NotLog, NotStil, StilDoesNotFit}
@@ -67,13 +67,13 @@ chaintest_due asked (net ∷ stil ∷ []) =
     × (d ≡ Deliver [] (chain_test_text (scanned_of n (design_chains n asked)) (hardware_of n (design_chains n asked)) told) Fine)
 chaintest_due asked texts = λ d. ⊥
 
--- the faults that explain what failed; how many workers look for them makes no difference
-abbrev pub diagnose_due : ℕ → List Text → Due Refusal → Type 0
-diagnose_due chains (net ∷ stil ∷ log ∷ []) =
+-- the faults that explain what failed, or so many that come nearest to it; how many workers look for them makes no difference
+abbrev pub diagnose_due : ℕ → Option ℕ → List Text → Due Refusal → Type 0
+diagnose_due chains rank (net ∷ stil ∷ log ∷ []) =
     netlist Design net >>= λ n. value StandsFor NotStil stil >>= λ file. value IsLogOf NotLog log >>= λ told.
     test (FitsNetlist file (scanned_of n (design_chains n chains))) StilDoesNotFit >>= λ _ d.
-    (text : Text) × IsDiagnosis n (design_chains n chains) (vectors_in file) told text × (d ≡ Deliver [] text Fine)
-diagnose_due chains texts = λ d. ⊥
+    (text : Text) × IsSaidOf rank n (design_chains n chains) (vectors_in file) told text × (d ≡ Deliver [] text Fine)
+diagnose_due chains rank texts = λ d. ⊥
 
 -- the grades of the design's stuck lines, and the line that counts them, the file fitting the scanned netlist
 abbrev pub grade_due : ℕ → List Text → Due Refusal → Type 0
@@ -96,6 +96,6 @@ due (run net prefix options holds) = run_due options holds
 due (check prefix) = check_due
 due (sweep seed gates) = sweep_due seed gates
 due (chaintest net stil chains) = chaintest_due chains
-due (diagnose net stil log options) = diagnose_due options.chains
+due (diagnose net stil log options) = diagnose_due options.chains options.rank
 due (transition net prefix options) = transition_due options
 due (grade net stil prefix chains) = grade_due chains

@@ -11,6 +11,8 @@ use Rattle.diagnose.specs.declared.failures.FailLog.{FailLog}
 use Rattle.diagnose.specs.Candidates.{AreCandidates}
 use Rattle.diagnose.specs.Explaining.{told_cycles}
 use Rattle.diagnose.specs.Laws.{TellTheTruth}
+use Rattle.diagnose.specs.Ranking.{IsRanking}
+use Rattle.diagnose.specs.declared.ranks.Ranked.{Ranked}
 
 -- `candidates 2`
 abbrev pub candidates_line : ℕ → Text
@@ -31,3 +33,27 @@ pub record IsDiagnosis (n : Netlist) (chains : List (List ℕ)) (cycles : List C
   pub exactly : AreCandidates (insertion_of n chains) (universe_of n) (told_cycles log.end cycles) log.failures found
   pub holds : TellTheTruth n chains cycles log found
   pub text_is : text ≡ candidates_line (length found) ++ suspect_lines n found
+
+-- `nearest 2`
+abbrev pub nearest_line : ℕ → Text
+nearest_line count = codes "nearest " ++ (decimal count ++ codes "\n")
+
+-- `stem a/1 missing 1 extra 0`
+abbrev pub ranked_line : Netlist → Ranked → Option Fault → Text
+ranked_line n r None = []
+ranked_line n r (Some fault) = fault_text n fault ++ (codes " missing " ++ (decimal r.missing ++ (codes " extra " ++ (decimal r.extra ++ codes "\n"))))
+
+-- a line for each of these
+abbrev pub ranked_lines : Netlist → List Ranked → Text
+ranked_lines n ranking = flat_map (λ (r : Ranked). ranked_line n r (slice_get (universe_of n) r.place)) ranking
+
+-- How many faults of the design are listed, and then these, those that come nearest to the log first.
+pub record IsNearest (count : ℕ) (n : Netlist) (chains : List (List ℕ)) (cycles : List Cycle) (log : FailLog) (text : Text) : Type 0 where
+  pub ranking : List Ranked
+  pub is_ranking : IsRanking (insertion_of n chains) (universe_of n) (told_cycles log.end cycles) log.failures count ranking
+  pub text_is : text ≡ nearest_line (length ranking) ++ ranked_lines n ranking
+
+-- the faults that explain the log, or so many that come nearest to it
+abbrev pub IsSaidOf : Option ℕ → Netlist → List (List ℕ) → List Cycle → FailLog → Text → Type 0
+IsSaidOf None n chains cycles log text = IsDiagnosis n chains cycles log text
+IsSaidOf (Some count) n chains cycles log text = IsNearest count n chains cycles log text

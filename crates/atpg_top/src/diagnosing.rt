@@ -19,11 +19,12 @@ ghost use Rattle.commands.specs.Worked.{IsWorked};
 ghost use Rattle.commands.specs.World.{world};
 ghost use Rattle.command_line.specs.CommandLine.{AreWithin};
 ghost use Rattle.atpg_top.specs.Commands.{diagnose_due};
-ghost use Rattle.atpg_top.specs.Diagnoses.{IsDiagnosis, candidates_line, suspect_line, suspect_lines};
+ghost use Rattle.atpg_top.specs.Diagnoses.{IsDiagnosis, IsSaidOf, candidates_line, suspect_line, suspect_lines};
 ghost use Rattle.atpg_top.specs.inner.Cases.{ReadsCase, case_due, diagnosis_due};
 
 use crate::design::scanned_of;
 use crate::fault_list::faults_of;
+use crate::nearest_faults::nearest;
 use crate::reading::{fitting, log_of, netlist_of, stil_of};
 use crate::refusal::Refusal;
 use bench_text::Names;
@@ -45,16 +46,16 @@ use stil_write::StilFile;
 
 /// What is diagnosed: the design, the test, and what failed.
 #[derive(Drop)]
-struct Case {
-    netlist: Netlist,
-    file: StilFile,
-    log: FailLog,
+pub(crate) struct Case {
+    pub netlist: Netlist,
+    pub file: StilFile,
+    pub log: FailLog,
 }
 
 /// Reads the design, the file and the log.
 fn case_of(alloc: Global, net: &[u8], stil: &[u8], log: &[u8]) -> Result<Case, Stop<Refusal>>
     requires { length net.now ≤ most_bytes }
-    ensures { (chains : _) → ReadsCase chains net.now stil.now log.now result }
+    ensures { (chains : _) (rank : _) → ReadsCase chains rank net.now stil.now log.now result }
 {
     let netlist = match netlist_of(alloc, net, Names::Design) {
         Ok(netlist) => netlist,
@@ -194,6 +195,27 @@ fn diagnosis<R: Threads + Sync, G: Gate + Sync>(
     }
 }
 
+/// What is printed of a case whose file fits: the faults that explain the log, or those that come nearest to it.
+fn said_of<R: Threads + Sync, G: Gate + Sync>(
+    rt: &R,
+    alloc: Global,
+    stage: &G,
+    scanned: &Scanned,
+    case: &Case,
+    options: DiagnoseOptions,
+) -> Result<Vec<u8>, NoMemory>
+    requires design { IsDesign case.now.netlist }
+    requires range { AreWithin options }
+    requires scanned { scanned.now ≡ insertion_of case.now.netlist (design_chains case.now.netlist options.chains) }
+    requires fits { FitsNetlist case.now.file scanned.now.netlist }
+    ensures { IfOk result (λ text. IsSaidOf options.rank case.now.netlist (design_chains case.now.netlist options.chains) (vectors_in case.now.file) case.now.log text.items) }
+{
+    match options.rank {
+        None => diagnosis(rt, alloc, stage, scanned, case, options),
+        Some(count) => nearest(alloc, stage, scanned, case, options, count),
+    }
+}
+
 /// The product of a case whose file fits.
 fn product_of<R: Threads + Sync, G: Gate + Sync>(
     rt: &R,
@@ -207,9 +229,9 @@ fn product_of<R: Threads + Sync, G: Gate + Sync>(
     requires range { AreWithin options }
     requires scanned { scanned.now ≡ insertion_of case.now.netlist (design_chains case.now.netlist options.chains) }
     requires fits { FitsNetlist case.now.file scanned.now.netlist }
-    ensures { IsWorked (diagnosis_due options.chains case.now.netlist case.now.file case.now.log) 0 result }
+    ensures { IsWorked (diagnosis_due options.chains options.rank case.now.netlist case.now.file case.now.log) 0 result }
 {
-    match diagnosis(rt, alloc, stage, scanned, case, options) {
+    match said_of(rt, alloc, stage, scanned, case, options) {
         Ok(shown) => Ok(Product {
             texts: Vec::new(alloc),
             shown,
@@ -231,7 +253,7 @@ fn fitted<R: Threads + Sync, G: Gate + Sync>(
     requires design { IsDesign case.now.netlist }
     requires range { AreWithin options }
     requires scanned { scanned.now ≡ insertion_of case.now.netlist (design_chains case.now.netlist options.chains) }
-    ensures { IsWorked (case_due options.chains case.now.netlist case.now.file case.now.log) 0 result }
+    ensures { IsWorked (case_due options.chains options.rank case.now.netlist case.now.file case.now.log) 0 result }
 {
     match fitting(alloc, &case.file, scanned.netlist()) {
         Ok(()) => product_of(rt, alloc, stage, scanned, case, options),
@@ -249,7 +271,7 @@ fn diagnosed<R: Threads + Sync, G: Gate + Sync>(
 ) -> Result<Product, Stop<Refusal>>
     requires design { IsDesign case.now.netlist }
     requires range { AreWithin options }
-    ensures { IsWorked (case_due options.chains case.now.netlist case.now.file case.now.log) 0 result }
+    ensures { IsWorked (case_due options.chains options.rank case.now.netlist case.now.file case.now.log) 0 result }
 {
     match scanned_of(alloc, &case.netlist, options.chains) {
         Ok(scanned) => fitted(rt, alloc, stage, &scanned, case, options),
@@ -267,7 +289,7 @@ fn work<R: Threads + Sync, G: Gate + Sync>(
     requires count { length texts.items ≡ 3 }
     requires within { All (λ text. length text ≤ most_bytes) (texts_of texts.items) }
     requires range { AreWithin options }
-    ensures { IsWorked (diagnose_due options.chains (texts_of texts.items)) 0 result }
+    ensures { IsWorked (diagnose_due options.chains options.rank (texts_of texts.items)) 0 result }
 {
     let net = texts[0].as_slice();
     let stil = texts[1].as_slice();
@@ -294,7 +316,7 @@ pub fn diagnose_log<'a, R: Threads + Sync, S: Shelf, T: Sink, G: Gate + Sync>(
     options: DiagnoseOptions,
 ) -> Ending<'a, Refusal>
     requires { AreWithin options }
-    ensures { CommandRow (net.now ∷ stil.now ∷ log.now ∷ []) [] (diagnose_due options.chains)
+    ensures { CommandRow (net.now ∷ stil.now ∷ log.now ∷ []) [] (diagnose_due options.chains options.rank)
         (world (S.files shelf.old) (S.failures shelf.old) (T.taken out.old) (T.failures out.old))
         (world (S.files shelf.new) (S.failures shelf.new) (T.taken out.new) (T.failures out.new)) result }
 {

@@ -37,6 +37,7 @@ mod holding;
 mod laws;
 mod lines;
 mod listing;
+mod nearest_faults;
 mod playing;
 mod reading;
 mod refusal;

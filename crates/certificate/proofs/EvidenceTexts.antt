@@ -13,7 +13,7 @@ use Rattle.refutation_text.specs.Texts.{text_of}
 use Rattle.refutation_text.proofs.StepTexts.{one_list}
 use Rattle.evidence.specs.declared.kinds.Evidence.{Evidence}
 use Rattle.evidence.specs.declared.kinds.Evidence.TheVariants.{Tree, Refutation}
-use Rattle.certificate.specs.Certificates.{evidence_text, node_text, HasSignal, IsCertFault, IsFormed}
+use Rattle.certificate.specs.Certificates.{evidence_text, node_text, HasSignal, IsCertFault, IsWellFormed}
 use Rattle.certificate.specs.declared.reading.CertFault.{CertFault}
 use Rattle.certificate.specs.declared.reading.CertFault.TheVariants.{NotCertificate, NoMemory}
 use Rattle.certificate.specs.inner.Parts.{AreNodes, IsNodeAt, IsTextOf, NoNodeAt, NoText}
@@ -110,6 +110,6 @@ module _ (n : Netlist) (sound : IsSound n) where
       All-append (λ b. b ≢ 10) (codes " F ") (name_of n x ++ codes " 1") (has_no 10 (codes " F ") refl)
       (All-append (λ b. b ≢ 10) (name_of n x) (codes " 1") (name_has_no n sound 10 refl x h) (has_no 10 (codes " 1") refl))
 
-  pub evidence_has_no : (e : Evidence) → IsFormed n e → All (λ b. b ≢ 10) (evidence_text n e)
+  pub evidence_has_no : (e : Evidence) → IsWellFormed n e → All (λ b. b ≢ 10) (evidence_text n e)
   evidence_has_no (Tree nodes) h = all_have_no (node_text n) (HasSignal n) node_has_no nodes h.0
   evidence_has_no (Refutation steps) h = All-append (λ b. b ≢ 10) (codes " R") (text_of steps) (has_no 10 (codes " R") refl) (steps_have_no steps h)

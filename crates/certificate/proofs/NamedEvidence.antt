@@ -15,7 +15,7 @@ use Rattle.fault_universe.specs.inner.Written.{IsWritten}
 use Rattle.evidence.specs.declared.kinds.Evidence.{Evidence}
 use Rattle.evidence.specs.declared.kinds.Evidence.TheVariants.{Tree, Refutation}
 use Rattle.evidence.specs.Evidence.{Shows}
-use Rattle.certificate.specs.Certificates.{HasSignals, HasSmallNumbers, IsEvidence, IsNamed, IsFormed}
+use Rattle.certificate.specs.Certificates.{HasSignals, HasSmallNumbers, IsEvidence, IsNamed, IsWellFormed}
 use Rattle.certificate.proofs.FaultTexts.{member_written}
 use Rattle.certificate.proofs.NamedTrees.{nodes_named}
 
@@ -24,7 +24,7 @@ written_signal n (Stem x) w = w
 written_signal n (Pin z k) w = w.0
 written_signal n (Out y) w = w
 
-formed_signals : (n : Netlist) (e : Evidence) → IsFormed n e → HasSignals n e
+formed_signals : (n : Netlist) (e : Evidence) → IsWellFormed n e → HasSignals n e
 formed_signals n (Tree nodes) formed = formed.0
 formed_signals n (Refutation steps) formed = tt
 
@@ -41,6 +41,6 @@ module _ (n : Netlist) (sound : IsSound n) where
     shown_named (Tree nodes) shows = nodes_named n sound f holds nodes shows
     shown_named (Refutation steps) shows = tt
 
-    pub shown_formed : (e : Evidence) → Shows f n holds e → HasSmallNumbers e → IsFormed n e
+    pub shown_formed : (e : Evidence) → Shows f n holds e → HasSmallNumbers e → IsWellFormed n e
     shown_formed (Tree nodes) shows small = (nodes_named n sound f holds nodes shows, (shows.0, shows.1))
     shown_formed (Refutation steps) shows small = small

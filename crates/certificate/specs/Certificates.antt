@@ -69,14 +69,14 @@ pub record IsNamed (n : Netlist) (p : Fault × Evidence) : Type 0 where
   pub signals : HasSignals n p.1
 
 -- one tree of decisions on signals of the netlist; steps whose numbers are below 2^32
-abbrev pub IsFormed : Netlist → Evidence → Type 0
-IsFormed n (Tree nodes) = All (HasSignal n) nodes × IsOneTree nodes
-IsFormed n (Refutation steps) = All IsStep steps
+abbrev pub IsWellFormed : Netlist → Evidence → Type 0
+IsWellFormed n (Tree nodes) = All (HasSignal n) nodes × IsOneTree nodes
+IsWellFormed n (Refutation steps) = All IsStep steps
 
 -- a fault of the netlist, and such evidence
 pub record IsEvidence (n : Netlist) (p : Fault × Evidence) : Type 0 where
   pub fault : Contains (universe_of n) p.0
-  pub formed : IsFormed n p.1
+  pub formed : IsWellFormed n p.1
 
 -- the bytes are the certificate of this evidence, in this order
 pub record IsCertificate (n : Netlist) (bytes : List ℕ) (evidence : List (Fault × Evidence)) : Type 0 where

@@ -112,6 +112,32 @@ impl Analysis {
         Ok(())
     }
 
+    /// Notes an assigned literal, which is resolved.
+    fn take(&mut self, trail: &Trail, literal: u32) -> Result<(), AllocError> {
+        let variable = variable_of(literal);
+        let place = trail.place_of(variable);
+        let reason = trail.reason_of(variable);
+        self.taken.push(Taken {
+            place,
+            literal,
+            reason,
+        })?;
+        Ok(())
+    }
+
+    /// Finds the literals from which a variable's was implied.
+    fn find_causes(
+        &mut self,
+        cone: &Cone,
+        trail: &Trail,
+        clauses: &Clauses,
+        variable: u32,
+    ) -> Result<(), AllocError> {
+        let place = trail.place_of(variable);
+        let asked = Asked { variable, place };
+        self.find(cone, trail, clauses, &asked, trail.reason_of(variable))
+    }
+
     /// Puts what a literal was implied by in its place.
     fn replace(
         &mut self,
@@ -119,19 +145,10 @@ impl Analysis {
         trail: &Trail,
         clauses: &Clauses,
         queue: &mut Queue,
-        place: u32,
+        literal: u32,
     ) -> Result<(), AllocError> {
-        let literal = trail.literal_at(place);
-        let variable = variable_of(literal);
-        let reason = trail.reason_of(variable);
-        self.open = self.open.wrapping_sub(1);
-        self.taken.push(Taken {
-            place,
-            literal,
-            reason,
-        })?;
-        let asked = Asked { variable, place };
-        self.find(cone, trail, clauses, &asked, reason)?;
+        self.take(trail, literal)?;
+        self.find_causes(cone, trail, clauses, variable_of(literal))?;
         self.meet_found(trail, queue)
     }
 
@@ -149,7 +166,8 @@ impl Analysis {
                 if self.open <= 1 {
                     return Ok(literal);
                 }
-                self.replace(cone, trail, clauses, queue, place)?;
+                self.open = self.open.wrapping_sub(1);
+                self.replace(cone, trail, clauses, queue, literal)?;
             }
         }
         Ok(NONE)
@@ -166,6 +184,21 @@ impl Analysis {
         true
     }
 
+    /// Whether the others of the clause imply a literal.
+    fn is_implied(
+        &mut self,
+        cone: &Cone,
+        trail: &Trail,
+        clauses: &Clauses,
+        variable: u32,
+    ) -> Result<bool, AllocError> {
+        if trail.reason_of(variable) == NONE {
+            return Ok(false);
+        }
+        self.find_causes(cone, trail, clauses, variable)?;
+        Ok(self.are_met(trail))
+    }
+
     /// Leaves a literal of the clause out, if the others imply it.
     fn shorten(
         &mut self,
@@ -176,24 +209,11 @@ impl Analysis {
         k: u32,
     ) -> Result<(), AllocError> {
         let literal = at(&self.clause, k);
-        let variable = variable_of(literal);
-        let reason = trail.reason_of(variable);
-        if reason == NONE {
-            return Ok(());
-        }
-        let place = trail.place_of(variable);
-        let asked = Asked { variable, place };
-        self.find(cone, trail, clauses, &asked, reason)?;
-        if !self.are_met(trail) {
+        if !self.is_implied(cone, trail, clauses, variable_of(literal))? {
             return Ok(());
         }
         self.meet_found(trail, queue)?;
-        let literal = opposite(literal);
-        self.taken.push(Taken {
-            place,
-            literal,
-            reason,
-        })?;
+        self.take(trail, opposite(literal))?;
         put(&mut self.clause, k, NONE);
         Ok(())
     }
@@ -212,8 +232,8 @@ impl Analysis {
         Ok(())
     }
 
-    /// The level to go back to, whose literal comes second in the clause.
-    fn level_back(&mut self, trail: &Trail) -> u32 {
+    /// The place of the clause, behind the first one, whose literal has the highest level.
+    fn highest(&self, trail: &Trail) -> u32 {
         let mut best: u32 = 1;
         let mut level = 0;
         for k in 1..number_of(self.clause.len()) {
@@ -223,11 +243,20 @@ impl Analysis {
                 best = k;
             }
         }
-        let second = at(&self.clause, 1);
+        best
+    }
+
+    /// The level to go back to, whose literal comes second in the clause.
+    fn level_back(&mut self, trail: &Trail) -> u32 {
+        if self.clause.len() < 2 {
+            return 0;
+        }
+        let best = self.highest(trail);
         let first = at(&self.clause, best);
+        let second = at(&self.clause, 1);
         put(&mut self.clause, best, second);
         put(&mut self.clause, 1, first);
-        level
+        trail.level_of(variable_of(first))
     }
 
     fn forget(&mut self) {

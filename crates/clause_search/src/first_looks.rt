@@ -229,6 +229,14 @@ impl FirstLook {
         self.narrow_pins(whole, gate, fold, wanted)
     }
 
+    fn wait(&mut self, gate: u32) -> Result<(), AllocError> {
+        if byte_at(&self.waits, gate) == 0 {
+            put_byte(&mut self.waits, gate, 1);
+            self.waiting.push(gate)?;
+        }
+        Ok(())
+    }
+
     /// A gate is looked at, at once or later; what comes to no observed signal says nothing.
     fn visit(&mut self, whole: &Whole, gate: u32) -> Result<bool, AllocError> {
         if !whole.comes_to_point(gate) {
@@ -238,10 +246,7 @@ impl FirstLook {
         if end.wrapping_sub(start) <= WIDE {
             return self.look_at_gate(whole, gate);
         }
-        if byte_at(&self.waits, gate) == 0 {
-            put_byte(&mut self.waits, gate, 1);
-            self.waiting.push(gate)?;
-        }
+        self.wait(gate)?;
         Ok(true)
     }
 
@@ -587,22 +592,38 @@ impl FirstLook {
         }
     }
 
+    /// Whether gates leave something where a signal has this bit, whatever the fault.
+    fn may_be(&mut self, whole: &Whole, signal: u32, bit: u8) -> Result<bool, AllocError> {
+        self.clear();
+        self.reach.forget();
+        Ok(self.narrow(signal, good_is(bit), GIVEN)? && self.spread(whole)?)
+    }
+
     /// Whether a signal has this bit under each pattern that obeys the held inputs, as gates tell by themselves. It is a fact then.
     pub(crate) fn learn(&mut self, whole: &Whole, signal: u32, bit: u8) -> Result<(), AllocError> {
         if self.facts.of(signal).is_some() || byte_at(&self.known, signal) != ANY {
             return Ok(());
         }
-        self.clear();
-        self.reach.forget();
-        if self.narrow(signal, good_is(1 ^ (bit & 1)), GIVEN)? && self.spread(whole)? {
+        if self.may_be(whole, signal, 1 ^ (bit & 1))? {
             self.clear();
             return Ok(());
         }
+        self.rest_on_traced(whole)?;
+        self.take_fact(signal, bit)
+    }
+
+    /// The next fact rests on those by which nothing was left.
+    fn rest_on_traced(&mut self, whole: &Whole) -> Result<(), AllocError> {
         let mut found = Vec::new(self.alloc);
         self.trace_all(whole, &mut found)?;
         self.rest_on_needed(whole)?;
         self.forget_needed(whole);
         self.clear();
+        Ok(())
+    }
+
+    /// A signal has this bit from now on.
+    fn take_fact(&mut self, signal: u32, bit: u8) -> Result<(), AllocError> {
         self.facts.add(literal(signal, bit))?;
         put_byte(&mut self.known, signal, good_is(bit));
         put_byte(&mut self.sets, signal, SAME & good_is(bit));

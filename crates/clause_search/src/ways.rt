@@ -46,6 +46,23 @@ impl Ways {
         Ok(())
     }
 
+    fn pass_all(
+        &mut self,
+        cone: &Cone,
+        trail: &Trail,
+        asked: &Asked,
+        found: &mut Vec<u32>,
+    ) -> Result<(), AllocError> {
+        for k in 0..cone.reached() {
+            if k >= self.met.count() {
+                break;
+            }
+            let number = self.met.get(k);
+            self.pass(cone, trail, asked, number, found)?;
+        }
+        Ok(())
+    }
+
     /// Adds the literals that stop each way from where the fault acts, but for the signal that is asked of.
     pub(crate) fn add_stops(
         &mut self,
@@ -56,13 +73,6 @@ impl Ways {
     ) -> Result<(), AllocError> {
         self.met.forget();
         self.met.meet(cone.site)?;
-        for k in 0..cone.reached() {
-            if k >= self.met.count() {
-                break;
-            }
-            let number = self.met.get(k);
-            self.pass(cone, trail, asked, number, found)?;
-        }
-        Ok(())
+        self.pass_all(cone, trail, asked, found)
     }
 }

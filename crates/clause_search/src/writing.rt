@@ -322,31 +322,55 @@ impl Writing {
         Ok(false)
     }
 
-    /// The step of a literal that was known without a decision, unless gates tell it or a lemma is that step.
+    /// The last reason of the step of a variable that was known without a decision; none where gates tell it or a lemma is that step.
+    fn said(&self, search: &Search, variable: u32) -> Option<Reason> {
+        if byte_at(&self.roots, variable) == 0 {
+            return None;
+        }
+        let reason = search.trail.reason_of(variable);
+        let Why::Said(last) = self.why(search, reason) else {
+            return None;
+        };
+        if matches!(last, Reason::Lemma(_)) && is_alone(search, reason) {
+            return None;
+        }
+        Some(last)
+    }
+
+    /// Whether what implied a variable rests on what a sweep puts in.
+    fn is_swept_before(&mut self, search: &Search, variable: u32) -> Result<bool, AllocError> {
+        let place = search.trail.place_of(variable);
+        let reason = search.trail.reason_of(variable);
+        self.rests_on_gates(search, &Asked { variable, place }, reason)
+    }
+
+    /// The step of a literal, by this reason.
+    fn write_alone(
+        &mut self,
+        alloc: Global,
+        search: &Search,
+        literal: u32,
+        last: Reason,
+    ) -> Result<(), AllocError> {
+        let rests = self.is_swept_before(search, variable_of(literal))?;
+        let mut clause = Vec::new(alloc);
+        clause.push(written(&search.cone, literal))?;
+        let why = Why::Said(last);
+        let moves = self.moves(alloc, search, NOTHING, rests, &why)?;
+        self.push_step(clause, moves, why)
+    }
+
+    /// The step of a literal that was known without a decision, where it has one.
     fn write_root(
         &mut self,
         alloc: Global,
         search: &Search,
         literal: u32,
     ) -> Result<(), AllocError> {
-        let variable = variable_of(literal);
-        if byte_at(&self.roots, variable) == 0 {
-            return Ok(());
+        match self.said(search, variable_of(literal)) {
+            None => Ok(()),
+            Some(last) => self.write_alone(alloc, search, literal, last),
         }
-        let reason = search.trail.reason_of(variable);
-        let Why::Said(last) = self.why(search, reason) else {
-            return Ok(());
-        };
-        if matches!(last, Reason::Lemma(_)) && is_alone(search, reason) {
-            return Ok(());
-        }
-        let place = search.trail.place_of(variable);
-        let rests = self.rests_on_gates(search, &Asked { variable, place }, reason)?;
-        let mut clause = Vec::new(alloc);
-        clause.push(written(&search.cone, literal))?;
-        let why = Why::Said(last);
-        let moves = self.moves(alloc, search, NOTHING, rests, &why)?;
-        self.push_step(clause, moves, why)
     }
 
     /// The steps of what was known without a decision, up to a place.

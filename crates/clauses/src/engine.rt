@@ -90,14 +90,14 @@ fn by_bits(
     alloc: Global,
     room: ClauseRoom,
     core: &Core,
-    fault: Fault,
+    fault: &Fault,
     holds: &Holds,
     bits: &[(SignalId, bool)],
 ) -> Result<(Option<Found>, ClauseRoom), NoMemory>
     requires holds { AreHoldsOf core.now holds.now }
-    requires line { IsLineOf core.now fault.line }
+    requires line { IsLineOf core.now fault.now.line }
     requires room { IsReusableClauseRoom core.now holds.now room }
-    ensures answer { IfOk result (λ r. IfSome r.0 (IsVerified fault core.now holds.now)) }
+    ensures answer { IfOk result (λ r. IfSome r.0 (IsVerified fault.now core.now holds.now)) }
     ensures room { IfOk result (λ r. IsReusableClauseRoom core.now holds.now r.1) }
 {
     let ClauseRoom {
@@ -105,7 +105,7 @@ fn by_bits(
         checks,
         search,
     } = room;
-    let (test, podem) = tried_in(alloc, podem, core, fault, holds, bits)?;
+    let (test, podem) = tried_in(alloc, podem, core, *fault, holds, bits)?;
     let room = ClauseRoom {
         podem,
         checks,
@@ -122,21 +122,21 @@ fn by_clauses(
     alloc: Global,
     room: ClauseRoom,
     core: &Core,
-    fault: Fault,
+    fault: &Fault,
     holds: &Holds,
 ) -> Result<(Option<Found>, ClauseRoom), NoMemory>
     requires holds { AreHoldsOf core.now holds.now }
-    requires line { IsLineOf core.now fault.line }
+    requires line { IsLineOf core.now fault.now.line }
     requires room { IsReusableClauseRoom core.now holds.now room }
-    ensures answer { IfOk result (λ r. IfSome r.0 (IsVerified fault core.now holds.now)) }
+    ensures answer { IfOk result (λ r. IfSome r.0 (IsVerified fault.now core.now holds.now)) }
     ensures room { IfOk result (λ r. IsReusableClauseRoom core.now holds.now r.1) }
 {
     let mut room = room;
     match room
         .search
-        .search(alloc, core, &fault, CONTRADICTIONS, holds)?
+        .search(alloc, core, fault, CONTRADICTIONS, holds)?
     {
-        Settled::Refuted(steps) => by_steps(room, core, &fault, holds, steps),
+        Settled::Refuted(steps) => by_steps(room, core, fault, holds, steps),
         Settled::Found(bits) => by_bits(alloc, room, core, fault, holds, &bits),
         Settled::GaveUp => Ok((None, room)),
     }
@@ -194,8 +194,7 @@ impl Engine for Clauses {
         limit: u32,
         holds: &Holds,
     ) -> Result<(Found, ClauseRoom), NoMemory> {
-        let same = fault;
-        let (found, room) = by_clauses(alloc, room, core, same, holds)?;
+        let (found, room) = by_clauses(alloc, room, core, &fault, holds)?;
         if let Some(found) = found {
             return Ok((found, room));
         }

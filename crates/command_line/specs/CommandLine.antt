@@ -10,7 +10,7 @@ use Rattle.clap.specs.Faults.{fault_of}
 use Rattle.commands.specs.Names.{run_files}
 use Rattle.command_line.specs.Numbers.{number_in}
 use Rattle.command_line.specs.HoldLists.{HoldItem, holds_in}
-use Rattle.command_line.specs.Table.{command_table, most_seed}
+use Rattle.command_line.specs.Table.{command_table, most_rank, most_seed}
 use Rattle.command_line.specs.declared.holds.Held.{Held}
 use Rattle.command_line.specs.declared.requests.EngineName.{EngineName}
 use Rattle.command_line.specs.declared.requests.EngineName.TheVariants.{Trees, Clauses, TreesThenClauses}
@@ -118,6 +118,14 @@ number_given default low high (Some text) = number_in low high text
 abbrev pub number_at : Text → ℕ → ℕ → ℕ → List Row → Option ℕ
 number_at name default low high rows = number_given default low high (first_of name rows)
 
+-- the number that an option's text writes, where the option is there
+abbrev pub number_where : ℕ → ℕ → Option Text → Option (Option ℕ)
+number_where low high None = Some None
+number_where low high (Some text) = option_map (λ n. Some n) (number_in low high text)
+
+abbrev pub number_if : Text → ℕ → ℕ → List Row → Option (Option ℕ)
+number_if name low high rows = number_where low high (first_of name rows)
+
 -- the number that must be there
 abbrev pub number_of : Text → ℕ → ℕ → List Row → Option ℕ
 number_of name low high rows = option_and_then (number_in low high) (first_of name rows)
@@ -204,7 +212,8 @@ chaintest_of rows = option_and_then (λ net. option_and_then (λ stil.
 
 abbrev pub diagnose_of : List Row → Option CommandLine
 diagnose_of rows = option_and_then (λ net. option_and_then (λ stil. option_and_then (λ log. option_and_then (λ chains.
-    option_map (λ workers. diagnose net stil log (record { chains = chains; workers = workers }))
+    option_and_then (λ workers. option_map (λ rank. diagnose net stil log (record { chains = chains; workers = workers; rank = rank }))
+    (number_if (codes "rank") 1 most_rank rows))
     (number_at (codes "workers") 1 1 most_workers rows))
     (number_at (codes "chains") 1 1 most_chains rows))
     (first_of (codes "LOG") rows)) (first_of (codes "STIL") rows)) (first_of (codes "NET") rows)
@@ -270,9 +279,15 @@ pub record AreInRange (numbers : SearchNumbers) : Type 0 where
   pub workers : (1 ≤ numbers.workers) × (numbers.workers ≤ most_workers)
   pub limit : (1 ≤ numbers.limit) × (numbers.limit ≤ most_limit)
 
+-- the number, where there is one, is in this range
+abbrev pub IfIn : ℕ → ℕ → Option ℕ → Type 0
+IfIn low high None = ⊤
+IfIn low high (Some n) = (low ≤ n) × (n ≤ high)
+
 pub record AreWithin (options : DiagnoseOptions) : Type 0 where
   pub chains : (1 ≤ options.chains) × (options.chains ≤ most_chains)
   pub workers : (1 ≤ options.workers) × (options.workers ≤ most_workers)
+  pub rank : IfIn 1 most_rank options.rank
 
 -- each number of a request is in its range
 abbrev pub IsInRange : Request → Type 0

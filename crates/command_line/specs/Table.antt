@@ -30,6 +30,10 @@ command name rules = record (new_shape name) { rules = rules }
 abbrev pub most_seed : ℕ
 most_seed = 18446744073709551615
 
+-- the most faults that are asked for by number
+abbrev pub most_rank : ℕ
+most_rank = 18446744073709551615
+
 -- scan NET OUT [--chains C]
 abbrev pub scan_command : Shape
 scan_command = command (codes "scan")
@@ -68,11 +72,11 @@ abbrev pub chaintest_command : Shape
 chaintest_command = command (codes "chaintest")
     (required (codes "NET") ∷ required (codes "STIL") ∷ number_option (codes "chains") 1 most_chains ∷ [])
 
--- diagnose NET STIL LOG [--chains C] [--workers N]
+-- diagnose NET STIL LOG [--chains C] [--workers N] [--rank K]
 abbrev pub diagnose_command : Shape
 diagnose_command = command (codes "diagnose")
     (required (codes "NET") ∷ required (codes "STIL") ∷ required (codes "LOG") ∷ number_option (codes "chains") 1 most_chains
-    ∷ number_option (codes "workers") 1 most_workers ∷ [])
+    ∷ number_option (codes "workers") 1 most_workers ∷ number_option (codes "rank") 1 most_rank ∷ [])
 
 -- transition NET PREFIX .. [--engine E]
 abbrev pub transition_command : Shape

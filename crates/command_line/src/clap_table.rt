@@ -234,6 +234,7 @@ fn diagnose<'a>(alloc: Global) -> Result<Command<'a>, AllocError>
     let about = "Lists the faults that explain a tester's log";
     let chains = "How many chains at most, 1 to 256 [default: 1]";
     let workers = "How many workers, 1 to 64 [default: 1]";
+    let rank = "List so many faults that come nearest to the log";
     command(
         alloc,
         "diagnose",
@@ -244,6 +245,7 @@ fn diagnose<'a>(alloc: Global) -> Result<Command<'a>, AllocError>
             Required("LOG", "What failed on the tester"),
             Number("chains", 1, MOST_CHAINS, chains),
             Number("workers", 1, MOST_WORKERS, workers),
+            Number("rank", 1, u64::MAX, rank),
         ],
     )
 }

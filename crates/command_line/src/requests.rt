@@ -30,7 +30,7 @@ ghost use Rattle.command_line.specs.inner.Held.{AreHeld};
 ghost use Rattle.command_line.specs.inner.Searches.{IsSearch};
 
 use crate::holds::{Held, holds_in};
-use crate::values::{number_of, number_or, text};
+use crate::values::{number_if, number_of, number_or, text};
 use clap::ArgMatches;
 use plain_text::{FEWEST_GATES, MOST_CHAINS, MOST_GATES, MOST_LIMIT, MOST_WORKERS};
 use std::alloc::Global;
@@ -85,6 +85,8 @@ pub struct DiagnoseOptions {
     /// How many chains at most.
     pub chains: u32,
     pub workers: u32,
+    /// How many of the faults that come nearest to the log are listed, in place of those that explain it.
+    pub rank: Option<u64>,
 }
 
 /// What the words ask the program to do.
@@ -132,7 +134,7 @@ pub enum Request<'a> {
         chains: u32,
     },
     /// List the faults of the netlist of the file `net` that explain what failed, by the file `log`,
-    /// when the file `stil` was played on the chip.
+    /// when the file `stil` was played on the chip, or those that come nearest to it.
     Diagnose {
         net: &'a str,
         stil: &'a str,
@@ -249,9 +251,11 @@ fn diagnose<'a>(found: &ArgMatches<'a>) -> Option<Request<'a>>
     let log = text(found, "LOG")?;
     let chains = number_or(found, "chains", 1, 1, MOST_CHAINS)?;
     let workers = number_or(found, "workers", 1, 1, MOST_WORKERS)?;
+    let rank = number_if(found, "rank", 1, u64::MAX)?;
     let options = DiagnoseOptions {
         chains: chains as u32,
         workers: workers as u32,
+        rank,
     };
     Some(Request::Diagnose {
         net,

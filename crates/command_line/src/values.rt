@@ -3,7 +3,7 @@ ghost use Rattle.std.specs.Prelude.{◌≡◌, ◌≤◌, IfSome, option_map};
 ghost use Rattle.clap.specs.Words.{first_of, found_of, rows_of};
 ghost use Rattle.command_line.specs.Numbers.{number_in};
 ghost use Rattle.command_line.specs.inner.Padding.{is_padded};
-ghost use Rattle.command_line.specs.CommandLine.{number_at, number_of};
+ghost use Rattle.command_line.specs.CommandLine.{IfIn, number_at, number_if, number_of};
 
 use clap::ArgMatches;
 
@@ -50,6 +50,25 @@ pub(crate) fn number_or(
     match text(found, name) {
         Some(given) => number(given, low, high),
         None => Some(default),
+    }
+}
+
+/// The number of the option `name`, where the words give it.
+pub(crate) fn number_if(
+    found: &ArgMatches<'_>,
+    name: &str,
+    low: u64,
+    high: u64,
+) -> Option<Option<u64>>
+    ensures value { result ≡ number_if name.now low high (rows_of (found_of found.now)) }
+    ensures in_range { IfSome result (IfIn low high) }
+{
+    match text(found, name) {
+        Some(given) => {
+            let number = number(given, low, high)?;
+            Some(Some(number))
+        }
+        None => Some(None),
     }
 }
 

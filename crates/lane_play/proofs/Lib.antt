@@ -4,3 +4,4 @@ pub mod VerdictLemmas
 pub mod PlayedLemmas
 pub mod Machines
 pub mod ShiftLemmas
+pub mod CountedLemmas

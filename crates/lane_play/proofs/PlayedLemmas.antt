@@ -9,7 +9,7 @@ use Rattle.statement.specs.declared.kinds.Tri.TheVariants.{X}
 use Rattle.statement.specs.declared.lines.Fault.{Fault}
 use Rattle.netlist.specs.Conditions.{IsSound}
 use Rattle.statement.specs.Netlists.{Netlist, cells}
-use Rattle.statement.specs.Values.{Settles, next, outs, known}
+use Rattle.statement.specs.Values.{Settles, next, known}
 use Rattle.netlist.specs.Settled.{at}
 use Rattle.netlist.proofs.Settling.{zip_from}
 use Rattle.events.specs.Words.{bit_of}
@@ -19,16 +19,16 @@ use Rattle.scan_play.specs.declared.cycles.Burst.{Burst}
 use Rattle.scan_play.specs.declared.played.Played.{Played}
 use Rattle.scan_play.specs.Bursts.{all_cycles, cycle_of, cycles_of}
 use Rattle.scan_play.specs.Cycles.{IsCycleOf}
-use Rattle.scan_play.specs.Judging.{IsJudged, Judging, judged_in, played_or_else}
+use Rattle.scan_play.specs.Judging.{IsJudged, IsOpen, Judging, judged_in, played_or_else}
 use Rattle.scan_play.specs.inner.Steps.{IsStep, PlaysOn}
 use Rattle.scan_play.proofs.PlayLemmas.{judged_as, plays_found, plays_nothing, plays_step, plays_then}
 use Rattle.scan_play.proofs.PlaySteps.{length-cycles_of, step_from}
 use Rattle.scan_play.proofs.RunLaws.{next_length}
 use Rattle.lane_play.specs.declared.packed.Lanes.{Lanes}
 use Rattle.lane_play.specs.inner.Lanes.{always, lane, lanes, lanes_rule}
-use Rattle.lane_play.specs.inner.Verdicts.{AreLeft, found_at, is_open}
+use Rattle.lane_play.specs.inner.Verdicts.{AreJudgedIn, AreLeft, found_at, is_open}
 use Rattle.lane_play.specs.Judged.{AreJudged}
-use Rattle.lane_play.specs.inner.Steps.{AreEnded, ArePlayed, AreSteps}
+use Rattle.lane_play.specs.inner.Steps.{AreEnded, ArePlayed, AreSteps, KeepsOn, StaysKept}
 use Rattle.lane_play.proofs.LaneBits.{bit_none, lane_always, lane_next, lane_outs, lane_settles, lane_unknown}
 
 -- ---- one machine of lists
@@ -56,32 +56,22 @@ size_kept faults n pulse state after a sound size is =
 
 -- ---- a cycle
 
+pub steps_from : (faults : List Fault) (n : Netlist) (cycle : Cycle) (number : ℕ) (state after drive values row : List Lanes) → length faults ≤ 64 → IsSound n
+    → drive ≡ map always cycle.drive → length state ≡ length (cells n)
+    → ((d : Lanes) → Settles (lanes_rule faults) n drive state (at values d)) → AreEnded faults n cycle.pulse values state after row → AreSteps faults n state after cycle number row
+steps_from faults n cycle number state after drive values row machines sound d size settles ended = λ k J low opens.
+    let blank : Lanes = record { known = 0; value = 0 } in
+    let a : ℕ → Lanes = at values blank in
+    step_from J (slice_get faults k) n cycle number (lanes k state) (lanes k after) (lanes k drive) cycle.strobe (lanes k row) (λ x. lane k (a x)) (judged_in J number 0 cycle.strobe (lanes k row)) sound
+    (ap (lanes k) d ∙ lanes_always k low cycle.drive) refl (length-map state (lane k) ∙ size)
+    (lane_settles k low faults machines n drive state a (settles blank))
+    (ap (lanes k) ended.shows ∙ sym (lane_outs k low faults machines n a))
+    (ap (lanes k) ended.ticked ∙ (lanes_chosen k cycle.pulse (next (lanes_rule faults) n a) state ∙ ap (λ vs. cond cycle.pulse vs (lanes k state)) (sym (lane_next k low faults machines n a))))
+    refl
+
+-- ---- verdicts
+
 module _ (J : Judging) (faults : List Fault) (n : Netlist) where
-  pub steps_from : (cycle : Cycle) (number : ℕ) (state after drive values : List Lanes) (strobe : List Tri) (old new : List (Option Played)) → length faults ≤ 64 → IsSound n → length old ≤ 64
-      → drive ≡ map always cycle.drive → strobe ≡ cycle.strobe → length state ≡ length (cells n)
-      → ((d : Lanes) → Settles (lanes_rule faults) n drive state (at values d)) → AreEnded J faults n cycle.pulse number strobe values state after old new
-      → AreSteps J faults n state after cycle number old new
-  steps_from cycle number state after drive values strobe old new machines sound few d s size settles ended = record {
-    size = ended.judged.size;
-    each = λ k l.
-        let low : k < 64 = omega (arith, l, few) in
-        let blank : Lanes = record { known = 0; value = 0 } in
-        let a : ℕ → Lanes = at values blank in
-        let row : List Tri = lanes k (outs (lanes_rule faults) n a) in
-        record {
-          said = judged_in J number 0 strobe row;
-          step = step_from J (slice_get faults k) n cycle number (lanes k state) (lanes k after) (lanes k drive) strobe row (λ x. lane k (a x)) (judged_in J number 0 strobe row) sound
-              (ap (lanes k) d ∙ lanes_always k low cycle.drive) s (length-map state (lane k) ∙ size)
-              (lane_settles k low faults machines n drive state a (settles blank))
-              (sym (lane_outs k low faults machines n a))
-              (ap (lanes k) ended.ticked ∙ (lanes_chosen k cycle.pulse (next (lanes_rule faults) n a) state ∙ ap (λ vs. cond cycle.pulse vs (lanes k state)) (sym (lane_next k low faults machines n a))))
-              refl;
-          found = ended.judged.each k l;
-        };
-  }
-
-  -- ---- cycles, one behind the other
-
   some_state : (f : Option Fault) (cs : List Cycle) (start state after : List Tri) (p : Played) → length after ≡ length (cells n) → PlaysOn J f n cs 0 start state (Some p) → PlaysOn J f n cs 0 start after (Some p)
   some_state f cs start state after p size h = record { size = size; outcome = h.outcome }
 
@@ -93,17 +83,6 @@ module _ (J : Judging) (faults : List Fault) (n : Netlist) where
   one_more f cs cycle start state after (Some p) new said h step e =
       subst (PlaysOn J f n (cs ++ cycle ∷ []) 0 start after) (sym e)
       (some_state f (cs ++ cycle ∷ []) start state after p step.size (plays_found J f n cs (cycle ∷ []) 0 start state p h))
-
-  played_more : (cs : List Cycle) (cycle : Cycle) (number : ℕ) (state after : List Lanes) (old new : List (Option Played)) → number ≡ length cs → ArePlayed J faults n cs state old
-      → AreSteps J faults n state after cycle number old new → ArePlayed J faults n (cs ++ cycle ∷ []) after new
-  played_more cs cycle number state after old new at h steps = record {
-    size = steps.size ∙ h.size;
-    each = λ k l.
-        let st = steps.each k (let e = h.size in omega (arith, l)) in
-        let number_is : number ≡ 0 + length cs = omega (arith, at) in
-        one_more (slice_get faults k) cs cycle (replicate (length (cells n)) X) (lanes k state) (lanes k after) (found_at old k) (found_at new k) st.said (h.each k l)
-        (subst (λ m. IsStep J (slice_get faults k) n (lanes k state) (lanes k after) cycle m st.said) number_is st.step) st.found;
-  }
 
   closed_stays : (f : Option Fault) (cs ds : List Cycle) (start state : List Tri) (found : Option Played) → is_open found ≡ false → PlaysOn J f n cs 0 start state found → PlaysOn J f n (cs ++ ds) 0 start state found
   closed_stays f cs ds start state None e h = absurd (both_ways true e refl)
@@ -121,66 +100,75 @@ module _ (J : Judging) (faults : List Fault) (n : Netlist) where
         (sym (h k inside) ∙ (ap (bit_of k) none ∙ bit_none k low)) (played.each k l);
   }
 
-  -- ---- a burst
+pub verdicts_keep : (J : Judging) → IsOpen J → (number : ℕ) (strobes : List Tri) (row : List Lanes) (old new : List (Option Played)) → length new ≤ 64 → AreJudgedIn J number strobes row old new
+    → KeepsOn (λ faults n cycles state. ArePlayed J faults n cycles state old) (λ faults n cycles state. ArePlayed J faults n cycles state new) number strobes row
+verdicts_keep J opens number strobes row old new few judged = λ faults n before state after cycle at same steps h. record {
+  size = judged.size ∙ h.size;
+  each = λ k l.
+      let inside : k < length old = (let e = h.size in omega (arith, l)) in
+      let low : k < 64 = (let e = judged.size in omega (arith, inside, few)) in
+      let said = judged_in J number 0 cycle.strobe (lanes k row) in
+      let number_is : number ≡ 0 + length before = omega (arith, at) in
+      one_more J faults n (slice_get faults k) before cycle (replicate (length (cells n)) X) (lanes k state) (lanes k after) (found_at old k) (found_at new k) said (h.each k l)
+      (subst (λ m. IsStep J (slice_get faults k) n (lanes k state) (lanes k after) cycle m said) number_is (steps k J low opens))
+      (judged.each k inside ∙ ap (λ ss. played_or_else (found_at old k) (judged_in J number 0 ss (lanes k row))) (sym same));
+}
 
-  cycle_here : (b : Burst) (t : ℕ) (d : Cycle) → t < b.count → get_or (cycles_of b) t d ≡ cycle_of b t
-  cycle_here b t d l =
-      let size = length-numbers_from 0 b.count in
-      get_or-map (cycle_of b) (numbers_from 0 b.count) t 0 d (omega arith) ∙ ap (cycle_of b) (get_or-numbers_from 0 b.count t 0 l ∙ omega arith)
+pub verdicts_stay : (J : Judging) (found : List (Option Played)) (left : ℕ) → length found ≤ 64 → AreLeft found (length found) left → left ≡ 0 → StaysKept (λ faults n cycles state. ArePlayed J faults n cycles state found)
+verdicts_stay J found left few h none = λ faults n before behind state played. played_whole J faults n before behind state found left few h none played
 
-  taken : (before : List Cycle) (b : Burst) (t : ℕ) → t < b.count → (before ++ take t (cycles_of b)) ++ cycle_of b t ∷ [] ≡ before ++ take (t + 1) (cycles_of b)
-  taken before b t l =
+-- ---- what holds of cycles
+
+cycle_here : (b : Burst) (t : ℕ) (d : Cycle) → t < b.count → get_or (cycles_of b) t d ≡ cycle_of b t
+cycle_here b t d l =
+    let size = length-numbers_from 0 b.count in
+    get_or-map (cycle_of b) (numbers_from 0 b.count) t 0 d (omega arith) ∙ ap (cycle_of b) (get_or-numbers_from 0 b.count t 0 l ∙ omega arith)
+
+taken : (before : List Cycle) (b : Burst) (t : ℕ) → t < b.count → (before ++ take t (cycles_of b)) ++ cycle_of b t ∷ [] ≡ before ++ take (t + 1) (cycles_of b)
+taken before b t l =
+    let size = length-cycles_of b in
+    let d : Cycle = cycle_of b t in
+    append_assoc before (take t (cycles_of b)) (cycle_of b t ∷ [])
+    ∙ ap (λ cs. before ++ cs) (ap (λ c. take t (cycles_of b) ++ c ∷ []) (sym (cycle_here b t d l)) ∙ sym (take_more (cycles_of b) t d (omega arith)))
+
+module _ (P : List Cycle → Type 0) where
+  pub burst_none : (before : List Cycle) (b : Burst) → P before → P (before ++ take 0 (cycles_of b))
+  burst_none before b h = subst P (sym (append-nil before)) h
+
+  pub burst_more : (before : List Cycle) (b : Burst) (t : ℕ) → t < b.count → P ((before ++ take t (cycles_of b)) ++ cycle_of b t ∷ []) → P (before ++ take (t + 1) (cycles_of b))
+  burst_more before b t l h = subst P (taken before b t l) h
+
+  pub burst_done : (before : List Cycle) (b : Burst) (t : ℕ) → b.count ≤ t → P (before ++ take t (cycles_of b)) → P (before ++ cycles_of b)
+  burst_done before b t l h =
       let size = length-cycles_of b in
-      let d : Cycle = cycle_of b t in
-      append_assoc before (take t (cycles_of b)) (cycle_of b t ∷ [])
-      ∙ ap (λ cs. before ++ cs) (ap (λ c. take t (cycles_of b) ++ c ∷ []) (sym (cycle_here b t d l)) ∙ sym (take_more (cycles_of b) t d (omega arith)))
+      subst (λ cs. P (before ++ cs)) (take_all t (cycles_of b) (omega arith)) h
 
-  pub burst_more : (before : List Cycle) (b : Burst) (t first number : ℕ) (state after : List Lanes) (old new : List (Option Played)) → t < b.count → length before ≡ first → number ≡ first + t
-      → ArePlayed J faults n (before ++ take t (cycles_of b)) state old → AreSteps J faults n state after (cycle_of b t) number old new
-      → ArePlayed J faults n (before ++ take (t + 1) (cycles_of b)) after new
-  burst_more before b t first number state after old new l size at h steps =
-      let whole = length-cycles_of b in
-      let one = length-append before (take t (cycles_of b)) in
-      let two = length-take t (cycles_of b) in
-      subst (λ cs. ArePlayed J faults n cs after new) (taken before b t l)
-      (played_more (before ++ take t (cycles_of b)) (cycle_of b t) number state after old new (omega arith) h steps)
+  pub burst_stopped : (before : List Cycle) (b : Burst) (t : ℕ) → P ((before ++ take t (cycles_of b)) ++ drop t (cycles_of b)) → P (before ++ cycles_of b)
+  burst_stopped before b t h = subst P (append_assoc before (take t (cycles_of b)) (drop t (cycles_of b)) ∙ ap (λ cs. before ++ cs) (take-append-drop t (cycles_of b))) h
 
-  pub burst_done : (before : List Cycle) (b : Burst) (t : ℕ) (state : List Lanes) (found : List (Option Played)) → b.count ≤ t → ArePlayed J faults n (before ++ take t (cycles_of b)) state found
-      → ArePlayed J faults n (before ++ cycles_of b) state found
-  burst_done before b t state found l h =
-      let size = length-cycles_of b in
-      subst (λ cs. ArePlayed J faults n (before ++ cs) state found) (take_all t (cycles_of b) (omega arith)) h
-
-  pub burst_stopped : (before : List Cycle) (b : Burst) (t : ℕ) (state : List Lanes) (found : List (Option Played)) (left : ℕ) → length found ≤ 64 → AreLeft found (length found) left → left ≡ 0
-      → ArePlayed J faults n (before ++ take t (cycles_of b)) state found → ArePlayed J faults n (before ++ cycles_of b) state found
-  burst_stopped before b t state found left few h none played =
-      subst (λ cs. ArePlayed J faults n cs state found)
-      (append_assoc before (take t (cycles_of b)) (drop t (cycles_of b)) ∙ ap (λ cs. before ++ cs) (take-append-drop t (cycles_of b)))
-      (played_whole (before ++ take t (cycles_of b)) (drop t (cycles_of b)) state found left few h none played)
-
-  -- ---- bursts
-
-  pub bursts_more : (bursts : List Burst) (i : ℕ) (b : Burst) (state : List Lanes) (found : List (Option Played)) → i < length bursts → b ≡ get_or bursts i b
-      → ArePlayed J faults n (all_cycles (take i bursts) ++ cycles_of b) state found → ArePlayed J faults n (all_cycles (take (i + 1) bursts)) state found
-  bursts_more bursts i b state found l is h =
-      subst (λ cs. ArePlayed J faults n cs state found)
+  pub bursts_more : (bursts : List Burst) (i : ℕ) (b : Burst) → i < length bursts → b ≡ get_or bursts i b → P (all_cycles (take i bursts) ++ cycles_of b) → P (all_cycles (take (i + 1) bursts))
+  bursts_more bursts i b l is h =
+      subst P
       (sym (ap all_cycles (take_more bursts i b l ∙ ap (λ x. take i bursts ++ x ∷ []) (sym is))
       ∙ (flat_map-append cycles_of (take i bursts) (b ∷ []) ∙ ap (λ x. all_cycles (take i bursts) ++ x) (append-nil (cycles_of b))))) h
 
-  pub bursts_done : (bursts : List Burst) (i : ℕ) (state : List Lanes) (found : List (Option Played)) → length bursts ≤ i → ArePlayed J faults n (all_cycles (take i bursts)) state found
-      → ArePlayed J faults n (all_cycles bursts) state found
-  bursts_done bursts i state found l h = subst (λ x. ArePlayed J faults n (all_cycles x) state found) (take_all i bursts l) h
+  pub bursts_done : (bursts : List Burst) (i : ℕ) → length bursts ≤ i → P (all_cycles (take i bursts)) → P (all_cycles bursts)
+  bursts_done bursts i l h = subst (λ x. P (all_cycles x)) (take_all i bursts l) h
 
-  pub bursts_stopped : (bursts : List Burst) (i : ℕ) (b : Burst) (state : List Lanes) (found : List (Option Played)) (left : ℕ) → i < length bursts → b ≡ get_or bursts i b
-      → length found ≤ 64 → AreLeft found (length found) left → left ≡ 0
-      → ArePlayed J faults n (all_cycles (take i bursts) ++ cycles_of b) state found → ArePlayed J faults n (all_cycles bursts) state found
-  bursts_stopped bursts i b state found left l is few h none played =
-      subst (λ cs. ArePlayed J faults n cs state found)
-      (sym (flat_map-append cycles_of (take (i + 1) bursts) (drop (i + 1) bursts)) ∙ ap all_cycles (take-append-drop (i + 1) bursts))
-      (played_whole (all_cycles (take (i + 1) bursts)) (all_cycles (drop (i + 1) bursts)) state found left few h none (bursts_more bursts i b state found l is played))
+  pub bursts_stopped : (bursts : List Burst) (i : ℕ) → P (all_cycles (take i bursts) ++ all_cycles (drop i bursts)) → P (all_cycles bursts)
+  bursts_stopped bursts i h = subst P (sym (flat_map-append cycles_of (take i bursts) (drop i bursts)) ∙ ap all_cycles (take-append-drop i bursts)) h
 
-  -- ---- from all cells X to the answers
+-- where so many cycles were played, the number of the next is how many
+pub number_here : (before : List Cycle) (b : Burst) (t first : ℕ) → t < b.count → length before ≡ first → length (before ++ take t (cycles_of b)) ≡ first + t
+number_here before b t first l size =
+    let whole = length-cycles_of b in
+    let one = length-append before (take t (cycles_of b)) in
+    let two = length-take t (cycles_of b) in
+    omega arith
 
+-- ---- from all cells X to the answers
+
+module _ (J : Judging) (faults : List Fault) (n : Netlist) where
   none_found : (count k : ℕ) → found_at (replicate count None) k ≡ None
   none_found zero k = refl
   none_found (suc count) zero = refl

@@ -1,5 +1,5 @@
 -- A cycle that is played by the steps of a plan is each machine's step of its own player.
-use Rattle.std.proofs.Common.{◌≡◌, ℕ, ◌-◌, ◌<◌, ◌≤◌, Bool, cond, List, [], ◌++◌, map, length, replicate, Option, refl, sym, ◌∙◌, ap, arith}
+use Rattle.std.proofs.Common.{◌≡◌, ℕ, ◌-◌, ◌≤◌, Bool, cond, List, [], ◌++◌, map, length, replicate, None, refl, sym, ◌∙◌, ap, arith}
 use Rattle.std.specs.List.{All, slice_get}
 use Rattle.std.proofs.lemmas.List.{length-map, map-append}
 use Rattle.statement.specs.declared.kinds.Tri.{Tri}
@@ -7,11 +7,10 @@ use Rattle.statement.specs.declared.lines.Fault.{Fault}
 use Rattle.netlist.specs.Conditions.{IsSound}
 use Rattle.statement.specs.Netlists.{Netlist, cells, signals}
 use Rattle.netlist.specs.Netlist.{IsGateAt}
-use Rattle.statement.specs.Values.{Settles, next, outs}
+use Rattle.statement.specs.Values.{Settles, next}
 use Rattle.netlist.specs.Settled.{at}
 use Rattle.netlist.specs.Settling.{AreSourcesDriven, AreEvaluated}
-use Rattle.scan_play.specs.declared.played.Played.{Played}
-use Rattle.scan_play.specs.Judging.{IsOpen, Judging, judged_in}
+use Rattle.scan_play.specs.Judging.{Judging, judged_in}
 use Rattle.scan_play.specs.Steps.{HasSteps}
 use Rattle.scan_play.proofs.PlanLemmas.{planned_driven, shift_planned, shift_step}
 use Rattle.scan_play.proofs.PlanMarks.{steps_known}
@@ -48,32 +47,28 @@ planned_gates faults n drive strobe steps values plan = (plan 0 (omega arith)).h
 
 -- ---- a cycle
 
-module _ (J : Judging) (opens : IsOpen J) (faults : List Fault) (machines : length faults ≤ 64) (n net : Netlist) (drive : List Bool) (strobe : List Tri) (steps : List ℕ) (v0 v1 v2 : List Lanes)
+-- who says nothing
+silence : Judging
+silence c o s v = None
+
+module _ (faults : List Fault) (machines : length faults ≤ 64) (n net : Netlist) (drive : List Bool) (strobe : List Tri) (steps : List ℕ) (v0 v1 v2 : List Lanes)
     (ins : List Bool) (outs_of : List Tri) (state driven from : List Lanes) (there : net ≡ n) (sound : IsSound n) (plan : ArePlanned faults n drive strobe steps v0) (wide : length (drive ++ ins) ≡ length n.inputs)
     (size : length state ≡ length (cells n)) (is_driven : driven ≡ map always (drive ++ ins)) (is_from : from ≡ state)
     (onto : AreSourcesDriven (lanes_rule faults) net driven from v0 v1) (stepped : AreEvaluated (lanes_rule faults) net steps v1 v2) where
   pub still_planned : ArePlanned faults n drive strobe steps v2
+  unfolding silence
   still_planned k low =
-      shift_planned J opens (slice_get faults k) n net drive strobe steps (lanes k v0) (lanes k v1) (lanes k v2) ins outs_of (lanes k state) (lanes k driven) (lanes k from) there sound (plan k low) wide
+      shift_planned silence (λ c o v. refl) (slice_get faults k) n net drive strobe steps (lanes k v0) (lanes k v1) (lanes k v2) ins outs_of (lanes k state) (lanes k driven) (lanes k from) there sound (plan k low) wide
       (length-map state (lane k) ∙ size) (ap (lanes k) is_driven ∙ lanes_always k low (drive ++ ins)) (ap (lanes k) is_from) (machine_sources k low faults machines net driven from v0 v1 onto) (machine_steps k low faults machines net steps v1 v2 stepped)
 
-  pub shift_steps : (pulse : Bool) (number : ℕ) (after : List Lanes) (strobes : List Tri) (old new : List (Option Played)) → length old ≤ 64 → strobes ≡ strobe ++ outs_of
-      → AreEnded J faults n pulse number strobes v2 state after old new → AreSteps J faults n state after (record { drive = drive ++ ins; strobe = strobe ++ outs_of; pulse = pulse }) number old new
-  shift_steps pulse number after strobes old new few t ended = record {
-    size = ended.judged.size;
-    each = λ k l.
-        let low : k < 64 = omega (arith, l, few) in
-        let blank : Lanes = record { known = 0; value = 0 } in
-        let row : List Tri = lanes k (outs (lanes_rule faults) n (at v2 blank)) in
-        record {
-          said = judged_in J number 0 strobes row;
-          step = shift_step J opens (slice_get faults k) n net drive strobe steps (lanes k v0) (lanes k v1) (lanes k v2) ins outs_of (lanes k state) (lanes k driven) (lanes k from) there sound (plan k low) wide
-              (length-map state (lane k) ∙ size) (ap (lanes k) is_driven ∙ lanes_always k low (drive ++ ins)) (ap (lanes k) is_from)
-              (machine_sources k low faults machines net driven from v0 v1 onto) (machine_steps k low faults machines net steps v1 v2 stepped)
-              pulse number (lanes k v2) row strobes (lanes k after) (judged_in J number 0 strobes row) refl
-              (machine_outs k low faults machines n v2) t refl
-              (ap (lanes k) ended.ticked
-              ∙ (lanes_chosen k pulse (next (lanes_rule faults) n (at v2 blank)) state ∙ ap (λ vs. cond pulse vs (lanes k state)) (machine_next k low faults machines n v2)));
-          found = ended.judged.each k l;
-        };
-  }
+  pub shift_steps : (pulse : Bool) (number : ℕ) (after row : List Lanes) → AreEnded faults n pulse v2 state after row
+      → AreSteps faults n state after (record { drive = drive ++ ins; strobe = strobe ++ outs_of; pulse = pulse }) number row
+  shift_steps pulse number after row ended = λ k J low opens.
+      let blank : Lanes = record { known = 0; value = 0 } in
+      shift_step J opens (slice_get faults k) n net drive strobe steps (lanes k v0) (lanes k v1) (lanes k v2) ins outs_of (lanes k state) (lanes k driven) (lanes k from) there sound (plan k low) wide
+      (length-map state (lane k) ∙ size) (ap (lanes k) is_driven ∙ lanes_always k low (drive ++ ins)) (ap (lanes k) is_from)
+      (machine_sources k low faults machines net driven from v0 v1 onto) (machine_steps k low faults machines net steps v1 v2 stepped)
+      pulse number (lanes k v2) (lanes k row) (strobe ++ outs_of) (lanes k after) (judged_in J number 0 (strobe ++ outs_of) (lanes k row)) refl
+      (ap (lanes k) ended.shows ∙ machine_outs k low faults machines n v2) refl refl
+      (ap (lanes k) ended.ticked
+      ∙ (lanes_chosen k pulse (next (lanes_rule faults) n (at v2 blank)) state ∙ ap (λ vs. cond pulse vs (lanes k state)) (machine_next k low faults machines n v2)))

@@ -1,8 +1,8 @@
 -- The machines outside of a span aren't stuck at the lines that a signal names.
-use Rattle.std.proofs.Common.{◌≡◌, ℕ, suc, zero, ◌+◌, ◌-◌, ◌<◌, ◌≤◌, Bool, true, false, ◌&&◌, if◌then◌else◌, List, [], ◌∷◌, map, length, get_or, drop, replicate, refl, sym, ◌∙◌, ap, inl, inr, eqb, arith}
+use Rattle.std.proofs.Common.{◌≡◌, ℕ, suc, zero, ◌+◌, ◌-◌, ◌<◌, ◌≤◌, Bool, true, false, ◌&&◌, if◌then◌else◌, List, [], ◌∷◌, map, length, get_or, drop, refl, sym, ◌∙◌, ap, inl, inr, eqb, arith}
 use Rattle.std.specs.List.{All}
 use Rattle.std.proofs.lemmas.Bool.{eqb-true, cases_Bool, both_ways}
-use Rattle.std.proofs.lemmas.List.{length-map, drop_more, get_or_default, get_or-replicate, length-replicate}
+use Rattle.std.proofs.lemmas.List.{length-map, drop_more, get_or_default}
 use Rattle.statement.specs.declared.kinds.Kind.{Kind}
 use Rattle.statement.specs.declared.lines.Fault.{Fault}
 use Rattle.statement.specs.declared.lines.Line.{Line}

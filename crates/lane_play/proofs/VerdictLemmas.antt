@@ -14,7 +14,7 @@ use Rattle.scan_play.specs.Judging.{Judging, judged_in, played_or_else}
 use Rattle.scan_play.proofs.PlayLemmas.{judged_more}
 use Rattle.lane_play.specs.declared.packed.Lanes.{Lanes}
 use Rattle.lane_play.specs.inner.Lanes.{lane, lanes, one_at}
-use Rattle.lane_play.specs.inner.Verdicts.{AreJudgedIn, AreLeft, AreSaid, found_at, is_open, said_of}
+use Rattle.lane_play.specs.inner.Verdicts.{AreLeft, AreSaid, found_at, is_open, said_of}
 use Rattle.lane_play.proofs.LaneBits.{bit_not_word, bit_none}
 
 -- ---- one bit of a word

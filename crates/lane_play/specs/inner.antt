@@ -2,5 +2,6 @@
 pub mod Lanes
 pub mod Spans
 pub mod Verdicts
+pub mod Counts
 pub mod Shifts
 pub mod Steps

@@ -1,18 +1,19 @@
 //! Cycles in which each gate is evaluated.
-ghost use Rattle.std.specs.Prelude.{◌≡◌, ◌+◌, ◌^◌, ◌<◌, ◌++◌, length, map, IfOk, OnOk};
+ghost use Rattle.std.specs.Prelude.{◌≡◌, ◌+◌, ◌^◌, ◌<◌, ◌++◌, List, length, map, IfOk, OnOk};
 ghost use Rattle.std.specs.List.{All};
 ghost use Rattle.statement.specs.Netlists.{cells};
 ghost use Rattle.scan_play.specs.Bursts.{cycle_of, cycles_of};
 ghost use Rattle.scan_play.specs.Cycles.{IsCycleOf};
 ghost use Rattle.lane_play.specs.inner.Lanes.{always};
-ghost use Rattle.lane_play.specs.inner.Steps.{AreEnded, ArePlayedBehind, AreSized, AreSteps};
+ghost use Rattle.lane_play.specs.declared.packed.Lanes.{Lanes as Shown};
+ghost use Rattle.lane_play.specs.inner.Steps.{AreEnded, AreSized, AreSteps, KeepsBehind, KeepsOn};
 
 use crate::evaluating::settle_into;
-use crate::judging::{Verdicts, judge_row};
 use crate::packed::Lanes;
 use crate::stuck::Stuck;
+use crate::watching::Watch;
 use netlist::{Core, Tri};
-use scan_play::{Burst, Judge, tick};
+use scan_play::{Burst, tick};
 use std::alloc::AllocError;
 
 /// What the machines' cells hold, and room for what a cycle drives, strobes and shows, and for the values of all signals.
@@ -47,31 +48,32 @@ pub(crate) fn read_drive(burst: &Burst, t: usize, drive: &mut Vec<Lanes>) -> Res
     Ok(())
 }
 
-/// Judges what a cycle shows, and has the cells take their next values.
-pub(crate) fn end_cycle<J: Judge>(
+/// Hears what a cycle shows, and has the cells take their next values.
+pub(crate) fn end_cycle<J, W: Watch<J>>(
     core: &Core,
     rule: &Stuck,
     judge: &J,
     pulse: bool,
     number: u64,
     bench: &mut Bench,
-    verdicts: Verdicts,
-) -> Result<Verdicts, AllocError>
+    watch: W,
+) -> Result<W, AllocError>
     requires bench { AreSized core.now bench.old.state.items bench.old.values.items }
     requires strobes { length bench.old.strobe.items ≡ length core.now.outputs }
     ensures size { IfOk result (λ _. length bench.new.state.items ≡ length (cells core.now)) }
     ensures values { IfOk result (λ _. bench.new.values.items ≡ bench.old.values.items) }
-    ensures ended { IfOk result (λ v. AreEnded (J.says judge.now) rule.now.faults.now core.now pulse number bench.old.strobe.items bench.old.values.items bench.old.state.items bench.new.state.items verdicts.found.items v.found.items) }
+    ensures ended { IfOk result (λ w. (row : List Shown) × KeepsOn (W.kept judge.now watch) (W.kept judge.now w) number bench.old.strobe.items row
+        × AreEnded rule.now.faults.now core.now pulse bench.old.values.items bench.old.state.items bench.new.state.items row) }
 {
     core.netlist().sound();
     core.outs_into(rule, &bench.values, &mut bench.shown)?;
-    let found = judge_row(judge, number, &bench.strobe, &bench.shown, verdicts);
+    let heard = watch.hear(judge, number, &bench.strobe, &bench.shown)?;
     tick(core, rule, pulse, &bench.values, &mut bench.state)?;
-    Ok(found)
+    Ok(heard)
 }
 
 /// Plays one cycle: each gate is evaluated.
-fn play_cycle<J: Judge>(
+fn play_cycle<J, W: Watch<J>>(
     core: &Core,
     rule: &Stuck,
     judge: &J,
@@ -79,13 +81,14 @@ fn play_cycle<J: Judge>(
     t: usize,
     number: u64,
     bench: &mut Bench,
-    verdicts: Verdicts,
-) -> Result<Verdicts, AllocError>
+    watch: W,
+) -> Result<W, AllocError>
     requires within { t < burst.now.count }
     requires fits { IsCycleOf core.now (cycle_of burst.now t) }
     requires bench { AreSized core.now bench.old.state.items bench.old.values.items }
     ensures bench { IfOk result (λ _. AreSized core.now bench.new.state.items bench.new.values.items) }
-    ensures played { IfOk result (λ v. AreSteps (J.says judge.now) rule.now.faults.now core.now bench.old.state.items bench.new.state.items (cycle_of burst.now t) number verdicts.found.items v.found.items) }
+    ensures played { IfOk result (λ w. (row : List Shown) × KeepsOn (W.kept judge.now watch) (W.kept judge.now w) number (cycle_of burst.now t).strobe row
+        × AreSteps rule.now.faults.now core.now bench.old.state.items bench.new.state.items (cycle_of burst.now t) number row) }
 {
     let netlist = core.netlist();
     netlist.sound();
@@ -99,30 +102,30 @@ fn play_cycle<J: Judge>(
         &bench.state,
         &mut bench.values,
     );
-    let found = end_cycle(core, rule, judge, burst.pulse, number, bench, verdicts)?;
-    Ok(found)
+    let heard = end_cycle(core, rule, judge, burst.pulse, number, bench, watch)?;
+    Ok(heard)
 }
 
-/// Plays the cycles of a burst, until something is said of each machine: each gate is evaluated in each cycle.
-pub(crate) fn play_cycles<J: Judge>(
+/// Plays the cycles of a burst, until the watch is done: each gate is evaluated in each cycle.
+pub(crate) fn play_cycles<J, W: Watch<J>>(
     core: &Core,
     rule: &Stuck,
     judge: &J,
     burst: &Burst,
     first: u64,
     bench: &mut Bench,
-    verdicts: Verdicts,
-) -> Result<Verdicts, AllocError>
+    watch: W,
+) -> Result<W, AllocError>
     requires fits { All (IsCycleOf core.now) (cycles_of burst.now) }
     requires bench { AreSized core.now bench.old.state.items bench.old.values.items }
     requires few { first + burst.now.count < 2 ^ 64 }
     ensures bench { IfOk result (λ _. AreSized core.now bench.new.state.items bench.new.values.items) }
-    ensures played { IfOk result (λ v. ArePlayedBehind (J.says judge.now) rule.now.faults.now core.now first (cycles_of burst.now) bench.old.state.items bench.new.state.items verdicts.found.items v.found.items) }
+    ensures played { IfOk result (λ w. KeepsBehind (W.kept judge.now watch) (W.kept judge.now w) rule.now.faults.now core.now first (cycles_of burst.now) bench.old.state.items bench.new.state.items) }
 {
-    let mut so_far = verdicts;
+    let mut so_far = watch;
     for t in 0..burst.count {
         so_far = play_cycle(core, rule, judge, burst, t, first + t as u64, bench, so_far)?;
-        if so_far.left == 0 {
+        if so_far.is_done() {
             return Ok(so_far);
         }
     }

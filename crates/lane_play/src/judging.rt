@@ -10,6 +10,7 @@ ghost use Rattle.lane_play.specs.inner.Lanes.{lane};
 ghost use Rattle.lane_play.specs.inner.Verdicts.{AreJudgedIn, AreLeft, AreSaid, is_open, said_of};
 
 use crate::packed::Lanes;
+use crate::watching::Watch;
 use netlist::Tri;
 use scan_play::{Judge, Played};
 use std::alloc::{AllocError, Global};
@@ -75,7 +76,7 @@ impl Verdicts {
 
 /// What a judge says of each value at a strobe.
 #[derive(Clone, Copy)]
-struct Sayings {
+pub(crate) struct Sayings {
     zero: Option<Played>,
     one: Option<Played>,
     unknown: Option<Played>,
@@ -102,7 +103,7 @@ fn masked(said: &Option<Played>, word: u64) -> u64
 }
 
 /// Asks a judge for each value.
-fn ask<J: Judge>(judge: &J, cycle: u64, output: u32, strobe: Tri) -> Sayings
+pub(crate) fn ask<J: Judge>(judge: &J, cycle: u64, output: u32, strobe: Tri) -> Sayings
     ensures zero { result.zero ≡ J.says judge.now cycle output strobe Zero }
     ensures one { result.one ≡ J.says judge.now cycle output strobe One }
     ensures unknown { result.unknown ≡ J.says judge.now cycle output strobe X }
@@ -127,7 +128,7 @@ impl Sayings {
     }
 
     /// The machines of which something is said.
-    fn told(self, shown: Lanes) -> u64
+    pub(crate) fn told(self, shown: Lanes) -> u64
         ensures { (k : ℕ) → k < 64 → bit_of k result ≡ not (is_open (said_of self.zero self.one self.unknown (lane k shown))) }
     {
         let zero = masked(&self.zero, shown.known & (shown.value ^ u64::MAX));
@@ -203,4 +204,25 @@ pub(crate) fn judge_row<J: Judge>(
         so_far = judge_output(judge, cycle, o as u32, strobes[o], shown[o], so_far);
     }
     so_far
+}
+
+/// The verdicts of a judge, who is done once he has said something of each machine.
+impl<J: Judge> Watch<J> for Verdicts {
+    ghost use Rattle.lane_play.specs.inner.Steps.{ArePlayed};
+
+    ghost kept = { λ j v faults n cycles state. ArePlayed (J.says j) faults n cycles state v.found.items };
+
+    fn hear(
+        self,
+        judge: &J,
+        number: u64,
+        strobes: &[Tri],
+        shown: &[Lanes],
+    ) -> Result<Self, AllocError> {
+        Ok(judge_row(judge, number, strobes, shown, self))
+    }
+
+    fn is_done(&self) -> bool {
+        self.left == 0
+    }
 }

@@ -1,11 +1,13 @@
 //! Up to 64 faulty machines, played side by side.
 //!
-//! Gives: `play_lanes`.
-//! Proved: `play_lanes`: for each of up to 64 stuck lines exactly what a judge first says of its run in three values, as if it were played alone.
+//! Gives: `play_lanes`, `count_lanes`.
+//! Proved: for each of up to 64 stuck lines, as if it were played alone, `play_lanes`: exactly what a judge first says of its run in three values;
+//! `count_lanes`: of exactly how many strobes he says something, on either of two sides.
 //! Tested: run below `chain_test` and `diagnose` by rows of `cases`.
 //! Neither: time.
 #![tactic(auto)]
 
+mod counting;
 mod cycles;
 mod evaluating;
 mod judging;
@@ -16,5 +18,7 @@ mod playing;
 mod shifting;
 mod spans;
 mod stuck;
+mod watching;
 
+pub use counting::{Counts, Sides, count_lanes};
 pub use playing::play_lanes;

@@ -1,22 +1,23 @@
 //! Cycles in which only the gates of a plan are evaluated.
-ghost use Rattle.std.specs.Prelude.{◌≡◌, ◌+◌, ◌^◌, ◌<◌, length, IfOk};
+ghost use Rattle.std.specs.Prelude.{◌≡◌, ◌+◌, ◌^◌, ◌<◌, List, length, IfOk};
 ghost use Rattle.std.specs.List.{All};
 ghost use Rattle.statement.specs.Netlists.{cells};
 ghost use Rattle.scan_play.specs.Bursts.{cycle_of, cycles_of};
 ghost use Rattle.scan_play.specs.Cycles.{IsCycleOf};
 ghost use Rattle.lane_play.specs.inner.Shifts.{ArePlanned};
-ghost use Rattle.lane_play.specs.inner.Steps.{ArePlayedBehind, AreSized, AreSteps};
+ghost use Rattle.lane_play.specs.declared.packed.Lanes.{Lanes as Shown};
+ghost use Rattle.lane_play.specs.inner.Steps.{AreSized, AreSteps, KeepsBehind, KeepsOn};
 
 use crate::cycles::{Bench, end_cycle, read_drive};
 use crate::evaluating::evaluate_all;
-use crate::judging::Verdicts;
 use crate::stuck::Stuck;
+use crate::watching::Watch;
 use netlist::{Core, SignalId, drive_sources};
-use scan_play::{Burst, Judge};
+use scan_play::Burst;
 use std::alloc::AllocError;
 
 /// Plays one cycle by the steps of a plan.
-fn play_shift<J: Judge>(
+fn play_shift<J, W: Watch<J>>(
     core: &Core,
     rule: &Stuck,
     judge: &J,
@@ -25,15 +26,16 @@ fn play_shift<J: Judge>(
     number: u64,
     steps: &[SignalId],
     bench: &mut Bench,
-    verdicts: Verdicts,
-) -> Result<Verdicts, AllocError>
+    watch: W,
+) -> Result<W, AllocError>
     requires within { t < burst.now.count }
     requires fits { IsCycleOf core.now (cycle_of burst.now t) }
     requires size { length bench.old.state.items ≡ length (cells core.now) }
     requires planned { ArePlanned rule.now.faults.now core.now burst.now.drive.items burst.now.strobe.items steps.now bench.old.values.items }
     ensures size { IfOk result (λ _. length bench.new.state.items ≡ length (cells core.now)) }
     ensures planned { IfOk result (λ _. ArePlanned rule.now.faults.now core.now burst.now.drive.items burst.now.strobe.items steps.now bench.new.values.items) }
-    ensures played { IfOk result (λ v. AreSteps (J.says judge.now) rule.now.faults.now core.now bench.old.state.items bench.new.state.items (cycle_of burst.now t) number verdicts.found.items v.found.items) }
+    ensures played { IfOk result (λ w. (row : List Shown) × KeepsOn (W.kept judge.now watch) (W.kept judge.now w) number (cycle_of burst.now t).strobe row
+        × AreSteps rule.now.faults.now core.now bench.old.state.items bench.new.state.items (cycle_of burst.now t) number row) }
 {
     let netlist = core.netlist();
     netlist.sound();
@@ -41,12 +43,12 @@ fn play_shift<J: Judge>(
     burst.read_strobe(t, &mut bench.strobe)?;
     drive_sources(rule, netlist, &bench.drive, &bench.state, &mut bench.values);
     evaluate_all(rule, netlist, steps, &mut bench.values);
-    let found = end_cycle(core, rule, judge, burst.pulse, number, bench, verdicts)?;
-    Ok(found)
+    let heard = end_cycle(core, rule, judge, burst.pulse, number, bench, watch)?;
+    Ok(heard)
 }
 
-/// Plays the cycles of a burst by the steps of a plan, until something is said of each machine.
-pub(crate) fn play_shifts<J: Judge>(
+/// Plays the cycles of a burst by the steps of a plan, until the watch is done.
+pub(crate) fn play_shifts<J, W: Watch<J>>(
     core: &Core,
     rule: &Stuck,
     judge: &J,
@@ -54,16 +56,16 @@ pub(crate) fn play_shifts<J: Judge>(
     first: u64,
     steps: &[SignalId],
     bench: &mut Bench,
-    verdicts: Verdicts,
-) -> Result<Verdicts, AllocError>
+    watch: W,
+) -> Result<W, AllocError>
     requires fits { All (IsCycleOf core.now) (cycles_of burst.now) }
     requires size { length bench.old.state.items ≡ length (cells core.now) }
     requires planned { ArePlanned rule.now.faults.now core.now burst.now.drive.items burst.now.strobe.items steps.now bench.old.values.items }
     requires few { first + burst.now.count < 2 ^ 64 }
     ensures bench { IfOk result (λ _. AreSized core.now bench.new.state.items bench.new.values.items) }
-    ensures played { IfOk result (λ v. ArePlayedBehind (J.says judge.now) rule.now.faults.now core.now first (cycles_of burst.now) bench.old.state.items bench.new.state.items verdicts.found.items v.found.items) }
+    ensures played { IfOk result (λ w. KeepsBehind (W.kept judge.now watch) (W.kept judge.now w) rule.now.faults.now core.now first (cycles_of burst.now) bench.old.state.items bench.new.state.items) }
 {
-    let mut so_far = verdicts;
+    let mut so_far = watch;
     for t in 0..burst.count {
         so_far = play_shift(
             core,
@@ -76,7 +78,7 @@ pub(crate) fn play_shifts<J: Judge>(
             bench,
             so_far,
         )?;
-        if so_far.left == 0 {
+        if so_far.is_done() {
             return Ok(so_far);
         }
     }

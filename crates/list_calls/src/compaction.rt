@@ -1,5 +1,5 @@
 //! What compaction keeps of a list after calls.
-ghost use Rattle.std.specs.Prelude.{◌≡◌, ◌+◌, ◌<◌, ◌≤◌, ◌^◌, length};
+ghost use Rattle.std.specs.Prelude.{◌≡◌, ◌+◌, ◌<◌, ◌≤◌, ◌^◌, IsTrue, length};
 ghost use Rattle.netlist.specs.Holds.{AreHoldsOf, none_held};
 ghost use Rattle.list_core.specs.Subjects.{HaveLines, class_count};
 
@@ -63,6 +63,7 @@ pub fn play_compacted<J: About>(
     requires limit { (limit ≡ J.subject.limit) × (1 ≤ limit) }
     requires lines { HaveLines J.subject }
     requires held { (holds.now ≡ J.subject.holds) × (holds.now ≡ none_held core.now) × AreHoldsOf core.now holds.now }
+    requires refutes { IsTrue J.subject.refutes }
 {
     let mut said = Vec::new(alloc);
     let list = list_after::<J>(&mut said, alloc, core, classes, limit, holds, calls)?;

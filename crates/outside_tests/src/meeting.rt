@@ -88,6 +88,7 @@ impl MeetingEngine {
 }
 
 impl Engine for MeetingEngine {
+    ghost use Rattle.std.specs.Prelude.{false};
     ghost use Rattle.podem.specs.Rooms.{IsReusablePodemRoom};
     ghost use Rattle.podem.specs.Sources.{HasSourceEvidence};
 
@@ -96,6 +97,8 @@ impl Engine for MeetingEngine {
     ghost serves = { IsReusablePodemRoom };
 
     ghost keeps_rule = { HasSourceEvidence };
+
+    ghost refutes = { false };
 
     fn search(
         &self,

@@ -1,5 +1,5 @@
 -- What is diagnosed: a design, a test, and what failed.
-use Rattle.std.specs.Prelude.{ℕ, ◌≡◌, ⊤, List, [], ◌∷◌, Result, Ok, Err}
+use Rattle.std.specs.Prelude.{ℕ, ◌≡◌, ⊤, List, [], ◌∷◌, Option, Result, Ok, Err}
 use Rattle.statement.specs.Benches.{Text}
 use Rattle.bench_text.specs.declared.refusal.Names.TheVariants.{Design}
 use Rattle.statement.specs.Netlists.{Netlist}
@@ -17,7 +17,7 @@ use Rattle.commands.specs.declared.ending.Finding.TheVariants.{Fine}
 use Rattle.commands.specs.declared.product.Stop.{Stop}
 use Rattle.commands.specs.declared.product.Stop.TheVariants as stop
 use Rattle.atpg_top.specs.Commands.{diagnose_due}
-use Rattle.atpg_top.specs.Diagnoses.{IsDiagnosis}
+use Rattle.atpg_top.specs.Diagnoses.{IsSaidOf}
 use Rattle.atpg_top.specs.Steps.{◌>>=◌, netlist, test, value}
 use Rattle.atpg_top.specs.declared.diagnosing.Case.{Case}
 use Rattle.atpg_top.specs.declared.refusal.Refusal.{Refusal}
@@ -30,23 +30,23 @@ pub record IsCase (net stil log : Text) (n : Netlist) (file : StilFile) (told : 
   pub log_is : value IsLogOf NotLog log (Ok told)
   pub design : IsDesign n
 
-abbrev pub ReadsCase : ℕ → Text → Text → Text → Result Case (Stop Refusal) → Type 0
-ReadsCase chains net stil log (Ok c) = IsCase net stil log c.netlist c.file c.log
-ReadsCase chains net stil log (Err (stop.Refused r)) = diagnose_due chains (net ∷ stil ∷ log ∷ []) (Refuse r)
-ReadsCase chains net stil log (Err stop.NoMemory) = ⊤
+abbrev pub ReadsCase : ℕ → Option ℕ → Text → Text → Text → Result Case (Stop Refusal) → Type 0
+ReadsCase chains rank net stil log (Ok c) = IsCase net stil log c.netlist c.file c.log
+ReadsCase chains rank net stil log (Err (stop.Refused r)) = diagnose_due chains rank (net ∷ stil ∷ log ∷ []) (Refuse r)
+ReadsCase chains rank net stil log (Err stop.NoMemory) = ⊤
 
 -- what is due of a design, a file that fits its scanned netlist, and a log
-abbrev pub diagnosis_due : ℕ → Netlist → StilFile → FailLog → Due Refusal → Type 0
-diagnosis_due chains n file log d =
-    (text : Text) × IsDiagnosis n (design_chains n chains) (vectors_in file) log text × (d ≡ Deliver [] text Fine)
+abbrev pub diagnosis_due : ℕ → Option ℕ → Netlist → StilFile → FailLog → Due Refusal → Type 0
+diagnosis_due chains rank n file log d =
+    (text : Text) × IsSaidOf rank n (design_chains n chains) (vectors_in file) log text × (d ≡ Deliver [] text Fine)
 
 -- the same of a file that may not fit
-abbrev pub case_due : ℕ → Netlist → StilFile → FailLog → Due Refusal → Type 0
-case_due chains n file log = test (FitsNetlist file (scanned_of n (design_chains n chains))) StilDoesNotFit >>= λ _. diagnosis_due chains n file log
+abbrev pub case_due : ℕ → Option ℕ → Netlist → StilFile → FailLog → Due Refusal → Type 0
+case_due chains rank n file log = test (FitsNetlist file (scanned_of n (design_chains n chains))) StilDoesNotFit >>= λ _. diagnosis_due chains rank n file log
 
 -- the same of the bytes of a log, and of those of a file
-abbrev pub log_due : ℕ → Text → Netlist → StilFile → Due Refusal → Type 0
-log_due chains log n file = value IsLogOf NotLog log >>= λ told. case_due chains n file told
+abbrev pub log_due : ℕ → Option ℕ → Text → Netlist → StilFile → Due Refusal → Type 0
+log_due chains rank log n file = value IsLogOf NotLog log >>= λ told. case_due chains rank n file told
 
-abbrev pub test_due : ℕ → Text → Text → Netlist → Due Refusal → Type 0
-test_due chains stil log n = value StandsFor NotStil stil >>= λ file. log_due chains log n file
+abbrev pub test_due : ℕ → Option ℕ → Text → Text → Netlist → Due Refusal → Type 0
+test_due chains rank stil log n = value StandsFor NotStil stil >>= λ file. log_due chains rank log n file

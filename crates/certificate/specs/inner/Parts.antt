@@ -8,7 +8,7 @@ use Rattle.redundancy_cert.specs.declared.nodes.Node.{Node}
 use Rattle.evidence.specs.declared.kinds.Evidence.{Evidence}
 use Rattle.certificate.specs.declared.node.Letter.{Letter}
 use Rattle.certificate.specs.declared.node.Letter.TheVariants.{Closed, Open, Split, Forced}
-use Rattle.certificate.specs.Certificates.{evidence_line, evidence_text, node_text, HasSignal, IsEvidence, IsFormed}
+use Rattle.certificate.specs.Certificates.{evidence_line, evidence_text, node_text, HasSignal, IsEvidence, IsWellFormed}
 use Rattle.certificate.specs.inner.Words.{IsEnd}
 
 -- how a node begins
@@ -47,7 +47,7 @@ pub record AreNodes (n : Netlist) (text : List ℕ) (nodes : List Node) : Type 0
 
 -- the text is that of the evidence
 pub record IsTextOf (n : Netlist) (text : List ℕ) (e : Evidence) : Type 0 where
-  pub formed : IsFormed n e
+  pub formed : IsWellFormed n e
   pub is : text ≡ evidence_text n e
 
 abbrev pub NoText : Netlist → List ℕ → Type 0

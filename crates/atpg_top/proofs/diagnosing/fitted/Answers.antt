@@ -17,7 +17,7 @@ returns-in-Ok g c =
     let file = c.args.case.now.file in
     let is = c.netlist.ensures ∙ ap (λ (s : Insertion). s.netlist) c.requires.scanned in
     let fits = subst (λ (m : Netlist). FitsNetlist file m) is c.in-Ok.ensures in
-    then_worked (test (FitsNetlist file (scanned_of n chains)) StilDoesNotFit) (λ _. diagnosis_due c.args.options.chains n file c.args.case.now.log) 0 tt c.product_of.result fits c.product_of.ensures
+    then_worked (test (FitsNetlist file (scanned_of n chains)) StilDoesNotFit) (λ _. diagnosis_due c.args.options.chains c.args.options.rank n file c.args.case.now.log) 0 tt c.product_of.result fits c.product_of.ensures
 
 pub returns-in-Err : goal.returns-in-Err
 returns-in-Err g c =
@@ -26,4 +26,4 @@ returns-in-Err g c =
     let file = c.args.case.now.file in
     let is = c.netlist.ensures ∙ ap (λ (s : Insertion). s.netlist) c.requires.scanned in
     let refused : Answers (test (FitsNetlist file (scanned_of n chains)) StilDoesNotFit) (Err c.in-Err.stop) = subst (λ (m : Netlist). Answers (test (FitsNetlist file m) StilDoesNotFit) (Err c.in-Err.stop)) is c.in-Err.ensures in
-    stopped (test (FitsNetlist file (scanned_of n chains)) StilDoesNotFit) (λ _. diagnosis_due c.args.options.chains n file c.args.case.now.log) 0 c.in-Err.stop refused
+    stopped (test (FitsNetlist file (scanned_of n chains)) StilDoesNotFit) (λ _. diagnosis_due c.args.options.chains c.args.options.rank n file c.args.case.now.log) 0 c.in-Err.stop refused

@@ -8,20 +8,20 @@ use Rattle.statement.specs.Values.{outs, next}
 use Rattle.scan_play.proofs.PlaySteps.{few_outputs}
 use Rattle.lane_play.specs.declared.packed.Lanes.{Lanes}
 use Rattle.lane_play.specs.inner.Lanes.{lanes_rule}
-use Rattle.lane_play.specs.inner.Verdicts.{AreJudgedIn}
+use Rattle.lane_play.specs.inner.Steps.{KeepsOn}
 use Rattle.lane_play.proofs.PlayedLemmas.{size_kept}
 use Rattle.lane_play.proofs.cycles.end_cycle.Goals as goal
 
 blank : Lanes
 blank = record { known = 0; value = 0 }
 
-pub judge_row-found-requires-clause-same : goal.judge_row-found-requires-clause-same
-judge_row-found-requires-clause-same g c =
+pub hear-requires-clause-same : goal.hear-requires-clause-same
+hear-requires-clause-same g c =
     ap length c.deref-2.ensures.value
     ∙ (c.requires.strobes ∙ sym (ap length (c.deref-3.ensures.value ∙ c.in_ok-outs_into.ensures blank) ∙ length-map c.args.core.now.outputs _))
 
-pub judge_row-found-requires-clause-few : goal.judge_row-found-requires-clause-few
-judge_row-found-requires-clause-few g c =
+pub hear-requires-clause-few : goal.hear-requires-clause-few
+hear-requires-clause-few g c =
     let size : length c.deref-2.result.now ≡ length c.args.core.now.outputs = ap length c.deref-2.ensures.value ∙ c.requires.strobes in
     let few = few_outputs c.args.core.now (subst IsSound c.netlist.ensures c.sound.ensures) in
     omega arith
@@ -36,12 +36,12 @@ unfolding blank
 returns-clause-ended g c =
     let rule = lanes_rule c.args.rule.now.faults.now in
     let n : Netlist = c.args.core.now in
-    let strobe : List Tri = c.args.bench.now.strobe.items in
     let state : List Lanes = c.args.bench.now.state.items in
-    let judged : List Tri → List Lanes → Type 0 =
-    λ strobes row. AreJudgedIn (g.J.Judge.says c.args.judge.now) c.args.number strobes row c.args.verdicts.found.items c.judge_row-found.result.found.items in
-    record {
-      judged = subst (judged strobe) (c.deref-3.ensures.value ∙ (c.in_ok-outs_into.ensures blank ∙ ap (λ (vs : List Lanes). outs rule n (at vs blank)) c.deref.ensures.value))
-          (subst (λ (s : List Tri). judged s c.deref-3.result.now) c.deref-2.ensures.value c.judge_row-found.ensures);
-      ticked = c.in_ok-tick.ensures blank ∙ ap (λ (vs : List Lanes). cond c.args.pulse (next rule n (at vs blank)) state) c.deref-4.ensures.value;
-    }
+    let kept = g.W.Watch.kept c.args.judge.now in (
+      c.deref-3.result.now,
+      subst (λ (ss : List Tri). KeepsOn (kept c.args.watch) (kept c.in_ok-heard.heard) c.args.number ss c.deref-3.result.now) c.deref-2.ensures.value c.in_ok-heard.ensures,
+      record {
+        shows = c.deref-3.ensures.value ∙ (c.in_ok-outs_into.ensures blank ∙ ap (λ (vs : List Lanes). outs rule n (at vs blank)) c.deref.ensures.value);
+        ticked = c.in_ok-tick.ensures blank ∙ ap (λ (vs : List Lanes). cond c.args.pulse (next rule n (at vs blank)) state) c.deref-4.ensures.value;
+      },
+    )

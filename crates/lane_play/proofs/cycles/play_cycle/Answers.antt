@@ -1,5 +1,6 @@
 use Rattle.std.proofs.Common.{length, List, sym, ◌∙◌, ap, subst}
 use Rattle.std.proofs.lemmas.List.{length-map}
+use Rattle.statement.specs.declared.kinds.Tri.{Tri}
 use Rattle.statement.specs.Netlists.{Netlist, signals}
 use Rattle.netlist.specs.Conditions.{IsSound}
 use Rattle.netlist.specs.Orders.{IsOrder}
@@ -8,6 +9,7 @@ use Rattle.netlist.specs.Settled.{at}
 use Rattle.scan_play.specs.Bursts.{cycle_of}
 use Rattle.lane_play.specs.declared.packed.Lanes.{Lanes}
 use Rattle.lane_play.specs.inner.Lanes.{always, lanes_rule}
+use Rattle.lane_play.specs.inner.Steps.{KeepsOn}
 use Rattle.lane_play.proofs.PlayedLemmas.{steps_from}
 use Rattle.lane_play.proofs.cycles.play_cycle.Goals as goal
 
@@ -27,7 +29,7 @@ end_cycle-requires-clause-strobes g c = ap length c.in_ok-read_strobe.ensures �
 
 pub returns-clause-bench : goal.returns-clause-bench
 returns-clause-bench g c =
-    (c.in_ok-found.ensures.size, ap length c.in_ok-found.ensures.values ∙ (c.settle_into.ensures.size ∙ ap (λ (m : Netlist). length (signals m)) c.netlist-netlist.ensures))
+    (c.in_ok-heard.ensures.size, ap length c.in_ok-heard.ensures.values ∙ (c.settle_into.ensures.size ∙ ap (λ (m : Netlist). length (signals m)) c.netlist-netlist.ensures))
 
 pub returns-clause-played : goal.returns-clause-played
 returns-clause-played g c =
@@ -36,9 +38,14 @@ returns-clause-played g c =
     let rule = lanes_rule faults in
     let values = c.settle_into.new.values.items in
     let state : List Lanes = c.args.bench.now.state.items in
-    steps_from (g.J.Judge.says c.args.judge.now) faults n (cycle_of c.args.burst.now c.args.t) c.args.number state c.end_cycle.new.bench.state.items c.deref.result.now values
-    _ c.args.verdicts.found.items c.in_ok-found.found.found.items c.args.rule.now.few (subst IsSound c.netlist-netlist.ensures c.sound.ensures) c.args.verdicts.few
-    (c.deref.ensures.value ∙ c.in_ok-read_drive.ensures) c.in_ok-read_strobe.ensures c.requires.bench.0
-    (λ d. subst (λ (m : Netlist). Settles rule m c.deref.result.now state (at values d)) c.netlist-netlist.ensures
-    (subst (λ (s : List Lanes). Settles rule c.netlist-netlist.result.now c.deref.result.now s (at values d)) c.deref-2.ensures.value (c.settle_into.ensures.settled d)))
-    c.in_ok-found.ensures.ended
+    let e = c.in_ok-heard.ensures.ended in
+    let kept = g.W.Watch.kept c.args.judge.now in (
+      e.0,
+      subst (λ (ss : List Tri). KeepsOn (kept c.args.watch) (kept c.in_ok-heard.heard) c.args.number ss e.0) c.in_ok-read_strobe.ensures e.1,
+      steps_from faults n (cycle_of c.args.burst.now c.args.t) c.args.number state c.end_cycle.new.bench.state.items c.deref.result.now values e.0
+          c.args.rule.now.few (subst IsSound c.netlist-netlist.ensures c.sound.ensures)
+          (c.deref.ensures.value ∙ c.in_ok-read_drive.ensures) c.requires.bench.0
+          (λ d. subst (λ (m : Netlist). Settles rule m c.deref.result.now state (at values d)) c.netlist-netlist.ensures
+          (subst (λ (s : List Lanes). Settles rule c.netlist-netlist.result.now c.deref.result.now s (at values d)) c.deref-2.ensures.value (c.settle_into.ensures.settled d)))
+          e.2,
+    )

@@ -1,6 +1,7 @@
 use Rattle.std.proofs.Common.{◌*◌, length, List, take, drop, sym, ◌∙◌, ap, subst}
 use Rattle.std.specs.List.{All}
 use Rattle.std.proofs.lemmas.List.{length-map}
+use Rattle.statement.specs.declared.kinds.Tri.{Tri}
 use Rattle.statement.specs.Netlists.{Netlist, signals}
 use Rattle.netlist.specs.Netlist.{IsGateAt}
 use Rattle.netlist.specs.Conditions.{IsSound}
@@ -8,6 +9,7 @@ use Rattle.scan_play.specs.Bursts.{cycle_of}
 use Rattle.lane_play.specs.declared.packed.Lanes.{Lanes}
 use Rattle.lane_play.specs.inner.Lanes.{always}
 use Rattle.lane_play.specs.inner.Shifts.{ArePlanned}
+use Rattle.lane_play.specs.inner.Steps.{KeepsOn}
 use Rattle.lane_play.proofs.ShiftLemmas.{planned_gates, planned_size, shift_steps, still_planned}
 use Rattle.lane_play.proofs.shifting.play_shift.Goals as goal
 
@@ -43,8 +45,8 @@ end_cycle-requires-clause-strobes g c = ap length c.in_ok-read_strobe.ensures �
 pub returns-clause-planned : goal.returns-clause-planned
 returns-clause-planned g c =
     let b = c.args.burst.now in
-    subst (λ (vs : List Lanes). ArePlanned c.args.rule.now.faults.now c.args.core.now b.drive.items b.strobe.items c.args.steps.now vs) (sym c.in_ok-found.ensures.values)
-    (still_planned (g.J.Judge.says c.args.judge.now) (g.met.J.Judge.open c.args.judge.now) c.args.rule.now.faults.now c.args.rule.now.few c.args.core.now c.netlist-netlist.result.now b.drive.items b.strobe.items
+    subst (λ (vs : List Lanes). ArePlanned c.args.rule.now.faults.now c.args.core.now b.drive.items b.strobe.items c.args.steps.now vs) (sym c.in_ok-heard.ensures.values)
+    (still_planned c.args.rule.now.faults.now c.args.rule.now.few c.args.core.now c.netlist-netlist.result.now b.drive.items b.strobe.items
     c.args.steps.now c.args.bench.now.values.items c.drive_sources.new.values.items c.evaluate_all.new.values.items
     (take b.width (drop (c.args.t * b.width) b.ins.items)) (take b.width (drop (c.args.t * b.width) b.outs.items)) c.args.bench.now.state.items c.deref.result.now c.deref-2.result.now
     c.netlist-netlist.ensures (subst IsSound c.netlist-netlist.ensures c.sound.ensures) c.requires.planned c.requires.fits.drive c.requires.size
@@ -53,10 +55,14 @@ returns-clause-planned g c =
 pub returns-clause-played : goal.returns-clause-played
 returns-clause-played g c =
     let b = c.args.burst.now in
-    shift_steps (g.J.Judge.says c.args.judge.now) (g.met.J.Judge.open c.args.judge.now) c.args.rule.now.faults.now c.args.rule.now.few c.args.core.now c.netlist-netlist.result.now b.drive.items b.strobe.items
-    c.args.steps.now c.args.bench.now.values.items c.drive_sources.new.values.items c.evaluate_all.new.values.items
-    (take b.width (drop (c.args.t * b.width) b.ins.items)) (take b.width (drop (c.args.t * b.width) b.outs.items)) c.args.bench.now.state.items c.deref.result.now c.deref-2.result.now
-    c.netlist-netlist.ensures (subst IsSound c.netlist-netlist.ensures c.sound.ensures) c.requires.planned c.requires.fits.drive c.requires.size
-    (c.deref.ensures.value ∙ c.in_ok-read_drive.ensures) c.deref-2.ensures.value c.drive_sources.ensures c.evaluate_all.ensures.made
-    b.pulse c.args.number c.end_cycle.new.bench.state.items _ c.args.verdicts.found.items c.in_ok-found.found.found.items
-    c.args.verdicts.few c.in_ok-read_strobe.ensures c.in_ok-found.ensures.ended
+    let e = c.in_ok-heard.ensures.ended in
+    let kept = g.W.Watch.kept c.args.judge.now in (
+      e.0,
+      subst (λ (ss : List Tri). KeepsOn (kept c.args.watch) (kept c.in_ok-heard.heard) c.args.number ss e.0) c.in_ok-read_strobe.ensures e.1,
+      shift_steps c.args.rule.now.faults.now c.args.rule.now.few c.args.core.now c.netlist-netlist.result.now b.drive.items b.strobe.items
+          c.args.steps.now c.args.bench.now.values.items c.drive_sources.new.values.items c.evaluate_all.new.values.items
+          (take b.width (drop (c.args.t * b.width) b.ins.items)) (take b.width (drop (c.args.t * b.width) b.outs.items)) c.args.bench.now.state.items c.deref.result.now c.deref-2.result.now
+          c.netlist-netlist.ensures (subst IsSound c.netlist-netlist.ensures c.sound.ensures) c.requires.planned c.requires.fits.drive c.requires.size
+          (c.deref.ensures.value ∙ c.in_ok-read_drive.ensures) c.deref-2.ensures.value c.drive_sources.ensures c.evaluate_all.ensures.made
+          b.pulse c.args.number c.end_cycle.new.bench.state.items e.0 e.2,
+    )
