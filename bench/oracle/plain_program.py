@@ -14,12 +14,13 @@ import plain_transition
 from fault_list import fault_list
 from plain_chains import chain_test
 from plain_check import ENDS
+from plain_grades import grades
 from plain_play import site_of, unmet
 from plain_stil import Walk, cycles_in, is_stil, signals
 
 MOST_BYTES = 67_108_864
 MOST_LINES = 100_000  # of a netlist that the plain reader is given
-READ = {"scan": 1, "faults": 1, "run": 1, "transition": 1, "play": 2, "chaintest": 2, "diagnose": 3, "sweep": 0}
+READ = {"scan": 1, "faults": 1, "run": 1, "transition": 1, "play": 2, "chaintest": 2, "grade": 2, "diagnose": 3, "sweep": 0}
 BY_PREFIX = ("run", "transition")  # what writes five files
 NAME = r"[!$-&*+\--<>-~]+"  # bytes of .bench's names
 HELD = re.compile(f"{NAME}=[01](,{NAME}=[01])*")
@@ -185,6 +186,13 @@ def chaintest(texts, options):
     return Due([], chain_test(netlist, asked_chains(options), cycles_that_fit(texts[1], scanned_of(netlist, options))))
 
 
+def grade(texts, options):
+    netlist = netlist_of(texts[0])
+    need_stil(texts[1])
+    text, counts = grades(netlist, asked_chains(options), cycles_that_fit(texts[1], scanned_of(netlist, options)))
+    return Due([text], counts)
+
+
 @functools.lru_cache
 def failures_of(text, stil, chains):
     """For each fault of a netlist what isn't met with it, by a plain player."""
@@ -292,7 +300,7 @@ def transition(texts, options, told):
     return Due(made + [Begun("atpg transition certificate 1\n"), report], shown)
 
 
-WORK = {"scan": scan, "faults": faults, "play": play, "chaintest": chaintest, "diagnose": diagnose, "check": check}
+WORK = {"scan": scan, "faults": faults, "play": play, "chaintest": chaintest, "grade": grade, "diagnose": diagnose, "check": check}
 SEARCHES = {"run": run, "transition": transition}
 
 
@@ -310,13 +318,16 @@ def names_written(command, given):
     """The files that it writes, in order, likewise."""
     if command in BY_PREFIX:
         return [(given[1], f".{end}") for end in ENDS]
+    if command == "grade":
+        return [(given[2], ".grade")]
     return [(name, "") for name in given[1:]] if command == "scan" else []
 
 
 def need_names(command, given):
     """No file written is named by an ending alone, and none that is read is written over."""
-    if command in BY_PREFIX and (not given[1] or given[1].endswith("/")):
-        raise Refused(2, "prefix names no file: ", given[1], "\n")
+    prefix = given[1] if command in BY_PREFIX else given[2] if command == "grade" else "own"
+    if not prefix or prefix.endswith("/"):
+        raise Refused(2, "prefix names no file: ", prefix, "\n")
     written = {"".join(name) for name in names_written(command, given)}
     for name in map("".join, names_read(command, given)):
         if name in written:

@@ -57,16 +57,16 @@ counts_are told fails untold is rest =
 
 -- ---- lines
 
-next : (f : Fault × Strobe → Text) (gs : List Fault) (ts : List Strobe) (i : ℕ) (g : Fault) (t d : Strobe) → i < length gs → length ts ≡ length gs → g ≡ get_or gs i g → t ≡ get_or ts i d
+next : {T : Type 0} (f : Fault × T → Text) (gs : List Fault) (ts : List T) (i : ℕ) (g : Fault) (t d : T) → i < length gs → length ts ≡ length gs → g ≡ get_or gs i g → t ≡ get_or ts i d
     → flat_map f (take (suc i) (zip gs ts)) ≡ flat_map f (take i (zip gs ts)) ++ f (g, t)
 next f [] ts i g t d l size at there = absurd (omega arith)
 next f (x ∷ gs) [] i g t d l size at there = absurd (omega (arith, size))
-next f (x ∷ gs) (y ∷ ts) zero g t d l size at there = append-nil (f (x, y)) ∙ ap₂ (λ (a : Fault) (b : Strobe). f (a, b)) (sym at) (sym there)
+next {T} f (x ∷ gs) (y ∷ ts) zero g t d l size at there = append-nil (f (x, y)) ∙ ap₂ (λ (a : Fault) (b : T). f (a, b)) (sym at) (sym there)
 next f (x ∷ gs) (y ∷ ts) (suc i) g t d l size at there =
     ap (λ r. f (x, y) ++ r) (next f gs ts i g t d (omega arith) (omega (arith, size)) at there) ∙ sym (append_assoc (f (x, y)) (flat_map f (take i (zip gs ts))) (f (g, t)))
 
 -- one more line
-pub line_more : (f : Fault × Strobe → Text) (gs : List Fault) (ts : List Strobe) (i : ℕ) (g : Fault) (t d : Strobe) (start old new : Text) → i < length gs → length ts ≡ length gs
+pub line_more : {T : Type 0} (f : Fault × T → Text) (gs : List Fault) (ts : List T) (i : ℕ) (g : Fault) (t d : T) (start old new : Text) → i < length gs → length ts ≡ length gs
     → g ≡ get_or gs i g → t ≡ get_or ts i d → old ≡ start ++ flat_map f (take i (zip gs ts)) → new ≡ old ++ f (g, t) → new ≡ start ++ flat_map f (take (i + 1) (zip gs ts))
 line_more f gs ts i g t d start old new l size at there is also =
     let more : suc i ≡ i + 1 = omega arith in
@@ -75,7 +75,7 @@ line_more f gs ts i g t d start old new l size at there is also =
     ∙ (ap (λ r. start ++ r) (sym (next f gs ts i g t d l size at there)) ∙ ap (λ k. start ++ flat_map f (take k (zip gs ts))) more)))
 
 -- all lines
-pub lines_all : (f : Fault × Strobe → Text) (gs : List Fault) (ts : List Strobe) (i : ℕ) (start new : Text) → length gs ≤ i → length ts ≡ length gs → new ≡ start ++ flat_map f (take i (zip gs ts))
+pub lines_all : {T : Type 0} (f : Fault × T → Text) (gs : List Fault) (ts : List T) (i : ℕ) (start new : Text) → length gs ≤ i → length ts ≡ length gs → new ≡ start ++ flat_map f (take i (zip gs ts))
     → new ≡ start ++ flat_map f (zip gs ts)
 lines_all f gs ts i start new past size is =
     let few : length (zip gs ts) ≤ i = omega (arith, length-zip gs ts) in
@@ -111,7 +111,7 @@ zip_length R (x ∷ xs) (y ∷ ys) all = ap suc (zip_length R xs ys all.1)
 
 -- ---- the scan hardware
 
-signals_of : FaultsHaveSignals → (n : Netlist) → IsSound n → All (λ (f : Fault). signal_of f.line < length (signals n)) (universe_of n)
+pub signals_of : FaultsHaveSignals → (n : Netlist) → IsSound n → All (λ (f : Fault). signal_of f.line < length (signals n)) (universe_of n)
 signals_of law n sound k d l = law n k (get_or (universe_of n) k d) sound (at (universe_of n) k d l)
   where
     at : (fs : List Fault) (k : ℕ) (d : Fault) → k < length fs → slice_get fs k ≡ Some (get_or fs k d)

@@ -27,14 +27,14 @@ use Rattle.diagnose.specs.Reading.{IsLogOf}
 use Rattle.commands.specs.Due.{Due, Deliver, Refuse}
 use Rattle.commands.specs.Laws.{AreAlike, IsExclusive}
 use Rattle.commands.specs.declared.ending.Finding.TheVariants.{Fine}
-use Rattle.command_line.specs.CommandLine.{CommandLine, chaintest, check, diagnose, faults, play, run, scan, sweep, transition}
+use Rattle.command_line.specs.CommandLine.{CommandLine, chaintest, check, diagnose, faults, grade, play, run, scan, sweep, transition}
 use Rattle.command_line.specs.HoldLists.{HoldItem}
 use Rattle.command_line.specs.declared.requests.RunOptions.{RunOptions}
 use Rattle.command_line.specs.declared.requests.SlowOptions.{SlowOptions}
 use Rattle.check_command.specs.Checking as command
 use Rattle.check_command.specs.declared.refusal.CheckRefusal.{CheckRefusal}
 use Rattle.atpg_top.specs.Checks.{check_due, refusal_of, told}
-use Rattle.atpg_top.specs.Commands.{chaintest_due, diagnose_due, due, faults_due, play_due, run_due, scan_due, sweep_due, transition_due}
+use Rattle.atpg_top.specs.Commands.{chaintest_due, diagnose_due, due, faults_due, grade_due, play_due, run_due, scan_due, sweep_due, transition_due}
 use Rattle.transition_run.specs.declared.files.TransitionFiles.{TransitionFiles}
 use Rattle.transition_run.specs.Runs.{transition_files_of}
 use Rattle.atpg_top.specs.Runs.{tests_line, texts_in, texts_made}
@@ -48,6 +48,7 @@ use Rattle.atpg_top.specs.Steps.{design_due, named_fault, named_holds, netlist, 
 use Rattle.atpg_top.specs.ChainTests.{chain_test_text, hardware_of}
 use Rattle.atpg_top.specs.inner.ChainTrials.{bytes_due, fit_due, test_due, told_due}
 use Rattle.atpg_top.specs.inner.Cases as cases
+use Rattle.atpg_top.specs.inner.GradeTrials.{grade_bytes_due, grade_fit_due, graded_due}
 use Rattle.atpg_top.specs.inner.Trials.{answer_due, fault_due, file_due, trial_due}
 use Rattle.atpg_top.specs.declared.refusal.Refusal.{Refusal}
 use Rattle.atpg_top.specs.declared.refusal.Refusal.TheVariants.{NotLog, NotStil, StilDoesNotFit}
@@ -161,6 +162,24 @@ chaintest_exclusive one asked (net ∷ stil ∷ []) c d p q =
     (λ n. then_one (value StandsFor NotStil stil) (test_due asked n) (value_single StandsFor NotStil stil (one stil)) (λ file. fit_once n (design_chains n asked) file)) c d p q
 chaintest_exclusive one asked (net ∷ stil ∷ more ∷ others) c d p q = absurd p
 
+-- ---- `grade`
+
+graded_once : (asked : ℕ) (n : Netlist) (file : StilFile) → IsOneKind (graded_due asked n file)
+graded_once asked n file c d p q = given c d (Deliver (p.0 ∷ []) p.1 Fine) (Deliver (q.0 ∷ []) q.1 Fine) p.3 q.3 refl
+
+grade_fit_once : (asked : ℕ) (n : Netlist) (file : StilFile) → IsOneKind (grade_fit_due asked n file)
+grade_fit_once asked n file =
+    let fits = FitsNetlist file (scanned_of n (design_chains n asked)) in
+    then_one (test fits StilDoesNotFit) (λ _. graded_due asked n file) (test_single fits StilDoesNotFit) (λ _. graded_once asked n file)
+
+grade_exclusive : AtMostOne → (asked : ℕ) → IsExclusive (grade_due asked)
+grade_exclusive one asked [] c d p q = absurd p
+grade_exclusive one asked (net ∷ []) c d p q = absurd p
+grade_exclusive one asked (net ∷ stil ∷ []) c d p q =
+    then_one (netlist Design net) (grade_bytes_due asked stil) (netlist_single Design net)
+    (λ n. then_one (value StandsFor NotStil stil) (grade_fit_due asked n) (value_single StandsFor NotStil stil (one stil)) (λ file. grade_fit_once asked n file)) c d p q
+grade_exclusive one asked (net ∷ stil ∷ more ∷ others) c d p q = absurd p
+
 -- ---- `check`
 
 told_alike : (c d : Due CheckRefusal) → AreAlike c d → AreAlike (told c) (told d)
@@ -203,3 +222,4 @@ each_exclusive one checks once (sweep seed gates) = sweep_exclusive seed gates
 each_exclusive one checks once (chaintest net stil chains) = chaintest_exclusive one chains
 each_exclusive one checks once (diagnose net stil log options) = diagnose_exclusive one once options.chains options.rank
 each_exclusive one checks once (transition net prefix options) = transition_exclusive options
+each_exclusive one checks once (grade net stil prefix chains) = grade_exclusive one chains

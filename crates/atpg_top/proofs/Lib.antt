@@ -7,6 +7,7 @@ pub mod Endings
 pub mod Delivering
 pub mod PlayLemmas
 pub mod ChainTestLemmas
+pub mod GradeLemmas
 pub mod RunLemmas
 pub mod DiagnoseLemmas
 pub mod SweepLemmas

@@ -11,7 +11,7 @@ use Rattle.statement.specs.Tests.{vectors_in}
 use Rattle.stil_vectors.specs.Fitting.{FitsNetlist}
 use Rattle.scan_play.specs.declared.played.Played.{Played}
 use Rattle.diagnose.specs.Reading.{IsLogOf}
-use Rattle.command_line.specs.CommandLine.{CommandLine, chaintest, check, diagnose, faults, play, run, scan, sweep, transition}
+use Rattle.command_line.specs.CommandLine.{CommandLine, chaintest, check, diagnose, faults, grade, play, run, scan, sweep, transition}
 use Rattle.commands.specs.Due.{Due, Deliver}
 use Rattle.commands.specs.declared.ending.Finding.TheVariants.{Fine}
 use Rattle.command_line.specs.HoldLists.{HoldItem}
@@ -27,6 +27,7 @@ use Rattle.atpg_top.specs.Runs.{may_refute, tests_line, texts_in, texts_made}
 use Rattle.atpg_top.specs.Scans.{IsScanProduct}
 use Rattle.atpg_top.specs.FaultLists.{IsFaultList}
 use Rattle.atpg_top.specs.ChainTests.{IsChainTest, Strobe, chain_test_text, hardware_of}
+use Rattle.atpg_top.specs.Grades.{IsGradeProduct}
 use Rattle.atpg_top.specs.Plays.{IsPlay, played_finding, played_line}
 use Rattle.atpg_top.specs.Diagnoses.{IsSaidOf}
 use Rattle.atpg_top.specs.Sweeps.{IsSweep, sweep_text}
@@ -74,6 +75,13 @@ diagnose_due chains rank (net ∷ stil ∷ log ∷ []) =
     (text : Text) × IsSaidOf rank n (design_chains n chains) (vectors_in file) told text × (d ≡ Deliver [] text Fine)
 diagnose_due chains rank texts = λ d. ⊥
 
+-- the grades of the design's stuck lines, and the line that counts them, the file fitting the scanned netlist
+abbrev pub grade_due : ℕ → List Text → Due Refusal → Type 0
+grade_due asked (net ∷ stil ∷ []) =
+    netlist Design net >>= λ n. value StandsFor NotStil stil >>= λ file. test (FitsNetlist file (scanned_of n (design_chains n asked))) StilDoesNotFit >>= λ _ d.
+    (text : Text) × (line : Text) × IsGradeProduct n (design_chains n asked) (vectors_in file) text line × (d ≡ Deliver (text ∷ []) line Fine)
+grade_due asked texts = λ d. ⊥
+
 -- the numbers of a run of the sample netlist, whose test passes
 abbrev pub sweep_due : ℕ → ℕ → List Text → Due Refusal → Type 0
 sweep_due seed gates [] = λ d. (made : RunFiles) × IsSweep (sample gates (words_from_seed seed)) made × (d ≡ Deliver [] (sweep_text made.said) Fine)
@@ -90,3 +98,4 @@ due (sweep seed gates) = sweep_due seed gates
 due (chaintest net stil chains) = chaintest_due chains
 due (diagnose net stil log options) = diagnose_due options.chains options.rank
 due (transition net prefix options) = transition_due options
+due (grade net stil prefix chains) = grade_due chains

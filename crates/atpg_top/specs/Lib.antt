@@ -4,6 +4,7 @@ pub mod Scans
 pub mod FaultLists
 pub mod Plays
 pub mod ChainTests
+pub mod Grades
 pub mod Checks
 pub mod Runs
 pub mod Diagnoses

@@ -4,6 +4,7 @@ pub mod Designs
 pub mod Pieces
 pub mod Trials
 pub mod ChainTrials
+pub mod GradeTrials
 pub mod Cases
 pub mod Held
 pub mod Running

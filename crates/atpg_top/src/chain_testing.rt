@@ -31,11 +31,11 @@ use std::alloc::Global;
 use stil_vectors::{cycle_count, fitting_cycles, vectors};
 use stil_write::StilFile;
 
-/// A design, and the file that is to test its scan hardware.
+/// A design, and the file that is to be played on it with scan cells.
 #[derive(Drop)]
-struct ChainTrial {
-    netlist: Netlist,
-    file: StilFile,
+pub(crate) struct ChainTrial {
+    pub netlist: Netlist,
+    pub file: StilFile,
 }
 
 /// A design with scan cells, and the faults of the scan hardware.
@@ -46,7 +46,11 @@ struct Hardware {
 }
 
 /// Reads the design and the file.
-fn trial_of(alloc: Global, net: &[u8], stil: &[u8]) -> Result<ChainTrial, Stop<Refusal>>
+pub(crate) fn trial_of(
+    alloc: Global,
+    net: &[u8],
+    stil: &[u8],
+) -> Result<ChainTrial, Stop<Refusal>>
     requires { length net.now ≤ most_bytes }
     ensures { ReadsChainTrial net.now stil.now result }
 {

@@ -9,7 +9,7 @@
 //! Proved: `top`: every status has its cause and says what stands. 0 means, of `scan`: the canonical text of the scanned netlist, which behaves as
 //! the original with scan off; of `faults`: exactly the list of faults with their classes; of `run`: good files of the netlist that was read, with
 //! the run theorem, and the line with their numbers; of `transition`: five files of slow lines that tell the truth; of `chaintest`: each fault of the
-//! scan hardware with what the file shows of it; of `diagnose`: exactly the faults that explain the log; of `sweep`: the numbers of good files of the
+//! scan hardware with what the file shows of it; of `grade`: of each stuck line whether the file detects it; of `diagnose`: exactly the faults that explain the log; of `sweep`: the numbers of good files of the
 //! sample netlist, whose test passes. 0 or 1 of `play` and `check` mean exactly what the player and the check answer, and hold on the chip from every
 //! power-up state where strobes are known. The laws: what is due of the same texts is alike; statuses exclude each other.
 //! Tested: that `run` heeds its options, by `outside_tests` and `cases`.
@@ -31,6 +31,8 @@ mod design;
 mod diagnosing;
 mod fault_list;
 mod five_files;
+mod grade_lines;
+mod grading;
 mod holding;
 mod laws;
 mod lines;
@@ -55,6 +57,7 @@ pub use laws::{
     declined_exactly, each_exclusive, failed_exactly, missing_exactly, nothing_else,
     refused_exactly, runs_pass, too_long_exactly,
 };
+use grading::grade_test;
 use lines::tell;
 use listing::list_faults;
 use outside::{Gate, Shelf, Sink};
@@ -125,6 +128,12 @@ fn perform<'a, R: Threads + Wait + Sync, S: Shelf, T: Sink, G: Gate + Sync>(
             prefix,
             options,
         } => test_slow_lines(rt, alloc, shelf, out, stage, net, prefix, *options),
+        Request::Grade {
+            net,
+            stil,
+            prefix,
+            chains,
+        } => grade_test(alloc, shelf, out, stage, net, stil, prefix, *chains),
     }
 }
 

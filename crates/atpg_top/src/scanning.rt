@@ -19,11 +19,11 @@ use scan_insert::laws::scan_behaves;
 use scan_insert::{insert, stitch};
 use std::alloc::{AllocError, Global};
 
-/// What `scan` writes and prints.
+/// The text of a command's one file, and the line that it prints.
 #[derive(Drop)]
-struct ScanTexts {
-    text: Vec<u8>,
-    line: Vec<u8>,
+pub(crate) struct OneFile {
+    pub text: Vec<u8>,
+    pub line: Vec<u8>,
 }
 
 /// The line that `scan` prints.
@@ -40,7 +40,7 @@ fn count_line(alloc: Global, cells: usize, chains: u32) -> Result<Vec<u8>, Alloc
 }
 
 /// What `scan` makes of a design and the number of chains that is asked for.
-fn texts_of(alloc: Global, netlist: &Netlist, asked: u32) -> Result<ScanTexts, NoMemory>
+fn texts_of(alloc: Global, netlist: &Netlist, asked: u32) -> Result<OneFile, NoMemory>
     requires design { IsDesign netlist.now }
     requires some { 1 ≤ asked }
     ensures { IfOk result (λ p. IsScanProduct netlist.now asked p.text.items p.line.items) }
@@ -53,13 +53,13 @@ fn texts_of(alloc: Global, netlist: &Netlist, asked: u32) -> Result<ScanTexts, N
     let cells = netlist.cells().len();
     let count = chains.count();
     match count_line(alloc, cells, count) {
-        Ok(line) => Ok(ScanTexts { text, line }),
+        Ok(line) => Ok(OneFile { text, line }),
         Err(_) => Err(NoMemory),
     }
 }
 
 /// The product of these texts: one file, and the line.
-fn product_of(alloc: Global, texts: ScanTexts) -> Result<Product, AllocError>
+pub(crate) fn product_of(alloc: Global, texts: OneFile) -> Result<Product, AllocError>
     ensures texts { IfOk result (λ p. texts_of p.texts.items ≡ texts.text.items ∷ []) }
     ensures count { IfOk result (λ p. length p.texts.items ≡ 1) }
     ensures shown { IfOk result (λ p. p.shown ≡ texts.line) }

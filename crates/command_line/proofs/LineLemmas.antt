@@ -9,7 +9,7 @@ use Rattle.clap.specs.Faults.{fault_of}
 use Rattle.clap.specs.declared.error.Error.{Error}
 use Rattle.clap.specs.declared.error.kind.ErrorKind.{ErrorKind}
 use Rattle.clap.specs.declared.error.kind.ErrorKind.TheVariants.{OutOfMemory}
-use Rattle.command_line.specs.CommandLine.{CommandLine, NoLine, bad_words, chaintest_of, check_of, command_line, diagnose_of, faults_line_of, command_line_at, command_line_of, line_by, line_from, line_where_taken, line_with_files, play_of, run_of, scan_of, sweep_of, transition_of}
+use Rattle.command_line.specs.CommandLine.{CommandLine, NoLine, bad_words, chaintest_of, check_of, command_line, diagnose_of, faults_line_of, grade_of, command_line_at, command_line_of, line_by, line_from, line_where_taken, line_with_files, play_of, run_of, scan_of, sweep_of, transition_of}
 use Rattle.command_line.specs.Refusals.{IsUsageError}
 use Rattle.command_line.specs.inner.Errors.{BecomesRefusal, IsAsked, IsMadeOf}
 use Rattle.command_line.specs.inner.Files.{IsNamed}
@@ -126,6 +126,10 @@ pub is_transition : (rows : List Row) → line_from (transition_of rows) ≡ lin
 unfolding line_by
 is_transition rows = refl
 
+pub is_grade : (rows : List Row) → line_from (grade_of rows) ≡ line_by (codes "grade") rows
+unfolding line_by
+is_grade rows = refl
+
 passed : (name word : Text) (a b : Line) → (name ≡ word → ⊥) → b ≡ (if bytes_eq name word then a else b)
 passed name word a b differs =
     sym (cond-false (bytes_eq name word) a b (false_from_ne_true _ (λ h. differs ((bytes_eq-Decides name word).0 h))))
@@ -141,10 +145,11 @@ pub record IsNoCommand (name : Text) : Type 0 where
   pub chaintest : name ≡ codes "chaintest" → ⊥
   pub diagnose : name ≡ codes "diagnose" → ⊥
   pub transition : name ≡ codes "transition" → ⊥
+  pub grade : name ≡ codes "grade" → ⊥
 
 pub is_none : (name : Text) (rows : List Row) → IsNoCommand name → line_by name rows ≡ Err bad_words
 unfolding line_by
 is_none name rows other = sym (
-    passed name _ _ _ other.transition ∙ passed name _ _ _ other.diagnose ∙ passed name _ _ _ other.chaintest ∙ passed name _ _ _ other.sweep ∙ passed name _ _ _ other.check ∙ passed name _ _ _ other.play ∙ passed name _ _ _ other.run
+    passed name _ _ _ other.grade ∙ passed name _ _ _ other.transition ∙ passed name _ _ _ other.diagnose ∙ passed name _ _ _ other.chaintest ∙ passed name _ _ _ other.sweep ∙ passed name _ _ _ other.check ∙ passed name _ _ _ other.play ∙ passed name _ _ _ other.run
     ∙ passed name _ _ _ other.faults ∙ passed name _ _ _ other.scan
     )

@@ -1,5 +1,5 @@
 -- What a command line asks for.
-use Rattle.std.specs.Prelude.{◌≤◌, ◌==◌, ◌||◌, ⊤, ℕ, Bool, List, [], ◌∷◌, Option, Some, None, if◌then◌else◌, codes, length, map, nat_eq}
+use Rattle.std.specs.Prelude.{◌≤◌, ◌==◌, ◌||◌, ◌++◌, ⊤, ℕ, Bool, List, [], ◌∷◌, Option, Some, None, if◌then◌else◌, codes, length, map, nat_eq}
 use Rattle.std.specs.Prelude.{Result, Ok, Err, option_and_then, option_map}
 use Rattle.std.specs.List.{ends_with, find, list_any}
 use Rattle.std.specs.Option.{ok_or}
@@ -42,6 +42,8 @@ pub data CommandLine : Type 0 where
   diagnose : Text → Text → Text → DiagnoseOptions → CommandLine
   -- the netlist's file, what the names of the files written begin with, and the engine and the numbers
   transition : Text → Text → SlowOptions → CommandLine
+  -- the design's file, the STIL file, what the name of the file written begins with, and how many chains at most
+  grade : Text → Text → Text → ℕ → CommandLine
 
 -- Why words are no command line: by `clap`'s rule, or the form or range of a value; or, all else being in order, by the list of held inputs; or, that
 -- too being in order, by what the names of the files written begin with, or by the name of a file that is read and would be written over.
@@ -64,12 +66,18 @@ reads (sweep seed gates) = []
 reads (chaintest net stil chains) = net ∷ stil ∷ []
 reads (diagnose net stil log options) = net ∷ stil ∷ log ∷ []
 reads (transition net prefix options) = net ∷ []
+reads (grade net stil prefix chains) = net ∷ stil ∷ []
+
+-- the name of the file of grades
+abbrev pub grade_file : Text → Text
+grade_file prefix = prefix ++ codes ".grade"
 
 -- the names of the files that it writes, in order
 abbrev pub writes : CommandLine → List Text
 writes (scan net to chains) = to ∷ []
 writes (run net prefix options holds) = run_files prefix
 writes (transition net prefix options) = run_files prefix
+writes (grade net stil prefix chains) = grade_file prefix ∷ []
 writes _ = []
 
 -- the first that it reads and would write over
@@ -87,6 +95,7 @@ if_nameless prefix = if is_nameless prefix then Some prefix else None
 abbrev pub nameless_prefix : CommandLine → Option Text
 nameless_prefix (run net prefix options holds) = if_nameless prefix
 nameless_prefix (transition net prefix options) = if_nameless prefix
+nameless_prefix (grade net stil prefix chains) = if_nameless prefix
 nameless_prefix _ = None
 
 abbrev pub line_where : CommandLine → Option Text → Option Text → Result CommandLine NoLine
@@ -209,6 +218,11 @@ diagnose_of rows = option_and_then (λ net. option_and_then (λ stil. option_and
     (number_at (codes "chains") 1 1 most_chains rows))
     (first_of (codes "LOG") rows)) (first_of (codes "STIL") rows)) (first_of (codes "NET") rows)
 
+abbrev pub grade_of : List Row → Option CommandLine
+grade_of rows = option_and_then (λ net. option_and_then (λ stil. option_and_then (λ prefix.
+    option_map (λ chains. grade net stil prefix chains) (number_at (codes "chains") 1 1 most_chains rows))
+    (first_of (codes "PREFIX") rows)) (first_of (codes "STIL") rows)) (first_of (codes "NET") rows)
+
 -- a command whose values have their form and are in their range, or bad words
 abbrev pub line_from : Option CommandLine → Result CommandLine NoLine
 line_from line = ok_or line bad_words
@@ -225,6 +239,7 @@ line_by name rows =
     else if bytes_eq name (codes "chaintest") then line_from (chaintest_of rows)
     else if bytes_eq name (codes "diagnose") then line_from (diagnose_of rows)
     else if bytes_eq name (codes "transition") then line_from (transition_of rows)
+    else if bytes_eq name (codes "grade") then line_from (grade_of rows)
     else Err bad_words
 
 abbrev pub command_line_at : Option (Text × List Row) → Result CommandLine NoLine
@@ -257,6 +272,7 @@ command_line_of (request.Sweep seed gates) = sweep seed gates
 command_line_of (request.ChainTest net stil chains) = chaintest net.now stil.now chains
 command_line_of (request.Diagnose net stil log options) = diagnose net.now stil.now log.now options
 command_line_of (request.Transition net prefix options) = transition net.now prefix.now options
+command_line_of (request.Grade net stil prefix chains) = grade net.now stil.now prefix.now chains
 
 pub record AreInRange (numbers : SearchNumbers) : Type 0 where
   pub chains : (1 ≤ numbers.chains) × (numbers.chains ≤ most_chains)
@@ -281,4 +297,5 @@ IsInRange (request.Sweep seed gates) = (fewest_gates ≤ gates) × (gates ≤ mo
 IsInRange (request.ChainTest net stil chains) = (1 ≤ chains) × (chains ≤ most_chains)
 IsInRange (request.Diagnose net stil log options) = AreWithin options
 IsInRange (request.Transition net prefix options) = AreInRange options.numbers
+IsInRange (request.Grade net stil prefix chains) = (1 ≤ chains) × (chains ≤ most_chains)
 IsInRange _ = ⊤

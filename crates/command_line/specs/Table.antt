@@ -82,6 +82,11 @@ diagnose_command = command (codes "diagnose")
 abbrev pub transition_command : Shape
 transition_command = command (codes "transition") (search_rules ++ text_option (codes "engine") ∷ [])
 
+-- grade NET STIL PREFIX [--chains C]
+abbrev pub grade_command : Shape
+grade_command = command (codes "grade")
+    (required (codes "NET") ∷ required (codes "STIL") ∷ required (codes "PREFIX") ∷ number_option (codes "chains") 1 most_chains ∷ [])
+
 -- the program, before its commands: it has a version and needs a command, and `help` is none
 abbrev pub program : App
 program = record {
@@ -96,5 +101,5 @@ program = record {
 unfoldable pub command_table : App
 command_table = record {
   top = record program.top { is_leaf = false };
-  subs = scan_command ∷ faults_command ∷ run_command ∷ play_command ∷ check_command ∷ sweep_command ∷ chaintest_command ∷ diagnose_command ∷ transition_command ∷ [];
+  subs = scan_command ∷ faults_command ∷ run_command ∷ play_command ∷ check_command ∷ sweep_command ∷ chaintest_command ∷ diagnose_command ∷ transition_command ∷ grade_command ∷ [];
 }

@@ -9,6 +9,7 @@ ghost use Rattle.command_line.specs.Table.{
   command_table,
   diagnose_command,
   faults_command,
+  grade_command,
   play_command,
   program,
   run_command,
@@ -249,6 +250,25 @@ fn diagnose<'a>(alloc: Global) -> Result<Command<'a>, AllocError>
     )
 }
 
+fn grade<'a>(alloc: Global) -> Result<Command<'a>, AllocError>
+    ensures { IfOk result (IsShaped grade_command) }
+{
+    let about = "Says which stuck lines a test detects";
+    let prefix = "What the name of the file of grades begins with";
+    let chains = "How many chains at most, 1 to 256 [default: 1]";
+    command(
+        alloc,
+        "grade",
+        about,
+        &[
+            Required("NET", "The netlist, a .bench file"),
+            Required("STIL", "The test, a STIL file"),
+            Required("PREFIX", prefix),
+            Number("chains", 1, MOST_CHAINS, chains),
+        ],
+    )
+}
+
 // The program's own words, before its commands. Its texts call it by this name, however it is
 // started.
 fn program<'a>(alloc: Global) -> Result<Command<'a>, AllocError>
@@ -272,5 +292,6 @@ pub(crate) fn table<'a>(alloc: Global) -> Result<Command<'a>, AllocError>
     let table = with_command(table, sweep(alloc));
     let table = with_command(table, chaintest(alloc));
     let table = with_command(table, diagnose(alloc));
-    with_command(table, transition(alloc))
+    let table = with_command(table, transition(alloc));
+    with_command(table, grade(alloc))
 }

@@ -2,8 +2,8 @@
 ghost use Rattle.std.specs.Prelude.{◌≡◌, ◌∷◌, [], IfOk, Ok, option_map};
 ghost use Rattle.std.specs.List.{find, list_any};
 ghost use Rattle.std.specs.Str.{bytes_eq};
-ghost use Rattle.commands.specs.Names.{file_names_of};
-ghost use Rattle.command_line.specs.CommandLine.{IsInRange, command_line_of, if_nameless, is_nameless, nameless_prefix, written_over};
+ghost use Rattle.commands.specs.Names.{file_name_of, file_names_of};
+ghost use Rattle.command_line.specs.CommandLine.{IsInRange, command_line_of, grade_file, if_nameless, is_nameless, nameless_prefix, written_over};
 ghost use Rattle.command_line.specs.inner.Files.{AreNamed, IsNamed};
 
 use crate::WordsRefusal;
@@ -34,6 +34,7 @@ fn nameless_prefix<'a>(request: &Request<'a>) -> Option<&'a str>
     match request {
         Request::Run { prefix, .. } => if_nameless(prefix),
         Request::Transition { prefix, .. } => if_nameless(prefix),
+        Request::Grade { prefix, .. } => if_nameless(prefix),
         _ => None,
     }
 }
@@ -49,6 +50,30 @@ fn if_among<'a>(name: &'a str, written: &[FileName<'_>]) -> Option<&'a str>
     }
 }
 
+// The first of two names that is one of these.
+fn first_among<'a>(
+    first: &'a str,
+    second: &'a str,
+    written: &[FileName<'_>],
+) -> Option<&'a str>
+    ensures { option_map (λ t. t.now) result ≡ find (λ t. list_any (bytes_eq t) (file_names_of written.now)) (first.entry.now ∷ second.entry.now ∷ []) }
+{
+    if is_among(first, written) {
+        return Some(first);
+    }
+    if_among(second, written)
+}
+
+/// The name of the file of grades.
+pub fn grade_name<'a>(prefix: &'a str) -> FileName<'a>
+    ensures { file_name_of result ≡ grade_file prefix.entry.now }
+{
+    FileName {
+        given: prefix,
+        ending: ".grade",
+    }
+}
+
 // The first file that a request reads and would write over.
 fn written_over<'a>(request: &Request<'a>) -> Option<&'a str>
     ensures { option_map (λ t. t.now) result ≡ written_over (command_line_of request.now) }
@@ -57,6 +82,9 @@ fn written_over<'a>(request: &Request<'a>) -> Option<&'a str>
         Request::Scan { net, out, .. } => if_among(net, &[FileName::of(out)]),
         Request::Run { net, prefix, .. } => if_among(net, &file_names(prefix)),
         Request::Transition { net, prefix, .. } => if_among(net, &file_names(prefix)),
+        Request::Grade {
+            net, stil, prefix, ..
+        } => first_among(net, stil, &[grade_name(prefix)]),
         _ => None,
     }
 }

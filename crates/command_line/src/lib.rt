@@ -4,7 +4,7 @@
 //! `clap_table` builds the table for `clap`, `values` reads single values, `requests` makes of what
 //! `clap` found a request, `files` looks at the names of its files.
 //!
-//! Gives: `parse`, `Request`.
+//! Gives: `parse`, `Request`, `grade_name`.
 //! Proved: `parse`: exactly the request that clap's rule gives over the table, with exactly the list of held inputs, or why there is none: exactly where
 //! files would be nameless, and where one that is read would be written over; `nothing_written_over`: no command line writes a file that it reads.
 //! Tested: clap's texts.
@@ -29,6 +29,7 @@ mod values;
 use clap::error::ErrorKind;
 use clap::{ArgMatches, Error};
 use clap_table::table;
+pub use files::grade_name;
 use files::with_files;
 pub use holds::Held;
 pub use laws::nothing_written_over;

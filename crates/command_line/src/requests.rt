@@ -10,6 +10,7 @@ ghost use Rattle.command_line.specs.CommandLine.{
   engine_alone_given,
   engine_given,
   faults_line_of,
+  grade_of,
   holds_given,
   command_line_at,
   line_by,
@@ -147,6 +148,14 @@ pub enum Request<'a> {
         prefix: &'a str,
         options: SlowOptions,
     },
+    /// Say which stuck lines of the netlist of the file `net`, scanned in at most `chains` chains,
+    /// the file `stil` detects, in the file whose name begins with `prefix`.
+    Grade {
+        net: &'a str,
+        stil: &'a str,
+        prefix: &'a str,
+        chains: u32,
+    },
 }
 
 // What `run` and `transition` are given alike.
@@ -253,6 +262,22 @@ fn diagnose<'a>(found: &ArgMatches<'a>) -> Option<Request<'a>>
         stil,
         log,
         options,
+    })
+}
+
+fn grade<'a>(found: &ArgMatches<'a>) -> Option<Request<'a>>
+    ensures line { option_map command_line_of result ≡ grade_of (rows_of (found_of found.now)) }
+    ensures in_range { IfSome result IsInRange }
+{
+    let net = text(found, "NET")?;
+    let stil = text(found, "STIL")?;
+    let prefix = text(found, "PREFIX")?;
+    let chains = number_or(found, "chains", 1, 1, MOST_CHAINS)?;
+    Some(Request::Grade {
+        net,
+        stil,
+        prefix,
+        chains: chains as u32,
     })
 }
 
@@ -416,6 +441,7 @@ fn request_by<'a>(
         "chaintest" => taken(chaintest(found)),
         "diagnose" => taken(diagnose(found)),
         "transition" => transition(found),
+        "grade" => taken(grade(found)),
         _ => Err(NoRequest::BadNumber),
     }
 }

@@ -22,6 +22,9 @@ returns-in-Diagnose g c = rw c.in-Diagnose.is c.diagnose_log.ensures
 pub returns-in-Transition : goal.returns-in-Transition
 returns-in-Transition g c = rw c.in-Transition.is c.test_slow_lines.ensures
 
+pub returns-in-Grade : goal.returns-in-Grade
+returns-in-Grade g c = rw c.in-Grade.is c.grade_test.ensures
+
 pub returns-in-Check : goal.returns-in-Check
 returns-in-Check g c = rw c.in-Check.is c.check_run.ensures
 

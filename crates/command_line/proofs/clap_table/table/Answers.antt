@@ -1,5 +1,5 @@
 use Rattle.clap.specs.Words.{App, with_subcommand}
-use Rattle.command_line.specs.Table.{chaintest_command, check_command, command_table, diagnose_command, faults_command, play_command, program, run_command, scan_command, sweep_command, transition_command}
+use Rattle.command_line.specs.Table.{chaintest_command, check_command, command_table, diagnose_command, faults_command, grade_command, play_command, program, run_command, scan_command, sweep_command, transition_command}
 use Rattle.command_line.proofs.clap_table.table.Goals as goal
 
 -- the table, one command after the other
@@ -27,6 +27,9 @@ to_chaintest = with_subcommand to_sweep chaintest_command
 abbrev to_diagnose : App
 to_diagnose = with_subcommand to_chaintest diagnose_command
 
+abbrev to_transition : App
+to_transition = with_subcommand to_diagnose transition_command
+
 pub returns : goal.returns
 unfolding command_table
 returns c =
@@ -38,4 +41,5 @@ returns c =
     let sweep = c.with_command-table-6.ensures.app to_check sweep_command check c.sweep.ensures in
     let chaintest = c.with_command-table-7.ensures.app to_sweep chaintest_command sweep c.chaintest.ensures in
     let diagnose = c.with_command-table-8.ensures.app to_chaintest diagnose_command chaintest c.diagnose.ensures in
-    c.with_command.ensures.app to_diagnose transition_command diagnose c.transition.ensures
+    let transition = c.with_command-table-9.ensures.app to_diagnose transition_command diagnose c.transition.ensures in
+    c.with_command.ensures.app to_transition grade_command transition c.grade.ensures

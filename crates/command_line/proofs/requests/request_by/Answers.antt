@@ -1,6 +1,6 @@
 use Rattle.std.proofs.Common.{◌∙◌, ap}
 use Rattle.command_line.specs.CommandLine.{line_from}
-use Rattle.command_line.proofs.LineLemmas.{asked_as, is_chaintest, is_check, is_diagnose, is_faults, is_none, is_play, is_run, is_scan, is_sweep, is_transition, named}
+use Rattle.command_line.proofs.LineLemmas.{asked_as, is_chaintest, is_check, is_diagnose, is_faults, is_grade, is_none, is_play, is_run, is_scan, is_sweep, is_transition, named}
 use Rattle.command_line.proofs.requests.request_by.Goals as goal
 
 pub returns-in-scan-clause-line : goal.returns-in-scan-clause-line
@@ -24,6 +24,9 @@ returns-in-chaintest-clause-line c = asked_as _ _ c.taken-in-chaintest.result (n
 pub returns-in-diagnose-clause-line : goal.returns-in-diagnose-clause-line
 returns-in-diagnose-clause-line c = asked_as _ _ c.taken-in-diagnose.result (named _ _ _ _ c.in-diagnose.is (ap line_from c.diagnose.ensures.line ∙ is_diagnose _)) c.taken-in-diagnose.ensures.line
 
+pub returns-in-grade-clause-line : goal.returns-in-grade-clause-line
+returns-in-grade-clause-line c = asked_as _ _ c.taken-in-grade.result (named _ _ _ _ c.in-grade.is (ap line_from c.grade.ensures.line ∙ is_grade _)) c.taken-in-grade.ensures.line
+
 pub returns-in-run-clause-line : goal.returns-in-run-clause-line
 returns-in-run-clause-line c = asked_as _ _ c.run.result (named _ _ _ _ c.in-run.is (is_run _)) c.run.ensures.line
 
@@ -42,4 +45,5 @@ returns-in_default-clause-line c =
       chaintest = c.in_default.not-chaintest;
       diagnose = c.in_default.not-diagnose;
       transition = c.in_default.not-transition;
+      grade = c.in_default.not-grade;
     }

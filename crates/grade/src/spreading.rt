@@ -1,0 +1,91 @@
+//! The grades of all faults of a design, by one fault of each class.
+ghost use Rattle.std.specs.Prelude.{◌≡◌, ◌^◌, ◌<◌, IfOk, length, map};
+ghost use Rattle.std.specs.List.{All};
+ghost use Rattle.netlist.specs.Lines.{signal_of};
+ghost use Rattle.statement.specs.declared.lines.Fault.{Fault as Stuck};
+ghost use Rattle.scan_play.specs.Cycles.{IsCycleOf};
+ghost use Rattle.chain_test.specs.Hardware.{at_site};
+ghost use Rattle.diagnose.specs.Candidates.{IsScannedDesign};
+ghost use Rattle.grade.specs.Grades.{AreGrades};
+ghost use Rattle.grade.specs.inner.Spread.{grade_at};
+
+use crate::grade::Grade;
+use crate::grading::line_grades;
+use diagnose::equivalent_runs;
+use fault_collapse::Classes;
+use fault_universe::{FaultSet, faults_have_lines, faults_have_signals};
+use netlist::{Core, Fault, NoMemory};
+use outside::Gate;
+use scan_insert::Scanned;
+use scan_play::Vectors;
+use std::alloc::{AllocError, Global};
+
+/// A fault of the design at its site.
+fn at_site(scanned: &Scanned, fault: Fault) -> Fault
+    requires { signal_of fault.line < length scanned.now.sites }
+    ensures { result ≡ at_site scanned.now.sites fault }
+{
+    let Fault { line, value } = fault;
+    Fault {
+        line: scanned.site_of(line),
+        value,
+    }
+}
+
+/// These faults of the design at their sites.
+fn sites_of(alloc: Global, scanned: &Scanned, faults: &[Fault]) -> Result<Vec<Fault>, AllocError>
+    requires { All (λ (f : Stuck). signal_of f.line < length scanned.now.sites) faults.now }
+    ensures { IfOk result (λ sites. sites.items ≡ map (at_site scanned.now.sites) faults.now) }
+{
+    let mut sites = Vec::with_capacity(alloc, faults.len())?;
+    for fault in faults {
+        sites.push(at_site(scanned, *fault))?;
+    }
+    Ok(sites)
+}
+
+/// The grade of each fault: that of its class.
+fn spread(
+    alloc: Global,
+    count: u32,
+    classes: &Classes,
+    by_class: &[Grade],
+) -> Result<Vec<Grade>, AllocError>
+    requires count { count ≡ length classes.now.numbers }
+    requires size { length by_class.now ≡ length classes.now.representatives }
+    requires within { All (λ class. class < length classes.now.representatives) classes.now.numbers }
+    ensures { IfOk result (λ grades. grades.items ≡ map (grade_at by_class.now) classes.now.numbers) }
+{
+    let mut grades = Vec::with_capacity(alloc, count as usize)?;
+    for i in 0..count {
+        let class = classes.class_of(i) as usize;
+        grades.push(by_class[class])?;
+    }
+    Ok(grades)
+}
+
+/// What the cycles tell of each fault of the design, in the order of the list of faults. One fault of each class is played, at its site.
+pub fn grades<G: Gate>(
+    alloc: Global,
+    stage: &G,
+    core: &Core,
+    scanned: &Scanned,
+    faults: &FaultSet,
+    classes: &Classes,
+    vectors: &Vectors,
+) -> Result<Vec<Grade>, NoMemory>
+    requires design { IsScannedDesign scanned.now faults.now classes.now }
+    requires core { core.now ≡ scanned.now.netlist }
+    requires fits { All (IsCycleOf core.now) vectors.now }
+    requires few { length vectors.now < 2 ^ 64 }
+    ensures { IfOk result (λ grades. AreGrades scanned.now faults.now vectors.now grades.items) }
+{
+    core.netlist().sound();
+    faults_have_signals();
+    faults_have_lines();
+    equivalent_runs();
+    let sites = sites_of(alloc, scanned, classes.representatives())?;
+    let by_class = line_grades(alloc, stage, core, &sites, vectors)?;
+    let grades = spread(alloc, faults.len(), classes, &by_class)?;
+    Ok(grades)
+}
