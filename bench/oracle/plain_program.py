@@ -267,7 +267,9 @@ def run(texts, options, told):
     if sources > plain_transition.MOST_SOURCES or not (is_owed or told.none_aborted):
         raise Unknown
     this = texts[0], *sorted(options.items())
-    begun = [OfRun(begin, this) for begin in ("STIL 1.0;\n", "atpg certificate 1\n", f"atpg report {2 if held else 1}\n")]
+    trees_alone = options.get("--engine") != "clauses" and "--then" not in options
+    certificate = "atpg certificate 1\n" if trees_alone else "atpg certificate "
+    begun = [OfRun(begin, this) for begin in ("STIL 1.0;\n", certificate, f"atpg report {2 if held else 1}\n")]
     totals = totals_of(len(plain.universe(netlist)), detected_count(texts[0], tuple(held.items())))
     return Due([plain.canonical(netlist).decode(), plain.canonical(scanned_of(netlist, options)).decode(), *begun], Begun(totals))
 
