@@ -1,6 +1,6 @@
 //! Two searches for slow lines run beside each other.
 use crate::meeting::MeetingEngine;
-use crate::runs::core_of;
+use crate::runs::{allocated, core_of};
 use evidence::Found;
 use outside::OpenGate;
 use std::alloc::{AllocError, Global};
@@ -21,8 +21,8 @@ fn chain_of(alloc: Global, length: u32) -> Result<String, AllocError> {
 fn two_searches_for_slow_lines_meet(rt: HostRuntime) -> Result<(), Fail> {
     let alloc = rt.alloc();
     let core = core_of(alloc, chain_of(alloc, 70)?.as_bytes())?;
-    let engine = MeetingEngine::of(alloc, &core)?;
-    let found = search_all(
+    let engine = allocated(MeetingEngine::of(alloc, &core))?;
+    let found = allocated(search_all(
         &rt,
         alloc,
         &OpenGate,
@@ -31,7 +31,7 @@ fn two_searches_for_slow_lines_meet(rt: HostRuntime) -> Result<(), Fail> {
         4,
         Trees::OfFrames,
         2,
-    )?;
+    ))?;
     assert!(rt; engine.went_well());
     assert_eq!(rt; found.len(), 142);
     assert!(rt; found.iter().all(|f| matches!(f, Found::Closed(_))));
