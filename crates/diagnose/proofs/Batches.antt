@@ -51,7 +51,7 @@ slice_is [] k x e = none_some x e
 slice_is (y ∷ ys) zero x e = (omega arith, cc)
 slice_is (y ∷ ys) (suc k) x e = let r = slice_is ys k x e in (omega (arith, r.0), r.1)
 
-zip_length : {X Y : Type 0} (R : X → Y → Type 0) (xs : List X) (ys : List Y) → AllZip R xs ys → length ys ≡ length xs
+pub zip_length : {X Y : Type 0} (R : X → Y → Type 0) (xs : List X) (ys : List Y) → AllZip R xs ys → length ys ≡ length xs
 zip_length R [] [] h = refl
 zip_length R [] (y ∷ ys) h = absurd h
 zip_length R (x ∷ xs) [] h = absurd h

@@ -247,6 +247,7 @@ module _ (s : Netlist) (names : HasTesterNames s) (g : Option Fault) (cycles : L
       }
 
   pub many_extra : (number : ℕ) → number ≡ counted extra 0 cycles shown → AreMany (λ f. MayFail s cycles shown f × ¬ Contains log f) number
+  unfolding extra_at strobed_at
   many_extra number is =
       let blind = blind_extra (mark_at rows width table) in
       let own = named extra blind name 0 cycles shown in

@@ -106,3 +106,6 @@ not_strobed s cycles f names are none o h = none o h.bit (has_name s names are o
 
 pub divided_all : (s : Netlist) (cycles : List Cycle) (log : List Failing) (k : ℕ) (strobed strangers : List Failing) → length log ≡ k → AreDivided s cycles (take k log) strobed strangers → AreDivided s cycles log strobed strangers
 divided_all s cycles log k strobed strangers e h = subst (λ xs. AreDivided s cycles xs strobed strangers) (take_all k log (omega (arith, e))) h
+
+pub divided_as : (s : Netlist) (cycles : List Cycle) (log a a' b b' : List Failing) → a ≡ a' → b ≡ b' → AreDivided s cycles log a' b' → AreDivided s cycles log a b
+divided_as s cycles log a a' b b' e h d = subst (λ xs. AreDivided s cycles log xs b) (sym e) (subst (λ xs. AreDivided s cycles log a' xs) (sym h) d)
