@@ -213,8 +213,7 @@ module _ (s : Netlist) (names : HasTesterNames s) (g : Option Fault) (cycles : L
             | inl here ↦
                 let r = named_at missing blind name 0 cycles shown f here in
                 let l = within r.cycle r.output r.value r.shown in
-                let t = missing_at (mark_at rows width table) (0 + r.cycle) r.output (strobe_at cycles r.cycle r.output) r.value r.count in
-                (
+                let t = missing_at (mark_at rows width table) (0 + r.cycle) r.output (strobe_at cycles r.cycle r.output) r.value r.count in (
                   (divided.strobed_are f (is_logged f r.cycle r.output r.is l t.0)).0,
                   λ h.
                       let q = wrong_at f r.cycle r.output r.is l h in
@@ -259,8 +258,7 @@ module _ (s : Netlist) (names : HasTesterNames s) (g : Option Fault) (cycles : L
               let l = within r.cycle r.output r.value r.shown in
               let t = extra_at (mark_at rows width table) (0 + r.cycle) r.output (strobe_at cycles r.cycle r.output) r.value r.count in
               let n = named_here f r.cycle r.output r.is in
-              let at = strobed_at f r.cycle r.output t.1.0 r.is l t.1.1 in
-              (
+              let at = strobed_at f r.cycle r.output t.1.0 r.is l t.1.1 in (
                 record {
                   output = r.output;
                   bit = t.1.0;
