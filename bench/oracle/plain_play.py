@@ -6,10 +6,14 @@ from plain_check import X, tri_gate
 
 def unmet(scanned, cycles, fault):
     """The strobes that aren't met, in order: cycle, pin, and whether nothing is known there."""
-    line, stuck = fault if fault else (None, X)
+    return unmet_with(scanned, cycles, dict([fault]) if fault else {})
+
+
+def unmet_with(scanned, cycles, stuck):
+    """The same where each of some lines is stuck at a bit."""
     state = dict.fromkeys(scanned.cells, X)
     pins = plain.pin_names(scanned)
-    on = lambda branch, value: stuck if branch == line else value
+    on = lambda branch, value: stuck.get(branch, value)
     for number, (drive, strobe, pulse) in enumerate(cycles):
         values = {name: int(bit) for name, bit in zip(scanned.inputs, drive)} | state
         values = {name: on(f"stem {name}", value) for name, value in values.items()}

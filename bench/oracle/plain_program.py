@@ -202,8 +202,18 @@ def failures_of(text, stil, chains):
     return {f"{line}/{stuck}": set(unmet(scanned, cycles, site_of(netlist, (line, stuck)))) for line, stuck in plain.universe(netlist)}
 
 
+def ranked(logged, end, failures, count):
+    """The first faults by how far each is from the log: how many strobes of the log aren't known to fail, and how many others aren't known to be met."""
+    told = [each for fails in failures.values() for each in [{(cycle, pin): unknown for cycle, pin, unknown in fails if end is None or cycle < end}]]
+    missing = [sum(place not in fails or fails[place] for place in logged) for fails in told]
+    extra = [sum(place not in logged for place in fails) for fails in told]
+    places = sorted(range(len(told)), key=lambda place: (missing[place] + extra[place], place))[:count]
+    names = list(failures)
+    return [f"nearest {len(places)}"] + [f"{names[place]} missing {missing[place]} extra {extra[place]}" for place in places]
+
+
 def diagnose(texts, options):
-    """The faults with which exactly what the log says fails, before its end."""
+    """The faults with which exactly what the log says fails, before its end, or those that come nearest to that."""
     netlist = netlist_of(texts[0])
     need_stil(texts[1])
     log = log_of(texts[2])
@@ -211,6 +221,9 @@ def diagnose(texts, options):
         raise Refused(4, "not a fail log\n")
     cycles_that_fit(texts[1], scanned_of(netlist, options))
     said, end = log
+    if "--rank" in options:
+        lines = ranked(set(said), end, failures_of(texts[0], texts[1], asked_chains(options)), int(options["--rank"]))
+        return Due([], "".join(line + "\n" for line in lines))
     failures = {(cycle, pin, False) for cycle, pin in said}
     before = lambda fails: fails if end is None else {each for each in fails if each[0] < end}
     found = [fault for fault, fails in failures_of(texts[0], texts[1], asked_chains(options)).items() if before(fails) == failures]

@@ -32,7 +32,7 @@ slice_in (y ∷ ys) (suc m) n j x l e =
     let at : suc m + j ≡ suc (m + j) = omega arith in
     slice_in ys m n j x l (subst (λ i. slice_get (y ∷ ys) i ≡ Some x) at e)
 
-zip_at : {X Y : Type 0} (R : X → Y → Type 0) (xs : List X) (ys : List Y) (j : ℕ) (x : X) (d : Y) → AllZip R xs ys → slice_get xs j ≡ Some x → R x (get_or ys j d)
+pub zip_at : {X Y : Type 0} (R : X → Y → Type 0) (xs : List X) (ys : List Y) (j : ℕ) (x : X) (d : Y) → AllZip R xs ys → slice_get xs j ≡ Some x → R x (get_or ys j d)
 zip_at R [] ys j x d h e = none_some x e
 zip_at R (y ∷ xs) [] j x d h e = absurd h
 zip_at R (y ∷ xs) (z ∷ ys) zero x d h e = subst (λ u. R u z) (same y x e) h.0
@@ -41,7 +41,7 @@ zip_at R (y ∷ xs) (z ∷ ys) zero x d h e = subst (λ u. R u z) (same y x e) h
     same a b e = cc
 zip_at R (y ∷ xs) (z ∷ ys) (suc j) x d h e = zip_at R xs ys j x d h.1 e
 
-slice_mapped : {X Y : Type 0} (f : X → Y) (xs : List X) (k : ℕ) (x : X) → slice_get xs k ≡ Some x → slice_get (map f xs) k ≡ Some (f x)
+pub slice_mapped : {X Y : Type 0} (f : X → Y) (xs : List X) (k : ℕ) (x : X) → slice_get xs k ≡ Some x → slice_get (map f xs) k ≡ Some (f x)
 slice_mapped f [] k x e = none_some x e
 slice_mapped f (y ∷ ys) zero x e = cc
 slice_mapped f (y ∷ ys) (suc k) x e = slice_mapped f ys k x e
@@ -51,7 +51,7 @@ slice_is [] k x e = none_some x e
 slice_is (y ∷ ys) zero x e = (omega arith, cc)
 slice_is (y ∷ ys) (suc k) x e = let r = slice_is ys k x e in (omega (arith, r.0), r.1)
 
-zip_length : {X Y : Type 0} (R : X → Y → Type 0) (xs : List X) (ys : List Y) → AllZip R xs ys → length ys ≡ length xs
+pub zip_length : {X Y : Type 0} (R : X → Y → Type 0) (xs : List X) (ys : List Y) → AllZip R xs ys → length ys ≡ length xs
 zip_length R [] [] h = refl
 zip_length R [] (y ∷ ys) h = absurd h
 zip_length R (x ∷ xs) [] h = absurd h

@@ -3,9 +3,9 @@ ghost use Rattle.std.specs.Prelude.{◌≡◌, ◌++◌, ◌∷◌, [], IfOk, le
 ghost use Rattle.std.specs.Bool.{Decides};
 ghost use Rattle.std.specs.List.{Contains};
 ghost use Rattle.scan_insert.specs.Named.{HasTesterNames};
-ghost use Rattle.diagnose.specs.inner.Ranks.{AreDivided, IsAddedOnce};
+ghost use Rattle.diagnose.specs.inner.Ranks.{AreDivided, IsAddedOnce, failing};
 
-use crate::failures::FailureLines;
+use crate::failures::{Failure, FailureLines};
 use crate::looking_up::pin_names;
 use crate::marking::strobed_output;
 use netlist::{NameTable, Netlist, NoMemory};
@@ -19,13 +19,19 @@ pub(crate) struct Divided {
     pub strangers: FailureLines,
 }
 
+/// Whether it is this failure.
+fn is_same(failure: Failure<'_>, cycle: u64, signal: &[u8]) -> bool
+    ensures { Decides result (failing failure.entry.cycle failure.entry.signal.now ≡ failing cycle signal.now) }
+{
+    failure.cycle == cycle && failure.signal == signal
+}
+
 /// Whether a failure is among these.
 fn has(lines: &FailureLines, cycle: u64, signal: &[u8]) -> bool
-    ensures { Decides result (Contains lines.now (record { cycle = cycle; signal = signal.now })) }
+    ensures { Decides result (Contains lines.now (failing cycle signal.now)) }
 {
     for place in 0..lines.len() {
-        let own = lines.get(place);
-        if own.cycle == cycle && own.signal == signal {
+        if is_same(lines.get(place), cycle, signal) {
             return true;
         }
     }
@@ -34,12 +40,13 @@ fn has(lines: &FailureLines, cycle: u64, signal: &[u8]) -> bool
 
 /// With one more, where it isn't among them.
 fn with_once(lines: FailureLines, cycle: u64, signal: &[u8]) -> Result<FailureLines, AllocError>
-    ensures { IfOk result (λ new. IsAddedOnce (record { cycle = cycle; signal = signal.now }) lines new) }
+    ensures { IfOk result (λ new. IsAddedOnce (failing cycle signal.now) lines new) }
 {
     if has(&lines, cycle, signal) {
         return Ok(lines);
     }
-    lines.push(cycle, signal)
+    let more = lines.push(cycle, signal)?;
+    Ok(more)
 }
 
 /// Divides the failures of a log.

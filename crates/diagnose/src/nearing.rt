@@ -57,7 +57,8 @@ fn class_tallies<G: Gate>(
         },
     );
     let suspects = all_suspects(alloc, scanned, classes)?;
-    tallies(alloc, stage, core, &suspects, vectors, &marks)
+    let counts = tallies(alloc, stage, core, &suspects, vectors, &marks)?;
+    Ok(counts)
 }
 
 /// The first faults in their order, over all cycles of the vectors.

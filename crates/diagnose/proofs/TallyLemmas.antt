@@ -1,0 +1,46 @@
+-- Counts of suspects that are played in batches.
+use Rattle.std.proofs.Common.{◌≡◌, ℕ, suc, zero, ◌+◌, ◌-◌, ◌*◌, ◌<◌, ◌≤◌, ◌⊎◌, Bool, List, [], ◌∷◌, ◌++◌, length, take, drop, Some, refl, sym, ◌∙◌, ap, subst, inl, inr, arith}
+use Rattle.std.specs.List.{AllZip}
+use Rattle.std.proofs.lemmas.List.{length-drop, take_all}
+use Rattle.statement.specs.declared.lines.Fault.{Fault}
+use Rattle.statement.specs.Netlists.{Netlist}
+use Rattle.statement.specs.Runs.{Cycle}
+use Rattle.netlist.proofs.Alike.{zip_append}
+use Rattle.lane_play.specs.Counted.{AreCounted, Counting, IsCounted}
+
+take_nil : {X : Type 0} (n : ℕ) → take {A = X} n [] ≡ []
+take_nil zero = refl
+take_nil (suc n) = refl
+
+pub take_plus : {X : Type 0} (a k : ℕ) (xs : List X) → take (a + k) xs ≡ take a xs ++ take k (drop a xs)
+take_plus zero k [] = ap (λ m. take m []) (let e : 0 + k ≡ k = omega arith in e)
+take_plus zero k (x ∷ xs) = ap (λ m. take m (x ∷ xs)) (let e : 0 + k ≡ k = omega arith in e)
+take_plus (suc a) k [] = take_nil (suc a + k) ∙ sym (take_nil k)
+take_plus (suc a) k (x ∷ xs) = ap (λ m. take m (x ∷ xs)) (let e : suc a + k ≡ suc (a + k) = omega arith in e) ∙ ap (λ ys. x ∷ ys) (take_plus a k xs)
+
+pub tally_none : (counts : Counting) (s : Netlist) (suspects : List Fault) (cycles : List Cycle) (numbers : List ℕ) → numbers ≡ [] → AreCounted counts s (take 0 suspects) cycles numbers
+tally_none counts s [] cycles numbers e = subst (λ xs. AreCounted counts s [] cycles xs) (sym e) tt
+tally_none counts s (f ∷ fs) cycles numbers e = subst (λ xs. AreCounted counts s [] cycles xs) (sym e) tt
+
+-- a batch of 64, or the last suspects
+pub tally_more : (counts : Counting) (s : Netlist) (suspects : List Fault) (cycles : List Cycle) (start count : ℕ) (old more new : List ℕ) → (count ≡ 64) ⊎ ((count < 64) × (start + count ≡ length suspects))
+    → AreCounted counts s (take start suspects) cycles old → AreCounted counts s (take (start + count - start) (drop start suspects)) cycles more → new ≡ old ++ more
+    → AreCounted counts s (take (start + 64) suspects) cycles new
+tally_more counts s suspects cycles start count old more new whole before batch is =
+    let e : start + count - start ≡ count = omega arith in
+    let own : AreCounted counts s (take count (drop start suspects)) cycles more = subst (λ k. AreCounted counts s (take k (drop start suspects)) cycles more) e batch in
+    let same : take count (drop start suspects) ≡ take 64 (drop start suspects) = elim whole [
+      | inl full ↦ ap (λ k. take k (drop start suspects)) full
+      | inr last ↦
+          let size = length-drop start suspects in
+          let one = last.0 in
+          let two = last.1 in
+          take_all count (drop start suspects) (omega arith) ∙ sym (take_all 64 (drop start suspects) (omega arith))
+    ] in
+    subst (λ fs. AreCounted counts s fs cycles new) (sym (take_plus start 64 suspects ∙ ap (λ fs. take start suspects ++ fs) (sym same)))
+    (subst (λ xs. AreCounted counts s (take start suspects ++ take count (drop start suspects)) cycles xs) (sym is)
+    (zip_append (λ f number. IsCounted counts s (Some f) cycles number) (take start suspects) (take count (drop start suspects)) old more before own))
+
+pub tally_all : (counts : Counting) (s : Netlist) (suspects : List Fault) (cycles : List Cycle) (k : ℕ) (numbers : List ℕ) → length suspects ≤ k → AreCounted counts s (take k suspects) cycles numbers
+    → AreCounted counts s suspects cycles numbers
+tally_all counts s suspects cycles k numbers l h = subst (λ fs. AreCounted counts s fs cycles numbers) (take_all k suspects l) h
