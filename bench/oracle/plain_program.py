@@ -188,6 +188,8 @@ def chaintest(texts, options):
 
 def grade(texts, options):
     netlist = netlist_of(texts[0])
+    if isinstance(texts[1], Begun):
+        raise Unknown
     need_stil(texts[1])
     text, counts = grades(netlist, asked_chains(options), cycles_that_fit(texts[1], scanned_of(netlist, options)))
     return Due([text], counts)
