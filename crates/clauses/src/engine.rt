@@ -1,12 +1,14 @@
 //! The engine.
-ghost use Rattle.std.specs.Prelude.{IfOk, IfSome};
+ghost use Rattle.std.specs.Prelude.{◌≤◌, IfOk, IfSome};
 ghost use Rattle.netlist.specs.Holds.{AreHoldsOf};
 ghost use Rattle.netlist.specs.Lines.{IsLineOf};
 ghost use Rattle.refutation.specs.Refutations.{Refutes};
 ghost use Rattle.refutation_check.specs.Rooms.{IsReusableCheckRoom};
 ghost use Rattle.clauses.specs.Rooms.{IsReusableClauseRoom};
-ghost use Rattle.clauses.specs.inner.Answered.{IsVerified};
+ghost use Rattle.clauses.specs.inner.Answered.{IsByTree, IsVerified};
 
+use crate::first_tries::FirstTries;
+use crate::sequence::settled;
 use clause_search::{Room, Settled};
 use evidence::{Engine, Found, Refutation};
 use netlist::{Core, Fault, Holds, NoMemory, SignalId};
@@ -18,7 +20,7 @@ use std::alloc::Global;
 /// So many contradictions the search may come to.
 const CONTRADICTIONS: u32 = 10_000;
 
-/// A search that learns clauses, and PODEM where that gives up.
+/// A search that learns clauses, with PODEM before it where faults are easy, and behind it where it gives up.
 #[derive(Drop)]
 pub struct Clauses {
     podem: Podem,
@@ -30,6 +32,7 @@ pub struct ClauseRoom {
     podem: PodemRoom,
     checks: CheckRoom,
     search: Room,
+    tries: FirstTries,
 }
 
 /// The steps, if the check accepts them as a refutation.
@@ -72,12 +75,14 @@ fn by_steps(
         podem,
         checks,
         search,
+        tries,
     } = room;
     let (steps, checks) = accepted(checks, core, fault, holds, steps)?;
     let room = ClauseRoom {
         podem,
         checks,
         search,
+        tries,
     };
     match steps {
         Some(steps) => Ok((Some(Found::Refuted(steps)), room)),
@@ -104,12 +109,14 @@ fn by_bits(
         podem,
         checks,
         search,
+        tries,
     } = room;
     let (test, podem) = tried_in(alloc, podem, core, *fault, holds, bits)?;
     let room = ClauseRoom {
         podem,
         checks,
         search,
+        tries,
     };
     match test {
         Some((cube, point)) => Ok((Some(Found::Test(cube, point)), room)),
@@ -148,6 +155,69 @@ impl Clauses {
         let podem = Podem::of(alloc, core)?;
         Ok(Clauses { podem })
     }
+
+    /// What PODEM answers.
+    fn by_tree(
+        &self,
+        alloc: Global,
+        room: ClauseRoom,
+        core: &Core,
+        fault: Fault,
+        limit: u32,
+        holds: &Holds,
+    ) -> Result<(Found, ClauseRoom), NoMemory>
+        requires limit { 1 ≤ limit }
+        requires holds { AreHoldsOf core.now holds.now }
+        requires line { IsLineOf core.now fault.line }
+        requires room { IsReusableClauseRoom core.now holds.now room }
+        ensures evidence { IfOk result (λ r. IsByTree fault core.now holds.now limit r.0) }
+        ensures room { IfOk result (λ r. IsReusableClauseRoom core.now holds.now r.1) }
+    {
+        let ClauseRoom {
+            podem,
+            checks,
+            search,
+            tries,
+        } = room;
+        let (found, podem) = self
+            .podem
+            .search_in(alloc, podem, core, fault, limit, holds)?;
+        let room = ClauseRoom {
+            podem,
+            checks,
+            search,
+            tries,
+        };
+        Ok((found, room))
+    }
+
+    /// What PODEM answers with one closed end, if that is worth a try, and unless it gives up.
+    fn short(
+        &self,
+        alloc: Global,
+        room: ClauseRoom,
+        core: &Core,
+        fault: Fault,
+        limit: u32,
+        holds: &Holds,
+    ) -> Result<(Option<Found>, ClauseRoom), NoMemory>
+        requires limit { 1 ≤ limit }
+        requires holds { AreHoldsOf core.now holds.now }
+        requires line { IsLineOf core.now fault.line }
+        requires room { IsReusableClauseRoom core.now holds.now room }
+        ensures evidence { IfOk result (λ r. IfSome r.0 (IsByTree fault core.now holds.now limit)) }
+        ensures room { IfOk result (λ r. IsReusableClauseRoom core.now holds.now r.1) }
+    {
+        let mut room = room;
+        if !room.tries.are_worth() {
+            room.tries = room.tries.passed();
+            return Ok((None, room));
+        }
+        let (found, mut room) = self.by_tree(alloc, room, core, fault, 1, holds)?;
+        let found = settled(found);
+        room.tries = room.tries.after(found.is_some());
+        Ok((found, room))
+    }
 }
 
 impl Engine for Clauses {
@@ -182,6 +252,7 @@ impl Engine for Clauses {
             podem: self.podem.room(alloc, core, holds)?,
             checks: CheckRoom::new(alloc, core, holds)?,
             search: Room::new(alloc),
+            tries: FirstTries::none(),
         })
     }
 
@@ -194,25 +265,14 @@ impl Engine for Clauses {
         limit: u32,
         holds: &Holds,
     ) -> Result<(Found, ClauseRoom), NoMemory> {
+        let (found, room) = self.short(alloc, room, core, fault, limit, holds)?;
+        if let Some(found) = found {
+            return Ok((found, room));
+        }
         let (found, room) = by_clauses(alloc, room, core, &fault, holds)?;
         if let Some(found) = found {
             return Ok((found, room));
         }
-        let ClauseRoom {
-            podem,
-            checks,
-            search,
-        } = room;
-        let (found, podem) = self
-            .podem
-            .search_in(alloc, podem, core, fault, limit, holds)?;
-        Ok((
-            found,
-            ClauseRoom {
-                podem,
-                checks,
-                search,
-            },
-        ))
+        self.by_tree(alloc, room, core, fault, limit, holds)
     }
 }

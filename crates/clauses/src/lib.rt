@@ -10,6 +10,7 @@
 #![tactic(auto)]
 
 mod engine;
+mod first_tries;
 mod sequence;
 
 pub use engine::{ClauseRoom, Clauses};

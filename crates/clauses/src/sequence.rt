@@ -23,7 +23,7 @@ pub struct ThenRoom<R, S> {
 }
 
 /// What was found, unless it is that the search gave up.
-fn settled(found: Found) -> Option<Found>
+pub(crate) fn settled(found: Found) -> Option<Found>
     ensures { IfSome result (λ f. (f ≡ found) × IsSettled f) }
 {
     match found {
