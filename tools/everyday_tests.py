@@ -77,6 +77,7 @@ COUNTS = {
     "run": r"(\d+) of (\d+) classes settled, (\d+)% detected, (\d+) searches, (\d+) batches, (\d+) s",
     "transition": r"(\d+) of (\d+) faults answered, (\d+) detected, (\d+) s",
     "chaintest": r"(\d+) of (\d+) faults answered, (\d+) detected, (\d+) s",
+    "grade": r"(\d+) of (\d+) classes answered, (\d+) detected, (\d+) s",
     "diagnose": r"(\d+) of (\d+) classes answered, (\d+) explain the log, (\d+) s",
 }
 
@@ -154,12 +155,13 @@ def test_progress():
         folder = pathlib.Path(name)
         (folder / "long.log").write_text("atpg fail log 1\n")
         for words in (("transition", "long.bench", "slow"), ("chaintest", "long.bench", "long.stil"), ("diagnose", "long.bench", "long.stil", "long.log"),
+                      ("grade", "long.bench", "long.stil", "long"),
                       ("run", "long.bench", "long")):
             command = words[0]
             said, shown = shown_of(program, folder, kind, words)
             answered, count, detected = counts_in(command, shown)[-1][:3]
             classes = int(said_by(program, folder, "faults", "long.bench")[0].split()[3])
-            assert answered == count == (classes if command in ("run", "diagnose") else int(said.split()[1])), (words, shown)
+            assert answered == count == (classes if command in ("run", "diagnose", "grade") else int(said.split()[1])), (words, shown)
             told = int(said.split()[1 if command == "diagnose" else 3])  # a class has several faults, and a pattern detects others too
             assert command == "run" or detected <= told and (detected == 0) == (told == 0), (words, said, shown)
             assert command != "chaintest" or detected == told, (words, said, shown)

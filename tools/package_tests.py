@@ -64,7 +64,7 @@ def test_completion():
             assert errors == "", errors
             return sorted(said.split("\n")[:-1])
 
-        assert completed("") == ["chaintest", "check", "diagnose", "faults", "play", "run", "scan", "sweep", "transition"]
+        assert completed("") == ["chaintest", "check", "diagnose", "faults", "grade", "play", "run", "scan", "sweep", "transition"]
         assert completed("c") == ["chaintest", "check"]
         assert completed("scan", "--") == ["--chains"]
         assert completed("run", "a.bench", "b", "--") == ["--chains", "--engine", "--hold", "--limit", "--seed", "--then", "--workers"]

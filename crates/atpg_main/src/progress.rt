@@ -32,6 +32,8 @@ enum Counted {
     Faults,
     /// The classes that may explain a log.
     Suspects,
+    /// The classes that are graded.
+    Graded,
 }
 
 /// How far a run is: of so many classes those that are settled, and those that a pattern detects.
@@ -84,6 +86,7 @@ fn counted_by(words: &[String]) -> Counted {
     match words.get(1).map(|word| word.as_str()) {
         Some("run" | "sweep") => Counted::Classes,
         Some("diagnose") => Counted::Suspects,
+        Some("grade") => Counted::Graded,
         _ => Counted::Faults,
     }
 }
@@ -163,6 +166,7 @@ impl<'a, R: Runtime> Progress<'a, R> {
             Counted::Classes => self.say_run(seconds),
             Counted::Faults => self.say_answered(seconds, "faults", "detected"),
             Counted::Suspects => self.say_answered(seconds, "classes", "explain the log"),
+            Counted::Graded => self.say_answered(seconds, "classes", "detected"),
         }
     }
 

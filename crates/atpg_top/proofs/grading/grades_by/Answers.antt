@@ -7,7 +7,7 @@ use Rattle.statement.specs.Tests.{vectors_in}
 use Rattle.atpg_top.proofs.grading.grades_by.Goals as goal
 
 pub grades-requires-clause-fits : goal.grades-requires-clause-fits
-grades-requires-clause-fits g c κs within =
+grades-requires-clause-fits g c =
     let file = c.args.file.now in
     let fit = c.fitting_cycles.ensures file c.args.scanned.now.netlist c.sound.ensures c.requires.fits in
     subst (λ (cycles : List Cycle). All (IsCycleOf c.in_ok-core.core) cycles) (sym c.in_ok-cycles.ensures.cycles)
