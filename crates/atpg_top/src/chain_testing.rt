@@ -46,11 +46,7 @@ struct Hardware {
 }
 
 /// Reads the design and the file.
-pub(crate) fn trial_of(
-    alloc: Global,
-    net: &[u8],
-    stil: &[u8],
-) -> Result<ChainTrial, Stop<Refusal>>
+pub(crate) fn trial_of(alloc: Global, net: &[u8], stil: &[u8]) -> Result<ChainTrial, Stop<Refusal>>
     requires { length net.now ≤ most_bytes }
     ensures { ReadsChainTrial net.now stil.now result }
 {

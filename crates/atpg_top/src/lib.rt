@@ -53,11 +53,11 @@ use checking::check_run;
 use command_line::{Held, Request, WordsRefusal, parse};
 use commands::Ending;
 use diagnosing::diagnose_log;
+use grading::grade_test;
 pub use laws::{
     declined_exactly, each_exclusive, failed_exactly, missing_exactly, nothing_else,
     refused_exactly, runs_pass, too_long_exactly,
 };
-use grading::grade_test;
 use lines::tell;
 use listing::list_faults;
 use outside::{Gate, Shelf, Sink};

@@ -51,11 +51,7 @@ fn if_among<'a>(name: &'a str, written: &[FileName<'_>]) -> Option<&'a str>
 }
 
 // The first of two names that is one of these.
-fn first_among<'a>(
-    first: &'a str,
-    second: &'a str,
-    written: &[FileName<'_>],
-) -> Option<&'a str>
+fn first_among<'a>(first: &'a str, second: &'a str, written: &[FileName<'_>]) -> Option<&'a str>
     ensures { option_map (λ t. t.now) result ≡ find (λ t. list_any (bytes_eq t) (file_names_of written.now)) (first.entry.now ∷ second.entry.now ∷ []) }
 {
     if is_among(first, written) {
@@ -83,7 +79,10 @@ fn written_over<'a>(request: &Request<'a>) -> Option<&'a str>
         Request::Run { net, prefix, .. } => if_among(net, &file_names(prefix)),
         Request::Transition { net, prefix, .. } => if_among(net, &file_names(prefix)),
         Request::Grade {
-            net, stil, prefix, ..
+            net,
+            stil,
+            prefix,
+            ..
         } => first_among(net, stil, &[grade_name(prefix)]),
         _ => None,
     }
