@@ -51,6 +51,7 @@ struct Told {
     tests: u64,
     refuted: u64,
     given_up: u64,
+    contradictions: u64,
 }
 
 fn count(told: &mut Told, settled: &Settled) {
@@ -87,6 +88,7 @@ fn search_all(
         tests: 0,
         refuted: 0,
         given_up: 0,
+        contradictions: 0,
     };
     for class in 0..classes.count() {
         let fault = classes.representative(class);
@@ -96,6 +98,7 @@ fn search_all(
             push_line(&mut told.lines, core.netlist(), &fault, &settled)?;
         }
     }
+    told.contradictions = room.conflicts();
     Ok(told)
 }
 
@@ -123,7 +126,10 @@ fn main(rt: HostRuntime) -> io::Result<()> {
         Ok(told) => {
             rt.stdout().write_all(told.lines.as_slice())?;
             let (tests, refuted, given_up) = (told.tests, told.refuted, told.given_up);
-            println!(rt; "tests {tests} refuted {refuted} given up {given_up}")
+            let contradictions = told.contradictions;
+            println!(rt;
+                "tests {tests} refuted {refuted} given up {given_up} contradictions {contradictions}"
+            )
         }
         Err(NoMemory) => Err(refusal()),
     }
