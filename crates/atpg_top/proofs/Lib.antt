@@ -13,3 +13,4 @@ pub mod DiagnoseLemmas
 pub mod SweepLemmas
 pub mod Single
 pub mod LineLemmas
+pub mod NearestLemmas
