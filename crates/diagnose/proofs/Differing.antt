@@ -1,6 +1,6 @@
 -- How far a run is from a log, from what counts in it where the log's places are marked.
-use Rattle.std.proofs.Common.{◌≡◌, ◌≢◌, ℕ, suc, zero, ◌+◌, ◌<◌, ◌≤◌, ◌&&◌, Bool, true, false, not, cond, List, [], ◌∷◌, ◌++◌, length, get_or, replicate, Option, Some, None, slice_get, refl, sym, ◌∙◌, ap, subst, inl, inr, arith, length-append}
-use Rattle.std.specs.List.{All, AllPairs, Contains}
+use Rattle.std.proofs.Common.{◌≡◌, ◌≢◌, ℕ, suc, zero, ◌+◌, ◌<◌, ◌≤◌, ◌&&◌, Bool, true, false, not, cond, List, [], ◌∷◌, ◌++◌, length, get_or, replicate, Option, Some, None, refl, sym, ◌∙◌, ap, subst, inl, inr, arith, length-append}
+use Rattle.std.specs.List.{All, Contains}
 use Rattle.std.proofs.lemmas.Bool.{and_from, and_parts, both_ways}
 use Rattle.std.proofs.lemmas.List.{length-map}
 use Rattle.std.proofs.lemmas.List.Elements.{All-cons, All-head, All-tail, Contains-append_cases, Contains-append_left, Contains-append_right}
@@ -14,7 +14,7 @@ use Rattle.tri.specs.Settled.{tri_table}
 use Rattle.scan_insert.specs.Names.{pin_name_of}
 use Rattle.scan_insert.specs.Named.{HasTesterNames}
 use Rattle.scan_play.specs.declared.played.Played.{Played}
-use Rattle.scan_play.specs.declared.played.Played.TheVariants.{Fails, Unknown}
+use Rattle.scan_play.specs.declared.played.Played.TheVariants.{Fails}
 use Rattle.scan_play.specs.Cycles.{IsCycleOf}
 use Rattle.scan_play.specs.Passing.{IsWrong}
 use Rattle.scan_play.specs.Playing.{PlayRuns}
@@ -25,8 +25,8 @@ use Rattle.diagnose.specs.Ranking.{AreMany, MayFail}
 use Rattle.diagnose.specs.inner.Against.{against}
 use Rattle.diagnose.specs.inner.Marks.{AreMarks, IsStrobed, mark_at}
 use Rattle.diagnose.specs.inner.Ranks.{AreDivided}
-use Rattle.diagnose.proofs.Judged.{known_twice, said_cases, same_failure, some_value}
-use Rattle.diagnose.proofs.NamedPlaces.{IsAt, named, named_at, named_many, named_once, named_there, pairs_append}
+use Rattle.diagnose.proofs.Judged.{said_cases, same_failure, some_value}
+use Rattle.diagnose.proofs.NamedPlaces.{named, named_at, named_many, named_once, named_there, pairs_append}
 use Rattle.diagnose.proofs.Places.{one_pin_name, shown_within, strobed_shown}
 
 -- ---- at one strobe

@@ -1,5 +1,5 @@
 -- What there is for each fault, in the order in which it is listed.
-use Rattle.std.proofs.Common.{◌≡◌, ℕ, suc, zero, ◌+◌, ◌<◌, List, [], ◌∷◌, ◌++◌, map, length, get_or, take, length-take, refl, sym, ◌∙◌, ap, arith}
+use Rattle.std.proofs.Common.{◌≡◌, ℕ, ◌+◌, ◌<◌, List, [], ◌∷◌, ◌++◌, map, length, get_or, take, length-take, refl, sym, ◌∙◌, ap, arith}
 use Rattle.std.proofs.lemmas.List.{get_or_default, take_more}
 use Rattle.statement.specs.Runs.{numbers_from}
 use Rattle.diagnose.specs.declared.ranks.Ranked.{Ranked}

@@ -1,4 +1,4 @@
-use Rattle.std.proofs.Common.{◌+◌, ◌++◌, ◌∷◌, [], List, sym, subst, ap, ◌∙◌, take}
+use Rattle.std.proofs.Common.{◌+◌, take}
 use Rattle.diagnose.specs.Failures.{Failing}
 use Rattle.diagnose.specs.inner.Marks.{IsStrobed}
 use Rattle.diagnose.proofs.DividingLemmas.{divided_as, divided_stranger, divided_strobed, not_strobed}

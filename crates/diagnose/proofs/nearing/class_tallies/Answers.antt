@@ -1,4 +1,4 @@
-use Rattle.std.proofs.Common.{ap, subst, sym, ◌∙◌, List}
+use Rattle.std.proofs.Common.{subst, ◌∙◌, List}
 use Rattle.std.proofs.lemmas.Option.{MatchOption-at_none, MatchOption-at_some}
 use Rattle.statement.specs.declared.lines.Fault.{Fault}
 use Rattle.diagnose.specs.inner.Marks.{AreMarks, IsUnstrobed, mark_at}

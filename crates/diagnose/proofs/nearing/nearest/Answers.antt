@@ -1,20 +1,13 @@
-use Rattle.std.proofs.Common.{◌≡◌, length, List, map, sym, ap, subst, ◌∙◌}
+use Rattle.std.proofs.Common.{length, sym, ap, subst, ◌∙◌}
 use Rattle.std.specs.List.{All}
 use Rattle.std.specs.List.Sorted.{IsPermutation}
-use Rattle.std.proofs.lemmas.List.{length-map}
 use Rattle.netlist.specs.Conditions.{IsSound}
-use Rattle.statement.specs.declared.lines.Fault.{Fault}
 use Rattle.statement.specs.Faults.{universe_of}
 use Rattle.scan_insert.specs.Named.{HasTesterNames}
-use Rattle.scan_insert.specs.Scanned.{Insertion, insertion_of, scanned_of, sites_of}
+use Rattle.scan_insert.specs.Scanned.{Insertion, insertion_of, scanned_of}
 use Rattle.scan_insert.proofs.Ready.{sites_cover}
 use Rattle.scan_play.specs.Cycles.{IsCycleOf}
-use Rattle.lane_play.specs.Counted.{IsCounted, on_one, on_other}
-use Rattle.diagnose.specs.inner.Against.{against}
-use Rattle.diagnose.specs.inner.Answers.{at_site}
-use Rattle.diagnose.specs.inner.Marks.{mark_at}
 use Rattle.diagnose.specs.inner.Ranks.{AreClassTallies, AreDivided, ranked_from}
-use Rattle.diagnose.proofs.Batches.{zip_length}
 use Rattle.diagnose.proofs.Found.{signals_within}
 use Rattle.diagnose.proofs.Nearness.{all_ranked, one_for_each, other_for_each, ranking_of}
 use Rattle.diagnose.proofs.nearing.nearest.Goals as goal

@@ -1,4 +1,4 @@
-use Rattle.std.proofs.Common.{◌≡◌, ◌+◌, ◌<◌, ◌⊎◌, length, inl, inr, ap, sym, ◌∙◌, ◌++◌, arith, refl}
+use Rattle.std.proofs.Common.{◌≡◌, ◌+◌, ◌<◌, ◌⊎◌, length, inl, inr, ap, ◌∙◌, ◌++◌, arith}
 use Rattle.lane_play.specs.Counted.{on_one, on_other}
 use Rattle.diagnose.specs.inner.Against.{against}
 use Rattle.diagnose.specs.inner.Marks.{mark_at}
