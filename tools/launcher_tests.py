@@ -424,6 +424,10 @@ def test_launcher_keeps_the_netlist():
             for command in ("run", "transition"):
                 assert made.atpg(command, "a.bench", "./p q") == refused(command, f"./p q.{end}"), end
             link.unlink()
+        (made.folder / "p.grade").symlink_to("a.bench")
+        for read in (("a.bench", "none.stil"), ("none.bench", "a.bench")):
+            assert made.atpg("grade", *read, "./p", "--chains", "2") == refused("grade", "./p.grade"), read
+        assert made.atpg("grade", "a.bench", "a.bench", "q")[0] == 0
         (made.folder / "own.net").write_text("INPUT(a)\n")
         assert made.run(made.root / "atpg", "run", "own.net", "own", ATPG_EXPLAIN="0") == (2, "", "would write over: own.net\n")
         for words in (("scan", "a.bench", "c"), ("run", "a.bench", "a"), ("faults", "a.bench"), ("chaintest", "a.bench", "a.bench")):
@@ -439,6 +443,8 @@ def test_launcher_hidden_files():
             for command in ("run", "transition"):
                 assert made.atpg(command, "a.bench", prefix) == (
                     2, "", f"prefix names no file: {prefix}\natpg: the files would be {prefix}.net, {prefix}.scan and so on: '{prefix}NAME' is wanted\n")
+            assert made.atpg("grade", "a.bench", "a.stil", prefix) == (
+                2, "", f"prefix names no file: {prefix}\natpg: the file would be {prefix}.grade: '{prefix}NAME' is wanted\n")
         assert made.atpg("run", "a.bench", "out/x")[0] == 0
 
 
