@@ -13,6 +13,7 @@ import fault_list
 import plain_check
 import plain_design
 import plain_play
+import plain_refutation
 import plain_transition
 from sample_netlist import bench_text
 
@@ -143,3 +144,21 @@ def test_program_splits_places_of_slow_lines():
             certificate = (folder / f"{name}.cert").read_text("latin-1")
             count, wrong = check_places.wrong_trees(plain_design.read(text), certificate)
             assert count > 0 and not wrong, (name, limit, count, wrong)
+
+
+def test_program_settles_by_clauses():
+    """Of the example datapath, one of whose faults no tree of a hundred closed ends shows redundant, clauses leave none aborted; so do they where PODEM
+    has given up. A plain checker takes each refutation, and `check` the five files."""
+    if not program("atpg_main").exists():
+        return NO_PROGRAM
+    netlist = plain_design.read(example("datapath"))
+    faults = len(plain_design.universe(netlist))
+    with tempfile.TemporaryDirectory() as room:
+        folder = pathlib.Path(room)
+        (folder / "datapath.bench").write_bytes(example("datapath"))
+        for way in (["--engine", "clauses", "--workers", "3"], ["--then", "clauses"]):
+            said = subprocess.run([program("atpg_main"), "run", "datapath.bench", "p", *way], cwd=folder, check=True, capture_output=True, timeout=60).stdout
+            assert said.startswith(f"faults {faults} ".encode()) and b" aborted 0 " in said, said
+            refuted = [line for line in (folder / "p.cert").read_text().splitlines() if " R " in line]
+            assert refuted and all(plain_refutation.cause_of(netlist, line, {}) is None for line in refuted), refuted
+            expect(folder, "atpg_main", ["check", "p"], 0, f"checked {faults} faults\n", "")
