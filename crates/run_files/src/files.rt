@@ -181,7 +181,7 @@ pub fn make_files<R: Threads + Wait + Sync, E: Engine + Sync, G: Gate + Sync>(
     requires held { AreHoldsOf core.now holds.now }
     requires faults { length wanted.faults.items ≡ length (universe_of core.now) }
     requires first { All (IsPatternOf core.now holds.now) wanted.first.items }
-    requires few { length wanted.first.items < 2 ^ 30 }
+    requires few { length wanted.first.items < 2 ^ 27 }
     ensures { IfOk result (IsRun core.now (asked_by plan wanted holds.now E.refutes)) }
 {
     let netlist = core.netlist();
