@@ -3,6 +3,7 @@ ghost use Rattle.std.specs.Prelude.{◌≡◌, IfOk, IfSome, codes, option_map};
 ghost use Rattle.clap.specs.Words.{first_of, found_of, rows_of, subcommand_rows_of};
 ghost use Rattle.command_line.specs.CommandLine.{
   AreInRange,
+  AreInRunRange,
   IsInRange,
   chaintest_of,
   check_of,
@@ -19,6 +20,7 @@ ghost use Rattle.command_line.specs.CommandLine.{
   numbers_of,
   play_of,
   run_of,
+  run_options_of,
   scan_of,
   search_of,
   sweep_of,
@@ -27,10 +29,10 @@ ghost use Rattle.command_line.specs.CommandLine.{
 };
 ghost use Rattle.command_line.specs.inner.Errors.{IsAsked};
 ghost use Rattle.command_line.specs.inner.Held.{AreHeld};
-ghost use Rattle.command_line.specs.inner.Searches.{IsSearch};
+ghost use Rattle.command_line.specs.inner.Searches.{AreOptions, IsSearch};
 
 use crate::holds::{Held, holds_in};
-use crate::values::{number_if, number_of, number_or, text};
+use crate::values::{MOST_PERCENT, number_if, number_of, number_or, text};
 use clap::ArgMatches;
 use plain_text::{FEWEST_GATES, MOST_CHAINS, MOST_GATES, MOST_LIMIT, MOST_WORKERS};
 use std::alloc::Global;
@@ -70,6 +72,8 @@ pub struct SearchNumbers {
 pub struct RunOptions {
     pub engine: EngineName,
     pub numbers: SearchNumbers,
+    /// The run may stop once so many in a hundred of the faults that are asked for are detected.
+    pub percent: Option<u32>,
 }
 
 /// The engine and the numbers of `transition`.
@@ -104,10 +108,13 @@ pub enum Request<'a> {
         net: &'a str,
     },
     /// Search tests for the netlist of the file `net`, its inputs of these names held, and write
-    /// the files whose names begin with `prefix`.
+    /// the files whose names begin with `prefix`. Only the faults that the file `list` names are
+    /// asked for, and the patterns of the STIL file that `first` names come first.
     Run {
         net: &'a str,
         prefix: &'a str,
+        list: Option<&'a str>,
+        first: Option<&'a str>,
         options: RunOptions,
         holds: Vec<Held<'a>>,
     },
@@ -361,25 +368,44 @@ fn search_line<'a>(found: &ArgMatches<'a>) -> Result<SearchLine<'a>, NoRequest>
     }
 }
 
-fn run<'a>(alloc: Global, found: &ArgMatches<'a>) -> Result<Request<'a>, NoRequest>
-    ensures line { IsAsked (run_of (rows_of (found_of found.now))) result }
-    ensures in_range { IfOk result IsInRange }
+// How `run` searches, with these numbers, or what is in the way.
+fn run_options(found: &ArgMatches<'_>, numbers: SearchNumbers) -> Result<RunOptions, NoRequest>
+    requires { AreInRange numbers }
+    ensures value { AreOptions (run_options_of (rows_of (found_of found.now)) numbers) result }
+    ensures in_range { IfOk result AreInRunRange }
 {
     let Some(engine) = engine(text(found, "engine"), text(found, "then")) else {
         return Err(NoRequest::BadEngine);
     };
+    match number_if(found, "coverage", 1, MOST_PERCENT) {
+        Some(percent) => Ok(RunOptions {
+            engine,
+            numbers,
+            percent: percent.map(|number| number as u32),
+        }),
+        None => Err(NoRequest::BadNumber),
+    }
+}
+
+fn run<'a>(alloc: Global, found: &ArgMatches<'a>) -> Result<Request<'a>, NoRequest>
+    ensures line { IsAsked (run_of (rows_of (found_of found.now))) result }
+    ensures in_range { IfOk result IsInRange }
+{
     let line = match search_line(found) {
         Ok(line) => line,
+        Err(none) => return Err(none),
+    };
+    let options = match run_options(found, line.numbers) {
+        Ok(options) => options,
         Err(none) => return Err(none),
     };
     match holds(alloc, found) {
         Ok(holds) => Ok(Request::Run {
             net: line.net,
             prefix: line.prefix,
-            options: RunOptions {
-                engine,
-                numbers: line.numbers,
-            },
+            list: text(found, "faults"),
+            first: text(found, "with"),
+            options,
             holds,
         }),
         Err(none) => Err(none),

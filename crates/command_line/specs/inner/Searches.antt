@@ -3,6 +3,7 @@ use Rattle.std.specs.Prelude.{◌≡◌, Option, Some, None, Result, Ok, Err}
 use Rattle.command_line.specs.CommandLine.{Search}
 use Rattle.command_line.specs.declared.requests.NoRequest.{NoRequest}
 use Rattle.command_line.specs.declared.requests.NoRequest.TheVariants as none
+use Rattle.command_line.specs.declared.requests.RunOptions.{RunOptions}
 use Rattle.command_line.specs.declared.requests.SearchLine.{SearchLine}
 
 -- they are these, or there are none and a number is bad
@@ -10,3 +11,10 @@ abbrev pub IsSearch : Option Search → Result SearchLine NoRequest → Type 0
 IsSearch given (Ok line) = given ≡ Some (line.net.now, line.prefix.now, line.numbers)
 IsSearch given (Err none.BadNumber) = given ≡ None
 IsSearch given (Err _) = ⊥
+
+-- they are these, or there are none and the engine or a number is bad
+abbrev pub AreOptions : Option RunOptions → Result RunOptions NoRequest → Type 0
+AreOptions given (Ok options) = given ≡ Some options
+AreOptions given (Err none.BadEngine) = given ≡ None
+AreOptions given (Err none.BadNumber) = given ≡ None
+AreOptions given (Err _) = ⊥
