@@ -283,8 +283,8 @@ hold_of held = (held.name.now, held.bit)
 abbrev pub command_line_of : Request → CommandLine
 command_line_of (request.Scan net out chains) = scan net.now out.now chains
 command_line_of (request.Faults net) = faults net.now
-command_line_of (request.Run net prefix list first options holds) =
-    run net.now prefix.now (option_map (λ t. t.now) list) (option_map (λ t. t.now) first) options (map hold_of holds.items)
+command_line_of (request.Run names options holds) =
+    run names.net.now names.prefix.now (option_map (λ t. t.now) names.list) (option_map (λ t. t.now) names.first) options (map hold_of holds.items)
 command_line_of (request.Play net stil fault) = play net.now stil.now (option_map (λ t. t.now) fault)
 command_line_of (request.Check prefix) = check prefix.now
 command_line_of (request.Sweep seed gates) = sweep seed gates
@@ -315,7 +315,7 @@ pub record AreWithin (options : DiagnoseOptions) : Type 0 where
 -- each number of a request is in its range
 abbrev pub IsInRange : Request → Type 0
 IsInRange (request.Scan net out chains) = (1 ≤ chains) × (chains ≤ most_chains)
-IsInRange (request.Run net prefix list first options holds) = AreInRunRange options
+IsInRange (request.Run names options holds) = AreInRunRange options
 IsInRange (request.Sweep seed gates) = (fewest_gates ≤ gates) × (gates ≤ most_gates)
 IsInRange (request.ChainTest net stil chains) = (1 ≤ chains) × (chains ≤ most_chains)
 IsInRange (request.Diagnose net stil log options) = AreWithin options

@@ -8,7 +8,7 @@ ghost use Rattle.command_line.specs.CommandLine.{IsInRange, command_line_of, gra
 ghost use Rattle.command_line.specs.inner.Files.{AreNamed, IsNamed};
 
 use crate::WordsRefusal;
-use crate::requests::Request;
+use crate::requests::{Request, RunNames};
 use commands::{FileName, file_names, is_among};
 use std::alloc::{AllocError, Global};
 
@@ -34,7 +34,7 @@ fn nameless_prefix<'a>(request: &Request<'a>) -> Option<&'a str>
     ensures { option_map (λ t. t.now) result ≡ nameless_prefix (command_line_of request.now) }
 {
     match request {
-        Request::Run { prefix, .. } => if_nameless(prefix),
+        Request::Run { names, .. } => if_nameless(names.prefix),
         Request::Transition { prefix, .. } => if_nameless(prefix),
         Request::Grade { prefix, .. } => if_nameless(prefix),
         _ => None,
@@ -76,20 +76,15 @@ fn push_given<'a>(names: &mut Vec<FileName<'a>>, name: Option<FileName<'a>>) -> 
 }
 
 /// The names of the files that `run` reads, in order.
-pub fn run_reads<'a>(
-    alloc: Global,
-    net: &'a str,
-    list: Option<&'a str>,
-    first: Option<&'a str>,
-) -> Result<Vec<FileName<'a>>, AllocError>
-    ensures { IfOk result (λ names. file_names_of names.items
-        ≡ run_reads net.entry.now (option_map (λ t. t.now) list.entry) (option_map (λ t. t.now) first.entry)) }
+pub fn run_reads<'a>(alloc: Global, names: RunNames<'a>) -> Result<Vec<FileName<'a>>, AllocError>
+    ensures { IfOk result (λ reads. file_names_of reads.items
+        ≡ run_reads names.entry.net.now (option_map (λ t. t.now) names.entry.list) (option_map (λ t. t.now) names.entry.first)) }
 {
-    let mut names = Vec::new(alloc);
-    names.push(FileName::of(net))?;
-    push_given(&mut names, list.map(FileName::of))?;
-    push_given(&mut names, first.map(stil_name))?;
-    Ok(names)
+    let mut reads = Vec::new(alloc);
+    reads.push(FileName::of(names.net))?;
+    push_given(&mut reads, names.list.map(FileName::of))?;
+    push_given(&mut reads, names.first.map(stil_name))?;
+    Ok(reads)
 }
 
 // The first of these names that is one of those.
@@ -112,15 +107,9 @@ fn written_over<'a>(alloc: Global, request: &Request<'a>) -> Result<Option<FileN
         Request::Scan { net, out, .. } => {
             Ok(first_among(&[FileName::of(net)], &[FileName::of(out)]))
         }
-        Request::Run {
-            net,
-            prefix,
-            list,
-            first,
-            ..
-        } => {
-            let reads = run_reads(alloc, net, *list, *first)?;
-            Ok(first_among(reads.as_slice(), &file_names(prefix)))
+        Request::Run { names, .. } => {
+            let reads = run_reads(alloc, *names)?;
+            Ok(first_among(reads.as_slice(), &file_names(names.prefix)))
         }
         Request::Transition { net, prefix, .. } => {
             Ok(first_among(&[FileName::of(net)], &file_names(prefix)))

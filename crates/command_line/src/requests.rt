@@ -29,7 +29,7 @@ ghost use Rattle.command_line.specs.CommandLine.{
 };
 ghost use Rattle.command_line.specs.inner.Errors.{IsAsked};
 ghost use Rattle.command_line.specs.inner.Held.{AreHeld};
-ghost use Rattle.command_line.specs.inner.Searches.{AreOptions, IsSearch};
+ghost use Rattle.command_line.specs.inner.Searches.{AreOptions, AreRunNames, IsSearch};
 
 use crate::holds::{Held, holds_in};
 use crate::values::{MOST_PERCENT, number_if, number_of, number_or, text};
@@ -93,6 +93,19 @@ pub struct DiagnoseOptions {
     pub rank: Option<u64>,
 }
 
+/// The files of `run`, by the words that name them.
+#[derive(Clone, Copy, PartialEq, Eq)]
+pub struct RunNames<'a> {
+    /// The netlist.
+    pub net: &'a str,
+    /// What the names of the files written begin with.
+    pub prefix: &'a str,
+    /// The list of the faults that are asked for, where not all are.
+    pub list: Option<&'a str>,
+    /// The STIL file whose patterns come first, or what its name begins with.
+    pub first: Option<&'a str>,
+}
+
 /// What the words ask the program to do.
 #[derive(Drop)]
 pub enum Request<'a> {
@@ -107,14 +120,9 @@ pub enum Request<'a> {
     Faults {
         net: &'a str,
     },
-    /// Search tests for the netlist of the file `net`, its inputs of these names held, and write
-    /// the files whose names begin with `prefix`. Only the faults that the file `list` names are
-    /// asked for, and the patterns of the STIL file that `first` names come first.
+    /// Search tests for a netlist, its inputs of these names held, and write five files.
     Run {
-        net: &'a str,
-        prefix: &'a str,
-        list: Option<&'a str>,
-        first: Option<&'a str>,
+        names: RunNames<'a>,
         options: RunOptions,
         holds: Vec<Held<'a>>,
     },
@@ -387,6 +395,18 @@ fn run_options(found: &ArgMatches<'_>, numbers: SearchNumbers) -> Result<RunOpti
     }
 }
 
+// The files of `run`.
+fn run_names<'a>(found: &ArgMatches<'a>, line: SearchLine<'a>) -> RunNames<'a>
+    ensures { AreRunNames (rows_of (found_of found.now)) line result }
+{
+    RunNames {
+        net: line.net,
+        prefix: line.prefix,
+        list: text(found, "faults"),
+        first: text(found, "with"),
+    }
+}
+
 fn run<'a>(alloc: Global, found: &ArgMatches<'a>) -> Result<Request<'a>, NoRequest>
     ensures line { IsAsked (run_of (rows_of (found_of found.now))) result }
     ensures in_range { IfOk result IsInRange }
@@ -401,10 +421,7 @@ fn run<'a>(alloc: Global, found: &ArgMatches<'a>) -> Result<Request<'a>, NoReque
     };
     match holds(alloc, found) {
         Ok(holds) => Ok(Request::Run {
-            net: line.net,
-            prefix: line.prefix,
-            list: text(found, "faults"),
-            first: text(found, "with"),
+            names: run_names(found, line),
             options,
             holds,
         }),
