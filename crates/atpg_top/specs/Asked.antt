@@ -1,5 +1,5 @@
 -- What `run` is asked for, by its words and by the texts that it reads.
-use Rattle.std.specs.Prelude.{ℕ, ◌≡◌, max, Bool, true, List, [], ◌∷◌, Option, Some, None, Result, Ok, Err, length, map}
+use Rattle.std.specs.Prelude.{ℕ, ◌≡◌, ◌⊎◌, max, Bool, true, List, [], ◌∷◌, Option, Some, None, Result, Ok, Err, length, map}
 use Rattle.bench_text.specs.Bytes.{lines}
 use Rattle.bench_text.specs.declared.refusal.Names.TheVariants.{Design}
 use Rattle.statement.specs.Benches.{Text}
@@ -22,7 +22,7 @@ use Rattle.commands.specs.declared.ending.Finding.TheVariants.{Fine}
 use Rattle.atpg_top.specs.Runs.{may_refute, tests_line, texts_made}
 use Rattle.atpg_top.specs.Steps.{◌>>=◌, named_holds, netlist}
 use Rattle.atpg_top.specs.declared.refusal.Refusal.{Refusal}
-use Rattle.atpg_top.specs.declared.refusal.Refusal.TheVariants as refusal
+use Rattle.atpg_top.specs.declared.refusal.Refusal.TheVariants.{NoFaultAt, NotStil, StilDoesNotFit}
 
 -- ---- the texts
 
@@ -53,8 +53,7 @@ abbrev pub marked_faults : Netlist → Option Text → Result (List Bool) Refusa
 marked_faults n None (Ok marks) = marks ≡ all_faults n
 marked_faults n None (Err r) = ⊥
 marked_faults n (Some text) (Ok marks) = AreMarks n (lines text) marks
-marked_faults n (Some text) (Err (refusal.NoFaultAt number)) = (line : Text) × IsFirstStranger n (lines text) number line
-marked_faults n (Some text) (Err _) = ⊥
+marked_faults n (Some text) (Err r) = (number : ℕ) × (line : Text) × IsFirstStranger n (lines text) number line × (r ≡ NoFaultAt number)
 
 -- ---- the patterns that come first
 
@@ -71,9 +70,8 @@ abbrev pub first_patterns : Netlist → Holds → Option Text → Result (List P
 first_patterns n holds None (Ok patterns) = patterns ≡ []
 first_patterns n holds None (Err r) = ⊥
 first_patterns n holds (Some text) (Ok patterns) = (file : StilFile) × StandsFor text file × FitsDesign file n × (patterns ≡ applied_in n holds (chains_of_file n file) file)
-first_patterns n holds (Some text) (Err refusal.NotStil) = (file : StilFile) → ¬ StandsFor text file
-first_patterns n holds (Some text) (Err refusal.StilDoesNotFit) = (file : StilFile) × StandsFor text file × (¬ FitsDesign file n)
-first_patterns n holds (Some text) (Err _) = ⊥
+first_patterns n holds (Some text) (Err r) =
+    ((r ≡ NotStil) × ((file : StilFile) → ¬ StandsFor text file)) ⊎ ((file : StilFile) × StandsFor text file × (¬ FitsDesign file n) × (r ≡ StilDoesNotFit))
 
 -- ---- the run
 

@@ -10,7 +10,7 @@ use Rattle.clap.specs.Faults.{fault_of}
 use Rattle.commands.specs.Names.{run_files}
 use Rattle.command_line.specs.Numbers.{number_in}
 use Rattle.command_line.specs.HoldLists.{HoldItem, holds_in}
-use Rattle.command_line.specs.Table.{command_table, most_percent, most_rank, most_seed}
+use Rattle.command_line.specs.Table.{command_table, most_percent, most_rank, most_rounds, most_seed}
 use Rattle.command_line.specs.declared.holds.Held.{Held}
 use Rattle.command_line.specs.declared.requests.EngineName.{EngineName}
 use Rattle.command_line.specs.declared.requests.EngineName.TheVariants.{Trees, Clauses, TreesThenClauses}
@@ -190,11 +190,15 @@ abbrev pub holds_given : Option Text → Option (List HoldItem)
 holds_given None = Some []
 holds_given (Some text) = holds_in text
 
--- the engine, the numbers, and how many in a hundred are enough
+-- the engine and the numbers, how many in a hundred are enough, and the rounds, 3 where they aren't given
+abbrev pub run_options_with : List Row → SearchNumbers → EngineName → Option RunOptions
+run_options_with rows numbers engine = option_and_then (λ percent.
+    option_map (λ rounds. record { engine = engine; numbers = numbers; percent = percent; rounds = rounds })
+    (number_at (codes "compact") 3 0 most_rounds rows))
+    (number_if (codes "coverage") 1 most_percent rows)
+
 abbrev pub run_options_of : List Row → SearchNumbers → Option RunOptions
-run_options_of rows numbers = option_and_then (λ engine. option_map (λ percent. record { engine = engine; numbers = numbers; percent = percent })
-    (number_if (codes "coverage") 1 most_percent rows))
-    (engine_given (first_of (codes "engine") rows) (first_of (codes "then") rows))
+run_options_of rows numbers = option_and_then (run_options_with rows numbers) (engine_given (first_of (codes "engine") rows) (first_of (codes "then") rows))
 
 abbrev pub run_by : List Row → Search → Option RunOptions → Option (List HoldItem) → Result CommandLine NoLine
 run_by rows s (Some options) (Some holds) = Ok (run s.0 s.1 (first_of (codes "faults") rows) (first_of (codes "with") rows) options holds)
@@ -306,6 +310,7 @@ IfIn low high (Some n) = (low ≤ n) × (n ≤ high)
 pub record AreInRunRange (options : RunOptions) : Type 0 where
   pub numbers : AreInRange options.numbers
   pub percent : IfIn 1 most_percent options.percent
+  pub rounds : options.rounds ≤ most_rounds
 
 pub record AreWithin (options : DiagnoseOptions) : Type 0 where
   pub chains : (1 ≤ options.chains) × (options.chains ≤ most_chains)

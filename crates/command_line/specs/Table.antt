@@ -54,11 +54,15 @@ search_rules =
     ∷ number_option (codes "workers") 1 most_workers ∷ number_option (codes "limit") 1 most_limit
     ∷ number_option (codes "seed") 0 most_seed ∷ []
 
--- what `run` has of its own: [--engine E] [--then E] [--hold LIST] [--faults FILE] [--coverage P] [--with FILE]
+-- the most rounds that make the patterns fewer
+abbrev pub most_rounds : ℕ
+most_rounds = 100
+
+-- what `run` has of its own: [--engine E] [--then E] [--hold LIST] [--faults FILE] [--coverage P] [--with FILE] [--compact K]
 abbrev pub run_rules : List Rule
 run_rules =
     text_option (codes "engine") ∷ text_option (codes "then") ∷ text_option (codes "hold") ∷ text_option (codes "faults")
-    ∷ number_option (codes "coverage") 1 most_percent ∷ text_option (codes "with") ∷ []
+    ∷ number_option (codes "coverage") 1 most_percent ∷ text_option (codes "with") ∷ number_option (codes "compact") 0 most_rounds ∷ []
 
 -- run NET PREFIX ..
 abbrev pub run_command : Shape

@@ -21,7 +21,7 @@ ghost use Rattle.command_line.specs.Table.{
 };
 ghost use Rattle.command_line.specs.inner.Arguments.{Adds, Grows, IsShaped, asked_by};
 
-use crate::values::MOST_PERCENT;
+use crate::values::{MOST_PERCENT, MOST_ROUNDS};
 use clap::builder::ValueParser;
 use clap::{Arg, Command};
 use plain_text::{FEWEST_GATES, MOST_CHAINS, MOST_GATES, MOST_LIMIT, MOST_WORKERS};
@@ -147,13 +147,14 @@ fn search_arguments<'a>() -> [Argument<'a>; 6]
 }
 
 // What `run` has of its own.
-fn run_arguments<'a>() -> [Argument<'a>; 6]
+fn run_arguments<'a>() -> [Argument<'a>; 7]
     ensures { map asked_by result ≡ run_rules }
 {
     let engine = "The search: podem, fan or clauses [default: podem]";
     let then = "What settles what podem or fan gives up: clauses";
     let coverage = "Stop once so many in a hundred of the faults are detected";
     let with = "A STIL file, or the prefix of one, whose patterns come first";
+    let compact = "How many rounds make the patterns fewer, 0 to 100 [default: 3]";
     [
         Text("engine", engine),
         Text("then", then),
@@ -161,6 +162,7 @@ fn run_arguments<'a>() -> [Argument<'a>; 6]
         Text("faults", "A file that lists the faults that are asked for"),
         Number("coverage", 1, MOST_PERCENT, coverage),
         Text("with", with),
+        Number("compact", 0, MOST_ROUNDS, compact),
     ]
 }
 

@@ -4,6 +4,7 @@ ghost use Rattle.clap.specs.Words.{first_of, found_of, rows_of, subcommand_rows_
 ghost use Rattle.command_line.specs.CommandLine.{
   AreInRange,
   AreInRunRange,
+  IfIn,
   IsInRange,
   chaintest_of,
   check_of,
@@ -17,22 +18,25 @@ ghost use Rattle.command_line.specs.CommandLine.{
   line_by,
   line_from,
   command_line_of,
+  number_if,
   numbers_of,
   play_of,
   run_of,
   run_options_of,
+  run_options_with,
   scan_of,
   search_of,
   sweep_of,
   transition_of,
   tree_engine_given,
 };
+ghost use Rattle.command_line.specs.Table.{most_percent};
 ghost use Rattle.command_line.specs.inner.Errors.{IsAsked};
 ghost use Rattle.command_line.specs.inner.Held.{AreHeld};
 ghost use Rattle.command_line.specs.inner.Searches.{AreOptions, AreRunNames, IsSearch};
 
 use crate::holds::{Held, holds_in};
-use crate::values::{MOST_PERCENT, number_if, number_of, number_or, text};
+use crate::values::{MOST_PERCENT, MOST_ROUNDS, number_if, number_of, number_or, text};
 use clap::ArgMatches;
 use plain_text::{FEWEST_GATES, MOST_CHAINS, MOST_GATES, MOST_LIMIT, MOST_WORKERS};
 use std::alloc::Global;
@@ -74,6 +78,8 @@ pub struct RunOptions {
     pub numbers: SearchNumbers,
     /// The run may stop once so many in a hundred of the faults that are asked for are detected.
     pub percent: Option<u32>,
+    /// How many rounds make the patterns fewer.
+    pub rounds: u32,
 }
 
 /// The engine and the numbers of `transition`.
@@ -376,6 +382,37 @@ fn search_line<'a>(found: &ArgMatches<'a>) -> Result<SearchLine<'a>, NoRequest>
     }
 }
 
+// How many in a hundred of the faults are enough.
+fn percent(found: &ArgMatches<'_>) -> Option<Option<u32>>
+    ensures value { result ≡ number_if (codes "coverage") 1 most_percent (rows_of (found_of found.now)) }
+    ensures in_range { IfSome result (IfIn 1 most_percent) }
+{
+    match number_if(found, "coverage", 1, MOST_PERCENT)? {
+        Some(percent) => Some(Some(percent as u32)),
+        None => Some(None),
+    }
+}
+
+// How `run` searches, with this engine and these numbers.
+fn options_with(
+    found: &ArgMatches<'_>,
+    numbers: SearchNumbers,
+    engine: EngineName,
+) -> Option<RunOptions>
+    requires { AreInRange numbers }
+    ensures value { result ≡ run_options_with (rows_of (found_of found.now)) numbers engine }
+    ensures in_range { IfSome result AreInRunRange }
+{
+    let percent = percent(found)?;
+    let rounds = number_or(found, "compact", 3, 0, MOST_ROUNDS)?;
+    Some(RunOptions {
+        engine,
+        numbers,
+        percent,
+        rounds: rounds as u32,
+    })
+}
+
 // How `run` searches, with these numbers, or what is in the way.
 fn run_options(found: &ArgMatches<'_>, numbers: SearchNumbers) -> Result<RunOptions, NoRequest>
     requires { AreInRange numbers }
@@ -385,14 +422,7 @@ fn run_options(found: &ArgMatches<'_>, numbers: SearchNumbers) -> Result<RunOpti
     let Some(engine) = engine(text(found, "engine"), text(found, "then")) else {
         return Err(NoRequest::BadEngine);
     };
-    match number_if(found, "coverage", 1, MOST_PERCENT) {
-        Some(percent) => Ok(RunOptions {
-            engine,
-            numbers,
-            percent: percent.map(|number| number as u32),
-        }),
-        None => Err(NoRequest::BadNumber),
-    }
+    options_with(found, numbers, engine).ok_or(NoRequest::BadNumber)
 }
 
 // The files of `run`.

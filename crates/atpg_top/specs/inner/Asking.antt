@@ -1,5 +1,5 @@
 -- The steps of `run` up to what it is asked for.
-use Rattle.std.specs.Prelude.{ℕ, ◌≡◌, ◌<◌, ◌^◌, ⊤, List, [], Option, Some, None, Result, Ok, Err, length, option_map}
+use Rattle.std.specs.Prelude.{ℕ, ◌≡◌, ◌<◌, ◌^◌, ⊤, Bool, List, [], Option, Some, None, Result, Ok, Err, length, option_map}
 use Rattle.std.specs.List.{All}
 use Rattle.statement.specs.Benches.{Text}
 use Rattle.statement.specs.Netlists.{Netlist}
@@ -35,8 +35,11 @@ HaveCount list first count = count ≡ length (run_reads [] list first)
 
 -- ---- what is due behind each step
 
+abbrev pub first_due : RunOptions → Netlist → Holds → Option Text → List Bool → Due Refusal → Type 0
+first_due options n holds stil marks = first_patterns n holds stil >>= λ first. made_due options n holds marks first
+
 abbrev pub wanted_due : RunOptions → Netlist → Holds → Option Text → Option Text → Due Refusal → Type 0
-wanted_due options n holds list stil = marked_faults n list >>= λ marks. first_patterns n holds stil >>= λ first. made_due options n holds marks first
+wanted_due options n holds list stil = marked_faults n list >>= λ marks. first_due options n holds stil marks
 
 abbrev pub held_due : RunOptions → List HoldItem → Option Text → Option Text → Netlist → Due Refusal → Type 0
 held_due options named list stil n = named_holds n named >>= λ holds. wanted_due options n holds list stil
@@ -83,7 +86,7 @@ ReadsTexts named (Some read) result = ReadsRun named read result
 pub record IsWanted (n : Netlist) (holds : Holds) (w : Wanted) : Type 0 where
   pub faults : length w.faults.items ≡ length (universe_of n)
   pub first : All (IsPatternOf n holds) w.first.items
-  pub few : length w.first.items < 2 ^ 30
+  pub few : length w.first.items < 2 ^ 27
 
 pub record IsReady (c : RunCase) : Type 0 where
   pub design : IsDesign c.core
