@@ -48,7 +48,7 @@ struct RunTexts<'a> {
 
 /// Which text is which, by the files that the words name.
 fn run_texts<'a>(texts: &'a [Vec<u8>], list: Option<&str>, first: Option<&str>) -> RunTexts<'a>
-    requires { HaveCount (option_map (λ t. t.now) list.entry) (option_map (λ t. t.now) first.entry) (length texts.entry.now) }
+    requires { HaveCount (option_map (λ t. t.now) list) (option_map (λ t. t.now) first) (length texts.now) }
     ensures { run_read (option_map (λ t. t.now) list.entry) (option_map (λ t. t.now) first.entry) (texts_of texts.entry.now) ≡ Some (run_texts_of result) }
 {
     let net = texts[0].as_slice();
@@ -172,7 +172,7 @@ fn first_of(
 ) -> Result<Vec<Pattern>, Stop<Refusal>>
     requires design { IsDesign netlist.now }
     requires held { AreHoldsOf netlist.now holds.now }
-    requires short { IfSome stil.entry (λ text. length text.now ≤ most_bytes) }
+    requires short { IfSome stil (λ text. length text.now ≤ most_bytes) }
     ensures first { AnswersList (first_patterns netlist.now holds.now (option_map (λ t. t.now) stil.entry)) result }
     ensures obey { IfOk result (λ patterns. All (IsPatternOf netlist.now holds.now) patterns.items) }
     ensures few { IfOk result (λ patterns. length patterns.items < 2 ^ 27) }
@@ -197,7 +197,7 @@ fn wanted_of(
 ) -> Result<Wanted, Stop<Refusal>>
     requires design { IsDesign netlist.now }
     requires held { AreHoldsOf netlist.now holds.now }
-    requires short { IfSome stil.entry (λ text. length text.now ≤ most_bytes) }
+    requires short { IfSome stil (λ text. length text.now ≤ most_bytes) }
     ensures reads { ReadsWanted netlist.now holds.now (option_map (λ t. t.now) list.entry) (option_map (λ t. t.now) stil.entry) result }
     ensures wanted { IfOk result (IsWanted netlist.now holds.now) }
 {
@@ -220,7 +220,7 @@ fn held_case(
     stil: Option<&[u8]>,
 ) -> Result<RunCase, Stop<Refusal>>
     requires design { IsDesign netlist }
-    requires short { IfSome stil.entry (λ text. length text.now ≤ most_bytes) }
+    requires short { IfSome stil (λ text. length text.now ≤ most_bytes) }
     ensures reads { ReadsHeld (map hold_of named.now) (option_map (λ t. t.now) list.entry) (option_map (λ t. t.now) stil.entry) netlist result }
     ensures ready { IfOk result IsReady }
 {
@@ -249,7 +249,7 @@ pub(crate) fn case_of(
     first: Option<&str>,
     named: &[Held<'_>],
 ) -> Result<RunCase, Stop<Refusal>>
-    requires count { HaveCount (option_map (λ t. t.now) list.entry) (option_map (λ t. t.now) first.entry) (length texts.items) }
+    requires count { HaveCount (option_map (λ t. t.now) list) (option_map (λ t. t.now) first) (length texts.items) }
     requires within { All (λ text. length text ≤ most_bytes) (texts_of texts.items) }
     ensures reads { ReadsTexts (map hold_of named.now) (run_read (option_map (λ t. t.now) list.entry) (option_map (λ t. t.now) first.entry) (texts_of texts.items)) result }
     ensures ready { IfOk result IsReady }

@@ -234,7 +234,7 @@ fn work<R: Threads + Wait + Sync, G: Gate + Sync>(
     requires count { HaveCount (option_map (λ t. t.now) names.list) (option_map (λ t. t.now) names.first) (length texts.items) }
     requires within { All (λ text. length text ≤ most_bytes) (texts_of texts.items) }
     requires range { AreInRange options.numbers }
-    ensures { IsWorked (run_due (option_map (λ t. t.now) names.list) (option_map (λ t. t.now) names.first) options (map hold_of named.now) (texts_of texts.items)) 5 result }
+    ensures { IsWorked (run_due (option_map (λ t. t.now) names.entry.list) (option_map (λ t. t.now) names.entry.first) options (map hold_of named.now) (texts_of texts.items)) 5 result }
 {
     match case_of(alloc, texts, names.list, names.first, named) {
         Ok(case) => run_case(rt, alloc, case, options, stage),
@@ -254,8 +254,8 @@ pub fn run_netlist<'a, R: Threads + Wait + Sync, S: Shelf, T: Sink, G: Gate + Sy
     named: &[Held<'_>],
 ) -> Ending<'a, Refusal>
     requires { AreInRange options.numbers }
-    ensures { CommandRow (run_reads names.net.now (option_map (λ t. t.now) names.list) (option_map (λ t. t.now) names.first)) (run_files names.prefix.now)
-        (run_due (option_map (λ t. t.now) names.list) (option_map (λ t. t.now) names.first) options (map hold_of named.now))
+    ensures { CommandRow (run_reads names.entry.net.now (option_map (λ t. t.now) names.entry.list) (option_map (λ t. t.now) names.entry.first)) (run_files names.entry.prefix.now)
+        (run_due (option_map (λ t. t.now) names.entry.list) (option_map (λ t. t.now) names.entry.first) options (map hold_of named.now))
         (world (S.files shelf.old) (S.failures shelf.old) (T.taken out.old) (T.failures out.old))
         (world (S.files shelf.new) (S.failures shelf.new) (T.taken out.new) (T.failures out.new)) result }
 {

@@ -67,7 +67,7 @@ fn stil_name<'a>(given: &'a str) -> FileName<'a>
 
 // Puts a name behind others, where it is given.
 fn push_given<'a>(names: &mut Vec<FileName<'a>>, name: Option<FileName<'a>>) -> Result<(), AllocError>
-    ensures { OnOk result (file_names_of names.new.items ≡ file_names_of names.old.items ++ option_to_list (option_map file_name_of name)) }
+    ensures { OnOk result (file_names_of names.new.items ≡ file_names_of names.old.items ++ option_to_list (option_map file_name_of name.entry)) }
 {
     if let Some(name) = name {
         names.push(name)?;

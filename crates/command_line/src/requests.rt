@@ -427,7 +427,7 @@ fn run_options(found: &ArgMatches<'_>, numbers: SearchNumbers) -> Result<RunOpti
 
 // The files of `run`.
 fn run_names<'a>(found: &ArgMatches<'a>, line: SearchLine<'a>) -> RunNames<'a>
-    ensures { AreRunNames (rows_of (found_of found.now)) line result }
+    ensures { AreRunNames (rows_of (found_of found.now)) line.entry result }
 {
     RunNames {
         net: line.net,
