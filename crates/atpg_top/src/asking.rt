@@ -87,11 +87,7 @@ pub(crate) fn all_faults(alloc: Global, netlist: &Netlist) -> Result<Vec<bool>, 
 }
 
 /// The marks of the faults that a list names.
-fn listed_faults(
-    alloc: Global,
-    netlist: &Netlist,
-    text: &[u8],
-) -> Result<Vec<bool>, Stop<Refusal>>
+fn listed_faults(alloc: Global, netlist: &Netlist, text: &[u8]) -> Result<Vec<bool>, Stop<Refusal>>
     requires { IsDesign netlist.now }
     ensures { AnswersList (marked_faults netlist.now (Some text.now)) result }
 {

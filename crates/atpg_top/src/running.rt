@@ -63,6 +63,7 @@ fn plan_of(options: RunOptions) -> RunPlan
         limit: numbers.limit,
         seed: numbers.seed,
         percent: options.percent,
+        rounds: options.rounds,
     }
 }
 
@@ -83,7 +84,16 @@ fn made_by<R: Threads + Wait + Sync, E: Engine + Sync, G: Gate + Sync>(
     requires wanted { IsWanted core.now holds.now wanted }
     ensures { IfOk result (IsRun core.now (asked_by (plan_of options) wanted holds.now E.refutes)) }
 {
-    make_files(rt, alloc, core, plan_of(options), engine, holds, wanted, stage)
+    make_files(
+        rt,
+        alloc,
+        core,
+        plan_of(options),
+        engine,
+        holds,
+        wanted,
+        stage,
+    )
 }
 
 /// The five files, by a tree of decisions for each class.

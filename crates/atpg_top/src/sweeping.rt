@@ -49,6 +49,8 @@ const CHAINS: u32 = 1;
 
 const LIMIT: u32 = 100;
 
+const ROUNDS: u32 = 3;
+
 /// The netlist of a seed, with so many gates.
 fn sample_core(alloc: Global, seed: u64, gates: u32) -> Result<Core, NoMemory>
     requires least { fewest_gates ≤ gates }
@@ -86,6 +88,7 @@ fn run_sample<R: Threads + Wait + Sync, G: Gate + Sync>(
         engine: EngineName::Trees(engine),
         numbers,
         percent: None,
+        rounds: ROUNDS,
     };
     let holds = Holds::none(alloc, core)?;
     let wanted = Wanted {

@@ -66,7 +66,10 @@ fn stil_name<'a>(given: &'a str) -> FileName<'a>
 }
 
 // Puts a name behind others, where it is given.
-fn push_given<'a>(names: &mut Vec<FileName<'a>>, name: Option<FileName<'a>>) -> Result<(), AllocError>
+fn push_given<'a>(
+    names: &mut Vec<FileName<'a>>,
+    name: Option<FileName<'a>>,
+) -> Result<(), AllocError>
     ensures { OnOk result (file_names_of names.new.items ≡ file_names_of names.old.items ++ option_to_list (option_map file_name_of name.entry)) }
 {
     if let Some(name) = name {
@@ -100,7 +103,10 @@ fn first_among<'a>(names: &[FileName<'a>], written: &[FileName<'_>]) -> Option<F
 }
 
 // The first file that a request reads and would write over.
-fn written_over<'a>(alloc: Global, request: &Request<'a>) -> Result<Option<FileName<'a>>, AllocError>
+fn written_over<'a>(
+    alloc: Global,
+    request: &Request<'a>,
+) -> Result<Option<FileName<'a>>, AllocError>
     ensures { IfOk result (λ name. option_map file_name_of name ≡ written_over (command_line_of request.now)) }
 {
     match request {
@@ -142,7 +148,10 @@ fn refusal_of<'a>(alloc: Global, request: &Request<'a>) -> Option<WordsRefusal<'
 }
 
 /// The request, if the names of its files are in order.
-pub(crate) fn with_files<'a>(alloc: Global, request: Request<'a>) -> Result<Request<'a>, WordsRefusal<'a>>
+pub(crate) fn with_files<'a>(
+    alloc: Global,
+    request: Request<'a>,
+) -> Result<Request<'a>, WordsRefusal<'a>>
     ensures line { IsNamed (command_line_of request.entry) result }
     ensures in_range { IsInRange request.entry → IfOk result IsInRange }
 {

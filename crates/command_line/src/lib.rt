@@ -35,7 +35,8 @@ pub use files::{grade_name, run_reads};
 pub use holds::Held;
 pub use laws::nothing_written_over;
 pub use requests::{
-    DiagnoseOptions, EngineName, Request, RunNames, RunOptions, SearchNumbers, SlowOptions, TreeEngine,
+    DiagnoseOptions, EngineName, Request, RunNames, RunOptions, SearchNumbers, SlowOptions,
+    TreeEngine,
 };
 use requests::{NoRequest, request_of};
 use std::alloc::Global;

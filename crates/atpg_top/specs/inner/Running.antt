@@ -25,6 +25,7 @@ plan_of options = record {
   limit = options.numbers.limit;
   seed = options.numbers.seed;
   percent = options.percent;
+  rounds = options.rounds;
 }
 
 -- what is due of a design whose slow lines are searched
