@@ -1,6 +1,5 @@
 //! What is learned of a contradiction: the first unique implication point. (Marques-Silva and Sakallah, GRASP, 1999; Zhang and others, Efficient
 //! conflict driven learning in a Boolean satisfiability solver, 2001.) A literal that the others of the clause imply by its reason is left out.
-use crate::arrays::{NONE, at, byte_at, fill_bytes, number_of, put, put_byte};
 use crate::causes::{Asked, causes};
 use crate::clauses::{Clauses, clause_reason};
 use crate::cones::Cone;
@@ -9,6 +8,7 @@ use crate::literals::{opposite, variable_of};
 use crate::queues::Queue;
 use crate::trails::Trail;
 use crate::ways::Ways;
+use flat_netlist::{NONE, at, byte_at, fill_bytes, number_of, put, put_byte};
 use std::alloc::{AllocError, Global};
 
 /// What a literal was implied by, and where it stands among the assigned.

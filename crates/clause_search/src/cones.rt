@@ -1,9 +1,9 @@
 //! The part of a netlist that a fault's search takes part in: the observed signals that the fault reaches, and all that these read. It is numbered
 //! anew for each fault, first what the fault reaches and last the sources, so that all that a search touches lies close together.
-use crate::arrays::{NONE, at, byte_at, fill, fill_bytes, number_of, put, put_byte};
-use crate::graphs::{Graph, Shape};
-use crate::wholes::{Whole, driver};
 use decisions::gate_of;
+use flat_netlist::{
+    Graph, NONE, Shape, Whole, at, byte_at, driver, fill, fill_bytes, number_of, put, put_byte,
+};
 use netlist::{Core, Fault, Line, SignalId};
 use std::alloc::{AllocError, Global};
 

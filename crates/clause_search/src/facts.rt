@@ -1,7 +1,7 @@
 //! What was learned of bits without a fault, and so holds under each: a signal has one bit only, since gates leave nothing where it has the other. It is kept from
 //! fault to fault; a refutation that uses it says it as a step of its own, behind those that it rests on.
-use crate::arrays::{NONE, at, fill, number_of, put};
 use crate::literals::variable_of;
+use flat_netlist::{NONE, at, fill, number_of, put};
 use std::alloc::{AllocError, Global};
 
 #[derive(Drop)]

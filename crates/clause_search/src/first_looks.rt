@@ -5,16 +5,14 @@
 //! other bit than it is stuck at, and what each way to an observed signal goes through differs.
 ghost use Rattle.netlist.specs.Holds.{AreHoldsOf};
 
-use crate::arrays::{NONE, at, byte_at, fill_bytes, number_of, put_byte};
 use crate::facts::Facts;
-use crate::graphs::Shape;
 use crate::literals::{bit_of, literal, variable_of};
 use crate::reaches::Reach;
 use crate::sets::{
     ANY, DIFFERS, Fold, SAME, Tables, before_stuck, faulty_is, good_is, stuck_at, turned,
 };
-use crate::wholes::{Whole, driver};
 use decisions::gate_of;
+use flat_netlist::{NONE, Shape, Whole, at, byte_at, driver, fill_bytes, number_of, put_byte};
 use netlist::{Core, Fault, Holds, Line, SignalId};
 use std::alloc::{AllocError, Global};
 

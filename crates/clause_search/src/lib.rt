@@ -10,7 +10,6 @@
 #![tactic(auto)]
 
 mod analysing;
-mod arrays;
 mod causes;
 mod clauses;
 mod cones;
@@ -18,7 +17,6 @@ mod engine;
 mod facts;
 mod first_looks;
 mod frontiers;
-mod graphs;
 mod habits;
 mod implying;
 mod lemmas;
@@ -31,7 +29,6 @@ mod sets;
 mod spreading;
 mod trails;
 mod ways;
-mod wholes;
 mod writing;
 
 pub use engine::{Room, Settled};

@@ -1,8 +1,7 @@
 //! What a fault reaches on a way to an observed signal, in the order of evaluation, and the signals that each such way goes through. (Dominators: Kirkland
 //! and Mercer, A topological search algorithm for ATPG, 1987.) In the order of evaluation each way goes through a gate exactly where nothing that was
 //! reached before it is read behind it.
-use crate::arrays::{NONE, byte_at, fill_bytes, number_of, put_byte};
-use crate::wholes::Whole;
+use flat_netlist::{NONE, Whole, byte_at, fill_bytes, number_of, put_byte};
 use std::alloc::{AllocError, Global};
 
 #[derive(Drop)]

@@ -3,12 +3,10 @@
 ghost use Rattle.netlist.specs.Holds.{AreHoldsOf};
 
 use crate::analysing::Analysis;
-use crate::arrays::{NONE, at, number_of};
 use crate::clauses::{Clauses, clause_reason};
 use crate::cones::Cone;
 use crate::first_looks::{FirstLook, Seen};
 use crate::frontiers::{Walk, Wish};
-use crate::graphs::Shape;
 use crate::habits::Habits;
 use crate::implying::visit_gate;
 use crate::lemmas::Lemmas;
@@ -16,7 +14,7 @@ use crate::literals::{bit_of, literal, variable_of};
 use crate::queues::Queue;
 use crate::spreading::spread;
 use crate::trails::{Trail, UNSET};
-use crate::wholes::Whole;
+use flat_netlist::{NONE, Shape, Whole, at, number_of};
 use netlist::{Core, Fault, Holds, SignalId};
 use std::alloc::{AllocError, Global};
 

@@ -13,6 +13,7 @@
 mod claims;
 mod compaction;
 mod fault_list;
+mod goals;
 mod hits;
 mod keeping;
 mod laws;
@@ -23,6 +24,7 @@ mod verdicts;
 pub use claims::{Claim, Left, Over};
 pub use compaction::{Finished, compact, needed};
 pub use fault_list::{FaultList, Settling};
+pub use goals::Goal;
 pub use keeping::{kept, new_places};
 pub use laws::{every_interleaving, fresh_is_true, no_hit_is_redundant};
 pub use subjects::About;

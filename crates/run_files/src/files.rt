@@ -8,11 +8,13 @@ ghost use Rattle.netlist.specs.Holds.{AreHoldsOf};
 ghost use Rattle.scan_insert.specs.Scanned.{AreChainsOf, scanned_of};
 ghost use Rattle.run_report.specs.Subjects.{IsSubjectOf};
 ghost use Rattle.good_files.specs.ScanOff.{design_chains};
-ghost use Rattle.run_files.specs.Runs.{IsRun};
+ghost use Rattle.run_files.specs.Runs.{IsRun, asked_by};
+ghost use Rattle.statement.specs.Faults.{universe_of};
 ghost use Rattle.run_files.specs.inner.Written.{IsTestText, IsWritten};
 ghost use Rattle.run_files.specs.inner.Verdicts.{AreVerdicts};
 ghost use Rattle.run_files.specs.inner.Reports.{IsSaid};
 
+use crate::asked::{RunPlan, Wanted};
 use crate::leaves::leaves_of;
 use crate::lines::lines_of;
 use crate::reporting::report_of;
@@ -35,16 +37,6 @@ use std::sync::Wait;
 use std::thread::Threads;
 use stil_patterns::stil_of;
 use stil_write::write_stil;
-
-/// How a run goes: at most so many chains, so many workers, at most so many closed ends a search,
-/// and the seed of the bits that cubes leave open.
-#[derive(Clone, Copy)]
-pub struct RunPlan {
-    pub chains: u32,
-    pub workers: u32,
-    pub limit: u32,
-    pub seed: u64,
-}
 
 /// The texts of a run, and its report as a value.
 #[derive(Drop)]
@@ -179,6 +171,7 @@ pub fn make_files<R: Threads + Wait + Sync, E: Engine + Sync, G: Gate + Sync>(
     plan: RunPlan,
     engine: &E,
     holds: &Holds,
+    wanted: Wanted,
     stage: &G,
 ) -> Result<RunFiles, NoMemory>
     requires design { IsDesign core.now }
@@ -186,12 +179,16 @@ pub fn make_files<R: Threads + Wait + Sync, E: Engine + Sync, G: Gate + Sync>(
     requires limit { (1 ≤ plan.limit) × (plan.limit ≤ most_limit) }
     requires workers { (0 < plan.workers) × (plan.workers ≤ 64) }
     requires held { AreHoldsOf core.now holds.now }
-    ensures { IfOk result (IsRun core.now holds.now plan.chains plan.limit E.refutes) }
+    requires faults { length wanted.faults.items ≡ length (universe_of core.now) }
+    requires first { All (IsPatternOf core.now holds.now) wanted.first.items }
+    requires few { length wanted.first.items < 2 ^ 27 }
+    ensures { IfOk result (IsRun core.now (asked_by plan wanted holds.now E.refutes)) }
 {
     let netlist = core.netlist();
     netlist.sound();
     let chains = stitched(alloc, netlist, plan.chains)?;
     let subject = subject_of(alloc, netlist)?;
+    let Wanted { faults, first } = wanted;
     let found = search(
         rt,
         alloc,
@@ -201,8 +198,10 @@ pub fn make_files<R: Threads + Wait + Sync, E: Engine + Sync, G: Gate + Sync>(
         engine,
         stage,
         holds,
+        &faults,
+        first,
     )?;
-    let files = texts_of(alloc, core, plan, holds, &chains, &subject, found)?;
+    let files = texts_of(alloc, core, plan, holds, &chains, &subject, &faults, found)?;
     written_is_run();
     Ok(files)
 }

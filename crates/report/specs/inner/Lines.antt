@@ -38,12 +38,3 @@ hold_words h = codes "hold " ++ (h.name ++ bit_text h.bit)
 
 abbrev pub fault_words : Line → List ℕ
 fault_words l = l.fault ++ outcome_text l.outcome l.pin
-
--- the first line of a version, the second of which holds inputs
-abbrev pub version_line : Bool → List ℕ
-version_line false = codes "atpg report 1\n"
-version_line true = codes "atpg report 2\n"
-
-abbrev pub some_held : List Hold → Bool
-some_held [] = false
-some_held (h ∷ hs) = true

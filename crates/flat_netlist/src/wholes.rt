@@ -1,4 +1,5 @@
-//! The netlist in flat arrays, made once a room: gates, which signals are observed, the order of evaluation, and how far the gates that read a signal stand.
+//! The netlist as a whole, made once a room: gates, which signals are observed, the order of evaluation, and how far the gates that read a signal
+//! stand.
 use crate::arrays::{NONE, at, byte_at, fill, fill_bytes, number_of, put, put_byte};
 use crate::graphs::{Graph, Shape, shape_of};
 use decisions::{Measures, gate_of, signal_count};
@@ -6,7 +7,7 @@ use netlist::{Core, SignalId};
 use std::alloc::{AllocError, Global};
 
 #[derive(Drop)]
-pub(crate) struct Whole {
+pub struct Whole {
     pub graph: Graph,
     seen: Vec<u8>,
     /// The gates in the order of evaluation, from place 1 on; and by signal its place, 0 for inputs and cells.
@@ -20,7 +21,7 @@ pub(crate) struct Whole {
 }
 
 impl Whole {
-    pub(crate) fn new(alloc: Global) -> Whole {
+    pub fn new(alloc: Global) -> Whole {
         Whole {
             graph: Graph::new(alloc),
             seen: Vec::new(alloc),
@@ -33,35 +34,35 @@ impl Whole {
     }
 
     #[inline(always)]
-    pub(crate) fn count(&self) -> u32 {
+    pub fn count(&self) -> u32 {
         self.graph.count()
     }
 
     /// How many places there are, with 0.
-    pub(crate) fn place_count(&self) -> u32 {
+    pub fn place_count(&self) -> u32 {
         number_of(self.order.len())
     }
 
-    pub(crate) fn gate_at(&self, place: u32) -> u32 {
+    pub fn gate_at(&self, place: u32) -> u32 {
         at(&self.order, place)
     }
 
-    pub(crate) fn place(&self, signal: u32) -> u32 {
+    pub fn place(&self, signal: u32) -> u32 {
         at(&self.places, signal)
     }
 
-    pub(crate) fn is_observed(&self, signal: u32) -> bool {
+    pub fn is_observed(&self, signal: u32) -> bool {
         byte_at(&self.seen, signal) != 0
     }
 
     /// The last place of a gate that reads it and comes to an observed signal.
-    pub(crate) fn far(&self, signal: u32) -> u32 {
+    pub fn far(&self, signal: u32) -> u32 {
         at(&self.far, signal)
     }
 
     /// Whether a difference at the signal may come to an observed one.
     #[inline(always)]
-    pub(crate) fn comes_to_point(&self, signal: u32) -> bool {
+    pub fn comes_to_point(&self, signal: u32) -> bool {
         self.far(signal) != 0
     }
 
@@ -133,7 +134,7 @@ impl Whole {
 
     /// What it costs to give a signal a bit.
     #[inline(always)]
-    pub(crate) fn cost(&self, signal: u32, bit: u8) -> u32 {
+    pub fn cost(&self, signal: u32, bit: u8) -> u32 {
         if bit == 1 {
             at(&self.one_costs, signal)
         } else {
@@ -172,7 +173,7 @@ impl Whole {
     }
 
     /// The netlist, unless it was taken before.
-    pub(crate) fn begin(&mut self, alloc: Global, core: &Core) -> Result<(), AllocError> {
+    pub fn begin(&mut self, alloc: Global, core: &Core) -> Result<(), AllocError> {
         if self.count() == number_of(signal_count(core)) && self.place_count() != 0 {
             return Ok(());
         }
@@ -181,7 +182,7 @@ impl Whole {
 }
 
 /// The signal at a pin.
-pub(crate) fn driver(core: &Core, gate: SignalId, k: u32) -> SignalId {
+pub fn driver(core: &Core, gate: SignalId, k: u32) -> SignalId {
     if gate.index() >= signal_count(core) {
         return gate;
     }
