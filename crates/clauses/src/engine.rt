@@ -262,8 +262,7 @@ impl Engine for Clauses {
     ) -> Result<(Found, ClauseRoom), NoMemory> {
         let ClauseRoom { judges, guide } = room;
         let mut guide = guide;
-        let (found, judges) =
-            self.in_turn(alloc, &mut guide, judges, core, fault, limit, holds)?;
+        let (found, judges) = self.in_turn(alloc, &mut guide, judges, core, fault, limit, holds)?;
         Ok((found, ClauseRoom { judges, guide }))
     }
 }
