@@ -1,5 +1,6 @@
 -- What a search finds.
-use Rattle.std.specs.Prelude.{ℕ, ◌≡◌, ◌+◌, ◌-◌, ◌*◌, ◌/◌, ◌<◌, ◌≤◌, ◌^◌, ◌⊎◌, ⊤, ⊥, Bool, false, List, length, Option, Some, None}
+use Rattle.std.specs.Prelude.{ℕ, ◌≡◌, ◌-◌, ◌*◌, ◌<◌, ◌≤◌, ◌^◌, ◌⊎◌, ◌↔◌, ⊤, Bool, true, false, List, length, Option, Some, None, slice_index_or}
+use Rattle.std.specs.Int.{div_ceil}
 use Rattle.std.specs.List.{All, slice_get}
 use Rattle.statement.specs.declared.lines.Fault.{Fault}
 use Rattle.statement.specs.declared.lines.Point.{Point}
@@ -37,24 +38,17 @@ pub record AreKnown (n : Netlist) (holds : Holds) (limit : ℕ) (refutes : Bool)
   pub obey : All (IsPatternOf n holds) patterns
   pub each : (class : ℕ) (f : Fault) → slice_get faults class ≡ Some f → IsKnown n holds limit refutes patterns f (verdict_at verdicts class)
 
--- What compaction leaves of them: what some pattern detects is Detected, and no class becomes Open.
-pub record AreCompacted (n : Netlist) (holds : Holds) (limit : ℕ) (refutes : Bool) (faults : List Fault) (patterns : List Pattern) (old : List Verdict) (kept : List Pattern) (new : List Verdict) : Type 0 where
-  pub verdicts : AreVerdicts n holds faults limit kept new
-  pub kinds : All (MayHave refutes) new
-  pub few : length kept ≤ length patterns
-  pub detected : (class : ℕ) (f : Fault) → slice_get faults class ≡ Some f → IsSeenBy n patterns f → one_if_class_detected (verdict_at new class) ≡ 1
-  pub stays : (class : ℕ) → class < length faults → is_open (verdict_at old class) ≡ false → is_open (verdict_at new class) ≡ false
+-- marks of the faults that some pattern detects
+pub record AreDetectedMarks (n : Netlist) (patterns : List Pattern) (faults : List Fault) (marks : List Bool) : Type 0 where
+  pub size : length marks ≡ length faults
+  pub each : (k : ℕ) (f : Fault) → slice_get faults k ≡ Some f → (slice_index_or marks k false ≡ true) ↔ IsSeenBy n patterns f
 
 -- ---- enough
 
--- the least number that is so many in a hundred of these
-abbrev pub enough_of : ℕ → ℕ → ℕ
-enough_of percent asked = (percent * asked + 99) / 100
-
--- the classes that are left are to weigh what is enough, less what the marked ones do
+-- Of the classes that aren't marked those that are detected are to weigh what is enough, less what the marked ones weigh.
 pub record IsGoal (percent asked : ℕ) (weights : List ℕ) (marks : List Bool) (g : Goal) : Type 0 where
   pub weights_are : g.weights.items ≡ unmarked_weights marks weights
-  pub enough : g.enough ≡ enough_of percent asked - marked_weight marks weights
+  pub enough : g.enough ≡ div_ceil (percent * asked) 100 - marked_weight marks weights
 
 abbrev pub IsGoalOf : Option ℕ → ℕ → List ℕ → List Bool → Option Goal → Type 0
 IsGoalOf None asked weights marks None = ⊤
