@@ -75,6 +75,7 @@ fn said_of(
     scanned: &Netlist,
     chains: &Chains,
     subject: &Subject,
+    asked: &[bool],
     found: &Finished,
     limit: u32,
     holds: &Holds,
@@ -82,10 +83,11 @@ fn said_of(
     requires chains { AreChainsOf netlist.now chains.now }
     requires scanned { scanned.now ≡ scanned_of netlist.now chains.now }
     requires subject { IsSubjectOf netlist.now subject.now }
+    requires asked { length asked.now ≡ length (universe_of netlist.now) }
     requires held { AreHoldsOf netlist.now holds.now }
-    requires verdicts { AreVerdicts netlist.now holds.now subject.now.classes limit found.now.patterns.items found.now.verdicts.items }
+    requires verdicts { AreVerdicts netlist.now holds.now subject.now.classes.representatives limit found.now.patterns.items found.now.verdicts.items }
     requires few { length found.now.patterns.items < 2 ^ 32 }
-    ensures { IfOk result (IsSaid netlist.now chains.now holds.now subject.now.classes limit found.now.patterns.items found.now.verdicts.items) }
+    ensures { IfOk result (IsSaid netlist.now chains.now holds.now subject.now.classes limit asked.now found.now.patterns.items found.now.verdicts.items) }
 {
     netlist.sound();
     let pins = pin_names(alloc, scanned)?;
@@ -96,6 +98,7 @@ fn said_of(
         &pins,
         &subject.faults,
         &subject.classes,
+        asked,
         found.verdicts.as_slice(),
     )?;
     report_of(
@@ -119,6 +122,7 @@ fn texts_of(
     holds: &Holds,
     chains: &Chains,
     subject: &Subject,
+    asked: &[bool],
     found: Finished,
 ) -> Result<RunFiles, NoMemory>
     requires design { IsDesign core.now }
@@ -126,9 +130,10 @@ fn texts_of(
     requires held { AreHoldsOf core.now holds.now }
     requires chains { chains.now ≡ design_chains core.now plan.chains }
     requires subject { IsSubjectOf core.now subject.now }
-    requires verdicts { AreVerdicts core.now holds.now subject.now.classes plan.limit found.patterns.items found.verdicts.items }
+    requires asked { length asked.now ≡ length (universe_of core.now) }
+    requires verdicts { AreVerdicts core.now holds.now subject.now.classes.representatives plan.limit found.patterns.items found.verdicts.items }
     requires few { length found.patterns.items < 2 ^ 32 }
-    ensures { IfOk result (IsWritten core.now holds.now (design_chains core.now plan.chains) subject.now.classes plan.limit found.patterns.items found.verdicts.items) }
+    ensures { IfOk result (IsWritten core.now holds.now (design_chains core.now plan.chains) subject.now.classes plan.limit asked.now found.patterns.items found.verdicts.items) }
 {
     let netlist = core.netlist();
     netlist.sound();
@@ -140,6 +145,7 @@ fn texts_of(
         scanned.netlist(),
         chains,
         subject,
+        asked,
         &found,
         plan.limit,
         holds,
@@ -181,7 +187,7 @@ pub fn make_files<R: Threads + Wait + Sync, E: Engine + Sync, G: Gate + Sync>(
     requires held { AreHoldsOf core.now holds.now }
     requires faults { length wanted.faults.items ≡ length (universe_of core.now) }
     requires first { All (IsPatternOf core.now holds.now) wanted.first.items }
-    requires few { length wanted.first.items < 2 ^ 30 }
+    requires few { length wanted.first.items < 2 ^ 27 }
     ensures { IfOk result (IsRun core.now (asked_by plan wanted holds.now E.refutes)) }
 {
     let netlist = core.netlist();
@@ -194,12 +200,12 @@ pub fn make_files<R: Threads + Wait + Sync, E: Engine + Sync, G: Gate + Sync>(
         alloc,
         core,
         &subject.classes,
+        &faults,
+        first,
         plan,
         engine,
         stage,
         holds,
-        &faults,
-        first,
     )?;
     let files = texts_of(alloc, core, plan, holds, &chains, &subject, &faults, found)?;
     written_is_run();

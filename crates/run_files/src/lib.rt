@@ -8,11 +8,14 @@
 #![tactic(auto)]
 
 mod asked;
+mod compacting;
 mod files;
+mod first;
 mod leaves;
 mod lines;
 mod reporting;
 mod searching;
+mod spreading;
 mod stitching;
 mod truth;
 
