@@ -4,8 +4,9 @@ use crate::literals::variable_of;
 use flat_netlist::{NONE, at, fill, number_of, put};
 use std::alloc::{AllocError, Global};
 
+/// The facts, with what each rests on.
 #[derive(Drop)]
-pub(crate) struct Facts {
+pub struct Facts {
     /// By fact, its signal with its bit, and where those that it rests on end.
     literals: Vec<u32>,
     ends: Vec<u32>,
@@ -32,17 +33,18 @@ impl Facts {
         fill(&mut self.numbers, count, NONE)
     }
 
-    pub(crate) fn count(&self) -> u32 {
+    /// How many there are.
+    pub fn count(&self) -> u32 {
         number_of(self.literals.len())
     }
 
     /// The literal of a fact, of a signal of the netlist.
-    pub(crate) fn literal(&self, fact: u32) -> u32 {
+    pub fn literal(&self, fact: u32) -> u32 {
         at(&self.literals, fact)
     }
 
     /// The fact of a signal.
-    pub(crate) fn of(&self, signal: u32) -> Option<u32> {
+    pub fn of(&self, signal: u32) -> Option<u32> {
         match self.numbers.get(signal as usize) {
             None => None,
             Some(number) => { if *number == NONE { None } else { Some(*number) } }
@@ -65,7 +67,7 @@ impl Facts {
     }
 
     /// Where what a fact rests on begins and ends.
-    pub(crate) fn range(&self, fact: u32) -> (u32, u32) {
+    pub fn range(&self, fact: u32) -> (u32, u32) {
         let start = if fact == 0 {
             0
         } else {
@@ -75,7 +77,7 @@ impl Facts {
     }
 
     /// One that another rests on.
-    pub(crate) fn rested(&self, place: u32) -> u32 {
+    pub fn rested(&self, place: u32) -> u32 {
         at(&self.rests, place)
     }
 }

@@ -5,7 +5,7 @@
 //! other bit than it is stuck at, and what each way to an observed signal goes through differs.
 ghost use Rattle.netlist.specs.Holds.{AreHoldsOf};
 
-use crate::facts::Facts;
+use crate::known_facts::Facts;
 use crate::literals::{bit_of, literal, variable_of};
 use crate::reaches::Reach;
 use crate::sets::{
@@ -43,7 +43,7 @@ struct Acting {
 
 /// What came of the look.
 #[derive(Clone, Copy)]
-pub(crate) enum Seen {
+pub enum Seen {
     /// No way is open.
     NoWay,
     /// Gates leave nothing.
@@ -51,8 +51,9 @@ pub(crate) enum Seen {
     Open,
 }
 
+/// Room for first looks, one after the other.
 #[derive(Drop)]
-pub(crate) struct FirstLook {
+pub struct FirstLook {
     alloc: Global,
     tables: Tables,
     pub reach: Reach,
@@ -97,7 +98,8 @@ fn held_bit(core: &Core, holds: &Holds, signal: u32) -> u8
 }
 
 impl FirstLook {
-    pub(crate) fn new(alloc: Global) -> FirstLook {
+    /// Nothing is known.
+    pub fn new(alloc: Global) -> FirstLook {
         FirstLook {
             alloc,
             tables: Tables::new(alloc),
@@ -124,7 +126,7 @@ impl FirstLook {
     }
 
     /// What was learned of faults before is forgotten.
-    pub(crate) fn forget(&mut self) {
+    pub fn forget(&mut self) {
         self.known.clear();
     }
 
@@ -511,7 +513,7 @@ impl FirstLook {
     }
 
     /// The look at a fault.
-    pub(crate) fn look(
+    pub fn look(
         &mut self,
         core: &Core,
         whole: &Whole,
@@ -598,7 +600,7 @@ impl FirstLook {
     }
 
     /// Whether a signal has this bit under each pattern that obeys the held inputs, as gates tell by themselves. It is a fact then.
-    pub(crate) fn learn(&mut self, whole: &Whole, signal: u32, bit: u8) -> Result<(), AllocError> {
+    pub fn learn(&mut self, whole: &Whole, signal: u32, bit: u8) -> Result<(), AllocError> {
         if self.facts.of(signal).is_some() || byte_at(&self.known, signal) != ANY {
             return Ok(());
         }
@@ -663,7 +665,7 @@ impl FirstLook {
     }
 
     /// Adds the signals that have to differ so that gates leave nothing, and the facts that this rests on.
-    pub(crate) fn passed(
+    pub fn passed(
         &mut self,
         whole: &Whole,
         found: &mut Vec<SignalId>,

@@ -14,8 +14,9 @@ const WITHIN: u8 = 2;
 /// It takes part, and has its value from outside.
 const SOURCE: u8 = 4;
 
+/// The signals that take part, with their gates.
 #[derive(Drop)]
-pub(crate) struct Cone {
+pub struct Cone {
     /// By signal of the netlist.
     marks: Vec<u8>,
     numbers: Vec<u32>,
@@ -40,7 +41,8 @@ pub(crate) struct Cone {
 }
 
 impl Cone {
-    pub(crate) fn new(alloc: Global) -> Cone {
+    /// Of no fault yet.
+    pub fn new(alloc: Global) -> Cone {
         Cone {
             marks: Vec::new(alloc),
             numbers: Vec::new(alloc),
@@ -62,68 +64,72 @@ impl Cone {
 
     /// How many signals take part.
     #[inline(always)]
-    pub(crate) fn count(&self) -> u32 {
+    pub fn count(&self) -> u32 {
         number_of(self.signals.len())
     }
 
     /// How many of them the fault reaches: these have the first numbers.
     #[inline(always)]
-    pub(crate) fn reached(&self) -> u32 {
+    pub fn reached(&self) -> u32 {
         self.reached
     }
 
     /// From here on come the sources that the fault doesn't reach.
     #[inline(always)]
-    pub(crate) fn inner(&self) -> u32 {
+    pub fn inner(&self) -> u32 {
         self.inner
     }
 
     /// The signal of the netlist.
-    pub(crate) fn signal(&self, number: u32) -> SignalId {
+    pub fn signal(&self, number: u32) -> SignalId {
         SignalId(at(&self.signals, number))
     }
 
     /// The number of a signal that takes part.
-    pub(crate) fn number(&self, signal: SignalId) -> Option<u32> {
+    pub fn number(&self, signal: SignalId) -> Option<u32> {
         match self.numbers.get(signal.index()) {
             None => None,
             Some(number) => { if *number == NONE { None } else { Some(*number) } }
         }
     }
 
+    /// What a gate computes.
     #[inline(always)]
-    pub(crate) fn shape(&self, number: u32) -> Shape {
+    pub fn shape(&self, number: u32) -> Shape {
         self.part.shape(number)
     }
 
     /// Where the pins of a gate begin and end.
     #[inline(always)]
-    pub(crate) fn pins_of(&self, number: u32) -> (u32, u32) {
+    pub fn pins_of(&self, number: u32) -> (u32, u32) {
         self.part.pins_of(number)
     }
 
+    /// The signal at a slot of the pins.
     #[inline(always)]
-    pub(crate) fn pin(&self, slot: u32) -> u32 {
+    pub fn pin(&self, slot: u32) -> u32 {
         self.part.pin(slot)
     }
 
     /// Where the gates that read a signal begin and end.
     #[inline(always)]
-    pub(crate) fn readers_of(&self, number: u32) -> (u32, u32) {
+    pub fn readers_of(&self, number: u32) -> (u32, u32) {
         self.part.readers_of(number)
     }
 
+    /// The gate at a slot of the readers.
     #[inline(always)]
-    pub(crate) fn reader(&self, slot: u32) -> u32 {
+    pub fn reader(&self, slot: u32) -> u32 {
         self.part.reader(slot)
     }
 
-    /// The observed signals that the fault reaches.
-    pub(crate) fn point_count(&self) -> u32 {
+    /// How many observed signals the fault reaches.
+    pub fn point_count(&self) -> u32 {
         number_of(self.observed.len())
     }
 
-    pub(crate) fn point(&self, k: u32) -> u32 {
+    /// One of them.
+    pub fn point(&self, k: u32) -> u32 {
         at(&self.numbers, at(&self.observed, k))
     }
 
@@ -310,7 +316,7 @@ impl Cone {
     }
 
     /// The part of the netlist for a fault, which reaches these signals.
-    pub(crate) fn begin(
+    pub fn begin(
         &mut self,
         core: &Core,
         whole: &Whole,
