@@ -588,7 +588,7 @@ def settled_words(netlist, rest):
 def on_fault_list(verb, name, text, rest, given):
     """What calls of a list of fault classes answer."""
     numbers, _, calls = rest.partition(": ")
-    limit = numbers.split(" ")[-1]
+    limit, *chosen = numbers.split(" ")[verb == "shares":]
     if verb == "searches":
         return searched_all(name, text, limit, given)
     netlist = Netlist(text)
@@ -600,12 +600,15 @@ def on_fault_list(verb, name, text, rest, given):
     def refutes(fault, steps):
         return plain_refutation.cause_of(design, f"{fault} R{steps}", []) is None
 
-    faults = list_play.List(first_members(text), int(limit), last, merged, refutes)
+    members = first_members(text)
+    chosen = [int(number) for number in chosen] or range(len(members))
+    faults = list_play.List([members[number] for number in chosen], int(limit), last, merged, refutes)
     if verb == "list":
         return list(list_play.on_list(faults, calls))
     if verb == "compacted":
         return list(list_play.on_compacted(faults, calls))
-    return list(list_play.on_shares(faults, FOUND.get((name, limit), {}), calls))
+    found = FOUND.get((name, limit), {})
+    return list(list_play.on_shares(faults, {place: found.get(number) for place, number in enumerate(chosen)}, calls))
 
 
 def check_calls(crate):
