@@ -1,26 +1,24 @@
 -- A file of patterns applies these.
-use Rattle.std.proofs.Common.{◌≡◌, ◌∙◌, ◌+◌, ◌-◌, ◌<◌, ◌≤◌, ℕ, zero, suc, min, Bool, true, false, not, List, [], ◌∷◌, ◌++◌, ap, sym, refl, subst, append_assoc, append-nil, length, map, take, drop, get_or, arith, codes, length-append, replicate, reverse}
+use Rattle.std.proofs.Common.{◌≡◌, ◌∙◌, ◌-◌, ℕ, zero, suc, min, Bool, true, false, not, List, [], ◌∷◌, ◌++◌, ap, sym, refl, append-nil, length, map, take, drop, arith, length-append, replicate, reverse}
 use Rattle.std.specs.Prelude.{None}
 use Rattle.std.specs.List.{All, AllZip, filter, flat_map, zip}
-use Rattle.std.proofs.lemmas.List.{length-map, length-replicate, length-reverse, length-take, length-drop, take_at, take-append-drop, reverse-append, reverse-reverse, nil_from_length}
+use Rattle.std.proofs.lemmas.List.{length-map, length-take, length-drop, take_at, take-append-drop, reverse-append, reverse-reverse, nil_from_length}
 use Rattle.std.proofs.lemmas.List.Elements.{All-head, All-tail}
-use Rattle.statement.specs.Benches.{Text}
 use Rattle.statement.specs.declared.kinds.Tri.{Tri}
 use Rattle.statement.specs.declared.kinds.Tri.TheVariants.{X}
 use Rattle.statement.specs.Netlists.{Definition, Netlist, cells, name_of}
 use Rattle.statement.specs.Patterns.{Holds, Pattern}
 use Rattle.statement.specs.Values.{known}
 use Rattle.cubes.specs.Cubes.{IsPatternOf}
-use Rattle.statement.specs.Tests.{cells_of, longest_of, by_chain, word_in, word_out, Response, Responds, driven_bit, flush, applied_items, capture_item, char_of_bit, file_with, load_items, test_items, IsFileOf}
+use Rattle.statement.specs.Tests.{cells_of, longest_of, by_chain, word_in, word_out, Response, Responds, driven_bit, flush, applied_items, capture_item, char_of_bit, test_items, IsFileOf}
 use Rattle.scan_insert.specs.Chains.{lengths_of, pieces}
 use Rattle.scan_insert.specs.Scanned.{AreChainsOf, cell_ids}
 use Rattle.scan_insert.proofs.Dealing.{stitched_count}
 use Rattle.scan_play.proofs.Widths.{cells_count}
 use Rattle.statement.specs.Stils.{Call, Item, StilFile, Vector, where_chained}
-use Rattle.stil_write.specs.StilFiles.{words_of}
 use Rattle.stil_vectors.specs.FileVectors.{bits_of}
-use Rattle.stil_vectors.specs.TestFiles.{load_words, test_file, text_of_bits, text_of_values}
-use Rattle.stil_patterns.specs.Applied.{applied_in, cells_in, chain_in, inputs_in, is_pattern, pattern_in, test_in, tests_in}
+use Rattle.stil_vectors.specs.TestFiles.{load_words, text_of_bits, text_of_values}
+use Rattle.stil_patterns.specs.Applied.{applied_in, cells_in, chain_in, inputs_in, is_pattern, test_in, tests_in}
 use Rattle.stil_patterns.specs.Laws.{TakenBack}
 use Rattle.stil_patterns.proofs.PickLemmas.{all_picked}
 

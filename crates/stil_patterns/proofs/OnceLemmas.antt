@@ -1,12 +1,12 @@
 -- One file for patterns, and one list of patterns for a file.
-use Rattle.std.proofs.Common.{◌≡◌, ◌∙◌, ℕ, suc, Bool, List, [], ◌∷◌, ◌++◌, ap, sym, refl, subst, length, map, arith, None}
+use Rattle.std.proofs.Common.{◌≡◌, ◌∙◌, ℕ, suc, Bool, List, [], ◌∷◌, ◌++◌, ap, sym, refl, subst, arith, None}
 use Rattle.std.specs.List.{All, AllZip, Contains, flat_map, zip}
 use Rattle.std.proofs.lemmas.List.Elements.{All-contains}
 use Rattle.statement.specs.declared.lines.Line.TheVariants.{Out}
 use Rattle.statement.specs.Netlists.{Definition, Netlist, cells, is_cell, signals}
 use Rattle.netlist.specs.Conditions.{IsSound}
 use Rattle.statement.specs.Patterns.{Holds, Pattern}
-use Rattle.statement.specs.Values.{Rule, Settles, bits, next, on_pins, outs, pins_of}
+use Rattle.statement.specs.Values.{bits, on_pins, pins_of}
 use Rattle.netlist.proofs.Alike.{settles_once}
 use Rattle.std.specs.Bool.{beq}
 use Rattle.netlist.proofs.Lists.{contains_filter, decides_beq}

@@ -1,7 +1,6 @@
 -- The test of patterns says exactly which obey.
 use Rattle.std.proofs.Common.{◌≡◌, ◌∙◌, ◌&&◌, ◌==◌, ℕ, zero, suc, Bool, true, false, cond, List, [], ◌∷◌, ◌++◌, Some, None, ap, sym, refl, append-nil, arith, length, eq-eqb, slice_get}
-use Rattle.std.specs.Prelude.{◌↔◌, Option}
-use Rattle.std.specs.Bool.{beq}
+use Rattle.std.specs.Prelude.{Option}
 use Rattle.std.specs.List.{All, filter, list_all, zip}
 use Rattle.std.proofs.lemmas.Bool.{and_from, and_parts, eqb-true}
 use Rattle.std.proofs.lemmas.List.Elements.{All-head, All-tail, All-weaker, filter_passes}

@@ -1,5 +1,5 @@
 -- Patterns as they are read, word by word.
-use Rattle.std.proofs.Common.{◌≡◌, ◌∙◌, ◌+◌, ◌-◌, ◌*◌, ◌<◌, ◌≤◌, ◌==◌, ℕ, zero, suc, min, Bool, true, false, List, [], ◌∷◌, ◌++◌, ap, sym, refl, subst, append_assoc, append-nil, length, map, take, drop, get_or, arith, reverse, Some, slice_get}
+use Rattle.std.proofs.Common.{◌≡◌, ◌∙◌, ◌+◌, ◌-◌, ◌<◌, ◌≤◌, ◌==◌, ℕ, zero, suc, min, Bool, false, List, [], ◌∷◌, ◌++◌, ap, sym, refl, append_assoc, append-nil, length, take, drop, get_or, arith, reverse, Some, slice_get}
 use Rattle.std.specs.List.{filter, flat_map, zip}
 use Rattle.std.proofs.lemmas.List.{get_or-drop, get_or-map, get_or-reverse, length-map, length-reverse, take_all, take_min, take_more}
 use Rattle.std.proofs.lemmas.List.Concat.{flat_map-append}

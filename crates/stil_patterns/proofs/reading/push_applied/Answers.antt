@@ -1,4 +1,4 @@
-use Rattle.std.proofs.Common.{◌≡◌, ◌∷◌, [], ap, length}
+use Rattle.std.proofs.Common.{ap, length}
 use Rattle.stil_write.specs.StilFiles.{item_at}
 use Rattle.stil_patterns.specs.Applied.{test_in}
 use Rattle.stil_patterns.specs.inner.Reading.{item_before}
