@@ -2,7 +2,6 @@
 ghost use Rattle.std.specs.Prelude.{IfOk};
 ghost use Rattle.std.specs.List.{All};
 ghost use Rattle.statement.specs.declared.lines.Fault.{Fault as FaultOf};
-ghost use Rattle.statement.specs.Netlists.{Netlist};
 ghost use Rattle.netlist.specs.Designs.{IsDesign};
 ghost use Rattle.netlist.specs.Lines.{IsLineOf};
 
@@ -12,7 +11,7 @@ use crate::sharing::play_shares;
 use case_nets::{classes_of, have_lines};
 use case_text::{cut, cut_at, small};
 use fault_collapse::Classes;
-use netlist::{Core, Fault, Holds};
+use netlist::{Core, Fault, Holds, Netlist};
 use std::alloc::{AllocError, Global};
 use std::marker::Brand;
 use std::sync::Wait;
@@ -37,8 +36,14 @@ fn numbers_of(text: &str, on: On) -> (&str, &str) {
 }
 
 /// The first members of the classes of these numbers; of all classes where there are no numbers.
-fn chosen(alloc: Global, classes: &Classes, numbers: &str) -> Result<Vec<Fault>, AllocError>
-    ensures { IfOk result (λ v. (n : Netlist) → All (λ (f : FaultOf). IsLineOf n f.line) classes.now.representatives → All (λ (f : FaultOf). IsLineOf n f.line) v.items) }
+fn chosen(
+    alloc: Global,
+    netlist: &Netlist,
+    classes: &Classes,
+    numbers: &str,
+) -> Result<Vec<Fault>, AllocError>
+    requires { All (λ (f : FaultOf). IsLineOf netlist.now f.line) classes.now.representatives }
+    ensures { IfOk result (λ v. All (λ (f : FaultOf). IsLineOf netlist.now f.line) v.items) }
 {
     if numbers.is_empty() {
         return Vec::from_slice(alloc, classes.representatives());
@@ -79,7 +84,7 @@ pub fn push_played<R: Wait>(
         return Err(AllocError);
     };
     have_lines(core.netlist(), &classes);
-    let faults = chosen(alloc, &classes, numbers)?;
+    let faults = chosen(alloc, core.netlist(), &classes, numbers)?;
     if faults.len() > 1_000_000 {
         return to.extend_from_slice(b"more than 1000000 classes\n");
     }
