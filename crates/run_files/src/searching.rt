@@ -66,7 +66,7 @@ fn search_named<J: About + Send + Sync, E: Engine + Sync, G: Gate + Sync, R: Thr
     requires kinds { E.refutes ≡ J.subject.refutes }
     requires workers { (0 < plan.workers) × (plan.workers ≤ most_workers) }
     ensures known { IfOk result (λ r. AreKnown core.now holds.now plan.limit E.refutes faults.now r.0.items r.1.items) }
-    ensures done { IfOk result (λ r. IsDone (option_copied goal) r.1.items) }
+    ensures done { IfOk result (λ r. IsDone (option_copied goal.entry) r.1.items) }
     ensures few { IfOk result (λ r. length r.0.items ≤ length faults.now + length faults.now) }
 {
     stage.at(
@@ -110,7 +110,7 @@ fn search_faults<E: Engine + Sync, G: Gate + Sync, R: Threads + Wait + Sync>(
     requires lines { All (λ (f : FaultOf). IsLineOf core.now f.line) faults.now }
     requires workers { (0 < plan.workers) × (plan.workers ≤ most_workers) }
     ensures known { IfOk result (λ r. AreKnown core.now holds.now plan.limit E.refutes faults.now r.0.items r.1.items) }
-    ensures done { IfOk result (λ r. IsDone (option_copied goal) r.1.items) }
+    ensures done { IfOk result (λ r. IsDone (option_copied goal.entry) r.1.items) }
     ensures few { IfOk result (λ r. length r.0.items ≤ length faults.now + length faults.now) }
 {
     search_named::<Brand, E, G, R>(
