@@ -278,6 +278,9 @@ def on_netlist(verb, text, rest):
     if verb in ("drawn-hits", "drawn-last"):
         seed, count = rest.split(" ")
         return [str(checksum(drawn(netlist, text, int(seed), int(count))))]
+    if verb == "drawn-stil":
+        asked, seed, count = (int(word) for word in rest.split(" "))
+        return [str(checksum("".join(line + "\n" for line in drawn_file(netlist, asked, seed, count))))]
     if verb == "events":
         return [f"{rest.split(' ')[1]} changes, all as from scratch"]
     if verb == "tree":
@@ -383,6 +386,13 @@ class Packed:
         return f"pattern {last} {where[0]}"
 
 
+def drawn_file(netlist, asked, seed, count):
+    """The file of so many patterns drawn by PCG, and of which it is read as the file: a word's lowest bit for each input, then each cell."""
+    words, width = Pcg32(seed, 54), len(netlist.inputs)
+    rows = [digits([words.next_u32() & 1 for _ in netlist.inputs + netlist.cells]) for _ in range(count)]
+    return stil_answer(netlist, "stil", f"{asked} -", " ".join(f"{row[:width]}/{row[width:]}" for row in rows))
+
+
 def drawn(netlist, text, seed, count):
     """What so many patterns drawn by PCG say of all faults, a line for each: a word's lowest bit for each input, then each cell."""
     words = Pcg32(seed, 54)
@@ -473,6 +483,8 @@ def wanted_of(texts, verb, rest, given):
         return certificate(verb, texts[name], texts[more])
     if verb == "first-wrong":
         return first_wrong(texts, name, *more.split(" ", 1))
+    if verb == "applied":
+        return applied(texts, name, *more.split(" "))
     if verb == "labels":
         return labelled(Netlist(texts[name]), more, given)
     if verb == "words":
@@ -493,6 +505,14 @@ def first_wrong(texts, net, stil, fault):
         return ["does not fit"]
     place = plain_chains.first_wrong(scanned, cycles, (line, int(bit)))
     return [f"fails {place[0]} {place[1]}" if place else "untold"]
+
+
+def applied(texts, net, stil, asked, held):
+    """The patterns of the netlist that a file applies."""
+    if not is_stil(texts[stil].encode("latin-1")):
+        return ["not stil"]
+    held = {} if held == "-" else dict([held.split("=")])
+    return [" ".join(["patterns", *stil_file.applied(texts[stil], Netlist(texts[net]), int(asked), held)])]
 
 
 def first_members(text):
@@ -568,7 +588,7 @@ def settled_words(netlist, rest):
 def on_fault_list(verb, name, text, rest, given):
     """What calls of a list of fault classes answer."""
     numbers, _, calls = rest.partition(": ")
-    limit = numbers.split(" ")[-1]
+    limit, *chosen = numbers.split(" ")[verb == "shares":]
     if verb == "searches":
         return searched_all(name, text, limit, given)
     netlist = Netlist(text)
@@ -580,12 +600,15 @@ def on_fault_list(verb, name, text, rest, given):
     def refutes(fault, steps):
         return plain_refutation.cause_of(design, f"{fault} R{steps}", []) is None
 
-    faults = list_play.List(first_members(text), int(limit), last, merged, refutes)
+    members = first_members(text)
+    chosen = [int(number) for number in chosen] or range(len(members))
+    faults = list_play.List([members[number] for number in chosen], int(limit), last, merged, refutes)
     if verb == "list":
         return list(list_play.on_list(faults, calls))
     if verb == "compacted":
         return list(list_play.on_compacted(faults, calls))
-    return list(list_play.on_shares(faults, FOUND.get((name, limit), {}), calls))
+    found = FOUND.get((name, limit), {})
+    return list(list_play.on_shares(faults, {place: found.get(number) for place, number in enumerate(chosen)}, calls))
 
 
 def check_calls(crate):

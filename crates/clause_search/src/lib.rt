@@ -11,23 +11,13 @@
 
 mod analysing;
 mod causes;
-mod clauses;
-mod cones;
 mod engine;
-mod facts;
-mod first_looks;
 mod frontiers;
 mod habits;
-mod implying;
 mod lemmas;
-mod literals;
 mod meetings;
 mod queues;
-mod reaches;
 mod searching;
-mod sets;
-mod spreading;
-mod trails;
 mod ways;
 mod writing;
 

@@ -10,6 +10,7 @@ use netlist::{Core, Fault, Holds, Point, SignalId};
 use std::alloc::{AllocError, Global};
 
 /// Faults, and the pattern and point at which each is told, if at all.
+#[derive(Drop)]
 pub(crate) struct Told<'a> {
     pub faults: &'a [Fault],
     pub last: &'a [Option<(u32, Point)>],
@@ -63,13 +64,24 @@ fn put_needed(rows: &mut Rows, row: u32, tracing: &Tracing, signals: &[SignalId]
     }
 }
 
+/// The bit at which an input is held.
+fn held(core: &Core, holds: &Holds, input: u32) -> Option<bool>
+    requires { AreHoldsOf core.now holds.now }
+{
+    if (input as usize) < core.netlist().inputs().len() {
+        holds.held(input)
+    } else {
+        None
+    }
+}
+
 /// Sets the bits at which inputs are held.
 fn put_held(rows: &mut Rows, row: u32, core: &Core, holds: &Holds)
     requires { AreHoldsOf core.now holds.now }
 {
-    for input in 0..core.netlist().inputs().len() {
-        if let Some(bit) = holds.held(input as u32) {
-            rows.put(row, input as u32, bit);
+    for input in 0..number_of(core.netlist().inputs().len()) {
+        if let Some(bit) = held(core, holds, input) {
+            rows.put(row, input, bit);
         }
     }
 }

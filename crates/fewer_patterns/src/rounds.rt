@@ -1,8 +1,9 @@
 //! Rounds of relaxing and merging, each verified.
-ghost use Rattle.std.specs.Prelude.{◌≡◌, ◌+◌, ◌<◌, ◌≤◌, ◌^◌, true, List, None, IfOk, IfSome, length};
+ghost use Rattle.std.specs.Prelude.{◌≡◌, ◌+◌, ◌<◌, ◌≤◌, ◌^◌, true, List, ℕ, None, IfOk, IfSome, length, slice_index_or};
 ghost use Rattle.std.specs.List.{All, AllZip};
 ghost use Rattle.statement.specs.declared.lines.Fault.{Fault as FaultOf};
-ghost use Rattle.statement.specs.Patterns.{Pattern as Bits};
+ghost use Rattle.statement.specs.Netlists.{Netlist as Equations};
+ghost use Rattle.statement.specs.Patterns.{Holds as Held, Pattern as Bits};
 ghost use Rattle.netlist.specs.Holds.{AreHoldsOf};
 ghost use Rattle.netlist.specs.Lines.{IsLineOf};
 ghost use Rattle.cubes.specs.Cubes.{IsPatternOf};
@@ -133,9 +134,11 @@ fn is_told_again(one: &Option<(u32, Point)>, again: &Option<(u32, Point)>) -> bo
 
 /// Whether each fault that was told is told again.
 fn are_told_again(first: &[Option<(u32, Point)>], again: &[Option<(u32, Point)>]) -> bool
-    requires { length first.now ≡ length again.now }
-    ensures { result ≡ true → AllZip (λ one two. is_told_again one two ≡ true) first.now again.now }
+    ensures { result ≡ true → (k : ℕ) → k < length first.now → is_told_again (slice_index_or first.now k None) (slice_index_or again.now k None) ≡ true }
 {
+    if again.len() < first.len() {
+        return false;
+    }
     for k in 0..first.len() {
         if !is_told_again(&first[k], &again[k]) {
             return false;
@@ -159,9 +162,8 @@ fn verified<R: Threads + Sync>(
     requires lines { All (λ (f : FaultOf). IsLineOf core.now f.line) told.now.faults.now }
     requires few { most + 64 ≤ 2 ^ 32 }
     requires workers { 0 < workers }
-    requires size { length told.now.last.now ≡ length told.now.faults.now }
-    ensures { IfOk result (λ found. IfSome found (λ _. (old : List Bits) → AllZip (LastDetected core.now old) told.now.faults.now told.now.last.now → length old ≡ most
-        → IsNoWorse core.now holds.now told.now.faults.now old tried.now)) }
+    ensures { (old : List Bits) → AllZip (LastDetected core.now old) told.now.faults.now told.now.last.now → length old ≡ most
+        → IfOk result (λ found. IfSome found (λ _. IsNoWorse core.now holds.now told.now.faults.now old tried.now)) }
 {
     if tried.len() > most || !are_patterns(core.netlist(), holds, tried) {
         return Ok(None);
@@ -181,9 +183,24 @@ struct Course {
     other: Option<Vec<Pattern>>,
 }
 
+impl Course {
+    /// Those from which the next round goes on.
+    fn from(&self) -> &[Pattern]
+        ensures { (n : Equations) (holds : Held) (faults : List FaultOf) (old : List Bits) → IsNoWorse n holds faults old self.now.best.items
+            → IfSome self.now.other (λ v. IsNoWorse n holds faults old v.items) → IsNoWorse n holds faults old result.now }
+    {
+        match &self.other {
+            Some(other) => other.as_slice(),
+            None => self.best.as_slice(),
+        }
+    }
+}
+
 /// After a round that tried these: they are the best where fewer are needed, and were found to be no worse.
 fn after(course: Course, tried: Vec<Pattern>, found: Option<u32>) -> Course
-    ensures { (P : List Bits → Type 0) → P course.best.items → IfSome found (λ _. P tried.items) → P result.best.items × IfSome result.other (λ v. P v.items) }
+    ensures { (n : Equations) (holds : Held) (faults : List FaultOf) (old : List Bits) → IsNoWorse n holds faults old course.best.items
+        → IfSome found (λ _. IsNoWorse n holds faults old tried.items)
+        → IsNoWorse n holds faults old result.best.items × IfSome result.other (λ v. IsNoWorse n holds faults old v.items) }
 {
     let Course { best, needed, .. } = course;
     match found {
@@ -263,9 +280,8 @@ fn round_from<R: Threads + Sync, N: Rng>(
     requires few { most + 64 ≤ 2 ^ 32 }
     requires from { length from.now ≤ most }
     requires workers { 0 < workers }
-    requires size { length told.now.last.now ≡ length told.now.faults.now }
-    ensures { IfOk result (λ r. IfSome r (λ p. IfSome p.1 (λ _. (old : List Bits) → AllZip (LastDetected core.now old) told.now.faults.now told.now.last.now → length old ≡ most
-        → IsNoWorse core.now holds.now told.now.faults.now old p.0.items))) }
+    ensures { (old : List Bits) → AllZip (LastDetected core.now old) told.now.faults.now told.now.last.now → length old ≡ most
+        → IfOk result (λ r. IfSome r (λ p. IfSome p.1 (λ _. IsNoWorse core.now holds.now told.now.faults.now old p.0.items))) }
 {
     let tried = tried_in(
         rt,
@@ -310,10 +326,6 @@ fn improved<R: Threads + Sync>(
     let mut rng = Lcg64Xsh32::new(rounds.seed, STREAM);
     let mut course = first;
     for round in 0..rounds.count {
-        let from = match &course.other {
-            Some(other) => other,
-            None => &course.best,
-        };
         let made = round_from(
             rt,
             alloc,
@@ -321,7 +333,7 @@ fn improved<R: Threads + Sync>(
             holds,
             told,
             &mut tracing,
-            from,
+            course.from(),
             most,
             round,
             rounds.workers,

@@ -2,7 +2,7 @@
 //!
 //! At a gate whose bit a pin decides, one such pin is followed, that which is followed anyway or else the one that costs least; at others all are. It
 //! is traced in the good netlist and in the faulty one, and what stands with these bits at inputs and cells is needed.
-use crate::worlds::{NOWHERE, Site, Worlds};
+use crate::worlds::{NOWHERE, Site, Worlds, site_of};
 use cubes::Pattern;
 use flat_netlist::{NONE, Shape, byte_at, driver, fill_bytes, put_byte};
 use netlist::{Core, Fault, Point};
@@ -176,7 +176,7 @@ impl Tracing {
         fault: Fault,
         point: Point,
     ) -> Result<(), AllocError> {
-        let site = self.worlds.site_of(core, fault);
+        let site = site_of(&self.worlds.whole, core, fault.line, fault.value as u8);
         if site.stem == NONE && site.gate == NONE {
             self.follow(site.driver, GOOD)?;
         } else {

@@ -1,7 +1,7 @@
 //! The settled bits of a pattern, without a fault and with it.
 use cubes::Pattern;
 use flat_netlist::{Graph, NONE, Shape, Waiting, Whole, byte_at, driver, fill_bytes, put_byte};
-use netlist::{Core, Fault, Line, SignalId};
+use netlist::{Core, Line, SignalId};
 use std::alloc::{AllocError, Global};
 
 /// Where a line is stuck, and at which bit.
@@ -186,40 +186,51 @@ impl Worlds {
         }
         self.changed.clear();
     }
+}
 
-    /// Where the fault is.
-    pub(crate) fn site_of(&self, core: &Core, fault: Fault) -> Site {
-        let bit = fault.value as u8;
-        match fault.line {
-            Line::Stem(x) => Site {
-                stem: x.0,
-                driver: x.0,
-                bit,
-                ..NOWHERE
-            },
-            Line::Out(y) => Site {
-                driver: y.0,
-                bit,
-                ..NOWHERE
-            },
-            Line::Pin(z, k) => {
-                let from = driver(core, z, k).0;
-                if self.whole.place(z.0) == 0 {
-                    return Site {
-                        driver: from,
-                        bit,
-                        ..NOWHERE
-                    };
-                }
-                let (start, _) = self.whole.graph.pins_of(z.0);
-                Site {
-                    stem: NONE,
-                    gate: z.0,
-                    slot: start.wrapping_add(k),
-                    driver: from,
-                    bit,
-                }
-            }
-        }
+/// Where a stem is stuck.
+fn at_stem(signal: u32, bit: u8) -> Site {
+    Site {
+        stem: signal,
+        gate: NONE,
+        slot: NONE,
+        driver: signal,
+        bit,
+    }
+}
+
+/// Where a line that is a point is stuck: an output, or a cell's pin.
+fn at_point(driver: u32, bit: u8) -> Site {
+    Site {
+        stem: NONE,
+        gate: NONE,
+        slot: NONE,
+        driver,
+        bit,
+    }
+}
+
+/// Where a pin of a gate or a cell is stuck.
+fn at_pin(whole: &Whole, core: &Core, z: SignalId, k: u32, bit: u8) -> Site {
+    let from = driver(core, z, k).0;
+    if whole.place(z.0) == 0 {
+        return at_point(from, bit);
+    }
+    let (start, _) = whole.graph.pins_of(z.0);
+    Site {
+        stem: NONE,
+        gate: z.0,
+        slot: start.wrapping_add(k),
+        driver: from,
+        bit,
+    }
+}
+
+/// Where the line is stuck at a bit.
+pub(crate) fn site_of(whole: &Whole, core: &Core, line: Line, bit: u8) -> Site {
+    match line {
+        Line::Stem(x) => at_stem(x.0, bit),
+        Line::Out(y) => at_point(y.0, bit),
+        Line::Pin(z, k) => at_pin(whole, core, z, k, bit),
     }
 }

@@ -12,6 +12,7 @@ pub struct Waiting {
 }
 
 impl Waiting {
+    /// Of no places.
     pub fn new(alloc: Global) -> Waiting {
         Waiting {
             words: Vec::new(alloc),

@@ -6,6 +6,7 @@ use decisions::{Measures, gate_of, signal_count};
 use netlist::{Core, SignalId};
 use std::alloc::{AllocError, Global};
 
+/// A netlist with its order.
 #[derive(Drop)]
 pub struct Whole {
     pub graph: Graph,
@@ -21,6 +22,7 @@ pub struct Whole {
 }
 
 impl Whole {
+    /// Of no netlist yet.
     pub fn new(alloc: Global) -> Whole {
         Whole {
             graph: Graph::new(alloc),
@@ -33,6 +35,7 @@ impl Whole {
         }
     }
 
+    /// How many signals there are.
     #[inline(always)]
     pub fn count(&self) -> u32 {
         self.graph.count()
@@ -43,14 +46,17 @@ impl Whole {
         number_of(self.order.len())
     }
 
+    /// The gate at a place.
     pub fn gate_at(&self, place: u32) -> u32 {
         at(&self.order, place)
     }
 
+    /// The place of a gate; 0 for an input or a cell.
     pub fn place(&self, signal: u32) -> u32 {
         at(&self.places, signal)
     }
 
+    /// Whether an output or a cell reads a signal.
     pub fn is_observed(&self, signal: u32) -> bool {
         byte_at(&self.seen, signal) != 0
     }

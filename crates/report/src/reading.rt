@@ -14,7 +14,7 @@ use crate::fault_lines::FaultLines;
 use crate::hold_lines::HoldLines;
 use crate::lines::{count, fault, hold, share};
 use crate::reports::Report;
-use crate::versions::{Version, version};
+use crate::versions::{Version, version_in};
 use std::alloc::{AllocError, Global};
 
 #[derive(Clone, Copy, PartialEq, Eq)]
@@ -116,7 +116,7 @@ fn tables(
 fn report(alloc: Global, bytes: &[u8]) -> Result<Option<Report>, AllocError>
     ensures { IfOk result (λ o. MatchOption o ((r : Kept) → IsReport r → bytes.now ≢ report_text r) (λ r. IsReport r × (bytes.now ≡ report_text r))) }
 {
-    let Some((version, behind_head)) = version(bytes) else {
+    let Some((version, behind_head)) = version_in(bytes) else {
         return Ok(None);
     };
     let Some((counts, behind_counts)) = counts(version, behind_head) else {

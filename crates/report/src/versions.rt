@@ -59,7 +59,7 @@ pub(crate) fn version_of(unasked: u64, holds: &HoldLines) -> Version
 }
 
 /// The version that the first line tells, and what stands behind that line.
-pub(crate) fn version(text: &[u8]) -> Option<(Version, &[u8])>
+pub(crate) fn version_in(text: &[u8]) -> Option<(Version, &[u8])>
     ensures { MatchOption result ((version : Kept) (rest : List ℕ) → text.now ≢ version_line version ++ rest) (λ p. text.now ≡ version_line p.0 ++ p.1.now) }
 {
     if let Some(rest) = behind(Version::First.line(), text) {

@@ -60,9 +60,9 @@ pub fn left_of(
 {
     let marks = marks_of(alloc, classes, lines)?;
     let mut left = Vec::new(alloc);
-    for (class, marked) in marks.iter().enumerate() {
-        if *marked {
-            left.push(classes.representatives()[class])?;
+    for class in 0..classes.count() {
+        if marks[class as usize] {
+            left.push(classes.representative(class))?;
         }
     }
     Ok(left)

@@ -1,5 +1,5 @@
 //! The patterns that a file applies.
-ghost use Rattle.std.specs.Prelude.{◌≡◌, ◌<◌, ◌++◌, ℕ, cond, [], length, slice_index_or, take, IfOk, OnOk};
+ghost use Rattle.std.specs.Prelude.{◌≡◌, ◌<◌, ◌∷◌, ◌++◌, ℕ, cond, [], length, slice_index_or, take, IfOk, OnOk};
 ghost use Rattle.std.specs.List.{All, filter};
 ghost use Rattle.netlist.specs.Holds.{AreHoldsOf};
 ghost use Rattle.cubes.specs.Cubes.{IsPatternOf};
@@ -69,8 +69,9 @@ fn cells_in(
 fn inputs_in(alloc: Global, count: usize, word: &[u8]) -> Result<Vec<bool>, AllocError>
     ensures { IfOk result (λ inputs. inputs.items ≡ inputs_in count word.now) }
 {
+    let once = count.min(1);
     let mut inputs = Vec::new(alloc);
-    for k in 0..word.len().saturating_sub(count.min(1)) {
+    for k in 0..word.len().saturating_sub(once) {
         inputs.push(word[k] == b'1')?;
     }
     Ok(inputs)

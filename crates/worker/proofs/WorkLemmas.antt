@@ -39,7 +39,7 @@ same_widths n holds cubes all i j d a b =
 pub lines_of_left : (j : Subject) (left : List (ℕ × Fault)) → HaveLines j
     → All (λ (p : ℕ × Fault). RepresentsIn j p.0 p.1) left → All (λ (p : ℕ × Fault). IsLineOf j.netlist p.1.line) left
 lines_of_left j left lines reps k d lt =
-    let faults : List Fault = j.classes.representatives in
+    let faults : List Fault = j.faults in
     let place : ℕ = (get_or left k d).0 in
     let fault : Fault = (get_or left k d).1 in
     let there = reps k d lt in

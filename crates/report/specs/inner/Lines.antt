@@ -1,5 +1,5 @@
 -- Texts that begin with a line, or with some lines.
-use Rattle.std.specs.Prelude.{ℕ, ◌≡◌, ◌≢◌, ◌/◌, ◌^◌, ◌<◌, ◌++◌, ◌∷◌, [], Bool, true, false, List, codes, decimal}
+use Rattle.std.specs.Prelude.{ℕ, ◌≡◌, ◌≢◌, ◌/◌, ◌^◌, ◌<◌, ◌++◌, Bool, true, false, List, codes, decimal}
 use Rattle.report.specs.Reports.{Hold, IsBenchWord}
 use Rattle.statement.specs.Reports.{Line, outcome_text}
 use Rattle.report.specs.Texts.{hundredths}
