@@ -165,6 +165,7 @@ fn search_asked<E: Engine + Sync, G: Gate + Sync, R: Threads + Wait + Sync>(
 fn represented(core: &Core, classes: &Classes)
     requires design { IsDesign core.now }
     requires classes { AreClasses core.now classes.now }
+    ensures all { length classes.now.numbers ≤ most_design_faults }
     ensures few { length classes.now.representatives ≤ most_design_faults }
     ensures lines { All (λ (f : FaultOf). IsLineOf core.now f.line) classes.now.representatives }
 {
