@@ -8,6 +8,7 @@ A row that this program doesn't know (a refusal, a line of an error output) is w
 """
 import itertools
 import os
+import re
 import subprocess
 import sys
 
@@ -746,7 +747,33 @@ def case_answer(case, verb, rest, told):
 def told_runs(texts):
     """The runs whose five texts the input tells, by netlist and options."""
     gates = texts["two_gates"]
-    return {(gates, ("--limit", "2")): [gates, gates] + [texts[f"two_gates_{end}"] for end in ("stil", "cert", "rep")]}
+    runs = {(gates, ("--limit", "2")): [gates, gates] + [texts[f"two_gates_{end}"] for end in ("stil", "cert", "rep")]}
+    for name in ("nothing", "one_fault", "one_fault_redundant", "two_faults"):
+        runs[gates, ("--faults", texts[name]), ("--limit", "2")] = [gates, gates, *texts_of_some(texts, texts[name].split("\n"))]
+    return runs
+
+
+def texts_of_some(texts, asked):
+    """The test, the certificate and the report of the two gates where only some faults are asked for: of the whole ones what is said of these. No other
+    keeps a pattern or has evidence."""
+    numbers, begin, lines = texts["two_gates_rep"].partition("stem ")
+    ends = {fault: end for fault, _, end in (re.match("(.*/[01]) ((detected|redundant).*)", line).group(1, 3, 2) for line in (begin + lines).split("\n")[:-1])}
+    kept = sorted({ends[fault].split(" ")[1] for fault in asked if ends.get(fault, "").startswith("detected")})
+    classes = dict(line.split(" class ") for line in list(fault_list(texts["two_gates"]))[1:])
+    left = {classes[fault] for fault in asked if ends.get(fault) == "redundant"}
+    vectors = [line for line in texts["two_gates_stil"].split("\n") if line.startswith("  V ")]
+    stil = texts["two_gates_stil"].replace("\n".join(vectors) + "\n", "".join(vectors[int(place)] + "\n" for place in kept))
+    evidence = [line for line in texts["two_gates_cert"].split("\n")[1:-1] if classes[line[:-2]] in left]
+    said = []
+    for fault, end in ends.items():
+        place = kept.index(end.split(" ")[1]) if fault in asked and end != "redundant" else None
+        said.append(f"{fault} unasked" if fault not in asked else f"{fault} redundant" if place is None else f"{fault} detected {place} {place} y")
+    detected, redundant, unasked = (sum(word in line for line in said) for word in (" detected", " redundant", " unasked"))
+    head = {"patterns": len(kept), "cycles": len(kept), "detected": detected, "redundant": redundant, "untested": redundant}
+    head |= {"coverage": f"{10 * detected}.00", "efficiency": f"{10 * (detected + redundant)}.00"}
+    report = [f"{word} {head[word]}" if (word := line.split(" ")[0]) in head else line for line in numbers.split("\n")[1:-1]]
+    report.insert(next(place for place, line in enumerate(report) if line.startswith("coverage ")), f"unasked {unasked}")
+    return stil, "\n".join(["atpg certificate 1", *evidence, ""]), "\n".join(["atpg report 3", *report, *said, ""])
 
 
 def check_cases():

@@ -26,6 +26,7 @@ ghost use Rattle.atpg_top.specs.inner.Held.{names_held};
 ghost use Rattle.atpg_top.specs.Lines.{status_code};
 ghost use Rattle.atpg_top.specs.declared.status.Status.{Status};
 
+mod asking;
 mod chain_testing;
 mod checking;
 mod design;
@@ -96,8 +97,7 @@ fn perform<'a, R: Threads + Wait + Sync, S: Shelf, T: Sink, G: Gate + Sync>(
         Request::Faults { net } => list_faults(alloc, shelf, out, net),
         Request::Play { net, stil, fault } => play_test(alloc, shelf, out, net, stil, *fault),
         Request::Run {
-            net,
-            prefix,
+            names,
             options,
             holds,
         } => run_netlist(
@@ -106,8 +106,7 @@ fn perform<'a, R: Threads + Wait + Sync, S: Shelf, T: Sink, G: Gate + Sync>(
             shelf,
             out,
             stage,
-            net,
-            prefix,
+            *names,
             *options,
             holds.as_slice(),
         ),
@@ -148,7 +147,7 @@ fn decline<'a>(refusal: &'a WordsRefusal<'_>) -> Status<'a>
         },
         WordsRefusal::BadHold => Status::BadHold,
         WordsRefusal::BadPrefix(prefix) => Status::BadPrefix { prefix },
-        WordsRefusal::WritesOver(name) => Status::WritesOver { name },
+        WordsRefusal::WritesOver(name) => Status::WritesOver { name: *name },
         WordsRefusal::NoMemory => Status::Command(Ending::Memory),
     }
 }

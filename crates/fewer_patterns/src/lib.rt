@@ -12,6 +12,7 @@
 //! Neither: how many fewer; time.
 #![tactic(auto)]
 
+mod arranging;
 mod filling;
 mod merging;
 mod relaxing;

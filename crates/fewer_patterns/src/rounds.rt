@@ -11,11 +11,11 @@ ghost use Rattle.word_sim.specs.Hits.{LastDetected};
 ghost use Rattle.fewer_patterns.specs.Fewer.{IsNoWorse};
 ghost use Rattle.fewer_patterns.specs.inner.Telling.{is_told_again};
 
+use crate::arranging::arranged;
 use crate::filling::filled;
 use crate::merging::merged;
 use crate::relaxing::{Told, relaxed};
 use crate::rows::Rows;
-use crate::sorting::Sorted;
 use crate::tracing::Tracing;
 use cubes::Pattern;
 use flat_netlist::{at, fill, number_of, put};
@@ -36,64 +36,6 @@ pub struct Rounds {
     pub count: u32,
     pub workers: u32,
     pub seed: u64,
-}
-
-/// Of which round the patterns are put in which order: in every other one the last comes first, so that faults are left to those that were made first.
-fn order_of<N: Rng>(
-    alloc: Global,
-    count: u32,
-    round: u32,
-    rng: &mut N,
-) -> Result<Vec<u32>, AllocError> {
-    if round % 2 == 0 {
-        return reversed(alloc, count);
-    }
-    shuffled(alloc, count, rng)
-}
-
-fn reversed(alloc: Global, count: u32) -> Result<Vec<u32>, AllocError> {
-    let mut order = Vec::new(alloc);
-    for place in (0..count).rev() {
-        order.push(place)?;
-    }
-    Ok(order)
-}
-
-/// By keys that are drawn.
-fn shuffled<N: Rng>(alloc: Global, count: u32, rng: &mut N) -> Result<Vec<u32>, AllocError> {
-    let mut keys = Vec::new(alloc);
-    let bound = count.wrapping_add(1);
-    for _place in 0..count {
-        keys.push(rng.next_u32() % bound.max(1))?;
-    }
-    let mut sorted = Sorted::new(alloc);
-    sorted.sort(&keys, bound)?;
-    let mut order = Vec::new(alloc);
-    for slot in 0..count {
-        order.push(sorted.number(slot))?;
-    }
-    Ok(order)
-}
-
-fn copy_of(alloc: Global, pattern: &Pattern) -> Result<Pattern, AllocError> {
-    let inputs = Vec::from_slice(alloc, pattern.inputs())?;
-    let cells = Vec::from_slice(alloc, pattern.cells())?;
-    Ok(Pattern::new(inputs, cells))
-}
-
-/// The patterns in an order.
-fn arranged(
-    alloc: Global,
-    patterns: &[Pattern],
-    order: &[u32],
-) -> Result<Vec<Pattern>, AllocError> {
-    let mut copies = Vec::new(alloc);
-    for place in order {
-        if let Some(pattern) = patterns.get(*place as usize) {
-            copies.push(copy_of(alloc, pattern)?)?;
-        }
-    }
-    Ok(copies)
 }
 
 /// Over nine tenths of the bits are set: little could be merged.
@@ -240,8 +182,7 @@ fn tried_in<R: Threads + Sync, N: Rng>(
     requires few { length patterns.now + 64 ≤ 2 ^ 32 }
     requires workers { 0 < workers }
 {
-    let order = order_of(alloc, number_of(patterns.len()), round, rng)?;
-    let arranged = arranged(alloc, patterns, &order)?;
+    let arranged = arranged(alloc, patterns, round, rng)?;
     if arranged.len() > patterns.len() || !are_patterns(core.netlist(), holds, &arranged) {
         return Ok(None);
     }
