@@ -138,6 +138,21 @@ among (false ∷ ms) (g ∷ fs) f c = elim (contains_cases g f (unmarked ms fs) 
   | inr later ↦ contains_tail g f fs (among ms fs f later)
 ]
 
+pub fewer : (ms : List Bool) (fs : List Fault) → length (unmarked ms fs) ≤ length fs
+fewer [] fs = omega arith
+fewer (m ∷ ms) [] = omega arith
+fewer (true ∷ ms) (f ∷ fs) = let rest = fewer ms fs in omega arith
+fewer (false ∷ ms) (f ∷ fs) = let rest = fewer ms fs in omega arith
+
+-- a weight for each
+pub as_many : (ms : List Bool) (fs : List Fault) (ws : List ℕ) → length ws ≡ length fs → length (unmarked_weights ms ws) ≡ length (unmarked ms fs)
+as_many [] fs ws size = refl
+as_many (m ∷ ms) [] [] size = refl
+as_many (m ∷ ms) [] (w ∷ ws) size = absurd (omega arith)
+as_many (m ∷ ms) (f ∷ fs) [] size = absurd (omega arith)
+as_many (true ∷ ms) (f ∷ fs) (w ∷ ws) size = as_many ms fs ws (omega arith)
+as_many (false ∷ ms) (f ∷ fs) (w ∷ ws) size = ap suc (as_many ms fs ws (omega arith))
+
 kinds_spread : (refutes : Bool) (ms : List Bool) (vs : List Verdict) → All (MayHave refutes) vs → All (MayHave refutes) (spread ms vs)
 kinds_spread refutes [] vs may = All-nil (MayHave refutes)
 kinds_spread refutes (true ∷ ms) vs may = All-cons (MayHave refutes) Open (spread ms vs) tt (kinds_spread refutes ms vs may)
