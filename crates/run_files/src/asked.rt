@@ -65,11 +65,7 @@ fn count_fault(weights: &mut Vec<u32>, class: u32, asked: bool)
 }
 
 /// How many faults of each class are asked for.
-fn class_weights(
-    alloc: Global,
-    classes: &Classes,
-    faults: &[bool],
-) -> Result<Vec<u32>, AllocError>
+fn class_weights(alloc: Global, classes: &Classes, faults: &[bool]) -> Result<Vec<u32>, AllocError>
     requires size { (length faults.now ≡ length classes.now.numbers) × (length faults.now < 2 ^ 32) }
     requires within { All (λ class. class < length classes.now.representatives) classes.now.numbers }
     ensures { IfOk result (λ v. AreWeights classes.now faults.now v.items) }

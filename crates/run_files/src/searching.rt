@@ -113,9 +113,7 @@ fn search_faults<E: Engine + Sync, G: Gate + Sync, R: Threads + Wait + Sync>(
     ensures done { IfOk result (λ r. IsDone (option_copied goal.entry) r.1.items) }
     ensures few { IfOk result (λ r. length r.0.items ≤ length faults.now + length faults.now) }
 {
-    search_named::<Brand, E, G, R>(
-        rt, alloc, core, faults, plan, engine, stage, holds, goal,
-    )
+    search_named::<Brand, E, G, R>(rt, alloc, core, faults, plan, engine, stage, holds, goal)
 }
 
 /// The patterns that are kept and the verdicts of the classes that are asked for. Those that the first patterns detect aren't searched.
@@ -158,7 +156,15 @@ fn search_asked<E: Engine + Sync, G: Gate + Sync, R: Threads + Wait + Sync>(
     let verdicts = spread(alloc, &found, verdicts)?;
     let mut patterns = first;
     patterns.append(&mut more)?;
-    compact_beside(rt, alloc, core, &asked.faults, patterns, verdicts, plan.workers)
+    compact_beside(
+        rt,
+        alloc,
+        core,
+        &asked.faults,
+        patterns,
+        verdicts,
+        plan.workers,
+    )
 }
 
 /// Classes are few, and each representative stands on a line of the netlist.
