@@ -79,11 +79,12 @@ module _ (n : Netlist) (a : Asked) (chains : List (List ℕ)) (classes : Classes
   first_kept sound alike place f line member said marked detected =
       let class = get_or classes.numbers place 0 in
       let asked = class_asked place marked in
-      let inside : place < length classes.numbers = slice_get_within classes.numbers place class asked.of_class in
+      let inside : place < length classes.numbers = (let lt = slice_get_within a.faults place true marked in omega (arith, are.size, size)) in
+      let number = slice_get-get_or classes.numbers place 0 inside in
       let within : class < length classes.representatives = All-get_or (λ k. k < length classes.representatives) classes.numbers place 0 inside are.within in
       let g = get_or classes.representatives class blank in
       let represents = slice_get-get_or classes.representatives class blank within in
-      let same = equivalent n classes are place class f g member asked.of_class represents in
+      let same = equivalent n classes are place class f g member number represents in
       let seen = to_representative n sound alike f g same a.first detected.0 detected.1 detected.2.here in
       let v = verdict_at verdicts class in
       let one = searched.first_kept class g represents asked (detected.0, detected.1, seen) in
