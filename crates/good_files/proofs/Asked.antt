@@ -1,5 +1,5 @@
 -- Where each fault was asked for, the evidence is that of the classes that no pattern detects.
-use Rattle.std.proofs.Common.{◌≡◌, ◌≢◌, ◌∙◌, ℕ, ◌<◌, ◌↔◌, true, List, length, get_or, Some, refl, sym, ap, subst, arith}
+use Rattle.std.proofs.Common.{◌≡◌, ◌≢◌, ◌∙◌, ℕ, ◌↔◌, true, List, Some, refl, sym, ap, subst, arith}
 use Rattle.std.specs.List.{All, Contains, slice_get}
 use Rattle.std.proofs.lemmas.Bool.{false≢true}
 use Rattle.std.proofs.lemmas.Option.{get_or_from_slice_get, slice_get_within}
@@ -14,7 +14,7 @@ use Rattle.word_sim.specs.Hits.{IsNeverDetected}
 use Rattle.statement.specs.declared.outcomes.Outcome.{Outcome}
 use Rattle.statement.specs.declared.outcomes.Outcome.TheVariants.{Detected, Redundant, Aborted, Unasked}
 use Rattle.statement.specs.Reports.{Line}
-use Rattle.run_report.specs.Outcomes.{IsTrueOf, Test, has_evidence, left_of}
+use Rattle.run_report.specs.Outcomes.{IsTrueOf, Test, has_evidence}
 use Rattle.run_report.proofs.ClassLemmas.{equivalent, to_member}
 use Rattle.run_report.proofs.LeftLemmas.{left_at, left_by}
 use Rattle.good_files.specs.GoodFiles.{AreTrueFaults, faults_in}

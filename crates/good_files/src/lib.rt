@@ -14,6 +14,6 @@ mod laws;
 
 pub use answers::{CheckFault, Checked, Clause};
 pub use laws::{
-    all_asked_as_before, answers_agree, checked_is_good, good_files_pass, good_files_tell_the_truth,
-    trees_as_before,
+    all_asked_as_before, answers_agree, checked_is_good, good_files_pass,
+    good_files_tell_the_truth, trees_as_before,
 };

@@ -1,9 +1,9 @@
 -- Classes of which a line says redundant or aborted, and their representatives.
-use Rattle.std.proofs.Common.{◌≡◌, ◌≢◌, ℕ, zero, suc, ◌+◌, ◌<◌, ◌==◌, ◌&&◌, ◌||◌, Bool, true, false, cond, List, [], ◌∷◌, ◌++◌, length, get_or, set, take, Some, refl, sym, ◌∙◌, ap, ap₂, subst, inl, inr, arith, add-one}
+use Rattle.std.proofs.Common.{◌≡◌, ℕ, zero, suc, ◌+◌, ◌<◌, ◌≤◌, ◌==◌, ◌&&◌, ◌||◌, Bool, true, false, cond, List, [], ◌∷◌, ◌++◌, length, get_or, replicate, set, take, take_all, Some, refl, sym, ◌∙◌, ap, ap₂, subst, inl, inr, arith, add-one}
 use Rattle.std.specs.List.{slice_get}
 use Rattle.std.proofs.lemmas.Bool.{and_from, and_parts, eq-eqb, eqb-true, false≢true, or_cases, or_left, or_right}
 use Rattle.std.proofs.lemmas.Bool.Decides.{eqb_tells}
-use Rattle.std.proofs.lemmas.List.{append-nil, get_or-set_same, get_or-set_other, length-set, length-take-le}
+use Rattle.std.proofs.lemmas.List.{append-nil, get_or-set_same, get_or_default, get_or-replicate, get_or-set_other, length-replicate, length-set, length-take-le}
 use Rattle.std.proofs.lemmas.Option.{slice_get_within}
 use Rattle.statement.specs.declared.lines.Fault.{Fault}
 use Rattle.statement.specs.Reports.{Line}
@@ -55,6 +55,20 @@ marked_length : (marks : List Bool) (c : ℕ) (evident : Bool) → length (marke
 marked_length marks c true = length-set marks c true
 marked_length marks c false = refl
 
+-- nothing is marked where no line was read
+pub marked_none : (classes : ℕ) (numbers : List ℕ) (lines : List Line) (marks : List Bool) → marks ≡ replicate classes false
+    → AreMarked classes (take 0 numbers) (take 0 lines) marks
+marked_none classes numbers lines marks is = record {
+  count = ap length is ∙ length-replicate classes false;
+  each = λ class lt. ap (λ ms. get_or ms class false) is ∙ get_or-replicate classes class false false lt;
+}
+
+-- and where all were read
+pub marked_all : (classes : ℕ) (numbers : List ℕ) (lines : List Line) (marks : List Bool) (k : ℕ) → length lines ≡ length numbers → length lines ≤ k
+    → AreMarked classes (take k numbers) (take k lines) marks → AreMarked classes numbers lines marks
+marked_all classes numbers lines marks k same le are =
+    subst (λ cs. AreMarked classes cs lines marks) (take_all k numbers (omega arith)) (subst (λ ls. AreMarked classes (take k numbers) ls marks) (take_all k lines le) are)
+
 pub marked_more : (classes : ℕ) (numbers : List ℕ) (lines : List Line) (k c : ℕ) (l : Line) (marks new : List Bool) → slice_get numbers k ≡ Some c → slice_get lines k ≡ Some l
     → AreMarked classes (take k numbers) (take k lines) marks → new ≡ marked marks c (has_evidence l.outcome) → AreMarked classes (take (k + 1) numbers) (take (k + 1) lines) new
 marked_more classes numbers lines k c l marks new at said are made = record {
@@ -86,22 +100,35 @@ next_take [] k x e = cc
 next_take (y ∷ ys) zero x e = let same : y ≡ x = cc in ap (λ z. z ∷ []) same
 next_take (y ∷ ys) (suc k) x e = ap (λ zs. y ∷ zs) (next_take ys k x e)
 
+some_at : {X : Type 0} (xs : List X) (k : ℕ) → k < length xs → (x : X) × (slice_get xs k ≡ Some x)
+some_at [] k lt = absurd (omega arith)
+some_at (x ∷ xs) zero lt = (x, refl)
+some_at (x ∷ xs) (suc k) lt = some_at xs k (omega arith)
+
 module _ (classes : Classes) (lines : List Line) (marks : List Bool) (are : AreMarked (length classes.representatives) classes.numbers lines marks)
-    (class : ℕ) (f : Fault) (at : slice_get classes.representatives class ≡ Some f)
-    (left : List Fault) (before : left ≡ left_from classes.numbers lines 0 (take class classes.representatives)) where
-  class_done : left ++ cond (get_or marks class false) (f ∷ []) [] ≡ left_from classes.numbers lines 0 (take (class + 1) classes.representatives)
-  class_done =
+    (class : ℕ) (left : List Fault) (before : left ≡ left_from classes.numbers lines 0 (take class classes.representatives)) where
+  -- the mark that is read of the class
+  pub mark_read : (mark : Bool) → class < length classes.representatives → mark ≡ get_or marks class mark → get_or marks class false ≡ mark
+  mark_read mark within is = get_or_default marks class false mark (omega (arith, are.count)) ∙ sym is
+
+  class_done : (f : Fault) → slice_get classes.representatives class ≡ Some f
+      → left ++ cond (get_or marks class false) (f ∷ []) [] ≡ left_from classes.numbers lines 0 (take (class + 1) classes.representatives)
+  class_done f at =
       let within = slice_get_within classes.representatives class f at in
       let size : 0 + length (take class classes.representatives) ≡ class = omega (arith, length-take-le class classes.representatives (omega arith)) in
       ap₂ (λ xs b. xs ++ cond b (f ∷ []) []) before (are.each class within ∙ ap (λ i. is_left classes.numbers lines i) (sym size))
       ∙ (sym (left_push classes.numbers lines 0 (take class classes.representatives) f)
       ∙ ap (left_from classes.numbers lines 0) (sym (next_take classes.representatives class f at) ∙ ap (λ i. take i classes.representatives) (sym (add-one class))))
 
-  pub class_left : (new : List Fault) → get_or marks class false ≡ true → new ≡ left ++ f ∷ [] → new ≡ left_from classes.numbers lines 0 (take (class + 1) classes.representatives)
-  class_left new marked is = is ∙ (ap (λ b. left ++ cond b (f ∷ []) []) (sym marked) ∙ class_done)
+  pub class_left : (f : Fault) (new : List Fault) → slice_get classes.representatives class ≡ Some f → get_or marks class false ≡ true → new ≡ left ++ f ∷ []
+      → new ≡ left_from classes.numbers lines 0 (take (class + 1) classes.representatives)
+  class_left f new at marked is = is ∙ (ap (λ b. left ++ cond b (f ∷ []) []) (sym marked) ∙ class_done f at)
 
-  pub class_passed : get_or marks class false ≡ false → left ≡ left_from classes.numbers lines 0 (take (class + 1) classes.representatives)
-  class_passed unmarked = sym (append-nil left) ∙ (ap (λ b. left ++ cond b (f ∷ []) []) (sym unmarked) ∙ class_done)
+  pub class_passed : class < length classes.representatives → get_or marks class false ≡ false
+      → left ≡ left_from classes.numbers lines 0 (take (class + 1) classes.representatives)
+  class_passed within unmarked =
+      let f = some_at classes.representatives class within in
+      sym (append-nil left) ∙ (ap (λ b. left ++ cond b (f.0 ∷ []) []) (sym unmarked) ∙ class_done f.0 f.1)
 
 -- ---- what it means that a class is left
 

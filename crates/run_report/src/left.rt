@@ -19,8 +19,8 @@ fn has_evidence(outcome: Outcome) -> bool
 }
 
 /// Marks a class where a line of this outcome rests on evidence.
-fn mark(marks: &mut [bool], class: u32, outcome: Outcome)
-    ensures { marks.new ≡ marked marks.old class (has_evidence outcome) }
+fn mark(marks: &mut Vec<bool>, class: u32, outcome: Outcome)
+    ensures { marks.new.items ≡ marked marks.old.items class (has_evidence outcome) }
 {
     if has_evidence(outcome) && (class as usize) < marks.len() {
         marks[class as usize] = true;
@@ -28,11 +28,7 @@ fn mark(marks: &mut [bool], class: u32, outcome: Outcome)
 }
 
 /// For each class, whether a line rests on evidence of one of its faults.
-fn marks_of(
-    alloc: Global,
-    classes: &Classes,
-    lines: &FaultLines,
-) -> Result<Vec<bool>, AllocError>
+fn marks_of(alloc: Global, classes: &Classes, lines: &FaultLines) -> Result<Vec<bool>, AllocError>
     requires lines { length lines.now ≡ length classes.now.numbers }
     requires few { length lines.now < 2 ^ 32 }
     ensures { IfOk result (λ marks. AreMarked (length classes.now.representatives) classes.now.numbers lines.now marks.items) }
@@ -62,7 +58,8 @@ pub fn left_of(
     let mut left = Vec::new(alloc);
     for class in 0..classes.count() {
         if marks[class as usize] {
-            left.push(classes.representative(class))?;
+            let Fault { line, value } = classes.representative(class);
+            left.push(Fault { line, value })?;
         }
     }
     Ok(left)

@@ -1,7 +1,7 @@
 -- Cubes, patterns and hits of a batch.
-use Rattle.std.proofs.Common.{zero, suc, ◌≡◌, ◌≢◌, inl, inr, ℕ, ◌<◌, List, [], ◌∷◌, get_or, refl, sym, ◌∙◌, ap, subst, arith}
+use Rattle.std.proofs.Common.{zero, suc, ◌≡◌, ◌≢◌, true≢false, inl, inr, ℕ, ◌<◌, List, [], ◌∷◌, get_or, refl, sym, ◌∙◌, ap, subst, arith}
 use Rattle.std.specs.List.{All, AllPairs}
-use Rattle.std.specs.Prelude.{true, Bool, Result, Ok, Err}
+use Rattle.std.specs.Prelude.{true, false, Bool, Result, Ok, Err, Option, Some, None, IfNone}
 use Rattle.std.specs.Result.{OnOk}
 use Rattle.std.proofs.lemmas.List.Elements.{All-cons, All-head, All-tail}
 use Rattle.std.proofs.lemmas.List.Kept.{AllPairs-cons}
@@ -175,3 +175,18 @@ ended_by_none classes before after (inr last) = ap (λ (t : Tally). t.ended) las
 pub whatever_comes : {A E P : Type 0} (r : Result A E) → P → OnOk r P
 whatever_comes (Ok x) p = p
 whatever_comes (Err e) p = tt
+
+-- ---- where there is no goal
+
+pub if_none : {T P Q : Type 0} (o : Option T) → (P → Q) → IfNone o P → IfNone o Q
+if_none None f p = f p
+if_none (Some x) f p = tt
+
+pub whether_none : {T P : Type 0} (o : Option T) → P → IfNone o P
+whether_none None p = p
+whether_none (Some x) p = tt
+
+-- what is told only where there is a goal
+pub never_told : {T P : Type 0} (o : Option T) (b : Bool) → IfNone o (b ≡ false) → b ≡ true → IfNone o P
+never_told None b none is = absurd (true≢false (sym is ∙ none))
+never_told (Some x) b none is = tt

@@ -129,7 +129,7 @@ fn work_all<J: About, E: Engine>(
 
 /// Whether there is a goal, and enough is detected.
 fn is_enough<J: About>(list: &FaultList<J>, goal: Option<&Goal>) -> bool
-    ensures { IsTrue result → IsDone (option_copied goal) list.now.verdicts }
+    ensures { IsTrue result → IsDone (option_copied goal.entry) list.now.verdicts }
 {
     match goal {
         Some(goal) => list.is_enough(goal),
@@ -155,7 +155,7 @@ pub fn work_rest<J: About, E: Engine>(
     requires kind { E.refutes ≡ J.subject.refutes }
     requires claims { list.claims ≡ 0 }
     requires few { length list.patterns ≤ class_count J.subject }
-    ensures closed { IfOk result (λ l. IsDone (option_copied goal) l.verdicts) }
+    ensures closed { IfOk result (λ l. IsDone (option_copied goal.entry) l.verdicts) }
     ensures true_list { IfOk result (λ l. IsTrueList J.subject l) }
     ensures few { IfOk result (λ l. length l.patterns ≤ class_count J.subject + class_count J.subject) }
 {

@@ -143,7 +143,7 @@ fn run_named<
     requires settles { (settles.name ≡ S.name) × (settles.parts ≡ S.parts) × (S.parts ≡ workers) }
     requires publishes { (publishes.name ≡ P.name) × (publishes.parts ≡ P.parts) × (P.parts ≡ workers) }
     requires unspent { (unspent.name ≡ U.name) × (unspent.parts ≡ U.parts) × (U.parts ≡ workers) }
-    ensures closed { IfOk result (λ l. IsDone (option_copied goal) l.verdicts) }
+    ensures closed { IfOk result (λ l. IsDone (option_copied goal.entry) l.verdicts) }
     ensures true_list { IfOk result (λ l. IsTrueList J.subject l) }
     ensures few { IfOk result (λ l. length l.patterns ≤ class_count J.subject + class_count J.subject) }
 {
@@ -188,7 +188,7 @@ pub fn run_all<J: About + Send + Sync, E: Engine + Sync, G: Gate + Sync, R: Thre
     requires kind { E.refutes ≡ J.subject.refutes }
     requires empty { list.journal ≡ [] }
     requires workers { (0 < workers) × (workers ≤ most_workers) }
-    ensures closed { IfOk result (λ l. IsDone (option_copied goal) l.verdicts) }
+    ensures closed { IfOk result (λ l. IsDone (option_copied goal.entry) l.verdicts) }
     ensures true_list { IfOk result (λ l. IsTrueList J.subject l) }
     ensures few { IfOk result (λ l. length l.patterns ≤ class_count J.subject + class_count J.subject) }
 {

@@ -59,7 +59,7 @@ fn is_enough<J: About, T: Ledger, S: Ledger, P: Ledger, U: Ledger, R: Wait>(
     shared: &Shared<J, T, S, P, U>,
     goal: Option<&Goal>,
 ) -> bool
-    ensures { IfNone goal (result ≡ false) }
+    ensures { IfNone goal.entry (result ≡ false) }
 {
     match goal {
         Some(goal) => shared.is_enough(rt, goal),
@@ -87,7 +87,7 @@ pub fn work<J: About, T: Ledger, S: Ledger, P: Ledger, U: Ledger, E: Engine, G: 
     requires held { (holds.now ≡ J.subject.holds) × AreHoldsOf core.now holds.now }
     requires kind { E.refutes ≡ J.subject.refutes }
     ensures table { share.new.table ≡ share.old.table }
-    ensures ended { OnOk result (IfNone goal (share.new.ended ≡ true)) }
+    ensures ended { OnOk result (IfNone goal.entry (share.new.ended ≡ true)) }
 {
     work_beside(
         rt, alloc, shared, share, core, engine, stage, 1, seed, holds, goal,
@@ -168,7 +168,7 @@ fn publish_full<J: About, T: Ledger, S: Ledger, P: Ledger, U: Ledger, G: Gate, N
     ensures ended { share.new.ended ≡ share.old.ended }
     ensures simulator { simulator.new ≡ simulator.old }
     ensures room { IfOk result (λ p. (vec_len cubes.new < p.size) × (p.size ≤ 64)) }
-    ensures goal { IfOk result (λ p. IfNone goal (p.is_enough ≡ false)) }
+    ensures goal { IfOk result (λ p. IfNone goal.entry (p.is_enough ≡ false)) }
     ensures unspent { OnOk result (vec_len cubes.new ≤ share.new.unspent) }
     ensures wide { OnOk result (All (IsCubeOf J.subject.netlist J.subject.holds) cubes.new.items) }
 {
@@ -231,7 +231,7 @@ fn work_claim<
     ensures simulator { simulator.new ≡ simulator.old }
     ensures room { IfOk result (λ r. E.serves core.now holds.now r.0) }
     ensures few { IfOk result (λ r. (vec_len cubes.new < r.1.size) × (r.1.size ≤ 64)) }
-    ensures goal { IfOk result (λ r. IfNone goal (r.1.is_enough ≡ false)) }
+    ensures goal { IfOk result (λ r. IfNone goal.entry (r.1.is_enough ≡ false)) }
     ensures unspent { OnOk result (vec_len cubes.new ≤ share.new.unspent) }
     ensures wide { OnOk result (All (IsCubeOf J.subject.netlist J.subject.holds) cubes.new.items) }
 {
@@ -275,7 +275,7 @@ pub(crate) fn work_beside<
     requires held { (holds.now ≡ J.subject.holds) × AreHoldsOf core.now holds.now }
     requires kind { E.refutes ≡ J.subject.refutes }
     ensures table { share.new.table ≡ share.old.table }
-    ensures ended { OnOk result (IfNone goal (share.new.ended ≡ true)) }
+    ensures ended { OnOk result (IfNone goal.entry (share.new.ended ≡ true)) }
 {
     let mut rng = Lcg64Xsh32::new(seed, share.worker() as u64);
     let mut room = engine.room(alloc, core, holds)?;
