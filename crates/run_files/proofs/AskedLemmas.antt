@@ -52,9 +52,9 @@ module _ (n : Netlist) (a : Asked) (chains : List (List ℕ)) (classes : Classes
       by_mark true mark at =
           let l = line_at n chains classes.numbers a.faults verdicts lines all place line said in
           let v = verdict_at verdicts (get_or classes.numbers place 0) in
-          let open : is_open (verdict_said (get_or a.faults place false) v) ≡ true =
+          let is_so : is_open (verdict_said (get_or a.faults place false) v) ≡ true =
           outcome_open n chains (verdict_said (get_or a.faults place false) v) line.outcome line.pin l.is_line.outcome nothing in
-          let is : is_open v ≡ true = ap (λ (b : Bool). is_open (verdict_said b v)) (sym mark) ∙ open in
+          let is : is_open v ≡ true = ap (λ (b : Bool). is_open (verdict_said b v)) (sym mark) ∙ is_so in
           absurd (true≢false (sym is ∙ shut (get_or classes.numbers place 0) (class_asked place at)))
 
   pub are_asked : AreAsked a lines

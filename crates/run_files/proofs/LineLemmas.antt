@@ -2,6 +2,7 @@
 use Rattle.std.proofs.Common.{◌≡◌, ℕ, zero, suc, ◌+◌, ◌<◌, inl, inr, Bool, true, false, cond, List, [], ◌∷◌, ◌++◌, length, get_or, codes, decimal, Some, refl, sym, ◌∙◌, ap, subst, arith, append_assoc, length-append}
 use Rattle.std.specs.List.{slice_get}
 use Rattle.std.proofs.lemmas.Bool.{cases_order}
+use Rattle.std.proofs.lemmas.List.Sums.{sum_by-cons}
 use Rattle.std.proofs.lemmas.Option.{get_or_from_slice_get, slice_get-get_or, slice_get_within}
 use Rattle.statement.specs.declared.lines.Line.{Line as LineOf}
 use Rattle.statement.specs.declared.lines.Line.TheVariants.{Stem, Pin, Out}
@@ -161,6 +162,7 @@ count_by_faults (c ∷ cs) (m ∷ ms) vs [] a b each = absurd (omega arith)
 count_by_faults (c ∷ cs) (m ∷ ms) vs (l ∷ ls) a b each =
     let rest = count_by_faults cs ms vs ls (omega arith) (omega arith) (λ i k e. each (suc i) k e) in
     let here : one_if_detected l.outcome ≡ cond m (one_if_class_detected (verdict_at vs c)) 0 = each zero l refl ∙ said_detected m (verdict_at vs c) in
+    let both : count_of one_if_detected (l ∷ ls) ≡ one_if_detected l.outcome + count_of one_if_detected ls = sum_by-cons (λ (k : Line). one_if_detected k.outcome) l ls in
     omega arith
 
 pub lines_detected : (n : Netlist) (chains : List (List ℕ)) (numbers : List ℕ) (marks : List Bool) (verdicts : List Verdict) (lines : List Line)
