@@ -4,7 +4,7 @@ use Rattle.std.proofs.Common.{◌≡◌, ◌↔◌, ℕ, Bool, true, false, List
 use Rattle.std.specs.List.{Contains, list_any}
 use Rattle.std.specs.Str.{bytes_eq}
 use Rattle.std.proofs.lemmas.List.{map_push}
-use Rattle.std.proofs.lemmas.List.Elements.{Contains-append_cases, Contains-append_left, Contains-append_right, Contains-get_or}
+use Rattle.std.proofs.lemmas.List.Elements.{Contains-append_cases, Contains-append_left, Contains-append_right}
 use Rattle.std.proofs.lemmas.Slice.Eq.{bytes_eq-Decides}
 use Rattle.netlist.proofs.Lists.{any_from, any_true, contains_cases, contains_head, contains_map, contains_nil, contains_tail}
 use Rattle.fault_marks.specs.inner.Kept.{AreKept}
@@ -20,7 +20,7 @@ contains_bytes (k ∷ ks) key c = elim (contains_cases k key ks c) [
 ]
 
 -- a line is found exactly where it is kept
-pub found_kept : (keys : List (Bor (List ℕ))) (line : List ℕ) → (list_any (λ (key : Bor (List ℕ)). bytes_eq line key.now) keys ≡ true) ↔ Contains (map bytes_of keys) line
+found_kept : (keys : List (Bor (List ℕ))) (line : List ℕ) → (list_any (λ (key : Bor (List ℕ)). bytes_eq line key.now) keys ≡ true) ↔ Contains (map bytes_of keys) line
 found_kept keys line = (
   (λ e.
       let w = any_true (λ (key : Bor (List ℕ)). bytes_eq line key.now) keys e in
@@ -28,6 +28,14 @@ found_kept keys line = (
   (λ c.
       let w = contains_map bytes_of keys line c in
       any_from (λ (key : Bor (List ℕ)). bytes_eq line key.now) keys w.0 w.1 ((bytes_eq-Decides line w.0.now).1 (sym w.2))),
+)
+
+-- and so by a text of its own
+pub named_by : (keys : List (Bor (List ℕ))) (named : List (List ℕ)) (line text : List ℕ) (found : Bool) → text ≡ line
+    → found ≡ list_any (λ (key : Bor (List ℕ)). bytes_eq text key.now) keys → AreKept keys named → IsTrue found ↔ Contains named line
+named_by keys named line text found same is kept = (
+  (λ t. (kept line).0 (subst (Contains (map bytes_of keys)) same ((found_kept keys text).0 (sym is ∙ t)))),
+  (λ c. is ∙ (found_kept keys text).1 (subst (Contains (map bytes_of keys)) (sym same) ((kept line).1 c))),
 )
 
 -- one line more

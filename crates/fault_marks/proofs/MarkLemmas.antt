@@ -1,16 +1,16 @@
 -- Marks, fault by fault.
 use denote.Ref.{Bor}
-use Rattle.std.proofs.Common.{◌≡◌, ◌↔◌, ◌≢◌, ℕ, zero, suc, ◌+◌, Bool, List, [], ◌∷◌, ◌++◌, length, take, Some, IsTrue, refl, sym, ap, subst, ◌∙◌, add-one, append_assoc, length-append, arith}
+use Rattle.std.proofs.Common.{◌≡◌, ◌↔◌, ℕ, zero, suc, ◌+◌, Bool, List, [], ◌∷◌, ◌++◌, length, take, Some, IsTrue, sym, ap, subst, ◌∙◌, add-one, append_assoc, length-append, arith}
 use Rattle.std.specs.List.{All, Contains, slice_get}
 use Rattle.std.proofs.lemmas.List.{append-nil}
-use Rattle.std.proofs.lemmas.List.Elements.{All-contains, All-nil, All-push}
+use Rattle.std.proofs.lemmas.List.Elements.{All-push}
 use Rattle.statement.specs.declared.lines.Fault.{Fault}
 use Rattle.statement.specs.Netlists.{Netlist}
-use Rattle.statement.specs.Faults.{fault_text, universe_of}
+use Rattle.statement.specs.Faults.{fault_text}
 use Rattle.netlist.proofs.Alike.{zip_append}
 use Rattle.bench_text.specs.Bytes.{lines}
 use Rattle.bench_text.proofs.TextLemmas.{lines-none}
-use Rattle.fault_marks.specs.Marks.{IsFirstStranger, NamesFault}
+use Rattle.fault_marks.specs.Marks.{NamesFault}
 use Rattle.fault_marks.specs.inner.Kept.{AreKept, AreMarked, IsPartRead}
 
 next_take : {X : Type 0} (xs : List X) (k : ℕ) (x : X) → slice_get xs k ≡ Some x → take (suc k) xs ≡ take k xs ++ x ∷ []
@@ -26,28 +26,12 @@ marked_more n named faults k f mark marks new at is before e =
     subst (λ fs. AreMarked n named fs new) (sym (next_take faults k f at) ∙ ap (λ i. take i faults) (sym (add-one k)))
     (subst (λ ms. AreMarked n named (take k faults ++ f ∷ []) ms) (sym e) more)
 
--- what a line that names no fault says
-pub names_none : (n : Netlist) (line : List ℕ) → All (λ f. fault_text n f ≢ line) (universe_of n) → NamesFault n line → ⊥
-names_none n line none named = All-contains (λ f. fault_text n f ≢ line) (universe_of n) named.0 none named.1 named.2
-
 -- ---- lines, one more
 
 module _ (n : Netlist) (text rest after line : List ℕ) (keys : List (Bor (List ℕ))) (number : ℕ) (part : IsPartRead n text rest keys number) (first : lines rest ≡ line ∷ lines after) where
   read_to : lines text ≡ part.read ++ line ∷ lines after
   read_to = part.lines_are ∙ ap (λ ls. part.read ++ ls) first
 
-  -- the line names no fault
-  pub stranger_found : (NamesFault n line → ⊥) → (place : ℕ) → place ≡ number + 1 → IsFirstStranger n (lines text) place line
-  stranger_found none place is = record {
-    before = part.read;
-    behind = lines after;
-    lines_are = read_to;
-    number_is = is ∙ ap (λ k. k + 1) part.number_is;
-    stranger = none;
-    all = part.all;
-  }
-
-  -- or it does
   pub part_more : NamesFault n line → (new : List (Bor (List ℕ))) → AreKept new (part.read ++ line ∷ []) → (place : ℕ) → place ≡ number + 1 → IsPartRead n text after new place
   part_more names new kept place is = record {
     read = part.read ++ line ∷ [];
@@ -63,13 +47,3 @@ part_whole n text [] keys number part e =
     let whole : part.read ≡ lines text = sym (append-nil part.read) ∙ (ap (λ ls. part.read ++ ls) (sym lines-none) ∙ sym part.lines_are) in
     subst (λ ls. All (NamesFault n) ls × AreKept keys ls) whole (part.all, part.kept)
 part_whole n text (b ∷ bs) keys number part e = absurd (omega arith)
-
-pub part_none : (n : Netlist) (text : List ℕ) (keys : List (Bor (List ℕ))) → length keys ≡ 0 → IsPartRead n text text keys 0
-part_none n text [] e = record {
-  read = [];
-  lines_are = refl;
-  number_is = refl;
-  all = All-nil (NamesFault n);
-  kept = λ line. ((λ c. c), (λ c. c));
-}
-part_none n text (key ∷ keys) e = absurd (omega arith)

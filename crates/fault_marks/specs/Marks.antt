@@ -1,5 +1,5 @@
 -- Lists of faults: texts that name some of a netlist's faults, one a line.
-use Rattle.std.specs.Prelude.{ℕ, ◌≡◌, ◌+◌, ◌++◌, ◌∷◌, ◌↔◌, ¬, ⊤, Bool, IsTrue, List, length}
+use Rattle.std.specs.Prelude.{ℕ, ◌≡◌, ◌+◌, ◌++◌, ◌∷◌, ◌↔◌, ⊤, Bool, IsTrue, List, length}
 use Rattle.std.specs.List.{All, AllZip, Contains}
 use Rattle.statement.specs.declared.lines.Fault.{Fault}
 use Rattle.statement.specs.Netlists.{Netlist}

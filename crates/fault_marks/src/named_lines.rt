@@ -1,5 +1,5 @@
 //! The lines of a text, each of which names a fault.
-ghost use Rattle.std.specs.Prelude.{◌≡◌, ◌<◌, ◌∷◌, ◌×◌, ¬, length, MatchBool, MatchResult};
+ghost use Rattle.std.specs.Prelude.{◌≡◌, ◌<◌, ◌∷◌, length, MatchBool, MatchResult};
 ghost use Rattle.std.specs.List.{All};
 ghost use Rattle.bench_text.specs.Bytes.{lines};
 ghost use Rattle.fault_marks.specs.Marks.{AreRefused, NamesFault};
@@ -47,9 +47,9 @@ pub(crate) fn named_lines<'a>(
         if !names_fault(names, line) {
             return Err(MarksRefusal::NotFault(Stranger { number, line }));
         }
-        if found.insert(line).is_err() {
+        let Ok(_) = found.insert(line) else {
             return Err(MarksRefusal::NoMemory);
-        }
+        };
         rest = after;
     }
     Ok(found)

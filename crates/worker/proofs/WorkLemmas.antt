@@ -187,6 +187,6 @@ whether_none None p = p
 whether_none (Some x) p = tt
 
 -- what is told only where there is a goal
-pub never_told : {T P : Type 0} (o : Option T) (b : Bool) → IfNone o (b ≡ false) → b ≡ true → IfNone o P
-never_told None b none is = absurd (true≢false (sym is ∙ none))
-never_told (Some x) b none is = tt
+pub never_told : {T : Type 0} (P : Type 0) (o : Option T) (b : Bool) → IfNone o (b ≡ false) → b ≡ true → IfNone o P
+never_told P None b none is = absurd (true≢false (sym is ∙ none))
+never_told P (Some x) b none is = tt

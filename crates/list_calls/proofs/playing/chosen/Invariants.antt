@@ -1,0 +1,8 @@
+use Rattle.std.specs.List.{All}
+use Rattle.statement.specs.declared.lines.Fault.{Fault}
+use Rattle.statement.specs.Netlists.{Netlist}
+use Rattle.netlist.specs.Lines.{IsLineOf}
+use Rattle.list_calls.proofs.playing.chosen.Given as goal
+
+abbrev pub invariant-loop-number : goal.invariant-loop-number
+invariant-loop-number l = (n : Netlist) → All (λ (f : Fault). IsLineOf n f.line) l.classes.representatives → All (λ (f : Fault). IsLineOf n f.line) l.faults.items
