@@ -1,9 +1,12 @@
 -- What a run is asked for, step by step.
-use Rattle.std.proofs.Common.{◌≡◌, ◌∙◌, ◌≤◌, ◌<◌, ◌+◌, inl, inr, ℕ, zero, suc, Bool, true, false, List, [], ◌∷◌, ◌++◌, Option, Some, None, Result, Ok, Err, Vec, refl, sym, subst, ap, ap₂, arith, length, length-append, get_or, map}
-use Rattle.std.specs.Prelude.{◌^◌, IfOk, IsTrue, ◌↔◌}
+use denote.Ref.{Bor}
+use Rattle.std.proofs.Common.{◌≡◌, ◌∙◌, ◌≤◌, ◌<◌, ◌+◌, inl, inr, ℕ, zero, suc, Bool, true, false, List, [], ◌∷◌, ◌++◌, Option, Some, None, Result, Ok, Err, Vec, refl, sym, subst, ap, ap₂, arith, length, length-append, map, replicate}
+use Rattle.std.specs.Prelude.{◌^◌, IfOk, IfSome, IsTrue, ◌↔◌, option_map}
 use Rattle.std.specs.List.{All, AllZip, Contains, filter, flat_map, zip}
 use Rattle.std.specs.declared.alloc.Global.{Global}
+use Rattle.std.proofs.lemmas.List.{length-map}
 use Rattle.std.proofs.lemmas.List.Elements.{All-head, All-tail}
+use Rattle.std.proofs.lemmas.Slice.Zip.{AllZip-long}
 use Rattle.bench_text.specs.Bytes.{lines}
 use Rattle.bench_text.specs.declared.refusal.Names.TheVariants.{Design}
 use Rattle.statement.specs.Benches.{Text}
@@ -18,18 +21,18 @@ use Rattle.stil_vectors.specs.Fitting.{FitsNetlist}
 use Rattle.stil_patterns.specs.Applied.{applied_in, is_pattern, test_in, tests_in}
 use Rattle.fault_marks.specs.Marks.{IsFirstStranger, NamesFault}
 use Rattle.commands.specs.Contents.{most_bytes}
-use Rattle.commands.specs.Names.{texts_of}
 use Rattle.commands.specs.Worked.{IsWorked}
 use Rattle.commands.specs.declared.product.Product.{Product}
 use Rattle.commands.specs.declared.product.Stop.{Stop}
 use Rattle.commands.specs.declared.product.Stop.TheVariants as stop
 use Rattle.command_line.specs.HoldLists.{HoldItem}
 use Rattle.command_line.specs.declared.requests.RunOptions.{RunOptions}
-use Rattle.atpg_top.specs.Asked.{FitsDesign, RunRead, asked_where, chains_of_file, first_patterns, made_due, marked_faults}
+use Rattle.atpg_top.specs.Asked.{FitsDesign, RunRead, asked_where, chains_of_file, first_patterns, made_due, marked_faults, run_read, run_texts}
 use Rattle.atpg_top.specs.Steps.{named_holds, netlist, test, value}
 use Rattle.atpg_top.specs.inner.Answers.{Answers, AnswersList}
-use Rattle.atpg_top.specs.inner.Asking.{IsHeldCase, ReadsHeld, ReadsRun, ReadsTexts, ReadsWanted, applied_step, first_due, held_due, wanted_due}
+use Rattle.atpg_top.specs.inner.Asking.{IsHeldCase, ReadsHeld, ReadsRun, ReadsTexts, ReadsWanted, applied_step, first_due, held_due, run_texts_of, wanted_due}
 use Rattle.atpg_top.specs.declared.asking.RunCase.{RunCase}
+use Rattle.atpg_top.specs.declared.asking.RunTexts.{RunTexts}
 use Rattle.atpg_top.specs.declared.refusal.Refusal.{Refusal}
 use Rattle.atpg_top.specs.declared.refusal.Refusal.TheVariants.{NoFaultAt, NotStil, StilDoesNotFit}
 use Rattle.atpg_top.proofs.Cells.{length-filter}
@@ -38,11 +41,14 @@ use Rattle.atpg_top.proofs.Single.{IsSingle}
 
 -- ---- marks are determined
 
+not_true : IsTrue false → ⊥
+not_true h = cc
+
 module _ {X : Type 0} (P : X → Type 0) where
   one_mark : (x : X) (a b : Bool) → IsTrue a ↔ P x → IsTrue b ↔ P x → a ≡ b
   one_mark x true true p q = refl
-  one_mark x true false p q = absurd (q.1 (p.0 tt))
-  one_mark x false true p q = absurd (p.1 (q.0 tt))
+  one_mark x true false p q = absurd (not_true (q.1 (p.0 refl)))
+  one_mark x false true p q = absurd (not_true (p.1 (q.0 refl)))
   one_mark x false false p q = refl
 
   marks_once : (xs : List X) (ms ks : List Bool) → AllZip (λ x m. IsTrue m ↔ P x) xs ms → AllZip (λ x m. IsTrue m ↔ P x) xs ks → ms ≡ ks
@@ -60,16 +66,16 @@ module _ (P : Text → Type 0) where
 
   first_once : (before others behind after : List Text) (x y : Text) → before ++ x ∷ behind ≡ others ++ y ∷ after → ¬ P x → ¬ P y → All P before → All P others
       → length before ≡ length others
-  first_once [] [] behind after x y e no none all also = refl
-  first_once [] (z ∷ others) behind after x y e no none all also = absurd (no (not_before x behind z (others ++ y ∷ after) e (All-head P z others also)))
-  first_once (w ∷ before) [] behind after x y e no none all also = absurd (none (not_before y after w (before ++ x ∷ behind) (sym e) (All-head P w before all)))
-  first_once (w ∷ before) (z ∷ others) behind after x y e no none all also =
+  first_once [] [] behind after x y e out gone all also = refl
+  first_once [] (z ∷ others) behind after x y e out gone all also = absurd (out (not_before x behind z (others ++ y ∷ after) e (All-head P z others also)))
+  first_once (w ∷ before) [] behind after x y e out gone all also = absurd (gone (not_before y after w (before ++ x ∷ behind) (sym e) (All-head P w before all)))
+  first_once (w ∷ before) (z ∷ others) behind after x y e out gone all also =
       let tails : before ++ x ∷ behind ≡ others ++ y ∷ after = cc in
-      ap suc (first_once before others behind after x y tails no none (All-tail P w before all) (All-tail P z others also))
+      ap suc (first_once before others behind after x y tails out gone (All-tail P w before all) (All-tail P z others also))
 
   none_stands : (before behind : List Text) (x : Text) → ¬ P x → All P (before ++ x ∷ behind) → ⊥
-  none_stands [] behind x no all = no (All-head P x behind all)
-  none_stands (w ∷ before) behind x no all = none_stands before behind x no (All-tail P w (before ++ x ∷ behind) all)
+  none_stands [] behind x out all = out (All-head P x behind all)
+  none_stands (w ∷ before) behind x out all = none_stands before behind x out (All-tail P w (before ++ x ∷ behind) all)
 
 module _ (n : Netlist) (named : List Text) where
   number_once : (i j : ℕ) (x y : Text) → IsFirstStranger n named i x → IsFirstStranger n named j y → i ≡ j
@@ -91,6 +97,15 @@ marks_single n (Some text) = record {
   refusal = λ r s p q. p.3 ∙ (ap (λ k. NoFaultAt k) (number_once n (lines text) p.0 q.0 p.1 q.1 p.2 q.2) ∙ sym q.3);
   apart = λ a r p q. not_all_named n (lines text) q.0 q.1 q.2 p.all;
 }
+
+pub all_true : {X : Type 0} (xs : List X) → replicate (length xs) true ≡ map (λ x. true) xs
+all_true [] = refl
+all_true (x ∷ xs) = ap (λ (bs : List Bool). true ∷ bs) (all_true xs)
+
+-- there is one for each fault
+pub marks_length : (n : Netlist) (list : Option Text) (marks : List Bool) → marked_faults n list (Ok marks) → length marks ≡ length (universe_of n)
+marks_length n None marks are = ap length are ∙ length-map (universe_of n) (λ f. true)
+marks_length n (Some text) marks are = AllZip-long (λ f mark. IsTrue mark ↔ Contains (lines text) (fault_text n f)) (universe_of n) marks are.each
 
 -- ---- first patterns are determined
 
@@ -145,7 +160,7 @@ few_tests count chains (b ∷ befores) (i ∷ items) =
 applied_few : (n : Netlist) (holds : Holds) (chains : List (List ℕ)) (f : StilFile) → length (applied_in n holds chains f) ≤ length f.items
 applied_few n holds chains f =
     let picked = length-filter (is_pattern n holds) (tests_in (length f.chains) chains f.items) in
-    let few = few_tests (length f.chains) chains (Vector [] ∷ f.items) f.items in
+    let few : length (tests_in (length f.chains) chains f.items) ≤ length f.items = few_tests (length f.chains) chains (Vector [] ∷ f.items) f.items in
     omega arith
 
 module _ (n : Netlist) (holds : Holds) (text : Text) where
@@ -239,15 +254,39 @@ module _ (options : RunOptions) (named : List HoldItem) (count : ℕ) where
   case_stopped (Some t) (stop.Refused r) read = read options
   case_stopped (Some t) stop.NoMemory read = tt
 
--- ---- texts of a vector
+-- ---- the texts that were read
 
-pub one_text : (vs : List (Vec ℕ Global)) (v d : Vec ℕ Global) → length vs ≡ 1 → v ≡ get_or vs 0 d → texts_of vs ≡ v.items ∷ []
-one_text [] v d count is = absurd (omega arith)
-one_text (x ∷ []) v d count is = ap (λ (a : Vec ℕ Global). a.items ∷ []) (sym is)
-one_text (x ∷ y ∷ ys) v d count is = absurd (omega arith)
+abbrev IsShort : Text → Type 0
+IsShort text = length text ≤ most_bytes
 
-pub short_at : (vs : List (Vec ℕ Global)) (k : ℕ) (v d : Vec ℕ Global) → k < length vs → v ≡ get_or vs k d → All (λ text. length text ≤ most_bytes) (texts_of vs) → length v.items ≤ most_bytes
-short_at [] k v d below is all = absurd (omega arith)
-short_at (x ∷ vs) zero v d below is all =
-    subst (λ (w : Vec ℕ Global). length w.items ≤ most_bytes) (sym is) (All-head (λ text. length text ≤ most_bytes) x.items (texts_of vs) all)
-short_at (x ∷ vs) (suc k) v d below is all = short_at vs k v d (omega arith) is (All-tail (λ text. length text ≤ most_bytes) x.items (texts_of vs) all)
+abbrev HasShort : RunRead → Type 0
+HasShort t = IfSome t.stil IsShort
+
+same_read : (s t : RunRead) → Some s ≡ Some t → HasShort s → HasShort t
+same_read s t e h = let same : s ≡ t = cc in subst HasShort same h
+
+stil_short : (list first : Option Text) (texts : List Text) (t : RunRead) → run_read list first texts ≡ Some t → All IsShort texts → HasShort t
+stil_short None None [] t e all = cc
+stil_short None None (a ∷ []) t e all = same_read (run_texts a None None) t e tt
+stil_short None None (a ∷ b ∷ more) t e all = cc
+stil_short (Some l) None [] t e all = cc
+stil_short (Some l) None (a ∷ []) t e all = cc
+stil_short (Some l) None (a ∷ b ∷ []) t e all = same_read (run_texts a (Some b) None) t e tt
+stil_short (Some l) None (a ∷ b ∷ c ∷ more) t e all = cc
+stil_short None (Some f) [] t e all = cc
+stil_short None (Some f) (a ∷ []) t e all = cc
+stil_short None (Some f) (a ∷ b ∷ []) t e all = same_read (run_texts a None (Some b)) t e (All-head IsShort b [] (All-tail IsShort a (b ∷ []) all))
+stil_short None (Some f) (a ∷ b ∷ c ∷ more) t e all = cc
+stil_short (Some l) (Some f) [] t e all = cc
+stil_short (Some l) (Some f) (a ∷ []) t e all = cc
+stil_short (Some l) (Some f) (a ∷ b ∷ []) t e all = cc
+stil_short (Some l) (Some f) (a ∷ b ∷ c ∷ []) t e all =
+    same_read (run_texts a (Some b) (Some c)) t e (All-head IsShort c [] (All-tail IsShort b (c ∷ []) (All-tail IsShort a (b ∷ c ∷ []) all)))
+stil_short (Some l) (Some f) (a ∷ b ∷ c ∷ d ∷ more) t e all = cc
+
+lent : (o : Option (Bor Text)) → IfSome (option_map (λ t. t.now) o) IsShort → IfSome o (λ text. IsShort text.now)
+lent None h = h
+lent (Some text) h = h
+
+pub lent_short : (list first : Option Text) (texts : List Text) (t : RunTexts) → run_read list first texts ≡ Some (run_texts_of t) → All IsShort texts → IfSome t.stil (λ text. IsShort text.now)
+lent_short list first texts t e all = lent t.stil (stil_short list first texts (run_texts_of t) e all)

@@ -1,8 +1,8 @@
 //! What a run is asked for, and what that asks of each class.
-ghost use Rattle.std.specs.Prelude.{◌≡◌, ◌<◌, ◌≤◌, ◌^◌, ℕ, IfOk, length, map, slice_index};
+ghost use Rattle.std.specs.Prelude.{◌≡◌, ◌<◌, ◌+◌, ◌-◌, ◌^◌, ◌&&◌, ◌==◌, ℕ, cond, IfOk, length, map, slice_index, vec_len};
 ghost use Rattle.std.specs.List.{All};
 ghost use Rattle.run_files.specs.Runs.{count_true};
-ghost use Rattle.run_files.specs.inner.Classes.{AreAskedClasses, AreWeights, asked_in, is_zero};
+ghost use Rattle.run_files.specs.inner.Classes.{AreAskedClasses, AreWeights, is_zero};
 
 use crate::spreading::unmarked_weights;
 use cubes::Pattern;
@@ -54,19 +54,25 @@ fn asked_count(faults: &[bool]) -> u32
     count
 }
 
+/// Counts a fault of the class, where it is asked for.
+fn count_fault(weights: &mut Vec<u32>, class: u32, asked: bool)
+    requires class { class < vec_len weights.old }
+    requires fits { slice_index weights.old.items class < 2 ^ 32 - 1 }
+    ensures size { vec_len weights.new ≡ vec_len weights.old }
+    ensures counted { (k : ℕ) → slice_index weights.new.items k ≡ cond (asked && (class == k)) 1 0 + slice_index weights.old.items k }
+{
+    weights[class as usize] += asked as u32;
+}
+
 /// How many faults of each class are asked for.
-fn class_weights(
-    alloc: Global,
-    classes: &Classes,
-    faults: &[bool],
-) -> Result<Vec<u32>, AllocError>
+fn class_weights(alloc: Global, classes: &Classes, faults: &[bool]) -> Result<Vec<u32>, AllocError>
     requires size { (length faults.now ≡ length classes.now.numbers) × (length faults.now < 2 ^ 32) }
     requires within { All (λ class. class < length classes.now.representatives) classes.now.numbers }
     ensures { IfOk result (λ v. AreWeights classes.now faults.now v.items) }
 {
     let mut weights = vec![in alloc; 0u32; classes.count() as usize]?;
     for i in 0..faults.len() {
-        weights[classes.class_of(i as u32) as usize] += faults[i] as u32;
+        count_fault(&mut weights, classes.class_of(i as u32), faults[i]);
     }
     Ok(weights)
 }

@@ -2,9 +2,11 @@
 //!
 //! Gives: `make_files`, `RunPlan`, `Wanted`, `RunFiles`.
 //! Proved: `make_files`: good files of a design, with the run theorem, for every number of workers and interleaving, searched by any engine that
-//! keeps the trait's contract.
+//! keeps the trait's contract; a line says that its fault wasn't asked for where it wasn't, and elsewhere only where enough are detected; what the
+//! first patterns detect of what is asked for is detected.
 //! Tested: run by `run`.
-//! Neither: how many patterns and aborted faults there are; what passes the stage.
+//! Neither: how many patterns and aborted faults there are; what passes the stage; that a run stops once enough are detected, and that it doesn't
+//! search for what the first patterns detect.
 #![tactic(auto)]
 
 mod asked;

@@ -66,7 +66,7 @@ fn search_named<J: About + Send + Sync, E: Engine + Sync, G: Gate + Sync, R: Thr
     requires kinds { E.refutes ≡ J.subject.refutes }
     requires workers { (0 < plan.workers) × (plan.workers ≤ most_workers) }
     ensures known { IfOk result (λ r. AreKnown core.now holds.now plan.limit E.refutes faults.now r.0.items r.1.items) }
-    ensures done { IfOk result (λ r. IsDone (option_copied goal) r.1.items) }
+    ensures done { IfOk result (λ r. IsDone (option_copied goal.entry) r.1.items) }
     ensures few { IfOk result (λ r. length r.0.items ≤ length faults.now + length faults.now) }
 {
     stage.at(
@@ -110,12 +110,10 @@ fn search_faults<E: Engine + Sync, G: Gate + Sync, R: Threads + Wait + Sync>(
     requires lines { All (λ (f : FaultOf). IsLineOf core.now f.line) faults.now }
     requires workers { (0 < plan.workers) × (plan.workers ≤ most_workers) }
     ensures known { IfOk result (λ r. AreKnown core.now holds.now plan.limit E.refutes faults.now r.0.items r.1.items) }
-    ensures done { IfOk result (λ r. IsDone (option_copied goal) r.1.items) }
+    ensures done { IfOk result (λ r. IsDone (option_copied goal.entry) r.1.items) }
     ensures few { IfOk result (λ r. length r.0.items ≤ length faults.now + length faults.now) }
 {
-    search_named::<Brand, E, G, R>(
-        rt, alloc, core, faults, plan, engine, stage, holds, goal,
-    )
+    search_named::<Brand, E, G, R>(rt, alloc, core, faults, plan, engine, stage, holds, goal)
 }
 
 /// The patterns that are kept and the verdicts of the classes that are asked for. Those that the first patterns detect aren't searched.
@@ -158,13 +156,22 @@ fn search_asked<E: Engine + Sync, G: Gate + Sync, R: Threads + Wait + Sync>(
     let verdicts = spread(alloc, &found, verdicts)?;
     let mut patterns = first;
     patterns.append(&mut more)?;
-    compact_beside(rt, alloc, core, &asked.faults, patterns, verdicts, plan.workers)
+    compact_beside(
+        rt,
+        alloc,
+        core,
+        &asked.faults,
+        patterns,
+        verdicts,
+        plan.workers,
+    )
 }
 
 /// Classes are few, and each representative stands on a line of the netlist.
 fn represented(core: &Core, classes: &Classes)
     requires design { IsDesign core.now }
     requires classes { AreClasses core.now classes.now }
+    ensures all { length classes.now.numbers ≤ most_design_faults }
     ensures few { length classes.now.representatives ≤ most_design_faults }
     ensures lines { All (λ (f : FaultOf). IsLineOf core.now f.line) classes.now.representatives }
 {

@@ -1,5 +1,5 @@
 //! Classes of which some are marked: the weights and the verdicts of the others.
-ghost use Rattle.std.specs.Prelude.{◌≡◌, ◌∷◌, ◌<◌, ◌^◌, List, Bool, IfOk, length};
+ghost use Rattle.std.specs.Prelude.{◌≡◌, ◌∷◌, ◌++◌, [], ◌<◌, ◌^◌, List, Bool, IfOk, OnOk, length};
 ghost use Rattle.std.specs.Vec.Iter.{into_iter_items};
 ghost use Rattle.run_files.specs.inner.Searches.{IsGoalOf};
 ghost use Rattle.run_files.specs.inner.Spread.{marked_weight, spread, unmarked_weights};
@@ -7,6 +7,16 @@ ghost use Rattle.run_files.specs.inner.Spread.{marked_weight, spread, unmarked_w
 use list_core::{Goal, Verdict};
 use std::alloc::{AllocError, Global};
 use std::vec::IntoIter;
+
+/// Adds the weight, where it isn't marked.
+fn push_unmarked(left: &mut Vec<u32>, weight: u32, marked: bool) -> Result<(), AllocError>
+    ensures { OnOk result (left.new.items ≡ left.old.items ++ unmarked_weights (marked ∷ []) (weight ∷ [])) }
+{
+    if !marked {
+        left.push(weight)?;
+    }
+    Ok(())
+}
 
 /// The weights of those that aren't marked, in order.
 pub(crate) fn unmarked_weights(
@@ -19,11 +29,16 @@ pub(crate) fn unmarked_weights(
 {
     let mut left = Vec::new(alloc);
     for k in 0..weights.len() {
-        if !marks[k] {
-            left.push(weights[k])?;
-        }
+        push_unmarked(&mut left, weights[k], marks[k])?;
     }
     Ok(left)
+}
+
+/// The weight, where it is marked.
+fn if_marked(weight: u32, marked: bool) -> u32
+    ensures { result ≡ marked_weight (marked ∷ []) (weight ∷ []) }
+{
+    if marked { weight } else { 0 }
 }
 
 /// What those that are marked weigh together.
@@ -33,9 +48,7 @@ fn marked_weight(weights: &[u32], marks: &[bool]) -> u64
 {
     let mut weight = 0u64;
     for k in 0..weights.len() {
-        if marks[k] {
-            weight += weights[k] as u64;
-        }
+        weight += if_marked(weights[k], marks[k]) as u64;
     }
     weight
 }

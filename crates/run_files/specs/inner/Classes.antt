@@ -1,5 +1,5 @@
 -- What is asked for of classes, where the faults that are asked for are marked.
-use Rattle.std.specs.Prelude.{ℕ, zero, suc, ◌+◌, ◌≡◌, ◌&&◌, ◌==◌, Bool, true, false, cond, List, [], ◌∷◌, length, map, slice_index, ◌<◌, Some}
+use Rattle.std.specs.Prelude.{ℕ, ◌+◌, ◌≡◌, ◌&&◌, ◌==◌, Bool, true, false, cond, List, [], ◌∷◌, length, map, slice_index, ◌<◌, Some}
 use Rattle.std.specs.List.{slice_get}
 use Rattle.fault_collapse.specs.Numbers.{Classes}
 use Rattle.word_sim.specs.Never.{unmarked}
@@ -28,8 +28,7 @@ detected_in (c ∷ cs) [] verdicts = 0
 detected_in (c ∷ cs) (m ∷ ms) verdicts = cond m (one_if_class_detected (verdict_at verdicts c)) 0 + detected_in cs ms verdicts
 
 abbrev pub is_zero : ℕ → Bool
-is_zero zero = true
-is_zero (suc k) = false
+is_zero k = k == 0
 
 -- for each class how many of them are of it
 pub record AreWeights (classes : Classes) (marks : List Bool) (weights : List ℕ) : Type 0 where
