@@ -5,16 +5,16 @@ use Rattle.statement.specs.declared.lines.Fault.{Fault}
 use Rattle.statement.specs.declared.lines.Point.{Point}
 use Rattle.statement.specs.Netlists.{Netlist}
 use Rattle.statement.specs.Patterns.{Pattern}
-use Rattle.word_sim.specs.Hits.{IsNeverDetected, LastDetected}
-use Rattle.fewer_patterns.specs.Fewer.{Keeps}
+use Rattle.word_sim.specs.Hits.{LastDetected}
+use Rattle.fewer_patterns.specs.Fewer.{IsSeenBy, Keeps}
 use Rattle.fewer_patterns.specs.inner.Telling.{is_told_again}
 
 module _ (n : Netlist) (old new : List Pattern) where
   kept_one : (f : Fault) (first again : Option (ℕ × Point)) → LastDetected n old f first → LastDetected n new f again → is_told_again first again ≡ true
-      → IsNeverDetected n new f → IsNeverDetected n old f
-  kept_one f None again was is told never = was
-  kept_one f (Some one) None was is told never = absurd (true≢false (sym told))
-  kept_one f (Some one) (Some two) was is told never = absurd (never two.0 two.1 is.here)
+      → IsSeenBy n old f → IsSeenBy n new f
+  kept_one f None again was is told seen = absurd (was seen.0 seen.1 seen.2)
+  kept_one f (Some one) None was is told seen = absurd (true≢false (sym told))
+  kept_one f (Some one) (Some two) was is told seen = (two.0, two.1, is.here)
 
   pub keeps : (faults : List Fault) (first again : List (Option (ℕ × Point))) → AllZip (LastDetected n old) faults first → AllZip (LastDetected n new) faults again
       → ((k : ℕ) → k < length first → is_told_again (get_or first k None) (get_or again k None) ≡ true) → Keeps n faults old new

@@ -23,7 +23,8 @@ use Rattle.list_core.specs.States.{State, IsTrueList}
 use Rattle.list_core.specs.declared.verdicts.Verdict.{Verdict}
 use Rattle.list_core.specs.declared.verdicts.Verdict.TheVariants.{Open, Detected, Redundant, Aborted}
 use Rattle.list_core.specs.Verdicts.{VerdictHolds, is_open, one_if_class_detected, verdict_at}
-use Rattle.run_files.specs.inner.Searches.{AreKnown, IsKnown, IsSeenBy}
+use Rattle.fewer_patterns.specs.Fewer.{IsNoWorse, IsSeenBy}
+use Rattle.run_files.specs.inner.Searches.{AreKnown, IsKnown}
 use Rattle.run_files.specs.inner.Spread.{spread}
 use Rattle.run_files.specs.inner.Verdicts.{AreVerdicts, IsVerdict, MayHave, is_redundant}
 use Rattle.run_files.proofs.SpreadLemmas.{spread_each, spread_open, spread_size}
@@ -107,6 +108,31 @@ module _ (n : Netlist) (holds : Holds) (limit : ℕ) (refutes : Bool) where
       by_mark class f at false mark =
           spread_each (IsKnown n holds limit refutes (first ++ more)) marks faults verdicts size
           (λ i g there. known_behind first more g (verdict_at verdicts i) (known.each i g there)) class f at mark
+
+  -- ---- by other patterns that detect as much
+
+  fault_at : (P : Fault → Type 0) (faults : List Fault) → All P faults → (class : ℕ) (f : Fault) → slice_get faults class ≡ Some f → P f
+  fault_at P faults all class f at =
+      let lt = slice_get_within faults class f at in
+      let same : get_or faults class f ≡ f = (let both : Some (get_or faults class f) ≡ Some f = sym (slice_get-get_or faults class f lt) ∙ at in cc) in
+      subst P same (all class f lt)
+
+  pub seen_again : (faults : List Fault) (old new : List Pattern) → IsNoWorse n holds faults old new → (class : ℕ) (f : Fault) → slice_get faults class ≡ Some f → IsSeenBy n old f → IsSeenBy n new f
+  seen_again faults old new is class f at = fault_at (λ (g : Fault). IsSeenBy n old g → IsSeenBy n new g) faults is.keeps class f at
+
+  known_again : (old new : List Pattern) (f : Fault) (v : Verdict) → (IsSeenBy n old f → IsSeenBy n new f) → IsKnown n holds limit refutes old f v → IsKnown n holds limit refutes new f v
+  known_again old new f Open seen known = tt
+  known_again old new f (Detected place point) seen known = seen known
+  known_again old new f (Redundant e) seen known = known
+  known_again old new f (Aborted tree) seen known = known
+
+  pub known_by : (faults : List Fault) (old new : List Pattern) (verdicts : List Verdict) → IsNoWorse n holds faults old new → AreKnown n holds limit refutes faults old verdicts
+      → AreKnown n holds limit refutes faults new verdicts
+  known_by faults old new verdicts is known = record {
+    count = known.count;
+    obey = is.obey;
+    each = λ class f at. known_again old new f (verdict_at verdicts class) (seen_again faults old new is class f at) (known.each class f at);
+  }
 
   -- ---- no pattern detects a redundant one
 

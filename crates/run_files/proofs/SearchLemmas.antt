@@ -32,7 +32,7 @@ use Rattle.run_files.specs.inner.Searches.{AreDetectedMarks, AreFound, AreKnown,
 use Rattle.run_files.specs.inner.Spread.{marked_weight, spread, unmarked_weights}
 use Rattle.run_files.specs.inner.Verdicts.{AreVerdicts, IsVerdict, MayHave}
 use Rattle.run_files.proofs.CountLemmas.{asked_some, some_asked, weighed}
-use Rattle.run_files.proofs.KnownLemmas.{blank, detected_stays, kinds_of, known_spread, seen_before, seen_stays, shut_stays, verdicts_of}
+use Rattle.run_files.proofs.KnownLemmas.{blank, detected_stays, kinds_of, seen_stays, shut_stays, verdicts_of}
 use Rattle.run_files.proofs.SpreadLemmas.{outweighs, spread_each, spread_open, spread_size, spread_weight}
 
 detected_shut : (v : Verdict) → one_if_class_detected v ≡ 1 → is_open v ≡ false
@@ -68,22 +68,21 @@ ended (Some p) asked weights marks (Some g) verdicts new is done shut met = elim
   | inr enough ↦ inr (met p g is enough)
 ]
 
-module _ (n : Netlist) (holds : Holds) (limit : ℕ) (refutes : Bool) (faults : List Fault) (weights : List ℕ) (first more : List Pattern) (marks : List Bool) (verdicts : List Verdict)
-    (kept : List Pattern) (new : List Verdict) (sized : length weights ≡ length faults) (are : AreDetectedMarks n first faults marks) (obey : All (IsPatternOf n holds) first)
-    (known : AreKnown n holds limit refutes (unmarked marks faults) more verdicts) (done : AreFinished n faults (first ++ more) (spread marks verdicts) kept new) where
+module _ (n : Netlist) (holds : Holds) (limit : ℕ) (refutes : Bool) (faults : List Fault) (weights : List ℕ) (first more patterns : List Pattern) (marks : List Bool) (verdicts : List Verdict)
+    (kept : List Pattern) (new : List Verdict) (sized : length weights ≡ length faults) (are : AreDetectedMarks n first faults marks)
+    (known : AreKnown n holds limit refutes (unmarked marks faults) more verdicts) (known_all : AreKnown n holds limit refutes faults patterns (spread marks verdicts))
+    (through : (class : ℕ) (f : Fault) → slice_get faults class ≡ Some f → IsSeenBy n first f → IsSeenBy n patterns f)
+    (done : AreFinished n faults patterns (spread marks verdicts) kept new) where
   abbrev before : List Verdict
   before = spread marks verdicts
 
-  known_all : AreKnown n holds limit refutes faults (first ++ more) before
-  known_all = known_spread n holds limit refutes faults marks first more verdicts are.size obey known
-
   first_detected : (class : ℕ) (f : Fault) → slice_get faults class ≡ Some f → IsSeenBy n first f → one_if_class_detected (verdict_at new class) ≡ 1
-  first_detected class f at seen = seen_stays n holds limit refutes faults (first ++ more) before known_all kept new done class f at (seen_before n first more f seen)
+  first_detected class f at seen = seen_stays n holds limit refutes faults patterns before known_all kept new done class f at (through class f at seen)
 
   shut_at : NoneOpen verdicts → (class : ℕ) (f : Fault) → slice_get faults class ≡ Some f → (mark : Bool) → get_or marks class false ≡ mark → is_open (verdict_at new class) ≡ false
   shut_at none class f at true mark = detected_shut (verdict_at new class) (first_detected class f at ((are.each class f at).0 mark))
   shut_at none class f at false mark =
-      shut_stays n holds limit refutes faults (first ++ more) before known_all kept new done class f at
+      shut_stays n holds limit refutes faults patterns before known_all kept new done class f at
       (spread_each (λ (g : Fault) (v : Verdict). is_open v ≡ false) marks faults verdicts are.size
       (λ i g there. none i (let lt = slice_get_within (unmarked marks faults) i g there in omega (arith, known.count))) class f at mark)
 
@@ -99,7 +98,7 @@ module _ (n : Netlist) (holds : Holds) (limit : ℕ) (refutes : Bool) (faults : 
       let one = first_detected class f at ((are.each class f at).0 mark) in
       omega arith
   more_at class f at false mark =
-      let stays = detected_stays n holds limit refutes faults (first ++ more) before known_all kept new done class f at in
+      let stays = detected_stays n holds limit refutes faults patterns before known_all kept new done class f at in
       omega arith
 
   heavy : marked_weight marks weights + detected_weight (unmarked_weights marks weights) verdicts ≤ detected_weight weights new
@@ -120,8 +119,8 @@ module _ (n : Netlist) (holds : Holds) (limit : ℕ) (refutes : Bool) (faults : 
   pub found_of : (percent : Option ℕ) (asked : ℕ) (goal : Option Goal) → IsGoalOf percent asked weights marks goal → IsDone goal verdicts → length kept < 4294967296
       → AreFound n holds limit refutes percent asked faults weights first kept new
   found_of percent asked goal is ends few = record {
-    verdicts_are = verdicts_of n holds limit refutes faults (first ++ more) before known_all kept new done;
-    kinds = kinds_of n holds limit refutes faults (first ++ more) before known_all kept new done;
+    verdicts_are = verdicts_of n holds limit refutes faults patterns before known_all kept new done;
+    kinds = kinds_of n holds limit refutes faults patterns before known_all kept new done;
     few = few;
     first_kept = first_detected;
     done = ended percent asked weights marks goal verdicts new is ends none_open (met asked);

@@ -22,6 +22,7 @@ use cubes::Pattern;
 use evidence::{Engine, shown_is_redundant};
 use fault_collapse::Classes;
 use fault_universe::{faults_have_lines, few_faults};
+use fewer_patterns::{Rounds, fewer};
 use list_core::{About, FaultList, Finished, Goal, Verdict};
 use netlist::{Core, Fault, Holds, NoMemory};
 use outside::{Gate, Stage};
@@ -154,8 +155,14 @@ fn search_asked<E: Engine + Sync, G: Gate + Sync, R: Threads + Wait + Sync>(
         goal.as_ref(),
     )?;
     let verdicts = spread(alloc, &found, verdicts)?;
-    let mut patterns = first;
-    patterns.append(&mut more)?;
+    let mut all = first;
+    all.append(&mut more)?;
+    let rounds = Rounds {
+        count: plan.rounds,
+        workers: plan.workers,
+        seed: plan.seed,
+    };
+    let patterns = fewer(rt, alloc, core, holds, &asked.faults, all, rounds)?;
     compact_beside(
         rt,
         alloc,

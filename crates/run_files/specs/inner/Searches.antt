@@ -17,14 +17,11 @@ use Rattle.list_core.specs.declared.verdicts.Verdict.{Verdict}
 use Rattle.list_core.specs.declared.verdicts.Verdict.TheVariants.{Open, Detected, Redundant, Aborted}
 use Rattle.list_core.specs.Verdicts.{is_open, one_if_class_detected, verdict_at}
 use Rattle.worker.specs.Working.{NoneOpen}
+pub use Rattle.fewer_patterns.specs.Fewer.{IsSeenBy}
 use Rattle.run_files.specs.Runs.{count_true}
 use Rattle.run_files.specs.inner.Classes.{IsAskedClass, detected_in}
 use Rattle.run_files.specs.inner.Spread.{marked_weight, unmarked_weights}
 use Rattle.run_files.specs.inner.Verdicts.{AreVerdicts, MayHave}
-
--- some pattern detects the fault
-abbrev pub IsSeenBy : Netlist → List Pattern → Fault → Type 0
-IsSeenBy n patterns f = (place : ℕ) × (point : Point) × IsDetectedAt n patterns f place point
 
 -- The verdict before compaction is true of the fault: some pattern detects it, wherever it stands by now; or there is evidence.
 abbrev pub IsKnown : Netlist → Holds → ℕ → Bool → List Pattern → Fault → Verdict → Type 0
