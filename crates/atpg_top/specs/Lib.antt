@@ -7,7 +7,6 @@ pub mod ChainTests
 pub mod Grades
 pub mod Checks
 pub mod Runs
-pub mod Asked
 pub mod Diagnoses
 pub mod Sweeps
 pub mod Commands

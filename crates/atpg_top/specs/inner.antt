@@ -7,5 +7,4 @@ pub mod ChainTrials
 pub mod GradeTrials
 pub mod Cases
 pub mod Held
-pub mod Asking
 pub mod Running

@@ -1,5 +1,5 @@
 //! `run`: the five files of a file's netlist.
-ghost use Rattle.std.specs.Prelude.{◌≡◌, ◌≤◌, false, true, IfOk, length, map, option_map};
+ghost use Rattle.std.specs.Prelude.{◌≡◌, ◌≤◌, ◌∷◌, [], false, true, IfOk, length, map};
 ghost use Rattle.std.specs.List.{All};
 ghost use Rattle.netlist.specs.Designs.{IsDesign};
 ghost use Rattle.netlist.specs.Holds.{AreHoldsOf};
@@ -9,26 +9,25 @@ ghost use Rattle.commands.specs.Rows.{CommandRow};
 ghost use Rattle.commands.specs.Worked.{IsWorked};
 ghost use Rattle.commands.specs.World.{world};
 ghost use Rattle.commands.specs.declared.ending.Finding.TheVariants.{Fine};
-ghost use Rattle.command_line.specs.CommandLine.{AreInRange, hold_of, run_reads};
-ghost use Rattle.run_files.specs.Runs.{IsRun, asked_by};
-ghost use Rattle.atpg_top.specs.Asked.{asked_of, made_due};
+ghost use Rattle.command_line.specs.CommandLine.{AreInRange, hold_of};
+ghost use Rattle.run_files.specs.Runs.{IsRun};
 ghost use Rattle.atpg_top.specs.Commands.{run_due};
-ghost use Rattle.atpg_top.specs.Runs.{tests_line, texts_made};
-ghost use Rattle.atpg_top.specs.inner.Asking.{HaveCount, IsReady, IsWanted};
-ghost use Rattle.atpg_top.specs.inner.Running.{plan_of};
+ghost use Rattle.atpg_top.specs.Runs.{may_refute, tests_line, texts_made};
+ghost use Rattle.atpg_top.specs.inner.Running.{made_due, held_due};
 
-use crate::asking::{RunCase, case_of};
+use crate::design::design_of;
 use crate::five_files::{product_of, tests_line};
+use crate::holding::holds_of;
 use crate::refusal::Refusal;
 use clauses::{Clauses, Then};
-use command_line::{EngineName, Held, RunNames, RunOptions, TreeEngine, run_reads};
-use commands::{Ending, Product, Stop, deliver, file_names, read_in_order};
+use command_line::{EngineName, Held, RunOptions, SearchNumbers, TreeEngine};
+use commands::{Ending, FileName, Product, Stop, deliver, file_names, read_in_order};
 use evidence::Engine;
 use fan::Fan;
-use netlist::{Core, Holds, NoMemory};
+use netlist::{Core, Holds, Netlist, NoMemory};
 use outside::{Gate, Shelf, Sink};
 use podem::Podem;
-use run_files::{RunFiles, RunPlan, Wanted, make_files};
+use run_files::{RunFiles, RunPlan, make_files};
 use std::alloc::{AllocError, Global};
 use std::sync::Wait;
 use std::thread::Threads;
@@ -52,48 +51,28 @@ fn product_by(alloc: Global, made: RunFiles) -> Result<Product, AllocError>
     product_of(alloc, net, scan, stil, certificate, report, shown)
 }
 
-/// The plan of a run.
-fn plan_of(options: RunOptions) -> RunPlan
-    ensures { result ≡ plan_of options }
-{
-    let numbers = options.numbers;
-    RunPlan {
-        chains: numbers.chains,
-        workers: numbers.workers,
-        limit: numbers.limit,
-        seed: numbers.seed,
-        percent: options.percent,
-        rounds: options.rounds,
-    }
-}
-
 /// The five files, as this engine finds them.
 fn made_by<R: Threads + Wait + Sync, E: Engine + Sync, G: Gate + Sync>(
     rt: &R,
     alloc: Global,
     core: &Core,
     engine: &E,
-    options: RunOptions,
+    numbers: SearchNumbers,
     holds: &Holds,
-    wanted: Wanted,
     stage: &G,
 ) -> Result<RunFiles, NoMemory>
     requires design { IsDesign core.now }
-    requires range { AreInRange options.numbers }
+    requires range { AreInRange numbers }
     requires held { AreHoldsOf core.now holds.now }
-    requires wanted { IsWanted core.now holds.now wanted }
-    ensures { IfOk result (IsRun core.now (asked_by (plan_of options) wanted holds.now E.refutes)) }
+    ensures { IfOk result (IsRun core.now holds.now numbers.chains numbers.limit E.refutes) }
 {
-    make_files(
-        rt,
-        alloc,
-        core,
-        plan_of(options),
-        engine,
-        holds,
-        wanted,
-        stage,
-    )
+    let plan = RunPlan {
+        chains: numbers.chains,
+        workers: numbers.workers,
+        limit: numbers.limit,
+        seed: numbers.seed,
+    };
+    make_files(rt, alloc, core, plan, engine, holds, stage)
 }
 
 /// The five files, by a tree of decisions for each class.
@@ -102,25 +81,23 @@ pub(crate) fn by_trees<R: Threads + Wait + Sync, G: Gate + Sync>(
     alloc: Global,
     core: &Core,
     engine: TreeEngine,
-    options: RunOptions,
+    numbers: SearchNumbers,
     holds: &Holds,
-    wanted: Wanted,
     stage: &G,
 ) -> Result<RunFiles, NoMemory>
     requires design { IsDesign core.now }
-    requires range { AreInRange options.numbers }
+    requires range { AreInRange numbers }
     requires held { AreHoldsOf core.now holds.now }
-    requires wanted { IsWanted core.now holds.now wanted }
-    ensures { IfOk result (IsRun core.now (asked_by (plan_of options) wanted holds.now false)) }
+    ensures { IfOk result (IsRun core.now holds.now numbers.chains numbers.limit false) }
 {
     match engine {
         TreeEngine::Podem => {
             let podem = Podem::of(alloc, core)?;
-            made_by(rt, alloc, core, &podem, options, holds, wanted, stage)
+            made_by(rt, alloc, core, &podem, numbers, holds, stage)
         }
         TreeEngine::Fan => {
             let fan = Fan::of(alloc, core)?;
-            made_by(rt, alloc, core, &fan, options, holds, wanted, stage)
+            made_by(rt, alloc, core, &fan, numbers, holds, stage)
         }
     }
 }
@@ -130,19 +107,17 @@ fn by_clauses<R: Threads + Wait + Sync, G: Gate + Sync>(
     rt: &R,
     alloc: Global,
     core: &Core,
-    options: RunOptions,
+    numbers: SearchNumbers,
     holds: &Holds,
-    wanted: Wanted,
     stage: &G,
 ) -> Result<RunFiles, NoMemory>
     requires design { IsDesign core.now }
-    requires range { AreInRange options.numbers }
+    requires range { AreInRange numbers }
     requires held { AreHoldsOf core.now holds.now }
-    requires wanted { IsWanted core.now holds.now wanted }
-    ensures { IfOk result (IsRun core.now (asked_by (plan_of options) wanted holds.now true)) }
+    ensures { IfOk result (IsRun core.now holds.now numbers.chains numbers.limit true) }
 {
     let clauses = Clauses::of(alloc, core)?;
-    made_by(rt, alloc, core, &clauses, options, holds, wanted, stage)
+    made_by(rt, alloc, core, &clauses, numbers, holds, stage)
 }
 
 /// The five files, by a tree of decisions for each class, or, where the search gives up, by clauses.
@@ -151,29 +126,27 @@ fn by_trees_then_clauses<R: Threads + Wait + Sync, G: Gate + Sync>(
     alloc: Global,
     core: &Core,
     engine: TreeEngine,
-    options: RunOptions,
+    numbers: SearchNumbers,
     holds: &Holds,
-    wanted: Wanted,
     stage: &G,
 ) -> Result<RunFiles, NoMemory>
     requires design { IsDesign core.now }
-    requires range { AreInRange options.numbers }
+    requires range { AreInRange numbers }
     requires held { AreHoldsOf core.now holds.now }
-    requires wanted { IsWanted core.now holds.now wanted }
-    ensures { IfOk result (IsRun core.now (asked_by (plan_of options) wanted holds.now true)) }
+    ensures { IfOk result (IsRun core.now holds.now numbers.chains numbers.limit true) }
 {
     let second = Clauses::of(alloc, core)?;
-    let few = options.numbers.limit;
+    let few = numbers.limit;
     match engine {
         TreeEngine::Podem => {
             let first = Podem::of(alloc, core)?;
             let both = Then { first, few, second };
-            made_by(rt, alloc, core, &both, options, holds, wanted, stage)
+            made_by(rt, alloc, core, &both, numbers, holds, stage)
         }
         TreeEngine::Fan => {
             let first = Fan::of(alloc, core)?;
             let both = Then { first, few, second };
-            made_by(rt, alloc, core, &both, options, holds, wanted, stage)
+            made_by(rt, alloc, core, &both, numbers, holds, stage)
         }
     }
 }
@@ -185,44 +158,44 @@ fn made_of<R: Threads + Wait + Sync, G: Gate + Sync>(
     core: &Core,
     options: RunOptions,
     holds: &Holds,
-    wanted: Wanted,
     stage: &G,
 ) -> Result<RunFiles, NoMemory>
     requires design { IsDesign core.now }
     requires range { AreInRange options.numbers }
     requires held { AreHoldsOf core.now holds.now }
-    requires wanted { IsWanted core.now holds.now wanted }
-    ensures { IfOk result (IsRun core.now (asked_of options holds.now wanted.faults.items wanted.first.items)) }
+    ensures { IfOk result (IsRun core.now holds.now options.numbers.chains options.numbers.limit (may_refute options.engine)) }
 {
+    let numbers = options.numbers;
     match options.engine {
-        EngineName::Trees(engine) => {
-            by_trees(rt, alloc, core, engine, options, holds, wanted, stage)
-        }
-        EngineName::Clauses => by_clauses(rt, alloc, core, options, holds, wanted, stage),
+        EngineName::Trees(engine) => by_trees(rt, alloc, core, engine, numbers, holds, stage),
+        EngineName::Clauses => by_clauses(rt, alloc, core, numbers, holds, stage),
         EngineName::TreesThenClauses(engine) => {
-            by_trees_then_clauses(rt, alloc, core, engine, options, holds, wanted, stage)
+            by_trees_then_clauses(rt, alloc, core, engine, numbers, holds, stage)
         }
     }
 }
 
-/// What `run` makes of what is asked for.
-fn run_case<R: Threads + Wait + Sync, G: Gate + Sync>(
+/// What `run` makes of a design and the names of inputs that are held.
+fn run_design<R: Threads + Wait + Sync, G: Gate + Sync>(
     rt: &R,
     alloc: Global,
-    case: RunCase,
+    netlist: Netlist,
     options: RunOptions,
+    named: &[Held<'_>],
     stage: &G,
 ) -> Result<Product, Stop<Refusal>>
-    requires ready { IsReady case }
+    requires design { IsDesign netlist }
     requires range { AreInRange options.numbers }
-    ensures { IsWorked (made_due options case.core case.holds case.wanted.faults.items case.wanted.first.items) 5 result }
+    ensures { IsWorked (held_due options (map hold_of named.now) netlist) 5 result }
 {
-    let RunCase {
-        core,
-        holds,
-        wanted,
-    } = case;
-    let Ok(made) = made_of(rt, alloc, &core, options, &holds, wanted, stage) else {
+    let Ok(core) = Core::of(alloc, netlist) else {
+        return Err(Stop::NoMemory);
+    };
+    let holds = match holds_of(alloc, &core, named) {
+        Ok(holds) => holds,
+        Err(stop) => return Err(stop),
+    };
+    let Ok(made) = made_of(rt, alloc, &core, options, &holds, stage) else {
         return Err(Stop::NoMemory);
     };
     match product_by(alloc, made) {
@@ -236,48 +209,44 @@ fn work<R: Threads + Wait + Sync, G: Gate + Sync>(
     rt: &R,
     alloc: Global,
     texts: Vec<Vec<u8>>,
-    names: RunNames<'_>,
     options: RunOptions,
     named: &[Held<'_>],
     stage: &G,
 ) -> Result<Product, Stop<Refusal>>
-    requires count { HaveCount (option_map (λ t. t.now) names.list) (option_map (λ t. t.now) names.first) (length texts.items) }
+    requires count { length texts.items ≡ 1 }
     requires within { All (λ text. length text ≤ most_bytes) (texts_of texts.items) }
     requires range { AreInRange options.numbers }
-    ensures { IsWorked (run_due (option_map (λ t. t.now) names.entry.list) (option_map (λ t. t.now) names.entry.first) options (map hold_of named.now) (texts_of texts.items)) 5 result }
+    ensures { IsWorked (run_due options (map hold_of named.now) (texts_of texts.items)) 5 result }
 {
-    match case_of(alloc, texts, names.list, names.first, named) {
-        Ok(case) => run_case(rt, alloc, case, options, stage),
+    match design_of(alloc, texts) {
+        Ok(netlist) => run_design(rt, alloc, netlist, options, named, stage),
         Err(stop) => Err(stop),
     }
 }
 
-/// Writes the five files of the netlist of the file that is named, under the names that begin as is asked.
+/// Writes the five files of the netlist of the file `net` under names that begin with `prefix`.
 pub fn run_netlist<'a, R: Threads + Wait + Sync, S: Shelf, T: Sink, G: Gate + Sync>(
     rt: &R,
     alloc: Global,
     shelf: &mut S,
     out: &mut T,
     stage: &G,
-    names: RunNames<'a>,
+    net: &'a str,
+    prefix: &'a str,
     options: RunOptions,
     named: &[Held<'_>],
 ) -> Ending<'a, Refusal>
     requires { AreInRange options.numbers }
-    ensures { CommandRow (run_reads names.entry.net.now (option_map (λ t. t.now) names.entry.list) (option_map (λ t. t.now) names.entry.first)) (run_files names.entry.prefix.now)
-        (run_due (option_map (λ t. t.now) names.entry.list) (option_map (λ t. t.now) names.entry.first) options (map hold_of named.now))
+    ensures { CommandRow (net.now ∷ []) (run_files prefix.now) (run_due options (map hold_of named.now))
         (world (S.files shelf.old) (S.failures shelf.old) (T.taken out.old) (T.failures out.old))
         (world (S.files shelf.new) (S.failures shelf.new) (T.taken out.new) (T.failures out.new)) result }
 {
-    let writes = file_names(names.prefix);
-    let reads = match run_reads(alloc, names) {
-        Ok(reads) => reads,
-        Err(_) => return Ending::Memory,
-    };
-    let texts = match read_in_order(alloc, shelf, reads.as_slice()) {
+    let reads = [FileName::of(net)];
+    let writes = file_names(prefix);
+    let texts = match read_in_order(alloc, shelf, &reads) {
         Ok(texts) => texts,
         Err(ending) => return ending,
     };
-    let worked = work(rt, alloc, texts, names, options, named, stage);
+    let worked = work(rt, alloc, texts, options, named, stage);
     deliver(alloc, shelf, out, &writes, worked)
 }

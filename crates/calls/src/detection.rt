@@ -138,8 +138,7 @@ pub fn push_detected(
     push_said(to, alloc, core, &faults, &patterns, is_batch)
 }
 
-/// So many drawn patterns.
-pub fn all_drawn(
+fn all_drawn(
     alloc: Global,
     core: &Core,
     count: u32,

@@ -64,9 +64,13 @@ impl<E: Engine, F: Engine> Engine for Then<E, F> {
         limit: u32,
         holds: &Holds,
     ) -> Result<Found, NoMemory> {
-        let room = self.room(alloc, core, holds)?;
-        let (found, _) = self.search_in(alloc, room, core, fault, limit, holds)?;
-        Ok(found)
+        let few = self.few_of(limit);
+        let same = fault;
+        let found = self.first.search(alloc, core, same, few, holds)?;
+        match settled(found) {
+            Some(found) => Ok(found),
+            None => self.second.search(alloc, core, fault, limit, holds),
+        }
     }
 
     fn room(

@@ -2,4 +2,3 @@ pub mod Counts
 pub mod Faults
 pub mod Lines
 pub mod Tables
-pub mod Versions

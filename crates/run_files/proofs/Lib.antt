@@ -1,13 +1,9 @@
-mod SpreadLemmas
-mod CountLemmas
-mod KnownLemmas
-mod FirstLemmas
-mod SearchLemmas
 mod LineLemmas
 mod LeafLemmas
+mod SearchLemmas
 mod ReportLemmas
 mod TruthLemmas
-mod AskedLemmas
+mod TreeLemmas
 mod PointLemmas
 mod ChainLemmas
 mod RunLemmas

@@ -1,8 +1,5 @@
 -- What the contracts of private functions cite.
 pub mod Verdicts
-pub mod Spread
-pub mod Classes
-pub mod Searches
 pub mod Outcomes
 pub mod Reports
 pub mod Written

@@ -1,5 +1,4 @@
 pub mod CycleLemmas
-pub mod LeftLemmas
 pub mod ListLemmas
 mod SightLemmas
 pub mod WordLemmas

@@ -1,3 +1,2 @@
 -- What the contracts of private functions cite.
-pub mod Marks
 pub mod Tallies

@@ -7,5 +7,4 @@ pub enum Outcome {
     Detected(u64, u64),
     Redundant,
     Aborted,
-    Unasked,
 }

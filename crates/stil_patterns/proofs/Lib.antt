@@ -4,7 +4,6 @@ mod WordLemmas
 mod AddLemmas
 mod BackLemmas
 mod OnceLemmas
-mod PickLemmas
 mod ReadLemmas
 mod SameLemmas
 mod SizeLemmas

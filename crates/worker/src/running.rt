@@ -1,19 +1,18 @@
 //! Workers beside each other.
 ghost use Rattle.std.specs.Prelude.{◌≡◌, ◌+◌, ◌<◌, ◌≤◌, [], length, IfOk, vec_len};
 ghost use Rattle.std.specs.List.{All};
-ghost use Rattle.std.specs.Option.{option_copied};
 ghost use Rattle.plain_text.specs.Limits.{most_workers};
 ghost use Rattle.list_core.specs.Subjects.{class_count, HaveLines};
 ghost use Rattle.list_core.specs.States.{IsTrueList};
 ghost use Rattle.shared_list.specs.Tally.{Tally};
 ghost use Rattle.netlist.specs.Holds.{AreHoldsOf};
-ghost use Rattle.worker.specs.Working.{IsDone, MaySearch};
+ghost use Rattle.worker.specs.Working.{MaySearch, NoneOpen};
 
 use crate::adding::add;
 use crate::rest::work_rest;
 use crate::working::work_beside;
 use evidence::Engine;
-use list_core::{About, FaultList, Goal};
+use list_core::{About, FaultList};
 use netlist::{Core, Holds, NoMemory};
 use outside::Gate;
 use shared_list::{Share, Shared};
@@ -50,7 +49,6 @@ fn work_in<J: About, T: Ledger, S: Ledger, P: Ledger, U: Ledger, E: Engine, G: G
     workers: u32,
     seed: u64,
     holds: &Holds,
-    goal: Option<&Goal>,
 )
     requires table { job.old.table ≡ shared.now.word.shared.table_id }
     requires subject { MaySearch J.subject core.now holds.now E.refutes }
@@ -66,7 +64,6 @@ fn work_in<J: About, T: Ledger, S: Ledger, P: Ledger, U: Ledger, E: Engine, G: G
         workers,
         seed,
         holds,
-        goal,
     )
     .is_err();
 }
@@ -130,7 +127,6 @@ fn run_named<
     workers: u32,
     seed: u64,
     holds: &Holds,
-    goal: Option<&Goal>,
     takes: Blank,
     settles: Blank,
     publishes: Blank,
@@ -143,7 +139,7 @@ fn run_named<
     requires settles { (settles.name ≡ S.name) × (settles.parts ≡ S.parts) × (S.parts ≡ workers) }
     requires publishes { (publishes.name ≡ P.name) × (publishes.parts ≡ P.parts) × (P.parts ≡ workers) }
     requires unspent { (unspent.name ≡ U.name) × (unspent.parts ≡ U.parts) × (U.parts ≡ workers) }
-    ensures closed { IfOk result (λ l. IsDone (option_copied goal.entry) l.verdicts) }
+    ensures closed { IfOk result (λ l. NoneOpen l.verdicts) }
     ensures true_list { IfOk result (λ l. IsTrueList J.subject l) }
     ensures few { IfOk result (λ l. length l.patterns ≤ class_count J.subject + class_count J.subject) }
 {
@@ -156,7 +152,7 @@ fn run_named<
         requires { (job.now.table ≡ behind.now.word.shared.table_id) × MaySearch J.subject core.now holds.now E.refutes }
     {
         work_in(
-            rt, alloc, behind, job, core, engine, stage, workers, seed, holds, goal,
+            rt, alloc, behind, job, core, engine, stage, workers, seed, holds,
         )
     };
     thread::for_each_mut(rt, jobs.as_mut_slice(), workers as usize, &step);
@@ -165,10 +161,10 @@ fn run_named<
     if refused {
         return Err(NoMemory);
     }
-    work_rest(alloc, list, workers, core, engine, seed, holds, goal)
+    work_rest(alloc, list, workers, core, engine, seed, holds)
 }
 
-/// Runs the workers beside each other, and works the rest. No class is Open in the answer, unless enough is detected.
+/// Runs the workers beside each other, and works the rest. No class is Open in the answer.
 pub fn run_all<J: About + Send + Sync, E: Engine + Sync, G: Gate + Sync, R: Threads + Wait + Sync>(
     rt: &R,
     alloc: Global,
@@ -179,7 +175,6 @@ pub fn run_all<J: About + Send + Sync, E: Engine + Sync, G: Gate + Sync, R: Thre
     workers: u32,
     seed: u64,
     holds: &Holds,
-    goal: Option<&Goal>,
 ) -> Result<FaultList<J>, NoMemory>
     requires core { core.now ≡ J.subject.netlist }
     requires lines { HaveLines J.subject }
@@ -188,7 +183,7 @@ pub fn run_all<J: About + Send + Sync, E: Engine + Sync, G: Gate + Sync, R: Thre
     requires kind { E.refutes ≡ J.subject.refutes }
     requires empty { list.journal ≡ [] }
     requires workers { (0 < workers) × (workers ≤ most_workers) }
-    ensures closed { IfOk result (λ l. IsDone (option_copied goal.entry) l.verdicts) }
+    ensures closed { IfOk result (λ l. NoneOpen l.verdicts) }
     ensures true_list { IfOk result (λ l. IsTrueList J.subject l) }
     ensures few { IfOk result (λ l. length l.patterns ≤ class_count J.subject + class_count J.subject) }
 {
@@ -203,7 +198,6 @@ pub fn run_all<J: About + Send + Sync, E: Engine + Sync, G: Gate + Sync, R: Thre
         workers,
         seed,
         holds,
-        goal,
         Blank::new(parts),
         Blank::new(parts),
         Blank::new(parts),

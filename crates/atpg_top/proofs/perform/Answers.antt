@@ -30,6 +30,3 @@ returns-in-Check g c = rw c.in-Check.is c.check_run.ensures
 
 pub returns-in-Sweep : goal.returns-in-Sweep
 returns-in-Sweep g c = rw c.in-Sweep.is c.sweep_sample.ensures
-
-pub run_netlist-requires : goal.run_netlist-requires
-run_netlist-requires g c κs within = (rw c.in-Run.is at c.requires).numbers

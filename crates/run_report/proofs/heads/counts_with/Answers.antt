@@ -33,5 +33,4 @@ returns c =
       redundant = tally.redundant i;
       aborted = tally.aborted i;
       untested = tally.redundant i + tally.aborted i;
-      unasked = tally.unasked i;
     }
