@@ -428,6 +428,12 @@ def test_launcher_keeps_the_netlist():
         for read in (("a.bench", "none.stil"), ("none.bench", "a.bench")):
             assert made.atpg("grade", *read, "./p", "--chains", "2") == refused("grade", "./p.grade"), read
         assert made.atpg("grade", "a.bench", "a.bench", "q")[0] == 0
+        os.link(made.folder / "hard", made.folder / "q.stil")
+        for words in (("--faults", "hard"), ("--with", "q"), ("--with=q.stil",)):
+            assert made.atpg("run", "b.bench", "none/q", *words)[0] == 6
+            name = "hard" if words[0] == "--faults" else "q.stil"
+            said = f"would write over: {name}\natpg: run reads {name} and would write ./q.stil, which is the same file\n"
+            assert made.atpg("run", "c.bench", "./q", *words) == (2, "", said), words
         (made.folder / "own.net").write_text("INPUT(a)\n")
         assert made.run(made.root / "atpg", "run", "own.net", "own", ATPG_EXPLAIN="0") == (2, "", "would write over: own.net\n")
         for words in (("scan", "a.bench", "c"), ("run", "a.bench", "a"), ("faults", "a.bench"), ("chaintest", "a.bench", "a.bench")):
@@ -475,6 +481,9 @@ LISTED = "atpg: `atpg faults NET` lists the faults of a netlist before scan inse
 NO_FORM = ["atpg: a fault is written 'stem NAME/0', 'out NAME/1' or 'pin GATE K/1', K being the pin's number from 0", LISTED]
 
 
+A_LINE = "atpg: a line is one fault's, 'stem NAME/0', 'out NAME/1' or 'pin GATE K/1', as `atpg faults NET` and reports write it"
+
+
 def no_line(fault):
     return [f"atpg: a.bench has no line for '{fault}' (a pin or an output is a line where its signal has several readers, else their stem is)", LISTED]
 
@@ -503,6 +512,12 @@ CAUSES = (
      ["atpg: a.stil is no test of the netlist in a.bench: play wants the scanned netlist of the same run, PREFIX.scan with PREFIX.stil"]),
     (("diagnose", "--chains", "1", "a.bench", "a.stil", "l"), "4 stil does not fit",
      ["atpg: a.stil is no test of the netlist in a.bench with so many chains: diagnose wants the netlist of the run, and its --chains (the test has 2)"]),
+    (("run", "a.bench", "b", "--with", "a"), "4 stil does not fit",
+     ["atpg: a.stil is no test of the netlist in a.bench: with its 2 chains the inputs and the outputs are others"]),
+    (("run", "--with=a.stil", "a.bench", "b"), "4 stil does not fit",
+     ["atpg: a.stil is no test of the netlist in a.bench: with its 2 chains the inputs and the outputs are others"]),
+    (("run", "--faults", "a.stil", "a.bench", "b"), "4 fault list line 2: no such fault", ['atpg: a.stil line 2: no fault of a.bench:   ScanChain "c1" {', A_LINE]),
+    (("run", "a.bench", "b", "--faults", "none", "--coverage", "90", "--compact", "0"), "4 fault list line 1: no such fault", [A_LINE]),
     (("chaintest", "a.bench", "a.stil"), "4 not a stil file", []),
     (("run", "a.bench", "b", "--hold", "x=1,,y=0"), "2 bad hold", ["atpg: --hold, item 2, '': it is empty"]),
     (("run", "a.bench", "b", "--hold", ""), "2 bad hold", ["atpg: --hold, item 1, '': it is empty"]),

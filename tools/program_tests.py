@@ -5,6 +5,7 @@ programs of bench/oracle. They run what `rt ci` has built; .ci/run fails where i
 """
 
 import pathlib
+import re
 import subprocess
 import tempfile
 
@@ -127,6 +128,81 @@ def test_program_answers():
         expect(folder, "atpg_main", ["play", "cell.scan", "cell.stil"], 0, "passes\n", "")
         words = ["play", "cell.scan", "cell.stil", "--fault", "stem q/0"]
         expect(folder, "atpg_main", words, 1, f"fails at cycle {cycle} signal {pin}\n", "")
+
+
+def said_of_faults(report):
+    """What a report says of each fault: detected, redundant, aborted or unasked."""
+    return {found[1]: found[2] for found in re.finditer(r"^(.*/[01]) (detected|redundant|aborted|unasked)", report, re.M)}
+
+
+def run_program(folder, *words):
+    """What a run prints; `check` takes its files."""
+    said = subprocess.run([program("atpg_main"), "run", *words], cwd=folder, check=True, capture_output=True, timeout=60).stdout.decode()
+    faults = said.split(" ")[1]
+    expect(folder, "atpg_main", ["check", words[1]], 0, f"checked {faults} faults\n", "")
+    return said
+
+
+def test_program_asks_for_the_faults_of_a_list():
+    """Of s27's faults every seventh, in backward order and some twice, by each search and by several workers: of these the report says what it says where
+    all are asked for, of the others that nobody asked. A list of all says the same as none."""
+    if not program("atpg_main").exists():
+        return NO_PROGRAM
+    universe = [f"{line}/{stuck}" for line, stuck in plain_design.universe(plain_design.read(example("s27")))]
+    with tempfile.TemporaryDirectory() as room:
+        folder = pathlib.Path(room)
+        (folder / "s27.bench").write_bytes(example("s27"))
+        (folder / "all").write_text("\n".join(universe))
+        run_program(folder, "s27.bench", "whole", "--limit", "128")
+        run_program(folder, "s27.bench", "all", "--limit", "128", "--faults", "all")
+        assert all((folder / f"whole.{end}").read_bytes() == (folder / f"all.{end}").read_bytes() for end in plain_check.ENDS)
+        for begin, ways in enumerate(([], ["--workers", "3"], ["--engine", "fan"], ["--engine", "clauses"], ["--then", "clauses", "--workers", "3"])):
+            asked = universe[begin::7]
+            (folder / "list").write_text("".join(fault + "\n" for fault in [*reversed(asked), asked[0]]))
+            run_program(folder, "s27.bench", "p", "--limit", "2048", "--faults", "list", *ways)
+            assert said_of_faults((folder / "p.rep").read_text()) == {fault: "detected" if fault in asked else "unasked" for fault in universe}, ways
+
+
+def test_program_stops_where_enough_is_detected():
+    """An AND of 200 inputs needs a test for each of them. Where a tenth of its faults is enough, or of half of them a fifth, most are left; where all are to
+    be detected, none."""
+    if not program("atpg_main").exists():
+        return NO_PROGRAM
+    inputs = [f"i{k}" for k in range(200)]
+    gate = "".join(f"INPUT({name})\n" for name in inputs) + f"OUTPUT(y)\ny = AND({', '.join(inputs)})\n"
+    with tempfile.TemporaryDirectory() as room:
+        folder = pathlib.Path(room)
+        (folder / "and.bench").write_text(gate)
+        (folder / "half").write_text("".join(f"stem {name}/1\n" for name in inputs[::2]))
+        for percent, words in ((10, []), (10, ["--workers", "3"]), (20, ["--faults", "half"])):
+            run_program(folder, "and.bench", "p", "--coverage", str(percent), *words)
+            said = said_of_faults((folder / "p.rep").read_text())
+            asked = [fault for fault in said if not words[-1:] == ["half"] or fault.endswith("/1") and fault[6:-2].isdigit() and int(fault[6:-2]) % 2 == 0]
+            detected = sum(said[fault] == "detected" for fault in asked)
+            assert percent * len(asked) <= 100 * detected < 100 * len(asked), (percent, words, detected)
+            assert all(said[fault] in ("detected", "unasked") for fault in asked) and all(said[fault] == "unasked" for fault in said if fault not in asked)
+        run_program(folder, "and.bench", "p")
+        run_program(folder, "and.bench", "q", "--coverage", "100", "--workers", "3")
+        assert set(said_of_faults((folder / "q.rep").read_text()).values()) == {"detected"}
+
+
+def test_program_begins_with_a_test():
+    """A run that begins with the test of another one says the same, by any search, limit and number of workers. One that begins with the test of a part of the
+    faults detects these by the same patterns or fewer, and all others too; where what they detect is enough, nothing else is searched."""
+    if not program("atpg_main").exists():
+        return NO_PROGRAM
+    with tempfile.TemporaryDirectory() as room:
+        folder = pathlib.Path(room)
+        (folder / "s27.bench").write_bytes(example("s27"))
+        (folder / "some").write_text("stem G17/0\nstem G17/1\n")
+        whole = run_program(folder, "s27.bench", "p", "--limit", "128", "--chains", "2")
+        for words in (["--with", "p"], ["--with", "p.stil", "--engine", "fan", "--compact", "0"], ["--with", "p", "--workers", "3", "--seed", "9"]):
+            assert run_program(folder, "s27.bench", "q", "--limit", "128", "--chains", "2", *words) == whole, words
+            assert all((folder / f"p.{end}").read_bytes() == (folder / f"q.{end}").read_bytes() for end in plain_check.ENDS), words
+        part = run_program(folder, "s27.bench", "part", "--limit", "128", "--faults", "some")
+        run_program(folder, "s27.bench", "more", "--limit", "128", "--with", "part")
+        assert set(said_of_faults((folder / "more.rep").read_text()).values()) == {"detected"}
+        assert run_program(folder, "s27.bench", "few", "--limit", "128", "--faults", "some", "--with", "part", "--coverage", "1") == part
 
 
 def test_program_splits_places_of_slow_lines():

@@ -3,7 +3,7 @@
 import collections
 import re
 
-from run_files import ENDS, Bad, evaluation_order
+from run_files import ENDS, SETTLED, Bad, evaluation_order
 
 # How many faults the first and the last k patterns detect together, for k from 0; and whether the first are known exactly.
 Curves = collections.namedtuple("Curves", "first last is_exact")
@@ -25,31 +25,35 @@ class Tally:
     """How many faults ended in each way."""
 
     __slots__ = ENDS
-    COLUMNS = ["faults", *ENDS, "fault coverage", "test coverage"]
 
-    def __init__(self, detected=0, redundant=0, aborted=0):
-        self.detected, self.redundant, self.aborted = detected, redundant, aborted
+    def __init__(self, detected=0, redundant=0, aborted=0, unasked=0):
+        self.detected, self.redundant, self.aborted, self.unasked = detected, redundant, aborted, unasked
 
     def add(self, end, count=1):
         setattr(self, end, getattr(self, end) + count)
 
     def faults(self):
-        return self.detected + self.redundant + self.aborted
+        return sum(getattr(self, end) for end in ENDS)
 
     def untested(self):
         return self.redundant + self.aborted
 
     def testable(self):
         """Those that aren't shown redundant."""
-        return self.detected + self.aborted
+        return self.faults() - self.redundant
 
     def test_coverage(self):
         """The share of these that is detected; none where there are none."""
         return percent(self.detected, self.testable()) if self.testable() else "-"
 
-    def row(self):
-        counts = [self.faults(), self.detected, self.redundant, self.aborted]
+    def row(self, ends):
+        """What stands in the columns of these ends."""
+        counts = [self.faults(), *(getattr(self, end) for end in ends)]
         return [f"{count:,}" for count in counts] + [percent(self.detected, self.faults()), self.test_coverage()]
+
+
+def columns(ends):
+    return ["faults", *ends, "fault coverage", "test coverage"]
 
 
 class Counts:
@@ -83,13 +87,17 @@ class Counts:
             raise Bad(f"the netlist has no line {line}") from None
         self.by_owner[owner].add(end)
         self.verdicts.append(verdict)
-        if verdict.pattern is None:
-            self.untested[line.split(" ")[1]].append(verdict)
-        else:
+        if end == "detected":
             self.lasts[verdict.pattern] += 1
+        elif end != "unasked":
+            self.untested[line.split(" ")[1]].append(verdict)
 
     def faults(self):
         return len(self.verdicts)
+
+    def ends(self):
+        """The ends that are told of: that faults weren't asked for only where there are such."""
+        return ENDS if self.whole().unasked else SETTLED
 
     def whole(self):
         total = Tally()

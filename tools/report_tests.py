@@ -103,7 +103,7 @@ def test_bad_reports():
     with tempfile.TemporaryDirectory() as name:
         prefix = made_run(pathlib.Path(name), ROOT / "examples/s27.bench")
         good = {end: pathlib.Path(f"{prefix}.{end}").read_text() for end in ("net", "rep", "cert")}
-        for end, old, new, why in (("rep", "atpg report 1", "atpg report 3", "no report"), ("rep", "classes ", "class ", "no line `classes`"),
+        for end, old, new, why in (("rep", "atpg report 1", "atpg report 4", "no report"), ("rep", "classes ", "class ", "no line `classes`"),
                                    ("rep", "stem G0/0 ", "stem G99/0 ", "has no line stem G99"), ("net", "INPUT(G0)", "INPUT G0", "line 1"),
                                    ("cert", "certificate", "report", "no certificate")):
             pathlib.Path(f"{prefix}.{end}").write_text(good[end].replace(old, new, 1))
@@ -298,6 +298,24 @@ def test_test_coverage():
         assert '<td>test coverage</td><td class="number">90.00</td>' in (folder / "run.html").read_text()
         assert "test coverage 90.00" in (folder / "run.coverage.svg").read_text()
         assert json.loads(said_by(TOOL, prefix, "--json")[1])["test_coverage"] == 90.0
+
+
+def test_unasked():
+    """Where one of the 10 wasn't asked for, there is a column of such faults, and it counts as testable."""
+    with tempfile.TemporaryDirectory() as name:
+        prefix, _ = plain_run(pathlib.Path(name), TIES, 1)
+        report = run_files.beside(prefix, "rep")
+        text = re.sub(r"(stem y/1) detected .*", r"\1 unasked", report.read_text())
+        report.write_text(re.sub(r"(untested \d+\n)", r"\1unasked 1\n", text.replace("atpg report 1", "atpg report 3")))
+        status, said, errors = said_by(TOOL, prefix)
+        assert status == 0, errors
+        assert "test coverage 90.00 (of the 10 that aren't redundant)" in said and ", 1 unasked\n" in said
+        assert re.search(r"^  kind +faults +detected +redundant +aborted +unasked ", said, re.M), said
+        assert re.search(r"^  stem of OR +2 +1 +0 +0 +1 +50.00 +50.00$", said, re.M), said
+        made = json.loads(said_by(TOOL, prefix, "--json")[1])
+        assert made["numbers"]["unasked"] == 1 and {"fault": "stem y/1", "end": "unasked"} in made["faults"]
+        listed = said_by(ROOT / "tools/fault_lists", "to-atalanta", f"{prefix}.net", report, "--only", "unasked")
+        assert listed == (0, "y /1\n", ""), listed
 
 
 # Modules.

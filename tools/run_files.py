@@ -5,17 +5,19 @@ import re
 
 HEADER = ("inputs outputs gates cells chains faults classes patterns cycles limit detected redundant aborted untested coverage "
           "efficiency").split()
+UNASKED_HEADER = [*HEADER[:-2], "unasked", *HEADER[-2:]]  # of a report some of whose faults weren't asked for
 SHARES = ("coverage", "efficiency")
 STATEMENT = re.compile(r"(?:(\S+) = )?(\w+)\((.*)\)$")
-ENDS = ("detected", "redundant", "aborted")
+SETTLED = ("detected", "redundant", "aborted")
+ENDS = (*SETTLED, "unasked")
 
-FIRST_LINES = {"atpg report 1": False, "atpg report 2": False, "atpg transition 1": True}  # whether the report is of slow lines
+FIRST_LINES = {"atpg report 1": False, "atpg report 2": False, "atpg report 3": False, "atpg transition 1": True}  # whether it is of slow lines
 SLOW = {"rise": "0", "fall": "1"}  # the bit that a slow line keeps too long
 
 # A line of the report: the fault's text, its line and its bit, what came of it, and where it is detected.
 Verdict = collections.namedtuple("Verdict", "fault line bit end pattern cycle pin")
 
-# A report's head: its sixteen numbers as they are written, the held inputs as pairs of name and bit, and whether it is of slow lines.
+# A report's head: its numbers as they are written, the held inputs as pairs of name and bit, and whether it is of slow lines.
 Head = collections.namedtuple("Head", "numbers held is_slow")
 
 # A line of the certificate: its number, the fault, how many nodes its tree has (0: it is a refutation) or steps its refutation, whether an end is
@@ -90,11 +92,12 @@ class Design:
 
 def read_head(lines, path):
     """The numbers of a report's head, and no held input yet."""
-    is_slow = FIRST_LINES.get(next(lines, "").rstrip("\n"))
+    first = next(lines, "").rstrip("\n")
+    is_slow = FIRST_LINES.get(first)
     if is_slow is None:
         raise Bad(f"{path}: no report")
     numbers = {}
-    for word in HEADER:
+    for word in HEADER if first != "atpg report 3" else UNASKED_HEADER:
         found, _, value = next(lines, "").rstrip("\n").partition(" ")
         if found != word or not re.fullmatch(r"\d+\.\d\d" if word in SHARES else r"\d+", value):
             raise Bad(f"{path}: no line `{word}` where it should stand")

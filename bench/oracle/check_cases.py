@@ -8,6 +8,7 @@ A row that this program doesn't know (a refusal, a line of an error output) is w
 """
 import itertools
 import os
+import re
 import subprocess
 import sys
 
@@ -278,6 +279,9 @@ def on_netlist(verb, text, rest):
     if verb in ("drawn-hits", "drawn-last"):
         seed, count = rest.split(" ")
         return [str(checksum(drawn(netlist, text, int(seed), int(count))))]
+    if verb == "drawn-stil":
+        asked, seed, count = (int(word) for word in rest.split(" "))
+        return [str(checksum("".join(line + "\n" for line in drawn_file(netlist, asked, seed, count))))]
     if verb == "events":
         return [f"{rest.split(' ')[1]} changes, all as from scratch"]
     if verb == "tree":
@@ -383,6 +387,13 @@ class Packed:
         return f"pattern {last} {where[0]}"
 
 
+def drawn_file(netlist, asked, seed, count):
+    """The file of so many patterns drawn by PCG, and of which it is read as the file: a word's lowest bit for each input, then each cell."""
+    words, width = Pcg32(seed, 54), len(netlist.inputs)
+    rows = [digits([words.next_u32() & 1 for _ in netlist.inputs + netlist.cells]) for _ in range(count)]
+    return stil_answer(netlist, "stil", f"{asked} -", " ".join(f"{row[:width]}/{row[width:]}" for row in rows))
+
+
 def drawn(netlist, text, seed, count):
     """What so many patterns drawn by PCG say of all faults, a line for each: a word's lowest bit for each input, then each cell."""
     words = Pcg32(seed, 54)
@@ -473,6 +484,8 @@ def wanted_of(texts, verb, rest, given):
         return certificate(verb, texts[name], texts[more])
     if verb == "first-wrong":
         return first_wrong(texts, name, *more.split(" ", 1))
+    if verb == "applied":
+        return applied(texts, name, *more.split(" "))
     if verb == "labels":
         return labelled(Netlist(texts[name]), more, given)
     if verb == "words":
@@ -493,6 +506,14 @@ def first_wrong(texts, net, stil, fault):
         return ["does not fit"]
     place = plain_chains.first_wrong(scanned, cycles, (line, int(bit)))
     return [f"fails {place[0]} {place[1]}" if place else "untold"]
+
+
+def applied(texts, net, stil, asked, held):
+    """The patterns of the netlist that a file applies."""
+    if not is_stil(texts[stil].encode("latin-1")):
+        return ["not stil"]
+    held = {} if held == "-" else dict([held.split("=")])
+    return [" ".join(["patterns", *stil_file.applied(texts[stil], Netlist(texts[net]), int(asked), held)])]
 
 
 def first_members(text):
@@ -568,7 +589,7 @@ def settled_words(netlist, rest):
 def on_fault_list(verb, name, text, rest, given):
     """What calls of a list of fault classes answer."""
     numbers, _, calls = rest.partition(": ")
-    limit = numbers.split(" ")[-1]
+    limit, *chosen = numbers.split(" ")[verb == "shares":]
     if verb == "searches":
         return searched_all(name, text, limit, given)
     netlist = Netlist(text)
@@ -580,12 +601,15 @@ def on_fault_list(verb, name, text, rest, given):
     def refutes(fault, steps):
         return plain_refutation.cause_of(design, f"{fault} R{steps}", []) is None
 
-    faults = list_play.List(first_members(text), int(limit), last, merged, refutes)
+    members = first_members(text)
+    chosen = [int(number) for number in chosen] or range(len(members))
+    faults = list_play.List([members[number] for number in chosen], int(limit), last, merged, refutes)
     if verb == "list":
         return list(list_play.on_list(faults, calls))
     if verb == "compacted":
         return list(list_play.on_compacted(faults, calls))
-    return list(list_play.on_shares(faults, FOUND.get((name, limit), {}), calls))
+    found = FOUND.get((name, limit), {})
+    return list(list_play.on_shares(faults, {place: found.get(number) for place, number in enumerate(chosen)}, calls))
 
 
 def check_calls(crate):
@@ -723,7 +747,33 @@ def case_answer(case, verb, rest, told):
 def told_runs(texts):
     """The runs whose five texts the input tells, by netlist and options."""
     gates = texts["two_gates"]
-    return {(gates, ("--limit", "2")): [gates, gates] + [texts[f"two_gates_{end}"] for end in ("stil", "cert", "rep")]}
+    runs = {(gates, ("--limit", "2")): [gates, gates] + [texts[f"two_gates_{end}"] for end in ("stil", "cert", "rep")]}
+    for name in ("nothing", "one_fault", "one_fault_redundant", "two_faults"):
+        runs[gates, ("--faults", texts[name]), ("--limit", "2")] = [gates, gates, *texts_of_some(texts, texts[name].split("\n"))]
+    return runs
+
+
+def texts_of_some(texts, asked):
+    """The test, the certificate and the report of the two gates where only some faults are asked for: of the whole ones what is said of these. No other
+    keeps a pattern or has evidence."""
+    numbers, begin, lines = texts["two_gates_rep"].partition("stem ")
+    ends = {fault: end for fault, _, end in (re.match("(.*/[01]) ((detected|redundant).*)", line).group(1, 3, 2) for line in (begin + lines).split("\n")[:-1])}
+    kept = sorted({ends[fault].split(" ")[1] for fault in asked if ends.get(fault, "").startswith("detected")})
+    classes = dict(line.split(" class ") for line in list(fault_list(texts["two_gates"]))[1:])
+    left = {classes[fault] for fault in asked if ends.get(fault) == "redundant"}
+    vectors = [line for line in texts["two_gates_stil"].split("\n") if line.startswith("  V ")]
+    stil = texts["two_gates_stil"].replace("\n".join(vectors) + "\n", "".join(vectors[int(place)] + "\n" for place in kept))
+    evidence = [line for line in texts["two_gates_cert"].split("\n")[1:-1] if classes[line[:-2]] in left]
+    said = []
+    for fault, end in ends.items():
+        place = kept.index(end.split(" ")[1]) if fault in asked and end != "redundant" else None
+        said.append(f"{fault} unasked" if fault not in asked else f"{fault} redundant" if place is None else f"{fault} detected {place} {place} y")
+    detected, redundant, unasked = (sum(word in line for line in said) for word in (" detected", " redundant", " unasked"))
+    head = {"patterns": len(kept), "cycles": len(kept), "detected": detected, "redundant": redundant, "untested": redundant}
+    head |= {"coverage": f"{10 * detected}.00", "efficiency": f"{10 * (detected + redundant)}.00"}
+    report = [f"{word} {head[word]}" if (word := line.split(" ")[0]) in head else line for line in numbers.split("\n")[1:-1]]
+    report.insert(next(place for place, line in enumerate(report) if line.startswith("coverage ")), f"unasked {unasked}")
+    return stil, "\n".join(["atpg certificate 1", *evidence, ""]), "\n".join(["atpg report 3", *report, *said, ""])
 
 
 def check_cases():

@@ -2,10 +2,10 @@
 """What `atpg check` has to answer, by a plain program apart from the crates; and five good files of small designs, made without `run`.
 
     bench/oracle/plain_check.py PREFIX                     checks PREFIX.net, .scan, .stil, .cert and .rep
-    bench/oracle/plain_check.py --make NET PREFIX [--chains C] [--limit L] [--hold LIST] [--patterns N] [--seed S] [--refute]
+    bench/oracle/plain_check.py --make NET PREFIX [--chains C] [--limit L] [--hold LIST] [--patterns N] [--seed S] [--refute] [--unasked LIST]
                                                     makes the files: patterns are drawn, those that are no last detector are left out,
                                                     and trees split inputs and cells in order; or, for redundant faults, refutations by
-                                                    the same cases
+                                                    the same cases. The faults of LIST, parted by commas, aren't asked for
 
 It ends with the status and prints the line that `check` has to print. It is for designs of up to some hundred gates.
 """
@@ -94,7 +94,7 @@ def read_certificate(text, netlist, faults):
 NUMBER = r"(0|[1-9][0-9]*)"
 NAME = r"((?:(?![\"'#(),=])[!-~])+)"
 FAULT = rf"((?:stem|out) {NAME}/[01]|pin {NAME} {NUMBER}/[01])"
-SAID = re.compile(rf"{FAULT} (?:detected {NUMBER} {NUMBER} {NAME}|(redundant)|(aborted))")
+SAID = re.compile(rf"{FAULT} (?:detected {NUMBER} {NUMBER} {NAME}|(redundant|aborted|unasked))")
 
 
 def small(number):
@@ -106,30 +106,37 @@ def small(number):
 
 def read_report(text):
     """The head as a dictionary, the held inputs, and for each line the fault and what is said."""
-    lines = [line.decode("latin-1") for line in text.split(b"\n")]
-    if lines[0] not in ("atpg report 1", "atpg report 2") or lines[-1] != "" or len(lines) < 18:
+    version, *lines = [line.decode("latin-1") for line in text.split(b"\n")]
+    counted = [*COUNTS, "unasked"] if version == "atpg report 3" else COUNTS
+    if len(lines) < len(counted) + 3 or lines[-1] != "":
         raise NotText
-    head = {}
-    for word, line in zip(COUNTS, lines[1:15]):
+    head = {"unasked": 0}
+    for word, line in zip(counted, lines):
         match = re.fullmatch(rf"{word} {NUMBER}", line)
         if match is None:
             raise NotText
         head[word] = small(match[1])
-    for word, line in zip(("coverage", "efficiency"), lines[15:17]):
+    lines = lines[len(counted):]
+    for word, line in zip(("coverage", "efficiency"), lines):
         match = re.fullmatch(rf"{word} {NUMBER}\.([0-9][0-9])", line)
         if match is None:
             raise NotText
         head[word] = 100 * small(match[1]) + int(match[2])
-    held, place = [], 17
+    held, place = [], 2
     while place < len(lines) - 1 and lines[place].startswith("hold "):
         match = re.fullmatch(rf"hold {NAME} ([01])", lines[place])
         if match is None:
             raise NotText
         held.append((match[1], int(match[2])))
         place += 1
-    if (lines[0] == "atpg report 2") != bool(held):
+    if version != f"atpg report {version_of(head, held)}":
         raise NotText
     return head, held, [said_of(line) for line in lines[place:-1]]
+
+
+def version_of(head, held):
+    """The version that says no more than it needs: faults that weren't asked for, else held inputs."""
+    return 3 if head["unasked"] else 2 if held else 1
 
 
 def said_of(line):
@@ -140,7 +147,7 @@ def said_of(line):
         small(match[4])
     if match[5] is not None:
         return match[1], ("detected", small(match[5]), small(match[6]), match[7])
-    return match[1], (match[8] or match[9],)
+    return match[1], (match[8],)
 
 
 # The patterns of a file.
@@ -292,13 +299,13 @@ class Situation:
         netlist, faults = self.netlist, len(self.faults)
         longest = max((len(chain) for chain in self.chains), default=0)
         ends = [verdict[0] for _, verdict in said]
-        detected, redundant, aborted = (ends.count(word) for word in ("detected", "redundant", "aborted"))
+        detected, redundant, aborted, unasked = (ends.count(word) for word in ("detected", "redundant", "aborted", "unasked"))
         patterns = len(self.patterns)
         return {"inputs": len(netlist.inputs), "outputs": len(netlist.outputs), "gates": len(netlist.definitions) - len(netlist.cells),
                 "cells": len(netlist.cells), "chains": len(self.chains), "faults": faults, "classes": len(self.representatives),
                 "patterns": patterns, "cycles": (patterns + 4) * longest + patterns, "limit": limit, "detected": detected,
-                "redundant": redundant, "aborted": aborted, "untested": redundant + aborted, "coverage": 10_000 * detected // faults,
-                "efficiency": 10_000 * (detected + redundant) // faults}
+                "redundant": redundant, "aborted": aborted, "untested": redundant + aborted, "unasked": unasked,
+                "coverage": 10_000 * detected // faults, "efficiency": 10_000 * (detected + redundant) // faults}
 
 
 def false_fault(situation, said, evidence, limit):
@@ -314,6 +321,8 @@ def false_fault(situation, said, evidence, limit):
         if said[k][0] != text:
             return said[k][0]
         verdict, last = said[k][1], situation.last[k]
+        if verdict[0] == "unasked":
+            continue
         if verdict[0] == "detected":
             if last is None or verdict != situation.detected(last):
                 return text
@@ -331,10 +340,11 @@ def false_fault(situation, said, evidence, limit):
 
 
 def further_fault(situation, said, evidence):
-    """A further line of the report, or the first line of the certificate that isn't the next class's."""
+    """A further line of the report, or the first line of the certificate that isn't that of the next class with a fault that is redundant or aborted."""
     if len(said) > len(situation.faults):
         return said[len(situation.faults)][0]
-    left = [fault_text(situation.faults[k]) for k in situation.representatives if said[k][1][0] != "detected"]
+    owing = {first for first, (_, verdict) in zip(situation.first, said) if verdict[0] in ("redundant", "aborted")}
+    left = [fault_text(situation.faults[k]) for k in sorted(owing)]
     return next((fault for k, (fault, _) in enumerate(evidence) if k >= len(left) or left[k] != fault), None)
 
 
@@ -433,9 +443,9 @@ def cases_of(netlist, fault, held):
     return steps
 
 
-def kept_patterns(situation):
-    """The patterns that are the last to detect some fault."""
-    kept = sorted({last[0] for last in situation.last if last is not None})
+def kept_patterns(situation, unasked=()):
+    """The patterns that are the last to detect some fault that is asked for."""
+    kept = sorted({last[0] for fault, last in zip(situation.faults, situation.last) if last is not None and fault_text(fault) not in unasked})
     return [situation.patterns[k] for k in kept]
 
 
@@ -443,24 +453,27 @@ def percent(share):
     return f"{share // 100}.{share % 100:02}"
 
 
-def make(netlist, chains, limit, held, count, seed, refutes=False):
-    """The five texts; with refutations of redundant faults, or with trees alone."""
+def make(netlist, chains, limit, held, count, seed, refutes=False, unasked=()):
+    """The five texts; with refutations of redundant faults, or with trees alone; and nothing of the faults with these texts."""
     rng = random.Random(seed)
     drawn = [{name: held.get(name, rng.randrange(2)) for name in netlist.inputs + netlist.cells} for _ in range(count)]
-    situation = Situation(netlist, chains, held, kept_patterns(Situation(netlist, chains, held, drawn)))
+    situation = Situation(netlist, chains, held, kept_patterns(Situation(netlist, chains, held, drawn), unasked))
+    owing = {first for fault, first in zip(situation.faults, situation.first) if fault_text(fault) not in unasked}
     evidence, ends = [], {}
     for k in situation.representatives:
-        if situation.last[k] is None:
+        if situation.last[k] is None and k in owing:
             nodes = tree_of(netlist, situation.faults[k], limit, held)
             if nodes is None:
                 sys.exit(f"plain_check: no tree of {fault_text(situation.faults[k])} with this limit")
             ends[k] = "aborted" if "?" in nodes else "redundant"
             words = ["R", *cases_of(netlist, situation.faults[k], held)] if refutes and ends[k] == "redundant" else nodes
             evidence.append(f"{fault_text(situation.faults[k])} {' '.join(words)}")
-    said = [(fault_text(fault), situation.detected(last) if last else (ends[first],))
-            for fault, last, first in zip(situation.faults, situation.last, situation.first)]
+    texts = [fault_text(fault) for fault in situation.faults]
+    said = [(text, ("unasked",) if text in unasked else situation.detected(last) if last else (ends[first],))
+            for text, last, first in zip(texts, situation.last, situation.first)]
     head = situation.head(said, limit)
-    lines = [f"atpg report {2 if held else 1}"] + [f"{word} {head[word]}" for word in COUNTS]
+    lines = [f"atpg report {version_of(head, held)}"] + [f"{word} {head[word]}" for word in COUNTS]
+    lines += [f"unasked {head['unasked']}"] * (head["unasked"] > 0)
     lines += [f"{word} {percent(head[word])}" for word in ("coverage", "efficiency")]
     lines += [f"hold {name} {held[name]}" for name in netlist.inputs if name in held]
     lines += [" ".join(str(each) for each in (fault, *verdict)) for fault, verdict in said]
@@ -488,6 +501,7 @@ def main():
     parser.add_argument("--patterns", type=int, default=64)
     parser.add_argument("--seed", type=int, default=1)
     parser.add_argument("--refute", action="store_true")
+    parser.add_argument("--unasked", default="")
     arguments = parser.parse_args()
     if arguments.make is None:
         status, line = check(read_files(arguments.prefix))
@@ -496,7 +510,8 @@ def main():
     netlist = plain.read(arguments.make.read_bytes())
     held = {name: int(bit) for name, bit in (item.split("=") for item in arguments.hold.split(",") if item)}
     chains = plain.chains_of(netlist.cells, arguments.chains)
-    files = make(netlist, chains, arguments.limit, held, arguments.patterns, arguments.seed, arguments.refute)
+    unasked = {text for text in arguments.unasked.split(",") if text}
+    files = make(netlist, chains, arguments.limit, held, arguments.patterns, arguments.seed, arguments.refute, unasked)
     for end, text in files.items():
         path_of(arguments.prefix, end).write_bytes(text)
 

@@ -138,6 +138,27 @@ def cycles_that_fit(stil, scanned):
     return cycles_in(stil.encode("latin-1"))
 
 
+def asked_of(netlist, texts, options):
+    """The faults that are asked for: those that the list of a run names, or all."""
+    universe = {f"{line}/{stuck}": (line, stuck) for line, stuck in plain.universe(netlist)}
+    if "--faults" not in options:
+        return list(universe.values())
+    lines = texts[1].split("\n")
+    for number, line in enumerate(lines if lines[-1] else lines[:-1], 1):
+        if line not in universe:
+            raise Refused(4, "fault list line ", str(number), ": no such fault\n")
+    return [fault for text, fault in universe.items() if text in lines]
+
+
+def need_first(netlist, texts, options):
+    """The STIL file of a run is one, and fits the netlist scanned into as many chains as it has."""
+    if "--with" in options:
+        need_stil(texts[-1])
+        tokens = plain.stil_tokens(texts[-1].encode("latin-1"))
+        _, chains, _ = signals(Walk(tokens[tokens.index(b"Signals"):]))
+        cycles_that_fit(texts[-1], plain.scanned(netlist, plain.chains_of(netlist.cells, max(chains, 1))))
+
+
 def need_stil(text):
     if not is_stil(text.encode("latin-1")):
         raise Refused(4, "not a stil file\n")
@@ -254,38 +275,53 @@ def held_of(netlist, options):
 
 
 @functools.lru_cache
-def detected_count(text, held):
-    """How many faults some pattern detects that obeys the held inputs, by all such patterns."""
+def detected_faults(text, held):
+    """The faults that some pattern detects that obeys the held inputs, by all such patterns."""
     netlist = netlist_of(text)
     free = [name for name in netlist.inputs + netlist.cells if name not in dict(held)]
     columns, ones = plain_transition.all_patterns(free)
     sources = columns | {name: ones if bit else 0 for name, bit in held}
     _, good = plain.settled(netlist, sources, ones)
-    return sum(plain.settled(netlist, sources, ones, fault)[1] != good for fault in plain.universe(netlist))
+    return {fault for fault in plain.universe(netlist) if plain.settled(netlist, sources, ones, fault)[1] != good}
 
 
-def totals_of(faults, detected):
-    return f"faults {faults} detected {detected} redundant {faults - detected} aborted 0"
+def totals_of(faults, detected, unasked=0):
+    totals = f"faults {faults} detected {detected} redundant {faults - detected - unasked} aborted 0"
+    return totals + f" unasked {unasked}" if unasked else totals
+
+
+def told_options(texts, options):
+    """The options of a run, by what its list holds in place of its name, but for what makes no difference to what is told: how many workers there are,
+    first patterns, rounds that find none to leave out, and that all are to be detected."""
+    left_out = ("--workers", "--with", "--compact", "--coverage")
+    return {name: texts[1] if name == "--faults" else value for name, value in options.items() if name not in left_out}
 
 
 def run(texts, options, told):
-    """The texts of a run, of those that are told: by its netlist and its options. Of the others their totals, where no fault is aborted: PODEM aborts
-    none where the backtrack limit is that of all bits of inputs and cells."""
+    """The texts of a run, of those that are told: by its netlist and its options. Where the first patterns are those of a run that is told, it says the
+    same. Of the others their totals, where no fault is aborted: PODEM aborts none where the backtrack limit is that of all bits of inputs and cells."""
     netlist = netlist_of(texts[0])
     held = held_of(netlist, options)
-    made = told.texts.get((texts[0], *sorted(options.items())))
-    if made is not None:
-        number = dict(line.split(" ") for line in made[4].split("\n")[1:15])
-        return Due(made, " ".join(f"{word} {number[word]}" for word in ("faults", "detected", "redundant", "aborted", "patterns", "cycles")) + "\n")
+    asked = asked_of(netlist, texts, options)
+    need_first(netlist, texts, options)
+    if asked and int(options.get("--coverage", "100")) < 100:
+        raise Unknown
+    made = told.texts.get((texts[0], *sorted(told_options(texts, options).items())))
+    if made is not None and ("--with" not in options or texts[-1] == made[2]):
+        number = dict(line.split(" ") for line in made[4].split("\n")[1:16])
+        words = [word for word in ("faults", "detected", "redundant", "aborted", "unasked", "patterns", "cycles") if word in number]
+        return Due(made, " ".join(f"{word} {number[word]}" for word in words) + "\n")
     sources = len(netlist.inputs + netlist.cells) - len(held)
     is_owed = options.get("--engine", "podem") == "podem" and int(options.get("--limit", "100")) >= 2**sources
     if sources > plain_transition.MOST_SOURCES or not (is_owed or told.none_aborted):
         raise Unknown
     this = texts[0], *sorted(options.items())
+    unasked = len(plain.universe(netlist)) - len(asked)
     trees_alone = options.get("--engine") != "clauses" and "--then" not in options
     certificate = "atpg certificate 1\n" if trees_alone else "atpg certificate "
-    begun = [OfRun(begin, this) for begin in ("STIL 1.0;\n", certificate, f"atpg report {2 if held else 1}\n")]
-    totals = totals_of(len(plain.universe(netlist)), detected_count(texts[0], tuple(held.items())))
+    begun = [OfRun(begin, this) for begin in ("STIL 1.0;\n", certificate, f"atpg report {3 if unasked else 2 if held else 1}\n")]
+    detected = detected_faults(texts[0], tuple(held.items())).intersection(asked)
+    totals = totals_of(len(plain.universe(netlist)), len(detected), unasked)
     return Due([plain.canonical(netlist).decode(), plain.canonical(scanned_of(netlist, options)).decode(), *begun], Begun(totals))
 
 
@@ -326,9 +362,13 @@ def is_hold_list(told):
     return HELD.fullmatch(told) is not None and len(set(names)) == len(names)
 
 
-def names_read(command, given):
+def names_read(command, given, options):
     """The files that the command reads, in order: each a word and an ending."""
-    return [(given[0], f".{end}") for end in ENDS] if command == "check" else [(name, "") for name in given[:READ[command]]]
+    if command == "check":
+        return [(given[0], f".{end}") for end in ENDS]
+    first = options.get("--with", "own")
+    beside = [(options.get("--faults", ""), "")] * ("--faults" in options) + [(first, "" if first.endswith(".stil") else ".stil")] * ("--with" in options)
+    return [(name, "") for name in given[:READ[command]]] + beside
 
 
 def names_written(command, given):
@@ -340,20 +380,20 @@ def names_written(command, given):
     return [(name, "") for name in given[1:]] if command == "scan" else []
 
 
-def need_names(command, given):
+def need_names(command, given, options):
     """No file written is named by an ending alone, and none that is read is written over."""
     prefix = given[1] if command in BY_PREFIX else given[2] if command == "grade" else "own"
     if not prefix or prefix.endswith("/"):
         raise Refused(2, "prefix names no file: ", prefix, "\n")
     written = {"".join(name) for name in names_written(command, given)}
-    for name in map("".join, names_read(command, given)):
+    for name in map("".join, names_read(command, given, options)):
         if name in written:
             raise Refused(2, "would write over: ", name, "\n")
 
 
-def read_in_order(command, given, files, shelf):
+def read_in_order(command, given, options, files, shelf):
     """The texts that the command reads, up to the first that can't be had."""
-    for name, end in names_read(command, given):
+    for name, end in names_read(command, given, options):
         if shelf.next() is not None:
             raise Refused(5, "read failed: ", name, end, "\n")
         if name + end not in files:
@@ -381,8 +421,8 @@ def ending(words, files, fails, told):
     try:
         if "--hold" in options and not is_hold_list(options["--hold"]):
             raise Refused(2, "bad hold\n")
-        need_names(command, given)
-        texts = list(read_in_order(command, given, files, shelf))
+        need_names(command, given, options)
+        texts = list(read_in_order(command, given, options, files, shelf))
         due = SEARCHES[command](texts, options, told) if command in SEARCHES else WORK[command](texts, options)
         written(command, given, due, files, shelf)
         kept = fails.out.get(1)

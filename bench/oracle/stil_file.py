@@ -1,5 +1,7 @@
 """The STIL file of patterns by a plain program: docs/SCAN_AND_STIL.md has its rules."""
 
+import re
+
 FLUSH = "0011"
 
 
@@ -122,3 +124,21 @@ def vectors(netlist, asked, holds, patterns):
         else:
             cycles.append(f"{words['SC__pi']}{''.join(ins)} {words['SC__po']}{''.join(outs)} {'P' if count else '0'}")
     return [f"cycle {cycle}" for cycle in cycles]
+
+
+def applied(text, netlist, asked, held):
+    """The patterns that a file applies, as texts: what each load brings to the cells and the vector right behind it drives the inputs with; without chains
+    each vector. Those of the netlist's widths that obey count."""
+    chains, names = netlist.chains(asked), len(re.findall(r"^\s*ScanChain ", text, re.M))
+    lines = re.findall(r"^ *(Call|V)\b[^{]*\{(.*)\}", text[text.index('Pattern "pattern" {') :], re.M)
+    items = [(head, dict(re.findall(r'"([^"]+)" = ([^;]+);', body))) for head, body in lines]
+    found = []
+    for (before, load), (head, words) in zip([("", {})] + items, items):
+        if head != "V" or chains and before != "Call":
+            continue
+        inputs = words["SC__pi"][:-1] if names else words["SC__pi"]
+        brought = [load.get(f"SC__si{k}", "")[::-1][: len(chain)] for k, chain in enumerate(chains)]
+        fits = len(inputs) == len(netlist.inputs) and [len(bits) for bits in brought] == [len(chain) for chain in chains]
+        if fits and all(inputs[netlist.inputs.index(name)] == bit for name, bit in held.items()):
+            found.append(f"{inputs}/{''.join(brought)}")
+    return found

@@ -7,7 +7,7 @@ use Rattle.netlist.proofs.Placed.{signals_length}
 use Rattle.std.specs.Prelude.{◌++◌, codes, decimal}
 use Rattle.atpg_top.specs.Scans.{scan_line}
 
-length-filter : {X : Type 0} (t : X → Bool) (xs : List X) → length (filter t xs) ≤ length xs
+pub length-filter : {X : Type 0} (t : X → Bool) (xs : List X) → length (filter t xs) ≤ length xs
 length-filter t [] = omega arith
 length-filter {X} t (x ∷ xs) =
     let rest = length-filter t xs in

@@ -2,6 +2,7 @@
 use Rattle.std.proofs.Common.{◌≡◌, ◌∙◌, List, Result, Ok, Err, sym, subst}
 use Rattle.statement.specs.Benches.{Text}
 use Rattle.command_line.specs.CommandLine.{CommandLine, NoLine, bad_hold, bad_prefix, bad_words, command_line, writes_over}
+use Rattle.commands.specs.Names.{file_name_of}
 use Rattle.commands.specs.World.{World}
 use Rattle.commands.specs.declared.ending.Ending.{Ending}
 use Rattle.commands.specs.declared.ending.Ending.TheVariants as ending
@@ -20,7 +21,7 @@ pub ends_by : (P : Ending Refusal → Type 0) (words : List Text) (line : Comman
 ends_by P words line a b (status.BadWords text) taken row each = absurd (no_line (command_line words) bad_words line row.0 taken)
 ends_by P words line a b status.BadHold taken row each = absurd (no_line (command_line words) bad_hold line row.0 taken)
 ends_by P words line a b (status.BadPrefix prefix) taken row each = absurd (no_line (command_line words) (bad_prefix prefix.now) line row.0 taken)
-ends_by P words line a b (status.WritesOver name) taken row each = absurd (no_line (command_line words) (writes_over name.now) line row.0 taken)
+ends_by P words line a b (status.WritesOver name) taken row each = absurd (no_line (command_line words) (writes_over (file_name_of name)) line row.0 taken)
 ends_by P words line a b (status.Command e) taken row each = each e (subst (λ o. WordsRow o a b e) taken row)
 
 -- a call that did what its words ask for
@@ -44,5 +45,5 @@ pub declined : DeclinedExactly
 declined words cause a b (status.BadWords text) none row = same_cause (command_line words) cause bad_words none row.0
 declined words cause a b status.BadHold none row = same_cause (command_line words) cause bad_hold none row.0
 declined words cause a b (status.BadPrefix prefix) none row = same_cause (command_line words) cause (bad_prefix prefix.now) none row.0
-declined words cause a b (status.WritesOver name) none row = same_cause (command_line words) cause (writes_over name.now) none row.0
+declined words cause a b (status.WritesOver name) none row = same_cause (command_line words) cause (writes_over (file_name_of name)) none row.0
 declined words cause a b (status.Command e) none row = only_memory cause a b e (subst (λ o. WordsRow o a b e) none row)

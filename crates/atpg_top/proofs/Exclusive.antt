@@ -1,9 +1,10 @@
 -- What a command owes for the same texts is alike.
-use Rattle.std.proofs.Common.{◌≡◌, ◌∙◌, inl, inr, ℕ, Bool, true, false, List, [], ◌∷◌, Option, Some, refl, sym, ap, subst}
+use Rattle.std.proofs.Common.{◌≡◌, ◌∙◌, inl, inr, ℕ, Bool, true, false, List, [], ◌∷◌, Option, Some, None, refl, sym, ap, subst}
 use Rattle.std.specs.Prelude.{not}
 use Rattle.statement.specs.Benches.{Text}
 use Rattle.netlist.specs.Conditions.{IsSound}
 use Rattle.statement.specs.Netlists.{Netlist}
+use Rattle.statement.specs.Patterns.{Holds, Pattern}
 use Rattle.statement.specs.Values.{known}
 use Rattle.statement.specs.declared.kinds.Tri.{Tri}
 use Rattle.statement.specs.declared.kinds.Tri.TheVariants.{X}
@@ -38,7 +39,10 @@ use Rattle.atpg_top.specs.Commands.{chaintest_due, diagnose_due, due, faults_due
 use Rattle.transition_run.specs.declared.files.TransitionFiles.{TransitionFiles}
 use Rattle.transition_run.specs.Runs.{transition_files_of}
 use Rattle.atpg_top.specs.Runs.{tests_line, texts_in, texts_made}
-use Rattle.atpg_top.specs.inner.Running.{held_due, made_due, slow_due}
+use Rattle.atpg_top.specs.Asked.{RunRead, asked_due, asked_where, first_patterns, made_due, marked_faults, run_read}
+use Rattle.atpg_top.specs.inner.Asking.{first_due, held_due, wanted_due}
+use Rattle.atpg_top.specs.inner.Running.{slow_due}
+use Rattle.atpg_top.proofs.AskLemmas.{first_single, marks_single}
 use Rattle.atpg_top.proofs.HoldLemmas.{holds_single}
 use Rattle.atpg_top.specs.FaultLists.{IsFaultList}
 use Rattle.atpg_top.specs.Plays.{played_finding, played_line}
@@ -131,10 +135,23 @@ play_exclusive one fault (net ∷ stil ∷ more ∷ others) c d p q = absurd p
 
 -- ---- `run`
 
-run_exclusive : (options : RunOptions) (named : List HoldItem) → IsExclusive (run_due options named)
-run_exclusive options named =
-    design_exclusive (held_due options named) (λ n sound. then_one (named_holds n named) (made_due options n) (holds_single n sound named)
-    (λ holds x y a b. given x y (Deliver (texts_made a.0) (tests_line a.0.said.counts) Fine) (Deliver (texts_made b.0) (tests_line b.0.said.counts) Fine) a.2 b.2 refl))
+made_once : (options : RunOptions) (n : Netlist) (holds : Holds) (marks : List Bool) (first : List Pattern) → IsOneKind (made_due options n holds marks first)
+made_once options n holds marks first x y a b =
+    given x y (Deliver (texts_made a.0) (tests_line a.0.said.counts) Fine) (Deliver (texts_made b.0) (tests_line b.0.said.counts) Fine) a.2 b.2 refl
+
+asked_once : AtMostOne → (options : RunOptions) (named : List HoldItem) (t : RunRead) → IsOneKind (asked_due options named t)
+asked_once one options named t =
+    then_one_where (netlist Design t.net) (held_due options named t.list t.stil) (netlist_single Design t.net)
+    (λ n is. then_one (named_holds n named) (λ holds. wanted_due options n holds t.list t.stil) (holds_single n is.1 named)
+    (λ holds. then_one (marked_faults n t.list) (first_due options n holds t.stil) (marks_single n t.list)
+    (λ marks. then_one (first_patterns n holds t.stil) (made_due options n holds marks) (first_single one n holds t.stil) (made_once options n holds marks))))
+
+where_once : AtMostOne → (options : RunOptions) (named : List HoldItem) (o : Option RunRead) → IsOneKind (asked_where options named o)
+where_once one options named None c d p q = absurd p
+where_once one options named (Some t) c d p q = asked_once one options named t c d p q
+
+run_exclusive : AtMostOne → (list first : Option Text) (options : RunOptions) (named : List HoldItem) → IsExclusive (run_due list first options named)
+run_exclusive one list first options named texts = where_once one options named (run_read list first texts)
 
 -- ---- `transition`
 
@@ -216,7 +233,7 @@ pub each_exclusive : AtMostOne → IsExclusive command.five_texts_due → OneLog
 each_exclusive one checks once (scan net to chains) = scan_exclusive chains
 each_exclusive one checks once (faults net) = faults_exclusive
 each_exclusive one checks once (play net stil fault) = play_exclusive one fault
-each_exclusive one checks once (run net prefix options holds) = run_exclusive options holds
+each_exclusive one checks once (run net prefix list first options holds) = run_exclusive one list first options holds
 each_exclusive one checks once (check prefix) = check_exclusive checks
 each_exclusive one checks once (sweep seed gates) = sweep_exclusive seed gates
 each_exclusive one checks once (chaintest net stil chains) = chaintest_exclusive one chains

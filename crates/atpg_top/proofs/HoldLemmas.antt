@@ -77,6 +77,7 @@ module _ (n : Netlist) (sound : IsSound n) where
   holds_apart named x refusal.NotCertificate p q = q
   holds_apart named x refusal.NotReport p q = q
   holds_apart named x refusal.NotLog p q = q
+  holds_apart named x (refusal.NoFaultAt number) p q = q
   holds_apart named x refusal.StilDoesNotFit p q = q
 
   first_once : (named : List HoldItem) (i j : ℕ) → IsFirstUnknown n named i → IsFirstUnknown n named j → i ≡ j
@@ -96,6 +97,7 @@ module _ (n : Netlist) (sound : IsSound n) where
   refusals_once named (refusal.NoSuchInput i) refusal.NotCertificate p q = absurd q
   refusals_once named (refusal.NoSuchInput i) refusal.NotReport p q = absurd q
   refusals_once named (refusal.NoSuchInput i) refusal.NotLog p q = absurd q
+  refusals_once named (refusal.NoSuchInput i) (refusal.NoFaultAt number) p q = absurd q
   refusals_once named (refusal.NoSuchInput i) refusal.StilDoesNotFit p q = absurd q
   refusals_once named (refusal.Netlist r) s p q = absurd p
   refusals_once named refusal.NoSuchFault s p q = absurd p
@@ -103,6 +105,7 @@ module _ (n : Netlist) (sound : IsSound n) where
   refusals_once named refusal.NotCertificate s p q = absurd p
   refusals_once named refusal.NotReport s p q = absurd p
   refusals_once named refusal.NotLog s p q = absurd p
+  refusals_once named (refusal.NoFaultAt number) s p q = absurd p
   refusals_once named refusal.StilDoesNotFit s p q = absurd p
 
   -- the step answers one thing alone

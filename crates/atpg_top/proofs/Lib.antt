@@ -12,5 +12,6 @@ pub mod RunLemmas
 pub mod DiagnoseLemmas
 pub mod SweepLemmas
 pub mod Single
+pub mod AskLemmas
 pub mod LineLemmas
 pub mod NearestLemmas

@@ -62,6 +62,7 @@ netlist_refusals reading bytes (refusal.Netlist r) refusal.NotStil a b = absurd 
 netlist_refusals reading bytes (refusal.Netlist r) refusal.NotCertificate a b = absurd b
 netlist_refusals reading bytes (refusal.Netlist r) refusal.NotReport a b = absurd b
 netlist_refusals reading bytes (refusal.Netlist r) refusal.NotLog a b = absurd b
+netlist_refusals reading bytes (refusal.Netlist r) (refusal.NoFaultAt number) a b = absurd b
 netlist_refusals reading bytes (refusal.Netlist r) refusal.StilDoesNotFit a b = absurd b
 netlist_refusals reading bytes refusal.NoSuchFault s a b = absurd a
 netlist_refusals reading bytes (refusal.NoSuchInput place) s a b = absurd a
@@ -69,6 +70,7 @@ netlist_refusals reading bytes refusal.NotStil s a b = absurd a
 netlist_refusals reading bytes refusal.NotCertificate s a b = absurd a
 netlist_refusals reading bytes refusal.NotReport s a b = absurd a
 netlist_refusals reading bytes refusal.NotLog s a b = absurd a
+netlist_refusals reading bytes (refusal.NoFaultAt number) s a b = absurd a
 netlist_refusals reading bytes refusal.StilDoesNotFit s a b = absurd a
 
 netlist_apart : (reading : Names) (bytes : Text) (n : Netlist) (r : Refusal) → netlist reading bytes (Ok n) → netlist reading bytes (Err r) → ⊥
@@ -79,6 +81,7 @@ netlist_apart reading bytes n refusal.NotStil a b = b
 netlist_apart reading bytes n refusal.NotCertificate a b = b
 netlist_apart reading bytes n refusal.NotReport a b = b
 netlist_apart reading bytes n refusal.NotLog a b = b
+netlist_apart reading bytes n (refusal.NoFaultAt number) a b = b
 netlist_apart reading bytes n refusal.StilDoesNotFit a b = b
 
 pub netlist_single : (reading : Names) (bytes : Text) → IsSingle (netlist reading bytes)

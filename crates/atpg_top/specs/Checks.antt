@@ -1,12 +1,11 @@
 -- What is due of `check`, in the words of this program's refusals.
-use Rattle.std.specs.Prelude.{ℕ, ◌≡◌, Bool, List, [], length}
+use Rattle.std.specs.Prelude.{◌≡◌, List, [], length}
 use Rattle.statement.specs.Benches.{Text}
 use Rattle.netlist.specs.Conditions.{IsSound}
-use Rattle.statement.specs.Patterns.{Holds}
 use Rattle.statement.specs.Netlists.{Netlist}
 use Rattle.statement.specs.Faults.{universe_of}
 use Rattle.run_files.specs.declared.files.RunFiles.{RunFiles}
-use Rattle.run_files.specs.Runs.{IsRun}
+use Rattle.run_files.specs.Runs.{Asked, IsRun}
 use Rattle.commands.specs.declared.ending.Finding.TheVariants.{Fine}
 use Rattle.commands.specs.Due.{Due, Deliver, Refuse}
 use Rattle.check_command.specs.Checking as command
@@ -33,5 +32,5 @@ check_due texts d = (e : Due CheckRefusal) × command.five_texts_due texts e × 
 -- Of the five texts of a run nothing else is due than the line that says how many faults there are.
 abbrev pub RunsPass : Type 0
 RunsPass =
-    (n : Netlist) (holds : Holds) (asked limit : ℕ) (refutes : Bool) (made : RunFiles) → IsSound n → IsRun n holds asked limit refutes made
+    (n : Netlist) (asked : Asked) (made : RunFiles) → IsSound n → IsRun n asked made
     → (d : Due Refusal) → check_due (texts_made made) d → d ≡ Deliver [] (command.checked_line (length (universe_of n))) Fine

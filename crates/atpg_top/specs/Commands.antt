@@ -18,12 +18,12 @@ use Rattle.command_line.specs.HoldLists.{HoldItem}
 use Rattle.command_line.specs.declared.requests.RunOptions.{RunOptions}
 use Rattle.command_line.specs.declared.requests.SlowOptions.{SlowOptions}
 use Rattle.run_files.specs.declared.files.RunFiles.{RunFiles}
-use Rattle.run_files.specs.Runs.{IsRun}
 use Rattle.transition_run.specs.declared.files.TransitionFiles.{TransitionFiles}
 use Rattle.transition_run.specs.Runs.{IsTransitionRun, transition_files_of}
 use Rattle.atpg_top.specs.Checks.{check_due}
-use Rattle.atpg_top.specs.Steps.{◌>>=◌, design_due, named_fault, named_holds, netlist, test, value}
-use Rattle.atpg_top.specs.Runs.{may_refute, tests_line, texts_in, texts_made}
+use Rattle.atpg_top.specs.Steps.{◌>>=◌, design_due, named_fault, netlist, test, value}
+use Rattle.atpg_top.specs.Runs.{tests_line, texts_in}
+use Rattle.atpg_top.specs.Asked.{asked_where, run_read}
 use Rattle.atpg_top.specs.Scans.{IsScanProduct}
 use Rattle.atpg_top.specs.FaultLists.{IsFaultList}
 use Rattle.atpg_top.specs.ChainTests.{IsChainTest, Strobe, chain_test_text, hardware_of}
@@ -49,10 +49,9 @@ play_due fault (net ∷ stil ∷ []) =
     (answer : Played) × IsPlay n f (vectors_in file) answer × (d ≡ Deliver [] (played_line n answer) (played_finding answer))
 play_due fault texts = λ d. ⊥
 
--- the five texts of a run, and the line with the report's numbers; by PODEM and FAN alone the certificate has trees alone
-abbrev pub run_due : RunOptions → List HoldItem → List Text → Due Refusal → Type 0
-run_due options named = design_due (λ n. named_holds n named >>= λ holds d.
-    (made : RunFiles) × IsRun n holds options.numbers.chains options.numbers.limit (may_refute options.engine) made × (d ≡ Deliver (texts_made made) (tests_line made.said.counts) Fine))
+-- the five texts of a run that is asked for so; by PODEM and FAN alone the certificate has trees alone
+abbrev pub run_due : Option Text → Option Text → RunOptions → List HoldItem → List Text → Due Refusal → Type 0
+run_due list first options named texts = asked_where options named (run_read list first texts)
 
 -- the five texts of a design's slow lines, and the line with the report's numbers
 abbrev pub transition_due : SlowOptions → List Text → Due Refusal → Type 0
@@ -92,7 +91,7 @@ abbrev pub due : CommandLine → List Text → Due Refusal → Type 0
 due (scan net to chains) = scan_due chains
 due (faults net) = faults_due
 due (play net stil fault) = play_due fault
-due (run net prefix options holds) = run_due options holds
+due (run net prefix list first options holds) = run_due list first options holds
 due (check prefix) = check_due
 due (sweep seed gates) = sweep_due seed gates
 due (chaintest net stil chains) = chaintest_due chains

@@ -4,6 +4,7 @@ use Rattle.statement.specs.Benches.{Text}
 use Rattle.outside.specs.Causes.{Rose}
 use Rattle.outside.specs.Shelf.{Files}
 use Rattle.command_line.specs.CommandLine.{CommandLine, NoLine, bad_hold, bad_prefix, bad_words, command_line, reads, writes_over}
+use Rattle.commands.specs.Names.{file_name_of}
 use Rattle.commands.specs.World.{NoneFailed, World}
 use Rattle.commands.specs.Contents.{Whole, Missing, TooLong, contents_of}
 use Rattle.commands.specs.Due.{Refuse, Deliver}
@@ -33,7 +34,7 @@ abbrev pub IsDeclinedFor : NoLine → Status → Type 0
 IsDeclinedFor cause (status.BadWords text) = cause ≡ bad_words
 IsDeclinedFor cause status.BadHold = cause ≡ bad_hold
 IsDeclinedFor cause (status.BadPrefix prefix) = cause ≡ bad_prefix prefix.now
-IsDeclinedFor cause (status.WritesOver name) = cause ≡ writes_over name.now
+IsDeclinedFor cause (status.WritesOver name) = cause ≡ writes_over (file_name_of name)
 IsDeclinedFor cause (status.Command ending.Memory) = ⊤
 IsDeclinedFor cause (status.Command _) = ⊥
 

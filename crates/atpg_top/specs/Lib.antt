@@ -7,6 +7,7 @@ pub mod ChainTests
 pub mod Grades
 pub mod Checks
 pub mod Runs
+pub mod Asked
 pub mod Diagnoses
 pub mod Sweeps
 pub mod Commands

@@ -1,5 +1,5 @@
 -- The numbers of the statuses and their lines on the error output.
-use Rattle.std.specs.Prelude.{◌++◌, ℕ, List, [], codes, slice_index_or}
+use Rattle.std.specs.Prelude.{◌++◌, ℕ, List, [], codes, decimal, slice_index_or}
 use Rattle.statement.specs.Benches.{Text}
 use Rattle.commands.specs.Names.{file_name_of}
 use Rattle.commands.specs.declared.ending.Finding.TheVariants.{Fine, Differs}
@@ -7,7 +7,7 @@ use Rattle.commands.specs.declared.ending.Ending.{Ending}
 use Rattle.commands.specs.declared.ending.Ending.TheVariants.{Ended, Refused, ReadFailed, WriteFailed, Missing, TooLong, Memory}
 use Rattle.commands.specs.Lines.{failure_line, netlist_line}
 use Rattle.atpg_top.specs.declared.refusal.Refusal.{Refusal}
-use Rattle.atpg_top.specs.declared.refusal.Refusal.TheVariants.{Netlist, NoSuchFault, NoSuchInput, NotStil, NotCertificate, NotReport, NotLog, StilDoesNotFit}
+use Rattle.atpg_top.specs.declared.refusal.Refusal.TheVariants.{Netlist, NoSuchFault, NoSuchInput, NotStil, NotCertificate, NotReport, NotLog, NoFaultAt, StilDoesNotFit}
 use Rattle.atpg_top.specs.declared.status.Status.{Status}
 use Rattle.atpg_top.specs.declared.status.Status.TheVariants.{BadWords, BadHold, BadPrefix, WritesOver, Command}
 
@@ -19,6 +19,7 @@ refusal_code NotStil = 4
 refusal_code NotCertificate = 4
 refusal_code NotReport = 4
 refusal_code NotLog = 4
+refusal_code (NoFaultAt number) = 4
 refusal_code StilDoesNotFit = 4
 
 abbrev pub ending_code : Ending Refusal → ℕ
@@ -47,6 +48,7 @@ refusal_line names NotStil = codes "not a stil file\n"
 refusal_line names NotCertificate = codes "not a certificate\n"
 refusal_line names NotReport = codes "not a report\n"
 refusal_line names NotLog = codes "not a fail log\n"
+refusal_line names (NoFaultAt number) = codes "fault list line " ++ (decimal number ++ codes ": no such fault\n")
 refusal_line names StilDoesNotFit = codes "stil does not fit\n"
 
 -- the line of an ending; one that did its work has none
@@ -64,5 +66,5 @@ abbrev pub status_line : List Text → Status → Text
 status_line names (BadWords text) = text.now
 status_line names BadHold = codes "bad hold\n"
 status_line names (BadPrefix prefix) = codes "prefix names no file: " ++ (prefix.now ++ codes "\n")
-status_line names (WritesOver name) = codes "would write over: " ++ (name.now ++ codes "\n")
+status_line names (WritesOver name) = codes "would write over: " ++ (file_name_of name ++ codes "\n")
 status_line names (Command ending) = ending_line names ending

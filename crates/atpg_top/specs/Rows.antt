@@ -3,6 +3,7 @@ use Rattle.std.specs.Prelude.{◌≡◌, ℕ, Bool, List, [], Option, Result, Ok
 use Rattle.statement.specs.Benches.{Text}
 use Rattle.command_line.specs.CommandLine.{CommandLine, NoLine, bad_hold, bad_prefix, bad_words, command_line, reads, run, writes, writes_over}
 use Rattle.command_line.specs.HoldLists.{HoldItem}
+use Rattle.commands.specs.Names.{file_name_of}
 use Rattle.commands.specs.World.{IsAsBefore, World}
 use Rattle.commands.specs.Rows.{CommandRow}
 use Rattle.commands.specs.declared.ending.Ending.{Ending}
@@ -28,12 +29,12 @@ abbrev pub TopRow : List Text → World → World → Status → Type 0
 TopRow given a b (status.BadWords text) = (command_line given ≡ Err bad_words) × IsAsBefore a b
 TopRow given a b status.BadHold = (command_line given ≡ Err bad_hold) × IsAsBefore a b
 TopRow given a b (status.BadPrefix prefix) = (command_line given ≡ Err (bad_prefix prefix.now)) × IsAsBefore a b
-TopRow given a b (status.WritesOver name) = (command_line given ≡ Err (writes_over name.now)) × IsAsBefore a b
+TopRow given a b (status.WritesOver name) = (command_line given ≡ Err (writes_over (file_name_of name))) × IsAsBefore a b
 TopRow given a b (status.Command e) = WordsRow (command_line given) a b e
 
 -- the names of the inputs that a command line wants held
 abbrev pub held_names : Result CommandLine NoLine → List Text
-held_names (Ok (run net prefix options holds)) = map (λ (h : HoldItem). h.0) holds
+held_names (Ok (run net prefix list first options holds)) = map (λ (h : HoldItem). h.0) holds
 held_names _ = []
 
 -- The error output gains the line of the status. Where the command did its work it is left alone.

@@ -1,5 +1,5 @@
 -- What `run`, `transition` and `sweep` say.
-use Rattle.std.specs.Prelude.{ℕ, ◌≡◌, ◌<◌, ◌++◌, Bool, true, false, List, [], ◌∷◌, Some, codes, decimal, slice_set}
+use Rattle.std.specs.Prelude.{ℕ, zero, suc, ◌≡◌, ◌<◌, ◌++◌, Bool, true, false, List, [], ◌∷◌, Some, codes, decimal, slice_set}
 use Rattle.std.specs.List.{slice_get}
 use Rattle.statement.specs.Benches.{Text}
 use Rattle.statement.specs.Netlists.{Netlist, name_of}
@@ -47,8 +47,14 @@ texts_in files = files.net ∷ files.scan ∷ files.stil ∷ files.certificate �
 abbrev pub texts_made : RunFiles → List Text
 texts_made made = texts_in (files_of made)
 
+-- ` unasked 7`, where there is one
+abbrev pub unasked_words : ℕ → Text
+unasked_words zero = []
+unasked_words (suc k) = codes " unasked " ++ decimal (suc k)
+
 -- `faults 34 detected 34 redundant 0 aborted 0 patterns 9 cycles 9`, by the counts of a report
 abbrev pub tests_line : ReportCounts → Text
 tests_line counts =
     codes "faults " ++ (decimal counts.faults ++ (codes " detected " ++ (decimal counts.detected ++ (codes " redundant " ++ (decimal counts.redundant
-    ++ (codes " aborted " ++ (decimal counts.aborted ++ (codes " patterns " ++ (decimal counts.patterns ++ (codes " cycles " ++ (decimal counts.cycles ++ codes "\n")))))))))))
+    ++ (codes " aborted " ++ (decimal counts.aborted ++ (unasked_words counts.unasked ++ (codes " patterns " ++ (decimal counts.patterns
+    ++ (codes " cycles " ++ (decimal counts.cycles ++ codes "\n"))))))))))))

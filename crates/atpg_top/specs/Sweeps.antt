@@ -1,5 +1,5 @@
 -- What `sweep` makes of a sample netlist, and says of it.
-use Rattle.std.specs.Prelude.{ℕ, ◌++◌, false, codes, decimal, None}
+use Rattle.std.specs.Prelude.{ℕ, ◌++◌, false, [], codes, decimal, None}
 use Rattle.statement.specs.Benches.{Text}
 use Rattle.statement.specs.Netlists.{Netlist}
 use Rattle.netlist.specs.Holds.{none_held}
@@ -11,7 +11,8 @@ use Rattle.stil_read.specs.Reading.{StandsFor}
 use Rattle.statement.specs.Tests.{vectors_in}
 use Rattle.statement.specs.Stils.{StilFile}
 use Rattle.run_files.specs.declared.files.RunFiles.{RunFiles}
-use Rattle.run_files.specs.Runs.{IsRun}
+use Rattle.run_files.specs.Runs.{Asked, IsRun}
+use Rattle.atpg_top.specs.Asked.{all_faults}
 use Rattle.atpg_top.specs.Plays.{IsPlay}
 
 -- ---- the run
@@ -22,9 +23,21 @@ sweep_chains = 1
 abbrev pub sweep_limit : ℕ
 sweep_limit = 100
 
--- a run in one chain, with at most a hundred closed ends a search, no input being held, and trees alone
+-- one chain, at most a hundred closed ends a search, no input held, trees alone, all faults, and no pattern before the searches
+abbrev pub sweep_asked : Netlist → Asked
+sweep_asked n = record {
+  holds = none_held n;
+  chains = sweep_chains;
+  limit = sweep_limit;
+  refutes = false;
+  faults = all_faults n;
+  percent = None;
+  first = [];
+}
+
+-- a run that is asked for so
 abbrev pub IsSweepRun : Netlist → RunFiles → Type 0
-IsSweepRun n made = IsRun n (none_held n) sweep_chains sweep_limit false made
+IsSweepRun n made = IsRun n (sweep_asked n) made
 
 -- The text of a test, read back and played on the scanned netlist, passes.
 pub record IsPlayedBack (n : Netlist) (stil : Text) : Type 0 where

@@ -7,4 +7,5 @@ pub mod ChainTrials
 pub mod GradeTrials
 pub mod Cases
 pub mod Held
+pub mod Asking
 pub mod Running

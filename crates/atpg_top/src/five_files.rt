@@ -2,7 +2,7 @@
 ghost use Rattle.std.specs.Prelude.{◌≡◌, ◌++◌, ◌∷◌, [], IfOk, OnOk, decimal, length};
 ghost use Rattle.commands.specs.Names.{texts_of};
 ghost use Rattle.commands.specs.declared.ending.Finding.TheVariants.{Fine};
-ghost use Rattle.atpg_top.specs.Runs.{tests_line};
+ghost use Rattle.atpg_top.specs.Runs.{tests_line, unasked_words};
 
 use commands::{Finding, Product};
 use itoa::Buffer;
@@ -18,6 +18,16 @@ pub fn push_count(line: &mut Vec<u8>, word: &[u8], count: u64) -> Result<(), All
     Ok(())
 }
 
+/// Adds how many faults weren't asked for, where there is one.
+fn push_unasked(line: &mut Vec<u8>, count: u64) -> Result<(), AllocError>
+    ensures { OnOk result (line.new.items ≡ line.old.items ++ unasked_words count) }
+{
+    if count > 0 {
+        push_count(line, b" unasked ", count)?;
+    }
+    Ok(())
+}
+
 /// The line of a report's counts.
 pub fn tests_line(alloc: Global, counts: ReportCounts) -> Result<Vec<u8>, AllocError>
     ensures { IfOk result (λ t. t.items ≡ tests_line counts) }
@@ -27,6 +37,7 @@ pub fn tests_line(alloc: Global, counts: ReportCounts) -> Result<Vec<u8>, AllocE
     push_count(&mut line, b" detected ", counts.detected)?;
     push_count(&mut line, b" redundant ", counts.redundant)?;
     push_count(&mut line, b" aborted ", counts.aborted)?;
+    push_unasked(&mut line, counts.unasked)?;
     push_count(&mut line, b" patterns ", counts.patterns)?;
     push_count(&mut line, b" cycles ", counts.cycles)?;
     line.extend_from_slice(b"\n")?;

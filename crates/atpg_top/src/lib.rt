@@ -8,11 +8,12 @@
 //! Gives: `top`, the whole program as one call.
 //! Proved: `top`: every status has its cause and says what stands. 0 means, of `scan`: the canonical text of the scanned netlist, which behaves as
 //! the original with scan off; of `faults`: exactly the list of faults with their classes; of `run`: good files of the netlist that was read, with
-//! the run theorem, and the line with their numbers; of `transition`: five files of slow lines that tell the truth; of `chaintest`: each fault of the
-//! scan hardware with what the file shows of it; of `grade`: of each stuck line whether the file detects it; of `diagnose`: exactly the faults that
-//! explain the log, or those that come nearest to it; of `sweep`: the numbers of good files of the sample netlist, whose test passes. 0 or 1 of
-//! `play` and `check` mean exactly what the player and the check answer, and hold on the chip from every
-//! power-up state where strobes are known. The laws: what is due of the same texts is alike; statuses exclude each other.
+//! the run theorem, for the inputs, the faults and the first patterns that the words and the files name, and the line with their numbers; of
+//! `transition`: five files of slow lines that tell the truth; of `chaintest`: each fault of the scan hardware with what the file shows of it; of
+//! `grade`: of each stuck line whether the file detects it; of `diagnose`: exactly the faults that explain the log, or those that come nearest to it;
+//! of `sweep`: the numbers of good files of the sample netlist, whose test passes. 0 or 1 of `play` and `check` mean exactly what the player and the
+//! check answer, and hold on the chip from every power-up state where strobes are known. The laws: what is due of the same texts is alike; statuses
+//! exclude each other.
 //! Tested: that `run` heeds its options, by `outside_tests` and `cases`.
 #![tactic(auto)]
 
@@ -26,6 +27,7 @@ ghost use Rattle.atpg_top.specs.inner.Held.{names_held};
 ghost use Rattle.atpg_top.specs.Lines.{status_code};
 ghost use Rattle.atpg_top.specs.declared.status.Status.{Status};
 
+mod asking;
 mod chain_testing;
 mod checking;
 mod design;
@@ -96,8 +98,7 @@ fn perform<'a, R: Threads + Wait + Sync, S: Shelf, T: Sink, G: Gate + Sync>(
         Request::Faults { net } => list_faults(alloc, shelf, out, net),
         Request::Play { net, stil, fault } => play_test(alloc, shelf, out, net, stil, *fault),
         Request::Run {
-            net,
-            prefix,
+            names,
             options,
             holds,
         } => run_netlist(
@@ -106,8 +107,7 @@ fn perform<'a, R: Threads + Wait + Sync, S: Shelf, T: Sink, G: Gate + Sync>(
             shelf,
             out,
             stage,
-            net,
-            prefix,
+            *names,
             *options,
             holds.as_slice(),
         ),
@@ -148,7 +148,7 @@ fn decline<'a>(refusal: &'a WordsRefusal<'_>) -> Status<'a>
         },
         WordsRefusal::BadHold => Status::BadHold,
         WordsRefusal::BadPrefix(prefix) => Status::BadPrefix { prefix },
-        WordsRefusal::WritesOver(name) => Status::WritesOver { name },
+        WordsRefusal::WritesOver(name) => Status::WritesOver { name: *name },
         WordsRefusal::NoMemory => Status::Command(Ending::Memory),
     }
 }

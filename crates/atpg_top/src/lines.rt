@@ -1,5 +1,5 @@
 //! The lines on the error output: what the user is told of how the call ends.
-ghost use Rattle.std.specs.Prelude.{◌≡◌, ◌++◌, [], codes, slice_index_or};
+ghost use Rattle.std.specs.Prelude.{◌≡◌, ◌++◌, [], codes, decimal, slice_index_or};
 ghost use Rattle.commands.specs.Lines.{IsSaid};
 ghost use Rattle.atpg_top.specs.inner.Held.{names_held};
 ghost use Rattle.atpg_top.specs.Lines.{refusal_line};
@@ -9,6 +9,7 @@ use crate::refusal::Refusal;
 use crate::status::Status;
 use command_line::Held;
 use commands::{Ending, say, say_failed_write, say_name, say_netlist, say_text};
+use itoa::Buffer;
 use outside::Sink;
 
 /// A line that names a word of the command line.
@@ -16,6 +17,19 @@ fn say_word<E: Sink>(err: &mut E, what: &[u8], word: &[u8])
     ensures { IsSaid E.takes_memory (what.now ++ (word.now ++ codes "\n")) (E.taken err.old) (E.failures err.old) (E.taken err.new) (E.failures err.new) }
 {
     let pieces = [what, word, b"\n".as_slice()];
+    say(err, pieces.as_slice())
+}
+
+/// The line that names a line of a list of faults.
+fn say_stranger<E: Sink>(err: &mut E, number: usize)
+    ensures { IsSaid E.takes_memory (codes "fault list line " ++ (decimal number ++ codes ": no such fault\n")) (E.taken err.old) (E.failures err.old) (E.taken err.new) (E.failures err.new) }
+{
+    let mut digits = Buffer::new();
+    let pieces = [
+        b"fault list line ".as_slice(),
+        digits.format(number).as_bytes(),
+        b": no such fault\n".as_slice(),
+    ];
     say(err, pieces.as_slice())
 }
 
@@ -41,6 +55,7 @@ fn say_refusal<E: Sink>(err: &mut E, refusal: &Refusal, holds: &[Held<'_>])
         Refusal::NotCertificate => say_text(err, b"not a certificate\n"),
         Refusal::NotReport => say_text(err, b"not a report\n"),
         Refusal::NotLog => say_text(err, b"not a fail log\n"),
+        Refusal::NoFaultAt(number) => say_stranger(err, *number),
         Refusal::StilDoesNotFit => say_text(err, b"stil does not fit\n"),
     }
 }
@@ -55,7 +70,7 @@ pub fn tell<E: Sink>(err: &mut E, status: &Status<'_>, holds: &[Held<'_>])
         Status::BadPrefix { prefix } => {
             say_word(err, b"prefix names no file: ", prefix.as_bytes())
         }
-        Status::WritesOver { name } => say_word(err, b"would write over: ", name.as_bytes()),
+        Status::WritesOver { name } => say_name(err, b"would write over: ", name),
         Status::Command(Ending::Ended(_)) => {}
         Status::Command(Ending::Refused(refusal)) => say_refusal(err, refusal, holds),
         Status::Command(Ending::ReadFailed(name)) => say_name(err, b"read failed: ", name),

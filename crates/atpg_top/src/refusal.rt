@@ -15,6 +15,8 @@ pub enum Refusal {
     NotCertificate,
     NotReport,
     NotLog,
+    /// The line of this number, from 1, of the list of faults is no fault's text.
+    NoFaultAt(usize),
     /// The STIL file's signals are not those of the netlist.
     StilDoesNotFit,
 }

@@ -1,5 +1,5 @@
 //! `run`: the five files of a file's netlist.
-ghost use Rattle.std.specs.Prelude.{◌≡◌, ◌≤◌, ◌∷◌, [], false, true, IfOk, length, map};
+ghost use Rattle.std.specs.Prelude.{◌≡◌, ◌≤◌, false, true, IfOk, length, map, option_map};
 ghost use Rattle.std.specs.List.{All};
 ghost use Rattle.netlist.specs.Designs.{IsDesign};
 ghost use Rattle.netlist.specs.Holds.{AreHoldsOf};
@@ -9,25 +9,26 @@ ghost use Rattle.commands.specs.Rows.{CommandRow};
 ghost use Rattle.commands.specs.Worked.{IsWorked};
 ghost use Rattle.commands.specs.World.{world};
 ghost use Rattle.commands.specs.declared.ending.Finding.TheVariants.{Fine};
-ghost use Rattle.command_line.specs.CommandLine.{AreInRange, hold_of};
-ghost use Rattle.run_files.specs.Runs.{IsRun};
+ghost use Rattle.command_line.specs.CommandLine.{AreInRange, hold_of, run_reads};
+ghost use Rattle.run_files.specs.Runs.{IsRun, asked_by};
+ghost use Rattle.atpg_top.specs.Asked.{asked_of, made_due};
 ghost use Rattle.atpg_top.specs.Commands.{run_due};
-ghost use Rattle.atpg_top.specs.Runs.{may_refute, tests_line, texts_made};
-ghost use Rattle.atpg_top.specs.inner.Running.{made_due, held_due};
+ghost use Rattle.atpg_top.specs.Runs.{tests_line, texts_made};
+ghost use Rattle.atpg_top.specs.inner.Asking.{HaveCount, IsReady, IsWanted};
+ghost use Rattle.atpg_top.specs.inner.Running.{plan_of};
 
-use crate::design::design_of;
+use crate::asking::{RunCase, case_of};
 use crate::five_files::{product_of, tests_line};
-use crate::holding::holds_of;
 use crate::refusal::Refusal;
 use clauses::{Clauses, Then};
-use command_line::{EngineName, Held, RunOptions, SearchNumbers, TreeEngine};
-use commands::{Ending, FileName, Product, Stop, deliver, file_names, read_in_order};
+use command_line::{EngineName, Held, RunNames, RunOptions, TreeEngine, run_reads};
+use commands::{Ending, Product, Stop, deliver, file_names, read_in_order};
 use evidence::Engine;
 use fan::Fan;
-use netlist::{Core, Holds, Netlist, NoMemory};
+use netlist::{Core, Holds, NoMemory};
 use outside::{Gate, Shelf, Sink};
 use podem::Podem;
-use run_files::{RunFiles, RunPlan, make_files};
+use run_files::{RunFiles, RunPlan, Wanted, make_files};
 use std::alloc::{AllocError, Global};
 use std::sync::Wait;
 use std::thread::Threads;
@@ -51,28 +52,48 @@ fn product_by(alloc: Global, made: RunFiles) -> Result<Product, AllocError>
     product_of(alloc, net, scan, stil, certificate, report, shown)
 }
 
+/// The plan of a run.
+fn plan_of(options: RunOptions) -> RunPlan
+    ensures { result ≡ plan_of options }
+{
+    let numbers = options.numbers;
+    RunPlan {
+        chains: numbers.chains,
+        workers: numbers.workers,
+        limit: numbers.limit,
+        seed: numbers.seed,
+        percent: options.percent,
+        rounds: options.rounds,
+    }
+}
+
 /// The five files, as this engine finds them.
 fn made_by<R: Threads + Wait + Sync, E: Engine + Sync, G: Gate + Sync>(
     rt: &R,
     alloc: Global,
     core: &Core,
     engine: &E,
-    numbers: SearchNumbers,
+    options: RunOptions,
     holds: &Holds,
+    wanted: Wanted,
     stage: &G,
 ) -> Result<RunFiles, NoMemory>
     requires design { IsDesign core.now }
-    requires range { AreInRange numbers }
+    requires range { AreInRange options.numbers }
     requires held { AreHoldsOf core.now holds.now }
-    ensures { IfOk result (IsRun core.now holds.now numbers.chains numbers.limit E.refutes) }
+    requires wanted { IsWanted core.now holds.now wanted }
+    ensures { IfOk result (IsRun core.now (asked_by (plan_of options) wanted holds.now E.refutes)) }
 {
-    let plan = RunPlan {
-        chains: numbers.chains,
-        workers: numbers.workers,
-        limit: numbers.limit,
-        seed: numbers.seed,
-    };
-    make_files(rt, alloc, core, plan, engine, holds, stage)
+    make_files(
+        rt,
+        alloc,
+        core,
+        plan_of(options),
+        engine,
+        holds,
+        wanted,
+        stage,
+    )
 }
 
 /// The five files, by a tree of decisions for each class.
@@ -81,23 +102,25 @@ pub(crate) fn by_trees<R: Threads + Wait + Sync, G: Gate + Sync>(
     alloc: Global,
     core: &Core,
     engine: TreeEngine,
-    numbers: SearchNumbers,
+    options: RunOptions,
     holds: &Holds,
+    wanted: Wanted,
     stage: &G,
 ) -> Result<RunFiles, NoMemory>
     requires design { IsDesign core.now }
-    requires range { AreInRange numbers }
+    requires range { AreInRange options.numbers }
     requires held { AreHoldsOf core.now holds.now }
-    ensures { IfOk result (IsRun core.now holds.now numbers.chains numbers.limit false) }
+    requires wanted { IsWanted core.now holds.now wanted }
+    ensures { IfOk result (IsRun core.now (asked_by (plan_of options) wanted holds.now false)) }
 {
     match engine {
         TreeEngine::Podem => {
             let podem = Podem::of(alloc, core)?;
-            made_by(rt, alloc, core, &podem, numbers, holds, stage)
+            made_by(rt, alloc, core, &podem, options, holds, wanted, stage)
         }
         TreeEngine::Fan => {
             let fan = Fan::of(alloc, core)?;
-            made_by(rt, alloc, core, &fan, numbers, holds, stage)
+            made_by(rt, alloc, core, &fan, options, holds, wanted, stage)
         }
     }
 }
@@ -107,17 +130,19 @@ fn by_clauses<R: Threads + Wait + Sync, G: Gate + Sync>(
     rt: &R,
     alloc: Global,
     core: &Core,
-    numbers: SearchNumbers,
+    options: RunOptions,
     holds: &Holds,
+    wanted: Wanted,
     stage: &G,
 ) -> Result<RunFiles, NoMemory>
     requires design { IsDesign core.now }
-    requires range { AreInRange numbers }
+    requires range { AreInRange options.numbers }
     requires held { AreHoldsOf core.now holds.now }
-    ensures { IfOk result (IsRun core.now holds.now numbers.chains numbers.limit true) }
+    requires wanted { IsWanted core.now holds.now wanted }
+    ensures { IfOk result (IsRun core.now (asked_by (plan_of options) wanted holds.now true)) }
 {
     let clauses = Clauses::of(alloc, core)?;
-    made_by(rt, alloc, core, &clauses, numbers, holds, stage)
+    made_by(rt, alloc, core, &clauses, options, holds, wanted, stage)
 }
 
 /// The five files, by a tree of decisions for each class, or, where the search gives up, by clauses.
@@ -126,27 +151,29 @@ fn by_trees_then_clauses<R: Threads + Wait + Sync, G: Gate + Sync>(
     alloc: Global,
     core: &Core,
     engine: TreeEngine,
-    numbers: SearchNumbers,
+    options: RunOptions,
     holds: &Holds,
+    wanted: Wanted,
     stage: &G,
 ) -> Result<RunFiles, NoMemory>
     requires design { IsDesign core.now }
-    requires range { AreInRange numbers }
+    requires range { AreInRange options.numbers }
     requires held { AreHoldsOf core.now holds.now }
-    ensures { IfOk result (IsRun core.now holds.now numbers.chains numbers.limit true) }
+    requires wanted { IsWanted core.now holds.now wanted }
+    ensures { IfOk result (IsRun core.now (asked_by (plan_of options) wanted holds.now true)) }
 {
     let second = Clauses::of(alloc, core)?;
-    let few = numbers.limit;
+    let few = options.numbers.limit;
     match engine {
         TreeEngine::Podem => {
             let first = Podem::of(alloc, core)?;
             let both = Then { first, few, second };
-            made_by(rt, alloc, core, &both, numbers, holds, stage)
+            made_by(rt, alloc, core, &both, options, holds, wanted, stage)
         }
         TreeEngine::Fan => {
             let first = Fan::of(alloc, core)?;
             let both = Then { first, few, second };
-            made_by(rt, alloc, core, &both, numbers, holds, stage)
+            made_by(rt, alloc, core, &both, options, holds, wanted, stage)
         }
     }
 }
@@ -158,44 +185,44 @@ fn made_of<R: Threads + Wait + Sync, G: Gate + Sync>(
     core: &Core,
     options: RunOptions,
     holds: &Holds,
+    wanted: Wanted,
     stage: &G,
 ) -> Result<RunFiles, NoMemory>
     requires design { IsDesign core.now }
     requires range { AreInRange options.numbers }
     requires held { AreHoldsOf core.now holds.now }
-    ensures { IfOk result (IsRun core.now holds.now options.numbers.chains options.numbers.limit (may_refute options.engine)) }
+    requires wanted { IsWanted core.now holds.now wanted }
+    ensures { IfOk result (IsRun core.now (asked_of options holds.now wanted.faults.items wanted.first.items)) }
 {
-    let numbers = options.numbers;
     match options.engine {
-        EngineName::Trees(engine) => by_trees(rt, alloc, core, engine, numbers, holds, stage),
-        EngineName::Clauses => by_clauses(rt, alloc, core, numbers, holds, stage),
+        EngineName::Trees(engine) => {
+            by_trees(rt, alloc, core, engine, options, holds, wanted, stage)
+        }
+        EngineName::Clauses => by_clauses(rt, alloc, core, options, holds, wanted, stage),
         EngineName::TreesThenClauses(engine) => {
-            by_trees_then_clauses(rt, alloc, core, engine, numbers, holds, stage)
+            by_trees_then_clauses(rt, alloc, core, engine, options, holds, wanted, stage)
         }
     }
 }
 
-/// What `run` makes of a design and the names of inputs that are held.
-fn run_design<R: Threads + Wait + Sync, G: Gate + Sync>(
+/// What `run` makes of what is asked for.
+fn run_case<R: Threads + Wait + Sync, G: Gate + Sync>(
     rt: &R,
     alloc: Global,
-    netlist: Netlist,
+    case: RunCase,
     options: RunOptions,
-    named: &[Held<'_>],
     stage: &G,
 ) -> Result<Product, Stop<Refusal>>
-    requires design { IsDesign netlist }
+    requires ready { IsReady case }
     requires range { AreInRange options.numbers }
-    ensures { IsWorked (held_due options (map hold_of named.now) netlist) 5 result }
+    ensures { IsWorked (made_due options case.core case.holds case.wanted.faults.items case.wanted.first.items) 5 result }
 {
-    let Ok(core) = Core::of(alloc, netlist) else {
-        return Err(Stop::NoMemory);
-    };
-    let holds = match holds_of(alloc, &core, named) {
-        Ok(holds) => holds,
-        Err(stop) => return Err(stop),
-    };
-    let Ok(made) = made_of(rt, alloc, &core, options, &holds, stage) else {
+    let RunCase {
+        core,
+        holds,
+        wanted,
+    } = case;
+    let Ok(made) = made_of(rt, alloc, &core, options, &holds, wanted, stage) else {
         return Err(Stop::NoMemory);
     };
     match product_by(alloc, made) {
@@ -209,44 +236,48 @@ fn work<R: Threads + Wait + Sync, G: Gate + Sync>(
     rt: &R,
     alloc: Global,
     texts: Vec<Vec<u8>>,
+    names: RunNames<'_>,
     options: RunOptions,
     named: &[Held<'_>],
     stage: &G,
 ) -> Result<Product, Stop<Refusal>>
-    requires count { length texts.items ≡ 1 }
+    requires count { HaveCount (option_map (λ t. t.now) names.list) (option_map (λ t. t.now) names.first) (length texts.items) }
     requires within { All (λ text. length text ≤ most_bytes) (texts_of texts.items) }
     requires range { AreInRange options.numbers }
-    ensures { IsWorked (run_due options (map hold_of named.now) (texts_of texts.items)) 5 result }
+    ensures { IsWorked (run_due (option_map (λ t. t.now) names.entry.list) (option_map (λ t. t.now) names.entry.first) options (map hold_of named.now) (texts_of texts.items)) 5 result }
 {
-    match design_of(alloc, texts) {
-        Ok(netlist) => run_design(rt, alloc, netlist, options, named, stage),
+    match case_of(alloc, texts, names.list, names.first, named) {
+        Ok(case) => run_case(rt, alloc, case, options, stage),
         Err(stop) => Err(stop),
     }
 }
 
-/// Writes the five files of the netlist of the file `net` under names that begin with `prefix`.
+/// Writes the five files of the netlist of the file that is named, under the names that begin as is asked.
 pub fn run_netlist<'a, R: Threads + Wait + Sync, S: Shelf, T: Sink, G: Gate + Sync>(
     rt: &R,
     alloc: Global,
     shelf: &mut S,
     out: &mut T,
     stage: &G,
-    net: &'a str,
-    prefix: &'a str,
+    names: RunNames<'a>,
     options: RunOptions,
     named: &[Held<'_>],
 ) -> Ending<'a, Refusal>
     requires { AreInRange options.numbers }
-    ensures { CommandRow (net.now ∷ []) (run_files prefix.now) (run_due options (map hold_of named.now))
+    ensures { CommandRow (run_reads names.entry.net.now (option_map (λ t. t.now) names.entry.list) (option_map (λ t. t.now) names.entry.first)) (run_files names.entry.prefix.now)
+        (run_due (option_map (λ t. t.now) names.entry.list) (option_map (λ t. t.now) names.entry.first) options (map hold_of named.now))
         (world (S.files shelf.old) (S.failures shelf.old) (T.taken out.old) (T.failures out.old))
         (world (S.files shelf.new) (S.failures shelf.new) (T.taken out.new) (T.failures out.new)) result }
 {
-    let reads = [FileName::of(net)];
-    let writes = file_names(prefix);
-    let texts = match read_in_order(alloc, shelf, &reads) {
+    let writes = file_names(names.prefix);
+    let reads = match run_reads(alloc, names) {
+        Ok(reads) => reads,
+        Err(_) => return Ending::Memory,
+    };
+    let texts = match read_in_order(alloc, shelf, reads.as_slice()) {
         Ok(texts) => texts,
         Err(ending) => return ending,
     };
-    let worked = work(rt, alloc, texts, options, named, stage);
+    let worked = work(rt, alloc, texts, names, options, named, stage);
     deliver(alloc, shelf, out, &writes, worked)
 }

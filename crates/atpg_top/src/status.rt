@@ -3,7 +3,7 @@ ghost use Rattle.std.specs.Prelude.{◌≡◌};
 ghost use Rattle.atpg_top.specs.Lines.{status_code, ending_code, refusal_code};
 
 use crate::refusal::Refusal;
-use commands::{Ending, Finding};
+use commands::{Ending, FileName, Finding};
 
 /// How a call ends.
 #[derive(Clone, Copy)]
@@ -15,7 +15,7 @@ pub enum Status<'a> {
     /// They would be one, but the files written would have no names of their own.
     BadPrefix { prefix: &'a str },
     /// They would be one, but this file, which they read, would be written over.
-    WritesOver { name: &'a str },
+    WritesOver { name: FileName<'a> },
     /// They are, and the command ended so.
     Command(Ending<'a, Refusal>),
 }
@@ -31,6 +31,7 @@ fn refusal_code(refusal: &Refusal) -> u8
         Refusal::NotCertificate => 4,
         Refusal::NotReport => 4,
         Refusal::NotLog => 4,
+        Refusal::NoFaultAt(_) => 4,
         Refusal::StilDoesNotFit => 4,
     }
 }

@@ -23,17 +23,18 @@ ghost use Rattle.atpg_top.specs.Commands.{sweep_due};
 ghost use Rattle.atpg_top.specs.Plays.{IsPlay};
 ghost use Rattle.atpg_top.specs.Sweeps.{IsPlayedBack, IsSweep, IsSweepRun, number_line, sweep_chains, sweep_text};
 
+use crate::asking::all_faults;
 use crate::five_files::push_count;
 use crate::playing::answer_of;
 use crate::refusal::Refusal;
 use crate::running::by_trees;
-use command_line::{SearchNumbers, TreeEngine};
+use command_line::{EngineName, RunOptions, SearchNumbers, TreeEngine};
 use commands::{Ending, Finding, Product, Stop, deliver};
 use net_gen::{generate, samples_are_designs};
 use netlist::{Core, Holds, Netlist, NoMemory};
 use outside::{Gate, Shelf, Sink};
 use report::Report;
-use run_files::RunFiles;
+use run_files::{RunFiles, Wanted};
 use scan_insert::{insert, stitch};
 use scan_play::{Played, vectors_decide};
 use std::alloc::{AllocError, Global};
@@ -47,6 +48,8 @@ use stil_write::StilFile;
 const CHAINS: u32 = 1;
 
 const LIMIT: u32 = 100;
+
+const ROUNDS: u32 = 3;
 
 /// The netlist of a seed, with so many gates.
 fn sample_core(alloc: Global, seed: u64, gates: u32) -> Result<Core, NoMemory>
@@ -80,8 +83,19 @@ fn run_sample<R: Threads + Wait + Sync, G: Gate + Sync>(
         limit: LIMIT,
         seed,
     };
+    let engine = TreeEngine::Podem;
+    let options = RunOptions {
+        engine: EngineName::Trees(engine),
+        numbers,
+        percent: None,
+        rounds: ROUNDS,
+    };
     let holds = Holds::none(alloc, core)?;
-    by_trees(rt, alloc, core, TreeEngine::Podem, numbers, &holds, stage)
+    let wanted = Wanted {
+        faults: all_faults(alloc, core.netlist())?,
+        first: Vec::new(alloc),
+    };
+    by_trees(rt, alloc, core, engine, options, &holds, wanted, stage)
 }
 
 /// The scanned netlist of a design, in one chain.

@@ -138,7 +138,8 @@ pub fn push_detected(
     push_said(to, alloc, core, &faults, &patterns, is_batch)
 }
 
-fn all_drawn(
+/// So many drawn patterns.
+pub fn all_drawn(
     alloc: Global,
     core: &Core,
     count: u32,

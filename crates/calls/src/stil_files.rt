@@ -16,7 +16,7 @@ use stil_read::{StilFault, read_stil};
 use stil_write::write_stil;
 
 /// Adds patterns, a blank before each.
-fn push_patterns(to: &mut Vec<u8>, patterns: &[Pattern]) -> Result<(), AllocError> {
+pub fn push_patterns(to: &mut Vec<u8>, patterns: &[Pattern]) -> Result<(), AllocError> {
     to.extend_from_slice(b"patterns")?;
     for pattern in patterns {
         to.push(b' ')?;
@@ -84,7 +84,7 @@ fn with_other(alloc: Global, text: &[u8], old: &str, new: &str) -> Result<Vec<u8
 }
 
 /// Adds the file of patterns and what is read of it, or what is read of it once a word is another.
-fn push_file(
+pub fn push_file(
     to: &mut Vec<u8>,
     alloc: Global,
     core: &Core,

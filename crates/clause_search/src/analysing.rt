@@ -1,14 +1,12 @@
 //! What is learned of a contradiction: the first unique implication point. (Marques-Silva and Sakallah, GRASP, 1999; Zhang and others, Efficient
 //! conflict driven learning in a Boolean satisfiability solver, 2001.) A literal that the others of the clause imply by its reason is left out.
-use crate::arrays::{NONE, at, byte_at, fill_bytes, number_of, put, put_byte};
 use crate::causes::{Asked, causes};
-use crate::clauses::{Clauses, clause_reason};
-use crate::cones::Cone;
 use crate::lemmas::{Lemmas, ROOT};
-use crate::literals::{opposite, variable_of};
+use crate::meetings::Met;
 use crate::queues::Queue;
-use crate::trails::Trail;
 use crate::ways::Ways;
+use flat_netlist::{NONE, at, number_of, put};
+use implications::{Clauses, Cone, Trail, clause_reason, opposite, variable_of};
 use std::alloc::{AllocError, Global};
 
 /// What a literal was implied by, and where it stands among the assigned.
@@ -22,9 +20,8 @@ struct Taken {
 /// Room for the analysis of a contradiction.
 #[derive(Drop)]
 pub(crate) struct Analysis {
-    /// By variable, whether it has been met.
-    met: Vec<u8>,
-    touched: Vec<u32>,
+    /// The variables that were met.
+    met: Met,
     found: Vec<u32>,
     /// The clause: first what the last decision made, then the others.
     clause: Vec<u32>,
@@ -37,8 +34,7 @@ pub(crate) struct Analysis {
 impl Analysis {
     pub(crate) fn new(alloc: Global) -> Analysis {
         Analysis {
-            met: Vec::new(alloc),
-            touched: Vec::new(alloc),
+            met: Met::new(alloc),
             found: Vec::new(alloc),
             clause: Vec::new(alloc),
             taken: Vec::new(alloc),
@@ -49,21 +45,16 @@ impl Analysis {
 
     pub(crate) fn begin(&mut self, count: u32) -> Result<(), AllocError> {
         self.ways.begin(count)?;
-        fill_bytes(&mut self.met, count, 0)
-    }
-
-    fn is_met(&self, variable: u32) -> bool {
-        byte_at(&self.met, variable) != 0
+        self.met.begin(count)
     }
 
     /// A literal is met: it was known without a decision, or comes from the last decision, or goes into the clause.
     fn meet(&mut self, trail: &Trail, queue: &mut Queue, literal: u32) -> Result<(), AllocError> {
         let variable = variable_of(literal);
-        if self.is_met(variable) {
+        if self.met.has(variable) {
             return Ok(());
         }
-        put_byte(&mut self.met, variable, 1);
-        self.touched.push(variable)?;
+        self.met.meet(variable)?;
         let level = trail.level_of(variable);
         if level == 0 {
             let place = trail.place_of(variable);
@@ -162,7 +153,7 @@ impl Analysis {
     ) -> Result<u32, AllocError> {
         for place in (0..trail.length()).rev() {
             let literal = trail.literal_at(place);
-            if self.is_met(variable_of(literal)) {
+            if self.met.has(variable_of(literal)) {
                 if self.open <= 1 {
                     return Ok(literal);
                 }
@@ -177,7 +168,7 @@ impl Analysis {
     fn are_met(&self, trail: &Trail) -> bool {
         for literal in &self.found {
             let variable = variable_of(*literal);
-            if !self.is_met(variable) && trail.level_of(variable) != 0 {
+            if !self.met.has(variable) && trail.level_of(variable) != 0 {
                 return false;
             }
         }
@@ -259,13 +250,6 @@ impl Analysis {
         trail.level_of(variable_of(first))
     }
 
-    fn forget(&mut self) {
-        for variable in &self.touched {
-            put_byte(&mut self.met, *variable, 0);
-        }
-        self.touched.clear();
-    }
-
     /// Writes down what the clause took, in order.
     fn note(&mut self, lemmas: &mut Lemmas) -> Result<(), AllocError> {
         self.taken.sort_unstable_by_key(|taken| taken.place);
@@ -300,7 +284,7 @@ impl Analysis {
         self.shorten_all(cone, trail, clauses, queue)?;
         let level = self.level_back(trail);
         self.note(lemmas)?;
-        self.forget();
+        self.met.forget();
         let place = clauses.add(&self.clause, lemmas.count())?;
         lemmas.close(place, reason, trail.root_length())?;
         Ok(Learned {

@@ -1,13 +1,8 @@
 //! Why a variable has its bit: the literals from which a reason implied it, or that contradict the reason.
-use crate::arrays::NONE;
-use crate::clauses::{Clauses, clause_of};
-use crate::cones::Cone;
-use crate::graphs::Shape;
-use crate::implying::Cause;
-use crate::literals::{opposite, variable_of};
 use crate::searching::POINTS;
-use crate::trails::Trail;
 use crate::ways::Ways;
+use flat_netlist::{NONE, Shape};
+use implications::{Cause, Clauses, Cone, Trail, clause_of, opposite, variable_of};
 use std::alloc::AllocError;
 
 /// What is asked of a reason: the variable that it implied, NONE where it is contradicted, and where that stands among the assigned.

@@ -1,10 +1,10 @@
 //! Searches, one after the other in one room.
 ghost use Rattle.netlist.specs.Holds.{AreHoldsOf};
 
-use crate::graphs::Shape;
 use crate::searching::{End, Search};
-use crate::trails::UNSET;
 use crate::writing::{no_way, nothing_left, refutation_of};
+use flat_netlist::Shape;
+use implications::UNSET;
 use netlist::{Core, Fault, Holds, NoMemory, SignalId};
 use refutation::Step;
 use std::alloc::{AllocError, Global};

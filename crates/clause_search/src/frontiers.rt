@@ -2,13 +2,9 @@
 //! the observed points is to differ; once an observed point differs, what its two bits rest on is looked at back from it, and what isn't made by pins yet
 //! gets a pin that makes it. Once all of it is made there is a test, and the other sources may have any bits. (The D-frontier and the J-frontier: Roth, Diagnosis of
 //! automata failures, 1966.)
-use crate::arrays::NONE;
-use crate::cones::Cone;
-use crate::graphs::Shape;
-use crate::literals::literal;
 use crate::meetings::Met;
-use crate::trails::{Trail, UNSET};
-use crate::wholes::Whole;
+use flat_netlist::{NONE, Shape, Whole};
+use implications::{Cone, Trail, UNSET, literal};
 use std::alloc::{AllocError, Global};
 
 /// What to do next.

@@ -1,11 +1,9 @@
 //! What is carried from one fault to the next: by signal of the netlist, how much it took part in the last contradictions, and, where both bits cost as much, the
 //! bit that it had last. Faults that are searched for in a row mostly lie close together, and what was hard for one is hard for the next.
-use crate::arrays::{byte_at, number_of};
-use crate::cones::Cone;
 use crate::queues::Queue;
-use crate::trails::Trail;
-use crate::wholes::Whole;
 use decisions::{mixed, signal_count};
+use flat_netlist::{Whole, byte_at, number_of};
+use implications::{Cone, Trail};
 use netlist::Core;
 use std::alloc::{AllocError, Global};
 

@@ -1,5 +1,5 @@
 //! What a walk has met, in order, each once.
-use crate::arrays::{at, byte_at, fill_bytes, number_of, put_byte};
+use flat_netlist::{at, byte_at, fill_bytes, number_of, put_byte};
 use std::alloc::{AllocError, Global};
 
 #[derive(Drop)]

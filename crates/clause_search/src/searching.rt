@@ -3,20 +3,15 @@
 ghost use Rattle.netlist.specs.Holds.{AreHoldsOf};
 
 use crate::analysing::Analysis;
-use crate::arrays::{NONE, at, number_of};
-use crate::clauses::{Clauses, clause_reason};
-use crate::cones::Cone;
-use crate::first_looks::{FirstLook, Seen};
 use crate::frontiers::{Walk, Wish};
-use crate::graphs::Shape;
 use crate::habits::Habits;
-use crate::implying::visit_gate;
 use crate::lemmas::Lemmas;
-use crate::literals::{bit_of, literal, variable_of};
 use crate::queues::Queue;
-use crate::spreading::spread;
-use crate::trails::{Trail, UNSET};
-use crate::wholes::Whole;
+use flat_netlist::{NONE, Whole, at, number_of};
+use implications::{
+    Clauses, Cone, FirstLook, Seen, Trail, UNSET, bit_of, clause_reason, literal, spread,
+    variable_of, visit_gate,
+};
 use netlist::{Core, Fault, Holds, SignalId};
 use std::alloc::{AllocError, Global};
 

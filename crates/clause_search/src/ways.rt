@@ -1,9 +1,8 @@
 //! Where a difference is stopped on its ways to the observed points. (The cut of the X-path check: Goel, An implicit enumeration algorithm to generate tests
 //! for combinational logic circuits, 1981.) What lies behind the places where it is stopped is no cause, so what is learned of it is short.
 use crate::causes::Asked;
-use crate::cones::Cone;
 use crate::meetings::Met;
-use crate::trails::Trail;
+use implications::{Cone, Trail};
 use std::alloc::{AllocError, Global};
 
 #[derive(Drop)]

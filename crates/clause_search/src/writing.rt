@@ -3,16 +3,12 @@
 //!
 //! What gates imply is not written: a sweep of the step puts it in. What was known without a decision is a step of its own where a way or a lemma says it.
 //! Held inputs, the stuck stem, excitation and the third of the three variables of a signal need nothing: a checker that keeps pairs of bits knows these.
-use crate::arrays::{NONE, at, byte_at, fill, fill_bytes, number_of, put, put_byte};
 use crate::causes::{Asked, causes};
-use crate::clauses::clause_of;
-use crate::cones::Cone;
-use crate::graphs::Shape;
-use crate::implying::Cause;
 use crate::lemmas::ROOT;
-use crate::literals::{bit_of, opposite, variable_of};
 use crate::searching::{EXCITED, FACT, POINTS, Search};
 use crate::ways::Ways;
+use flat_netlist::{NONE, Shape, at, byte_at, fill, fill_bytes, number_of, put, put_byte};
+use implications::{Cause, Cone, bit_of, clause_of, opposite, variable_of};
 use netlist::SignalId;
 use refutation::{Implied, Literal, Move, Pairs, Reason, Step};
 use std::alloc::{AllocError, Global};

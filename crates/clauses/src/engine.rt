@@ -1,10 +1,10 @@
 //! The engine.
-ghost use Rattle.std.specs.Prelude.{◌≤◌, IfOk, IfSome};
+ghost use Rattle.std.specs.Prelude.{◌≤◌, true, IfOk, IfSome};
 ghost use Rattle.netlist.specs.Holds.{AreHoldsOf};
 ghost use Rattle.netlist.specs.Lines.{IsLineOf};
-ghost use Rattle.refutation.specs.Refutations.{Refutes};
-ghost use Rattle.refutation_check.specs.Rooms.{IsReusableCheckRoom};
-ghost use Rattle.clauses.specs.Rooms.{IsReusableClauseRoom};
+ghost use Rattle.evidence.specs.Answers.{HasEvidence, MayAnswer};
+ghost use Rattle.clauses.specs.Rooms.{AreReusable};
+ghost use Rattle.clauses.specs.Rules.{HasClauseEvidence};
 ghost use Rattle.clauses.specs.inner.Answered.{IsByTree, IsVerified};
 
 use crate::first_tries::FirstTries;
@@ -26,126 +26,98 @@ pub struct Clauses {
     podem: Podem,
 }
 
-/// What a search leaves to the next one.
+/// The rooms of those that judge what the search says: of a test PODEM's labels, of steps the check.
 #[derive(Drop)]
-pub struct ClauseRoom {
+struct Judges {
     podem: PodemRoom,
     checks: CheckRoom,
+}
+
+/// What no answer rests on: the search that learns clauses, and whether PODEM goes before it for a moment.
+#[derive(Drop)]
+struct Guide {
     search: Room,
     tries: FirstTries,
 }
 
-/// The steps, if the check accepts them as a refutation.
-fn accepted(
-    room: CheckRoom,
-    core: &Core,
-    fault: &Fault,
-    holds: &Holds,
-    steps: Vec<Step>,
-) -> Result<(Option<Refutation>, CheckRoom), NoMemory>
-    requires line { IsLineOf core.now fault.now.line }
-    requires room { IsReusableCheckRoom core.now holds.now room }
-    ensures answer { IfOk result (λ r. IfSome r.0 (Refutes fault.now core.now holds.now)) }
-    ensures room { IfOk result (λ r. IsReusableCheckRoom core.now holds.now r.1) }
-{
-    let mut checker = Checker::in_room(room, core, holds);
-    let answer = checker.check(fault, &steps);
-    let room = checker.into_room();
-    match answer {
-        Ok(()) => Ok((Some(Refutation::new(steps)), room)),
-        Err(RefutationFault::NoMemory) => Err(NoMemory),
-        Err(_) => Ok((None, room)),
-    }
+/// What a search leaves to the next one.
+#[derive(Drop)]
+pub struct ClauseRoom {
+    judges: Judges,
+    guide: Guide,
 }
 
-/// Steps of the search, as an answer.
+/// Steps of the search, as an answer: if the check accepts them they are a refutation.
 fn by_steps(
-    room: ClauseRoom,
+    judges: Judges,
     core: &Core,
     fault: &Fault,
     holds: &Holds,
     steps: Vec<Step>,
-) -> Result<(Option<Found>, ClauseRoom), NoMemory>
+) -> Result<(Option<Found>, Judges), NoMemory>
     requires line { IsLineOf core.now fault.now.line }
-    requires room { IsReusableClauseRoom core.now holds.now room }
+    requires rooms { AreReusable core.now holds.now judges }
     ensures answer { IfOk result (λ r. IfSome r.0 (IsVerified fault.now core.now holds.now)) }
-    ensures room { IfOk result (λ r. IsReusableClauseRoom core.now holds.now r.1) }
+    ensures rooms { IfOk result (λ r. AreReusable core.now holds.now r.1) }
 {
-    let ClauseRoom {
-        podem,
-        checks,
-        search,
-        tries,
-    } = room;
-    let (steps, checks) = accepted(checks, core, fault, holds, steps)?;
-    let room = ClauseRoom {
-        podem,
-        checks,
-        search,
-        tries,
-    };
-    match steps {
-        Some(steps) => Ok((Some(Found::Refuted(steps)), room)),
-        None => Ok((None, room)),
+    let Judges { podem, checks } = judges;
+    let mut checker = Checker::in_room(checks, core, holds);
+    let answer = checker.check(fault, &steps);
+    let checks = checker.into_room();
+    let judges = Judges { podem, checks };
+    match answer {
+        Ok(()) => Ok((Some(Found::Refuted(Refutation::new(steps))), judges)),
+        Err(RefutationFault::NoMemory) => Err(NoMemory),
+        Err(_) => Ok((None, judges)),
     }
 }
 
-/// Bits of the search, as an answer.
+/// Bits of the search, as an answer: if the labels come to show a test they are one.
 fn by_bits(
     alloc: Global,
-    room: ClauseRoom,
+    judges: Judges,
     core: &Core,
     fault: &Fault,
     holds: &Holds,
     bits: &[(SignalId, bool)],
-) -> Result<(Option<Found>, ClauseRoom), NoMemory>
+) -> Result<(Option<Found>, Judges), NoMemory>
     requires holds { AreHoldsOf core.now holds.now }
     requires line { IsLineOf core.now fault.now.line }
-    requires room { IsReusableClauseRoom core.now holds.now room }
+    requires rooms { AreReusable core.now holds.now judges }
     ensures answer { IfOk result (λ r. IfSome r.0 (IsVerified fault.now core.now holds.now)) }
-    ensures room { IfOk result (λ r. IsReusableClauseRoom core.now holds.now r.1) }
+    ensures rooms { IfOk result (λ r. AreReusable core.now holds.now r.1) }
 {
-    let ClauseRoom {
-        podem,
-        checks,
-        search,
-        tries,
-    } = room;
+    let Judges { podem, checks } = judges;
     let (test, podem) = tried_in(alloc, podem, core, *fault, holds, bits)?;
-    let room = ClauseRoom {
-        podem,
-        checks,
-        search,
-        tries,
-    };
+    let judges = Judges { podem, checks };
     match test {
-        Some((cube, point)) => Ok((Some(Found::Test(cube, point)), room)),
-        None => Ok((None, room)),
+        Some((cube, point)) => Ok((Some(Found::Test(cube, point)), judges)),
+        None => Ok((None, judges)),
     }
 }
 
 /// What the search that learns clauses answers, as far as it is verified.
 fn by_clauses(
     alloc: Global,
-    room: ClauseRoom,
+    guide: &mut Guide,
+    judges: Judges,
     core: &Core,
     fault: &Fault,
     holds: &Holds,
-) -> Result<(Option<Found>, ClauseRoom), NoMemory>
+) -> Result<(Option<Found>, Judges), NoMemory>
     requires holds { AreHoldsOf core.now holds.now }
     requires line { IsLineOf core.now fault.now.line }
-    requires room { IsReusableClauseRoom core.now holds.now room }
+    requires rooms { AreReusable core.now holds.now judges }
     ensures answer { IfOk result (λ r. IfSome r.0 (IsVerified fault.now core.now holds.now)) }
-    ensures room { IfOk result (λ r. IsReusableClauseRoom core.now holds.now r.1) }
+    ensures rooms { IfOk result (λ r. AreReusable core.now holds.now r.1) }
 {
-    let mut room = room;
-    match room
+    match guide
         .search
         .search(alloc, core, fault, CONTRADICTIONS, holds)?
     {
-        Settled::Refuted(steps) => by_steps(room, core, fault, holds, steps),
-        Settled::Found(bits) => by_bits(alloc, room, core, fault, holds, &bits),
-        Settled::GaveUp => Ok((None, room)),
+        Settled::Refuted(steps) => by_steps(judges, core, fault, holds, steps),
+        Settled::Found(bits) => by_bits(alloc, judges, core, fault, holds, &bits),
+        Settled::GaveUp => Ok((None, judges)),
     }
 }
 
@@ -160,63 +132,83 @@ impl Clauses {
     fn by_tree(
         &self,
         alloc: Global,
-        room: ClauseRoom,
+        judges: Judges,
         core: &Core,
         fault: Fault,
         limit: u32,
         holds: &Holds,
-    ) -> Result<(Found, ClauseRoom), NoMemory>
+    ) -> Result<(Found, Judges), NoMemory>
         requires limit { 1 ≤ limit }
         requires holds { AreHoldsOf core.now holds.now }
         requires line { IsLineOf core.now fault.line }
-        requires room { IsReusableClauseRoom core.now holds.now room }
+        requires rooms { AreReusable core.now holds.now judges }
         ensures evidence { IfOk result (λ r. IsByTree fault core.now holds.now limit r.0) }
-        ensures room { IfOk result (λ r. IsReusableClauseRoom core.now holds.now r.1) }
+        ensures rooms { IfOk result (λ r. AreReusable core.now holds.now r.1) }
     {
-        let ClauseRoom {
-            podem,
-            checks,
-            search,
-            tries,
-        } = room;
+        let Judges { podem, checks } = judges;
         let (found, podem) = self
             .podem
             .search_in(alloc, podem, core, fault, limit, holds)?;
-        let room = ClauseRoom {
-            podem,
-            checks,
-            search,
-            tries,
-        };
-        Ok((found, room))
+        Ok((found, Judges { podem, checks }))
     }
 
     /// What PODEM answers with one closed end, if that is worth a try, and unless it gives up.
     fn short(
         &self,
         alloc: Global,
-        room: ClauseRoom,
+        guide: &mut Guide,
+        judges: Judges,
         core: &Core,
         fault: Fault,
         limit: u32,
         holds: &Holds,
-    ) -> Result<(Option<Found>, ClauseRoom), NoMemory>
+    ) -> Result<(Option<Found>, Judges), NoMemory>
         requires limit { 1 ≤ limit }
         requires holds { AreHoldsOf core.now holds.now }
         requires line { IsLineOf core.now fault.line }
-        requires room { IsReusableClauseRoom core.now holds.now room }
+        requires rooms { AreReusable core.now holds.now judges }
         ensures evidence { IfOk result (λ r. IfSome r.0 (IsByTree fault core.now holds.now limit)) }
-        ensures room { IfOk result (λ r. IsReusableClauseRoom core.now holds.now r.1) }
+        ensures rooms { IfOk result (λ r. AreReusable core.now holds.now r.1) }
     {
-        let mut room = room;
-        if !room.tries.are_worth() {
-            room.tries = room.tries.passed();
-            return Ok((None, room));
+        if !guide.tries.are_worth() {
+            guide.tries = guide.tries.passed();
+            return Ok((None, judges));
         }
-        let (found, mut room) = self.by_tree(alloc, room, core, fault, 1, holds)?;
+        let (found, judges) = self.by_tree(alloc, judges, core, fault, 1, holds)?;
         let found = settled(found);
-        room.tries = room.tries.after(found.is_some());
-        Ok((found, room))
+        guide.tries = guide.tries.after(found.is_some());
+        Ok((found, judges))
+    }
+
+    /// PODEM for a moment, then clauses, and where nothing came of them PODEM at the whole limit.
+    fn in_turn(
+        &self,
+        alloc: Global,
+        guide: &mut Guide,
+        judges: Judges,
+        core: &Core,
+        fault: Fault,
+        limit: u32,
+        holds: &Holds,
+    ) -> Result<(Found, Judges), NoMemory>
+        requires limit { 1 ≤ limit }
+        requires holds { AreHoldsOf core.now holds.now }
+        requires line { IsLineOf core.now fault.line }
+        requires rooms { AreReusable core.now holds.now judges }
+        ensures evidence { IfOk result (λ r. HasEvidence fault core.now holds.now limit r.0) }
+        ensures rule { IfOk result (λ r. HasClauseEvidence fault core.now holds.now limit r.0) }
+        ensures kind { IfOk result (λ r. MayAnswer true r.0) }
+        ensures rooms { IfOk result (λ r. AreReusable core.now holds.now r.1) }
+    {
+        let (found, judges) = self.short(alloc, guide, judges, core, fault, limit, holds)?;
+        if let Some(found) = found {
+            return Ok((found, judges));
+        }
+        let (found, judges) = by_clauses(alloc, guide, judges, core, &fault, holds)?;
+        if let Some(found) = found {
+            return Ok((found, judges));
+        }
+        self.by_tree(alloc, judges, core, fault, limit, holds)
     }
 }
 
@@ -248,12 +240,15 @@ impl Engine for Clauses {
     }
 
     fn room(&self, alloc: Global, core: &Core, holds: &Holds) -> Result<ClauseRoom, NoMemory> {
-        Ok(ClauseRoom {
+        let judges = Judges {
             podem: self.podem.room(alloc, core, holds)?,
             checks: CheckRoom::new(alloc, core, holds)?,
+        };
+        let guide = Guide {
             search: Room::new(alloc),
             tries: FirstTries::none(),
-        })
+        };
+        Ok(ClauseRoom { judges, guide })
     }
 
     fn search_in(
@@ -265,14 +260,9 @@ impl Engine for Clauses {
         limit: u32,
         holds: &Holds,
     ) -> Result<(Found, ClauseRoom), NoMemory> {
-        let (found, room) = self.short(alloc, room, core, fault, limit, holds)?;
-        if let Some(found) = found {
-            return Ok((found, room));
-        }
-        let (found, room) = by_clauses(alloc, room, core, &fault, holds)?;
-        if let Some(found) = found {
-            return Ok((found, room));
-        }
-        self.by_tree(alloc, room, core, fault, limit, holds)
+        let ClauseRoom { judges, guide } = room;
+        let mut guide = guide;
+        let (found, judges) = self.in_turn(alloc, &mut guide, judges, core, fault, limit, holds)?;
+        Ok((found, ClauseRoom { judges, guide }))
     }
 }

@@ -2,7 +2,7 @@
 //!
 //! Where faults are easy (multipliers, datapaths) PODEM with a single closed end settles nearly all, at a fraction of what a search for clauses costs
 //! to begin; where they are hard (near wires) it settles few, and its time is lost. So it goes first while it settles three of four. No evidence rests
-//! on this. A greater limit was tried: what PODEM then settles clauses settle sooner.
+//! on this.
 
 /// How often a short search was tried, and how often it settled the fault.
 #[derive(Clone, Copy)]

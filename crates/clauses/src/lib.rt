@@ -4,8 +4,8 @@
 //! calls a test if the labels of PODEM show one, and else PODEM searches. So a search that is wrong could only be slow.
 //!
 //! Gives: `Clauses`, `ClauseRoom`; `Then`, `ThenRoom`.
-//! Proved: each answer of `Clauses` is a test with its cube, steps that refute the fault, or what PODEM answers; each answer of `Then` is one of the
-//! first engine or of the second.
+//! Proved: each answer of `Clauses` is a test with its cube, steps that refute the fault, or a tree as PODEM's evidence is; each answer of `Then` keeps
+//! the rule of evidence of its two engines.
 //! Neither: how often PODEM has to search; time.
 #![tactic(auto)]
 

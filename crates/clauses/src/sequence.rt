@@ -64,13 +64,9 @@ impl<E: Engine, F: Engine> Engine for Then<E, F> {
         limit: u32,
         holds: &Holds,
     ) -> Result<Found, NoMemory> {
-        let few = self.few_of(limit);
-        let same = fault;
-        let found = self.first.search(alloc, core, same, few, holds)?;
-        match settled(found) {
-            Some(found) => Ok(found),
-            None => self.second.search(alloc, core, fault, limit, holds),
-        }
+        let room = self.room(alloc, core, holds)?;
+        let (found, _) = self.search_in(alloc, room, core, fault, limit, holds)?;
+        Ok(found)
     }
 
     fn room(

@@ -1,5 +1,5 @@
 -- The names of a line's files.
-use Rattle.std.proofs.Common.{◌≡◌, ℕ, zero, suc, ◌<◌, Bool, true, false, List, [], ◌∷◌, Option, Some, None, Result, Ok, Err, ap, ap₂, arith, get_or, length, refl, subst, sym}
+use Rattle.std.proofs.Common.{◌≡◌, ◌∙◌, ℕ, zero, suc, ◌+◌, ◌<◌, ◌≤◌, Bool, true, false, List, [], ◌∷◌, Option, Some, None, Result, Ok, Err, add-one, ap, ap₂, arith, drop, drop-cons, drop_of_length-le, get_or, length, refl, subst, sym}
 use Rattle.std.specs.Prelude.{cond}
 use Rattle.std.specs.List.{Contains, find, list_any}
 use Rattle.std.specs.Str.{bytes_eq}
@@ -7,6 +7,8 @@ use Rattle.std.proofs.lemmas.List.Folds.{list_any_at}
 use Rattle.std.proofs.lemmas.Slice.Eq.{bytes_eq-Decides}
 use Rattle.clap.specs.Words.{Text, subcommand_of}
 use Rattle.clap.specs.Faults.{fault_of}
+use Rattle.commands.specs.Names.{file_name_of, file_names_of}
+use Rattle.commands.specs.declared.names.FileName.{FileName}
 use Rattle.command_line.specs.CommandLine.{CommandLine, NoLine, bad_prefix, command_line, line_where, line_where_taken, line_with_files, nameless_prefix, writes, writes_over, written_over, reads}
 use Rattle.command_line.specs.Laws.{NothingWrittenOver}
 use Rattle.command_line.specs.Table.{command_table}
@@ -23,6 +25,28 @@ module _ (line : CommandLine) where
   -- neither
   pub in_order : None ≡ nameless_prefix line → None ≡ written_over line → line_with_files (Ok line) ≡ Ok line
   in_order none apart = ap₂ (line_where line) (sym none) (sym apart)
+
+-- ---- the first of some names that passes, looked for in order
+
+module _ (test : Text → Bool) (names : List FileName) (i : ℕ) where
+  module _ (d : FileName) (within : i < length names) where
+    abbrev x : Text
+    x = file_name_of (get_or names i d)
+
+    here : file_names_of (drop i names) ≡ x ∷ file_names_of (drop (suc i) names)
+    here = ap file_names_of (drop-cons names i d within)
+
+    opened : (all : Option Text) → all ≡ find test (file_names_of (drop i names)) → all ≡ cond (test x) (Some x) (find test (file_names_of (drop (suc i) names)))
+    opened all e = e ∙ ap (find test) here
+
+    pub is_first : (all : Option Text) → all ≡ find test (file_names_of (drop i names)) → test x ≡ true → Some x ≡ all
+    is_first all e t = sym (opened all e ∙ ap (λ b. cond b (Some x) (find test (file_names_of (drop (suc i) names)))) t)
+
+    pub is_later : (all : Option Text) → all ≡ find test (file_names_of (drop i names)) → test x ≡ false → all ≡ find test (file_names_of (drop (i + 1) names))
+    is_later all e f = rw add-one (opened all e ∙ ap (λ b. cond b (Some x) (find test (file_names_of (drop (suc i) names)))) f)
+
+  pub none_left : length names ≤ i → (all : Option Text) → all ≡ find test (file_names_of (drop i names)) → None ≡ all
+  none_left past all e = sym (e ∙ ap (λ (ns : List FileName). find test (file_names_of ns)) (drop_of_length-le names past))
 
 -- ---- what is read isn't written
 

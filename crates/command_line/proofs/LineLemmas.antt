@@ -81,7 +81,7 @@ module _ (words : List Text) (line : Line) (asked : Request) (is : line ≡ Ok (
   named_refusal (Err (WritesOver name)) named = here ∙ named
   named_refusal (Err (BadWords text)) named = absurd named
   named_refusal (Err BadHold) named = absurd named
-  named_refusal (Err NoMemory) named = absurd named
+  named_refusal (Err NoMemory) named = tt
 
 pub asked_as : (a b : Line) (r : Result Request NoRequest) → a ≡ b → IsAsked a r → IsAsked b r
 asked_as a b r same asked = subst (λ (l : Line). IsAsked l r) same asked

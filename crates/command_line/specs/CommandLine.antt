@@ -2,7 +2,7 @@
 use Rattle.std.specs.Prelude.{◌≤◌, ◌==◌, ◌||◌, ◌++◌, ⊤, ℕ, Bool, List, [], ◌∷◌, Option, Some, None, if◌then◌else◌, codes, length, map, nat_eq}
 use Rattle.std.specs.Prelude.{Result, Ok, Err, option_and_then, option_map}
 use Rattle.std.specs.List.{ends_with, find, list_any}
-use Rattle.std.specs.Option.{ok_or}
+use Rattle.std.specs.Option.{ok_or, option_to_list}
 use Rattle.std.specs.Str.{bytes_eq}
 use Rattle.plain_text.specs.Limits.{most_chains, most_workers, most_limit, fewest_gates, most_gates}
 use Rattle.clap.specs.Words.{Kinds, Row, Text, first_of, subcommand_of}
@@ -10,7 +10,7 @@ use Rattle.clap.specs.Faults.{fault_of}
 use Rattle.commands.specs.Names.{run_files}
 use Rattle.command_line.specs.Numbers.{number_in}
 use Rattle.command_line.specs.HoldLists.{HoldItem, holds_in}
-use Rattle.command_line.specs.Table.{command_table, most_rank, most_seed}
+use Rattle.command_line.specs.Table.{command_table, most_percent, most_rank, most_rounds, most_seed}
 use Rattle.command_line.specs.declared.holds.Held.{Held}
 use Rattle.command_line.specs.declared.requests.EngineName.{EngineName}
 use Rattle.command_line.specs.declared.requests.EngineName.TheVariants.{Trees, Clauses, TreesThenClauses}
@@ -28,8 +28,9 @@ pub data CommandLine : Type 0 where
   scan : Text → Text → ℕ → CommandLine
   -- the netlist's file
   faults : Text → CommandLine
-  -- the netlist's file, what the names of the files written begin with, the engine and the numbers, and the inputs that are held
-  run : Text → Text → RunOptions → List HoldItem → CommandLine
+  -- the netlist's file, what the names of the files written begin with, the file that lists the faults which are asked for, and the STIL file whose patterns
+  -- come first, or what its name begins with; the engine and the numbers, and the inputs that are held
+  run : Text → Text → Option Text → Option Text → RunOptions → List HoldItem → CommandLine
   -- the netlist's file, the STIL file, and the text of a fault
   play : Text → Text → Option Text → CommandLine
   -- what the names of the files read begin with
@@ -55,11 +56,19 @@ pub data NoLine : Type 0 where
 
 -- ---- files
 
+-- the name of a STIL file, by itself or by what stands before `.stil`
+abbrev pub stil_file : Text → Text
+stil_file given = if ends_with nat_eq given (codes ".stil") then given else given ++ codes ".stil"
+
+-- those that `run` reads: the netlist's, and where they are given that of the list of faults and that of the STIL file
+abbrev pub run_reads : Text → Option Text → Option Text → List Text
+run_reads net list first = net ∷ option_to_list list ++ option_to_list (option_map stil_file first)
+
 -- the names of the files that a command line reads, in order
 abbrev pub reads : CommandLine → List Text
 reads (scan net to chains) = net ∷ []
 reads (faults net) = net ∷ []
-reads (run net prefix options holds) = net ∷ []
+reads (run net prefix list first options holds) = run_reads net list first
 reads (play net stil fault) = net ∷ stil ∷ []
 reads (check prefix) = run_files prefix
 reads (sweep seed gates) = []
@@ -75,7 +84,7 @@ grade_file prefix = prefix ++ codes ".grade"
 -- the names of the files that it writes, in order
 abbrev pub writes : CommandLine → List Text
 writes (scan net to chains) = to ∷ []
-writes (run net prefix options holds) = run_files prefix
+writes (run net prefix list first options holds) = run_files prefix
 writes (transition net prefix options) = run_files prefix
 writes (grade net stil prefix chains) = grade_file prefix ∷ []
 writes _ = []
@@ -93,7 +102,7 @@ if_nameless prefix = if is_nameless prefix then Some prefix else None
 
 -- what the names of the files written begin with, where that leaves them nameless
 abbrev pub nameless_prefix : CommandLine → Option Text
-nameless_prefix (run net prefix options holds) = if_nameless prefix
+nameless_prefix (run net prefix list first options holds) = if_nameless prefix
 nameless_prefix (transition net prefix options) = if_nameless prefix
 nameless_prefix (grade net stil prefix chains) = if_nameless prefix
 nameless_prefix _ = None
@@ -181,14 +190,27 @@ abbrev pub holds_given : Option Text → Option (List HoldItem)
 holds_given None = Some []
 holds_given (Some text) = holds_in text
 
-abbrev pub run_where : Option EngineName → Option Search → Option (List HoldItem) → Result CommandLine NoLine
-run_where (Some engine) (Some s) (Some holds) = Ok (run s.0 s.1 (record { engine = engine; numbers = s.2 }) holds)
-run_where (Some engine) (Some s) None = Err bad_hold
-run_where (Some engine) None holds = Err bad_words
-run_where None s holds = Err bad_words
+-- the engine and the numbers, how many in a hundred are enough, and the rounds, 3 where they aren't given
+abbrev pub run_options_with : List Row → SearchNumbers → EngineName → Option RunOptions
+run_options_with rows numbers engine = option_and_then (λ percent.
+    option_map (λ rounds. record { engine = engine; numbers = numbers; percent = percent; rounds = rounds })
+    (number_at (codes "compact") 3 0 most_rounds rows))
+    (number_if (codes "coverage") 1 most_percent rows)
+
+abbrev pub run_options_of : List Row → SearchNumbers → Option RunOptions
+run_options_of rows numbers = option_and_then (run_options_with rows numbers) (engine_given (first_of (codes "engine") rows) (first_of (codes "then") rows))
+
+abbrev pub run_by : List Row → Search → Option RunOptions → Option (List HoldItem) → Result CommandLine NoLine
+run_by rows s (Some options) (Some holds) = Ok (run s.0 s.1 (first_of (codes "faults") rows) (first_of (codes "with") rows) options holds)
+run_by rows s (Some options) None = Err bad_hold
+run_by rows s None holds = Err bad_words
+
+abbrev pub run_where : List Row → Option Search → Option (List HoldItem) → Result CommandLine NoLine
+run_where rows (Some s) holds = run_by rows s (run_options_of rows s.2) holds
+run_where rows None holds = Err bad_words
 
 abbrev pub run_of : List Row → Result CommandLine NoLine
-run_of rows = run_where (engine_given (first_of (codes "engine") rows) (first_of (codes "then") rows)) (search_of rows) (holds_given (first_of (codes "hold") rows))
+run_of rows = run_where rows (search_of rows) (holds_given (first_of (codes "hold") rows))
 
 abbrev pub transition_of : List Row → Option CommandLine
 transition_of rows = option_and_then (λ engine. option_map (λ s. transition s.0 s.1 (record { engine = engine; numbers = s.2 })) (search_of rows))
@@ -265,7 +287,8 @@ hold_of held = (held.name.now, held.bit)
 abbrev pub command_line_of : Request → CommandLine
 command_line_of (request.Scan net out chains) = scan net.now out.now chains
 command_line_of (request.Faults net) = faults net.now
-command_line_of (request.Run net prefix options holds) = run net.now prefix.now options (map hold_of holds.items)
+command_line_of (request.Run names options holds) =
+    run names.net.now names.prefix.now (option_map (λ t. t.now) names.list) (option_map (λ t. t.now) names.first) options (map hold_of holds.items)
 command_line_of (request.Play net stil fault) = play net.now stil.now (option_map (λ t. t.now) fault)
 command_line_of (request.Check prefix) = check prefix.now
 command_line_of (request.Sweep seed gates) = sweep seed gates
@@ -284,6 +307,11 @@ abbrev pub IfIn : ℕ → ℕ → Option ℕ → Type 0
 IfIn low high None = ⊤
 IfIn low high (Some n) = (low ≤ n) × (n ≤ high)
 
+pub record AreInRunRange (options : RunOptions) : Type 0 where
+  pub numbers : AreInRange options.numbers
+  pub percent : IfIn 1 most_percent options.percent
+  pub rounds : options.rounds ≤ most_rounds
+
 pub record AreWithin (options : DiagnoseOptions) : Type 0 where
   pub chains : (1 ≤ options.chains) × (options.chains ≤ most_chains)
   pub workers : (1 ≤ options.workers) × (options.workers ≤ most_workers)
@@ -292,7 +320,7 @@ pub record AreWithin (options : DiagnoseOptions) : Type 0 where
 -- each number of a request is in its range
 abbrev pub IsInRange : Request → Type 0
 IsInRange (request.Scan net out chains) = (1 ≤ chains) × (chains ≤ most_chains)
-IsInRange (request.Run net prefix options holds) = AreInRange options.numbers
+IsInRange (request.Run names options holds) = AreInRunRange options
 IsInRange (request.Sweep seed gates) = (fewest_gates ≤ gates) × (gates ≤ most_gates)
 IsInRange (request.ChainTest net stil chains) = (1 ≤ chains) × (chains ≤ most_chains)
 IsInRange (request.Diagnose net stil log options) = AreWithin options

@@ -1,6 +1,7 @@
 -- The answers other than a request, and their causes.
 use Rattle.std.specs.Prelude.{◌≡◌, ⊤, List, Err}
 use Rattle.clap.specs.Words.{Text}
+use Rattle.commands.specs.Names.{file_name_of}
 use Rattle.command_line.specs.CommandLine.{bad_hold, bad_prefix, bad_words, command_line, writes_over}
 use Rattle.command_line.specs.declared.WordsRefusal.{WordsRefusal}
 use Rattle.command_line.specs.declared.WordsRefusal.TheVariants.{BadWords, BadHold, BadPrefix, WritesOver, NoMemory}
@@ -11,5 +12,5 @@ abbrev pub IsUsageError : List Text → WordsRefusal → Type 0
 IsUsageError words (BadWords text) = command_line words ≡ Err bad_words
 IsUsageError words BadHold = command_line words ≡ Err bad_hold
 IsUsageError words (BadPrefix prefix) = command_line words ≡ Err (bad_prefix prefix.now)
-IsUsageError words (WritesOver name) = command_line words ≡ Err (writes_over name.now)
+IsUsageError words (WritesOver name) = command_line words ≡ Err (writes_over (file_name_of name))
 IsUsageError words NoMemory = ⊤

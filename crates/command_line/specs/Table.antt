@@ -34,6 +34,10 @@ most_seed = 18446744073709551615
 abbrev pub most_rank : ℕ
 most_rank = 18446744073709551615
 
+-- the most faults in a hundred that are asked for by number, so that all are
+abbrev pub most_percent : ℕ
+most_percent = 100
+
 -- scan NET OUT [--chains C]
 abbrev pub scan_command : Shape
 scan_command = command (codes "scan")
@@ -50,9 +54,19 @@ search_rules =
     ∷ number_option (codes "workers") 1 most_workers ∷ number_option (codes "limit") 1 most_limit
     ∷ number_option (codes "seed") 0 most_seed ∷ []
 
--- run NET PREFIX .. [--engine E] [--then E] [--hold LIST]
+-- the most rounds that make the patterns fewer
+abbrev pub most_rounds : ℕ
+most_rounds = 100
+
+-- what `run` has of its own: [--engine E] [--then E] [--hold LIST] [--faults FILE] [--coverage P] [--with FILE] [--compact K]
+abbrev pub run_rules : List Rule
+run_rules =
+    text_option (codes "engine") ∷ text_option (codes "then") ∷ text_option (codes "hold") ∷ text_option (codes "faults")
+    ∷ number_option (codes "coverage") 1 most_percent ∷ text_option (codes "with") ∷ number_option (codes "compact") 0 most_rounds ∷ []
+
+-- run NET PREFIX ..
 abbrev pub run_command : Shape
-run_command = command (codes "run") (search_rules ++ text_option (codes "engine") ∷ text_option (codes "then") ∷ text_option (codes "hold") ∷ [])
+run_command = command (codes "run") (search_rules ++ run_rules)
 
 -- play NET STIL [--fault F]
 abbrev pub play_command : Shape

@@ -13,6 +13,7 @@ ghost use Rattle.command_line.specs.Table.{
   play_command,
   program,
   run_command,
+  run_rules,
   scan_command,
   search_rules,
   sweep_command,
@@ -20,6 +21,7 @@ ghost use Rattle.command_line.specs.Table.{
 };
 ghost use Rattle.command_line.specs.inner.Arguments.{Adds, Grows, IsShaped, asked_by};
 
+use crate::values::{MOST_PERCENT, MOST_ROUNDS};
 use clap::builder::ValueParser;
 use clap::{Arg, Command};
 use plain_text::{FEWEST_GATES, MOST_CHAINS, MOST_GATES, MOST_LIMIT, MOST_WORKERS};
@@ -144,22 +146,32 @@ fn search_arguments<'a>() -> [Argument<'a>; 6]
     ]
 }
 
+// What `run` has of its own.
+fn run_arguments<'a>() -> [Argument<'a>; 7]
+    ensures { map asked_by result ≡ run_rules }
+{
+    let engine = "The search: podem, fan or clauses [default: podem]";
+    let then = "What settles what podem or fan gives up: clauses";
+    let coverage = "Stop once so many in a hundred of the faults are detected";
+    let with = "A STIL file, or the prefix of one, whose patterns come first";
+    let compact = "How many rounds make the patterns fewer, 0 to 100 [default: 3]";
+    [
+        Text("engine", engine),
+        Text("then", then),
+        Text("hold", "Inputs that are held, as NAME=0,NAME=1"),
+        Text("faults", "A file that lists the faults that are asked for"),
+        Number("coverage", 1, MOST_PERCENT, coverage),
+        Text("with", with),
+        Number("compact", 0, MOST_ROUNDS, compact),
+    ]
+}
+
 fn run<'a>(alloc: Global) -> Result<Command<'a>, AllocError>
     ensures { IfOk result (IsShaped run_command) }
 {
     let about = "Searches tests for the faults of a netlist";
     let command = command(alloc, "run", about, &search_arguments())?;
-    let engine = "The search: podem, fan or clauses [default: podem]";
-    let then = "What settles what podem or fan gives up: clauses";
-    with_arguments(
-        alloc,
-        command,
-        &[
-            Text("engine", engine),
-            Text("then", then),
-            Text("hold", "Inputs that are held, as NAME=0,NAME=1"),
-        ],
-    )
+    with_arguments(alloc, command, &run_arguments())
 }
 
 fn transition<'a>(alloc: Global) -> Result<Command<'a>, AllocError>

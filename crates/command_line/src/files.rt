@@ -1,14 +1,16 @@
 //! The names of the files that a request reads and writes.
-ghost use Rattle.std.specs.Prelude.{◌≡◌, ◌∷◌, [], IfOk, Ok, option_map};
+ghost use Rattle.std.specs.Prelude.{◌≡◌, ◌++◌, IfOk, OnOk, option_map};
 ghost use Rattle.std.specs.List.{find, list_any};
+ghost use Rattle.std.specs.Option.{option_to_list};
 ghost use Rattle.std.specs.Str.{bytes_eq};
 ghost use Rattle.commands.specs.Names.{file_name_of, file_names_of};
-ghost use Rattle.command_line.specs.CommandLine.{IsInRange, command_line_of, grade_file, if_nameless, is_nameless, nameless_prefix, written_over};
+ghost use Rattle.command_line.specs.CommandLine.{IsInRange, command_line_of, grade_file, if_nameless, is_nameless, nameless_prefix, run_reads, stil_file, written_over};
 ghost use Rattle.command_line.specs.inner.Files.{AreNamed, IsNamed};
 
 use crate::WordsRefusal;
-use crate::requests::Request;
+use crate::requests::{Request, RunNames};
 use commands::{FileName, file_names, is_among};
+use std::alloc::{AllocError, Global};
 
 // Whether files whose names begin so have none of their own.
 fn is_nameless(prefix: &str) -> bool
@@ -32,32 +34,11 @@ fn nameless_prefix<'a>(request: &Request<'a>) -> Option<&'a str>
     ensures { option_map (λ t. t.now) result ≡ nameless_prefix (command_line_of request.now) }
 {
     match request {
-        Request::Run { prefix, .. } => if_nameless(prefix),
+        Request::Run { names, .. } => if_nameless(names.prefix),
         Request::Transition { prefix, .. } => if_nameless(prefix),
         Request::Grade { prefix, .. } => if_nameless(prefix),
         _ => None,
     }
-}
-
-// The name, if it is one of these.
-fn if_among<'a>(name: &'a str, written: &[FileName<'_>]) -> Option<&'a str>
-    ensures { option_map (λ t. t.now) result ≡ find (λ t. list_any (bytes_eq t) (file_names_of written.now)) (name.entry.now ∷ []) }
-{
-    if is_among(name, written) {
-        Some(name)
-    } else {
-        None
-    }
-}
-
-// The first of two names that is one of these.
-fn first_among<'a>(first: &'a str, second: &'a str, written: &[FileName<'_>]) -> Option<&'a str>
-    ensures { option_map (λ t. t.now) result ≡ find (λ t. list_any (bytes_eq t) (file_names_of written.now)) (first.entry.now ∷ second.entry.now ∷ []) }
-{
-    if is_among(first, written) {
-        return Some(first);
-    }
-    if_among(second, written)
 }
 
 /// The name of the file of grades.
@@ -70,43 +51,111 @@ pub fn grade_name<'a>(prefix: &'a str) -> FileName<'a>
     }
 }
 
+// The name of a STIL file, by itself or by what stands before its ending.
+fn stil_name<'a>(given: &'a str) -> FileName<'a>
+    ensures { file_name_of result ≡ stil_file given.entry.now }
+{
+    if given.ends_with(".stil") {
+        FileName::of(given)
+    } else {
+        FileName {
+            given,
+            ending: ".stil",
+        }
+    }
+}
+
+// Puts a name behind others, where it is given.
+fn push_given<'a>(
+    names: &mut Vec<FileName<'a>>,
+    name: Option<FileName<'a>>,
+) -> Result<(), AllocError>
+    ensures { OnOk result (file_names_of names.new.items ≡ file_names_of names.old.items ++ option_to_list (option_map file_name_of name.entry)) }
+{
+    if let Some(name) = name {
+        names.push(name)?;
+    }
+    Ok(())
+}
+
+/// The names of the files that `run` reads, in order.
+pub fn run_reads<'a>(alloc: Global, names: RunNames<'a>) -> Result<Vec<FileName<'a>>, AllocError>
+    ensures { IfOk result (λ reads. file_names_of reads.items
+        ≡ run_reads names.entry.net.now (option_map (λ t. t.now) names.entry.list) (option_map (λ t. t.now) names.entry.first)) }
+{
+    let mut reads = Vec::new(alloc);
+    reads.push(FileName::of(names.net))?;
+    push_given(&mut reads, names.list.map(FileName::of))?;
+    push_given(&mut reads, names.first.map(stil_name))?;
+    Ok(reads)
+}
+
+// The first of these names that is one of those.
+fn first_among<'a>(names: &[FileName<'a>], written: &[FileName<'_>]) -> Option<FileName<'a>>
+    ensures { option_map file_name_of result ≡ find (λ t. list_any (bytes_eq t) (file_names_of written.now)) (file_names_of names.now) }
+{
+    for name in names {
+        if is_among(name, written) {
+            return Some(*name);
+        }
+    }
+    None
+}
+
 // The first file that a request reads and would write over.
-fn written_over<'a>(request: &Request<'a>) -> Option<&'a str>
-    ensures { option_map (λ t. t.now) result ≡ written_over (command_line_of request.now) }
+fn written_over<'a>(
+    alloc: Global,
+    request: &Request<'a>,
+) -> Result<Option<FileName<'a>>, AllocError>
+    ensures { IfOk result (λ name. option_map file_name_of name ≡ written_over (command_line_of request.now)) }
 {
     match request {
-        Request::Scan { net, out, .. } => if_among(net, &[FileName::of(out)]),
-        Request::Run { net, prefix, .. } => if_among(net, &file_names(prefix)),
-        Request::Transition { net, prefix, .. } => if_among(net, &file_names(prefix)),
+        Request::Scan { net, out, .. } => {
+            Ok(first_among(&[FileName::of(net)], &[FileName::of(out)]))
+        }
+        Request::Run { names, .. } => {
+            let reads = run_reads(alloc, *names)?;
+            Ok(first_among(reads.as_slice(), &file_names(names.prefix)))
+        }
+        Request::Transition { net, prefix, .. } => {
+            Ok(first_among(&[FileName::of(net)], &file_names(prefix)))
+        }
         Request::Grade {
             net,
             stil,
             prefix,
             ..
-        } => first_among(net, stil, &[grade_name(prefix)]),
-        _ => None,
+        } => {
+            let reads = [FileName::of(net), FileName::of(stil)];
+            Ok(first_among(&reads, &[grade_name(prefix)]))
+        }
+        _ => Ok(None),
     }
 }
 
 // What is wrong with the names of a request's files: the prefix first.
-fn refusal_of<'a>(request: &Request<'a>) -> Option<WordsRefusal<'a>>
+fn refusal_of<'a>(alloc: Global, request: &Request<'a>) -> Option<WordsRefusal<'a>>
     ensures { AreNamed (command_line_of request.now) result }
 {
-    match nameless_prefix(request) {
-        Some(prefix) => Some(WordsRefusal::BadPrefix(prefix)),
-        None => match written_over(request) {
-            Some(name) => Some(WordsRefusal::WritesOver(name)),
-            None => None,
-        },
+    if let Some(prefix) = nameless_prefix(request) {
+        return Some(WordsRefusal::BadPrefix(prefix));
+    }
+    match written_over(alloc, request) {
+        Ok(Some(name)) => Some(WordsRefusal::WritesOver(name)),
+        Ok(None) => None,
+        Err(_) => Some(WordsRefusal::NoMemory),
     }
 }
 
 /// The request, if the names of its files are in order.
-pub(crate) fn with_files<'a>(request: Request<'a>) -> Result<Request<'a>, WordsRefusal<'a>>
+pub(crate) fn with_files<'a>(
+    alloc: Global,
+    request: Request<'a>,
+) -> Result<Request<'a>, WordsRefusal<'a>>
     ensures line { IsNamed (command_line_of request.entry) result }
     ensures in_range { IsInRange request.entry → IfOk result IsInRange }
 {
-    match refusal_of(&request) {
+    match refusal_of(alloc, &request) {
         Some(refusal) => Err(refusal),
         None => Ok(request),
     }

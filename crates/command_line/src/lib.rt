@@ -4,7 +4,7 @@
 //! `clap_table` builds the table for `clap`, `values` reads single values, `requests` makes of what
 //! `clap` found a request, `files` looks at the names of its files.
 //!
-//! Gives: `parse`, `Request`, `grade_name`.
+//! Gives: `parse`, `Request`, `grade_name`, `run_reads`.
 //! Proved: `parse`: exactly the request that clap's rule gives over the table, with exactly the list of held inputs, or why there is none: exactly where
 //! files would be nameless, and where one that is read would be written over; `nothing_written_over`: no command line writes a file that it reads.
 //! Tested: clap's texts.
@@ -29,12 +29,14 @@ mod values;
 use clap::error::ErrorKind;
 use clap::{ArgMatches, Error};
 use clap_table::table;
-pub use files::grade_name;
+use commands::FileName;
 use files::with_files;
+pub use files::{grade_name, run_reads};
 pub use holds::Held;
 pub use laws::nothing_written_over;
 pub use requests::{
-    DiagnoseOptions, EngineName, Request, RunOptions, SearchNumbers, SlowOptions, TreeEngine,
+    DiagnoseOptions, EngineName, Request, RunNames, RunOptions, SearchNumbers, SlowOptions,
+    TreeEngine,
 };
 use requests::{NoRequest, request_of};
 use std::alloc::Global;
@@ -50,7 +52,7 @@ pub enum WordsRefusal<'a> {
     /// They would be one, but the files written would have no names of their own, only this prefix.
     BadPrefix(&'a str),
     /// They would be one, but this file, which they read, would be written over.
-    WritesOver(&'a str),
+    WritesOver(FileName<'a>),
     NoMemory,
 }
 
@@ -130,7 +132,7 @@ pub fn parse<'a>(alloc: Global, words: &'a [String]) -> Result<Request<'a>, Word
         Err(error) => return Err(refusal(alloc, &error)),
     };
     match request_of(alloc, &found) {
-        Ok(request) => with_files(request),
+        Ok(request) => with_files(alloc, request),
         Err(none) => Err(refusal_of(alloc, none)),
     }
 }

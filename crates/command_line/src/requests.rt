@@ -3,6 +3,8 @@ ghost use Rattle.std.specs.Prelude.{◌≡◌, IfOk, IfSome, codes, option_map};
 ghost use Rattle.clap.specs.Words.{first_of, found_of, rows_of, subcommand_rows_of};
 ghost use Rattle.command_line.specs.CommandLine.{
   AreInRange,
+  AreInRunRange,
+  IfIn,
   IsInRange,
   chaintest_of,
   check_of,
@@ -16,21 +18,25 @@ ghost use Rattle.command_line.specs.CommandLine.{
   line_by,
   line_from,
   command_line_of,
+  number_if,
   numbers_of,
   play_of,
   run_of,
+  run_options_of,
+  run_options_with,
   scan_of,
   search_of,
   sweep_of,
   transition_of,
   tree_engine_given,
 };
+ghost use Rattle.command_line.specs.Table.{most_percent};
 ghost use Rattle.command_line.specs.inner.Errors.{IsAsked};
 ghost use Rattle.command_line.specs.inner.Held.{AreHeld};
-ghost use Rattle.command_line.specs.inner.Searches.{IsSearch};
+ghost use Rattle.command_line.specs.inner.Searches.{AreOptions, AreRunNames, IsSearch};
 
 use crate::holds::{Held, holds_in};
-use crate::values::{number_if, number_of, number_or, text};
+use crate::values::{MOST_PERCENT, MOST_ROUNDS, number_if, number_of, number_or, text};
 use clap::ArgMatches;
 use plain_text::{FEWEST_GATES, MOST_CHAINS, MOST_GATES, MOST_LIMIT, MOST_WORKERS};
 use std::alloc::Global;
@@ -70,6 +76,10 @@ pub struct SearchNumbers {
 pub struct RunOptions {
     pub engine: EngineName,
     pub numbers: SearchNumbers,
+    /// The run may stop once so many in a hundred of the faults that are asked for are detected.
+    pub percent: Option<u32>,
+    /// How many rounds make the patterns fewer.
+    pub rounds: u32,
 }
 
 /// The engine and the numbers of `transition`.
@@ -89,6 +99,19 @@ pub struct DiagnoseOptions {
     pub rank: Option<u64>,
 }
 
+/// The files of `run`, by the words that name them.
+#[derive(Clone, Copy, PartialEq, Eq)]
+pub struct RunNames<'a> {
+    /// The netlist.
+    pub net: &'a str,
+    /// What the names of the files written begin with.
+    pub prefix: &'a str,
+    /// The list of the faults that are asked for, where not all are.
+    pub list: Option<&'a str>,
+    /// The STIL file whose patterns come first, or what its name begins with.
+    pub first: Option<&'a str>,
+}
+
 /// What the words ask the program to do.
 #[derive(Drop)]
 pub enum Request<'a> {
@@ -103,11 +126,9 @@ pub enum Request<'a> {
     Faults {
         net: &'a str,
     },
-    /// Search tests for the netlist of the file `net`, its inputs of these names held, and write
-    /// the files whose names begin with `prefix`.
+    /// Search tests for a netlist, its inputs of these names held, and write five files.
     Run {
-        net: &'a str,
-        prefix: &'a str,
+        names: RunNames<'a>,
         options: RunOptions,
         holds: Vec<Held<'a>>,
     },
@@ -361,25 +382,77 @@ fn search_line<'a>(found: &ArgMatches<'a>) -> Result<SearchLine<'a>, NoRequest>
     }
 }
 
-fn run<'a>(alloc: Global, found: &ArgMatches<'a>) -> Result<Request<'a>, NoRequest>
-    ensures line { IsAsked (run_of (rows_of (found_of found.now))) result }
-    ensures in_range { IfOk result IsInRange }
+// How many in a hundred of the faults are enough.
+fn percent(found: &ArgMatches<'_>) -> Option<Option<u32>>
+    ensures value { result ≡ number_if (codes "coverage") 1 most_percent (rows_of (found_of found.now)) }
+    ensures in_range { IfSome result (IfIn 1 most_percent) }
+{
+    match number_if(found, "coverage", 1, MOST_PERCENT)? {
+        Some(percent) => Some(Some(percent as u32)),
+        None => Some(None),
+    }
+}
+
+// How `run` searches, with this engine and these numbers.
+fn options_with(
+    found: &ArgMatches<'_>,
+    numbers: SearchNumbers,
+    engine: EngineName,
+) -> Option<RunOptions>
+    requires { AreInRange numbers }
+    ensures value { result ≡ run_options_with (rows_of (found_of found.now)) numbers engine }
+    ensures in_range { IfSome result AreInRunRange }
+{
+    let percent = percent(found)?;
+    let rounds = number_or(found, "compact", 3, 0, MOST_ROUNDS)?;
+    Some(RunOptions {
+        engine,
+        numbers,
+        percent,
+        rounds: rounds as u32,
+    })
+}
+
+// How `run` searches, with these numbers, or what is in the way.
+fn run_options(found: &ArgMatches<'_>, numbers: SearchNumbers) -> Result<RunOptions, NoRequest>
+    requires { AreInRange numbers }
+    ensures value { AreOptions (run_options_of (rows_of (found_of found.now)) numbers) result }
+    ensures in_range { IfOk result AreInRunRange }
 {
     let Some(engine) = engine(text(found, "engine"), text(found, "then")) else {
         return Err(NoRequest::BadEngine);
     };
+    options_with(found, numbers, engine).ok_or(NoRequest::BadNumber)
+}
+
+// The files of `run`.
+fn run_names<'a>(found: &ArgMatches<'a>, line: SearchLine<'a>) -> RunNames<'a>
+    ensures { AreRunNames (rows_of (found_of found.now)) line.entry result }
+{
+    RunNames {
+        net: line.net,
+        prefix: line.prefix,
+        list: text(found, "faults"),
+        first: text(found, "with"),
+    }
+}
+
+fn run<'a>(alloc: Global, found: &ArgMatches<'a>) -> Result<Request<'a>, NoRequest>
+    ensures line { IsAsked (run_of (rows_of (found_of found.now))) result }
+    ensures in_range { IfOk result IsInRange }
+{
     let line = match search_line(found) {
         Ok(line) => line,
         Err(none) => return Err(none),
     };
+    let options = match run_options(found, line.numbers) {
+        Ok(options) => options,
+        Err(none) => return Err(none),
+    };
     match holds(alloc, found) {
         Ok(holds) => Ok(Request::Run {
-            net: line.net,
-            prefix: line.prefix,
-            options: RunOptions {
-                engine,
-                numbers: line.numbers,
-            },
+            names: run_names(found, line),
+            options,
             holds,
         }),
         Err(none) => Err(none),

@@ -7,6 +7,12 @@ ghost use Rattle.command_line.specs.CommandLine.{IfIn, number_at, number_if, num
 
 use clap::ArgMatches;
 
+/// The most faults in a hundred that are asked for by number.
+pub(crate) const MOST_PERCENT: u64 = 100;
+
+/// The most rounds that make the patterns fewer.
+pub(crate) const MOST_ROUNDS: u64 = 100;
+
 // A plus, or a zero before more, stands in front: `clap` and `parse` read over both.
 fn is_padded(text: &str) -> bool
     ensures { result ≡ is_padded text.now }

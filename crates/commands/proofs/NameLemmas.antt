@@ -1,5 +1,5 @@
 -- A name against those of files.
-use Rattle.std.proofs.Common.{◌≡◌, ◌∙◌, ◌<◌, ◌≤◌, ℕ, Bool, true, false, List, [], ◌∷◌, ◌++◌, ap, get_or, length, refl, sym, take}
+use Rattle.std.proofs.Common.{◌≡◌, ◌∙◌, ◌<◌, ◌≤◌, ℕ, Bool, true, false, List, [], ◌∷◌, ◌++◌, ap, ap₂, append_assoc, get_or, length, refl, sym, take}
 use Rattle.std.specs.Prelude.{◌||◌, ◌≢◌}
 use Rattle.std.specs.List.{list_any}
 use Rattle.std.specs.Str.{bytes_eq}
@@ -28,6 +28,32 @@ same_behind name given rest ending is =
     let part = bytes_eq-Decides rest ending in
     same_true (bytes_eq rest ending) (bytes_eq name (given ++ ending)) (λ h. whole.1 (is ∙ ap (λ t. given ++ t) (part.0 h)))
     (λ h. part.1 (tail_same given rest ending (sym is ∙ whole.0 h)))
+
+swapped : (a b : Text) → bytes_eq a b ≡ bytes_eq b a
+swapped a b =
+    same_true (bytes_eq a b) (bytes_eq b a) (λ h. (bytes_eq-Decides b a).1 (sym ((bytes_eq-Decides a b).0 h))) (λ h. (bytes_eq-Decides a b).1 (sym ((bytes_eq-Decides b a).0 h)))
+
+-- the name is parted behind where the other one is
+pub parted_later : (given rest ending front other : Text) → front ≡ given ++ rest → bytes_eq other (rest ++ ending) ≡ bytes_eq (front ++ ending) (given ++ other)
+parted_later given rest ending front other is =
+    swapped other (rest ++ ending) ∙ same_behind (front ++ ending) given (rest ++ ending) other (ap (λ t. t ++ ending) is ∙ append_assoc given rest ending)
+
+-- and before it
+pub parted_earlier : (given rest ending front other : Text) → front ≡ given ++ rest → bytes_eq other (rest ++ ending) ≡ bytes_eq (given ++ other) (front ++ ending)
+parted_earlier given rest ending front other is = parted_later given rest ending front other is ∙ swapped (front ++ ending) (given ++ other)
+
+-- of two fronts of one text one begins the other
+one_begins : (a b x y : Text) → a ++ x ≡ b ++ y → ((rest : Text) → a ≢ b ++ rest) → ((rest : Text) → b ≢ a ++ rest) → ⊥
+one_begins [] b x y e longer shorter = shorter b refl
+one_begins (c ∷ a) [] x y e longer shorter = longer (c ∷ a) refl
+one_begins (c ∷ a) (d ∷ b) x y e longer shorter =
+    let head : c ≡ d = cc in
+    let tail : a ++ x ≡ b ++ y = cc in
+    one_begins a b x y tail (λ rest h. longer rest (ap₂ (λ k t. k ∷ t) head h)) (λ rest h. shorter rest (ap₂ (λ k t. k ∷ t) (sym head) h))
+
+-- neither begins the other
+pub apart : (a b x y : Text) → ((rest : Text) → a ≢ b ++ rest) → ((rest : Text) → b ≢ a ++ rest) → false ≡ bytes_eq (a ++ x) (b ++ y)
+apart a b x y longer shorter = sym (false_from_ne_true _ (λ h. one_begins a b x y ((bytes_eq-Decides (a ++ x) (b ++ y)).0 h) longer shorter))
 
 -- a name that begins otherwise is another
 pub other_front : (name given ending : Text) → ((rest : Text) → name ≢ given ++ rest) → false ≡ bytes_eq name (given ++ ending)

@@ -1,5 +1,5 @@
 //! Laws of evidence: functions that do nothing, whose contracts are the laws.
-ghost use Rattle.evidence.specs.Laws.{OpenIsTree, ShownIsRedundant};
+ghost use Rattle.evidence.specs.Laws.{ShownIsRedundant};
 
 use redundancy_cert::closed_tree_is_redundant;
 use refutation::refuted_is_redundant;
@@ -11,8 +11,3 @@ pub fn shown_is_redundant()
     closed_tree_is_redundant();
     refuted_is_redundant();
 }
-
-/// What leaves an end open is a tree: an aborted fault has one.
-pub fn open_is_tree()
-    ensures { OpenIsTree }
-{}

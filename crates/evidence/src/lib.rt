@@ -11,4 +11,4 @@ mod laws;
 
 pub use engine::{Engine, Found};
 pub use kinds::{Evidence, Refutation};
-pub use laws::{open_is_tree, shown_is_redundant};
+pub use laws::shown_is_redundant;

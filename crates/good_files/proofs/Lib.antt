@@ -5,6 +5,7 @@ pub mod TreesAlone
 pub mod Whole
 pub mod Passed
 pub mod Left
+pub mod Asked
 pub mod Held
 pub mod Passing
 pub mod Agreeing

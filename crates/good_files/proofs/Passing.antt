@@ -22,7 +22,7 @@ use Rattle.certificate.specs.Laws.{OneCertificate}
 use Rattle.report.specs.Laws.{TextsTellReports}
 use Rattle.statement.specs.Reports.{Line}
 use Rattle.run_report.specs.Outcomes.{Test}
-use Rattle.good_files.specs.GoodFiles.{AreGoodFiles, AreReportTotals, AreTrueFaults, Contents, HasHolds, HasPatterns, IsTested, StandFor, chains_in, chains_said, faults_in, test_in, test_with}
+use Rattle.good_files.specs.GoodFiles.{AreGoodFiles, AreReportTotals, AreTrueFaults, Contents, HasHolds, HasPatterns, IsTested, StandFor, chains_in, chains_said, test_in, test_with}
 use Rattle.statement.specs.Statement.{FiveFiles}
 use Rattle.good_files.specs.declared.answers.Checked.{Checked}
 use Rattle.good_files.specs.declared.answers.Checked.TheVariants.{Faults, False}
@@ -34,7 +34,6 @@ use Rattle.good_files.specs.Checks.{IsAnswer, IsChecked}
 use Rattle.good_files.proofs.FirstOnLoop.{read_once}
 use Rattle.good_files.proofs.Chains.{dealt}
 use Rattle.good_files.proofs.Held.{held_once}
-use Rattle.good_files.proofs.Left.{undetected_once}
 
 -- the laws that are cited
 pub record Laws : Type 1 where
@@ -54,9 +53,7 @@ module _ (t : Test) (classes : Classes) (lines : List Line) (are : AreTrueFaults
       let past = slice_get_within lines (length (universe_of t.netlist)) further.line further.further in
       let count = are.lines_true.no_more in
       omega arith
-  none_named text (inr (inr stray)) =
-      let same = undetected_once t.netlist t.patterns classes.representatives stray.left (faults_in t.evidence) stray.are_left are.left in
-      stray.first.stray (ap (λ (fs : List Fault). slice_get fs stray.first.place) same ∙ stray.first.at)
+  none_named text (inr (inr stray)) = stray.first.stray (ap (λ (fs : List Fault). slice_get fs stray.first.place) (sym are.left) ∙ stray.first.at)
 
 -- ---- clauses of contents determine the test
 

@@ -4,7 +4,7 @@ use Rattle.std.specs.List.{All, flat_map}
 use Rattle.std.proofs.lemmas.List.Elements.{All-contains, All-head, All-tail}
 use Rattle.statement.specs.declared.lines.Fault.{Fault}
 use Rattle.statement.specs.declared.outcomes.Outcome.{Outcome}
-use Rattle.statement.specs.declared.outcomes.Outcome.TheVariants.{Detected, Redundant, Aborted}
+use Rattle.statement.specs.declared.outcomes.Outcome.TheVariants.{Detected, Redundant, Aborted, Unasked}
 use Rattle.statement.specs.Netlists.{Netlist}
 use Rattle.statement.specs.Patterns.{Holds}
 use Rattle.scan_insert.proofs.Loopless.{map_contains}
@@ -70,6 +70,7 @@ module _ (n : Netlist) (holds : Holds) (limit : ℕ) (es : List (Fault × Eviden
   by_tree f Aborted has =
       let c = has.1 in
       (has.0, (c.0, c.1, map_contains as_tree es (c.0, Tree has.0) c.2, c.3), has.2, has.3)
+  by_tree f Unasked has = tt
 
 pub trees_alone : FirstLineTells → TreesAsBefore
 trees_alone law n holds chains limit file files rest run begins =

@@ -42,10 +42,10 @@ use Rattle.evidence.specs.declared.kinds.Evidence.TheVariants.{Tree}
 use Rattle.evidence.specs.Laws.{ShownIsRedundant}
 use Rattle.word_sim.specs.Hits.{IsNeverDetected}
 use Rattle.statement.specs.declared.outcomes.Outcome.{Outcome}
-use Rattle.statement.specs.declared.outcomes.Outcome.TheVariants.{Detected, Redundant, Aborted}
+use Rattle.statement.specs.declared.outcomes.Outcome.TheVariants.{Detected, Redundant, Aborted, Unasked}
 use Rattle.report.specs.Reports.{Hold, Report}
 use Rattle.statement.specs.Reports.{Line, fault_line}
-use Rattle.report.specs.Texts.{counts_text, head, hold_line, report_text, share_line}
+use Rattle.report.specs.Texts.{counts_text, head, hold_line, report_text, share_line, unasked_line}
 use Rattle.run_report.specs.Outcomes.{Test, IsFirstOf, IsTrueAt, IsTrueOf, AreTrueLines}
 use Rattle.run_report.specs.Heads.{hold_at, holds_named}
 use Rattle.run_report.proofs.ClassLemmas.{equivalent}
@@ -170,6 +170,7 @@ comes_true laws t cycles are f g line same Redundant pin said =
     λ state driven good faulty obeys p q. laws.redundant n t.holds t.chains f state driven good faulty are.sound are.held are.dealt line none obeys p q
 comes_true laws t cycles are f g line same Aborted pin said =
     laws.undetected t.netlist t.holds t.chains t.patterns cycles f are.sound are.dealt are.vectors line (never_at t.netlist t.patterns f said.1.never)
+comes_true laws t cycles are f g line same Unasked pin said = tt
 
 -- what is said of a fault comes true of the one at its site
 abbrev ComesSomewhere : Test → List Cycle → Fault → Line → Type 0
@@ -182,6 +183,7 @@ evident : (t : Test) (f representative : Fault) → IsEquivalent t.netlist f rep
 evident t f g same (Detected place cycle) pin seen = tt
 evident t f g same Redundant pin said = (said.0, (g, same, stands t.evidence g said.0 said.1.first, said.1.shows), said.2)
 evident t f g same Aborted pin said = (said.0, (g, same, stands t.evidence g (Tree said.0) said.1.first, said.1.shows), said.2, said.3)
+evident t f g same Unasked pin said = tt
 
 -- ---- the texts
 
@@ -197,15 +199,21 @@ named n sound = record {
 
 -- what stands above the held inputs and the lines
 abbrev above : Report → List ℕ
-above r = head r.holds ++ (counts_text r.counts ++ (share_line (codes "coverage ") r.coverage ++ share_line (codes "efficiency ") r.efficiency))
+above r =
+    head r.counts.unasked r.holds
+    ++ (counts_text r.counts
+    ++ (unasked_line r.counts.unasked
+    ++ (share_line (codes "coverage ") r.coverage
+    ++ share_line (codes "efficiency ") r.efficiency)))
 
-four : (a b c d e : List ℕ) → a ++ (b ++ (c ++ (d ++ e))) ≡ (a ++ (b ++ (c ++ d))) ++ e
-four a b c d e =
-    sym (append_assoc a (b ++ (c ++ d)) e ∙ ap (λ t. a ++ t) (append_assoc b (c ++ d) e ∙ ap (λ t. b ++ t) (append_assoc c d e)))
+five : (a b c d e f : List ℕ) → a ++ (b ++ (c ++ (d ++ (e ++ f)))) ≡ (a ++ (b ++ (c ++ (d ++ e)))) ++ f
+five a b c d e f =
+    sym (append_assoc a (b ++ (c ++ (d ++ e))) f
+    ∙ ap (λ t. a ++ t) (append_assoc b (c ++ (d ++ e)) f ∙ ap (λ t. b ++ t) (append_assoc c (d ++ e) f ∙ ap (λ t. c ++ t) (append_assoc d e f))))
 
 ends_with : (r : Report) (holds : List Hold) → r.holds ≡ holds → report_text r ≡ above r ++ (flat_map hold_line holds ++ flat_map fault_line r.lines)
 ends_with r holds is =
-    four (head r.holds) (counts_text r.counts) (share_line (codes "coverage ") r.coverage) (share_line (codes "efficiency ") r.efficiency)
+    five (head r.counts.unasked r.holds) (counts_text r.counts) (unasked_line r.counts.unasked) (share_line (codes "coverage ") r.coverage) (share_line (codes "efficiency ") r.efficiency)
     (flat_map hold_line r.holds ++ flat_map fault_line r.lines)
     ∙ ap (λ hs. above r ++ (flat_map hold_line hs ++ flat_map fault_line r.lines)) is
 

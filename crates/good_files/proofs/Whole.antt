@@ -1,6 +1,7 @@
 -- The statement and what goes with it say all that can be said in one piece, of the scanned netlist and its lines by their own numbers. Nothing
 -- rests on this: it shows that no conjunct of the statement is too weak, and tools/weaken tries it without each.
 use Rattle.std.proofs.Common.{◌≡◌, ℕ, ◌<◌, inl, inr, Bool, true, false, cond, List, [], ◌++◌, length, map, get_or, Option, Some, None, sym, ◌∙◌, ap, subst, codes, length-append, arith}
+use Rattle.std.specs.Prelude.{⊤}
 use Rattle.std.specs.List.{All, Contains, flat_map, slice_get, zip}
 use Rattle.std.proofs.lemmas.Bool.{cases_lt, cases_order}
 use Rattle.std.proofs.lemmas.List.{get_or_past}
@@ -23,7 +24,7 @@ use Rattle.statement.specs.Tests.{IsStrobedAt, vectors_in, IsFileOf}
 use Rattle.statement.specs.Stils.{StilFile, stil_text}
 use Rattle.statement.specs.Faults.{fault_text, universe_of}
 use Rattle.statement.specs.declared.outcomes.Outcome.{Outcome}
-use Rattle.statement.specs.declared.outcomes.Outcome.TheVariants.{Detected, Redundant, Aborted}
+use Rattle.statement.specs.declared.outcomes.Outcome.TheVariants.{Detected, Redundant, Aborted, Unasked}
 use Rattle.statement.specs.Reports.{Line, fault_line}
 use Rattle.report.specs.Reports.{Report}
 use Rattle.report.specs.Texts.{hold_line}
@@ -108,11 +109,13 @@ module _ (n : Netlist) (holds : Holds) (chains : List (List ℕ)) (patterns : Li
       (state : List Bool) (driven : List Cycle) (good faulty : List (List Bool)) → All (λ (cycle : Cycle). Obeys holds cycle.drive) driven
       → Runs bit_table None (scanned_of n chains) state driven good → Runs bit_table (Some (moved n chains f)) (scanned_of n chains) state driven faulty → good ≡ faulty
   Tells f Aborted pin = Passes (scanned_of n chains) (Some (moved n chains f)) cycles
+  Tells f Unasked pin = ⊤
 
   tells : (f : Fault) (o : Outcome) (pin : List ℕ) → ComesTrue n holds chains (scanned_of n chains) patterns cycles f (moved n chains f) o pin → Tells f o pin
   tells f (Detected place cycle) pin is = is
   tells f Redundant pin is = is
   tells f Aborted pin is = is
+  tells f Unasked pin is = is
 
 -- What the statement says, of the scanned netlist itself, a given test and given lines, and of each fault at its own site.
 pub record IsWhole (n : Netlist) (holds : Holds) (chains : List (List ℕ)) (files : FiveFiles) (file : StilFile) (said : Report) : Type 0 where

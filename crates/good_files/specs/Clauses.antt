@@ -9,7 +9,7 @@ use Rattle.statement.specs.Faults.{fault_text, universe_of}
 use Rattle.fault_collapse.specs.Numbers.{Classes}
 use Rattle.evidence.specs.declared.kinds.Evidence.{Evidence}
 use Rattle.statement.specs.Reports.{Line}
-use Rattle.run_report.specs.Outcomes.{Test, AreTrueLines, AreUndetected, IsTrueAt}
+use Rattle.run_report.specs.Outcomes.{Test, AreTrueLines, IsTrueAt, left_of}
 use Rattle.good_files.specs.GoodFiles.{faults_in}
 
 -- the fault that a report names at a place of the universe, or that of the universe where the report has ended
@@ -41,12 +41,10 @@ pub record IsFirstStray (n : Netlist) (evidence : List (Fault × Evidence)) (lef
   pub stray : slice_get left place ≢ Some fault
   pub names_it : text ≡ fault_text n fault
 
--- the lines are true, but the certificate isn't that of the classes that no pattern detects, in order
+-- the lines are true, but the certificate isn't that of the classes of which a line says redundant or aborted, in order
 pub record IsStray (t : Test) (classes : Classes) (lines : List Line) (text : Text) : Type 0 where
   pub lines_true : AreTrueLines t classes lines
-  pub left : List Fault
-  pub are_left : AreUndetected t.netlist t.patterns classes.representatives left
-  pub first : IsFirstStray t.netlist t.evidence left text
+  pub first : IsFirstStray t.netlist t.evidence (left_of classes lines) text
 
 -- the fault that is named, in this order
 abbrev pub IsFalseFault : Test → Classes → List Line → Text → Type 0

@@ -22,7 +22,7 @@ use Rattle.certificate.specs.Certificates.{IsCertificate}
 use Rattle.report.specs.Reports.{Hold, Report, IsReport}
 use Rattle.statement.specs.Reports.{Line}
 use Rattle.report.specs.Texts.{report_text}
-use Rattle.run_report.specs.Outcomes.{Test, AreTrueLines, AreUndetected}
+use Rattle.run_report.specs.Outcomes.{Test, AreTrueLines, left_of}
 use Rattle.run_report.specs.Heads.{HasHead, holds_named}
 use Rattle.good_files.specs.ScanOff.{design_chains}
 
@@ -117,10 +117,10 @@ test_in c t = test_with c t.holds t.patterns
 abbrev pub faults_in : List (Fault × Evidence) → List Fault
 faults_in evidence = map (λ (p : Fault × Evidence). p.0) evidence
 
--- what is said of the faults is true, and each class that no pattern detects has its evidence, in order, and no other
+-- what is said of the faults is true, and each class of which a line says redundant or aborted has its evidence, in order, and no other
 pub record AreTrueFaults (t : Test) (classes : Classes) (lines : List Line) : Type 0 where
   pub lines_true : AreTrueLines t classes lines
-  pub left : AreUndetected t.netlist t.patterns classes.representatives (faults_in t.evidence)
+  pub left : faults_in t.evidence ≡ left_of classes lines
 
 -- ---- the totals
 
@@ -132,7 +132,7 @@ pub record AreReportTotals (t : Test) (classes : Classes) (said : Report) : Type
 -- ---- good files
 
 -- The texts stand for these contents. By the report's own number of chains, held inputs and limit the second text is that of the scanned netlist
--- and the third that of some patterns; each fault has a line that is true and each class that isn't detected its evidence, and the numbers follow.
+-- and the third that of some patterns; each fault has a line that is true and each class that is redundant or aborted its evidence, and the numbers follow.
 pub record AreGoodFiles (files : FiveFiles) (c : Contents) : Type 0 where
   pub stand : StandFor files c
   pub tested : IsTested c

@@ -1,16 +1,22 @@
 -- The laws of good files and of the check, each the contract of a function of its name.
-use Rattle.std.specs.Prelude.{ℕ, ◌≡◌, ◌⊎◌, ◌++◌, ⊤, List, Result, Ok, Err, codes, length}
+use Rattle.std.specs.Prelude.{ℕ, ◌≡◌, ◌≢◌, ◌↔◌, ◌⊎◌, ◌++◌, ⊤, List, Result, Ok, Err, codes, length}
+use Rattle.std.specs.List.{All, Contains}
+use Rattle.statement.specs.declared.lines.Fault.{Fault}
+use Rattle.statement.specs.declared.outcomes.Outcome.TheVariants.{Unasked}
+use Rattle.statement.specs.Reports.{Line}
 use Rattle.netlist.specs.Conditions.{IsSound}
 use Rattle.netlist.specs.Designs.{IsDesign}
 use Rattle.statement.specs.Netlists.{Netlist}
 use Rattle.statement.specs.Patterns.{Holds}
 use Rattle.statement.specs.Stils.{StilFile}
 use Rattle.statement.specs.Faults.{universe_of}
+use Rattle.fault_collapse.specs.Classes.{Represents}
+use Rattle.word_sim.specs.Hits.{IsNeverDetected}
 use Rattle.good_files.specs.declared.answers.Checked.{Checked}
 use Rattle.good_files.specs.declared.answers.Checked.TheVariants.{Faults, False}
 use Rattle.good_files.specs.declared.answers.CheckFault.{CheckFault}
 use Rattle.good_files.specs.declared.answers.CheckFault.TheVariants.{NoMemory}
-use Rattle.good_files.specs.GoodFiles.{AreGoodFiles, Contents, StandFor, chains_in, limit_said}
+use Rattle.good_files.specs.GoodFiles.{AreGoodFiles, Contents, StandFor, chains_in, faults_in, limit_said}
 use Rattle.statement.specs.Statement.{FiveFiles}
 use Rattle.good_files.specs.RunTheorem.{RunTheorem}
 use Rattle.good_files.specs.TreeTheorem.{TreeTheorem}
@@ -27,6 +33,16 @@ abbrev pub TreesAsBefore : Type 0
 TreesAsBefore =
     (n : Netlist) (holds : Holds) (chains : List (List ℕ)) (limit : ℕ) (file : StilFile) (files : FiveFiles) (rest : List ℕ)
     → RunTheorem n holds chains limit file files → files.certificate ≡ codes "atpg certificate 1\n" ++ rest → TreeTheorem n holds chains limit file files
+
+-- the fault of the line was asked for
+abbrev pub IsAsked : Line → Type 0
+IsAsked line = line.outcome ≢ Unasked
+
+-- Where each fault was asked for, the certificate has the evidence of exactly the classes that no pattern detects, as before lines could say unasked.
+abbrev pub AllAskedAsBefore : Type 0
+AllAskedAsBefore =
+    (files : FiveFiles) (c : Contents) → IsSound c.netlist → (good : AreGoodFiles files c) → All IsAsked c.said.lines
+    → (class : ℕ) (f : Fault) → Represents good.tested.classes class f → Contains (faults_in c.evidence) f ↔ IsNeverDetected c.netlist good.tested.patterns f
 
 -- Where no clause is false, the files are good.
 abbrev pub CheckedIsGood : Type 0

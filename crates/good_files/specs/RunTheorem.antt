@@ -19,7 +19,7 @@ use Rattle.evidence.specs.declared.kinds.Evidence.TheVariants.{Tree}
 use Rattle.evidence.specs.Evidence.{Shows, open_ends}
 use Rattle.certificate.specs.Certificates.{IsCertificate}
 use Rattle.statement.specs.declared.outcomes.Outcome.{Outcome}
-use Rattle.statement.specs.declared.outcomes.Outcome.TheVariants.{Detected, Redundant, Aborted}
+use Rattle.statement.specs.declared.outcomes.Outcome.TheVariants.{Detected, Redundant, Aborted, Unasked}
 use Rattle.statement.specs.Reports.{Line}
 use Rattle.report.specs.Reports.{Report}
 use Rattle.report.specs.Texts.{report_text}
@@ -36,11 +36,12 @@ module _ (n : Netlist) (holds : Holds) (limit : ℕ) (certified : List (Fault ×
   IsCertified f e = (representative : Fault) × IsEquivalent n f representative × Contains certified (representative, e) × Shows representative n holds e
 
   -- The evidence for what is said of a fault that isn't detected. Redundant: a closed tree of its class, or a refutation. Aborted: a tree with an open
-  -- end and exactly as many closed ends as the backtrack limit.
+  -- end and exactly as many closed ends as the backtrack limit. Unasked: none.
   abbrev pub HasEvidence : Fault → Outcome → Type 0
   HasEvidence f (Detected place cycle) = ⊤
   HasEvidence f Redundant = (e : Evidence) × IsCertified f e × (open_ends e ≡ 0)
   HasEvidence f Aborted = (tree : List Node) × IsCertified f (Tree tree) × (closed_count tree ≡ limit) × (1 ≤ open_count tree)
+  HasEvidence f Unasked = ⊤
 
 -- The first file, read, is the netlist, the second, read as a scanned one, is the netlist with scan inserted, and the third stands for the test: the
 -- statement holds of these. The report is one of its form, the certificate is that of some evidence, and among it is that for each line.

@@ -17,7 +17,7 @@ use Rattle.redundancy_cert.specs.Trees.{closed_count, open_count}
 use Rattle.redundancy_cert.specs.Fits.{Fits}
 use Rattle.certificate.specs.Certificates.{node_text}
 use Rattle.statement.specs.declared.outcomes.Outcome.{Outcome}
-use Rattle.statement.specs.declared.outcomes.Outcome.TheVariants.{Detected, Redundant, Aborted}
+use Rattle.statement.specs.declared.outcomes.Outcome.TheVariants.{Detected, Redundant, Aborted, Unasked}
 use Rattle.statement.specs.Reports.{Line}
 use Rattle.report.specs.Reports.{Report}
 use Rattle.report.specs.Texts.{report_text}
@@ -37,11 +37,12 @@ module _ (n : Netlist) (holds : Holds) (limit : ℕ) (trees : List (Fault × Lis
   IsCertified f tree = (representative : Fault) × IsEquivalent n f representative × Contains trees (representative, tree) × Fits representative n holds tree
 
   -- The evidence for what is said of a fault that isn't detected. Redundant: a closed tree of its class. Aborted: one with an open end and exactly
-  -- as many closed ends as the backtrack limit.
+  -- as many closed ends as the backtrack limit. Unasked: none.
   abbrev pub HasEvidence : Fault → Outcome → Type 0
   HasEvidence f (Detected place cycle) = ⊤
   HasEvidence f Redundant = (tree : List Node) × IsCertified f tree × (open_count tree ≡ 0)
   HasEvidence f Aborted = (tree : List Node) × IsCertified f tree × (closed_count tree ≡ limit) × (1 ≤ open_count tree)
+  HasEvidence f Unasked = ⊤
 
 -- The first file, read, is the netlist, the second, read as a scanned one, is the netlist with scan inserted, and the third stands for the test: the
 -- statement holds of these. The report is one of its form, the certificate is that of some trees, and among these is the evidence for each line.

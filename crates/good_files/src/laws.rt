@@ -1,5 +1,5 @@
 //! The laws of good files and of the check: functions that do nothing, whose contracts are the laws.
-ghost use Rattle.good_files.specs.Laws.{AnswersAgree, CheckedIsGood, GoodFilesPass, GoodFilesTellTheTruth, TreesAsBefore};
+ghost use Rattle.good_files.specs.Laws.{AllAskedAsBefore, AnswersAgree, CheckedIsGood, GoodFilesPass, GoodFilesTellTheTruth, TreesAsBefore};
 
 use bench_text::canonical_text_is_read;
 use certificate::{first_line_tells, one_certificate};
@@ -40,6 +40,13 @@ pub fn trees_as_before()
     ensures { TreesAsBefore }
 {
     first_line_tells();
+}
+
+/// Where each fault was asked for, the certificate has the evidence of exactly the classes that no pattern detects.
+pub fn all_asked_as_before()
+    ensures { AllAskedAsBefore }
+{
+    detected_alike();
 }
 
 /// Files that pass the check are good, whoever made them.

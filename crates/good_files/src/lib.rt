@@ -5,7 +5,8 @@
 //! Proved: `good_files_tell_the_truth`: of five texts that are right by one whole definition (`AreGoodFiles`), whoever made them, the statement holds
 //! (`Statement`), with how they are read and the evidence of each line (`RunTheorem`); what a check of five files answers, clause by clause
 //! (`IsChecked`); the laws: files of which no clause is false are good and have the run theorem; good files pass; two answers to the same files agree;
-//! a certificate that begins as those of trees did has trees alone, and its files all that is said of these (`TreeTheorem`).
+//! a certificate that begins as those of trees did has trees alone, and its files all that is said of these (`TreeTheorem`); where no line says
+//! that its fault wasn't asked for, the certificate has the evidence of exactly the classes that no pattern detects.
 #![tactic(auto)]
 
 mod answers;
@@ -13,5 +14,6 @@ mod laws;
 
 pub use answers::{CheckFault, Checked, Clause};
 pub use laws::{
-    answers_agree, checked_is_good, good_files_pass, good_files_tell_the_truth, trees_as_before,
+    all_asked_as_before, answers_agree, checked_is_good, good_files_pass,
+    good_files_tell_the_truth, trees_as_before,
 };

@@ -5,26 +5,26 @@ ghost use Rattle.list_core.specs.Subjects.{HaveLines, class_count};
 
 use crate::list_text::{push_kept, push_verdict};
 use crate::lists::list_after;
-use fault_collapse::Classes;
 use list_core::{About, FaultList, Finished, compact};
-use netlist::{Core, Holds, Netlist, NoMemory};
+use netlist::{Core, Fault, Holds, Netlist, NoMemory};
 use std::alloc::{AllocError, Global};
 use word_sim::last_tells;
 
 fn compacted<J: About>(
     alloc: Global,
     core: &Core,
-    classes: &Classes,
+    faults: &[Fault],
     list: FaultList<J>,
 ) -> Result<Finished, NoMemory>
     requires core { core.now ≡ J.subject.netlist }
-    requires classes { classes.now ≡ J.subject.classes }
+    requires faults { faults.now ≡ J.subject.faults }
     requires lines { HaveLines J.subject }
     requires few { length list.patterns + 64 ≤ 2 ^ 32 }
 {
     list.true_list();
-    let last = last_tells(alloc, core, classes.representatives(), list.patterns())?;
-    compact(alloc, list, &last)
+    let last = last_tells(alloc, core, faults, list.patterns())?;
+    let (patterns, verdicts) = list.into_parts();
+    compact(alloc, patterns, verdicts, &last)
 }
 
 /// Adds the patterns that are kept.
@@ -53,24 +53,24 @@ fn push_verdicts(
 pub fn play_compacted<J: About>(
     alloc: Global,
     core: &Core,
-    classes: &Classes,
+    faults: &[Fault],
     limit: u32,
     holds: &Holds,
     calls: &[u8],
 ) -> Result<Vec<u8>, AllocError>
     requires core { core.now ≡ J.subject.netlist }
-    requires classes { (classes.now ≡ J.subject.classes) × (class_count J.subject < 2 ^ 31) }
+    requires faults { (faults.now ≡ J.subject.faults) × (class_count J.subject < 2 ^ 31) }
     requires limit { (limit ≡ J.subject.limit) × (1 ≤ limit) }
     requires lines { HaveLines J.subject }
     requires held { (holds.now ≡ J.subject.holds) × (holds.now ≡ none_held core.now) × AreHoldsOf core.now holds.now }
     requires refutes { IsTrue J.subject.refutes }
 {
     let mut said = Vec::new(alloc);
-    let list = list_after::<J>(&mut said, alloc, core, classes, limit, holds, calls)?;
+    let list = list_after::<J>(&mut said, alloc, core, faults, limit, holds, calls)?;
     if list.patterns().len() > 1_000_000 {
         return Err(AllocError);
     }
-    let Ok(finished) = compacted(alloc, core, classes, list) else {
+    let Ok(finished) = compacted(alloc, core, faults, list) else {
         return Err(AllocError);
     };
     push_patterns(&mut said, &finished)?;

@@ -1,12 +1,17 @@
 //! Calls of a new list, alone or behind its lock.
+ghost use Rattle.std.specs.Prelude.{IfOk};
+ghost use Rattle.std.specs.List.{All};
+ghost use Rattle.statement.specs.declared.lines.Fault.{Fault as FaultOf};
 ghost use Rattle.netlist.specs.Designs.{IsDesign};
+ghost use Rattle.netlist.specs.Lines.{IsLineOf};
 
 use crate::compaction::play_compacted;
 use crate::lists::play_list;
 use crate::sharing::play_shares;
 use case_nets::{classes_of, have_lines};
 use case_text::{cut, cut_at, small};
-use netlist::{Core, Holds};
+use fault_collapse::Classes;
+use netlist::{Core, Fault, Holds, Netlist};
 use std::alloc::{AllocError, Global};
 use std::marker::Brand;
 use std::sync::Wait;
@@ -22,7 +27,7 @@ pub enum On {
     Shares,
 }
 
-/// The words for the workers and the limit; no word for the workers where there are none.
+/// The word for the workers, and what stands behind it; no word for the workers where there are none.
 fn numbers_of(text: &str, on: On) -> (&str, &str) {
     match on {
         On::Shares => cut(text),
@@ -30,8 +35,32 @@ fn numbers_of(text: &str, on: On) -> (&str, &str) {
     }
 }
 
-/// `list LIMIT: CALLS`, `compacted LIMIT: CALLS`, `shares WORKERS LIMIT: CALLS`: what the calls answer, each on a new list's next state, and what
-/// the list keeps in the end.
+/// The first members of the classes of these numbers; of all classes where there are no numbers.
+fn chosen(
+    alloc: Global,
+    netlist: &Netlist,
+    classes: &Classes,
+    numbers: &str,
+) -> Result<Vec<Fault>, AllocError>
+    requires { All (λ (f : FaultOf). IsLineOf netlist.now f.line) classes.now.representatives }
+    ensures { IfOk result (λ v. All (λ (f : FaultOf). IsLineOf netlist.now f.line) v.items) }
+{
+    if numbers.is_empty() {
+        return Vec::from_slice(alloc, classes.representatives());
+    }
+    let mut faults = Vec::new(alloc);
+    for number in numbers.split(' ') {
+        let class = small(number);
+        if class >= classes.count() {
+            return Ok(faults);
+        }
+        faults.push(classes.representative(class))?;
+    }
+    Ok(faults)
+}
+
+/// `list LIMIT CLASSES: CALLS`, `compacted LIMIT CLASSES: CALLS`, `shares WORKERS LIMIT CLASSES: CALLS`: what the calls answer, each on a new list's
+/// next state, and what the list keeps in the end.
 pub fn push_played<R: Wait>(
     to: &mut Vec<u8>,
     rt: &R,
@@ -43,7 +72,8 @@ pub fn push_played<R: Wait>(
     requires { IsDesign core.now }
 {
     let (numbers, calls) = cut_at(rest, ": ");
-    let (workers, limit) = numbers_of(numbers, on);
+    let (workers, numbers) = numbers_of(numbers, on);
+    let (limit, numbers) = cut(numbers);
     let workers = small(workers).clamp(1, 64);
     let limit = small(limit).max(1);
     let calls = calls.as_bytes();
@@ -53,15 +83,16 @@ pub fn push_played<R: Wait>(
     let Ok(holds) = Holds::none(alloc, core) else {
         return Err(AllocError);
     };
-    if classes.count() > 1_000_000 {
+    have_lines(core.netlist(), &classes);
+    let faults = chosen(alloc, core.netlist(), &classes, numbers)?;
+    if faults.len() > 1_000_000 {
         return to.extend_from_slice(b"more than 1000000 classes\n");
     }
-    have_lines(core.netlist(), &classes);
     let said = match on {
-        On::List => play_list::<Brand>(alloc, core, &classes, limit, &holds, calls)?,
-        On::Compacted => play_compacted::<Brand>(alloc, core, &classes, limit, &holds, calls)?,
+        On::List => play_list::<Brand>(alloc, core, &faults, limit, &holds, calls)?,
+        On::Compacted => play_compacted::<Brand>(alloc, core, &faults, limit, &holds, calls)?,
         On::Shares => {
-            play_shares::<Brand, R>(rt, alloc, core, &classes, limit, &holds, workers, calls)?
+            play_shares::<Brand, R>(rt, alloc, core, &faults, limit, &holds, workers, calls)?
         }
     };
     to.extend_from_slice(&said)

@@ -1,30 +1,22 @@
 -- The kept patterns detect what all patterns did, each class at the new place of its last one.
-use Rattle.std.proofs.Common.{zero, suc, ◌≡◌, ◌⊎◌, inl, inr, ℕ, ◌+◌, ◌<◌, ◌≤◌, Bool, true, false, cond, List, [], ◌∷◌, length, get_or, Some, None, Option, refl, sym, ap, ◌∙◌, subst, arith}
-use Rattle.std.specs.List.{All, AllZip}
+use Rattle.std.proofs.Common.{zero, suc, ◌≡◌, ◌⊎◌, inl, inr, ℕ, ◌+◌, ◌<◌, Bool, true, false, cond, List, [], ◌∷◌, length, get_or, Some, None, Option, refl, sym, ap, ◌∙◌, subst, arith}
+use Rattle.std.specs.List.{All, AllZip, slice_get}
 use Rattle.std.specs.Prelude.{IfSome}
 use Rattle.std.proofs.lemmas.List.Elements.{All-cons}
 use Rattle.std.proofs.lemmas.Slice.Zip.{AllZip-long}
-use Rattle.std.proofs.lemmas.List.{get_or_past}
 use Rattle.std.proofs.lemmas.Option.{slice_get_within, slice_get-get_or}
 use Rattle.statement.specs.declared.lines.Fault.{Fault}
-use Rattle.statement.specs.declared.lines.Line.TheVariants.{Stem}
 use Rattle.statement.specs.declared.lines.Point.{Point}
 use Rattle.statement.specs.Netlists.{Netlist}
 use Rattle.statement.specs.Patterns.{Pattern, IsDetectedAt, IsLastDetected}
-use Rattle.word_sim.specs.Hits.{IsNeverDetected, LastDetected}
+use Rattle.word_sim.specs.Hits.{LastDetected}
 use Rattle.list_core.specs.declared.verdicts.Verdict.{Verdict}
-use Rattle.list_core.specs.declared.verdicts.Verdict.TheVariants.{Open, Detected, Redundant, Aborted}
-use Rattle.list_core.specs.Subjects.{Subject, RepresentsIn}
-use Rattle.list_core.specs.States.{State, IsTrueList}
-use Rattle.list_core.specs.Verdicts.{verdict_at, VerdictHolds}
+use Rattle.list_core.specs.Verdicts.{verdict_at}
 use Rattle.list_core.specs.Kept.{AreLastDetected, IsNeeded, is_last_at, kept_from, new_place, marked_from}
-use Rattle.list_core.specs.Finished.{IsFinished, AreFinished}
+use Rattle.list_core.specs.Finished.{IsLastTold, IsFinished, AreFinished}
 use Rattle.list_core.specs.inner.Marks.{last_at, new_verdict, ArePlaces, AreRenamed}
 use Rattle.list_core.proofs.KeepLemmas.{source}
-use Rattle.list_core.proofs.LastPlaces.{last_kept, marked_by, marked_where, never_kept, some_marked, some_same, told_of}
-
-no_fault : Fault
-no_fault = record { line = Stem 0; value = false }
+use Rattle.list_core.proofs.LastPlaces.{last_kept, marked_by, marked_where, never_kept, some_marked, told_of}
 
 -- ---- where a class is last detected
 
@@ -67,72 +59,49 @@ kept_needed n ps fs ls are place lt =
 
 -- ---- verdicts
 
--- where nothing detects a class's fault, its verdict speaks of no pattern
-verdict_stays : (j : Subject) (ps kept : List Pattern) (c : ℕ) (f : Fault) (v : Verdict) → RepresentsIn j c f → IsNeverDetected j.netlist ps f
-    → VerdictHolds j ps c v → VerdictHolds j kept c v
-verdict_stays j ps kept c f Open rep never held = tt
-verdict_stays j ps kept c f (Detected place point) rep never held =
-    let same : held.fault ≡ f = some_same held.fault f (sym held.represents ∙ rep) in
-    let here : IsDetectedAt j.netlist ps held.fault place point = record { pattern = held.pattern; at = held.at; detects = held.detects } in
-    absurd (never place point (let P : Fault → Type 0 = λ g. IsDetectedAt j.netlist ps g place point in subst P same here))
-verdict_stays j ps kept c f (Redundant evidence) rep never held = held
-verdict_stays j ps kept c f (Aborted tree) rep never held = held
-
-module _ (j : Subject) (ps : List Pattern) (ls : List (Option (ℕ × Point))) (are : AreLastDetected j.netlist ps j.classes.representatives ls) where
-  verdict_finished : (c : ℕ) (f : Fault) (l : Option (ℕ × Point)) (old : Verdict) → last_at ls c ≡ l → LastDetected j.netlist ps f l
-      → IsFinished j (kept_from (is_last_at ls) 0 ps) f old (new_verdict (is_last_at ls) l old)
-  verdict_finished c f None old is never = inr (refl, never_kept j.netlist ps (is_last_at ls) f never)
+module _ (n : Netlist) (ps : List Pattern) (ls : List (Option (ℕ × Point))) where
+  verdict_finished : (c : ℕ) (f : Fault) (l : Option (ℕ × Point)) (old : Verdict) → last_at ls c ≡ l → LastDetected n ps f l
+      → IsFinished n (kept_from (is_last_at ls) 0 ps) f old (new_verdict (is_last_at ls) l old)
+  verdict_finished c f None old is never = inr (refl, never_kept n ps (is_last_at ls) f never)
   verdict_finished c f (Some l) old is last =
-      inl (new_place (is_last_at ls) l.0, l.1, refl, last_kept j.netlist ps (is_last_at ls) f l.0 l.1 (some_marked ls c l is) last)
+      inl (new_place (is_last_at ls) l.0, l.1, refl, last_kept n ps (is_last_at ls) f l.0 l.1 (some_marked ls c l is) last)
 
-  verdict_holds : (c : ℕ) (f : Fault) (l : Option (ℕ × Point)) (old : Verdict) → last_at ls c ≡ l → LastDetected j.netlist ps f l → RepresentsIn j c f
-      → VerdictHolds j ps c old → VerdictHolds j (kept_from (is_last_at ls) 0 ps) c (new_verdict (is_last_at ls) l old)
-  verdict_holds c f None old is never rep held = verdict_stays j ps (kept_from (is_last_at ls) 0 ps) c f old rep never held
-  verdict_holds c f (Some l) old is last rep held =
-      let new = last_kept j.netlist ps (is_last_at ls) f l.0 l.1 (some_marked ls c l is) last in
-      record { fault = f; represents = rep; pattern = new.here.pattern; at = new.here.at; detects = new.here.detects }
+  verdict_told : (c : ℕ) (f : Fault) (l : Option (ℕ × Point)) (old : Verdict) → last_at ls c ≡ l → LastDetected n ps f l
+      → (place : ℕ) (point : Point) → IsDetectedAt n ps f place point → IsLastTold n (kept_from (is_last_at ls) 0 ps) f (new_verdict (is_last_at ls) l old)
+  verdict_told c f None old is never place point seen = absurd (never place point seen)
+  verdict_told c f (Some l) old is last place point seen =
+      (new_place (is_last_at ls) l.0, l.1, refl, last_kept n ps (is_last_at ls) f l.0 l.1 (some_marked ls c l is) last)
 
-below_or : (a b : ℕ) → (a < b) ⊎ (b ≤ a)
-below_or a b = grind arith
+pub same_count : (n : Netlist) (ps : List Pattern) (fs : List Fault) (ls : List (Option (ℕ × Point))) → AllZip (LastDetected n ps) fs ls → length ls ≡ length fs
+same_count n ps fs ls are = AllZip-long (LastDetected n ps) fs ls are
 
-pub are_finished : (j : Subject) (s : State) (ls : List (Option (ℕ × Point))) (kept : List Pattern) (new : List Verdict)
-    → IsTrueList j s → AreLastDetected j.netlist s.patterns j.classes.representatives ls → AreRenamed (is_last_at ls) ls s.verdicts new
-    → kept ≡ kept_from (is_last_at ls) 0 s.patterns → AreFinished j s kept new
-are_finished j s ls kept new list are named is =
-    let P : List Pattern → Type 0 = λ ps. AreFinished j s ps new in
+pub are_finished : (n : Netlist) (fs : List Fault) (ps : List Pattern) (ls : List (Option (ℕ × Point))) (old new : List Verdict) (kept : List Pattern)
+    → AreLastDetected n ps fs ls → length ls ≡ length old → AreRenamed (is_last_at ls) ls old new → kept ≡ kept_from (is_last_at ls) 0 ps
+    → AreFinished n fs ps old kept new
+are_finished n fs ps ls old new kept are size named is =
+    let P : List Pattern → Type 0 = λ qs. AreFinished n fs ps old qs new in
     subst P (sym is) (record {
       are_kept = record {
         needed = is_last_at ls;
-        exactly = λ k. (
-          (λ m. marked_needed j.netlist s.patterns j.classes.representatives ls k are m),
-          (λ need. needed_marked j.netlist s.patterns j.classes.representatives ls k are need),
-        );
+        exactly = λ k. ((λ m. marked_needed n ps fs ls k are m), (λ need. needed_marked n ps fs ls k are need));
         are = refl;
       };
-      needed = kept_needed j.netlist s.patterns j.classes.representatives ls are;
+      needed = kept_needed n ps fs ls are;
       count = named.size;
-      each = λ c f rep. (
-          let within : c < length s.verdicts = omega (arith, slice_get_within j.classes.representatives c f rep, list.count) in
-          let Q : Verdict → Type 0 = λ v. IsFinished j (kept_from (is_last_at ls) 0 s.patterns) f (verdict_at s.verdicts c) v in
-          subst Q (sym (named.each c within))
-          (verdict_finished j s.patterns ls are c f (last_at ls c) (verdict_at s.verdicts c) refl (told_of (LastDetected j.netlist s.patterns) j.classes.representatives ls c f are rep))
+      each = λ c f at. (
+          let Q : Verdict → Type 0 = λ v. IsFinished n (kept_from (is_last_at ls) 0 ps) f (verdict_at old c) v in
+          subst Q (sym (named.each c (within c f at)))
+          (verdict_finished n ps ls c f (last_at ls c) (verdict_at old c) refl (told_of (LastDetected n ps) fs ls c f are at))
           );
-      hold = λ c. at_class c (below_or c (length s.verdicts));
+      detected = λ c f at place point seen. (
+          let Q : Verdict → Type 0 = λ v. IsLastTold n (kept_from (is_last_at ls) 0 ps) f v in
+          subst Q (sym (named.each c (within c f at)))
+          (verdict_told n ps ls c f (last_at ls c) (verdict_at old c) refl (told_of (LastDetected n ps) fs ls c f are at) place point seen)
+          );
     })
   where
-    at_class : (c : ℕ) → (c < length s.verdicts) ⊎ (length s.verdicts ≤ c) → VerdictHolds j (kept_from (is_last_at ls) 0 s.patterns) c (verdict_at new c)
-    at_class c (inl within) =
-        let Q : Verdict → Type 0 = λ v. VerdictHolds j (kept_from (is_last_at ls) 0 s.patterns) c v in
-        let inside : c < length j.classes.representatives = omega (arith, within, list.count) in
-        let f = get_or j.classes.representatives c no_fault in
-        let rep : RepresentsIn j c f = slice_get-get_or j.classes.representatives c no_fault inside in
-        subst Q (sym (named.each c within))
-        (verdict_holds j s.patterns ls are c f (last_at ls c) (verdict_at s.verdicts c) refl (told_of (LastDetected j.netlist s.patterns) j.classes.representatives ls c f are rep) rep (list.hold c))
-    at_class c (inr past) =
-        let Q : Verdict → Type 0 = λ v. VerdictHolds j (kept_from (is_last_at ls) 0 s.patterns) c v in
-        let outside : length new ≤ c = omega (arith, past, named.size) in
-        let none : verdict_at new c ≡ Open = get_or_past new c Open outside in
-        subst Q (sym none) tt
+    within : (c : ℕ) (f : Fault) → slice_get fs c ≡ Some f → c < length old
+    within c f at = omega (arith, slice_get_within fs c f at, same_count n ps fs ls are, size)
 
 -- each last place is one of the patterns
 pub last_within : (n : Netlist) (ps : List Pattern) (fs : List Fault) (ls : List (Option (ℕ × Point))) → AllZip (LastDetected n ps) fs ls
@@ -145,9 +114,6 @@ last_within n ps (f ∷ fs) (None ∷ ls) are =
 last_within n ps (f ∷ fs) (Some l ∷ ls) are =
     All-cons (λ (m : Option (ℕ × Point)). IfSome m (λ p. p.0 < length ps)) (Some l) ls
     (slice_get_within ps l.0 are.0.here.pattern are.0.here.at) (last_within n ps fs ls are.1)
-
-pub same_count : (n : Netlist) (ps : List Pattern) (fs : List Fault) (ls : List (Option (ℕ × Point))) → AllZip (LastDetected n ps) fs ls → length ls ≡ length fs
-same_count n ps fs ls are = AllZip-long (LastDetected n ps) fs ls are
 
 same_from : (a b : ℕ → Bool) → ((k : ℕ) → a k ≡ b k) → (k count : ℕ) → marked_from a k count ≡ marked_from b k count
 same_from a b same k zero = refl

@@ -41,7 +41,7 @@ detects_behind : (j : Subject) (ps batch : List Pattern) (h : HitOf) → IsTrueH
 detects_behind j ps batch h t = record { fault = t.fault; represents = t.represents; pattern = t.pattern; at = get_behind ps batch h.pattern ∙ t.at; detects = t.detects }
 
 pub hit_class : (j : Subject) (batch : List Pattern) (h : HitOf) → IsTrueHit j batch h → h.class < class_count j
-hit_class j batch h t = slice_get_within j.classes.representatives h.class t.fault t.represents
+hit_class j batch h t = slice_get_within j.faults h.class t.fault t.represents
 
 pub hit_place : (j : Subject) (batch : List Pattern) (h : HitOf) → IsTrueHit j batch h → h.pattern < length batch
 hit_place j batch h t = slice_get_within batch h.pattern t.pattern t.at

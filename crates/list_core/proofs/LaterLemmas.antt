@@ -76,7 +76,7 @@ open_becomes : (v w : Verdict) → v ≡ Open → MayBecome v w
 open_becomes v w e = let P : Verdict → Type 0 = λ x. MayBecome x w in subst P (sym e) tt
 
 settled_within : (j : Subject) (s : State) (c : ℕ) (f : Fault) → IsTrueList j s → RepresentsIn j c f → c < length s.verdicts
-settled_within j s c f h rep = omega (arith, h.count, slice_get_within j.classes.representatives c f rep)
+settled_within j s c f h rep = omega (arith, h.count, slice_get_within j.faults c f rep)
 
 -- one event
 pub true_after : (j : Subject) (s : State) (e : Event) → IsTrueList j s → MayCome j s e → IsTrueList j (after s e)

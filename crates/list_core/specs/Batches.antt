@@ -7,7 +7,7 @@ use Rattle.word_sim.specs.declared.batches.Hit.{Hit}
 use Rattle.word_sim.specs.Hits.{Batch}
 use Rattle.list_core.specs.Subjects.{Subject, DetectsClass}
 
--- the hit's pattern detects the representative of the hit's class at the hit's point
+-- the hit's pattern detects the fault of the hit's class at the hit's point
 abbrev pub IsTrueHit : Subject → List Pattern → Hit → Type 0
 IsTrueHit j patterns h = DetectsClass j patterns h.class h.pattern h.point
 

@@ -135,10 +135,10 @@ pub record IsTrueList (j : Subject) (s : State) : Type 0 where
 
 -- ---- for private functions
 
--- what a list keeps beside: the representatives, the backtrack limit, and room for what is still to come
+-- what a list keeps beside: the faults, the backtrack limit, and room for what is still to come
 pub record IsKept (j : Subject) (s : State) (faults : List Fault) (limit entries entries_room patterns patterns_room : ℕ) : Type 0 where
   pub true_list : IsTrueList j s
-  pub faults_are : faults ≡ j.classes.representatives
+  pub faults_are : faults ≡ j.faults
   pub limit_is : limit ≡ j.limit
   pub few : class_count j < 2 ^ 31
   pub room : entries + class_count j + sum_by one_if_free s.taken + sum_by one_if_class_open s.verdicts + s.spare_entries ≤ entries_room + s.claims

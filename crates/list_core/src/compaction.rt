@@ -1,14 +1,14 @@
-//! Compaction of a list by where each class is last detected.
-ghost use Rattle.std.specs.Prelude.{◌≡◌, ◌+◌, ◌<◌, ◌≤◌, ◌^◌, ◌||◌, ◌∷◌, [], ℕ, Bool, false, IfOk, IfSome, length, slice_index, slice_index_or, slice_set, vec_len};
+//! Compaction of patterns by where each class is last detected.
+ghost use Rattle.std.specs.Prelude.{◌≡◌, ◌+◌, ◌<◌, ◌≤◌, ◌^◌, ◌||◌, ◌∷◌, [], ℕ, Bool, List, false, IfOk, IfSome, length, slice_index, slice_index_or, slice_set, vec_len};
 ghost use Rattle.std.specs.List.{All};
+ghost use Rattle.statement.specs.declared.lines.Fault.{Fault as FaultOf};
+ghost use Rattle.statement.specs.Netlists.{Netlist};
 ghost use Rattle.list_core.specs.Verdicts.{verdict_at};
 ghost use Rattle.list_core.specs.Kept.{AreLastDetected, is_last_at, new_place};
 ghost use Rattle.list_core.specs.Finished.{AreFinished};
 ghost use Rattle.list_core.specs.inner.Marks.{last_at, new_verdict, ArePlaces, AreRenamed};
 
-use crate::fault_list::FaultList;
 use crate::keeping::{kept, new_places};
-use crate::subjects::About;
 use crate::verdicts::Verdict;
 use cubes::Pattern;
 use netlist::{NoMemory, Point};
@@ -88,18 +88,19 @@ fn rename(verdicts: &mut Vec<Verdict>, last: &[Option<(u32, Point)>], places: &[
     }
 }
 
-/// The list compacted, by where each class is last detected.
-pub fn compact<J: About>(
+/// The patterns that are the last to detect some class are kept, by where each class is last detected.
+pub fn compact(
     alloc: Global,
-    list: FaultList<J>,
+    patterns: Vec<Pattern>,
+    verdicts: Vec<Verdict>,
     last: &[Option<(u32, Point)>],
 ) -> Result<Finished, NoMemory>
-    requires last { AreLastDetected J.subject.netlist list.patterns J.subject.classes.representatives last.now }
-    requires few { length list.patterns + 1 < 2 ^ 32 }
-    ensures { IfOk result (λ f. AreFinished J.subject list f.patterns.items f.verdicts.items) }
+    requires size { length last.now ≡ vec_len verdicts }
+    requires within { All (λ l. IfSome l (λ p. p.0 < vec_len patterns)) last.now }
+    requires few { vec_len patterns + 1 < 2 ^ 32 }
+    ensures { IfOk result (λ f. (n : Netlist) (faults : List FaultOf) → AreLastDetected n patterns.items faults last.now → AreFinished n faults patterns.items verdicts.items f.patterns.items f.verdicts.items) }
 {
-    list.true_list();
-    let (patterns, mut verdicts) = list.into_parts();
+    let mut verdicts = verdicts;
     let marks = needed(alloc, patterns.len(), last)?;
     let places = new_places(alloc, &marks)?;
     rename(&mut verdicts, last, &places);

@@ -1,5 +1,5 @@
 //! The list, whose calls are the events.
-ghost use Rattle.std.specs.Prelude.{◌≡◌, ◌↔◌, ◌≢◌, ℕ, ◌+◌, ◌-◌, ◌*◌, ◌^◌, ◌<◌, ◌≤◌, ◌==◌, true, false, List, [], ◌∷◌, ◌++◌, length, map, IfOk, OnOk, OnErr, IfErr, IfSome, IfNone, vec_len, vec_capacity, slice_index, slice_index_or};
+ghost use Rattle.std.specs.Prelude.{◌≡◌, ◌↔◌, ◌≢◌, ℕ, ◌+◌, ◌-◌, ◌*◌, ◌^◌, ◌<◌, ◌≤◌, ◌==◌, true, false, List, [], ◌∷◌, ◌++◌, IsTrue, length, map, IfOk, OnOk, OnErr, IfErr, IfSome, IfNone, vec_len, vec_capacity, slice_index, slice_index_or};
 ghost use Rattle.std.specs.List.{All, slice_get};
 ghost use Rattle.statement.specs.declared.lines.Fault.{Fault as FaultOf};
 ghost use Rattle.redundancy_cert.specs.Trees.{open_count};
@@ -10,16 +10,17 @@ ghost use Rattle.list_core.specs.Verdicts.{verdict_at, is_open};
 ghost use Rattle.list_core.specs.Journal.{is_taken};
 ghost use Rattle.list_core.specs.States.{State, fresh_list, may_enter, entered, claimed, settled, published, spared, ended_by, verdict_by, MaySettle, undetected_from, IsTrueList};
 ghost use Rattle.list_core.specs.Outcomes.{AreTotals};
+ghost use Rattle.list_core.specs.Enough.{IsEnough};
 ghost use Rattle.list_core.specs.declared.verdicts.Verdict.TheVariants.{Open};
 
 use crate::claims::{Claim, Left, Over};
+use crate::goals::{Goal, detected_weight_of};
 use crate::hits::{append, record_hits, undetected_of};
-use crate::marks::{all_open, none_taken, representatives};
+use crate::marks::{all_open, none_taken};
 use crate::subjects::About;
 use crate::verdicts::{Ended, Entry, Totals, Verdict};
 use cubes::Pattern;
 use evidence::Evidence;
-use fault_collapse::Classes;
 use netlist::{Core, Fault, Holds, NoMemory};
 use redundancy_cert::Node;
 use std::alloc::Global;
@@ -65,24 +66,24 @@ pub enum Settling<J: About> {
 impl<J: About> FaultList<J> {
     ghost use Rattle.list_core.specs.Outcomes.{MatchSettling};
 
-    /// A list with all classes Open, and room for three entries a class.
+    /// A list of a class for each of these faults, all Open, with room for three entries a class.
     pub fn new(
         alloc: Global,
         core: &Core,
-        classes: &Classes,
+        faults: &[Fault],
         limit: u32,
         holds: &Holds,
     ) -> Result<FaultList<J>, NoMemory>
         requires core { core.now ≡ J.subject.netlist }
-        requires classes { (classes.now ≡ J.subject.classes) × (class_count J.subject < 2 ^ 31) }
+        requires faults { (faults.now ≡ J.subject.faults) × (class_count J.subject < 2 ^ 31) }
         requires limit { (limit ≡ J.subject.limit) × (1 ≤ limit) }
         requires holds { holds.now ≡ J.subject.holds }
         ensures { IfOk result (λ s. s ≡ fresh_list (class_count J.subject)) }
     {
-        let count = classes.count();
+        let count = faults.len() as u32;
         let verdicts = all_open(alloc, count)?;
         let taken = none_taken(alloc, count)?;
-        let faults = representatives(alloc, classes)?;
+        let faults = Vec::from_slice(alloc, faults)?;
         let mut journal = Vec::new(alloc);
         journal.reserve(3 * count as usize)?;
         Ok(FaultList {
@@ -207,7 +208,7 @@ impl<J: About> FaultList<J> {
         self.spare_entries -= entries + 1;
     }
 
-    /// The classes that are Open or Aborted, in order, with their representatives.
+    /// The classes that are Open or Aborted, in order, with their faults.
     pub fn undetected(&self, alloc: Global) -> Result<Left<J>, NoMemory>
         ensures { IfOk result (λ l. map (λ (p : ℕ × FaultOf). p.0) l ≡ undetected_from 0 self.now.verdicts) }
     {
@@ -248,6 +249,13 @@ impl<J: About> FaultList<J> {
         ensures { AreTotals self.now.verdicts result }
     {
         totals_of(&self.verdicts)
+    }
+
+    /// Whether enough is detected.
+    pub fn is_enough(&self, goal: &Goal) -> bool
+        ensures { IsTrue result ↔ IsEnough goal.now self.now.verdicts }
+    {
+        goal.enough <= detected_weight_of(&goal.weights, &self.verdicts)
     }
 
     /// What every event keeps, of this list.

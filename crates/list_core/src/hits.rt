@@ -68,7 +68,7 @@ pub(crate) fn append(to: &mut Vec<Pattern>, more: Vec<Pattern>)
     }
 }
 
-/// The classes that are Open or Aborted, in order, each with its representative.
+/// The classes that are Open or Aborted, in order, each with its fault.
 pub(crate) fn undetected_of(
     alloc: Global,
     verdicts: &[Verdict],

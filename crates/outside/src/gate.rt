@@ -1,6 +1,6 @@
 //! Where a worker passes between its steps.
 
-/// Which step a worker has done. `run` speaks of fault classes, `diagnose` too; `transition` and `chaintest` of faults.
+/// Which step a worker has done. `run`, `diagnose` and `grade` speak of fault classes, `transition` and `chaintest` of faults.
 #[derive(Clone, Copy, PartialEq, Eq)]
 pub enum Stage {
     /// So many are there in all. It comes before all other steps.

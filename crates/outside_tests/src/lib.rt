@@ -3,7 +3,7 @@
 //!
 //! Tested: what real files and the standard output do; that a writer which takes nothing has failed; files and bytes in memory that never fail; that a
 //! stage may hold a worker; two workers meet at the stage, two searches meet, two searches for slow lines meet, two workers of the program meet, four
-//! find a test for each fault of s27.
+//! find a test for each fault of s27, and where enough is detected from the start nobody takes a class.
 #![tactic(auto)]
 
 #[cfg(test)]

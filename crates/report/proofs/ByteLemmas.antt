@@ -1,7 +1,7 @@
 -- The bytes of names, numbers and words.
 use Rattle.std.proofs.Common.{◌≡◌, ◌≢◌, ℕ, ◌+◌, ◌%◌, ◌^◌, ◌<◌, ◌≤◌, Bool, true, false, Option, None, Some, MatchOption, ◌↔◌, length, List, [], ◌∷◌, ◌++◌, refl, sym, ◌∙◌, nat_lt, nat_le, ◌&&◌, codes, decimal, arith}
 use Rattle.std.specs.List.{All, list_all}
-use Rattle.std.proofs.lemmas.Bool.{and_from, and_parts, false≢true, leb-true, ltb-true}
+use Rattle.std.proofs.lemmas.Bool.{and_from, and_parts, leb-true, ltb-true}
 use Rattle.std.proofs.lemmas.Fmt.{decimal_by_steps}
 use Rattle.std.proofs.lemmas.List.Elements.{All-append, All-cons, All-head, All-nil, All-tail, All-weaker}
 use Rattle.statement.specs.Netlists.{is_name_byte}

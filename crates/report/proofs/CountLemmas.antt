@@ -1,31 +1,80 @@
 -- The counts of a report as a list, each behind its word.
-use Rattle.std.proofs.Common.{◌≡◌, ◌≢◌, ℕ, ◌+◌, ◌<◌, ◌≤◌, ◌^◌, List, [], ◌∷◌, ◌++◌, get_or, length, map, set, take, take_all, Some, refl, sym, ◌∙◌, ap, subst, arith}
+use Rattle.std.proofs.Common.{◌≡◌, ℕ, zero, suc, ◌+◌, ◌<◌, ◌≤◌, true, List, [], ◌∷◌, ◌++◌, get_or, length, set, take, take_all, Some, refl, sym, ◌∙◌, ap, ap₂, subst, codes, append_assoc, arith}
 use Rattle.std.specs.List.{All, slice_get}
+use Rattle.std.proofs.lemmas.Bool.{false≢true}
 use Rattle.std.proofs.lemmas.List.{get_or-map, length-take-le, take_more_set}
 use Rattle.std.proofs.lemmas.List.Elements.{All-map}
 use Rattle.std.proofs.lemmas.List.FromFn.{fill_by_all}
 use Rattle.report.specs.declared.counts.ReportCounts.{ReportCounts}
 use Rattle.report.specs.Counts.{AreSmallCounts, worded}
-use Rattle.report.specs.Texts.{count_line, counts_text}
-use Rattle.report.specs.inner.Counts.{count_words, in_order, counts_from, some_counts}
+use Rattle.report.specs.Texts.{count_line, counts_text, unasked_line}
+use Rattle.report.specs.declared.versions.Version.{Version}
+use Rattle.report.specs.inner.Counts.{AreCountsIn, AreNumbers, IsUnaskedIn, count_words, counts_from, counts_lines, in_order, numbers_text, some_counts}
 use Rattle.report.specs.inner.Lines.{Begins, IsCount, NoneBegins}
-use Rattle.report.proofs.LineLemmas.{next_valid}
-use Rattle.report.proofs.NumberLemmas.{counts_told, next_count_read, no_counts}
+use Rattle.report.specs.inner.Versions.{is_third, some_unasked}
+use Rattle.report.proofs.LineLemmas.{IsTold, next_valid}
+use Rattle.report.proofs.NumberLemmas.{count_told, counts_told, next_count_read, no_counts}
 
-small_in_order : (c : ReportCounts) → AreSmallCounts c → All IsCount (in_order c)
-small_in_order c v = All-map IsCount (λ (p : List ℕ × ℕ). p.1) (worded c) v
+pub small_in_order : (c : ReportCounts) → AreSmallCounts c → All IsCount (in_order c)
+small_in_order c v = All-map IsCount (λ (p : List ℕ × ℕ). p.1) (worded c) v.0
 
-pub small_worded : (c : ReportCounts) → All IsCount (in_order c) → AreSmallCounts c
-small_worded c v k d l = subst IsCount (get_or-map (λ (p : List ℕ × ℕ). p.1) (worded c) k d 0 l) (v k 0 l)
+pub small_counts : (c : ReportCounts) → All IsCount (in_order c) → IsCount c.unasked → AreSmallCounts c
+small_counts c v u = ((λ k d l. subst IsCount (get_or-map (λ (p : List ℕ × ℕ). p.1) (worded c) k d 0 l) (v k 0 l)), u)
 
 -- a list of fourteen is the list of its elements
-counts_from_order : (ks : List ℕ) → length ks ≡ 14 → in_order (counts_from ks) ≡ ks
-counts_from_order ks size = sym (fill_by_all (λ k. get_or ks k 0) ks 14 0 size (λ k l. refl))
+counts_from_order : (ks : List ℕ) (unasked : ℕ) → length ks ≡ 14 → in_order (counts_from ks unasked) ≡ ks
+counts_from_order ks unasked size = sym (fill_by_all (λ k. get_or ks k 0) ks 14 0 size (λ k l. refl))
 
-pub all_counts_told : (c d : ReportCounts) (r s : List ℕ) → AreSmallCounts c → AreSmallCounts d → counts_text c ++ r ≡ counts_text d ++ s → (c ≡ d) × (r ≡ s)
-all_counts_told c d r s v w e =
-    let told = counts_told count_words (in_order c) (in_order d) r s refl refl (small_in_order c v) (small_in_order d w) e in
-    (ap counts_from told.0, told.1)
+-- numbers, each behind its word
+numbers_of : (c : ReportCounts) → AreSmallCounts c → AreNumbers (in_order c)
+numbers_of c v = (refl, small_in_order c v)
+
+numbers_told : IsTold AreNumbers numbers_text
+numbers_told ks ls r s v w e = counts_told count_words ks ls r s v.0 w.0 v.1 w.1 e
+
+-- how many faults weren't asked for
+pub not_zero : (version : Version) (text after : List ℕ) (k : ℕ) → is_third version ≡ true → k ≡ 0 → Begins IsCount (count_line (codes "unasked ")) text k after
+    → NoneBegins (IsUnaskedIn version) unasked_line text
+not_zero version text after k third none is zero rest v r = false≢true (sym v.1 ∙ third)
+not_zero version text after k third none is (suc l) rest v r =
+    let same = (count_told (codes "unasked ") k (suc l) after rest is.0 v.0 (sym is.1 ∙ r)).0 in
+    omega arith
+
+unasked_told : (k l : ℕ) (r s : List ℕ) → IsCount k → IsCount l → some_unasked k ≡ some_unasked l → unasked_line k ++ r ≡ unasked_line l ++ s → (k ≡ l) × (r ≡ s)
+unasked_told zero zero r s v w t e = (refl, e)
+unasked_told zero (suc l) r s v w t e = absurd (false≢true t)
+unasked_told (suc k) zero r s v w t e = absurd (false≢true (sym t))
+unasked_told (suc k) (suc l) r s v w t e = count_told (codes "unasked ") (suc k) (suc l) r s v w e
+
+-- all counts
+pub all_counts_told : (c d : ReportCounts) (r s : List ℕ) → AreSmallCounts c → AreSmallCounts d → some_unasked c.unasked ≡ some_unasked d.unasked
+    → counts_lines c ++ r ≡ counts_lines d ++ s → (c ≡ d) × (r ≡ s)
+all_counts_told c d r s v w t e =
+    let first = numbers_told (in_order c) (in_order d) (unasked_line c.unasked ++ r) (unasked_line d.unasked ++ s) (numbers_of c v) (numbers_of d w)
+    (sym (append_assoc (counts_text c) (unasked_line c.unasked) r) ∙ (e ∙ append_assoc (counts_text d) (unasked_line d.unasked) s)) in
+    let last = unasked_told c.unasked d.unasked r s v.1 w.1 t first.1 in
+    (ap₂ counts_from first.0 last.0, last.1)
+
+module _ (version : Version) (text : List ℕ) where
+  pub no_numbers : NoneBegins AreNumbers numbers_text text → NoneBegins (AreCountsIn version) counts_lines text
+  no_numbers none c r v e = none (in_order c) (unasked_line c.unasked ++ r) (numbers_of c v.0) (e ∙ append_assoc (counts_text c) (unasked_line c.unasked) r)
+
+  module _ (numbers rest : List ℕ) (read : Begins AreNumbers numbers_text text numbers rest) where
+    pub no_unasked : NoneBegins (IsUnaskedIn version) unasked_line rest → NoneBegins (AreCountsIn version) counts_lines text
+    no_unasked none c r v e =
+        let told = numbers_told numbers (in_order c) rest (unasked_line c.unasked ++ r) read.0 (numbers_of c v.0)
+        (sym read.1 ∙ (e ∙ append_assoc (counts_text c) (unasked_line c.unasked) r)) in
+        none c.unasked r (v.0.1, v.1) told.1
+
+    pub counts_found : (unasked : ℕ) (after : List ℕ) → Begins (IsUnaskedIn version) unasked_line rest unasked after → (c : ReportCounts) → c ≡ counts_from numbers unasked
+        → Begins (AreCountsIn version) counts_lines text c after
+    counts_found unasked after is c made =
+        let these = counts_from_order numbers unasked read.0.0 in
+        let found : Begins (AreCountsIn version) counts_lines text (counts_from numbers unasked) after = (
+          (small_counts (counts_from numbers unasked) (subst (All IsCount) (sym these) read.0.1) is.0.0, is.0.1),
+          read.1 ∙ (ap₂ (λ ks t. numbers_text ks ++ t) (sym these) is.1 ∙ sym (append_assoc (counts_text (counts_from numbers unasked)) (unasked_line unasked) after)),
+        ) in
+        subst (λ d. Begins (AreCountsIn version) counts_lines text d after) (sym made) found
 
 -- so many numbers are read, each behind its word
 module _ (numbers : List ℕ) (size : length numbers ≡ 14) (k : ℕ) (text rest : List ℕ) (read : text ≡ some_counts count_words (take k numbers) ++ rest)
@@ -37,9 +86,9 @@ module _ (numbers : List ℕ) (size : length numbers ≡ 14) (k : ℕ) (text res
     word_next : slice_get count_words (length (take k numbers)) ≡ Some word
     word_next = subst (λ i. slice_get count_words i ≡ Some word) (sym so_many) is_word
 
-    pub no_next_count : NoneBegins IsCount (count_line word) rest → NoneBegins AreSmallCounts counts_text text
-    no_next_count none c r v e =
-        no_counts count_words (take k numbers) (in_order c) rest r word word_next (omega (arith, so_many, within)) small (small_in_order c v) none (sym read ∙ e)
+    pub no_next_count : NoneBegins IsCount (count_line word) rest → NoneBegins AreNumbers numbers_text text
+    no_next_count none ks r v e =
+        no_counts count_words (take k numbers) ks rest r word word_next (omega (arith, so_many, within, v.0)) small v.1 none (sym read ∙ e)
 
     module _ (count : ℕ) (after : List ℕ) (begins : Begins IsCount (count_line word) rest count after) where
       one_more : take (k + 1) (set numbers k count) ≡ take k numbers ++ count ∷ []
@@ -52,7 +101,7 @@ module _ (numbers : List ℕ) (size : length numbers ≡ 14) (k : ℕ) (text res
       pub next_small : All IsCount (take (k + 1) (set numbers k count))
       next_small = next_valid IsCount (take k numbers) (take (k + 1) (set numbers k count)) count small begins.0 one_more
 
-  pub counts_found : 14 ≤ k → (c : ReportCounts) → c ≡ counts_from numbers → Begins AreSmallCounts counts_text text c rest
-  counts_found full c is =
-      let all : take k numbers ≡ in_order c = take_all k numbers (omega (arith, size, full)) ∙ (sym (counts_from_order numbers size) ∙ ap in_order (sym is)) in
-      (small_worded c (subst (All IsCount) all small), read ∙ ap (λ ks. some_counts count_words ks ++ rest) all)
+  pub numbers_found : 14 ≤ k → Begins AreNumbers numbers_text text numbers rest
+  numbers_found full =
+      let all : take k numbers ≡ numbers = take_all k numbers (omega (arith, size, full)) in
+      ((size, subst (All IsCount) all small), read ∙ ap (λ ks. some_counts count_words ks ++ rest) all)

@@ -1,5 +1,5 @@
 -- Lines that begin with a fault.
-use Rattle.std.proofs.Common.{◌≡◌, ◌≢◌, ℕ, ◌^◌, ◌<◌, List, ◌∷◌, ◌++◌, get_or, refl, sym, ◌∙◌, ap, subst, codes, decimal, append_assoc, arith}
+use Rattle.std.proofs.Common.{◌≡◌, ◌≢◌, ℕ, List, ◌∷◌, ◌++◌, get_or, refl, sym, ◌∙◌, ap, subst, codes, decimal, append_assoc, arith}
 use Rattle.std.specs.List.{All}
 use Rattle.std.proofs.lemmas.List.{append_cancel_left, append_cancel_right}
 use Rattle.plain_text.proofs.Parts.{byte_inside, same_parts}

@@ -6,5 +6,6 @@ pub mod LineLemmas
 pub mod NumberLemmas
 pub mod OutcomeLemmas
 pub mod TableLemmas
+pub mod VersionLemmas
 pub mod WholeLemmas
 pub mod WriteLemmas

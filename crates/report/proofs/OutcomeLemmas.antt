@@ -8,7 +8,7 @@ use Rattle.plain_text.proofs.Parts.{byte_inside, same_parts}
 use Rattle.report.specs.Reports.{IsFaultText, IsLine, IsOutcome, IsBenchWord}
 use Rattle.statement.specs.Reports.{Line, fault_line, outcome_text}
 use Rattle.statement.specs.declared.outcomes.Outcome.{Outcome}
-use Rattle.statement.specs.declared.outcomes.Outcome.TheVariants.{Aborted, Detected, Redundant}
+use Rattle.statement.specs.declared.outcomes.Outcome.TheVariants.{Aborted, Detected, Redundant, Unasked}
 use Rattle.report.specs.inner.Faults.{FaultBegins}
 use Rattle.report.specs.inner.Lines.{fault_words}
 use Rattle.report.proofs.ByteLemmas.{Above, above_append, above_by_test, above_lacks, above_less, number_above, word_above}
@@ -62,12 +62,19 @@ same_outcome (Detected p c) (Detected q d) x y v w e =
     (ap (λ k. Detected k c) s.0 ∙ ap (λ k. Detected q k) s.1, s.2)
 same_outcome (Detected p c) Redundant x y v w e = let differ : ◌≡◌ {A = ℕ} 100 114 = ap (λ xs. get_or xs 1 0) e in absurd (omega arith)
 same_outcome (Detected p c) Aborted x y v w e = let differ : ◌≡◌ {A = ℕ} 100 97 = ap (λ xs. get_or xs 1 0) e in absurd (omega arith)
+same_outcome (Detected p c) Unasked x y v w e = let differ : ◌≡◌ {A = ℕ} 100 117 = ap (λ xs. get_or xs 1 0) e in absurd (omega arith)
 same_outcome Redundant (Detected q d) x y v w e = let differ : ◌≡◌ {A = ℕ} 114 100 = ap (λ xs. get_or xs 1 0) e in absurd (omega arith)
 same_outcome Redundant Redundant x y v w e = (refl, v ∙ sym w)
 same_outcome Redundant Aborted x y v w e = let differ : ◌≡◌ {A = ℕ} 114 97 = ap (λ xs. get_or xs 1 0) e in absurd (omega arith)
+same_outcome Redundant Unasked x y v w e = let differ : ◌≡◌ {A = ℕ} 114 117 = ap (λ xs. get_or xs 1 0) e in absurd (omega arith)
 same_outcome Aborted (Detected q d) x y v w e = let differ : ◌≡◌ {A = ℕ} 97 100 = ap (λ xs. get_or xs 1 0) e in absurd (omega arith)
 same_outcome Aborted Redundant x y v w e = let differ : ◌≡◌ {A = ℕ} 97 114 = ap (λ xs. get_or xs 1 0) e in absurd (omega arith)
 same_outcome Aborted Aborted x y v w e = (refl, v ∙ sym w)
+same_outcome Aborted Unasked x y v w e = let differ : ◌≡◌ {A = ℕ} 97 117 = ap (λ xs. get_or xs 1 0) e in absurd (omega arith)
+same_outcome Unasked (Detected q d) x y v w e = let differ : ◌≡◌ {A = ℕ} 117 100 = ap (λ xs. get_or xs 1 0) e in absurd (omega arith)
+same_outcome Unasked Redundant x y v w e = let differ : ◌≡◌ {A = ℕ} 117 114 = ap (λ xs. get_or xs 1 0) e in absurd (omega arith)
+same_outcome Unasked Aborted x y v w e = let differ : ◌≡◌ {A = ℕ} 117 97 = ap (λ xs. get_or xs 1 0) e in absurd (omega arith)
+same_outcome Unasked Unasked x y v w e = (refl, v ∙ sym w)
 
 outcome_above : (o : Outcome) (pin : List ℕ) → IsOutcome o pin → Above 31 (outcome_text o pin)
 outcome_above (Detected p c) pin v =
@@ -78,6 +85,7 @@ outcome_above (Detected p c) pin v =
     (above_append 31 (codes " ") pin (above_by_test 31 (codes " ") refl) (above_less 32 31 pin (omega arith) (word_above pin v.2))))))
 outcome_above Redundant pin v = above_by_test 31 (codes " redundant") refl
 outcome_above Aborted pin v = above_by_test 31 (codes " aborted") refl
+outcome_above Unasked pin v = above_by_test 31 (codes " unasked") refl
 
 -- what came of a fault stands behind a blank
 pub record IsBehind (o : Outcome) (pin : List ℕ) : Type 0 where
@@ -88,6 +96,7 @@ pub outcome_behind : (o : Outcome) (pin : List ℕ) → IsBehind o pin
 outcome_behind (Detected p c) pin = record { text = codes "detected " ++ (decimal p ++ 32 ∷ (decimal c ++ 32 ∷ pin)); is = refl }
 outcome_behind Redundant pin = record { text = codes "redundant"; is = refl }
 outcome_behind Aborted pin = record { text = codes "aborted"; is = refl }
+outcome_behind Unasked pin = record { text = codes "unasked"; is = refl }
 
 -- the fault, a blank and the rest of the line
 pub fault_taken : (line rest : List ℕ) → FaultBegins line rest → IsFaultText (take (length line - length rest - 1) line) × (line ≡ take (length line - length rest - 1) line ++ 32 ∷ rest)

@@ -1,36 +1,22 @@
 -- Whole texts of reports.
-use Rattle.std.proofs.Common.{◌≡◌, ◌≢◌, ℕ, Bool, true, false, not, List, [], ◌∷◌, ◌++◌, get_or, refl, sym, ◌∙◌, ap, codes, append_assoc, arith}
-use Rattle.std.specs.Bool.{beq}
+use Rattle.std.proofs.Common.{◌≡◌, ◌≢◌, ℕ, true, List, [], ◌∷◌, ◌++◌, get_or, refl, sym, ◌∙◌, ap, ap₂, codes, append_assoc, arith}
 use Rattle.std.specs.List.{All, flat_map}
-use Rattle.std.proofs.lemmas.Bool.{false≢true}
-use Rattle.std.proofs.lemmas.List.{append-nil, append_cancel_left}
+use Rattle.std.proofs.lemmas.List.{append-nil}
 use Rattle.std.proofs.lemmas.List.Elements.{All-head}
 use Rattle.report.specs.declared.counts.ReportCounts.{ReportCounts}
-use Rattle.report.specs.Counts.{AreSmallCounts}
 use Rattle.report.specs.Reports.{Hold, IsFaultText, IsLine, IsReport, Report, at_stem, at_output, at_pin}
 use Rattle.statement.specs.Reports.{Line, fault_line, outcome_text}
-use Rattle.report.specs.Texts.{counts_text, head, hold_line, report_text, share_line}
-use Rattle.report.specs.inner.Lines.{Begins, IsHold, IsShare, NoneBegins, hold_words, fault_words, some_held, version_line}
+use Rattle.report.specs.Texts.{counts_text, hold_line, report_text, share_line, unasked_line}
+use Rattle.report.specs.declared.versions.Version.{Version}
+use Rattle.report.specs.inner.Counts.{AreCountsIn, counts_lines}
+use Rattle.report.specs.inner.Lines.{Begins, IsHold, IsShare, NoneBegins, hold_words, fault_words}
+use Rattle.report.specs.inner.Versions.{fits_holds, is_third, version_line, version_of}
 use Rattle.report.proofs.HoldLemmas.{hold_lined, hold_told}
 use Rattle.report.proofs.LineLemmas.{nothing_begins, same_lines}
 use Rattle.report.proofs.CountLemmas.{all_counts_told}
 use Rattle.report.proofs.NumberLemmas.{share_told}
 use Rattle.report.proofs.OutcomeLemmas.{fault_lined, fault_told}
-
-pub version_told : (a b : Bool) (r s : List ℕ) → version_line a ++ r ≡ version_line b ++ s → (a ≡ b) × (r ≡ s)
-version_told false false r s e = (refl, append_cancel_left (version_line false) r s e)
-version_told true true r s e = (refl, append_cancel_left (version_line true) r s e)
-version_told false true r s e = let differ : ◌≡◌ {A = ℕ} 49 50 = ap (λ xs. get_or xs 12 0) e in absurd (omega arith)
-version_told true false r s e = let differ : ◌≡◌ {A = ℕ} 50 49 = ap (λ xs. get_or xs 12 0) e in absurd (omega arith)
-
-pub no_version : (text : List ℕ) → ((r : List ℕ) → text ≢ version_line false ++ r) → ((r : List ℕ) → text ≢ version_line true ++ r)
-    → (held : Bool) (rest : List ℕ) → text ≢ version_line held ++ rest
-no_version text one two false rest e = one rest e
-no_version text one two true rest e = two rest e
-
-head_is : (hs : List Hold) → head hs ≡ version_line (some_held hs)
-head_is [] = refl
-head_is (h ∷ hs) = refl
+use Rattle.report.proofs.VersionLemmas.{head_is, third_of, version_found, version_told}
 
 -- no line of a fault is that of a held input
 fault_first : (fault rest : List ℕ) → IsFaultText fault → get_or (fault ++ rest) 0 0 ≢ 104
@@ -46,12 +32,6 @@ no_hold_begins (l ∷ ls) v h rest w e =
 
 pub no_fault_begins : NoneBegins IsLine fault_line []
 no_fault_begins = nothing_begins IsLine fault_words fault_line fault_lined
-
-pub same_versions : (a b : Bool) → a ≡ b → not (beq a b) ≡ true → ⊥
-same_versions false false e t = false≢true t
-same_versions false true e t = false≢true e
-same_versions true false e t = false≢true (sym e)
-same_versions true true e t = false≢true t
 
 -- lines of faults, with what is left of them
 pub faults_told : (xs ys : List Line) (rest : List ℕ) → All IsLine xs → All IsLine ys → NoneBegins IsLine fault_line rest
@@ -75,17 +55,27 @@ abbrev pub behind_counts : Report → List ℕ
 behind_counts r = share_line (codes "coverage ") r.coverage ++ behind_coverage r
 
 abbrev pub behind_head : Report → List ℕ
-behind_head r = counts_text r.counts ++ behind_counts r
+behind_head r = counts_lines r.counts ++ behind_counts r
 
-pub report_text_is : (r : Report) → report_text r ≡ version_line (some_held r.holds) ++ behind_head r
-report_text_is r = ap (λ t. t ++ behind_head r) (head_is r.holds)
+abbrev pub report_version : Report → Version
+report_version r = version_of r.counts.unasked r.holds
 
-pub after_head : (r : Report) (bytes rest : List ℕ) (held : Bool) → bytes ≡ report_text r → bytes ≡ version_line held ++ rest → (held ≡ some_held r.holds) × (rest ≡ behind_head r)
-after_head r bytes rest held e is = version_told held (some_held r.holds) rest (behind_head r) (sym is ∙ (e ∙ report_text_is r))
+pub report_text_is : (r : Report) → report_text r ≡ version_line (report_version r) ++ behind_head r
+report_text_is r =
+    ap₂ (λ h t. h ++ t) (head_is r.counts.unasked r.holds) (sym (append_assoc (counts_text r.counts) (unasked_line r.counts.unasked) (behind_counts r)))
 
-pub after_counts : (r : Report) (text rest : List ℕ) (c : ReportCounts) → IsReport r → text ≡ behind_head r → Begins AreSmallCounts counts_text text c rest
-    → (c ≡ r.counts) × (rest ≡ behind_counts r)
-after_counts r text rest c v e is = all_counts_told c r.counts rest (behind_counts r) is.0 v.counts (sym is.1 ∙ e)
+pub after_head : (r : Report) (bytes rest : List ℕ) (version : Version) → bytes ≡ report_text r → bytes ≡ version_line version ++ rest
+    → (version ≡ report_version r) × (rest ≡ behind_head r)
+after_head r bytes rest version e is = version_told version (report_version r) rest (behind_head r) (sym is ∙ (e ∙ report_text_is r))
+
+-- the counts of a text of the report's version
+pub counts_in : (r : Report) (version : Version) → IsReport r → version ≡ report_version r → AreCountsIn version r.counts
+counts_in r version v e = (v.counts, ap is_third e ∙ third_of r.counts.unasked r.holds)
+
+pub after_counts : (r : Report) (text rest : List ℕ) (version : Version) (c : ReportCounts) → IsReport r → version ≡ report_version r → text ≡ behind_head r
+    → Begins (AreCountsIn version) counts_lines text c rest → (c ≡ r.counts) × (rest ≡ behind_counts r)
+after_counts r text rest version c v same e is =
+    all_counts_told c r.counts rest (behind_counts r) is.0.0 v.counts (sym is.0.1 ∙ (counts_in r version v same).1) (sym is.1 ∙ e)
 
 pub after_coverage : (r : Report) (text rest : List ℕ) (n : ℕ) → IsReport r → text ≡ behind_counts r → Begins IsShare (share_line (codes "coverage ")) text n rest
     → (n ≡ r.coverage) × (rest ≡ behind_coverage r)
@@ -98,8 +88,8 @@ after_efficiency r text rest n v e is = share_told (codes "efficiency ") n r.eff
 -- at most one report has a given text
 pub same_report : (r s : Report) → IsReport r → IsReport s → report_text r ≡ report_text s → r ≡ s
 same_report r s v w e =
-    let heads = after_head s (report_text r) (behind_head r) (some_held r.holds) e (report_text_is r) in
-    let counts = after_counts s (behind_head r) (behind_counts r) r.counts w heads.1 (v.counts, refl) in
+    let heads = after_head s (report_text r) (behind_head r) (report_version r) e (report_text_is r) in
+    let counts = after_counts s (behind_head r) (behind_counts r) (report_version r) r.counts w heads.0 heads.1 (counts_in r (report_version r) v refl, refl) in
     let coverage = after_coverage s (behind_counts r) (behind_coverage r) r.coverage w counts.1 (v.coverage, refl) in
     let efficiency = after_efficiency s (behind_coverage r) (behind_shares r) r.efficiency w coverage.1 (v.efficiency, refl) in
     let tables = tables_told r.holds (flat_map fault_line r.lines) s.holds s.lines v.holds (no_hold_begins r.lines v.lines) w.holds w.lines efficiency.1 in
@@ -111,15 +101,17 @@ same_report r s v w e =
     ∙ ap (λ (ls : List Line). record { counts = s.counts; coverage = s.coverage; efficiency = s.efficiency; holds = s.holds; lines = ls }) faults.0)))
 
 -- what was read part by part is a report with this text
-pub whole_found : (bytes a b c d : List ℕ) (held : Bool) (counts : ReportCounts) (coverage efficiency : ℕ) (hs : List Hold) (ls : List Line)
-    → bytes ≡ version_line held ++ a → Begins AreSmallCounts counts_text a counts b → Begins IsShare (share_line (codes "coverage ")) b coverage c
+pub whole_found : (bytes a b c d : List ℕ) (version : Version) (counts : ReportCounts) (coverage efficiency : ℕ) (hs : List Hold) (ls : List Line)
+    → bytes ≡ version_line version ++ a → Begins (AreCountsIn version) counts_lines a counts b → Begins IsShare (share_line (codes "coverage ")) b coverage c
     → Begins IsShare (share_line (codes "efficiency ")) c efficiency d
-    → All IsHold hs × All IsLine ls × (held ≡ some_held hs) × (d ≡ flat_map hold_line hs ++ flat_map fault_line ls)
+    → All IsHold hs × All IsLine ls × (fits_holds version hs ≡ true) × (d ≡ flat_map hold_line hs ++ flat_map fault_line ls)
     → IsReport (record { counts = counts; coverage = coverage; efficiency = efficiency; holds = hs; lines = ls })
     × (bytes ≡ report_text (record { counts = counts; coverage = coverage; efficiency = efficiency; holds = hs; lines = ls }))
-whole_found bytes a b c d held counts coverage efficiency hs ls v p q r t = (
-  record { counts = p.0; coverage = q.0; efficiency = r.0; holds = t.0; lines = t.1 },
-  v ∙ (ap (λ h. version_line h ++ a) t.2 ∙ (ap (λ u. u ++ a) (sym (head_is hs))
-      ∙ ap (λ u. head hs ++ u) (p.1 ∙ ap (λ u. counts_text counts ++ u)
-      (q.1 ∙ ap (λ u. share_line (codes "coverage ") coverage ++ u) (r.1 ∙ ap (λ u. share_line (codes "efficiency ") efficiency ++ u) t.3))))),
-)
+whole_found bytes a b c d version counts coverage efficiency hs ls v p q r t =
+    let said : Report = record { counts = counts; coverage = coverage; efficiency = efficiency; holds = hs; lines = ls } in (
+      record { counts = p.0.0; coverage = q.0; efficiency = r.0; holds = t.0; lines = t.1 },
+      v ∙ (ap (λ w. version_line w ++ a) (version_found version counts.unasked hs p.0.1 t.2)
+          ∙ (ap (λ u. version_line (report_version said) ++ u) (p.1 ∙ ap (λ u. counts_lines counts ++ u)
+          (q.1 ∙ ap (λ u. share_line (codes "coverage ") coverage ++ u) (r.1 ∙ ap (λ u. share_line (codes "efficiency ") efficiency ++ u) t.3)))
+          ∙ sym (report_text_is said))),
+    )

@@ -1,10 +1,9 @@
 -- Texts as they are written, a part at a time.
-use Rattle.std.proofs.Common.{◌≡◌, ℕ, zero, suc, ◌+◌, ◌<◌, List, [], ◌∷◌, ◌++◌, length, take, Some, refl, sym, ◌∙◌, ap, arith, append_assoc, add-one, codes}
+use Rattle.std.proofs.Common.{◌≡◌, ℕ, zero, suc, ◌+◌, List, [], ◌∷◌, ◌++◌, take, Some, refl, sym, ◌∙◌, ap, append_assoc, add-one}
 use Rattle.std.proofs.lemmas.List.{append-nil}
 use Rattle.std.specs.List.{flat_map, slice_get}
 use Rattle.std.proofs.lemmas.Grind.{flat_map-append}
-use Rattle.report.specs.Reports.{Hold}
-use Rattle.report.specs.Texts.{count_line, head}
+use Rattle.report.specs.Texts.{count_line}
 use Rattle.report.specs.inner.Counts.{some_counts}
 
 next_take : {X : Type 0} (xs : List X) (k : ℕ) (x : X) → slice_get xs k ≡ Some x → take (suc k) xs ≡ take k xs ++ x ∷ []
@@ -44,17 +43,9 @@ next_counts_written ws cs k w c old out new p q o n =
     n ∙ (ap (λ t. t ++ count_line w c) o ∙ (append_assoc old (some_counts ws (take k cs)) (count_line w c)
     ∙ ap (λ t. old ++ t) (sym (next_count ws cs k w c p q) ∙ ap (λ i. some_counts ws (take i cs)) (sym one))))
 
-pub first_head : (hs : List Hold) → length hs ≡ 0 → head hs ≡ codes "atpg report 1\n"
-first_head [] e = refl
-first_head (h ∷ hs) e = absurd (omega arith)
-
-pub second_head : (hs : List Hold) → 0 < length hs → head hs ≡ codes "atpg report 2\n"
-second_head [] l = absurd (omega arith)
-second_head (h ∷ hs) l = refl
-
--- six parts written one behind the other
-pub six_parts : (old a b c d e f x y z u v w : List ℕ) → x ≡ old ++ a → y ≡ x ++ b → z ≡ y ++ c → u ≡ z ++ d → v ≡ u ++ e → w ≡ v ++ f
-    → w ≡ old ++ (a ++ (b ++ (c ++ (d ++ (e ++ f)))))
-six_parts old a b c d e f x y z u v w p q r s t k =
-    let whole : w ≡ (((((old ++ a) ++ b) ++ c) ++ d) ++ e) ++ f = cc in
+-- seven parts written one behind the other
+pub seven_parts : (old a b c d e f g x y z u v w m : List ℕ) → x ≡ old ++ a → y ≡ x ++ b → z ≡ y ++ c → u ≡ z ++ d → v ≡ u ++ e → w ≡ v ++ f → m ≡ w ++ g
+    → m ≡ old ++ (a ++ (b ++ (c ++ (d ++ (e ++ (f ++ g))))))
+seven_parts old a b c d e f g x y z u v w m p q r s t k l =
+    let whole : m ≡ ((((((old ++ a) ++ b) ++ c) ++ d) ++ e) ++ f) ++ g = cc in
     whole ∙ simp append_assoc

@@ -3,7 +3,7 @@ use Rattle.std.specs.Prelude.{ℕ, ◌<◌, ◌^◌, List, [], ◌∷◌, codes}
 use Rattle.std.specs.List.{All}
 use Rattle.report.specs.declared.counts.ReportCounts.{ReportCounts}
 
--- each count behind its word
+-- each count behind its word, but that of faults that weren't asked for
 abbrev pub worded : ReportCounts → List (List ℕ × ℕ)
 worded c =
     (codes "inputs ", c.inputs) ∷ (codes "outputs ", c.outputs) ∷ (codes "gates ", c.gates) ∷ (codes "cells ", c.cells) ∷ (codes "chains ", c.chains)
@@ -12,4 +12,4 @@ worded c =
 
 -- each is a number of 64 bits
 abbrev pub AreSmallCounts : ReportCounts → Type 0
-AreSmallCounts c = All (λ (p : List ℕ × ℕ). p.1 < 2 ^ 64) (worded c)
+AreSmallCounts c = All (λ (p : List ℕ × ℕ). p.1 < 2 ^ 64) (worded c) × (c.unasked < 2 ^ 64)

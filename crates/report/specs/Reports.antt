@@ -6,7 +6,7 @@ use Rattle.statement.specs.Netlists.{is_name_byte}
 use Rattle.statement.specs.Faults.{value_text}
 use Rattle.report.specs.declared.counts.ReportCounts.{ReportCounts}
 use Rattle.statement.specs.declared.outcomes.Outcome.{Outcome}
-use Rattle.statement.specs.declared.outcomes.Outcome.TheVariants.{Detected, Redundant, Aborted}
+use Rattle.statement.specs.declared.outcomes.Outcome.TheVariants.{Detected, Redundant, Aborted, Unasked}
 use Rattle.report.specs.Counts.{AreSmallCounts}
 
 -- an input that is held, and its bit
@@ -14,7 +14,7 @@ pub record Hold : Type 0 where
   pub name : List ℕ
   pub bit : Bool
 
--- Fourteen counts, two shares in hundredths of a percent, the inputs that are held, and a line for each fault.
+-- The counts, two shares in hundredths of a percent, the inputs that are held, and a line for each fault.
 pub record Report : Type 0 where
   pub counts : ReportCounts
   pub coverage : ℕ
@@ -54,6 +54,7 @@ abbrev pub IsOutcome : Outcome → List ℕ → Type 0
 IsOutcome (Detected pattern cycle) pin = (pattern < 2 ^ 64) × (cycle < 2 ^ 64) × IsBenchWord pin
 IsOutcome Redundant pin = pin ≡ []
 IsOutcome Aborted pin = pin ≡ []
+IsOutcome Unasked pin = pin ≡ []
 
 pub record IsLine (l : Line) : Type 0 where
   pub fault : IsFaultText l.fault

@@ -1,5 +1,5 @@
 -- Reports as texts, which stand for them byte for byte.
-use Rattle.std.specs.Prelude.{ℕ, ◌/◌, ◌%◌, if◌then◌else◌, List, [], ◌∷◌, ◌++◌, codes, decimal}
+use Rattle.std.specs.Prelude.{ℕ, zero, suc, ◌/◌, ◌%◌, if◌then◌else◌, List, [], ◌∷◌, ◌++◌, codes, decimal}
 use Rattle.std.specs.List.{flat_map}
 use Rattle.report.specs.declared.counts.ReportCounts.{ReportCounts}
 use Rattle.report.specs.Counts.{worded}
@@ -22,19 +22,26 @@ share_line word share = word ++ (hundredths share ++ codes "\n")
 abbrev pub hold_line : Hold → List ℕ
 hold_line h = codes "hold " ++ (h.name ++ (if h.bit then codes " 1\n" else codes " 0\n"))
 
--- The second version is written exactly where an input is held.
-abbrev pub head : List Hold → List ℕ
-head [] = codes "atpg report 1\n"
-head (h ∷ hs) = codes "atpg report 2\n"
+-- The third version is written exactly where lines are counted as unasked, the second else where an input is held.
+abbrev pub head : ℕ → List Hold → List ℕ
+head zero [] = codes "atpg report 1\n"
+head zero (h ∷ hs) = codes "atpg report 2\n"
+head (suc k) holds = codes "atpg report 3\n"
 
 abbrev pub counts_text : ReportCounts → List ℕ
 counts_text c = flat_map (λ p. count_line p.0 p.1) (worded c)
 
+-- `unasked 7`, where there is one
+abbrev pub unasked_line : ℕ → List ℕ
+unasked_line zero = []
+unasked_line (suc k) = count_line (codes "unasked ") (suc k)
+
 abbrev pub report_text : Report → List ℕ
 report_text r =
-    head r.holds
+    head r.counts.unasked r.holds
     ++ (counts_text r.counts
+    ++ (unasked_line r.counts.unasked
     ++ (share_line (codes "coverage ") r.coverage
     ++ (share_line (codes "efficiency ") r.efficiency
     ++ (flat_map hold_line r.holds
-    ++ flat_map fault_line r.lines))))
+    ++ flat_map fault_line r.lines)))))

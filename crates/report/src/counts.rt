@@ -4,10 +4,10 @@ ghost use Rattle.std.specs.List.{All};
 ghost use Rattle.report.specs.Counts.{AreSmallCounts};
 ghost use Rattle.report.specs.inner.Counts.{count_of_counts, count_words, in_order, counts_from};
 
-/// How many counts a report has.
+/// How many counts every report has a line of.
 pub(crate) const COUNTS: usize = 14;
 
-/// The word of each count, in the order of the text.
+/// The word of each of these counts, in the order of the text.
 const WORDS: [&'static [u8]; COUNTS] = [
     b"inputs ",
     b"outputs ",
@@ -25,7 +25,7 @@ const WORDS: [&'static [u8]; COUNTS] = [
     b"untested ",
 ];
 
-/// The fourteen counts of a report, each under its word in the text.
+/// The counts of a report, each under its word in the text.
 #[derive(Clone, Copy, PartialEq, Eq)]
 pub struct ReportCounts {
     pub inputs: u64,
@@ -46,10 +46,12 @@ pub struct ReportCounts {
     pub aborted: u64,
     /// Redundant and aborted together.
     pub untested: u64,
+    /// Faults that weren't asked for, which have a line only where there are some.
+    pub unasked: u64,
 }
 
 impl ReportCounts {
-    /// The counts in the order of the text.
+    /// The counts that every report has a line of, in the order of the text.
     pub(crate) fn to_array(self) -> [u64; COUNTS]
         ensures { result ≡ in_order self }
     {
@@ -71,9 +73,9 @@ impl ReportCounts {
         ]
     }
 
-    /// The counts that are these in the order of the text.
-    pub(crate) fn of(counts: [u64; COUNTS]) -> ReportCounts
-        ensures { result ≡ counts_from counts }
+    /// The counts that are these in the order of the text, and so many that weren't asked for.
+    pub(crate) fn of(counts: [u64; COUNTS], unasked: u64) -> ReportCounts
+        ensures { result ≡ counts_from counts unasked }
     {
         ReportCounts {
             inputs: counts[0],
@@ -90,6 +92,7 @@ impl ReportCounts {
             redundant: counts[11],
             aborted: counts[12],
             untested: counts[13],
+            unasked,
         }
     }
 

@@ -96,6 +96,9 @@ fn outcome_in(text: &[u8]) -> Option<(Outcome, &[u8])>
     if text == b"aborted".as_slice() {
         return Some((Outcome::Aborted, b""));
     }
+    if text == b"unasked".as_slice() {
+        return Some((Outcome::Unasked, b""));
+    }
     let place = behind(b"detected ", text)?;
     let (pattern, cycle, pin) = place_in(place)?;
     Some((Outcome::Detected(pattern, cycle), pin))

@@ -1,7 +1,7 @@
 //! The report of a run: a verdict for each fault, and the numbers above; its text both ways.
 //!
 //! Gives: `Report`, `FaultLines`, `HoldLines`, `write_report`, `read_report`.
-//! Proved: `write_report`: a report's one text, in both versions; `read_report` exactly, texts one to one with reports; the type keeps what every
+//! Proved: `write_report`: a report's one text, in all three versions; `read_report` exactly, texts one to one with reports; the type keeps what every
 //! report is.
 //! Tested: that it comes to these answers, by rows of `calls`.
 //! Neither: time.
@@ -16,6 +16,7 @@ mod lines;
 mod pieces;
 mod reading;
 mod reports;
+mod versions;
 mod writing;
 
 pub use counts::ReportCounts;

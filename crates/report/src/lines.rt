@@ -1,28 +1,15 @@
 //! The lines of a report, each at the front of a text.
-ghost use Rattle.std.specs.Prelude.{◌≡◌, ◌≢◌, ◌<◌, ◌+◌, ◌/◌, ◌^◌, ◌++◌, ◌∷◌, [], ◌%◌, ℕ, Bool, List, MatchOption};
+ghost use Rattle.std.specs.Prelude.{◌≡◌, ◌≢◌, ◌<◌, ◌+◌, ◌/◌, ◌^◌, ◌++◌, ◌∷◌, [], ◌%◌, ℕ, List, MatchOption};
 ghost use Rattle.report.specs.Reports.{IsLine, Hold};
 ghost use Rattle.report.specs.Texts.{count_line, hundredths, share_line, hold_line};
 ghost use Rattle.statement.specs.Reports.{fault_line};
-ghost use Rattle.report.specs.inner.Lines.{Begins, NoneBegins, IsCount, IsShare, IsHold, count_end, share_end, hold_words, version_line};
+ghost use Rattle.report.specs.inner.Lines.{Begins, NoneBegins, IsCount, IsShare, IsHold, count_end, share_end, hold_words};
 
 use crate::fault_lines::FaultLine;
 use crate::fault_words::fault_in;
 use crate::hold_lines::HoldLine;
 use crate::pieces::{before_bit, behind, is_word};
 use plain_text::{number, split_at};
-
-/// Whether the first line is that of the second version, and what stands behind it.
-pub(crate) fn version(text: &[u8]) -> Option<(bool, &[u8])>
-    ensures { MatchOption result ((held : Bool) (rest : List ℕ) → text.now ≢ version_line held ++ rest) (λ p. text.now ≡ version_line p.0 ++ p.1.now) }
-{
-    if let Some(rest) = behind(b"atpg report 1\n", text) {
-        return Some((false, rest));
-    }
-    if let Some(rest) = behind(b"atpg report 2\n", text) {
-        return Some((true, rest));
-    }
-    None
-}
 
 /// A number up to the end of its line, and what stands behind.
 fn count_end(text: &[u8]) -> Option<(u64, &[u8])>

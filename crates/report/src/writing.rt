@@ -1,13 +1,14 @@
 //! Reports as text.
 ghost use Rattle.std.specs.Prelude.{◌≡◌, ◌<◌, ◌≤◌, ◌^◌, ◌/◌, ◌++◌, decimal, IfOk, OnOk};
 ghost use Rattle.std.specs.List.{flat_map};
-ghost use Rattle.report.specs.Texts.{count_line, counts_text, hundredths, share_line, hold_line, head, report_text};
+ghost use Rattle.report.specs.Texts.{count_line, counts_text, unasked_line, hundredths, share_line, hold_line, head, report_text};
 ghost use Rattle.statement.specs.Reports.{outcome_text, fault_line};
 
 use crate::counts::{ReportCounts, count_word};
 use crate::fault_lines::FaultLines;
 use crate::hold_lines::HoldLines;
 use crate::reports::Report;
+use crate::versions::version_of;
 use itoa::Buffer;
 use netlist::NoMemory;
 use statement::Outcome;
@@ -92,6 +93,7 @@ fn push_outcome(out: &mut Vec<u8>, outcome: Outcome, pin: &[u8]) -> Result<(), A
         }
         Outcome::Redundant => out.extend_from_slice(b" redundant"),
         Outcome::Aborted => out.extend_from_slice(b" aborted"),
+        Outcome::Unasked => out.extend_from_slice(b" unasked"),
     }
 }
 
@@ -131,22 +133,30 @@ pub fn push_counts(out: &mut Vec<u8>, counts: ReportCounts) -> Result<(), AllocE
     Ok(())
 }
 
-fn push_head(out: &mut Vec<u8>, holds: &HoldLines) -> Result<(), AllocError>
-    ensures { OnOk result (out.new.items ≡ out.old.items ++ head holds.now) }
+/// `unasked 7`, where there is one.
+fn push_unasked(out: &mut Vec<u8>, unasked: u64) -> Result<(), AllocError>
+    ensures { OnOk result (out.new.items ≡ out.old.items ++ unasked_line unasked) }
 {
-    if holds.len() == 0 {
-        push(out, b"atpg report 1\n")
-    } else {
-        push(out, b"atpg report 2\n")
+    if unasked == 0 {
+        return Ok(());
     }
+    push_count(out, b"unasked ", unasked)
+}
+
+fn push_head(out: &mut Vec<u8>, unasked: u64, holds: &HoldLines) -> Result<(), AllocError>
+    ensures { OnOk result (out.new.items ≡ out.old.items ++ head unasked holds.now) }
+{
+    push(out, version_of(unasked, holds).line())
 }
 
 fn push_report(out: &mut Vec<u8>, report: &Report) -> Result<(), AllocError>
     ensures { OnOk result (out.new.items ≡ out.old.items ++ report_text report.now) }
 {
     report.sound();
-    push_head(out, report.holds())?;
-    push_counts(out, report.counts())?;
+    let counts = report.counts();
+    push_head(out, counts.unasked, report.holds())?;
+    push_counts(out, counts)?;
+    push_unasked(out, counts.unasked)?;
     push_share(out, b"coverage ", report.coverage())?;
     push_share(out, b"efficiency ", report.efficiency())?;
     push_holds(out, report.holds())?;

@@ -1,9 +1,13 @@
+mod SpreadLemmas
+mod CountLemmas
+mod KnownLemmas
+mod FirstLemmas
+mod SearchLemmas
 mod LineLemmas
 mod LeafLemmas
-mod SearchLemmas
 mod ReportLemmas
 mod TruthLemmas
-mod TreeLemmas
+mod AskedLemmas
 mod PointLemmas
 mod ChainLemmas
 mod RunLemmas

@@ -19,6 +19,7 @@ use Rattle.evidence.specs.declared.kinds.Evidence.{Evidence}
 use Rattle.evidence.specs.declared.kinds.Evidence.TheVariants.{Tree, Refutation}
 use Rattle.evidence.specs.Evidence.{MayBe, Shows}
 use Rattle.certificate.specs.Certificates.{HasSignals, HasSmallNumbers, IsEvidence, IsNamed, IsWellFormed}
+use Rattle.certificate.proofs.NamedTrees.{nodes_named}
 use Rattle.run_report.proofs.PointLemmas.{point_inside}
 use Rattle.list_core.specs.declared.verdicts.Verdict.{Verdict}
 use Rattle.list_core.specs.declared.verdicts.Verdict.TheVariants.{Open, Detected, Redundant, Aborted}
@@ -27,30 +28,28 @@ use Rattle.report.specs.Reports.{IsLine}
 use Rattle.statement.specs.Reports.{Line}
 use Rattle.run_files.specs.inner.Outcomes.{AreLines}
 use Rattle.run_files.specs.inner.Verdicts.{AreVerdicts, IsInside, IsVerdict, MayHave, leaf_at, leaves_of}
-use Rattle.run_files.proofs.TreeLemmas.{fitting_named}
+use Rattle.run_files.proofs.KnownLemmas.{blank}
 
 -- ---- points
 
 inside : (n : Netlist) → IsSound n → (holds : Holds) (limit : ℕ) (patterns : List Pattern) (f : Fault) (v : Verdict) → IsVerdict n holds limit patterns f v → IsInside n v
-inside n sound holds limit patterns f Open is = is
+inside n sound holds limit patterns f Open is = tt
 inside n sound holds limit patterns f (Detected place point) is = point_inside n sound f is.here.pattern.inputs is.here.pattern.cells point is.here.detects
 inside n sound holds limit patterns f (Redundant e) is = tt
 inside n sound holds limit patterns f (Aborted tree) is = tt
 
-blank : Fault
-blank = record { line = Stem 0; value = false }
-
--- no verdict is Open, and each point is one of the netlist
-pub all_inside : (n : Netlist) → IsSound n → (holds : Holds) (classes : Classes) (limit : ℕ) (patterns : List Pattern) (verdicts : List Verdict)
-    → AreVerdicts n holds classes limit patterns verdicts → All (IsInside n) verdicts
-all_inside n sound holds classes limit patterns verdicts found = All-from_get_or (IsInside n) verdicts Open (λ class lt.
-    let at : slice_get classes.representatives class ≡ Some (get_or classes.representatives class blank) = slice_get-get_or classes.representatives class blank (omega (arith, lt, found.count)) in
-    inside n sound holds limit patterns (get_or classes.representatives class blank) (verdict_at verdicts class) (found.each class (get_or classes.representatives class blank) at))
+-- each point is one of the netlist
+pub all_inside : (n : Netlist) → IsSound n → (holds : Holds) (faults : List Fault) (limit : ℕ) (patterns : List Pattern) (verdicts : List Verdict)
+    → AreVerdicts n holds faults limit patterns verdicts → All (IsInside n) verdicts
+all_inside n sound holds faults limit patterns verdicts found = All-from_get_or (IsInside n) verdicts Open (λ class lt.
+    let at : slice_get faults class ≡ Some (get_or faults class blank) = slice_get-get_or faults class blank (omega (arith, lt, found.count)) in
+    inside n sound holds limit patterns (get_or faults class blank) (verdict_at verdicts class) (found.each class (get_or faults class blank) at))
 
 -- ---- lines
 
-pub all_sound : (n : Netlist) (chains : List (List ℕ)) (numbers : List ℕ) (verdicts : List Verdict) (lines : List Line) → AreLines n chains numbers verdicts (length (universe_of n)) lines → All IsLine lines
-all_sound n chains numbers verdicts lines all = All-from_contains IsLine lines (λ line here.
+pub all_sound : (n : Netlist) (chains : List (List ℕ)) (numbers : List ℕ) (marks : List Bool) (verdicts : List Verdict) (lines : List Line)
+    → AreLines n chains numbers marks verdicts (length (universe_of n)) lines → All IsLine lines
+all_sound n chains numbers marks verdicts lines all = All-from_contains IsLine lines (λ line here.
     let f = get_or (universe_of n) here.0 blank in
     let lt : here.0 < length (universe_of n) = omega (arith, all.size, here.1) in
     let w = all.each here.0 f lt (slice_get-get_or (universe_of n) here.0 blank lt) in
@@ -62,7 +61,7 @@ all_sound n chains numbers verdicts lines all = All-from_contains IsLine lines (
 
 leaf_all : (P : Fault × Evidence → Type 0) (n : Netlist) (holds : Holds) (limit : ℕ) (patterns : List Pattern) (f : Fault) (v : Verdict)
     → IsVerdict n holds limit patterns f v → ((e : Evidence) → Shows f n holds e → P (f, e)) → All P (leaf_at f v)
-leaf_all P n holds limit patterns f Open is each = absurd is
+leaf_all P n holds limit patterns f Open is each = All-nil P
 leaf_all P n holds limit patterns f (Detected place point) is each = All-nil P
 leaf_all P n holds limit patterns f (Redundant e) is each = All-cons P (f, e) [] (each e is.1) (All-nil P)
 leaf_all P n holds limit patterns f (Aborted tree) is each = All-cons P (f, Tree tree) [] (each (Tree tree) is.1) (All-nil P)
@@ -78,7 +77,7 @@ leaves_all P n holds limit patterns (f ∷ fs) (v ∷ vs) size each =
     (leaves_all P n holds limit patterns fs vs (omega arith) (λ class g at. each (suc class) g at))
 
 module _ (n : Netlist) (sound : IsSound n) (holds : Holds) (classes : Classes) (are : AreClasses n classes) (limit : ℕ) (patterns : List Pattern) (verdicts : List Verdict)
-    (found : AreVerdicts n holds classes limit patterns verdicts) where
+    (found : AreVerdicts n holds classes.representatives limit patterns verdicts) where
   -- what is so of the evidence of each fault of the netlist is so of that of verdicts
   all_leaves : (P : Fault × Evidence → Type 0) → ((f : Fault) → Contains (universe_of n) f → (e : Evidence) → Shows f n holds e → P (f, e))
       → All P (leaves_of classes.representatives verdicts)
@@ -88,11 +87,11 @@ module _ (n : Netlist) (sound : IsSound n) (holds : Holds) (classes : Classes) (
       (found.each class f at, each f (contains_at (universe_of n) first.place f (first.representative f at))))
 
   signals_of : (f : Fault) (e : Evidence) → Shows f n holds e → HasSignals n e
-  signals_of f (Tree nodes) shows = fitting_named f n holds sound nodes shows
+  signals_of f (Tree nodes) shows = nodes_named n sound f holds nodes shows
   signals_of f (Refutation steps) shows = tt
 
   formed_of : (f : Fault) (e : Evidence) → Shows f n holds e → HasSmallNumbers e → IsWellFormed n e
-  formed_of f (Tree nodes) shows small = (fitting_named f n holds sound nodes shows, (shows.0, shows.1))
+  formed_of f (Tree nodes) shows small = (nodes_named n sound f holds nodes shows, (shows.0, shows.1))
   formed_of f (Refutation steps) shows small = small
 
   pub all_named : FaultsHaveSignals → All (IsNamed n) (leaves_of classes.representatives verdicts)

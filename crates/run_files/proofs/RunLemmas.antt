@@ -24,9 +24,9 @@ use Rattle.run_report.specs.Outcomes.{Test}
 use Rattle.good_files.specs.GoodFiles.{AreReportTotals, AreTrueFaults, Contents, IsChainCount, IsTested, StandFor, chains_said, limit_said, test_with}
 use Rattle.good_files.specs.ScanOff.{design_chains}
 use Rattle.run_files.specs.declared.files.RunFiles.{RunFiles}
-use Rattle.run_files.specs.Runs.{contents_of, files_of}
+use Rattle.run_files.specs.Runs.{Asked, contents_of, files_of}
 use Rattle.run_files.specs.inner.Laws.{AreGoodFilesBy, IsFinishedRun}
-use Rattle.run_files.specs.inner.Verdicts.{leaves_of}
+use Rattle.run_files.specs.inner.Verdicts.{AreVerdicts, leaves_of}
 use Rattle.run_files.proofs.ChainLemmas.{counted, made_again}
 use Rattle.run_files.proofs.PointLemmas.{all_evident}
 use Rattle.run_files.proofs.TruthLemmas.{leaves_left, true_lines}
@@ -47,8 +47,20 @@ read_back law n sound design net is =
     let w = law Design n sound (design_fits n design) in
     subst (λ (t : List ℕ). IsRead Design t (Ok n)) (sym is) (sym w.1, w.0, sound.acyclic)
 
-module _ (alike : DetectedAlike) (texts : TextsDiffer) (n : Netlist) (holds : Holds) (asked limit : ℕ) (refutes : Bool) (classes : Classes) (patterns : List Pattern) (verdicts : List Verdict)
-    (made : RunFiles) (sound : IsSound n) (run : IsFinishedRun n holds asked limit refutes classes patterns verdicts made) where
+module _ (alike : DetectedAlike) (texts : TextsDiffer) (n : Netlist) (a : Asked) (classes : Classes) (patterns : List Pattern) (verdicts : List Verdict) (made : RunFiles) (sound : IsSound n)
+    (run : IsFinishedRun n a classes patterns verdicts made) where
+  abbrev holds : Holds
+  holds = a.holds
+
+  abbrev asked : ℕ
+  asked = a.chains
+
+  abbrev limit : ℕ
+  limit = a.limit
+
+  abbrev found : AreVerdicts n a.holds classes.representatives a.limit patterns verdicts
+  found = run.searched.verdicts_are
+
   abbrev evidence : List (Fault × Evidence)
   evidence = leaves_of classes.representatives verdicts
 
@@ -81,8 +93,9 @@ module _ (alike : DetectedAlike) (texts : TextsDiffer) (n : Netlist) (holds : Ho
   true_faults : AreTrueFaults asked_test classes made.said.lines
   true_faults = record {
     lines_true =
-        true_lines alike texts n sound holds (design_chains n asked) classes run.are_classes limit patterns verdicts run.found made.said.lines run.written.said.lines;
-    left = leaves_left n holds limit patterns classes.representatives verdicts run.found.count run.found.each;
+        true_lines alike texts n sound holds (design_chains n asked) classes run.are_classes limit a.faults patterns verdicts found made.said.lines run.written.said.lines;
+    left =
+        leaves_left n (design_chains n asked) classes run.are_classes a.faults verdicts made.said.lines run.searched.asked run.written.said.lines found.count;
   }
 
   totals : AreReportTotals asked_test classes made.said
@@ -101,7 +114,7 @@ module _ (alike : DetectedAlike) (texts : TextsDiffer) (n : Netlist) (holds : Ho
     };
     held = record { held = run.held; said = run.written.said.numbers.held };
     test = record {
-      obey = run.found.obey;
+      obey = found.obey;
       is_file_of = subst (λ (chains : List (List ℕ)). IsFileOf n holds chains patterns run.written.stil.file) (sym own_chains) run.written.stil.of_patterns;
     };
     are_classes = run.are_classes;
@@ -114,12 +127,12 @@ module _ (alike : DetectedAlike) (texts : TextsDiffer) (n : Netlist) (holds : Ho
         net = read_back canonical_law n sound design made.net.items w.net;
         scan = refl;
         stil = subst (λ (t : List ℕ). StandsFor t w.stil.file) (sym w.stil.text_is) (stands w.stil.file w.stil.is_file);
-        certificate = record { each = all_evident n sound holds classes run.are_classes limit patterns verdicts run.found w.small; text = w.certificate };
+        certificate = record { each = all_evident n sound holds classes run.are_classes limit patterns verdicts found w.small; text = w.certificate };
         is_report = w.is_report;
         report = w.report;
       }
 
-  pub good : CanonicalTextIsRead → WrittenStands → IsDesign n → AreGoodFilesBy n holds asked limit classes patterns made
+  pub good : CanonicalTextIsRead → WrittenStands → IsDesign n → AreGoodFilesBy n a classes patterns made
   unfolding tested
   good canonical_law stands design = record {
     file = run.written.stil.file;

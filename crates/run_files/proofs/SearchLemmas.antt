@@ -1,115 +1,258 @@
--- The verdicts of a finished list.
-use Rattle.std.proofs.Common.{◌≡◌, ℕ, zero, suc, ◌<◌, ◌≤◌, inl, inr, Bool, false, true, true≢false, List, [], ◌∷◌, ◌++◌, ◌+◌, length, get_or, Some, refl, sym, ◌∙◌, ap, subst, arith}
-use Rattle.std.specs.List.{All, slice_get}
+-- What is found of the faults that are asked for, and so of all classes.
+use Rattle.std.proofs.Common.{◌≡◌, ℕ, zero, suc, ◌+◌, ◌-◌, ◌*◌, ◌/◌, ◌<◌, ◌≤◌, ◌==◌, inl, inr, ◌⊎◌, Bool, false, true, true≢false, cond, List, [], ◌∷◌, ◌++◌, length, map, get_or, Option, Some, None, refl, sym, ◌∙◌, ap, subst, arith}
+use Rattle.std.specs.Int.{div_ceil}
+use Rattle.std.specs.List.{All, Contains, slice_get}
 use Rattle.std.proofs.lemmas.Bool.{cases_order}
-use Rattle.std.proofs.lemmas.List.{get_or_append_left, get_or_push}
-use Rattle.std.proofs.lemmas.List.Elements.{All-from_get_or}
-use Rattle.std.proofs.lemmas.Option.{slice_get-get_or, slice_get_within}
+use Rattle.std.proofs.lemmas.Bool.Decides.{nat_tests}
+use Rattle.std.proofs.lemmas.Grind.{div_ceil_times}
+use Rattle.std.proofs.lemmas.List.{get_or-map, length-map}
+use Rattle.std.proofs.lemmas.List.Elements.{All-cons, All-get_or, All-head, All-nil, All-tail}
+use Rattle.std.proofs.lemmas.Option.{get_or_from_slice_get, slice_get-get_or, slice_get_within}
+use Rattle.netlist.proofs.Lists.{contains_cases, contains_head, contains_nil, contains_tail}
+use Rattle.statement.specs.declared.lines.Fault.{Fault}
 use Rattle.statement.specs.Netlists.{Netlist}
-use Rattle.netlist.specs.Conditions.{IsSound}
-use Rattle.statement.specs.Patterns.{Holds, Detects, Pattern}
+use Rattle.statement.specs.Patterns.{Holds, Pattern}
 use Rattle.statement.specs.Faults.{universe_of}
+use Rattle.cubes.specs.Cubes.{IsPatternOf}
 use Rattle.fault_collapse.specs.Classes.{AreClasses}
 use Rattle.fault_collapse.specs.Numbers.{Classes}
-use Rattle.statement.specs.declared.lines.Fault.{Fault}
-use Rattle.cubes.specs.Cubes.{IsPatternOf}
-use Rattle.redundancy_cert.specs.Fits.{Fits}
-use Rattle.evidence.specs.Evidence.{Shows}
-use Rattle.evidence.specs.Laws.{ShownIsRedundant}
-use Rattle.word_sim.specs.Hits.{IsNeverDetected}
-use Rattle.word_sim.specs.Never.{AreNever}
-use Rattle.list_core.proofs.KeepLemmas.{kept_all}
-use Rattle.list_core.specs.Finished.{AreFinished}
-use Rattle.worker.specs.Working.{NoneOpen}
-use Rattle.list_core.specs.Subjects.{Subject, RepresentsIn, class_count}
-use Rattle.list_core.specs.States.{State, IsTrueList}
+use Rattle.word_sim.specs.Never.{unmarked}
+use Rattle.list_core.specs.declared.goals.Goal.{Goal}
 use Rattle.list_core.specs.declared.verdicts.Verdict.{Verdict}
 use Rattle.list_core.specs.declared.verdicts.Verdict.TheVariants.{Open, Detected, Redundant, Aborted}
-use Rattle.list_core.specs.Verdicts.{VerdictHolds, is_open, verdict_at}
-use Rattle.run_files.specs.inner.Verdicts.{AreVerdicts, IsVerdict, MayHave, is_redundant}
+use Rattle.list_core.specs.Enough.{IsEnough, detected_weight}
+use Rattle.list_core.specs.Finished.{AreFinished}
+use Rattle.list_core.specs.Kept.{IsNeeded}
+use Rattle.list_core.specs.Verdicts.{is_open, one_if_class_detected, verdict_at}
+use Rattle.worker.specs.Working.{IsDone, NoneOpen}
+use Rattle.run_files.specs.Runs.{count_true}
+use Rattle.run_files.specs.declared.asked.AskedClasses.{AskedClasses}
+use Rattle.run_files.specs.inner.Classes.{AreAskedClasses, IsAskedClass, asked_in, detected_in, is_zero}
+use Rattle.run_files.specs.inner.Searches.{AreDetectedMarks, AreFound, AreKnown, AreSearched, IsGoal, IsGoalOf, IsMet, IsSeenBy}
+use Rattle.run_files.specs.inner.Spread.{marked_weight, spread, unmarked_weights}
+use Rattle.run_files.specs.inner.Verdicts.{AreVerdicts, IsVerdict, MayHave}
+use Rattle.run_files.proofs.CountLemmas.{asked_some, some_asked, weighed}
+use Rattle.run_files.proofs.KnownLemmas.{blank, detected_stays, kinds_of, seen_stays, shut_stays, verdicts_of}
+use Rattle.run_files.proofs.SpreadLemmas.{outweighs, spread_each, spread_open, spread_size, spread_weight}
 
-same_fault : (j : Subject) (class : ℕ) (f g : Fault) → RepresentsIn j class f → RepresentsIn j class g → f ≡ g
-same_fault j class f g p q = let both : Some f ≡ Some g = sym p ∙ q in cc
+detected_shut : (v : Verdict) → one_if_class_detected v ≡ 1 → is_open v ≡ false
+detected_shut Open one = absurd (omega arith)
+detected_shut (Detected place point) one = refl
+detected_shut (Redundant e) one = refl
+detected_shut (Aborted tree) one = refl
 
--- a verdict that holds of a class that no kept pattern detects
-held : (j : Subject) (kept : List Pattern) (class : ℕ) (f : Fault) → RepresentsIn j class f → IsNeverDetected j.netlist kept f
-    → (v : Verdict) → is_open v ≡ false → VerdictHolds j kept class v → IsVerdict j.netlist j.holds j.limit kept f v
-held j kept class f represents never Open shut holds = absurd (true≢false shut)
-held j kept class f represents never (Detected place point) shut holds =
-    let same = same_fault j class holds.fault f holds.represents represents in
-    absurd (never place point (record { pattern = holds.pattern; at = holds.at; detects = subst (λ g. Detects j.netlist g holds.pattern.inputs holds.pattern.cells point) same holds.detects }))
-held j kept class f represents never (Redundant e) shut holds =
-    let same = same_fault j class holds.0.fault f holds.0.represents represents in
-    (never, subst (λ g. Shows g j.netlist j.holds e) same holds.0.shows, holds.1)
-held j kept class f represents never (Aborted tree) shut holds =
-    let same = same_fault j class holds.0.fault f holds.0.represents represents in
-    (never, subst (λ g. Fits g j.netlist j.holds tree) same holds.0.shows, holds.1, holds.2)
+one_at_most : (v : Verdict) → one_if_class_detected v ≤ 1
+one_at_most Open = omega arith
+one_at_most (Detected place point) = omega arith
+one_at_most (Redundant e) = omega arith
+one_at_most (Aborted tree) = omega arith
 
-pub verdicts_of : (j : Subject) (s : State) (kept : List Pattern) (verdicts : List Verdict) → IsTrueList j s → NoneOpen s.verdicts → AreFinished j s kept verdicts
-    → AreVerdicts j.netlist j.holds j.classes j.limit kept verdicts
-verdicts_of j s kept verdicts list shut done = record {
-  count = done.count ∙ list.count;
-  obey =
-      let P : List Pattern → Type 0 = λ ps. All (IsPatternOf j.netlist j.holds) ps in
-      subst P (sym done.are_kept.are) (kept_all (IsPatternOf j.netlist j.holds) done.are_kept.needed 0 s.patterns list.patterns);
-  needed = done.needed;
-  each = λ class f represents. elim (done.each class f represents) [
-    | inl found ↦ subst (IsVerdict j.netlist j.holds j.limit kept f) (sym found.2) found.3
-    | inr stays ↦
-        let within = slice_get_within j.classes.representatives class f represents in
-        let closed : is_open (verdict_at verdicts class) ≡ false = ap is_open stays.0 ∙ shut class (omega (arith, within, list.count)) in
-        held j kept class f represents stays.1 (verdict_at verdicts class) closed (done.hold class)
-  ];
-}
+-- ---- of those that are asked for
 
-kind_at : (j : Subject) (kept : List Pattern) (class : ℕ) (v : Verdict) → VerdictHolds j kept class v → MayHave j.refutes v
-kind_at j kept class Open holds = tt
-kind_at j kept class (Detected place point) holds = tt
-kind_at j kept class (Redundant e) holds = holds.0.kind
-kind_at j kept class (Aborted tree) holds = tt
+-- a goal that is reached is enough, with what the marked ones weigh
+reached : (percent asked found before after enough : ℕ) → enough ≡ div_ceil (percent * asked) 100 - found → enough ≤ before → found + before ≤ after → percent * asked ≤ 100 * after
+reached percent asked found before after enough is le sum =
+    let up = div_ceil_times (percent * asked) 100 (omega arith) in
+    let most : percent * asked ≤ div_ceil (percent * asked) 100 * 100 = up.0 in
+    omega arith
 
-pub kinds_of : (j : Subject) (s : State) (kept : List Pattern) (verdicts : List Verdict) → AreFinished j s kept verdicts → All (MayHave j.refutes) verdicts
-kinds_of j s kept verdicts done =
-    All-from_get_or (MayHave j.refutes) verdicts Open (λ class lt. kind_at j kept class (verdict_at verdicts class) (done.hold class))
-
--- ---- no pattern detects a redundant class
-
-pattern_at : (n : Netlist) (holds : Holds) (patterns : List Pattern) → All (IsPatternOf n holds) patterns → (place : ℕ) (p : Pattern) → slice_get patterns place ≡ Some p → IsPatternOf n holds p
-pattern_at n holds patterns all place p at =
-    let lt = slice_get_within patterns place p at in
-    let same : get_or patterns place p ≡ p = (let both : Some (get_or patterns place p) ≡ Some p = sym (slice_get-get_or patterns place p lt) ∙ at in cc) in
-    subst (IsPatternOf n holds) same (all place p lt)
-
-module _ (j : Subject) (patterns : List Pattern) (sound : IsSound j.netlist) (law : ShownIsRedundant) (obey : All (IsPatternOf j.netlist j.holds) patterns) where
-  undetected : (class : ℕ) (f : Fault) → RepresentsIn j class f → (v : Verdict) → is_redundant v ≡ true → VerdictHolds j patterns class v → IsNeverDetected j.netlist patterns f
-  undetected class f represents Open is holds = absurd (true≢false (sym is))
-  undetected class f represents (Detected place point) is holds = absurd (true≢false (sym is))
-  undetected class f represents (Aborted tree) is holds = absurd (true≢false (sym is))
-  undetected class f represents (Redundant e) is holds = λ place point seen.
-      let same = same_fault j class holds.0.fault f holds.0.represents represents in
-      let shows = subst (λ g. Shows g j.netlist j.holds e) same holds.0.shows in
-      let p = pattern_at j.netlist j.holds patterns obey place seen.pattern seen.at in
-      law f j.netlist j.holds e sound shows holds.1 seen.pattern.inputs seen.pattern.cells point p.obeys seen.detects
-
--- one mark more
-pub mark_more : (F : ℕ → Bool) (old new : List Bool) (k : ℕ) (x : Bool) → length old ≡ k → new ≡ old ++ x ∷ [] → x ≡ F k → ((i : ℕ) → i < k → get_or old i false ≡ F i)
-    → (i : ℕ) → i < k + 1 → get_or new i false ≡ F i
-mark_more F old new k x size added is so_far i lt = elim (cases_order i k) [
-  | inl same ↦ ap (λ (bs : List Bool). get_or bs i false) added ∙ (get_or_push old x false i (size ∙ sym same) ∙ (is ∙ ap F (sym same)))
-  | inr o ↦ elim o [
-    | inl lower ↦ ap (λ (bs : List Bool). get_or bs i false) added ∙ (get_or_append_left old (x ∷ []) false i (omega (arith, lower, size)) ∙ so_far i lower)
-    | inr higher ↦ absurd (omega (arith, lt, higher))
-  ]
+ended : (percent : Option ℕ) (asked : ℕ) (weights : List ℕ) (marks : List Bool) (goal : Option Goal) (verdicts new : List Verdict) → IsGoalOf percent asked weights marks goal → IsDone goal verdicts
+    → (NoneOpen verdicts → NoneOpen new)
+    → ((p : ℕ) (g : Goal) → IsGoal p asked weights marks g → IsEnough g verdicts → p * asked ≤ 100 * detected_weight weights new)
+    → NoneOpen new ⊎ IsMet percent asked (detected_weight weights new)
+ended None asked weights marks None verdicts new is done shut met = inl (shut done)
+ended None asked weights marks (Some g) verdicts new is done shut met = absurd is
+ended (Some p) asked weights marks None verdicts new is done shut met = absurd is
+ended (Some p) asked weights marks (Some g) verdicts new is done shut met = elim done [
+  | inl none ↦ inl (shut none)
+  | inr enough ↦ inr (met p g is enough)
 ]
 
-pub never_redundant : (j : Subject) (s : State) → IsSound j.netlist → ShownIsRedundant → IsTrueList j s → (marks : List Bool) → length marks ≡ class_count j
-    → ((k : ℕ) → k < class_count j → get_or marks k false ≡ is_redundant (verdict_at s.verdicts k)) → AreNever j.netlist s.patterns j.classes.representatives marks
-never_redundant j s sound law list marks size each = record {
-  size = size;
-  each = λ k f at marked.
-      let lt = slice_get_within j.classes.representatives k f at in
-      undetected j s.patterns sound law list.patterns k f at (verdict_at s.verdicts k) (sym (each k lt) ∙ marked) (list.hold k);
-}
+module _ (n : Netlist) (holds : Holds) (limit : ℕ) (refutes : Bool) (faults : List Fault) (weights : List ℕ) (first more patterns : List Pattern) (marks : List Bool) (verdicts : List Verdict)
+    (kept : List Pattern) (new : List Verdict) (sized : length weights ≡ length faults) (are : AreDetectedMarks n first faults marks)
+    (known : AreKnown n holds limit refutes (unmarked marks faults) more verdicts) (known_all : AreKnown n holds limit refutes faults patterns (spread marks verdicts))
+    (through : (class : ℕ) (f : Fault) → slice_get faults class ≡ Some f → IsSeenBy n first f → IsSeenBy n patterns f)
+    (done : AreFinished n faults patterns (spread marks verdicts) kept new) where
+  abbrev before : List Verdict
+  before = spread marks verdicts
+
+  first_detected : (class : ℕ) (f : Fault) → slice_get faults class ≡ Some f → IsSeenBy n first f → one_if_class_detected (verdict_at new class) ≡ 1
+  first_detected class f at seen = seen_stays n holds limit refutes faults patterns before known_all kept new done class f at (through class f at seen)
+
+  shut_at : NoneOpen verdicts → (class : ℕ) (f : Fault) → slice_get faults class ≡ Some f → (mark : Bool) → get_or marks class false ≡ mark → is_open (verdict_at new class) ≡ false
+  shut_at none class f at true mark = detected_shut (verdict_at new class) (first_detected class f at ((are.each class f at).0 mark))
+  shut_at none class f at false mark =
+      shut_stays n holds limit refutes faults patterns before known_all kept new done class f at
+      (spread_each (λ (g : Fault) (v : Verdict). is_open v ≡ false) marks faults verdicts are.size
+      (λ i g there. none i (let lt = slice_get_within (unmarked marks faults) i g there in omega (arith, known.count))) class f at mark)
+
+  none_open : NoneOpen verdicts → NoneOpen new
+  none_open none class lt =
+      let at = slice_get-get_or faults class blank (omega (arith, lt, done.count, known_all.count)) in
+      shut_at none class (get_or faults class blank) at (get_or marks class false) refl
+
+  more_at : (class : ℕ) (f : Fault) → slice_get faults class ≡ Some f → (mark : Bool) → get_or marks class false ≡ mark
+      → one_if_class_detected (verdict_at before class) + cond mark 1 0 ≤ one_if_class_detected (verdict_at new class)
+  more_at class f at true mark =
+      let none : one_if_class_detected (verdict_at before class) ≡ 0 = ap one_if_class_detected (spread_open marks verdicts class mark) in
+      let one = first_detected class f at ((are.each class f at).0 mark) in
+      omega arith
+  more_at class f at false mark =
+      let stays = detected_stays n holds limit refutes faults patterns before known_all kept new done class f at in
+      omega arith
+
+  heavy : marked_weight marks weights + detected_weight (unmarked_weights marks weights) verdicts ≤ detected_weight weights new
+  heavy =
+      let sizes : length marks ≡ length weights = omega (arith, are.size, sized) in
+      let left = spread_weight marks weights verdicts sizes in
+      let all = outweighs marks weights before new sizes (omega (arith, known_all.count, sized)) (omega (arith, done.count, known_all.count, sized))
+      (λ class lt.
+      let at = slice_get-get_or faults class blank (omega (arith, lt, sized)) in
+      more_at class (get_or faults class blank) at (get_or marks class false) refl) in
+      omega arith
+
+  met : (asked p : ℕ) (g : Goal) → IsGoal p asked weights marks g → IsEnough g verdicts → p * asked ≤ 100 * detected_weight weights new
+  met asked p g goal enough =
+      let reach : g.enough ≤ detected_weight (unmarked_weights marks weights) verdicts = subst (λ (ws : List ℕ). g.enough ≤ detected_weight ws verdicts) goal.weights_are enough in
+      reached p asked (marked_weight marks weights) (detected_weight (unmarked_weights marks weights) verdicts) (detected_weight weights new) g.enough goal.enough reach heavy
+
+  pub found_of : (percent : Option ℕ) (asked : ℕ) (goal : Option Goal) → IsGoalOf percent asked weights marks goal → IsDone goal verdicts → length kept < 4294967296
+      → AreFound n holds limit refutes percent asked faults weights first kept new
+  found_of percent asked goal is ends few = record {
+    verdicts_are = verdicts_of n holds limit refutes faults patterns before known_all kept new done;
+    kinds = kinds_of n holds limit refutes faults patterns before known_all kept new done;
+    few = few;
+    first_kept = first_detected;
+    done = ended percent asked weights marks goal verdicts new is ends none_open (met asked);
+  }
+
+-- ---- of all classes
+
+among : (ms : List Bool) (fs : List Fault) (f : Fault) → Contains (unmarked ms fs) f → Contains fs f
+among [] fs f c = absurd (contains_nil f c)
+among (m ∷ ms) [] f c = absurd (contains_nil f c)
+among (true ∷ ms) (g ∷ fs) f c = contains_tail g f fs (among ms fs f c)
+among (false ∷ ms) (g ∷ fs) f c = elim (contains_cases g f (unmarked ms fs) c) [
+  | inl same ↦ subst (λ (h : Fault). Contains (g ∷ fs) h) same (contains_head g fs)
+  | inr later ↦ contains_tail g f fs (among ms fs f later)
+]
+
+pub fewer : (ms : List Bool) (fs : List Fault) → length (unmarked ms fs) ≤ length fs
+fewer [] fs = omega arith
+fewer (m ∷ ms) [] = omega arith
+fewer (true ∷ ms) (f ∷ fs) = let rest = fewer ms fs in omega arith
+fewer (false ∷ ms) (f ∷ fs) = let rest = fewer ms fs in omega arith
+
+-- a weight for each
+pub as_many : (ms : List Bool) (fs : List Fault) (ws : List ℕ) → length ws ≡ length fs → length (unmarked_weights ms ws) ≡ length (unmarked ms fs)
+as_many [] fs ws size = refl
+as_many (m ∷ ms) [] [] size = refl
+as_many (m ∷ ms) [] (w ∷ ws) size = absurd (omega arith)
+as_many (m ∷ ms) (f ∷ fs) [] size = absurd (omega arith)
+as_many (true ∷ ms) (f ∷ fs) (w ∷ ws) size = as_many ms fs ws (omega arith)
+as_many (false ∷ ms) (f ∷ fs) (w ∷ ws) size = ap suc (as_many ms fs ws (omega arith))
+
+kinds_spread : (refutes : Bool) (ms : List Bool) (vs : List Verdict) → All (MayHave refutes) vs → All (MayHave refutes) (spread ms vs)
+kinds_spread refutes [] vs may = All-nil (MayHave refutes)
+kinds_spread refutes (true ∷ ms) vs may = All-cons (MayHave refutes) Open (spread ms vs) tt (kinds_spread refutes ms vs may)
+kinds_spread refutes (false ∷ ms) [] may = All-cons (MayHave refutes) Open (spread ms []) tt (kinds_spread refutes ms [] may)
+kinds_spread refutes (false ∷ ms) (v ∷ vs) may =
+    All-cons (MayHave refutes) v (spread ms vs) (All-head (MayHave refutes) v vs may) (kinds_spread refutes ms vs (All-tail (MayHave refutes) v vs may))
+
+some_of : (k : ℕ) → is_zero k ≡ false → 0 < k
+some_of k e = grind (arith, nat_tests)
+
+not_zero : (k : ℕ) → 0 < k → is_zero k ≡ false
+not_zero k lt = grind (arith, nat_tests)
+
+-- past the end all are Open
+open_past : (vs : List Verdict) (k : ℕ) → is_open (verdict_at vs k) ≡ false → k < length vs
+open_past [] k shut = absurd (true≢false shut)
+open_past (v ∷ vs) zero shut = omega arith
+open_past (v ∷ vs) (suc k) shut = let rest = open_past vs k shut in omega arith
+
+module _ (n : Netlist) (holds : Holds) (limit : ℕ) (refutes : Bool) (percent : Option ℕ) (classes : Classes) (marks : List Bool) (first kept : List Pattern) (verdicts : List Verdict)
+    (within : All (λ class. class < length classes.representatives) classes.numbers) (a : AskedClasses) (are : AreAskedClasses classes marks a)
+    (found : AreFound n holds limit refutes percent a.count a.faults.items a.weights.items first kept verdicts) where
+  abbrev others : List Bool
+  others = a.others.items
+
+  abbrev all : List Verdict
+  all = spread others verdicts
+
+  others_size : length others ≡ length classes.representatives
+  others_size = ap length are.others ∙ (length-map are.weights is_zero ∙ are.are_weights.size)
+
+  other_at : (class : ℕ) → class < length classes.representatives → get_or others class false ≡ is_zero (asked_in classes.numbers marks class)
+  other_at class lt =
+      ap (λ (ms : List Bool). get_or ms class false) are.others
+      ∙ (get_or-map is_zero are.weights class 0 false (omega (arith, lt, are.are_weights.size)) ∙ ap is_zero (are.are_weights.each class lt))
+
+  asked_mark : (class : ℕ) → class < length classes.representatives → IsAskedClass classes.numbers marks class → get_or others class false ≡ false
+  asked_mark class lt asked = other_at class lt ∙ not_zero (asked_in classes.numbers marks class) (asked_some classes.numbers marks class asked)
+
+  class_within : (class : ℕ) → IsAskedClass classes.numbers marks class → class < length classes.representatives
+  class_within class asked =
+      let lt = slice_get_within classes.numbers asked.place class asked.of_class in
+      subst (λ k. k < length classes.representatives) (get_or_from_slice_get classes.numbers asked.place class 0 asked.of_class)
+      (All-get_or (λ k. k < length classes.representatives) classes.numbers asked.place 0 lt within)
+
+  -- what is so of each that is asked for is so of its class
+  of_left : (P : Fault → Verdict → Type 0) → ((i : ℕ) (f : Fault) → slice_get a.faults.items i ≡ Some f → P f (verdict_at verdicts i))
+      → (class : ℕ) (f : Fault) → slice_get classes.representatives class ≡ Some f → get_or others class false ≡ false → P f (verdict_at all class)
+  of_left P each class f at mark =
+      spread_each P others classes.representatives verdicts others_size
+      (λ i g there. each i g (ap (λ (fs : List Fault). slice_get fs i) are.faults_are ∙ there)) class f at mark
+
+  verdict_of : (class : ℕ) (f : Fault) → slice_get classes.representatives class ≡ Some f → (mark : Bool) → get_or others class false ≡ mark → IsVerdict n holds limit kept f (verdict_at all class)
+  verdict_of class f at true mark = subst (IsVerdict n holds limit kept f) (sym (spread_open others verdicts class mark)) tt
+  verdict_of class f at false mark = of_left (IsVerdict n holds limit kept) found.verdicts_are.each class f at mark
+
+  asked_of : (class : ℕ) → is_open (verdict_at all class) ≡ false → (mark : Bool) → get_or others class false ≡ mark → IsAskedClass classes.numbers marks class
+  asked_of class shut true mark =
+      let is : is_open (verdict_at all class) ≡ true = ap is_open (spread_open others verdicts class mark) in
+      absurd (true≢false (sym is ∙ shut))
+  asked_of class shut false mark =
+      let inside = open_past all class shut in
+      let lt : class < length classes.representatives = omega (arith, inside, spread_size others verdicts, others_size) in
+      some_asked classes.numbers marks class (some_of (asked_in classes.numbers marks class) (sym (other_at class lt) ∙ mark))
+
+  all_shut : NoneOpen verdicts → (class : ℕ) → IsAskedClass classes.numbers marks class → is_open (verdict_at all class) ≡ false
+  all_shut none class asked =
+      let lt = class_within class asked in
+      of_left (λ (f : Fault) (v : Verdict). is_open v ≡ false)
+      (λ i f there. none i (let low = slice_get_within a.faults.items i f there in omega (arith, found.verdicts_are.count)))
+      class (get_or classes.representatives class blank) (slice_get-get_or classes.representatives class blank lt) (asked_mark class lt asked)
+
+  same_weight : detected_weight a.weights.items verdicts ≡ detected_in classes.numbers marks all
+  same_weight =
+      let size : length others ≡ length are.weights = omega (arith, others_size, are.are_weights.size) in
+      ap (λ (ws : List ℕ). detected_weight ws verdicts) are.weights_are
+      ∙ (sym (spread_weight others are.weights verdicts size)
+      ∙ weighed classes.numbers marks are.weights all (omega (arith, spread_size others verdicts, size))
+      (λ class lt. are.are_weights.each class (omega (arith, lt, spread_size others verdicts, others_size))))
+
+  pub searched_of : AreSearched n holds limit refutes percent classes marks first kept all
+  searched_of = record {
+    verdicts_are = record {
+      count = spread_size others verdicts ∙ others_size;
+      obey = found.verdicts_are.obey;
+      needed = λ place lt.
+          let needed = found.verdicts_are.needed place lt in
+          (needed.0, among others classes.representatives needed.0 (subst (λ (fs : List Fault). Contains fs needed.0) are.faults_are needed.1), needed.2);
+      each = λ class f at. verdict_of class f at (get_or others class false) refl;
+    };
+    kinds = kinds_spread refutes others verdicts found.kinds;
+    few = found.few;
+    asked = λ class shut. asked_of class shut (get_or others class false) refl;
+    first_kept = λ class f at asked seen.
+        of_left (λ (g : Fault) (v : Verdict). IsSeenBy n first g → one_if_class_detected v ≡ 1) (λ i g there now. found.first_kept i g there now) class f at
+        (asked_mark class (class_within class asked) asked) seen;
+    done = elim found.done [
+      | inl none ↦ inl (all_shut none)
+      | inr met ↦ inr (subst (λ count. IsMet percent count (detected_in classes.numbers marks all)) are.count (subst (IsMet percent a.count) same_weight met))
+    ];
+  }
 
 -- ---- few classes
 

@@ -1,5 +1,8 @@
 -- What the contracts of private functions cite.
 pub mod Verdicts
+pub mod Spread
+pub mod Classes
+pub mod Searches
 pub mod Outcomes
 pub mod Reports
 pub mod Written

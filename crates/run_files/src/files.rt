@@ -8,11 +8,13 @@ ghost use Rattle.netlist.specs.Holds.{AreHoldsOf};
 ghost use Rattle.scan_insert.specs.Scanned.{AreChainsOf, scanned_of};
 ghost use Rattle.run_report.specs.Subjects.{IsSubjectOf};
 ghost use Rattle.good_files.specs.ScanOff.{design_chains};
-ghost use Rattle.run_files.specs.Runs.{IsRun};
+ghost use Rattle.run_files.specs.Runs.{IsRun, asked_by};
+ghost use Rattle.statement.specs.Faults.{universe_of};
 ghost use Rattle.run_files.specs.inner.Written.{IsTestText, IsWritten};
 ghost use Rattle.run_files.specs.inner.Verdicts.{AreVerdicts};
 ghost use Rattle.run_files.specs.inner.Reports.{IsSaid};
 
+use crate::asked::{RunPlan, Wanted};
 use crate::leaves::leaves_of;
 use crate::lines::lines_of;
 use crate::reporting::report_of;
@@ -35,16 +37,6 @@ use std::sync::Wait;
 use std::thread::Threads;
 use stil_patterns::stil_of;
 use stil_write::write_stil;
-
-/// How a run goes: at most so many chains, so many workers, at most so many closed ends a search,
-/// and the seed of the bits that cubes leave open.
-#[derive(Clone, Copy)]
-pub struct RunPlan {
-    pub chains: u32,
-    pub workers: u32,
-    pub limit: u32,
-    pub seed: u64,
-}
 
 /// The texts of a run, and its report as a value.
 #[derive(Drop)]
@@ -83,6 +75,7 @@ fn said_of(
     scanned: &Netlist,
     chains: &Chains,
     subject: &Subject,
+    asked: &[bool],
     found: &Finished,
     limit: u32,
     holds: &Holds,
@@ -90,10 +83,11 @@ fn said_of(
     requires chains { AreChainsOf netlist.now chains.now }
     requires scanned { scanned.now ≡ scanned_of netlist.now chains.now }
     requires subject { IsSubjectOf netlist.now subject.now }
+    requires asked { length asked.now ≡ length (universe_of netlist.now) }
     requires held { AreHoldsOf netlist.now holds.now }
-    requires verdicts { AreVerdicts netlist.now holds.now subject.now.classes limit found.now.patterns.items found.now.verdicts.items }
+    requires verdicts { AreVerdicts netlist.now holds.now subject.now.classes.representatives limit found.now.patterns.items found.now.verdicts.items }
     requires few { length found.now.patterns.items < 2 ^ 32 }
-    ensures { IfOk result (IsSaid netlist.now chains.now holds.now subject.now.classes limit found.now.patterns.items found.now.verdicts.items) }
+    ensures { IfOk result (IsSaid netlist.now chains.now holds.now subject.now.classes limit asked.now found.now.patterns.items found.now.verdicts.items) }
 {
     netlist.sound();
     let pins = pin_names(alloc, scanned)?;
@@ -104,6 +98,7 @@ fn said_of(
         &pins,
         &subject.faults,
         &subject.classes,
+        asked,
         found.verdicts.as_slice(),
     )?;
     report_of(
@@ -127,6 +122,7 @@ fn texts_of(
     holds: &Holds,
     chains: &Chains,
     subject: &Subject,
+    asked: &[bool],
     found: Finished,
 ) -> Result<RunFiles, NoMemory>
     requires design { IsDesign core.now }
@@ -134,9 +130,10 @@ fn texts_of(
     requires held { AreHoldsOf core.now holds.now }
     requires chains { chains.now ≡ design_chains core.now plan.chains }
     requires subject { IsSubjectOf core.now subject.now }
-    requires verdicts { AreVerdicts core.now holds.now subject.now.classes plan.limit found.patterns.items found.verdicts.items }
+    requires asked { length asked.now ≡ length (universe_of core.now) }
+    requires verdicts { AreVerdicts core.now holds.now subject.now.classes.representatives plan.limit found.patterns.items found.verdicts.items }
     requires few { length found.patterns.items < 2 ^ 32 }
-    ensures { IfOk result (IsWritten core.now holds.now (design_chains core.now plan.chains) subject.now.classes plan.limit found.patterns.items found.verdicts.items) }
+    ensures { IfOk result (IsWritten core.now holds.now (design_chains core.now plan.chains) subject.now.classes plan.limit asked.now found.patterns.items found.verdicts.items) }
 {
     let netlist = core.netlist();
     netlist.sound();
@@ -148,6 +145,7 @@ fn texts_of(
         scanned.netlist(),
         chains,
         subject,
+        asked,
         &found,
         plan.limit,
         holds,
@@ -179,6 +177,7 @@ pub fn make_files<R: Threads + Wait + Sync, E: Engine + Sync, G: Gate + Sync>(
     plan: RunPlan,
     engine: &E,
     holds: &Holds,
+    wanted: Wanted,
     stage: &G,
 ) -> Result<RunFiles, NoMemory>
     requires design { IsDesign core.now }
@@ -186,23 +185,29 @@ pub fn make_files<R: Threads + Wait + Sync, E: Engine + Sync, G: Gate + Sync>(
     requires limit { (1 ≤ plan.limit) × (plan.limit ≤ most_limit) }
     requires workers { (0 < plan.workers) × (plan.workers ≤ 64) }
     requires held { AreHoldsOf core.now holds.now }
-    ensures { IfOk result (IsRun core.now holds.now plan.chains plan.limit E.refutes) }
+    requires faults { length wanted.faults.items ≡ length (universe_of core.now) }
+    requires first { All (IsPatternOf core.now holds.now) wanted.first.items }
+    requires few { length wanted.first.items < 2 ^ 27 }
+    ensures { IfOk result (IsRun core.now (asked_by plan wanted holds.now E.refutes)) }
 {
     let netlist = core.netlist();
     netlist.sound();
     let chains = stitched(alloc, netlist, plan.chains)?;
     let subject = subject_of(alloc, netlist)?;
+    let Wanted { faults, first } = wanted;
     let found = search(
         rt,
         alloc,
         core,
         &subject.classes,
+        &faults,
+        first,
         plan,
         engine,
         stage,
         holds,
     )?;
-    let files = texts_of(alloc, core, plan, holds, &chains, &subject, found)?;
+    let files = texts_of(alloc, core, plan, holds, &chains, &subject, &faults, found)?;
     written_is_run();
     Ok(files)
 }

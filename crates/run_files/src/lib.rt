@@ -1,18 +1,25 @@
 //! The five files of a run: from a design to its scanned netlist, the test, the certificate and the report.
 //!
-//! Gives: `make_files`, `RunPlan`, `RunFiles`.
+//! Gives: `make_files`, `RunPlan`, `Wanted`, `RunFiles`.
 //! Proved: `make_files`: good files of a design, with the run theorem, for every number of workers and interleaving, searched by any engine that
-//! keeps the trait's contract.
+//! keeps the trait's contract; a line says that its fault wasn't asked for where it wasn't, and elsewhere only where enough are detected; what the
+//! first patterns detect of what is asked for is detected.
 //! Tested: run by `run`.
-//! Neither: how many patterns and aborted faults there are; what passes the stage.
+//! Neither: how many patterns and aborted faults there are; what passes the stage; that a run stops once enough are detected, and that it doesn't
+//! search for what the first patterns detect.
 #![tactic(auto)]
 
+mod asked;
+mod compacting;
 mod files;
+mod first;
 mod leaves;
 mod lines;
 mod reporting;
 mod searching;
+mod spreading;
 mod stitching;
 mod truth;
 
-pub use files::{RunFiles, RunPlan, make_files};
+pub use asked::{RunPlan, Wanted};
+pub use files::{RunFiles, make_files};

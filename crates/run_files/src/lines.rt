@@ -1,4 +1,4 @@
-//! A line for each fault, by its class's verdict.
+//! A line for each fault, by its class's verdict, where it is asked for.
 ghost use Rattle.std.specs.Prelude.{◌≡◌, ◌<◌, ⊤, IfOk, length, map, slice_index};
 ghost use Rattle.std.specs.List.{All};
 ghost use Rattle.statement.specs.Netlists.{signals};
@@ -7,7 +7,7 @@ ghost use Rattle.statement.specs.Runs.{output_name};
 ghost use Rattle.scan_insert.specs.Scanned.{AreChainsOf, scanned_of};
 ghost use Rattle.statement.specs.Faults.{universe_of};
 ghost use Rattle.report.specs.Reports.{IsOutcome, IsBenchWord};
-ghost use Rattle.run_files.specs.inner.Outcomes.{AreLines, IsAdded, IsOutcomeOf};
+ghost use Rattle.run_files.specs.inner.Outcomes.{AreLines, IsAdded, IsOutcomeOf, verdict_said};
 ghost use Rattle.run_files.specs.inner.Verdicts.{IsInside};
 
 use fault_collapse::Classes;
@@ -19,26 +19,34 @@ use run_report::sight_of;
 use scan_insert::Chains;
 use std::alloc::{AllocError, Global};
 
-/// What each fault of a class has in its line behind its name.
+/// What a fault has in its line behind its name.
 #[derive(Clone, Copy)]
 struct Said<'a> {
     outcome: Outcome,
     pin: &'a [u8],
 }
 
+/// What is said of a fault whose class has this verdict.
 fn said_of<'a>(
     netlist: &Netlist,
     chains: &Chains,
     pins: &'a NameTable,
+    asked: bool,
     verdict: &Verdict,
 ) -> Said<'a>
     requires chains { AreChainsOf netlist.now chains.now }
     requires pins { pins.now ≡ map (output_name (scanned_of netlist.now chains.now)) (scanned_of netlist.now chains.now).outputs }
     requires words { All IsBenchWord pins.now }
     requires verdict { IsInside netlist.now verdict.now }
-    ensures outcome { IsOutcomeOf netlist.now chains.now verdict.now result.outcome result.pin.now }
+    ensures outcome { IsOutcomeOf netlist.now chains.now (verdict_said asked verdict.now) result.outcome result.pin.now }
     ensures sound { IsOutcome result.outcome result.pin.now }
 {
+    if !asked {
+        return Said {
+            outcome: Outcome::Unasked,
+            pin: b"",
+        };
+    }
     match verdict {
         Verdict::Detected(place, point) => {
             let sight = sight_of(netlist, chains, pins, *place, *point);
@@ -55,7 +63,10 @@ fn said_of<'a>(
             outcome: Outcome::Aborted,
             pin: b"",
         },
-        Verdict::Open => unreachable!(),
+        Verdict::Open => Said {
+            outcome: Outcome::Unasked,
+            pin: b"",
+        },
     }
 }
 
@@ -67,6 +78,7 @@ fn add_line(
     chains: &Chains,
     pins: &NameTable,
     fault: Fault,
+    asked: bool,
     verdict: &Verdict,
 ) -> Result<FaultLines, AllocError>
     requires chains { AreChainsOf netlist.now chains.now }
@@ -75,12 +87,12 @@ fn add_line(
     requires verdict { IsInside netlist.now verdict.now }
     requires line { IsLineOf netlist.now fault.line }
     requires signal { signal_of fault.line < length (signals netlist.now) }
-    ensures { IfOk result (IsAdded netlist.now chains.now fault verdict.now lines) }
+    ensures { IfOk result (IsAdded netlist.now chains.now fault (verdict_said asked verdict.now) lines) }
 {
     netlist.sound();
     text.clear();
     push_text(text, netlist, fault)?;
-    let said = said_of(netlist, chains, pins, verdict);
+    let said = said_of(netlist, chains, pins, asked, verdict);
     lines.push(text.as_slice(), said.outcome, said.pin)
 }
 
@@ -91,16 +103,17 @@ fn lines_within(
     pins: &NameTable,
     faults: &FaultSet,
     classes: &Classes,
+    asked: &[bool],
     verdicts: &[Verdict],
 ) -> Result<FaultLines, AllocError>
     requires chains { AreChainsOf netlist.now chains.now }
     requires pins { pins.now ≡ map (output_name (scanned_of netlist.now chains.now)) (scanned_of netlist.now chains.now).outputs }
     requires words { All IsBenchWord pins.now }
     requires universe { faults.now ≡ universe_of netlist.now }
-    requires size { length classes.now.numbers ≡ length (universe_of netlist.now) }
+    requires size { (length classes.now.numbers ≡ length (universe_of netlist.now)) × (length asked.now ≡ length (universe_of netlist.now)) }
     requires within { All (λ class. class < length verdicts.now) classes.now.numbers }
     requires inside { All (IsInside netlist.now) verdicts.now }
-    ensures { IfOk result (λ lines. AreLines netlist.now chains.now classes.now.numbers verdicts.now (length (universe_of netlist.now)) lines) }
+    ensures { IfOk result (λ lines. AreLines netlist.now chains.now classes.now.numbers asked.now verdicts.now (length (universe_of netlist.now)) lines) }
 {
     netlist.sound();
     faults_have_signals();
@@ -116,13 +129,14 @@ fn lines_within(
             chains,
             pins,
             faults.fault(i),
+            asked[i as usize],
             verdict,
         )?;
     }
     Ok(lines)
 }
 
-/// The lines of all faults, in order. `pins` has the names of the pins at the scanned netlist's outputs.
+/// The lines of all faults, in order, where these are asked for. `pins` has the names of the pins at the scanned netlist's outputs.
 pub(crate) fn lines_of(
     alloc: Global,
     netlist: &Netlist,
@@ -130,16 +144,20 @@ pub(crate) fn lines_of(
     pins: &NameTable,
     faults: &FaultSet,
     classes: &Classes,
+    asked: &[bool],
     verdicts: &[Verdict],
 ) -> Result<FaultLines, NoMemory>
     requires chains { AreChainsOf netlist.now chains.now }
     requires pins { pins.now ≡ map (output_name (scanned_of netlist.now chains.now)) (scanned_of netlist.now chains.now).outputs }
     requires words { All IsBenchWord pins.now }
     requires universe { faults.now ≡ universe_of netlist.now }
-    requires size { length classes.now.numbers ≡ length (universe_of netlist.now) }
+    requires size { (length classes.now.numbers ≡ length (universe_of netlist.now)) × (length asked.now ≡ length (universe_of netlist.now)) }
     requires within { All (λ class. class < length verdicts.now) classes.now.numbers }
     requires inside { All (IsInside netlist.now) verdicts.now }
-    ensures { IfOk result (λ lines. AreLines netlist.now chains.now classes.now.numbers verdicts.now (length (universe_of netlist.now)) lines) }
+    ensures { IfOk result (λ lines. AreLines netlist.now chains.now classes.now.numbers asked.now verdicts.now (length (universe_of netlist.now)) lines) }
 {
-    lines_within(alloc, netlist, chains, pins, faults, classes, verdicts).map_err(|_| NoMemory)
+    lines_within(
+        alloc, netlist, chains, pins, faults, classes, asked, verdicts,
+    )
+    .map_err(|_| NoMemory)
 }

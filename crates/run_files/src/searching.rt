@@ -1,51 +1,39 @@
-//! The search, by workers, and the compaction of what they found.
-ghost use Rattle.std.specs.Prelude.{◌≡◌, ◌+◌, ◌<◌, ◌≤◌, ◌^◌, ℕ, IfOk, false, length, slice_index_or};
+//! The search, by workers, of the classes that are asked for.
+ghost use Rattle.std.specs.Prelude.{◌≡◌, ◌+◌, ◌<◌, ◌≤◌, ◌^◌, ℕ, IfOk, length};
+ghost use Rattle.std.specs.Option.{option_copied};
 ghost use Rattle.std.specs.List.{All};
 ghost use Rattle.plain_text.specs.Limits.{most_workers};
 ghost use Rattle.statement.specs.declared.lines.Fault.{Fault as FaultOf};
+ghost use Rattle.cubes.specs.Cubes.{IsPatternOf};
 ghost use Rattle.netlist.specs.Designs.{IsDesign};
 ghost use Rattle.netlist.specs.Lines.{IsLineOf};
 ghost use Rattle.netlist.specs.Holds.{AreHoldsOf};
 ghost use Rattle.fault_collapse.specs.Classes.{AreClasses};
 ghost use Rattle.fault_universe.specs.Laws.{most_design_faults};
 ghost use Rattle.list_core.specs.Subjects.{HaveLines, class_count};
-ghost use Rattle.list_core.specs.Verdicts.{verdict_at};
-ghost use Rattle.list_core.specs.Finished.{AreFinished};
-ghost use Rattle.run_files.specs.inner.Verdicts.{AreVerdicts, MayHave, is_redundant};
+ghost use Rattle.worker.specs.Working.{IsDone};
+ghost use Rattle.run_files.specs.inner.Searches.{AreFound, AreKnown, AreSearched};
 
-use crate::files::RunPlan;
+use crate::asked::{AskedClasses, RunPlan, asked_classes};
+use crate::compacting::compact_beside;
+use crate::first::detected_marks;
+use crate::spreading::{goal_of, spread};
+use cubes::Pattern;
 use evidence::{Engine, shown_is_redundant};
 use fault_collapse::Classes;
 use fault_universe::{faults_have_lines, few_faults};
-use list_core::{About, FaultList, Finished, Verdict, compact};
-use netlist::{Core, Holds, NoMemory};
+use fewer_patterns::{Rounds, fewer};
+use list_core::{About, FaultList, Finished, Goal, Verdict};
+use netlist::{Core, Fault, Holds, NoMemory};
 use outside::{Gate, Stage};
-use std::alloc::{AllocError, Global};
+use std::alloc::Global;
 use std::marker::Brand;
 use std::sync::Wait;
 use std::thread::Threads;
-use word_sim::{told_of_all, unmarked};
-use worker::{last_tells_beside, run_all};
+use word_sim::unmarked;
+use worker::run_all;
 
-fn is_redundant(verdict: &Verdict) -> bool
-    ensures { result ≡ is_redundant verdict.now }
-{
-    matches!(verdict, Verdict::Redundant(_))
-}
-
-/// Marks the classes that are Redundant.
-fn redundant_marks<J: About>(alloc: Global, list: &FaultList<J>) -> Result<Vec<bool>, AllocError>
-    ensures size { IfOk result (λ v. length v.items ≡ class_count J.subject) }
-    ensures each { IfOk result (λ v. (k : ℕ) → k < class_count J.subject → slice_index_or v.items k false ≡ is_redundant (verdict_at list.now.verdicts k)) }
-{
-    let mut marks = Vec::with_capacity(alloc, list.count() as usize)?;
-    for class in 0..list.count() {
-        marks.push(is_redundant(list.verdict(class)))?;
-    }
-    Ok(marks)
-}
-
-/// What is passed once the workers have ended: all classes are answered.
+/// What is passed once the workers have ended.
 fn answered<J: About>(list: &FaultList<J>) -> Stage {
     let mut detected = 0u64;
     for class in 0..list.count() {
@@ -58,63 +46,37 @@ fn answered<J: About>(list: &FaultList<J>) -> Stage {
     }
 }
 
-/// The list compacted: each worker goes over a part of the classes for the last pattern that detects each. Redundant ones are left out, since
-/// nothing detects them.
-fn finish_beside<J: About, R: Threads + Sync>(
-    rt: &R,
-    alloc: Global,
-    core: &Core,
-    classes: &Classes,
-    list: FaultList<J>,
-    workers: u32,
-) -> Result<Finished, NoMemory>
-    requires core { core.now ≡ J.subject.netlist }
-    requires classes { classes.now ≡ J.subject.classes }
-    requires lines { HaveLines J.subject }
-    requires few { length list.patterns + 64 ≤ 2 ^ 32 }
-    requires workers { 0 < workers }
-    ensures { IfOk result (λ f. AreFinished J.subject list f.patterns.items f.verdicts.items) }
-{
-    list.true_list();
-    core.netlist().sound();
-    shown_is_redundant();
-    let redundant = redundant_marks(alloc, &list)?;
-    let left = unmarked(alloc, classes.representatives(), &redundant)?;
-    let told = last_tells_beside(rt, alloc, core, &left, list.patterns(), workers)?;
-    let last = told_of_all(alloc, &redundant, &told)?;
-    compact(alloc, list, &last)
-}
-
 /// The search under a name for what the list is about.
 fn search_named<J: About + Send + Sync, E: Engine + Sync, G: Gate + Sync, R: Threads + Wait + Sync>(
     rt: &R,
     alloc: Global,
     core: &Core,
-    classes: &Classes,
+    faults: &[Fault],
     plan: RunPlan,
     engine: &E,
     stage: &G,
     holds: &Holds,
-) -> Result<Finished, NoMemory>
+    goal: Option<&Goal>,
+) -> Result<(Vec<Pattern>, Vec<Verdict>), NoMemory>
     requires core { core.now ≡ J.subject.netlist }
-    requires classes { classes.now ≡ J.subject.classes }
+    requires faults { faults.now ≡ J.subject.faults }
     requires few { class_count J.subject ≤ most_design_faults }
     requires limit { (plan.limit ≡ J.subject.limit) × (1 ≤ plan.limit) }
     requires holds { (holds.now ≡ J.subject.holds) × AreHoldsOf core.now holds.now }
     requires lines { HaveLines J.subject }
     requires kinds { E.refutes ≡ J.subject.refutes }
     requires workers { (0 < plan.workers) × (plan.workers ≤ most_workers) }
-    ensures verdicts { IfOk result (λ f. AreVerdicts core.now holds.now classes.now plan.limit f.patterns.items f.verdicts.items) }
-    ensures kinds { IfOk result (λ f. All (MayHave E.refutes) f.verdicts.items) }
-    ensures few { IfOk result (λ f. length f.patterns.items < 2 ^ 32) }
+    ensures known { IfOk result (λ r. AreKnown core.now holds.now plan.limit E.refutes faults.now r.0.items r.1.items) }
+    ensures done { IfOk result (λ r. IsDone (option_copied goal.entry) r.1.items) }
+    ensures few { IfOk result (λ r. length r.0.items ≤ length faults.now + length faults.now) }
 {
     stage.at(
         0,
         Stage::Begun {
-            count: classes.count() as u64,
+            count: faults.len() as u64,
         },
     );
-    let list = FaultList::<J>::new(alloc, core, classes, plan.limit, holds)?;
+    let list = FaultList::<J>::new(alloc, core, faults, plan.limit, holds)?;
     let list = run_all(
         rt,
         alloc,
@@ -125,15 +87,98 @@ fn search_named<J: About + Send + Sync, E: Engine + Sync, G: Gate + Sync, R: Thr
         plan.workers,
         plan.seed,
         holds,
+        goal,
     )?;
     stage.at(0, answered(&list));
-    finish_beside(rt, alloc, core, classes, list, plan.workers)
+    Ok(list.into_parts())
+}
+
+/// Patterns and verdicts for these faults, each a class of its own.
+fn search_faults<E: Engine + Sync, G: Gate + Sync, R: Threads + Wait + Sync>(
+    rt: &R,
+    alloc: Global,
+    core: &Core,
+    faults: &[Fault],
+    plan: RunPlan,
+    engine: &E,
+    stage: &G,
+    holds: &Holds,
+    goal: Option<&Goal>,
+) -> Result<(Vec<Pattern>, Vec<Verdict>), NoMemory>
+    requires few { length faults.now ≤ most_design_faults }
+    requires limit { 1 ≤ plan.limit }
+    requires held { AreHoldsOf core.now holds.now }
+    requires lines { All (λ (f : FaultOf). IsLineOf core.now f.line) faults.now }
+    requires workers { (0 < plan.workers) × (plan.workers ≤ most_workers) }
+    ensures known { IfOk result (λ r. AreKnown core.now holds.now plan.limit E.refutes faults.now r.0.items r.1.items) }
+    ensures done { IfOk result (λ r. IsDone (option_copied goal.entry) r.1.items) }
+    ensures few { IfOk result (λ r. length r.0.items ≤ length faults.now + length faults.now) }
+{
+    search_named::<Brand, E, G, R>(rt, alloc, core, faults, plan, engine, stage, holds, goal)
+}
+
+/// The patterns that are kept and the verdicts of the classes that are asked for. Those that the first patterns detect aren't searched.
+fn search_asked<E: Engine + Sync, G: Gate + Sync, R: Threads + Wait + Sync>(
+    rt: &R,
+    alloc: Global,
+    core: &Core,
+    asked: &AskedClasses,
+    first: Vec<Pattern>,
+    plan: RunPlan,
+    engine: &E,
+    stage: &G,
+    holds: &Holds,
+) -> Result<Finished, NoMemory>
+    requires few { length asked.now.faults.items ≤ most_design_faults }
+    requires weights { length asked.now.weights.items ≡ length asked.now.faults.items }
+    requires limit { 1 ≤ plan.limit }
+    requires held { AreHoldsOf core.now holds.now }
+    requires lines { All (λ (f : FaultOf). IsLineOf core.now f.line) asked.now.faults.items }
+    requires first { All (IsPatternOf core.now holds.now) first.items × (length first.items < 2 ^ 27) }
+    requires workers { (0 < plan.workers) × (plan.workers ≤ most_workers) }
+    ensures { IfOk result (λ f. AreFound core.now holds.now plan.limit E.refutes plan.percent asked.now.count asked.now.faults.items asked.now.weights.items first.items f.patterns.items f.verdicts.items) }
+{
+    core.netlist().sound();
+    shown_is_redundant();
+    let found = detected_marks(rt, alloc, core, &asked.faults, &first, plan.workers)?;
+    let left = unmarked(alloc, &asked.faults, &found)?;
+    let goal = goal_of(alloc, plan.percent, asked.count, &asked.weights, &found)?;
+    let (mut more, verdicts) = search_faults(
+        rt,
+        alloc,
+        core,
+        &left,
+        plan,
+        engine,
+        stage,
+        holds,
+        goal.as_ref(),
+    )?;
+    let verdicts = spread(alloc, &found, verdicts)?;
+    let mut all = first;
+    all.append(&mut more)?;
+    let rounds = Rounds {
+        count: plan.rounds,
+        workers: plan.workers,
+        seed: plan.seed,
+    };
+    let patterns = fewer(rt, alloc, core, holds, &asked.faults, all, rounds)?;
+    compact_beside(
+        rt,
+        alloc,
+        core,
+        &asked.faults,
+        patterns,
+        verdicts,
+        plan.workers,
+    )
 }
 
 /// Classes are few, and each representative stands on a line of the netlist.
 fn represented(core: &Core, classes: &Classes)
     requires design { IsDesign core.now }
     requires classes { AreClasses core.now classes.now }
+    ensures all { length classes.now.numbers ≤ most_design_faults }
     ensures few { length classes.now.representatives ≤ most_design_faults }
     ensures lines { All (λ (f : FaultOf). IsLineOf core.now f.line) classes.now.representatives }
 {
@@ -142,12 +187,14 @@ fn represented(core: &Core, classes: &Classes)
     faults_have_lines();
 }
 
-/// Verdicts for all classes, by so many workers, and the patterns that are kept.
+/// The patterns that are kept and verdicts for all classes, by so many workers, where these faults are asked for.
 pub(crate) fn search<E: Engine + Sync, G: Gate + Sync, R: Threads + Wait + Sync>(
     rt: &R,
     alloc: Global,
     core: &Core,
     classes: &Classes,
+    faults: &[bool],
+    first: Vec<Pattern>,
     plan: RunPlan,
     engine: &E,
     stage: &G,
@@ -155,13 +202,18 @@ pub(crate) fn search<E: Engine + Sync, G: Gate + Sync, R: Threads + Wait + Sync>
 ) -> Result<Finished, NoMemory>
     requires design { IsDesign core.now }
     requires classes { AreClasses core.now classes.now }
+    requires faults { length faults.now ≡ length classes.now.numbers }
     requires limit { 1 ≤ plan.limit }
     requires held { AreHoldsOf core.now holds.now }
+    requires first { All (IsPatternOf core.now holds.now) first.items × (length first.items < 2 ^ 27) }
     requires workers { (0 < plan.workers) × (plan.workers ≤ most_workers) }
-    ensures verdicts { IfOk result (λ f. AreVerdicts core.now holds.now classes.now plan.limit f.patterns.items f.verdicts.items) }
-    ensures kinds { IfOk result (λ f. All (MayHave E.refutes) f.verdicts.items) }
-    ensures few { IfOk result (λ f. length f.patterns.items < 2 ^ 32) }
+    ensures { IfOk result (λ f. AreSearched core.now holds.now plan.limit E.refutes plan.percent classes.now faults.now first.items f.patterns.items f.verdicts.items) }
 {
     represented(core, classes);
-    search_named::<Brand, E, G, R>(rt, alloc, core, classes, plan, engine, stage, holds)
+    let asked = asked_classes(alloc, classes, faults)?;
+    let Finished { patterns, verdicts } = search_asked(
+        rt, alloc, core, &asked, first, plan, engine, stage, holds,
+    )?;
+    let verdicts = spread(alloc, &asked.others, verdicts)?;
+    Ok(Finished { patterns, verdicts })
 }

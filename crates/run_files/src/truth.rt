@@ -21,6 +21,7 @@ fn written_is_good()
 pub(crate) fn written_is_run()
     ensures { WrittenIsRun }
 {
+    detected_alike();
     written_is_good();
     good_files_tell_the_truth();
     trees_as_before();

@@ -1,4 +1,5 @@
 pub mod CycleLemmas
+pub mod LeftLemmas
 pub mod ListLemmas
 mod SightLemmas
 pub mod WordLemmas

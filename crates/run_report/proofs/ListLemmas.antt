@@ -9,9 +9,9 @@ use Rattle.netlist.specs.Netlist.{is_gate}
 use Rattle.std.proofs.lemmas.Option.{get_or_from_slice_get, slice_get_within}
 use Rattle.std.proofs.lemmas.List.Sums.{sum_by_more}
 use Rattle.statement.specs.declared.outcomes.Outcome.{Outcome}
-use Rattle.statement.specs.declared.outcomes.Outcome.TheVariants.{Detected, Redundant, Aborted}
+use Rattle.statement.specs.declared.outcomes.Outcome.TheVariants.{Detected, Redundant, Aborted, Unasked}
 use Rattle.statement.specs.Reports.{Line}
-use Rattle.run_report.specs.Heads.{one_if_aborted, count_of, one_if_detected, one_if_redundant}
+use Rattle.run_report.specs.Heads.{one_if_aborted, count_of, one_if_detected, one_if_redundant, one_if_unasked}
 
 -- one line more is counted
 pub counted_more : (one : Outcome → ℕ) (lines : List Line) (k : ℕ) (line : Line) (old new : ℕ) → slice_get lines k ≡ Some line
@@ -21,10 +21,11 @@ counted_more one lines k line old new at before after =
     let same = ap (λ (l : Line). one l.outcome) (get_or_from_slice_get lines k line line at) in
     omega (arith, more, same, before, after)
 
-pub one_kind : (o : Outcome) → one_if_detected o + one_if_redundant o + one_if_aborted o ≡ 1
+pub one_kind : (o : Outcome) → one_if_detected o + one_if_redundant o + one_if_aborted o + one_if_unasked o ≡ 1
 one_kind (Detected place cycle) = refl
 one_kind Redundant = refl
 one_kind Aborted = refl
+one_kind Unasked = refl
 
 -- each definition is a gate or a cell
 pub gates_and_cells : (n : Netlist) → length (gates n) + length (cells n) ≡ length n.definitions

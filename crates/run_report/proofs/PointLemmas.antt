@@ -1,5 +1,5 @@
 -- What is detected is seen at points of the netlist.
-use Rattle.std.proofs.Common.{◌≡◌, ℕ, ◌<◌, inl, inr, Bool, List, length, Some, None, sym, ◌∙◌, arith}
+use Rattle.std.proofs.Common.{inl, inr, Bool, List, length, Some, None, sym, ◌∙◌, arith}
 use Rattle.std.proofs.lemmas.Bool.{cases_lt}
 use Rattle.std.proofs.lemmas.List.{length-map}
 use Rattle.std.proofs.lemmas.Option.{slice_get_past}

@@ -8,7 +8,7 @@ use Rattle.statement.specs.Faults.{universe_of}
 use Rattle.fault_collapse.specs.Numbers.{Classes}
 use Rattle.report.specs.declared.counts.ReportCounts.{ReportCounts}
 use Rattle.statement.specs.declared.outcomes.Outcome.{Outcome}
-use Rattle.statement.specs.declared.outcomes.Outcome.TheVariants.{Detected, Redundant, Aborted}
+use Rattle.statement.specs.declared.outcomes.Outcome.TheVariants.{Detected, Redundant, Aborted, Unasked}
 use Rattle.statement.specs.Reports.{Line}
 use Rattle.report.specs.Reports.{Hold, Report}
 use Rattle.run_report.specs.Outcomes.{Test}
@@ -18,16 +18,25 @@ abbrev pub one_if_detected : Outcome → ℕ
 one_if_detected (Detected place cycle) = 1
 one_if_detected Redundant = 0
 one_if_detected Aborted = 0
+one_if_detected Unasked = 0
 
 abbrev pub one_if_redundant : Outcome → ℕ
 one_if_redundant (Detected place cycle) = 0
 one_if_redundant Redundant = 1
 one_if_redundant Aborted = 0
+one_if_redundant Unasked = 0
 
 abbrev pub one_if_aborted : Outcome → ℕ
 one_if_aborted (Detected place cycle) = 0
 one_if_aborted Redundant = 0
 one_if_aborted Aborted = 1
+one_if_aborted Unasked = 0
+
+abbrev pub one_if_unasked : Outcome → ℕ
+one_if_unasked (Detected place cycle) = 0
+one_if_unasked Redundant = 0
+one_if_unasked Aborted = 0
+one_if_unasked Unasked = 1
 
 -- how many lines are of the kind
 abbrev pub count_of : (Outcome → ℕ) → List Line → ℕ
@@ -54,6 +63,7 @@ counts_with n chains faults classes patterns cycles limit lines = record {
   redundant = count_of one_if_redundant lines;
   aborted = count_of one_if_aborted lines;
   untested = count_of one_if_redundant lines + count_of one_if_aborted lines;
+  unasked = count_of one_if_unasked lines;
 }
 
 -- the same in the cycles of a test of stuck lines

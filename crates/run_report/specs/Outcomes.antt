@@ -1,5 +1,5 @@
 -- What a report says of faults, and when it is true. (Detected, redundant and aborted faults: Bushnell and Agrawal, Essentials of Electronic Testing.)
-use Rattle.std.specs.Prelude.{ℕ, ◌≡◌, ◌≢◌, ◌≤◌, ◌<◌, ◌⊎◌, List, [], ◌∷◌, length, Some}
+use Rattle.std.specs.Prelude.{ℕ, suc, ⊤, ◌≡◌, ◌≢◌, ◌≤◌, ◌<◌, ◌⊎◌, ◌==◌, ◌&&◌, ◌||◌, Bool, true, false, cond, List, [], ◌∷◌, length, Some}
 use Rattle.std.specs.List.{slice_get}
 use Rattle.statement.specs.declared.lines.Fault.{Fault}
 use Rattle.statement.specs.declared.lines.Point.{Point}
@@ -18,7 +18,7 @@ use Rattle.evidence.specs.declared.kinds.Evidence.TheVariants.{Tree}
 use Rattle.evidence.specs.Evidence.{Shows, open_ends}
 use Rattle.word_sim.specs.Hits.{IsNeverDetected}
 use Rattle.statement.specs.declared.outcomes.Outcome.{Outcome}
-use Rattle.statement.specs.declared.outcomes.Outcome.TheVariants.{Detected, Redundant, Aborted}
+use Rattle.statement.specs.declared.outcomes.Outcome.TheVariants.{Detected, Redundant, Aborted, Unasked}
 use Rattle.statement.specs.Reports.{Line}
 
 -- A test of a netlist: the inputs that are held, the scan chains, the patterns in their order,
@@ -53,11 +53,12 @@ pub record IsLeft (t : Test) (f representative : Fault) (e : Evidence) : Type 0 
   pub never : IsNeverDetected t.netlist t.patterns f
 
 -- What is said of a fault is true: where it is seen; or evidence that leaves nothing open; or a tree that leaves an end open
--- and has as many closed ends as the backtrack limit.
+-- and has as many closed ends as the backtrack limit. Of a fault that wasn't asked for nothing is claimed.
 abbrev pub IsTrueOf : Test → Fault → Fault → Outcome → List ℕ → Type 0
 IsTrueOf t f representative (Detected place cycle) pin = IsSeen t f place cycle pin
 IsTrueOf t f representative Redundant pin = (e : Evidence) × IsLeft t f representative e × (open_ends e ≡ 0)
 IsTrueOf t f representative Aborted pin = (tree : List Node) × IsLeft t f representative (Tree tree) × (closed_count tree ≡ t.limit) × (1 ≤ open_count tree)
+IsTrueOf t f representative Unasked pin = ⊤
 
 -- the line at a place is that of the fault at this place, and what it says is true
 pub record IsTrueAt (t : Test) (classes : Classes) (lines : List Line) (place : ℕ) : Type 0 where
@@ -81,9 +82,23 @@ pub record AreTrueLines (t : Test) (classes : Classes) (lines : List Line) : Typ
 abbrev pub IsDetected : Netlist → List Pattern → Fault → Type 0
 IsDetected n patterns f = (place : ℕ) × (point : Point) × IsLastDetected n patterns f place point
 
--- those of the faults that no pattern detects, in order
-abbrev pub AreUndetected : Netlist → List Pattern → List Fault → List Fault → Type 0
-AreUndetected n patterns [] left = left ≡ []
-AreUndetected n patterns (f ∷ fs) left =
-    (IsDetected n patterns f × AreUndetected n patterns fs left)
-    ⊎ (IsNeverDetected n patterns f × ((rest : List Fault) × (left ≡ f ∷ rest) × AreUndetected n patterns fs rest))
+-- a line of this outcome rests on evidence
+abbrev pub has_evidence : Outcome → Bool
+has_evidence (Detected place cycle) = false
+has_evidence Redundant = true
+has_evidence Aborted = true
+has_evidence Unasked = false
+
+-- of these lines, whose faults are of these classes, one of the class is of a fault that is redundant or aborted
+abbrev pub is_left : List ℕ → List Line → ℕ → Bool
+is_left [] lines class = false
+is_left (c ∷ cs) [] class = false
+is_left (c ∷ cs) (l ∷ ls) class = ((c == class) && has_evidence l.outcome) || is_left cs ls class
+
+-- the representatives of such classes, in order, where the first one's class is k
+abbrev pub left_from : List ℕ → List Line → ℕ → List Fault → List Fault
+left_from numbers lines k [] = []
+left_from numbers lines k (f ∷ fs) = cond (is_left numbers lines k) (f ∷ left_from numbers lines (suc k) fs) (left_from numbers lines (suc k) fs)
+
+abbrev pub left_of : Classes → List Line → List Fault
+left_of classes lines = left_from classes.numbers lines 0 classes.representatives

@@ -1,7 +1,7 @@
 //! The numbers above the lines of a report.
 ghost use Rattle.std.specs.Prelude.{◌≡◌, ◌+◌, ◌-◌, ◌*◌, ◌<◌, ◌≤◌, ◌^◌};
 ghost use Rattle.scan_insert.specs.Scanned.{AreChainsOf};
-ghost use Rattle.run_report.specs.Heads.{one_if_aborted, count_of, counts_of, counts_with, one_if_detected, one_if_redundant, share_of};
+ghost use Rattle.run_report.specs.Heads.{one_if_aborted, count_of, counts_of, counts_with, one_if_detected, one_if_redundant, one_if_unasked, share_of};
 ghost use Rattle.run_report.specs.inner.Tallies.{AreTallied};
 
 use netlist::Netlist;
@@ -14,31 +14,35 @@ pub struct Tally {
     pub detected: u64,
     pub redundant: u64,
     pub aborted: u64,
+    pub unasked: u64,
 }
 
 impl Tally {
     fn none() -> Tally
-        ensures { (result.detected ≡ 0) × (result.redundant ≡ 0) × (result.aborted ≡ 0) }
+        ensures { (result.detected ≡ 0) × (result.redundant ≡ 0) × (result.aborted ≡ 0) × (result.unasked ≡ 0) }
     {
         Tally {
             detected: 0,
             redundant: 0,
             aborted: 0,
+            unasked: 0,
         }
     }
 
     /// One line more.
     fn with(self, outcome: Outcome) -> Tally
-        requires { self.detected + self.redundant + self.aborted < 2 ^ 64 - 1 }
+        requires { self.detected + self.redundant + self.aborted + self.unasked < 2 ^ 64 - 1 }
         ensures detected { result.detected ≡ self.detected + one_if_detected outcome }
         ensures redundant { result.redundant ≡ self.redundant + one_if_redundant outcome }
         ensures aborted { result.aborted ≡ self.aborted + one_if_aborted outcome }
+        ensures unasked { result.unasked ≡ self.unasked + one_if_unasked outcome }
     {
         let mut tally = self;
         match outcome {
             Outcome::Detected(_, _) => tally.detected += 1,
             Outcome::Redundant => tally.redundant += 1,
             Outcome::Aborted => tally.aborted += 1,
+            Outcome::Unasked => tally.unasked += 1,
         }
         tally
     }
@@ -47,7 +51,7 @@ impl Tally {
 /// Counts lines by their kinds.
 pub fn tally_of(lines: &FaultLines) -> Tally
     ensures kinds { AreTallied lines.now result }
-    ensures fits { result.detected + result.redundant + result.aborted < 2 ^ 64 }
+    ensures fits { result.detected + result.redundant + result.aborted + result.unasked < 2 ^ 64 }
 {
     let mut tally = Tally::none();
     for k in 0..lines.len() {
@@ -97,6 +101,7 @@ pub fn counts_with(
         redundant: tally.redundant,
         aborted: tally.aborted,
         untested: tally.redundant + tally.aborted,
+        unasked: tally.unasked,
     }
 }
 

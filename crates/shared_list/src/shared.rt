@@ -20,7 +20,7 @@ use crate::draws::{Drawer, Word, another, open};
 use crate::locked::{Events, Locked};
 use crate::share::{LedgerParts, Share};
 use evidence::Evidence;
-use list_core::{About, Claim, FaultList, Left, Over, Settling};
+use list_core::{About, Claim, FaultList, Goal, Left, Over, Settling};
 use netlist::NoMemory;
 use std::alloc::{AllocError, Global};
 use std::sync::ledger::{Blank, Ledger};
@@ -174,6 +174,11 @@ impl<J: About, T: Ledger, S: Ledger, P: Ledger, U: Ledger> Shared<J, T, S, P, U>
     /// One hold of the lock.
     pub fn undetected(&self, rt: &impl Wait, alloc: Global) -> Result<Left<J>, NoMemory> {
         self.lock.lock(rt).list.undetected(alloc)
+    }
+
+    /// Whether enough is detected. One hold of the lock.
+    pub fn is_enough(&self, rt: &impl Wait, goal: &Goal) -> bool {
+        self.lock.lock(rt).list.is_enough(goal)
     }
 }
 

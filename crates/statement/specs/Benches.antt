@@ -42,8 +42,7 @@ definition_line z kind pins = z ++ codes " = " ++ word kind ++ codes "(" ++ pin_
 -- the lines of inputs, outputs and definitions, each in the netlist's order
 abbrev pub canonical_lines : Netlist → List (List ℕ)
 canonical_lines n =
-    map (λ x. port_line (codes "INPUT") (name_at n.names x)) n.inputs
-    ++ map (λ x. port_line (codes "OUTPUT") (name_at n.names x)) n.outputs
+    map (λ x. port_line (codes "INPUT") (name_at n.names x)) n.inputs ++ map (λ x. port_line (codes "OUTPUT") (name_at n.names x)) n.outputs
     ++ map (λ (d : Definition). definition_line (name_at n.names d.id) d.kind (map (name_at n.names) d.pins)) n.definitions
 
 -- each line, ended by LF

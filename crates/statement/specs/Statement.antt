@@ -1,12 +1,12 @@
 -- The statement: what five texts of a run say of a chip, whoever made them.
-use Rattle.std.specs.Prelude.{ℕ, ◌≡◌, Bool, false, List, [], ◌∷◌, ◌++◌, length, take, None, ◌≢◌, slice_index, cond, codes, if◌then◌else◌, Option, Some, map}
+use Rattle.std.specs.Prelude.{ℕ, ◌≡◌, Bool, false, List, [], ◌∷◌, ◌++◌, length, take, None, ◌≢◌, slice_index, cond, codes, if◌then◌else◌, Option, Some, map, ⊤}
 use Rattle.std.specs.List.{All, AllPairs, Contains, EachIndex, flat_map, slice_get, zip}
 use Rattle.statement.specs.declared.lines.Fault.{Fault}
 use Rattle.statement.specs.declared.lines.Line.{Line as Lead}
 use Rattle.statement.specs.declared.lines.Line.TheVariants.{Stem, Pin, Out}
 use Rattle.statement.specs.declared.lines.Point.{Point}
 use Rattle.statement.specs.declared.outcomes.Outcome.{Outcome}
-use Rattle.statement.specs.declared.outcomes.Outcome.TheVariants.{Detected, Redundant, Aborted}
+use Rattle.statement.specs.declared.outcomes.Outcome.TheVariants.{Detected, Redundant, Aborted, Unasked}
 use Rattle.statement.specs.Netlists.{Netlist, Definition, signals, IsName, is_cell, name_of, cells}
 use Rattle.statement.specs.Values.{Settles, bits, outs, next, bit_table}
 use Rattle.statement.specs.Patterns.{Holds, Obeys, Pattern, IsLastDetected}
@@ -66,13 +66,14 @@ module _ (n : Netlist) (holds : Holds) (chains : List (List ℕ)) (scanned : Net
       → Runs bit_table None scanned state driven good → Runs bit_table (Some moved) scanned state driven faulty → good ≡ faulty
 
   -- What a line says of a fault comes true on the tester. Detected: by the last pattern that detects it, at its first point; in the cycle and at
-  -- the pin at which that is strobed the test fails on the netlist with the fault. Redundant: nothing tells it. Aborted: the test passes on it.
+  -- the pin at which that is strobed the test fails on the netlist with the fault. Redundant: nothing tells it. Aborted: the test passes on it. Unasked: nothing.
   abbrev pub ComesTrue : Fault → Fault → Outcome → List ℕ → Type 0
   ComesTrue f moved (Detected place cycle) pin =
       (point : Point) × (output : ℕ) × IsLastDetected n patterns f place point × IsStrobedAt n chains place point cycle output
       × (pin ≡ output_name scanned (slice_index scanned.outputs output)) × FailsAt scanned (Some moved) cycles cycle output
   ComesTrue f moved Redundant pin = IsNeverTold moved
   ComesTrue f moved Aborted pin = Passes scanned (Some moved) cycles
+  ComesTrue f moved Unasked pin = ⊤
 
 -- Five texts of a netlist with these inputs held and its cells in these chains: its own; that of a scanned one, which behaves as it does with scan off;
 -- the test by some patterns, which passes on the scanned one and runs there from each power-up state, with any fault or none; and a report that ends with

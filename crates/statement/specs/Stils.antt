@@ -116,8 +116,7 @@ procedures_by (suc n) f =
 abbrev pub stil_text : StilFile → Text
 stil_text f =
     codes "STIL 1.0;\nHeader {\n  Title \"full scan test\";\n}\nSignals {\n" ++ (signals_text f
-    ++ ((codes "SignalGroups {\n" ++ (group_line (codes "SC__pi") f.pi ++ (group_line (codes "SC__po") f.po ++ codes "}\n")))
-    ++ (timing_text f ++ (structures_text f.chains
-    ++ (codes "PatternBurst \"burst\" {\n  PatList { \"pattern\"; }\n}\nPatternExec {\n  PatternBurst \"burst\";\n}\n" ++ (procedures_by (length f.chains) f
-    ++ (codes "Pattern \"pattern\" {\n  W \"wft\";\n"
+    ++ ((codes "SignalGroups {\n" ++ (group_line (codes "SC__pi") f.pi ++ (group_line (codes "SC__po") f.po ++ codes "}\n"))) ++ (timing_text f
+    ++ (structures_text f.chains ++ (codes "PatternBurst \"burst\" {\n  PatList { \"pattern\"; }\n}\nPatternExec {\n  PatternBurst \"burst\";\n}\n"
+    ++ (procedures_by (length f.chains) f ++ (codes "Pattern \"pattern\" {\n  W \"wft\";\n"
     ++ (flat_map (λ item. codes "  " ++ item_text (called (length f.chains)) (assigned (length f.chains)) item) f.items ++ codes "}\n"))))))))

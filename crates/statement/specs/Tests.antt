@@ -107,8 +107,7 @@ applied_items chains held (test ∷ tests) = load_items chains test.0.cells held
 abbrev pub test_items : List (List ℕ) → List (Pattern × Response) → List Item
 test_items chains tests =
     let nothing = replicate (length (cells_of chains)) X in
-    load_items chains (flush chains) nothing
-    ++ load_items chains (map not (flush chains)) (map known (flush chains))
+    load_items chains (flush chains) nothing ++ load_items chains (map not (flush chains)) (map known (flush chains))
     ++ load_items chains (replicate (length (cells_of chains)) false) (map known (map not (flush chains)))
     ++ applied_items chains nothing tests
 

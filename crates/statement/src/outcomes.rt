@@ -7,4 +7,5 @@ pub enum Outcome {
     Detected(u64, u64),
     Redundant,
     Aborted,
+    Unasked,
 }

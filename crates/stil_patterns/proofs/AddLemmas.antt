@@ -11,7 +11,7 @@ use Rattle.statement.specs.Patterns.{Holds, Pattern}
 use Rattle.netlist.specs.Holds.{AreHoldsOf}
 use Rattle.netlist.specs.Conditions.{IsSound}
 use Rattle.statement.specs.Values.{known}
-use Rattle.statement.specs.Tests.{cells_of, Responds, flush, applied_items, capture_item, char_of_value, file_with, load_items, shift_word_of, test_items, IsFileOf}
+use Rattle.statement.specs.Tests.{cells_of, Responds, applied_items, capture_item, char_of_value, file_with, load_items, shift_word_of, test_items, IsFileOf}
 use Rattle.statement.specs.Runs.{output_name}
 use Rattle.scan_play.proofs.Applied.{taken_count}
 use Rattle.scan_play.proofs.TestLists.{none_applied, one_applied, all_applied}

@@ -1,10 +1,10 @@
 -- The file of patterns is a file.
-use Rattle.std.proofs.Common.{◌≡◌, ◌≢◌, ◌∙◌, ◌+◌, ◌-◌, ◌<◌, ◌≤◌, ◌==◌, ◌||◌, ◌&&◌, not, ℕ, zero, suc, min, Bool, true, false, cond, List, [], ◌∷◌, ◌++◌, ap, sym, refl, subst, append_assoc, append-nil, length, map, take, drop, get_or, arith, codes, decimal, length-append, replicate, reverse}
+use Rattle.std.proofs.Common.{◌≡◌, ◌≢◌, ◌∙◌, ◌+◌, ◌-◌, ◌<◌, ◌≤◌, ◌==◌, ◌||◌, ◌&&◌, not, ℕ, zero, suc, Bool, true, false, cond, List, [], ◌∷◌, ◌++◌, ap, sym, refl, subst, append_assoc, append-nil, length, map, take, drop, get_or, arith, codes, length-append, replicate, reverse}
 use Rattle.std.specs.Prelude.{IsTrue, None, nat_le}
-use Rattle.std.specs.List.{All, AllPairs, AllZip, Contains, filter, list_any, remove, zip}
-use Rattle.std.proofs.lemmas.List.{length-map, length-replicate, length-reverse, length-take, drop_at, take_at, get_or_default}
+use Rattle.std.specs.List.{All, AllPairs, AllZip, list_any, remove, zip}
+use Rattle.std.proofs.lemmas.List.{length-map, length-replicate, length-reverse, length-take, take_at, get_or_default}
 use Rattle.std.proofs.lemmas.Option.{slice_get-get_or}
-use Rattle.std.proofs.lemmas.List.Elements.{All-append, All-cons, All-drop, All-filter, All-head, All-map, All-nil, All-tail, All-take, All-contains, All-weaker}
+use Rattle.std.proofs.lemmas.List.Elements.{All-append, All-cons, All-drop, All-head, All-map, All-nil, All-tail, All-take, All-weaker}
 use Rattle.std.proofs.lemmas.List.Quantifiers.{all_pairs_remove}
 use Rattle.statement.specs.Benches.{Text}
 use Rattle.statement.specs.declared.kinds.Tri.{Tri}
@@ -19,8 +19,7 @@ use Rattle.statement.specs.Values.{known}
 use Rattle.netlist.proofs.Alike.{zip_append}
 use Rattle.netlist.proofs.Settling.{cells_below, inputs_below}
 use Rattle.cubes.specs.Cubes.{IsPatternOf}
-use Rattle.statement.specs.Tests.{cells_of, longest_of, by_chain, held_or_zero, word_in, word_out, Response, Responds, flush, applied_items, capture_item, char_of_bit, char_of_value, load_items, shift_word_of, test_items, IsFileOf}
-use Rattle.scan_insert.specs.Chains.{chains_of}
+use Rattle.statement.specs.Tests.{cells_of, longest_of, by_chain, held_or_zero, word_in, word_out, Response, Responds, flush, applied_items, capture_item, char_of_bit, char_of_value, load_items, test_items, IsFileOf}
 use Rattle.scan_insert.proofs.Dealing.{stitched_cells, stitched_count, stitched_filled}
 use Rattle.statement.specs.Runs.{output_name}
 use Rattle.scan_insert.specs.Named.{HasTesterNames, tester_names}
@@ -32,8 +31,8 @@ use Rattle.scan_insert.proofs.TesterNames.{tester_names_differ}
 use Rattle.scan_play.specs.Shifts.{idle_inputs}
 use Rattle.stil_write.specs.declared.forms.Form.{Form}
 use Rattle.stil_write.specs.declared.forms.CharKind.TheVariants as values
-use Rattle.statement.specs.Stils.{Call, Item, StilFile, Vector, numbered, where_chained}
-use Rattle.stil_write.specs.StilFiles.{IsStilCall, IsItem, IsStilName, IsStilFile, IsWord, call_forms, is_stil_name_byte, is_value, declared_signals, vector_forms}
+use Rattle.statement.specs.Stils.{Call, StilFile, Vector, numbered, where_chained}
+use Rattle.stil_write.specs.StilFiles.{IsStilCall, IsItem, IsStilName, IsStilFile, IsWord, is_stil_name_byte, is_value, declared_signals}
 use Rattle.stil_vectors.specs.TestFiles.{load_words, test_file, text_of_bits, text_of_values}
 use Rattle.stil_vectors.specs.Fitting.{FitsNetlist}
 use Rattle.scan_play.proofs.Widths.{scanned_cells_count}

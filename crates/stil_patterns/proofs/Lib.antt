@@ -4,6 +4,7 @@ mod WordLemmas
 mod AddLemmas
 mod BackLemmas
 mod OnceLemmas
+mod PickLemmas
 mod ReadLemmas
 mod SameLemmas
 mod SizeLemmas

@@ -1,10 +1,9 @@
 -- The names of a test's file are those of the pins of the scanned netlist.
-use Rattle.std.proofs.Common.{◌≡◌, ◌≢◌, ◌∙◌, ◌+◌, ◌-◌, ◌<◌, ◌≤◌, ◌==◌, ◌||◌, ◌&&◌, not, ltb, ℕ, zero, suc, Bool, true, false, cond, List, [], ◌∷◌, ◌++◌, ap, sym, refl, subst, inl, inr, append_assoc, append-nil, length, map, take, drop, get_or, arith, codes, decimal, length-append}
-use Rattle.std.specs.Prelude.{IsTrue, nat_le}
-use Rattle.std.specs.List.{All, AllPairs, Contains, list_any}
+use Rattle.std.proofs.Common.{◌≡◌, ◌∙◌, ◌+◌, ◌-◌, ◌<◌, ◌≤◌, ◌==◌, ltb, ℕ, zero, suc, Bool, true, false, cond, List, [], ◌∷◌, ◌++◌, ap, sym, refl, subst, inl, inr, length, map, drop, get_or, arith, codes, decimal, length-append}
+use Rattle.std.specs.List.{All, Contains, list_any}
 use Rattle.std.proofs.lemmas.Bool.{cases_lt, lt-ltb, le-ltb}
 use Rattle.std.proofs.lemmas.List.{length-map, map-append, map_push, get_or-append_right, drop_at}
-use Rattle.std.proofs.lemmas.List.Elements.{All-append, All-cons, All-nil, All-contains, All-weaker}
+use Rattle.std.proofs.lemmas.List.Elements.{All-cons, All-nil, All-contains, All-weaker}
 use Rattle.statement.specs.Benches.{Text}
 use Rattle.statement.specs.Netlists.{Definition, Netlist, cells, is_cell, name_of, signals}
 use Rattle.netlist.specs.Conditions.{IsSound}
@@ -12,9 +11,8 @@ use Rattle.netlist.specs.Designs.{IsDesign}
 use Rattle.netlist.proofs.Placed.{signals_length}
 use Rattle.scan_insert.specs.declared.sites.Site.{Site}
 use Rattle.statement.specs.Runs.{numbers_from, output_name}
-use Rattle.scan_insert.specs.Named.{HasSiteNames, HasScanNames, HasTesterNames, tester_names}
 use Rattle.scan_insert.specs.Scan.{scanned}
-use Rattle.scan_insert.specs.Scanned.{AreChainsOf, first_definition, first_scan_out, naming_of, own_site, scanned_of, site, sites_from, sites_of}
+use Rattle.scan_insert.specs.Scanned.{AreChainsOf, first_definition, first_scan_out, naming_of, own_site, site, sites_from, sites_of}
 use Rattle.scan_insert.proofs.ByNames.{scanned_by_names, sites_have_names}
 use Rattle.scan_insert.proofs.Numbers.{contains_numbers, length-numbers_from, then_one}
 use Rattle.scan_insert.proofs.Placing.{length-sites_from, out_numbers, site_of_input}

@@ -1,23 +1,23 @@
 -- One file for patterns, and one list of patterns for a file.
-use Rattle.std.proofs.Common.{◌≡◌, ◌∙◌, ℕ, suc, Bool, List, [], ◌∷◌, ◌++◌, ap, sym, refl, subst, length, map, arith, None}
+use Rattle.std.proofs.Common.{◌≡◌, ◌∙◌, ℕ, suc, Bool, List, [], ◌∷◌, ◌++◌, ap, sym, refl, subst, arith, None}
 use Rattle.std.specs.List.{All, AllZip, Contains, flat_map, zip}
 use Rattle.std.proofs.lemmas.List.Elements.{All-contains}
 use Rattle.statement.specs.declared.lines.Line.TheVariants.{Out}
 use Rattle.statement.specs.Netlists.{Definition, Netlist, cells, is_cell, signals}
 use Rattle.netlist.specs.Conditions.{IsSound}
 use Rattle.statement.specs.Patterns.{Holds, Pattern}
-use Rattle.statement.specs.Values.{Rule, Settles, bits, next, on_pins, outs, pins_of}
+use Rattle.statement.specs.Values.{bits, on_pins, pins_of}
 use Rattle.netlist.proofs.Alike.{settles_once}
 use Rattle.std.specs.Bool.{beq}
 use Rattle.netlist.proofs.Lists.{contains_filter, decides_beq}
 use Rattle.cubes.specs.Cubes.{IsPatternOf}
 use Rattle.scan_insert.specs.Scanned.{AreChainsOf}
 use Rattle.statement.specs.Tests.{Response, Responds, IsFileOf}
-use Rattle.statement.specs.Stils.{Item, StilFile}
+use Rattle.statement.specs.Stils.{StilFile}
 use Rattle.stil_vectors.specs.TestFiles.{test_file}
 use Rattle.stil_patterns.specs.Laws.{OneFile, OnePatternList}
-use Rattle.stil_patterns.specs.inner.Reading.{patterns_in}
-use Rattle.stil_patterns.proofs.BackLemmas.{file_back}
+use Rattle.stil_patterns.specs.Applied.{applied_in}
+use Rattle.stil_patterns.proofs.BackLemmas.{taken_back}
 use Rattle.stil_patterns.proofs.NameLemmas.{map_agree}
 
 flat_agree : {X Y : Type 0} (f g : X → List Y) (xs : List X) → ((x : X) → Contains xs x → f x ≡ g x) → flat_map f xs ≡ flat_map g xs
@@ -56,22 +56,14 @@ pub one_file : OneFile
 one_file n holds chains patterns f g sound h k =
     h.is ∙ (ap (λ (rs : List Response). test_file n holds chains (zip patterns rs)) (all_once n sound patterns h.responses k.responses h.respond k.respond) ∙ sym k.is)
 
+applies : (n : Netlist) (holds : Holds) (chains : List (List ℕ)) (ps : List Pattern) (f : StilFile) → AreChainsOf n chains → All (IsPatternOf n holds) ps → IsFileOf n holds chains ps f → applied_in n holds chains f ≡ ps
+applies n holds chains ps f are obey h = taken_back n n holds holds chains chains ps f are are refl refl obey h
+
 pub one_pattern_list : OnePatternList
-one_pattern_list n holds chains patterns others f sound are obey also h k =
-    sym (file_back n holds chains patterns f are obey h) ∙ file_back n holds chains others f are also k
+one_pattern_list n holds chains patterns others f sound are obey also h k = sym (applies n holds chains patterns f are obey h) ∙ applies n holds chains others f are also k
 
--- ---- patterns that were read
-
-read_is : (n : Netlist) (holds : Holds) (chains : List (List ℕ)) (f : StilFile) (items : List Item) (read ps : List Pattern) (inputs : ℕ) → AreChainsOf n chains → read ≡ patterns_in chains inputs items → inputs ≡ length n.inputs
-    → items ≡ f.items → All (IsPatternOf n holds) ps → IsFileOf n holds chains ps f → read ≡ ps
-read_is n holds chains f items read ps inputs are is e i obey h =
-    is ∙ (ap (λ k. patterns_in chains k items) e ∙ (ap (λ (xs : List Item). patterns_in chains (length n.inputs) xs) i ∙ file_back n holds chains ps f are obey h))
-
-pub none_obey : (n : Netlist) (holds : Holds) (chains : List (List ℕ)) (f : StilFile) (items : List Item) (read : List Pattern) (inputs : ℕ) → AreChainsOf n chains → read ≡ patterns_in chains inputs items → inputs ≡ length n.inputs
-    → items ≡ f.items → (All (IsPatternOf n holds) read → ⊥) → (ps : List Pattern) → All (IsPatternOf n holds) ps → IsFileOf n holds chains ps f → ⊥
-none_obey n holds chains f items read inputs are is e i none ps obey h = none (subst (All (IsPatternOf n holds)) (sym (read_is n holds chains f items read ps inputs are is e i obey h)) obey)
-
-pub none_has : (n : Netlist) (holds : Holds) (chains : List (List ℕ)) (f own : StilFile) (items : List Item) (read : List Pattern) (inputs : ℕ) → IsSound n → AreChainsOf n chains → read ≡ patterns_in chains inputs items → inputs ≡ length n.inputs
-    → items ≡ f.items → IsFileOf n holds chains read own → (own ≡ f → ⊥) → (ps : List Pattern) → All (IsPatternOf n holds) ps → IsFileOf n holds chains ps f → ⊥
-none_has n holds chains f own items read inputs sound are is e i made none ps obey h =
-    none (one_file n holds chains read own f sound made (subst (λ (qs : List Pattern). IsFileOf n holds chains qs f) (sym (read_is n holds chains f items read ps inputs are is e i obey h)) h))
+-- the file of what another one applies is that other, or the other is that of no patterns
+pub none_has : (n : Netlist) (holds : Holds) (chains : List (List ℕ)) (f own : StilFile) (read : List Pattern) → IsSound n → AreChainsOf n chains → read ≡ applied_in n holds chains f
+    → IsFileOf n holds chains read own → (own ≡ f → ⊥) → (ps : List Pattern) → All (IsPatternOf n holds) ps → IsFileOf n holds chains ps f → ⊥
+none_has n holds chains f own read sound are is made none ps obey h =
+    none (one_file n holds chains read own f sound made (subst (λ (qs : List Pattern). IsFileOf n holds chains qs f) (sym (is ∙ applies n holds chains ps f are obey h)) h))

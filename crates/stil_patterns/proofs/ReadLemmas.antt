@@ -1,13 +1,19 @@
 -- Patterns as they are read, word by word.
-use Rattle.std.proofs.Common.{◌≡◌, ◌∙◌, ◌+◌, ◌-◌, ◌*◌, ◌<◌, ◌≤◌, ◌==◌, ℕ, zero, suc, min, Bool, true, false, List, [], ◌∷◌, ◌++◌, ap, sym, refl, subst, append_assoc, append-nil, length, map, take, drop, get_or, arith, reverse, Some, slice_get}
-use Rattle.std.proofs.lemmas.List.{drop_more, get_or-drop, get_or-map, get_or-reverse, length-drop, length-map, length-reverse, take_min, take_more}
+use Rattle.std.proofs.Common.{◌≡◌, ◌∙◌, ◌+◌, ◌-◌, ◌<◌, ◌≤◌, ◌==◌, ℕ, zero, suc, min, Bool, false, List, [], ◌∷◌, ◌++◌, ap, sym, refl, append_assoc, append-nil, length, take, drop, get_or, arith, reverse, Some, slice_get}
+use Rattle.std.specs.List.{filter, flat_map, zip}
+use Rattle.std.proofs.lemmas.List.{get_or-drop, get_or-map, get_or-reverse, length-map, length-reverse, take_all, take_min, take_more}
+use Rattle.std.proofs.lemmas.List.Concat.{flat_map-append}
+use Rattle.std.proofs.lemmas.List.Elements.{filter-append}
+use Rattle.std.proofs.lemmas.Slice.Zip.{get_or-zip, length-zip}
 use Rattle.statement.specs.Benches.{Text}
-use Rattle.statement.specs.Patterns.{Pattern}
-use Rattle.statement.specs.Stils.{Item, Vector}
+use Rattle.statement.specs.Netlists.{Netlist}
+use Rattle.statement.specs.Patterns.{Holds, Pattern}
+use Rattle.statement.specs.Stils.{Call, Item, StilFile, Vector}
 use Rattle.stil_write.specs.StilFiles.{item_at, words_of}
 use Rattle.statement.specs.Tests.{driven_bit}
 use Rattle.stil_vectors.specs.FileVectors.{bits_of}
-use Rattle.stil_patterns.specs.inner.Reading.{cells_in, chain_in, pattern_in, tests_in}
+use Rattle.stil_patterns.specs.Applied.{cells_in, chain_in, inputs_in, is_pattern, pattern_in, test_in, tests_in}
+use Rattle.stil_patterns.specs.inner.Reading.{item_before}
 
 -- ---- characters
 
@@ -34,6 +40,10 @@ inputs_more word k b found new l is h pushed =
     let at : get_or (bits_of word) k false ≡ (b == 49) = get_or-map driven_bit word k 0 false l ∙ ap driven_bit (sym is) in
     pushed ∙ (ap (λ (x : List Bool). x ++ (b == 49) ∷ []) h ∙ (ap (λ v. take k (bits_of word) ++ v ∷ []) (sym at) ∙ sym (take_more (bits_of word) k false (omega (arith, size, l)))))
 
+pub inputs_end : (count : ℕ) (word : Text) (k once : ℕ) (found : List Bool) → once ≡ min count 1 → k ≡ length word - once → found ≡ take k (bits_of word) → found ≡ inputs_in count word
+inputs_end zero word k once found o e h = let size = length-map word driven_bit in h ∙ take_all k (bits_of word) (omega (arith, o, e, size))
+inputs_end (suc count) word k once found o e h = let last : k ≡ length word - 1 = omega (arith, o, e) in h ∙ ap (λ j. take j (bits_of word)) last
+
 -- ---- chains
 
 cells_more : (chains : List (List ℕ)) (c : ℕ) (chain : List ℕ) (words : List Text) → slice_get chains c ≡ Some chain
@@ -57,23 +67,57 @@ read_more chains c chain words word found new e is h pushed =
 
 -- ---- tests
 
-pub tests_more : (chains : List (List ℕ)) (inputs : ℕ) (items : List Item) (i next : ℕ) (p : Pattern) (old new all : List Pattern) → i + 1 < length items → next ≡ i + 2
-    → p ≡ pattern_in chains inputs (words_of (item_at items i)) (words_of (item_at items (i + 1)))
-    → old ++ tests_in chains inputs (drop i items) ≡ all → new ≡ old ++ p ∷ [] → new ++ tests_in chains inputs (drop next items) ≡ all
-tests_more chains inputs items i next p old new all l two is h pushed =
-    let far : i + 1 + 1 ≡ next = omega (arith, two) in
-    let split : drop i items ≡ item_at items i ∷ item_at items (i + 1) ∷ drop next items =
-    drop_more items i (Vector []) (omega (arith, l)) ∙ (ap (λ (x : List Item). item_at items i ∷ x) (drop_more items (i + 1) (Vector []) l) ∙ ap (λ k. item_at items i ∷ item_at items (i + 1) ∷ drop k items) far) in
-    let rest = tests_in chains inputs (drop next items) in
-    ap (λ (x : List Pattern). x ++ rest) pushed ∙ (append_assoc old (p ∷ []) rest
-    ∙ (ap (λ (q : Pattern). old ++ q ∷ rest) is ∙ (sym (ap (λ (x : List Item). old ++ tests_in chains inputs x) split) ∙ h)))
+-- without chains no load matters
+before_first : (count : ℕ) (chains : List (List ℕ)) (item : Item) (load words vector : List Text) (p : Pattern) → test_in count chains (Vector []) item ≡ p ∷ []
+    → pattern_in count chains load vector ≡ pattern_in count chains words vector
+before_first count [] item load words vector p e = refl
+before_first count (chain ∷ chains) (Call own) load words vector p e = cc
+before_first count (chain ∷ chains) (Vector own) load words vector p e = cc
 
-tests_short : (chains : List (List ℕ)) (inputs : ℕ) (items : List Item) → length items ≤ 1 → tests_in chains inputs items ≡ []
-tests_short chains inputs [] l = refl
-tests_short chains inputs (load ∷ []) l = refl
-tests_short chains inputs (load ∷ capture ∷ items) l = absurd (omega (arith, l))
+load_before : (count : ℕ) (chains : List (List ℕ)) (items : List Item) (place load : ℕ) (p : Pattern) → load ≡ place - 1 → test_in count chains (item_before items place) (item_at items place) ≡ p ∷ []
+    → pattern_in count chains (words_of (item_at items load)) (words_of (item_at items place)) ≡ pattern_in count chains (words_of (item_before items place)) (words_of (item_at items place))
+load_before count chains items zero load p e t = before_first count chains (item_at items 0) (words_of (item_at items load)) [] (words_of (item_at items 0)) p t
+load_before count chains items (suc k) load p e t =
+    let same : load ≡ k = omega (arith, e) in
+    ap (λ j. pattern_in count chains (words_of (item_at items j)) (words_of (item_at items (suc k)))) same
 
-pub tests_end : (chains : List (List ℕ)) (inputs : ℕ) (items : List Item) (i : ℕ) (old all : List Pattern) → length items ≤ i + 1 → old ++ tests_in chains inputs (drop i items) ≡ all → old ≡ all
-tests_end chains inputs items i old all l h =
-    let left = length-drop i items in
-    sym (append-nil old) ∙ (sym (ap (λ (x : List Pattern). old ++ x) (tests_short chains inputs (drop i items) (omega (arith, left, l)))) ∙ h)
+pub test_at : (chains : List (List ℕ)) (f : StilFile) (items : List Item) (count place load : ℕ) (p : Pattern) → items ≡ f.items → count ≡ length f.chains → load ≡ place - 1
+    → ((k : ℕ) → test_in k chains (item_before items place) (item_at items place) ≡ pattern_in k chains (words_of (item_before items place)) (words_of (item_at items place)) ∷ [])
+    → p ≡ pattern_in count chains (words_of (item_at items load)) (words_of (item_at items place))
+    → test_in (length f.chains) chains (item_before f.items place) (item_at f.items place) ≡ p ∷ []
+test_at chains f items count place load p ei ec el t is =
+    let own = pattern_in count chains (words_of (item_before items place)) (words_of (item_at items place)) in
+    sym (ap (λ (its : List Item). test_in (length f.chains) chains (item_before its place) (item_at its place)) ei)
+    ∙ (sym (ap (λ k. test_in k chains (item_before items place) (item_at items place)) ec)
+    ∙ (t count ∙ ap (λ (q : Pattern). q ∷ []) (sym (is ∙ load_before count chains items place load own el (t count)))))
+
+picked_more : {X Y : Type 0} (ok : Y → Bool) (f : X → List Y) (xs : List X) (i : ℕ) (d : X) (old new : List Y) → i < length xs → old ≡ filter ok (flat_map f (take i xs)) → new ≡ old ++ filter ok (f (get_or xs i d))
+    → new ≡ filter ok (flat_map f (take (i + 1) xs))
+picked_more ok f xs i d old new l h pushed =
+    let x = get_or xs i d in
+    pushed ∙ (ap (λ ys. ys ++ filter ok (f x)) h
+    ∙ (sym (filter-append ok (flat_map f (take i xs)) (f x))
+    ∙ ap (filter ok) (ap (λ ys. flat_map f (take i xs) ++ ys) (sym (append-nil (f x))) ∙ (sym (flat_map-append f (take i xs) (x ∷ [])) ∙ ap (flat_map f) (sym (take_more xs i d l))))))
+
+module _ (n : Netlist) (holds : Holds) (count : ℕ) (chains : List (List ℕ)) (items : List Item) where
+  abbrev pairs : List (Item × Item)
+  pairs = zip (Vector [] ∷ items) items
+
+  -- the patterns that the first items apply
+  abbrev pub applied_first : ℕ → List Pattern
+  applied_first i = filter (is_pattern n holds) (flat_map (λ p. test_in count chains p.0 p.1) (take i pairs))
+
+  pairs_size : length pairs ≡ length items
+  pairs_size = let size = length-zip (Vector [] ∷ items) items in omega (arith, size)
+
+  pub applied_more : (i : ℕ) (old new : List Pattern) → i < length items → old ≡ applied_first i
+      → new ≡ old ++ filter (is_pattern n holds) (test_in count chains (item_before items i) (item_at items i)) → new ≡ applied_first (i + 1)
+  applied_more i old new l h pushed =
+      let f : Item × Item → List Pattern = λ p. test_in count chains p.0 p.1 in
+      let d : Item × Item = (Vector [], Vector []) in
+      let size = pairs_size in
+      picked_more (is_pattern n holds) f pairs i d old new (omega (arith, size, l)) h
+      (pushed ∙ ap (λ p. old ++ filter (is_pattern n holds) (f p)) (sym (get_or-zip (Vector [] ∷ items) items i d (omega (arith, l)) l)))
+
+  pub applied_end : (i : ℕ) (found : List Pattern) → length items ≤ i → found ≡ applied_first i → found ≡ filter (is_pattern n holds) (tests_in count chains items)
+  applied_end i found l h = let size = pairs_size in h ∙ ap (λ ps. filter (is_pattern n holds) (flat_map (λ p. test_in count chains p.0 p.1) ps)) (take_all i pairs (omega (arith, size, l)))

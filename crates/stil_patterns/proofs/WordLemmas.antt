@@ -1,8 +1,7 @@
 -- Words as they are made, character by character and chain by chain.
-use Rattle.std.proofs.Common.{Bool, true, ◌≡◌, ◌∙◌, ◌+◌, ◌<◌, ◌≤◌, ℕ, zero, suc, List, [], ◌∷◌, ◌++◌, ap, sym, append_assoc, length, map, take, drop, get_or, arith, Some, slice_get, length-append}
+use Rattle.std.proofs.Common.{Bool, ◌≡◌, ◌∙◌, ◌+◌, ◌<◌, ◌≤◌, ℕ, zero, suc, List, [], ◌∷◌, ◌++◌, ap, sym, append_assoc, length, map, take, drop, get_or, arith, Some, slice_get, length-append}
 use Rattle.std.proofs.lemmas.List.{drop-drop, map-append, map_more, map_push, take_all, take_more}
 use Rattle.statement.specs.Tests.{cells_of, by_chain, held_or_zero, char_of_bit}
-use Rattle.scan_play.specs.Shifts.{idle_inputs}
 use Rattle.statement.specs.Patterns.{Holds}
 use Rattle.std.specs.Prelude.{Option}
 use Rattle.std.proofs.lemmas.Option.{get_or_from_slice_get, slice_get_within}

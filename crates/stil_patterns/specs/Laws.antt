@@ -1,10 +1,11 @@
 -- Laws of the file of patterns.
-use Rattle.std.specs.Prelude.{ℕ, ◌≡◌, ◌≤◌, List, length}
+use Rattle.std.specs.Prelude.{ℕ, ◌≡◌, ◌≤◌, ◌↔◌, true, List, length}
 use Rattle.std.specs.List.{All}
-use Rattle.statement.specs.Netlists.{Netlist}
+use Rattle.statement.specs.Netlists.{Netlist, cells}
 use Rattle.statement.specs.Patterns.{Holds, Pattern}
 use Rattle.netlist.specs.Conditions.{IsSound}
 use Rattle.netlist.specs.Designs.{IsDesign}
+use Rattle.netlist.specs.Holds.{AreHoldsOf}
 use Rattle.cubes.specs.Cubes.{IsPatternOf}
 use Rattle.scan_insert.specs.Scanned.{AreChainsOf, scanned_of}
 use Rattle.scan_play.specs.Vectors.{AreVectors}
@@ -12,6 +13,7 @@ use Rattle.statement.specs.Stils.{StilFile, stil_text}
 use Rattle.stil_read.specs.Reading.{StandsFor}
 use Rattle.statement.specs.Tests.{vectors_in, IsFileOf}
 use Rattle.stil_vectors.specs.Fitting.{FitsNetlist}
+use Rattle.stil_patterns.specs.Applied.{applied_in, is_pattern}
 
 -- The file of patterns has their vectors.
 abbrev pub FileVectors : Type 0
@@ -51,3 +53,14 @@ FilesFit =
 abbrev pub PatternsTakeItems : Type 0
 PatternsTakeItems =
     (n : Netlist) (holds : Holds) (chains : List (List ℕ)) (patterns : List Pattern) (f : StilFile) → IsFileOf n holds chains patterns f → length patterns ≤ length f.items
+
+-- The test picks exactly the patterns of the netlist that obey.
+abbrev pub PicksPatterns : Type 0
+PicksPatterns = (n : Netlist) (holds : Holds) (p : Pattern) → AreHoldsOf n holds → (is_pattern n holds p ≡ true) ↔ IsPatternOf n holds p
+
+-- Where a file is that of patterns, it applies these: for this netlist, and for another one with as many cells in as many chains, of which the file strobes what it shows.
+abbrev pub TakenBack : Type 0
+TakenBack =
+    (n other : Netlist) (holds own : Holds) (chains others : List (List ℕ)) (patterns : List Pattern) (f : StilFile)
+    → AreChainsOf n chains → AreChainsOf other others → length (cells other) ≡ length (cells n) → length others ≡ length chains
+    → All (IsPatternOf n holds) patterns → IsFileOf other own others patterns f → applied_in n holds chains f ≡ patterns

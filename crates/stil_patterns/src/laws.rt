@@ -1,5 +1,5 @@
 //! Laws of the file of patterns: functions that do nothing, whose contracts are the laws.
-ghost use Rattle.stil_patterns.specs.Laws.{FileVectors, FilesFit, FilesReadBack, OneFile, OnePatternList, PatternsTakeItems};
+ghost use Rattle.stil_patterns.specs.Laws.{FileVectors, FilesFit, FilesReadBack, OneFile, OnePatternList, PatternsTakeItems, PicksPatterns, TakenBack};
 
 use stil_read::laws::{at_most_one, written_stands};
 use stil_vectors::test_vectors;
@@ -37,4 +37,14 @@ pub fn one_pattern_list()
 /// A file has no fewer items than it is of patterns.
 pub fn patterns_take_items()
     ensures { PatternsTakeItems }
+{}
+
+/// What is picked of a file is what obeys.
+pub fn picks_patterns()
+    ensures { PicksPatterns }
+{}
+
+/// A file applies the patterns that it is of, whatever it strobes.
+pub fn taken_back()
+    ensures { TakenBack }
 {}

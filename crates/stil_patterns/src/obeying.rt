@@ -34,7 +34,7 @@ fn are_met(holds: &Holds, inputs: &[bool]) -> bool
 }
 
 /// Whether a pattern has a bit for each input and each cell, and obeys the held inputs.
-fn is_pattern(netlist: &Netlist, holds: &Holds, pattern: &Pattern) -> bool
+pub(crate) fn is_pattern(netlist: &Netlist, holds: &Holds, pattern: &Pattern) -> bool
     requires { AreHoldsOf netlist.now holds.now }
     ensures { MatchBool result (IsPatternOf netlist.now holds.now pattern.now) (IsPatternOf netlist.now holds.now pattern.now → ⊥) }
 {

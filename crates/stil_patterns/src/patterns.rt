@@ -8,9 +8,8 @@ ghost use Rattle.netlist.specs.Holds.{AreHoldsOf};
 ghost use Rattle.scan_insert.specs.Scanned.{AreChainsOf};
 ghost use Rattle.statement.specs.Tests.{IsFileOf};
 
-use crate::obeying::are_patterns;
 use crate::pattern_files::stil_of;
-use crate::reading::patterns_in;
+use crate::reading::applied_patterns;
 use cubes::Pattern;
 use netlist::{Core, Holds, NoMemory};
 use scan_insert::Chains;
@@ -48,13 +47,7 @@ pub fn patterns_of(
 {
     let netlist = core.netlist();
     netlist.sound();
-    let inputs = netlist.inputs().len();
-    let Ok(patterns) = patterns_in(alloc, chains, inputs, file.items()) else {
-        return Err(NoMemory);
-    };
-    if !are_patterns(netlist, holds, &patterns) {
-        return Ok(None);
-    }
+    let patterns = applied_patterns(alloc, netlist, chains, holds, file)?;
     let own = stil_of(alloc, core, chains, &patterns, holds)?;
     match are_same(alloc, &own, file) {
         Ok(true) => Ok(Some(patterns)),

@@ -26,7 +26,6 @@ use Rattle.redundancy_cert.specs.declared.nodes.Node.{Node}
 use Rattle.statement.specs.declared.outcomes.Outcome.{Outcome}
 use Rattle.statement.specs.Reports.{Line}
 use Rattle.run_report.specs.Heads.{count_of, one_if_detected, one_if_redundant, one_if_aborted}
-use Rattle.run_report.proofs.ListLemmas.{one_kind}
 use Rattle.transition_frames.specs.Transition.{DetectsTransition}
 use Rattle.transition.specs.Detections.{LastTransition}
 use Rattle.transition.specs.Laws.{ClosedTreeHasNoTransition}
@@ -56,14 +55,24 @@ pub record Laws : Type 0 where
   pub undetected : UndetectedPassesSlowly
   pub run : SomeSlowRun
 
--- every line is of one of the three kinds
-all_kinds : (lines : List Line) → count_of one_if_detected lines + count_of one_if_redundant lines + count_of one_if_aborted lines ≡ length lines
-all_kinds [] = refl
-all_kinds (l ∷ ls) =
+-- a line of a verdict is of one of the three kinds
+verdict_kind : (n : Netlist) (chains : List (List ℕ)) (v : TransitionVerdict) (o : Outcome) (pin : List ℕ) → IsOutcomeOf n chains v o pin
+    → one_if_detected o + one_if_redundant o + one_if_aborted o ≡ 1
+verdict_kind n chains (Detected place point) o pin said = ap (λ (w : Outcome). one_if_detected w + one_if_redundant w + one_if_aborted w) said.1
+verdict_kind n chains (Redundant tree) o pin said = ap (λ (w : Outcome). one_if_detected w + one_if_redundant w + one_if_aborted w) said.0
+verdict_kind n chains (Aborted tree) o pin said = ap (λ (w : Outcome). one_if_detected w + one_if_redundant w + one_if_aborted w) said.0
+
+-- and so is every line
+all_kinds : (n : Netlist) (chains : List (List ℕ)) (pairs : List (Fault × TransitionVerdict)) (lines : List Line) → AllZip (IsVerdictLine n chains) pairs lines
+    → count_of one_if_detected lines + count_of one_if_redundant lines + count_of one_if_aborted lines ≡ length lines
+all_kinds n chains [] [] said = refl
+all_kinds n chains [] (l ∷ ls) said = elim said [ ]
+all_kinds n chains (p ∷ ps) [] said = elim said [ ]
+all_kinds n chains (p ∷ ps) (l ∷ ls) said =
     let d = sum_by-cons (λ (m : Line). one_if_detected m.outcome) l ls in
     let r = sum_by-cons (λ (m : Line). one_if_redundant m.outcome) l ls in
     let a = sum_by-cons (λ (m : Line). one_if_aborted m.outcome) l ls in
-    omega (arith, one_kind l.outcome, all_kinds ls, d, r, a)
+    omega (arith, verdict_kind n chains p.1 l.outcome l.pin said.0.outcome, all_kinds n chains ps ls said.1, d, r, a)
 
 -- ---- verdicts, lines and trees, place by place
 
@@ -199,7 +208,7 @@ truth laws n chains limit patterns verdicts made sound design dealt tests w =
           (record { sound = sound; design = design; dealt = dealt; vectors = vectors }) f
           (laws.lines n f sound (contains_at (universe_of n) place f at)) here.verdict here.is here.stands line.outcome line.pin here.said.outcome;
       left = left n chains limit patterns (universe_of n) verdicts tests.each;
-      all = all_kinds lines
+      all = all_kinds n chains (zip (universe_of n) verdicts) lines w.said.lines
           ∙ (sym (length-map lines (λ (l : Line). l.fault)) ∙ (ap length named ∙ length-map (universe_of n) (transition_text n)));
       numbers = w.said.numbers;
     }

@@ -16,7 +16,7 @@ use Rattle.statement.specs.Faults.{universe_of}
 use Rattle.redundancy_cert.specs.declared.nodes.Node.{Node}
 use Rattle.redundancy_cert.specs.Trees.{closed_count, open_count}
 use Rattle.statement.specs.declared.outcomes.Outcome.{Outcome}
-use Rattle.statement.specs.declared.outcomes.Outcome.TheVariants.{Detected, Redundant, Aborted}
+use Rattle.statement.specs.declared.outcomes.Outcome.TheVariants.{Detected, Redundant, Aborted, Unasked}
 use Rattle.statement.specs.Reports.{Line}
 use Rattle.run_report.specs.Heads.{count_of, one_if_detected, one_if_redundant, one_if_aborted}
 use Rattle.statement.specs.Statement.{FiveFiles}
@@ -46,7 +46,7 @@ module _ (n : Netlist) (chains : List (List ℕ)) (limit : ℕ) (patterns : List
   -- What is said of a transition fault comes true on the tester. Detected: by the last pattern that detects it, at its first point; the file
   -- fails where that point is strobed, from every power-up state, in the run with the slow line. Redundant: by a closed tree on the two frames,
   -- so that no pattern detects it. Aborted: with exactly as many closed ends as the backtrack limit; no pattern of the file detects it, and the
-  -- file passes in the run with the slow line.
+  -- file passes in the run with the slow line. Every slow line is asked for.
   abbrev pub ComesTrue : Fault → Outcome → List ℕ → Type 0
   ComesTrue f (Detected place cycle) pin =
       (point : Point) × (output : ℕ) × IsLastTransition n patterns f place point × IsLaunchStrobedAt n chains place point cycle output
@@ -56,6 +56,7 @@ module _ (n : Netlist) (chains : List (List ℕ)) (limit : ℕ) (patterns : List
   ComesTrue f Aborted pin =
       (tree : List Node) × IsCertified f tree × (closed_count tree ≡ limit) × (1 ≤ open_count tree)
       × LastTransition n patterns f None × PassesSlowly n chains f cycles
+  ComesTrue f Unasked pin = ⊥
 
 -- The first two files are the canonical texts of the netlist and of the scanned one. The third stands for the file of some patterns, each of
 -- which is the last to detect some transition fault; on the good scanned netlist it passes, and from each power-up state there is a run with

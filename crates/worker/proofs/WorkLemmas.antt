@@ -1,7 +1,7 @@
 -- Cubes, patterns and hits of a batch.
-use Rattle.std.proofs.Common.{zero, suc, ◌≡◌, ◌≢◌, inl, inr, ℕ, ◌<◌, List, [], ◌∷◌, get_or, refl, sym, ◌∙◌, ap, subst, arith}
+use Rattle.std.proofs.Common.{zero, suc, ◌≡◌, ◌≢◌, true≢false, inl, inr, ℕ, ◌<◌, List, [], ◌∷◌, get_or, refl, sym, ◌∙◌, ap, subst, arith}
 use Rattle.std.specs.List.{All, AllPairs}
-use Rattle.std.specs.Prelude.{true, Bool, Result, Ok, Err}
+use Rattle.std.specs.Prelude.{true, false, Bool, Result, Ok, Err, Option, Some, None, IfNone}
 use Rattle.std.specs.Result.{OnOk}
 use Rattle.std.proofs.lemmas.List.Elements.{All-cons, All-head, All-tail}
 use Rattle.std.proofs.lemmas.List.Kept.{AllPairs-cons}
@@ -39,7 +39,7 @@ same_widths n holds cubes all i j d a b =
 pub lines_of_left : (j : Subject) (left : List (ℕ × Fault)) → HaveLines j
     → All (λ (p : ℕ × Fault). RepresentsIn j p.0 p.1) left → All (λ (p : ℕ × Fault). IsLineOf j.netlist p.1.line) left
 lines_of_left j left lines reps k d lt =
-    let faults : List Fault = j.classes.representatives in
+    let faults : List Fault = j.faults in
     let place : ℕ = (get_or left k d).0 in
     let fault : Fault = (get_or left k d).1 in
     let there = reps k d lt in
@@ -175,3 +175,18 @@ ended_by_none classes before after (inr last) = ap (λ (t : Tally). t.ended) las
 pub whatever_comes : {A E P : Type 0} (r : Result A E) → P → OnOk r P
 whatever_comes (Ok x) p = p
 whatever_comes (Err e) p = tt
+
+-- ---- where there is no goal
+
+pub if_none : {T P Q : Type 0} (o : Option T) → (P → Q) → IfNone o P → IfNone o Q
+if_none None f p = f p
+if_none (Some x) f p = tt
+
+pub whether_none : {T P : Type 0} (o : Option T) → P → IfNone o P
+whether_none None p = p
+whether_none (Some x) p = tt
+
+-- what is told only where there is a goal
+pub never_told : {T : Type 0} (P : Type 0) (o : Option T) (b : Bool) → IfNone o (b ≡ false) → b ≡ true → IfNone o P
+never_told P None b none is = absurd (true≢false (sym is ∙ none))
+never_told P (Some x) b none is = tt

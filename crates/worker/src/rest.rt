@@ -1,17 +1,18 @@
 //! What the caller works once the workers have ended.
-ghost use Rattle.std.specs.Prelude.{[], ◌∷◌, ◌≡◌, ℕ, ◌+◌, ◌<◌, ◌≤◌, ◌^◌, false, length, IfOk, OnOk};
+ghost use Rattle.std.specs.Prelude.{[], ◌∷◌, ◌≡◌, ℕ, ◌+◌, ◌<◌, ◌≤◌, ◌^◌, false, length, IsTrue, IfOk, OnOk};
+ghost use Rattle.std.specs.Option.{option_copied};
 ghost use Rattle.redundancy_cert.specs.TestCubes.{IsTestCube};
 ghost use Rattle.list_core.specs.Subjects.{HaveLines, class_count};
 ghost use Rattle.list_core.specs.Batches.{IsTrueBatch};
 ghost use Rattle.list_core.specs.Verdicts.{verdict_at, is_open};
 ghost use Rattle.list_core.specs.States.{IsTrueList};
 ghost use Rattle.netlist.specs.Holds.{AreHoldsOf};
-ghost use Rattle.worker.specs.Working.{NoneOpen};
+ghost use Rattle.worker.specs.Working.{IsDone, NoneOpen};
 
 use crate::adding::add;
 use cubes::{Cube, fill};
 use evidence::{Engine, Evidence, Found};
-use list_core::{About, Claim, FaultList};
+use list_core::{About, Claim, FaultList, Goal};
 use netlist::{Core, Holds, NoMemory, Point};
 use rand_core::Rng;
 use rand_pcg::Lcg64Xsh32;
@@ -94,7 +95,7 @@ fn work_one<J: About, E: Engine, N: Rng>(
 }
 
 /// Works every class that is still Open.
-pub fn work_rest<J: About, E: Engine>(
+fn work_all<J: About, E: Engine>(
     alloc: Global,
     list: FaultList<J>,
     worker: u32,
@@ -124,4 +125,43 @@ pub fn work_rest<J: About, E: Engine>(
     }
     list.true_list();
     Ok(list)
+}
+
+/// Whether there is a goal, and enough is detected.
+fn is_enough<J: About>(list: &FaultList<J>, goal: Option<&Goal>) -> bool
+    ensures { IsTrue result → IsDone (option_copied goal.entry) list.now.verdicts }
+{
+    match goal {
+        Some(goal) => list.is_enough(goal),
+        None => false,
+    }
+}
+
+/// Works every class that is still Open, unless enough is detected.
+pub fn work_rest<J: About, E: Engine>(
+    alloc: Global,
+    list: FaultList<J>,
+    worker: u32,
+    core: &Core,
+    engine: &E,
+    seed: u64,
+    holds: &Holds,
+    goal: Option<&Goal>,
+) -> Result<FaultList<J>, NoMemory>
+    requires core { core.now ≡ J.subject.netlist }
+    requires lines { HaveLines J.subject }
+    requires limit { 1 ≤ J.subject.limit }
+    requires held { (holds.now ≡ J.subject.holds) × AreHoldsOf core.now holds.now }
+    requires kind { E.refutes ≡ J.subject.refutes }
+    requires claims { list.claims ≡ 0 }
+    requires few { length list.patterns ≤ class_count J.subject }
+    ensures closed { IfOk result (λ l. IsDone (option_copied goal.entry) l.verdicts) }
+    ensures true_list { IfOk result (λ l. IsTrueList J.subject l) }
+    ensures few { IfOk result (λ l. length l.patterns ≤ class_count J.subject + class_count J.subject) }
+{
+    if is_enough(&list, goal) {
+        list.true_list();
+        return Ok(list);
+    }
+    work_all(alloc, list, worker, core, engine, seed, holds)
 }

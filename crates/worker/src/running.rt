@@ -1,18 +1,19 @@
 //! Workers beside each other.
 ghost use Rattle.std.specs.Prelude.{◌≡◌, ◌+◌, ◌<◌, ◌≤◌, [], length, IfOk, vec_len};
 ghost use Rattle.std.specs.List.{All};
+ghost use Rattle.std.specs.Option.{option_copied};
 ghost use Rattle.plain_text.specs.Limits.{most_workers};
 ghost use Rattle.list_core.specs.Subjects.{class_count, HaveLines};
 ghost use Rattle.list_core.specs.States.{IsTrueList};
 ghost use Rattle.shared_list.specs.Tally.{Tally};
 ghost use Rattle.netlist.specs.Holds.{AreHoldsOf};
-ghost use Rattle.worker.specs.Working.{MaySearch, NoneOpen};
+ghost use Rattle.worker.specs.Working.{IsDone, MaySearch};
 
 use crate::adding::add;
 use crate::rest::work_rest;
 use crate::working::work_beside;
 use evidence::Engine;
-use list_core::{About, FaultList};
+use list_core::{About, FaultList, Goal};
 use netlist::{Core, Holds, NoMemory};
 use outside::Gate;
 use shared_list::{Share, Shared};
@@ -49,6 +50,7 @@ fn work_in<J: About, T: Ledger, S: Ledger, P: Ledger, U: Ledger, E: Engine, G: G
     workers: u32,
     seed: u64,
     holds: &Holds,
+    goal: Option<&Goal>,
 )
     requires table { job.old.table ≡ shared.now.word.shared.table_id }
     requires subject { MaySearch J.subject core.now holds.now E.refutes }
@@ -64,6 +66,7 @@ fn work_in<J: About, T: Ledger, S: Ledger, P: Ledger, U: Ledger, E: Engine, G: G
         workers,
         seed,
         holds,
+        goal,
     )
     .is_err();
 }
@@ -127,6 +130,7 @@ fn run_named<
     workers: u32,
     seed: u64,
     holds: &Holds,
+    goal: Option<&Goal>,
     takes: Blank,
     settles: Blank,
     publishes: Blank,
@@ -139,7 +143,7 @@ fn run_named<
     requires settles { (settles.name ≡ S.name) × (settles.parts ≡ S.parts) × (S.parts ≡ workers) }
     requires publishes { (publishes.name ≡ P.name) × (publishes.parts ≡ P.parts) × (P.parts ≡ workers) }
     requires unspent { (unspent.name ≡ U.name) × (unspent.parts ≡ U.parts) × (U.parts ≡ workers) }
-    ensures closed { IfOk result (λ l. NoneOpen l.verdicts) }
+    ensures closed { IfOk result (λ l. IsDone (option_copied goal.entry) l.verdicts) }
     ensures true_list { IfOk result (λ l. IsTrueList J.subject l) }
     ensures few { IfOk result (λ l. length l.patterns ≤ class_count J.subject + class_count J.subject) }
 {
@@ -152,7 +156,7 @@ fn run_named<
         requires { (job.now.table ≡ behind.now.word.shared.table_id) × MaySearch J.subject core.now holds.now E.refutes }
     {
         work_in(
-            rt, alloc, behind, job, core, engine, stage, workers, seed, holds,
+            rt, alloc, behind, job, core, engine, stage, workers, seed, holds, goal,
         )
     };
     thread::for_each_mut(rt, jobs.as_mut_slice(), workers as usize, &step);
@@ -161,10 +165,10 @@ fn run_named<
     if refused {
         return Err(NoMemory);
     }
-    work_rest(alloc, list, workers, core, engine, seed, holds)
+    work_rest(alloc, list, workers, core, engine, seed, holds, goal)
 }
 
-/// Runs the workers beside each other, and works the rest. No class is Open in the answer.
+/// Runs the workers beside each other, and works the rest. No class is Open in the answer, unless enough is detected.
 pub fn run_all<J: About + Send + Sync, E: Engine + Sync, G: Gate + Sync, R: Threads + Wait + Sync>(
     rt: &R,
     alloc: Global,
@@ -175,6 +179,7 @@ pub fn run_all<J: About + Send + Sync, E: Engine + Sync, G: Gate + Sync, R: Thre
     workers: u32,
     seed: u64,
     holds: &Holds,
+    goal: Option<&Goal>,
 ) -> Result<FaultList<J>, NoMemory>
     requires core { core.now ≡ J.subject.netlist }
     requires lines { HaveLines J.subject }
@@ -183,7 +188,7 @@ pub fn run_all<J: About + Send + Sync, E: Engine + Sync, G: Gate + Sync, R: Thre
     requires kind { E.refutes ≡ J.subject.refutes }
     requires empty { list.journal ≡ [] }
     requires workers { (0 < workers) × (workers ≤ most_workers) }
-    ensures closed { IfOk result (λ l. NoneOpen l.verdicts) }
+    ensures closed { IfOk result (λ l. IsDone (option_copied goal.entry) l.verdicts) }
     ensures true_list { IfOk result (λ l. IsTrueList J.subject l) }
     ensures few { IfOk result (λ l. length l.patterns ≤ class_count J.subject + class_count J.subject) }
 {
@@ -198,6 +203,7 @@ pub fn run_all<J: About + Send + Sync, E: Engine + Sync, G: Gate + Sync, R: Thre
         workers,
         seed,
         holds,
+        goal,
         Blank::new(parts),
         Blank::new(parts),
         Blank::new(parts),

@@ -6,7 +6,10 @@
 //!
 //! Workers beside each other begin with smaller batches. Until the first patterns are published nothing is dropped, so that k workers which each
 //! gathered 64 cubes first would search k times as many classes as one does, and simulate each batch over nearly all of them.
-ghost use Rattle.std.specs.Prelude.{◌≡◌, ◌+◌, ◌≤◌, ◌<◌, ◌⊎◌, true, IfOk, OnOk, vec_len};
+//!
+//! Where there is a goal it looks whether enough is detected: before its first claim, and behind each batch, which alone brings detections. To look
+//! before each claim would hold the lock for a pass over all classes as often.
+ghost use Rattle.std.specs.Prelude.{◌≡◌, ◌+◌, ◌≤◌, ◌<◌, ◌⊎◌, true, false, IfOk, IfNone, OnOk, vec_len};
 ghost use Rattle.std.specs.List.{All};
 ghost use Rattle.netlist.specs.Holds.{AreHoldsOf};
 ghost use Rattle.cubes.specs.Cubes.{IsCubeOf};
@@ -19,7 +22,7 @@ use crate::adding::add;
 use crate::publishing::publish_cubes;
 use cubes::Cube;
 use evidence::{Engine, Evidence, Found};
-use list_core::{About, Claim, Settling};
+use list_core::{About, Claim, Goal, Settling};
 use netlist::{Core, Holds, NoMemory};
 use outside::{Gate, Stage};
 use rand_core::Rng;
@@ -36,6 +39,13 @@ const FULL: usize = 64;
 /// How many make the first batch of each of several workers. Each later one has twice as many, up to a full one.
 const FIRST: usize = 8;
 
+/// How a worker goes on: how many cubes its next batch has, and whether enough is detected, so that it claims no more.
+#[derive(Clone, Copy)]
+struct Pace {
+    size: usize,
+    is_enough: bool,
+}
+
 /// How many cubes a worker's first batch has.
 fn first_batch(workers: u32) -> usize
     ensures { (0 < result) × (result ≤ 64) }
@@ -43,7 +53,21 @@ fn first_batch(workers: u32) -> usize
     if workers == 1 { FULL } else { FIRST }
 }
 
-/// Searches claim after claim, until there is none.
+/// Whether there is a goal, and enough is detected. A list that others work on is asked under its lock, and only where there is a goal.
+fn is_enough<J: About, T: Ledger, S: Ledger, P: Ledger, U: Ledger, R: Wait>(
+    rt: &R,
+    shared: &Shared<J, T, S, P, U>,
+    goal: Option<&Goal>,
+) -> bool
+    ensures { IfNone goal.entry (result ≡ false) }
+{
+    match goal {
+        Some(goal) => shared.is_enough(rt, goal),
+        None => false,
+    }
+}
+
+/// Searches claim after claim, until there is none, or enough is detected.
 pub fn work<J: About, T: Ledger, S: Ledger, P: Ledger, U: Ledger, E: Engine, G: Gate, R: Wait>(
     rt: &R,
     alloc: Global,
@@ -54,6 +78,7 @@ pub fn work<J: About, T: Ledger, S: Ledger, P: Ledger, U: Ledger, E: Engine, G: 
     stage: &G,
     seed: u64,
     holds: &Holds,
+    goal: Option<&Goal>,
 ) -> Result<(), NoMemory>
     requires table { share.old.table ≡ shared.now.word.shared.table_id }
     requires core { core.now ≡ J.subject.netlist }
@@ -62,10 +87,10 @@ pub fn work<J: About, T: Ledger, S: Ledger, P: Ledger, U: Ledger, E: Engine, G: 
     requires held { (holds.now ≡ J.subject.holds) × AreHoldsOf core.now holds.now }
     requires kind { E.refutes ≡ J.subject.refutes }
     ensures table { share.new.table ≡ share.old.table }
-    ensures ended { OnOk result (share.new.ended ≡ true) }
+    ensures ended { OnOk result (IfNone goal.entry (share.new.ended ≡ true)) }
 {
     work_beside(
-        rt, alloc, shared, share, core, engine, stage, 1, seed, holds,
+        rt, alloc, shared, share, core, engine, stage, 1, seed, holds, goal,
     )
 }
 
@@ -118,7 +143,7 @@ fn answer<J: About, T: Ledger, S: Ledger, P: Ledger, U: Ledger, G: Gate, R: Wait
     Ok(())
 }
 
-/// Publishes the cubes once there are enough of them; how many are enough from then on.
+/// Publishes the cubes once there are as many as a batch has, and then looks whether enough is detected; how to go on.
 fn publish_full<J: About, T: Ledger, S: Ledger, P: Ledger, U: Ledger, G: Gate, N: Rng, R: Wait>(
     rt: &R,
     alloc: Global,
@@ -128,32 +153,40 @@ fn publish_full<J: About, T: Ledger, S: Ledger, P: Ledger, U: Ledger, G: Gate, N
     stage: &G,
     rng: &mut N,
     cubes: &mut Vec<Cube>,
-    enough: usize,
-) -> Result<usize, NoMemory>
+    size: usize,
+    goal: Option<&Goal>,
+) -> Result<Pace, NoMemory>
     requires table { share.old.table ≡ shared.now.word.shared.table_id }
     requires simulator { simulator.old ≡ J.subject.netlist }
     requires lines { HaveLines J.subject }
     requires wide { All (IsCubeOf J.subject.netlist J.subject.holds) cubes.old.items }
-    requires some { 0 < enough }
-    requires full { enough ≤ 64 }
-    requires few { vec_len cubes.old ≤ enough }
+    requires some { 0 < size }
+    requires full { size ≤ 64 }
+    requires few { vec_len cubes.old ≤ size }
     requires unspent { vec_len cubes.old ≤ share.old.unspent }
     ensures table { share.new.table ≡ share.old.table }
     ensures ended { share.new.ended ≡ share.old.ended }
     ensures simulator { simulator.new ≡ simulator.old }
-    ensures room { IfOk result (λ more. (vec_len cubes.new < more) × (more ≤ 64)) }
+    ensures room { IfOk result (λ p. (vec_len cubes.new < p.size) × (p.size ≤ 64)) }
+    ensures goal { IfOk result (λ p. IfNone goal.entry (p.is_enough ≡ false)) }
     ensures unspent { OnOk result (vec_len cubes.new ≤ share.new.unspent) }
     ensures wide { OnOk result (All (IsCubeOf J.subject.netlist J.subject.holds) cubes.new.items) }
 {
-    if cubes.len() < enough {
-        return Ok(enough);
+    if cubes.len() < size {
+        return Ok(Pace {
+            size,
+            is_enough: false,
+        });
     }
     publish_cubes(rt, alloc, shared, share, simulator, stage, rng, cubes)?;
     cubes.clear();
-    Ok((2 * enough).min(FULL))
+    Ok(Pace {
+        size: (2 * size).min(FULL),
+        is_enough: is_enough(rt, shared, goal),
+    })
 }
 
-/// Searches a claim that was drawn, answers it, and publishes once there are enough cubes: the room back, and how many are enough from then on.
+/// Searches a claim that was drawn, answers it, and publishes once there are as many cubes as a batch has: the room back, and how to go on.
 fn work_claim<
     J: About,
     T: Ledger,
@@ -178,8 +211,9 @@ fn work_claim<
     simulator: &mut Simulator<'_>,
     rng: &mut N,
     cubes: &mut Vec<Cube>,
-    enough: usize,
-) -> Result<(E::Room, usize), NoMemory>
+    size: usize,
+    goal: Option<&Goal>,
+) -> Result<(E::Room, Pace), NoMemory>
     requires table { share.old.table ≡ shared.now.word.shared.table_id }
     requires core { core.now ≡ J.subject.netlist }
     requires lines { HaveLines J.subject }
@@ -189,27 +223,29 @@ fn work_claim<
     requires room { E.serves core.now holds.now room }
     requires simulator { simulator.old ≡ J.subject.netlist }
     requires wide { All (IsCubeOf J.subject.netlist J.subject.holds) cubes.old.items }
-    requires full { enough ≤ 64 }
-    requires few { vec_len cubes.old < enough }
+    requires full { size ≤ 64 }
+    requires few { vec_len cubes.old < size }
     requires unspent { vec_len cubes.old < share.old.unspent }
     ensures table { share.new.table ≡ share.old.table }
     ensures ended { share.new.ended ≡ share.old.ended }
     ensures simulator { simulator.new ≡ simulator.old }
     ensures room { IfOk result (λ r. E.serves core.now holds.now r.0) }
-    ensures few { IfOk result (λ r. (vec_len cubes.new < r.1) × (r.1 ≤ 64)) }
+    ensures few { IfOk result (λ r. (vec_len cubes.new < r.1.size) × (r.1.size ≤ 64)) }
+    ensures goal { IfOk result (λ r. IfNone goal.entry (r.1.is_enough ≡ false)) }
     ensures unspent { OnOk result (vec_len cubes.new ≤ share.new.unspent) }
     ensures wide { OnOk result (All (IsCubeOf J.subject.netlist J.subject.holds) cubes.new.items) }
 {
     stage.at(share.worker(), Stage::Claimed);
     let (found, kept) = engine.search_in(alloc, room, core, claim.fault(), claim.limit(), holds)?;
     answer(rt, shared, share, stage, claim, found, cubes)?;
-    let more = publish_full(
-        rt, alloc, shared, share, simulator, stage, rng, cubes, enough,
+    let pace = publish_full(
+        rt, alloc, shared, share, simulator, stage, rng, cubes, size, goal,
     )?;
-    Ok((kept, more))
+    Ok((kept, pace))
 }
 
-/// The work of one of so many workers: searches claim after claim, until there is none. Room for searches and for simulation is made once.
+/// The work of one of so many workers: searches claim after claim, until there is none, or enough is detected. Room for searches and for
+/// simulation is made once.
 pub(crate) fn work_beside<
     J: About,
     T: Ledger,
@@ -230,6 +266,7 @@ pub(crate) fn work_beside<
     workers: u32,
     seed: u64,
     holds: &Holds,
+    goal: Option<&Goal>,
 ) -> Result<(), NoMemory>
     requires table { share.old.table ≡ shared.now.word.shared.table_id }
     requires core { core.now ≡ J.subject.netlist }
@@ -238,20 +275,26 @@ pub(crate) fn work_beside<
     requires held { (holds.now ≡ J.subject.holds) × AreHoldsOf core.now holds.now }
     requires kind { E.refutes ≡ J.subject.refutes }
     ensures table { share.new.table ≡ share.old.table }
-    ensures ended { OnOk result (share.new.ended ≡ true) }
+    ensures ended { OnOk result (IfNone goal.entry (share.new.ended ≡ true)) }
 {
     let mut rng = Lcg64Xsh32::new(seed, share.worker() as u64);
     let mut room = engine.room(alloc, core, holds)?;
     let mut simulator = Simulator::new(alloc, core)?;
     let mut cubes = Vec::new(alloc);
-    let mut enough = first_batch(workers);
+    let mut pace = Pace {
+        size: first_batch(workers),
+        is_enough: is_enough(rt, shared, goal),
+    };
     for _ in rt.forever() {
+        if pace.is_enough {
+            break;
+        }
         let claim = match shared.take(rt, share) {
             Drawn::Claim(claim) => claim,
             Drawn::Gone(_) => continue,
             Drawn::None => break,
         };
-        let (kept, more) = work_claim(
+        let (kept, next) = work_claim(
             rt,
             alloc,
             shared,
@@ -265,10 +308,11 @@ pub(crate) fn work_beside<
             &mut simulator,
             &mut rng,
             &mut cubes,
-            enough,
+            pace.size,
+            goal,
         )?;
         room = kept;
-        enough = more;
+        pace = next;
     }
     publish_cubes(
         rt,

@@ -11,6 +11,6 @@ abbrev pub DeclineRow : WordsRefusal → Status → Type 0
 DeclineRow (words.BadWords text) (status.BadWords shown) = ⊤
 DeclineRow words.BadHold status.BadHold = ⊤
 DeclineRow (words.BadPrefix prefix) (status.BadPrefix shown) = shown.now ≡ prefix.now
-DeclineRow (words.WritesOver name) (status.WritesOver shown) = shown.now ≡ name.now
+DeclineRow (words.WritesOver name) (status.WritesOver shown) = shown ≡ name
 DeclineRow words.NoMemory (status.Command ending.Memory) = ⊤
 DeclineRow _ _ = ⊥

@@ -1,19 +1,15 @@
--- The steps of `run` and of `transition`.
-use Rattle.std.specs.Prelude.{ℕ, ◌≡◌, false, List, Option, Some, None}
+-- The steps of `run` and of `transition`, and how they are handed over.
+use Rattle.std.specs.Prelude.{ℕ, ◌≡◌, Option, Some, None}
 use Rattle.statement.specs.Benches.{Text}
 use Rattle.statement.specs.Netlists.{Netlist}
-use Rattle.statement.specs.Patterns.{Holds}
-use Rattle.command_line.specs.HoldLists.{HoldItem}
 use Rattle.command_line.specs.declared.requests.RunOptions.{RunOptions}
 use Rattle.command_line.specs.declared.requests.SlowOptions.{SlowOptions}
 use Rattle.commands.specs.Due.{Due, Deliver}
 use Rattle.commands.specs.declared.ending.Finding.TheVariants.{Fine}
-use Rattle.run_files.specs.declared.files.RunFiles.{RunFiles}
-use Rattle.run_files.specs.Runs.{IsRun}
+use Rattle.run_files.specs.declared.asked.RunPlan.{RunPlan}
 use Rattle.transition_run.specs.declared.files.TransitionFiles.{TransitionFiles}
 use Rattle.transition_run.specs.Runs.{IsTransitionRun, transition_files_of}
-use Rattle.atpg_top.specs.Runs.{IsInputAt, may_refute, tests_line, texts_in, texts_made}
-use Rattle.atpg_top.specs.Steps.{◌>>=◌, named_holds}
+use Rattle.atpg_top.specs.Runs.{IsInputAt, tests_line, texts_in}
 use Rattle.atpg_top.specs.declared.refusal.Refusal.{Refusal}
 
 -- the number of the input of this name, or there is none
@@ -21,14 +17,16 @@ abbrev pub IsFound : Netlist → Text → Option ℕ → Type 0
 IsFound n name (Some k) = IsInputAt n k name
 IsFound n name None = (k : ℕ) → ¬ IsInputAt n k name
 
--- what is due of a design with its held inputs
-abbrev pub made_due : RunOptions → Netlist → Holds → Due Refusal → Type 0
-made_due options n holds d =
-    (made : RunFiles) × IsRun n holds options.numbers.chains options.numbers.limit (may_refute options.engine) made × (d ≡ Deliver (texts_made made) (tests_line made.said.counts) Fine)
-
--- the same of the names of inputs
-abbrev pub held_due : RunOptions → List HoldItem → Netlist → Due Refusal → Type 0
-held_due options named n = named_holds n named >>= λ holds. made_due options n holds
+-- the plan of a run
+abbrev pub plan_of : RunOptions → RunPlan
+plan_of options = record {
+  chains = options.numbers.chains;
+  workers = options.numbers.workers;
+  limit = options.numbers.limit;
+  seed = options.numbers.seed;
+  percent = options.percent;
+  rounds = options.rounds;
+}
 
 -- what is due of a design whose slow lines are searched
 abbrev pub slow_due : SlowOptions → Netlist → Due Refusal → Type 0

@@ -1,5 +1,6 @@
 -- The names of files, on the way to a request.
-use Rattle.std.specs.Prelude.{◌≡◌, Option, Some, None, Result, Ok, Err}
+use Rattle.std.specs.Prelude.{◌≡◌, ⊤, Option, Some, None, Result, Ok, Err}
+use Rattle.commands.specs.Names.{file_name_of}
 use Rattle.command_line.specs.CommandLine.{CommandLine, bad_prefix, command_line_of, line_with_files, writes_over}
 use Rattle.command_line.specs.declared.WordsRefusal.{WordsRefusal}
 use Rattle.command_line.specs.declared.WordsRefusal.TheVariants as refusal
@@ -8,7 +9,8 @@ use Rattle.command_line.specs.declared.requests.Request.{Request}
 -- this is wrong with the names of a line's files
 abbrev pub AreRefused : CommandLine → WordsRefusal → Type 0
 AreRefused line (refusal.BadPrefix prefix) = line_with_files (Ok line) ≡ Err (bad_prefix prefix.now)
-AreRefused line (refusal.WritesOver name) = line_with_files (Ok line) ≡ Err (writes_over name.now)
+AreRefused line (refusal.WritesOver name) = line_with_files (Ok line) ≡ Err (writes_over (file_name_of name))
+AreRefused line refusal.NoMemory = ⊤
 AreRefused line _ = ⊥
 
 -- this, or nothing

@@ -1,9 +1,12 @@
 -- Words and counts apart, each in the order of the text.
-use Rattle.std.specs.Prelude.{ℕ, List, [], ◌∷◌, codes, map, slice_index}
-use Rattle.std.specs.List.{flat_map, zip}
+use Rattle.std.specs.Prelude.{ℕ, ◌≡◌, ◌++◌, List, [], ◌∷◌, codes, length, map, slice_index}
+use Rattle.std.specs.List.{All, flat_map, zip}
 use Rattle.report.specs.declared.counts.ReportCounts.{ReportCounts}
-use Rattle.report.specs.Counts.{worded}
-use Rattle.report.specs.Texts.{count_line}
+use Rattle.report.specs.declared.versions.Version.{Version}
+use Rattle.report.specs.Counts.{AreSmallCounts, worded}
+use Rattle.report.specs.Texts.{count_line, counts_text, unasked_line}
+use Rattle.report.specs.inner.Lines.{IsCount}
+use Rattle.report.specs.inner.Versions.{is_third, some_unasked}
 
 abbrev pub count_of_counts : ℕ
 count_of_counts = 14
@@ -15,9 +18,9 @@ count_words = codes "inputs " ∷ codes "outputs " ∷ codes "gates " ∷ codes 
 abbrev pub in_order : ReportCounts → List ℕ
 in_order c = map (λ (p : List ℕ × ℕ). p.1) (worded c)
 
--- the counts that are these in order
-abbrev pub counts_from : List ℕ → ReportCounts
-counts_from ks = record {
+-- the counts that are these in order, and so many that weren't asked for
+abbrev pub counts_from : List ℕ → ℕ → ReportCounts
+counts_from ks unasked = record {
   inputs = slice_index ks 0;
   outputs = slice_index ks 1;
   gates = slice_index ks 2;
@@ -32,8 +35,27 @@ counts_from ks = record {
   redundant = slice_index ks 11;
   aborted = slice_index ks 12;
   untested = slice_index ks 13;
+  unasked = unasked;
 }
 
 -- some counts behind the first words
 abbrev pub some_counts : List (List ℕ) → List ℕ → List ℕ
 some_counts words counts = flat_map (λ p. count_line p.0 p.1) (zip words counts)
+
+-- so many small numbers as there are words, and their lines
+abbrev pub AreNumbers : List ℕ → Type 0
+AreNumbers counts = (length counts ≡ count_of_counts) × All IsCount counts
+
+abbrev pub numbers_text : List ℕ → List ℕ
+numbers_text counts = some_counts count_words counts
+
+-- how many faults weren't asked for, as a text of the version can say it
+abbrev pub IsUnaskedIn : Version → ℕ → Type 0
+IsUnaskedIn version unasked = IsCount unasked × (is_third version ≡ some_unasked unasked)
+
+-- the counts of a text of the version, and all their lines
+abbrev pub AreCountsIn : Version → ReportCounts → Type 0
+AreCountsIn version c = AreSmallCounts c × (is_third version ≡ some_unasked c.unasked)
+
+abbrev pub counts_lines : ReportCounts → List ℕ
+counts_lines c = counts_text c ++ unasked_line c.unasked

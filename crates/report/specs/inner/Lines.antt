@@ -1,5 +1,5 @@
 -- Texts that begin with a line, or with some lines.
-use Rattle.std.specs.Prelude.{ℕ, ◌≡◌, ◌≢◌, ◌/◌, ◌^◌, ◌<◌, ◌++◌, ◌∷◌, [], Bool, true, false, List, codes, decimal}
+use Rattle.std.specs.Prelude.{ℕ, ◌≡◌, ◌≢◌, ◌/◌, ◌^◌, ◌<◌, ◌++◌, Bool, true, false, List, codes, decimal}
 use Rattle.report.specs.Reports.{Hold, IsBenchWord}
 use Rattle.statement.specs.Reports.{Line, outcome_text}
 use Rattle.report.specs.Texts.{hundredths}
@@ -38,12 +38,3 @@ hold_words h = codes "hold " ++ (h.name ++ bit_text h.bit)
 
 abbrev pub fault_words : Line → List ℕ
 fault_words l = l.fault ++ outcome_text l.outcome l.pin
-
--- the first line of a version, the second of which holds inputs
-abbrev pub version_line : Bool → List ℕ
-version_line false = codes "atpg report 1\n"
-version_line true = codes "atpg report 2\n"
-
-abbrev pub some_held : List Hold → Bool
-some_held [] = false
-some_held (h ∷ hs) = true

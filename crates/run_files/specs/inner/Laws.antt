@@ -1,13 +1,13 @@
 -- What is written of verdicts comes true.
-use Rattle.std.specs.Prelude.{ℕ, ◌≡◌, ◌≤◌, Bool, List}
-use Rattle.std.specs.List.{All}
+use Rattle.std.specs.Prelude.{ℕ, ◌≡◌, ◌≤◌, List, length}
 use Rattle.plain_text.specs.Limits.{most_limit}
 use Rattle.statement.specs.declared.lines.Fault.{Fault}
 use Rattle.netlist.specs.Conditions.{IsSound}
 use Rattle.netlist.specs.Designs.{IsDesign}
 use Rattle.statement.specs.Netlists.{Netlist}
-use Rattle.statement.specs.Patterns.{Holds, Pattern}
+use Rattle.statement.specs.Patterns.{Pattern}
 use Rattle.netlist.specs.Holds.{AreHoldsOf}
+use Rattle.statement.specs.Faults.{universe_of}
 use Rattle.statement.specs.Stils.{StilFile, stil_text}
 use Rattle.fault_collapse.specs.Classes.{AreClasses}
 use Rattle.fault_collapse.specs.Numbers.{Classes}
@@ -16,38 +16,38 @@ use Rattle.list_core.specs.declared.verdicts.Verdict.{Verdict}
 use Rattle.good_files.specs.GoodFiles.{AreGoodFiles, chains_said, limit_said}
 use Rattle.good_files.specs.ScanOff.{design_chains}
 use Rattle.run_files.specs.declared.files.RunFiles.{RunFiles}
-use Rattle.run_files.specs.Runs.{IsRun, contents_of, files_of}
-use Rattle.run_files.specs.inner.Verdicts.{AreVerdicts, MayHave}
+use Rattle.run_files.specs.Runs.{Asked, IsRun, contents_of, files_of}
+use Rattle.run_files.specs.inner.Searches.{AreSearched}
 use Rattle.run_files.specs.inner.Written.{IsWritten}
 
 -- what the texts are made of
-pub record IsFinishedRun (n : Netlist) (holds : Holds) (asked limit : ℕ) (refutes : Bool) (classes : Classes) (patterns : List Pattern) (verdicts : List Verdict) (made : RunFiles) : Type 0 where
-  pub some : 1 ≤ asked
-  pub limit_is : (1 ≤ limit) × (limit ≤ most_limit)
-  pub held : AreHoldsOf n holds
+pub record IsFinishedRun (n : Netlist) (a : Asked) (classes : Classes) (patterns : List Pattern) (verdicts : List Verdict) (made : RunFiles) : Type 0 where
+  pub some : 1 ≤ a.chains
+  pub limit_is : (1 ≤ a.limit) × (a.limit ≤ most_limit)
+  pub held : AreHoldsOf n a.holds
+  pub size : length a.faults ≡ length (universe_of n)
   pub are_classes : AreClasses n classes
-  pub found : AreVerdicts n holds classes limit patterns verdicts
-  pub kinds : All (MayHave refutes) verdicts
-  pub written : IsWritten n holds (design_chains n asked) classes limit patterns verdicts made
+  pub searched : AreSearched n a.holds a.limit a.refutes a.percent classes a.faults a.first patterns verdicts
+  pub written : IsWritten n a.holds (design_chains n a.chains) classes a.limit a.faults patterns verdicts made
 
--- good files by these held inputs, chains, limit, classes and patterns, the test's in its written text
-pub record AreGoodFilesBy (n : Netlist) (holds : Holds) (asked limit : ℕ) (classes : Classes) (patterns : List Pattern) (made : RunFiles) : Type 0 where
+-- good files for what is asked, by these classes and patterns, the test's in its written text
+pub record AreGoodFilesBy (n : Netlist) (a : Asked) (classes : Classes) (patterns : List Pattern) (made : RunFiles) : Type 0 where
   pub file : StilFile
   pub evidence : List (Fault × Evidence)
   pub good : AreGoodFiles (files_of made) (contents_of n file evidence made)
   pub stil_is : made.stil.items ≡ stil_text file
-  pub holds_are : good.tested.holds ≡ holds
-  pub chains_are : design_chains n (chains_said made.said) ≡ design_chains n asked
-  pub limit_is : limit_said made.said ≡ limit
+  pub holds_are : good.tested.holds ≡ a.holds
+  pub chains_are : design_chains n (chains_said made.said) ≡ design_chains n a.chains
+  pub limit_is : limit_said made.said ≡ a.limit
   pub patterns_are : good.tested.patterns ≡ patterns
   pub classes_are : good.tested.classes ≡ classes
 
 abbrev pub WrittenIsGood : Type 0
 WrittenIsGood =
-    (n : Netlist) (holds : Holds) (asked limit : ℕ) (refutes : Bool) (classes : Classes) (patterns : List Pattern) (verdicts : List Verdict) (made : RunFiles)
-    → IsSound n → IsDesign n → IsFinishedRun n holds asked limit refutes classes patterns verdicts made → AreGoodFilesBy n holds asked limit classes patterns made
+    (n : Netlist) (a : Asked) (classes : Classes) (patterns : List Pattern) (verdicts : List Verdict) (made : RunFiles)
+    → IsSound n → IsDesign n → IsFinishedRun n a classes patterns verdicts made → AreGoodFilesBy n a classes patterns made
 
 abbrev pub WrittenIsRun : Type 0
 WrittenIsRun =
-    (n : Netlist) (holds : Holds) (asked limit : ℕ) (refutes : Bool) (classes : Classes) (patterns : List Pattern) (verdicts : List Verdict) (made : RunFiles)
-    → IsSound n → IsDesign n → IsFinishedRun n holds asked limit refutes classes patterns verdicts made → IsRun n holds asked limit refutes made
+    (n : Netlist) (a : Asked) (classes : Classes) (patterns : List Pattern) (verdicts : List Verdict) (made : RunFiles)
+    → IsSound n → IsDesign n → IsFinishedRun n a classes patterns verdicts made → IsRun n a made

@@ -1,5 +1,5 @@
 -- The report of lines.
-use Rattle.std.specs.Prelude.{ℕ, ◌≡◌, ◌+◌, List, length}
+use Rattle.std.specs.Prelude.{ℕ, ◌≡◌, ◌+◌, Bool, List, length}
 use Rattle.statement.specs.Netlists.{Netlist}
 use Rattle.statement.specs.Patterns.{Holds, Pattern}
 use Rattle.statement.specs.Faults.{universe_of}
@@ -18,7 +18,7 @@ pub record IsReported (n : Netlist) (chains : List (List ℕ)) (holds : Holds) (
   pub coverage : r.coverage ≡ share_of faults (count_of one_if_detected lines)
   pub efficiency : r.efficiency ≡ share_of faults (count_of one_if_detected lines + count_of one_if_redundant lines)
 
--- the report of verdicts
-pub record IsSaid (n : Netlist) (chains : List (List ℕ)) (holds : Holds) (classes : Classes) (limit : ℕ) (patterns : List Pattern) (verdicts : List Verdict) (r : Report) : Type 0 where
-  pub lines : AreLines n chains classes.numbers verdicts (length (universe_of n)) r.lines
+-- the report of verdicts, where these faults are asked for
+pub record IsSaid (n : Netlist) (chains : List (List ℕ)) (holds : Holds) (classes : Classes) (limit : ℕ) (marks : List Bool) (patterns : List Pattern) (verdicts : List Verdict) (r : Report) : Type 0 where
+  pub lines : AreLines n chains classes.numbers marks verdicts (length (universe_of n)) r.lines
   pub numbers : IsReported n chains holds (length (universe_of n)) (length classes.representatives) (length patterns) limit r.lines r

@@ -1,5 +1,5 @@
 -- The texts of verdicts and patterns.
-use Rattle.std.specs.Prelude.{ℕ, ◌≡◌, List}
+use Rattle.std.specs.Prelude.{ℕ, ◌≡◌, Bool, List}
 use Rattle.std.specs.List.{All}
 use Rattle.statement.specs.declared.lines.Fault.{Fault}
 use Rattle.statement.specs.Netlists.{Netlist}
@@ -26,7 +26,8 @@ pub record IsTestText (n : Netlist) (holds : Holds) (chains : List (List ℕ)) (
   pub of_patterns : IsFileOf n holds chains patterns file
   pub text_is : text ≡ stil_text file
 
-pub record IsWritten (n : Netlist) (holds : Holds) (chains : List (List ℕ)) (classes : Classes) (limit : ℕ) (patterns : List Pattern) (verdicts : List Verdict) (made : RunFiles) : Type 0 where
+pub record IsWritten (n : Netlist) (holds : Holds) (chains : List (List ℕ)) (classes : Classes) (limit : ℕ) (marks : List Bool) (patterns : List Pattern) (verdicts : List Verdict)
+    (made : RunFiles) : Type 0 where
   pub net : made.net.items ≡ canonical n
   pub scan : made.scan.items ≡ canonical (scanned_of n chains)
   pub stil : IsTestText n holds chains patterns made.stil.items
@@ -34,4 +35,4 @@ pub record IsWritten (n : Netlist) (holds : Holds) (chains : List (List ℕ)) (c
   pub small : All (λ (p : Fault × Evidence). HasSmallNumbers p.1) (leaves_of classes.representatives verdicts)
   pub report : made.report.items ≡ report_text made.said
   pub is_report : IsReport made.said
-  pub said : IsSaid n chains holds classes limit patterns verdicts made.said
+  pub said : IsSaid n chains holds classes limit marks patterns verdicts made.said

@@ -21,6 +21,9 @@ returns-in-NotReport g c = rw c.in-NotReport.is c.say_text-in-NotReport.ensures
 pub returns-in-NotLog : goal.returns-in-NotLog
 returns-in-NotLog g c = rw c.in-NotLog.is c.say_text-in-NotLog.ensures
 
+pub returns-in-NoFaultAt : goal.returns-in-NoFaultAt
+returns-in-NoFaultAt g c = rw c.in-NoFaultAt.is c.say_stranger.ensures
+
 pub returns-in-StilDoesNotFit : goal.returns-in-StilDoesNotFit
 returns-in-StilDoesNotFit g c = rw c.in-StilDoesNotFit.is c.say_text-in-StilDoesNotFit.ensures
 

@@ -8,8 +8,7 @@ returns-in-BadPrefix g c =
     rw c.in-BadPrefix.is (said_so _ _ _ _ _ _ _ (ap (λ (t : Text). codes "prefix names no file: " ++ (t ++ codes "\n")) c.as_bytes-in-BadPrefix.ensures.value) c.say_word.ensures)
 
 pub returns-in-WritesOver : goal.returns-in-WritesOver
-returns-in-WritesOver g c =
-    rw c.in-WritesOver.is (said_so _ _ _ _ _ _ _ (ap (λ (t : Text). codes "would write over: " ++ (t ++ codes "\n")) c.as_bytes-in-WritesOver.ensures.value) c.say_word-in-WritesOver.ensures)
+returns-in-WritesOver g c = rw c.in-WritesOver.is c.say_name.ensures
 
 pub returns-in-Command-Ended : goal.returns-in-Command-Ended
 returns-in-Command-Ended g c = search rules

@@ -1,13 +1,16 @@
-use Rattle.std.proofs.Common.{map}
+use Rattle.std.proofs.Common.{map, option_map}
 use Rattle.commands.specs.Names.{texts_of}
 use Rattle.command_line.specs.CommandLine.{hold_of}
-use Rattle.atpg_top.specs.inner.Running.{held_due}
-use Rattle.atpg_top.proofs.RunLemmas.{design_stops, design_works}
+use Rattle.atpg_top.specs.Asked.{run_read}
+use Rattle.atpg_top.proofs.AskLemmas.{case_stopped, case_worked}
 use Rattle.atpg_top.proofs.running.work.Goals as goal
 
 pub returns-in-Ok : goal.returns-in-Ok
 returns-in-Ok g c =
-    design_works (held_due c.args.options (map hold_of c.args.named.now)) 5 (texts_of c.args.texts.items) c.in-Ok.netlist c.run_design.result c.in-Ok.ensures c.run_design.ensures
+    let read = run_read (option_map (λ t. t.now) c.args.names.list) (option_map (λ t. t.now) c.args.names.first) (texts_of c.args.texts.items) in
+    case_worked c.args.options (map hold_of c.args.named.now) 5 read c.in-Ok.case c.run_case.result c.in-Ok.ensures.reads c.run_case.ensures
 
 pub returns-in-Err : goal.returns-in-Err
-returns-in-Err g c = design_stops (held_due c.args.options (map hold_of c.args.named.now)) 5 (texts_of c.args.texts.items) c.in-Err.stop c.in-Err.ensures
+returns-in-Err g c =
+    let read = run_read (option_map (λ t. t.now) c.args.names.list) (option_map (λ t. t.now) c.args.names.first) (texts_of c.args.texts.items) in
+    case_stopped c.args.options (map hold_of c.args.named.now) 5 read c.in-Err.stop c.in-Err.ensures.reads

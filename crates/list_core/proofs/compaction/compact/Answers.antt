@@ -1,39 +1,28 @@
-use Rattle.std.proofs.Common.{◌≡◌, ℕ, ◌<◌, Bool, List, Option, length, get_or, false, ◌∙◌, ap, subst, arith}
+use Rattle.std.proofs.Common.{◌≡◌, ℕ, ◌<◌, Bool, List, Option, length, get_or, false, ◌∙◌, ap, subst, arith, refl, vec_len}
 use Rattle.std.specs.Prelude.{IfSome}
 use Rattle.std.specs.List.{All}
 use Rattle.statement.specs.declared.lines.Point.{Point}
-use Rattle.list_core.specs.declared.verdicts.Verdict.{Verdict}
 use Rattle.list_core.specs.Kept.{is_last_at}
-use Rattle.list_core.specs.inner.Marks.{AreRenamed}
-use Rattle.list_core.proofs.FinishLemmas.{last_within, same_count, are_finished, places_of_last, kept_of_last}
+use Rattle.list_core.proofs.FinishLemmas.{are_finished, places_of_last, kept_of_last}
 use Rattle.list_core.proofs.compaction.compact.Goals as goal
 
 pub needed-requires : goal.needed-requires
-needed-requires g c =
-    let j = g.J.About.subject in
+needed-requires c =
     let ls = c.args.last.now in
-    let size : length c.args.list.patterns ≡ c.len.result = omega (arith, ap length c.into_parts-patterns.ensures.patterns, c.len.ensures) in
+    let size : vec_len c.args.patterns ≡ c.len.result = omega (arith, c.len.ensures) in
     let P : ℕ → Type 0 = λ k. All (λ (l : Option (ℕ × Point)). IfSome l (λ p. p.0 < k)) ls in
-    subst P size (last_within j.netlist c.args.list.patterns j.classes.representatives ls c.requires.last)
-
-pub rename-requires-clause-size : goal.rename-requires-clause-size
-rename-requires-clause-size g c =
-    let j = g.J.About.subject in
-    let same = same_count j.netlist c.args.list.patterns j.classes.representatives c.args.last.now c.requires.last in
-    omega (arith, same, c.true_list.ensures.true_list.count, ap length c.into_parts-patterns.ensures.verdicts)
+    subst P size c.requires.within
 
 pub rename-requires-clause-within : goal.rename-requires-clause-within
-rename-requires-clause-within g c =
-    let j = g.J.About.subject in
+rename-requires-clause-within c =
     let ls = c.args.last.now in
-    let size : length c.args.list.patterns ≡ length c.deref-2.result.now =
-    omega (arith, ap length c.into_parts-patterns.ensures.patterns, c.len.ensures, c.in_ok-marks.ensures.size, ap length c.deref.ensures.value, c.in_ok-places.ensures.size, ap length c.deref-2.ensures.value) in
+    let size : vec_len c.args.patterns ≡ length c.deref-2.result.now =
+    omega (arith, c.len.ensures, c.in_ok-marks.ensures.size, ap length c.deref.ensures.value, c.in_ok-places.ensures.size, ap length c.deref-2.ensures.value) in
     let P : ℕ → Type 0 = λ k. All (λ (l : Option (ℕ × Point)). IfSome l (λ p. p.0 < k)) ls in
-    subst P size (last_within j.netlist c.args.list.patterns j.classes.representatives ls c.requires.last)
+    subst P size c.requires.within
 
 pub returns : goal.returns
-returns g c =
-    let j = g.J.About.subject in
+returns c = λ n faults are.
     let ls = c.args.last.now in
     let seen = c.deref.result.now in
     let left = c.deref-3.result.now in
@@ -42,7 +31,6 @@ returns g c =
     let size : length seen ≡ length c.deref-2.result.now = omega (arith, c.in_ok-places.ensures.size, ap length c.deref-2.ensures.value) in
     let places = places_of_last ls seen c.deref-2.result.now (length seen) same size
     (λ k lt. ap (λ (ps : List ℕ). get_or ps k 0) c.deref-2.ensures.value ∙ c.in_ok-places.ensures.each k lt) in
-    let P : List Verdict → Type 0 = λ vs. AreRenamed (is_last_at ls) ls vs c.rename.new.verdicts.items in
-    are_finished j c.args.list ls c.in_ok-patterns.patterns.items c.rename.new.verdicts.items c.true_list.ensures.true_list c.requires.last
-    (subst P c.into_parts-patterns.ensures.verdicts (c.rename.ensures (is_last_at ls) places))
-    (kept_of_last ls left c.into_parts-patterns.result.0.items c.args.list.patterns c.in_ok-patterns.patterns.items same_left c.into_parts-patterns.ensures.patterns c.in_ok-patterns.ensures)
+    are_finished n faults c.args.patterns.items ls c.args.verdicts.items c.rename.new.verdicts.items c.in_ok-patterns.patterns.items are (omega (arith, c.requires.size, c.args.verdicts.ok.0))
+    (c.rename.ensures (is_last_at ls) places)
+    (kept_of_last ls left c.args.patterns.items c.args.patterns.items c.in_ok-patterns.patterns.items same_left refl c.in_ok-patterns.ensures)

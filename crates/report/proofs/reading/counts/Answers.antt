@@ -1,35 +1,15 @@
-use Rattle.std.proofs.Common.{ℕ, List, Option, Bor, MatchOption, sym, subst, ◌∙◌, arith}
-use Rattle.std.proofs.lemmas.List.{length-set}
-use Rattle.report.specs.declared.counts.ReportCounts.{ReportCounts}
-use Rattle.report.specs.Counts.{AreSmallCounts}
-use Rattle.report.specs.Texts.{counts_text}
-use Rattle.report.specs.inner.Lines.{Begins, NoneBegins}
-use Rattle.report.proofs.CountLemmas.{counts_found, next_count, next_small, no_next_count}
+use Rattle.report.proofs.CountLemmas.{counts_found, no_numbers, no_unasked}
 use Rattle.report.proofs.reading.counts.Goals as goal
 
-pub returns-in_err-number : goal.returns-in_err-number
-returns-in_err-number c =
-    let i = c.loop-k.invariant in
-    subst (λ (o : Option (ReportCounts × Bor (List ℕ))).
-    MatchOption o (NoneBegins AreSmallCounts counts_text c.args.text.now) (λ p. Begins AreSmallCounts counts_text c.args.text.now p.0 p.1.now)) (sym c.from_residual.ensures)
-    (no_next_count c.loop-k.numbers i.size c.loop-k.k c.args.text.now c.loop-k.rest.now i.read i.small c.loop-k-test.true c.count_word.result.now c.count_word.ensures
-    c.in_err-number.ensures)
+pub returns-in_err-numbers : goal.returns-in_err-numbers
+returns-in_err-numbers c = rw c.from_residual.ensures (no_numbers c.args.version c.args.text.now c.in_err-numbers.ensures)
 
-pub loop-k-preserved : goal.loop-k-preserved
-loop-k-preserved c =
-    let i = c.loop-k.invariant in
-    let numbers = c.loop-k.numbers in
-    let k = c.loop-k.k in
-    let word = c.count_word.result.now in
-    let number = c.in_ok-number.number in
-    let after = c.in_ok-number.after.now in
-    record {
-      read = next_count numbers i.size k c.args.text.now c.loop-k.rest.now i.read i.small c.loop-k-test.true word c.count_word.ensures number after c.in_ok-number.ensures;
-      size = length-set numbers k number ∙ i.size;
-      small = next_small numbers i.size k c.args.text.now c.loop-k.rest.now i.read i.small c.loop-k-test.true word c.count_word.ensures number after c.in_ok-number.ensures;
-    }
+pub returns-in_err-unasked : goal.returns-in_err-unasked
+returns-in_err-unasked c =
+    rw c.from_residual-in_err-unasked.ensures
+    (no_unasked c.args.version c.args.text.now c.in_ok-numbers.numbers c.in_ok-numbers.behind_numbers.now c.in_ok-numbers.ensures c.in_err-unasked.ensures)
 
 pub returns : goal.returns
 returns c =
-    let i = c.loop-k.invariant in
-    counts_found c.loop-k.numbers i.size c.loop-k.k c.args.text.now c.loop-k.rest.now i.read i.small c.loop-k-test.false c.of.result c.of.ensures
+    counts_found c.args.version c.args.text.now c.in_ok-numbers.numbers c.in_ok-numbers.behind_numbers.now c.in_ok-numbers.ensures c.in_ok-unasked.unasked c.in_ok-unasked.rest.now
+    c.in_ok-unasked.ensures c.of.result c.of.ensures

@@ -1,14 +1,15 @@
-use Rattle.std.proofs.Common.{◌≡◌, ap, sym, ◌∙◌}
+use Rattle.std.proofs.Common.{◌≡◌, true, ap, sym, ◌∙◌}
+use Rattle.std.proofs.lemmas.Bool.{both_ways}
 use Rattle.std.proofs.lemmas.Option.{MatchOption-at_none}
-use Rattle.report.specs.inner.Lines.{some_held}
-use Rattle.report.proofs.WholeLemmas.{same_versions, tables_told}
+use Rattle.report.specs.inner.Versions.{fits_holds}
+use Rattle.report.proofs.WholeLemmas.{tables_told}
 use Rattle.report.proofs.reading.tables.Goals as goal
 
-pub returns-then-held-has_lines : goal.returns-then-held-has_lines
-returns-then-held-has_lines c = λ hs ls v w h e.
+pub returns-then-not-fits : goal.returns-then-not-fits
+returns-then-not-fits c = λ hs ls v w h e.
     let told = tables_told c.in_ok-holds.holds c.in_ok-holds.rest.now hs ls c.in_ok-holds.ensures.0 c.in_ok-holds.ensures.2 v w (sym c.in_ok-holds.ensures.1 ∙ e) in
-    let same : c.args.held ≡ c.has_lines.result = h ∙ (ap some_held (sym told.0) ∙ sym c.has_lines.ensures) in
-    same_versions c.args.held c.has_lines.result same c.if-held-has_lines.true
+    let fits : c.fits.result ≡ true = c.fits.ensures ∙ (ap (fits_holds c.args.version) told.0 ∙ h) in
+    both_ways c.fits.result c.if-not-fits.true fits
 
 pub returns-in_default : goal.returns-in_default
 returns-in_default c = λ hs ls v w h e.

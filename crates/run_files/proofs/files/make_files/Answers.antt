@@ -1,22 +1,34 @@
-use Rattle.std.proofs.Common.{subst}
+use Rattle.std.proofs.Common.{Bool, List, subst}
 use Rattle.netlist.specs.Conditions.{IsSound}
 use Rattle.statement.specs.Netlists.{Netlist}
 use Rattle.fault_collapse.specs.Classes.{AreClasses}
+use Rattle.good_files.specs.ScanOff.{design_chains}
+use Rattle.run_files.specs.Runs.{asked_by}
+use Rattle.run_files.specs.inner.Searches.{AreSearched}
+use Rattle.run_files.specs.inner.Written.{IsWritten}
 use Rattle.run_files.proofs.files.make_files.Goals as goal
 
 pub returns : goal.returns
 returns g c =
     let n = c.args.core.now in
+    let holds = c.args.holds.now in
+    let plan = c.args.plan in
+    let wanted = c.args.wanted in
+    let refutes = g.E.Engine.refutes in
     let classes = c.in_ok-subject.subject.classes in
     let found = c.in_ok-found.found in
-    c.written_is_run.ensures n c.args.holds.now c.args.plan.chains c.args.plan.limit g.E.Engine.refutes classes found.patterns.items found.verdicts.items c.in_ok-files.files
-    (subst IsSound c.netlist-netlist.ensures c.sound.ensures) c.requires.design
+    let files = c.in_ok-files.files in
+    c.written_is_run.ensures n (asked_by plan wanted holds refutes) classes found.patterns.items found.verdicts.items files (subst IsSound c.netlist-netlist.ensures c.sound.ensures) c.requires.design
     (record {
       some = c.requires.some;
       limit_is = c.requires.limit;
       held = c.requires.held;
+      size = c.requires.faults;
       are_classes = subst (λ (m : Netlist). AreClasses m classes) c.netlist-netlist.ensures c.in_ok-subject.ensures.classes;
-      found = c.in_ok-found.ensures.verdicts;
-      kinds = c.in_ok-found.ensures.kinds;
-      written = c.in_ok-files.ensures;
+      searched =
+          subst (λ (ms : List Bool). AreSearched n holds plan.limit refutes plan.percent classes ms wanted.first.items found.patterns.items found.verdicts.items) c.deref.ensures.value
+          c.in_ok-found.ensures;
+      written =
+          subst (λ (ms : List Bool). IsWritten n holds (design_chains n plan.chains) classes plan.limit ms found.patterns.items found.verdicts.items files) c.deref-2.ensures.value
+          c.in_ok-files.ensures;
     })

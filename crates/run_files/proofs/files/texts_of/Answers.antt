@@ -46,6 +46,6 @@ returns c =
       small = subst (λ (ls : List (Fault × Evidence)). All (λ (p : Fault × Evidence). HasSmallNumbers p.1) ls) (c.as_slice-2.ensures.value ∙ (c.in_ok-leaves.ensures ∙ reps)) c.in_ok-certificate.ensures.within;
       report = c.in_ok-report.ensures;
       is_report = c.sound-2.ensures;
-      said = subst (λ (cs : List (List ℕ)). IsSaid n cs holds s.classes limit found.patterns.items found.verdicts.items c.in_ok-said.said) same_chains
-          (subst (λ (m : Netlist). IsSaid m c.args.chains.now holds s.classes limit found.patterns.items found.verdicts.items c.in_ok-said.said) same_netlist c.in_ok-said.ensures);
+      said = subst (λ (cs : List (List ℕ)). IsSaid n cs holds s.classes limit c.args.asked.now found.patterns.items found.verdicts.items c.in_ok-said.said) same_chains
+          (subst (λ (m : Netlist). IsSaid m c.args.chains.now holds s.classes limit c.args.asked.now found.patterns.items found.verdicts.items c.in_ok-said.said) same_netlist c.in_ok-said.ensures);
     }

@@ -21,7 +21,7 @@ loop-i-preserved c =
     let verdicts = c.args.verdicts.now in
     let v = c.index-verdicts-class_of.result in
     let at = subst (λ (fs : List Fault). slice_get fs i ≡ Some c.fault.result) c.requires.universe c.fault.ensures in
-    let lt : i < length numbers = omega (arith, c.loop-i-test.true, c.len-i-end.ensures, ap length c.requires.universe, c.requires.size) in
+    let lt : i < length numbers = omega (arith, c.loop-i-test.true, c.len-i-end.ensures, ap length c.requires.universe, c.requires.size.0) in
     let within : get_or numbers i 0 < length verdicts = All-get_or (λ class. class < length verdicts) numbers i 0 lt c.requires.within in
-    lines_more n c.args.chains.now numbers verdicts i c.fault.result v c.loop-i.lines c.in_ok-lines.lines at within
+    lines_more n c.args.chains.now numbers c.args.asked.now verdicts i c.fault.result v c.loop-i.lines c.in_ok-lines.lines at within
     (c.index-verdicts-class_of.is ∙ ap (λ k. get_or verdicts k v) c.class_of.ensures) c.in_ok-lines.ensures c.loop-i.invariant

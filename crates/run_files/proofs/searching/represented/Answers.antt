@@ -5,6 +5,11 @@ use Rattle.run_files.proofs.PointLemmas.{have_lines}
 use Rattle.run_files.proofs.SearchLemmas.{few_classes}
 use Rattle.run_files.proofs.searching.represented.Goals as goal
 
+pub returns-clause-all : goal.returns-clause-all
+returns-clause-all c =
+    let all = c.few_faults.ensures c.args.core.now (subst IsSound c.netlist.ensures c.sound.ensures) in
+    omega (arith, c.requires.classes.size, all, c.requires.design.small)
+
 pub returns-clause-few : goal.returns-clause-few
 returns-clause-few c =
     let n = c.args.core.now in

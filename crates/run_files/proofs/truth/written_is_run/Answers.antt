@@ -11,14 +11,18 @@ use Rattle.good_files.specs.ScanOff.{design_chains}
 use Rattle.run_files.specs.Runs.{contents_of, files_of}
 use Rattle.run_files.specs.inner.Verdicts.{MayHave, leaves_of}
 use Rattle.good_files.proofs.TreesAlone.{begins_alone}
+use Rattle.run_files.proofs.AskedLemmas.{are_asked, first_kept}
 use Rattle.run_files.proofs.PointLemmas.{leaves_kinds}
 use Rattle.run_files.proofs.truth.written_is_run.Goals as goal
 
 pub returns : goal.returns
-returns c = λ n holds asked limit refutes classes patterns verdicts made sound design run.
-    let by = c.written_is_good.ensures n holds asked limit refutes classes patterns verdicts made sound design run in
+returns c = λ n a classes patterns verdicts made sound design run.
+    let by = c.written_is_good.ensures n a classes patterns verdicts made sound design run in
     let files = files_of made in
-    let chains = design_chains n asked in
+    let holds = a.holds in
+    let limit = a.limit in
+    let chains = design_chains n a.chains in
+    let lines = run.written.said.lines in
     let own : RunTheorem n by.good.tested.holds (design_chains n (chains_said made.said)) limit by.file files =
     subst (λ (l : ℕ). RunTheorem n by.good.tested.holds (design_chains n (chains_said made.said)) l by.file files) by.limit_is
     (c.good_files_tell_the_truth.ensures files (contents_of n by.file by.evidence made) sound design by.good) in
@@ -37,11 +41,13 @@ returns c = λ n holds asked limit refutes classes patterns verdicts made sound 
       limit_is = by.limit_is;
       needed =
           subst (λ (ps : List Pattern). (place : ℕ) → place < length ps → IsNeeded n ps by.good.tested.classes.representatives place) (sym by.patterns_are)
-          (subst (λ (cs : Classes). (place : ℕ) → place < length patterns → IsNeeded n patterns cs.representatives place) (sym by.classes_are) run.found.needed);
+          (subst (λ (cs : Classes). (place : ℕ) → place < length patterns → IsNeeded n patterns cs.representatives place) (sym by.classes_are) run.searched.verdicts_are.needed);
+      asked = are_asked n a chains classes run.are_classes run.size patterns verdicts run.searched made.said.lines lines;
+      first = first_kept n a chains classes run.are_classes run.size patterns verdicts run.searched made.said.lines lines sound c.detected_alike.ensures;
       statement = subst (λ (f : FiveFiles). Statement n holds chains f) written truth.statement;
       truth = truth;
       trees = λ none.
           let leaves = leaves_of classes.representatives verdicts in
-          let alone = leaves_kinds false classes.representatives verdicts (subst (λ (b : Bool). All (MayHave b) verdicts) none run.kinds) in
+          let alone = leaves_kinds false classes.representatives verdicts (subst (λ (b : Bool). All (MayHave b) verdicts) none run.searched.kinds) in
           c.trees_as_before.ensures n holds chains limit by.file files (flat_map (evidence_line n) leaves) truth (run.written.certificate ∙ begins_alone n leaves alone);
     }

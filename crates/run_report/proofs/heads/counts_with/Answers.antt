@@ -33,4 +33,5 @@ returns c =
       redundant = tally.redundant i;
       aborted = tally.aborted i;
       untested = tally.redundant i + tally.aborted i;
+      unasked = tally.unasked i;
     }

@@ -1,4 +1,4 @@
-use Rattle.std.proofs.Common.{◌++◌, ◌∷◌, [], ◌∙◌, ap, List, replicate}
+use Rattle.std.proofs.Common.{◌++◌, ◌∷◌, [], ◌∙◌, ap, replicate}
 use Rattle.statement.specs.Benches.{Text}
 use Rattle.statement.specs.declared.kinds.Tri.TheVariants.{X}
 use Rattle.statement.specs.Tests.{char_of_value}

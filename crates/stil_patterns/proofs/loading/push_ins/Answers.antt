@@ -1,6 +1,5 @@
 use Rattle.std.proofs.Common.{◌≡◌, ◌+◌, ◌-◌, ◌≤◌, length, map, take, drop, ap, ◌∙◌, ◌++◌, arith, length-take, List}
 use Rattle.std.proofs.lemmas.List.{take_all}
-use Rattle.statement.specs.Benches.{Text}
 use Rattle.statement.specs.Tests.{longest_of, by_chain, word_in}
 use Rattle.scan_play.proofs.LoadLemmas.{start_more, start_within, chain_short}
 use Rattle.stil_vectors.specs.TestFiles.{text_of_bits}

@@ -1,4 +1,4 @@
-use Rattle.std.proofs.Common.{◌<◌, ◌++◌, ◌∙◌, ap, length, map, refl, arith, List, ℕ}
+use Rattle.std.proofs.Common.{◌<◌, ◌++◌, ◌∙◌, ap, length, map, refl, List}
 use Rattle.statement.specs.Benches.{Text}
 use Rattle.statement.specs.Netlists.{name_of, signals}
 use Rattle.netlist.proofs.Settling.{cells_below}

@@ -1,9 +1,5 @@
-use Rattle.std.proofs.Common.{◌<◌, ◌∙◌, ap, length, arith}
-use Rattle.std.specs.Prelude.{slice_index}
-use Rattle.std.proofs.lemmas.List.{take_all}
-use Rattle.statement.specs.Runs.{output_name}
-use Rattle.stil_vectors.proofs.FitLemmas.{output_at, output_small}
-use Rattle.stil_patterns.proofs.WordLemmas.{named_more}
+use Rattle.std.proofs.Common.{arith}
+use Rattle.stil_vectors.proofs.FitLemmas.{output_small}
 use Rattle.stil_patterns.proofs.names.output_names.Goals as goal
 
 pub overflow_cast-place : goal.overflow_cast-place

@@ -1,6 +1,4 @@
-use Rattle.std.proofs.Common.{◌<◌, ◌∙◌, List, Bool, ap, sym, length, arith}
-use Rattle.std.proofs.lemmas.Option.{get_or_from_slice_get}
-use Rattle.statement.specs.Tests.{held_or_zero, char_of_bit}
+use Rattle.std.proofs.Common.{◌<◌, length, arith}
 use Rattle.stil_patterns.proofs.WordLemmas.{idle_more}
 use Rattle.stil_patterns.proofs.names.shift_word.Goals as goal
 

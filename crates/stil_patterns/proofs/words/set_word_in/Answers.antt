@@ -1,4 +1,4 @@
-use Rattle.std.proofs.Common.{◌≤◌, ◌<◌, false, length, arith}
+use Rattle.std.proofs.Common.{false, arith}
 use Rattle.statement.specs.Tests.{word_in, char_of_bit}
 use Rattle.stil_patterns.proofs.FileLemmas.{length-word_in}
 use Rattle.stil_patterns.proofs.WordLemmas.{char_more, chars_end}

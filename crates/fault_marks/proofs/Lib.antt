@@ -1,0 +1,3 @@
+pub mod KeptLemmas
+pub mod LineLemmas
+pub mod MarkLemmas

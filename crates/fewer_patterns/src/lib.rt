@@ -1,0 +1,25 @@
+//! Fewer patterns that detect as much: tester time is what a buyer pays for.
+//!
+//! Each pattern is relaxed to the bits that the faults left to it need, relaxed patterns that don't contradict each other are merged, and what stays open
+//! is filled anew. (Kajihara and Miyase, On identifying don't care inputs of test patterns, 2001.) Which bits are needed is found by tracing values
+//! from the point where a fault is detected back to inputs and cells; that owes nothing, since a round's patterns are taken only where a simulation of
+//! all faults says that they detect as much. To choose among the given patterns alone (a cover) costs a table of all that each pattern detects, and
+//! leaves a seventh more of them.
+//!
+//! Gives: `fewer`, `Rounds`.
+//! Proved: `fewer`: patterns of the netlist that obey the held inputs, no more than were given, which detect each of the faults that the given ones do.
+//! Tested: that there are fewer, by rows of `cases`.
+//! Neither: how many fewer; time.
+#![tactic(auto)]
+
+mod arranging;
+mod filling;
+mod merging;
+mod relaxing;
+mod rounds;
+mod rows;
+mod sorting;
+mod tracing;
+mod worlds;
+
+pub use rounds::{Rounds, fewer};

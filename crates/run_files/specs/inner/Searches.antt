@@ -1,0 +1,82 @@
+-- What a search finds.
+use Rattle.std.specs.Prelude.{ℕ, ◌≡◌, ◌-◌, ◌*◌, ◌<◌, ◌≤◌, ◌^◌, ◌⊎◌, ◌↔◌, ⊤, Bool, true, false, List, length, Option, Some, None, slice_index_or}
+use Rattle.std.specs.Int.{div_ceil}
+use Rattle.std.specs.List.{All, slice_get}
+use Rattle.statement.specs.declared.lines.Fault.{Fault}
+use Rattle.statement.specs.declared.lines.Point.{Point}
+use Rattle.statement.specs.Netlists.{Netlist}
+use Rattle.statement.specs.Patterns.{Holds, Pattern, IsDetectedAt}
+use Rattle.cubes.specs.Cubes.{IsPatternOf}
+use Rattle.redundancy_cert.specs.Trees.{closed_count, open_count}
+use Rattle.redundancy_cert.specs.Fits.{Fits}
+use Rattle.evidence.specs.Evidence.{MayBe, Shows, open_ends}
+use Rattle.fault_collapse.specs.Numbers.{Classes}
+use Rattle.list_core.specs.Enough.{detected_weight}
+use Rattle.list_core.specs.declared.goals.Goal.{Goal}
+use Rattle.list_core.specs.declared.verdicts.Verdict.{Verdict}
+use Rattle.list_core.specs.declared.verdicts.Verdict.TheVariants.{Open, Detected, Redundant, Aborted}
+use Rattle.list_core.specs.Verdicts.{is_open, one_if_class_detected, verdict_at}
+use Rattle.worker.specs.Working.{NoneOpen}
+pub use Rattle.fewer_patterns.specs.Fewer.{IsSeenBy}
+use Rattle.run_files.specs.Runs.{count_true}
+use Rattle.run_files.specs.inner.Classes.{IsAskedClass, detected_in}
+use Rattle.run_files.specs.inner.Spread.{marked_weight, unmarked_weights}
+use Rattle.run_files.specs.inner.Verdicts.{AreVerdicts, MayHave}
+
+-- The verdict before compaction is true of the fault: some pattern detects it, wherever it stands by now; or there is evidence.
+abbrev pub IsKnown : Netlist → Holds → ℕ → Bool → List Pattern → Fault → Verdict → Type 0
+IsKnown n holds limit refutes patterns f Open = ⊤
+IsKnown n holds limit refutes patterns f (Detected place point) = IsSeenBy n patterns f
+IsKnown n holds limit refutes patterns f (Redundant e) = Shows f n holds e × (open_ends e ≡ 0) × MayBe refutes e
+IsKnown n holds limit refutes patterns f (Aborted tree) = Fits f n holds tree × (closed_count tree ≡ limit) × (1 ≤ open_count tree)
+
+pub record AreKnown (n : Netlist) (holds : Holds) (limit : ℕ) (refutes : Bool) (faults : List Fault) (patterns : List Pattern) (verdicts : List Verdict) : Type 0 where
+  pub count : length verdicts ≡ length faults
+  pub obey : All (IsPatternOf n holds) patterns
+  pub each : (class : ℕ) (f : Fault) → slice_get faults class ≡ Some f → IsKnown n holds limit refutes patterns f (verdict_at verdicts class)
+
+-- marks of the faults that some pattern detects
+pub record AreDetectedMarks (n : Netlist) (patterns : List Pattern) (faults : List Fault) (marks : List Bool) : Type 0 where
+  pub size : length marks ≡ length faults
+  pub each : (k : ℕ) (f : Fault) → slice_get faults k ≡ Some f → (slice_index_or marks k false ≡ true) ↔ IsSeenBy n patterns f
+
+-- ---- enough
+
+-- Of the classes that aren't marked those that are detected are to weigh what is enough, less what the marked ones weigh.
+pub record IsGoal (percent asked : ℕ) (weights : List ℕ) (marks : List Bool) (g : Goal) : Type 0 where
+  pub weights_are : g.weights.items ≡ unmarked_weights marks weights
+  pub enough : g.enough ≡ div_ceil (percent * asked) 100 - marked_weight marks weights
+
+abbrev pub IsGoalOf : Option ℕ → ℕ → List ℕ → List Bool → Option Goal → Type 0
+IsGoalOf None asked weights marks None = ⊤
+IsGoalOf None asked weights marks (Some g) = ⊥
+IsGoalOf (Some percent) asked weights marks None = ⊥
+IsGoalOf (Some percent) asked weights marks (Some g) = IsGoal percent asked weights marks g
+
+-- so many in a hundred of those that are asked for weigh the classes that are detected
+abbrev pub IsMet : Option ℕ → ℕ → ℕ → Type 0
+IsMet None asked detected = ⊥
+IsMet (Some percent) asked detected = percent * asked ≤ 100 * detected
+
+-- ---- what is found
+
+-- of faults that are asked for, each with the weight of its class
+pub record AreFound (n : Netlist) (holds : Holds) (limit : ℕ) (refutes : Bool) (percent : Option ℕ) (asked : ℕ) (faults : List Fault) (weights : List ℕ) (first : List Pattern)
+    (patterns : List Pattern) (verdicts : List Verdict) : Type 0 where
+  pub verdicts_are : AreVerdicts n holds faults limit patterns verdicts
+  pub kinds : All (MayHave refutes) verdicts
+  pub few : length patterns < 2 ^ 32
+  pub first_kept : (class : ℕ) (f : Fault) → slice_get faults class ≡ Some f → IsSeenBy n first f → one_if_class_detected (verdict_at verdicts class) ≡ 1
+  pub done : NoneOpen verdicts ⊎ IsMet percent asked (detected_weight weights verdicts)
+
+-- of all classes, where these faults are asked for: no other class has a verdict
+pub record AreSearched (n : Netlist) (holds : Holds) (limit : ℕ) (refutes : Bool) (percent : Option ℕ) (classes : Classes) (marks : List Bool) (first : List Pattern)
+    (patterns : List Pattern) (verdicts : List Verdict) : Type 0 where
+  pub verdicts_are : AreVerdicts n holds classes.representatives limit patterns verdicts
+  pub kinds : All (MayHave refutes) verdicts
+  pub few : length patterns < 2 ^ 32
+  pub asked : (class : ℕ) → is_open (verdict_at verdicts class) ≡ false → IsAskedClass classes.numbers marks class
+  pub first_kept : (class : ℕ) (f : Fault) → slice_get classes.representatives class ≡ Some f → IsAskedClass classes.numbers marks class → IsSeenBy n first f
+      → one_if_class_detected (verdict_at verdicts class) ≡ 1
+  pub done : ((class : ℕ) → IsAskedClass classes.numbers marks class → is_open (verdict_at verdicts class) ≡ false)
+      ⊎ IsMet percent (count_true marks) (detected_in classes.numbers marks verdicts)
