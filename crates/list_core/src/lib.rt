@@ -7,7 +7,6 @@
 //! whether enough is detected for a goal; `compact`: exactly the patterns that are the last to detect some class, as each of them still is among
 //! those that are kept, each class that some pattern detects at its new place, with its first point there; `needed`, `new_places`, `kept`: marks at
 //! the places where some fault is last detected, the new places of marked elements, and these elements.
-//! last detected, the new places of marked elements, and these elements.
 //! Tested: that it comes to these answers, by rows of `list_calls`; compaction is run by `run`.
 #![tactic(auto)]
 
