@@ -21,7 +21,6 @@ use Rattle.scan_play.specs.declared.played.Played.TheVariants.{Passes, Fails, Un
 use Rattle.stil_read.specs.Reading.{StandsFor}
 use Rattle.statement.specs.Stils.{StilFile}
 use Rattle.commands.specs.Names.{texts_of}
-use Rattle.commands.specs.Due.{Due}
 use Rattle.commands.specs.Worked.{IsWorked}
 use Rattle.commands.specs.declared.product.Product.{Product}
 use Rattle.commands.specs.declared.product.Stop.{Stop}

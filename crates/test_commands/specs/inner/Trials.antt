@@ -1,5 +1,5 @@
 -- What is played on what.
-use Rattle.std.specs.Prelude.{◌≡◌, ◌<◌, ⊤, [], ◌∷◌, Option, Result, Ok, Err, length}
+use Rattle.std.specs.Prelude.{◌≡◌, ⊤, [], ◌∷◌, Option, Result, Ok, Err}
 use Rattle.statement.specs.Benches.{Text}
 use Rattle.bench_text.specs.declared.refusal.Names.TheVariants.{Scanned}
 use Rattle.statement.specs.declared.lines.Fault.{Fault}
