@@ -2,9 +2,8 @@
 ghost use Rattle.std.specs.Prelude.{◌<◌};
 ghost use Rattle.netlist.specs.Designs.{IsDesign};
 
-use crate::detection::all_drawn;
 use crate::stil_files::{push_file, push_patterns};
-use case_nets::{chains_of, holds_of};
+use case_nets::{all_drawn, chains_of, holds_of};
 use case_text::{Named, Pushed, checksum, cut, push_number, small, text_of};
 use netlist::Core;
 use rand_pcg::Pcg32;

@@ -2,7 +2,7 @@ use Rattle.std.proofs.Common.{List, subst, sym}
 use Rattle.std.specs.List.{All}
 use Rattle.statement.specs.Runs.{Cycle}
 use Rattle.scan_play.specs.Cycles.{IsCycleOf}
-use Rattle.calls.proofs.wrong.told_of.Goals as goal
+use Rattle.file_calls.proofs.wrong.told_of.Goals as goal
 
 pub first_wrong-requires-clause-fits : goal.first_wrong-requires-clause-fits
 first_wrong-requires-clause-fits c =
