@@ -1,5 +1,5 @@
 #!/usr/bin/env python3
-"""Works out what the rows of crates/calls, crates/list_calls, crates/cases and crates/check_cases have to print, by plain
+"""Works out what the rows of crates/calls, crates/file_calls, crates/list_calls, crates/cases and crates/check_cases have to print, by plain
 programs apart from the crates, and compares.
 
 A row that this program doesn't know (a refusal, a line of an error output) is worked out by hand; how many there are is printed.
@@ -814,4 +814,4 @@ def check_check_cases():
 
 
 if __name__ == "__main__":
-    sys.exit(1 if check_calls("calls") + check_calls("list_calls") + check_cases() + check_check_cases() else 0)
+    sys.exit(1 if check_calls("calls") + check_calls("file_calls") + check_calls("list_calls") + check_cases() + check_check_cases() else 0)

@@ -9,7 +9,7 @@ use Rattle.commands.specs.declared.product.Stop.TheVariants as stop
 use Rattle.check_command.specs.Checking as command
 use Rattle.check_command.specs.declared.refusal.CheckRefusal.{CheckRefusal}
 use Rattle.atpg_top.specs.Checks.{check_due, refusal_of}
-use Rattle.atpg_top.specs.declared.refusal.Refusal.{Refusal}
+use Rattle.command_steps.specs.declared.refusal.Refusal.{Refusal}
 
 pub done : (texts : List Text) (p : Product) → IsWorked (command.five_texts_due texts) 0 (Ok p) → IsWorked (check_due texts) 0 (Ok p)
 done texts p is = ((Deliver (texts_of p.texts.items) p.shown.items p.finding, is.0, refl), is.1)

@@ -8,7 +8,7 @@ use Rattle.commands.specs.declared.ending.Ending.{Ending}
 use Rattle.commands.specs.declared.ending.Ending.TheVariants as ending
 use Rattle.atpg_top.specs.Laws.{DeclinedExactly, EndsBy, IsDeclinedFor}
 use Rattle.atpg_top.specs.Rows.{LineRow, TopRow, WordsRow}
-use Rattle.atpg_top.specs.declared.refusal.Refusal.{Refusal}
+use Rattle.command_steps.specs.declared.refusal.Refusal.{Refusal}
 use Rattle.atpg_top.specs.declared.status.Status.{Status}
 use Rattle.atpg_top.specs.declared.status.Status.TheVariants as status
 

@@ -11,9 +11,9 @@ use Rattle.commands.specs.Due.{Due, Deliver, Refuse}
 use Rattle.check_command.specs.Checking as command
 use Rattle.check_command.specs.declared.refusal.CheckRefusal.{CheckRefusal}
 use Rattle.check_command.specs.declared.refusal.CheckRefusal.TheVariants as check
-use Rattle.atpg_top.specs.Runs.{texts_made}
-use Rattle.atpg_top.specs.declared.refusal.Refusal.{Refusal}
-use Rattle.atpg_top.specs.declared.refusal.Refusal.TheVariants as refusal
+use Rattle.asked_run.specs.Asked.{texts_made}
+use Rattle.command_steps.specs.declared.refusal.Refusal.{Refusal}
+use Rattle.command_steps.specs.declared.refusal.Refusal.TheVariants as refusal
 
 abbrev pub refusal_of : CheckRefusal → Refusal
 refusal_of (check.Netlist why) = refusal.Netlist why

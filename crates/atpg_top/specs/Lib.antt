@@ -1,14 +1,7 @@
-pub mod Steps
 pub mod Lines
 pub mod Scans
 pub mod FaultLists
-pub mod Plays
-pub mod ChainTests
-pub mod Grades
 pub mod Checks
-pub mod Runs
-pub mod Asked
-pub mod Diagnoses
 pub mod Sweeps
 pub mod Commands
 pub mod Rows

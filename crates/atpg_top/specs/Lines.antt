@@ -6,8 +6,8 @@ use Rattle.commands.specs.declared.ending.Finding.TheVariants.{Fine, Differs}
 use Rattle.commands.specs.declared.ending.Ending.{Ending}
 use Rattle.commands.specs.declared.ending.Ending.TheVariants.{Ended, Refused, ReadFailed, WriteFailed, Missing, TooLong, Memory}
 use Rattle.commands.specs.Lines.{failure_line, netlist_line}
-use Rattle.atpg_top.specs.declared.refusal.Refusal.{Refusal}
-use Rattle.atpg_top.specs.declared.refusal.Refusal.TheVariants.{Netlist, NoSuchFault, NoSuchInput, NotStil, NotCertificate, NotReport, NotLog, NoFaultAt, StilDoesNotFit}
+use Rattle.command_steps.specs.declared.refusal.Refusal.{Refusal}
+use Rattle.command_steps.specs.declared.refusal.Refusal.TheVariants.{Netlist, NoSuchFault, NoSuchInput, NotStil, NotCertificate, NotReport, NotLog, NoFaultAt, StilDoesNotFit}
 use Rattle.atpg_top.specs.declared.status.Status.{Status}
 use Rattle.atpg_top.specs.declared.status.Status.TheVariants.{BadWords, BadHold, BadPrefix, WritesOver, Command}
 

@@ -11,7 +11,7 @@ use Rattle.commands.specs.declared.ending.Ending.TheVariants as ending
 use Rattle.commands.specs.Lines.{IsSaid}
 use Rattle.atpg_top.specs.Commands.{due}
 use Rattle.atpg_top.specs.Lines.{status_line}
-use Rattle.atpg_top.specs.declared.refusal.Refusal.{Refusal}
+use Rattle.command_steps.specs.declared.refusal.Refusal.{Refusal}
 use Rattle.atpg_top.specs.declared.status.Status.{Status}
 use Rattle.atpg_top.specs.declared.status.Status.TheVariants as status
 

@@ -12,8 +12,8 @@ use Rattle.statement.specs.Tests.{vectors_in}
 use Rattle.statement.specs.Stils.{StilFile}
 use Rattle.run_files.specs.declared.files.RunFiles.{RunFiles}
 use Rattle.run_files.specs.Runs.{Asked, IsRun}
-use Rattle.atpg_top.specs.Asked.{all_faults}
-use Rattle.atpg_top.specs.Plays.{IsPlay}
+use Rattle.asked_run.specs.Asked.{all_faults}
+use Rattle.test_commands.specs.Plays.{IsPlay}
 
 -- ---- the run
 

@@ -1,11 +1,4 @@
-pub mod Answers
 pub mod Declined
-pub mod Designs
 pub mod Pieces
-pub mod Trials
-pub mod ChainTrials
-pub mod GradeTrials
-pub mod Cases
 pub mod Held
-pub mod Asking
 pub mod Running

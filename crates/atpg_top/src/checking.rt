@@ -5,8 +5,8 @@ ghost use Rattle.commands.specs.Rows.{CommandRow};
 ghost use Rattle.commands.specs.World.{world};
 ghost use Rattle.atpg_top.specs.Checks.{check_due, refusal_of};
 
-use crate::refusal::Refusal;
 use check_command::{CheckRefusal, check_texts};
+use command_steps::Refusal;
 use commands::{Ending, Product, Stop, Work, file_names, run_command};
 use outside::{Shelf, Sink};
 use std::alloc::Global;

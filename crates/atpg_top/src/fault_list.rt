@@ -10,8 +10,9 @@ ghost use Rattle.atpg_top.specs.FaultLists.{counts_line, listed_fault_line, faul
 ghost use Rattle.commands.specs.Pieces.{PutsText};
 ghost use Rattle.atpg_top.specs.inner.Pieces.{PutsFaultList, PutsPiece};
 
+use command_steps::faults_of;
 use fault_collapse::{Classes, collapse};
-use fault_universe::{FaultSet, faults_have_signals, few_faults, push_text, universe};
+use fault_universe::{FaultSet, faults_have_signals, push_text};
 use itoa::Buffer;
 use netlist::{Fault, Netlist, NoMemory};
 use outside::{Sink, WriteRefusal};
@@ -100,15 +101,6 @@ fn put_faults<T: Sink>(
         put_fault(out, text, netlist, faults.fault(i), classes.class_of(i))?;
     }
     out.put(text.as_slice())
-}
-
-pub fn faults_of(alloc: Global, netlist: &Netlist) -> Result<FaultSet, NoMemory>
-    requires { IsDesign netlist.now }
-    ensures { IfOk result (λ faults. faults ≡ universe_of netlist.now) }
-{
-    netlist.sound();
-    few_faults();
-    universe(alloc, netlist)
 }
 
 /// Room for a piece, and in it the line that counts faults and classes.

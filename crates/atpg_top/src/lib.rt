@@ -27,36 +27,22 @@ ghost use Rattle.atpg_top.specs.inner.Held.{names_held};
 ghost use Rattle.atpg_top.specs.Lines.{status_code};
 ghost use Rattle.atpg_top.specs.declared.status.Status.{Status};
 
-mod asking;
-mod chain_testing;
 mod checking;
-mod design;
-mod diagnosing;
 mod fault_list;
-mod five_files;
-mod grade_lines;
-mod grading;
-mod holding;
 mod laws;
 mod lines;
 mod listing;
-mod nearest_faults;
-mod playing;
-mod reading;
-mod refusal;
-mod running;
 mod scanning;
 mod slow_lines;
 mod status;
 mod sweeping;
-mod told_lines;
 
-use chain_testing::test_chains;
+use asked_run::run_netlist;
 use checking::check_run;
 use command_line::{Held, Request, WordsRefusal, parse};
+use command_steps::Refusal;
 use commands::Ending;
-use diagnosing::diagnose_log;
-use grading::grade_test;
+use diagnose_command::diagnose_log;
 pub use laws::{
     declined_exactly, each_exclusive, failed_exactly, missing_exactly, nothing_else,
     refused_exactly, runs_pass, too_long_exactly,
@@ -64,9 +50,6 @@ pub use laws::{
 use lines::tell;
 use listing::list_faults;
 use outside::{Gate, Shelf, Sink};
-use playing::play_test;
-use refusal::Refusal;
-use running::run_netlist;
 use scanning::scan_netlist;
 use slow_lines::test_slow_lines;
 use status::Status;
@@ -74,6 +57,7 @@ use std::alloc::Global;
 use std::sync::Wait;
 use std::thread::Threads;
 use sweeping::sweep_sample;
+use test_commands::{grade_test, play_test, test_chains};
 
 /// Does what was asked.
 fn perform<'a, R: Threads + Wait + Sync, S: Shelf, T: Sink, G: Gate + Sync>(

@@ -5,9 +5,9 @@ ghost use Rattle.atpg_top.specs.inner.Held.{names_held};
 ghost use Rattle.atpg_top.specs.Lines.{refusal_line};
 ghost use Rattle.atpg_top.specs.Rows.{ErrRow};
 
-use crate::refusal::Refusal;
 use crate::status::Status;
 use command_line::Held;
+use command_steps::Refusal;
 use commands::{Ending, say, say_failed_write, say_name, say_netlist, say_text};
 use itoa::Buffer;
 use outside::Sink;

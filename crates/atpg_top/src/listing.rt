@@ -4,9 +4,8 @@ ghost use Rattle.commands.specs.World.{world};
 ghost use Rattle.commands.specs.Rows.{CommandRow};
 ghost use Rattle.atpg_top.specs.Commands.{faults_due};
 
-use crate::design::design_of;
 use crate::fault_list::put_fault_list;
-use crate::refusal::Refusal;
+use command_steps::{Refusal, design_of};
 use commands::{Ending, FileName, Finding, Stop, WriteFailure, read_in_order};
 use outside::{Shelf, Sink, WriteRefusal};
 use std::alloc::Global;

@@ -1,30 +1,20 @@
 //! `scan`: the scanned netlist of a file, written to another.
-ghost use Rattle.std.specs.Prelude.{◌≡◌, ◌≤◌, ◌++◌, ◌∷◌, [], IfOk, codes, decimal, length};
+ghost use Rattle.std.specs.Prelude.{◌≡◌, ◌≤◌, ◌++◌, ◌∷◌, [], IfOk, codes, decimal};
 ghost use Rattle.netlist.specs.Designs.{IsDesign};
-ghost use Rattle.commands.specs.Names.{texts_of};
 ghost use Rattle.commands.specs.Rows.{CommandRow};
 ghost use Rattle.commands.specs.World.{world};
-ghost use Rattle.commands.specs.declared.ending.Finding.TheVariants.{Fine};
 ghost use Rattle.atpg_top.specs.Commands.{scan_due};
 ghost use Rattle.atpg_top.specs.Scans.{IsScanProduct, scan_line};
 
-use crate::design::design_of;
-use crate::refusal::Refusal;
 use bench_text::write;
-use commands::{Ending, FileName, Finding, Product, Stop, Work, run_command};
+use command_steps::{OneFile, Refusal, design_of, one_file_product};
+use commands::{Ending, FileName, Product, Stop, Work, run_command};
 use itoa::Buffer;
 use netlist::{Netlist, NoMemory};
 use outside::{Shelf, Sink};
 use scan_insert::laws::scan_behaves;
 use scan_insert::{insert, stitch};
 use std::alloc::{AllocError, Global};
-
-/// The text of a command's one file, and the line that it prints.
-#[derive(Drop)]
-pub(crate) struct OneFile {
-    pub text: Vec<u8>,
-    pub line: Vec<u8>,
-}
 
 /// The line that `scan` prints.
 fn count_line(alloc: Global, cells: usize, chains: u32) -> Result<Vec<u8>, AllocError>
@@ -56,22 +46,6 @@ fn texts_of(alloc: Global, netlist: &Netlist, asked: u32) -> Result<OneFile, NoM
         Ok(line) => Ok(OneFile { text, line }),
         Err(_) => Err(NoMemory),
     }
-}
-
-/// The product of these texts: one file, and the line.
-pub(crate) fn product_of(alloc: Global, texts: OneFile) -> Result<Product, AllocError>
-    ensures texts { IfOk result (λ p. texts_of p.texts.items ≡ texts.text.items ∷ []) }
-    ensures count { IfOk result (λ p. length p.texts.items ≡ 1) }
-    ensures shown { IfOk result (λ p. p.shown ≡ texts.line) }
-    ensures fine { IfOk result (λ p. p.finding ≡ Fine) }
-{
-    let mut files = Vec::new(alloc);
-    files.push(texts.text)?;
-    Ok(Product {
-        texts: files,
-        shown: texts.line,
-        finding: Finding::Fine,
-    })
 }
 
 /// Writes the scanned netlist of the file `net`, in at most so many chains, to the file `to`.
@@ -118,7 +92,7 @@ impl Work for Scan {
         let Ok(made) = texts_of(alloc, &netlist, self.chains) else {
             return Err(Stop::NoMemory);
         };
-        match product_of(alloc, made) {
+        match one_file_product(alloc, made) {
             Ok(product) => Ok(product),
             Err(_) => Err(Stop::NoMemory),
         }

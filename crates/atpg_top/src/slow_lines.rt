@@ -11,13 +11,11 @@ ghost use Rattle.commands.specs.declared.ending.Finding.TheVariants.{Fine};
 ghost use Rattle.command_line.specs.CommandLine.{AreInRange};
 ghost use Rattle.transition_run.specs.Runs.{IsTransitionRun, transition_files_of};
 ghost use Rattle.atpg_top.specs.Commands.{transition_due};
-ghost use Rattle.atpg_top.specs.Runs.{tests_line, texts_in};
+ghost use Rattle.command_steps.specs.Runs.{tests_line, texts_in};
 ghost use Rattle.atpg_top.specs.inner.Running.{slow_due};
 
-use crate::design::design_of;
-use crate::five_files::{product_of, tests_line};
-use crate::refusal::Refusal;
 use command_line::{SlowOptions, TreeEngine};
+use command_steps::{Refusal, design_of, five_files_product, tests_line};
 use commands::{Ending, FileName, Product, Stop, deliver, file_names, read_in_order};
 use evidence::Engine;
 use fan::Fan;
@@ -46,7 +44,7 @@ fn product_by(alloc: Global, made: TransitionFiles) -> Result<Product, AllocErro
         report,
         said: _,
     } = made;
-    product_of(alloc, net, scan, stil, certificate, report, shown)
+    five_files_product(alloc, net, scan, stil, certificate, report, shown)
 }
 
 /// The two frames of a design with its first input slow to rise. The frames of every slow line have the same signals, so what guides a search

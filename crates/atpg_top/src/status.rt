@@ -2,7 +2,7 @@
 ghost use Rattle.std.specs.Prelude.{◌≡◌};
 ghost use Rattle.atpg_top.specs.Lines.{status_code, ending_code, refusal_code};
 
-use crate::refusal::Refusal;
+use command_steps::Refusal;
 use commands::{Ending, FileName, Finding};
 
 /// How a call ends.

@@ -20,15 +20,12 @@ ghost use Rattle.stil_vectors.specs.Fitting.{FitsNetlist};
 ghost use Rattle.statement.specs.Stils.{StilFile as File};
 ghost use Rattle.run_files.specs.declared.files.RunFiles.{RunFiles as Made};
 ghost use Rattle.atpg_top.specs.Commands.{sweep_due};
-ghost use Rattle.atpg_top.specs.Plays.{IsPlay};
+ghost use Rattle.test_commands.specs.Plays.{IsPlay};
 ghost use Rattle.atpg_top.specs.Sweeps.{IsPlayedBack, IsSweep, IsSweepRun, number_line, sweep_chains, sweep_text};
 
-use crate::asking::all_faults;
-use crate::five_files::push_count;
-use crate::playing::answer_of;
-use crate::refusal::Refusal;
-use crate::running::by_trees;
+use asked_run::{all_faults, by_trees};
 use command_line::{EngineName, RunOptions, SearchNumbers, TreeEngine};
+use command_steps::{Refusal, push_count};
 use commands::{Ending, Finding, Product, Stop, deliver};
 use net_gen::{generate, samples_are_designs};
 use netlist::{Core, Holds, Netlist, NoMemory};
@@ -44,6 +41,7 @@ use stil_patterns::laws::{file_vectors, files_fit};
 use stil_read::laws::at_most_one;
 use stil_read::{StilFault, read_stil};
 use stil_write::StilFile;
+use test_commands::answer_of;
 
 const CHAINS: u32 = 1;
 

@@ -7,7 +7,7 @@ ghost use Rattle.statement.specs.declared.lines.Fault.{Fault as FaultOf};
 ghost use Rattle.word_sim.specs.Words.{HasWidthsOf};
 
 use crate::faults::{all_faults, listed};
-use case_nets::{drawn, patterns_of};
+use case_nets::{all_drawn, patterns_of};
 use case_text::{Pushed, checksum, cut_at, push_number};
 use cubes::Pattern;
 use netlist::{Core, Fault, Netlist, Point};
@@ -136,22 +136,6 @@ pub fn push_detected(
     }
     let patterns = patterns_of(alloc, core, texts)?;
     push_said(to, alloc, core, &faults, &patterns, is_batch)
-}
-
-/// So many drawn patterns.
-pub fn all_drawn(
-    alloc: Global,
-    core: &Core,
-    count: u32,
-    random: &mut Pcg32,
-) -> Result<Vec<Pattern>, AllocError>
-    ensures { IfOk result (λ v. All (HasWidthsOf core.now) v.items) }
-{
-    let mut patterns = Vec::new(alloc);
-    for _done in 0..count {
-        patterns.push(drawn(alloc, core, random)?)?;
-    }
-    Ok(patterns)
 }
 
 /// `drawn-hits SEED COUNT`, `drawn-last SEED COUNT`: the checksum of what so many drawn patterns say of all faults of the list, by one

@@ -78,10 +78,26 @@ fn drawn_bits(alloc: Global, count: usize, random: &mut Pcg32) -> Result<Vec<boo
 }
 
 /// A pattern for a netlist.
-pub fn drawn(alloc: Global, core: &Core, random: &mut Pcg32) -> Result<Pattern, AllocError>
+fn drawn(alloc: Global, core: &Core, random: &mut Pcg32) -> Result<Pattern, AllocError>
     ensures { IfOk result (HasWidthsOf core.now) }
 {
     let inputs = drawn_bits(alloc, core.netlist().inputs().len(), random)?;
     let cells = drawn_bits(alloc, core.netlist().cells().len(), random)?;
     Ok(Pattern::new(inputs, cells))
+}
+
+/// So many drawn patterns.
+pub fn all_drawn(
+    alloc: Global,
+    core: &Core,
+    count: u32,
+    random: &mut Pcg32,
+) -> Result<Vec<Pattern>, AllocError>
+    ensures { IfOk result (λ v. All (HasWidthsOf core.now) v.items) }
+{
+    let mut patterns = Vec::new(alloc);
+    for _done in 0..count {
+        patterns.push(drawn(alloc, core, random)?)?;
+    }
+    Ok(patterns)
 }

@@ -30,4 +30,3 @@ returns-in-Check g c = rw c.in-Check.is c.check_run.ensures
 
 pub returns-in-Sweep : goal.returns-in-Sweep
 returns-in-Sweep g c = rw c.in-Sweep.is c.sweep_sample.ensures
-

@@ -3,7 +3,8 @@ use Rattle.outside.specs.declared.refusal.WriteRefusal.{WriteRefusal}
 use Rattle.commands.specs.Names.{file_name_of, texts_of}
 use Rattle.commands.specs.declared.ending.Finding.TheVariants.{Fine}
 use Rattle.atpg_top.specs.inner.Pieces.{PutsFaultList}
-use Rattle.atpg_top.proofs.Delivering.{faults_deliver, read_as}
+use Rattle.atpg_top.proofs.Delivering.{faults_deliver}
+use Rattle.command_steps.proofs.RowLemmas.{read_as}
 use Rattle.atpg_top.proofs.listing.list_faults.Goals as goal
 
 pub returns-in-Ok-put_fault_list : goal.returns-in-Ok-put_fault_list

@@ -3,7 +3,7 @@ use Rattle.statement.specs.Benches.{Text}
 use Rattle.commands.specs.World.{world}
 use Rattle.commands.specs.Names.{file_name_of}
 use Rattle.atpg_top.specs.Commands.{scan_due}
-use Rattle.atpg_top.proofs.Delivering.{row_at}
+use Rattle.command_steps.proofs.RowLemmas.{row_at}
 use Rattle.atpg_top.proofs.scanning.scan_netlist.Goals as goal
 
 pub returns : goal.returns

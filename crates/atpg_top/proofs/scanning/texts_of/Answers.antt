@@ -4,7 +4,8 @@ use Rattle.scan_insert.specs.Chains.{chains_of}
 use Rattle.scan_insert.specs.Scanned.{Insertion, scanned_of}
 use Rattle.good_files.specs.ScanOff.{design_chains}
 use Rattle.netlist.proofs.Settling.{cells_distinct}
-use Rattle.atpg_top.proofs.Cells.{few_cells, cell_count, line_same}
+use Rattle.command_steps.proofs.Cells.{few_cells}
+use Rattle.atpg_top.proofs.ScanLemmas.{cell_count, line_same}
 use Rattle.good_files.proofs.Chains.{behaves}
 use Rattle.atpg_top.proofs.scanning.texts_of.Goals as goal
 

@@ -4,4 +4,4 @@ use Rattle.std.specs.declared.alloc.Global.{Global}
 use Rattle.atpg_top.proofs.slow_lines.product_by.Goals as goal
 
 pub returns-clause-shown : goal.returns-clause-shown
-returns-clause-shown c = IfOk-weaker c.product_of.result _ _ (λ p same. ap (λ (v : Vec ℕ Global). v.items) same ∙ c.in_ok-shown.ensures) c.product_of.ensures.shown
+returns-clause-shown c = IfOk-weaker c.five_files_product.result _ _ (λ p same. ap (λ (v : Vec ℕ Global). v.items) same ∙ c.in_ok-shown.ensures) c.five_files_product.ensures.shown

@@ -4,7 +4,7 @@ use Rattle.commands.specs.Names.{file_name_of, file_names_of, run_files, texts_o
 use Rattle.commands.specs.World.{world}
 use Rattle.commands.proofs.CommandLemmas.{command_row}
 use Rattle.atpg_top.specs.Commands.{transition_due}
-use Rattle.atpg_top.proofs.Delivering.{row_at}
+use Rattle.command_steps.proofs.RowLemmas.{row_at}
 use Rattle.atpg_top.proofs.slow_lines.test_slow_lines.Goals as goal
 
 pub returns : goal.returns

@@ -1,6 +1,6 @@
 use Rattle.commands.specs.Names.{texts_of}
 use Rattle.atpg_top.specs.inner.Running.{slow_due}
-use Rattle.atpg_top.proofs.RunLemmas.{design_stops, design_works}
+use Rattle.command_steps.proofs.RunLemmas.{design_stops, design_works}
 use Rattle.atpg_top.proofs.slow_lines.work.Goals as goal
 
 pub returns-in-Ok : goal.returns-in-Ok

@@ -13,7 +13,7 @@ use Rattle.good_files.specs.GoodFiles.{chains_said}
 use Rattle.good_files.specs.ScanOff.{design_chains}
 use Rattle.run_files.specs.declared.files.RunFiles.{RunFiles}
 use Rattle.run_files.specs.Runs.{contents_of, files_of}
-use Rattle.atpg_top.specs.Plays.{IsPlay}
+use Rattle.test_commands.specs.Plays.{IsPlay}
 use Rattle.atpg_top.specs.Sweeps.{IsSweepRun, sweep_chains}
 use Rattle.atpg_top.proofs.SweepLemmas.{fits, on_ok, passes}
 use Rattle.atpg_top.proofs.sweeping.play_back.Goals as goal

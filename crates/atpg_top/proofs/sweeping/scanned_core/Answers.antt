@@ -4,7 +4,7 @@ use Rattle.netlist.proofs.Settling.{cells_distinct}
 use Rattle.scan_insert.specs.Scanned.{Insertion, scanned_of}
 use Rattle.good_files.specs.ScanOff.{design_chains}
 use Rattle.atpg_top.specs.Sweeps.{sweep_chains}
-use Rattle.atpg_top.proofs.Cells.{few_cells}
+use Rattle.command_steps.proofs.Cells.{few_cells}
 use Rattle.atpg_top.proofs.sweeping.scanned_core.Goals as goal
 
 pub stitch-requires-clause-few : goal.stitch-requires-clause-few

@@ -1,0 +1,280 @@
+//! `run`: the five files of a file's netlist.
+ghost use Rattle.std.specs.Prelude.{◌≡◌, ◌≤◌, false, true, IfOk, length, map, option_map};
+ghost use Rattle.std.specs.List.{All};
+ghost use Rattle.netlist.specs.Designs.{IsDesign};
+ghost use Rattle.netlist.specs.Holds.{AreHoldsOf};
+ghost use Rattle.commands.specs.Contents.{most_bytes};
+ghost use Rattle.commands.specs.Names.{run_files, texts_of};
+ghost use Rattle.commands.specs.Rows.{CommandRow};
+ghost use Rattle.commands.specs.Worked.{IsWorked};
+ghost use Rattle.commands.specs.World.{world};
+ghost use Rattle.commands.specs.declared.ending.Finding.TheVariants.{Fine};
+ghost use Rattle.command_line.specs.CommandLine.{AreInRange, hold_of, run_reads};
+ghost use Rattle.run_files.specs.Runs.{IsRun, asked_by};
+ghost use Rattle.asked_run.specs.Asked.{asked_of, made_due, run_due, texts_made, IsWanted, plan_of};
+ghost use Rattle.command_steps.specs.Runs.{tests_line};
+ghost use Rattle.asked_run.specs.inner.Asking.{HaveCount, IsReady};
+
+use crate::asking::{RunCase, case_of};
+use clauses::{Clauses, Then};
+use command_line::{EngineName, Held, RunNames, RunOptions, TreeEngine, run_reads};
+use command_steps::{Refusal, five_files_product, tests_line};
+use commands::{Ending, Product, Stop, deliver, file_names, read_in_order};
+use evidence::Engine;
+use fan::Fan;
+use netlist::{Core, Holds, NoMemory};
+use outside::{Gate, Shelf, Sink};
+use podem::Podem;
+use run_files::{RunFiles, RunPlan, Wanted, make_files};
+use std::alloc::{AllocError, Global};
+use std::sync::Wait;
+use std::thread::Threads;
+
+/// What is written and shown of a run.
+fn product_by(alloc: Global, made: RunFiles) -> Result<Product, AllocError>
+    ensures texts { IfOk result (λ p. texts_of p.texts.items ≡ texts_made made) }
+    ensures count { IfOk result (λ p. length p.texts.items ≡ 5) }
+    ensures shown { IfOk result (λ p. p.shown.items ≡ tests_line made.said.counts) }
+    ensures fine { IfOk result (λ p. p.finding ≡ Fine) }
+{
+    let shown = tests_line(alloc, made.said.counts())?;
+    let RunFiles {
+        net,
+        scan,
+        stil,
+        certificate,
+        report,
+        said: _,
+    } = made;
+    five_files_product(alloc, net, scan, stil, certificate, report, shown)
+}
+
+/// The plan of a run.
+fn plan_of(options: RunOptions) -> RunPlan
+    ensures { result ≡ plan_of options }
+{
+    let numbers = options.numbers;
+    RunPlan {
+        chains: numbers.chains,
+        workers: numbers.workers,
+        limit: numbers.limit,
+        seed: numbers.seed,
+        percent: options.percent,
+        rounds: options.rounds,
+    }
+}
+
+/// The five files, as this engine finds them.
+fn made_by<R: Threads + Wait + Sync, E: Engine + Sync, G: Gate + Sync>(
+    rt: &R,
+    alloc: Global,
+    core: &Core,
+    engine: &E,
+    options: RunOptions,
+    holds: &Holds,
+    wanted: Wanted,
+    stage: &G,
+) -> Result<RunFiles, NoMemory>
+    requires design { IsDesign core.now }
+    requires range { AreInRange options.numbers }
+    requires held { AreHoldsOf core.now holds.now }
+    requires wanted { IsWanted core.now holds.now wanted }
+    ensures { IfOk result (IsRun core.now (asked_by (plan_of options) wanted holds.now E.refutes)) }
+{
+    make_files(
+        rt,
+        alloc,
+        core,
+        plan_of(options),
+        engine,
+        holds,
+        wanted,
+        stage,
+    )
+}
+
+/// The five files, by a tree of decisions for each class.
+pub fn by_trees<R: Threads + Wait + Sync, G: Gate + Sync>(
+    rt: &R,
+    alloc: Global,
+    core: &Core,
+    engine: TreeEngine,
+    options: RunOptions,
+    holds: &Holds,
+    wanted: Wanted,
+    stage: &G,
+) -> Result<RunFiles, NoMemory>
+    requires design { IsDesign core.now }
+    requires range { AreInRange options.numbers }
+    requires held { AreHoldsOf core.now holds.now }
+    requires wanted { IsWanted core.now holds.now wanted }
+    ensures { IfOk result (IsRun core.now (asked_by (plan_of options) wanted holds.now false)) }
+{
+    match engine {
+        TreeEngine::Podem => {
+            let podem = Podem::of(alloc, core)?;
+            made_by(rt, alloc, core, &podem, options, holds, wanted, stage)
+        }
+        TreeEngine::Fan => {
+            let fan = Fan::of(alloc, core)?;
+            made_by(rt, alloc, core, &fan, options, holds, wanted, stage)
+        }
+    }
+}
+
+/// The five files, by clauses that are learned.
+fn by_clauses<R: Threads + Wait + Sync, G: Gate + Sync>(
+    rt: &R,
+    alloc: Global,
+    core: &Core,
+    options: RunOptions,
+    holds: &Holds,
+    wanted: Wanted,
+    stage: &G,
+) -> Result<RunFiles, NoMemory>
+    requires design { IsDesign core.now }
+    requires range { AreInRange options.numbers }
+    requires held { AreHoldsOf core.now holds.now }
+    requires wanted { IsWanted core.now holds.now wanted }
+    ensures { IfOk result (IsRun core.now (asked_by (plan_of options) wanted holds.now true)) }
+{
+    let clauses = Clauses::of(alloc, core)?;
+    made_by(rt, alloc, core, &clauses, options, holds, wanted, stage)
+}
+
+/// The five files, by a tree of decisions for each class, or, where the search gives up, by clauses.
+fn by_trees_then_clauses<R: Threads + Wait + Sync, G: Gate + Sync>(
+    rt: &R,
+    alloc: Global,
+    core: &Core,
+    engine: TreeEngine,
+    options: RunOptions,
+    holds: &Holds,
+    wanted: Wanted,
+    stage: &G,
+) -> Result<RunFiles, NoMemory>
+    requires design { IsDesign core.now }
+    requires range { AreInRange options.numbers }
+    requires held { AreHoldsOf core.now holds.now }
+    requires wanted { IsWanted core.now holds.now wanted }
+    ensures { IfOk result (IsRun core.now (asked_by (plan_of options) wanted holds.now true)) }
+{
+    let second = Clauses::of(alloc, core)?;
+    let few = options.numbers.limit;
+    match engine {
+        TreeEngine::Podem => {
+            let first = Podem::of(alloc, core)?;
+            let both = Then { first, few, second };
+            made_by(rt, alloc, core, &both, options, holds, wanted, stage)
+        }
+        TreeEngine::Fan => {
+            let first = Fan::of(alloc, core)?;
+            let both = Then { first, few, second };
+            made_by(rt, alloc, core, &both, options, holds, wanted, stage)
+        }
+    }
+}
+
+/// The five files, as the engine that was asked for finds them.
+fn made_of<R: Threads + Wait + Sync, G: Gate + Sync>(
+    rt: &R,
+    alloc: Global,
+    core: &Core,
+    options: RunOptions,
+    holds: &Holds,
+    wanted: Wanted,
+    stage: &G,
+) -> Result<RunFiles, NoMemory>
+    requires design { IsDesign core.now }
+    requires range { AreInRange options.numbers }
+    requires held { AreHoldsOf core.now holds.now }
+    requires wanted { IsWanted core.now holds.now wanted }
+    ensures { IfOk result (IsRun core.now (asked_of options holds.now wanted.faults.items wanted.first.items)) }
+{
+    match options.engine {
+        EngineName::Trees(engine) => {
+            by_trees(rt, alloc, core, engine, options, holds, wanted, stage)
+        }
+        EngineName::Clauses => by_clauses(rt, alloc, core, options, holds, wanted, stage),
+        EngineName::TreesThenClauses(engine) => {
+            by_trees_then_clauses(rt, alloc, core, engine, options, holds, wanted, stage)
+        }
+    }
+}
+
+/// What `run` makes of what is asked for.
+fn run_case<R: Threads + Wait + Sync, G: Gate + Sync>(
+    rt: &R,
+    alloc: Global,
+    case: RunCase,
+    options: RunOptions,
+    stage: &G,
+) -> Result<Product, Stop<Refusal>>
+    requires ready { IsReady case }
+    requires range { AreInRange options.numbers }
+    ensures { IsWorked (made_due options case.core case.holds case.wanted.faults.items case.wanted.first.items) 5 result }
+{
+    let RunCase {
+        core,
+        holds,
+        wanted,
+    } = case;
+    let Ok(made) = made_of(rt, alloc, &core, options, &holds, wanted, stage) else {
+        return Err(Stop::NoMemory);
+    };
+    match product_by(alloc, made) {
+        Ok(product) => Ok(product),
+        Err(_) => Err(Stop::NoMemory),
+    }
+}
+
+/// The work of `run`, which waits for its workers.
+fn work<R: Threads + Wait + Sync, G: Gate + Sync>(
+    rt: &R,
+    alloc: Global,
+    texts: Vec<Vec<u8>>,
+    names: RunNames<'_>,
+    options: RunOptions,
+    named: &[Held<'_>],
+    stage: &G,
+) -> Result<Product, Stop<Refusal>>
+    requires count { HaveCount (option_map (λ t. t.now) names.list) (option_map (λ t. t.now) names.first) (length texts.items) }
+    requires within { All (λ text. length text ≤ most_bytes) (texts_of texts.items) }
+    requires range { AreInRange options.numbers }
+    ensures { IsWorked (run_due (option_map (λ t. t.now) names.entry.list) (option_map (λ t. t.now) names.entry.first) options (map hold_of named.now) (texts_of texts.items)) 5 result }
+{
+    match case_of(alloc, texts, names.list, names.first, named) {
+        Ok(case) => run_case(rt, alloc, case, options, stage),
+        Err(stop) => Err(stop),
+    }
+}
+
+/// Writes the five files of the netlist of the file that is named, under the names that begin as is asked.
+pub fn run_netlist<'a, R: Threads + Wait + Sync, S: Shelf, T: Sink, G: Gate + Sync>(
+    rt: &R,
+    alloc: Global,
+    shelf: &mut S,
+    out: &mut T,
+    stage: &G,
+    names: RunNames<'a>,
+    options: RunOptions,
+    named: &[Held<'_>],
+) -> Ending<'a, Refusal>
+    requires { AreInRange options.numbers }
+    ensures { CommandRow (run_reads names.entry.net.now (option_map (λ t. t.now) names.entry.list) (option_map (λ t. t.now) names.entry.first)) (run_files names.entry.prefix.now)
+        (run_due (option_map (λ t. t.now) names.entry.list) (option_map (λ t. t.now) names.entry.first) options (map hold_of named.now))
+        (world (S.files shelf.old) (S.failures shelf.old) (T.taken out.old) (T.failures out.old))
+        (world (S.files shelf.new) (S.failures shelf.new) (T.taken out.new) (T.failures out.new)) result }
+{
+    let writes = file_names(names.prefix);
+    let reads = match run_reads(alloc, names) {
+        Ok(reads) => reads,
+        Err(_) => return Ending::Memory,
+    };
+    let texts = match read_in_order(alloc, shelf, reads.as_slice()) {
+        Ok(texts) => texts,
+        Err(ending) => return ending,
+    };
+    let worked = work(rt, alloc, texts, names, options, named, stage);
+    deliver(alloc, shelf, out, &writes, worked)
+}

@@ -1,8 +1,0 @@
-use Rattle.std.proofs.Common.{◌∙◌, ap, ℕ, Vec}
-use Rattle.std.proofs.lemmas.Result.{IfOk-weaker}
-use Rattle.std.specs.declared.alloc.Global.{Global}
-use Rattle.atpg_top.specs.Runs.{tests_line}
-use Rattle.atpg_top.proofs.running.product_by.Goals as goal
-
-pub returns-clause-shown : goal.returns-clause-shown
-returns-clause-shown c = IfOk-weaker c.product_of.result _ _ (λ p same. ap (λ (v : Vec ℕ Global). v.items) same ∙ (c.in_ok-shown.ensures ∙ ap tests_line c.counts.ensures)) c.product_of.ensures.shown

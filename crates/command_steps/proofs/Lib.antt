@@ -1,0 +1,7 @@
+pub mod HoldLemmas
+pub mod Cells
+pub mod RowLemmas
+pub mod StepLemmas
+pub mod RunLemmas
+pub mod Single
+pub mod LineLemmas

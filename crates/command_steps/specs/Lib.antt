@@ -1,0 +1,5 @@
+pub mod Runs
+pub mod Steps
+pub mod Answers
+pub mod Designs
+pub mod inner

@@ -1,0 +1,3 @@
+pub mod DiagnoseLemmas
+pub mod NearestLemmas
+pub mod Exclusive

@@ -1,0 +1,4 @@
+pub mod PlayLemmas
+pub mod ChainTestLemmas
+pub mod GradeLemmas
+pub mod Exclusive

@@ -1,0 +1,14 @@
+use Rattle.std.proofs.Common.{[], ◌∷◌, ap₂, refl, option_map}
+use Rattle.statement.specs.Benches.{Text}
+use Rattle.commands.specs.World.{world}
+use Rattle.commands.specs.Names.{file_name_of}
+use Rattle.test_commands.specs.Plays.{play_due}
+use Rattle.command_steps.proofs.RowLemmas.{row_at}
+use Rattle.test_commands.proofs.playing.play_test.Goals as goal
+
+pub returns : goal.returns
+returns g c =
+    let before = world (g.S.Shelf.files c.args.shelf.now) (g.S.Shelf.failures c.args.shelf.now) (g.T.Sink.taken c.args.out.now) (g.T.Sink.failures c.args.out.now) in
+    let after = world (g.S.Shelf.files c.run_command.new.shelf) (g.S.Shelf.failures c.run_command.new.shelf) (g.T.Sink.taken c.run_command.new.out) (g.T.Sink.failures c.run_command.new.out) in
+    row_at (file_name_of c.of.result ∷ file_name_of c.of-2.result ∷ []) (c.args.net.now ∷ c.args.stil.now ∷ []) [] [] (play_due (option_map (λ t. t.now) c.args.fault)) before after c.run_command.result
+    (ap₂ (λ (t u : Text). t ∷ u ∷ []) c.of.ensures c.of-2.ensures) refl c.run_command.ensures

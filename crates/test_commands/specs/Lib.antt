@@ -1,0 +1,4 @@
+pub mod Plays
+pub mod ChainTests
+pub mod Grades
+pub mod inner

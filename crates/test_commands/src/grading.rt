@@ -1,0 +1,199 @@
+//! `grade`: which stuck lines of a design a STIL file detects.
+ghost use Rattle.std.specs.Prelude.{◌≡◌, ◌≤◌, ◌∷◌, [], IfOk};
+ghost use Rattle.netlist.specs.Designs.{IsDesign};
+ghost use Rattle.scan_insert.specs.Scanned.{insertion_of};
+ghost use Rattle.good_files.specs.ScanOff.{design_chains};
+ghost use Rattle.statement.specs.Tests.{vectors_in};
+ghost use Rattle.stil_vectors.specs.Fitting.{FitsNetlist};
+ghost use Rattle.diagnose.specs.Candidates.{IsScannedDesign};
+ghost use Rattle.grade.specs.Grades.{AreGrades};
+ghost use Rattle.commands.specs.Rows.{CommandRow};
+ghost use Rattle.commands.specs.Worked.{IsWorked};
+ghost use Rattle.commands.specs.World.{world};
+ghost use Rattle.command_line.specs.CommandLine.{grade_file};
+ghost use Rattle.test_commands.specs.Grades.{grade_due, IsGradeProduct};
+ghost use Rattle.test_commands.specs.inner.GradeTrials.{grade_fit_due, graded_due};
+
+use crate::chain_testing::{ChainTrial, trial_of};
+use crate::grade_lines::grade_texts;
+use command_line::grade_name;
+use command_steps::{
+    OneFile, Refusal, core_of, cycles_of, faults_of, fitting, one_file_product, scanned_of,
+};
+use commands::{Ending, FileName, Product, Stop, Work, run_command};
+use fault_collapse::{Classes, collapse};
+use fault_universe::{FaultSet, faults_have_signals};
+use grade::{Grade, detected_fails, grades, undetected_passes};
+use netlist::NoMemory;
+use outside::{Gate, Shelf, Sink};
+use scan_insert::Scanned;
+use scan_insert::laws::scanned_is_sound;
+use std::alloc::Global;
+use stil_vectors::fitting_cycles;
+use stil_write::StilFile;
+
+/// What the file, which fits, tells of each fault of a design.
+fn grades_by<G: Gate>(
+    alloc: Global,
+    stage: &G,
+    scanned: &Scanned,
+    faults: &FaultSet,
+    classes: &Classes,
+    file: &StilFile,
+) -> Result<Vec<Grade>, NoMemory>
+    requires design { IsScannedDesign scanned.now faults.now classes.now }
+    requires fits { FitsNetlist file.now scanned.now.netlist }
+    ensures { IfOk result (λ grades. AreGrades scanned.now faults.now (vectors_in file.now) grades.items) }
+{
+    file.sound();
+    fitting_cycles();
+    let core = core_of(alloc, scanned)?;
+    let cycles = cycles_of(alloc, file)?;
+    grades(alloc, stage, &core, scanned, faults, classes, &cycles)
+}
+
+/// What is written and printed of a trial whose file fits.
+fn texts_of<G: Gate>(
+    alloc: Global,
+    stage: &G,
+    scanned: &Scanned,
+    trial: &ChainTrial,
+    asked: u32,
+) -> Result<OneFile, NoMemory>
+    requires design { IsDesign trial.now.netlist }
+    requires some { 1 ≤ asked }
+    requires scanned { scanned.now ≡ insertion_of trial.now.netlist (design_chains trial.now.netlist asked) }
+    requires fits { FitsNetlist trial.now.file scanned.now.netlist }
+    ensures { IfOk result (λ p. IsGradeProduct trial.now.netlist (design_chains trial.now.netlist asked) (vectors_in trial.now.file) p.text.items p.line.items) }
+{
+    trial.netlist.sound();
+    trial.file.sound();
+    scanned_is_sound();
+    fitting_cycles();
+    faults_have_signals();
+    detected_fails();
+    undetected_passes();
+    let faults = faults_of(alloc, &trial.netlist)?;
+    let classes = collapse(alloc, &trial.netlist, &faults)?;
+    let grades = grades_by(alloc, stage, scanned, &faults, &classes, &trial.file)?;
+    let made = grade_texts(alloc, &trial.netlist, scanned.netlist(), &faults, &grades)?;
+    Ok(made)
+}
+
+/// The product of a trial whose file fits.
+fn graded<G: Gate>(
+    alloc: Global,
+    stage: &G,
+    scanned: &Scanned,
+    trial: &ChainTrial,
+    asked: u32,
+) -> Result<Product, Stop<Refusal>>
+    requires design { IsDesign trial.now.netlist }
+    requires some { 1 ≤ asked }
+    requires scanned { scanned.now ≡ insertion_of trial.now.netlist (design_chains trial.now.netlist asked) }
+    requires fits { FitsNetlist trial.now.file scanned.now.netlist }
+    ensures { IsWorked (graded_due asked trial.now.netlist trial.now.file) 1 result }
+{
+    let Ok(made) = texts_of(alloc, stage, scanned, trial, asked) else {
+        return Err(Stop::NoMemory);
+    };
+    match one_file_product(alloc, made) {
+        Ok(product) => Ok(product),
+        Err(_) => Err(Stop::NoMemory),
+    }
+}
+
+/// Grades a trial, if its file fits the scanned design.
+fn fitted<G: Gate>(
+    alloc: Global,
+    stage: &G,
+    scanned: &Scanned,
+    trial: &ChainTrial,
+    asked: u32,
+) -> Result<Product, Stop<Refusal>>
+    requires design { IsDesign trial.now.netlist }
+    requires some { 1 ≤ asked }
+    requires scanned { scanned.now ≡ insertion_of trial.now.netlist (design_chains trial.now.netlist asked) }
+    ensures { IsWorked (grade_fit_due asked trial.now.netlist trial.now.file) 1 result }
+{
+    match fitting(alloc, &trial.file, scanned.netlist()) {
+        Ok(()) => graded(alloc, stage, scanned, trial, asked),
+        Err(stop) => Err(stop),
+    }
+}
+
+/// Grades a trial, the design scanned in at most so many chains.
+fn tried<G: Gate>(
+    alloc: Global,
+    stage: &G,
+    trial: &ChainTrial,
+    asked: u32,
+) -> Result<Product, Stop<Refusal>>
+    requires design { IsDesign trial.now.netlist }
+    requires some { 1 ≤ asked }
+    ensures { IsWorked (grade_fit_due asked trial.now.netlist trial.now.file) 1 result }
+{
+    match scanned_of(alloc, &trial.netlist, asked) {
+        Ok(scanned) => fitted(alloc, stage, &scanned, trial, asked),
+        Err(_) => Err(Stop::NoMemory),
+    }
+}
+
+/// Writes to the file of `prefix` which stuck lines of the netlist of the file `net` the file `stil` detects, in at most so many chains.
+pub fn grade_test<'a, S: Shelf, T: Sink, G: Gate>(
+    alloc: Global,
+    shelf: &mut S,
+    out: &mut T,
+    stage: &G,
+    net: &'a str,
+    stil: &'a str,
+    prefix: &'a str,
+    chains: u32,
+) -> Ending<'a, Refusal>
+    requires { 1 ≤ chains }
+    ensures { CommandRow (net.now ∷ stil.now ∷ []) (grade_file prefix.now ∷ []) (grade_due chains)
+        (world (S.files shelf.old) (S.failures shelf.old) (T.taken out.old) (T.failures out.old))
+        (world (S.files shelf.new) (S.failures shelf.new) (T.taken out.new) (T.failures out.new)) result }
+{
+    let reads = [FileName::of(net), FileName::of(stil)];
+    let writes = [grade_name(prefix)];
+    run_command(
+        alloc,
+        shelf,
+        out,
+        &reads,
+        &writes,
+        &Grading { chains, stage },
+    )
+}
+
+/// The work of `grade`, for at most so many chains.
+#[derive(Drop)]
+struct Grading<'a, G: Gate> {
+    chains: u32,
+    stage: &'a G,
+}
+
+impl<G: Gate> Work for Grading<'_, G> {
+    type Refusal = Refusal;
+
+    ghost can_work = { λ grading. 1 ≤ grading.chains };
+
+    ghost reads = { λ _. 2 };
+
+    ghost writes = { λ _. 1 };
+
+    ghost due = { λ grading. grade_due grading.chains };
+
+    fn work(&self, alloc: Global, texts: Vec<Vec<u8>>) -> Result<Product, Stop<Refusal>> {
+        let net = texts[0].as_slice();
+        let stil = texts[1].as_slice();
+        match trial_of(alloc, net, stil) {
+            Ok(trial) => {
+                drop(texts);
+                tried(alloc, self.stage, &trial, self.chains)
+            }
+            Err(stop) => Err(stop),
+        }
+    }
+}
