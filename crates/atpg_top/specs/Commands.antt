@@ -22,7 +22,7 @@ use Rattle.transition_run.specs.declared.files.TransitionFiles.{TransitionFiles}
 use Rattle.transition_run.specs.Runs.{IsTransitionRun, transition_files_of}
 use Rattle.atpg_top.specs.Checks.{check_due}
 use Rattle.atpg_top.specs.Steps.{◌>>=◌, design_due, named_fault, netlist, test, value}
-use Rattle.atpg_top.specs.Runs.{tests_line, texts_in}
+use Rattle.atpg_top.specs.Runs.{may_refute, tests_line, texts_in}
 use Rattle.atpg_top.specs.Asked.{asked_where, run_read}
 use Rattle.atpg_top.specs.Scans.{IsScanProduct}
 use Rattle.atpg_top.specs.FaultLists.{IsFaultList}
@@ -56,7 +56,7 @@ run_due list first options named texts = asked_where options named (run_read lis
 -- the five texts of a design's slow lines, and the line with the report's numbers
 abbrev pub transition_due : SlowOptions → List Text → Due Refusal → Type 0
 transition_due options = design_due (λ n d.
-    (made : TransitionFiles) × IsTransitionRun n options.numbers.chains options.numbers.limit made × (d ≡ Deliver (texts_in (transition_files_of made)) (tests_line made.said.counts) Fine))
+    (made : TransitionFiles) × IsTransitionRun n options.numbers.chains options.numbers.limit (may_refute options.engine) made × (d ≡ Deliver (texts_in (transition_files_of made)) (tests_line made.said.counts) Fine))
 
 -- the lines of what the file shows of the scan hardware, the file fitting the scanned netlist
 abbrev pub chaintest_due : ℕ → List Text → Due Refusal → Type 0

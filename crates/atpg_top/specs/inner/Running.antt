@@ -9,7 +9,7 @@ use Rattle.commands.specs.declared.ending.Finding.TheVariants.{Fine}
 use Rattle.run_files.specs.declared.asked.RunPlan.{RunPlan}
 use Rattle.transition_run.specs.declared.files.TransitionFiles.{TransitionFiles}
 use Rattle.transition_run.specs.Runs.{IsTransitionRun, transition_files_of}
-use Rattle.atpg_top.specs.Runs.{IsInputAt, tests_line, texts_in}
+use Rattle.atpg_top.specs.Runs.{IsInputAt, may_refute, tests_line, texts_in}
 use Rattle.atpg_top.specs.declared.refusal.Refusal.{Refusal}
 
 -- the number of the input of this name, or there is none
@@ -31,4 +31,4 @@ plan_of options = record {
 -- what is due of a design whose slow lines are searched
 abbrev pub slow_due : SlowOptions → Netlist → Due Refusal → Type 0
 slow_due options n d =
-    (made : TransitionFiles) × IsTransitionRun n options.numbers.chains options.numbers.limit made × (d ≡ Deliver (texts_in (transition_files_of made)) (tests_line made.said.counts) Fine)
+    (made : TransitionFiles) × IsTransitionRun n options.numbers.chains options.numbers.limit (may_refute options.engine) made × (d ≡ Deliver (texts_in (transition_files_of made)) (tests_line made.said.counts) Fine)
