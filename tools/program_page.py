@@ -19,6 +19,5 @@ def commands_of(text):
 
 
 def engines_of(text):
-    """The values of --engine: of `run`, and those that `transition` has too."""
-    first, second, third = re.search(r"E is the search: `(\w+)`, `(\w+)`, or, of `run` alone, `(\w+)`", text).groups()
-    return (first, second, third), (first, second)
+    """The values of --engine."""
+    return re.search(r"E is the search: `(\w+)`, `(\w+)`, or `(\w+)`", text).groups()

@@ -4,6 +4,7 @@ The gate's stored runs have one run for each program and compare standard output
 programs of bench/oracle. They run what `rt ci` has built; .ci/run fails where it has built none.
 """
 
+import itertools
 import pathlib
 import re
 import subprocess
@@ -220,6 +221,24 @@ def test_program_splits_places_of_slow_lines():
             certificate = (folder / f"{name}.cert").read_text("latin-1")
             count, wrong = check_places.wrong_trees(plain_design.read(text), certificate)
             assert count > 0 and not wrong, (name, limit, count, wrong)
+
+
+def test_program_settles_slow_lines_by_clauses():
+    """Of the slow lines of two small designs clauses leave none aborted at a limit of one closed end, by which next to none is shown redundant by a tree.
+    A plain program tries all that the files say, each refutation on the two frames."""
+    if not program("atpg_main").exists():
+        return NO_PROGRAM
+    designs = {"s27": example("s27"), "deep": (ROOT / "bench/oracle/deep_cells.bench").read_bytes()}
+    with tempfile.TemporaryDirectory() as room:
+        folder = pathlib.Path(room)
+        for (name, text), way in itertools.product(designs.items(), (["--engine", "clauses", "--workers", "3"], ["--engine", "fan", "--then", "clauses"])):
+            (folder / f"{name}.bench").write_bytes(text)
+            words = ["transition", f"{name}.bench", name, "--limit", "1", *way]
+            said = subprocess.run([program("atpg_main"), *words], cwd=folder, check=True, capture_output=True, timeout=60).stdout
+            assert b" aborted 0 " in said, (words, said)
+            files = plain_check.read_files(folder / name)
+            assert files["cert"].startswith(b"atpg transition certificate 2\n"), words
+            plain_transition.try_files(files)
 
 
 def test_program_settles_by_clauses():

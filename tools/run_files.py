@@ -153,7 +153,7 @@ def nodes_in(words):
 def read_evidence(path, is_slow=False):
     """Each line of the certificate."""
     with open(path, encoding="ascii") as lines:
-        if next(lines, "").rstrip("\n") not in (["atpg transition certificate 1"] if is_slow else ["atpg certificate 1", "atpg certificate 2"]):
+        if next(lines, "").rstrip("\n") not in [f"atpg {'transition ' * is_slow}certificate {version}" for version in (1, 2)]:
             raise Bad(f"{path}: no certificate{' of slow lines' * is_slow}")
         for number, text in enumerate(lines, 2):
             words = text.split()

@@ -714,10 +714,7 @@ def no_value(words):
     """What is wrong with a number or an engine that clap takes, if anything."""
     given = dict(zip(words, words[1:]))
     engine, then = given.get("--engine", "podem"), given.get("--then")
-    if words[1] == "transition":
-        if engine not in ("podem", "fan"):
-            return "the engine for slow lines is podem or fan"
-    elif (engine, then) not in (("podem", None), ("fan", None), ("clauses", None), ("podem", "clauses"), ("fan", "clauses")):
+    if (engine, then) not in (("podem", None), ("fan", None), ("clauses", None), ("podem", "clauses"), ("fan", "clauses")):
         return "the engine is podem, fan or clauses, and then, behind podem or fan alone, clauses"
     if any(len(word) > 1 and word.isdigit() and word.startswith("0") for word in words):
         return "a number is written in decimal digits, without a sign or a leading zero"

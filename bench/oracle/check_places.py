@@ -14,7 +14,7 @@ import plain_design as plain
 import plain_transition
 from plain_check import fault_text, nodes_of, path_of
 
-FIRST = {"atpg certificate 1": fault_text, "atpg certificate 2": fault_text, "atpg transition certificate 1": plain_transition.fault_text}
+FIRST = {"atpg certificate 1": fault_text, "atpg certificate 2": fault_text} | dict.fromkeys(plain_transition.FIRST, plain_transition.fault_text)
 
 
 def situation_of(netlist, fault, is_slow):

@@ -342,7 +342,8 @@ def transition(texts, options, told):
     batch = plain_transition.batch_of(netlist, seed)
     last = plain_transition.SlowLines(netlist, chains, batch).last
     cubes = [plain_transition.cube_of(netlist, each) for each, known in zip(tests, last) if each and known is None]
-    if None not in cubes:
+    trees_alone = options.get("--engine") != "clauses" and "--then" not in options
+    if trees_alone and None not in cubes:
         situation = plain_transition.kept(netlist, chains, batch + plain_transition.filled(netlist, cubes, seed))
         stil = plain_transition.stil_of(netlist, chains, situation.patterns).decode()
         report = plain_transition.report_of(situation, limit)
@@ -350,7 +351,7 @@ def transition(texts, options, told):
     else:
         stil, report, shown = Begun("STIL 1.0;\n"), Begun("atpg transition 1\n"), Begun(totals)
     made = [plain.canonical(netlist).decode(), plain.canonical(plain.scanned(netlist, chains)).decode(), stil]
-    return Due(made + [Begun("atpg transition certificate 1\n"), report], shown)
+    return Due(made + [Begun("atpg transition certificate " + "1\n" * trees_alone), report], shown)
 
 
 WORK = {"scan": scan, "faults": faults, "play": play, "chaintest": chaintest, "grade": grade, "diagnose": diagnose, "check": check}

@@ -21,6 +21,7 @@ from sample_netlist import Pcg32
 
 MOST_SOURCES = 17
 BATCH = 64
+FIRST = ("atpg transition certificate 1", "atpg transition certificate 2")  # without refutations, and with some
 SLOW = ("rise", "fall")  # of a line that is slow to leave 0, or 1
 FAULT = re.compile(r"((?:stem|out) \S+|pin \S+ \d+) (rise|fall) ")
 
@@ -104,17 +105,15 @@ def frames(netlist, fault):
         """What a reader in the second frame reads."""
         return "SC__g" if x == slow and (kind == "stem" or branch == line) else second[x]
 
-    definitions = []
+    firsts, seconds = [], []  # in this order, by which steps of refutations have their numbers
     for z, gate, pins in netlist.definitions:
-        if gate == "DFF":
-            definitions += [(z, "DFF", [read(f"pin {z} 0", pins[0])]), (second[z], "BUFF", [first[pins[0]]])]
-        else:
-            definitions += [(first[z], gate, [first[x] for x in pins]),
-                            (second[z], gate, [read(f"pin {z} {k}", x) for k, x in enumerate(pins)])]
+        late_pins = [read(f"pin {z} {k}", x) for k, x in enumerate(pins)]
+        firsts.append((z, gate, late_pins) if gate == "DFF" else (first[z], gate, [first[x] for x in pins]))
+        seconds.append((second[z], "BUFF", [first[pins[0]]]) if gate == "DFF" else (second[z], gate, late_pins))
     tie, hold, late = ("CONST0", "AND", "OR") if old else ("CONST1", "OR", "AND")
-    definitions += [("SC__e", tie, []), ("SC__h", hold, [first[slow], "SC__e"]), ("SC__g", late, [second[slow], "SC__h"])]
+    slow_gates = [("SC__e", tie, []), ("SC__h", hold, [first[slow], "SC__e"]), ("SC__g", late, [second[slow], "SC__h"])]
     outputs = [read(f"out {y}", y) for y in netlist.outputs]
-    return plain.Netlist(netlist.inputs, outputs, definitions), ("stem SC__e", old)
+    return plain.Netlist(netlist.inputs, outputs, firsts + seconds + slow_gates), ("stem SC__e", old)
 
 
 def reached(netlist, starts):
@@ -314,18 +313,23 @@ def read_report(text):
     return head, [(text, verdict) for text, (_, verdict) in zip(texts, said)]
 
 
-def try_trees(text, situation, said, limit):
-    """Each fault that isn't detected has a tree that fits on its two frames, with the ends that it needs; and there are no others."""
-    lines = text.decode("latin-1").split("\n")
-    need(lines[0] == "atpg transition certificate 1" and lines[-1] == "", "the certificate's first line")
+def try_evidence(text, situation, said, limit):
+    """Each fault that isn't detected has evidence on its two frames: a tree that fits, with the ends that it needs, or steps that refute it; and there is
+    no other. The first line says whether there are refutations."""
+    first, *lines = text.decode("latin-1").split("\n")
+    need(first in FIRST and lines[-1] == "", "the certificate's first line")
     left = [(fault, verdict[0]) for fault, (_, verdict) in zip(situation.faults, said) if verdict[0] != "detected"]
-    need(len(lines) - 2 == len(left), "how many trees there are")
-    for line, (fault, verdict) in zip(lines[1:], left):
-        need(line.startswith(fault_text(fault) + " "), "the tree of", fault_text(fault))
+    need(len(lines) - 1 == len(left), "how many lines the certificate has")
+    kinds = set()
+    for line, (fault, verdict) in zip(lines, left):
+        told = fault_text(fault)
+        need(line.startswith(told + " "), "the evidence of", told)
         netlist, stuck = frames(situation.netlist, fault)
-        nodes = plain_check.nodes_of(line[len(fault_text(fault)) + 1:].split(" "), set(netlist.signals))
-        counts = plain_check.counts_of(netlist, stuck, nodes, {})
-        need(counts is not None and (counts[1] == 0 if verdict == "redundant" else counts[0] == limit and counts[1] > 0), "the tree of", fault_text(fault))
+        evidence = plain_check.evidence_of(line, len(told.split(" ")), line.split(" "), set(netlist.signals))
+        counts = plain_check.ends_of(netlist, stuck, evidence, {})
+        need(counts is not None and (counts[1] == 0 if verdict == "redundant" else counts[0] == limit and counts[1] > 0), "the evidence of", told)
+        kinds.add(evidence[0])
+    need(first == FIRST["refutation" in kinds], "the certificate's first line")
 
 
 def try_on_tester(situation, said):
@@ -357,7 +361,7 @@ def try_files(files):
     for last, (text, verdict) in zip(situation.last, said):
         need(verdict == situation.detected(last) if last else verdict[0] != "detected", "of", text)
     need(head == situation.head(said, head["limit"]), "the numbers of the report")
-    try_trees(files["cert"], situation, said, head["limit"])
+    try_evidence(files["cert"], situation, said, head["limit"])
     try_on_tester(situation, said)
     if len(netlist.inputs + netlist.cells) <= MOST_SOURCES:
         for tests, (text, verdict) in zip(tests_of(netlist), said):

@@ -13,7 +13,7 @@ use Rattle.transition_run.specs.Runs.{IsTransitionRun, transition_files_of}
 use Rattle.atpg_top.specs.Checks.{check_due}
 use Rattle.command_steps.specs.Steps.{design_due}
 use Rattle.command_steps.specs.Runs.{tests_line, texts_in}
-use Rattle.asked_run.specs.Asked.{run_due}
+use Rattle.asked_run.specs.Asked.{may_refute, run_due}
 use Rattle.atpg_top.specs.Scans.{IsScanProduct}
 use Rattle.atpg_top.specs.FaultLists.{IsFaultList}
 use Rattle.test_commands.specs.ChainTests.{chaintest_due}
@@ -34,7 +34,7 @@ faults_due = design_due (λ n d. (text : Text) × IsFaultList n text × (d ≡ D
 -- the five texts of a design's slow lines, and the line with the report's numbers
 abbrev pub transition_due : SlowOptions → List Text → Due Refusal → Type 0
 transition_due options = design_due (λ n d.
-    (made : TransitionFiles) × IsTransitionRun n options.numbers.chains options.numbers.limit made × (d ≡ Deliver (texts_in (transition_files_of made)) (tests_line made.said.counts) Fine))
+    (made : TransitionFiles) × IsTransitionRun n options.numbers.chains options.numbers.limit (may_refute options.engine) made × (d ≡ Deliver (texts_in (transition_files_of made)) (tests_line made.said.counts) Fine))
 
 -- the numbers of a run of the sample netlist, whose test passes
 abbrev pub sweep_due : ℕ → ℕ → List Text → Due Refusal → Type 0

@@ -1,5 +1,5 @@
 //! `transition`: the five files of the slow lines of a file's netlist.
-ghost use Rattle.std.specs.Prelude.{◌≡◌, ◌≤◌, ◌∷◌, [], IfOk, false, length};
+ghost use Rattle.std.specs.Prelude.{◌≡◌, ◌≤◌, ◌∷◌, [], IfOk, length};
 ghost use Rattle.std.specs.List.{All};
 ghost use Rattle.netlist.specs.Designs.{IsDesign};
 ghost use Rattle.commands.specs.Contents.{most_bytes};
@@ -11,10 +11,12 @@ ghost use Rattle.commands.specs.declared.ending.Finding.TheVariants.{Fine};
 ghost use Rattle.command_line.specs.CommandLine.{AreInRange};
 ghost use Rattle.transition_run.specs.Runs.{IsTransitionRun, transition_files_of};
 ghost use Rattle.atpg_top.specs.Commands.{transition_due};
+ghost use Rattle.asked_run.specs.Asked.{may_refute};
 ghost use Rattle.command_steps.specs.Runs.{tests_line, texts_in};
 ghost use Rattle.atpg_top.specs.inner.Running.{slow_due};
 
-use command_line::{SlowOptions, TreeEngine};
+use clauses::{Clauses, Then};
+use command_line::{EngineName, SlowOptions, TreeEngine};
 use command_steps::{Refusal, design_of, five_files_product, tests_line};
 use commands::{Ending, FileName, Product, Stop, deliver, file_names, read_in_order};
 use evidence::Engine;
@@ -76,8 +78,7 @@ fn made_by<R: Threads + Sync, E: Engine + Sync, G: Gate + Sync>(
 ) -> Result<TransitionFiles, NoMemory>
     requires design { IsDesign core.now }
     requires range { AreInRange options.numbers }
-    requires kind { E.refutes ≡ false }
-    ensures { IfOk result (IsTransitionRun core.now options.numbers.chains options.numbers.limit) }
+    ensures { IfOk result (IsTransitionRun core.now options.numbers.chains options.numbers.limit E.refutes) }
 {
     let plan = TransitionPlan {
         chains: options.numbers.chains,
@@ -87,6 +88,80 @@ fn made_by<R: Threads + Sync, E: Engine + Sync, G: Gate + Sync>(
         trees,
     };
     transition_files(rt, alloc, stage, core, plan, engine)
+}
+
+/// The five files, by a tree of decisions for each line. Those of FAN keep its rule on the line's own frames.
+fn by_trees<R: Threads + Sync, G: Gate + Sync>(
+    rt: &R,
+    alloc: Global,
+    stage: &G,
+    core: &Core,
+    options: SlowOptions,
+    guide: &Core,
+    engine: TreeEngine,
+) -> Result<TransitionFiles, NoMemory>
+    requires design { IsDesign core.now }
+    requires range { AreInRange options.numbers }
+    ensures { IfOk result (IsTransitionRun core.now options.numbers.chains options.numbers.limit false) }
+{
+    match engine {
+        TreeEngine::Podem => {
+            let podem = Podem::of(alloc, guide)?;
+            made_by(rt, alloc, stage, core, options, Trees::OfFrames, &podem)
+        }
+        TreeEngine::Fan => {
+            let fan = Fan::of(alloc, guide)?;
+            made_by(rt, alloc, stage, core, options, Trees::OnPlaces, &fan)
+        }
+    }
+}
+
+/// The five files, by clauses that are learned.
+fn by_clauses<R: Threads + Sync, G: Gate + Sync>(
+    rt: &R,
+    alloc: Global,
+    stage: &G,
+    core: &Core,
+    options: SlowOptions,
+    guide: &Core,
+) -> Result<TransitionFiles, NoMemory>
+    requires design { IsDesign core.now }
+    requires range { AreInRange options.numbers }
+    ensures { IfOk result (IsTransitionRun core.now options.numbers.chains options.numbers.limit true) }
+{
+    let clauses = Clauses::of(alloc, guide)?;
+    made_by(rt, alloc, stage, core, options, Trees::OfFrames, &clauses)
+}
+
+/// The five files, by a tree of decisions for each line, or, where the search gives up, by clauses. What these settle may be by a tree of PODEM, so
+/// FAN's rule isn't asked of any.
+fn by_trees_then_clauses<R: Threads + Sync, G: Gate + Sync>(
+    rt: &R,
+    alloc: Global,
+    stage: &G,
+    core: &Core,
+    options: SlowOptions,
+    guide: &Core,
+    engine: TreeEngine,
+) -> Result<TransitionFiles, NoMemory>
+    requires design { IsDesign core.now }
+    requires range { AreInRange options.numbers }
+    ensures { IfOk result (IsTransitionRun core.now options.numbers.chains options.numbers.limit true) }
+{
+    let second = Clauses::of(alloc, guide)?;
+    let few = options.numbers.limit;
+    match engine {
+        TreeEngine::Podem => {
+            let first = Podem::of(alloc, guide)?;
+            let both = Then { first, few, second };
+            made_by(rt, alloc, stage, core, options, Trees::OfFrames, &both)
+        }
+        TreeEngine::Fan => {
+            let first = Fan::of(alloc, guide)?;
+            let both = Then { first, few, second };
+            made_by(rt, alloc, stage, core, options, Trees::OfFrames, &both)
+        }
+    }
 }
 
 /// The five files, as the engine that was asked for finds them.
@@ -99,17 +174,14 @@ fn made_of<R: Threads + Sync, G: Gate + Sync>(
 ) -> Result<TransitionFiles, NoMemory>
     requires design { IsDesign core.now }
     requires range { AreInRange options.numbers }
-    ensures { IfOk result (IsTransitionRun core.now options.numbers.chains options.numbers.limit) }
+    ensures { IfOk result (IsTransitionRun core.now options.numbers.chains options.numbers.limit (may_refute options.engine)) }
 {
     let guide = some_frames(alloc, core.netlist())?;
     match options.engine {
-        TreeEngine::Podem => {
-            let podem = Podem::of(alloc, &guide)?;
-            made_by(rt, alloc, stage, core, options, Trees::OfFrames, &podem)
-        }
-        TreeEngine::Fan => {
-            let fan = Fan::of(alloc, &guide)?;
-            made_by(rt, alloc, stage, core, options, Trees::OnPlaces, &fan)
+        EngineName::Trees(engine) => by_trees(rt, alloc, stage, core, options, &guide, engine),
+        EngineName::Clauses => by_clauses(rt, alloc, stage, core, options, &guide),
+        EngineName::TreesThenClauses(engine) => {
+            by_trees_then_clauses(rt, alloc, stage, core, options, &guide, engine)
         }
     }
 }

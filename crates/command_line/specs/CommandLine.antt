@@ -214,7 +214,7 @@ run_of rows = run_where rows (search_of rows) (holds_given (first_of (codes "hol
 
 abbrev pub transition_of : List Row → Option CommandLine
 transition_of rows = option_and_then (λ engine. option_map (λ s. transition s.0 s.1 (record { engine = engine; numbers = s.2 })) (search_of rows))
-    (tree_engine_given (first_of (codes "engine") rows))
+    (engine_given (first_of (codes "engine") rows) (first_of (codes "then") rows))
 
 abbrev pub play_of : List Row → Option CommandLine
 play_of rows = option_and_then (λ net. option_map (λ stil. play net stil (first_of (codes "fault") rows))

@@ -146,18 +146,20 @@ fn search_arguments<'a>() -> [Argument<'a>; 6]
     ]
 }
 
+const ENGINE: &str = "The search: podem, fan or clauses [default: podem]";
+
+const THEN: &str = "What settles what podem or fan gives up: clauses";
+
 // What `run` has of its own.
 fn run_arguments<'a>() -> [Argument<'a>; 7]
     ensures { map asked_by result ≡ run_rules }
 {
-    let engine = "The search: podem, fan or clauses [default: podem]";
-    let then = "What settles what podem or fan gives up: clauses";
     let coverage = "Stop once so many in a hundred of the faults are detected";
     let with = "A STIL file, or the prefix of one, whose patterns come first";
     let compact = "How many rounds make the patterns fewer, 0 to 100 [default: 3]";
     [
-        Text("engine", engine),
-        Text("then", then),
+        Text("engine", ENGINE),
+        Text("then", THEN),
         Text("hold", "Inputs that are held, as NAME=0,NAME=1"),
         Text("faults", "A file that lists the faults that are asked for"),
         Number("coverage", 1, MOST_PERCENT, coverage),
@@ -179,8 +181,11 @@ fn transition<'a>(alloc: Global) -> Result<Command<'a>, AllocError>
 {
     let about = "Searches tests for the slow lines of a netlist";
     let command = command(alloc, "transition", about, &search_arguments())?;
-    let engine = Text("engine", "The search: podem or fan [default: podem]");
-    with_arguments(alloc, command, &[engine])
+    with_arguments(
+        alloc,
+        command,
+        &[Text("engine", ENGINE), Text("then", THEN)],
+    )
 }
 
 fn play<'a>(alloc: Global) -> Result<Command<'a>, AllocError>

@@ -70,12 +70,6 @@ error: the engine is podem, fan or clauses, and then, behind podem or fan alone,
 For more information, try '--help'.
 ";
 
-const BAD_TREE_ENGINE: &str = "\
-error: the engine for slow lines is podem or fan
-
-For more information, try '--help'.
-";
-
 fn matches<'a>(alloc: Global, words: &'a [String]) -> Result<ArgMatches<'a>, Error>
     ensures rows { IfOk result (λ m. subcommand_rows_of m
         ≡ subcommand_of command_table (map string_bytes words.entry.now)) }
@@ -114,7 +108,6 @@ fn refusal_of<'a>(alloc: Global, none: NoRequest) -> WordsRefusal<'a>
     match none {
         NoRequest::BadNumber => bad_words(alloc, BAD_NUMBER),
         NoRequest::BadEngine => bad_words(alloc, BAD_ENGINE),
-        NoRequest::BadTreeEngine => bad_words(alloc, BAD_TREE_ENGINE),
         NoRequest::BadHold => WordsRefusal::BadHold,
         NoRequest::NoMemory => WordsRefusal::NoMemory,
     }

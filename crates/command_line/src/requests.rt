@@ -85,7 +85,7 @@ pub struct RunOptions {
 /// The engine and the numbers of `transition`.
 #[derive(Clone, Copy, PartialEq, Eq)]
 pub struct SlowOptions {
-    pub engine: TreeEngine,
+    pub engine: EngineName,
     pub numbers: SearchNumbers,
 }
 
@@ -192,7 +192,6 @@ struct SearchLine<'a> {
 pub(crate) enum NoRequest {
     BadNumber,
     BadEngine,
-    BadTreeEngine,
     BadHold,
     NoMemory,
 }
@@ -463,8 +462,8 @@ fn transition<'a>(found: &ArgMatches<'a>) -> Result<Request<'a>, NoRequest>
     ensures line { IsAsked (line_from (transition_of (rows_of (found_of found.now)))) result }
     ensures in_range { IfOk result IsInRange }
 {
-    let Some(engine) = tree_engine(text(found, "engine")) else {
-        return Err(NoRequest::BadTreeEngine);
+    let Some(engine) = engine(text(found, "engine"), text(found, "then")) else {
+        return Err(NoRequest::BadEngine);
     };
     match search_line(found) {
         Ok(line) => Ok(Request::Transition {

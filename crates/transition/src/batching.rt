@@ -3,12 +3,12 @@
 //! Lines of which no reader is late by two of them share a netlist of two frames, in which each has three gates of its own (`transition_batches`): it is made
 //! once, with an engine's room, and serves one search after the other. What is found there is evidence on the two frames in which the line alone is slow,
 //! if nothing is decided but signals of these frames; any other answer is dropped, and the line is searched on its own frames. So is a tree that breaks
-//! the engine's rule on these frames, if it has one (`places`).
+//! the engine's rule on these frames, if it has one (`places`), and so is every refutation, whose steps read pins: a refuted line is searched twice.
 //!
 //! The alternative is a netlist for each line. What is made for a search then grows with the netlist, as the number of lines does, so that the time grows
 //! with the square of it, and nearly all of it goes into what is made. To rewire one line's frames for the next one saves less: readers, order and room
 //! have to be made anew.
-ghost use Rattle.std.specs.Prelude.{◌≡◌, ◌+◌, ◌≤◌, ◌<◌, ◌^◌, ℕ, false, length, IfOk, IsTrue};
+ghost use Rattle.std.specs.Prelude.{◌≡◌, ◌+◌, ◌≤◌, ◌<◌, ◌^◌, ℕ, length, IfOk, IsTrue};
 ghost use Rattle.std.specs.List.{All, AllPairs};
 ghost use Rattle.netlist.specs.Designs.{IsDesign};
 ghost use Rattle.netlist.specs.Holds.{none_held};
@@ -126,9 +126,8 @@ fn own_answer<E: Engine>(
     requires names { names.now ≡ names_of netlist.now }
     requires line { IsLineOf netlist.now fault.line }
     requires limit { 1 ≤ limit }
-    requires trees { E.refutes ≡ false }
-    requires carries { DecidesFrames netlist.now found → HasFrameEvidence netlist.now limit fault found }
-    ensures { IfOk result (HasFrameEvidence netlist.now limit fault) }
+    requires carries { DecidesFrames netlist.now found → HasFrameEvidence netlist.now limit E.refutes fault found }
+    ensures { IfOk result (HasFrameEvidence netlist.now limit E.refutes fault) }
 {
     if decides_frames(netlist, &found) && keeps_rule(netlist, rule, &fault, &found) {
         return Ok(found);
@@ -156,8 +155,7 @@ fn search_together<E: Engine>(
     requires core { core.now ≡ batch_of netlist.now slow.now }
     requires holds { holds.now ≡ none_held core.now }
     requires limit { 1 ≤ limit }
-    requires trees { E.refutes ≡ false }
-    ensures { IfOk result (λ v. AreFound netlist.now limit slow.now v.items) }
+    ensures { IfOk result (λ v. AreFound netlist.now limit E.refutes slow.now v.items) }
 {
     batch_carries();
     netlist.sound();
@@ -187,8 +185,7 @@ fn search_each<E: Engine>(
     requires names { names.now ≡ names_of netlist.now }
     requires lines { All (λ (f : FaultOf). IsLineOf netlist.now f.line) slow.now }
     requires limit { 1 ≤ limit }
-    requires trees { E.refutes ≡ false }
-    ensures { IfOk result (λ v. AreFound netlist.now limit slow.now v.items) }
+    ensures { IfOk result (λ v. AreFound netlist.now limit E.refutes slow.now v.items) }
 {
     let mut answers = Vec::with_capacity(alloc, slow.len())?;
     for fault in slow {
@@ -213,8 +210,7 @@ pub(crate) fn search_batch<E: Engine>(
     requires apart { AllPairs (AreApart netlist.now) slow.now }
     requires few { length slow.now ≤ 1024 }
     requires limit { 1 ≤ limit }
-    requires trees { E.refutes ≡ false }
-    ensures { IfOk result (λ v. AreFound netlist.now limit slow.now v.items) }
+    ensures { IfOk result (λ v. AreFound netlist.now limit E.refutes slow.now v.items) }
 {
     match batch(alloc, netlist, slow)? {
         Some(made) => {

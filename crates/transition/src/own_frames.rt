@@ -1,5 +1,5 @@
 //! The search for a slow line on the two frames in which it alone is slow.
-ghost use Rattle.std.specs.Prelude.{◌≡◌, ◌≤◌, false, IfOk};
+ghost use Rattle.std.specs.Prelude.{◌≡◌, ◌≤◌, IfOk};
 ghost use Rattle.netlist.specs.Designs.{IsDesign};
 ghost use Rattle.netlist.specs.Lines.{IsLineOf};
 ghost use Rattle.transition_frames.specs.Frames.{frame_names as names_of};
@@ -23,8 +23,7 @@ pub(crate) fn search_one<E: Engine>(
     requires names { names.now ≡ names_of netlist.now }
     requires line { IsLineOf netlist.now fault.line }
     requires limit { 1 ≤ limit }
-    requires trees { E.refutes ≡ false }
-    ensures { IfOk result (HasFrameEvidence netlist.now limit fault) }
+    ensures { IfOk result (HasFrameEvidence netlist.now limit E.refutes fault) }
 {
     let (two, slow) = frames_named(alloc, netlist, names, fault)?;
     let Ok(core) = Core::of(alloc, two) else {

@@ -1,4 +1,4 @@
--- What a report says of transition faults, by their verdicts, and the trees that a certificate has of them.
+-- What a report says of transition faults, by their verdicts, and the evidence that a certificate has of them.
 use Rattle.std.specs.Prelude.{ℕ, ◌≡◌, ⊤, List, [], ◌∷◌, ◌++◌}
 use Rattle.std.specs.List.{AllZip, zip}
 use Rattle.statement.specs.declared.lines.Fault.{Fault}
@@ -6,7 +6,8 @@ use Rattle.statement.specs.declared.lines.Point.{Point}
 use Rattle.statement.specs.Netlists.{Netlist}
 use Rattle.scan_insert.specs.Names.{pin_name_of}
 use Rattle.scan_insert.specs.Scanned.{scanned_of}
-use Rattle.redundancy_cert.specs.declared.nodes.Node.{Node}
+use Rattle.evidence.specs.declared.kinds.Evidence.{Evidence}
+use Rattle.evidence.specs.declared.kinds.Evidence.TheVariants.{Tree}
 use Rattle.statement.specs.declared.outcomes.Outcome.{Outcome}
 use Rattle.statement.specs.declared.outcomes.Outcome.TheVariants as outcome
 use Rattle.statement.specs.Reports.{Line}
@@ -20,11 +21,11 @@ use Rattle.transition_report.specs.Texts.{transition_text}
 abbrev pub IsLaunchSeenAt : Netlist → List (List ℕ) → ℕ → Point → ℕ → List ℕ → Type 0
 IsLaunchSeenAt n chains place point cycle pin = (output : ℕ) × IsLaunchStrobedAt n chains place point cycle output × (pin ≡ pin_name_of (scanned_of n chains) output)
 
--- The pattern's place, and where the tester sees the point; or that no pattern detects it, by a tree without or with an open end.
+-- The pattern's place, and where the tester sees the point; or that no pattern detects it, by evidence that leaves nothing open or by a tree that does.
 abbrev pub IsOutcomeOf : Netlist → List (List ℕ) → TransitionVerdict → Outcome → List ℕ → Type 0
 IsOutcomeOf n chains (Detected place point) o pin =
     (cycle : ℕ) × (o ≡ outcome.Detected place cycle) × IsLaunchSeenAt n chains place point cycle pin
-IsOutcomeOf n chains (Redundant tree) o pin = (o ≡ outcome.Redundant) × (pin ≡ [])
+IsOutcomeOf n chains (Redundant e) o pin = (o ≡ outcome.Redundant) × (pin ≡ [])
 IsOutcomeOf n chains (Aborted tree) o pin = (o ≡ outcome.Aborted) × (pin ≡ [])
 
 -- the line of a fault with this verdict
@@ -39,17 +40,17 @@ AreLines n chains faults verdicts lines = AllZip (IsVerdictLine n chains) (zip f
 -- the point of a verdict is one of the netlist
 abbrev pub IsInside : Netlist → TransitionVerdict → Type 0
 IsInside n (Detected place point) = IsPointOf n point
-IsInside n (Redundant tree) = ⊤
+IsInside n (Redundant e) = ⊤
 IsInside n (Aborted tree) = ⊤
 
--- the tree of a fault that no pattern detects
-abbrev pub leaf_at : Fault → TransitionVerdict → List (Fault × List Node)
+-- the evidence of a fault that no pattern detects
+abbrev pub leaf_at : Fault → TransitionVerdict → List (Fault × Evidence)
 leaf_at f (Detected place point) = []
-leaf_at f (Redundant tree) = (f, tree) ∷ []
-leaf_at f (Aborted tree) = (f, tree) ∷ []
+leaf_at f (Redundant e) = (f, e) ∷ []
+leaf_at f (Aborted tree) = (f, Tree tree) ∷ []
 
--- the trees of all such faults, each beside its fault, in order
-abbrev pub leaves_of : List Fault → List TransitionVerdict → List (Fault × List Node)
+-- the evidence of all such faults, each beside its fault, in order
+abbrev pub leaves_of : List Fault → List TransitionVerdict → List (Fault × Evidence)
 leaves_of [] verdicts = []
 leaves_of (f ∷ fs) [] = []
 leaves_of (f ∷ fs) (v ∷ vs) = leaf_at f v ++ leaves_of fs vs

@@ -1,24 +1,27 @@
-//! The trees of the transition faults that no pattern detects.
+//! The evidence of the transition faults that no pattern detects.
 ghost use Rattle.std.specs.Prelude.{◌≡◌, ◌≤◌, ◌^◌, ◌<◌, ◌++◌, ◌∷◌, [], IfOk, OnOk, length};
-ghost use Rattle.redundancy_cert.specs.declared.nodes.Node.{Node};
 ghost use Rattle.transition_report.specs.Lines.{leaf_at, leaves_of};
 
+use evidence::Evidence;
 use fault_universe::FaultSet;
 use netlist::{Fault, NoMemory};
-use redundancy_cert::Tree;
 use std::alloc::{AllocError, Global};
 use transition_tests::TransitionVerdict;
 
-fn push_leaf(leaves: &mut Vec<(Fault, Tree)>, fault: Fault, tree: Tree) -> Result<(), AllocError>
-    ensures { OnOk result (leaves.new.items ≡ leaves.old.items ++ (fault, tree) ∷ []) }
+fn push_leaf(
+    leaves: &mut Vec<(Fault, Evidence)>,
+    fault: Fault,
+    evidence: Evidence,
+) -> Result<(), AllocError>
+    ensures { OnOk result (leaves.new.items ≡ leaves.old.items ++ (fault, evidence) ∷ []) }
 {
-    leaves.push((fault, tree))?;
+    leaves.push((fault, evidence))?;
     Ok(())
 }
 
-/// Adds the tree of a fault, where no pattern detects it.
+/// Adds the evidence of a fault, where no pattern detects it.
 fn add_leaf(
-    leaves: &mut Vec<(Fault, Tree)>,
+    leaves: &mut Vec<(Fault, Evidence)>,
     fault: Fault,
     verdict: TransitionVerdict,
 ) -> Result<(), AllocError>
@@ -26,8 +29,8 @@ fn add_leaf(
 {
     match verdict {
         TransitionVerdict::Detected(_, _) => Ok(()),
-        TransitionVerdict::Redundant(tree) => push_leaf(leaves, fault, tree),
-        TransitionVerdict::Aborted(tree) => push_leaf(leaves, fault, tree),
+        TransitionVerdict::Redundant(evidence) => push_leaf(leaves, fault, evidence),
+        TransitionVerdict::Aborted(tree) => push_leaf(leaves, fault, Evidence::Tree(tree)),
     }
 }
 
@@ -35,7 +38,7 @@ fn leaves_within(
     alloc: Global,
     faults: &FaultSet,
     verdicts: Vec<TransitionVerdict>,
-) -> Result<Vec<(Fault, Tree)>, AllocError>
+) -> Result<Vec<(Fault, Evidence)>, AllocError>
     requires size { length verdicts.items ≤ length faults.now }
     requires few { length faults.now < 2 ^ 32 }
     ensures { IfOk result (λ v. v.items ≡ leaves_of faults.now verdicts.items) }
@@ -49,12 +52,12 @@ fn leaves_within(
     Ok(leaves)
 }
 
-/// Each such tree beside its fault, in the order of faults.
+/// Such evidence, each beside its fault, in the order of faults.
 pub fn leaves_of(
     alloc: Global,
     faults: &FaultSet,
     verdicts: Vec<TransitionVerdict>,
-) -> Result<Vec<(Fault, Tree)>, NoMemory>
+) -> Result<Vec<(Fault, Evidence)>, NoMemory>
     requires size { length verdicts.items ≤ length faults.now }
     requires few { length faults.now < 2 ^ 32 }
     ensures { IfOk result (λ v. v.items ≡ leaves_of faults.now verdicts.items) }

@@ -2,7 +2,8 @@
 //! faults, and that nodes are named in the two frames.
 //!
 //! Gives: `lines_of`, `report_of`, `write_report`, `leaves_of`, `write_certificate`.
-//! Proved: each exactly: the lines of transition faults by their verdicts, the numbers of a report, and the texts of report and certificate.
+//! Proved: each exactly: the lines of transition faults by their verdicts, the numbers of a report, and the texts of report and certificate; the first
+//! line of a certificate says whether there are refutations.
 //! Tested: run by the command `transition`, by rows of `cases`.
 //! Neither: time.
 #![tactic(auto)]

@@ -36,10 +36,10 @@ verdicts_count n limit patterns verdicts tests =
     let all = AllZip-long (IsVerdict n limit patterns) (universe_of n) verdicts tests.each in
     omega (arith, all)
 
--- the trees of tests are named in their two frames
-pub trees_named : FaultsHaveLines → FaultsHaveSignals → (n : Netlist) → IsSound n → IsDesign n → (limit : ℕ) (patterns : List Pattern) (verdicts : List TransitionVerdict)
+-- the evidence of tests is named in their two frames
+pub evidence_named : FaultsHaveLines → FaultsHaveSignals → (n : Netlist) → IsSound n → IsDesign n → (limit : ℕ) (patterns : List Pattern) (verdicts : List TransitionVerdict)
     → AreTests n limit patterns verdicts → All (IsNamedInFrames n) (leaves_of (universe_of n) verdicts)
-trees_named lines have n sound design limit patterns verdicts tests =
+evidence_named lines have n sound design limit patterns verdicts tests =
     leaves_named n sound design limit patterns (universe_of n) verdicts (all_lines lines have n sound) tests.each
 
 -- the cells dealt to chains are the design's chains

@@ -1,3 +1,4 @@
 pub mod FileLemmas
 pub mod SaidLemmas
+pub mod TreesAlone
 pub mod TruthLemmas

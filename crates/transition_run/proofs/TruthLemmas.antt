@@ -1,5 +1,5 @@
 -- What is written of verdicts comes true.
-use Rattle.std.proofs.Common.{◌≡◌, ◌+◌, ℕ, zero, suc, inl, inr, List, [], ◌∷◌, ◌++◌, length, map, get_or, Some, None, refl, sym, ◌∙◌, ap, ap₂, subst, arith}
+use Rattle.std.proofs.Common.{◌≡◌, ◌+◌, ℕ, Bool, zero, suc, inl, inr, List, [], ◌∷◌, ◌++◌, length, map, get_or, Some, None, refl, sym, ◌∙◌, ap, ap₂, subst, arith}
 use Rattle.std.specs.List.{All, AllZip, Contains, slice_get, zip}
 use Rattle.std.proofs.lemmas.List.{length-map}
 use Rattle.std.proofs.lemmas.List.Sums.{sum_by-cons}
@@ -22,21 +22,23 @@ use Rattle.statement.specs.Tests.{vectors_in}
 use Rattle.fault_universe.specs.Laws.{FaultsHaveLines}
 use Rattle.statement.specs.Faults.{universe_of}
 use Rattle.fault_universe.proofs.Elements.{contains_at}
-use Rattle.redundancy_cert.specs.declared.nodes.Node.{Node}
+use Rattle.evidence.specs.declared.kinds.Evidence.{Evidence}
+use Rattle.evidence.specs.declared.kinds.Evidence.TheVariants.{Tree}
 use Rattle.statement.specs.declared.outcomes.Outcome.{Outcome}
 use Rattle.statement.specs.Reports.{Line}
 use Rattle.run_report.specs.Heads.{count_of, one_if_detected, one_if_redundant, one_if_aborted}
 use Rattle.transition_frames.specs.Transition.{DetectsTransition}
 use Rattle.transition.specs.Detections.{LastTransition}
-use Rattle.transition.specs.Laws.{ClosedTreeHasNoTransition}
+use Rattle.transition.specs.Laws.{ShownHasNoTransition}
 use Rattle.transition_play.specs.LaunchVectors.{AreLaunchVectors}
 use Rattle.transition_play.specs.Laws.{DetectedFailsSlowly, GoodPassesLaunches, LaunchVectorsFit, SomeSlowRun, UndetectedPassesSlowly}
 use Rattle.transition_files.specs.Laws.{LaunchFileVectors}
 use Rattle.transition_tests.specs.declared.verdicts.TransitionVerdict.{TransitionVerdict}
 use Rattle.transition_tests.specs.declared.verdicts.TransitionVerdict.TheVariants.{Detected, Redundant, Aborted}
-use Rattle.transition_tests.specs.Verdicts.{AreTests, IsVerdict}
+use Rattle.transition_tests.specs.Verdicts.{AreTests, IsVerdict, MayHave}
 use Rattle.transition_report.specs.Lines.{IsVerdictLine, IsOutcomeOf, leaf_at, leaves_of}
 use Rattle.transition_report.specs.Texts.{transition_text}
+use Rattle.transition_report.proofs.LeafLemmas.{leaves_kinds}
 use Rattle.transition_run.specs.declared.files.TransitionFiles.{TransitionFiles}
 use Rattle.transition_run.specs.Runs.{transition_files_of}
 use Rattle.transition_run.specs.Theorem.{AreUndetectedTransitions, ComesTrue, TransitionTheorem}
@@ -47,7 +49,7 @@ pub record Laws : Type 0 where
   pub stands : WrittenStands
   pub lines : FaultsHaveLines
   pub sound : ScannedIsSound
-  pub closed : ClosedTreeHasNoTransition
+  pub shown : ShownHasNoTransition
   pub vectors : LaunchFileVectors
   pub fit : LaunchVectorsFit
   pub good : GoodPassesLaunches
@@ -59,7 +61,7 @@ pub record Laws : Type 0 where
 verdict_kind : (n : Netlist) (chains : List (List ℕ)) (v : TransitionVerdict) (o : Outcome) (pin : List ℕ) → IsOutcomeOf n chains v o pin
     → one_if_detected o + one_if_redundant o + one_if_aborted o ≡ 1
 verdict_kind n chains (Detected place point) o pin said = ap (λ (w : Outcome). one_if_detected w + one_if_redundant w + one_if_aborted w) said.1
-verdict_kind n chains (Redundant tree) o pin said = ap (λ (w : Outcome). one_if_detected w + one_if_redundant w + one_if_aborted w) said.0
+verdict_kind n chains (Redundant e) o pin said = ap (λ (w : Outcome). one_if_detected w + one_if_redundant w + one_if_aborted w) said.0
 verdict_kind n chains (Aborted tree) o pin said = ap (λ (w : Outcome). one_if_detected w + one_if_redundant w + one_if_aborted w) said.0
 
 -- and so is every line
@@ -74,17 +76,17 @@ all_kinds n chains (p ∷ ps) (l ∷ ls) said =
     let a = sum_by-cons (λ (m : Line). one_if_aborted m.outcome) l ls in
     omega (arith, verdict_kind n chains p.1 l.outcome l.pin said.0.outcome, all_kinds n chains ps ls said.1, d, r, a)
 
--- ---- verdicts, lines and trees, place by place
+-- ---- verdicts, lines and evidence, place by place
 
 module _ (n : Netlist) (chains : List (List ℕ)) (limit : ℕ) (patterns : List Pattern) where
-  -- the verdict at a place is true of the fault, the line says it, and its tree stands among the trees
-  record IsAt (f : Fault) (line : Line) (trees : List (Fault × List Node)) : Type 0 where
+  -- the verdict at a place is true of the fault, the line says it, and its evidence stands among all
+  record IsAt (f : Fault) (line : Line) (certified : List (Fault × Evidence)) : Type 0 where
     verdict : TransitionVerdict
     is : IsVerdict n limit patterns f verdict
     said : IsVerdictLine n chains (f, verdict) line
-    stands : (tree : List Node) → leaf_at f verdict ≡ (f, tree) ∷ [] → Contains trees (f, tree)
+    stands : (e : Evidence) → leaf_at f verdict ≡ (f, e) ∷ [] → Contains certified (f, e)
 
-  first_at : (g f : Fault) (v : TransitionVerdict) (l line : Line) (rest : List (Fault × List Node)) → Some g ≡ Some f → Some l ≡ Some line
+  first_at : (g f : Fault) (v : TransitionVerdict) (l line : Line) (rest : List (Fault × Evidence)) → Some g ≡ Some f → Some l ≡ Some line
       → IsVerdict n limit patterns g v → IsVerdictLine n chains (g, v) l → IsAt f line (leaf_at g v ++ rest)
   first_at g f v l line rest fault text is said =
       let same : g ≡ f = cc in
@@ -93,16 +95,16 @@ module _ (n : Netlist) (chains : List (List ℕ)) (limit : ℕ) (patterns : List
         verdict = v;
         is = is;
         said = said;
-        stands = λ tree leaf.
-            subst (λ (ls : List (Fault × List Node)). Contains (ls ++ rest) (g, tree)) (sym leaf) (contains_head (g, tree) rest);
+        stands = λ e leaf.
+            subst (λ (ls : List (Fault × Evidence)). Contains (ls ++ rest) (g, e)) (sym leaf) (contains_head (g, e) rest);
       }))
 
-  later_at : (f : Fault) (line : Line) (first rest : List (Fault × List Node)) → IsAt f line rest → IsAt f line (first ++ rest)
+  later_at : (f : Fault) (line : Line) (first rest : List (Fault × Evidence)) → IsAt f line rest → IsAt f line (first ++ rest)
   later_at f line first rest at = record {
     verdict = at.verdict;
     is = at.is;
     said = at.said;
-    stands = λ tree leaf. Contains-append_right first rest (f, tree) (at.stands tree leaf);
+    stands = λ e leaf. Contains-append_right first rest (f, e) (at.stands e leaf);
   }
 
   at_place : (fs : List Fault) (vs : List TransitionVerdict) (lines : List Line) → AllZip (IsVerdict n limit patterns) fs vs → AllZip (IsVerdictLine n chains) (zip fs vs) lines
@@ -125,15 +127,15 @@ module _ (n : Netlist) (chains : List (List ℕ)) (limit : ℕ) (patterns : List
   once (f ∷ fs) (v ∷ vs) (l ∷ lines) are said = ap₂ (λ (t : List ℕ) ts. t ∷ ts) said.0.names_it (once fs vs lines are.1 said.1)
 
   left_by : (f : Fault) (v : TransitionVerdict) (fs : List Fault) (vs : List TransitionVerdict) → IsVerdict n limit patterns f v
-      → AreUndetectedTransitions n patterns fs (map (λ (p : Fault × List Node). p.0) (leaves_of fs vs))
-      → AreUndetectedTransitions n patterns (f ∷ fs) (map (λ (p : Fault × List Node). p.0) (leaf_at f v ++ leaves_of fs vs))
+      → AreUndetectedTransitions n patterns fs (map (λ (p : Fault × Evidence). p.0) (leaves_of fs vs))
+      → AreUndetectedTransitions n patterns (f ∷ fs) (map (λ (p : Fault × Evidence). p.0) (leaf_at f v ++ leaves_of fs vs))
   left_by f (Detected place point) fs vs is rest = inl ((place, point, is), rest)
-  left_by f (Redundant tree) fs vs is rest = inr (is.0, (map (λ (p : Fault × List Node). p.0) (leaves_of fs vs), refl, rest))
-  left_by f (Aborted tree) fs vs is rest = inr (is.0, (map (λ (p : Fault × List Node). p.0) (leaves_of fs vs), refl, rest))
+  left_by f (Redundant e) fs vs is rest = inr (is.0, (map (λ (p : Fault × Evidence). p.0) (leaves_of fs vs), refl, rest))
+  left_by f (Aborted tree) fs vs is rest = inr (is.0, (map (λ (p : Fault × Evidence). p.0) (leaves_of fs vs), refl, rest))
 
-  -- those faults have trees that no pattern detects
+  -- those faults have evidence that no pattern detects
   left : (fs : List Fault) (vs : List TransitionVerdict) → AllZip (IsVerdict n limit patterns) fs vs
-      → AreUndetectedTransitions n patterns fs (map (λ (p : Fault × List Node). p.0) (leaves_of fs vs))
+      → AreUndetectedTransitions n patterns fs (map (λ (p : Fault × Evidence). p.0) (leaves_of fs vs))
   left [] vs are = refl
   left (f ∷ fs) [] are = elim are [ ]
   left (f ∷ fs) (v ∷ vs) are = left_by f v fs vs are.0 (left fs vs are.1)
@@ -151,13 +153,13 @@ never_at : (n : Netlist) (patterns : List Pattern) (f : Fault) → LastTransitio
     → All (λ (p : Pattern). (point : Point) → ¬ DetectsTransition n f p.inputs p.cells point) patterns
 never_at n patterns f never k d lt = λ point t. never k point (record { pattern = get_or patterns k d; at = slice_get-get_or patterns k d lt; detects = t })
 
-comes_true : Laws → (n : Netlist) (chains : List (List ℕ)) (limit : ℕ) (patterns : List Pattern) (trees : List (Fault × List Node)) (cycles : List Cycle)
+comes_true : Laws → (n : Netlist) (chains : List (List ℕ)) (limit : ℕ) (patterns : List Pattern) (certified : List (Fault × Evidence)) (cycles : List Cycle)
     → IsTested n chains patterns cycles → (f : Fault) → IsNetlistLine n f.line → (v : TransitionVerdict) → IsVerdict n limit patterns f v
-    → ((tree : List Node) → leaf_at f v ≡ (f, tree) ∷ [] → Contains trees (f, tree)) → (o : Outcome) (pin : List ℕ) → IsOutcomeOf n chains v o pin
-    → ComesTrue n chains limit patterns trees cycles f o pin
-comes_true laws n chains limit patterns trees cycles are f line (Detected place point) is stands o pin said =
+    → ((e : Evidence) → leaf_at f v ≡ (f, e) ∷ [] → Contains certified (f, e)) → (o : Outcome) (pin : List ℕ) → IsOutcomeOf n chains v o pin
+    → ComesTrue n chains limit patterns certified cycles f o pin
+comes_true laws n chains limit patterns certified cycles are f line (Detected place point) is stands o pin said =
     let output = said.2.0 in
-    subst (λ (w : Outcome). ComesTrue n chains limit patterns trees cycles f w pin) (sym said.1) (
+    subst (λ (w : Outcome). ComesTrue n chains limit patterns certified cycles f w pin) (sym said.1) (
       point,
       output,
       is,
@@ -165,23 +167,23 @@ comes_true laws n chains limit patterns trees cycles are f line (Detected place 
       said.2.2,
       laws.detected n chains patterns cycles f place is.here.pattern point said.0 output are.sound are.dealt are.vectors line is.here.at is.here.detects said.2.1,
     )
-comes_true laws n chains limit patterns trees cycles are f line (Redundant tree) is stands o pin said =
-    subst (λ (w : Outcome). ComesTrue n chains limit patterns trees cycles f w pin) (sym said.0)
-    (tree, (stands tree refl, is.1), is.2, λ inputs state point. laws.closed n f tree are.sound are.design line is.1 is.2 inputs state point)
-comes_true laws n chains limit patterns trees cycles are f line (Aborted tree) is stands o pin said =
-    subst (λ (w : Outcome). ComesTrue n chains limit patterns trees cycles f w pin) (sym said.0) (
+comes_true laws n chains limit patterns certified cycles are f line (Redundant e) is stands o pin said =
+    subst (λ (w : Outcome). ComesTrue n chains limit patterns certified cycles f w pin) (sym said.0)
+    (e, (stands e refl, is.1), is.2, λ inputs state point. laws.shown n f e are.sound are.design line is.1 is.2 inputs state point)
+comes_true laws n chains limit patterns certified cycles are f line (Aborted tree) is stands o pin said =
+    subst (λ (w : Outcome). ComesTrue n chains limit patterns certified cycles f w pin) (sym said.0) (
       tree,
-      (stands tree refl, is.1),
+      (stands (Tree tree) refl, is.1),
       is.2,
       is.3,
       is.0,
       laws.undetected n chains patterns cycles f are.sound are.dealt are.vectors line (never_at n patterns f is.0),
     )
 
-pub truth : Laws → (n : Netlist) (chains : List (List ℕ)) (limit : ℕ) (patterns : List Pattern) (verdicts : List TransitionVerdict) (made : TransitionFiles)
-    → IsSound n → IsDesign n → AreChainsOf n chains → AreTests n limit patterns verdicts → IsWritten n chains limit patterns verdicts made
-    → TransitionTheorem n chains limit (transition_files_of made)
-truth laws n chains limit patterns verdicts made sound design dealt tests w =
+pub truth : Laws → (n : Netlist) (chains : List (List ℕ)) (limit : ℕ) (refutes : Bool) (patterns : List Pattern) (verdicts : List TransitionVerdict) (made : TransitionFiles)
+    → IsSound n → IsDesign n → AreChainsOf n chains → AreTests n limit patterns verdicts → All (MayHave refutes) verdicts
+    → IsWritten n chains limit patterns verdicts made → TransitionTheorem n chains limit refutes (transition_files_of made)
+truth laws n chains limit refutes patterns verdicts made sound design dealt tests may w =
     let file = w.stil.file in
     let cycles = vectors_in file in
     let lines = made.said.lines in
@@ -191,7 +193,7 @@ truth laws n chains limit patterns verdicts made sound design dealt tests w =
       patterns = patterns;
       file = file;
       said = made.said;
-      trees = leaves_of (universe_of n) verdicts;
+      certified = leaves_of (universe_of n) verdicts;
       net_is = w.net;
       scan_is = w.scan;
       stil_is = subst (λ (t : List ℕ). StandsFor t file) (sym w.stil.text_is) (laws.stands file w.stil.is_file);
@@ -208,6 +210,7 @@ truth laws n chains limit patterns verdicts made sound design dealt tests w =
           (record { sound = sound; design = design; dealt = dealt; vectors = vectors }) f
           (laws.lines n f sound (contains_at (universe_of n) place f at)) here.verdict here.is here.stands line.outcome line.pin here.said.outcome;
       left = left n chains limit patterns (universe_of n) verdicts tests.each;
+      kinds = leaves_kinds refutes (universe_of n) verdicts may;
       all = all_kinds n chains (zip (universe_of n) verdicts) lines w.said.lines
           ∙ (sym (length-map lines (λ (l : Line). l.fault)) ∙ (ap length named ∙ length-map (universe_of n) (transition_text n)));
       numbers = w.said.numbers;

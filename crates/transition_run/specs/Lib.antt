@@ -1,3 +1,4 @@
 pub mod Theorem
+pub mod TreeTheorem
 pub mod Runs
 pub mod inner

@@ -1,6 +1,6 @@
 //! From a design to the five files of its transition faults. A batch of drawn patterns drops most faults that can be detected; the others are
 //! searched, each on two frames of its own, and then all patterns are simulated: there is no list that workers share, and so no lock.
-ghost use Rattle.std.specs.Prelude.{◌≡◌, ◌<◌, ◌≤◌, ◌^◌, false, IfOk, length};
+ghost use Rattle.std.specs.Prelude.{◌≡◌, ◌<◌, ◌≤◌, ◌^◌, IfOk, length};
 ghost use Rattle.std.specs.List.{All};
 ghost use Rattle.plain_text.specs.Limits.{most_workers};
 ghost use Rattle.netlist.specs.Designs.{IsDesign};
@@ -8,7 +8,7 @@ ghost use Rattle.netlist.specs.Holds.{none_held};
 ghost use Rattle.cubes.specs.Cubes.{IsPatternOf};
 ghost use Rattle.scan_insert.specs.Scanned.{AreChainsOf, scanned_of};
 ghost use Rattle.statement.specs.Faults.{universe_of};
-ghost use Rattle.transition_tests.specs.Verdicts.{AreTests};
+ghost use Rattle.transition_tests.specs.Verdicts.{AreTests, MayHave};
 ghost use Rattle.transition_run.specs.Runs.{IsTransitionRun};
 ghost use Rattle.transition_run.specs.inner.Written.{IsLaunchText, IsSaid, IsWritten};
 
@@ -172,9 +172,9 @@ fn slow_tests<R: Threads + Sync, E: Engine + Sync, G: Gate + Sync>(
     requires design { IsDesign core.now }
     requires faults { faults.now ≡ universe_of core.now }
     requires limit { 1 ≤ plan.limit }
-    requires trees { E.refutes ≡ false }
     requires workers { 0 < plan.workers }
     ensures tests { IfOk result (λ t. AreTests core.now plan.limit t.patterns.items t.verdicts.items) }
+    ensures kinds { IfOk result (λ t. All (MayHave E.refutes) t.verdicts.items) }
     ensures few { IfOk result (λ t. length t.patterns.items < 2 ^ 32) }
 {
     let netlist = core.netlist();
@@ -218,9 +218,8 @@ pub fn transition_files<R: Threads + Sync, E: Engine + Sync, G: Gate + Sync>(
     requires design { IsDesign core.now }
     requires some { 1 ≤ plan.chains }
     requires limit { 1 ≤ plan.limit }
-    requires trees { E.refutes ≡ false }
     requires workers { (0 < plan.workers) × (plan.workers ≤ most_workers) }
-    ensures { IfOk result (IsTransitionRun core.now plan.chains plan.limit) }
+    ensures { IfOk result (IsTransitionRun core.now plan.chains plan.limit E.refutes) }
 {
     let netlist = core.netlist();
     netlist.sound();

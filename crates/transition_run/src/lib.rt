@@ -2,7 +2,8 @@
 //!
 //! Gives: `transition_files`, `TransitionPlan`, `TransitionFiles`.
 //! Proved: `transition_files`: five files of a design's transition faults, and what they say comes true on the tester (`TransitionTheorem`), for
-//! every number of workers, searched by any engine that keeps the trait's contract and refutes nothing.
+//! every number of workers, searched by any engine that keeps the trait's contract; where the engine refutes nothing, by trees alone
+//! (`TransitionTreeTheorem`).
 //! Tested: run by the command `transition`, by rows of `cases`.
 //! Neither: how many patterns and aborted faults there are; what passes the stage; time.
 #![tactic(auto)]

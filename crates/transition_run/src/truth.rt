@@ -4,7 +4,7 @@ ghost use Rattle.transition_run.specs.inner.Laws.{WrittenTellsTheTruth};
 use fault_universe::faults_have_lines;
 use scan_insert::laws::scanned_is_sound;
 use stil_read::laws::written_stands;
-use transition::laws::closed_tree_has_no_transition;
+use transition::laws::shown_has_no_transition;
 use transition_files::laws::launch_file_vectors;
 use transition_play::laws::{
     detected_fails_slowly, good_passes_launches, launch_vectors_fit, some_slow_run,
@@ -18,7 +18,7 @@ pub(crate) fn written_tells_the_truth()
     written_stands();
     faults_have_lines();
     scanned_is_sound();
-    closed_tree_has_no_transition();
+    shown_has_no_transition();
     launch_file_vectors();
     launch_vectors_fit();
     good_passes_launches();

@@ -34,17 +34,17 @@ frame_cube n f c is = record {
   held = is.held;
 }
 
-pub all_cubes : (n : Netlist) (limit : ℕ) (batch : List Pattern) (faults : List Fault) (found : List (Option Found)) → AllZip (IsKnown n limit batch) faults found
+pub all_cubes : (n : Netlist) (limit : ℕ) (refutes : Bool) (batch : List Pattern) (faults : List Fault) (found : List (Option Found)) → AllZip (IsKnown n limit refutes batch) faults found
     → All (IsCubeOf n (none_held n)) (cubes_in found)
-all_cubes n limit batch [] [] are = All-nil (IsCubeOf n (none_held n))
-all_cubes n limit batch [] (x ∷ xs) are = elim are [ ]
-all_cubes n limit batch (f ∷ fs) [] are = elim are [ ]
-all_cubes n limit batch (f ∷ fs) (None ∷ xs) are = all_cubes n limit batch fs xs are.1
-all_cubes n limit batch (f ∷ fs) (Some (Test c o) ∷ xs) are =
-    All-cons (IsCubeOf n (none_held n)) c (cubes_in xs) (frame_cube n f c are.0.evidence.is_cube) (all_cubes n limit batch fs xs are.1)
-all_cubes n limit batch (f ∷ fs) (Some (Closed t) ∷ xs) are = all_cubes n limit batch fs xs are.1
-all_cubes n limit batch (f ∷ fs) (Some (Refuted s) ∷ xs) are = all_cubes n limit batch fs xs are.1
-all_cubes n limit batch (f ∷ fs) (Some (Partial t) ∷ xs) are = all_cubes n limit batch fs xs are.1
+all_cubes n limit refutes batch [] [] are = All-nil (IsCubeOf n (none_held n))
+all_cubes n limit refutes batch [] (x ∷ xs) are = elim are [ ]
+all_cubes n limit refutes batch (f ∷ fs) [] are = elim are [ ]
+all_cubes n limit refutes batch (f ∷ fs) (None ∷ xs) are = all_cubes n limit refutes batch fs xs are.1
+all_cubes n limit refutes batch (f ∷ fs) (Some (Test c o) ∷ xs) are =
+    All-cons (IsCubeOf n (none_held n)) c (cubes_in xs) (frame_cube n f c are.0.evidence.is_cube) (all_cubes n limit refutes batch fs xs are.1)
+all_cubes n limit refutes batch (f ∷ fs) (Some (Closed t) ∷ xs) are = all_cubes n limit refutes batch fs xs are.1
+all_cubes n limit refutes batch (f ∷ fs) (Some (Refuted s) ∷ xs) are = all_cubes n limit refutes batch fs xs are.1
+all_cubes n limit refutes batch (f ∷ fs) (Some (Partial t) ∷ xs) are = all_cubes n limit refutes batch fs xs are.1
 
 pub few_cubes : (found : List (Option Found)) → length (cubes_in found) ≤ length found
 few_cubes [] = omega arith

@@ -28,7 +28,7 @@ use Rattle.transition.proofs.Answering.{test_detects_transition}
 use Rattle.transition.proofs.LastTold.{to_frames, from_frames}
 use Rattle.transition_tests.specs.declared.verdicts.TransitionVerdict.{TransitionVerdict}
 use Rattle.transition_tests.specs.Batches.{AreLeftBy, IsLeftBy}
-use Rattle.transition_tests.specs.Verdicts.{AreTests, IsNeededForTransitions, IsVerdict}
+use Rattle.transition_tests.specs.Verdicts.{AreTests, IsNeededForTransitions, IsVerdict, MayHave}
 use Rattle.transition_tests.specs.inner.Answers.{IsKnown}
 use Rattle.transition_tests.specs.Making.{AreFilledFrom, AreMadeFrom, cubes_in}
 use Rattle.transition_tests.specs.inner.Cubes.{BeginsWith, HasAgreeing}
@@ -47,14 +47,14 @@ left_where_none n batch (f ∷ faults) (Some l ∷ lasts) are = ((l.0, l.1, are.
 
 -- ---- what is known of faults, once those that a batch leaves were searched
 
-module _ (n : Netlist) (limit : ℕ) (batch : List Pattern) where
-  known_one : (f : Fault) (left : Bool) (x : Option Found) → IsLeftBy n batch f left → IsFoundIfLeft n limit f left x → IsKnown n limit batch f x
+module _ (n : Netlist) (limit : ℕ) (refutes : Bool) (batch : List Pattern) where
+  known_one : (f : Fault) (left : Bool) (x : Option Found) → IsLeftBy n batch f left → IsFoundIfLeft n limit refutes f left x → IsKnown n limit refutes batch f x
   known_one f true (Some x) by is = is
   known_one f true None by is = elim is [ ]
-  known_one f false x by is = subst (IsKnown n limit batch f) (sym is) by
+  known_one f false x by is = subst (IsKnown n limit refutes batch f) (sym is) by
 
-  pub all_known : (faults : List Fault) (left : List Bool) (found : List (Option Found)) → AreLeftBy n batch faults left → AreFoundWhereLeft n limit faults left found
-      → AllZip (IsKnown n limit batch) faults found
+  pub all_known : (faults : List Fault) (left : List Bool) (found : List (Option Found)) → AreLeftBy n batch faults left → AreFoundWhereLeft n limit refutes faults left found
+      → AllZip (IsKnown n limit refutes batch) faults found
   all_known [] left [] by are = tt
   all_known [] left (x ∷ found) by are = absurd (let size = are.size in omega arith)
   all_known (f ∷ faults) [] found by are = elim by [ ]
@@ -65,11 +65,11 @@ module _ (n : Netlist) (limit : ℕ) (batch : List Pattern) where
   )
 
 -- the cubes of what was found are cubes of the netlist
-pub cubes_fit : (n : Netlist) (limit : ℕ) (batch : List Pattern) (left : List Bool) (found : List (Option Found)) (cubes : List Cube) → AreLeftBy n batch (universe_of n) left
-    → AreFoundWhereLeft n limit (universe_of n) left found → cubes ≡ cubes_in found → All (IsCubeOf n (none_held n)) cubes
-cubes_fit n limit batch left found cubes by are is =
+pub cubes_fit : (n : Netlist) (limit : ℕ) (refutes : Bool) (batch : List Pattern) (left : List Bool) (found : List (Option Found)) (cubes : List Cube) → AreLeftBy n batch (universe_of n) left
+    → AreFoundWhereLeft n limit refutes (universe_of n) left found → cubes ≡ cubes_in found → All (IsCubeOf n (none_held n)) cubes
+cubes_fit n limit refutes batch left found cubes by are is =
     subst (λ (cs : List Cube). All (IsCubeOf n (none_held n)) cs) (sym is)
-    (all_cubes n limit batch (universe_of n) found (all_known n limit batch (universe_of n) left found by are))
+    (all_cubes n limit refutes batch (universe_of n) found (all_known n limit refutes batch (universe_of n) left found by are))
 
 -- ---- where a test was found, or the batch detects, some pattern detects
 
@@ -87,8 +87,8 @@ at_front [] ys k p e = cc
 at_front (x ∷ xs) ys zero p e = e
 at_front (x ∷ xs) ys (suc k) p e = at_front xs ys k p e
 
-module _ (n : Netlist) (sound : IsSound n) (limit : ℕ) (batch patterns : List Pattern) (begins : BeginsWith batch patterns) where
-  told_one : (f : Fault) (x : Option Found) (last : Option (ℕ × Point)) → IsLineOf n f.line → IsKnown n limit batch f x → LastTransition n patterns f last
+module _ (n : Netlist) (sound : IsSound n) (limit : ℕ) (refutes : Bool) (batch patterns : List Pattern) (begins : BeginsWith batch patterns) where
+  told_one : (f : Fault) (x : Option Found) (last : Option (ℕ × Point)) → IsLineOf n f.line → IsKnown n limit refutes batch f x → LastTransition n patterns f last
       → ((c : Cube) → Contains (cubes_in (x ∷ [])) c → HasAgreeing patterns c) → IsDetectedIfTested x last
   told_one f x (Some l) line known is agree = tt
   told_one f None None line known never agree =
@@ -106,7 +106,7 @@ module _ (n : Netlist) (sound : IsSound n) (limit : ℕ) (batch patterns : List 
         detects = test_detects_transition n f c o p.0 sound line evidence.evidence p.2;
       })
   told_one f (Some (Closed t)) None line evidence is agree = tt
-  told_one f (Some (Refuted s)) None line evidence is agree = let never = evidence.kind in cc
+  told_one f (Some (Refuted s)) None line evidence is agree = tt
   told_one f (Some (Partial t)) None line evidence is agree = tt
 
   first_cube : (x : Option Found) (xs : List (Option Found)) (c : Cube) → Contains (cubes_in (x ∷ [])) c → Contains (cubes_in (x ∷ xs)) c
@@ -122,7 +122,7 @@ module _ (n : Netlist) (sound : IsSound n) (limit : ℕ) (batch patterns : List 
   first_cube (Some (Partial t)) xs c is = absurd (let lt = is.1 in omega arith)
 
   pub all_told : (faults : List Fault) (found : List (Option Found)) (lasts : List (Option (ℕ × Point))) → All (λ (f : Fault). IsLineOf n f.line) faults
-      → AllZip (IsKnown n limit batch) faults found → AllZip (LastTransition n patterns) faults lasts → ((c : Cube) → Contains (cubes_in found) c → HasAgreeing patterns c)
+      → AllZip (IsKnown n limit refutes batch) faults found → AllZip (LastTransition n patterns) faults lasts → ((c : Cube) → Contains (cubes_in found) c → HasAgreeing patterns c)
       → AllZip IsDetectedIfTested found lasts
   all_told [] [] [] lines are is agree = tt
   all_told [] [] (l ∷ lasts) lines are is agree = elim is [ ]
@@ -148,7 +148,7 @@ last_within n patterns (f ∷ faults) (Some l ∷ lasts) are =
 
 -- ---- among the patterns that are kept
 
-module _ (n : Netlist) (sound : IsSound n) (limit : ℕ) (batch patterns : List Pattern) (marked : ℕ → Bool) where
+module _ (n : Netlist) (sound : IsSound n) (limit : ℕ) (refutes : Bool) (batch patterns : List Pattern) (marked : ℕ → Bool) where
   kept_last : (f : Fault) (k : ℕ) (o : Point) → IsLineOf n f.line → marked k ≡ true → IsLastTransition n patterns f k o
       → IsLastTransition n (kept_from marked 0 patterns) f (new_place marked k) o
   kept_last f k o line mark is =
@@ -169,7 +169,7 @@ module _ (n : Netlist) (sound : IsSound n) (limit : ℕ) (batch patterns : List 
       never_kept (frames_of n f) patterns marked (frame_fault n f) (λ p o d. never p o (from_frames n sound patterns f line p o d)) place q
       (to_frames n sound (kept_from marked 0 patterns) f line place q t)
 
-  verdict_is : (f : Fault) (x : Option Found) (last : Option (ℕ × Point)) (v : TransitionVerdict) → IsLineOf n f.line → IsKnown n limit batch f x → LastTransition n patterns f last
+  verdict_is : (f : Fault) (x : Option Found) (last : Option (ℕ × Point)) (v : TransitionVerdict) → IsLineOf n f.line → IsKnown n limit refutes batch f x → LastTransition n patterns f last
       → ((l : ℕ × Point) → last ≡ Some l → marked l.0 ≡ true) → IsVerdictOf (new_place marked) x last v → IsVerdict n limit (kept_from marked 0 patterns) f v
   verdict_is f x (Some l) v line evidence is mark end =
       subst (IsVerdict n limit (kept_from marked 0 patterns) f) (sym end) (kept_last f l.0 l.1 line (mark l refl) is)
@@ -177,12 +177,13 @@ module _ (n : Netlist) (sound : IsSound n) (limit : ℕ) (batch patterns : List 
   verdict_is f (Some (Test c o)) None v line evidence never mark end = elim end [ ]
   verdict_is f (Some (Closed t)) None v line evidence never mark end =
       subst (IsVerdict n limit (kept_from marked 0 patterns) f) (sym end) (kept_never f line never, evidence.evidence.0, evidence.evidence.1)
-  verdict_is f (Some (Refuted s)) None v line evidence never mark end = elim end [ ]
+  verdict_is f (Some (Refuted s)) None v line evidence never mark end =
+      subst (IsVerdict n limit (kept_from marked 0 patterns) f) (sym end) (kept_never f line never, evidence.evidence, refl)
   verdict_is f (Some (Partial t)) None v line evidence never mark end =
       subst (IsVerdict n limit (kept_from marked 0 patterns) f) (sym end) (kept_never f line never, evidence.evidence.0, evidence.evidence.1, evidence.evidence.2)
 
   verdicts_are : (faults : List Fault) (found : List (Option Found)) (lasts : List (Option (ℕ × Point))) (vs : List TransitionVerdict) → All (λ (f : Fault). IsLineOf n f.line) faults
-      → AllZip (IsKnown n limit batch) faults found → AllZip (LastTransition n patterns) faults lasts → ((c : ℕ) (l : ℕ × Point) → last_at lasts c ≡ Some l → marked l.0 ≡ true)
+      → AllZip (IsKnown n limit refutes batch) faults found → AllZip (LastTransition n patterns) faults lasts → ((c : ℕ) (l : ℕ × Point) → last_at lasts c ≡ Some l → marked l.0 ≡ true)
       → AreVerdictsOf (new_place marked) found lasts vs → AllZip (IsVerdict n limit (kept_from marked 0 patterns)) faults vs
   verdicts_are [] [] [] [] lines are is mark ends = tt
   verdicts_are [] [] [] (v ∷ vs) lines are is mark ends = elim ends [ ]
@@ -196,6 +197,31 @@ module _ (n : Netlist) (sound : IsSound n) (limit : ℕ) (batch patterns : List 
     verdicts_are faults found lasts vs (All-tail (λ (g : Fault). IsLineOf n g.line) f faults lines) are.1 is.1 (λ c w e. mark (suc c) w e) ends.1,
   )
 
+-- ---- kinds
+
+module _ (n : Netlist) (limit : ℕ) (refutes : Bool) (batch : List Pattern) (new : ℕ → ℕ) where
+  verdict_kind : (f : Fault) (x : Option Found) (last : Option (ℕ × Point)) (v : TransitionVerdict) → IsKnown n limit refutes batch f x → IsVerdictOf new x last v → MayHave refutes v
+  verdict_kind f x (Some l) v known end = subst (MayHave refutes) (sym end) tt
+  verdict_kind f None None v known end = elim end [ ]
+  verdict_kind f (Some (Test c o)) None v known end = elim end [ ]
+  verdict_kind f (Some (Closed t)) None v known end = subst (MayHave refutes) (sym end) tt
+  verdict_kind f (Some (Refuted s)) None v known end = subst (MayHave refutes) (sym end) known.kind
+  verdict_kind f (Some (Partial t)) None v known end = subst (MayHave refutes) (sym end) tt
+
+  pub verdicts_kinds : (faults : List Fault) (found : List (Option Found)) (lasts : List (Option (ℕ × Point))) (vs : List TransitionVerdict)
+      → AllZip (IsKnown n limit refutes batch) faults found → AreVerdictsOf new found lasts vs → All (MayHave refutes) vs
+  verdicts_kinds [] [] [] [] are ends = All-nil (MayHave refutes)
+  verdicts_kinds [] [] [] (v ∷ vs) are ends = elim ends [ ]
+  verdicts_kinds [] [] (l ∷ lasts) vs are ends = elim ends [ ]
+  verdicts_kinds [] (x ∷ found) lasts vs are ends = elim are [ ]
+  verdicts_kinds (f ∷ faults) [] lasts vs are ends = elim are [ ]
+  verdicts_kinds (f ∷ faults) (x ∷ found) [] vs are ends = elim ends [ ]
+  verdicts_kinds (f ∷ faults) (x ∷ found) (l ∷ lasts) [] are ends = elim ends [ ]
+  verdicts_kinds (f ∷ faults) (x ∷ found) (l ∷ lasts) (v ∷ vs) are ends =
+      All-cons (MayHave refutes) v vs (verdict_kind f x l v are.0 ends.0) (verdicts_kinds faults found lasts vs are.1 ends.1)
+
+-- ---- which are needed
+
 -- each pattern that is kept is needed
 needed_at : (n : Netlist) (sound : IsSound n) (patterns : List Pattern) (faults : List Fault) (lasts : List (Option (ℕ × Point)))
     → ((f : Fault) → Contains faults f → IsLineOf n f.line) → AllZip (LastTransition n patterns) faults lasts
@@ -206,21 +232,21 @@ needed_at n sound patterns faults lasts lines are place p at =
     let start : 0 + s.place ≡ s.place = omega arith in
     let mark : marked s.place ≡ true = subst (λ (i : ℕ). marked i ≡ true) start s.mark in
     let by = marked_by (LastTransition n patterns) faults lasts s.place are mark in
-    let last = kept_last n sound 0 patterns patterns marked by.0 s.place by.2.0 (lines by.0 by.1) mark by.2.1 in
+    let last = kept_last n sound 0 false patterns patterns marked by.0 s.place by.2.0 (lines by.0 by.1) mark by.2.1 in
     (by.0, by.1, (by.2.0, subst (λ (k : ℕ). IsLastTransition n (kept_from marked 0 patterns) by.0 k by.2.0) s.new last))
 
-pub tests_are : (n : Netlist) (sound : IsSound n) (limit : ℕ) (batch patterns : List Pattern) (found : List (Option Found)) (lasts : List (Option (ℕ × Point))) (kept : List Pattern) (vs : List TransitionVerdict)
+pub tests_are : (n : Netlist) (sound : IsSound n) (limit : ℕ) (refutes : Bool) (batch patterns : List Pattern) (found : List (Option Found)) (lasts : List (Option (ℕ × Point))) (kept : List Pattern) (vs : List TransitionVerdict)
     → All (IsPatternOf n (none_held n)) patterns → ((f : Fault) → Contains (universe_of n) f → IsLineOf n f.line) → All (λ (f : Fault). IsLineOf n f.line) (universe_of n)
-    → AllZip (IsKnown n limit batch) (universe_of n) found → AllZip (LastTransition n patterns) (universe_of n) lasts
+    → AllZip (IsKnown n limit refutes batch) (universe_of n) found → AllZip (LastTransition n patterns) (universe_of n) lasts
     → kept ≡ kept_from (is_last_at lasts) 0 patterns → AreVerdictsOf (new_place (is_last_at lasts)) found lasts vs → AreTests n limit kept vs
-tests_are n sound limit batch patterns found lasts kept vs obey lines all are is kept_is ends =
+tests_are n sound limit refutes batch patterns found lasts kept vs obey lines all are is kept_is ends =
     subst (λ (ps : List Pattern). AreTests n limit ps vs) (sym kept_is) (record {
       obey = kept_all (IsPatternOf n (none_held n)) (is_last_at lasts) 0 patterns obey;
       needed = λ place lt.
           let left = kept_from (is_last_at lasts) 0 patterns in
           let nothing : Pattern = record { inputs = []; cells = [] } in
           needed_at n sound patterns (universe_of n) lasts lines is place (get_or left place nothing) (slice_get-get_or left place nothing lt);
-      each = verdicts_are n sound limit batch patterns (is_last_at lasts) (universe_of n) found lasts vs all are is (some_marked lasts) ends;
+      each = verdicts_are n sound limit refutes batch patterns (is_last_at lasts) (universe_of n) found lasts vs all are is (some_marked lasts) ends;
     })
 
 -- ---- of which patterns they are made

@@ -1,5 +1,5 @@
 -- What comes of each transition fault, with its evidence, and which patterns are kept.
-use Rattle.std.specs.Prelude.{ℕ, ◌≡◌, ◌≤◌, ◌<◌, List, length, None}
+use Rattle.std.specs.Prelude.{ℕ, ◌≡◌, ◌≤◌, ◌<◌, ⊤, Bool, List, length, None}
 use Rattle.std.specs.List.{All, AllZip, Contains}
 use Rattle.statement.specs.declared.lines.Fault.{Fault}
 use Rattle.statement.specs.declared.lines.Point.{Point}
@@ -11,6 +11,8 @@ use Rattle.statement.specs.Faults.{universe_of}
 use Rattle.redundancy_cert.specs.declared.nodes.Node.{Node}
 use Rattle.redundancy_cert.specs.Trees.{closed_count, open_count}
 use Rattle.redundancy_cert.specs.Fits.{Fits}
+use Rattle.evidence.specs.declared.kinds.Evidence.{Evidence}
+use Rattle.evidence.specs.Evidence.{MayBe, Shows, open_ends}
 use Rattle.transition_frames.specs.Frames.{frames_of, frame_fault}
 use Rattle.transition.specs.Detections.{IsLastTransition, LastTransition}
 use Rattle.transition_tests.specs.declared.verdicts.TransitionVerdict.{TransitionVerdict}
@@ -20,12 +22,22 @@ use Rattle.transition_tests.specs.declared.verdicts.TransitionVerdict.TheVariant
 abbrev pub FitsFrames : Netlist → Fault → List Node → Type 0
 FitsFrames n f tree = Fits (frame_fault n f) (frames_of n f) (none_held n) tree
 
--- Detected: by the last pattern that detects the transition fault, at its first point. Else no pattern does, and a tree fits on the two
--- frames: one that leaves nothing open, or one that does, with as many closed ends as the backtrack limit.
+-- the tree fits it, or the steps refute it
+abbrev pub ShowsFrames : Netlist → Fault → Evidence → Type 0
+ShowsFrames n f e = Shows (frame_fault n f) (frames_of n f) (none_held n) e
+
+-- Detected: by the last pattern that detects the transition fault, at its first point. Else no pattern does, and there is evidence on the two
+-- frames: what leaves nothing open, or a tree that does, with as many closed ends as the backtrack limit.
 abbrev pub IsVerdict : Netlist → ℕ → List Pattern → Fault → TransitionVerdict → Type 0
 IsVerdict n limit patterns f (Detected place point) = IsLastTransition n patterns f place point
-IsVerdict n limit patterns f (Redundant tree) = LastTransition n patterns f None × FitsFrames n f tree × (open_count tree ≡ 0)
+IsVerdict n limit patterns f (Redundant e) = LastTransition n patterns f None × ShowsFrames n f e × (open_ends e ≡ 0)
 IsVerdict n limit patterns f (Aborted tree) = LastTransition n patterns f None × FitsFrames n f tree × (closed_count tree ≡ limit) × (1 ≤ open_count tree)
+
+-- a refutation only where refutations are given
+abbrev pub MayHave : Bool → TransitionVerdict → Type 0
+MayHave refutes (Detected place point) = ⊤
+MayHave refutes (Redundant e) = MayBe refutes e
+MayHave refutes (Aborted tree) = ⊤
 
 -- the pattern at this place is the last to detect one of these transition faults
 abbrev pub IsNeededForTransitions : Netlist → List Fault → List Pattern → ℕ → Type 0

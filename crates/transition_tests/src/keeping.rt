@@ -1,6 +1,6 @@
 //! The patterns that are the last to detect some transition fault, and what so comes of each fault. A pattern that detects what a later one does
 //! too is dropped, as in compaction in reverse order; there is no collapsing, since two transition faults of a gate's lines rarely are one.
-ghost use Rattle.std.specs.Prelude.{◌≡◌, ◌+◌, ◌≤◌, ◌<◌, ◌^◌, ℕ, length, slice_index, IfOk, IfSome};
+ghost use Rattle.std.specs.Prelude.{◌≡◌, ◌+◌, ◌≤◌, ◌<◌, ◌^◌, ℕ, Bool, length, slice_index, IfOk, IfSome};
 ghost use Rattle.std.specs.List.{All, AllZip};
 ghost use Rattle.netlist.specs.Designs.{IsDesign};
 ghost use Rattle.statement.specs.Faults.{universe_of};
@@ -10,13 +10,13 @@ ghost use Rattle.cubes.specs.Cubes.{IsPatternOf};
 ghost use Rattle.transition.specs.Searches.{AreFoundWhereLeft};
 ghost use Rattle.transition_tests.specs.Batches.{AreLeftBy};
 ghost use Rattle.transition_tests.specs.Making.{AreMadeFrom};
-ghost use Rattle.transition_tests.specs.Verdicts.{AreTests};
+ghost use Rattle.transition_tests.specs.Verdicts.{AreTests, MayHave};
 ghost use Rattle.transition_tests.specs.inner.Ends.{AreVerdictsOf, IsVerdictOf, IsDetectedIfTested};
 
 use crate::filling::{cubes_of, patterns_of};
 use crate::verdicts::{Tests, TransitionVerdict};
 use cubes::Pattern;
-use evidence::Found;
+use evidence::{Evidence, Found};
 use fault_universe::FaultSet;
 use list_core::{kept, needed, new_places};
 use netlist::{Core, NoMemory, Point};
@@ -37,8 +37,9 @@ fn verdict_of(
         return TransitionVerdict::Detected(places[*place as usize], *point);
     }
     match answer {
-        None | Some(Found::Test(_, _) | Found::Refuted(_)) => unreachable!(),
-        Some(Found::Closed(tree)) => TransitionVerdict::Redundant(tree),
+        None | Some(Found::Test(_, _)) => unreachable!(),
+        Some(Found::Closed(tree)) => TransitionVerdict::Redundant(Evidence::Tree(tree)),
+        Some(Found::Refuted(steps)) => TransitionVerdict::Redundant(Evidence::Refutation(steps)),
         Some(Found::Partial(tree)) => TransitionVerdict::Aborted(tree),
     }
 }
@@ -95,13 +96,15 @@ pub fn tests_of(
     limit: u32,
     seed: u64,
 ) -> Result<Tests, NoMemory>
+    ghost refutes: { Bool }
     requires design { IsDesign core.now }
     requires faults { faults.now ≡ universe_of core.now }
     requires batch { All (IsPatternOf core.now (none_held core.now)) batch.items }
     requires count { length batch.items ≤ 64 }
     requires left { AreLeftBy core.now batch.items (universe_of core.now) left.now }
-    requires found { AreFoundWhereLeft core.now limit (universe_of core.now) left.now found.items }
+    requires found { AreFoundWhereLeft core.now limit refutes (universe_of core.now) left.now found.items }
     ensures tests { IfOk result (λ t. AreTests core.now limit t.patterns.items t.verdicts.items) }
+    ensures kinds { IfOk result (λ t. All (MayHave refutes) t.verdicts.items) }
     ensures made { IfOk result (λ t. AreMadeFrom core.now batch.items found.items seed t.patterns.items) }
     ensures few { IfOk result (λ t. length t.patterns.items < 2 ^ 32) }
 {

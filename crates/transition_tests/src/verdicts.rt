@@ -1,6 +1,7 @@
 //! What comes of transition faults.
 
 use cubes::Pattern;
+use evidence::Evidence;
 use netlist::Point;
 use redundancy_cert::Tree;
 
@@ -9,8 +10,8 @@ use redundancy_cert::Tree;
 pub enum TransitionVerdict {
     /// The last pattern that detects it, by its place, and that pattern's first point.
     Detected(u32, Point),
-    /// No pattern detects it: a tree of the two frames without Open.
-    Redundant(Tree),
+    /// No pattern detects it: evidence on the two frames that leaves nothing open, a tree or a refutation.
+    Redundant(Evidence),
     /// No pattern that is kept detects it, and the search gave up: a tree with as many Closed as the backtrack limit allows.
     Aborted(Tree),
 }

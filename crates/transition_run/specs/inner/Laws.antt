@@ -1,12 +1,13 @@
 -- What is written of verdicts comes true.
-use Rattle.std.specs.Prelude.{ℕ, List}
+use Rattle.std.specs.Prelude.{ℕ, Bool, List}
+use Rattle.std.specs.List.{All}
 use Rattle.netlist.specs.Conditions.{IsSound}
 use Rattle.netlist.specs.Designs.{IsDesign}
 use Rattle.statement.specs.Netlists.{Netlist}
 use Rattle.statement.specs.Patterns.{Pattern}
 use Rattle.scan_insert.specs.Scanned.{AreChainsOf}
 use Rattle.transition_tests.specs.declared.verdicts.TransitionVerdict.{TransitionVerdict}
-use Rattle.transition_tests.specs.Verdicts.{AreTests}
+use Rattle.transition_tests.specs.Verdicts.{AreTests, MayHave}
 use Rattle.transition_run.specs.declared.files.TransitionFiles.{TransitionFiles}
 use Rattle.transition_run.specs.Theorem.{TransitionTheorem}
 use Rattle.transition_run.specs.Runs.{transition_files_of}
@@ -14,6 +15,6 @@ use Rattle.transition_run.specs.inner.Written.{IsWritten}
 
 abbrev pub WrittenTellsTheTruth : Type 0
 WrittenTellsTheTruth =
-    (n : Netlist) (chains : List (List ℕ)) (limit : ℕ) (patterns : List Pattern) (verdicts : List TransitionVerdict) (made : TransitionFiles)
-    → IsSound n → IsDesign n → AreChainsOf n chains → AreTests n limit patterns verdicts → IsWritten n chains limit patterns verdicts made
-    → TransitionTheorem n chains limit (transition_files_of made)
+    (n : Netlist) (chains : List (List ℕ)) (limit : ℕ) (refutes : Bool) (patterns : List Pattern) (verdicts : List TransitionVerdict) (made : TransitionFiles)
+    → IsSound n → IsDesign n → AreChainsOf n chains → AreTests n limit patterns verdicts → All (MayHave refutes) verdicts
+    → IsWritten n chains limit patterns verdicts made → TransitionTheorem n chains limit refutes (transition_files_of made)

@@ -1,5 +1,5 @@
 -- What is known of a fault before all patterns are simulated.
-use Rattle.std.specs.Prelude.{ℕ, List, Option, Some, None}
+use Rattle.std.specs.Prelude.{ℕ, Bool, List, Option, Some, None}
 use Rattle.statement.specs.declared.lines.Fault.{Fault}
 use Rattle.statement.specs.Netlists.{Netlist}
 use Rattle.statement.specs.Patterns.{Pattern}
@@ -8,6 +8,6 @@ use Rattle.transition.specs.Searches.{HasFrameEvidence}
 use Rattle.transition_tests.specs.Batches.{IsDetected}
 
 -- what its search answered, or without a search that some pattern of the batch detects it
-abbrev pub IsKnown : Netlist → ℕ → List Pattern → Fault → Option Found → Type 0
-IsKnown n limit batch f (Some found) = HasFrameEvidence n limit f found
-IsKnown n limit batch f None = IsDetected n batch f
+abbrev pub IsKnown : Netlist → ℕ → Bool → List Pattern → Fault → Option Found → Type 0
+IsKnown n limit refutes batch f (Some found) = HasFrameEvidence n limit refutes f found
+IsKnown n limit refutes batch f None = IsDetected n batch f

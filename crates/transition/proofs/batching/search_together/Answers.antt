@@ -12,14 +12,14 @@ search_in-requires-clause-line g c =
 
 pub own_answer-requires-clause-carries : goal.own_answer-requires-clause-carries
 own_answer-requires-clause-carries g c κs within decides =
-    carried c.batch_carries.ensures c.args.netlist.now c.args.slow.now c.loop-j.j c.index-slow-j.result c.args.limit c.in_ok-found.found c.args.core.now c.args.holds.now c.tie_fault-tie.result
+    carried c.batch_carries.ensures c.args.netlist.now c.args.slow.now c.loop-j.j c.index-slow-j.result c.args.limit g.E.Engine.refutes c.in_ok-found.found c.args.core.now c.args.holds.now c.tie_fault-tie.result
     c.sound.ensures c.requires.design c.requires.lines c.requires.apart c.requires.core (subst IsSound c.netlist.ensures c.sound-2.ensures) c.requires.holds c.tie_fault-tie.ensures
     c.loop-j-test.true (sym c.index-slow-j.is) c.in_ok-found.ensures.evidence decides
 
 pub loop-j-preserved : goal.loop-j-preserved
 loop-j-preserved g c = record {
   room = c.in_ok-found.ensures.room;
-  found = subst (λ (xs : List Found). AreFound c.args.netlist.now c.args.limit (take (c.loop-j.j + 1) c.args.slow.now) xs) (sym c.in_ok-push.ensures.items)
-      (one_found c.args.netlist.now c.args.limit c.args.slow.now c.loop-j.answers.items c.loop-j.j c.index-slow-j.result c.in_ok-own_answer.field-0
+  found = subst (λ (xs : List Found). AreFound c.args.netlist.now c.args.limit g.E.Engine.refutes (take (c.loop-j.j + 1) c.args.slow.now) xs) (sym c.in_ok-push.ensures.items)
+      (one_found c.args.netlist.now c.args.limit g.E.Engine.refutes c.args.slow.now c.loop-j.answers.items c.loop-j.j c.index-slow-j.result c.in_ok-own_answer.field-0
       c.loop-j.invariant.found c.loop-j-test.true (sym c.index-slow-j.is) c.in_ok-own_answer.ensures);
 }

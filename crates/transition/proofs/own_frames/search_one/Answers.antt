@@ -11,4 +11,4 @@ search-requires-clause-line g c =
 pub returns : goal.returns
 returns g c =
     frame_answer c.args.netlist.now c.args.fault c.args.limit g.E.Engine.refutes c.in-Ok.core c.in_ok-holds.holds c.in_ok-two.slow c.search.result
-    (c.in-Ok.ensures ∙ c.in_ok-two.ensures.netlist) c.in_ok-holds.ensures c.in_ok-two.ensures.fault c.requires.trees c.search.ensures.evidence c.search.ensures.kind
+    (c.in-Ok.ensures ∙ c.in_ok-two.ensures.netlist) c.in_ok-holds.ensures c.in_ok-two.ensures.fault c.search.ensures.evidence c.search.ensures.kind

@@ -1,15 +1,19 @@
 use Rattle.std.proofs.Common.{rules, ◌≡◌, ◌++◌, ℕ, List, codes, ◌∙◌, ap}
 use Rattle.std.specs.List.{flat_map}
 use Rattle.statement.specs.Netlists.{Netlist}
-use Rattle.transition_report.specs.Texts.{transition_tree_line}
+use Rattle.certificate.specs.Certificates.{has_refutation}
+use Rattle.transition_report.specs.Texts.{transition_first_line, transition_line}
 use Rattle.transition_report.proofs.NameLemmas.{same_lines}
 use Rattle.transition_report.proofs.certificates.write_certificate.Goals as goal
 
 pub returns-in-Ok : goal.returns-in-Ok
 returns-in-Ok c =
-    let text : c.in_ok-text.text.items ≡ codes "atpg transition certificate 1\n" = search rules in
+    let n = c.args.netlist.now in
+    let es = c.args.evidence.now in
+    let head = transition_first_line (has_refutation es) in
+    let text : c.in_ok-text.text.items ≡ head = search rules in
     c.in-Ok.ensures
-    ∙ (ap (λ (t : List ℕ). t ++ flat_map (transition_tree_line c.args.netlist.now c.in_ok-two.two) c.args.trees.now) text
-    ∙ ap (λ (ls : List ℕ). codes "atpg transition certificate 1\n" ++ ls)
-    (ap (λ (m : Netlist). flat_map (transition_tree_line c.args.netlist.now m) c.args.trees.now) c.in_ok-two.ensures.netlist
-    ∙ same_lines c.args.netlist.now c.in-Some.first.now.0 c.args.trees.now))
+    ∙ (ap (λ (t : List ℕ). t ++ flat_map (transition_line n c.in_ok-two.two) es) text
+    ∙ ap (λ (ls : List ℕ). head ++ ls)
+    (ap (λ (m : Netlist). flat_map (transition_line n m) es) c.in_ok-two.ensures.netlist
+    ∙ same_lines n c.in-Some.first.now.0 es))

@@ -46,5 +46,5 @@ pub tests_of-requires-clause-found : goal.tests_of-requires-clause-found
 tests_of-requires-clause-found g c =
     let n = c.args.core.now in
     let marks = c.as_slice-marks.result.now in
-    subst (λ (fs : List Fault). AreFoundWhereLeft n c.args.plan.limit fs marks c.in_ok-found.found.items) c.requires.faults
-    (subst (λ (m : Netlist). AreFoundWhereLeft m c.args.plan.limit c.args.faults.now marks c.in_ok-found.found.items) c.netlist-netlist.ensures c.in_ok-found.ensures)
+    subst (λ (fs : List Fault). AreFoundWhereLeft n c.args.plan.limit g.E.Engine.refutes fs marks c.in_ok-found.found.items) c.requires.faults
+    (subst (λ (m : Netlist). AreFoundWhereLeft m c.args.plan.limit g.E.Engine.refutes c.args.faults.now marks c.in_ok-found.found.items) c.netlist-netlist.ensures c.in_ok-found.ensures)

@@ -6,12 +6,12 @@ use Rattle.netlist.specs.Conditions.{IsSound}
 use Rattle.statement.specs.Patterns.{Pattern}
 use Rattle.statement.specs.Benches.{canonical}
 use Rattle.scan_insert.specs.Scanned.{Insertion, scanned_of}
-use Rattle.redundancy_cert.specs.declared.nodes.Node.{Node}
+use Rattle.evidence.specs.declared.kinds.Evidence.{Evidence}
 use Rattle.transition.proofs.Gathering.{universe_few}
 use Rattle.transition_report.specs.Lines.{leaves_of}
 use Rattle.transition_report.specs.Texts.{IsNamedInFrames, transition_certificate}
 use Rattle.transition_run.specs.inner.Written.{IsLaunchText, IsSaid}
-use Rattle.transition_run.proofs.FileLemmas.{trees_named, verdicts_count}
+use Rattle.transition_run.proofs.FileLemmas.{evidence_named, verdicts_count}
 use Rattle.transition_run.proofs.files.texts_of.Goals as goal
 
 pub leaves_of-requires-clause-size : goal.leaves_of-requires-clause-size
@@ -28,11 +28,11 @@ pub write_certificate-requires-clause-named : goal.write_certificate-requires-cl
 write_certificate-requires-clause-named c =
     let n = c.args.core.now in
     let tests = c.args.tests in
-    let named = trees_named c.faults_have_lines.ensures c.faults_have_signals.ensures n (subst IsSound c.netlist-netlist.ensures c.sound.ensures) c.requires.design
+    let named = evidence_named c.faults_have_lines.ensures c.faults_have_signals.ensures n (subst IsSound c.netlist-netlist.ensures c.sound.ensures) c.requires.design
     c.args.limit tests.patterns.items tests.verdicts.items c.requires.tests in
-    let trees = c.as_slice-2.ensures.value ∙ (c.in_ok-leaves.ensures ∙ ap (λ (fs : List Fault). leaves_of fs tests.verdicts.items) c.requires.faults) in
+    let certified = c.as_slice-2.ensures.value ∙ (c.in_ok-leaves.ensures ∙ ap (λ (fs : List Fault). leaves_of fs tests.verdicts.items) c.requires.faults) in
     subst (λ (m : Netlist). All (IsNamedInFrames m) c.as_slice-2.result.now) (sym c.netlist-netlist.ensures)
-    (subst (λ (ls : List (Fault × List Node)). All (IsNamedInFrames n) ls) (sym trees) named)
+    (subst (λ (ls : List (Fault × Evidence)). All (IsNamedInFrames n) ls) (sym certified) named)
 
 pub returns : goal.returns
 returns c =
@@ -41,13 +41,13 @@ returns c =
     let tests = c.args.tests in
     let same = c.netlist-netlist.ensures in
     let scanned = ap (λ (i : Insertion). i.netlist) c.in_ok-scanned.ensures ∙ ap (λ (m : Netlist). scanned_of m chains) same in
-    let trees = c.as_slice-2.ensures.value ∙ (c.in_ok-leaves.ensures ∙ ap (λ (fs : List Fault). leaves_of fs tests.verdicts.items) c.requires.faults) in
+    let certified = c.as_slice-2.ensures.value ∙ (c.in_ok-leaves.ensures ∙ ap (λ (fs : List Fault). leaves_of fs tests.verdicts.items) c.requires.faults) in
     record {
       net = c.in_ok-net.ensures ∙ ap canonical same;
       scan = c.in_ok-scan.ensures ∙ ap canonical (c.netlist-2.ensures ∙ scanned);
       stil = subst (λ (ps : List Pattern). IsLaunchText n chains ps c.in_ok-stil.stil.items) c.as_slice.ensures.value c.in_ok-stil.ensures;
       certificate = c.in_ok-certificate.ensures
-          ∙ (ap (λ (m : Netlist). transition_certificate m c.as_slice-2.result.now) same ∙ ap (transition_certificate n) trees);
+          ∙ (ap (λ (m : Netlist). transition_certificate m c.as_slice-2.result.now) same ∙ ap (transition_certificate n) certified);
       report = c.in_ok-report.ensures;
       said = subst (λ (m : Netlist). IsSaid m chains c.args.limit tests.patterns.items tests.verdicts.items c.in_ok-said.said) same c.in_ok-said.ensures;
     }
