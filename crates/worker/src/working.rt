@@ -167,7 +167,7 @@ fn publish_full<J: About, T: Ledger, S: Ledger, P: Ledger, U: Ledger, G: Gate, N
     requires unspent { vec_len cubes.old ≤ share.old.unspent }
     ensures table { share.new.table ≡ share.old.table }
     ensures simulator { simulator.new ≡ simulator.old }
-    ensures stock { IfOk result (λ p. IsStock J.subject share.new cubes.new p.size) }
+    ensures stock { IfOk result (λ p. IsStock J.subject shared.now.word.shared.table_id share.new cubes.new p.size) }
     ensures goal { IfOk result (λ p. IfNone goal.entry (p.has_ended ≡ false)) }
 {
     if cubes.len() < size {
@@ -212,16 +212,15 @@ fn work_claim<
     size: usize,
     goal: Option<&Goal>,
 ) -> Result<(E::Room, Pace), NoMemory>
-    requires table { share.old.table ≡ shared.now.word.shared.table_id }
     requires subject { MaySearch J.subject core.now holds.now E.refutes }
     requires room { E.serves core.now holds.now room }
     requires simulator { simulator.old ≡ J.subject.netlist }
-    requires stock { IsStock J.subject share.old cubes.old size }
+    requires stock { IsStock J.subject shared.now.word.shared.table_id share.old cubes.old size }
     requires unspent { vec_len cubes.old < share.old.unspent }
     ensures table { share.new.table ≡ share.old.table }
     ensures simulator { simulator.new ≡ simulator.old }
     ensures room { IfOk result (λ r. E.serves core.now holds.now r.0) }
-    ensures stock { IfOk result (λ r. IsStock J.subject share.new cubes.new r.1.size) }
+    ensures stock { IfOk result (λ r. IsStock J.subject shared.now.word.shared.table_id share.new cubes.new r.1.size) }
     ensures goal { IfOk result (λ r. IfNone goal.entry (r.1.has_ended ≡ false)) }
 {
     stage.at(share.worker(), Stage::Claimed);
@@ -260,16 +259,15 @@ fn take_turn<
     pace: Pace,
     goal: Option<&Goal>,
 ) -> Result<(E::Room, Pace), NoMemory>
-    requires table { share.old.table ≡ shared.now.word.shared.table_id }
     requires subject { MaySearch J.subject core.now holds.now E.refutes }
     requires room { E.serves core.now holds.now room }
     requires simulator { simulator.old ≡ J.subject.netlist }
-    requires stock { IsStock J.subject share.old cubes.old pace.size }
+    requires stock { IsStock J.subject shared.now.word.shared.table_id share.old cubes.old pace.size }
     requires goes_on { pace.has_ended ≡ false }
     ensures table { share.new.table ≡ share.old.table }
     ensures simulator { simulator.new ≡ simulator.old }
     ensures room { IfOk result (λ r. E.serves core.now holds.now r.0) }
-    ensures stock { IfOk result (λ r. IsStock J.subject share.new cubes.new r.1.size) }
+    ensures stock { IfOk result (λ r. IsStock J.subject shared.now.word.shared.table_id share.new cubes.new r.1.size) }
     ensures told { IfOk result (λ r. IfNone goal.entry (IsTrue r.1.has_ended → share.new.ended ≡ true)) }
 {
     match shared.take(rt, share) {
