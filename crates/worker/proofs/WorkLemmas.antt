@@ -1,7 +1,7 @@
 -- Cubes, patterns and hits of a batch.
 use Rattle.std.proofs.Common.{zero, suc, ◌≡◌, ◌≢◌, true≢false, inl, inr, ℕ, ◌<◌, List, [], ◌∷◌, get_or, refl, sym, ◌∙◌, ap, subst, arith}
 use Rattle.std.specs.List.{All, AllPairs}
-use Rattle.std.specs.Prelude.{true, false, Bool, Result, Ok, Err, Option, Some, None, IfNone, IsTrue}
+use Rattle.std.specs.Prelude.{true, false, Bool, Result, Ok, Err, Option, Some, None, IfNone}
 use Rattle.std.specs.Result.{OnOk}
 use Rattle.std.proofs.lemmas.List.Elements.{All-cons, All-head, All-tail}
 use Rattle.std.proofs.lemmas.List.Kept.{AllPairs-cons}
@@ -187,10 +187,6 @@ whether_none None p = p
 whether_none (Some x) p = tt
 
 -- what is told only where there is a goal
-pub told_of : {T : Type 0} (P : Type 0) (o : Option T) (b : Bool) → IfNone o (b ≡ false) → IfNone o (IsTrue b → P)
-told_of P None b none = λ is. absurd (true≢false (sym is ∙ none))
-told_of P (Some x) b none = tt
-
-pub told_at : {T : Type 0} (P : Type 0) (o : Option T) (b : Bool) → IfNone o (IsTrue b → P) → b ≡ true → IfNone o P
-told_at P None b told is = told is
-told_at P (Some x) b told is = tt
+pub never_told : {T : Type 0} (P : Type 0) (o : Option T) (b : Bool) → IfNone o (b ≡ false) → b ≡ true → IfNone o P
+never_told P None b none is = absurd (true≢false (sym is ∙ none))
+never_told P (Some x) b none is = tt

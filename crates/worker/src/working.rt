@@ -9,7 +9,7 @@
 //!
 //! Where there is a goal it looks whether enough is detected: before its first claim, and behind each batch, which alone brings detections. To look
 //! before each claim would hold the lock for a pass over all classes as often.
-ghost use Rattle.std.specs.Prelude.{◌≡◌, ◌+◌, ◌≤◌, ◌<◌, ◌⊎◌, true, false, IfOk, IfNone, IsTrue, OnOk, vec_len};
+ghost use Rattle.std.specs.Prelude.{◌≡◌, ◌+◌, ◌≤◌, ◌<◌, ◌⊎◌, true, false, IfOk, IfNone, OnOk, vec_len};
 ghost use Rattle.std.specs.List.{All};
 ghost use Rattle.netlist.specs.Holds.{AreHoldsOf};
 ghost use Rattle.cubes.specs.Cubes.{IsCubeOf};
@@ -17,8 +17,6 @@ ghost use Rattle.evidence.specs.Answers.{HasEvidence, MayAnswer};
 ghost use Rattle.list_core.specs.States.{MaySettle};
 ghost use Rattle.list_core.specs.Subjects.{HaveLines};
 ghost use Rattle.shared_list.specs.Tally.{gave};
-ghost use Rattle.worker.specs.Working.{MaySearch};
-ghost use Rattle.worker.specs.inner.Stock.{IsStock};
 
 use crate::adding::add;
 use crate::publishing::publish_cubes;
@@ -41,11 +39,11 @@ const FULL: usize = 64;
 /// How many make the first batch of each of several workers. Each later one has twice as many, up to a full one.
 const FIRST: usize = 8;
 
-/// How a worker goes on: how many cubes its next batch has, and whether it claims no more, since none is left or enough is detected.
+/// How a worker goes on: how many cubes its next batch has, and whether enough is detected, so that it claims no more.
 #[derive(Clone, Copy)]
 struct Pace {
     size: usize,
-    has_ended: bool,
+    is_enough: bool,
 }
 
 /// How many cubes a worker's first batch has.
@@ -130,6 +128,7 @@ fn answer<J: About, T: Ledger, S: Ledger, P: Ledger, U: Ledger, G: Gate, R: Wait
     requires kind { MayAnswer J.subject.refutes found }
     requires wide { All (IsCubeOf J.subject.netlist J.subject.holds) cubes.old.items }
     ensures table { share.new.table ≡ share.old.table }
+    ensures ended { share.new.ended ≡ share.old.ended }
     ensures unspent { share.new.unspent ≡ share.old.unspent }
     ensures few { OnOk result (vec_len cubes.new ≤ vec_len cubes.old + 1) }
     ensures wide { OnOk result (All (IsCubeOf J.subject.netlist J.subject.holds) cubes.new.items) }
@@ -166,21 +165,24 @@ fn publish_full<J: About, T: Ledger, S: Ledger, P: Ledger, U: Ledger, G: Gate, N
     requires few { vec_len cubes.old ≤ size }
     requires unspent { vec_len cubes.old ≤ share.old.unspent }
     ensures table { share.new.table ≡ share.old.table }
+    ensures ended { share.new.ended ≡ share.old.ended }
     ensures simulator { simulator.new ≡ simulator.old }
-    ensures stock { IfOk result (λ p. IsStock J.subject shared.now.word.shared.table_id share.new cubes.new p.size) }
-    ensures goal { IfOk result (λ p. IfNone goal.entry (p.has_ended ≡ false)) }
+    ensures room { IfOk result (λ p. (vec_len cubes.new < p.size) × (p.size ≤ 64)) }
+    ensures goal { IfOk result (λ p. IfNone goal.entry (p.is_enough ≡ false)) }
+    ensures unspent { OnOk result (vec_len cubes.new ≤ share.new.unspent) }
+    ensures wide { OnOk result (All (IsCubeOf J.subject.netlist J.subject.holds) cubes.new.items) }
 {
     if cubes.len() < size {
         return Ok(Pace {
             size,
-            has_ended: false,
+            is_enough: false,
         });
     }
     publish_cubes(rt, alloc, shared, share, simulator, stage, rng, cubes)?;
     cubes.clear();
     Ok(Pace {
         size: (2 * size).min(FULL),
-        has_ended: is_enough(rt, shared, goal),
+        is_enough: is_enough(rt, shared, goal),
     })
 }
 
@@ -212,16 +214,26 @@ fn work_claim<
     size: usize,
     goal: Option<&Goal>,
 ) -> Result<(E::Room, Pace), NoMemory>
-    requires subject { MaySearch J.subject core.now holds.now E.refutes }
+    requires table { share.old.table ≡ shared.now.word.shared.table_id }
+    requires core { core.now ≡ J.subject.netlist }
+    requires lines { HaveLines J.subject }
+    requires limit { 1 ≤ J.subject.limit }
+    requires held { (holds.now ≡ J.subject.holds) × AreHoldsOf core.now holds.now }
+    requires kind { E.refutes ≡ J.subject.refutes }
     requires room { E.serves core.now holds.now room }
     requires simulator { simulator.old ≡ J.subject.netlist }
-    requires stock { IsStock J.subject shared.now.word.shared.table_id share.old cubes.old size }
+    requires wide { All (IsCubeOf J.subject.netlist J.subject.holds) cubes.old.items }
+    requires full { size ≤ 64 }
+    requires few { vec_len cubes.old < size }
     requires unspent { vec_len cubes.old < share.old.unspent }
     ensures table { share.new.table ≡ share.old.table }
+    ensures ended { share.new.ended ≡ share.old.ended }
     ensures simulator { simulator.new ≡ simulator.old }
     ensures room { IfOk result (λ r. E.serves core.now holds.now r.0) }
-    ensures stock { IfOk result (λ r. IsStock J.subject shared.now.word.shared.table_id share.new cubes.new r.1.size) }
-    ensures goal { IfOk result (λ r. IfNone goal.entry (r.1.has_ended ≡ false)) }
+    ensures few { IfOk result (λ r. (vec_len cubes.new < r.1.size) × (r.1.size ≤ 64)) }
+    ensures goal { IfOk result (λ r. IfNone goal.entry (r.1.is_enough ≡ false)) }
+    ensures unspent { OnOk result (vec_len cubes.new ≤ share.new.unspent) }
+    ensures wide { OnOk result (All (IsCubeOf J.subject.netlist J.subject.holds) cubes.new.items) }
 {
     stage.at(share.worker(), Stage::Claimed);
     let (found, kept) = engine.search_in(alloc, room, core, claim.fault(), claim.limit(), holds)?;
@@ -230,60 +242,6 @@ fn work_claim<
         rt, alloc, shared, share, simulator, stage, rng, cubes, size, goal,
     )?;
     Ok((kept, pace))
-}
-
-/// Draws a class, and works it, if one is left and still open: the room back, and how to go on.
-fn take_turn<
-    J: About,
-    T: Ledger,
-    S: Ledger,
-    P: Ledger,
-    U: Ledger,
-    E: Engine,
-    G: Gate,
-    N: Rng,
-    R: Wait,
->(
-    rt: &R,
-    alloc: Global,
-    shared: &Shared<J, T, S, P, U>,
-    share: &mut Share<T, S, P, U>,
-    core: &Core,
-    engine: &E,
-    stage: &G,
-    holds: &Holds,
-    room: E::Room,
-    simulator: &mut Simulator<'_>,
-    rng: &mut N,
-    cubes: &mut Vec<Cube>,
-    pace: Pace,
-    goal: Option<&Goal>,
-) -> Result<(E::Room, Pace), NoMemory>
-    requires subject { MaySearch J.subject core.now holds.now E.refutes }
-    requires room { E.serves core.now holds.now room }
-    requires simulator { simulator.old ≡ J.subject.netlist }
-    requires stock { IsStock J.subject shared.now.word.shared.table_id share.old cubes.old pace.size }
-    requires goes_on { pace.has_ended ≡ false }
-    ensures table { share.new.table ≡ share.old.table }
-    ensures simulator { simulator.new ≡ simulator.old }
-    ensures room { IfOk result (λ r. E.serves core.now holds.now r.0) }
-    ensures stock { IfOk result (λ r. IsStock J.subject shared.now.word.shared.table_id share.new cubes.new r.1.size) }
-    ensures told { IfOk result (λ r. IfNone goal.entry (IsTrue r.1.has_ended → share.new.ended ≡ true)) }
-{
-    match shared.take(rt, share) {
-        Drawn::Claim(claim) => work_claim(
-            rt, alloc, shared, share, core, engine, stage, holds, claim, room, simulator, rng,
-            cubes, pace.size, goal,
-        ),
-        Drawn::Gone(_) => Ok((room, pace)),
-        Drawn::None => Ok((
-            room,
-            Pace {
-                has_ended: true,
-                ..pace
-            },
-        )),
-    }
 }
 
 /// The work of one of so many workers: searches claim after claim, until there is none, or enough is detected. Room for searches and for
@@ -311,7 +269,11 @@ pub(crate) fn work_beside<
     goal: Option<&Goal>,
 ) -> Result<(), NoMemory>
     requires table { share.old.table ≡ shared.now.word.shared.table_id }
-    requires subject { MaySearch J.subject core.now holds.now E.refutes }
+    requires core { core.now ≡ J.subject.netlist }
+    requires lines { HaveLines J.subject }
+    requires limit { 1 ≤ J.subject.limit }
+    requires held { (holds.now ≡ J.subject.holds) × AreHoldsOf core.now holds.now }
+    requires kind { E.refutes ≡ J.subject.refutes }
     ensures table { share.new.table ≡ share.old.table }
     ensures ended { OnOk result (IfNone goal.entry (share.new.ended ≡ true)) }
 {
@@ -321,13 +283,18 @@ pub(crate) fn work_beside<
     let mut cubes = Vec::new(alloc);
     let mut pace = Pace {
         size: first_batch(workers),
-        has_ended: is_enough(rt, shared, goal),
+        is_enough: is_enough(rt, shared, goal),
     };
     for _ in rt.forever() {
-        if pace.has_ended {
+        if pace.is_enough {
             break;
         }
-        let (kept, next) = take_turn(
+        let claim = match shared.take(rt, share) {
+            Drawn::Claim(claim) => claim,
+            Drawn::Gone(_) => continue,
+            Drawn::None => break,
+        };
+        let (kept, next) = work_claim(
             rt,
             alloc,
             shared,
@@ -336,11 +303,12 @@ pub(crate) fn work_beside<
             engine,
             stage,
             holds,
+            claim,
             room,
             &mut simulator,
             &mut rng,
             &mut cubes,
-            pace,
+            pace.size,
             goal,
         )?;
         room = kept;

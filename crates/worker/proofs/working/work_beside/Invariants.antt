@@ -1,12 +1,16 @@
-use Rattle.std.proofs.Common.{◌≡◌}
-use Rattle.std.specs.Prelude.{IfNone, IsTrue, true}
-use Rattle.worker.specs.inner.Stock.{IsStock}
+use Rattle.std.proofs.Common.{◌≡◌, ◌<◌, ◌≤◌, vec_len}
+use Rattle.std.specs.List.{All}
+use Rattle.std.specs.Prelude.{IfNone, false}
+use Rattle.cubes.specs.Cubes.{IsCubeOf}
 use Rattle.worker.proofs.working.work_beside.Given as goal
 
 abbrev pub invariant-loop : goal.invariant-loop
 invariant-loop g l = record {
-  stock : IsStock g.J.About.subject l.shared.word.shared.table_id l.share l.cubes l.pace.size;
-  told : IfNone l.goal (IsTrue l.pace.has_ended → l.share.ended ≡ true);
+  few : vec_len l.cubes < l.pace.size;
+  full : l.pace.size ≤ 64;
+  told : IfNone l.goal (l.pace.is_enough ≡ false);
+  unspent : vec_len l.cubes ≤ l.share.unspent;
+  wide : All (IsCubeOf g.J.About.subject.netlist g.J.About.subject.holds) l.cubes.items;
   table : l.share.table ≡ l.fn.share.table;
   room : g.E.Engine.serves l.core l.holds l.room;
   simulator : l.simulator ≡ l.core;
