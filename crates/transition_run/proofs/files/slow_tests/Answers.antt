@@ -1,16 +1,13 @@
-use Rattle.std.proofs.Common.{Bool, List, length, subst, sym, ◌∙◌, ap, arith}
+use Rattle.std.proofs.Common.{List, length, subst, sym, ◌∙◌, ap, arith}
 use Rattle.std.specs.List.{All}
 use Rattle.std.proofs.lemmas.Slice.Zip.{AllZip-long}
-use Rattle.statement.specs.declared.lines.Fault.{Fault}
 use Rattle.netlist.specs.Conditions.{IsSound}
 use Rattle.netlist.specs.Holds.{none_held}
-use Rattle.statement.specs.Netlists.{Netlist}
 use Rattle.statement.specs.Patterns.{Pattern}
 use Rattle.cubes.specs.Cubes.{IsPatternOf}
 use Rattle.statement.specs.Faults.{universe_of}
-use Rattle.transition.specs.Searches.{AreFoundWhereLeft}
 use Rattle.transition.proofs.Gathering.{universe_few, universe_lines}
-use Rattle.transition_tests.specs.Batches.{AreLeftBy, IsLeftBy}
+use Rattle.transition_tests.specs.Batches.{IsLeftBy}
 use Rattle.transition_run.proofs.files.slow_tests.Goals as goal
 
 pub left_by-requires-clause-obey : goal.left_by-requires-clause-obey
@@ -35,16 +32,3 @@ search_left-requires-clause-left g c κs within =
     let n = c.args.core.now in
     let all = AllZip-long (IsLeftBy n c.as_slice.result.now) (universe_of n) c.in_ok-left.left.items c.in_ok-left.ensures in
     omega (arith, all, ap length c.as_slice-marks.ensures.value, ap length c.requires.faults)
-
-pub tests_of-requires-clause-left : goal.tests_of-requires-clause-left
-tests_of-requires-clause-left g c =
-    let n = c.args.core.now in
-    subst (λ (ms : List Bool). AreLeftBy n c.in_ok-batch.batch.items (universe_of n) ms) (sym c.as_slice-marks.ensures.value)
-    (subst (λ (ps : List Pattern). AreLeftBy n ps (universe_of n) c.in_ok-left.left.items) c.as_slice.ensures.value c.in_ok-left.ensures)
-
-pub tests_of-requires-clause-found : goal.tests_of-requires-clause-found
-tests_of-requires-clause-found g c =
-    let n = c.args.core.now in
-    let marks = c.as_slice-marks.result.now in
-    subst (λ (fs : List Fault). AreFoundWhereLeft n c.args.plan.limit g.E.Engine.refutes fs marks c.in_ok-found.found.items) c.requires.faults
-    (subst (λ (m : Netlist). AreFoundWhereLeft m c.args.plan.limit g.E.Engine.refutes c.args.faults.now marks c.in_ok-found.found.items) c.netlist-netlist.ensures c.in_ok-found.ensures)
