@@ -1,5 +1,5 @@
 -- What a command owes for the same texts is alike.
-use Rattle.std.proofs.Common.{ℕ, [], ◌∷◌, refl, ap}
+use Rattle.std.proofs.Common.{ℕ, [], ◌≡◌, ◌∷◌, refl, ap}
 use Rattle.stil_read.specs.Laws.{AtMostOne}
 use Rattle.diagnose.specs.LogLaws.{OneLog}
 use Rattle.commands.specs.Due.{Due, Deliver, Refuse}

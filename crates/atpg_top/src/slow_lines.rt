@@ -1,5 +1,5 @@
 //! `transition`: the five files of the slow lines of a file's netlist.
-ghost use Rattle.std.specs.Prelude.{◌≡◌, ◌≤◌, ◌∷◌, [], IfOk, length};
+ghost use Rattle.std.specs.Prelude.{◌≡◌, ◌≤◌, ◌∷◌, [], false, IfOk, length, true};
 ghost use Rattle.std.specs.List.{All};
 ghost use Rattle.netlist.specs.Designs.{IsDesign};
 ghost use Rattle.commands.specs.Contents.{most_bytes};
