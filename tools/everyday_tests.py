@@ -135,10 +135,16 @@ def made(folder, kind, size):
     (folder / f"{kind}_{size}.bench").replace(folder / "long.bench")
 
 
-def shown_of(program, folder, kind, words):
-    """What is said and shown of the first design that takes the command a moment, each twice as large as the one before."""
+def long_designs(folder, kind):
+    """Makes long.bench, each time twice as large as the one before: a line is shown of the first that takes a command a moment, which other processes and workers make another one."""
     for size in (1, 2, 4, 8, 16, 32, 64):
         made(folder, kind, size)
+        yield size
+
+
+def shown_of(program, folder, kind, words):
+    """What is said and shown of the first design that takes the command a moment."""
+    for _ in long_designs(folder, kind):
         said_by(program, folder, "run", "long.bench", "long")
         said, shown = said_by(program, folder, *words, progress="1")
         if shown:
@@ -165,11 +171,13 @@ def test_progress():
             told = int(said.split()[1 if command == "diagnose" else 3])  # a class has several faults, and a pattern detects others too
             assert command == "run" or detected <= told and (detected == 0) == (told == 0), (words, said, shown)
             assert command != "chaintest" or detected == told, (words, said, shown)
-            assert said_by(program, folder, *words) == said_by(program, folder, *words, progress="0") == (said, "")
+            unasked, refused = said_by(program, folder, *words), said_by(program, folder, *words, progress="0")
+            assert unasked == refused == (said, ""), (words, unasked, refused, said)
         shown = shown_of(program, folder, kind, ("run", "long.bench", "long", "--workers", "2"))[1]
         settled, count = counts_in("run", shown)[-1][:2]
         assert settled == count > 0, shown
-        assert re.search(COUNTS["run"], on_a_terminal(program, folder))
+        shown = next(filter(None, (on_a_terminal(program, folder) for _ in long_designs(folder, kind))), "")
+        assert re.search(COUNTS["run"], shown), shown
 
 
 # tools/run_many, with stand-ins for both programs.

@@ -188,8 +188,9 @@ def test_program_stops_where_enough_is_detected():
 
 
 def test_program_begins_with_a_test():
-    """A run that begins with the test of another one says the same, by any search, limit and number of workers. One that begins with the test of a part of the
-    faults detects these by the same patterns or fewer, and all others too; where what they detect is enough, nothing else is searched."""
+    """A run that begins with the test of another one says the same, by any search, limit and number of workers, where rounds by another seed don't
+    make its patterns fewer. One that begins with the test of a part of the faults detects these by the same patterns or fewer, and all others too; where
+    what they detect is enough, nothing else is searched."""
     if not program("atpg_main").exists():
         return NO_PROGRAM
     with tempfile.TemporaryDirectory() as room:
@@ -197,7 +198,7 @@ def test_program_begins_with_a_test():
         (folder / "s27.bench").write_bytes(example("s27"))
         (folder / "some").write_text("stem G17/0\nstem G17/1\n")
         whole = run_program(folder, "s27.bench", "p", "--limit", "128", "--chains", "2")
-        for words in (["--with", "p"], ["--with", "p.stil", "--engine", "fan", "--compact", "0"], ["--with", "p", "--workers", "3", "--seed", "9"]):
+        for words in (["--with", "p"], ["--with", "p.stil", "--engine", "fan", "--compact", "0"], ["--with", "p", "--workers", "3", "--seed", "9", "--compact", "0"]):
             assert run_program(folder, "s27.bench", "q", "--limit", "128", "--chains", "2", *words) == whole, words
             assert all((folder / f"p.{end}").read_bytes() == (folder / f"q.{end}").read_bytes() for end in plain_check.ENDS), words
         part = run_program(folder, "s27.bench", "part", "--limit", "128", "--faults", "some")

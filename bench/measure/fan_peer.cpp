@@ -69,15 +69,16 @@ struct Fan {
     std::vector<u8> met;
     std::vector<u32> rounds, paths;  // the last round in which each signal was come to, and those that wait
     u32 round = 0;
+    u64 salt = 0;
 
     Fan(const Netlist& n, const Measures& m, const Roles& roles, Sim& sim, Counts& counts)
-        : n(n), m(m), roles(roles), sim(sim), counts(counts), votes(n.count), met(n.count, 0), rounds(n.count, 0) {}
+        : n(n), m(m), roles(roles), sim(sim), counts(counts), votes(n.count), met(n.count, 0), rounds(n.count, 0), at(n.count, 0) {}
 
     Tri good(u32 x) const { return sim.labels[x].good; }
     bool open(u32 x) const { return n.is_gate(x) && roles.role[x] != Head && sim.labels[x].own == X; }
     u32 driver() const { return sim.fault.sort == 1 ? n.pin(sim.fault.signal, sim.fault.pin) : sim.fault.signal; }
     u32 place(u32 x) const { return n.is_gate(x) ? n.place[x] + 1 : 0; }
-    bool cheap(u32 x) const { return m.one[x] < m.zero[x]; }
+    bool cheap(u32 x) const { return m.one[x] == m.zero[x] ? mixed(salt ^ x) & 1 : m.one[x] < m.zero[x]; }
     Votes votes_for(bool bit, u32 count) const { return bit ? Votes{0, count} : Votes{count, 0}; }
 
     struct Pins { u32 unknown = 0; bool odd = false; };
@@ -100,14 +101,42 @@ struct Fan {
     u32 easiest(u32 x, bool bit) const { return pin_by(x, [&](u32 p) { return manner.round < 0 ? m.of(p, bit) : hash(p); }); }
     u32 hardest(u32 x, bool bit) const { return pin_by(x, [&](u32 p) { return manner.round < 0 ? ~0u - m.of(p, bit) : hash(p); }); }
 
-    // the D-frontier
-    template <class See> void frontier(See see) const {
-        auto gate = [&](u32 x) { if (n.is_gate(x) && sim.labels[x].differs && !sim.effect(sim.labels[x])) see(x); };
-        if (sim.fault.sort == 1) gate(sim.fault.signal);
-        for (auto& c : sim.trail) {
-            if (!sim.effect(sim.labels[c.signal])) continue;
-            for (u32 i = n.fan_begin[c.signal]; i < n.fan_begin[c.signal + 1]; i++) gate(n.fan[i]);
+    // the D-frontier: gates with an effect on a pin that may still come to have it, kept along the stack with what came and left
+    std::vector<u32> front, at;  // and of each signal its place there, from 1
+    struct Turned { u32 gate; bool in; };
+    std::vector<Turned> turned;
+    struct Mark { size_t turned, trail; };
+    std::vector<Mark> marks;
+    size_t looked = 0;
+    void add(u32 x) { front.push_back(x), at[x] = front.size(); }
+    void remove(u32 x) {
+        u32 last = front.back();
+        front[at[x] - 1] = last, at[last] = at[x], at[x] = 0;
+        front.pop_back();
+    }
+    void undo_to(size_t length) {
+        for (; turned.size() > length; turned.pop_back()) turned.back().in ? remove(turned.back().gate) : add(turned.back().gate);
+    }
+    bool may_get(u32 x) const { return sim.labels[x].differs && !sim.effect(sim.labels[x]); }
+    void come(u32 x) { if (n.is_gate(x) && !at[x] && may_get(x)) add(x), turned.push_back({x, true}); }
+    void look_at(u32 x) {
+        if (at[x] && !may_get(x)) remove(x), turned.push_back({x, false});
+        if (sim.effect(sim.labels[x])) for (u32 i = n.fan_begin[x]; i < n.fan_begin[x + 1]; i++) come(n.fan[i]);
+    }
+    void begin() {
+        undo_to(0), marks.clear(), looked = 0;
+        if (sim.fault.sort == 1) come(sim.fault.signal);
+        else if (sim.fault.sort == 0) look_at(sim.fault.signal);
+    }
+    void follow() {
+        if (stack.empty()) return begin();
+        if (marks.size() >= stack.size()) {
+            Mark mark = marks[stack.size() - 1];
+            marks.resize(stack.size() - 1);
+            undo_to(mark.turned), looked = mark.trail;
         }
+        marks.push_back({turned.size(), looked});
+        for (; looked < sim.trail.size(); looked++) look_at(sim.trail[looked].signal);
     }
     // whether the effect may still come from a gate to an observed point
     void meet(u32 x) { if (rounds[x] != round) rounds[x] = round, paths.push_back(x); }
@@ -127,7 +156,7 @@ struct Fan {
     u32 nearest() {
         for (round++;;) {
             u32 best = NONE;
-            frontier([&](u32 x) { if (rounds[x] != round && (best == NONE || m.seen[x] < m.seen[best])) best = x; });
+            for (u32 x : front) if (rounds[x] != round && (best == NONE || m.seen[x] < m.seen[best] || (m.seen[x] == m.seen[best] && x < best))) best = x;
             if (best == NONE || leads(best)) return best;
         }
     }
@@ -145,10 +174,8 @@ struct Fan {
             if (joins(n.kind[x]) ? bit || p.unknown == 1 : parts(n.kind[x]) ? !bit || p.unknown == 1 : adds(n.kind[x]) ? p.unknown == 1 : true)
                 ask(x, adds(n.kind[x]) ? bit != p.odd : bit);
         }
-        u32 single = NONE;
-        bool more = false;
-        frontier([&](u32 x) { more |= single != NONE && single != x; single = x; });
-        if (single != NONE && !more && (joins(n.kind[single]) || parts(n.kind[single])))
+        u32 single = front.size() == 1 ? front[0] : NONE;
+        if (single != NONE && (joins(n.kind[single]) || parts(n.kind[single])))
             for (u32 k = 0; k < n.pin_count(single); k++) {
                 u32 p = n.pin(single, k);
                 if (good(p) == X && !sim.labels[p].differs) all.push_back({p, joins(n.kind[single])});
@@ -285,10 +312,12 @@ struct Fan {
     // 0: a test, 1: redundant, 2: given up
     int run(Manner how, u64 limit) {
         manner = how;
+        salt = salt_of(sim.fault);
         stack.clear();
         State s = sim.state();
         if (s != Going) return s == Test ? 0 : 1;
         for (u64 closed = 0; closed < limit;) {
+            follow();
             Aim a;
             State other = Going;
             for (Aim each : aims()) {

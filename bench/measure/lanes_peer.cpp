@@ -4,7 +4,8 @@
 // It reads a scanned netlist, a file laid out as the writer of this repository does, and faults (`stem NAME BIT`, `pin NAME K BIT`, `out NAME BIT`),
 // and checks nothing of them. Without a log it tells of each fault the first strobe that is known to be wrong; with one, which faults explain it;
 // with `=K` it writes the log of fault K.
-//   g++ -O2 -std=c++17 -o lanes_peer lanes_peer.cpp && ./lanes_peer NET.scan TEST.stil FAULTS [LOG | =K]
+// `--at-once=N` plays N machines in legs, and packs those that are left together anew after each, with what their cells hold.
+//   g++ -O2 -std=c++17 -o lanes_peer lanes_peer.cpp && ./lanes_peer [--at-once=N] NET.scan TEST.stil FAULTS [LOG | =K]
 #include <algorithm>
 #include <cstring>
 #include <sstream>
@@ -15,6 +16,8 @@
 struct Lanes {
     Word known = 0, value = 0;
 };
+
+constexpr size_t unfound = ~size_t{0};
 
 struct Cycle {
     std::vector<char> drive;   // a bit for each input
@@ -216,7 +219,9 @@ struct Player {
 };
 
 int main(int count, char** words) {
-    if (count < 4) return 2;
+    size_t at_once = 64;
+    if (count > 1 && std::strncmp(words[1], "--at-once=", 10) == 0) at_once = std::strtoull(words[1] + 10, nullptr, 10), count--, words++;
+    if (count < 4 || at_once == 0) return 2;
     Netlist net = read_netlist(words[1]);
     std::vector<std::string> names = read_names(words[1]);
     std::unordered_map<std::string, Id> ids;
@@ -250,40 +255,67 @@ int main(int count, char** words) {
     double begin = seconds();
     Player player(net);
     size_t told = 0, played = 0;
-    for (size_t first = 0; first < faults.size(); first += 64) {
-        size_t machines = std::min<size_t>(64, faults.size() - first);
-        player.stick(faults, first, machines);
-        Word left = machines == 64 ? ones : (Word{1} << machines) - 1;
-        std::vector<std::pair<size_t, Id>> found(machines);
-        for (size_t c = 0; c < cycles.size() && left; c++) {
-            const Cycle& cycle = cycles[c];
-            if (cycle.shift && (c == 0 || cycles[c - 1].shift != cycle.shift)) player.plan(cycle, chains);
-            player.settle(cycle);
-            for (auto [output, bit] : cycle.strobes) {
-                Lanes v = player.shown(output);
-                Word wrong = bit ? ~v.value : v.value, said = v.known & wrong;
-                if (logs) {
-                    if (said & 1) std::printf("%zu %s\n", c, names[net.outputs[output]].c_str());
-                    continue;
+    std::vector<std::pair<size_t, Id>> found(faults.size(), {unfound, 0});
+    for (size_t first = 0; first < faults.size(); first += at_once) {
+        std::vector<size_t> machines;
+        for (size_t k = first; k < std::min(faults.size(), first + at_once); k++) machines.push_back(k);
+        std::vector<std::vector<Lanes>> states((machines.size() + 63) / 64, std::vector<Lanes>(net.cells.size()));
+        for (size_t c = 0; c < cycles.size() && !machines.empty();) {
+            // a leg: up to a quarter more cycles than before, and to the end of its shift; where all go at once in one word, all cycles
+            size_t end = at_once == 64 ? cycles.size() : std::min(c + std::max<size_t>(1, c / 4), cycles.size());
+            while (end < cycles.size() && cycles[end].shift && cycles[end - 1].shift == cycles[end].shift) end++;
+            std::vector<size_t> rest;
+            std::vector<std::vector<Lanes>> kept;
+            for (size_t start = 0; start < machines.size(); start += 64) {
+                size_t count = std::min<size_t>(64, machines.size() - start);
+                std::vector<Fault> team;
+                for (size_t k = 0; k < count; k++) team.push_back(faults[machines[start + k]]);
+                player.stick(team, 0, count);
+                player.next = states[start / 64];
+                Word left = count == 64 ? ones : (Word{1} << count) - 1;
+                for (size_t t = c; t < end && left; t++) {
+                    const Cycle& cycle = cycles[t];
+                    if (cycle.shift && (t == c || cycles[t - 1].shift != cycle.shift)) player.plan(cycle, chains);
+                    player.settle(cycle);
+                    for (auto [output, bit] : cycle.strobes) {
+                        Lanes v = player.shown(output);
+                        Word wrong = bit ? ~v.value : v.value, said = v.known & wrong;
+                        if (logs) {
+                            if (said & 1) std::printf("%zu %s\n", t, names[net.outputs[output]].c_str());
+                            continue;
+                        }
+                        if (diagnoses) said = ~v.known | (logged[t][output] ? ~wrong : wrong);
+                        for (said &= left; said; said &= said - 1) {
+                            int k = __builtin_ctzll(said);
+                            found[machines[start + k]] = {t, output};
+                            left &= ~(Word{1} << k);
+                        }
+                    }
+                    if (cycle.pulse) player.tick();
+                    played++;
                 }
-                if (diagnoses) said = ~v.known | (logged[c][output] ? ~wrong : wrong);
-                for (said &= left; said; said &= said - 1) {
-                    int k = __builtin_ctzll(said);
-                    found[k] = {c, output};
-                    left &= ~(Word{1} << k);
+                for (; left; left &= left - 1) {
+                    int k = __builtin_ctzll(left), to = rest.size() % 64;
+                    if (to == 0) kept.emplace_back(net.cells.size());
+                    for (size_t x = 0; x < net.cells.size(); x++) {
+                        kept.back()[x].known |= (player.next[x].known >> k & 1) << to;
+                        kept.back()[x].value |= (player.next[x].value >> k & 1) << to;
+                    }
+                    rest.push_back(machines[start + k]);
                 }
             }
-            if (cycle.pulse) player.tick();
-            played++;
+            std::swap(machines, rest);
+            std::swap(states, kept);
+            c = end;
         }
-        for (size_t k = 0; k < machines; k++) {
-            bool open = left >> k & 1;
-            told += !open;
-            if (logs) continue;
-            if (diagnoses) { if (open) std::printf("%zu\n", first + k); }
-            else if (open) std::printf("%zu untold\n", first + k);
-            else std::printf("%zu fails %zu %s\n", first + k, found[k].first, names[net.outputs[found[k].second]].c_str());
-        }
+    }
+    for (size_t k = 0; k < faults.size(); k++) {
+        bool open = found[k].first == unfound;
+        told += !open;
+        if (logs) continue;
+        if (diagnoses) { if (open) std::printf("%zu\n", k); }
+        else if (open) std::printf("%zu untold\n", k);
+        else std::printf("%zu fails %zu %s\n", k, found[k].first, names[net.outputs[found[k].second]].c_str());
     }
     std::fprintf(stderr, "%zu faults %zu told %zu cycles %.3f s\n", faults.size(), told, played, seconds() - begin);
 }

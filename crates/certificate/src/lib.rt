@@ -4,7 +4,7 @@
 //! Gives: `write_evidence`, `read_evidence`, `push_evidence`, `has_refutation`, `is_one_tree`.
 //! Proved: `write_evidence`: a certificate's one text; `read_evidence` exactly; no two lists of evidence have one text, and the first line tells whether
 //! there are refutations; `is_one_tree`: whether nodes are one tree in preorder.
-//! Tested: that it comes to these answers, by rows of `calls`.
+//! Tested: that it comes to these answers, by rows of `calls` and `file_calls`.
 //! Neither: time.
 #![tactic(auto)]
 

@@ -1,7 +1,10 @@
 -- The table is made as it is written, and is one of which `clap`'s rule speaks.
-use Rattle.std.proofs.Common.{◌≡◌, ◌<◌, ◌+◌, ℕ, Bool, Bor, List, [], ◌∷◌, ◌++◌, Option, Some, Result, Ok, IfOk, ap, ap₂, sym, ◌∙◌, true, false, refl, length, get_or, take, map, append_assoc, append-nil}
+use Rattle.std.proofs.Common.{◌≡◌, ◌<◌, ◌+◌, ℕ, Bool, Bor, List, [], ◌∷◌, ◌++◌, Option, Some, Result, Ok, Err, IfOk, ap, ap₂, sym, ◌∙◌, true, false, refl, length, get_or, take, map, append_assoc, append-nil}
 use Rattle.std.specs.Prelude.{◌||◌}
 use Rattle.std.proofs.lemmas.List.{map_push, take_more}
+use Rattle.std.specs.Option.{option_zip}
+use Rattle.std.specs.Result.{result_ok}
+use Rattle.std.proofs.lemmas.Option.{same_Some}
 use Rattle.std.proofs.lemmas.Result.{IfOk-weaker}
 use Rattle.clap.specs.Words.{AddsArg, AddsSubcommand, App, Rule, Shape, Text, app_of, is_simple, new_app, rule_of, with_rule, with_subcommand}
 use Rattle.clap.specs.Faults.{is_simple_and_free}
@@ -102,13 +105,25 @@ shaped name rules more c r is grows =
 
 -- ---- the table grows by one command after the other
 
-pub adds : {E : Type 0} (table command : Command) (t c r : Result Command E) → t ≡ Ok table → c ≡ Ok command → IfOk r (AddsSubcommand table command) → Adds t c r
-adds table command t c r is_table is_command added = record {
-  app = λ before shape made here.
-      let app : app_of table ≡ before = rw is_table at made in
-      let sub : IsShaped shape command = rw is_command at here in
-      IfOk-weaker r (AddsSubcommand table command) (λ k. app_of k ≡ with_subcommand before shape) (λ k g. g.shape sub.local ∙ ap₂ with_subcommand app sub.shape) added;
-}
+both : {E : Type 0} (t c : Result Command E) (table command : Command) → option_zip (result_ok t) (result_ok c) ≡ Some (table, command) → (t ≡ Ok table) × (c ≡ Ok command)
+both (Ok x) (Ok y) table command are = let same = same_Some (x, y) (table, command) are in (ap Ok (ap (λ p. p.0) same), ap Ok (ap (λ p. p.1) same))
+both (Ok x) (Err f) table command are = cc
+both (Err e) c table command are = cc
+
+pub adds : {E : Type 0} (table command : Command) (t c r : Result Command E) → option_zip (result_ok t) (result_ok c) ≡ Some (table, command)
+    → IfOk r (AddsSubcommand table command) → Adds t c r
+adds table command t c r are added =
+    let is_table : t ≡ Ok table = (both t c table command are).0 in
+    let is_command : c ≡ Ok command = (both t c table command are).1 in
+    record {
+      app = λ before shape made here.
+          let app : app_of table ≡ before = rw is_table at made in
+          let sub : IsShaped shape command = rw is_command at here in
+          IfOk-weaker r (AddsSubcommand table command) (λ k. app_of k ≡ with_subcommand before shape) (λ k g. g.shape sub.local ∙ ap₂ with_subcommand app sub.shape) added;
+    }
+
+pub adds_none : {E : Type 0} (t c : Result Command E) (e : E) → Adds t c (Err e)
+adds_none t c e = record { app = λ before shape made here. tt }
 
 -- ---- what `clap`'s rule asks of it
 

@@ -88,14 +88,18 @@ fn command<'a>(
     with_arguments(alloc, Command::new(alloc, name).about(about), arguments)
 }
 
-// The table with one more command, where there was memory for both.
+// The table with one more command, where there was memory for both. `zip` lets go the one where
+// there was none for the other: a command is many lists, and here each would be let go apart.
 fn with_command<'a>(
     table: Result<Command<'a>, AllocError>,
     command: Result<Command<'a>, AllocError>,
 ) -> Result<Command<'a>, AllocError>
     ensures { Adds table.entry command.entry result }
 {
-    table?.subcommand(command?)
+    match table.ok().zip(command.ok()) {
+        Some((table, command)) => table.subcommand(command),
+        None => Err(AllocError),
+    }
 }
 
 fn scan<'a>(alloc: Global) -> Result<Command<'a>, AllocError>

@@ -128,7 +128,7 @@ strobed_below (s ∷ ss) zero b e = omega arith
 strobed_below (s ∷ ss) (suc o) b e = omega (arith, strobed_below ss o b e)
 
 -- a bit is strobed at an output alone
-strobed_within : (s : Netlist) (cycles : List Cycle) → All (IsCycleOf s) cycles → (c o : ℕ) (b : Bool) → strobe_at cycles c o ≡ known b → o < length s.outputs
+pub strobed_within : (s : Netlist) (cycles : List Cycle) → All (IsCycleOf s) cycles → (c o : ℕ) (b : Bool) → strobe_at cycles c o ≡ known b → o < length s.outputs
 strobed_within s [] fits zero zero b e = known_not_x b e
 strobed_within s [] fits zero (suc o) b e = known_not_x b e
 strobed_within s [] fits (suc c) zero b e = known_not_x b e

@@ -5,11 +5,10 @@ ghost use Rattle.std.specs.Prelude.{◌≡◌};
 ghost use Rattle.pair_sim.specs.Sims.{IsNotBlocked};
 
 use crate::cases::RoledCase;
-use crate::frontier::{FrontGates, frontier};
+use crate::frontier::Frontier;
 use crate::guides::has_head;
 use decisions::{
-    Aim, Effects, count_pins, excitation, gate_of, is_inverting, is_own_unknown, is_unknown,
-    may_differ,
+    Aim, count_pins, excitation, gate_of, is_inverting, is_own_unknown, is_unknown, may_differ,
 };
 use netlist::{Core, Kind, SignalId};
 use pair_sim::PairSim;
@@ -101,7 +100,7 @@ fn let_through(
 pub(crate) fn forced_aims(
     alloc: Global,
     roled: &RoledCase,
-    effects: &Effects,
+    frontier: &Frontier,
     labels: &PairSim,
     stack: &[Side],
 ) -> Result<Vec<Aim>, AllocError>
@@ -119,7 +118,7 @@ pub(crate) fn forced_aims(
             imply(roled.case.core, labels, side.signal, side.bit, &mut aims)?;
         }
     }
-    if let FrontGates::Single(gate) = frontier(&roled.case, effects, labels) {
+    if let Some(gate) = frontier.only_gate() {
         let_through(roled.case.core, labels, gate, &mut aims)?;
     }
     Ok(aims)

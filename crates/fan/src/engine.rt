@@ -99,7 +99,7 @@ fn attempts(
         return Ok(found);
     }
     for round in 0..ROUNDS {
-        guide.go_anyhow(round, &roled.case.fault);
+        guide.go_anyhow(round);
         if let Some(found) = short_attempt(alloc, roled, guide, labels, wants, FEW, limit)? {
             return Ok(found);
         }
@@ -143,7 +143,7 @@ impl Engine for Fan {
         holds: &Holds,
     ) -> Result<Found, NoMemory> {
         let room = GuideRoom::of(alloc, core)?;
-        let mut guide = Guide::of(&self.measures, room);
+        let mut guide = Guide::of(&self.measures, &fault, room);
         let mut labels = PairSim::new(alloc, core, fault, holds)?;
         let roles = roles_of(alloc, core, &fault, holds)?;
         let mut wants = WantRoom::of(alloc, core)?;
@@ -178,7 +178,7 @@ impl Engine for Fan {
         roles.aim(core, &fault, holds)?;
         let mut labels = PairSim::in_room(room.labels, core, fault, holds);
         let mut wants = room.wants;
-        let mut guide = Guide::of(&self.measures, room.guide);
+        let mut guide = Guide::of(&self.measures, &fault, room.guide);
         let case = Case { core, fault, holds };
         let roled = RoledCase {
             case,

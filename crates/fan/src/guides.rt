@@ -4,7 +4,7 @@ ghost use Rattle.std.specs.Prelude.{◌≡◌};
 ghost use Rattle.pair_sim.specs.Sims.{IsNotBlocked};
 
 use crate::cases::RoledCase;
-use crate::frontier::nearest;
+use crate::frontier::Frontier;
 use crate::paths::Paths;
 use crate::tracing::{Course, Way, objective, trace_from};
 use decisions::{
@@ -139,6 +139,7 @@ pub(crate) struct GuideRoom {
     wants: Wants,
     paths: Paths,
     effects: Effects,
+    frontier: Frontier,
 }
 
 impl GuideRoom {
@@ -148,11 +149,12 @@ impl GuideRoom {
             wants: Wants::of(alloc, core)?,
             paths: Paths::of(alloc, core)?,
             effects: Effects::new(alloc),
+            frontier: Frontier::of(alloc, core)?,
         })
     }
 }
 
-/// What leads the search: measures, how it goes back, what is wanted, and the signals with an effect.
+/// What leads the search: measures, how it goes back, what is wanted, and the D-frontier. Signals with an effect are looked for before any decision.
 #[derive(Drop)]
 pub(crate) struct Guide<'a> {
     course: Course<'a>,
@@ -160,6 +162,7 @@ pub(crate) struct Guide<'a> {
     wants: Wants,
     paths: Paths,
     pub(crate) effects: Effects,
+    pub(crate) frontier: Frontier,
 }
 
 /// Before which others a signal waits: gates from the last to the first in the order of evaluation, then inputs and cells.
@@ -169,10 +172,11 @@ fn rank(core: &Core, signal: SignalId) -> u64 {
 
 impl<'a> Guide<'a> {
     /// In a room, whatever it held.
-    pub(crate) fn of(measures: &'a Measures, room: GuideRoom) -> Guide<'a> {
+    pub(crate) fn of(measures: &'a Measures, fault: &Fault, room: GuideRoom) -> Guide<'a> {
         Guide {
             course: Course {
                 measures,
+                salt: salt_of(fault),
                 way: Way::ByCost,
                 stop: Stop::Heads,
             },
@@ -180,6 +184,7 @@ impl<'a> Guide<'a> {
             wants: room.wants,
             paths: room.paths,
             effects: room.effects,
+            frontier: room.frontier,
         }
     }
 
@@ -189,6 +194,7 @@ impl<'a> Guide<'a> {
             wants: self.wants,
             paths: self.paths,
             effects: self.effects,
+            frontier: self.frontier,
         }
     }
 
@@ -200,10 +206,10 @@ impl<'a> Guide<'a> {
     }
 
     /// From here on it goes back from the lowest objective to head lines, to pins by a hash.
-    pub(crate) fn go_anyhow(&mut self, round: u32, fault: &Fault) {
+    pub(crate) fn go_anyhow(&mut self, round: u32) {
         self.objectives = Objectives::One;
         self.course.stop = Stop::Heads;
-        self.course.way = Way::ByHash(round, salt_of(fault));
+        self.course.way = Way::ByHash(round);
     }
 
     /// Another search begins.
@@ -211,13 +217,22 @@ impl<'a> Guide<'a> {
         self.effects.begin();
     }
 
-    /// Looks at what the trail of labels has gained.
-    pub(crate) fn follow(&mut self, roled: &RoledCase, labels: &PairSim) -> Result<(), AllocError>
+    /// Looks at what the trail of labels has gained by the last of so many decisions; at first, where there is none, at what has an effect without one.
+    pub(crate) fn follow(
+        &mut self,
+        roled: &RoledCase,
+        labels: &PairSim,
+        depth: usize,
+    ) -> Result<(), AllocError>
         requires same { labels.now.netlist ≡ roled.now.case.core.now }
         requires not_blocked { IsNotBlocked labels.now }
     {
+        if depth > 0 {
+            return self.frontier.follow(roled.case.core, labels, depth);
+        }
         self.effects
-            .follow(roled.case.core, &roled.case.fault, labels)
+            .follow(roled.case.core, &roled.case.fault, labels)?;
+        self.frontier.begin(&roled.case, &self.effects, labels)
     }
 
     /// Adds to what is wanted of a signal, if it is X.
@@ -299,7 +314,7 @@ impl<'a> Guide<'a> {
             let wanted = if unknown == 1 {
                 turned(votes, odd)
             } else {
-                votes_for(self.course.measures.cheap_bit(*pin), both)
+                votes_for(self.course.cheap_bit(*pin), both)
             };
             self.want(core, labels, *pin, wanted)?;
         }
@@ -354,7 +369,7 @@ impl<'a> Guide<'a> {
             let bit = match kind {
                 Kind::And | Kind::Nand => true,
                 Kind::Or | Kind::Nor => false,
-                _ => self.course.measures.cheap_bit(*pin),
+                _ => self.course.cheap_bit(*pin),
             };
             self.want(core, labels, *pin, votes_for(bit, 1))?;
         }
@@ -380,13 +395,10 @@ impl<'a> Guide<'a> {
                 self.spread(core, labels, side.signal, votes_for(side.bit, 1))?;
             }
         }
-        match nearest(
-            &roled.case,
-            self.course.measures,
-            &self.effects,
-            labels,
-            &mut self.paths,
-        )? {
+        match self
+            .frontier
+            .nearest(core, self.course.measures, labels, &mut self.paths)?
+        {
             None => Ok(()),
             Some(gate) => self.want_through(core, labels, gate),
         }
@@ -477,7 +489,7 @@ pub(crate) fn best_aim(
         let lowest = objective(
             roled,
             &guide.course,
-            &guide.effects,
+            &guide.frontier,
             labels,
             stack,
             &mut guide.paths,

@@ -108,8 +108,8 @@ fn take_turn(
     requires going { IsGoing roled.now.case stack.old.items }
     ensures { IfOk result (IsStepped roled.now.case stack.old.items labels.new stack.new.items) }
 {
-    guide.follow(roled, labels)?;
-    let aims = forced_aims(alloc, roled, &guide.effects, labels, stack)?;
+    guide.follow(roled, labels, stack.len())?;
+    let aims = forced_aims(alloc, roled, &guide.frontier, labels, stack)?;
     match find_forced(roled, labels, stack, &aims) {
         Seen::Reached(point) => Ok(Step::Found(point)),
         Seen::ShutBeside(aim) => after_closed(

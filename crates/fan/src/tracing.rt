@@ -4,12 +4,12 @@ ghost use Rattle.std.specs.Prelude.{◌≡◌};
 ghost use Rattle.pair_sim.specs.Sims.{IsNotBlocked};
 
 use crate::cases::RoledCase;
-use crate::frontier::nearest;
+use crate::frontier::Frontier;
 use crate::guides::{Stop, has_head};
 use crate::paths::Paths;
 use decisions::{
-    Aim, Effects, Measures, count_pins, excitation, gate_of, hash_in, is_inverting, is_own_unknown,
-    is_unknown, may_differ, place_of, readers, signal_count,
+    Aim, Measures, count_pins, excitation, gate_of, hash_in, is_inverting, is_own_unknown,
+    is_unknown, may_differ, mixed, place_of, readers, signal_count,
 };
 use netlist::{Core, Kind, SignalId};
 use pair_sim::PairSim;
@@ -32,16 +32,29 @@ enum Pick {
 pub(crate) enum Way {
     /// To pins by what bits cost.
     ByCost,
-    /// To pins by a hash: of the round, and the salt of the fault.
-    ByHash(u32, u64),
+    /// To pins by a hash, another one in each round.
+    ByHash(u32),
 }
 
-/// What a backtrace goes by: what bits cost, how it goes from gate to gate, and where it stops.
+/// What a backtrace goes by: what bits cost, what is wanted where both cost alike, how it goes from gate to gate, and where it stops.
 #[derive(Clone, Copy, Drop)]
 pub(crate) struct Course<'a> {
     pub measures: &'a Measures,
+    pub salt: u64,
     pub way: Way,
     pub stop: Stop,
+}
+
+impl Course<'_> {
+    /// The bit that is cheaper. Where both cost alike it depends on fault and signal: were it the same for all faults, their tests would be alike,
+    /// and a chain of parity gates would need one for each input.
+    pub(crate) fn cheap_bit(&self, signal: SignalId) -> bool {
+        let measures = self.measures;
+        if measures.cost(signal, false) == measures.cost(signal, true) {
+            return mixed(self.salt ^ signal.index() as u64) & 1 == 1;
+        }
+        measures.cheap_bit(signal)
+    }
 }
 
 /// What is least at the pin that is gone to.
@@ -53,8 +66,8 @@ fn weight(course: &Course, pin: SignalId, pick: Pick) -> u64 {
         Pick::Cheapest => measures.cost(pin, false).min(measures.cost(pin, true)),
     };
     match (course.way, pick) {
-        (Way::ByHash(round, salt), Pick::Easiest(_) | Pick::Hardest(_)) => {
-            hash_in(round, salt, pin)
+        (Way::ByHash(round), Pick::Easiest(_) | Pick::Hardest(_)) => {
+            hash_in(round, course.salt, pin)
         }
         _ => u64::from(cost),
     }
@@ -97,7 +110,7 @@ fn into_parity(
     let bit = if unknown == 1 {
         bit != odd
     } else {
-        course.measures.cheap_bit(signal)
+        course.cheap_bit(signal)
     };
     Some(Aim { signal, bit })
 }
@@ -149,7 +162,7 @@ fn lowest_decided(roled: &RoledCase, labels: &PairSim, stack: &[Side]) -> Option
 }
 
 /// The lowest pin that is X of a gate that the effect should go through.
-fn lowest_pin(core: &Core, measures: &Measures, labels: &PairSim, gate: SignalId) -> Option<Aim>
+fn lowest_pin(core: &Core, course: &Course, labels: &PairSim, gate: SignalId) -> Option<Aim>
     requires { labels.now.netlist ≡ core.now }
 {
     let (kind, pins) = gate_of(core, gate)?;
@@ -159,7 +172,7 @@ fn lowest_pin(core: &Core, measures: &Measures, labels: &PairSim, gate: SignalId
             let bit = match kind {
                 Kind::And | Kind::Nand => true,
                 Kind::Or | Kind::Nor => false,
-                _ => measures.cheap_bit(*pin),
+                _ => course.cheap_bit(*pin),
             };
             best = Some(Aim { signal: *pin, bit });
         }
@@ -172,7 +185,7 @@ fn lowest_pin(core: &Core, measures: &Measures, labels: &PairSim, gate: SignalId
 pub(crate) fn objective(
     roled: &RoledCase,
     course: &Course,
-    effects: &Effects,
+    frontier: &Frontier,
     labels: &PairSim,
     stack: &[Side],
     paths: &mut Paths,
@@ -185,8 +198,8 @@ pub(crate) fn objective(
         return Ok(Some(aim));
     }
     let decided = lowest_decided(roled, labels, stack);
-    if let Some(gate) = nearest(&roled.case, course.measures, effects, labels, paths)? {
-        if let Some(pin) = lowest_pin(core, course.measures, labels, gate) {
+    if let Some(gate) = frontier.nearest(core, course.measures, labels, paths)? {
+        if let Some(pin) = lowest_pin(core, course, labels, gate) {
             if is_lower(core, pin.signal, &decided) {
                 return Ok(Some(pin));
             }

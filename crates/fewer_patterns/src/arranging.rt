@@ -1,12 +1,10 @@
-//! Patterns in another order: to which pattern a fault is left, the last that detects it, depends on that.
+//! In which order rows become patterns: to which pattern a fault is left, the last that detects it, depends on that.
 use crate::sorting::Sorted;
-use cubes::Pattern;
-use flat_netlist::number_of;
 use rand_core::Rng;
 use std::alloc::{AllocError, Global};
 
-/// The order of a round: in every other one the last pattern comes first, so that faults are left to those that were made first.
-fn order_of<N: Rng>(
+/// The order of a round: in every other one the last row comes first, so that faults are left to the rows that have most bits.
+pub(crate) fn order_of<N: Rng>(
     alloc: Global,
     count: u32,
     round: u32,
@@ -40,35 +38,4 @@ fn shuffled<N: Rng>(alloc: Global, count: u32, rng: &mut N) -> Result<Vec<u32>, 
         order.push(sorted.number(slot))?;
     }
     Ok(order)
-}
-
-fn copy_of(alloc: Global, pattern: &Pattern) -> Result<Pattern, AllocError> {
-    let inputs = Vec::from_slice(alloc, pattern.inputs())?;
-    let cells = Vec::from_slice(alloc, pattern.cells())?;
-    Ok(Pattern::new(inputs, cells))
-}
-
-fn in_order(
-    alloc: Global,
-    patterns: &[Pattern],
-    order: &[u32],
-) -> Result<Vec<Pattern>, AllocError> {
-    let mut copies = Vec::new(alloc);
-    for place in order {
-        if let Some(pattern) = patterns.get(*place as usize) {
-            copies.push(copy_of(alloc, pattern)?)?;
-        }
-    }
-    Ok(copies)
-}
-
-/// The patterns in the order of a round.
-pub(crate) fn arranged<N: Rng>(
-    alloc: Global,
-    patterns: &[Pattern],
-    round: u32,
-    rng: &mut N,
-) -> Result<Vec<Pattern>, AllocError> {
-    let order = order_of(alloc, number_of(patterns.len()), round, rng)?;
-    in_order(alloc, patterns, &order)
 }

@@ -24,18 +24,19 @@ fn bits_of<N: Rng>(
     Ok(bits)
 }
 
-/// A pattern for each row.
+/// A pattern for each row, in this order.
 pub(crate) fn filled<N: Rng>(
     alloc: Global,
     rows: &Rows,
+    order: &[u32],
     inputs: u32,
     cells: u32,
     rng: &mut N,
 ) -> Result<Vec<Pattern>, AllocError> {
     let mut patterns = Vec::new(alloc);
-    for row in 0..rows.count() {
-        let of_inputs = bits_of(alloc, rows, row, 0, inputs, rng)?;
-        let of_cells = bits_of(alloc, rows, row, inputs, cells, rng)?;
+    for row in order {
+        let of_inputs = bits_of(alloc, rows, *row, 0, inputs, rng)?;
+        let of_cells = bits_of(alloc, rows, *row, inputs, cells, rng)?;
         patterns.push(Pattern::new(of_inputs, of_cells))?;
     }
     Ok(patterns)

@@ -9,7 +9,7 @@ use flat_netlist::{NONE, number_of};
 use netlist::{Core, Fault, Holds, Point, SignalId};
 use std::alloc::{AllocError, Global};
 
-/// Faults, and the pattern and point at which each is told, if at all.
+/// Faults, and the pattern and point at which each is told last, if at all.
 #[derive(Drop)]
 pub(crate) struct Told<'a> {
     pub faults: &'a [Fault],
@@ -28,28 +28,23 @@ fn places_of(alloc: Global, told: &Told<'_>) -> Result<Vec<u32>, AllocError> {
     Ok(places)
 }
 
-/// What the detection of a fault needs is needed.
-fn need(tracing: &mut Tracing, core: &Core, told: &Told<'_>, fault: u32) -> Result<(), AllocError> {
-    let at = fault as usize;
-    if at < told.faults.len() && at < told.last.len() {
-        if let Some((_, point)) = told.last[at] {
-            return tracing.need(core, told.faults[at], point);
-        }
-    }
-    Ok(())
-}
-
-/// What the faults that are left to a pattern need of it.
+/// What the faults that are left to a pattern need of it. Where all bits are needed already, no more faults are looked at.
 fn need_all(
     tracing: &mut Tracing,
     core: &Core,
     told: &Told<'_>,
     by_place: &Sorted,
     place: u32,
+    places: u32,
 ) -> Result<(), AllocError> {
     let (start, end) = by_place.of_key(place);
     for slot in start..end {
-        need(tracing, core, told, by_place.number(slot))?;
+        if tracing.needed() >= places {
+            break;
+        }
+        if let Some(fault) = told.faults.get(by_place.number(slot) as usize) {
+            tracing.need(core, fault.line)?;
+        }
     }
     Ok(())
 }
@@ -130,7 +125,7 @@ pub(crate) fn relaxed(
         let (start, end) = by_place.of_key(number_of(place));
         if start < end {
             tracing.begin(core, pattern)?;
-            need_all(tracing, core, told, &by_place, number_of(place))?;
+            need_all(tracing, core, told, &by_place, number_of(place), places)?;
             push_needed(&mut rows, tracing, core, holds)?;
         }
     }

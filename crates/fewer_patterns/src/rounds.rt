@@ -1,5 +1,5 @@
 //! Rounds of relaxing and merging, each verified.
-ghost use Rattle.std.specs.Prelude.{◌≡◌, ◌+◌, ◌<◌, ◌≤◌, ◌^◌, true, List, ℕ, None, IfOk, IfSome, length, slice_index_or};
+ghost use Rattle.std.specs.Prelude.{◌≡◌, ◌+◌, ◌<◌, ◌≤◌, ◌^◌, true, List, ℕ, None, IfOk, IfSome, length, map, slice_index_or};
 ghost use Rattle.std.specs.List.{All, AllZip};
 ghost use Rattle.statement.specs.declared.lines.Fault.{Fault as FaultOf};
 ghost use Rattle.statement.specs.Netlists.{Netlist as Equations};
@@ -9,9 +9,9 @@ ghost use Rattle.netlist.specs.Lines.{IsLineOf};
 ghost use Rattle.cubes.specs.Cubes.{IsPatternOf};
 ghost use Rattle.word_sim.specs.Hits.{LastDetected};
 ghost use Rattle.fewer_patterns.specs.Fewer.{IsNoWorse};
-ghost use Rattle.fewer_patterns.specs.inner.Telling.{is_told_again};
+ghost use Rattle.fewer_patterns.specs.inner.Enough.{AreEnough, is_told, is_untold};
 
-use crate::arranging::arranged;
+use crate::arranging::order_of;
 use crate::filling::filled;
 use crate::merging::merged;
 use crate::relaxing::{Told, relaxed};
@@ -25,6 +25,7 @@ use rand_pcg::Lcg64Xsh32;
 use std::alloc::{AllocError, Global};
 use std::thread::Threads;
 use stil_patterns::are_patterns;
+use word_sim::unmarked;
 use worker::last_tells_beside;
 
 /// The stream of the words by which rounds fill, apart from those of workers.
@@ -67,180 +68,141 @@ fn needed(alloc: Global, patterns: u32, last: &[Option<(u32, Point)>]) -> Result
     Ok(count)
 }
 
-/// Whether what was told of a fault is told again.
-fn is_told_again(one: &Option<(u32, Point)>, again: &Option<(u32, Point)>) -> bool
-    ensures { result ≡ is_told_again one.now again.now }
+/// Whether a fault was told.
+fn is_told(one: &Option<(u32, Point)>) -> bool
+    ensures { result ≡ is_told one.now }
 {
-    one.is_none() || again.is_some()
+    one.is_some()
 }
 
-/// Whether each fault that was told is told again.
-fn are_told_again(first: &[Option<(u32, Point)>], again: &[Option<(u32, Point)>]) -> bool
-    ensures { result ≡ true → (k : ℕ) → k < length first.now → is_told_again (slice_index_or first.now k None) (slice_index_or again.now k None) ≡ true }
+/// Whether it wasn't.
+fn is_untold(one: &Option<(u32, Point)>) -> bool
+    ensures { result ≡ is_untold one.now }
 {
-    if again.len() < first.len() {
-        return false;
-    }
-    for k in 0..first.len() {
-        if !is_told_again(&first[k], &again[k]) {
+    one.is_none()
+}
+
+/// Whether each fault was told.
+fn are_told(last: &[Option<(u32, Point)>]) -> bool
+    ensures { result ≡ true → (k : ℕ) → k < length last.now → is_told (slice_index_or last.now k None) ≡ true }
+{
+    for k in 0..last.len() {
+        if !is_told(&last[k]) {
             return false;
         }
     }
     true
 }
 
-/// How many of the patterns are needed, where a simulation says that they are no worse than so many by which these faults were told.
+/// Patterns, where each of the faults is told by them, and how many of them are needed.
+#[derive(Drop)]
+struct Made {
+    patterns: Vec<Pattern>,
+    last: LastTold,
+    needed: u32,
+}
+
+/// The patterns, where a simulation says that they are at most so many and detect each of these faults.
 fn verified<R: Threads + Sync>(
     rt: &R,
     alloc: Global,
     core: &Core,
     holds: &Holds,
-    told: &Told<'_>,
+    faults: &[Fault],
     most: usize,
-    tried: &[Pattern],
+    tried: Vec<Pattern>,
     workers: u32,
-) -> Result<Option<u32>, NoMemory>
+) -> Result<Option<Made>, NoMemory>
     requires held { AreHoldsOf core.now holds.now }
-    requires lines { All (λ (f : FaultOf). IsLineOf core.now f.line) told.now.faults.now }
+    requires lines { All (λ (f : FaultOf). IsLineOf core.now f.line) faults.now }
     requires few { most + 64 ≤ 2 ^ 32 }
     requires workers { 0 < workers }
-    ensures { (old : List Bits) → AllZip (LastDetected core.now old) told.now.faults.now told.now.last.now → length old ≡ most
-        → IfOk result (λ found. IfSome found (λ _. IsNoWorse core.now holds.now told.now.faults.now old tried.now)) }
+    ensures { IfOk result (λ found. IfSome found (λ made. AreEnough core.now holds.now faults.now most made.patterns.items)) }
 {
-    if tried.len() > most || !are_patterns(core.netlist(), holds, tried) {
+    if tried.len() > most || !are_patterns(core.netlist(), holds, &tried) {
         return Ok(None);
     }
-    let again = last_tells_beside(rt, alloc, core, told.faults, tried, workers)?;
-    if !are_told_again(told.last, &again) {
+    let last = last_tells_beside(rt, alloc, core, faults, &tried, workers)?;
+    if !are_told(&last) {
         return Ok(None);
     }
-    Ok(Some(needed(alloc, number_of(tried.len()), &again)?))
+    let needed = needed(alloc, number_of(tried.len()), &last)?;
+    Ok(Some(Made {
+        patterns: tried,
+        last,
+        needed,
+    }))
 }
 
-/// The best patterns so far, how many of them are needed, and other ones with as many, from which the next round goes on.
+/// The best patterns so far, other ones of which as many are needed, from which the next round goes on, and whether there is no use in one.
 #[derive(Drop)]
 struct Course {
-    best: Vec<Pattern>,
-    needed: u32,
-    other: Option<Vec<Pattern>>,
+    best: Made,
+    other: Option<Made>,
+    is_over: bool,
 }
 
 impl Course {
     /// Those from which the next round goes on.
-    fn from(&self) -> &[Pattern]
-        ensures { (n : Equations) (holds : Held) (faults : List FaultOf) (old : List Bits) → IsNoWorse n holds faults old self.now.best.items
-            → IfSome self.now.other (λ v. IsNoWorse n holds faults old v.items) → IsNoWorse n holds faults old result.now }
-    {
+    fn from(&self) -> &Made {
         match &self.other {
-            Some(other) => other.as_slice(),
-            None => self.best.as_slice(),
+            Some(other) => other,
+            None => &self.best,
         }
     }
 }
 
-/// After a round that tried these: they are the best where fewer are needed, and were found to be no worse.
-fn after(course: Course, tried: Vec<Pattern>, found: Option<u32>) -> Course
-    ensures { (n : Equations) (holds : Held) (faults : List FaultOf) (old : List Bits) → IsNoWorse n holds faults old course.best.items
-        → IfSome found (λ _. IsNoWorse n holds faults old tried.items)
-        → IsNoWorse n holds faults old result.best.items × IfSome result.other (λ v. IsNoWorse n holds faults old v.items) }
+/// After a round that found these: they are the best where fewer of them are needed.
+fn after(course: Course, found: Option<Made>, is_over: bool) -> Course
+    ensures { (n : Equations) (holds : Held) (faults : List FaultOf) (most : ℕ) → AreEnough n holds faults most course.best.patterns.items
+        → IfSome found (λ made. AreEnough n holds faults most made.patterns.items) → AreEnough n holds faults most result.best.patterns.items }
 {
-    let Course { best, needed, .. } = course;
+    let best = course.best;
     match found {
-        Some(count) if count < needed => Course {
-            best: tried,
-            needed: count,
+        Some(made) if made.needed < best.needed => Course {
+            best: made,
             other: None,
+            is_over,
         },
-        Some(count) if count == needed => Course {
+        Some(made) if made.needed == best.needed => Course {
             best,
-            needed,
-            other: Some(tried),
+            other: Some(made),
+            is_over,
         },
         _ => Course {
             best,
-            needed,
             other: None,
+            is_over,
         },
     }
 }
 
-/// The patterns in an order of the round, relaxed, merged and filled; None where that is of no use.
-fn tried_in<R: Threads + Sync, N: Rng>(
-    rt: &R,
+/// The patterns relaxed, merged and filled, in an order of the round; and whether that left them dense.
+fn tried_from<N: Rng>(
     alloc: Global,
     core: &Core,
     holds: &Holds,
     faults: &[Fault],
     tracing: &mut Tracing,
-    patterns: &[Pattern],
+    from: &Made,
     round: u32,
-    workers: u32,
     rng: &mut N,
-) -> Result<Option<Vec<Pattern>>, NoMemory>
-    requires held { AreHoldsOf core.now holds.now }
-    requires lines { All (λ (f : FaultOf). IsLineOf core.now f.line) faults.now }
-    requires few { length patterns.now + 64 ≤ 2 ^ 32 }
-    requires workers { 0 < workers }
+) -> Result<(Vec<Pattern>, bool), AllocError>
+    requires { AreHoldsOf core.now holds.now }
 {
-    let arranged = arranged(alloc, patterns, round, rng)?;
-    if arranged.len() > patterns.len() || !are_patterns(core.netlist(), holds, &arranged) {
-        return Ok(None);
-    }
-    let last = last_tells_beside(rt, alloc, core, faults, &arranged, workers)?;
     let told = Told {
         faults,
-        last: &last,
+        last: &from.last,
     };
     let inputs = number_of(core.netlist().inputs().len());
     let cells = number_of(core.netlist().cells().len());
     let places = inputs.wrapping_add(cells);
-    let rows = relaxed(alloc, core, holds, tracing, &told, &arranged, places)?;
-    if is_dense(&rows, places) {
-        return Ok(None);
-    }
+    let rows = relaxed(alloc, core, holds, tracing, &told, &from.patterns, places)?;
+    let is_dense = is_dense(&rows, places);
     let rows = merged(alloc, &rows, places)?;
-    Ok(Some(filled(alloc, &rows, inputs, cells, rng)?))
-}
-
-/// One round: from the course's patterns to others, which are verified. None where a round is of no use any more.
-fn round_from<R: Threads + Sync, N: Rng>(
-    rt: &R,
-    alloc: Global,
-    core: &Core,
-    holds: &Holds,
-    told: &Told<'_>,
-    tracing: &mut Tracing,
-    from: &[Pattern],
-    most: usize,
-    round: u32,
-    workers: u32,
-    rng: &mut N,
-) -> Result<Option<(Vec<Pattern>, Option<u32>)>, NoMemory>
-    requires held { AreHoldsOf core.now holds.now }
-    requires lines { All (λ (f : FaultOf). IsLineOf core.now f.line) told.now.faults.now }
-    requires few { most + 64 ≤ 2 ^ 32 }
-    requires from { length from.now ≤ most }
-    requires workers { 0 < workers }
-    ensures { (old : List Bits) → AllZip (LastDetected core.now old) told.now.faults.now told.now.last.now → length old ≡ most
-        → IfOk result (λ r. IfSome r (λ p. IfSome p.1 (λ _. IsNoWorse core.now holds.now told.now.faults.now old p.0.items))) }
-{
-    let tried = tried_in(
-        rt,
-        alloc,
-        core,
-        holds,
-        told.faults,
-        tracing,
-        from,
-        round,
-        workers,
-        rng,
-    )?;
-    let Some(tried) = tried else {
-        return Ok(None);
-    };
-    let found = verified(rt, alloc, core, holds, told, most, &tried, workers)?;
-    Ok(Some((tried, found)))
+    let order = order_of(alloc, rows.count(), round, rng)?;
+    let tried = filled(alloc, &rows, &order, inputs, cells, rng)?;
+    Ok((tried, is_dense))
 }
 
 /// The best patterns after so many rounds.
@@ -249,43 +211,65 @@ fn improved<R: Threads + Sync>(
     alloc: Global,
     core: &Core,
     holds: &Holds,
-    told: &Told<'_>,
-    first: Course,
+    faults: &[Fault],
+    first: Made,
     rounds: Rounds,
-) -> Result<Course, NoMemory>
+) -> Result<Vec<Pattern>, NoMemory>
     requires held { AreHoldsOf core.now holds.now }
-    requires lines { All (λ (f : FaultOf). IsLineOf core.now f.line) told.now.faults.now }
-    requires few { length first.best.items + 64 ≤ 2 ^ 32 }
+    requires lines { All (λ (f : FaultOf). IsLineOf core.now f.line) faults.now }
+    requires few { length first.patterns.items + 64 ≤ 2 ^ 32 }
     requires workers { 0 < rounds.workers }
-    requires told { AllZip (LastDetected core.now first.best.items) told.now.faults.now told.now.last.now }
-    requires obey { All (IsPatternOf core.now holds.now) first.best.items }
-    requires other { first.other ≡ None }
-    ensures { IfOk result (λ course. IsNoWorse core.now holds.now told.now.faults.now first.best.items course.best.items) }
+    requires enough { AreEnough core.now holds.now faults.now (length first.patterns.items) first.patterns.items }
+    ensures { IfOk result (λ v. AreEnough core.now holds.now faults.now (length first.patterns.items) v.items) }
 {
-    let most = first.best.len();
+    let most = first.patterns.len();
     let mut tracing = Tracing::new(alloc, core)?;
     let mut rng = Lcg64Xsh32::new(rounds.seed, STREAM);
-    let mut course = first;
+    let mut course = Course {
+        best: first,
+        other: None,
+        is_over: false,
+    };
     for round in 0..rounds.count {
-        let made = round_from(
-            rt,
+        if course.is_over {
+            break;
+        }
+        let (tried, is_dense) = tried_from(
             alloc,
             core,
             holds,
-            told,
+            faults,
             &mut tracing,
             course.from(),
-            most,
             round,
-            rounds.workers,
             &mut rng,
         )?;
-        let Some((tried, found)) = made else {
-            break;
-        };
-        course = after(course, tried, found);
+        let found = verified(rt, alloc, core, holds, faults, most, tried, rounds.workers)?;
+        course = after(course, found, is_dense);
     }
-    Ok(course)
+    Ok(course.best.patterns)
+}
+
+/// Marks the faults that no pattern detects.
+fn untold_marks(alloc: Global, last: &[Option<(u32, Point)>]) -> Result<Vec<bool>, AllocError>
+    ensures { IfOk result (λ v. v.items ≡ map is_untold last.now) }
+{
+    let mut marks = Vec::with_capacity(alloc, last.len())?;
+    for one in last {
+        marks.push(is_untold(one))?;
+    }
+    Ok(marks)
+}
+
+/// What is told of the others.
+fn told_only(alloc: Global, last: &[Option<(u32, Point)>]) -> Result<LastTold, AllocError> {
+    let mut told = Vec::new(alloc);
+    for one in last {
+        if is_told(one) {
+            told.push(*one)?;
+        }
+    }
+    Ok(told)
 }
 
 /// Patterns that detect each of these faults that the given ones detect, and that are no more: after so many rounds.
@@ -309,16 +293,14 @@ pub fn fewer<R: Threads + Sync>(
         return Ok(patterns);
     }
     let last = last_tells_beside(rt, alloc, core, faults, &patterns, rounds.workers)?;
-    let told = Told {
-        faults,
-        last: &last,
-    };
+    let untold = untold_marks(alloc, &last)?;
+    let left = unmarked(alloc, faults, &untold)?;
+    let last = told_only(alloc, &last)?;
     let needed = needed(alloc, number_of(patterns.len()), &last)?;
-    let first = Course {
-        best: patterns,
+    let first = Made {
+        patterns,
+        last,
         needed,
-        other: None,
     };
-    let course = improved(rt, alloc, core, holds, &told, first, rounds)?;
-    Ok(course.best)
+    improved(rt, alloc, core, holds, &left, first, rounds)
 }

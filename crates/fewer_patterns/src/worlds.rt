@@ -1,71 +1,41 @@
-//! The settled bits of a pattern, without a fault and with it.
+//! The settled bits of a pattern, and those where one signal's bit is turned.
 use cubes::Pattern;
-use flat_netlist::{Graph, NONE, Shape, Waiting, Whole, byte_at, driver, fill_bytes, put_byte};
-use netlist::{Core, Line, SignalId};
+use flat_netlist::{Graph, NONE, Shape, Waiting, Whole, byte_at, fill_bytes, put_byte};
+use netlist::{Core, SignalId};
 use std::alloc::{AllocError, Global};
 
-/// Where a line is stuck, and at which bit.
-#[derive(Clone, Copy)]
-pub(crate) struct Site {
-    /// The signal whose stem is stuck; NONE where it is a pin or an output.
-    pub stem: u32,
-    /// The gate of which a pin is stuck, and the pin's slot; NONE where it is a stem or a line that is a point.
-    pub gate: u32,
-    pub slot: u32,
-    /// The signal that comes onto the line.
-    pub driver: u32,
-    pub bit: u8,
-}
-
-/// No line is stuck.
-pub(crate) const NOWHERE: Site = Site {
-    stem: NONE,
-    gate: NONE,
-    slot: NONE,
-    driver: NONE,
-    bit: 0,
-};
-
-/// The bit on a pin.
-fn pin_bit(graph: &Graph, values: &[u8], slot: u32, site: Site) -> u8 {
-    if slot == site.slot {
-        site.bit
-    } else {
-        byte_at(values, graph.pin(slot))
-    }
-}
-
-fn has_pin_at(graph: &Graph, values: &[u8], gate: u32, site: Site, bit: u8) -> bool {
+/// Whether some pin of a gate has the bit.
+fn has_pin_at(graph: &Graph, bits: &[u8], gate: u32, bit: u8) -> bool {
     let (start, end) = graph.pins_of(gate);
     for slot in start..end {
-        if pin_bit(graph, values, slot, site) == bit {
+        if byte_at(bits, graph.pin(slot)) == bit {
             return true;
         }
     }
     false
 }
 
-fn parity(graph: &Graph, values: &[u8], gate: u32, site: Site) -> u8 {
+fn parity(graph: &Graph, bits: &[u8], gate: u32) -> u8 {
     let (start, end) = graph.pins_of(gate);
     let mut odd = 0;
     for slot in start..end {
-        odd ^= pin_bit(graph, values, slot, site);
+        odd ^= byte_at(bits, graph.pin(slot));
     }
     odd
 }
 
 /// What a gate gives.
-fn value(graph: &Graph, values: &[u8], gate: u32, site: Site) -> u8 {
+fn bit_of(graph: &Graph, bits: &[u8], gate: u32) -> u8 {
     match graph.shape(gate) {
-        Shape::Source => byte_at(values, gate),
+        Shape::Source => byte_at(bits, gate),
         Shape::Controlled { by, to } => {
-            if has_pin_at(graph, values, gate, site, by) {
+            if has_pin_at(graph, bits, gate, by) {
                 to
             } else {
                 to ^ 1
             }
         }
-        Shape::Parity { odd } => odd ^ parity(graph, values, gate, site),
+        Shape::Parity { odd } => odd ^ parity(graph, bits, gate),
     }
 }
 
@@ -77,6 +47,7 @@ pub(crate) struct Worlds {
     faulty: Vec<u8>,
     /// The signals whose bits differ.
     changed: Vec<u32>,
+    /// Gates that wait, by their places. None does between two calls.
     pub waiting: Waiting,
 }
 
@@ -95,22 +66,20 @@ impl Worlds {
         })
     }
 
+    #[inline(always)]
     pub(crate) fn good(&self, signal: u32) -> u8 {
         byte_at(&self.good, signal)
     }
 
-    /// Whether the fault has changed the signal.
-    pub(crate) fn differs(&self, signal: u32) -> bool {
-        byte_at(&self.good, signal) != byte_at(&self.faulty, signal)
+    #[inline(always)]
+    pub(crate) fn faulty(&self, signal: u32) -> u8 {
+        byte_at(&self.faulty, signal)
     }
 
-    /// The bit on a pin: with a fault where there is a site.
-    pub(crate) fn on_pin(&self, slot: u32, site: Site, is_faulty: bool) -> u8 {
-        if is_faulty {
-            pin_bit(&self.whole.graph, &self.faulty, slot, site)
-        } else {
-            pin_bit(&self.whole.graph, &self.good, slot, NOWHERE)
-        }
+    /// Whether the signal's bits differ.
+    #[inline(always)]
+    pub(crate) fn differs(&self, signal: u32) -> bool {
+        self.good(signal) != self.faulty(signal)
     }
 
     fn take(&mut self, signals: &[SignalId], bits: &[bool]) {
@@ -119,14 +88,14 @@ impl Worlds {
         }
     }
 
-    /// Settles the netlist under a pattern, with no fault.
+    /// Settles the netlist under a pattern.
     pub(crate) fn settle(&mut self, core: &Core, pattern: &Pattern) -> Result<(), AllocError> {
         fill_bytes(&mut self.good, self.whole.count(), 0)?;
         self.take(core.netlist().inputs(), pattern.inputs());
         self.take(core.netlist().cells(), pattern.cells());
         for place in 1..self.whole.place_count() {
             let gate = self.whole.gate_at(place);
-            let bit = value(&self.whole.graph, &self.good, gate, NOWHERE);
+            let bit = bit_of(&self.whole.graph, &self.good, gate);
             put_byte(&mut self.good, gate, bit);
         }
         self.changed.clear();
@@ -144,93 +113,51 @@ impl Worlds {
         }
     }
 
-    fn change(&mut self, signal: u32, bit: u8) -> Result<(), AllocError> {
-        if byte_at(&self.faulty, signal) != bit {
-            put_byte(&mut self.faulty, signal, bit);
-            self.changed.push(signal)?;
-            self.wake_readers(signal);
+    /// Whether the signal changes by taking the bit.
+    fn change(&mut self, signal: u32, bit: u8) -> Result<bool, AllocError> {
+        if self.faulty(signal) == bit {
+            return Ok(false);
         }
-        Ok(())
+        put_byte(&mut self.faulty, signal, bit);
+        self.changed.push(signal)?;
+        self.wake_readers(signal);
+        Ok(true)
     }
 
-    fn evaluate(&mut self, site: Site, gate: u32) -> Result<(), AllocError> {
-        if gate == site.stem {
-            return Ok(());
+    /// The gate, where it changes and is observed.
+    fn evaluate(&mut self, gate: u32) -> Result<u32, AllocError> {
+        let bit = bit_of(&self.whole.graph, &self.faulty, gate);
+        if self.change(gate, bit)? && self.whole.is_observed(gate) {
+            return Ok(gate);
         }
-        let bit = value(&self.whole.graph, &self.faulty, gate, site);
-        self.change(gate, bit)
+        Ok(NONE)
     }
 
-    /// Settles it with the fault, after what was settled without.
-    pub(crate) fn spread(&mut self, site: Site) -> Result<(), AllocError> {
-        if site.stem != NONE {
-            self.change(site.stem, site.bit)?;
+    /// Turns the signal's bit and settles what changes, until that comes to an observed signal: this one. NONE where it comes to none.
+    pub(crate) fn turn(&mut self, signal: u32) -> Result<u32, AllocError> {
+        if self.whole.is_observed(signal) {
+            return Ok(signal);
         }
-        if site.gate != NONE {
-            self.waiting.add(self.whole.place(site.gate));
-        }
+        let turned = self.good(signal) ^ 1;
+        self.change(signal, turned)?;
+        let mut seen = NONE;
         for _place in 0..self.whole.place_count() {
             let Some(place) = self.waiting.take_first() else {
                 break;
             };
-            let gate = self.whole.gate_at(place);
-            self.evaluate(site, gate)?;
+            if seen == NONE {
+                let gate = self.whole.gate_at(place);
+                seen = self.evaluate(gate)?;
+            }
         }
-        Ok(())
+        Ok(seen)
     }
 
-    /// Takes the fault away.
+    /// Turns it back.
     pub(crate) fn forget(&mut self) {
         for signal in &self.changed {
             put_byte(&mut self.faulty, *signal, byte_at(&self.good, *signal));
         }
         self.changed.clear();
-    }
-}
-
-/// Where a stem is stuck.
-fn at_stem(signal: u32, bit: u8) -> Site {
-    Site {
-        stem: signal,
-        gate: NONE,
-        slot: NONE,
-        driver: signal,
-        bit,
-    }
-}
-
-/// Where a line that is a point is stuck: an output, or a cell's pin.
-fn at_point(driver: u32, bit: u8) -> Site {
-    Site {
-        stem: NONE,
-        gate: NONE,
-        slot: NONE,
-        driver,
-        bit,
-    }
-}
-
-/// Where a pin of a gate or a cell is stuck.
-fn at_pin(whole: &Whole, core: &Core, z: SignalId, k: u32, bit: u8) -> Site {
-    let from = driver(core, z, k).0;
-    if whole.place(z.0) == 0 {
-        return at_point(from, bit);
-    }
-    let (start, _) = whole.graph.pins_of(z.0);
-    Site {
-        stem: NONE,
-        gate: z.0,
-        slot: start.wrapping_add(k),
-        driver: from,
-        bit,
-    }
-}
-
-/// Where the line is stuck at a bit.
-pub(crate) fn site_of(whole: &Whole, core: &Core, line: Line, bit: u8) -> Site {
-    match line {
-        Line::Stem(x) => at_stem(x.0, bit),
-        Line::Out(y) => at_point(y.0, bit),
-        Line::Pin(z, k) => at_pin(whole, core, z, k, bit),
     }
 }

@@ -93,8 +93,13 @@ impl<'a> Checkers<'a> {
         ensures { IfOk result (λ c. (c.netlist ≡ core.now) × (c.holds ≡ holds.now)) }
     {
         let trees = TreeChecker::new(alloc, core, holds)?;
-        let steps = StepChecker::new(alloc, core, holds)?;
-        Ok(Checkers { trees, steps })
+        match StepChecker::new(alloc, core, holds) {
+            Ok(steps) => Ok(Checkers { trees, steps }),
+            Err(_) => {
+                drop(trees);
+                Err(NoMemory)
+            }
+        }
     }
 
     /// How many ends of the evidence are closed and how many open, where it shows the fault. A refutation has none.

@@ -33,7 +33,7 @@ other_bit : (b : Bool) (v : Tri) (o : Option Tri) → o ≡ Some v → v ≡ kno
 other_bit true v o m e w = let h : Some (known true) ≡ Some (known false) = subst (λ (u : Tri). Some u ≡ Some (known false)) e (sym m ∙ w) in cc
 other_bit false v o m e w = let h : Some (known false) ≡ Some (known true) = subst (λ (u : Tri). Some u ≡ Some (known true)) e (sym m ∙ w) in cc
 
-met_wrong : (cycles : List Cycle) (shown : List (List Tri)) (c o : ℕ) → IsStrobeMet cycles shown c o → IsWrong known cycles shown c o → ⊥
+pub met_wrong : (cycles : List Cycle) (shown : List (List Tri)) (c o : ℕ) → IsStrobeMet cycles shown c o → IsWrong known cycles shown c o → ⊥
 met_wrong cycles shown c o (inl x) w = unstrobed w.0 (strobe_at cycles c o) x w.1
 met_wrong cycles shown c o (inr m) w = other_bit w.0 (strobe_at cycles c o) (shown_at shown c o) m w.1 w.2
 

@@ -1,3 +1,5 @@
 pub mod Grades
+pub mod Patterns
 pub mod Laws
+pub mod Agreement
 pub mod inner

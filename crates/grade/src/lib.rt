@@ -2,7 +2,8 @@
 //!
 //! Gives: `Grade`, `grades`.
 //! Proved: `grades`: of each stuck line exactly whether the other bit is known to be shown at some strobe, and where first, or each strobe is known to be
-//! met, or neither; the laws: what is detected fails from every power-up state, and what is undetected passes from every one.
+//! met, or neither; the laws: what is detected fails from every power-up state, and what is undetected passes from every one; on the vectors of patterns
+//! the grade is the one by patterns; on a run's own test the grades agree with its report.
 //! Tested: that it comes to these answers, by rows of `cases`, worked out by a plain program.
 //! Neither: what passes the stage; time.
 #![tactic(auto)]
@@ -13,5 +14,5 @@ mod laws;
 mod spreading;
 
 pub use grade::Grade;
-pub use laws::{detected_fails, undetected_passes};
+pub use laws::{agrees_with_report, detected_fails, patterns_grade, undetected_passes};
 pub use spreading::grades;

@@ -3,7 +3,7 @@
 //! Gives: `Report`, `FaultLines`, `HoldLines`, `write_report`, `read_report`.
 //! Proved: `write_report`: a report's one text, in all three versions; `read_report` exactly, texts one to one with reports; the type keeps what every
 //! report is.
-//! Tested: that it comes to these answers, by rows of `calls`.
+//! Tested: that it comes to these answers, by rows of `file_calls`.
 //! Neither: time.
 #![tactic(auto)]
 

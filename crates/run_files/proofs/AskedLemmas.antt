@@ -18,7 +18,7 @@ use Rattle.list_core.specs.Verdicts.{is_open, one_if_class_detected, verdict_at}
 use Rattle.run_report.specs.Heads.{count_of, one_if_detected}
 use Rattle.run_report.specs.Outcomes.{IsDetected}
 use Rattle.run_report.proofs.ClassLemmas.{equivalent, to_representative}
-use Rattle.run_files.specs.Runs.{AreAsked, Asked, FirstKept, IsEnough, count_true}
+use Rattle.run_files.specs.Runs.{AreAsked, Asked, FirstKept, IsCovered, count_true}
 use Rattle.run_files.specs.inner.Classes.{IsAskedClass, detected_in}
 use Rattle.statement.specs.declared.outcomes.Outcome.{Outcome}
 use Rattle.run_files.specs.inner.Outcomes.{AreLines, IsOutcomeOf, verdict_said}
@@ -27,7 +27,7 @@ use Rattle.run_files.proofs.KnownLemmas.{blank}
 use Rattle.run_files.proofs.LineLemmas.{line_at, lines_detected, outcome_detected, outcome_open}
 
 enough_said : (percent : Option ℕ) (marks : List Bool) (lines : List Line) (detected : ℕ) → count_of one_if_detected lines ≡ detected → IsMet percent (count_true marks) detected
-    → IsEnough percent marks lines
+    → IsCovered percent marks lines
 enough_said None marks lines detected is met = met
 enough_said (Some p) marks lines detected is met = let most : p * count_true marks ≤ 100 * detected = met in omega arith
 

@@ -54,14 +54,14 @@ count_true [] = 0
 count_true (b ∷ bs) = cond b 1 0 + count_true bs
 
 -- so many in a hundred of the faults that are asked for are detected
-abbrev pub IsEnough : Option ℕ → List Bool → List Line → Type 0
-IsEnough None asked lines = ⊥
-IsEnough (Some percent) asked lines = percent * count_true asked ≤ 100 * count_of one_if_detected lines
+abbrev pub IsCovered : Option ℕ → List Bool → List Line → Type 0
+IsCovered None asked lines = ⊥
+IsCovered (Some percent) asked lines = percent * count_true asked ≤ 100 * count_of one_if_detected lines
 
 -- A line says that its fault wasn't asked for where it wasn't, and elsewhere only where enough are detected.
 pub record AreAsked (a : Asked) (lines : List Line) : Type 0 where
   pub others : (place : ℕ) (line : Line) → slice_get lines place ≡ Some line → slice_get a.faults place ≡ Some false → line.outcome ≡ Unasked
-  pub all : IsEnough a.percent a.faults lines
+  pub all : IsCovered a.percent a.faults lines
       ⊎ ((place : ℕ) (line : Line) → slice_get lines place ≡ Some line → line.outcome ≡ Unasked → slice_get a.faults place ≡ Some false)
 
 -- what the first patterns detect of what is asked for is detected

@@ -6,7 +6,7 @@
 //! Proved: `vectors_of` and all that vectors are made of exactly; the gates that a `Plan` chooses do for each cycle of its burst; `play` exactly,
 //! `play_before` up to where any judge of strobes stops it; the laws: from every power-up state the good netlist passes, one with an undetected
 //! fault passes, one with a detected fault fails in its cycle at its output; no sequence shows a redundant fault.
-//! Tested: that `vectors_of` and `play` come to these answers, by rows of `calls` and `cases`.
+//! Tested: that `vectors_of` and `play` come to these answers, by rows of `file_calls` and `cases`.
 //! Neither: time.
 #![tactic(auto)]
 

@@ -4,7 +4,7 @@
 //! Proved: `stil_of`: exactly the file of patterns; `patterns_of`: exactly the patterns that obey the held inputs and of which a file is that;
 //! `applied_patterns`: exactly those that a file applies, whatever it strobes; the laws: their vectors, that the file fits the scanned netlist, read back
 //! as itself, one file, one list, an item at least for each pattern, and a file of patterns applies these, whichever netlist's responses it strobes.
-//! Tested: that it comes to these answers, by rows of `calls`.
+//! Tested: that it comes to these answers, by rows of `file_calls`.
 //! Neither: time.
 #![tactic(auto)]
 

@@ -3,7 +3,7 @@
 //! Gives: `read_stil`.
 //! Proved: `read_stil`: a file is read exactly where the bytes have the tokens of a written text; the laws: at most one file has them, a written text
 //! is read back, a text has a byte at least for each item.
-//! Tested: that it comes to these answers, by rows of `calls` and `cases`.
+//! Tested: that it comes to these answers, by rows of `file_calls` and `cases`.
 //! Neither: time.
 #![tactic(auto)]
 

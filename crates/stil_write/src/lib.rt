@@ -2,7 +2,7 @@
 //!
 //! Gives: `write_stil`, `StilFile`.
 //! Proved: `write_stil`: the one text of a file; a `StilFile` is always sound.
-//! Tested: that it comes to a text, by rows of `calls`.
+//! Tested: that it comes to a text, by rows of `file_calls`.
 //! Neither: time.
 #![tactic(auto)]
 

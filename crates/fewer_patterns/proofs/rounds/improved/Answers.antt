@@ -1,16 +1,12 @@
-use Rattle.std.proofs.Common.{IfOk, IfSome, subst, arith}
-use Rattle.fewer_patterns.specs.Fewer.{IsNoWorse}
+use Rattle.std.proofs.Common.{◌≡◌, ℕ, IfSome, length, subst, arith}
+use Rattle.fewer_patterns.specs.inner.Enough.{AreEnough}
 use Rattle.fewer_patterns.proofs.rounds.improved.Goals as goal
-
-pub round_from-requires-clause-from : goal.round_from-requires-clause-from
-round_from-requires-clause-from g c κs within =
-    let from = c.from.ensures c.args.core.now c.args.holds.now c.args.told.now.faults.now c.args.first.best.items c.loop-round.invariant.0 c.loop-round.invariant.1 in
-    omega (arith, from.few, c.len-most.ensures)
 
 pub loop-round-preserved : goal.loop-round-preserved
 loop-round-preserved g c =
-    let old = c.args.first.best.items in
-    let made = c.round_from.ensures old c.requires.told (omega (arith, c.len-most.ensures)) in
-    let ok = subst (λ r. IfOk r (λ m. IfSome m (λ p. IfSome p.1 (λ _. IsNoWorse c.args.core.now c.args.holds.now c.args.told.now.faults.now old p.0.items)))) c.in_ok-made.was made in
-    let some = subst (λ m. IfSome m (λ p. IfSome p.1 (λ _. IsNoWorse c.args.core.now c.args.holds.now c.args.told.now.faults.now old p.0.items))) c.in-Some.is ok in
-    c.after-course.ensures c.args.core.now c.args.holds.now c.args.told.now.faults.now old c.loop-round.invariant.0 some
+    let n = c.args.core.now in
+    let holds = c.args.holds.now in
+    let faults = c.args.faults.now in
+    let size : c.len-most.result ≡ length c.args.first.patterns.items = omega (arith, c.len-most.ensures) in
+    let found = subst (λ (most : ℕ). IfSome c.in_ok-found.found (λ made. AreEnough n holds faults most made.patterns.items)) size c.in_ok-found.ensures in
+    c.after-course.ensures n holds faults (length c.args.first.patterns.items) c.loop-round.invariant found

@@ -1,0 +1,23 @@
+-- What patterns tell of a stuck line.
+use Rattle.std.specs.Prelude.{ℕ, List, Some, None}
+use Rattle.statement.specs.declared.lines.Fault.{Fault}
+use Rattle.statement.specs.declared.lines.Point.{Point}
+use Rattle.statement.specs.Netlists.{Netlist}
+use Rattle.statement.specs.Patterns.{IsDetectedAt, Pattern}
+use Rattle.statement.specs.Tests.{IsStrobedAt}
+use Rattle.chain_test.specs.FirstWrong.{IsFirstPlace}
+use Rattle.grade.specs.declared.grade.Grade.{Grade}
+use Rattle.grade.specs.declared.grade.Grade.TheVariants.{Detected, Undetected, Unknown}
+
+-- in this cycle and at this output a point is strobed at which a pattern detects the fault
+pub record IsSeenAt (n : Netlist) (chains : List (List ℕ)) (patterns : List Pattern) (f : Fault) (c o : ℕ) : Type 0 where
+  pub place : ℕ
+  pub point : Point
+  pub detected : IsDetectedAt n patterns f place point
+  pub strobed : IsStrobedAt n chains place point c o
+
+-- the grade of a fault by patterns: the first such strobe, or undetected where there is none
+abbrev pub IsPatternGrade : Netlist → List (List ℕ) → List Pattern → Fault → Grade → Type 0
+IsPatternGrade n chains patterns f (Detected c o) = IsFirstPlace (IsSeenAt n chains patterns f) (Some (c, o))
+IsPatternGrade n chains patterns f Undetected = IsFirstPlace (IsSeenAt n chains patterns f) None
+IsPatternGrade n chains patterns f Unknown = ⊥
