@@ -103,7 +103,8 @@ def test_bad_reports():
     with tempfile.TemporaryDirectory() as name:
         prefix = made_run(pathlib.Path(name), ROOT / "examples/s27.bench")
         good = {end: pathlib.Path(f"{prefix}.{end}").read_text() for end in ("net", "rep", "cert")}
-        for end, old, new, why in (("rep", "atpg report 1", "atpg report 4", "no report"), ("rep", "classes ", "class ", "no line `classes`"),
+        for end, old, new, why in (("rep", "atpg report 1", "atpg report 5", "no report"), ("rep", "atpg report 1", "atpg report 4", "no line `detect`"),
+                                   ("rep", "atpg report 1", "atpg report 3", "no line `unasked`"), ("rep", "classes ", "class ", "no line `classes`"),
                                    ("rep", "stem G0/0 ", "stem G99/0 ", "has no line stem G99"), ("net", "INPUT(G0)", "INPUT G0", "line 1"),
                                    ("cert", "certificate", "report", "no certificate")):
             pathlib.Path(f"{prefix}.{end}").write_text(good[end].replace(old, new, 1))
@@ -316,6 +317,27 @@ def test_unasked():
         assert made["numbers"]["unasked"] == 1 and {"fault": "stem y/1", "end": "unasked"} in made["faults"]
         listed = said_by(ROOT / "tools/fault_lists", "to-atalanta", f"{prefix}.net", report, "--only", "unasked")
         assert listed == (0, "y /1\n", ""), listed
+
+
+def test_times():
+    """Where detections are counted there is a table of them, and each fault has its number."""
+    with tempfile.TemporaryDirectory() as name:
+        prefix, situation = plain_run(pathlib.Path(name), TIES, 1)
+        report, times = run_files.beside(prefix, "rep"), situation.times(3)
+        lines = "".join(f"times {count}\n" for count in times)
+        text = re.sub(r"(efficiency .*\n)", rf"\1detect 3\n{lines}", report.read_text().replace("atpg report 1", "atpg report 4"))
+        for unasked in (False, True):
+            report.write_text(re.sub(r"(untested \d+\n)", r"\1unasked 1\n", re.sub(r"(stem y/1) detected .*", r"\1 unasked", text)) if unasked else text)
+            status, said, errors = said_by(TOOL, prefix)
+            assert status == 0, errors
+            rows = [[f"{count}{' or more' * (count == 3)}", str(times.count(count))] for count in sorted({*times, 3})]
+            shown = said.split("Faults by how many patterns detect them\n")[1].split("\n\n")[0].splitlines()[1:]
+            assert [re.split(" {2,}", row.strip()) for row in shown] == rows, (shown, rows)
+            made = json.loads(said_by(TOOL, prefix, "--json")[1])
+            assert made["numbers"]["detect"] == 3 and [fault["times"] for fault in made["faults"]] == times
+            assert ("unasked" in made["numbers"]) == unasked
+            listed = said_by(ROOT / "tools/fault_lists", "to-atalanta", f"{prefix}.net", report, "--only", "unasked")
+            assert listed == (0, "y /1\n" * unasked, ""), listed
 
 
 # Modules.

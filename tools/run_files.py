@@ -5,20 +5,21 @@ import re
 
 HEADER = ("inputs outputs gates cells chains faults classes patterns cycles limit detected redundant aborted untested coverage "
           "efficiency").split()
-UNASKED_HEADER = [*HEADER[:-2], "unasked", *HEADER[-2:]]  # of a report some of whose faults weren't asked for
 SHARES = ("coverage", "efficiency")
 STATEMENT = re.compile(r"(?:(\S+) = )?(\w+)\((.*)\)$")
 SETTLED = ("detected", "redundant", "aborted")
 ENDS = (*SETTLED, "unasked")
 
-FIRST_LINES = {"atpg report 1": False, "atpg report 2": False, "atpg report 3": False, "atpg transition 1": True}  # whether it is of slow lines
+# Whether it is of slow lines.
+FIRST_LINES = {"atpg report 1": False, "atpg report 2": False, "atpg report 3": False, "atpg report 4": False, "atpg transition 1": True}
 SLOW = {"rise": "0", "fall": "1"}  # the bit that a slow line keeps too long
 
 # A line of the report: the fault's text, its line and its bit, what came of it, and where it is detected.
 Verdict = collections.namedtuple("Verdict", "fault line bit end pattern cycle pin")
 
-# A report's head: its numbers as they are written, the held inputs as pairs of name and bit, and whether it is of slow lines.
-Head = collections.namedtuple("Head", "numbers held is_slow")
+# A report's head: its numbers as they are written, how many patterns detect each fault (none where that isn't counted), the held inputs as pairs of
+# name and bit, and whether it is of slow lines.
+Head = collections.namedtuple("Head", "numbers times held is_slow")
 
 # A line of the certificate: its number, the fault, how many nodes its tree has (0: it is a refutation) or steps its refutation, whether an end is
 # open, and the line's text.
@@ -90,19 +91,27 @@ class Design:
             pins=self.pins, order=list(evaluation_order(self)), signals=list(self.kinds), points=lambda: points)
 
 
+def number_of(line, word, path):
+    """What stands behind a word of the head, as it is written."""
+    found, _, value = line.rstrip("\n").partition(" ")
+    if found != word or not re.fullmatch(r"\d+\.\d\d" if word in SHARES else r"\d+", value):
+        raise Bad(f"{path}: no line `{word}` where it should stand")
+    return value
+
+
 def read_head(lines, path):
-    """The numbers of a report's head, and no held input yet."""
+    """The numbers of a report's head, and no number of detections or held input yet."""
     first = next(lines, "").rstrip("\n")
     is_slow = FIRST_LINES.get(first)
     if is_slow is None:
         raise Bad(f"{path}: no report")
     numbers = {}
-    for word in HEADER if first != "atpg report 3" else UNASKED_HEADER:
-        found, _, value = next(lines, "").rstrip("\n").partition(" ")
-        if found != word or not re.fullmatch(r"\d+\.\d\d" if word in SHARES else r"\d+", value):
-            raise Bad(f"{path}: no line `{word}` where it should stand")
-        numbers[word] = value
-    return Head(numbers, [], is_slow)
+    for word in [*HEADER, "detect"] if first == "atpg report 4" else HEADER:
+        line = next(lines, "")
+        if word == SHARES[0] and (first == "atpg report 3" or first == "atpg report 4" and line.startswith("unasked ")):
+            numbers["unasked"], line = number_of(line, "unasked", path), next(lines, "")
+        numbers[word] = number_of(line, word, path)
+    return Head(numbers, [], [], is_slow)
 
 
 def fault_of(words, is_slow):
@@ -129,7 +138,9 @@ def read_report(path, take):
     with open(path, encoding="ascii") as lines:
         head = read_head(lines, path)
         for text in lines:
-            if text.startswith("hold "):
+            if text.startswith("times "):
+                head.times.append(int(text.removeprefix("times ")))
+            elif text.startswith("hold "):
                 _, name, bit = text.split()
                 head.held.append((name, int(bit)))
             else:

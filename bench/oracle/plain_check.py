@@ -2,15 +2,19 @@
 """What `atpg check` has to answer, by a plain program apart from the crates; and five good files of small designs, made without `run`.
 
     bench/oracle/plain_check.py PREFIX                     checks PREFIX.net, .scan, .stil, .cert and .rep
-    bench/oracle/plain_check.py --make NET PREFIX [--chains C] [--limit L] [--hold LIST] [--patterns N] [--seed S] [--refute] [--unasked LIST]
+    bench/oracle/plain_check.py --make NET PREFIX [--chains C] [--limit L] [--hold LIST] [--patterns N] [--seed S] [--refute] [--unasked LIST] [--detect N]
                                                     makes the files: patterns are drawn, those that are no last detector are left out,
                                                     and trees split inputs and cells in order; or, for redundant faults, refutations by
-                                                    the same cases. The faults of LIST, parted by commas, aren't asked for
+                                                    the same cases. The faults of LIST, parted by commas, aren't asked for. With --detect
+                                                    the report says how many patterns detect each fault, counted to N, and the patterns
+                                                    that are kept are the last N to detect some fault
 
 It ends with the status and prints the line that `check` has to print. It is for designs of up to some hundred gates.
 """
 
 import argparse
+import functools
+import operator
 import pathlib
 import random
 import re
@@ -107,7 +111,8 @@ def small(number):
 def read_report(text):
     """The head as a dictionary, the held inputs, and for each line the fault and what is said."""
     version, *lines = [line.decode("latin-1") for line in text.split(b"\n")]
-    counted = [*COUNTS, "unasked"] if version == "atpg report 3" else COUNTS
+    has_unasked = len(lines) > len(COUNTS) and lines[len(COUNTS)].startswith("unasked ")
+    counted = [*COUNTS, "unasked"] if has_unasked else COUNTS
     if len(lines) < len(counted) + 3 or lines[-1] != "":
         raise NotText
     head = {"unasked": 0}
@@ -122,21 +127,36 @@ def read_report(text):
         if match is None:
             raise NotText
         head[word] = 100 * small(match[1]) + int(match[2])
-    held, place = [], 2
+    head["detect"], head["times"], place = read_times(lines)
+    held = []
     while place < len(lines) - 1 and lines[place].startswith("hold "):
         match = re.fullmatch(rf"hold {NAME} ([01])", lines[place])
         if match is None:
             raise NotText
         held.append((match[1], int(match[2])))
         place += 1
-    if version != f"atpg report {version_of(head, held)}":
+    if has_unasked != (head["unasked"] > 0) or version != f"atpg report {version_of(head, held)}":
         raise NotText
     return head, held, [said_of(line) for line in lines[place:-1]]
 
 
+def read_times(lines):
+    """To how many detections are counted (0: they aren't), the numbers, and the place behind their lines, which stand behind the shares."""
+    most = re.fullmatch(rf"detect {NUMBER}", lines[2])
+    if most is None:
+        return 0, [], 2
+    times, place = [], 3
+    while match := re.fullmatch(rf"times {NUMBER}", lines[place]):
+        times.append(small(match[1]))
+        place += 1
+    if small(most[1]) < 2 or any(count > int(most[1]) for count in times):
+        raise NotText
+    return int(most[1]), times, place
+
+
 def version_of(head, held):
-    """The version that says no more than it needs: faults that weren't asked for, else held inputs."""
-    return 3 if head["unasked"] else 2 if held else 1
+    """The version that says no more than it needs: detections, else faults that weren't asked for, else held inputs."""
+    return 4 if head["detect"] else 3 if head["unasked"] else 2 if held else 1
 
 
 def said_of(line):
@@ -270,17 +290,30 @@ class Situation:
         self.representatives = sorted(set(self.first))
         self.last = [self.last_detector(fault) for fault in self.faults]
 
-    def last_detector(self, fault):
-        """The last pattern that detects a fault, and the first point of it."""
-        if not self.patterns:
-            return None
+    def differences(self, fault):
+        """For each point the patterns under which it differs, as a number with a bit for each."""
         netlist, ones = self.netlist, (1 << len(self.patterns)) - 1
         sources = {name: sum(pattern[name] << j for j, pattern in enumerate(self.patterns)) for name in netlist.inputs + netlist.cells}
         _, good = plain.settled(netlist, sources, ones)
         _, faulty = plain.settled(netlist, sources, ones, fault)
-        differ = [a ^ b for a, b in zip(good, faulty)]
+        return [a ^ b for a, b in zip(good, faulty)]
+
+    def last_detector(self, fault):
+        """The last pattern that detects a fault, and the first point of it."""
+        if not self.patterns:
+            return None
+        differ = self.differences(fault)
         last = max(word.bit_length() for word in differ) - 1
         return None if last < 0 else (last, next(k for k, word in enumerate(differ) if word >> last & 1))
+
+    def detectors(self, fault):
+        """The patterns that detect a fault, in order."""
+        found = functools.reduce(operator.or_, self.differences(fault), 0) if self.patterns else 0
+        return [place for place in range(len(self.patterns)) if found >> place & 1]
+
+    def times(self, most):
+        """How many patterns detect each fault, counted to most."""
+        return [min(most, len(self.detectors(fault))) for fault in self.faults]
 
     def detected(self, last):
         """What a report says of a fault with this last detector."""
@@ -294,8 +327,8 @@ class Situation:
         chain = self.chains[number]
         return "detected", pattern, 3 * longest + (pattern + 1) * (longest + 1) + len(chain) - 1 - chain.index(cell), f"SC__so{number}"
 
-    def head(self, said, limit):
-        """The numbers that follow of what is said."""
+    def head(self, said, limit, detect=0):
+        """The numbers that follow of what is said; with those of detections, counted to so many, unless that is 0."""
         netlist, faults = self.netlist, len(self.faults)
         longest = max((len(chain) for chain in self.chains), default=0)
         ends = [verdict[0] for _, verdict in said]
@@ -305,7 +338,8 @@ class Situation:
                 "cells": len(netlist.cells), "chains": len(self.chains), "faults": faults, "classes": len(self.representatives),
                 "patterns": patterns, "cycles": (patterns + 4) * longest + patterns, "limit": limit, "detected": detected,
                 "redundant": redundant, "aborted": aborted, "untested": redundant + aborted, "unasked": unasked,
-                "coverage": 10_000 * detected // faults, "efficiency": 10_000 * (detected + redundant) // faults}
+                "coverage": 10_000 * detected // faults, "efficiency": 10_000 * (detected + redundant) // faults,
+                "detect": detect, "times": self.times(detect) if detect else []}
 
 
 def false_fault(situation, said, evidence, limit):
@@ -390,7 +424,7 @@ def clauses(files, netlist, evidence, head, held, said):
     false = false_fault(situation, said, evidence, head["limit"]) or further_fault(situation, said, evidence)
     if false is not None:
         return 1, f"fault {false}"
-    if head != situation.head(said, head["limit"]) or not 1 <= head["limit"] <= MOST_LIMIT:
+    if head != situation.head(said, head["limit"], head["detect"]) or not 1 <= head["limit"] <= MOST_LIMIT:
         return 1, "totals differ"
     return 0, f"checked {len(situation.faults)} faults"
 
@@ -443,9 +477,9 @@ def cases_of(netlist, fault, held):
     return steps
 
 
-def kept_patterns(situation, unasked=()):
-    """The patterns that are the last to detect some fault that is asked for."""
-    kept = sorted({last[0] for fault, last in zip(situation.faults, situation.last) if last is not None and fault_text(fault) not in unasked})
+def kept_patterns(situation, unasked=(), detect=1):
+    """The patterns that are among the last so many to detect some fault that is asked for."""
+    kept = sorted({place for fault in situation.faults if fault_text(fault) not in unasked for place in situation.detectors(fault)[-detect:]})
     return [situation.patterns[k] for k in kept]
 
 
@@ -453,11 +487,12 @@ def percent(share):
     return f"{share // 100}.{share % 100:02}"
 
 
-def make(netlist, chains, limit, held, count, seed, refutes=False, unasked=()):
-    """The five texts; with refutations of redundant faults, or with trees alone; and nothing of the faults with these texts."""
+def make(netlist, chains, limit, held, count, seed, refutes=False, unasked=(), detect=0):
+    """The five texts; with refutations of redundant faults, or with trees alone; and nothing of the faults with these texts. Detections are counted to
+    2 or more, or not at all."""
     rng = random.Random(seed)
     drawn = [{name: held.get(name, rng.randrange(2)) for name in netlist.inputs + netlist.cells} for _ in range(count)]
-    situation = Situation(netlist, chains, held, kept_patterns(Situation(netlist, chains, held, drawn), unasked))
+    situation = Situation(netlist, chains, held, kept_patterns(Situation(netlist, chains, held, drawn), unasked, detect or 1))
     owing = {first for fault, first in zip(situation.faults, situation.first) if fault_text(fault) not in unasked}
     evidence, ends = [], {}
     for k in situation.representatives:
@@ -471,10 +506,11 @@ def make(netlist, chains, limit, held, count, seed, refutes=False, unasked=()):
     texts = [fault_text(fault) for fault in situation.faults]
     said = [(text, ("unasked",) if text in unasked else situation.detected(last) if last else (ends[first],))
             for text, last, first in zip(texts, situation.last, situation.first)]
-    head = situation.head(said, limit)
+    head = situation.head(said, limit, detect)
     lines = [f"atpg report {version_of(head, held)}"] + [f"{word} {head[word]}" for word in COUNTS]
     lines += [f"unasked {head['unasked']}"] * (head["unasked"] > 0)
     lines += [f"{word} {percent(head[word])}" for word in ("coverage", "efficiency")]
+    lines += [f"detect {detect}", *(f"times {count}" for count in head["times"])] if detect else []
     lines += [f"hold {name} {held[name]}" for name in netlist.inputs if name in held]
     lines += [" ".join(str(each) for each in (fault, *verdict)) for fault, verdict in said]
     join = lambda lines: "".join(line + "\n" for line in lines).encode()
@@ -502,6 +538,7 @@ def main():
     parser.add_argument("--seed", type=int, default=1)
     parser.add_argument("--refute", action="store_true")
     parser.add_argument("--unasked", default="")
+    parser.add_argument("--detect", type=int, default=0)
     arguments = parser.parse_args()
     if arguments.make is None:
         status, line = check(read_files(arguments.prefix))
@@ -511,7 +548,7 @@ def main():
     held = {name: int(bit) for name, bit in (item.split("=") for item in arguments.hold.split(",") if item)}
     chains = plain.chains_of(netlist.cells, arguments.chains)
     unasked = {text for text in arguments.unasked.split(",") if text}
-    files = make(netlist, chains, arguments.limit, held, arguments.patterns, arguments.seed, arguments.refute, unasked)
+    files = make(netlist, chains, arguments.limit, held, arguments.patterns, arguments.seed, arguments.refute, unasked, arguments.detect)
     for end, text in files.items():
         path_of(arguments.prefix, end).write_bytes(text)
 

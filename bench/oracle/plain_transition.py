@@ -239,10 +239,8 @@ class SlowLines(plain_check.Situation):
         self.launches = packed(netlist, patterns)
         self.last = [self.last_detector(fault) for fault in self.faults]
 
-    def last_detector(self, fault):
-        words = self.launches.detections(fault)
-        last = max(word.bit_length() for word in words) - 1
-        return None if last < 0 else (last, next(k for k, word in enumerate(words) if word >> last & 1))
+    def differences(self, fault):
+        return self.launches.detections(fault)
 
     def detected(self, last):
         pattern, point = last
@@ -258,8 +256,8 @@ class SlowLines(plain_check.Situation):
     def cycles(self):
         return (len(self.patterns) + 4) * max((len(chain) for chain in self.chains), default=0) + 2 * len(self.patterns)
 
-    def head(self, said, limit):
-        return super().head(said, limit) | {"cycles": self.cycles()}
+    def head(self, said, limit, detect=0):
+        return super().head(said, limit, detect) | {"cycles": self.cycles()}
 
 
 def cube_of(netlist, tests):

@@ -61,7 +61,7 @@ fn push_listed(netlist: &Netlist, name: &str, faults: &mut Vec<Fault>) -> Pushed
 }
 
 /// The faults of a text, parted by `, `, as far as the list of faults has them.
-fn faults_of(alloc: Global, netlist: &Netlist, text: &str) -> Result<Vec<Fault>, AllocError>
+pub fn faults_of(alloc: Global, netlist: &Netlist, text: &str) -> Result<Vec<Fault>, AllocError>
     ensures { IfOk result (λ v. All (λ (f : FaultOf). IsLineOf netlist.now f.line) v.items) }
 {
     let mut faults = Vec::new(alloc);

@@ -6,6 +6,7 @@ pub mod Whole
 pub mod Passed
 pub mod Left
 pub mod Asked
+pub mod TimesTold
 pub mod Held
 pub mod Passing
 pub mod Agreeing

@@ -45,7 +45,7 @@ use Rattle.statement.specs.declared.outcomes.Outcome.{Outcome}
 use Rattle.statement.specs.declared.outcomes.Outcome.TheVariants.{Detected, Redundant, Aborted, Unasked}
 use Rattle.report.specs.Reports.{Hold, Report}
 use Rattle.statement.specs.Reports.{Line, fault_line}
-use Rattle.report.specs.Texts.{counts_text, head, hold_line, report_text, share_line, unasked_line}
+use Rattle.report.specs.Texts.{counts_text, head, hold_line, report_text, share_line, times_text, unasked_line}
 use Rattle.run_report.specs.Outcomes.{Test, IsFirstOf, IsTrueAt, IsTrueOf, AreTrueLines}
 use Rattle.run_report.specs.Heads.{hold_at, holds_named}
 use Rattle.run_report.proofs.ClassLemmas.{equivalent}
@@ -200,20 +200,23 @@ named n sound = record {
 -- what stands above the held inputs and the lines
 abbrev above : Report → List ℕ
 above r =
-    head r.counts.unasked r.holds
+    head r.times.most r.counts.unasked r.holds
     ++ (counts_text r.counts
     ++ (unasked_line r.counts.unasked
     ++ (share_line (codes "coverage ") r.coverage
-    ++ share_line (codes "efficiency ") r.efficiency)))
+    ++ (share_line (codes "efficiency ") r.efficiency
+    ++ times_text r.times))))
 
-five : (a b c d e f : List ℕ) → a ++ (b ++ (c ++ (d ++ (e ++ f)))) ≡ (a ++ (b ++ (c ++ (d ++ e)))) ++ f
-five a b c d e f =
-    sym (append_assoc a (b ++ (c ++ (d ++ e))) f
-    ∙ ap (λ t. a ++ t) (append_assoc b (c ++ (d ++ e)) f ∙ ap (λ t. b ++ t) (append_assoc c (d ++ e) f ∙ ap (λ t. c ++ t) (append_assoc d e f))))
+six : (a b c d e f g : List ℕ) → a ++ (b ++ (c ++ (d ++ (e ++ (f ++ g))))) ≡ (a ++ (b ++ (c ++ (d ++ (e ++ f))))) ++ g
+six a b c d e f g =
+    sym (append_assoc a (b ++ (c ++ (d ++ (e ++ f)))) g
+    ∙ ap (λ t. a ++ t) (append_assoc b (c ++ (d ++ (e ++ f))) g
+    ∙ ap (λ t. b ++ t) (append_assoc c (d ++ (e ++ f)) g ∙ ap (λ t. c ++ t) (append_assoc d (e ++ f) g ∙ ap (λ t. d ++ t) (append_assoc e f g)))))
 
 ends_with : (r : Report) (holds : List Hold) → r.holds ≡ holds → report_text r ≡ above r ++ (flat_map hold_line holds ++ flat_map fault_line r.lines)
 ends_with r holds is =
-    five (head r.counts.unasked r.holds) (counts_text r.counts) (unasked_line r.counts.unasked) (share_line (codes "coverage ") r.coverage) (share_line (codes "efficiency ") r.efficiency)
+    six (head r.times.most r.counts.unasked r.holds) (counts_text r.counts) (unasked_line r.counts.unasked) (share_line (codes "coverage ") r.coverage)
+    (share_line (codes "efficiency ") r.efficiency) (times_text r.times)
     (flat_map hold_line r.holds ++ flat_map fault_line r.lines)
     ∙ ap (λ hs. above r ++ (flat_map hold_line hs ++ flat_map fault_line r.lines)) is
 
@@ -298,4 +301,5 @@ truth laws files c sound design good =
           subst (λ (g : Fault). HasEvidence n holds (limit_said c.said) c.evidence g line.outcome) (same_fault place f at w)
           (subst (λ (l : Line). HasEvidence n holds (limit_said c.said) c.evidence w.fault l.outcome) (same_line place line said w)
           (evident t w.fault w.representative (of_class place w) w.line.outcome w.line.pin w.is_true));
+      times = good.totals.head.times;
     }

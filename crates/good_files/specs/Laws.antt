@@ -1,6 +1,6 @@
 -- The laws of good files and of the check, each the contract of a function of its name.
-use Rattle.std.specs.Prelude.{ℕ, ◌≡◌, ◌≢◌, ◌↔◌, ◌⊎◌, ◌++◌, ⊤, List, Result, Ok, Err, codes, length}
-use Rattle.std.specs.List.{All, Contains}
+use Rattle.std.specs.Prelude.{ℕ, ◌≡◌, ◌≢◌, ◌<◌, ◌↔◌, ◌⊎◌, ◌++◌, ⊤, List, Result, Some, Ok, Err, codes, length}
+use Rattle.std.specs.List.{All, Contains, slice_get}
 use Rattle.statement.specs.declared.lines.Fault.{Fault}
 use Rattle.statement.specs.declared.outcomes.Outcome.TheVariants.{Unasked}
 use Rattle.statement.specs.Reports.{Line}
@@ -43,6 +43,12 @@ abbrev pub AllAskedAsBefore : Type 0
 AllAskedAsBefore =
     (files : FiveFiles) (c : Contents) → IsSound c.netlist → (good : AreGoodFiles files c) → All IsAsked c.said.lines
     → (class : ℕ) (f : Fault) → Represents good.tested.classes class f → Contains (faults_in c.evidence) f ↔ IsNeverDetected c.netlist good.tested.patterns f
+
+-- Where detections are counted, each fault has a number, and it is 0 exactly where no pattern of the test detects the fault, whatever its line says.
+abbrev pub TimesTellDetected : Type 0
+TimesTellDetected =
+    (files : FiveFiles) (c : Contents) → (good : AreGoodFiles files c) → 0 < c.said.times.most → (place : ℕ) (f : Fault) → slice_get (universe_of c.netlist) place ≡ Some f
+    → (times : ℕ) × (slice_get c.said.times.of place ≡ Some times) × ((times ≡ 0) ↔ IsNeverDetected c.netlist good.tested.patterns f)
 
 -- Where no clause is false, the files are good.
 abbrev pub CheckedIsGood : Type 0

@@ -23,6 +23,7 @@ use Rattle.statement.specs.declared.outcomes.Outcome.TheVariants.{Detected, Redu
 use Rattle.statement.specs.Reports.{Line}
 use Rattle.report.specs.Reports.{Report}
 use Rattle.report.specs.Texts.{report_text}
+use Rattle.run_report.specs.Times.{HasTimes}
 use Rattle.statement.specs.Statement.{FiveFiles, Statement}
 
 -- the same files, with the netlist and the test as a run writes them
@@ -44,7 +45,8 @@ module _ (n : Netlist) (holds : Holds) (limit : ℕ) (certified : List (Fault ×
   HasEvidence f Unasked = ⊤
 
 -- The first file, read, is the netlist, the second, read as a scanned one, is the netlist with scan inserted, and the third stands for the test: the
--- statement holds of these. The report is one of its form, the certificate is that of some evidence, and among it is that for each line.
+-- statement holds of these. The report is one of its form, the certificate is that of some evidence, and among it is that for each line. Where the
+-- report says how often faults are detected, so many of the patterns do.
 pub record RunTheorem (n : Netlist) (holds : Holds) (chains : List (List ℕ)) (limit : ℕ) (file : StilFile) (files : FiveFiles) : Type 0 where
   pub said : Report
   pub certified : List (Fault × Evidence)
@@ -59,3 +61,4 @@ pub record RunTheorem (n : Netlist) (holds : Holds) (chains : List (List ℕ)) (
   pub report_is : files.report ≡ report_text said
   pub evidence : (place : ℕ) (f : Fault) (line : Line) → slice_get (universe_of n) place ≡ Some f → slice_get said.lines place ≡ Some line
       → HasEvidence n holds limit certified f line.outcome
+  pub times : HasTimes n statement.patterns said.times

@@ -1,5 +1,5 @@
 //! The laws of good files and of the check: functions that do nothing, whose contracts are the laws.
-ghost use Rattle.good_files.specs.Laws.{AllAskedAsBefore, AnswersAgree, CheckedIsGood, GoodFilesPass, GoodFilesTellTheTruth, TreesAsBefore};
+ghost use Rattle.good_files.specs.Laws.{AllAskedAsBefore, AnswersAgree, CheckedIsGood, GoodFilesPass, GoodFilesTellTheTruth, TimesTellDetected, TreesAsBefore};
 
 use bench_text::canonical_text_is_read;
 use certificate::{first_line_tells, one_certificate};
@@ -48,6 +48,11 @@ pub fn all_asked_as_before()
 {
     detected_alike();
 }
+
+/// Where detections are counted, each fault has a number, which is 0 exactly where no pattern detects it.
+pub fn times_tell_detected()
+    ensures { TimesTellDetected }
+{}
 
 /// Files that pass the check are good, whoever made them.
 pub fn checked_is_good()

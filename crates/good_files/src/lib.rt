@@ -6,7 +6,8 @@
 //! (`Statement`), with how they are read and the evidence of each line (`RunTheorem`); what a check of five files answers, clause by clause
 //! (`IsChecked`); the laws: files of which no clause is false are good and have the run theorem; good files pass; two answers to the same files agree;
 //! a certificate that begins as those of trees did has trees alone, and its files all that is said of these (`TreeTheorem`); where no line says
-//! that its fault wasn't asked for, the certificate has the evidence of exactly the classes that no pattern detects.
+//! that its fault wasn't asked for, the certificate has the evidence of exactly the classes that no pattern detects; where detections are counted,
+//! each fault has a number, which is 0 exactly where no pattern detects it.
 #![tactic(auto)]
 
 mod answers;
@@ -15,5 +16,5 @@ mod laws;
 pub use answers::{CheckFault, Checked, Clause};
 pub use laws::{
     all_asked_as_before, answers_agree, checked_is_good, good_files_pass,
-    good_files_tell_the_truth, trees_as_before,
+    good_files_tell_the_truth, times_tell_detected, trees_as_before,
 };

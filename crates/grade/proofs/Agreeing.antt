@@ -1,5 +1,5 @@
 -- The grades of a run's own test agree with its report.
-use Rattle.std.proofs.Common.{◌≡◌, ◌≢◌, ℕ, ◌<◌, ◌≤◌, ◌⊎◌, Bool, not, List, length, Option, Some, None, slice_get, refl, sym, ◌∙◌, ap, subst, inl, inr, arith}
+use Rattle.std.proofs.Common.{◌≡◌, ℕ, ◌≤◌, Bool, List, Some, slice_get, refl, sym, ◌∙◌, ap, subst, inl, inr, arith}
 use Rattle.std.specs.List.{AllZip}
 use Rattle.std.proofs.lemmas.Bool.{cases_lt}
 use Rattle.statement.specs.declared.kinds.Tri.{Tri}
@@ -8,7 +8,6 @@ use Rattle.statement.specs.declared.lines.Fault.{Fault}
 use Rattle.statement.specs.declared.outcomes.Outcome.{Outcome}
 use Rattle.statement.specs.declared.outcomes.Outcome.TheVariants as outcome
 use Rattle.statement.specs.Faults.{universe_of}
-use Rattle.statement.specs.Patterns.{Holds}
 use Rattle.statement.specs.Reports.{Line}
 use Rattle.statement.specs.Runs.{Cycle, strobe_at, shown_at}
 use Rattle.statement.specs.Values.{known}

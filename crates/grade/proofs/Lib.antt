@@ -3,5 +3,9 @@ pub mod Told
 pub mod Batches
 pub mod Strobed
 pub mod Seen
+pub mod FirstGraded
+pub mod Keyed
+pub mod Spotted
+pub mod Graded
 pub mod Agreeing
 pub mod Spread

@@ -1,5 +1,5 @@
 -- On the vectors of patterns the strobes that are wrong in the three-valued run with a fault of the design are those of the points at which patterns detect it.
-use Rattle.std.proofs.Common.{◌≡◌, ◌≢◌, ℕ, suc, zero, ◌*◌, ◌<◌, ◌⊎◌, Bool, true, false, not, List, [], ◌∷◌, ◌++◌, map, length, get_or, replicate, Option, Some, None, slice_get, refl, sym, ◌∙◌, ap, subst, inl, inr, arith}
+use Rattle.std.proofs.Common.{◌≡◌, ℕ, suc, zero, ◌*◌, ◌⊎◌, Bool, true, false, not, List, [], ◌∷◌, ◌++◌, map, length, get_or, replicate, Option, Some, None, slice_get, refl, sym, ◌∙◌, ap, subst, inl, inr, arith}
 use Rattle.std.specs.List.{AllZip, zip}
 use Rattle.std.proofs.lemmas.Bool.{cases_lt}
 use Rattle.std.proofs.lemmas.List.{length-map}
@@ -16,7 +16,7 @@ use Rattle.netlist.specs.Conditions.{IsSound}
 use Rattle.netlist.proofs.Alike.{zip_append}
 use Rattle.statement.specs.Values.{bits, known}
 use Rattle.tri.specs.Settled.{tri_table}
-use Rattle.statement.specs.Tests.{cells_of, longest_of, Response, Responds, flush, IsStrobedAt}
+use Rattle.statement.specs.Tests.{cells_of, longest_of, Response, Responds, flush}
 use Rattle.statement.specs.Runs.{Cycle, Runs, strobe_at, shown_at}
 use Rattle.scan_insert.specs.Scanned.{AreChainsOf, scanned_of, sites_of}
 use Rattle.scan_play.specs.Passing.{IsWrong}
@@ -38,7 +38,7 @@ use Rattle.grade.specs.Patterns.{IsPatternGrade, IsSeenAt}
 use Rattle.grade.specs.declared.grade.Grade.{Grade}
 use Rattle.grade.specs.declared.grade.Grade.TheVariants.{Detected, Undetected, Unknown}
 use Rattle.grade.proofs.Lists.{same_some, within}
-use Rattle.grade.proofs.Strobed.{IsPlaced, flush_strobe, same_known, strobe_placed}
+use Rattle.grade.proofs.Strobed.{flush_strobe, same_known, strobe_placed}
 
 -- ---- bits
 

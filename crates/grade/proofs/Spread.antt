@@ -1,6 +1,7 @@
 -- The grades of all faults, by those of the classes' representatives.
 use Rattle.std.proofs.Common.{◌≡◌, ℕ, suc, zero, List, [], ◌∷◌, map, length, get_or, Some, None, slice_get, refl, sym, subst, arith}
-use Rattle.std.specs.List.{AllZip}
+use Rattle.std.specs.List.{All, AllZip}
+use Rattle.std.proofs.lemmas.Option.{slice_get-get_or}
 use Rattle.statement.specs.declared.lines.Fault.{Fault}
 use Rattle.statement.specs.Netlists.{Netlist}
 use Rattle.statement.specs.Runs.{Cycle}
@@ -74,3 +75,11 @@ grades_of scanned made faults universe cycles grades listed is_made are_all are_
     let at_scanned = subst (λ s. AreGrades s universe cycles grades) (sym is_made) are in
     let at_faults = subst (λ fs. AreGrades scanned fs cycles grades) (sym are_all) at_scanned in
     subst (AreGrades scanned faults cycles) (sym are_listed) at_faults
+
+-- the classes' first members are faults of the design
+pub lines_of_classes : FaultsHaveLines → (n : Netlist) → IsSound n → (classes : Classes) → AreClasses n classes → All (λ (f : Fault). IsLineOf n f.line) classes.representatives
+lines_of_classes lines n sound classes are k d l =
+    let first = are.first k l in
+    let f = get_or classes.representatives k d in
+    let at = first.representative f (slice_get-get_or classes.representatives k d l) in
+    lines n f sound (contains_at (universe_of n) first.place f at)

@@ -1,8 +1,8 @@
 -- Each strobe of a test's vectors is one of the flush, which is the same whatever is tested, or that of an observed point under a pattern.
-use Rattle.std.proofs.Common.{◌≡◌, ◌≢◌, ℕ, suc, zero, ◌+◌, ◌-◌, ◌*◌, ◌<◌, ◌≤◌, ◌⊎◌, Bool, true, false, not, List, [], ◌∷◌, ◌++◌, map, length, get_or, take, drop, replicate, reverse, Option, Some, slice_get, refl, sym, ◌∙◌, ap, subst, inl, inr, arith, length-append, length-take, length-drop}
+use Rattle.std.proofs.Common.{◌≡◌, ◌≢◌, ℕ, suc, zero, ◌+◌, ◌-◌, ◌*◌, ◌<◌, ◌≤◌, ◌⊎◌, Bool, true, false, not, List, [], ◌∷◌, ◌++◌, map, length, get_or, take, drop, replicate, reverse, Some, slice_get, refl, sym, ◌∙◌, ap, subst, inl, inr, arith, length-append, length-take, length-drop}
 use Rattle.std.specs.List.{AllPairs}
 use Rattle.std.proofs.lemmas.Bool.{cases_lt}
-use Rattle.std.proofs.lemmas.List.{append_assoc, append-nil, get_or_append_left, get_or-append_right, get_or-replicate, get_or_past, length-map, length-replicate, length-reverse}
+use Rattle.std.proofs.lemmas.List.{append_assoc, append-nil, get_or_append_left, get_or-append_right, get_or_past, length-map, length-replicate, length-reverse}
 use Rattle.std.proofs.lemmas.Option.{slice_get-get_or}
 use Rattle.std.proofs.Math.Nat.{suc-mul}
 use Rattle.statement.specs.declared.kinds.Tri.{Tri}
@@ -14,7 +14,7 @@ use Rattle.statement.specs.Patterns.{Holds, Pattern}
 use Rattle.netlist.specs.Conditions.{IsSound}
 use Rattle.netlist.proofs.Settling.{cells_distinct}
 use Rattle.statement.specs.Values.{known}
-use Rattle.statement.specs.Tests.{IsAt, IsUnloadedAt, cells_of, longest_of, by_chain, column, word_out, Response, flush, IsStrobedAt}
+use Rattle.statement.specs.Tests.{IsUnloadedAt, cells_of, longest_of, by_chain, column, word_out, Response, flush, IsStrobedAt}
 use Rattle.statement.specs.Runs.{Cycle, strobe_at}
 use Rattle.scan_insert.specs.Scanned.{AreChainsOf, cell_ids}
 use Rattle.scan_insert.proofs.Concrete.{are_dealt}

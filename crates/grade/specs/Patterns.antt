@@ -1,10 +1,15 @@
 -- What patterns tell of a stuck line.
-use Rattle.std.specs.Prelude.{ℕ, List, Some, None}
+use Rattle.std.specs.Prelude.{ℕ, ◌≡◌, List, Some, None}
 use Rattle.statement.specs.declared.lines.Fault.{Fault}
 use Rattle.statement.specs.declared.lines.Point.{Point}
 use Rattle.statement.specs.Netlists.{Netlist}
 use Rattle.statement.specs.Patterns.{IsDetectedAt, Pattern}
 use Rattle.statement.specs.Tests.{IsStrobedAt}
+use Rattle.netlist.specs.Designs.{IsDesign}
+use Rattle.statement.specs.Faults.{universe_of}
+use Rattle.fault_collapse.specs.Classes.{AreClasses}
+use Rattle.fault_collapse.specs.Numbers.{Classes}
+use Rattle.scan_insert.specs.Scanned.{AreChainsOf, Insertion, insertion_of}
 use Rattle.chain_test.specs.FirstWrong.{IsFirstPlace}
 use Rattle.grade.specs.declared.grade.Grade.{Grade}
 use Rattle.grade.specs.declared.grade.Grade.TheVariants.{Detected, Undetected, Unknown}
@@ -21,3 +26,11 @@ abbrev pub IsPatternGrade : Netlist → List (List ℕ) → List Pattern → Fau
 IsPatternGrade n chains patterns f (Detected c o) = IsFirstPlace (IsSeenAt n chains patterns f) (Some (c, o))
 IsPatternGrade n chains patterns f Undetected = IsFirstPlace (IsSeenAt n chains patterns f) None
 IsPatternGrade n chains patterns f Unknown = ⊥
+
+-- a design and its chains, what insertion makes of them, the design's faults, and their classes
+pub record IsDesignScanned (n : Netlist) (chains : List (List ℕ)) (scanned : Insertion) (faults : List Fault) (classes : Classes) : Type 0 where
+  pub is_design : IsDesign n
+  pub are_chains : AreChainsOf n chains
+  pub is_scanned : scanned ≡ insertion_of n chains
+  pub are_faults : faults ≡ universe_of n
+  pub are_classes : AreClasses n classes

@@ -1,3 +1,6 @@
 -- What the contracts of private functions cite.
 pub mod Told
 pub mod Spread
+pub mod Keys
+pub mod Spotting
+pub mod ByPatterns

@@ -110,8 +110,15 @@ fn batch_at(lines: &[Fault], start: usize) -> &[Fault]
     &lines[start..start + count]
 }
 
-/// What is passed once a batch has these grades.
-fn answered(grades: &[Grade]) -> Stage {
+/// What is passed before these lines are graded.
+pub(crate) fn begun(lines: &[Fault]) -> Stage {
+    Stage::Begun {
+        count: lines.len() as u64,
+    }
+}
+
+/// What is passed once some lines have these grades.
+pub(crate) fn answered(grades: &[Grade]) -> Stage {
     let detected = grades
         .iter()
         .filter(|grade| matches!(**grade, Grade::Detected(_, _)))
@@ -134,12 +141,7 @@ pub(crate) fn line_grades<G: Gate>(
     requires few { length vectors.now < 2 ^ 64 }
     ensures { IfOk result (λ grades. AllZip (λ f grade. IsGraded core.now f vectors.now grade) lines.now grades.items) }
 {
-    stage.at(
-        0,
-        Stage::Begun {
-            count: lines.len() as u64,
-        },
-    );
+    stage.at(0, begun(lines));
     let mut all = Vec::with_capacity(alloc, lines.len())?;
     for batch in 0..lines.len().div_ceil(64) {
         let own = batch_at(lines, batch * 64);

@@ -5,20 +5,28 @@ ghost use Rattle.netlist.specs.Lines.{signal_of};
 ghost use Rattle.statement.specs.declared.lines.Fault.{Fault as Stuck};
 ghost use Rattle.scan_play.specs.Cycles.{IsCycleOf};
 ghost use Rattle.chain_test.specs.Hardware.{at_site};
-ghost use Rattle.diagnose.specs.Candidates.{IsScannedDesign};
+ghost use Rattle.statement.specs.Tests.{vectors_in};
 ghost use Rattle.grade.specs.Grades.{AreGrades};
-ghost use Rattle.grade.specs.inner.Spread.{grade_at};
+ghost use Rattle.grade.specs.Patterns.{IsDesignScanned};
+ghost use Rattle.grade.specs.inner.ByPatterns.{AreTestCycles};
+ghost use Rattle.grade.specs.inner.Spread.{AreSiteGrades, grade_at};
 
+use crate::by_patterns::pattern_grades;
 use crate::grade::Grade;
-use crate::grading::line_grades;
+use crate::grading::{answered, begun, line_grades};
+use crate::laws::patterns_grade;
+use crate::test_patterns::test_patterns;
+use cubes::Pattern;
 use diagnose::equivalent_runs;
 use fault_collapse::Classes;
 use fault_universe::{FaultSet, faults_have_lines, faults_have_signals};
 use netlist::{Core, Fault, NoMemory};
 use outside::Gate;
-use scan_insert::Scanned;
+use scan_insert::laws::scanned_is_sound;
+use scan_insert::{Chains, Scanned};
 use scan_play::Vectors;
 use std::alloc::{AllocError, Global};
+use stil_write::StilFile;
 
 /// A fault of the design at its site.
 fn at_site(scanned: &Scanned, fault: Fault) -> Fault
@@ -64,28 +72,109 @@ fn spread(
     Ok(grades)
 }
 
-/// What the cycles tell of each fault of the design, in the order of the list of faults. One fault of each class is played, at its site.
-pub fn grades<G: Gate>(
+/// The grade of each class, by the patterns of the test.
+fn grades_by_patterns<G: Gate>(
     alloc: Global,
     stage: &G,
-    core: &Core,
+    design: &Core,
+    chains: &Chains,
     scanned: &Scanned,
     faults: &FaultSet,
     classes: &Classes,
     vectors: &Vectors,
+    patterns: Vec<Pattern>,
 ) -> Result<Vec<Grade>, NoMemory>
-    requires design { IsScannedDesign scanned.now faults.now classes.now }
+    requires design { IsDesignScanned design.now chains.now scanned.now faults.now classes.now }
+    requires test { AreTestCycles design.now chains.now vectors.now patterns.items }
+    ensures { IfOk result (λ grades. AreSiteGrades scanned.now vectors.now classes.now.representatives grades.items) }
+{
+    design.netlist().sound();
+    faults_have_lines();
+    patterns_grade();
+    scanned_is_sound();
+    let representatives = classes.representatives();
+    stage.at(0, begun(representatives));
+    let grades = pattern_grades(alloc, design, chains, patterns, representatives)?;
+    stage.at(0, answered(&grades));
+    Ok(grades)
+}
+
+/// The grade of each class, by play of its representative at its site.
+fn grades_by_play<G: Gate>(
+    alloc: Global,
+    stage: &G,
+    core: &Core,
+    scanned: &Scanned,
+    classes: &Classes,
+    vectors: &Vectors,
+) -> Result<Vec<Grade>, NoMemory>
     requires core { core.now ≡ scanned.now.netlist }
+    requires signals { All (λ (f : Stuck). signal_of f.line < length scanned.now.sites) classes.now.representatives }
+    requires fits { All (IsCycleOf core.now) vectors.now }
+    requires few { length vectors.now < 2 ^ 64 }
+    ensures { IfOk result (λ grades. AreSiteGrades scanned.now vectors.now classes.now.representatives grades.items) }
+{
+    let sites = sites_of(alloc, scanned, classes.representatives())?;
+    line_grades(alloc, stage, core, &sites, vectors)
+}
+
+/// The grade of each class: by the patterns of which the file is the test, if it is that of some, or else by play.
+fn class_grades<G: Gate>(
+    alloc: Global,
+    stage: &G,
+    design: &Core,
+    chains: &Chains,
+    core: &Core,
+    scanned: &Scanned,
+    faults: &FaultSet,
+    classes: &Classes,
+    file: &StilFile,
+    vectors: &Vectors,
+) -> Result<Vec<Grade>, NoMemory>
+    requires design { IsDesignScanned design.now chains.now scanned.now faults.now classes.now }
+    requires core { core.now ≡ scanned.now.netlist }
+    requires vectors { vectors.now ≡ vectors_in file.now }
+    requires fits { All (IsCycleOf core.now) vectors.now }
+    requires few { length vectors.now < 2 ^ 64 }
+    ensures { IfOk result (λ grades. AreSiteGrades scanned.now vectors.now classes.now.representatives grades.items) }
+{
+    design.netlist().sound();
+    faults_have_signals();
+    match test_patterns(alloc, design, chains, file)? {
+        Some(patterns) => grades_by_patterns(
+            alloc, stage, design, chains, scanned, faults, classes, vectors, patterns,
+        ),
+        None => grades_by_play(alloc, stage, core, scanned, classes, vectors),
+    }
+}
+
+/// What the cycles of a file tell of each fault of the design, in the order of the list of faults. One fault of each class is graded.
+pub fn grades<G: Gate>(
+    alloc: Global,
+    stage: &G,
+    design: &Core,
+    chains: &Chains,
+    core: &Core,
+    scanned: &Scanned,
+    faults: &FaultSet,
+    classes: &Classes,
+    file: &StilFile,
+    vectors: &Vectors,
+) -> Result<Vec<Grade>, NoMemory>
+    requires design { IsDesignScanned design.now chains.now scanned.now faults.now classes.now }
+    requires core { core.now ≡ scanned.now.netlist }
+    requires vectors { vectors.now ≡ vectors_in file.now }
     requires fits { All (IsCycleOf core.now) vectors.now }
     requires few { length vectors.now < 2 ^ 64 }
     ensures { IfOk result (λ grades. AreGrades scanned.now faults.now vectors.now grades.items) }
 {
+    design.netlist().sound();
     core.netlist().sound();
-    faults_have_signals();
     faults_have_lines();
     equivalent_runs();
-    let sites = sites_of(alloc, scanned, classes.representatives())?;
-    let by_class = line_grades(alloc, stage, core, &sites, vectors)?;
+    let by_class = class_grades(
+        alloc, stage, design, chains, core, scanned, faults, classes, file, vectors,
+    )?;
     let grades = spread(alloc, faults.len(), classes, &by_class)?;
     Ok(grades)
 }

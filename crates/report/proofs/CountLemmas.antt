@@ -1,19 +1,16 @@
 -- The counts of a report as a list, each behind its word.
-use Rattle.std.proofs.Common.{◌≡◌, ℕ, zero, suc, ◌+◌, ◌<◌, ◌≤◌, true, List, [], ◌∷◌, ◌++◌, get_or, length, set, take, take_all, Some, refl, sym, ◌∙◌, ap, ap₂, subst, codes, append_assoc, arith}
+use Rattle.std.proofs.Common.{◌≡◌, ℕ, ◌+◌, ◌<◌, ◌≤◌, List, [], ◌∷◌, ◌++◌, get_or, length, set, take, take_all, Some, refl, sym, ◌∙◌, ap, ap₂, subst, codes, append_assoc, arith}
 use Rattle.std.specs.List.{All, slice_get}
-use Rattle.std.proofs.lemmas.Bool.{false≢true}
 use Rattle.std.proofs.lemmas.List.{get_or-map, length-take-le, take_more_set}
 use Rattle.std.proofs.lemmas.List.Elements.{All-map}
 use Rattle.std.proofs.lemmas.List.FromFn.{fill_by_all}
 use Rattle.report.specs.declared.counts.ReportCounts.{ReportCounts}
 use Rattle.report.specs.Counts.{AreSmallCounts, worded}
 use Rattle.report.specs.Texts.{count_line, counts_text, unasked_line}
-use Rattle.report.specs.declared.versions.Version.{Version}
-use Rattle.report.specs.inner.Counts.{AreCountsIn, AreNumbers, IsUnaskedIn, count_words, counts_from, counts_lines, in_order, numbers_text, some_counts}
-use Rattle.report.specs.inner.Lines.{Begins, IsCount, NoneBegins}
-use Rattle.report.specs.inner.Versions.{is_third, some_unasked}
+use Rattle.report.specs.inner.Counts.{AreNumbers, CountsBegin, count_words, counts_from, counts_lines, in_order, numbers_text, some_counts}
+use Rattle.report.specs.inner.Lines.{Begins, IsCount, NoneBegins, SomeBegins}
 use Rattle.report.proofs.LineLemmas.{IsTold, next_valid}
-use Rattle.report.proofs.NumberLemmas.{count_told, counts_told, next_count_read, no_counts}
+use Rattle.report.proofs.NumberLemmas.{counts_told, next_count_read, no_counts, some_told}
 
 pub small_in_order : (c : ReportCounts) → AreSmallCounts c → All IsCount (in_order c)
 small_in_order c v = All-map IsCount (λ (p : List ℕ × ℕ). p.1) (worded c) v.0
@@ -32,49 +29,32 @@ numbers_of c v = (refl, small_in_order c v)
 numbers_told : IsTold AreNumbers numbers_text
 numbers_told ks ls r s v w e = counts_told count_words ks ls r s v.0 w.0 v.1 w.1 e
 
--- how many faults weren't asked for
-pub not_zero : (version : Version) (text after : List ℕ) (k : ℕ) → is_third version ≡ true → k ≡ 0 → Begins IsCount (count_line (codes "unasked ")) text k after
-    → NoneBegins (IsUnaskedIn version) unasked_line text
-not_zero version text after k third none is zero rest v r = false≢true (sym v.1 ∙ third)
-not_zero version text after k third none is (suc l) rest v r =
-    let same = (count_told (codes "unasked ") k (suc l) after rest is.0 v.0 (sym is.1 ∙ r)).0 in
-    omega arith
-
-unasked_told : (k l : ℕ) (r s : List ℕ) → IsCount k → IsCount l → some_unasked k ≡ some_unasked l → unasked_line k ++ r ≡ unasked_line l ++ s → (k ≡ l) × (r ≡ s)
-unasked_told zero zero r s v w t e = (refl, e)
-unasked_told zero (suc l) r s v w t e = absurd (false≢true t)
-unasked_told (suc k) zero r s v w t e = absurd (false≢true (sym t))
-unasked_told (suc k) (suc l) r s v w t e = count_told (codes "unasked ") (suc k) (suc l) r s v w e
-
 -- all counts
-pub all_counts_told : (c d : ReportCounts) (r s : List ℕ) → AreSmallCounts c → AreSmallCounts d → some_unasked c.unasked ≡ some_unasked d.unasked
-    → counts_lines c ++ r ≡ counts_lines d ++ s → (c ≡ d) × (r ≡ s)
-all_counts_told c d r s v w t e =
-    let first = numbers_told (in_order c) (in_order d) (unasked_line c.unasked ++ r) (unasked_line d.unasked ++ s) (numbers_of c v) (numbers_of d w)
-    (sym (append_assoc (counts_text c) (unasked_line c.unasked) r) ∙ (e ∙ append_assoc (counts_text d) (unasked_line d.unasked) s)) in
-    let last = unasked_told c.unasked d.unasked r s v.1 w.1 t first.1 in
+pub all_counts_told : (text : List ℕ) (c d : ReportCounts) (r s : List ℕ) → CountsBegin text c r → CountsBegin text d s → (c ≡ d) × (r ≡ s)
+all_counts_told text c d r s v w =
+    let first = numbers_told (in_order c) (in_order d) (unasked_line c.unasked ++ r) (unasked_line d.unasked ++ s) (numbers_of c v.0.0) (numbers_of d w.0.0)
+    (sym (append_assoc (counts_text c) (unasked_line c.unasked) r) ∙ (sym v.0.1 ∙ (w.0.1 ∙ append_assoc (counts_text d) (unasked_line d.unasked) s))) in
+    let last = some_told (codes "unasked ") c.unasked d.unasked r s v.0.0.1 w.0.0.1 v.1 w.1 first.1 in
     (ap₂ counts_from first.0 last.0, last.1)
 
-module _ (version : Version) (text : List ℕ) where
-  pub no_numbers : NoneBegins AreNumbers numbers_text text → NoneBegins (AreCountsIn version) counts_lines text
-  no_numbers none c r v e = none (in_order c) (unasked_line c.unasked ++ r) (numbers_of c v.0) (e ∙ append_assoc (counts_text c) (unasked_line c.unasked) r)
+module _ (text : List ℕ) where
+  pub no_numbers : NoneBegins AreNumbers numbers_text text → NoneBegins AreSmallCounts counts_lines text
+  no_numbers none c r v e = none (in_order c) (unasked_line c.unasked ++ r) (numbers_of c v) (e ∙ append_assoc (counts_text c) (unasked_line c.unasked) r)
 
   module _ (numbers rest : List ℕ) (read : Begins AreNumbers numbers_text text numbers rest) where
-    pub no_unasked : NoneBegins (IsUnaskedIn version) unasked_line rest → NoneBegins (AreCountsIn version) counts_lines text
-    no_unasked none c r v e =
-        let told = numbers_told numbers (in_order c) rest (unasked_line c.unasked ++ r) read.0 (numbers_of c v.0)
-        (sym read.1 ∙ (e ∙ append_assoc (counts_text c) (unasked_line c.unasked) r)) in
-        none c.unasked r (v.0.1, v.1) told.1
-
-    pub counts_found : (unasked : ℕ) (after : List ℕ) → Begins (IsUnaskedIn version) unasked_line rest unasked after → (c : ReportCounts) → c ≡ counts_from numbers unasked
-        → Begins (AreCountsIn version) counts_lines text c after
+    pub counts_found : (unasked : ℕ) (after : List ℕ) → SomeBegins (codes "unasked ") rest unasked after → (c : ReportCounts) → c ≡ counts_from numbers unasked
+        → CountsBegin text c after
     counts_found unasked after is c made =
         let these = counts_from_order numbers unasked read.0.0 in
-        let found : Begins (AreCountsIn version) counts_lines text (counts_from numbers unasked) after = (
-          (small_counts (counts_from numbers unasked) (subst (All IsCount) (sym these) read.0.1) is.0.0, is.0.1),
-          read.1 ∙ (ap₂ (λ ks t. numbers_text ks ++ t) (sym these) is.1 ∙ sym (append_assoc (counts_text (counts_from numbers unasked)) (unasked_line unasked) after)),
+        let found : CountsBegin text (counts_from numbers unasked) after = (
+          (
+            small_counts (counts_from numbers unasked) (subst (All IsCount) (sym these) read.0.1) is.0.0,
+            read.1 ∙ (ap₂ (λ ks t. numbers_text ks ++ t) (sym these) is.0.1
+                ∙ sym (append_assoc (counts_text (counts_from numbers unasked)) (unasked_line unasked) after)),
+          ),
+          is.1,
         ) in
-        subst (λ d. Begins (AreCountsIn version) counts_lines text d after) (sym made) found
+        subst (λ d. CountsBegin text d after) (sym made) found
 
 -- so many numbers are read, each behind its word
 module _ (numbers : List ℕ) (size : length numbers ≡ 14) (k : ℕ) (text rest : List ℕ) (read : text ≡ some_counts count_words (take k numbers) ++ rest)

@@ -6,6 +6,7 @@ pub mod LineLemmas
 pub mod NumberLemmas
 pub mod OutcomeLemmas
 pub mod TableLemmas
+pub mod TimesLemmas
 pub mod VersionLemmas
 pub mod WholeLemmas
 pub mod WriteLemmas

@@ -1,13 +1,13 @@
 -- Lines of counts and shares.
-use Rattle.std.proofs.Common.{◌≡◌, ◌≢◌, ℕ, ◌+◌, ◌*◌, ◌/◌, ◌%◌, ◌^◌, ◌<◌, List, [], ◌∷◌, ◌++◌, length, get_or, Some, refl, sym, ◌∙◌, ap, subst, codes, decimal, append_assoc, arith}
+use Rattle.std.proofs.Common.{◌≡◌, ◌≢◌, ℕ, zero, suc, ◌+◌, ◌*◌, ◌/◌, ◌%◌, ◌^◌, ◌<◌, List, [], ◌∷◌, ◌++◌, length, get_or, Some, refl, sym, ◌∙◌, ap, subst, codes, decimal, append_assoc, arith}
 use Rattle.std.specs.List.{All, slice_get}
 use Rattle.std.proofs.lemmas.Fmt.{decimal_digit, decimal_injective}
 use Rattle.std.proofs.lemmas.List.{append-nil}
 use Rattle.std.proofs.lemmas.List.Elements.{All-head, All-nil, All-tail}
 use Rattle.plain_text.proofs.Parts.{byte_inside, same_parts}
-use Rattle.report.specs.Texts.{count_line, hundredths, share_line}
+use Rattle.report.specs.Texts.{count_line, hundredths, share_line, some_line}
 use Rattle.report.specs.inner.Counts.{some_counts}
-use Rattle.report.specs.inner.Lines.{NoneBegins, IsCount, IsShare, count_end, share_end}
+use Rattle.report.specs.inner.Lines.{Begins, NoSome, NoneBegins, SomeBegins, IsCount, IsShare, count_end, share_end}
 use Rattle.report.proofs.ByteLemmas.{Above, above_append, above_cons, above_lacks, above_less, number_above}
 use Rattle.report.proofs.LineLemmas.{IsLined, IsTold, behind_told, line_told}
 
@@ -19,6 +19,25 @@ pub count_told : (word : List ℕ) → IsTold IsCount (count_line word)
 count_told word =
     behind_told IsCount word count_end
     (line_told IsCount decimal count_end count_lined (λ x y v w e. decimal_injective x y v w e))
+
+-- a line that stands only where its count isn't 0
+pub some_told : (word : List ℕ) (k l : ℕ) (r s : List ℕ) → IsCount k → IsCount l → (k ≡ 0 → NoSome word r) → (l ≡ 0 → NoSome word s)
+    → some_line word k ++ r ≡ some_line word l ++ s → (k ≡ l) × (r ≡ s)
+some_told word zero zero r s v w n m e = (refl, e)
+some_told word zero (suc l) r s v w n m e = absurd (n refl (suc l) s (omega arith, w) e)
+some_told word (suc k) zero r s v w n m e = absurd (m refl (suc k) r (omega arith, v) (sym e))
+some_told word (suc k) (suc l) r s v w n m e = count_told word (suc k) (suc l) r s v w e
+
+pub some_found : (word text rest : List ℕ) (k : ℕ) → 0 < k → Begins IsCount (count_line word) text k rest → SomeBegins word text k rest
+some_found word text rest zero some is = absurd (omega arith)
+some_found word text rest (suc k) some is = (is, λ none. absurd (omega arith))
+
+pub no_some : (word text : List ℕ) → NoneBegins IsCount (count_line word) text → SomeBegins word text 0 text
+no_some word text none = ((omega arith, refl), λ is k rest v e. none k rest v.1 e)
+
+pub only_zero : (word text after : List ℕ) (k : ℕ) → k ≡ 0 → Begins IsCount (count_line word) text k after → SomeBegins word text 0 text
+only_zero word text after k none is =
+    ((omega arith, refl), λ same l rest v e. let told = (count_told word k l after rest is.0 v.1 (sym is.1 ∙ e)).0 in omega arith)
 
 pub counts_told : (ws : List (List ℕ)) (cs ds r s : List ℕ) → length cs ≡ length ws → length ds ≡ length ws → All IsCount cs → All IsCount ds
     → some_counts ws cs ++ r ≡ some_counts ws ds ++ s → (cs ≡ ds) × (r ≡ s)

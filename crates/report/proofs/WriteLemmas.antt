@@ -43,9 +43,10 @@ next_counts_written ws cs k w c old out new p q o n =
     n ∙ (ap (λ t. t ++ count_line w c) o ∙ (append_assoc old (some_counts ws (take k cs)) (count_line w c)
     ∙ ap (λ t. old ++ t) (sym (next_count ws cs k w c p q) ∙ ap (λ i. some_counts ws (take i cs)) (sym one))))
 
--- seven parts written one behind the other
-pub seven_parts : (old a b c d e f g x y z u v w m : List ℕ) → x ≡ old ++ a → y ≡ x ++ b → z ≡ y ++ c → u ≡ z ++ d → v ≡ u ++ e → w ≡ v ++ f → m ≡ w ++ g
-    → m ≡ old ++ (a ++ (b ++ (c ++ (d ++ (e ++ (f ++ g))))))
-seven_parts old a b c d e f g x y z u v w m p q r s t k l =
-    let whole : m ≡ ((((((old ++ a) ++ b) ++ c) ++ d) ++ e) ++ f) ++ g = cc in
+-- eight parts written one behind the other
+pub eight_parts : (old a b c d e f g h x y z u v w m n : List ℕ)
+    → x ≡ old ++ a → y ≡ x ++ b → z ≡ y ++ c → u ≡ z ++ d → v ≡ u ++ e → w ≡ v ++ f → m ≡ w ++ g → n ≡ m ++ h
+    → n ≡ old ++ (a ++ (b ++ (c ++ (d ++ (e ++ (f ++ (g ++ h)))))))
+eight_parts old a b c d e f g h x y z u v w m n p q r s t k l i =
+    let whole : n ≡ (((((((old ++ a) ++ b) ++ c) ++ d) ++ e) ++ f) ++ g) ++ h = cc in
     whole ∙ simp append_assoc

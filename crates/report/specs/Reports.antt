@@ -1,5 +1,5 @@
 -- Reports: what is said of each fault, and the numbers above it.
-use Rattle.std.specs.Prelude.{ℕ, ◌≡◌, ◌<◌, ◌^◌, ◌/◌, ◌++◌, Bool, List, [], codes, decimal, length, IsTrue}
+use Rattle.std.specs.Prelude.{ℕ, ◌≡◌, ◌<◌, ◌≤◌, ◌^◌, ◌/◌, ◌++◌, ◌⊎◌, Bool, List, [], codes, decimal, length, IsTrue}
 use Rattle.std.specs.List.{All}
 use Rattle.statement.specs.Reports.{Line}
 use Rattle.statement.specs.Netlists.{is_name_byte}
@@ -14,11 +14,17 @@ pub record Hold : Type 0 where
   pub name : List ℕ
   pub bit : Bool
 
--- The counts, two shares in hundredths of a percent, the inputs that are held, and a line for each fault.
+-- How many patterns detect each fault, where no more than a most are counted. The most is 0 where nothing is counted.
+pub record Times : Type 0 where
+  pub most : ℕ
+  pub of : List ℕ
+
+-- The counts, two shares in hundredths of a percent, how often faults are detected, the inputs that are held, and a line for each fault.
 pub record Report : Type 0 where
   pub counts : ReportCounts
   pub coverage : ℕ
   pub efficiency : ℕ
+  pub times : Times
   pub holds : List Hold
   pub lines : List Line
 
@@ -60,10 +66,15 @@ pub record IsLine (l : Line) : Type 0 where
   pub fault : IsFaultText l.fault
   pub outcome : IsOutcome l.outcome l.pin
 
+-- Nothing is counted, or each number to one most, which is 2 or more.
+abbrev pub AreCounted : Times → Type 0
+AreCounted t = ((t.most ≡ 0) × (t.of ≡ [])) ⊎ ((1 < t.most) × (t.most < 2 ^ 64) × All (λ k. k ≤ t.most) t.of)
+
 -- what every report is
 pub record IsReport (r : Report) : Type 0 where
   pub counts : AreSmallCounts r.counts
   pub coverage : r.coverage / 100 < 2 ^ 64
   pub efficiency : r.efficiency / 100 < 2 ^ 64
+  pub times : AreCounted r.times
   pub holds : All (λ (h : Hold). IsBenchWord h.name) r.holds
   pub lines : All IsLine r.lines

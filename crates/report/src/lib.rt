@@ -1,7 +1,7 @@
 //! The report of a run: a verdict for each fault, and the numbers above; its text both ways.
 //!
-//! Gives: `Report`, `FaultLines`, `HoldLines`, `write_report`, `read_report`.
-//! Proved: `write_report`: a report's one text, in all three versions; `read_report` exactly, texts one to one with reports; the type keeps what every
+//! Gives: `Report`, `FaultLines`, `HoldLines`, `Times`, `write_report`, `read_report`.
+//! Proved: `write_report`: a report's one text, in all four versions; `read_report` exactly, texts one to one with reports; the type keeps what every
 //! report is.
 //! Tested: that it comes to these answers, by rows of `file_calls`.
 //! Neither: time.
@@ -16,6 +16,7 @@ mod lines;
 mod pieces;
 mod reading;
 mod reports;
+mod times;
 mod versions;
 mod writing;
 
@@ -27,4 +28,5 @@ pub use pieces::{behind, is_word};
 pub use reading::{ReportFault, read_report};
 pub use reports::Report;
 pub use statement::Outcome;
+pub use times::Times;
 pub use writing::{push_counts, push_faults, push_share, write_report};

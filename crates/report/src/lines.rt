@@ -3,7 +3,7 @@ ghost use Rattle.std.specs.Prelude.{◌≡◌, ◌≢◌, ◌<◌, ◌+◌, ◌/
 ghost use Rattle.report.specs.Reports.{IsLine, Hold};
 ghost use Rattle.report.specs.Texts.{count_line, hundredths, share_line, hold_line};
 ghost use Rattle.statement.specs.Reports.{fault_line};
-ghost use Rattle.report.specs.inner.Lines.{Begins, NoneBegins, IsCount, IsShare, IsHold, count_end, share_end, hold_words};
+ghost use Rattle.report.specs.inner.Lines.{Begins, NoneBegins, SomeBegins, IsCount, IsShare, IsHold, count_end, share_end, hold_words};
 
 use crate::fault_lines::FaultLine;
 use crate::fault_words::fault_in;
@@ -27,6 +27,19 @@ pub(crate) fn count<'a>(word: &[u8], text: &'a [u8]) -> Option<(u64, &'a [u8])>
     let after = behind(word, text)?;
     let (count, rest) = count_end(after)?;
     Some((count, rest))
+}
+
+/// The count behind this word, 0 where no line of it stands here that says another one, and what stands behind the line.
+pub(crate) fn some_count<'a>(word: &[u8], text: &'a [u8]) -> (u64, &'a [u8])
+    ensures { SomeBegins word.now text.now result.0 result.1.now }
+{
+    let Some((number, rest)) = count(word, text) else {
+        return (0, text);
+    };
+    if number == 0 {
+        return (0, text);
+    }
+    (number, rest)
 }
 
 fn digit(byte: u8) -> Option<u8>

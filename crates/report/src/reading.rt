@@ -1,19 +1,21 @@
 //! Reports from their text: line by line, each line as it is written.
-ghost use Rattle.std.specs.Prelude.{◌≡◌, ◌≢◌, ◌<◌, ◌++◌, List, IfOk, IsTrue, MatchOption};
+ghost use Rattle.std.specs.Prelude.{◌≡◌, ◌≢◌, ◌<◌, ◌++◌, List, IfOk, MatchOption};
 ghost use Rattle.std.specs.List.{All, flat_map};
 ghost use Rattle.report.specs.Reading.{IsReportRead};
-ghost use Rattle.report.specs.Reports.{Hold, Report as Kept, IsLine, IsReport};
+ghost use Rattle.report.specs.Counts.{AreSmallCounts};
+ghost use Rattle.report.specs.Reports.{Hold, Report as Kept, Times as Counted, IsLine, IsReport};
 ghost use Rattle.statement.specs.Reports.{Line, fault_line};
-ghost use Rattle.report.specs.Texts.{unasked_line, hold_line, report_text};
-ghost use Rattle.report.specs.inner.Counts.{AreCountsIn, AreNumbers, IsUnaskedIn, counts_lines, numbers_text};
-ghost use Rattle.report.specs.inner.Lines.{Begins, NoneBegins, IsHold};
-ghost use Rattle.report.specs.inner.Versions.{fits_holds};
+ghost use Rattle.report.specs.Texts.{hold_line, report_text};
+ghost use Rattle.report.specs.inner.Counts.{AreNumbers, CountsBegin, counts_lines, numbers_text};
+ghost use Rattle.report.specs.inner.Lines.{Begins, NoneBegins, TimesBegin, IsHold};
+ghost use Rattle.report.specs.inner.Tables.{AreTables, tables_text};
 
 use crate::counts::{COUNTS, ReportCounts, count_word};
 use crate::fault_lines::FaultLines;
 use crate::hold_lines::HoldLines;
-use crate::lines::{count, fault, hold, share};
+use crate::lines::{count, fault, hold, share, some_count};
 use crate::reports::Report;
+use crate::times::Times;
 use crate::versions::{Version, version_in};
 use std::alloc::{AllocError, Global};
 
@@ -37,31 +39,27 @@ fn numbers(text: &[u8]) -> Option<([u64; COUNTS], &[u8])>
     Some((numbers, rest))
 }
 
-/// How many faults weren't asked for, and what stands behind the line that says so; only a text of the third version has that line.
-fn unasked(version: Version, text: &[u8]) -> Option<(u64, &[u8])>
-    ensures { MatchOption result
-        (NoneBegins (IsUnaskedIn version) unasked_line text.now)
-        (λ p. Begins (IsUnaskedIn version) unasked_line text.now p.0 p.1.now) }
-{
-    if !version.is_third() {
-        return Some((0, text));
-    }
-    let (unasked, rest) = count(b"unasked ", text)?;
-    if unasked == 0 {
-        return None;
-    }
-    Some((unasked, rest))
-}
-
-/// The counts of a text of this version, and what stands behind them.
-fn counts(version: Version, text: &[u8]) -> Option<(ReportCounts, &[u8])>
-    ensures { MatchOption result
-        (NoneBegins (AreCountsIn version) counts_lines text.now)
-        (λ p. Begins (AreCountsIn version) counts_lines text.now p.0 p.1.now) }
+/// All counts, and what stands behind their lines.
+fn counts(text: &[u8]) -> Option<(ReportCounts, &[u8])>
+    ensures { MatchOption result (NoneBegins AreSmallCounts counts_lines text.now) (λ p. CountsBegin text.now p.0 p.1.now) }
 {
     let (numbers, behind_numbers) = numbers(text)?;
-    let (unasked, rest) = unasked(version, behind_numbers)?;
+    let (unasked, rest) = some_count(b"unasked ", behind_numbers);
     Some((ReportCounts::of(numbers, unasked), rest))
+}
+
+/// How often faults are detected, as lines say it, and what stands behind these.
+fn times<'a>(alloc: Global, text: &'a [u8]) -> Result<(Times, &'a [u8]), AllocError>
+    ensures { IfOk result (λ p. TimesBegin text.now p.0 p.1.now) }
+{
+    let (most, behind_most) = some_count(b"detect ", text);
+    let mut of = Vec::new(alloc);
+    let mut rest = behind_most;
+    'times: while let Some((number, after)) = count(b"times ", rest) {
+        of.push(number)?;
+        rest = after;
+    }
+    Ok((Times::new(most, of), rest))
 }
 
 /// All inputs that are held, and what stands behind their lines.
@@ -93,24 +91,29 @@ fn fault_lines(alloc: Global, text: &[u8]) -> Result<Option<FaultLines>, AllocEr
     Ok(Some(lines))
 }
 
-/// The inputs that are held, of which there are some or none as the version says, and the lines of faults.
+/// What lines say of faults and inputs, where the version is that of such a report.
 fn tables(
     alloc: Global,
     version: Version,
+    unasked: u64,
     text: &[u8],
-) -> Result<Option<(HoldLines, FaultLines)>, AllocError>
+) -> Result<Option<(Times, HoldLines, FaultLines)>, AllocError>
     ensures { IfOk result (λ o. MatchOption o
-        ((hs : List Hold) (ls : List Line) → All IsHold hs → All IsLine ls → IsTrue (fits_holds version hs) → text.now ≢ flat_map hold_line hs ++ flat_map fault_line ls)
-        (λ p. All IsHold p.0 × All IsLine p.1 × IsTrue (fits_holds version p.0) × (text.now ≡ flat_map hold_line p.0 ++ flat_map fault_line p.1))) }
+        ((ts : Counted) (hs : List Hold) (ls : List Line) → AreTables version unasked ts hs ls → text.now ≢ tables_text ts hs ls)
+        (λ p. AreTables version unasked p.0 p.1 p.2 × (text.now ≡ tables_text p.0 p.1 p.2))) }
 {
-    let (holds, rest) = holds(alloc, text)?;
-    if !version.fits(&holds) {
+    let (times, behind_times) = times(alloc, text)?;
+    let (holds, rest) = holds(alloc, behind_times)?;
+    if !times.are_counted() {
+        return Ok(None);
+    }
+    if !version.is_of(times.most(), unasked, &holds) {
         return Ok(None);
     }
     let Some(lines) = fault_lines(alloc, rest)? else {
         return Ok(None);
     };
-    Ok(Some((holds, lines)))
+    Ok(Some((times, holds, lines)))
 }
 
 fn report(alloc: Global, bytes: &[u8]) -> Result<Option<Report>, AllocError>
@@ -119,7 +122,7 @@ fn report(alloc: Global, bytes: &[u8]) -> Result<Option<Report>, AllocError>
     let Some((version, behind_head)) = version_in(bytes) else {
         return Ok(None);
     };
-    let Some((counts, behind_counts)) = counts(version, behind_head) else {
+    let Some((counts, behind_counts)) = counts(behind_head) else {
         return Ok(None);
     };
     let Some((coverage, behind_coverage)) = share(b"coverage ", behind_counts) else {
@@ -128,10 +131,10 @@ fn report(alloc: Global, bytes: &[u8]) -> Result<Option<Report>, AllocError>
     let Some((efficiency, behind_shares)) = share(b"efficiency ", behind_coverage) else {
         return Ok(None);
     };
-    let Some((holds, lines)) = tables(alloc, version, behind_shares)? else {
+    let Some((times, holds, lines)) = tables(alloc, version, counts.unasked, behind_shares)? else {
         return Ok(None);
     };
-    Ok(Some(Report::new(counts, coverage, efficiency, holds, lines)))
+    Ok(Some(Report::new(counts, coverage, efficiency, times, holds, lines)))
 }
 
 /// The report with this text; `NotReport` exactly where no report has it.

@@ -5,14 +5,16 @@ ghost use Rattle.report.specs.Reports.{IsReport};
 use crate::counts::ReportCounts;
 use crate::fault_lines::FaultLines;
 use crate::hold_lines::HoldLines;
+use crate::times::Times;
 use std::marker::Model;
 
-/// The counts, coverage and efficiency in hundredths of a percent, the inputs that are held, and a line for each fault.
+/// The counts, coverage and efficiency in hundredths of a percent, how often faults are detected, the inputs that are held, and a line for each fault.
 #[derive(Drop)]
 pub struct Report {
     counts: ReportCounts,
     coverage: u128,
     efficiency: u128,
+    times: Times,
     holds: HoldLines,
     lines: FaultLines,
 }
@@ -22,9 +24,9 @@ impl Model for Report {
 
     ghost Value = { Report };
 
-    ghost view = { λ r. record { counts = r.counts; coverage = r.coverage; efficiency = r.efficiency; holds = r.holds; lines = r.lines } };
+    ghost view = { λ r. record { counts = r.counts; coverage = r.coverage; efficiency = r.efficiency; times = r.times; holds = r.holds; lines = r.lines } };
 
-    ghost invariant = { λ r. IsReport (record { counts = r.counts; coverage = r.coverage; efficiency = r.efficiency; holds = r.holds; lines = r.lines }) };
+    ghost invariant = { λ r. IsReport (record { counts = r.counts; coverage = r.coverage; efficiency = r.efficiency; times = r.times; holds = r.holds; lines = r.lines }) };
 }
 
 impl Report {
@@ -32,16 +34,18 @@ impl Report {
         counts: ReportCounts,
         coverage: u128,
         efficiency: u128,
+        times: Times,
         holds: HoldLines,
         lines: FaultLines,
     ) -> Report
-        requires { IsReport (record { counts = counts; coverage = coverage; efficiency = efficiency; holds = holds; lines = lines }) }
-        ensures { result ≡ record { counts = counts; coverage = coverage; efficiency = efficiency; holds = holds; lines = lines } }
+        requires { IsReport (record { counts = counts; coverage = coverage; efficiency = efficiency; times = times; holds = holds; lines = lines }) }
+        ensures { result ≡ record { counts = counts; coverage = coverage; efficiency = efficiency; times = times; holds = holds; lines = lines } }
     {
         Report {
             counts,
             coverage,
             efficiency,
+            times,
             holds,
             lines,
         }
@@ -70,6 +74,12 @@ impl Report {
         ensures { result ≡ self.now.efficiency }
     {
         self.efficiency
+    }
+
+    pub fn times(&self) -> &Times
+        ensures { result.now ≡ self.now.times }
+    {
+        &self.times
     }
 
     pub fn holds(&self) -> &HoldLines

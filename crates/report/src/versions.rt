@@ -1,17 +1,18 @@
 //! The versions of a report's text, and the first line of each.
-ghost use Rattle.std.specs.Prelude.{◌≡◌, ◌≢◌, ◌++◌, ℕ, List, MatchOption};
+ghost use Rattle.std.specs.Prelude.{◌≡◌, ◌≢◌, ◌++◌, ◌↔◌, ℕ, List, IsTrue, MatchOption};
 ghost use Rattle.report.specs.declared.versions.Version.{Version as Kept};
-ghost use Rattle.report.specs.inner.Versions.{fits_holds, is_third, version_line, version_of};
+ghost use Rattle.report.specs.inner.Versions.{version_line, version_of};
 
 use crate::hold_lines::HoldLines;
 use crate::pieces::behind;
 
-/// The third is written where some fault wasn't asked for, else the second where an input is held.
+/// The fourth is written where detections are counted, else the third where some fault wasn't asked for, else the second where an input is held.
 #[derive(Clone, Copy, PartialEq, Eq)]
 pub(crate) enum Version {
     First,
     Second,
     Third,
+    Fourth,
 }
 
 impl Version {
@@ -23,33 +24,25 @@ impl Version {
             Version::First => b"atpg report 1\n",
             Version::Second => b"atpg report 2\n",
             Version::Third => b"atpg report 3\n",
+            Version::Fourth => b"atpg report 4\n",
         }
     }
 
-    /// Whether the text has a line for faults that weren't asked for.
-    pub(crate) fn is_third(self) -> bool
-        ensures { result ≡ is_third self }
+    /// Whether it is the version of such a report.
+    pub(crate) fn is_of(self, most: u64, unasked: u64, holds: &HoldLines) -> bool
+        ensures { IsTrue result ↔ self ≡ version_of most unasked holds.now }
     {
-        matches!(self, Version::Third)
-    }
-
-    /// Whether these inputs can be held in a text of this version.
-    pub(crate) fn fits(self, holds: &HoldLines) -> bool
-        ensures { result ≡ fits_holds self holds.now }
-    {
-        match self {
-            Version::First => holds.len() == 0,
-            Version::Second => holds.len() > 0,
-            Version::Third => true,
-        }
+        self == version_of(most, unasked, holds)
     }
 }
 
-/// The version of a report where so many faults weren't asked for and these inputs are held.
-pub(crate) fn version_of(unasked: u64, holds: &HoldLines) -> Version
-    ensures { result ≡ version_of unasked holds.now }
+/// The version of a report where detections are counted to this most, so many faults weren't asked for and these inputs are held.
+pub(crate) fn version_of(most: u64, unasked: u64, holds: &HoldLines) -> Version
+    ensures { result ≡ version_of most unasked holds.now }
 {
-    if unasked > 0 {
+    if most > 0 {
+        Version::Fourth
+    } else if unasked > 0 {
         Version::Third
     } else if holds.len() > 0 {
         Version::Second
@@ -68,6 +61,9 @@ pub(crate) fn version_in(text: &[u8]) -> Option<(Version, &[u8])>
     if let Some(rest) = behind(Version::Second.line(), text) {
         return Some((Version::Second, rest));
     }
-    let rest = behind(Version::Third.line(), text)?;
-    Some((Version::Third, rest))
+    if let Some(rest) = behind(Version::Third.line(), text) {
+        return Some((Version::Third, rest));
+    }
+    let rest = behind(Version::Fourth.line(), text)?;
+    Some((Version::Fourth, rest))
 }

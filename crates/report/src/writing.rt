@@ -1,13 +1,14 @@
 //! Reports as text.
 ghost use Rattle.std.specs.Prelude.{◌≡◌, ◌<◌, ◌≤◌, ◌^◌, ◌/◌, ◌++◌, decimal, IfOk, OnOk};
 ghost use Rattle.std.specs.List.{flat_map};
-ghost use Rattle.report.specs.Texts.{count_line, counts_text, unasked_line, hundredths, share_line, hold_line, head, report_text};
+ghost use Rattle.report.specs.Texts.{count_line, counts_text, some_line, times_text, hundredths, share_line, hold_line, head, report_text};
 ghost use Rattle.statement.specs.Reports.{outcome_text, fault_line};
 
 use crate::counts::{ReportCounts, count_word};
 use crate::fault_lines::FaultLines;
 use crate::hold_lines::HoldLines;
 use crate::reports::Report;
+use crate::times::Times;
 use crate::versions::version_of;
 use itoa::Buffer;
 use netlist::NoMemory;
@@ -134,19 +135,36 @@ pub fn push_counts(out: &mut Vec<u8>, counts: ReportCounts) -> Result<(), AllocE
 }
 
 /// `unasked 7`, where there is one.
-fn push_unasked(out: &mut Vec<u8>, unasked: u64) -> Result<(), AllocError>
-    ensures { OnOk result (out.new.items ≡ out.old.items ++ unasked_line unasked) }
+fn push_some(out: &mut Vec<u8>, word: &[u8], count: u64) -> Result<(), AllocError>
+    ensures { OnOk result (out.new.items ≡ out.old.items ++ some_line word.now count) }
 {
-    if unasked == 0 {
+    if count == 0 {
         return Ok(());
     }
-    push_count(out, b"unasked ", unasked)
+    push_count(out, word, count)
 }
 
-fn push_head(out: &mut Vec<u8>, unasked: u64, holds: &HoldLines) -> Result<(), AllocError>
-    ensures { OnOk result (out.new.items ≡ out.old.items ++ head unasked holds.now) }
+/// `detect 3`, and `times 2` for each fault, where detections are counted.
+fn push_times(out: &mut Vec<u8>, times: &Times) -> Result<(), AllocError>
+    ensures { OnOk result (out.new.items ≡ out.old.items ++ times_text times.now) }
 {
-    push(out, version_of(unasked, holds).line())
+    push_some(out, b"detect ", times.most())?;
+    let numbers = times.of();
+    for number in numbers {
+        push_count(out, b"times ", *number)?;
+    }
+    Ok(())
+}
+
+fn push_head(
+    out: &mut Vec<u8>,
+    most: u64,
+    unasked: u64,
+    holds: &HoldLines,
+) -> Result<(), AllocError>
+    ensures { OnOk result (out.new.items ≡ out.old.items ++ head most unasked holds.now) }
+{
+    push(out, version_of(most, unasked, holds).line())
 }
 
 fn push_report(out: &mut Vec<u8>, report: &Report) -> Result<(), AllocError>
@@ -154,11 +172,13 @@ fn push_report(out: &mut Vec<u8>, report: &Report) -> Result<(), AllocError>
 {
     report.sound();
     let counts = report.counts();
-    push_head(out, counts.unasked, report.holds())?;
+    let times = report.times();
+    push_head(out, times.most(), counts.unasked, report.holds())?;
     push_counts(out, counts)?;
-    push_unasked(out, counts.unasked)?;
+    push_some(out, b"unasked ", counts.unasked)?;
     push_share(out, b"coverage ", report.coverage())?;
     push_share(out, b"efficiency ", report.efficiency())?;
+    push_times(out, times)?;
     push_holds(out, report.holds())?;
     push_faults(out, report.lines())?;
     Ok(())

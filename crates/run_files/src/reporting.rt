@@ -9,12 +9,12 @@ ghost use Rattle.run_report.specs.Heads.{count_of, counts_of, one_if_detected, h
 ghost use Rattle.run_files.specs.inner.Reports.{IsReported};
 
 use netlist::{Holds, Netlist, NoMemory};
-use report::{FaultLines, Report};
+use report::{FaultLines, Report, Times};
 use run_report::{counts_of, hold_lines, share_of, tally_of};
 use scan_insert::Chains;
 use std::alloc::Global;
 
-/// The report of these lines, for so many faults, classes and patterns, with this backtrack limit.
+/// The report of these lines, for so many faults, classes and patterns, with this backtrack limit. How often a fault is detected isn't counted.
 pub(crate) fn report_of(
     alloc: Global,
     netlist: &Netlist,
@@ -47,5 +47,6 @@ pub(crate) fn report_of(
     counts.sound();
     let coverage = share_of(faults, tally.detected);
     let efficiency = share_of(faults, tally.detected + tally.redundant);
-    Ok(Report::new(counts, coverage, efficiency, held, lines))
+    let times = Times::none(alloc);
+    Ok(Report::new(counts, coverage, efficiency, times, held, lines))
 }

@@ -12,6 +12,7 @@ use Rattle.statement.specs.declared.outcomes.Outcome.TheVariants.{Detected, Redu
 use Rattle.statement.specs.Reports.{Line}
 use Rattle.report.specs.Reports.{Hold, Report}
 use Rattle.run_report.specs.Outcomes.{Test}
+use Rattle.run_report.specs.Times.{HasTimes}
 
 -- 1 for an outcome of the kind
 abbrev pub one_if_detected : Outcome → ℕ
@@ -79,6 +80,7 @@ pub record HasHead (t : Test) (classes : Classes) (r : Report) : Type 0 where
   pub counts : r.counts ≡ counts_of t.netlist t.chains (length (universe_of t.netlist)) (length classes.representatives) (length t.patterns) t.limit r.lines
   pub coverage : r.coverage ≡ share_of (length (universe_of t.netlist)) (count_of one_if_detected r.lines)
   pub efficiency : r.efficiency ≡ share_of (length (universe_of t.netlist)) (count_of one_if_detected r.lines + count_of one_if_redundant r.lines)
+  pub times : HasTimes t.netlist t.patterns r.times
 
 abbrev pub hold_at : Netlist → ℕ × Option Bool → List Hold
 hold_at n (x, None) = []

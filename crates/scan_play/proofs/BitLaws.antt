@@ -163,7 +163,7 @@ pub capture_alike : (chains : List (List ℕ)) (p : Pattern) (r r' : Response) �
 capture_alike [] p r r' = (refl, refl)
 capture_alike (chain ∷ chains) p r r' = (refl, refl)
 
-applied_alike : (n : Netlist) (holds : Holds) (chains : List (List ℕ)) (held held' : List Tri) (ps : List Pattern) (rs rs' : List Response) → length ps ≡ length rs → length ps ≡ length rs'
+pub applied_alike : (n : Netlist) (holds : Holds) (chains : List (List ℕ)) (held held' : List Tri) (ps : List Pattern) (rs rs' : List Response) → length ps ≡ length rs → length ps ≡ length rs'
     → AllZip SameDrive (applied n holds chains held (zip ps rs)) (applied n holds chains held' (zip ps rs'))
 applied_alike n holds chains held held' [] rs rs' e e' = load_alike n holds chains (replicate (length (cells_of chains)) false) held held'
 applied_alike n holds chains held held' (p ∷ ps) [] rs' e e' = absurd (omega (arith, e))
@@ -177,7 +177,7 @@ pub same_self : (cs : List Cycle) → AllZip SameDrive cs cs
 same_self [] = tt
 same_self (c ∷ cs) = ((refl, refl), same_self cs)
 
-vectors_alike : (n : Netlist) (holds : Holds) (chains : List (List ℕ)) (ps : List Pattern) (rs rs' : List Response) → length ps ≡ length rs → length ps ≡ length rs'
+pub vectors_alike : (n : Netlist) (holds : Holds) (chains : List (List ℕ)) (ps : List Pattern) (rs rs' : List Response) → length ps ≡ length rs → length ps ≡ length rs'
     → AllZip SameDrive (vectors n holds chains (zip ps rs)) (vectors n holds chains (zip ps rs'))
 vectors_alike n holds chains ps rs rs' e e' =
     let idle : List Tri = replicate (length (cells_of chains)) X in

@@ -5,8 +5,8 @@ ghost use Rattle.scan_insert.specs.Scanned.{insertion_of};
 ghost use Rattle.good_files.specs.ScanOff.{design_chains};
 ghost use Rattle.statement.specs.Tests.{vectors_in};
 ghost use Rattle.stil_vectors.specs.Fitting.{FitsNetlist};
-ghost use Rattle.diagnose.specs.Candidates.{IsScannedDesign};
 ghost use Rattle.grade.specs.Grades.{AreGrades};
+ghost use Rattle.grade.specs.Patterns.{IsDesignScanned};
 ghost use Rattle.commands.specs.Rows.{CommandRow};
 ghost use Rattle.commands.specs.Worked.{IsWorked};
 ghost use Rattle.commands.specs.World.{world};
@@ -24,32 +24,67 @@ use commands::{Ending, FileName, Product, Stop, Work, run_command};
 use fault_collapse::{Classes, collapse};
 use fault_universe::{FaultSet, faults_have_signals};
 use grade::{Grade, detected_fails, grades, undetected_passes};
-use netlist::NoMemory;
+use netlist::{Core, Netlist, NoMemory};
 use outside::{Gate, Shelf, Sink};
-use scan_insert::Scanned;
 use scan_insert::laws::scanned_is_sound;
+use scan_insert::{Chains, Scanned, stitch};
 use std::alloc::Global;
 use stil_vectors::fitting_cycles;
-use stil_write::StilFile;
 
-/// What the file, which fits, tells of each fault of a design.
+/// A core for the design.
+fn design_core(alloc: Global, netlist: &Netlist) -> Result<Core, NoMemory>
+    ensures { IfOk result (λ core. core ≡ netlist.now) }
+{
+    let copy = netlist.copy(alloc)?;
+    match Core::of(alloc, copy) {
+        Ok(core) => Ok(core),
+        Err(_) => Err(NoMemory),
+    }
+}
+
+/// The chains of the design, at most so many.
+fn chains_by(alloc: Global, netlist: &Netlist, asked: u32) -> Result<Chains, NoMemory>
+    requires design { IsDesign netlist.now }
+    requires some { 1 ≤ asked }
+    ensures { IfOk result (λ chains. chains ≡ design_chains netlist.now asked) }
+{
+    netlist.sound();
+    stitch(alloc, netlist.cells(), asked)
+}
+
+/// What the file of a trial, which fits, tells of each fault of the design.
 fn grades_by<G: Gate>(
     alloc: Global,
     stage: &G,
     scanned: &Scanned,
     faults: &FaultSet,
     classes: &Classes,
-    file: &StilFile,
+    trial: &ChainTrial,
+    asked: u32,
 ) -> Result<Vec<Grade>, NoMemory>
-    requires design { IsScannedDesign scanned.now faults.now classes.now }
-    requires fits { FitsNetlist file.now scanned.now.netlist }
-    ensures { IfOk result (λ grades. AreGrades scanned.now faults.now (vectors_in file.now) grades.items) }
+    requires some { 1 ≤ asked }
+    requires design { IsDesignScanned trial.now.netlist (design_chains trial.now.netlist asked) scanned.now faults.now classes.now }
+    requires fits { FitsNetlist trial.now.file scanned.now.netlist }
+    ensures { IfOk result (λ grades. AreGrades scanned.now faults.now (vectors_in trial.now.file) grades.items) }
 {
-    file.sound();
+    trial.file.sound();
     fitting_cycles();
+    let design = design_core(alloc, &trial.netlist)?;
+    let chains = chains_by(alloc, &trial.netlist, asked)?;
     let core = core_of(alloc, scanned)?;
-    let cycles = cycles_of(alloc, file)?;
-    grades(alloc, stage, &core, scanned, faults, classes, &cycles)
+    let cycles = cycles_of(alloc, &trial.file)?;
+    grades(
+        alloc,
+        stage,
+        &design,
+        &chains,
+        &core,
+        scanned,
+        faults,
+        classes,
+        &trial.file,
+        &cycles,
+    )
 }
 
 /// What is written and printed of a trial whose file fits.
@@ -75,7 +110,7 @@ fn texts_of<G: Gate>(
     undetected_passes();
     let faults = faults_of(alloc, &trial.netlist)?;
     let classes = collapse(alloc, &trial.netlist, &faults)?;
-    let grades = grades_by(alloc, stage, scanned, &faults, &classes, &trial.file)?;
+    let grades = grades_by(alloc, stage, scanned, &faults, &classes, trial, asked)?;
     let made = grade_texts(alloc, &trial.netlist, scanned.netlist(), &faults, &grades)?;
     Ok(made)
 }

@@ -1,7 +1,7 @@
 -- Cubes, patterns and hits of a batch.
 use Rattle.std.proofs.Common.{zero, suc, ◌≡◌, ◌≢◌, true≢false, inl, inr, ℕ, ◌<◌, List, [], ◌∷◌, get_or, refl, sym, ◌∙◌, ap, subst, arith}
 use Rattle.std.specs.List.{All, AllPairs}
-use Rattle.std.specs.Prelude.{true, false, Bool, Result, Ok, Err, Option, Some, None, IfNone}
+use Rattle.std.specs.Prelude.{true, false, Bool, Result, Ok, Err, Option, Some, None, IfNone, IsTrue}
 use Rattle.std.specs.Result.{OnOk}
 use Rattle.std.proofs.lemmas.List.Elements.{All-cons, All-head, All-tail}
 use Rattle.std.proofs.lemmas.List.Kept.{AllPairs-cons}
@@ -26,6 +26,9 @@ use Rattle.list_core.specs.States.{MaySettle}
 use Rattle.list_core.specs.Subjects.{Subject, RepresentsIn, HaveLines}
 use Rattle.list_core.specs.Batches.{IsTrueHit, IsTrueBatch}
 use Rattle.shared_list.specs.Tally.{Tally}
+use Rattle.worker.specs.Working.{MaySearch}
+use Rattle.worker.specs.declared.outcomes.Outcome.{Outcome}
+use Rattle.worker.specs.inner.Outcomes.{IsOutcome}
 use Rattle.shared_list.specs.Outcomes.{IsNone}
 
 -- cubes of one netlist have the same widths
@@ -48,7 +51,7 @@ lines_of_left j left lines reps k d lt =
 
 -- ---- hits of the classes that were left
 
-none_of : {X : Type 0} (P : X → Type 0) → All P []
+pub none_of : {X : Type 0} (P : X → Type 0) → All P []
 none_of P k d lt = absurd (omega (arith, lt))
 
 pairs_head : {X : Type 0} (R : X → X → Type 0) (x : X) (xs : List X) → AllPairs R (x ∷ xs) → All (R x) xs
@@ -105,37 +108,40 @@ true_batch j ps left hits are reps rising h = record {
 
 -- ---- what a search found may settle the claim
 
-shows_for : (j : Subject) (f g : Fault) (n : Netlist) (holds : Holds) (e : Evidence) → f ≡ g → n ≡ j.netlist → holds ≡ j.holds
-    → Shows f n holds e → Shows g j.netlist j.holds e
-shows_for j f g n holds e ef en eh shows =
-    let P : Holds → Type 0 = λ k. Shows g j.netlist k e in
-    let Q : Netlist → Type 0 = λ m. Shows g m holds e in
-    let R : Fault → Type 0 = λ h. Shows h n holds e in
-    subst P eh (subst Q en (subst R ef shows))
+pub closed_settles : (j : Subject) (f : Fault) (t : List Node) → HasEvidence f j.netlist j.holds j.limit (Closed t) → MaySettle j f (Tree t)
+closed_settles j f t h = record { shows = h.0; closed = λ some. absurd (omega (arith, some, h.1)); kind = tt }
 
-pub closed_settles : (j : Subject) (f g : Fault) (n : Netlist) (holds : Holds) (limit : ℕ) (found : Found) (t : List Node) → HasEvidence f n holds limit found → found ≡ Closed t
-    → f ≡ g → n ≡ j.netlist → holds ≡ j.holds → MaySettle j g (Tree t)
-closed_settles j f g n holds limit found t h e ef en eh =
-    let ev = (let P : Found → Type 0 = λ x. HasEvidence f n holds limit x in subst P e h) in
-    record { shows = shows_for j f g n holds (Tree t) ef en eh ev.0; closed = λ some. absurd (omega (arith, some, ev.1)); kind = tt }
+pub partial_settles : (j : Subject) (f : Fault) (t : List Node) → HasEvidence f j.netlist j.holds j.limit (Partial t) → MaySettle j f (Tree t)
+partial_settles j f t h = record { shows = h.0; closed = λ some. h.1; kind = tt }
 
-pub partial_settles : (j : Subject) (f g : Fault) (n : Netlist) (holds : Holds) (limit : ℕ) (found : Found) (t : List Node) → HasEvidence f n holds limit found → found ≡ Partial t
-    → f ≡ g → n ≡ j.netlist → holds ≡ j.holds → limit ≡ j.limit → MaySettle j g (Tree t)
-partial_settles j f g n holds limit found t h e ef en eh el =
-    let ev = (let P : Found → Type 0 = λ x. HasEvidence f n holds limit x in subst P e h) in
-    record { shows = shows_for j f g n holds (Tree t) ef en eh ev.0; closed = λ some. ev.1 ∙ el; kind = tt }
+pub refuted_settles : (j : Subject) (f : Fault) (steps : _) → HasEvidence f j.netlist j.holds j.limit (Refuted steps) → MayAnswer j.refutes (Refuted steps) → MaySettle j f (Refutation steps)
+refuted_settles j f steps h may = record { shows = h; closed = λ some. absurd (omega (arith, some)); kind = may }
 
-pub refuted_settles : (j : Subject) (f g : Fault) (n : Netlist) (holds : Holds) (limit : ℕ) (refutes : Bool) (found : Found) (steps : _)
-    → HasEvidence f n holds limit found → MayAnswer refutes found → found ≡ Refuted steps
-    → f ≡ g → n ≡ j.netlist → holds ≡ j.holds → refutes ≡ j.refutes → MaySettle j g (Refutation steps)
-refuted_settles j f g n holds limit refutes found steps h may e ef en eh er =
-    let ev = (let P : Found → Type 0 = λ x. HasEvidence f n holds limit x in subst P e h) in
-    let kind = (let P : Bool → Type 0 = λ b. MayAnswer b (Refuted steps) in subst P er (subst (MayAnswer refutes) e may)) in
-    record { shows = shows_for j f g n holds (Refutation steps) ef en eh ev; closed = λ some. absurd (omega (arith, some)); kind = kind }
+-- ---- the netlist, the held inputs and the limit at hand are those of the list
 
-pub test_is_cube : (f : Fault) (n : Netlist) (holds : Holds) (limit : ℕ) (found : Found) (c : Cube) (o : Point) → HasEvidence f n holds limit found → found ≡ Test c o → IsCubeOf n holds c
-test_is_cube f n holds limit found c o h e =
-    let ev = (let P : Found → Type 0 = λ x. HasEvidence f n holds limit x in subst P e h) in ev.is_cube
+pub line_there : (j : Subject) (n : Netlist) (class : ℕ) (f : Fault) → n ≡ j.netlist → HaveLines j → RepresentsIn j class f → IsLineOf n f.line
+line_there j n class f e lines rep =
+    let faults : List Fault = j.faults in
+    let P : Fault → Type 0 = λ x. IsLineOf j.netlist x.line in
+    let Q : Netlist → Type 0 = λ m. IsLineOf m f.line in
+    subst Q (sym e) (subst P (get_or_from_slice_get faults class f f rep) (lines class f (slice_get_within faults class f rep)))
+
+evidence_there : (j : Subject) (f g : Fault) (n : Netlist) (holds : Holds) (limit : ℕ) (found : Found) → f ≡ g → n ≡ j.netlist → holds ≡ j.holds → limit ≡ j.limit
+    → HasEvidence f n holds limit found → HasEvidence g j.netlist j.holds j.limit found
+evidence_there j f g n holds limit found ef en eh el h =
+    let P : ℕ → Type 0 = λ k. HasEvidence g j.netlist j.holds k found in
+    let Q : Holds → Type 0 = λ k. HasEvidence g j.netlist k limit found in
+    let R : Netlist → Type 0 = λ m. HasEvidence g m holds limit found in
+    let S : Fault → Type 0 = λ x. HasEvidence x n holds limit found in
+    subst P el (subst Q eh (subst R en (subst S ef h)))
+
+pub outcome_there : (j : Subject) (f g : Fault) (n : Netlist) (holds : Holds) (limit : ℕ) (refutes : Bool) (found : Found) (outcome : Outcome)
+    → f ≡ g → limit ≡ j.limit → MaySearch j n holds refutes → HasEvidence f n holds limit found → MayAnswer refutes found
+    → ((k : Subject) (h : Fault) → HasEvidence h k.netlist k.holds k.limit found → MayAnswer k.refutes found → IsOutcome k h outcome)
+    → IsOutcome j g outcome
+outcome_there j f g n holds limit refutes found outcome ef el may evidence kind is =
+    let P : Bool → Type 0 = λ b. MayAnswer b found in
+    is j g (evidence_there j f g n holds limit found ef may.0 may.3 el evidence) (subst P may.5 kind)
 
 -- ---- one pattern with one hit
 
@@ -160,13 +166,6 @@ single_true j f c p o class rep test agrees is =
       once = λ i k d less lt. absurd (omega (arith, less, lt));
     }
 
--- the netlist and the held inputs at hand are those of the list
-pub cubes_there : (j : Subject) (n : Netlist) (holds : Holds) (cubes : List Cube) → n ≡ j.netlist → holds ≡ j.holds → All (IsCubeOf n holds) cubes → All (IsCubeOf j.netlist j.holds) cubes
-cubes_there j n holds cubes e f are =
-    let P : Netlist → Type 0 = λ m. All (IsCubeOf m j.holds) cubes in
-    let Q : Holds → Type 0 = λ k. All (IsCubeOf n k) cubes in
-    subst P e (subst Q f are)
-
 -- a share that is told that there is no class has ended
 pub ended_by_none : (classes : ℕ) (before after : Tally) → IsNone classes before after → after.ended ≡ true
 ended_by_none classes before after (inl had) = ap (λ (t : Tally). t.ended) had.same ∙ had.ended
@@ -187,6 +186,10 @@ whether_none None p = p
 whether_none (Some x) p = tt
 
 -- what is told only where there is a goal
-pub never_told : {T : Type 0} (P : Type 0) (o : Option T) (b : Bool) → IfNone o (b ≡ false) → b ≡ true → IfNone o P
-never_told P None b none is = absurd (true≢false (sym is ∙ none))
-never_told P (Some x) b none is = tt
+pub told_of : {T : Type 0} (P : Type 0) (o : Option T) (b : Bool) → IfNone o (b ≡ false) → IfNone o (IsTrue b → P)
+told_of P None b none = λ is. absurd (true≢false (sym is ∙ none))
+told_of P (Some x) b none = tt
+
+pub told_at : {T : Type 0} (P : Type 0) (o : Option T) (b : Bool) → IfNone o (IsTrue b → P) → b ≡ true → IfNone o P
+told_at P None b told is = told is
+told_at P (Some x) b told is = tt

@@ -49,6 +49,30 @@ fn batch_of<J: About>(
     Ok(Batch::new(patterns, hits))
 }
 
+/// The cubes as a batch, merged and filled, with what it hits of the classes that are left; and how many of these it leaves.
+fn batch_for<J: About, T: Ledger, S: Ledger, P: Ledger, U: Ledger, N: Rng, R: Wait>(
+    rt: &R,
+    alloc: Global,
+    shared: &Shared<J, T, S, P, U>,
+    simulator: &mut Simulator<'_>,
+    rng: &mut N,
+    cubes: &[Cube],
+) -> Result<(Batch, u64), NoMemory>
+    requires simulator { simulator.old ≡ J.subject.netlist }
+    requires lines { HaveLines J.subject }
+    requires wide { All (IsCubeOf J.subject.netlist J.subject.holds) cubes.now }
+    requires few { length cubes.now ≤ 64 }
+    ensures few { IfOk result (λ r. length r.0.patterns ≤ length cubes.now) }
+    ensures true_batch { IfOk result (λ r. IsTrueBatch J.subject r.0) }
+    ensures simulator { simulator.new ≡ simulator.old }
+{
+    let patterns = patterns_of::<J, N>(alloc, cubes, rng)?;
+    let left = shared.undetected(rt, alloc)?;
+    let batch = batch_of(alloc, simulator, patterns, &left)?;
+    let undetected = left.classes().len().saturating_sub(batch.hits().len()) as u64;
+    Ok((batch, undetected))
+}
+
 /// Publishes the cubes, merged and filled, with what they hit of the classes that are left.
 pub(crate) fn publish_cubes<
     J: About,
@@ -79,10 +103,7 @@ pub(crate) fn publish_cubes<
     ensures ended { share.new.ended ≡ share.old.ended }
     ensures simulator { simulator.new ≡ simulator.old }
 {
-    let patterns = patterns_of::<J, N>(alloc, cubes, rng)?;
-    let left = shared.undetected(rt, alloc)?;
-    let batch = batch_of(alloc, simulator, patterns, &left)?;
-    let undetected = left.classes().len().saturating_sub(batch.hits().len()) as u64;
+    let (batch, undetected) = batch_for(rt, alloc, shared, simulator, rng, cubes)?;
     if let Err((NoMemory, _)) = shared.publish(rt, share, batch) {
         return Err(NoMemory);
     }

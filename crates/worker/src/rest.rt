@@ -1,17 +1,19 @@
 //! What the caller works once the workers have ended.
-ghost use Rattle.std.specs.Prelude.{[], ◌∷◌, ◌≡◌, ℕ, ◌+◌, ◌<◌, ◌≤◌, ◌^◌, false, length, IsTrue, IfOk, OnOk};
+ghost use Rattle.std.specs.Prelude.{[], ◌∷◌, ◌≡◌, ◌+◌, ◌<◌, ◌≤◌, ◌^◌, length, IsTrue, IfOk, OnOk};
 ghost use Rattle.std.specs.Option.{option_copied};
 ghost use Rattle.redundancy_cert.specs.TestCubes.{IsTestCube};
 ghost use Rattle.list_core.specs.Subjects.{HaveLines, class_count};
 ghost use Rattle.list_core.specs.Batches.{IsTrueBatch};
-ghost use Rattle.list_core.specs.Verdicts.{verdict_at, is_open};
-ghost use Rattle.list_core.specs.States.{IsTrueList};
+ghost use Rattle.list_core.specs.States.{IsTrueList, MaySettle};
 ghost use Rattle.netlist.specs.Holds.{AreHoldsOf};
-ghost use Rattle.worker.specs.Working.{IsDone, NoneOpen};
+ghost use Rattle.worker.specs.Working.{IsDone, MaySearch, NoneOpen};
+ghost use Rattle.worker.specs.inner.Closing.{IsClosed};
+ghost use Rattle.worker.specs.inner.Outcomes.{IsOutcome};
 
-use crate::adding::add;
+use crate::adding::alone;
+use crate::outcomes::{Outcome, outcome_of};
 use cubes::{Cube, fill};
-use evidence::{Engine, Evidence, Found};
+use evidence::{Engine, Evidence};
 use list_core::{About, Claim, FaultList, Goal};
 use netlist::{Core, Holds, NoMemory, Point};
 use rand_core::Rng;
@@ -33,11 +35,9 @@ fn single<J: About, N: Rng>(
     ensures hits { IfOk result (λ b. b.hits ≡ record { class = claim.now.class; pattern = 0; point = point } ∷ []) }
 {
     let pattern = fill(alloc, cube, rng)?;
-    let mut patterns = Vec::new(alloc);
-    add(&mut patterns, pattern)?;
-    let mut hits = Vec::new(alloc);
-    add(
-        &mut hits,
+    let patterns = alone(alloc, pattern)?;
+    let hits = alone(
+        alloc,
         Hit {
             class: claim.class(),
             pattern: 0,
@@ -45,6 +45,60 @@ fn single<J: About, N: Rng>(
         },
     )?;
     Ok(Batch::new(patterns, hits))
+}
+
+/// Publishes the cube, filled, with its hit of the claim's class.
+fn publish_single<J: About, N: Rng>(
+    alloc: Global,
+    list: &mut FaultList<J>,
+    worker: u32,
+    claim: &Claim<J>,
+    cube: &Cube,
+    point: Point,
+    rng: &mut N,
+) -> Result<(), NoMemory>
+    requires test { IsTestCube claim.now.fault J.subject.netlist J.subject.holds cube.now point }
+    requires few { length list.old.patterns + 1 < 2 ^ 32 }
+    ensures { OnOk result (IsClosed claim.now.class 0 list.old list.new) }
+{
+    list.true_list();
+    let batch = single(alloc, claim, cube, point, rng)?;
+    list.reserve(1, 2)?;
+    list.publish(worker, batch);
+    Ok(())
+}
+
+/// Hands the claim back with its evidence.
+fn settle_one<J: About>(list: &mut FaultList<J>, claim: Claim<J>, evidence: Evidence)
+    requires { MaySettle J.subject claim.fault evidence }
+    ensures { IsClosed claim.class 0 list.old list.new }
+{
+    list.true_list();
+    let _ = list.settle(claim, evidence);
+}
+
+/// Publishes a test, or settles the claim.
+fn close<J: About, N: Rng>(
+    alloc: Global,
+    list: &mut FaultList<J>,
+    worker: u32,
+    claim: Claim<J>,
+    outcome: Outcome,
+    rng: &mut N,
+) -> Result<(), NoMemory>
+    requires outcome { IsOutcome J.subject claim.fault outcome }
+    requires few { length list.old.patterns + 1 < 2 ^ 32 }
+    ensures { OnOk result (IsClosed claim.class 0 list.old list.new) }
+{
+    match outcome {
+        Outcome::Test(cube, point) => {
+            publish_single(alloc, list, worker, &claim, &cube, point, rng)
+        }
+        Outcome::Settles(evidence, _) => {
+            settle_one(list, claim, evidence);
+            Ok(())
+        }
+    }
 }
 
 /// Works the class, where it is Open.
@@ -58,40 +112,17 @@ fn work_one<J: About, E: Engine, N: Rng>(
     rng: &mut N,
     holds: &Holds,
 ) -> Result<(), NoMemory>
-    requires core { core.now ≡ J.subject.netlist }
-    requires lines { HaveLines J.subject }
-    requires limit { 1 ≤ J.subject.limit }
-    requires held { (holds.now ≡ J.subject.holds) × AreHoldsOf core.now holds.now }
-    requires kind { E.refutes ≡ J.subject.refutes }
+    requires subject { MaySearch J.subject core.now holds.now E.refutes }
     requires class { class < class_count J.subject }
     requires claims { list.old.claims < class_count J.subject }
     requires few { length list.old.patterns + 1 < 2 ^ 32 }
-    ensures closed { OnOk result (is_open (verdict_at list.new.verdicts class) ≡ false) }
-    ensures stays { OnOk result ((c : ℕ) → is_open (verdict_at list.old.verdicts c) ≡ false → is_open (verdict_at list.new.verdicts c) ≡ false) }
-    ensures claims { OnOk result (list.new.claims ≤ list.old.claims + 1) }
-    ensures few { OnOk result (length list.new.patterns ≤ length list.old.patterns + 1) }
+    ensures { OnOk result (IsClosed class 1 list.old list.new) }
 {
-    list.true_list();
     let Some(claim) = list.claim(worker, class) else {
         return Ok(());
     };
-    match engine.search(alloc, core, claim.fault(), claim.limit(), holds)? {
-        Found::Test(cube, point) => {
-            let batch = single(alloc, &claim, &cube, point, rng)?;
-            list.reserve(1, 2)?;
-            list.publish(worker, batch);
-        }
-        Found::Closed(tree) => {
-            let _ = list.settle(claim, Evidence::Tree(tree));
-        }
-        Found::Refuted(steps) => {
-            let _ = list.settle(claim, Evidence::Refutation(steps));
-        }
-        Found::Partial(tree) => {
-            let _ = list.settle(claim, Evidence::Tree(tree));
-        }
-    }
-    Ok(())
+    let found = engine.search(alloc, core, claim.fault(), claim.limit(), holds)?;
+    close(alloc, list, worker, claim, outcome_of(found), rng)
 }
 
 /// Works every class that is still Open.
@@ -104,11 +135,7 @@ fn work_all<J: About, E: Engine>(
     seed: u64,
     holds: &Holds,
 ) -> Result<FaultList<J>, NoMemory>
-    requires core { core.now ≡ J.subject.netlist }
-    requires lines { HaveLines J.subject }
-    requires limit { 1 ≤ J.subject.limit }
-    requires held { (holds.now ≡ J.subject.holds) × AreHoldsOf core.now holds.now }
-    requires kind { E.refutes ≡ J.subject.refutes }
+    requires subject { MaySearch J.subject core.now holds.now E.refutes }
     requires claims { list.claims ≡ 0 }
     requires few { length list.patterns ≤ class_count J.subject }
     ensures closed { IfOk result (λ l. NoneOpen l.verdicts) }

@@ -5,7 +5,7 @@ ghost use Rattle.std.specs.Option.{option_copied};
 ghost use Rattle.plain_text.specs.Limits.{most_workers};
 ghost use Rattle.list_core.specs.Subjects.{class_count, HaveLines};
 ghost use Rattle.list_core.specs.States.{IsTrueList};
-ghost use Rattle.shared_list.specs.Tally.{Tally};
+ghost use Rattle.shared_list.specs.Tally.{Tally, idle_from};
 ghost use Rattle.netlist.specs.Holds.{AreHoldsOf};
 ghost use Rattle.worker.specs.Working.{IsDone, MaySearch};
 
@@ -39,36 +39,73 @@ impl<T: Ledger, S: Ledger, P: Ledger, U: Ledger> Model for Job<T, S, P, U> {
     ghost view = { λ j. j.share };
 }
 
-fn work_in<J: About, T: Ledger, S: Ledger, P: Ledger, U: Ledger, E: Engine, G: Gate, R: Wait>(
-    rt: &R,
+/// What all workers are given. Contracts see it as the table from which they draw.
+#[derive(Drop)]
+struct Task<'a, J: About, T: Ledger, S: Ledger, P: Ledger, U: Ledger, E: Engine, G: Gate, R: Wait> {
+    rt: &'a R,
     alloc: Global,
-    shared: &Shared<J, T, S, P, U>,
-    job: &mut Job<T, S, P, U>,
-    core: &Core,
-    engine: &E,
-    stage: &G,
+    shared: &'a Shared<J, T, S, P, U>,
+    core: &'a Core,
+    engine: &'a E,
+    stage: &'a G,
     workers: u32,
     seed: u64,
-    holds: &Holds,
-    goal: Option<&Goal>,
+    holds: &'a Holds,
+    goal: Option<&'a Goal>,
+}
+
+impl<'a, J: About, T: Ledger, S: Ledger, P: Ledger, U: Ledger, E: Engine, G: Gate, R: Wait> Model
+    for Task<'a, J, T, S, P, U, E, G, R> {
+    ghost use Rattle.atomic_table.specs.Seated.{TableId};
+    ghost use Rattle.worker.specs.Working.{MaySearch};
+
+    ghost Value = { TableId };
+
+    ghost view = { λ t. t.shared.now.word.shared.table_id };
+
+    ghost invariant = { λ t. MaySearch J.subject t.core.now t.holds.now E.refutes };
+}
+
+fn work_in<J: About, T: Ledger, S: Ledger, P: Ledger, U: Ledger, E: Engine, G: Gate, R: Wait>(
+    task: &Task<'_, J, T, S, P, U, E, G, R>,
+    job: &mut Job<T, S, P, U>,
 )
-    requires table { job.old.table ≡ shared.now.word.shared.table_id }
-    requires subject { MaySearch J.subject core.now holds.now E.refutes }
+    requires { job.old.table ≡ task.now }
 {
     job.refused = work_beside(
-        rt,
-        alloc,
-        shared,
+        task.rt,
+        task.alloc,
+        task.shared,
         &mut job.share,
-        core,
-        engine,
-        stage,
-        workers,
-        seed,
-        holds,
-        goal,
+        task.core,
+        task.engine,
+        task.stage,
+        task.workers,
+        task.seed,
+        task.holds,
+        task.goal,
     )
     .is_err();
+}
+
+/// The workers beside each other.
+fn work_jobs<
+    J: About + Send + Sync,
+    T: Ledger + Send + Sync,
+    S: Ledger + Send + Sync,
+    P: Ledger + Send + Sync,
+    U: Ledger + Send + Sync,
+    E: Engine + Sync,
+    G: Gate + Sync,
+    R: Threads + Wait + Sync,
+>(rt: &R, workers: u32, task: &Task<'_, J, T, S, P, U, E, G, R>, jobs: &mut [Job<T, S, P, U>])
+    requires workers { 0 < workers }
+    requires tables { All (λ (t : Tally). t.table ≡ task.now) jobs.old }
+{
+    let step = move |_i: usize, job: &mut Job<T, S, P, U>|
+        requires { job.now.table ≡ task.now }
+    { work_in(task, job) };
+    thread::for_each_mut(rt, jobs, workers as usize, &step);
 }
 
 fn jobs_of<T: Ledger, S: Ledger, P: Ledger, U: Ledger>(
@@ -111,6 +148,59 @@ fn collected<T: Ledger, S: Ledger, P: Ledger, U: Ledger>(
     Ok((shares, refused))
 }
 
+/// Workers over their shares of the list, and the list back.
+fn run_shared<
+    J: About + Send + Sync,
+    T: Ledger + Send + Sync,
+    S: Ledger + Send + Sync,
+    P: Ledger + Send + Sync,
+    U: Ledger + Send + Sync,
+    E: Engine + Sync,
+    G: Gate + Sync,
+    R: Threads + Wait + Sync,
+>(
+    rt: &R,
+    alloc: Global,
+    shared: Shared<J, T, S, P, U>,
+    shares: Vec<Share<T, S, P, U>>,
+    core: &Core,
+    engine: &E,
+    stage: &G,
+    workers: u32,
+    seed: u64,
+    holds: &Holds,
+    goal: Option<&Goal>,
+) -> Result<FaultList<J>, NoMemory>
+    requires subject { MaySearch J.subject core.now holds.now E.refutes }
+    requires workers { 0 < workers }
+    requires shares { shares.items ≡ idle_from shared.word.shared.table_id 0 workers }
+    requires len { vec_len shares ≡ workers }
+    requires parts { (T.parts ≡ workers) × (S.parts ≡ workers) × (P.parts ≡ workers) × (U.parts ≡ workers) }
+    ensures claims { IfOk result (λ l. l.claims ≡ 0) }
+    ensures few { IfOk result (λ l. length l.patterns ≤ class_count J.subject) }
+{
+    let mut jobs = jobs_of(alloc, shares)?;
+    let task = Task {
+        rt,
+        alloc,
+        shared: &shared,
+        core,
+        engine,
+        stage,
+        workers,
+        seed,
+        holds,
+        goal,
+    };
+    work_jobs(rt, workers, &task, jobs.as_mut_slice());
+    let (back, refused) = collected(alloc, jobs)?;
+    let (list, _) = shared.into_list(back);
+    if refused {
+        return Err(NoMemory);
+    }
+    Ok(list)
+}
+
 fn run_named<
     J: About + Send + Sync,
     T: Ledger + Send + Sync,
@@ -150,21 +240,9 @@ fn run_named<
     let (shared, shares) = Shared::<J, T, S, P, U>::new(
         alloc, list, workers, takes, settles, publishes, unspent,
     )?;
-    let mut jobs = jobs_of(alloc, shares)?;
-    let behind = &shared;
-    let step = move |_i: usize, job: &mut Job<T, S, P, U>|
-        requires { (job.now.table ≡ behind.now.word.shared.table_id) × MaySearch J.subject core.now holds.now E.refutes }
-    {
-        work_in(
-            rt, alloc, behind, job, core, engine, stage, workers, seed, holds, goal,
-        )
-    };
-    thread::for_each_mut(rt, jobs.as_mut_slice(), workers as usize, &step);
-    let (back, refused) = collected(alloc, jobs)?;
-    let (list, _) = shared.into_list(back);
-    if refused {
-        return Err(NoMemory);
-    }
+    let list = run_shared(
+        rt, alloc, shared, shares, core, engine, stage, workers, seed, holds, goal,
+    )?;
     work_rest(alloc, list, workers, core, engine, seed, holds, goal)
 }
 

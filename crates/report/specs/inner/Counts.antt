@@ -2,11 +2,9 @@
 use Rattle.std.specs.Prelude.{ℕ, ◌≡◌, ◌++◌, List, [], ◌∷◌, codes, length, map, slice_index}
 use Rattle.std.specs.List.{All, flat_map, zip}
 use Rattle.report.specs.declared.counts.ReportCounts.{ReportCounts}
-use Rattle.report.specs.declared.versions.Version.{Version}
 use Rattle.report.specs.Counts.{AreSmallCounts, worded}
 use Rattle.report.specs.Texts.{count_line, counts_text, unasked_line}
-use Rattle.report.specs.inner.Lines.{IsCount}
-use Rattle.report.specs.inner.Versions.{is_third, some_unasked}
+use Rattle.report.specs.inner.Lines.{Begins, IsCount, NoSome}
 
 abbrev pub count_of_counts : ℕ
 count_of_counts = 14
@@ -49,13 +47,10 @@ AreNumbers counts = (length counts ≡ count_of_counts) × All IsCount counts
 abbrev pub numbers_text : List ℕ → List ℕ
 numbers_text counts = some_counts count_words counts
 
--- how many faults weren't asked for, as a text of the version can say it
-abbrev pub IsUnaskedIn : Version → ℕ → Type 0
-IsUnaskedIn version unasked = IsCount unasked × (is_third version ≡ some_unasked unasked)
-
--- the counts of a text of the version, and all their lines
-abbrev pub AreCountsIn : Version → ReportCounts → Type 0
-AreCountsIn version c = AreSmallCounts c × (is_third version ≡ some_unasked c.unasked)
-
+-- the lines of counts
 abbrev pub counts_lines : ReportCounts → List ℕ
 counts_lines c = counts_text c ++ unasked_line c.unasked
+
+-- the text begins with all lines of these counts
+abbrev pub CountsBegin : List ℕ → ReportCounts → List ℕ → Type 0
+CountsBegin text c rest = Begins AreSmallCounts counts_lines text c rest × (c.unasked ≡ 0 → NoSome (codes "unasked ") rest)

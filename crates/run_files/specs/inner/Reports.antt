@@ -10,9 +10,10 @@ use Rattle.report.specs.Reports.{Report}
 use Rattle.run_files.specs.inner.Outcomes.{AreLines}
 use Rattle.run_report.specs.Heads.{count_of, counts_of, one_if_detected, holds_named, one_if_redundant, share_of}
 
--- its lines, the held inputs, and the numbers that follow
+-- its lines, the held inputs, and the numbers that follow, of which there are none of detections
 pub record IsReported (n : Netlist) (chains : List (List ℕ)) (holds : Holds) (faults classes patterns limit : ℕ) (lines : List Line) (r : Report) : Type 0 where
   pub lines_are : r.lines ≡ lines
+  pub times : r.times.most ≡ 0
   pub held : r.holds ≡ holds_named n holds
   pub counts : r.counts ≡ counts_of n chains faults classes patterns limit lines
   pub coverage : r.coverage ≡ share_of faults (count_of one_if_detected lines)

@@ -1,7 +1,6 @@
-use Rattle.std.proofs.Common.{List, Option, map, sym, ◌∙◌, ap, ap₂, subst}
+use Rattle.std.proofs.Common.{map, sym, ◌∙◌, ap, ap₂, subst}
 use Rattle.std.specs.List.{AllZip, list_any, zip}
 use Rattle.netlist.specs.Conditions.{IsSound}
-use Rattle.scan_play.specs.declared.played.Played.{Played}
 use Rattle.grade.specs.Grades.{IsGraded}
 use Rattle.grade.specs.inner.Told.{grade_of, grade_told, is_open}
 use Rattle.grade.proofs.Batches.{all_graded, all_told}

@@ -6,4 +6,4 @@ use Rattle.report.proofs.writing.push_head.Goals as goal
 pub returns : goal.returns
 returns c =
     subst (λ (t : List ℕ). OnOk c.push.result (c.push.new.out.items ≡ c.args.out.now.items ++ t))
-    (c.line.ensures ∙ (ap version_line c.version_of.ensures ∙ sym (head_is c.args.unasked c.args.holds.now))) c.push.ensures
+    (c.line.ensures ∙ (ap version_line c.version_of.ensures ∙ sym (head_is c.args.most c.args.unasked c.args.holds.now))) c.push.ensures

@@ -18,9 +18,6 @@ use Rattle.test_commands.proofs.grading.texts_of.Goals as goal
 
 pub grades_by-requires-clause-design : goal.grades_by-requires-clause-design
 grades_by-requires-clause-design g c = record {
-  design = c.args.trial.now.netlist;
-  chains = design_chains c.args.trial.now.netlist c.args.asked;
-  sound = c.sound.ensures;
   is_design = c.requires.design;
   are_chains = record { asked = c.args.asked; some = c.requires.some; are = refl };
   is_scanned = c.requires.scanned;

@@ -1,18 +1,18 @@
-use Rattle.std.proofs.Common.{◌≡◌, ◌∙◌, ap, rules, true}
-use Rattle.std.specs.Prelude.{IfNone}
-use Rattle.shared_list.specs.Tally.{Tally}
-use Rattle.worker.proofs.WorkLemmas.{ended_by_none, if_none, never_told, whatever_comes, whether_none}
-use Rattle.worker.proofs.working.work_beside.Goals.{in-None, in-Some+then-pace, in-Some+else-pace+in-None-take}
+use Rattle.std.proofs.Common.{◌∙◌, subst, sym}
+use Rattle.std.specs.List.{All}
+use Rattle.cubes.specs.Cubes.{IsCubeOf}
+use Rattle.worker.proofs.StockLemmas.{lent_below}
+use Rattle.worker.proofs.WorkLemmas.{if_none, whatever_comes}
 use Rattle.worker.proofs.working.work_beside.Goals as goal
 
 pub publish_cubes-requires-clause-wide : goal.publish_cubes-requires-clause-wide
-publish_cubes-requires-clause-wide g c = rw c.deref.ensures.value c.loop.invariant.wide
+publish_cubes-requires-clause-wide g c =
+    let j = g.J.About.subject in
+    subst (All (IsCubeOf j.netlist j.holds)) (sym c.deref.ensures.value) c.in_ok-cubes.ensures.stock.wide
+
+pub publish_cubes-requires-clause-few : goal.publish_cubes-requires-clause-few
+publish_cubes-requires-clause-few g c = lent_below c.in_ok-cubes.cubes c.deref.result.now c.deref.ensures.value c.in_ok-cubes.ensures.stock.few
 
 pub returns-clause-ended : goal.returns-clause-ended
 returns-clause-ended g c =
-    let told : IfNone c.args.goal (c.match-next.share.ended ≡ true) = elim c.match-next.branch [
-      | in-None w ↦ search rules
-      | in-Some+then-pace w ↦ never_told _ c.args.goal c.loop.pace.is_enough c.loop.invariant.told w.if-pace.true
-      | in-Some+else-pace+in-None-take w ↦ whether_none c.args.goal (ap (λ (t : Tally). t.ended) w.share-is ∙ ended_by_none _ c.loop.share w.take.new.share w.in-None-take.ensures)
-    ] in
-    whatever_comes c.publish_cubes.result (if_none c.args.goal (λ is. c.publish_cubes.ensures.ended ∙ is) told)
+    whatever_comes c.publish_cubes.result (if_none c.args.goal (λ is. c.publish_cubes.ensures.ended ∙ is) c.in_ok-cubes.ensures.ended)

@@ -1,0 +1,104 @@
+//! At which strobe a pattern first shows a fault: the stuck line is put onto the words of up to 64 patterns, and of the points that it reaches the one
+//! strobed first is taken. The words are then those before.
+ghost use Rattle.std.specs.Prelude.{◌≡◌, ◌&&◌, ◌^◌, ◌<◌, ◌≤◌, [], ℕ, List, Some, length, slice_get, slice_index, if◌then◌else◌};
+ghost use Rattle.std.specs.List.{All};
+ghost use Rattle.netlist.specs.Lines.{IsLineOf};
+ghost use Rattle.statement.specs.Patterns.{Pattern as Bits};
+ghost use Rattle.events.specs.declared.trails.Change.{Change as ChangeOf};
+ghost use Rattle.events.specs.Stuck.{IsObservedOnly};
+ghost use Rattle.observed_points.specs.Points.{ArePoints, IsReadAt, points as points_of};
+ghost use Rattle.scan_insert.specs.Scanned.{AreChainsOf};
+ghost use Rattle.word_sim.specs.inner.Differences.{IsFirstShown, shows};
+ghost use Rattle.word_sim.specs.inner.Packed.{AreGoodFor};
+ghost use Rattle.grade.specs.inner.Keys.{AreLeastKeys, IsFirstKey, most_key};
+ghost use Rattle.grade.specs.inner.Spotting.{IsSpotted};
+
+use crate::keys::key_of;
+use events::{Change, Events, Words};
+use netlist::Fault;
+use observed_points::Points;
+use scan_insert::Chains;
+
+/// The lesser of a number and the least key of a signal that a change shows under a pattern.
+#[inline(always)]
+fn nearer(change: &Change<u64>, values: &[u64], keys: &[u64], j: u32, least: u64) -> u64
+    requires within { change.now.signal < length values.now }
+    requires size { length keys.now ≡ length values.now }
+    requires low { j < 64 }
+    ensures { result ≡ (if shows keys.now least values.now j change.now then slice_index keys.now change.now.signal else least) }
+{
+    let x = change.signal.index();
+    let key = keys[x];
+    if key < least && ((change.before ^ values[x]) >> j) % 2 == 1 {
+        key
+    } else {
+        least
+    }
+}
+
+/// The least key of the signals that changed under a pattern, or the greatest number.
+fn nearest(trail: &[Change<u64>], values: &[u64], keys: &[u64], j: u32) -> u64
+    requires within { All (λ (c : ChangeOf ℕ). c.signal < length values.now) trail.now }
+    requires size { length keys.now ≡ length values.now }
+    requires low { j < 64 }
+    ensures { IsFirstShown keys.now most_key values.now j trail.now result }
+{
+    let mut least = u64::MAX;
+    for change in trail {
+        least = nearer(change, values, keys, j, least);
+    }
+    least
+}
+
+/// By what the stuck line changes.
+fn spot_stuck(
+    events: &mut Events<'_, u64>,
+    chains: &Chains,
+    keys: &[u64],
+    fault: &Fault,
+    j: u32,
+) -> u64
+    requires chains { AreChainsOf events.old.netlist chains.now }
+    requires keys { AreLeastKeys events.old.netlist chains.now (length (points_of events.old.netlist)) keys.now }
+    requires line { IsLineOf events.old.netlist fault.now.line }
+    requires enters { ¬ IsObservedOnly events.old.netlist fault.now.line }
+    requires trail { events.old.trail ≡ [] }
+    requires low { j < 64 }
+    ensures first { IsSpotted events.old.netlist chains.now events.old.values fault.now j result }
+    ensures same { events.new ≡ events.old }
+{
+    events.core().netlist().sound();
+    let rule = Words {
+        fault: Some(*fault),
+    };
+    events.stick(&rule, fault);
+    let key = nearest(events.trail(), events.values(), keys, j);
+    events.undo(0);
+    key
+}
+
+/// The key of the strobe at which a pattern first shows a fault, if it does at some.
+pub(crate) fn spot(
+    events: &mut Events<'_, u64>,
+    chains: &Chains,
+    points: &Points,
+    keys: &[u64],
+    fault: &Fault,
+    j: u32,
+) -> u64
+    requires chains { AreChainsOf events.old.netlist chains.now }
+    requires points { ArePoints events.old.netlist points.now.seen.items points.now.first.items points.now.numbers.items }
+    requires keys { AreLeastKeys events.old.netlist chains.now (length (points_of events.old.netlist)) keys.now }
+    requires line { IsLineOf events.old.netlist fault.now.line }
+    requires trail { events.old.trail ≡ [] }
+    requires low { j < 64 }
+    ensures first { IsSpotted events.old.netlist chains.now events.old.values fault.now j result }
+    ensures same { events.new ≡ events.old }
+{
+    let netlist = events.core().netlist();
+    netlist.sound();
+    match points.sole(netlist, &fault.line) {
+        Some(number) => key_of(netlist, chains, number as usize),
+        None => spot_stuck(events, chains, keys, fault, j),
+    }
+}
