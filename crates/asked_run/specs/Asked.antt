@@ -97,6 +97,7 @@ asked_of options holds marks first = record {
   refutes = may_refute options.engine;
   faults = marks;
   percent = options.percent;
+  times = options.times;
   first = first;
 }
 
@@ -138,4 +139,5 @@ plan_of options = record {
   seed = options.numbers.seed;
   percent = options.percent;
   rounds = options.rounds;
+  times = options.times;
 }

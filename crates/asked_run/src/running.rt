@@ -9,7 +9,7 @@ ghost use Rattle.commands.specs.Rows.{CommandRow};
 ghost use Rattle.commands.specs.Worked.{IsWorked};
 ghost use Rattle.commands.specs.World.{world};
 ghost use Rattle.commands.specs.declared.ending.Finding.TheVariants.{Fine};
-ghost use Rattle.command_line.specs.CommandLine.{AreInRange, hold_of, run_reads};
+ghost use Rattle.command_line.specs.CommandLine.{AreInRunRange, hold_of, run_reads};
 ghost use Rattle.run_files.specs.Runs.{IsRun, asked_by};
 ghost use Rattle.asked_run.specs.Asked.{asked_of, made_due, run_due, texts_made, IsWanted, plan_of};
 ghost use Rattle.command_steps.specs.Runs.{tests_line};
@@ -61,6 +61,7 @@ fn plan_of(options: RunOptions) -> RunPlan
         seed: numbers.seed,
         percent: options.percent,
         rounds: options.rounds,
+        times: options.times,
     }
 }
 
@@ -76,7 +77,7 @@ fn made_by<R: Threads + Wait + Sync, E: Engine + Sync, G: Gate + Sync>(
     stage: &G,
 ) -> Result<RunFiles, NoMemory>
     requires design { IsDesign core.now }
-    requires range { AreInRange options.numbers }
+    requires range { AreInRunRange options }
     requires held { AreHoldsOf core.now holds.now }
     requires wanted { IsWanted core.now holds.now wanted }
     ensures { IfOk result (IsRun core.now (asked_by (plan_of options) wanted holds.now E.refutes)) }
@@ -105,7 +106,7 @@ pub fn by_trees<R: Threads + Wait + Sync, G: Gate + Sync>(
     stage: &G,
 ) -> Result<RunFiles, NoMemory>
     requires design { IsDesign core.now }
-    requires range { AreInRange options.numbers }
+    requires range { AreInRunRange options }
     requires held { AreHoldsOf core.now holds.now }
     requires wanted { IsWanted core.now holds.now wanted }
     ensures { IfOk result (IsRun core.now (asked_by (plan_of options) wanted holds.now false)) }
@@ -133,7 +134,7 @@ fn by_clauses<R: Threads + Wait + Sync, G: Gate + Sync>(
     stage: &G,
 ) -> Result<RunFiles, NoMemory>
     requires design { IsDesign core.now }
-    requires range { AreInRange options.numbers }
+    requires range { AreInRunRange options }
     requires held { AreHoldsOf core.now holds.now }
     requires wanted { IsWanted core.now holds.now wanted }
     ensures { IfOk result (IsRun core.now (asked_by (plan_of options) wanted holds.now true)) }
@@ -154,7 +155,7 @@ fn by_trees_then_clauses<R: Threads + Wait + Sync, G: Gate + Sync>(
     stage: &G,
 ) -> Result<RunFiles, NoMemory>
     requires design { IsDesign core.now }
-    requires range { AreInRange options.numbers }
+    requires range { AreInRunRange options }
     requires held { AreHoldsOf core.now holds.now }
     requires wanted { IsWanted core.now holds.now wanted }
     ensures { IfOk result (IsRun core.now (asked_by (plan_of options) wanted holds.now true)) }
@@ -186,7 +187,7 @@ fn made_of<R: Threads + Wait + Sync, G: Gate + Sync>(
     stage: &G,
 ) -> Result<RunFiles, NoMemory>
     requires design { IsDesign core.now }
-    requires range { AreInRange options.numbers }
+    requires range { AreInRunRange options }
     requires held { AreHoldsOf core.now holds.now }
     requires wanted { IsWanted core.now holds.now wanted }
     ensures { IfOk result (IsRun core.now (asked_of options holds.now wanted.faults.items wanted.first.items)) }
@@ -211,7 +212,7 @@ fn run_case<R: Threads + Wait + Sync, G: Gate + Sync>(
     stage: &G,
 ) -> Result<Product, Stop<Refusal>>
     requires ready { IsReady case }
-    requires range { AreInRange options.numbers }
+    requires range { AreInRunRange options }
     ensures { IsWorked (made_due options case.core case.holds case.wanted.faults.items case.wanted.first.items) 5 result }
 {
     let RunCase {
@@ -240,7 +241,7 @@ fn work<R: Threads + Wait + Sync, G: Gate + Sync>(
 ) -> Result<Product, Stop<Refusal>>
     requires count { HaveCount (option_map (λ t. t.now) names.list) (option_map (λ t. t.now) names.first) (length texts.items) }
     requires within { All (λ text. length text ≤ most_bytes) (texts_of texts.items) }
-    requires range { AreInRange options.numbers }
+    requires range { AreInRunRange options }
     ensures { IsWorked (run_due (option_map (λ t. t.now) names.entry.list) (option_map (λ t. t.now) names.entry.first) options (map hold_of named.now) (texts_of texts.items)) 5 result }
 {
     match case_of(alloc, texts, names.list, names.first, named) {
@@ -260,7 +261,7 @@ pub fn run_netlist<'a, R: Threads + Wait + Sync, S: Shelf, T: Sink, G: Gate + Sy
     options: RunOptions,
     named: &[Held<'_>],
 ) -> Ending<'a, Refusal>
-    requires { AreInRange options.numbers }
+    requires { AreInRunRange options }
     ensures { CommandRow (run_reads names.entry.net.now (option_map (λ t. t.now) names.entry.list) (option_map (λ t. t.now) names.entry.first)) (run_files names.entry.prefix.now)
         (run_due (option_map (λ t. t.now) names.entry.list) (option_map (λ t. t.now) names.entry.first) options (map hold_of named.now))
         (world (S.files shelf.old) (S.failures shelf.old) (T.taken out.old) (T.failures out.old))

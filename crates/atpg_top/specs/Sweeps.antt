@@ -23,7 +23,7 @@ sweep_chains = 1
 abbrev pub sweep_limit : ℕ
 sweep_limit = 100
 
--- one chain, at most a hundred closed ends a search, no input held, trees alone, all faults, and no pattern before the searches
+-- one chain, at most a hundred closed ends a search, no input held, trees alone, all faults, each to be detected once, and no pattern before the searches
 abbrev pub sweep_asked : Netlist → Asked
 sweep_asked n = record {
   holds = none_held n;
@@ -32,6 +32,7 @@ sweep_asked n = record {
   refutes = false;
   faults = all_faults n;
   percent = None;
+  times = 1;
   first = [];
 }
 

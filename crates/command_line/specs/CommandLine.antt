@@ -10,7 +10,7 @@ use Rattle.clap.specs.Faults.{fault_of}
 use Rattle.commands.specs.Names.{run_files}
 use Rattle.command_line.specs.Numbers.{number_in}
 use Rattle.command_line.specs.HoldLists.{HoldItem, holds_in}
-use Rattle.command_line.specs.Table.{command_table, most_percent, most_rank, most_rounds, most_seed}
+use Rattle.command_line.specs.Table.{command_table, most_percent, most_rank, most_rounds, most_seed, most_times}
 use Rattle.command_line.specs.declared.holds.Held.{Held}
 use Rattle.command_line.specs.declared.requests.EngineName.{EngineName}
 use Rattle.command_line.specs.declared.requests.EngineName.TheVariants.{Trees, Clauses, TreesThenClauses}
@@ -190,10 +190,11 @@ abbrev pub holds_given : Option Text → Option (List HoldItem)
 holds_given None = Some []
 holds_given (Some text) = holds_in text
 
--- the engine and the numbers, how many in a hundred are enough, and the rounds, 3 where they aren't given
+-- the engine and the numbers, how many in a hundred are enough, the rounds, 3 where they aren't given, and how many patterns are to detect each fault, else 1
 abbrev pub run_options_with : List Row → SearchNumbers → EngineName → Option RunOptions
-run_options_with rows numbers engine = option_and_then (λ percent.
-    option_map (λ rounds. record { engine = engine; numbers = numbers; percent = percent; rounds = rounds })
+run_options_with rows numbers engine = option_and_then (λ percent. option_and_then (λ rounds.
+    option_map (λ times. record { engine = engine; numbers = numbers; percent = percent; rounds = rounds; times = times })
+    (number_at (codes "detect") 1 1 most_times rows))
     (number_at (codes "compact") 3 0 most_rounds rows))
     (number_if (codes "coverage") 1 most_percent rows)
 
@@ -311,6 +312,7 @@ pub record AreInRunRange (options : RunOptions) : Type 0 where
   pub numbers : AreInRange options.numbers
   pub percent : IfIn 1 most_percent options.percent
   pub rounds : options.rounds ≤ most_rounds
+  pub times : (1 ≤ options.times) × (options.times ≤ most_times)
 
 pub record AreWithin (options : DiagnoseOptions) : Type 0 where
   pub chains : (1 ≤ options.chains) × (options.chains ≤ most_chains)

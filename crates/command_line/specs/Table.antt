@@ -58,11 +58,16 @@ search_rules =
 abbrev pub most_rounds : ℕ
 most_rounds = 100
 
--- what `run` has of its own: [--engine E] [--then E] [--hold LIST] [--faults FILE] [--coverage P] [--with FILE] [--compact K]
+-- the most patterns that each fault is to be detected by
+abbrev pub most_times : ℕ
+most_times = 100
+
+-- what `run` has of its own: [--engine E] [--then E] [--hold LIST] [--faults FILE] [--coverage P] [--with FILE] [--compact K] [--detect N]
 abbrev pub run_rules : List Rule
 run_rules =
     text_option (codes "engine") ∷ text_option (codes "then") ∷ text_option (codes "hold") ∷ text_option (codes "faults")
-    ∷ number_option (codes "coverage") 1 most_percent ∷ text_option (codes "with") ∷ number_option (codes "compact") 0 most_rounds ∷ []
+    ∷ number_option (codes "coverage") 1 most_percent ∷ text_option (codes "with") ∷ number_option (codes "compact") 0 most_rounds
+    ∷ number_option (codes "detect") 1 most_times ∷ []
 
 -- run NET PREFIX ..
 abbrev pub run_command : Shape

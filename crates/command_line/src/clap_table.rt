@@ -21,7 +21,7 @@ ghost use Rattle.command_line.specs.Table.{
 };
 ghost use Rattle.command_line.specs.inner.Arguments.{Adds, Grows, IsShaped, asked_by};
 
-use crate::values::{MOST_PERCENT, MOST_ROUNDS};
+use crate::values::{MOST_PERCENT, MOST_ROUNDS, MOST_TIMES};
 use clap::builder::ValueParser;
 use clap::{Arg, Command};
 use plain_text::{FEWEST_GATES, MOST_CHAINS, MOST_GATES, MOST_LIMIT, MOST_WORKERS};
@@ -155,12 +155,13 @@ const ENGINE: &str = "The search: podem, fan or clauses [default: podem]";
 const THEN: &str = "What settles what podem or fan gives up: clauses";
 
 // What `run` has of its own.
-fn run_arguments<'a>() -> [Argument<'a>; 7]
+fn run_arguments<'a>() -> [Argument<'a>; 8]
     ensures { map asked_by result ≡ run_rules }
 {
     let coverage = "Stop once so many in a hundred of the faults are detected";
     let with = "A STIL file, or the prefix of one, whose patterns come first";
     let compact = "How many rounds make the patterns fewer, 0 to 100 [default: 3]";
+    let detect = "How many patterns are to detect each fault, 1 to 100 [default: 1]";
     [
         Text("engine", ENGINE),
         Text("then", THEN),
@@ -169,6 +170,7 @@ fn run_arguments<'a>() -> [Argument<'a>; 7]
         Number("coverage", 1, MOST_PERCENT, coverage),
         Text("with", with),
         Number("compact", 0, MOST_ROUNDS, compact),
+        Number("detect", 1, MOST_TIMES, detect),
     ]
 }
 

@@ -36,7 +36,7 @@ ghost use Rattle.command_line.specs.inner.Held.{AreHeld};
 ghost use Rattle.command_line.specs.inner.Searches.{AreOptions, AreRunNames, IsSearch};
 
 use crate::holds::{Held, holds_in};
-use crate::values::{MOST_PERCENT, MOST_ROUNDS, number_if, number_of, number_or, text};
+use crate::values::{MOST_PERCENT, MOST_ROUNDS, MOST_TIMES, number_if, number_of, number_or, text};
 use clap::ArgMatches;
 use plain_text::{FEWEST_GATES, MOST_CHAINS, MOST_GATES, MOST_LIMIT, MOST_WORKERS};
 use std::alloc::Global;
@@ -80,6 +80,8 @@ pub struct RunOptions {
     pub percent: Option<u32>,
     /// How many rounds make the patterns fewer.
     pub rounds: u32,
+    /// How many patterns are to detect each fault, where so many are found.
+    pub times: u32,
 }
 
 /// The engine and the numbers of `transition`.
@@ -404,11 +406,13 @@ fn options_with(
 {
     let percent = percent(found)?;
     let rounds = number_or(found, "compact", 3, 0, MOST_ROUNDS)?;
+    let times = number_or(found, "detect", 1, 1, MOST_TIMES)?;
     Some(RunOptions {
         engine,
         numbers,
         percent,
         rounds: rounds as u32,
+        times: times as u32,
     })
 }
 

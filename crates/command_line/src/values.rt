@@ -13,6 +13,9 @@ pub(crate) const MOST_PERCENT: u64 = 100;
 /// The most rounds that make the patterns fewer.
 pub(crate) const MOST_ROUNDS: u64 = 100;
 
+/// The most patterns that each fault is to be detected by.
+pub(crate) const MOST_TIMES: u64 = 100;
+
 // A plus, or a zero before more, stands in front: `clap` and `parse` read over both.
 fn is_padded(text: &str) -> bool
     ensures { result ≡ is_padded text.now }
