@@ -15,7 +15,7 @@ use report::Times;
 use run_report::Subject;
 use std::alloc::Global;
 
-/// To how many detections are counted where the report says so many. There are fewer patterns than the most of 32 bits, so a number is never cut by it.
+/// To how many detections are counted where the report says so many. A test has fewer patterns than 32 bits can count, so no number is cut by it.
 fn counted_to(most: u64) -> u32
     ensures { result ≡ min most (2 ^ 32 - 1) }
 {
@@ -38,7 +38,7 @@ fn are_of_classes(classes: &Classes, times: &[u32], count: u32, said: &[u64]) ->
     true
 }
 
-/// Whether the report's number of each fault is the one that follows. Each class is counted once, by its representative; where no number is told, none is.
+/// Whether the report's number of each fault is the one that follows. Each class is counted once, by its representative, and none where no number is told.
 pub(crate) fn has_times(
     alloc: Global,
     trial: &Trial,
