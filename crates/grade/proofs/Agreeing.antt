@@ -2,7 +2,7 @@
 use Rattle.std.proofs.Common.{◌≡◌, ℕ, ◌≤◌, Bool, List, get_or, Some, slice_get, refl, sym, ◌∙◌, ap, subst, inl, inr, arith}
 use Rattle.std.specs.List.{AllZip}
 use Rattle.std.proofs.lemmas.Bool.{cases_lt}
-use Rattle.std.proofs.lemmas.Option.{get_or_from_slice_get, same_Some, slice_get-get_or}
+use Rattle.std.proofs.lemmas.Option.{get_or_from_slice_get, same_Some}
 use Rattle.statement.specs.declared.kinds.Tri.{Tri}
 use Rattle.statement.specs.declared.kinds.Tri.TheVariants.{X}
 use Rattle.statement.specs.declared.lines.Fault.{Fault}
@@ -21,8 +21,7 @@ use Rattle.scan_play.specs.Passing.{IsWrong}
 use Rattle.scan_play.specs.Playing.{IsStrobeMet}
 use Rattle.scan_play.specs.Vectors.{AreVectors}
 use Rattle.scan_play.proofs.BitLaws.{known_not_x}
-use Rattle.scan_play.proofs.Shifting.{zip_length}
-use Rattle.stil_write.proofs.FormLemmas.{zip_at}
+use Rattle.scan_play.proofs.Shifting.{zip_at, zip_length}
 use Rattle.chain_test.specs.Hardware.{at_site}
 use Rattle.run_report.specs.Outcomes.{AreTrueLines, IsTrueOf, Test}
 use Rattle.grade.specs.Agreement.{Agrees}
@@ -96,6 +95,8 @@ all_agree t classes lines cycles grades sound are v has_line true_lines graded =
     let own = get_or grades i grade in
     let here = true_lines.each i (omega (arith, l, count)) in
     let same : here.line ≡ get_or lines i line = sym (get_or_from_slice_get lines i here.line line here.said) in
-    let h = zip_at R (universe_of t.netlist) grades i here.fault own here.member (slice_get-get_or grades i grade (omega (arith, l, count, size))) graded in
+    let h : R here.fault own =
+    subst (λ f. R f own) (get_or_from_slice_get (universe_of t.netlist) i here.fault here.fault here.member)
+    (zip_at R (universe_of t.netlist) grades i here.fault grade graded (omega (arith, l, count))) in
     subst (λ (m : Line). Agrees m.outcome own) same
     (one_agrees t cycles here.fault here.representative here.line.pin sound are v (has_line i here.fault here.member) own h here.line.outcome here.is_true))

@@ -4,7 +4,7 @@ use Rattle.std.specs.List.{All, AllZip}
 use Rattle.std.specs.Prelude.{MatchOption}
 use Rattle.std.proofs.lemmas.Bool.{cases_eq}
 use Rattle.std.proofs.lemmas.List.{get_or-replicate, get_or-set_other, get_or-set_same, get_or_default, length-map, length-replicate, length-set}
-use Rattle.std.proofs.lemmas.Option.{same_Some, slice_get-get_or, slice_get_within}
+use Rattle.std.proofs.lemmas.Option.{get_or_from_slice_get, same_Some, slice_get-get_or, slice_get_within}
 use Rattle.statement.specs.declared.lines.Fault.{Fault}
 use Rattle.statement.specs.declared.lines.Point.{Point}
 use Rattle.statement.specs.Netlists.{Netlist}
@@ -17,8 +17,7 @@ use Rattle.netlist.specs.Lines.{IsLineOf}
 use Rattle.netlist.proofs.Settling.{zip_from}
 use Rattle.scan_insert.specs.Scanned.{AreChainsOf, insertion_of, scanned_of, sites_of}
 use Rattle.chain_test.specs.Hardware.{at_site}
-use Rattle.scan_play.proofs.Shifting.{zip_length}
-use Rattle.stil_write.proofs.FormLemmas.{zip_at}
+use Rattle.scan_play.proofs.Shifting.{zip_at, zip_length}
 use Rattle.word_sim.specs.Hits.{LastDetected}
 use Rattle.word_sim.specs.inner.Packed.{AreGoodFor}
 use Rattle.grade.specs.Grades.{IsGraded}
@@ -119,14 +118,12 @@ module _ (n : Netlist) (chains : List (List ℕ)) (latest : List Pattern) where
         → AreGradedUpTo n chains latest (length latest) faults told grades → AllZip (IsPatternGrade n chains (reverse latest)) faults grades
     all_graded sound are grades last h =
         zip_from (IsPatternGrade n chains (reverse latest)) faults grades (sym h.size) (λ i d e l.
-        let size = zip_length (LastDetected n latest) faults told last in
         let count = h.size in
         let f = get_or faults i d in
         let t = get_or told i None in
         let here : slice_get faults i ≡ Some f = slice_get-get_or faults i d l in
-        let there : slice_get told i ≡ Some t = slice_get-get_or told i None (omega (arith, l, size)) in
         let same : get_or grades i Undetected ≡ get_or grades i e = get_or_default grades i Undetected e (omega (arith, l, count)) in
-        one f t (get_or grades i e) (zip_at (LastDetected n latest) faults told i f t here there last)
+        one f t (get_or grades i e) (zip_at (LastDetected n latest) faults told i d None last l)
         (subst (λ (u : Grade). IsGradedUpTo n chains latest (length latest) f t u) same (h.each i f here)))
       where
         one : (f : Fault) (t : Option (ℕ × Point)) (grade : Grade) → LastDetected n latest f t → IsGradedUpTo n chains latest (length latest) f t grade → IsPatternGrade n chains (reverse latest) f grade
@@ -146,7 +143,9 @@ site_grades law n chains cycles patterns sound design are test faults grades lin
     (λ i d e l.
     let grade = get_or grades i e in
     let w = mapped faults i (get_or sites i d) (slice_get-get_or sites i d l) in
-    let here = zip_at (IsPatternGrade n chains patterns) faults grades i w.0 grade w.1 (slice_get-get_or grades i e (omega (arith, l, mapped_size, size))) graded in
+    let here : IsPatternGrade n chains patterns w.0 grade =
+    subst (λ f. IsPatternGrade n chains patterns f grade) (get_or_from_slice_get faults i w.0 w.0 w.1)
+    (zip_at (IsPatternGrade n chains patterns) faults grades i w.0 e graded (omega (arith, l, mapped_size))) in
     subst (λ h. IsGraded (scanned_of n chains) h cycles grade) w.2
     (law n test.holds chains patterns cycles w.0 grade sound design are test.are_vectors (line_at faults lines i w.0 w.1) here))
   where

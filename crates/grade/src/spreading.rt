@@ -181,9 +181,7 @@ pub fn grades<G: Gate>(
     scanned.netlist().sound();
     faults_have_lines();
     equivalent_runs();
-    let by_class = class_grades(
-        alloc, stage, design, chains, scanned, faults, classes, file,
-    )?;
+    let by_class = class_grades(alloc, stage, design, chains, scanned, faults, classes, file)?;
     let grades = spread(alloc, faults.len(), classes, &by_class)?;
     Ok(grades)
 }
