@@ -26,7 +26,7 @@ use Rattle.word_sim.specs.inner.Differences.{IsFirstShown}
 use Rattle.word_sim.specs.inner.Packed.{AreGoodFor}
 use Rattle.word_sim.proofs.WordDetection.{differ, differs}
 use Rattle.grade.specs.inner.Keys.{AreLeastKeys, most_key}
-use Rattle.grade.specs.inner.Spotting.{IsSpottedFrom}
+use Rattle.grade.specs.inner.Spotting.{IsSpotted, IsSpottedFrom}
 use Rattle.grade.proofs.Spotted.{first_key}
 
 same_bit : (a b : Bool) → Some a ≡ Some b → a ≡ b
@@ -75,3 +75,10 @@ module _ (n : Netlist) (sound : IsSound n) (values : List ℕ) (j : ℕ) (low : 
   turned_spotted chains keys are changes size changed key first f word line reach reached patterns p good here =
       first_key n sound chains f values j low keys are new changes size changed key first (faulty f word line reach reached patterns good).0
       (differs_there f word line reach reached patterns good) patterns p good here (faulty f word line reach reached patterns good).1
+
+-- ---- a fault that reaches the head
+
+pub spotted_from : (n m : Netlist) (chains : List (List ℕ)) (values words : List ℕ) (f : Fault) (h word j key : ℕ) → m ≡ n → words ≡ values → IsLineOf n f.line → IsReach m words f h word
+    → bit_of j word ≡ true → IsSpottedFrom n chains values h j key → IsSpotted n chains values f j key
+spotted_from n m chains values words f h word j key same are line reach reached from =
+    from f word line (subst (λ (k : Netlist). IsReach k values f h word) same (subst (λ (vs : List ℕ). IsReach m vs f h word) are reach)) reached

@@ -1,7 +1,7 @@
 //! The grades of lines by patterns.
 //!
 //! Which pattern first detects a line is asked of the patterns in reverse order, of which it is the last one, 64 a word. Where that shows it first is seen
-//! pattern by pattern: the line is stuck in the words of its batch, and of the points that it reaches the one strobed first is taken.
+//! pattern by pattern (`spotting`): of the points that it reaches the one strobed first is taken.
 ghost use Rattle.std.specs.Prelude.{◌≡◌, ◌+◌, ◌-◌, ◌*◌, ◌^◌, ◌<◌, ◌≤◌, [], drop, length, reverse, take, IfOk, MatchOption};
 ghost use Rattle.std.specs.List.{All, AllZip};
 ghost use Rattle.netlist.specs.Lines.{IsLineOf};
