@@ -1,5 +1,5 @@
 -- On the vectors of patterns the strobes that are wrong in the three-valued run with a fault of the design are those of the points at which patterns detect it.
-use Rattle.std.proofs.Common.{◌≡◌, ℕ, suc, zero, ◌*◌, ◌⊎◌, Bool, true, false, not, List, [], ◌∷◌, ◌++◌, map, length, get_or, replicate, Option, Some, None, slice_get, refl, sym, ◌∙◌, ap, subst, inl, inr, arith}
+use Rattle.std.proofs.Common.{◌≡◌, ℕ, suc, zero, ◌*◌, ◌⊎◌, Bool, true, false, not, List, [], ◌∷◌, length, get_or, replicate, Option, Some, None, slice_get, refl, sym, ◌∙◌, ap, subst, inl, inr, arith}
 use Rattle.std.specs.List.{AllZip, zip}
 use Rattle.std.proofs.lemmas.Bool.{cases_lt}
 use Rattle.std.proofs.lemmas.List.{length-map}
@@ -13,16 +13,14 @@ use Rattle.statement.specs.Netlists.{Netlist, cells}
 use Rattle.statement.specs.Patterns.{Detects, Holds, Pattern}
 use Rattle.netlist.specs.Lines.{IsLineOf}
 use Rattle.netlist.specs.Conditions.{IsSound}
-use Rattle.netlist.proofs.Alike.{zip_append}
 use Rattle.statement.specs.Values.{bits, known}
 use Rattle.tri.specs.Settled.{tri_table}
-use Rattle.statement.specs.Tests.{cells_of, longest_of, Response, Responds, flush}
+use Rattle.statement.specs.Tests.{cells_of, longest_of, Response, Responds}
 use Rattle.statement.specs.Runs.{Cycle, Runs, strobe_at, shown_at}
 use Rattle.scan_insert.specs.Scanned.{AreChainsOf, scanned_of, sites_of}
 use Rattle.scan_play.specs.Passing.{IsWrong}
 use Rattle.scan_play.specs.Playing.{IsStrobeMet, PlayRuns}
-use Rattle.scan_play.specs.Shifts.{load}
-use Rattle.scan_play.specs.Vectors.{AreVectors, applied, capture, vectors}
+use Rattle.scan_play.specs.Vectors.{AreVectors, vectors}
 use Rattle.scan_play.proofs.Applied.{Answers, length-next, zip_known}
 use Rattle.scan_play.proofs.BitLaws.{detected_bits, own_responses, runs_alike, vectors_alike}
 use Rattle.scan_play.proofs.Bridge.{bridge}
