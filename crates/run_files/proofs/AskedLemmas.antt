@@ -32,7 +32,7 @@ enough_said None marks lines detected is met = met
 enough_said (Some p) marks lines detected is met = let most : p * count_true marks ≤ 100 * detected = met in omega arith
 
 module _ (n : Netlist) (a : Asked) (chains : List (List ℕ)) (classes : Classes) (are : AreClasses n classes) (size : length a.faults ≡ length (universe_of n)) (patterns : List Pattern)
-    (verdicts : List Verdict) (searched : AreSearched n a.holds a.limit a.refutes a.percent classes a.faults a.first patterns verdicts) (lines : List Line)
+    (verdicts : List Verdict) (searched : AreSearched n a.holds a.limit a.refutes a.times a.percent classes a.faults a.first patterns verdicts) (lines : List Line)
     (all : AreLines n chains classes.numbers a.faults verdicts (length (universe_of n)) lines) where
   -- the class of a fault that is asked for
   class_asked : (place : ℕ) → slice_get a.faults place ≡ Some true → IsAskedClass classes.numbers a.faults (get_or classes.numbers place 0)

@@ -2,6 +2,8 @@ mod SpreadLemmas
 mod CountLemmas
 mod KnownLemmas
 mod FirstLemmas
+mod JoinLemmas
+mod OftenLemmas
 mod SearchLemmas
 mod LineLemmas
 mod LeafLemmas

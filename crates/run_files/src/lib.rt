@@ -10,15 +10,20 @@
 #![tactic(auto)]
 
 mod asked;
+mod choosing;
 mod compacting;
+mod differing;
 mod files;
+mod finding;
 mod first;
 mod leaves;
 mod lines;
+mod repeating;
 mod reporting;
 mod searching;
 mod spreading;
 mod stitching;
+mod telling;
 mod truth;
 
 pub use asked::{RunPlan, Wanted};

@@ -43,6 +43,6 @@ returns g c =
     let kept = c.in_ok-patterns.field-0.patterns.items in
     let verdicts = c.in_ok-patterns.field-0.verdicts.items in
     let spreads : c.in_ok-verdicts.verdicts.items ≡ spread a.others.items verdicts = cc (c.in_ok-verdicts.ensures, c.deref.ensures.value, c.in_ok-patterns.verdicts-is) in
-    subst (λ (vs : List Verdict). AreSearched n c.args.holds.now c.args.plan.limit g.E.Engine.refutes c.args.plan.percent classes marks c.args.first.items kept vs) (sym spreads)
-    (searched_of n c.args.holds.now c.args.plan.limit g.E.Engine.refutes c.args.plan.percent classes marks c.args.first.items kept verdicts c.requires.classes.within a c.in_ok-asked.ensures
+    subst (λ (vs : List Verdict). AreSearched n c.args.holds.now c.args.plan.limit g.E.Engine.refutes c.args.plan.times c.args.plan.percent classes marks c.args.first.items kept vs) (sym spreads)
+    (searched_of n c.args.holds.now c.args.plan.limit g.E.Engine.refutes c.args.plan.times c.args.plan.percent classes marks c.args.first.items kept verdicts c.requires.classes.within a c.in_ok-asked.ensures
     c.in_ok-patterns.ensures)
