@@ -1,11 +1,26 @@
 -- Lists of patterns joined, each pattern once.
-use Rattle.std.proofs.Common.{◌≡◌, ◌≢◌, ◌+◌, ◌≤◌, inl, inr, List, [], ◌∷◌, ◌++◌, length, subst, arith, length-append}
+use Rattle.std.proofs.Common.{◌≡◌, ◌≢◌, ◌+◌, ◌≤◌, inl, inr, Bool, false, true≢false, List, [], ◌∷◌, ◌++◌, length, refl, sym, ◌∙◌, ap, subst, arith, length-append}
+use Rattle.std.specs.Bool.{Decides}
 use Rattle.std.specs.List.{All, Contains}
 use Rattle.std.proofs.lemmas.List.Elements.{All-contains, All-contains_itself, All-weaker, Contains-append_cases, Contains-append_left, Contains-append_right, Contains-get_or}
 use Rattle.std.proofs.lemmas.List.Quantifiers.{all_pairs_push}
 use Rattle.netlist.proofs.Lists.{contains_cases, contains_nil}
 use Rattle.statement.specs.Patterns.{Pattern}
 use Rattle.run_files.specs.inner.Often.{AreJoined}
+
+-- two patterns of the same inputs
+pub same_inputs : (p q : Pattern) (r : Bool) → p.inputs ≡ q.inputs → Decides r (p.cells ≡ q.cells) → Decides r (p ≡ q)
+same_inputs p q r same d = (
+  (λ is. let cells = d.0 is in λ i. record { inputs = same i; cells = cells i }),
+  (λ e. d.1 (ap (λ (x : Pattern). x.cells) e)),
+)
+
+-- and of others
+pub other_inputs : (p q : Pattern) (r : Bool) → r ≡ false → Decides r (p.inputs ≡ q.inputs) → Decides r (p ≡ q)
+other_inputs p q r other d = (
+  (λ is. absurd (true≢false (sym is ∙ other))),
+  (λ e. d.1 (ap (λ (x : Pattern). x.inputs) e)),
+)
 
 -- a pattern that stands there
 pub there : (old : List Pattern) (p : Pattern) → Contains old p → AreJoined old (p ∷ []) old

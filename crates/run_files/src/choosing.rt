@@ -1,12 +1,14 @@
 //! Which of the patterns that were found are kept, and the verdicts by them.
-ghost use Rattle.std.specs.Prelude.{◌≡◌, ◌+◌, ◌<◌, ◌≤◌, ◌^◌, IfOk, length};
+ghost use Rattle.std.specs.Prelude.{◌≡◌, ◌+◌, ◌<◌, ◌≤◌, ◌^◌, List, IfOk, length};
 ghost use Rattle.std.specs.List.{All};
 ghost use Rattle.plain_text.specs.Limits.{most_workers};
 ghost use Rattle.statement.specs.declared.lines.Fault.{Fault as FaultOf};
+ghost use Rattle.statement.specs.Patterns.{Holds as Held, Pattern as Bits};
 ghost use Rattle.netlist.specs.Lines.{IsLineOf};
 ghost use Rattle.netlist.specs.Holds.{AreHoldsOf};
+ghost use Rattle.word_sim.specs.Words.{HasWidthsOf};
 ghost use Rattle.fault_universe.specs.Laws.{most_design_faults};
-ghost use Rattle.run_files.specs.inner.Often.{AreChosen};
+ghost use Rattle.run_files.specs.inner.Often.{AreChosen, AreGathered};
 ghost use Rattle.run_files.specs.inner.Searches.{AreKnown};
 
 use crate::asked::RunPlan;
@@ -64,7 +66,16 @@ fn last_few_kept<R: Threads + Sync>(
     patterns: Vec<Pattern>,
     verdicts: Vec<Verdict>,
     plan: RunPlan,
-) -> Result<Finished, NoMemory> {
+) -> Result<Finished, NoMemory>
+    requires some { 1 ≤ plan.times }
+    requires lines { All (λ (f : FaultOf). IsLineOf core.now f.line) faults.now }
+    requires count { length verdicts.items ≡ length faults.now }
+    requires wide { All (HasWidthsOf core.now) patterns.items }
+    requires small { length patterns.items + 64 ≤ 2 ^ 32 }
+    requires workers { 0 < plan.workers }
+    ensures { IfOk result (λ f. (holds : Held) (given : List Bits) → AreGathered core.now holds faults.now given patterns.items
+        → AreChosen core.now holds plan.times faults.now given verdicts.items f.patterns.items f.verdicts.items) }
+{
     let LastFew { needed, .. } = last_few_of(alloc, core, faults, &patterns, plan.times)?;
     let patterns = kept(alloc, patterns, &needed)?;
     let last = last_tells_beside(rt, alloc, core, faults, &patterns, plan.workers)?;

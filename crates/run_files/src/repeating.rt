@@ -1,8 +1,10 @@
 //! Further searches of the faults that too few patterns detect, each by other bits where cubes leave them open.
-ghost use Rattle.std.specs.Prelude.{◌≡◌, ◌+◌, ◌<◌, ◌≤◌, ◌^◌, IfOk, length};
+ghost use Rattle.std.specs.Prelude.{◌≡◌, ◌+◌, List, ◌<◌, ◌≤◌, ◌^◌, IfOk, length};
 ghost use Rattle.std.specs.List.{All};
 ghost use Rattle.plain_text.specs.Limits.{most_workers};
 ghost use Rattle.statement.specs.declared.lines.Fault.{Fault as FaultOf};
+ghost use Rattle.statement.specs.Netlists.{Netlist as Equations};
+ghost use Rattle.statement.specs.Patterns.{Holds as Held, Pattern as Bits};
 ghost use Rattle.cubes.specs.Cubes.{IsPatternOf};
 ghost use Rattle.netlist.specs.Lines.{IsLineOf};
 ghost use Rattle.netlist.specs.Holds.{AreHoldsOf};
@@ -67,7 +69,11 @@ fn found_again<E: Engine + Sync, G: Gate + Sync, R: Threads + Wait + Sync>(
 }
 
 /// The patterns with others behind them, unless those are too many.
-fn with_more(patterns: Vec<Pattern>, more: Vec<Pattern>) -> Result<Vec<Pattern>, AllocError> {
+fn with_more(patterns: Vec<Pattern>, more: Vec<Pattern>) -> Result<Vec<Pattern>, AllocError>
+    requires { length patterns.items + 64 ≤ 2 ^ 32 }
+    ensures { IfOk result (λ v. (n : Equations) (holds : Held) (faults : List FaultOf) (given : List Bits) → All (IsPatternOf n holds) more.items
+        → AreGathered n holds faults given patterns.items → AreGathered n holds faults given v.items) }
+{
     if more.len() > MOST_PATTERNS - patterns.len() {
         return Ok(patterns);
     }
@@ -75,7 +81,10 @@ fn with_more(patterns: Vec<Pattern>, more: Vec<Pattern>) -> Result<Vec<Pattern>,
 }
 
 /// The plan of a further search: other bits fill what cubes leave open.
-fn plan_of_round(plan: RunPlan, round: u32) -> RunPlan {
+fn plan_of_round(plan: RunPlan, round: u32) -> RunPlan
+    ensures limit { result.limit ≡ plan.limit }
+    ensures workers { result.workers ≡ plan.workers }
+{
     let mut other = plan;
     other.seed = plan.seed.wrapping_add(round as u64);
     other
