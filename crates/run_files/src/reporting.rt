@@ -56,6 +56,7 @@ pub(crate) fn times_said(
     if most == 1 {
         return Ok(Times::none(alloc));
     }
+    core.netlist().sound();
     represented(core, &subject.classes);
     detected_alike();
     times_alike();
