@@ -101,7 +101,7 @@ module _ (alike : DetectedAlike) (texts : TextsDiffer) (n : Netlist) (a : Asked)
   totals : AreReportTotals asked_test classes made.said
   totals =
       let numbers = run.written.said.numbers in
-      record { limit = run.limit_is; head = record { counts = numbers.counts; coverage = numbers.coverage; efficiency = numbers.efficiency; times = run.written.times.has } }
+      record { limit = run.limit_is; head = record { counts = numbers.counts; coverage = numbers.coverage; efficiency = numbers.efficiency; times = run.written.counted.has } }
 
   tested : IsTested contents
   tested = record {

@@ -90,8 +90,8 @@ fn plan_of_round(plan: RunPlan, round: u32) -> RunPlan
     other
 }
 
-/// These patterns, each once, with what further searches find: of each fault as many patterns as are asked for, where the searches come to them. A
-/// search that finds no other pattern is the last.
+/// These patterns, each once, with what further searches find: of each fault as many patterns as are asked for, where the searches come to them. Up to
+/// twice as many searches are made, since one may find patterns that are there; one that finds no other pattern is the last.
 pub(crate) fn repeated<E: Engine + Sync, G: Gate + Sync, R: Threads + Wait + Sync>(
     rt: &R,
     alloc: Global,
@@ -113,7 +113,7 @@ pub(crate) fn repeated<E: Engine + Sync, G: Gate + Sync, R: Threads + Wait + Syn
     ensures { IfOk result (λ v. AreGathered core.now holds.now faults.now patterns.items v.items) }
 {
     let mut all = joined(Vec::new(alloc), patterns)?;
-    for round in 1..plan.times {
+    for round in 1..plan.times.saturating_mul(2) {
         let before = all.len();
         let other = plan_of_round(plan, round);
         let more = found_again(rt, alloc, core, faults, &all, other, engine, stage, holds)?;

@@ -36,4 +36,4 @@ pub record IsWritten (n : Netlist) (holds : Holds) (chains : List (List ℕ)) (c
   pub report : made.report.items ≡ report_text made.said
   pub is_report : IsReport made.said
   pub said : IsSaid n chains holds classes limit marks patterns verdicts made.said
-  pub times : AreTimes n patterns times made.said.times
+  pub counted : AreTimes n patterns times made.said.times

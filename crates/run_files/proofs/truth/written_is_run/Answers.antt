@@ -44,7 +44,7 @@ returns c = λ n a classes patterns verdicts made sound design run.
           subst (λ (ps : List Pattern). (place : ℕ) → place < length ps → IsNeededFor n ps a.times by.good.tested.classes.representatives place) (sym by.patterns_are)
           (subst (λ (cs : Classes). (place : ℕ) → place < length patterns → IsNeededFor n patterns a.times cs.representatives place) (sym by.classes_are) run.searched.needed.each);
       differ = λ more. subst Differ (sym by.patterns_are) (run.searched.needed.differ more);
-      counted = run.written.times.most_is;
+      counted = run.written.counted.most_is;
       asked = are_asked n a chains classes run.are_classes run.size patterns verdicts run.searched made.said.lines lines;
       first = first_kept n a chains classes run.are_classes run.size patterns verdicts run.searched made.said.lines lines sound c.detected_alike.ensures;
       statement = subst (λ (f : FiveFiles). Statement n holds chains f) written truth.statement;
