@@ -98,6 +98,7 @@ asked_of options holds marks first = record {
   faults = marks;
   percent = options.percent;
   first = first;
+  times = options.times;
 }
 
 abbrev pub texts_made : RunFiles → List Text
@@ -138,4 +139,5 @@ plan_of options = record {
   seed = options.numbers.seed;
   percent = options.percent;
   rounds = options.rounds;
+  times = options.times;
 }

@@ -61,6 +61,7 @@ fn plan_of(options: RunOptions) -> RunPlan
         seed: numbers.seed,
         percent: options.percent,
         rounds: options.rounds,
+        times: options.times,
     }
 }
 
@@ -77,6 +78,7 @@ fn made_by<R: Threads + Wait + Sync, E: Engine + Sync, G: Gate + Sync>(
 ) -> Result<RunFiles, NoMemory>
     requires design { IsDesign core.now }
     requires range { AreInRange options.numbers }
+    requires times { 1 ≤ options.times }
     requires held { AreHoldsOf core.now holds.now }
     requires wanted { IsWanted core.now holds.now wanted }
     ensures { IfOk result (IsRun core.now (asked_by (plan_of options) wanted holds.now E.refutes)) }
@@ -106,6 +108,7 @@ pub fn by_trees<R: Threads + Wait + Sync, G: Gate + Sync>(
 ) -> Result<RunFiles, NoMemory>
     requires design { IsDesign core.now }
     requires range { AreInRange options.numbers }
+    requires times { 1 ≤ options.times }
     requires held { AreHoldsOf core.now holds.now }
     requires wanted { IsWanted core.now holds.now wanted }
     ensures { IfOk result (IsRun core.now (asked_by (plan_of options) wanted holds.now false)) }
@@ -134,6 +137,7 @@ fn by_clauses<R: Threads + Wait + Sync, G: Gate + Sync>(
 ) -> Result<RunFiles, NoMemory>
     requires design { IsDesign core.now }
     requires range { AreInRange options.numbers }
+    requires times { 1 ≤ options.times }
     requires held { AreHoldsOf core.now holds.now }
     requires wanted { IsWanted core.now holds.now wanted }
     ensures { IfOk result (IsRun core.now (asked_by (plan_of options) wanted holds.now true)) }
@@ -155,6 +159,7 @@ fn by_trees_then_clauses<R: Threads + Wait + Sync, G: Gate + Sync>(
 ) -> Result<RunFiles, NoMemory>
     requires design { IsDesign core.now }
     requires range { AreInRange options.numbers }
+    requires times { 1 ≤ options.times }
     requires held { AreHoldsOf core.now holds.now }
     requires wanted { IsWanted core.now holds.now wanted }
     ensures { IfOk result (IsRun core.now (asked_by (plan_of options) wanted holds.now true)) }
@@ -187,6 +192,7 @@ fn made_of<R: Threads + Wait + Sync, G: Gate + Sync>(
 ) -> Result<RunFiles, NoMemory>
     requires design { IsDesign core.now }
     requires range { AreInRange options.numbers }
+    requires times { 1 ≤ options.times }
     requires held { AreHoldsOf core.now holds.now }
     requires wanted { IsWanted core.now holds.now wanted }
     ensures { IfOk result (IsRun core.now (asked_of options holds.now wanted.faults.items wanted.first.items)) }
@@ -212,6 +218,7 @@ fn run_case<R: Threads + Wait + Sync, G: Gate + Sync>(
 ) -> Result<Product, Stop<Refusal>>
     requires ready { IsReady case }
     requires range { AreInRange options.numbers }
+    requires times { 1 ≤ options.times }
     ensures { IsWorked (made_due options case.core case.holds case.wanted.faults.items case.wanted.first.items) 5 result }
 {
     let RunCase {
@@ -241,6 +248,7 @@ fn work<R: Threads + Wait + Sync, G: Gate + Sync>(
     requires count { HaveCount (option_map (λ t. t.now) names.list) (option_map (λ t. t.now) names.first) (length texts.items) }
     requires within { All (λ text. length text ≤ most_bytes) (texts_of texts.items) }
     requires range { AreInRange options.numbers }
+    requires times { 1 ≤ options.times }
     ensures { IsWorked (run_due (option_map (λ t. t.now) names.entry.list) (option_map (λ t. t.now) names.entry.first) options (map hold_of named.now) (texts_of texts.items)) 5 result }
 {
     match case_of(alloc, texts, names.list, names.first, named) {
@@ -260,7 +268,8 @@ pub fn run_netlist<'a, R: Threads + Wait + Sync, S: Shelf, T: Sink, G: Gate + Sy
     options: RunOptions,
     named: &[Held<'_>],
 ) -> Ending<'a, Refusal>
-    requires { AreInRange options.numbers }
+    requires range { AreInRange options.numbers }
+    requires times { 1 ≤ options.times }
     ensures { CommandRow (run_reads names.entry.net.now (option_map (λ t. t.now) names.entry.list) (option_map (λ t. t.now) names.entry.first)) (run_files names.entry.prefix.now)
         (run_due (option_map (λ t. t.now) names.entry.list) (option_map (λ t. t.now) names.entry.first) options (map hold_of named.now))
         (world (S.files shelf.old) (S.failures shelf.old) (T.taken out.old) (T.failures out.old))

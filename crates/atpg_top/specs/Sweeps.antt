@@ -32,6 +32,7 @@ sweep_asked n = record {
   refutes = false;
   faults = all_faults n;
   percent = None;
+  times = 1;
   first = [];
 }
 

@@ -87,6 +87,7 @@ fn run_sample<R: Threads + Wait + Sync, G: Gate + Sync>(
         numbers,
         percent: None,
         rounds: ROUNDS,
+        times: 1,
     };
     let holds = Holds::none(alloc, core)?;
     let wanted = Wanted {

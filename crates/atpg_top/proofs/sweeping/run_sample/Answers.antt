@@ -18,4 +18,4 @@ pub by_trees-requires-clause-held : goal.by_trees-requires-clause-held
 by_trees-requires-clause-held g c κs within = ap length c.in_ok-holds.ensures ∙ length-map c.args.core.now.inputs (λ _. None)
 
 abbrev asked : Holds → List Bool → List Pattern → Asked
-asked holds marks first = record { holds = holds; chains = sweep_chains; limit = sweep_limit; refutes = false; faults = marks; percent = None; first = first }
+asked holds marks first = record { holds = holds; chains = sweep_chains; limit = sweep_limit; refutes = false; faults = marks; percent = None; first = first; times = 1 }
