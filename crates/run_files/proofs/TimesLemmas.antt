@@ -64,14 +64,8 @@ small n patterns most [] (k ∷ ks) all = absurd all
 small n patterns most (f ∷ fs) [] all = absurd all
 small n patterns most (f ∷ fs) (k ∷ ks) all = All-cons (λ j. j ≤ most) k ks all.0.bounded (small n patterns most fs ks all.1)
 
-counted_once : (most : ℕ) → most ≡ 1 → 0 ≡ counted_to most
-counted_once most one = grind (arith, nat_tests)
-
 counted_more : (most : ℕ) → 1 < most → most ≡ counted_to most
 counted_more most more = grind (arith, nat_tests)
-
-pub times_once : (n : Netlist) (patterns : List Pattern) (most : ℕ) (t : Times) → most ≡ 1 → t ≡ record { most = 0; of = [] } → AreTimes n patterns most t
-times_once n patterns most t one is = subst (AreTimes n patterns most) (sym is) (record { most_is = counted_once most one; counted = inl (refl, refl); has = inl refl })
 
 pub times_often : (n : Netlist) (patterns : List Pattern) (most : ℕ) (of : List ℕ) (t : Times) → 1 < most → most < 4294967296 → t ≡ record { most = most; of = of }
     → AllZip (IsTimes n patterns most) (universe_of n) of → AreTimes n patterns most t
