@@ -1,5 +1,5 @@
 -- Patterns that are gathered and chosen so that each fault is detected so many times.
-use Rattle.std.proofs.Common.{◌≡◌, ◌≢◌, ℕ, zero, suc, ◌+◌, ◌<◌, ◌≤◌, inl, inr, Bool, false, true, cond, List, [], ◌∷◌, length, map, get_or, Option, None, Some, refl, sym, ◌∙◌, subst, arith}
+use Rattle.std.proofs.Common.{◌≡◌, ◌≢◌, ℕ, zero, suc, ◌+◌, ◌<◌, ◌≤◌, inl, inr, Bool, false, true, cond, List, [], ◌∷◌, length, map, get_or, Option, None, Some, refl, sym, subst, arith}
 use Rattle.std.specs.List.{All, AllPairs, AllZip, Contains, slice_get}
 use Rattle.std.proofs.lemmas.Bool.{cases_order}
 use Rattle.std.proofs.lemmas.List.{length-map}
@@ -13,7 +13,7 @@ use Rattle.statement.specs.Netlists.{Netlist}
 use Rattle.statement.specs.Patterns.{Holds, Pattern, IsDetectedAt, IsLastDetected}
 use Rattle.cubes.specs.Cubes.{IsPatternOf}
 use Rattle.word_sim.specs.Hits.{IsNeverDetected, LastDetected}
-use Rattle.detections.specs.Times.{AreNeededMarks, IsAmongLast, IsDetectedBy, IsNeededFor}
+use Rattle.detections.specs.Times.{AreNeededMarks, IsAmongLast, IsNeededFor}
 use Rattle.list_core.specs.Finished.{AreFinished, IsFinished, IsLastTold}
 use Rattle.list_core.specs.Kept.{kept_from, new_place}
 use Rattle.list_core.specs.declared.verdicts.Verdict.{Verdict}
@@ -21,7 +21,7 @@ use Rattle.list_core.specs.Verdicts.{verdict_at}
 use Rattle.list_core.proofs.KeepLemmas.{kept_all, kept_at, kept_few, rises, source}
 use Rattle.list_core.proofs.LastPlaces.{told_of}
 use Rattle.fewer_patterns.specs.Fewer.{IsNoWorse}
-use Rattle.run_files.specs.inner.Often.{AreChosen, AreGathered, AreJoined, AreTold, Differ, LosesNone, told_verdict}
+use Rattle.run_files.specs.inner.Often.{AreChosen, AreGathered, AreJoined, AreTold, LosesNone, told_verdict}
 use Rattle.run_files.proofs.JoinLemmas.{all_joined}
 use Rattle.run_files.proofs.KnownLemmas.{seen_again}
 

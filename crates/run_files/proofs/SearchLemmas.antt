@@ -1,5 +1,5 @@
 -- What is found of the faults that are asked for, and so of all classes.
-use Rattle.std.proofs.Common.{◌≡◌, ℕ, zero, suc, ◌+◌, ◌-◌, ◌*◌, ◌/◌, ◌<◌, ◌≤◌, ◌==◌, inl, inr, ◌⊎◌, Bool, false, true, true≢false, cond, List, [], ◌∷◌, ◌++◌, length, map, get_or, Option, Some, None, refl, sym, ◌∙◌, ap, subst, arith}
+use Rattle.std.proofs.Common.{◌≡◌, ℕ, zero, suc, ◌+◌, ◌-◌, ◌*◌, ◌<◌, ◌≤◌, inl, inr, ◌⊎◌, Bool, false, true, true≢false, cond, List, [], ◌∷◌, length, get_or, Option, Some, None, refl, sym, ◌∙◌, ap, subst, arith}
 use Rattle.std.specs.Int.{div_ceil}
 use Rattle.std.specs.List.{All, Contains, slice_get}
 use Rattle.std.proofs.lemmas.Bool.{cases_order}
@@ -13,7 +13,6 @@ use Rattle.statement.specs.declared.lines.Fault.{Fault}
 use Rattle.statement.specs.Netlists.{Netlist}
 use Rattle.statement.specs.Patterns.{Holds, Pattern}
 use Rattle.statement.specs.Faults.{universe_of}
-use Rattle.cubes.specs.Cubes.{IsPatternOf}
 use Rattle.fault_collapse.specs.Classes.{AreClasses}
 use Rattle.fault_collapse.specs.Numbers.{Classes}
 use Rattle.word_sim.specs.Never.{unmarked}
@@ -23,13 +22,12 @@ use Rattle.list_core.specs.declared.verdicts.Verdict.TheVariants.{Open, Detected
 use Rattle.list_core.specs.Enough.{IsEnough, detected_weight}
 use Rattle.list_core.specs.Verdicts.{is_open, one_if_class_detected, verdict_at}
 use Rattle.worker.specs.Working.{IsDone, NoneOpen}
-use Rattle.run_files.specs.Runs.{count_true}
 use Rattle.run_files.specs.declared.asked.AskedClasses.{AskedClasses}
 use Rattle.run_files.specs.inner.Classes.{AreAskedClasses, IsAskedClass, asked_in, detected_in, is_zero}
 use Rattle.run_files.specs.inner.Often.{AreChosen}
 use Rattle.run_files.specs.inner.Searches.{AreDetectedMarks, AreFound, AreKnown, AreSearched, IsGoal, IsGoalOf, IsMet, IsSeenBy}
 use Rattle.run_files.specs.inner.Spread.{marked_weight, spread, unmarked_weights}
-use Rattle.run_files.specs.inner.Verdicts.{AreVerdicts, IsVerdict, MayHave}
+use Rattle.run_files.specs.inner.Verdicts.{IsVerdict, MayHave}
 use Rattle.run_files.proofs.CountLemmas.{asked_some, some_asked, weighed}
 use Rattle.run_files.proofs.KnownLemmas.{blank, detected_stays, kinds_of, seen_stays, shut_stays, verdicts_of}
 use Rattle.run_files.proofs.SpreadLemmas.{outweighs, spread_each, spread_open, spread_size, spread_weight}

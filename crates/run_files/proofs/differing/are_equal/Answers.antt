@@ -1,5 +1,3 @@
-use Rattle.std.proofs.Common.{Bool, List, subst}
-use Rattle.std.specs.Bool.{Decides}
 use Rattle.std.specs.Cmp.{booleans_Decides}
 use Rattle.std.proofs.lemmas.Slice.Eq.{slice_eq-Decides}
 use Rattle.run_files.proofs.JoinLemmas.{other_inputs, same_inputs}

@@ -1,4 +1,4 @@
-use Rattle.std.proofs.Common.{◌≡◌, ◌≤◌, List, length, subst, sym, ◌∙◌, ap, arith}
+use Rattle.std.proofs.Common.{◌≤◌, List, length, subst, sym, ◌∙◌, ap, arith}
 use Rattle.std.specs.List.{All}
 use Rattle.std.proofs.lemmas.Slice.Zip.{AllZip-long}
 use Rattle.statement.specs.declared.lines.Fault.{Fault}

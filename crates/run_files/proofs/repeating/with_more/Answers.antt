@@ -1,11 +1,5 @@
-use Rattle.std.proofs.Common.{◌+◌, ◌≤◌, List, length, arith}
-use Rattle.std.specs.List.{All}
+use Rattle.std.proofs.Common.{◌+◌, ◌≤◌, length, arith}
 use Rattle.std.proofs.lemmas.Result.{IfOk-weaker}
-use Rattle.statement.specs.declared.lines.Fault.{Fault}
-use Rattle.statement.specs.Netlists.{Netlist}
-use Rattle.statement.specs.Patterns.{Holds, Pattern}
-use Rattle.cubes.specs.Cubes.{IsPatternOf}
-use Rattle.run_files.specs.inner.Often.{AreGathered, AreJoined}
 use Rattle.run_files.proofs.OftenLemmas.{more_gathered}
 use Rattle.run_files.proofs.repeating.with_more.Goals as goal
 

@@ -1,6 +1,6 @@
-use Rattle.std.proofs.Common.{◌+◌, ◌/◌, ◌<◌, inl, refl, List, subst, sym, ◌∙◌, ap, ap₂, arith}
+use Rattle.std.proofs.Common.{◌+◌, ◌/◌, ◌<◌, List, subst, sym, ◌∙◌, ap, ap₂, arith}
 use Rattle.std.specs.List.{All}
-use Rattle.report.specs.Reports.{AreCounted, Hold, IsBenchWord, Report, Times}
+use Rattle.report.specs.Reports.{Hold, IsBenchWord, Report}
 use Rattle.run_report.specs.Heads.{share_of}
 use Rattle.run_report.proofs.CycleLemmas.{share_small}
 use Rattle.run_files.proofs.ReportLemmas.{held_words}
