@@ -26,7 +26,7 @@ use Rattle.commands.specs.declared.product.Product.{Product}
 use Rattle.commands.specs.declared.product.Stop.{Stop}
 use Rattle.commands.specs.declared.product.Stop.TheVariants as stop
 use Rattle.test_commands.specs.Plays.{play_due, IsPlay, IsShown}
-use Rattle.command_steps.specs.Steps.{◌>>=◌, named_fault, netlist, value}
+use Rattle.command_steps.specs.Steps.{named_fault, netlist, value}
 use Rattle.test_commands.specs.declared.playing.Trial.{Trial}
 use Rattle.command_steps.specs.declared.refusal.Refusal.{Refusal}
 use Rattle.command_steps.specs.declared.refusal.Refusal.TheVariants.{NotStil}

@@ -7,12 +7,12 @@ ghost use Rattle.statement.specs.declared.lines.Fault.{Fault as Stuck};
 ghost use Rattle.test_commands.specs.Grades.{grade_counts, grade_line, grade_lines, grade_numbers, grade_text, grades_text, is_detected, is_undetected, is_unknown};
 ghost use Rattle.test_commands.specs.inner.GradeTrials.{IsGradeOutput};
 
+use crate::pins::Pins;
 use command_steps::OneFile;
 use fault_universe::{FaultSet, push_text};
 use grade::Grade;
 use itoa::Buffer;
 use netlist::{Fault, Netlist, NoMemory};
-use scan_insert::pin_name;
 use std::alloc::{AllocError, Global};
 
 fn is_detected(grade: Grade) -> bool
@@ -103,61 +103,49 @@ fn push_strobe(text: &mut Vec<u8>, cycle: u64, pin: &[u8]) -> Result<(), AllocEr
 }
 
 /// Adds a grade, by pins of the scanned netlist.
-fn push_grade(
-    alloc: Global,
-    text: &mut Vec<u8>,
-    scanned: &Netlist,
-    grade: Grade,
-) -> Result<(), NoMemory>
-    requires { IsGradeOutput scanned.now grade }
-    ensures { OnOk result (text.new.items ≡ text.old.items ++ grade_text scanned.now grade) }
+fn push_grade(text: &mut Vec<u8>, pins: &Pins<'_>, grade: Grade) -> Result<(), AllocError>
+    requires { IsGradeOutput pins.now grade }
+    ensures { OnOk result (text.new.items ≡ text.old.items ++ grade_text pins.now grade) }
 {
     match grade {
-        Grade::Detected(cycle, output) => {
-            let pin = pin_name(alloc, scanned, output)?;
-            push_strobe(text, cycle, pin.as_slice()).map_err(|_| NoMemory)
-        }
-        Grade::Undetected => text
-            .extend_from_slice(b" undetected\n")
-            .map_err(|_| NoMemory),
-        Grade::Unknown => text.extend_from_slice(b" unknown\n").map_err(|_| NoMemory),
+        Grade::Detected(cycle, output) => push_strobe(text, cycle, pins.name(output)),
+        Grade::Undetected => text.extend_from_slice(b" undetected\n"),
+        Grade::Unknown => text.extend_from_slice(b" unknown\n"),
     }
 }
 
 /// Adds the line of a fault of the design.
 fn push_line(
-    alloc: Global,
     text: &mut Vec<u8>,
     design: &Netlist,
-    scanned: &Netlist,
+    pins: &Pins<'_>,
     fault: Fault,
     grade: Grade,
-) -> Result<(), NoMemory>
+) -> Result<(), AllocError>
     requires signal { signal_of fault.line < length (signals design.now) }
-    requires output { IsGradeOutput scanned.now grade }
-    ensures { OnOk result (text.new.items ≡ text.old.items ++ grade_line design.now scanned.now fault grade) }
+    requires output { IsGradeOutput pins.now grade }
+    ensures { OnOk result (text.new.items ≡ text.old.items ++ grade_line design.now pins.now fault grade) }
 {
-    push_text(text, design, fault).map_err(|_| NoMemory)?;
-    push_grade(alloc, text, scanned, grade)
+    push_text(text, design, fault)?;
+    push_grade(text, pins, grade)
 }
 
 /// Adds a line for each fault of the design.
 fn push_lines(
-    alloc: Global,
     text: &mut Vec<u8>,
     design: &Netlist,
-    scanned: &Netlist,
+    pins: &Pins<'_>,
     faults: &FaultSet,
     grades: &[Grade],
-) -> Result<(), NoMemory>
+) -> Result<(), AllocError>
     requires size { length grades.now ≡ length faults.now }
     requires signals { All (λ (f : Stuck). signal_of f.line < length (signals design.now)) faults.now }
-    requires outputs { All (IsGradeOutput scanned.now) grades.now }
-    ensures { OnOk result (text.new.items ≡ text.old.items ++ grade_lines design.now scanned.now faults.now grades.now) }
+    requires outputs { All (IsGradeOutput pins.now) grades.now }
+    ensures { OnOk result (text.new.items ≡ text.old.items ++ grade_lines design.now pins.now faults.now grades.now) }
 {
     for i in 0..faults.len() {
         let grade = grades[i as usize];
-        push_line(alloc, text, design, scanned, faults.fault(i), grade)?;
+        push_line(text, design, pins, faults.fault(i), grade)?;
     }
     Ok(())
 }
@@ -188,6 +176,7 @@ pub fn grade_texts(
 {
     let line = counts_line(alloc, grades)?;
     let mut text = begun(alloc, line.as_slice())?;
-    push_lines(alloc, &mut text, design, scanned, faults, grades)?;
+    let pins = Pins::of(alloc, scanned)?;
+    push_lines(&mut text, design, &pins, faults, grades)?;
     Ok(OneFile { text, line })
 }

@@ -10,6 +10,7 @@
 mod chain_testing;
 mod grade_lines;
 mod grading;
+mod pins;
 mod playing;
 mod told_lines;
 

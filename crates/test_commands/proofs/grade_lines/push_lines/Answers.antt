@@ -11,11 +11,11 @@ loop-i-preserved c =
     let test = c.loop-i-test.true in
     let within : c.loop-i.i < length faults = omega arith in
     let g = c.fault.result in
-    line_more (λ p. grade_line c.args.design.now c.args.scanned.now p.0 p.1) faults c.args.grades.now c.loop-i.i g _ _ c.args.text.now.items c.loop-i.text.items _ within c.requires.size
+    line_more (λ p. grade_line c.args.design.now c.args.pins.now p.0 p.1) faults c.args.grades.now c.loop-i.i g _ _ c.args.text.now.items c.loop-i.text.items _ within c.requires.size
     (sym (get_or_from_slice_get faults c.loop-i.i g g c.fault.ensures)) refl c.loop-i.invariant c.in_ok-push_line.ensures
 
 pub returns : goal.returns
 returns c =
     let size = c.len-i-end.ensures in
     let test = c.loop-i-test.false in
-    lines_all (λ p. grade_line c.args.design.now c.args.scanned.now p.0 p.1) c.args.faults.now c.args.grades.now c.loop-i.i c.args.text.now.items c.loop-i.text.items (omega arith) c.requires.size c.loop-i.invariant
+    lines_all (λ p. grade_line c.args.design.now c.args.pins.now p.0 p.1) c.args.faults.now c.args.grades.now c.loop-i.i c.args.text.now.items c.loop-i.text.items (omega arith) c.requires.size c.loop-i.invariant

@@ -1,4 +1,4 @@
-use Rattle.std.proofs.Common.{◌≡◌, List, [], ◌∷◌, Vec, ℕ, ap, refl}
+use Rattle.std.proofs.Common.{Vec, ℕ, ap}
 use Rattle.std.specs.declared.alloc.Global.{Global}
 use Rattle.test_commands.proofs.GradeLemmas.{grades_deliver}
 use Rattle.test_commands.proofs.grading.graded.Goals as goal
