@@ -1,21 +1,23 @@
 -- Machines that are played in legs.
-use Rattle.std.proofs.Common.{◌≡◌, ◌≢◌, ℕ, suc, zero, ◌+◌, ◌<◌, ◌≤◌, ◌⊎◌, Bool, true, false, List, [], ◌∷◌, ◌++◌, map, length, get_or, replicate, Option, Some, None, refl, sym, ◌∙◌, ap, subst, inl, inr, arith, length-append}
+use Rattle.std.proofs.Common.{◌≡◌, ◌≢◌, ℕ, suc, zero, ◌+◌, ◌-◌, ◌<◌, ◌≤◌, ◌⊎◌, Bool, true, false, List, [], ◌∷◌, ◌++◌, map, length, get_or, take, drop, replicate, Option, Some, None, refl, sym, ◌∙◌, ap, subst, inl, inr, arith, length-append, take-add}
 use Rattle.std.specs.List.{All, slice_get}
 use Rattle.std.specs.Prelude.{option_map}
 use Rattle.std.proofs.lemmas.Bool.{both_ways, cases_eq, cases_lt}
-use Rattle.std.proofs.lemmas.List.{length-map, length-replicate}
-use Rattle.std.proofs.lemmas.List.Elements.{All-cons, All-from_get_or}
+use Rattle.std.proofs.lemmas.Grind.{flat_map-append}
+use Rattle.std.proofs.lemmas.List.{length-map, length-replicate, take-append-drop}
+use Rattle.std.proofs.lemmas.List.Elements.{All-from_get_or}
 use Rattle.std.proofs.lemmas.Option.{get_or_from_slice_get, none-some, same_Some, slice_get-get_or, slice_get-map, slice_get_within}
 use Rattle.statement.specs.declared.kinds.Tri.{Tri}
 use Rattle.statement.specs.declared.kinds.Tri.TheVariants.{X}
 use Rattle.statement.specs.declared.lines.Fault.{Fault}
 use Rattle.netlist.specs.Conditions.{IsSound}
+use Rattle.netlist.proofs.Lists.{all_left, all_right}
 use Rattle.netlist.proofs.Settling.{zip_from}
 use Rattle.statement.specs.Netlists.{Netlist, cells}
 use Rattle.statement.specs.Runs.{Cycle}
 use Rattle.scan_play.specs.declared.cycles.Burst.{Burst}
 use Rattle.scan_play.specs.declared.played.Played.{Played}
-use Rattle.scan_play.specs.Bursts.{all_cycles}
+use Rattle.scan_play.specs.Bursts.{all_cycles, cycles_of}
 use Rattle.scan_play.specs.Cycles.{IsCycleOf}
 use Rattle.scan_play.specs.Judging.{IsJudged, Judging}
 use Rattle.scan_play.specs.inner.Steps.{PlaysOn}
@@ -66,11 +68,11 @@ open_start machines start = record {
 
 pub open_push : (machines : List Machine) (start at : ℕ) (m : Machine) (places : List ℕ) → slice_get machines at ≡ Some m → is_open m.said ≡ true → start ≤ at → AreOpen machines start at places
     → AreOpen machines start (at + 1) (places ++ at ∷ [])
-open_push machines start at m places here open low h = record {
+open_push machines start at m places here opens low h = record {
   each = λ k place e. elim (pushed_at places at k place e) [
     | inl q ↦ let o = h.each k place q in (o.0, (let high = o.1 in omega (arith, high)), o.2)
     | inr same ↦
-        (omega (arith, low, same), omega (arith, same), λ x there. ap (λ (y : Machine). y.said) (same_Some x m (sym there ∙ (ap (slice_get machines) same ∙ here))) ∙ open_none m.said open)
+        (omega (arith, low, same), omega (arith, same), λ x there. ap (λ (y : Machine). y.said) (same_Some x m (sym there ∙ (ap (slice_get machines) same ∙ here))) ∙ open_none m.said opens)
   ];
   all = λ place x there from to none. elim (cases_eq place at) [
     | inl same ↦ (length places, last_at places at ∙ ap Some (sym same))
@@ -93,8 +95,7 @@ open_within machines start end most places low h =
     All-from_get_or (λ place. place < most) places 0 (λ k l. let high = (h.each k (get_or places k 0) (slice_get-get_or places k 0 l)).1 in omega (arith, high, low))
 
 all_from : {Y : Type 0} (P : Y → Type 0) (xs : List Y) → ((k : ℕ) (x : Y) → slice_get xs k ≡ Some x → P x) → All P xs
-all_from P [] h = tt
-all_from P (x ∷ xs) h = All-cons P x xs (h 0 x refl) (all_from P xs (λ k y e. h (suc k) y e))
+all_from P xs h = λ k d l. h k (get_or xs k d) (slice_get-get_or xs k d l)
 
 none_found : (count k : ℕ) → found_at (replicate count None) k ≡ None
 none_found zero k = refl
@@ -153,11 +154,11 @@ module _ (says : Judging) (faults : List Fault) (n : Netlist) where
   pub team_begins : (played leg : List Burst) (start end : ℕ) (machines : List Machine) (places : List ℕ) (lines : List Fault) (packed : List Lanes) (found : List (Option Played)) → end ≤ length machines
       → AreOpen machines start end places → AreLines faults places lines → ArePacked machines places (length (cells n)) packed → found ≡ replicate (length places) None → AreInLeg says faults n played leg start machines
       → ArePlayed says lines n (all_cycles played) packed found
-  team_begins played leg start end machines places lines packed found within open are pack none h = record {
+  team_begins played leg start end machines places lines packed found within opens are pack none h = record {
     size = ap length none ∙ (length-replicate (length places) None ∙ sym (lines_length faults places lines are));
     each = λ k l.
         let p = some_at places k (let e = lines_length faults places lines are in omega (arith, l)) in
-        let o = open.each k p.0 p.1 in
+        let o = opens.each k p.0 p.1 in
         let it = some_at machines p.0 (let high = o.1 in omega (arith, high, within)) in
         let begin = replicate (length (cells n)) X in
         let cycles = all_cycles played in
@@ -176,16 +177,16 @@ module _ (says : Judging) (faults : List Fault) (n : Netlist) where
       → ((place : ℕ) (m : Machine) → slice_get new place ≡ Some m
       → ((slice_get old place ≡ Some m) × ((k : ℕ) → slice_get places k ≢ Some place)) ⊎ ((place < end) × PlaysAt says faults n (all_cycles played ++ all_cycles leg) place m))
       → AreInLeg says faults n played leg start old → AreInLeg says faults n played leg end new
-  leg_step played leg start end old new places low open same cases h = record {
+  leg_step played leg start end old new places low opens same cases h = record {
     size = same ∙ h.size;
     done = λ place m there inside. elim (cases place m there) [
       | inl q ↦ elim (cases_lt place start) [
-          | inl before ↦ h.done place m q.0 before
-          | inr behind ↦
-              told_stays (slice_get faults place) (all_cycles played) (all_cycles leg) (replicate (length (cells n)) X) m.state.items m.said
-              (λ none. let at = open.all place m q.0 (omega (arith, behind)) inside none in q.1 at.0 at.1)
-              (h.others place m q.0 (omega (arith, behind)))
-        ]
+        | inl before ↦ h.done place m q.0 before
+        | inr behind ↦
+            told_stays (slice_get faults place) (all_cycles played) (all_cycles leg) (replicate (length (cells n)) X) m.state.items m.said
+            (λ none. let at = opens.all place m q.0 (omega (arith, behind)) inside none in q.1 at.0 at.1)
+            (h.others place m q.0 (omega (arith, behind)))
+      ]
       | inr q ↦ q.1
     ];
     others = λ place m there outside. elim (cases place m there) [
@@ -194,25 +195,58 @@ module _ (says : Judging) (faults : List Fault) (n : Netlist) where
     ];
   }
 
-  -- where nobody is open
+  -- where none is open
   pub leg_skips : (played leg : List Burst) (start end : ℕ) (machines : List Machine) (places : List ℕ) → start ≤ end → AreOpen machines start end places → length places ≡ 0 → AreInLeg says faults n played leg start machines
       → AreInLeg says faults n played leg end machines
-  leg_skips played leg start end machines places low open none h =
-      leg_step played leg start end machines machines places low open refl (λ place m there. inl (there, λ k e. let inside = slice_get_within places k place e in omega (arith, inside, none))) h
+  leg_skips played leg start end machines places low opens none h =
+      leg_step played leg start end machines machines places low opens refl (λ place m there. inl (there, λ k e. let inside = slice_get_within places k place e in omega (arith, inside, none))) h
 
   -- once a team was played through the leg, and taken apart
   pub leg_more : (played leg : List Burst) (start end : ℕ) (old new : List Machine) (places : List ℕ) (lines : List Fault) (state : List Lanes) (said : List (Option Played)) → start ≤ end → AreOpen old start end places
       → AreLines faults places lines → AreFiled places (length places) state said old new → ArePlayed says lines n (all_cycles played ++ all_cycles leg) state said → AreInLeg says faults n played leg start old
       → AreInLeg says faults n played leg end new
-  leg_more played leg start end old new places lines state said low open are filed plays h =
-      leg_step played leg start end old new places low open filed.size
+  leg_more played leg start end old new places lines state said low opens are filed plays h =
+      leg_step played leg start end old new places low opens filed.size
       (λ place m there. elim (filed.each place m there) [
         | inl q ↦ inl (q.0, λ k e. q.1 k (slice_get_within places k place e) e)
         | inr q ↦
             let begin = replicate (length (cells n)) X in
             let cycles = all_cycles played ++ all_cycles leg in
             let inside : q.0 < length lines = (let e = lines_length faults places lines are in let l = q.1 in omega (arith, l, e)) in
-            inr ((open.each q.0 place q.2).1, subst (λ g. PlaysOn says g n cycles 0 begin m.state.items m.said) (line_at faults places lines q.0 place are q.2)
-                (subst (λ s. PlaysOn says (slice_get lines q.0) n cycles 0 begin s m.said) (sym q.3.state_is)
-                (subst (PlaysOn says (slice_get lines q.0) n cycles 0 begin (lanes q.0 state)) (sym q.3.said_is) (plays.each q.0 inside))))
+            inr (
+              (opens.each q.0 place q.2).1,
+              subst (λ g. PlaysOn says g n cycles 0 begin m.state.items m.said) (line_at faults places lines q.0 place are q.2)
+                  (subst (λ s. PlaysOn says (slice_get lines q.0) n cycles 0 begin s m.said) (sym q.3.state_is)
+                  (subst (PlaysOn says (slice_get lines q.0) n cycles 0 begin (lanes q.0 state)) (sym q.3.said_is) (plays.each q.0 inside))),
+            )
       ]) h
+
+-- ---- the bursts of a leg
+
+-- what is played up to its end
+pub leg_taken : (bursts : List Burst) (from to : ℕ) → from ≤ to → all_cycles (take to bursts) ≡ all_cycles (take from bursts) ++ all_cycles (take (to - from) (drop from bursts))
+leg_taken bursts from to l =
+    let e : to ≡ from + (to - from) = omega arith in
+    ap (λ k. all_cycles (take k bursts)) e
+    ∙ (ap all_cycles (take-add from (to - from) bursts) ∙ flat_map-append cycles_of (take from bursts) (take (to - from) (drop from bursts)))
+
+leg_whole : (bursts : List Burst) (from to : ℕ) → from ≤ to → all_cycles bursts ≡ (all_cycles (take from bursts) ++ all_cycles (take (to - from) (drop from bursts))) ++ all_cycles (drop to bursts)
+leg_whole bursts from to l =
+    ap all_cycles (sym (take-append-drop to bursts)) ∙ (flat_map-append cycles_of (take to bursts) (drop to bursts) ∙ ap (λ cs. cs ++ all_cycles (drop to bursts)) (leg_taken bursts from to l))
+
+pub leg_fits : (n : Netlist) (bursts : List Burst) (from to : ℕ) (cycles : List Cycle) → from ≤ to → cycles ≡ all_cycles bursts → All (IsCycleOf n) cycles → All (IsCycleOf n) (all_cycles (take (to - from) (drop from bursts)))
+leg_fits n bursts from to cycles l same fits =
+    let parts = all_cycles (take from bursts) ++ all_cycles (take (to - from) (drop from bursts)) in
+    all_right (IsCycleOf n) (all_cycles (take from bursts)) (all_cycles (take (to - from) (drop from bursts)))
+    (all_left (IsCycleOf n) parts (all_cycles (drop to bursts)) (subst (λ cs. All (IsCycleOf n) cs) (same ∙ leg_whole bursts from to l) fits))
+
+pub leg_few : (bursts : List Burst) (from to : ℕ) (cycles : List Cycle) → from ≤ to → cycles ≡ all_cycles bursts
+    → length (all_cycles (take from bursts)) + length (all_cycles (take (to - from) (drop from bursts))) ≤ length cycles
+leg_few bursts from to cycles l same =
+    let a = all_cycles (take from bursts) in
+    let b = all_cycles (take (to - from) (drop from bursts)) in
+    let c = all_cycles (drop to bursts) in
+    let whole : length cycles ≡ length ((a ++ b) ++ c) = ap length (same ∙ leg_whole bursts from to l) in
+    let one = length-append (a ++ b) c in
+    let two = length-append a b in
+    omega (arith, whole, one, two)
