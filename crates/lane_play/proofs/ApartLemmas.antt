@@ -58,7 +58,7 @@ last_at (z ∷ zs) y = last_at zs y
 
 pub open_none : (said : Option Played) → is_open said ≡ true → said ≡ None
 open_none None e = refl
-open_none (Some p) e = absurd (both_ways true refl e)
+open_none (Some p) e = absurd (both_ways false refl e)
 
 pub open_start : (machines : List Machine) (start : ℕ) → AreOpen machines start start []
 open_start machines start = record {
@@ -84,7 +84,7 @@ pub open_skip : (machines : List Machine) (start at : ℕ) (m : Machine) (places
 open_skip machines start at m places here closed h = record {
   each = λ k place e. let o = h.each k place e in (o.0, (let high = o.1 in omega (arith, high)), o.2);
   all = λ place x there from to none. elim (cases_eq place at) [
-    | inl same ↦ absurd (both_ways true (ap is_open (ap (λ (y : Machine). y.said) (same_Some m x (sym here ∙ (ap (slice_get machines) (sym same) ∙ there))) ∙ none)) closed)
+    | inl same ↦ absurd (both_ways (is_open m.said) closed (ap is_open (ap (λ (y : Machine). y.said) (same_Some m x (sym here ∙ (ap (slice_get machines) (sym same) ∙ there))) ∙ none)))
     | inr other ↦ h.all place x there from (omega (arith, to, other)) none
   ];
 }

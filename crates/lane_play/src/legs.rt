@@ -30,9 +30,9 @@ struct Team {
 
 /// The next such machines, from a place on.
 fn team_from(alloc: Global, machines: &[Machine], start: usize) -> Result<Team, AllocError>
-    requires { start ≤ length machines.now }
+    requires { start < length machines.now }
     ensures few { IfOk result (λ t. length t.places.items ≤ 64) }
-    ensures within { IfOk result (λ t. (start ≤ t.end) × (t.end ≤ length machines.now)) }
+    ensures within { IfOk result (λ t. (start < t.end) × (t.end ≤ length machines.now)) }
     ensures all { IfOk result (λ t. AreOpen machines.now start t.end t.places.items) }
 {
     let mut places = Vec::with_capacity(alloc, 64)?;

@@ -7,6 +7,5 @@ returns g c =
     let machines = c.loop-start.machines in
     let within = c.loop-start.invariant.within in
     let last = c.loop-start-test.false in
-    let count = c.len-start.ensures in
     let same : c.loop-start.start ≡ length machines = omega arith in
     subst (λ k. AreInLeg (g.J.Judge.says c.args.judge.now) c.args.faults.now c.args.core.now c.args.played.now c.args.leg.now k machines) same c.loop-start.invariant.apart

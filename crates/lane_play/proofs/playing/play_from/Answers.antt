@@ -11,4 +11,4 @@ returns g c =
     let cycles = all_cycles c.args.bursts.now in
     let after = c.play_bursts.new.bench.state.items in
     subst (λ (fs : List Fault). KeepsBehind (kept c.args.watch) (kept c.in_ok-heard.heard) fs c.args.core.now c.args.first cycles c.args.state.items after) c.in_ok-rule.ensures.faults
-    (subst (λ (s : List Lanes). KeepsBehind (kept c.args.watch) (kept c.in_ok-heard.heard) c.rule.faults.now c.args.core.now c.args.first cycles s after) c.in_ok-bench.ensures.state c.in_ok-heard.ensures)
+    (subst (λ (s : List Lanes). KeepsBehind (kept c.args.watch) (kept c.in_ok-heard.heard) c.in_ok-rule.rule.faults.now c.args.core.now c.args.first cycles s after) c.in_ok-bench.ensures.state c.in_ok-heard.ensures)
