@@ -207,6 +207,35 @@ def test_program_begins_with_a_test():
         assert run_program(folder, "s27.bench", "few", "--limit", "128", "--faults", "some", "--with", "part", "--coverage", "1") == part
 
 
+def test_program_detects_as_often_as_asked():
+    """With --detect N each fault of two small designs is detected by N different patterns, or by all that there are: so a plain program counts, of all
+    patterns and of those of the test. It takes the five files, also where an input is held, some faults aren't asked for or several workers search. With
+    1 they are what they are without the option."""
+    if not program("atpg_main").exists():
+        return NO_PROGRAM
+    with tempfile.TemporaryDirectory() as room:
+        folder = pathlib.Path(room)
+        for name, times in itertools.product(("c17", "s27"), (2, 3, 10)):
+            (folder / f"{name}.bench").write_bytes(example(name))
+            netlist = plain_design.read(example(name))
+            sources = netlist.inputs + netlist.cells
+            every = [dict(zip(sources, bits)) for bits in itertools.product((0, 1), repeat=len(sources))]
+            run_program(folder, f"{name}.bench", "p", "--detect", str(times))
+            files = plain_check.read_files(folder / "p")
+            head, _, _ = plain_check.read_report(files["rep"])
+            assert head["detect"] == times and head["times"] == plain_check.Situation(netlist, [], {}, every).times(times), (name, times, head["times"])
+            patterns = plain_check.patterns_of(plain_design.stil_tokens(files["stil"]), netlist, plain_design.chains_of(netlist.cells, 1), {})
+            assert len({tuple(pattern.values()) for pattern in patterns}) == len(patterns), (name, times)
+            assert plain_check.check(files)[0] == 0, (name, times)
+        (folder / "some").write_text("stem G17/0\nstem G17/1\n")
+        for words in (["--hold", "G0=1"], ["--faults", "some"], ["--workers", "3", "--chains", "2", "--engine", "fan"], ["--coverage", "50"]):
+            run_program(folder, "s27.bench", "p", "--detect", "3", *words)
+            assert plain_check.check(plain_check.read_files(folder / "p"))[0] == 0, words
+        run_program(folder, "s27.bench", "p")
+        run_program(folder, "s27.bench", "q", "--detect", "1")
+        assert all((folder / f"p.{end}").read_bytes() == (folder / f"q.{end}").read_bytes() for end in plain_check.ENDS)
+
+
 def test_program_splits_places_of_slow_lines():
     """Trees of slow lines that FAN makes split and force only what it may on the two frames in which the line alone is slow. On the first netlist six
     trees don't where those of many lines' netlist are taken; on the other, by the limit of one closed end, 33 searches give up."""

@@ -319,7 +319,8 @@ def run(texts, options, told):
     unasked = len(plain.universe(netlist)) - len(asked)
     trees_alone = options.get("--engine") != "clauses" and "--then" not in options
     certificate = "atpg certificate 1\n" if trees_alone else "atpg certificate "
-    begun = [OfRun(begin, this) for begin in ("STIL 1.0;\n", certificate, f"atpg report {3 if unasked else 2 if held else 1}\n")]
+    version = 4 if int(options.get("--detect", "1")) > 1 else 3 if unasked else 2 if held else 1
+    begun = [OfRun(begin, this) for begin in ("STIL 1.0;\n", certificate, f"atpg report {version}\n")]
     detected = detected_faults(texts[0], tuple(held.items())).intersection(asked)
     totals = totals_of(len(plain.universe(netlist)), len(detected), unasked)
     return Due([plain.canonical(netlist).decode(), plain.canonical(scanned_of(netlist, options)).decode(), *begun], Begun(totals))

@@ -3,7 +3,7 @@ use Rattle.std.proofs.Common.{◌≡◌, ℕ, ◌+◌, ◌-◌, ◌*◌, ◌<◌
 use Rattle.std.proofs.lemmas.Bool.{cases_lt}
 use Rattle.std.proofs.lemmas.List.{get_or-reverse, length-reverse, reverse-reverse}
 use Rattle.std.proofs.lemmas.Nat.{mul-le}
-use Rattle.std.proofs.lemmas.Option.{slice_get-get_or}
+use Rattle.std.proofs.lemmas.Option.{same_Some, slice_get-get_or}
 use Rattle.std.proofs.Math.Nat.{suc-mul}
 use Rattle.statement.specs.declared.lines.Fault.{Fault}
 use Rattle.statement.specs.declared.lines.Point.{Point}
@@ -15,12 +15,11 @@ use Rattle.netlist.specs.Conditions.{IsSound}
 use Rattle.scan_insert.specs.Scanned.{AreChainsOf}
 use Rattle.scan_play.proofs.Places.{below_of, get_of, unloaded_early}
 use Rattle.word_sim.specs.Hits.{IsNeverDetected}
-use Rattle.grade.specs.Patterns.{IsPatternGrade, IsSeenAt}
+use Rattle.grade.specs.Patterns.{IsPatternGrade, IsDetectingStrobe}
 use Rattle.grade.specs.declared.grade.Grade.{Grade}
 use Rattle.grade.specs.declared.grade.Grade.TheVariants.{Detected, Undetected}
 use Rattle.grade.specs.inner.ByPatterns.{IsAtPlace}
 use Rattle.grade.specs.inner.Keys.{IsFirstKey}
-use Rattle.grade.proofs.Lists.{same_some}
 use Rattle.grade.proofs.Strobed.{strobed_once}
 
 -- ---- in reverse order
@@ -76,7 +75,7 @@ module _ (n : Netlist) (chains : List (List ℕ)) (sound : IsSound n) (are : Are
     number = length latest - 1 - place
 
     same_pattern : last.here.pattern ≡ p
-    same_pattern = same_some last.here.pattern p (sym last.here.at ∙ has)
+    same_pattern = same_Some last.here.pattern p (sym last.here.at ∙ has)
 
     detects_there : Detects n f p.inputs p.cells point
     detects_there = subst (λ (q : Pattern). Detects n f q.inputs q.cells point) same_pattern last.here.detects
@@ -87,7 +86,7 @@ module _ (n : Netlist) (chains : List (List ℕ)) (sound : IsSound n) (are : Are
     -- nothing is seen before
     not_before : (c o : ℕ) → ((d q : ℕ) (at : Point) → Detects n f p.inputs p.cells at → IsStrobedAt n chains number at d q → (d < c) ⊎ ((d ≡ c) × (q < o)) → ⊥)
         → c < 3 * longest_of chains + (number + 1) * (longest_of chains + 1) + longest_of chains
-        → (d q : ℕ) → (d < c) ⊎ ((d ≡ c) × (q < o)) → IsSeenAt n chains (reverse latest) f d q → ⊥
+        → (d q : ℕ) → (d < c) ⊎ ((d ≡ c) × (q < o)) → IsDetectingStrobe n chains (reverse latest) f d q → ⊥
     not_before c o none bound d q before seen =
         let t = seen.detected in
         let g = get_reverse latest seen.place t.pattern t.at in
@@ -104,7 +103,7 @@ module _ (n : Netlist) (chains : List (List ℕ)) (sound : IsSound n) (are : Are
                 let same : seen.place ≡ number = omega (arith, low, high) in
                 let at_place : slice_get latest place ≡ Some t.pattern =
                 ap (λ i. slice_get latest i) (let e : place ≡ length latest - 1 - seen.place = omega (arith, same, l, inside) in e) ∙ g.1 in
-                let pattern : t.pattern ≡ p = same_some t.pattern p (sym at_place ∙ has) in
+                let pattern : t.pattern ≡ p = same_Some t.pattern p (sym at_place ∙ has) in
                 none d q seen.point (subst (λ (x : Pattern). Detects n f x.inputs x.cells seen.point) pattern t.detects) (subst (λ i. IsStrobedAt n chains i seen.point d q) same seen.strobed) before
           ]
         ]
@@ -121,7 +120,7 @@ module _ (n : Netlist) (chains : List (List ℕ)) (sound : IsSound n) (are : Are
         let c = k.cycle + number * (longest_of chains + 1) in
         let strobed : IsStrobedAt n chains number w.0 c k.output = later number w.0 k.cycle k.output k.strobed in
         let bound = (between number w.0 c k.output strobed).1 in
-        let seen : IsSeenAt n chains (reverse latest) f c k.output = record {
+        let seen : IsDetectingStrobe n chains (reverse latest) f c k.output = record {
           place = number;
           point = w.0;
           detected = record { pattern = p; at = reverse_get latest place p inside has; detects = w.1 };

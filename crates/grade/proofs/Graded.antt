@@ -3,8 +3,8 @@ use Rattle.std.proofs.Common.{◌≡◌, ◌≢◌, ℕ, suc, zero, ◌+◌, ◌
 use Rattle.std.specs.List.{All, AllZip}
 use Rattle.std.specs.Prelude.{MatchOption}
 use Rattle.std.proofs.lemmas.Bool.{cases_eq}
-use Rattle.std.proofs.lemmas.List.{get_or-replicate, get_or-set_other, get_or-set_same, length-replicate, length-set}
-use Rattle.std.proofs.lemmas.Option.{slice_get-get_or}
+use Rattle.std.proofs.lemmas.List.{get_or-replicate, get_or-set_other, get_or-set_same, get_or_default, length-map, length-replicate, length-set}
+use Rattle.std.proofs.lemmas.Option.{get_or_from_slice_get, same_Some, slice_get-get_or, slice_get_within}
 use Rattle.statement.specs.declared.lines.Fault.{Fault}
 use Rattle.statement.specs.declared.lines.Point.{Point}
 use Rattle.statement.specs.Netlists.{Netlist}
@@ -12,9 +12,12 @@ use Rattle.statement.specs.Patterns.{Pattern}
 use Rattle.statement.specs.Runs.{Cycle}
 use Rattle.statement.specs.Tests.{longest_of}
 use Rattle.netlist.specs.Conditions.{IsSound}
+use Rattle.netlist.specs.Designs.{IsDesign}
 use Rattle.netlist.specs.Lines.{IsLineOf}
+use Rattle.netlist.proofs.Settling.{zip_from}
 use Rattle.scan_insert.specs.Scanned.{AreChainsOf, insertion_of, scanned_of, sites_of}
 use Rattle.chain_test.specs.Hardware.{at_site}
+use Rattle.scan_play.proofs.Shifting.{zip_at, zip_length}
 use Rattle.word_sim.specs.Hits.{LastDetected}
 use Rattle.word_sim.specs.inner.Packed.{AreGoodFor}
 use Rattle.grade.specs.Grades.{IsGraded}
@@ -26,7 +29,7 @@ use Rattle.grade.specs.inner.ByPatterns.{AreGradedPart, AreGradedUpTo, AreTestCy
 use Rattle.grade.specs.inner.Spotting.{IsSpotted}
 use Rattle.grade.specs.inner.Spread.{AreSiteGrades}
 use Rattle.grade.proofs.FirstGraded.{first_graded, never_graded}
-use Rattle.grade.proofs.Lists.{drop_get, same_some, take_get, within, zip_at, zip_from, zip_size}
+use Rattle.grade.proofs.Lists.{drop_get, take_get}
 
 -- ---- a place
 
@@ -36,7 +39,7 @@ none_within told start end e w is = let h : ◌≡◌ {A = Option (ℕ × Point)
 pub some_within : (told : Option (ℕ × Point)) (place : ℕ) (point : Point) (start end : ℕ) (r : Option ℕ) → told ≡ Some (place, point) → MatchOption r (IsOutside place start end) (IsOffset place start end)
     → MatchOption r (IsElsewhere told start end) (IsThere told start end)
 some_within told place point start end None e h = λ w is.
-    let same : ◌≡◌ {A = ℕ × Point} (place, point) w = same_some (place, point) w (sym e ∙ is) in
+    let same : ◌≡◌ {A = ℕ × Point} (place, point) w = same_Some (place, point) w (sym e ∙ is) in
     subst (λ (u : ℕ × Point). (u.0 < start) ⊎ (end ≤ u.0)) same h
 some_within told place point start end (Some j) e h = record {
   point = point;
@@ -72,7 +75,7 @@ module _ (n : Netlist) (chains : List (List ℕ)) (latest : List Pattern) where
     none_graded grades e = record {
       size = ap length e ∙ length-replicate (length faults) Undetected;
       each = λ k f at.
-          let same : get_or grades k Undetected ≡ Undetected = ap (λ (gs : List Grade). get_or gs k Undetected) e ∙ get_or-replicate (length faults) k Undetected Undetected (within faults k f at) in
+          let same : get_or grades k Undetected ≡ Undetected = ap (λ (gs : List Grade). get_or gs k Undetected) e ∙ get_or-replicate (length faults) k Undetected Undetected (slice_get_within faults k f at) in
           at_once f (get_or told k None) (get_or grades k Undetected) same;
     }
       where
@@ -88,7 +91,7 @@ module _ (n : Netlist) (chains : List (List ℕ)) (latest : List Pattern) where
           → IsGradedUpTo n chains latest end f (get_or told i None) grade → AreGradedPart n chains latest start end i faults told grades
           → AreGradedPart n chains latest start end (i + 1) faults told made
       part_more i f grades made grade at is new h =
-          let l = within faults i f at in
+          let l = slice_get_within faults i f at in
           let size = h.size in
           let here : get_or made i Undetected ≡ grade = ap (λ (gs : List Grade). get_or gs i Undetected) is ∙ get_or-set_same grades i grade Undetected (omega (arith, l, size)) in
           let other : (k : ℕ) → k ≢ i → get_or made k Undetected ≡ get_or grades k Undetected =
@@ -97,7 +100,7 @@ module _ (n : Netlist) (chains : List (List ℕ)) (latest : List Pattern) where
             size = ap length is ∙ (length-set grades i grade ∙ h.size);
             done = λ k g low e. elim (cases_eq k i) [
               | inl same ↦
-                  let fault : f ≡ g = same_some f g (sym at ∙ (ap (λ m. slice_get faults m) (sym same) ∙ e)) in
+                  let fault : f ≡ g = same_Some f g (sym at ∙ (ap (λ m. slice_get faults m) (sym same) ∙ e)) in
                   subst (λ m. IsGradedUpTo n chains latest end g (get_or told m None) (get_or made m Undetected)) (sym same)
                   (subst (λ (u : Grade). IsGradedUpTo n chains latest end g (get_or told i None) u) (sym here)
                   (subst (λ (u : Fault). IsGradedUpTo n chains latest end u (get_or told i None) grade) fault new))
@@ -109,45 +112,47 @@ module _ (n : Netlist) (chains : List (List ℕ)) (latest : List Pattern) where
           }
 
       pub part_ended : (i : ℕ) (grades : List Grade) → length faults ≤ i → AreGradedPart n chains latest start end i faults told grades → AreGradedUpTo n chains latest end faults told grades
-      part_ended i grades l h = record { size = h.size; each = λ k f e. h.done k f (let w = within faults k f e in omega (arith, w, l)) e }
+      part_ended i grades l h = record { size = h.size; each = λ k f e. h.done k f (let w = slice_get_within faults k f e in omega (arith, w, l)) e }
 
     pub all_graded : (sound : IsSound n) (are : AreChainsOf n chains) (grades : List Grade) → AllZip (LastDetected n latest) faults told
         → AreGradedUpTo n chains latest (length latest) faults told grades → AllZip (IsPatternGrade n chains (reverse latest)) faults grades
     all_graded sound are grades last h =
-        zip_from (IsPatternGrade n chains (reverse latest)) faults grades (sym h.size) (λ i f grade p q.
-        let l = within faults i f p in
-        let size = zip_size (LastDetected n latest) faults told last in
-        let t : slice_get told i ≡ Some (get_or told i None) = slice_get-get_or told i None (omega (arith, l, size)) in
-        let same : get_or grades i Undetected ≡ grade = same_some (get_or grades i Undetected) grade (sym (slice_get-get_or grades i Undetected (within grades i grade q)) ∙ q) in
-        one f (get_or told i None) grade (zip_at (LastDetected n latest) faults told i f (get_or told i None) last p t)
-        (subst (λ (u : Grade). IsGradedUpTo n chains latest (length latest) f (get_or told i None) u) same (h.each i f p)))
+        zip_from (IsPatternGrade n chains (reverse latest)) faults grades (sym h.size) (λ i d e l.
+        let count = h.size in
+        let f = get_or faults i d in
+        let t = get_or told i None in
+        let here : slice_get faults i ≡ Some f = slice_get-get_or faults i d l in
+        let same : get_or grades i Undetected ≡ get_or grades i e = get_or_default grades i Undetected e (omega (arith, l, count)) in
+        one f t (get_or grades i e) (zip_at (LastDetected n latest) faults told i d None last l)
+        (subst (λ (u : Grade). IsGradedUpTo n chains latest (length latest) f t u) same (h.each i f here)))
       where
         one : (f : Fault) (t : Option (ℕ × Point)) (grade : Grade) → LastDetected n latest f t → IsGradedUpTo n chains latest (length latest) f t grade → IsPatternGrade n chains (reverse latest) f grade
         one f None grade never e = subst (IsPatternGrade n chains (reverse latest) f) (sym e) (never_graded n chains sound are latest f never)
-        one f (Some w) grade last h = h (within latest w.0 last.here.pattern last.here.at)
+        one f (Some w) grade last h = h (slice_get_within latest w.0 last.here.pattern last.here.at)
 
 -- ---- at the sites
 
-pub site_grades : PatternsGrade → (n : Netlist) (chains : List (List ℕ)) (cycles : List Cycle) (patterns : List Pattern) → IsSound n → IsSound (scanned_of n chains) → AreChainsOf n chains
+pub site_grades : PatternsGrade → (n : Netlist) (chains : List (List ℕ)) (cycles : List Cycle) (patterns : List Pattern) → IsSound n → IsDesign n → AreChainsOf n chains
     → AreTestCycles n chains cycles patterns → (faults : List Fault) (grades : List Grade) → All (λ (f : Fault). IsLineOf n f.line) faults → AllZip (IsPatternGrade n chains patterns) faults grades
     → AreSiteGrades (insertion_of n chains) cycles faults grades
-site_grades law n chains cycles patterns sound scanned are test faults grades lines graded =
-    zip_from (λ f grade. IsGraded (scanned_of n chains) f cycles grade) (map (at_site (sites_of n chains)) faults) grades
-    (mapped_size faults ∙ zip_size (IsPatternGrade n chains patterns) faults grades graded)
-    (λ i g grade p q.
-    let w = mapped faults i g p in
-    let here = zip_at (IsPatternGrade n chains patterns) faults grades i w.0 grade graded w.1 q in
+site_grades law n chains cycles patterns sound design are test faults grades lines graded =
+    let sites = map (at_site (sites_of n chains)) faults in
+    let mapped_size = length-map faults (at_site (sites_of n chains)) in
+    let size = zip_length (IsPatternGrade n chains patterns) faults grades graded in
+    zip_from (λ f grade. IsGraded (scanned_of n chains) f cycles grade) sites grades (mapped_size ∙ size)
+    (λ i d e l.
+    let grade = get_or grades i e in
+    let w = mapped faults i (get_or sites i d) (slice_get-get_or sites i d l) in
+    let here : IsPatternGrade n chains patterns w.0 grade =
+    subst (λ f. IsPatternGrade n chains patterns f grade) (get_or_from_slice_get faults i w.0 w.0 w.1)
+    (zip_at (IsPatternGrade n chains patterns) faults grades i w.0 e graded (omega (arith, l, mapped_size))) in
     subst (λ h. IsGraded (scanned_of n chains) h cycles grade) w.2
-    (law n test.holds chains patterns cycles w.0 grade sound scanned are test.are_vectors (line_at faults lines i w.0 w.1) here))
+    (law n test.holds chains patterns cycles w.0 grade sound design are test.are_vectors (line_at faults lines i w.0 w.1) here))
   where
-    mapped_size : (fs : List Fault) → length (map (at_site (sites_of n chains)) fs) ≡ length fs
-    mapped_size [] = refl
-    mapped_size (f ∷ fs) = ap suc (mapped_size fs)
-
     mapped : (fs : List Fault) (i : ℕ) (g : Fault) → slice_get (map (at_site (sites_of n chains)) fs) i ≡ Some g → (f : Fault) × (slice_get fs i ≡ Some f) × (at_site (sites_of n chains) f ≡ g)
     mapped [] i g e = cc
-    mapped (f ∷ fs) zero g e = (f, refl, same_some (at_site (sites_of n chains) f) g e)
+    mapped (f ∷ fs) zero g e = (f, refl, same_Some (at_site (sites_of n chains) f) g e)
     mapped (f ∷ fs) (suc i) g e = mapped fs i g e
 
     line_at : (fs : List Fault) → All (λ (f : Fault). IsLineOf n f.line) fs → (i : ℕ) (f : Fault) → slice_get fs i ≡ Some f → IsLineOf n f.line
-    line_at fs all i f e = subst (λ (u : Fault). IsLineOf n u.line) (same_some (get_or fs i f) f (sym (slice_get-get_or fs i f (within fs i f e)) ∙ e)) (all i f (within fs i f e))
+    line_at fs all i f e = subst (λ (u : Fault). IsLineOf n u.line) (same_Some (get_or fs i f) f (sym (slice_get-get_or fs i f (slice_get_within fs i f e)) ∙ e)) (all i f (slice_get_within fs i f e))

@@ -2,6 +2,7 @@ pub mod Lists
 pub mod Told
 pub mod Batches
 pub mod Strobed
+pub mod Turned
 pub mod Seen
 pub mod FirstGraded
 pub mod Keyed

@@ -1,9 +1,9 @@
 -- On the vectors of patterns the strobes that are wrong in the three-valued run with a fault of the design are those of the points at which patterns detect it.
-use Rattle.std.proofs.Common.{◌≡◌, ℕ, suc, zero, ◌*◌, ◌⊎◌, Bool, true, false, not, List, [], ◌∷◌, ◌++◌, map, length, get_or, replicate, Option, Some, None, slice_get, refl, sym, ◌∙◌, ap, subst, inl, inr, arith}
+use Rattle.std.proofs.Common.{◌≡◌, ℕ, suc, zero, ◌*◌, ◌⊎◌, Bool, true, false, not, List, [], ◌∷◌, length, get_or, replicate, Option, Some, None, slice_get, refl, sym, ◌∙◌, ap, subst, inl, inr, arith}
 use Rattle.std.specs.List.{AllZip, zip}
 use Rattle.std.proofs.lemmas.Bool.{cases_lt}
 use Rattle.std.proofs.lemmas.List.{length-map}
-use Rattle.std.proofs.lemmas.Option.{slice_get-get_or}
+use Rattle.std.proofs.lemmas.Option.{same_Some, slice_get-get_or, slice_get_within}
 use Rattle.statement.specs.declared.kinds.Tri.{Tri}
 use Rattle.statement.specs.declared.kinds.Tri.TheVariants.{X, Zero, One}
 use Rattle.statement.specs.declared.lines.Fault.{Fault}
@@ -13,18 +13,16 @@ use Rattle.statement.specs.Netlists.{Netlist, cells}
 use Rattle.statement.specs.Patterns.{Detects, Holds, Pattern}
 use Rattle.netlist.specs.Lines.{IsLineOf}
 use Rattle.netlist.specs.Conditions.{IsSound}
-use Rattle.netlist.proofs.Alike.{zip_append}
 use Rattle.statement.specs.Values.{bits, known}
 use Rattle.tri.specs.Settled.{tri_table}
-use Rattle.statement.specs.Tests.{cells_of, longest_of, Response, Responds, flush}
+use Rattle.statement.specs.Tests.{cells_of, longest_of, Response, Responds}
 use Rattle.statement.specs.Runs.{Cycle, Runs, strobe_at, shown_at}
 use Rattle.scan_insert.specs.Scanned.{AreChainsOf, scanned_of, sites_of}
 use Rattle.scan_play.specs.Passing.{IsWrong}
 use Rattle.scan_play.specs.Playing.{IsStrobeMet, PlayRuns}
-use Rattle.scan_play.specs.Shifts.{load}
-use Rattle.scan_play.specs.Vectors.{AreVectors, applied, capture, vectors}
+use Rattle.scan_play.specs.Vectors.{AreVectors, vectors}
 use Rattle.scan_play.proofs.Applied.{Answers, length-next, zip_known}
-use Rattle.scan_play.proofs.BitLaws.{SameDrive, capture_alike, detected_bits, load_alike, own_responses, runs_alike, same_self}
+use Rattle.scan_play.proofs.BitLaws.{detected_bits, own_responses, runs_alike, vectors_alike}
 use Rattle.scan_play.proofs.Bridge.{bridge}
 use Rattle.scan_play.proofs.Instances.{tris_above}
 use Rattle.scan_play.proofs.Places.{response_at, strobe_of_point}
@@ -34,10 +32,9 @@ use Rattle.scan_play.proofs.TriLaws.{value_where_strobed}
 use Rattle.scan_play.proofs.Widths.{cells_count, valid_fault}
 use Rattle.chain_test.specs.Hardware.{at_site}
 use Rattle.grade.specs.Grades.{IsGradeOf}
-use Rattle.grade.specs.Patterns.{IsPatternGrade, IsSeenAt}
+use Rattle.grade.specs.Patterns.{IsPatternGrade, IsDetectingStrobe}
 use Rattle.grade.specs.declared.grade.Grade.{Grade}
 use Rattle.grade.specs.declared.grade.Grade.TheVariants.{Detected, Undetected, Unknown}
-use Rattle.grade.proofs.Lists.{same_some, within}
 use Rattle.grade.proofs.Strobed.{flush_strobe, same_known, strobe_placed}
 
 -- ---- bits
@@ -60,29 +57,9 @@ zipped_at : (R : Pattern → Response → Type 0) (ps : List Pattern) (rs : List
 zipped_at R [] rs p test h e = cc
 zipped_at R (q ∷ ps) [] p test h e = absurd h
 zipped_at R (q ∷ ps) (r ∷ rs) zero test h e =
-    let same : ◌≡◌ {A = Pattern × Response} (q, r) test = same_some (q, r) test e in
+    let same : ◌≡◌ {A = Pattern × Response} (q, r) test = same_Some (q, r) test e in
     (ap (λ (t : Pattern × Response). Some t.0) same, subst (λ (t : Pattern × Response). R t.0 t.1) same h.0)
 zipped_at R (q ∷ ps) (r ∷ rs) (suc p) test h e = zipped_at R ps rs p test h.1 e
-
-applied_alike : (n : Netlist) (holds : Holds) (chains : List (List ℕ)) (held held' : List Tri) (ps : List Pattern) (rs rs' : List Response) → length ps ≡ length rs → length ps ≡ length rs'
-    → AllZip SameDrive (applied n holds chains held (zip ps rs)) (applied n holds chains held' (zip ps rs'))
-applied_alike n holds chains held held' [] rs rs' e e' = load_alike n holds chains (replicate (length (cells_of chains)) false) held held'
-applied_alike n holds chains held held' (p ∷ ps) [] rs' e e' = absurd (omega (arith, e))
-applied_alike n holds chains held held' (p ∷ ps) (r ∷ rs) [] e e' = absurd (omega (arith, e'))
-applied_alike n holds chains held held' (p ∷ ps) (r ∷ rs) (r' ∷ rs') e e' =
-    zip_append SameDrive (load n holds chains p.cells held) (capture chains p r ∷ applied n holds chains (map known r.cells) (zip ps rs))
-    (load n holds chains p.cells held') (capture chains p r' ∷ applied n holds chains (map known r'.cells) (zip ps rs')) (load_alike n holds chains p.cells held held')
-    (capture_alike chains p r r', applied_alike n holds chains (map known r.cells) (map known r'.cells) ps rs rs' (omega (arith, e)) (omega (arith, e')))
-
-vectors_alike : (n : Netlist) (holds : Holds) (chains : List (List ℕ)) (ps : List Pattern) (rs rs' : List Response) → length ps ≡ length rs → length ps ≡ length rs'
-    → AllZip SameDrive (vectors n holds chains (zip ps rs)) (vectors n holds chains (zip ps rs'))
-vectors_alike n holds chains ps rs rs' e e' =
-    let idle : List Tri = replicate (length (cells_of chains)) X in
-    let front : List Cycle =
-    load n holds chains (flush chains) idle
-    ++ load n holds chains (map not (flush chains)) (map known (flush chains))
-    ++ load n holds chains (replicate (length (cells_of chains)) false) (map known (map not (flush chains))) in
-    zip_append SameDrive front (applied n holds chains idle (zip ps rs)) front (applied n holds chains idle (zip ps rs')) (same_self front) (applied_alike n holds chains idle idle ps rs rs' e e')
 
 -- what is strobed is met
 Met : Tri → Tri → Type 0
@@ -109,7 +86,7 @@ differing_detects n f p r own (Output k) b h g e e' = record {
   faulty = g.values;
   good_settles = h.settles;
   faulty_settles = g.settles;
-  differs = λ same. not_other b (same_some b (not b) (sym e
+  differs = λ same. not_other b (same_Some b (not b) (sym e
       ∙ (ap (λ (xs : List Bool). slice_get xs k) h.outputs ∙ (same ∙ (ap (λ (xs : List Bool). slice_get xs k) (sym g.outputs) ∙ e')))));
 }
 differing_detects n f p r own (Cell k) b h g e e' = record {
@@ -117,7 +94,7 @@ differing_detects n f p r own (Cell k) b h g e e' = record {
   faulty = g.values;
   good_settles = h.settles;
   faulty_settles = g.settles;
-  differs = λ same. not_other b (same_some b (not b) (sym e
+  differs = λ same. not_other b (same_Some b (not b) (sym e
       ∙ (ap (λ (xs : List Bool). slice_get xs k) h.cells ∙ (same ∙ (ap (λ (xs : List Bool). slice_get xs k) (sym g.cells) ∙ e')))));
 }
 
@@ -126,11 +103,11 @@ bit_there : (n : Netlist) (f : Fault) (p : Pattern) (r own : Response) (point : 
     → (c : Bool) × (response_at own point ≡ Some c)
 bit_there n f p r own (Output k) b sound h g e =
     let wide = ap length h.outputs ∙ (length-map n.outputs _ ∙ sym (ap length g.outputs ∙ length-map n.outputs _)) in
-    let l = within r.outputs k b e in
+    let l = slice_get_within r.outputs k b e in
     (get_or own.outputs k false, slice_get-get_or own.outputs k false (omega (arith, l, wide)))
 bit_there n f p r own (Cell k) b sound h g e =
     let wide = ap length h.cells ∙ (length-next (bits None) n h.values sound ∙ sym (ap length g.cells ∙ length-next (bits (Some f)) n g.values sound)) in
-    let l = within r.cells k b e in
+    let l = slice_get_within r.cells k b e in
     (get_or own.cells k false, slice_get-get_or own.cells k false (omega (arith, l, wide)))
 
 -- ---- the run with the fault
@@ -171,7 +148,7 @@ module _ (n : Netlist) (holds : Holds) (chains : List (List ℕ)) (patterns : Li
       ap length r.cells ∙ (length-next (bits None) n r.values sound ∙ cells_count n chains are)
 
   -- what is shown where a bit is strobed: a bit, and where it is the other one, a pattern detects the fault at the point that is strobed
-  pub shown_there : (c o : ℕ) (b : Bool) → strobe_at cycles c o ≡ known b → (d : Bool) × (shown_at shown c o ≡ Some (known d)) × (d ≡ not b → IsSeenAt n chains patterns f c o)
+  pub shown_there : (c o : ℕ) (b : Bool) → strobe_at cycles c o ≡ known b → (d : Bool) × (shown_at shown c o ≡ Some (known d)) × (d ≡ not b → IsDetectingStrobe n chains patterns f c o)
   shown_there c o b e =
       let here : strobe_at (vectors n holds chains good_tests) c o ≡ known b = ap (λ cs. strobe_at cs c o) (sym v.are) ∙ e in
       elim (cases_lt c (4 * longest_of chains)) [
@@ -202,12 +179,12 @@ module _ (n : Netlist) (holds : Holds) (chains : List (List ℕ)) (patterns : Li
             )
       ]
 
-  wrong_seen : (c o : ℕ) → IsWrong known cycles shown c o → IsSeenAt n chains patterns f c o
+  wrong_seen : (c o : ℕ) → IsWrong known cycles shown c o → IsDetectingStrobe n chains patterns f c o
   wrong_seen c o w =
       let there = shown_there c o w.0 w.1 in
-      there.2 (same_known there.0 (not w.0) (same_some (known there.0) (known (not w.0)) (sym there.1 ∙ w.2)))
+      there.2 (same_known there.0 (not w.0) (same_Some (known there.0) (known (not w.0)) (sym there.1 ∙ w.2)))
 
-  pub seen_wrong : (c o : ℕ) → IsSeenAt n chains patterns f c o → IsWrong known cycles shown c o
+  pub seen_wrong : (c o : ℕ) → IsDetectingStrobe n chains patterns f c o → IsWrong known cycles shown c o
   seen_wrong c o w =
       let p = w.detected.pattern in
       let both = both_at (Responds n None) (Responds n (Some f)) patterns v.responses owns.0 w.place p v.respond owns.1 w.detected.at in
@@ -222,7 +199,7 @@ module _ (n : Netlist) (holds : Holds) (chains : List (List ℕ)) (patterns : Li
       (bit.0, ap (λ cs. strobe_at cs c o) v.are ∙ good, own_met c o (not bit.0) own)
 
   -- where no pattern detects the fault, each strobe is met
-  met_bit : (c o : ℕ) → ((d q : ℕ) → IsSeenAt n chains patterns f d q → ⊥) → (b : Bool) → strobe_at cycles c o ≡ known b → IsStrobeMet cycles shown c o
+  met_bit : (c o : ℕ) → ((d q : ℕ) → IsDetectingStrobe n chains patterns f d q → ⊥) → (b : Bool) → strobe_at cycles c o ≡ known b → IsStrobeMet cycles shown c o
   met_bit c o none b e =
       let there = shown_there c o b e in
       elim (other_or_same b there.0) [
@@ -230,7 +207,7 @@ module _ (n : Netlist) (holds : Holds) (chains : List (List ℕ)) (patterns : Li
         | inr other ↦ absurd (none c o (there.2 other))
       ]
 
-  met : (c o : ℕ) → ((d q : ℕ) → IsSeenAt n chains patterns f d q → ⊥) → (s : Tri) → strobe_at cycles c o ≡ s → IsStrobeMet cycles shown c o
+  met : (c o : ℕ) → ((d q : ℕ) → IsDetectingStrobe n chains patterns f d q → ⊥) → (s : Tri) → strobe_at cycles c o ≡ s → IsStrobeMet cycles shown c o
   met c o none X e = inl e
   met c o none Zero e = met_bit c o none false e
   met c o none One e = met_bit c o none true e

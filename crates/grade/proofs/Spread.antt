@@ -1,7 +1,7 @@
 -- The grades of all faults, by those of the classes' representatives.
 use Rattle.std.proofs.Common.{◌≡◌, ℕ, suc, zero, List, [], ◌∷◌, map, length, get_or, Some, None, slice_get, refl, sym, subst, arith}
 use Rattle.std.specs.List.{All, AllZip}
-use Rattle.std.proofs.lemmas.Option.{slice_get-get_or}
+use Rattle.std.proofs.lemmas.Option.{same_Some, slice_get-get_or}
 use Rattle.statement.specs.declared.lines.Fault.{Fault}
 use Rattle.statement.specs.Netlists.{Netlist}
 use Rattle.statement.specs.Runs.{Cycle}
@@ -27,14 +27,11 @@ use Rattle.grade.specs.inner.Spread.{grade_at}
 none_some : {A B : Type 0} (x : A) → None ≡ Some x → B
 none_some x e = cc
 
-same_some : {A : Type 0} (x y : A) → Some x ≡ Some y → x ≡ y
-same_some x y e = cc
-
 -- what holds of the items that were mapped
 mapped_at : {A B C : Type 0} (R : B → C → Type 0) (f : A → B) (xs : List A) (zs : List C) (j : ℕ) (x : A) (d : C) → AllZip R (map f xs) zs → slice_get xs j ≡ Some x → R (f x) (get_or zs j d)
 mapped_at R f [] zs j x d h e = none_some x e
 mapped_at R f (y ∷ xs) [] j x d h e = absurd h
-mapped_at R f (y ∷ xs) (z ∷ zs) zero x d h e = subst (λ u. R (f u) z) (same_some y x e) h.0
+mapped_at R f (y ∷ xs) (z ∷ zs) zero x d h e = subst (λ u. R (f u) z) (same_Some y x e) h.0
 mapped_at R f (y ∷ xs) (z ∷ zs) (suc j) x d h e = mapped_at R f xs zs j x d h.1 e
 
 -- what holds of each item and what is read by the number at its place

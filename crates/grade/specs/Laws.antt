@@ -7,6 +7,7 @@ use Rattle.statement.specs.Patterns.{Holds, Pattern}
 use Rattle.statement.specs.Runs.{Cycle, FailsAt, Passes}
 use Rattle.netlist.specs.Netlist.{IsAcyclic}
 use Rattle.netlist.specs.Conditions.{IsClosed, IsSound}
+use Rattle.netlist.specs.Designs.{IsDesign}
 use Rattle.netlist.specs.Lines.{IsLineOf}
 use Rattle.scan_insert.specs.Scanned.{AreChainsOf, scanned_of, sites_of}
 use Rattle.scan_play.specs.Cycles.{IsCycleOf}
@@ -31,5 +32,5 @@ UndetectedPasses =
 abbrev pub PatternsGrade : Type 0
 PatternsGrade =
     (n : Netlist) (holds : Holds) (chains : List (List ℕ)) (patterns : List Pattern) (cycles : List Cycle) (f : Fault) (grade : Grade)
-    → IsSound n → IsSound (scanned_of n chains) → AreChainsOf n chains → AreVectors n holds chains patterns cycles → IsLineOf n f.line
+    → IsSound n → IsDesign n → AreChainsOf n chains → AreVectors n holds chains patterns cycles → IsLineOf n f.line
     → IsPatternGrade n chains patterns f grade → IsGraded (scanned_of n chains) (at_site (sites_of n chains) f) cycles grade

@@ -15,7 +15,7 @@ use Rattle.grade.specs.declared.grade.Grade.{Grade}
 use Rattle.grade.specs.declared.grade.Grade.TheVariants.{Detected, Undetected, Unknown}
 
 -- in this cycle and at this output a point is strobed at which a pattern detects the fault
-pub record IsSeenAt (n : Netlist) (chains : List (List ℕ)) (patterns : List Pattern) (f : Fault) (c o : ℕ) : Type 0 where
+pub record IsDetectingStrobe (n : Netlist) (chains : List (List ℕ)) (patterns : List Pattern) (f : Fault) (c o : ℕ) : Type 0 where
   pub place : ℕ
   pub point : Point
   pub detected : IsDetectedAt n patterns f place point
@@ -23,8 +23,8 @@ pub record IsSeenAt (n : Netlist) (chains : List (List ℕ)) (patterns : List Pa
 
 -- the grade of a fault by patterns: the first such strobe, or undetected where there is none
 abbrev pub IsPatternGrade : Netlist → List (List ℕ) → List Pattern → Fault → Grade → Type 0
-IsPatternGrade n chains patterns f (Detected c o) = IsFirstPlace (IsSeenAt n chains patterns f) (Some (c, o))
-IsPatternGrade n chains patterns f Undetected = IsFirstPlace (IsSeenAt n chains patterns f) None
+IsPatternGrade n chains patterns f (Detected c o) = IsFirstPlace (IsDetectingStrobe n chains patterns f) (Some (c, o))
+IsPatternGrade n chains patterns f Undetected = IsFirstPlace (IsDetectingStrobe n chains patterns f) None
 IsPatternGrade n chains patterns f Unknown = ⊥
 
 -- a design and its chains, what insertion makes of them, the design's faults, and their classes

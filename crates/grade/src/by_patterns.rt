@@ -1,16 +1,18 @@
 //! The grades of lines by patterns.
 //!
 //! Which pattern first detects a line is asked of the patterns in reverse order, of which it is the last one, 64 a word. Where that shows it first is seen
-//! pattern by pattern: the line is stuck in the words of its batch, and of the points that it reaches the one strobed first is taken.
+//! pattern by pattern (`spotting`): of the points that it reaches the one strobed first is taken.
 ghost use Rattle.std.specs.Prelude.{◌≡◌, ◌+◌, ◌-◌, ◌*◌, ◌^◌, ◌<◌, ◌≤◌, [], drop, length, reverse, take, IfOk, MatchOption};
 ghost use Rattle.std.specs.List.{All, AllZip};
 ghost use Rattle.netlist.specs.Lines.{IsLineOf};
 ghost use Rattle.statement.specs.declared.lines.Fault.{Fault as FaultOf};
 ghost use Rattle.statement.specs.Tests.{longest_of};
+ghost use Rattle.regions.specs.Paths.{AreOpen};
 ghost use Rattle.observed_points.specs.Points.{ArePoints, points as points_of};
 ghost use Rattle.scan_insert.specs.Scanned.{AreChainsOf};
 ghost use Rattle.word_sim.specs.Hits.{LastDetected};
 ghost use Rattle.word_sim.specs.Words.{HasWidthsOf};
+ghost use Rattle.word_sim.specs.inner.Groups.{HasRoom};
 ghost use Rattle.word_sim.specs.inner.Packed.{AreGoodFor, AreSettledWords};
 ghost use Rattle.grade.specs.Patterns.{IsPatternGrade};
 ghost use Rattle.grade.specs.inner.Keys.{AreLeastKeys};
@@ -23,6 +25,7 @@ use cubes::Pattern;
 use events::Events;
 use netlist::{Core, Fault, NoMemory, Point};
 use observed_points::Points;
+use regions::Paths;
 use run_report::Strobe;
 use scan_insert::Chains;
 use std::alloc::{AllocError, Global};
@@ -68,6 +71,7 @@ fn regraded(
     events: &mut Events<'_, u64>,
     chains: &Chains,
     points: &Points,
+    paths: &Paths,
     keys: &[u64],
     latest: &[Pattern],
     start: usize,
@@ -78,6 +82,7 @@ fn regraded(
 ) -> Grade
     requires chains { AreChainsOf events.old.netlist chains.now }
     requires points { ArePoints events.old.netlist points.now.seen.items points.now.first.items points.now.numbers.items }
+    requires open { AreOpen events.old.netlist events.old.values paths.now.heads.items paths.now.opens.items }
     requires keys { AreLeastKeys events.old.netlist chains.now (length (points_of events.old.netlist)) keys.now }
     requires line { IsLineOf events.old.netlist fault.now.line }
     requires trail { events.old.trail ≡ [] }
@@ -94,7 +99,7 @@ fn regraded(
     match place_within(told, start, end) {
         None => grade,
         Some(j) => {
-            let key = spot(events, chains, points, keys, fault, j);
+            let key = spot(events, chains, points, paths, keys, fault, j);
             let place = latest.len() - 1 - (start + j as usize);
             grade_at(chains.longest() as u64, place as u64, key)
         }
@@ -106,6 +111,7 @@ fn grade_batch(
     events: &mut Events<'_, u64>,
     chains: &Chains,
     points: &Points,
+    paths: &Paths,
     keys: &[u64],
     latest: &[Pattern],
     start: usize,
@@ -116,6 +122,7 @@ fn grade_batch(
 ) -> Vec<Grade>
     requires chains { AreChainsOf events.old.netlist chains.now }
     requires points { ArePoints events.old.netlist points.now.seen.items points.now.first.items points.now.numbers.items }
+    requires open { AreOpen events.old.netlist events.old.values paths.now.heads.items paths.now.opens.items }
     requires keys { AreLeastKeys events.old.netlist chains.now (length (points_of events.old.netlist)) keys.now }
     requires lines { All (λ (f : FaultOf). IsLineOf events.old.netlist f.line) faults.now }
     requires trail { events.old.trail ≡ [] }
@@ -132,7 +139,7 @@ fn grade_batch(
     for i in 0..faults.len() {
         let grade = grades[i];
         grades[i] = regraded(
-            events, chains, points, keys, latest, start, end, &faults[i], told[i], grade,
+            events, chains, points, paths, keys, latest, start, end, &faults[i], told[i], grade,
         );
     }
     grades
@@ -144,6 +151,7 @@ fn grade_part(
     events: &mut Events<'_, u64>,
     chains: &Chains,
     points: &Points,
+    paths: &mut Paths,
     keys: &[u64],
     latest: &[Pattern],
     start: usize,
@@ -154,6 +162,7 @@ fn grade_part(
 ) -> Result<Vec<Grade>, AllocError>
     requires chains { AreChainsOf events.old.netlist chains.now }
     requires points { ArePoints events.old.netlist points.now.seen.items points.now.first.items points.now.numbers.items }
+    requires room { HasRoom events.old.netlist paths.old.heads.items paths.old.opens.items }
     requires keys { AreLeastKeys events.old.netlist chains.now (length (points_of events.old.netlist)) keys.now }
     requires lines { All (λ (f : FaultOf). IsLineOf events.old.netlist f.line) faults.now }
     requires wide { All (HasWidthsOf events.old.netlist) latest.now }
@@ -166,11 +175,13 @@ fn grade_part(
     requires before { AreGradedUpTo events.old.netlist chains.now latest.now start faults.now told.now grades.items }
     ensures graded { IfOk result (λ grades. AreGradedUpTo events.old.netlist chains.now latest.now end faults.now told.now grades.items) }
     ensures netlist { events.new.netlist ≡ events.old.netlist }
+    ensures room { HasRoom events.old.netlist paths.new.heads.items paths.new.opens.items }
     ensures settled { AreSettledWords events.old.netlist events.new.values }
 {
     next_patterns(alloc, events, &latest[start..end])?;
+    paths.open(events.core(), events.values());
     Ok(grade_batch(
-        events, chains, points, keys, latest, start, end, faults, told, grades,
+        events, chains, points, paths, keys, latest, start, end, faults, told, grades,
     ))
 }
 
@@ -196,6 +207,7 @@ fn grade_batches(
 {
     let mut grades = vec![in alloc; Grade::Undetected; faults.len()]?;
     let mut events = good_events(alloc, core, &[])?;
+    let mut paths = Paths::new(alloc, core.netlist())?;
     let mut start = 0;
     while start < latest.len() {
         let end = latest.len().min(start + 64);
@@ -204,6 +216,7 @@ fn grade_batches(
             &mut events,
             chains,
             points,
+            &mut paths,
             keys,
             latest,
             start,

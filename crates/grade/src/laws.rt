@@ -5,6 +5,7 @@ ghost use Rattle.grade.specs.Laws.{DetectedFails, PatternsGrade, UndetectedPasse
 use chain_test::first_wrong_fails;
 use fault_universe::faults_have_lines;
 use netlist::Tri;
+use scan_insert::laws::scanned_is_sound;
 use scan_play::{play_tells_the_truth, some_run, vectors_fit};
 use stil_patterns::laws::file_vectors;
 
@@ -26,6 +27,7 @@ pub fn undetected_passes()
 pub fn patterns_grade()
     ensures { PatternsGrade }
 {
+    scanned_is_sound();
     vectors_fit();
     some_run::<Tri>();
 }

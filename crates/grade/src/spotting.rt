@@ -1,5 +1,7 @@
-//! At which strobe a pattern first shows a fault: the stuck line is put onto the words of up to 64 patterns, and of the points that it reaches the one
-//! strobed first is taken. The words are then those before.
+//! At which strobe a pattern first shows a fault: of the points that it reaches the one strobed first is taken.
+//!
+//! Where the fault reaches the head of its fanout-free region under the pattern, the head is turned over under that pattern alone, so that nothing is
+//! evaluated for the other 63; else the stuck line is put onto the words of all. The words are then those before.
 ghost use Rattle.std.specs.Prelude.{◌≡◌, ◌&&◌, ◌^◌, ◌<◌, ◌≤◌, [], ℕ, List, Some, length, slice_get, slice_index, if◌then◌else◌};
 ghost use Rattle.std.specs.List.{All};
 ghost use Rattle.netlist.specs.Lines.{IsLineOf};
@@ -11,12 +13,16 @@ ghost use Rattle.scan_insert.specs.Scanned.{AreChainsOf};
 ghost use Rattle.word_sim.specs.inner.Differences.{IsFirstShown, shows};
 ghost use Rattle.word_sim.specs.inner.Packed.{AreGoodFor};
 ghost use Rattle.grade.specs.inner.Keys.{AreLeastKeys, IsFirstKey, most_key};
-ghost use Rattle.grade.specs.inner.Spotting.{IsSpotted};
+ghost use Rattle.statement.specs.Netlists.{signals};
+ghost use Rattle.events.specs.Words.{bit_of};
+ghost use Rattle.regions.specs.Paths.{AreOpen};
+ghost use Rattle.grade.specs.inner.Spotting.{IsSpotted, IsSpottedFrom};
 
 use crate::keys::key_of;
 use events::{Change, Events, Words};
-use netlist::Fault;
+use netlist::{Fault, SignalId};
 use observed_points::Points;
+use regions::{Paths, turn};
 use scan_insert::Chains;
 
 /// The lesser of a number and the least key of a signal that a change shows under a pattern.
@@ -77,16 +83,82 @@ fn spot_stuck(
     key
 }
 
-/// The key of the strobe at which a pattern first shows a fault, if it does at some.
-pub(crate) fn spot(
+/// Whether a word has the bit of a pattern.
+fn has_bit(word: u64, j: u32) -> bool
+    requires { j < 64 }
+    ensures { result ≡ bit_of j word }
+{
+    (word >> j) % 2 == 1
+}
+
+/// By what the head of the fault's region changes, turned over under the one pattern.
+fn spot_turned(
     events: &mut Events<'_, u64>,
     chains: &Chains,
-    points: &Points,
+    keys: &[u64],
+    head: SignalId,
+    j: u32,
+) -> u64
+    requires chains { AreChainsOf events.old.netlist chains.now }
+    requires keys { AreLeastKeys events.old.netlist chains.now (length (points_of events.old.netlist)) keys.now }
+    requires within { head < length (signals events.old.netlist) }
+    requires trail { events.old.trail ≡ [] }
+    requires low { j < 64 }
+    ensures first { IsSpottedFrom events.old.netlist chains.now events.old.values head j result }
+    ensures same { events.new ≡ events.old }
+{
+    events.core().netlist().sound();
+    turn(events, head, 1u64 << j);
+    let key = nearest(events.trail(), events.values(), keys, j);
+    events.undo(0);
+    key
+}
+
+/// By what it changes: from the head that it reaches, where it does.
+fn spot_within(
+    events: &mut Events<'_, u64>,
+    chains: &Chains,
+    paths: &Paths,
     keys: &[u64],
     fault: &Fault,
     j: u32,
 ) -> u64
     requires chains { AreChainsOf events.old.netlist chains.now }
+    requires open { AreOpen events.old.netlist events.old.values paths.now.heads.items paths.now.opens.items }
+    requires keys { AreLeastKeys events.old.netlist chains.now (length (points_of events.old.netlist)) keys.now }
+    requires line { IsLineOf events.old.netlist fault.now.line }
+    requires enters { ¬ IsObservedOnly events.old.netlist fault.now.line }
+    requires trail { events.old.trail ≡ [] }
+    requires low { j < 64 }
+    ensures first { IsSpotted events.old.netlist chains.now events.old.values fault.now j result }
+    ensures same { events.new ≡ events.old }
+{
+    let netlist = events.core().netlist();
+    netlist.sound();
+    match paths.reach(netlist, events.values(), fault) {
+        Some((head, word)) => {
+            if has_bit(word, j) {
+                spot_turned(events, chains, keys, head, j)
+            } else {
+                spot_stuck(events, chains, keys, fault, j)
+            }
+        }
+        None => spot_stuck(events, chains, keys, fault, j),
+    }
+}
+
+/// The key of the strobe at which a pattern first shows a fault, if it does at some.
+pub(crate) fn spot(
+    events: &mut Events<'_, u64>,
+    chains: &Chains,
+    points: &Points,
+    paths: &Paths,
+    keys: &[u64],
+    fault: &Fault,
+    j: u32,
+) -> u64
+    requires chains { AreChainsOf events.old.netlist chains.now }
+    requires open { AreOpen events.old.netlist events.old.values paths.now.heads.items paths.now.opens.items }
     requires points { ArePoints events.old.netlist points.now.seen.items points.now.first.items points.now.numbers.items }
     requires keys { AreLeastKeys events.old.netlist chains.now (length (points_of events.old.netlist)) keys.now }
     requires line { IsLineOf events.old.netlist fault.now.line }
@@ -99,6 +171,6 @@ pub(crate) fn spot(
     netlist.sound();
     match points.sole(netlist, &fault.line) {
         Some(number) => key_of(netlist, chains, number as usize),
-        None => spot_stuck(events, chains, keys, fault, j),
+        None => spot_within(events, chains, paths, keys, fault, j),
     }
 }

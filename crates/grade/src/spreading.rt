@@ -3,9 +3,9 @@ ghost use Rattle.std.specs.Prelude.{◌≡◌, ◌^◌, ◌<◌, IfOk, length, m
 ghost use Rattle.std.specs.List.{All};
 ghost use Rattle.netlist.specs.Lines.{signal_of};
 ghost use Rattle.statement.specs.declared.lines.Fault.{Fault as Stuck};
-ghost use Rattle.scan_play.specs.Cycles.{IsCycleOf};
 ghost use Rattle.chain_test.specs.Hardware.{at_site};
 ghost use Rattle.statement.specs.Tests.{vectors_in};
+ghost use Rattle.stil_vectors.specs.Fitting.{FitsNetlist};
 ghost use Rattle.grade.specs.Grades.{AreGrades};
 ghost use Rattle.grade.specs.Patterns.{IsDesignScanned};
 ghost use Rattle.grade.specs.inner.ByPatterns.{AreTestCycles};
@@ -22,10 +22,10 @@ use fault_collapse::Classes;
 use fault_universe::{FaultSet, faults_have_lines, faults_have_signals};
 use netlist::{Core, Fault, NoMemory};
 use outside::Gate;
-use scan_insert::laws::scanned_is_sound;
 use scan_insert::{Chains, Scanned};
 use scan_play::Vectors;
 use std::alloc::{AllocError, Global};
+use stil_vectors::{cycle_count, fitting_cycles, vectors};
 use stil_write::StilFile;
 
 /// A fault of the design at its site.
@@ -81,17 +81,16 @@ fn grades_by_patterns<G: Gate>(
     scanned: &Scanned,
     faults: &FaultSet,
     classes: &Classes,
-    vectors: &Vectors,
+    file: &StilFile,
     patterns: Vec<Pattern>,
 ) -> Result<Vec<Grade>, NoMemory>
     requires design { IsDesignScanned design.now chains.now scanned.now faults.now classes.now }
-    requires test { AreTestCycles design.now chains.now vectors.now patterns.items }
-    ensures { IfOk result (λ grades. AreSiteGrades scanned.now vectors.now classes.now.representatives grades.items) }
+    requires test { AreTestCycles design.now chains.now (vectors_in file.now) patterns.items }
+    ensures { IfOk result (λ grades. AreSiteGrades scanned.now (vectors_in file.now) classes.now.representatives grades.items) }
 {
     design.netlist().sound();
     faults_have_lines();
     patterns_grade();
-    scanned_is_sound();
     let representatives = classes.representatives();
     stage.at(0, begun(representatives));
     let grades = pattern_grades(alloc, design, chains, patterns, representatives)?;
@@ -99,23 +98,43 @@ fn grades_by_patterns<G: Gate>(
     Ok(grades)
 }
 
+/// A core for the scanned netlist.
+fn core_of(alloc: Global, scanned: &Scanned) -> Result<Core, NoMemory>
+    ensures { IfOk result (λ core. core ≡ scanned.now.netlist) }
+{
+    let copy = scanned.netlist().copy(alloc)?;
+    Core::of(alloc, copy).map_err(|_| NoMemory)
+}
+
+/// The cycles of a file, which have to be fewer than 2 to the 64.
+fn cycles_of(alloc: Global, file: &StilFile) -> Result<Vectors, NoMemory>
+    ensures cycles { IfOk result (λ v. v ≡ vectors_in file.now) }
+    ensures few { IfOk result (λ v. length v < 2 ^ 64) }
+{
+    match cycle_count(file) {
+        Some(_) => vectors(alloc, file),
+        None => Err(NoMemory),
+    }
+}
+
 /// The grade of each class, by play of its representative at its site.
 fn grades_by_play<G: Gate>(
     alloc: Global,
     stage: &G,
-    core: &Core,
     scanned: &Scanned,
     classes: &Classes,
-    vectors: &Vectors,
+    file: &StilFile,
 ) -> Result<Vec<Grade>, NoMemory>
-    requires core { core.now ≡ scanned.now.netlist }
     requires signals { All (λ (f : Stuck). signal_of f.line < length scanned.now.sites) classes.now.representatives }
-    requires fits { All (IsCycleOf core.now) vectors.now }
-    requires few { length vectors.now < 2 ^ 64 }
-    ensures { IfOk result (λ grades. AreSiteGrades scanned.now vectors.now classes.now.representatives grades.items) }
+    requires fits { FitsNetlist file.now scanned.now.netlist }
+    ensures { IfOk result (λ grades. AreSiteGrades scanned.now (vectors_in file.now) classes.now.representatives grades.items) }
 {
+    file.sound();
+    fitting_cycles();
+    let core = core_of(alloc, scanned)?;
+    let cycles = cycles_of(alloc, file)?;
     let sites = sites_of(alloc, scanned, classes.representatives())?;
-    line_grades(alloc, stage, core, &sites, vectors)
+    line_grades(alloc, stage, &core, &sites, &cycles)
 }
 
 /// The grade of each class: by the patterns of which the file is the test, if it is that of some, or else by play.
@@ -124,27 +143,22 @@ fn class_grades<G: Gate>(
     stage: &G,
     design: &Core,
     chains: &Chains,
-    core: &Core,
     scanned: &Scanned,
     faults: &FaultSet,
     classes: &Classes,
     file: &StilFile,
-    vectors: &Vectors,
 ) -> Result<Vec<Grade>, NoMemory>
     requires design { IsDesignScanned design.now chains.now scanned.now faults.now classes.now }
-    requires core { core.now ≡ scanned.now.netlist }
-    requires vectors { vectors.now ≡ vectors_in file.now }
-    requires fits { All (IsCycleOf core.now) vectors.now }
-    requires few { length vectors.now < 2 ^ 64 }
-    ensures { IfOk result (λ grades. AreSiteGrades scanned.now vectors.now classes.now.representatives grades.items) }
+    requires fits { FitsNetlist file.now scanned.now.netlist }
+    ensures { IfOk result (λ grades. AreSiteGrades scanned.now (vectors_in file.now) classes.now.representatives grades.items) }
 {
     design.netlist().sound();
     faults_have_signals();
     match test_patterns(alloc, design, chains, file)? {
         Some(patterns) => grades_by_patterns(
-            alloc, stage, design, chains, scanned, faults, classes, vectors, patterns,
+            alloc, stage, design, chains, scanned, faults, classes, file, patterns,
         ),
-        None => grades_by_play(alloc, stage, core, scanned, classes, vectors),
+        None => grades_by_play(alloc, stage, scanned, classes, file),
     }
 }
 
@@ -154,27 +168,20 @@ pub fn grades<G: Gate>(
     stage: &G,
     design: &Core,
     chains: &Chains,
-    core: &Core,
     scanned: &Scanned,
     faults: &FaultSet,
     classes: &Classes,
     file: &StilFile,
-    vectors: &Vectors,
 ) -> Result<Vec<Grade>, NoMemory>
     requires design { IsDesignScanned design.now chains.now scanned.now faults.now classes.now }
-    requires core { core.now ≡ scanned.now.netlist }
-    requires vectors { vectors.now ≡ vectors_in file.now }
-    requires fits { All (IsCycleOf core.now) vectors.now }
-    requires few { length vectors.now < 2 ^ 64 }
-    ensures { IfOk result (λ grades. AreGrades scanned.now faults.now vectors.now grades.items) }
+    requires fits { FitsNetlist file.now scanned.now.netlist }
+    ensures { IfOk result (λ grades. AreGrades scanned.now faults.now (vectors_in file.now) grades.items) }
 {
     design.netlist().sound();
-    core.netlist().sound();
+    scanned.netlist().sound();
     faults_have_lines();
     equivalent_runs();
-    let by_class = class_grades(
-        alloc, stage, design, chains, core, scanned, faults, classes, file, vectors,
-    )?;
+    let by_class = class_grades(alloc, stage, design, chains, scanned, faults, classes, file)?;
     let grades = spread(alloc, faults.len(), classes, &by_class)?;
     Ok(grades)
 }

@@ -96,6 +96,7 @@ pub fn tried_in<'a>(
     let room = PodemRoom {
         labels: labels.into_room(),
         effects: room.effects,
+        places: room.places,
     };
     Ok((found, room))
 }

@@ -4,6 +4,7 @@ ghost use Rattle.std.specs.Prelude.{◌≡◌, ◌≤◌, None, IfOk, IfSome, On
 ghost use Rattle.podem.specs.inner.Searching.{IsReady, IsAnswer, IsKept};
 
 use crate::guides::{Guide, Pick};
+use crate::orders::{Orders, Places};
 use crate::searching::search_from;
 use decisions::{Case, Effects, Measures};
 use evidence::{Engine, Found};
@@ -15,13 +16,15 @@ use std::alloc::{AllocError, Global};
 #[derive(Drop)]
 pub struct Podem {
     measures: Measures,
+    orders: Orders,
 }
 
-/// What a search leaves to the next one: its labels, and the room of the signals with an effect.
+/// What a search leaves to the next one: its labels, and the rooms of the signals with an effect and of places in orders.
 #[derive(Drop)]
 pub struct PodemRoom {
     pub(crate) labels: SimRoom,
     pub(crate) effects: Effects,
+    pub(crate) places: Places,
 }
 
 /// As many Closed an attempt may take before the search begins anew.
@@ -92,7 +95,8 @@ impl Podem {
     /// The search with the measures of a netlist. For another one its answers are right too, but it may be slow.
     pub fn of(alloc: Global, core: &Core) -> Result<Podem, NoMemory> {
         let measures = Measures::of(alloc, core)?;
-        Ok(Podem { measures })
+        let orders = Orders::of(alloc, core, &measures)?;
+        Ok(Podem { measures, orders })
     }
 }
 
@@ -120,7 +124,9 @@ impl Engine for Podem {
         holds: &Holds,
     ) -> Result<Found, NoMemory> {
         let mut labels = PairSim::new(alloc, core, fault, holds)?;
-        let mut guide = Guide::of(&self.measures, &fault, Effects::new(alloc));
+        let effects = Effects::new(alloc);
+        let places = Places::of(alloc, self.orders.count())?;
+        let mut guide = Guide::of(&self.measures, &self.orders, &fault, effects, places);
         core.netlist().sound();
         let case = Case { core, fault, holds };
         let found = attempts(alloc, &case, &mut guide, &mut labels, limit)?;
@@ -130,7 +136,12 @@ impl Engine for Podem {
     fn room(&self, alloc: Global, core: &Core, holds: &Holds) -> Result<PodemRoom, NoMemory> {
         let labels = SimRoom::new(alloc, core, holds)?;
         let effects = Effects::new(alloc);
-        Ok(PodemRoom { labels, effects })
+        let places = Places::of(alloc, self.orders.count())?;
+        Ok(PodemRoom {
+            labels,
+            effects,
+            places,
+        })
     }
 
     fn search_in(
@@ -143,13 +154,20 @@ impl Engine for Podem {
         holds: &Holds,
     ) -> Result<(Found, PodemRoom), NoMemory> {
         let mut labels = PairSim::in_room(room.labels, core, fault, holds);
-        let mut guide = Guide::of(&self.measures, &fault, room.effects);
+        let mut guide = Guide::of(
+            &self.measures,
+            &self.orders,
+            &fault,
+            room.effects,
+            room.places,
+        );
         core.netlist().sound();
         let case = Case { core, fault, holds };
         let found = attempts(alloc, &case, &mut guide, &mut labels, limit)?;
         let room = PodemRoom {
             labels: labels.into_room(),
             effects: guide.effects,
+            places: guide.places,
         };
         Ok((found, room))
     }

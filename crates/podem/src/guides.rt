@@ -2,6 +2,7 @@
 ghost use Rattle.std.specs.Prelude.{◌≡◌};
 ghost use Rattle.pair_sim.specs.Sims.{IsNotBlocked};
 
+use crate::orders::{By, Orders, Places};
 use decisions::{
     Aim, Case, Effects, Measures, count_pins, excitation, gate_of, hash_in, is_unknown,
     may_get_effect, mixed, place_of, readers, salt_of, signal_count,
@@ -28,30 +29,57 @@ pub(crate) enum Pick {
     Lowest,
 }
 
-/// What guides the search for one fault: what bits cost, what is wanted where both cost alike, which pin the backtrace goes to, and the signals
-/// with an effect.
+/// What guides the search for one fault: what bits cost, the orders of wide gates' pins and how far each is known, what is wanted where both bits cost
+/// alike, which pin the backtrace goes to, and the signals with an effect.
 #[derive(Drop)]
 pub(crate) struct Guide<'a> {
     measures: &'a Measures,
+    orders: &'a Orders,
     salt: u64,
     pick: Pick,
     pub(crate) effects: Effects,
+    pub(crate) places: Places,
 }
 
 impl<'a> Guide<'a> {
-    /// With room for effects, whatever it held.
-    pub(crate) fn of(measures: &'a Measures, fault: &Fault, effects: Effects) -> Guide<'a> {
+    /// With room for effects and for places in orders, whatever it held.
+    pub(crate) fn of(
+        measures: &'a Measures,
+        orders: &'a Orders,
+        fault: &Fault,
+        effects: Effects,
+        places: Places,
+    ) -> Guide<'a> {
         Guide {
             measures,
+            orders,
             salt: salt_of(fault),
             pick: Pick::Needed,
             effects,
+            places,
         }
     }
 
     /// From here on the backtrace goes to these pins.
     pub(crate) fn go_to(&mut self, pick: Pick) {
         self.pick = pick;
+    }
+
+    /// The number of the order by which a gate's pins are gone to, if there is one.
+    fn order(&self, gate: SignalId, pins: &[SignalId], dear: bool) -> Option<usize> {
+        let by = match self.pick {
+            Pick::Needed => if dear { By::Dearest } else { By::Cheapest },
+            Pick::Any(_) => return None,
+            Pick::Lowest => By::Lowest,
+        };
+        self.orders.number(gate, pins, by)
+    }
+
+    /// The first pin of an order that is X.
+    fn first_unknown(&mut self, core: &Core, labels: &PairSim, number: usize) -> Option<SignalId>
+        requires { labels.now.netlist ≡ core.now }
+    {
+        self.places.first_unknown(core, labels, self.orders, number)
     }
 
     fn cost(&self, signal: SignalId, bit: bool) -> u32 {
@@ -91,12 +119,31 @@ fn is_better(weight: u64, best: &Option<(SignalId, u64)>) -> bool {
 /// The pin that is X to go to for a bit, which is wanted of one pin, or of all if it is dear.
 fn pin_for(
     core: &Core,
+    guide: &mut Guide,
+    labels: &PairSim,
+    gate: SignalId,
+    pins: &[SignalId],
+    bit: bool,
+    dear: bool,
+) -> Option<Aim>
+    requires { labels.now.netlist ≡ core.now }
+{
+    let signal = match guide.order(gate, pins, dear) {
+        Some(number) => guide.first_unknown(core, labels, number)?,
+        None => best_pin(core, guide, labels, pins, bit, dear)?,
+    };
+    Some(Aim { signal, bit })
+}
+
+/// That pin, where each one is looked at.
+fn best_pin(
+    core: &Core,
     guide: &Guide,
     labels: &PairSim,
     pins: &[SignalId],
     bit: bool,
     dear: bool,
-) -> Option<Aim>
+) -> Option<SignalId>
     requires { labels.now.netlist ≡ core.now }
 {
     let mut best = None;
@@ -107,7 +154,7 @@ fn pin_for(
         }
     }
     let (signal, _) = best?;
-    Some(Aim { signal, bit })
+    Some(signal)
 }
 
 /// The pin that is X for which its cheaper bit costs least, at that bit.
@@ -150,25 +197,25 @@ fn parity_pin(
 }
 
 /// One step back from an aim: a pin of its gate, and the bit there.
-fn step_back(core: &Core, guide: &Guide, labels: &PairSim, aim: &Aim) -> Option<Aim>
+fn step_back(core: &Core, guide: &mut Guide, labels: &PairSim, aim: &Aim) -> Option<Aim>
     requires { labels.now.netlist ≡ core.now }
 {
     let (kind, pins) = gate_of(core, aim.signal)?;
     match kind {
-        Kind::And => pin_for(core, guide, labels, pins, aim.bit, aim.bit),
-        Kind::Nand => pin_for(core, guide, labels, pins, !aim.bit, !aim.bit),
-        Kind::Or => pin_for(core, guide, labels, pins, aim.bit, !aim.bit),
-        Kind::Nor => pin_for(core, guide, labels, pins, !aim.bit, aim.bit),
+        Kind::And => pin_for(core, guide, labels, aim.signal, pins, aim.bit, aim.bit),
+        Kind::Nand => pin_for(core, guide, labels, aim.signal, pins, !aim.bit, !aim.bit),
+        Kind::Or => pin_for(core, guide, labels, aim.signal, pins, aim.bit, !aim.bit),
+        Kind::Nor => pin_for(core, guide, labels, aim.signal, pins, !aim.bit, aim.bit),
         Kind::Xor => parity_pin(core, guide, labels, pins, aim.bit),
         Kind::Xnor => parity_pin(core, guide, labels, pins, !aim.bit),
-        Kind::Not => pin_for(core, guide, labels, pins, !aim.bit, false),
-        Kind::Buff => pin_for(core, guide, labels, pins, aim.bit, false),
+        Kind::Not => pin_for(core, guide, labels, aim.signal, pins, !aim.bit, false),
+        Kind::Buff => pin_for(core, guide, labels, aim.signal, pins, aim.bit, false),
         Kind::Dff | Kind::Const0 | Kind::Const1 => None,
     }
 }
 
 /// Where the aim leads back to.
-fn trace_back(core: &Core, guide: &Guide, labels: &PairSim, start: &Aim) -> Aim
+fn trace_back(core: &Core, guide: &mut Guide, labels: &PairSim, start: &Aim) -> Aim
     requires { labels.now.netlist ≡ core.now }
 {
     let mut aim = *start;
@@ -182,13 +229,13 @@ fn trace_back(core: &Core, guide: &Guide, labels: &PairSim, start: &Aim) -> Aim
 }
 
 /// What a gate's pin should have so that an effect on another pin goes through.
-fn through(core: &Core, guide: &Guide, labels: &PairSim, gate: SignalId) -> Option<Aim>
+fn through(core: &Core, guide: &mut Guide, labels: &PairSim, gate: SignalId) -> Option<Aim>
     requires { labels.now.netlist ≡ core.now }
 {
     let (kind, pins) = gate_of(core, gate)?;
     match kind {
-        Kind::And | Kind::Nand => pin_for(core, guide, labels, pins, true, true),
-        Kind::Or | Kind::Nor => pin_for(core, guide, labels, pins, false, true),
+        Kind::And | Kind::Nand => pin_for(core, guide, labels, gate, pins, true, true),
+        Kind::Or | Kind::Nor => pin_for(core, guide, labels, gate, pins, false, true),
         Kind::Xor | Kind::Xnor => cheapest_pin(core, guide, labels, pins),
         _ => None,
     }
@@ -207,7 +254,7 @@ fn is_nearer(gate: SignalId, cost: u32, best: &Option<Front>) -> bool {
 /// A gate that an effect reaches, if it is better than the best so far.
 fn consider(
     core: &Core,
-    guide: &Guide,
+    guide: &mut Guide,
     labels: &PairSim,
     gate: SignalId,
     best: Option<Front>,
@@ -228,7 +275,7 @@ fn consider(
 /// The gates that read a signal with an effect.
 fn consider_readers(
     core: &Core,
-    guide: &Guide,
+    guide: &mut Guide,
     labels: &PairSim,
     signal: SignalId,
     start: Option<Front>,
@@ -246,7 +293,7 @@ fn consider_readers(
 }
 
 /// The best gate of the D-frontier: those that read a signal with an effect, whose own label may still get one.
-fn frontier(case: &Case, guide: &Guide, labels: &PairSim) -> Option<Front>
+fn frontier(case: &Case, guide: &mut Guide, labels: &PairSim) -> Option<Front>
     requires same { labels.now.netlist ≡ case.now.core.now }
     requires not_blocked { IsNotBlocked labels.now }
 {
@@ -264,7 +311,7 @@ fn frontier(case: &Case, guide: &Guide, labels: &PairSim) -> Option<Front>
 }
 
 /// The objective: the fault is excited, and then the gate of the D-frontier that is nearest to the observed points lets its effect through.
-fn objective(case: &Case, guide: &Guide, labels: &PairSim) -> Option<Aim>
+fn objective(case: &Case, guide: &mut Guide, labels: &PairSim) -> Option<Aim>
     requires same { labels.now.netlist ≡ case.now.core.now }
     requires not_blocked { IsNotBlocked labels.now }
 {
@@ -275,7 +322,7 @@ fn objective(case: &Case, guide: &Guide, labels: &PairSim) -> Option<Aim>
 }
 
 /// What to decide, if the labels tell.
-pub(crate) fn best_aim(case: &Case, guide: &Guide, labels: &PairSim) -> Option<Aim>
+pub(crate) fn best_aim(case: &Case, guide: &mut Guide, labels: &PairSim) -> Option<Aim>
     requires same { labels.now.netlist ≡ case.now.core.now }
     requires not_blocked { IsNotBlocked labels.now }
 {

@@ -10,6 +10,7 @@
 mod candidates;
 mod engine;
 mod guides;
+mod orders;
 mod searching;
 
 pub use candidates::tried_in;

@@ -114,7 +114,7 @@ pub(crate) fn wanted_source(core: &Core, labels: &PairSim, wanted: SignalId) -> 
 }
 
 /// The source to which the objective leads back.
-fn guided(case: &Case, guide: &Guide, labels: &PairSim, stack: &Vec<Side>) -> Option<Aim>
+fn guided(case: &Case, guide: &mut Guide, labels: &PairSim, stack: &Vec<Side>) -> Option<Aim>
     requires { MayGoOn case.now labels.now stack.now.items }
     ensures { IfSome result (λ a. IsFreeSource case.now stack.now.items a.signal) }
 {
@@ -127,7 +127,7 @@ fn guided(case: &Case, guide: &Guide, labels: &PairSim, stack: &Vec<Side>) -> Op
 }
 
 /// What to decide next.
-fn choose(case: &Case, guide: &Guide, labels: &PairSim, stack: &Vec<Side>) -> Aim
+fn choose(case: &Case, guide: &mut Guide, labels: &PairSim, stack: &Vec<Side>) -> Aim
     requires { MayGoOn case.now labels.now stack.now.items }
     ensures { IsFreeSource case.now stack.now.items result.signal }
 {
@@ -193,6 +193,7 @@ fn take_turn(
     ensures { IfOk result (IsStepped case.now stack.old.items labels.new stack.new.items) }
 {
     guide.effects.follow(case.core, &case.fault, labels)?;
+    guide.places.reach(stack.len());
     let aim = choose(case, guide, labels, stack);
     let other = Aim {
         signal: aim.signal,

@@ -1,9 +1,8 @@
 -- What the lines say of what was asked for.
-use Rattle.std.proofs.Common.{◌≡◌, ℕ, ◌+◌, ◌*◌, ◌<◌, ◌≤◌, inl, inr, Bool, true, false, true≢false, List, length, get_or, Option, Some, None, refl, sym, ◌∙◌, ap, subst, arith}
+use Rattle.std.proofs.Common.{◌≡◌, ℕ, ◌*◌, ◌<◌, ◌≤◌, inl, inr, Bool, true, false, true≢false, List, length, get_or, Option, Some, None, refl, sym, ◌∙◌, ap, arith}
 use Rattle.std.specs.List.{slice_get}
 use Rattle.std.proofs.lemmas.List.Elements.{All-get_or}
 use Rattle.std.proofs.lemmas.Option.{get_or_from_slice_get, slice_get-get_or, slice_get_within}
-use Rattle.statement.specs.declared.lines.Fault.{Fault}
 use Rattle.statement.specs.declared.outcomes.Outcome.TheVariants.{Unasked}
 use Rattle.statement.specs.Netlists.{Netlist}
 use Rattle.netlist.specs.Conditions.{IsSound}
@@ -16,7 +15,6 @@ use Rattle.fault_collapse.specs.Numbers.{Classes}
 use Rattle.list_core.specs.declared.verdicts.Verdict.{Verdict}
 use Rattle.list_core.specs.Verdicts.{is_open, one_if_class_detected, verdict_at}
 use Rattle.run_report.specs.Heads.{count_of, one_if_detected}
-use Rattle.run_report.specs.Outcomes.{IsDetected}
 use Rattle.run_report.proofs.ClassLemmas.{equivalent, to_representative}
 use Rattle.run_files.specs.Runs.{AreAsked, Asked, FirstKept, IsCovered, count_true}
 use Rattle.run_files.specs.inner.Classes.{IsAskedClass, detected_in}
@@ -32,7 +30,7 @@ enough_said None marks lines detected is met = met
 enough_said (Some p) marks lines detected is met = let most : p * count_true marks ≤ 100 * detected = met in omega arith
 
 module _ (n : Netlist) (a : Asked) (chains : List (List ℕ)) (classes : Classes) (are : AreClasses n classes) (size : length a.faults ≡ length (universe_of n)) (patterns : List Pattern)
-    (verdicts : List Verdict) (searched : AreSearched n a.holds a.limit a.refutes a.percent classes a.faults a.first patterns verdicts) (lines : List Line)
+    (verdicts : List Verdict) (searched : AreSearched n a.holds a.limit a.refutes a.times a.percent classes a.faults a.first patterns verdicts) (lines : List Line)
     (all : AreLines n chains classes.numbers a.faults verdicts (length (universe_of n)) lines) where
   -- the class of a fault that is asked for
   class_asked : (place : ℕ) → slice_get a.faults place ≡ Some true → IsAskedClass classes.numbers a.faults (get_or classes.numbers place 0)

@@ -1,9 +1,8 @@
 -- How many of the faults that are asked for are of a class, and how many of a class that is detected.
-use Rattle.std.proofs.Common.{◌≡◌, ℕ, zero, suc, ◌+◌, ◌*◌, ◌<◌, ◌≤◌, ◌&&◌, ◌==◌, Bool, true, false, true≢false, cond, List, [], ◌∷◌, length, get_or, take, Some, refl, sym, ◌∙◌, ap, arith}
+use Rattle.std.proofs.Common.{◌≡◌, ℕ, zero, suc, ◌+◌, ◌*◌, ◌<◌, ◌≤◌, ◌&&◌, ◌==◌, Bool, true, false, cond, List, [], ◌∷◌, length, get_or, take, Some, refl, sym, ◌∙◌, ap, arith}
 use Rattle.std.specs.List.{slice_get}
 use Rattle.std.proofs.lemmas.Bool.Decides.{nat_tests}
 use Rattle.list_core.specs.declared.verdicts.Verdict.{Verdict}
-use Rattle.list_core.specs.declared.verdicts.Verdict.TheVariants.{Open}
 use Rattle.list_core.specs.Enough.{detected_weight}
 use Rattle.list_core.specs.Verdicts.{one_if_class_detected, verdict_at}
 use Rattle.run_files.specs.Runs.{count_true}

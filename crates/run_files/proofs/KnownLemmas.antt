@@ -1,5 +1,5 @@
 -- What a search knows of faults, before compaction and after.
-use Rattle.std.proofs.Common.{◌≡◌, ℕ, zero, suc, ◌+◌, ◌<◌, ◌≤◌, inl, inr, Bool, false, true, true≢false, List, [], ◌∷◌, ◌++◌, length, map, get_or, Some, refl, sym, ◌∙◌, ap, subst, arith}
+use Rattle.std.proofs.Common.{◌≡◌, ℕ, zero, suc, ◌+◌, ◌≤◌, inl, inr, Bool, false, true, true≢false, List, [], ◌∷◌, ◌++◌, length, map, get_or, Some, refl, sym, ◌∙◌, ap, subst, arith}
 use Rattle.std.specs.List.{All, slice_get}
 use Rattle.std.proofs.lemmas.List.{length-map}
 use Rattle.std.proofs.lemmas.List.Elements.{All-append, All-from_get_or}
@@ -16,14 +16,14 @@ use Rattle.evidence.specs.Evidence.{Shows}
 use Rattle.evidence.specs.Laws.{ShownIsRedundant}
 use Rattle.word_sim.specs.Hits.{IsNeverDetected}
 use Rattle.word_sim.specs.Never.{AreNever, unmarked}
-use Rattle.list_core.proofs.KeepLemmas.{kept_all}
-use Rattle.list_core.specs.Finished.{AreFinished, IsLastTold}
+use Rattle.list_core.specs.Finished.{IsLastTold}
 use Rattle.list_core.specs.Subjects.{Subject, RepresentsIn}
 use Rattle.list_core.specs.States.{State, IsTrueList}
 use Rattle.list_core.specs.declared.verdicts.Verdict.{Verdict}
 use Rattle.list_core.specs.declared.verdicts.Verdict.TheVariants.{Open, Detected, Redundant, Aborted}
 use Rattle.list_core.specs.Verdicts.{VerdictHolds, is_open, one_if_class_detected, verdict_at}
 use Rattle.fewer_patterns.specs.Fewer.{IsNoWorse, IsSeenBy}
+use Rattle.run_files.specs.inner.Often.{AreChosen}
 use Rattle.run_files.specs.inner.Searches.{AreKnown, IsKnown}
 use Rattle.run_files.specs.inner.Spread.{spread}
 use Rattle.run_files.specs.inner.Verdicts.{AreVerdicts, IsVerdict, MayHave, is_redundant}
@@ -153,7 +153,7 @@ module _ (n : Netlist) (holds : Holds) (limit : ℕ) (refutes : Bool) where
 
     -- ---- after compaction
 
-    module _ (kept : List Pattern) (new : List Verdict) (done : AreFinished n faults patterns verdicts kept new) where
+    module _ (times : ℕ) (kept : List Pattern) (new : List Verdict) (done : AreChosen n holds times faults patterns verdicts kept new) where
       told_detected : (f : Fault) (v : Verdict) → IsLastTold n kept f v → one_if_class_detected v ≡ 1
       told_detected f v told = ap one_if_class_detected told.2
 
@@ -173,10 +173,7 @@ module _ (n : Netlist) (holds : Holds) (limit : ℕ) (refutes : Bool) where
       pub verdicts_of : AreVerdicts n holds faults limit kept new
       verdicts_of = record {
         count = done.count ∙ known.count;
-        obey =
-            let P : List Pattern → Type 0 = λ ps. All (IsPatternOf n holds) ps in
-            subst P (sym done.are_kept.are) (kept_all (IsPatternOf n holds) done.are_kept.needed 0 patterns known.obey);
-        needed = done.needed;
+        obey = done.obey;
         each = λ class f at. elim (done.each class f at) [
           | inl told ↦ subst (IsVerdict n holds limit kept f) (sym told.2) told.3
           | inr same ↦

@@ -2,6 +2,9 @@ mod SpreadLemmas
 mod CountLemmas
 mod KnownLemmas
 mod FirstLemmas
+mod TellLemmas
+mod JoinLemmas
+mod OftenLemmas
 mod SearchLemmas
 mod LineLemmas
 mod LeafLemmas
@@ -10,4 +13,5 @@ mod TruthLemmas
 mod AskedLemmas
 mod PointLemmas
 mod ChainLemmas
+mod TimesLemmas
 mod RunLemmas

@@ -1,5 +1,5 @@
 -- The texts of verdicts are good files.
-use Rattle.std.proofs.Common.{◌≡◌, ◌∙◌, ℕ, inl, Bool, not, false, List, Ok, refl, sym, ap, subst, length, IsTrue}
+use Rattle.std.proofs.Common.{◌≡◌, ◌∙◌, ℕ, Bool, not, false, List, Ok, refl, sym, ap, subst, length, IsTrue}
 use Rattle.std.proofs.lemmas.List.Elements.{All-weaker}
 use Rattle.statement.specs.declared.lines.Fault.{Fault}
 use Rattle.statement.specs.Netlists.{Netlist}
@@ -101,7 +101,7 @@ module _ (alike : DetectedAlike) (texts : TextsDiffer) (n : Netlist) (a : Asked)
   totals : AreReportTotals asked_test classes made.said
   totals =
       let numbers = run.written.said.numbers in
-      record { limit = run.limit_is; head = record { counts = numbers.counts; coverage = numbers.coverage; efficiency = numbers.efficiency; times = inl numbers.times } }
+      record { limit = run.limit_is; head = record { counts = numbers.counts; coverage = numbers.coverage; efficiency = numbers.efficiency; times = run.written.counted.has } }
 
   tested : IsTested contents
   tested = record {

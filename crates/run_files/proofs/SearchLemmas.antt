@@ -1,5 +1,5 @@
 -- What is found of the faults that are asked for, and so of all classes.
-use Rattle.std.proofs.Common.{◌≡◌, ℕ, zero, suc, ◌+◌, ◌-◌, ◌*◌, ◌/◌, ◌<◌, ◌≤◌, ◌==◌, inl, inr, ◌⊎◌, Bool, false, true, true≢false, cond, List, [], ◌∷◌, ◌++◌, length, map, get_or, Option, Some, None, refl, sym, ◌∙◌, ap, subst, arith}
+use Rattle.std.proofs.Common.{◌≡◌, ℕ, zero, suc, ◌+◌, ◌-◌, ◌*◌, ◌<◌, ◌≤◌, inl, inr, ◌⊎◌, Bool, false, true, true≢false, cond, List, [], ◌∷◌, length, get_or, Option, Some, None, refl, sym, ◌∙◌, ap, subst, arith}
 use Rattle.std.specs.Int.{div_ceil}
 use Rattle.std.specs.List.{All, Contains, slice_get}
 use Rattle.std.proofs.lemmas.Bool.{cases_order}
@@ -13,7 +13,6 @@ use Rattle.statement.specs.declared.lines.Fault.{Fault}
 use Rattle.statement.specs.Netlists.{Netlist}
 use Rattle.statement.specs.Patterns.{Holds, Pattern}
 use Rattle.statement.specs.Faults.{universe_of}
-use Rattle.cubes.specs.Cubes.{IsPatternOf}
 use Rattle.fault_collapse.specs.Classes.{AreClasses}
 use Rattle.fault_collapse.specs.Numbers.{Classes}
 use Rattle.word_sim.specs.Never.{unmarked}
@@ -21,16 +20,14 @@ use Rattle.list_core.specs.declared.goals.Goal.{Goal}
 use Rattle.list_core.specs.declared.verdicts.Verdict.{Verdict}
 use Rattle.list_core.specs.declared.verdicts.Verdict.TheVariants.{Open, Detected, Redundant, Aborted}
 use Rattle.list_core.specs.Enough.{IsEnough, detected_weight}
-use Rattle.list_core.specs.Finished.{AreFinished}
-use Rattle.list_core.specs.Kept.{IsNeeded}
 use Rattle.list_core.specs.Verdicts.{is_open, one_if_class_detected, verdict_at}
 use Rattle.worker.specs.Working.{IsDone, NoneOpen}
-use Rattle.run_files.specs.Runs.{count_true}
 use Rattle.run_files.specs.declared.asked.AskedClasses.{AskedClasses}
 use Rattle.run_files.specs.inner.Classes.{AreAskedClasses, IsAskedClass, asked_in, detected_in, is_zero}
+use Rattle.run_files.specs.inner.Often.{AreChosen}
 use Rattle.run_files.specs.inner.Searches.{AreDetectedMarks, AreFound, AreKnown, AreSearched, IsGoal, IsGoalOf, IsMet, IsSeenBy}
 use Rattle.run_files.specs.inner.Spread.{marked_weight, spread, unmarked_weights}
-use Rattle.run_files.specs.inner.Verdicts.{AreVerdicts, IsVerdict, MayHave}
+use Rattle.run_files.specs.inner.Verdicts.{IsVerdict, MayHave}
 use Rattle.run_files.proofs.CountLemmas.{asked_some, some_asked, weighed}
 use Rattle.run_files.proofs.KnownLemmas.{blank, detected_stays, kinds_of, seen_stays, shut_stays, verdicts_of}
 use Rattle.run_files.proofs.SpreadLemmas.{outweighs, spread_each, spread_open, spread_size, spread_weight}
@@ -68,21 +65,21 @@ ended (Some p) asked weights marks (Some g) verdicts new is done shut met = elim
   | inr enough ↦ inr (met p g is enough)
 ]
 
-module _ (n : Netlist) (holds : Holds) (limit : ℕ) (refutes : Bool) (faults : List Fault) (weights : List ℕ) (first more patterns : List Pattern) (marks : List Bool) (verdicts : List Verdict)
+module _ (n : Netlist) (holds : Holds) (limit : ℕ) (refutes : Bool) (times : ℕ) (faults : List Fault) (weights : List ℕ) (first more patterns : List Pattern) (marks : List Bool) (verdicts : List Verdict)
     (kept : List Pattern) (new : List Verdict) (sized : length weights ≡ length faults) (are : AreDetectedMarks n first faults marks)
     (known : AreKnown n holds limit refutes (unmarked marks faults) more verdicts) (known_all : AreKnown n holds limit refutes faults patterns (spread marks verdicts))
     (through : (class : ℕ) (f : Fault) → slice_get faults class ≡ Some f → IsSeenBy n first f → IsSeenBy n patterns f)
-    (done : AreFinished n faults patterns (spread marks verdicts) kept new) where
+    (done : AreChosen n holds times faults patterns (spread marks verdicts) kept new) where
   abbrev before : List Verdict
   before = spread marks verdicts
 
   first_detected : (class : ℕ) (f : Fault) → slice_get faults class ≡ Some f → IsSeenBy n first f → one_if_class_detected (verdict_at new class) ≡ 1
-  first_detected class f at seen = seen_stays n holds limit refutes faults patterns before known_all kept new done class f at (through class f at seen)
+  first_detected class f at seen = seen_stays n holds limit refutes faults patterns before known_all times kept new done class f at (through class f at seen)
 
   shut_at : NoneOpen verdicts → (class : ℕ) (f : Fault) → slice_get faults class ≡ Some f → (mark : Bool) → get_or marks class false ≡ mark → is_open (verdict_at new class) ≡ false
   shut_at none class f at true mark = detected_shut (verdict_at new class) (first_detected class f at ((are.each class f at).0 mark))
   shut_at none class f at false mark =
-      shut_stays n holds limit refutes faults patterns before known_all kept new done class f at
+      shut_stays n holds limit refutes faults patterns before known_all times kept new done class f at
       (spread_each (λ (g : Fault) (v : Verdict). is_open v ≡ false) marks faults verdicts are.size
       (λ i g there. none i (let lt = slice_get_within (unmarked marks faults) i g there in omega (arith, known.count))) class f at mark)
 
@@ -98,7 +95,7 @@ module _ (n : Netlist) (holds : Holds) (limit : ℕ) (refutes : Bool) (faults : 
       let one = first_detected class f at ((are.each class f at).0 mark) in
       omega arith
   more_at class f at false mark =
-      let stays = detected_stays n holds limit refutes faults patterns before known_all kept new done class f at in
+      let stays = detected_stays n holds limit refutes faults patterns before known_all times kept new done class f at in
       omega arith
 
   heavy : marked_weight marks weights + detected_weight (unmarked_weights marks weights) verdicts ≤ detected_weight weights new
@@ -116,12 +113,12 @@ module _ (n : Netlist) (holds : Holds) (limit : ℕ) (refutes : Bool) (faults : 
       let reach : g.enough ≤ detected_weight (unmarked_weights marks weights) verdicts = subst (λ (ws : List ℕ). g.enough ≤ detected_weight ws verdicts) goal.weights_are enough in
       reached p asked (marked_weight marks weights) (detected_weight (unmarked_weights marks weights) verdicts) (detected_weight weights new) g.enough goal.enough reach heavy
 
-  pub found_of : (percent : Option ℕ) (asked : ℕ) (goal : Option Goal) → IsGoalOf percent asked weights marks goal → IsDone goal verdicts → length kept < 4294967296
-      → AreFound n holds limit refutes percent asked faults weights first kept new
-  found_of percent asked goal is ends few = record {
-    verdicts_are = verdicts_of n holds limit refutes faults patterns before known_all kept new done;
-    kinds = kinds_of n holds limit refutes faults patterns before known_all kept new done;
-    few = few;
+  pub found_of : (percent : Option ℕ) (asked : ℕ) (goal : Option Goal) → IsGoalOf percent asked weights marks goal → IsDone goal verdicts → AreFound n holds limit refutes times percent asked faults weights first kept new
+  found_of percent asked goal is ends = record {
+    verdicts_are = verdicts_of n holds limit refutes faults patterns before known_all times kept new done;
+    kinds = kinds_of n holds limit refutes faults patterns before known_all times kept new done;
+    needed = done.needed;
+    few = done.few;
     first_kept = first_detected;
     done = ended percent asked weights marks goal verdicts new is ends none_open (met asked);
   }
@@ -171,9 +168,9 @@ open_past [] k shut = absurd (true≢false shut)
 open_past (v ∷ vs) zero shut = omega arith
 open_past (v ∷ vs) (suc k) shut = let rest = open_past vs k shut in omega arith
 
-module _ (n : Netlist) (holds : Holds) (limit : ℕ) (refutes : Bool) (percent : Option ℕ) (classes : Classes) (marks : List Bool) (first kept : List Pattern) (verdicts : List Verdict)
+module _ (n : Netlist) (holds : Holds) (limit : ℕ) (refutes : Bool) (times : ℕ) (percent : Option ℕ) (classes : Classes) (marks : List Bool) (first kept : List Pattern) (verdicts : List Verdict)
     (within : All (λ class. class < length classes.representatives) classes.numbers) (a : AskedClasses) (are : AreAskedClasses classes marks a)
-    (found : AreFound n holds limit refutes percent a.count a.faults.items a.weights.items first kept verdicts) where
+    (found : AreFound n holds limit refutes times percent a.count a.faults.items a.weights.items first kept verdicts) where
   abbrev others : List Bool
   others = a.others.items
 
@@ -232,15 +229,18 @@ module _ (n : Netlist) (holds : Holds) (limit : ℕ) (refutes : Bool) (percent :
       ∙ weighed classes.numbers marks are.weights all (omega (arith, spread_size others verdicts, size))
       (λ class lt. are.are_weights.each class (omega (arith, lt, spread_size others verdicts, others_size))))
 
-  pub searched_of : AreSearched n holds limit refutes percent classes marks first kept all
+  pub searched_of : AreSearched n holds limit refutes times percent classes marks first kept all
   searched_of = record {
     verdicts_are = record {
       count = spread_size others verdicts ∙ others_size;
       obey = found.verdicts_are.obey;
-      needed = λ place lt.
-          let needed = found.verdicts_are.needed place lt in
-          (needed.0, among others classes.representatives needed.0 (subst (λ (fs : List Fault). Contains fs needed.0) are.faults_are needed.1), needed.2);
       each = λ class f at. verdict_of class f at (get_or others class false) refl;
+    };
+    needed = record {
+      each = λ place lt.
+          let needed = found.needed.each place lt in
+          (needed.0, among others classes.representatives needed.0 (subst (λ (fs : List Fault). Contains fs needed.0) are.faults_are needed.1), needed.2);
+      differ = found.needed.differ;
     };
     kinds = kinds_spread refutes others verdicts found.kinds;
     few = found.few;

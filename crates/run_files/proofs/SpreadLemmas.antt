@@ -1,5 +1,5 @@
 -- Classes of which some are marked: their weights, and the verdicts of the others spread over all.
-use Rattle.std.proofs.Common.{◌≡◌, ℕ, zero, suc, ◌+◌, ◌*◌, ◌<◌, ◌≤◌, Bool, true, false, true≢false, cond, List, [], ◌∷◌, ◌++◌, length, get_or, drop, Some, refl, sym, ◌∙◌, ap, subst, arith, append_assoc, append-nil}
+use Rattle.std.proofs.Common.{◌≡◌, ℕ, zero, suc, ◌+◌, ◌*◌, ◌<◌, ◌≤◌, Bool, true, false, true≢false, cond, List, [], ◌∷◌, ◌++◌, length, get_or, drop, Some, refl, sym, ◌∙◌, ap, arith, append_assoc, append-nil}
 use Rattle.std.specs.List.{slice_get}
 use Rattle.std.proofs.lemmas.Nat.{mul-le}
 use Rattle.std.proofs.Math.Seq.{drop-cons}
@@ -7,7 +7,7 @@ use Rattle.std.proofs.Math.ListN.{drop_of_length-le}
 use Rattle.statement.specs.declared.lines.Fault.{Fault}
 use Rattle.word_sim.specs.Never.{unmarked}
 use Rattle.list_core.specs.declared.verdicts.Verdict.{Verdict}
-use Rattle.list_core.specs.declared.verdicts.Verdict.TheVariants.{Open, Detected, Redundant, Aborted}
+use Rattle.list_core.specs.declared.verdicts.Verdict.TheVariants.{Open}
 use Rattle.list_core.specs.Enough.{detected_weight}
 use Rattle.list_core.specs.Verdicts.{one_if_class_detected, verdict_at}
 use Rattle.run_files.specs.inner.Spread.{marked_weight, spread, unmarked_weights}

@@ -1,6 +1,6 @@
 -- What a run is asked for, and what it makes of a design.
-use Rattle.std.specs.Prelude.{ℕ, ◌≡◌, ◌<◌, ◌≤◌, ◌+◌, ◌*◌, ◌⊎◌, Bool, true, false, cond, IsFalse, List, [], ◌∷◌, length, Option, Some, None}
-use Rattle.std.specs.List.{slice_get}
+use Rattle.std.specs.Prelude.{ℕ, ◌≡◌, ◌<◌, ◌≤◌, ◌+◌, ◌*◌, ◌⊎◌, ◌≢◌, ◌==◌, Bool, true, false, cond, IsFalse, List, [], ◌∷◌, length, Option, Some, None}
+use Rattle.std.specs.List.{AllPairs, slice_get}
 use Rattle.statement.specs.declared.lines.Fault.{Fault}
 use Rattle.statement.specs.declared.outcomes.Outcome.TheVariants.{Unasked}
 use Rattle.statement.specs.Netlists.{Netlist}
@@ -10,7 +10,7 @@ use Rattle.statement.specs.Faults.{universe_of}
 use Rattle.statement.specs.Reports.{Line}
 use Rattle.statement.specs.Stils.{StilFile}
 use Rattle.evidence.specs.declared.kinds.Evidence.{Evidence}
-use Rattle.list_core.specs.Kept.{IsNeeded}
+use Rattle.detections.specs.Times.{IsNeededFor}
 use Rattle.run_files.specs.declared.files.RunFiles.{RunFiles}
 use Rattle.run_files.specs.declared.asked.RunPlan.{RunPlan}
 use Rattle.run_files.specs.declared.asked.Wanted.{Wanted}
@@ -36,6 +36,8 @@ pub record Asked : Type 0 where
   pub percent : Option ℕ
   -- the patterns that it begins with
   pub first : List Pattern
+  -- by how many patterns each fault is to be detected
+  pub times : ℕ
 
 -- what these arguments of a run ask for
 abbrev pub asked_by : RunPlan → Wanted → Holds → Bool → Asked
@@ -47,6 +49,7 @@ asked_by plan wanted holds refutes = record {
   faults = wanted.faults.items;
   percent = plan.percent;
   first = wanted.first.items;
+  times = plan.times;
 }
 
 abbrev pub count_true : List Bool → ℕ
@@ -70,6 +73,10 @@ FirstKept n a lines =
     (place : ℕ) (f : Fault) (line : Line) → slice_get (universe_of n) place ≡ Some f → slice_get lines place ≡ Some line → slice_get a.faults place ≡ Some true
     → IsDetected n a.first f → one_if_detected line.outcome ≡ 1
 
+-- to how many the report counts detections: they aren't counted where one is enough
+abbrev pub counted_to : ℕ → ℕ
+counted_to times = cond (times == 1) 0 times
+
 -- ---- what it makes
 
 abbrev pub files_of : RunFiles → FiveFiles
@@ -80,7 +87,8 @@ abbrev pub contents_of : Netlist → StilFile → List (Fault × Evidence) → R
 contents_of n file evidence f = record { netlist = n; scan = f.scan.items; file = file; evidence = evidence; said = f.said }
 
 -- The five texts tell the truth by the statement. They are good files, the netlist's in its canonical text, for these held inputs, chains and limit;
--- each pattern of their test is the last to detect some class. Where nothing is refuted, their certificate has trees alone.
+-- each pattern of their test is among the last so many that detect some class as are asked for. Where that is more than one, no two patterns are equal,
+-- and the report says how many detect each fault. Where nothing is refuted, their certificate has trees alone.
 -- They say of no fault that it wasn't asked for but of those that weren't, unless enough are detected; and what the first patterns detect is detected.
 pub record IsRun (n : Netlist) (a : Asked) (made : RunFiles) : Type 0 where
   pub file : StilFile
@@ -90,7 +98,9 @@ pub record IsRun (n : Netlist) (a : Asked) (made : RunFiles) : Type 0 where
   pub holds_are : good.tested.holds ≡ a.holds
   pub chains_are : design_chains n (chains_said made.said) ≡ design_chains n a.chains
   pub limit_is : limit_said made.said ≡ a.limit
-  pub needed : (place : ℕ) → place < length good.tested.patterns → IsNeeded n good.tested.patterns good.tested.classes.representatives place
+  pub needed : (place : ℕ) → place < length good.tested.patterns → IsNeededFor n good.tested.patterns a.times good.tested.classes.representatives place
+  pub differ : 1 < a.times → AllPairs (λ (p q : Pattern). p ≢ q) good.tested.patterns
+  pub counted : made.said.times.most ≡ counted_to a.times
   pub asked : AreAsked a made.said.lines
   pub first : FirstKept n a made.said.lines
   pub statement : Statement n a.holds (design_chains n a.chains) (files_of made)

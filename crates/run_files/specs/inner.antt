@@ -1,5 +1,6 @@
 -- What the contracts of private functions cite.
 pub mod Verdicts
+pub mod Often
 pub mod Spread
 pub mod Classes
 pub mod Searches

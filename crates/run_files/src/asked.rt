@@ -12,8 +12,8 @@ use std::alloc::{AllocError, Global};
 use word_sim::unmarked;
 
 /// How a run goes: at most so many chains, so many workers, at most so many closed ends a search, the seed of the bits that cubes leave open,
-/// where fewer than all are enough how many in a hundred of the faults that are asked for are to be detected, and so many rounds that make the
-/// patterns fewer.
+/// where fewer than all are enough how many in a hundred of the faults that are asked for are to be detected, so many rounds that make the
+/// patterns fewer, and by how many patterns each fault is to be detected.
 #[derive(Clone, Copy)]
 pub struct RunPlan {
     pub chains: u32,
@@ -22,6 +22,7 @@ pub struct RunPlan {
     pub seed: u64,
     pub percent: Option<u32>,
     pub rounds: u32,
+    pub times: u32,
 }
 
 /// For each fault of the netlist whether it is asked for, and the patterns that the run begins with.

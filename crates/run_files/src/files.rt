@@ -13,11 +13,12 @@ ghost use Rattle.statement.specs.Faults.{universe_of};
 ghost use Rattle.run_files.specs.inner.Written.{IsTestText, IsWritten};
 ghost use Rattle.run_files.specs.inner.Verdicts.{AreVerdicts};
 ghost use Rattle.run_files.specs.inner.Reports.{IsSaid};
+ghost use Rattle.report.specs.Reports.{AreCounted};
 
 use crate::asked::{RunPlan, Wanted};
 use crate::leaves::leaves_of;
 use crate::lines::lines_of;
-use crate::reporting::report_of;
+use crate::reporting::{report_of, times_said};
 use crate::searching::search;
 use crate::stitching::stitched;
 use crate::truth::written_is_run;
@@ -29,7 +30,7 @@ use fault_universe::faults_have_signals;
 use list_core::Finished;
 use netlist::{Core, Holds, Netlist, NoMemory};
 use outside::Gate;
-use report::{Report, write_report};
+use report::{Report, Times, write_report};
 use run_report::{Subject, pin_names, subject_of};
 use scan_insert::{Chains, insert};
 use std::alloc::Global;
@@ -79,6 +80,7 @@ fn said_of(
     found: &Finished,
     limit: u32,
     holds: &Holds,
+    times: Times,
 ) -> Result<Report, NoMemory>
     requires chains { AreChainsOf netlist.now chains.now }
     requires scanned { scanned.now ≡ scanned_of netlist.now chains.now }
@@ -87,7 +89,9 @@ fn said_of(
     requires held { AreHoldsOf netlist.now holds.now }
     requires verdicts { AreVerdicts netlist.now holds.now subject.now.classes.representatives limit found.now.patterns.items found.now.verdicts.items }
     requires few { length found.now.patterns.items < 2 ^ 32 }
-    ensures { IfOk result (IsSaid netlist.now chains.now holds.now subject.now.classes limit asked.now found.now.patterns.items found.now.verdicts.items) }
+    requires times { AreCounted times }
+    ensures said { IfOk result (IsSaid netlist.now chains.now holds.now subject.now.classes limit asked.now found.now.patterns.items found.now.verdicts.items) }
+    ensures times { IfOk result (λ said. said.times ≡ times) }
 {
     netlist.sound();
     let pins = pin_names(alloc, scanned)?;
@@ -110,6 +114,7 @@ fn said_of(
         found.patterns.as_slice().len() as u32,
         limit,
         holds,
+        times,
         lines,
     )
 }
@@ -127,18 +132,20 @@ fn texts_of(
 ) -> Result<RunFiles, NoMemory>
     requires design { IsDesign core.now }
     requires some { 1 ≤ plan.chains }
+    requires times { 1 ≤ plan.times }
     requires held { AreHoldsOf core.now holds.now }
     requires chains { chains.now ≡ design_chains core.now plan.chains }
     requires subject { IsSubjectOf core.now subject.now }
     requires asked { length asked.now ≡ length (universe_of core.now) }
     requires verdicts { AreVerdicts core.now holds.now subject.now.classes.representatives plan.limit found.patterns.items found.verdicts.items }
     requires few { length found.patterns.items < 2 ^ 32 }
-    ensures { IfOk result (IsWritten core.now holds.now (design_chains core.now plan.chains) subject.now.classes plan.limit asked.now found.patterns.items found.verdicts.items) }
+    ensures { IfOk result (IsWritten core.now holds.now (design_chains core.now plan.chains) subject.now.classes plan.limit plan.times asked.now found.patterns.items found.verdicts.items) }
 {
     let netlist = core.netlist();
     netlist.sound();
     faults_have_signals();
     let scanned = insert(alloc, netlist, chains)?;
+    let times = times_said(alloc, core, subject, &found.patterns, plan.times)?;
     let said = said_of(
         alloc,
         netlist,
@@ -149,6 +156,7 @@ fn texts_of(
         &found,
         plan.limit,
         holds,
+        times,
     )?;
     said.sound();
     let Finished { patterns, verdicts } = found;
@@ -183,6 +191,7 @@ pub fn make_files<R: Threads + Wait + Sync, E: Engine + Sync, G: Gate + Sync>(
     requires design { IsDesign core.now }
     requires some { 1 ≤ plan.chains }
     requires limit { (1 ≤ plan.limit) × (plan.limit ≤ most_limit) }
+    requires times { 1 ≤ plan.times }
     requires workers { (0 < plan.workers) × (plan.workers ≤ 64) }
     requires held { AreHoldsOf core.now holds.now }
     requires faults { length wanted.faults.items ≡ length (universe_of core.now) }

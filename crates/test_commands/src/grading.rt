@@ -17,9 +17,7 @@ ghost use Rattle.test_commands.specs.inner.GradeTrials.{grade_fit_due, graded_du
 use crate::chain_testing::{ChainTrial, trial_of};
 use crate::grade_lines::grade_texts;
 use command_line::grade_name;
-use command_steps::{
-    OneFile, Refusal, core_of, cycles_of, faults_of, fitting, one_file_product, scanned_of,
-};
+use command_steps::{OneFile, Refusal, faults_of, fitting, one_file_product, scanned_of};
 use commands::{Ending, FileName, Product, Stop, Work, run_command};
 use fault_collapse::{Classes, collapse};
 use fault_universe::{FaultSet, faults_have_signals};
@@ -67,23 +65,17 @@ fn grades_by<G: Gate>(
     requires fits { FitsNetlist trial.now.file scanned.now.netlist }
     ensures { IfOk result (λ grades. AreGrades scanned.now faults.now (vectors_in trial.now.file) grades.items) }
 {
-    trial.file.sound();
-    fitting_cycles();
     let design = design_core(alloc, &trial.netlist)?;
     let chains = chains_by(alloc, &trial.netlist, asked)?;
-    let core = core_of(alloc, scanned)?;
-    let cycles = cycles_of(alloc, &trial.file)?;
     grades(
         alloc,
         stage,
         &design,
         &chains,
-        &core,
         scanned,
         faults,
         classes,
         &trial.file,
-        &cycles,
     )
 }
 

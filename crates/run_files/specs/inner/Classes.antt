@@ -1,5 +1,5 @@
 -- What is asked for of classes, where the faults that are asked for are marked.
-use Rattle.std.specs.Prelude.{ℕ, ◌+◌, ◌≡◌, ◌&&◌, ◌==◌, Bool, true, false, cond, List, [], ◌∷◌, length, map, slice_index, ◌<◌, Some}
+use Rattle.std.specs.Prelude.{ℕ, ◌+◌, ◌≡◌, ◌&&◌, ◌==◌, Bool, true, cond, List, [], ◌∷◌, length, map, slice_index, ◌<◌, Some}
 use Rattle.std.specs.List.{slice_get}
 use Rattle.fault_collapse.specs.Numbers.{Classes}
 use Rattle.word_sim.specs.Never.{unmarked}

@@ -1,5 +1,5 @@
 -- What is written of verdicts comes true.
-use Rattle.std.specs.Prelude.{ℕ, ◌≡◌, ◌≤◌, List, length}
+use Rattle.std.specs.Prelude.{◌≡◌, ◌≤◌, List, length}
 use Rattle.plain_text.specs.Limits.{most_limit}
 use Rattle.statement.specs.declared.lines.Fault.{Fault}
 use Rattle.netlist.specs.Conditions.{IsSound}
@@ -27,8 +27,8 @@ pub record IsFinishedRun (n : Netlist) (a : Asked) (classes : Classes) (patterns
   pub held : AreHoldsOf n a.holds
   pub size : length a.faults ≡ length (universe_of n)
   pub are_classes : AreClasses n classes
-  pub searched : AreSearched n a.holds a.limit a.refutes a.percent classes a.faults a.first patterns verdicts
-  pub written : IsWritten n a.holds (design_chains n a.chains) classes a.limit a.faults patterns verdicts made
+  pub searched : AreSearched n a.holds a.limit a.refutes a.times a.percent classes a.faults a.first patterns verdicts
+  pub written : IsWritten n a.holds (design_chains n a.chains) classes a.limit a.times a.faults patterns verdicts made
 
 -- good files for what is asked, by these classes and patterns, the test's in its written text
 pub record AreGoodFilesBy (n : Netlist) (a : Asked) (classes : Classes) (patterns : List Pattern) (made : RunFiles) : Type 0 where

@@ -3,9 +3,8 @@ use Rattle.std.specs.Prelude.{ℕ, ◌≡◌, ◌-◌, ◌*◌, ◌<◌, ◌≤�
 use Rattle.std.specs.Int.{div_ceil}
 use Rattle.std.specs.List.{All, slice_get}
 use Rattle.statement.specs.declared.lines.Fault.{Fault}
-use Rattle.statement.specs.declared.lines.Point.{Point}
 use Rattle.statement.specs.Netlists.{Netlist}
-use Rattle.statement.specs.Patterns.{Holds, Pattern, IsDetectedAt}
+use Rattle.statement.specs.Patterns.{Holds, Pattern}
 use Rattle.cubes.specs.Cubes.{IsPatternOf}
 use Rattle.redundancy_cert.specs.Trees.{closed_count, open_count}
 use Rattle.redundancy_cert.specs.Fits.{Fits}
@@ -19,6 +18,7 @@ use Rattle.list_core.specs.Verdicts.{is_open, one_if_class_detected, verdict_at}
 use Rattle.worker.specs.Working.{NoneOpen}
 pub use Rattle.fewer_patterns.specs.Fewer.{IsSeenBy}
 use Rattle.run_files.specs.Runs.{count_true}
+use Rattle.run_files.specs.inner.Often.{AreNeeded}
 use Rattle.run_files.specs.inner.Classes.{IsAskedClass, detected_in}
 use Rattle.run_files.specs.inner.Spread.{marked_weight, unmarked_weights}
 use Rattle.run_files.specs.inner.Verdicts.{AreVerdicts, MayHave}
@@ -61,18 +61,20 @@ IsMet (Some percent) asked detected = percent * asked ≤ 100 * detected
 -- ---- what is found
 
 -- of faults that are asked for, each with the weight of its class
-pub record AreFound (n : Netlist) (holds : Holds) (limit : ℕ) (refutes : Bool) (percent : Option ℕ) (asked : ℕ) (faults : List Fault) (weights : List ℕ) (first : List Pattern)
+pub record AreFound (n : Netlist) (holds : Holds) (limit : ℕ) (refutes : Bool) (times : ℕ) (percent : Option ℕ) (asked : ℕ) (faults : List Fault) (weights : List ℕ) (first : List Pattern)
     (patterns : List Pattern) (verdicts : List Verdict) : Type 0 where
   pub verdicts_are : AreVerdicts n holds faults limit patterns verdicts
+  pub needed : AreNeeded n times faults patterns
   pub kinds : All (MayHave refutes) verdicts
   pub few : length patterns < 2 ^ 32
   pub first_kept : (class : ℕ) (f : Fault) → slice_get faults class ≡ Some f → IsSeenBy n first f → one_if_class_detected (verdict_at verdicts class) ≡ 1
   pub done : NoneOpen verdicts ⊎ IsMet percent asked (detected_weight weights verdicts)
 
 -- of all classes, where these faults are asked for: no other class has a verdict
-pub record AreSearched (n : Netlist) (holds : Holds) (limit : ℕ) (refutes : Bool) (percent : Option ℕ) (classes : Classes) (marks : List Bool) (first : List Pattern)
+pub record AreSearched (n : Netlist) (holds : Holds) (limit : ℕ) (refutes : Bool) (times : ℕ) (percent : Option ℕ) (classes : Classes) (marks : List Bool) (first : List Pattern)
     (patterns : List Pattern) (verdicts : List Verdict) : Type 0 where
   pub verdicts_are : AreVerdicts n holds classes.representatives limit patterns verdicts
+  pub needed : AreNeeded n times classes.representatives patterns
   pub kinds : All (MayHave refutes) verdicts
   pub few : length patterns < 2 ^ 32
   pub asked : (class : ℕ) → is_open (verdict_at verdicts class) ≡ false → IsAskedClass classes.numbers marks class

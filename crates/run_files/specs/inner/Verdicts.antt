@@ -1,5 +1,5 @@
 -- Verdicts of classes, each by its fault.
-use Rattle.std.specs.Prelude.{ℕ, ◌≡◌, ◌<◌, ◌≤◌, ⊤, Bool, true, false, List, [], ◌∷◌, ◌++◌, length, Some}
+use Rattle.std.specs.Prelude.{ℕ, ◌≡◌, ◌≤◌, ⊤, Bool, true, false, List, [], ◌∷◌, ◌++◌, length, Some}
 use Rattle.std.specs.List.{All, slice_get}
 use Rattle.statement.specs.declared.lines.Fault.{Fault}
 use Rattle.statement.specs.Netlists.{Netlist}
@@ -11,7 +11,6 @@ use Rattle.evidence.specs.declared.kinds.Evidence.{Evidence}
 use Rattle.evidence.specs.declared.kinds.Evidence.TheVariants.{Tree}
 use Rattle.evidence.specs.Evidence.{MayBe, Shows, open_ends}
 use Rattle.word_sim.specs.Hits.{IsNeverDetected}
-use Rattle.list_core.specs.Kept.{IsNeeded}
 use Rattle.list_core.specs.declared.verdicts.Verdict.{Verdict}
 use Rattle.list_core.specs.declared.verdicts.Verdict.TheVariants.{Open, Detected, Redundant, Aborted}
 use Rattle.list_core.specs.Verdicts.{verdict_at}
@@ -25,11 +24,10 @@ IsVerdict n holds limit patterns f (Detected place point) = IsLastDetected n pat
 IsVerdict n holds limit patterns f (Redundant e) = IsNeverDetected n patterns f × Shows f n holds e × (open_ends e ≡ 0)
 IsVerdict n holds limit patterns f (Aborted tree) = IsNeverDetected n patterns f × Fits f n holds tree × (closed_count tree ≡ limit) × (1 ≤ open_count tree)
 
--- one for each fault; all patterns are of the netlist, and each is the last to detect some fault
+-- one for each fault; all patterns are of the netlist
 pub record AreVerdicts (n : Netlist) (holds : Holds) (faults : List Fault) (limit : ℕ) (patterns : List Pattern) (verdicts : List Verdict) : Type 0 where
   pub count : length verdicts ≡ length faults
   pub obey : All (IsPatternOf n holds) patterns
-  pub needed : (place : ℕ) → place < length patterns → IsNeeded n patterns faults place
   pub each : (class : ℕ) (f : Fault) → slice_get faults class ≡ Some f → IsVerdict n holds limit patterns f (verdict_at verdicts class)
 
 -- the evidence of a class

@@ -16,7 +16,7 @@ use Rattle.report.specs.Reports.{IsReport}
 use Rattle.report.specs.Texts.{report_text}
 use Rattle.list_core.specs.declared.verdicts.Verdict.{Verdict}
 use Rattle.run_files.specs.declared.files.RunFiles.{RunFiles}
-use Rattle.run_files.specs.inner.Reports.{IsSaid}
+use Rattle.run_files.specs.inner.Reports.{AreTimes, IsSaid}
 use Rattle.run_files.specs.inner.Verdicts.{leaves_of}
 
 -- the text of the file that applies these patterns
@@ -26,7 +26,7 @@ pub record IsTestText (n : Netlist) (holds : Holds) (chains : List (List ℕ)) (
   pub of_patterns : IsFileOf n holds chains patterns file
   pub text_is : text ≡ stil_text file
 
-pub record IsWritten (n : Netlist) (holds : Holds) (chains : List (List ℕ)) (classes : Classes) (limit : ℕ) (marks : List Bool) (patterns : List Pattern) (verdicts : List Verdict)
+pub record IsWritten (n : Netlist) (holds : Holds) (chains : List (List ℕ)) (classes : Classes) (limit times : ℕ) (marks : List Bool) (patterns : List Pattern) (verdicts : List Verdict)
     (made : RunFiles) : Type 0 where
   pub net : made.net.items ≡ canonical n
   pub scan : made.scan.items ≡ canonical (scanned_of n chains)
@@ -36,3 +36,4 @@ pub record IsWritten (n : Netlist) (holds : Holds) (chains : List (List ℕ)) (c
   pub report : made.report.items ≡ report_text made.said
   pub is_report : IsReport made.said
   pub said : IsSaid n chains holds classes limit marks patterns verdicts made.said
+  pub counted : AreTimes n patterns times made.said.times

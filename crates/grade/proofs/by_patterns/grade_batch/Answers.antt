@@ -1,14 +1,15 @@
 use Rattle.std.proofs.Common.{◌≡◌, ◌∙◌, ℕ, Some, None, refl, ap, subst, sym, set, get_or, arith}
 use Rattle.std.proofs.lemmas.List.{get_or_default}
 use Rattle.std.proofs.lemmas.Option.{slice_get-get_or}
+use Rattle.statement.specs.declared.lines.Fault.{Fault}
 use Rattle.statement.specs.Netlists.{Netlist}
 use Rattle.events.specs.Standing.{Standing}
+use Rattle.scan_play.proofs.Shifting.{zip_at, zip_length}
 use Rattle.word_sim.specs.Hits.{LastDetected}
 use Rattle.grade.specs.declared.grade.Grade.{Grade}
 use Rattle.grade.specs.declared.grade.Grade.TheVariants.{Undetected}
 use Rattle.grade.specs.inner.ByPatterns.{IsGradedUpTo}
 use Rattle.grade.proofs.Graded.{part_begun, part_ended, part_more}
-use Rattle.grade.proofs.Lists.{zip_at, zip_size}
 use Rattle.grade.proofs.by_patterns.grade_batch.Goals as goal
 
 pub loop-i-init : goal.loop-i-init
@@ -19,7 +20,7 @@ loop-i-init c = (
 
 pub bounds-told-i : goal.bounds-told-i
 bounds-told-i c =
-    let size = zip_size (LastDetected c.args.events.now.netlist c.args.latest.now) c.args.faults.now c.args.told.now c.requires.told in
+    let size = zip_length (LastDetected c.args.events.now.netlist c.args.latest.now) c.args.faults.now c.args.told.now c.requires.told in
     omega (arith, size, c.loop-i-test.true)
 
 pub regraded-requires-clause-told : goal.regraded-requires-clause-told
@@ -29,12 +30,10 @@ regraded-requires-clause-told c =
     let f = c.index-faults-i.result in
     let faults = c.args.faults.now in
     let told = c.args.told.now in
-    let size = zip_size (LastDetected c.args.events.now.netlist c.args.latest.now) c.args.faults.now c.args.told.now c.requires.told in
-    let here = slice_get-get_or faults i f c.loop-i-test.true ∙ ap Some (sym c.index-faults-i.is) in
-    let there = slice_get-get_or told i None (omega (arith, size, c.loop-i-test.true)) in
     let same : c.loop-i.events.netlist ≡ c.args.events.now.netlist = ap (λ (e : Standing ℕ). e.netlist) c.loop-i.invariant.1 in
     subst (λ (m : Netlist). LastDetected m c.args.latest.now f (get_or told i None)) (sym same)
-    (zip_at (LastDetected n c.args.latest.now) faults told i f (get_or told i None) c.requires.told here there)
+    (subst (λ (x : Fault). LastDetected n c.args.latest.now x (get_or told i None)) (sym c.index-faults-i.is)
+    (zip_at (LastDetected n c.args.latest.now) faults told i f None c.requires.told c.loop-i-test.true))
 
 pub regraded-requires-clause-before : goal.regraded-requires-clause-before
 regraded-requires-clause-before c =

@@ -1,4 +1,5 @@
-use Rattle.std.proofs.Common.{◌≡◌, length, arith, subst}
+use Rattle.std.proofs.Common.{◌≡◌, ◌∙◌, length, ap, arith, subst}
+use Rattle.statement.specs.Netlists.{Netlist, signals}
 use Rattle.grade.specs.inner.ByPatterns.{AreGradedUpTo}
 use Rattle.grade.proofs.Graded.{none_graded}
 use Rattle.grade.proofs.by_patterns.grade_batches.Goals as goal
@@ -7,11 +8,13 @@ pub loop-start-init : goal.loop-start-init
 loop-start-init c =
     let n = c.args.core.now in
     let made = c.in_ok-grades.ensures.items_if_clones_equal (λ y e. e) in
-    let good = c.in_ok-events.ensures.good in (
+    let good = c.in_ok-events.ensures.good in
+    let same = ap (λ (m : Netlist). length (signals m)) c.netlist.ensures in (
       omega arith,
       none_graded n c.args.chains.now c.args.latest.now c.args.faults.now c.args.told.now c.in_ok-grades.grades.items made,
       c.in_ok-events.ensures.netlist,
       record { inputs = good.inputs; state = good.state; settles = good.settles },
+      record { heads_size = c.in_ok-paths.ensures.heads ∙ same; opens_size = c.in_ok-paths.ensures.opens ∙ same },
     )
 
 pub returns : goal.returns

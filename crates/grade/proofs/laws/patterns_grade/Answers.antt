@@ -9,8 +9,9 @@ use Rattle.grade.proofs.Seen.{grade_by_patterns}
 use Rattle.grade.proofs.laws.patterns_grade.Goals as goal
 
 pub returns : goal.returns
-returns c n holds chains patterns cycles f grade sound scanned are v line h =
+returns c n holds chains patterns cycles f grade sound design are v line h =
     let s = scanned_of n chains in
+    let scanned = c.scanned_is_sound.ensures n chains sound design are in
     let fit = c.vectors_fit.ensures n holds chains patterns cycles sound are v in
     let run = c.some_run.ensures X tri_table (Some (at_site (sites_of n chains) f)) s (replicate (length (cells s)) X) cycles scanned.formed.numbered scanned.closed scanned.acyclic
     (length-replicate (length (cells s)) X) fit in

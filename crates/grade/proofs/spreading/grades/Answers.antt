@@ -1,6 +1,7 @@
 use Rattle.std.proofs.Common.{length, map, sym, ◌∙◌, ap, subst}
 use Rattle.std.proofs.lemmas.List.{length-map}
 use Rattle.statement.specs.Faults.{universe_of}
+use Rattle.statement.specs.Tests.{vectors_in}
 use Rattle.netlist.specs.Conditions.{IsSound}
 use Rattle.scan_insert.specs.Scanned.{Insertion, insertion_of}
 use Rattle.scan_play.proofs.Shifting.{zip_length}
@@ -20,12 +21,11 @@ returns g c =
     let d = c.requires.design in
     let n = c.args.design.now in
     let chains = c.args.chains.now in
-    let cycles = c.args.vectors.now in
+    let cycles = vectors_in c.args.file.now in
     let classes = c.args.classes.now in
     let by_class = c.in_ok-by_class.by_class.items in
     let sound = subst IsSound c.netlist.ensures c.sound.ensures in
-    let made = c.requires.core ∙ ap (λ (s : Insertion). s.netlist) d.is_scanned in
-    let scanned = subst IsSound (c.netlist-2.ensures ∙ made) c.sound-2.ensures in
+    let scanned = subst IsSound (c.netlist-2.ensures ∙ ap (λ (s : Insertion). s.netlist) d.is_scanned) c.sound-2.ensures in
     let on_scanned = subst (λ (s : Insertion). AreSiteGrades s cycles classes.representatives by_class) d.is_scanned c.in_ok-by_class.ensures in
     grades_of c.args.scanned.now (insertion_of n chains) c.args.faults.now (universe_of n) cycles (map (grade_at by_class) classes.numbers) c.in_ok-grades.grades.items
     d.is_scanned d.are_faults (c.in_ok-grades.ensures ∙ ap (λ by. map (grade_at by) classes.numbers) c.deref.ensures.value)

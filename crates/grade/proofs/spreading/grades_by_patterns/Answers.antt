@@ -1,6 +1,7 @@
 use Rattle.std.proofs.Common.{List, subst, sym}
 use Rattle.std.specs.List.{All, AllZip}
 use Rattle.statement.specs.declared.lines.Fault.{Fault}
+use Rattle.statement.specs.Tests.{vectors_in}
 use Rattle.netlist.specs.Conditions.{IsSound}
 use Rattle.netlist.specs.Lines.{IsLineOf}
 use Rattle.scan_insert.specs.Scanned.{Insertion}
@@ -29,9 +30,9 @@ returns g c =
     let n = c.args.design.now in
     let d = c.requires.design in
     let sound = subst IsSound c.netlist.ensures c.sound.ensures in
-    let scanned = c.scanned_is_sound.ensures n c.args.chains.now sound d.is_design d.are_chains in
+    let cycles = vectors_in c.args.file.now in
     let is = c.representatives-representatives.ensures in
-    subst (λ (s : Insertion). AreSiteGrades s c.args.vectors.now c.args.classes.now.representatives grades.items) (sym d.is_scanned)
-    (site_grades c.patterns_grade.ensures n c.args.chains.now c.args.vectors.now c.args.patterns.items sound scanned d.are_chains c.requires.test c.args.classes.now.representatives grades.items
+    subst (λ (s : Insertion). AreSiteGrades s cycles c.args.classes.now.representatives grades.items) (sym d.is_scanned)
+    (site_grades c.patterns_grade.ensures n c.args.chains.now cycles c.args.patterns.items sound d.is_design d.are_chains c.requires.test c.args.classes.now.representatives grades.items
     (lines_of_classes c.faults_have_lines.ensures n sound c.args.classes.now d.are_classes)
     (subst (λ (fs : List Fault). AllZip (IsPatternGrade n c.args.chains.now c.args.patterns.items) fs grades.items) is c.in_ok-grades.ensures))

@@ -1,4 +1,4 @@
-use Rattle.std.proofs.Common.{◌≡◌, ◌+◌, false, get_or, take, arith}
+use Rattle.std.proofs.Common.{◌≡◌, false, get_or, take, arith}
 use Rattle.run_files.specs.Runs.{count_true}
 use Rattle.run_files.proofs.CountLemmas.{count_few, count_next}
 use Rattle.run_files.proofs.FirstLemmas.{as_one, one_small}

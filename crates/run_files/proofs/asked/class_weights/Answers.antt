@@ -1,4 +1,4 @@
-use Rattle.std.proofs.Common.{◌<◌, length, arith, ap}
+use Rattle.std.proofs.Common.{◌<◌, length, arith}
 use Rattle.std.proofs.lemmas.List.Elements.{All-get_or}
 use Rattle.run_files.proofs.CountLemmas.{asked_early, weights_next}
 use Rattle.run_files.proofs.asked.class_weights.Goals as goal

@@ -26,9 +26,9 @@ returns g c =
       size = c.requires.faults;
       are_classes = subst (λ (m : Netlist). AreClasses m classes) c.netlist-netlist.ensures c.in_ok-subject.ensures.classes;
       searched =
-          subst (λ (ms : List Bool). AreSearched n holds plan.limit refutes plan.percent classes ms wanted.first.items found.patterns.items found.verdicts.items) c.deref.ensures.value
+          subst (λ (ms : List Bool). AreSearched n holds plan.limit refutes plan.times plan.percent classes ms wanted.first.items found.patterns.items found.verdicts.items) c.deref.ensures.value
           c.in_ok-found.ensures;
       written =
-          subst (λ (ms : List Bool). IsWritten n holds (design_chains n plan.chains) classes plan.limit ms found.patterns.items found.verdicts.items files) c.deref-2.ensures.value
+          subst (λ (ms : List Bool). IsWritten n holds (design_chains n plan.chains) classes plan.limit plan.times ms found.patterns.items found.verdicts.items files) c.deref-2.ensures.value
           c.in_ok-files.ensures;
     })

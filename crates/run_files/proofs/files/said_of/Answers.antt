@@ -30,8 +30,8 @@ pub report_of-requires-clause-sound : goal.report_of-requires-clause-sound
 report_of-requires-clause-sound c =
     all_sound c.args.netlist.now c.args.chains.now c.args.subject.now.classes.numbers c.args.asked.now c.as_slice.result.now c.in_ok-lines.lines c.in_ok-lines.ensures
 
-pub returns : goal.returns
-returns c =
+pub returns-clause-said : goal.returns-clause-said
+returns-clause-said c =
     let n = c.args.netlist.now in
     let subject = c.args.subject.now in
     let found = c.args.found.now in
@@ -50,4 +50,4 @@ returns c =
       lines = subst (λ (ls : List Line). AreLines n c.args.chains.now subject.classes.numbers c.args.asked.now found.verdicts.items (length (universe_of n)) ls) (sym is.lines_are) all;
       numbers = subst (λ (ls : List Line). IsReported n c.args.chains.now c.args.holds.now (length (universe_of n)) (length subject.classes.representatives) (length found.patterns.items) c.args.limit ls r) (sym is.lines_are) placed;
     })
-    c.report_of.ensures
+    c.report_of.ensures.reported

@@ -6,14 +6,22 @@ use Rattle.netlist.specs.Conditions.{IsSound}
 use Rattle.statement.specs.Patterns.{Pattern}
 use Rattle.statement.specs.Benches.{canonical}
 use Rattle.scan_insert.specs.Scanned.{Insertion, scanned_of}
+use Rattle.word_sim.specs.Words.{HasWidthsOf}
+use Rattle.word_sim.proofs.WidthLemmas.{widths}
 use Rattle.evidence.specs.declared.kinds.Evidence.{Evidence}
 use Rattle.certificate.specs.Certificates.{HasSmallNumbers, IsNamed, certificate_text}
 use Rattle.good_files.specs.ScanOff.{design_chains}
-use Rattle.run_files.specs.inner.Reports.{IsSaid}
+use Rattle.run_files.specs.inner.Reports.{AreTimes, IsSaid}
 use Rattle.run_files.specs.inner.Verdicts.{leaves_of}
 use Rattle.run_files.specs.inner.Written.{IsTestText}
 use Rattle.run_files.proofs.PointLemmas.{all_named}
 use Rattle.run_files.proofs.files.texts_of.Goals as goal
+
+pub times_said-requires-clause-wide : goal.times_said-requires-clause-wide
+times_said-requires-clause-wide c =
+    let n = c.args.core.now in
+    let P : List Pattern → Type 0 = λ ps. All (HasWidthsOf n) ps in
+    subst P (sym c.deref.ensures.value) (widths n c.args.holds.now c.args.found.patterns.items c.requires.verdicts.obey)
 
 pub write_evidence-requires : goal.write_evidence-requires
 write_evidence-requires c =
@@ -47,5 +55,7 @@ returns c =
       report = c.in_ok-report.ensures;
       is_report = c.sound-2.ensures;
       said = subst (λ (cs : List (List ℕ)). IsSaid n cs holds s.classes limit c.args.asked.now found.patterns.items found.verdicts.items c.in_ok-said.said) same_chains
-          (subst (λ (m : Netlist). IsSaid m c.args.chains.now holds s.classes limit c.args.asked.now found.patterns.items found.verdicts.items c.in_ok-said.said) same_netlist c.in_ok-said.ensures);
+          (subst (λ (m : Netlist). IsSaid m c.args.chains.now holds s.classes limit c.args.asked.now found.patterns.items found.verdicts.items c.in_ok-said.said) same_netlist c.in_ok-said.ensures.said);
+      counted = subst (AreTimes n found.patterns.items c.args.plan.times) (sym c.in_ok-said.ensures.times)
+          (subst (λ (ps : List Pattern). AreTimes n ps c.args.plan.times c.in_ok-times.times) c.deref.ensures.value c.in_ok-times.ensures);
     }

@@ -1,6 +1,6 @@
-use Rattle.std.proofs.Common.{◌+◌, ◌/◌, ◌<◌, inl, refl, List, subst, sym, ◌∙◌, ap, ap₂, arith}
+use Rattle.std.proofs.Common.{◌+◌, ◌/◌, ◌<◌, List, subst, sym, ◌∙◌, ap, ap₂, arith}
 use Rattle.std.specs.List.{All}
-use Rattle.report.specs.Reports.{AreCounted, Hold, IsBenchWord, Report, Times}
+use Rattle.report.specs.Reports.{Hold, IsBenchWord, Report}
 use Rattle.run_report.specs.Heads.{share_of}
 use Rattle.run_report.proofs.CycleLemmas.{share_small}
 use Rattle.run_files.proofs.ReportLemmas.{held_words}
@@ -17,18 +17,17 @@ new-requires c =
       counts = c.sound-2.ensures;
       coverage = subst (λ k. k / 100 < 18446744073709551616) (sym c.share_of-coverage.ensures) d;
       efficiency = subst (λ k. k / 100 < 18446744073709551616) (sym c.share_of-efficiency.ensures) e;
-      times = subst AreCounted (sym c.none-times.ensures) (inl (refl, refl));
+      times = c.requires.times;
       holds = subst (λ (hs : List Hold). All (λ (h : Hold). IsBenchWord h.name) hs) (sym c.in_ok-held.ensures) (held_words n c.sound.ensures c.args.holds.now);
       lines = c.requires.sound;
     }
 
-pub returns : goal.returns
-returns c =
+pub returns-clause-reported : goal.returns-clause-reported
+returns-clause-reported c =
     let kinds = c.tally_of-tally.ensures.kinds in
     let is = c.new.ensures in
     record {
       lines_are = ap (λ (r : Report). r.lines) is;
-      times = ap (λ (r : Report). r.times.most) is ∙ ap (λ (t : Times). t.most) c.none-times.ensures;
       held = ap (λ (r : Report). r.holds) is ∙ c.in_ok-held.ensures;
       counts = ap (λ (r : Report). r.counts) is ∙ c.counts_of-counts.ensures;
       coverage = ap (λ (r : Report). r.coverage) is ∙ (c.share_of-coverage.ensures ∙ ap (share_of c.args.faults) kinds.detected);

@@ -1,4 +1,4 @@
-use Rattle.std.proofs.Common.{◌≡◌, ◌<◌, ◌≤◌, ◌∙◌, Bool, List, length, ap, subst, sym, arith}
+use Rattle.std.proofs.Common.{◌≡◌, ◌≤◌, ◌∙◌, List, length, ap, subst, sym, arith}
 use Rattle.std.specs.List.{All}
 use Rattle.statement.specs.declared.lines.Fault.{Fault}
 use Rattle.netlist.specs.Lines.{IsLineOf}
@@ -43,6 +43,6 @@ returns g c =
     let kept = c.in_ok-patterns.field-0.patterns.items in
     let verdicts = c.in_ok-patterns.field-0.verdicts.items in
     let spreads : c.in_ok-verdicts.verdicts.items ≡ spread a.others.items verdicts = cc (c.in_ok-verdicts.ensures, c.deref.ensures.value, c.in_ok-patterns.verdicts-is) in
-    subst (λ (vs : List Verdict). AreSearched n c.args.holds.now c.args.plan.limit g.E.Engine.refutes c.args.plan.percent classes marks c.args.first.items kept vs) (sym spreads)
-    (searched_of n c.args.holds.now c.args.plan.limit g.E.Engine.refutes c.args.plan.percent classes marks c.args.first.items kept verdicts c.requires.classes.within a c.in_ok-asked.ensures
+    subst (λ (vs : List Verdict). AreSearched n c.args.holds.now c.args.plan.limit g.E.Engine.refutes c.args.plan.times c.args.plan.percent classes marks c.args.first.items kept vs) (sym spreads)
+    (searched_of n c.args.holds.now c.args.plan.limit g.E.Engine.refutes c.args.plan.times c.args.plan.percent classes marks c.args.first.items kept verdicts c.requires.classes.within a c.in_ok-asked.ensures
     c.in_ok-patterns.ensures)

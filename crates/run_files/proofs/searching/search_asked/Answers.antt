@@ -1,27 +1,22 @@
-use Rattle.std.proofs.Common.{◌≡◌, ◌+◌, ◌<◌, ◌≤◌, ◌∙◌, ◌++◌, ℕ, Bool, List, Option, Some, refl, length, ap, ap₂, subst, sym, arith, length-append}
+use Rattle.std.proofs.Common.{◌≡◌, ◌≤◌, ◌∙◌, ◌++◌, ℕ, Bool, List, Option, Some, refl, length, ap, ap₂, subst, sym, arith, length-append}
 use Rattle.std.specs.List.{All, slice_get}
-use Rattle.std.proofs.lemmas.List.Elements.{All-append}
 use Rattle.std.proofs.lemmas.Result.{IfOk-weaker}
 use Rattle.statement.specs.Netlists.{Netlist}
 use Rattle.statement.specs.declared.lines.Fault.{Fault}
 use Rattle.statement.specs.Patterns.{Holds, Pattern}
-use Rattle.netlist.specs.Conditions.{IsSound}
 use Rattle.netlist.specs.Lines.{IsLineOf}
 use Rattle.cubes.specs.Cubes.{IsPatternOf}
 use Rattle.word_sim.specs.Never.{unmarked}
-use Rattle.word_sim.proofs.WidthLemmas.{widths}
 use Rattle.list_core.specs.declared.compaction.Finished.{Finished}
 use Rattle.list_core.specs.declared.goals.Goal.{Goal}
 use Rattle.list_core.specs.declared.verdicts.Verdict.{Verdict}
-use Rattle.list_core.specs.Finished.{AreFinished}
-use Rattle.list_core.proofs.KeepLemmas.{kept_few}
 use Rattle.worker.specs.Working.{IsDone}
-use Rattle.fewer_patterns.specs.Fewer.{IsNoWorse, IsSeenBy}
+use Rattle.fewer_patterns.specs.Fewer.{IsSeenBy}
+use Rattle.run_files.specs.inner.Often.{AreChosen}
 use Rattle.run_files.specs.inner.Searches.{AreDetectedMarks, AreFound, AreKnown, IsGoalOf}
 use Rattle.run_files.specs.inner.Spread.{spread}
-use Rattle.run_files.proofs.KnownLemmas.{known_by, known_spread, never_redundant, seen_again, seen_before}
+use Rattle.run_files.proofs.KnownLemmas.{known_spread, seen_before}
 use Rattle.run_files.proofs.SearchLemmas.{fewer, found_of}
-use Rattle.run_files.proofs.SpreadLemmas.{spread_size}
 use Rattle.run_files.proofs.searching.search_asked.Goals as goal
 
 -- what is known of those that are left, of all
@@ -47,20 +42,19 @@ search_faults-requires-clause-lines g c κs lives =
     let P : List Fault → Type 0 = λ fs. All (λ (f : Fault). IsLineOf c.args.core.now f.line) fs in
     subst P (sym c.deref-7.ensures.value) (c.in_ok-left.ensures.lines c.args.core.now (subst P (sym c.deref-3.ensures.value) c.requires.lines))
 
-pub fewer-requires-clause-lines : goal.fewer-requires-clause-lines
-fewer-requires-clause-lines g c κs lives =
+pub chosen-requires-clause-lines : goal.chosen-requires-clause-lines
+chosen-requires-clause-lines g c κs lives =
     let P : List Fault → Type 0 = λ fs. All (λ (f : Fault). IsLineOf c.args.core.now f.line) fs in
     subst P (sym c.deref-9.ensures.value) c.requires.lines
 
-pub fewer-requires-clause-obey : goal.fewer-requires-clause-obey
-fewer-requires-clause-obey g c κs lives =
-    let n = c.args.core.now in
-    let holds = c.args.holds.now in
-    let all = All-append (IsPatternOf n holds) c.args.first.items c.in_ok-more.more.items c.requires.first.0 c.in_ok-more.ensures.known.obey in
-    subst (λ (ps : List Pattern). All (IsPatternOf n holds) ps) (sym c.in_ok-append.ensures.items) all
+pub chosen-requires-clause-few : goal.chosen-requires-clause-few
+chosen-requires-clause-few g c κs lives =
+    let most : length c.args.asked.now.faults.items ≤ 2052000000 = c.requires.few in
+    let faults = ap length c.deref-9.ensures.value in
+    omega arith
 
-pub fewer-requires-clause-few : goal.fewer-requires-clause-few
-fewer-requires-clause-few g c κs lives =
+pub chosen-requires-clause-small : goal.chosen-requires-clause-small
+chosen-requires-clause-small g c κs lives =
     let most : length c.args.asked.now.faults.items ≤ 2052000000 = c.requires.few in
     let left = ap length c.deref-7.ensures.value in
     let rest = ap length c.in_ok-left.ensures.exactly in
@@ -70,21 +64,8 @@ fewer-requires-clause-few g c κs lives =
     let both = length-append c.args.first.items c.in_ok-more.more.items in
     omega (arith, c.in_ok-more.ensures.few, c.requires.first.1)
 
-pub compact_beside-requires-clause-wide : goal.compact_beside-requires-clause-wide
-compact_beside-requires-clause-wide g c κs lives = widths c.args.core.now c.args.holds.now c.in_ok-patterns.patterns.items c.in_ok-patterns.ensures.obey
-
-pub compact_beside-requires-clause-count : goal.compact_beside-requires-clause-count
-compact_beside-requires-clause-count g c κs lives =
-    let spreads = ap length c.in_ok-verdicts.ensures in
-    let size = spread_size c.deref-8.result.now c.in_ok-more.verdicts.items in
-    let marks = ap length c.deref-8.ensures.value in
-    let found = c.in_ok-found.ensures.size in
-    let before = ap length c.deref.ensures.value in
-    let after = ap length c.deref-10.ensures.value in
-    omega arith
-
-pub compact_beside-requires-clause-redundant : goal.compact_beside-requires-clause-redundant
-compact_beside-requires-clause-redundant g c κs lives =
+pub chosen-requires-clause-known : goal.chosen-requires-clause-known
+chosen-requires-clause-known g c κs lives =
     let n = c.args.core.now in
     let holds = c.args.holds.now in
     let limit = c.args.plan.limit in
@@ -98,25 +79,7 @@ compact_beside-requires-clause-redundant g c κs lives =
     c.in_ok-append.ensures.items
     (c.in_ok-verdicts.ensures ∙ ap (λ (ms : List Bool). spread ms c.in_ok-more.verdicts.items) c.deref-8.ensures.value)
     c.in_ok-more.ensures.known in
-    let patterns = c.in_ok-patterns.patterns.items in
-    let is : IsNoWorse n holds faults c.append.new.self.items patterns =
-    subst (λ (fs : List Fault). IsNoWorse n holds fs c.append.new.self.items patterns) c.deref-9.ensures.value c.in_ok-patterns.ensures in
-    let by = known_by n holds limit refutes faults c.append.new.self.items patterns c.in_ok-verdicts.verdicts.items is known in
-    let again : AreKnown n holds limit refutes c.deref-10.result.now patterns c.in_ok-verdicts.verdicts.items =
-    subst (λ (fs : List Fault). AreKnown n holds limit refutes fs patterns c.in_ok-verdicts.verdicts.items) (sym c.deref-10.ensures.value) by in
-    never_redundant n holds limit refutes c.deref-10.result.now patterns c.in_ok-verdicts.verdicts.items again (subst IsSound c.netlist.ensures c.sound.ensures)
-    c.shown_is_redundant.ensures
-
-pub compact_beside-requires-clause-few : goal.compact_beside-requires-clause-few
-compact_beside-requires-clause-few g c κs lives =
-    let most : length c.args.asked.now.faults.items ≤ 2052000000 = c.requires.few in
-    let left = ap length c.deref-7.ensures.value in
-    let rest = ap length c.in_ok-left.ensures.exactly in
-    let few = fewer c.deref-4.result.now c.deref-3.result.now in
-    let faults = ap length c.deref-3.ensures.value in
-    let all = ap length c.in_ok-append.ensures.items in
-    let both = length-append c.args.first.items c.in_ok-more.more.items in
-    omega (arith, c.in_ok-more.ensures.few, c.requires.first.1, c.in_ok-patterns.ensures.few)
+    subst (λ (fs : List Fault). AreKnown n holds limit refutes fs c.append.new.self.items c.in_ok-verdicts.verdicts.items) (sym c.deref-9.ensures.value) known
 
 pub returns : goal.returns
 returns g c =
@@ -124,6 +87,7 @@ returns g c =
     let holds = c.args.holds.now in
     let limit = c.args.plan.limit in
     let refutes = g.E.Engine.refutes in
+    let times = c.args.plan.times in
     let percent = c.args.plan.percent in
     let asked = c.args.asked.now in
     let faults = asked.faults.items in
@@ -134,7 +98,6 @@ returns g c =
     let verdicts = c.in_ok-more.verdicts.items in
     let goal_is = c.in_ok-goal.goal in
     let gathered = c.append.new.self.items in
-    let patterns = c.in_ok-patterns.patterns.items in
     let all = c.in_ok-verdicts.verdicts.items in
     let are : AreDetectedMarks n first faults marks =
     subst (λ (fs : List Fault). AreDetectedMarks n first fs marks) c.deref.ensures.value
@@ -147,26 +110,14 @@ returns g c =
     subst (λ (ms : List Bool). IsGoalOf percent asked.count weights ms goal_is) c.deref-6.ensures.value
     (subst (λ (ws : List ℕ). IsGoalOf percent asked.count ws c.deref-6.result.now goal_is) c.deref-5.ensures.value c.in_ok-goal.ensures) in
     let ends : IsDone goal_is verdicts = subst (λ (o : Option Goal). IsDone o verdicts) c.as_ref.ensures.value c.in_ok-more.ensures.done in
-    let most : length faults ≤ 2052000000 = c.requires.few in
-    let left = ap length rest in
-    let few = fewer marks faults in
-    let size = ap length c.in_ok-append.ensures.items in
-    let both = length-append first more in
-    let small : length patterns < 4294967296 = omega (arith, c.in_ok-more.ensures.few, c.requires.first.1, c.in_ok-patterns.ensures.few) in
-    let no_worse : IsNoWorse n holds faults gathered patterns = subst (λ (fs : List Fault). IsNoWorse n holds fs gathered patterns) c.deref-9.ensures.value c.in_ok-patterns.ensures in
     let before : AreKnown n holds limit refutes faults gathered (spread marks verdicts) =
     joined n holds limit refutes faults (unmarked marks faults) marks first more gathered verdicts (spread marks verdicts) are.size c.requires.first.0 refl c.in_ok-append.ensures.items refl known in
-    let by = known_by n holds limit refutes faults gathered patterns (spread marks verdicts) no_worse before in
-    let through : (class : ℕ) (f : Fault) → slice_get faults class ≡ Some f → IsSeenBy n first f → IsSeenBy n patterns f =
-    λ class f at seen. seen_again n holds limit refutes faults gathered patterns no_worse class f at
-    (subst (λ (ps : List Pattern). IsSeenBy n ps f) (sym c.in_ok-append.ensures.items) (seen_before n first more f seen)) in
-    IfOk-weaker c.compact_beside.result (λ (f : Finished). AreFinished n c.deref-10.result.now patterns all f.patterns.items f.verdicts.items)
-    (λ (f : Finished). AreFound n holds limit refutes percent asked.count faults weights first f.patterns.items f.verdicts.items)
+    let through : (class : ℕ) (f : Fault) → slice_get faults class ≡ Some f → IsSeenBy n first f → IsSeenBy n gathered f =
+    λ class f at seen. subst (λ (ps : List Pattern). IsSeenBy n ps f) (sym c.in_ok-append.ensures.items) (seen_before n first more f seen) in
+    IfOk-weaker c.chosen.result (λ (f : Finished). AreChosen n holds times c.deref-9.result.now gathered all f.patterns.items f.verdicts.items)
+    (λ (f : Finished). AreFound n holds limit refutes times percent asked.count faults weights first f.patterns.items f.verdicts.items)
     (λ (f : Finished) done.
-    let fewer_kept = kept_few done.are_kept.needed 0 patterns in
-    let kept = ap length done.are_kept.are in
-    let own = subst (λ (vs : List Verdict). AreFinished n faults patterns vs f.patterns.items f.verdicts.items) spreads
-    (subst (λ (fs : List Fault). AreFinished n fs patterns all f.patterns.items f.verdicts.items) c.deref-10.ensures.value done) in
-    found_of n holds limit refutes faults weights first more patterns marks verdicts f.patterns.items f.verdicts.items c.requires.weights are known by through own percent asked.count goal_is is ends
-    (omega (arith, small)))
-    c.compact_beside.ensures
+    let own = subst (λ (vs : List Verdict). AreChosen n holds times faults gathered vs f.patterns.items f.verdicts.items) spreads
+    (subst (λ (fs : List Fault). AreChosen n holds times fs gathered all f.patterns.items f.verdicts.items) c.deref-9.ensures.value done) in
+    found_of n holds limit refutes times faults weights first more gathered marks verdicts f.patterns.items f.verdicts.items c.requires.weights are known before through own percent asked.count goal_is is ends)
+    c.chosen.ensures

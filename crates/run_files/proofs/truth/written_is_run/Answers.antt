@@ -3,12 +3,13 @@ use Rattle.std.specs.List.{All, flat_map}
 use Rattle.statement.specs.Patterns.{Holds, Pattern}
 use Rattle.fault_collapse.specs.Numbers.{Classes}
 use Rattle.certificate.specs.Certificates.{evidence_line}
-use Rattle.list_core.specs.Kept.{IsNeeded}
+use Rattle.detections.specs.Times.{IsNeededFor}
 use Rattle.statement.specs.Statement.{FiveFiles, Statement}
 use Rattle.good_files.specs.GoodFiles.{chains_said}
 use Rattle.good_files.specs.RunTheorem.{RunTheorem, as_written}
 use Rattle.good_files.specs.ScanOff.{design_chains}
 use Rattle.run_files.specs.Runs.{contents_of, files_of}
+use Rattle.run_files.specs.inner.Often.{Differ}
 use Rattle.run_files.specs.inner.Verdicts.{MayHave, leaves_of}
 use Rattle.good_files.proofs.TreesAlone.{begins_alone}
 use Rattle.run_files.proofs.AskedLemmas.{are_asked, first_kept}
@@ -40,8 +41,10 @@ returns c = λ n a classes patterns verdicts made sound design run.
       chains_are = by.chains_are;
       limit_is = by.limit_is;
       needed =
-          subst (λ (ps : List Pattern). (place : ℕ) → place < length ps → IsNeeded n ps by.good.tested.classes.representatives place) (sym by.patterns_are)
-          (subst (λ (cs : Classes). (place : ℕ) → place < length patterns → IsNeeded n patterns cs.representatives place) (sym by.classes_are) run.searched.verdicts_are.needed);
+          subst (λ (ps : List Pattern). (place : ℕ) → place < length ps → IsNeededFor n ps a.times by.good.tested.classes.representatives place) (sym by.patterns_are)
+          (subst (λ (cs : Classes). (place : ℕ) → place < length patterns → IsNeededFor n patterns a.times cs.representatives place) (sym by.classes_are) run.searched.needed.each);
+      differ = λ more. subst Differ (sym by.patterns_are) (run.searched.needed.differ more);
+      counted = run.written.counted.most_is;
       asked = are_asked n a chains classes run.are_classes run.size patterns verdicts run.searched made.said.lines lines;
       first = first_kept n a chains classes run.are_classes run.size patterns verdicts run.searched made.said.lines lines sound c.detected_alike.ensures;
       statement = subst (λ (f : FiveFiles). Statement n holds chains f) written truth.statement;
