@@ -1,8 +1,9 @@
 -- Machines that are played in legs.
 use Rattle.std.proofs.Common.{◌≡◌, ◌≢◌, ℕ, suc, zero, ◌+◌, ◌-◌, ◌<◌, ◌≤◌, ◌⊎◌, Bool, true, false, List, [], ◌∷◌, ◌++◌, map, length, get_or, take, drop, replicate, Option, Some, None, refl, sym, ◌∙◌, ap, subst, inl, inr, arith, length-append, take-add}
 use Rattle.std.specs.List.{All, slice_get}
-use Rattle.std.specs.Prelude.{option_map}
+use Rattle.std.specs.Prelude.{option_map, ◌==◌}
 use Rattle.std.proofs.lemmas.Bool.{both_ways, cases_eq, cases_lt}
+use Rattle.std.proofs.lemmas.Bool.Decides.{nat_tests}
 use Rattle.std.proofs.lemmas.Grind.{flat_map-append}
 use Rattle.std.proofs.lemmas.List.{length-map, length-replicate, take-append-drop}
 use Rattle.std.proofs.lemmas.List.Elements.{All-from_get_or}
@@ -27,7 +28,7 @@ use Rattle.lane_play.specs.declared.packing.Machine.{Machine}
 use Rattle.lane_play.specs.Judged.{AreJudged}
 use Rattle.lane_play.specs.inner.Apart.{AreFiled, AreInLeg, AreLines, AreOpen, ArePacked, IsFiled, PlaysAt}
 use Rattle.lane_play.specs.inner.Lanes.{lanes}
-use Rattle.lane_play.specs.inner.Steps.{ArePlayed}
+use Rattle.lane_play.specs.inner.Steps.{ArePlayed, KeepsBehind}
 use Rattle.lane_play.specs.inner.Verdicts.{found_at, is_open}
 use Rattle.lane_play.proofs.PackLemmas.{all_at, line_at, lines_length}
 
@@ -53,6 +54,16 @@ kept_at (z ∷ zs) ys (suc k) x e = kept_at zs ys k x e
 last_at : {Y : Type 0} (xs : List Y) (y : Y) → slice_get (xs ++ y ∷ []) (length xs) ≡ Some y
 last_at [] y = refl
 last_at (z ∷ zs) y = last_at zs y
+
+-- a first part of two
+pub take_left : {Y : Type 0} (xs ys : List Y) (k : ℕ) → k ≡ length xs → take k (xs ++ ys) ≡ xs
+take_left [] ys zero e = refl
+take_left [] ys (suc k) e = absurd (omega (arith, e))
+take_left (x ∷ xs) ys zero e = absurd (omega (arith, e))
+take_left (x ∷ xs) ys (suc k) e = ap (λ zs. x ∷ zs) (take_left xs ys k (omega (arith, e)))
+
+pub is_zero : (k : ℕ) (b : Bool) → b ≡ (k == 0) → b ≡ true → k ≡ 0
+is_zero k b e t = let h : (k == 0) ≡ true = sym e ∙ t in grind (arith, nat_tests)
 
 -- ---- which machines are open
 
@@ -101,6 +112,17 @@ none_found : (count k : ℕ) → found_at (replicate count None) k ≡ None
 none_found zero k = refl
 none_found (suc count) zero = refl
 none_found (suc count) (suc k) = none_found count k
+
+-- ---- what the team's places, lines and machines are lent as
+
+pub team_lines : (faults : List Fault) (places places2 : List ℕ) (lines lines2 : List Fault) → places2 ≡ places → lines2 ≡ lines → AreLines faults places2 lines → AreLines faults places lines2
+team_lines faults places places2 lines lines2 one two h = subst (AreLines faults places) (sym two) (subst (λ ps. AreLines faults ps lines) one h)
+
+pub team_filed : (places places2 : List ℕ) (state state2 : List Lanes) (said said2 : List (Option Played)) (old new : List Machine) → places2 ≡ places → state2 ≡ state → said2 ≡ said
+    → AreFiled places2 (length places2) state2 said2 old new → AreFiled places (length places) state said old new
+team_filed places places2 state state2 said said2 old new one two three h =
+    subst (λ xs. AreFiled places (length places) state xs old new) three
+    (subst (λ xs. AreFiled places (length places) xs said2 old new) two (subst (λ xs. AreFiled xs (length xs) state2 said2 old new) one h))
 
 -- ---- a leg
 
@@ -167,6 +189,17 @@ module _ (says : Judging) (faults : List Fault) (n : Netlist) where
         (subst (λ s. PlaysOn says (slice_get faults p.0) n cycles 0 begin s (found_at found k)) (sym (pack.each k p.0 it.0 p.1 it.1))
         (subst (PlaysOn says (slice_get faults p.0) n cycles 0 begin it.0.state.items) said (h.others p.0 it.0 it.1 o.0)));
   }
+
+  -- and behind the leg they are as far as through it
+  pub team_plays : (played leg : List Burst) (start end : ℕ) (machines : List Machine) (places places2 places3 : List ℕ) (lines lines2 : List Fault) (packed : List Lanes) (found : List (Option Played)) (size count first : ℕ)
+      (state : List Lanes) (after : List (Option Played)) → end ≤ length machines → AreOpen machines start end places → places2 ≡ places → places3 ≡ places → lines2 ≡ lines → AreLines faults places2 lines
+      → ArePacked machines places3 size packed → size ≡ length (cells n) → found ≡ replicate count None → count ≡ length places → first ≡ length (all_cycles played) → AreInLeg says faults n played leg start machines
+      → KeepsBehind (λ fs m cs s. ArePlayed says fs m cs s found) (λ fs m cs s. ArePlayed says fs m cs s after) lines2 n first (all_cycles leg) packed state
+      → ArePlayed says lines2 n (all_cycles played ++ all_cycles leg) state after
+  team_plays played leg start end machines places places2 places3 lines lines2 packed found size count first state after within opens one two three are pack sized none many at h keeps =
+      keeps (all_cycles played) (sym at)
+      (team_begins played leg start end machines places lines2 packed found within opens (team_lines faults places places2 lines lines2 one three are)
+      (subst (λ k. ArePacked machines places k packed) sized (subst (λ ps. ArePacked machines ps size packed) two pack)) (none ∙ ap (λ k. replicate k None) many) h)
 
   told_stays : (f : Option Fault) (cs ds : List Cycle) (start state : List Tri) (said : Option Played) → said ≢ None → PlaysOn says f n cs 0 start state said → PlaysOn says f n (cs ++ ds) 0 start state said
   told_stays f cs ds start state None told h = absurd (told refl)

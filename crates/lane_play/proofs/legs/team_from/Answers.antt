@@ -1,7 +1,9 @@
 use Rattle.std.proofs.Common.{◌≡◌, ◌+◌, ◌++◌, ◌∷◌, [], ℕ, List, Some, Vec, length, ap, subst, sym, ◌∙◌, arith, length-append}
 use Rattle.std.specs.declared.alloc.Global.{Global}
 use Rattle.std.proofs.lemmas.Option.{slice_get-get_or}
+use Rattle.lane_play.specs.declared.packing.Machine.{Machine}
 use Rattle.lane_play.specs.inner.Apart.{AreOpen}
+use Rattle.lane_play.specs.inner.Verdicts.{is_open}
 use Rattle.lane_play.proofs.ApartLemmas.{open_push, open_skip}
 use Rattle.lane_play.proofs.legs.team_from.Goals.{then-is_open+in_ok-push, else-is_open}
 use Rattle.lane_play.proofs.legs.team_from.Goals as goal
@@ -14,6 +16,7 @@ loop-place-preserved c =
     let old = c.loop-place.places.items in
     let new = c.if-is_open.places.items in
     let here = slice_get-get_or machines at c.index-machines-place.result c.loop-place-test.true ∙ ap Some (sym c.index-machines-place.is) in
+    let same = ap (λ (m : Machine). is_open m.said) c.index-machines-place.is in
     let few = c.loop-place.invariant.few in
     let sparse = c.loop-place.invariant.sparse in
     elim c.if-is_open.branch [
@@ -26,7 +29,7 @@ loop-place-preserved c =
             few = omega arith;
             sparse = omega arith;
             all = subst (AreOpen machines start (at + 1)) (sym e)
-                (open_push machines start at c.index-machines-place.result old here (sym c.is_open.ensures ∙ w.if-is_open.true) (omega arith) c.loop-place.invariant.all);
+                (open_push machines start at c.index-machines-place.result old here (same ∙ (sym c.is_open.ensures ∙ w.if-is_open.true)) (omega arith) c.loop-place.invariant.all);
           }
       | else-is_open w ↦
           let e : new ≡ old = ap (λ (v : Vec ℕ Global). v.items) w.places-is in
@@ -34,6 +37,6 @@ loop-place-preserved c =
           record {
             few = omega arith;
             sparse = omega arith;
-            all = subst (AreOpen machines start (at + 1)) (sym e) (open_skip machines start at c.index-machines-place.result old here (sym c.is_open.ensures ∙ w.if-is_open.false) c.loop-place.invariant.all);
+            all = subst (AreOpen machines start (at + 1)) (sym e) (open_skip machines start at c.index-machines-place.result old here (same ∙ (sym c.is_open.ensures ∙ w.if-is_open.false)) c.loop-place.invariant.all);
           }
     ]

@@ -18,7 +18,7 @@ returns g c =
     ∙ (ap (λ (m : Netlist). replicate (length (map (λ (d : Definition). d.id) (cells m))) blank) c.netlist-2.ensures
     ∙ ap (λ k. replicate k blank) (length-map (cells n) (λ (d : Definition). d.id)))) in
     let kept = g.W.Watch.kept c.args.judge.now in (
-      c.in_ok-heard.field-0.1.items,
-      subst (λ (cs : List Cycle). kept c.in_ok-heard.field-0.0 c.args.faults.now n cs c.in_ok-heard.field-0.1.items) (sym c.bursts.ensures)
+      c.in_ok-heard._state.items,
+      subst (λ (cs : List Cycle). kept c.in_ok-heard.heard c.args.faults.now n cs c.in_ok-heard._state.items) (sym c.bursts.ensures)
           (c.in_ok-heard.ensures [] refl (subst (λ (s : List Lanes). kept c.args.watch c.args.faults.now n [] s) (sym start) c.requires.begun)),
     )
