@@ -26,7 +26,7 @@ use Rattle.scan_play.proofs.PlayLemmas.{judged_as, plays_found, plays_nothing}
 use Rattle.lane_play.specs.declared.packed.Lanes.{Lanes}
 use Rattle.lane_play.specs.declared.packing.Machine.{Machine}
 use Rattle.lane_play.specs.Judged.{AreJudged}
-use Rattle.lane_play.specs.inner.Apart.{AreFiled, AreInLeg, AreLines, AreOpen, ArePacked, IsFiled, PlaysAt}
+use Rattle.lane_play.specs.inner.Apart.{AreFiled, AreInLeg, AreLines, AreOpen, ArePacked, PlaysAt}
 use Rattle.lane_play.specs.inner.Lanes.{lanes}
 use Rattle.lane_play.specs.inner.Steps.{ArePlayed, KeepsBehind}
 use Rattle.lane_play.specs.inner.Verdicts.{found_at, is_open}

@@ -1,8 +1,8 @@
 -- Machines played side by side are as far as their own players.
 use Rattle.std.proofs.Common.{◌≡◌, ℕ, suc, zero, ◌+◌, ◌<◌, ◌≤◌, Bool, true, false, cond, List, [], ◌∷◌, ◌++◌, map, length, get_or, take, drop, replicate, Option, Some, None, refl, sym, ◌∙◌, ap, subst, arith, length-append, length-take}
-use Rattle.std.specs.List.{All, slice_get}
+use Rattle.std.specs.List.{slice_get}
 use Rattle.std.proofs.lemmas.Bool.{both_ways}
-use Rattle.std.proofs.lemmas.List.{length-map, length-replicate, get_or-map, take_all, take_more, take-append-drop, append_assoc, append-nil}
+use Rattle.std.proofs.lemmas.List.{length-map, get_or-map, take_all, take_more, take-append-drop, append_assoc, append-nil}
 use Rattle.std.proofs.lemmas.Grind.{flat_map-append}
 use Rattle.statement.specs.declared.kinds.Tri.{Tri}
 use Rattle.statement.specs.declared.kinds.Tri.TheVariants.{X}
@@ -11,23 +11,20 @@ use Rattle.netlist.specs.Conditions.{IsSound}
 use Rattle.statement.specs.Netlists.{Netlist, cells}
 use Rattle.statement.specs.Values.{Settles, next, known}
 use Rattle.netlist.specs.Settled.{at}
-use Rattle.netlist.proofs.Settling.{zip_from}
 use Rattle.events.specs.Words.{bit_of}
 use Rattle.statement.specs.Runs.{numbers_from, Cycle}
 use Rattle.scan_insert.proofs.Numbers.{length-numbers_from, get_or-numbers_from}
 use Rattle.scan_play.specs.declared.cycles.Burst.{Burst}
 use Rattle.scan_play.specs.declared.played.Played.{Played}
 use Rattle.scan_play.specs.Bursts.{all_cycles, cycle_of, cycles_of}
-use Rattle.scan_play.specs.Cycles.{IsCycleOf}
-use Rattle.scan_play.specs.Judging.{IsJudged, IsOpen, Judging, judged_in, played_or_else}
+use Rattle.scan_play.specs.Judging.{IsOpen, Judging, judged_in, played_or_else}
 use Rattle.scan_play.specs.inner.Steps.{IsStep, PlaysOn}
-use Rattle.scan_play.proofs.PlayLemmas.{judged_as, plays_found, plays_nothing, plays_step, plays_then}
+use Rattle.scan_play.proofs.PlayLemmas.{plays_found, plays_step, plays_then}
 use Rattle.scan_play.proofs.PlaySteps.{length-cycles_of, step_from}
 use Rattle.scan_play.proofs.RunLaws.{next_length}
 use Rattle.lane_play.specs.declared.packed.Lanes.{Lanes}
 use Rattle.lane_play.specs.inner.Lanes.{always, lane, lanes, lanes_rule}
 use Rattle.lane_play.specs.inner.Verdicts.{AreJudgedIn, AreLeft, found_at, is_open}
-use Rattle.lane_play.specs.Judged.{AreJudged}
 use Rattle.lane_play.specs.inner.Steps.{AreEnded, ArePlayed, AreSteps, Keeping, KeepsBehind, KeepsOn, StaysKept}
 use Rattle.lane_play.proofs.LaneBits.{bit_none, lane_always, lane_next, lane_outs, lane_settles, lane_unknown}
 

@@ -1,4 +1,4 @@
-use Rattle.std.proofs.Common.{List, length, ap, ◌∙◌, sym, arith}
+use Rattle.std.proofs.Common.{List, length, ap, ◌∙◌, arith}
 use Rattle.std.proofs.lemmas.List.{take_all}
 use Rattle.scan_play.specs.declared.cycles.Burst.{Burst}
 use Rattle.scan_play.specs.Bursts.{all_cycles}

@@ -1,11 +1,8 @@
-use Rattle.std.proofs.Common.{◌≡◌, ◌+◌, ◌<◌, ◌≤◌, ◌++◌, ℕ, List, Option, length, map, ap, sym, subst, ◌∙◌, arith}
+use Rattle.std.proofs.Common.{◌≡◌, ◌<◌, ◌≤◌, ℕ, List, length, map, ap, sym, subst, ◌∙◌, arith}
 use Rattle.std.specs.List.{All}
 use Rattle.std.proofs.lemmas.List.{length-map}
 use Rattle.statement.specs.Netlists.{Definition, Netlist, cells}
-use Rattle.scan_play.specs.Bursts.{all_cycles}
 use Rattle.lane_play.specs.declared.packing.Machine.{Machine}
-use Rattle.lane_play.specs.inner.Apart.{AreFiled}
-use Rattle.lane_play.specs.inner.Steps.{ArePlayed}
 use Rattle.lane_play.proofs.ApartLemmas.{is_zero, leg_more, leg_sized, leg_skips, open_within, team_filed, team_lines, team_plays}
 use Rattle.lane_play.proofs.PackLemmas.{lines_length}
 use Rattle.lane_play.proofs.legs.play_team.Goals as goal

@@ -1,4 +1,4 @@
-use Rattle.std.proofs.Common.{◌≡◌, ◌+◌, ◌≤◌, length}
+use Rattle.std.proofs.Common.{◌+◌, ◌≤◌, length}
 use Rattle.lane_play.specs.inner.Apart.{AreOpen}
 use Rattle.lane_play.proofs.legs.team_from.Given as goal
 
