@@ -19,6 +19,7 @@ mod finding;
 mod first;
 mod leaves;
 mod lines;
+mod near;
 mod repeating;
 mod reporting;
 mod searching;

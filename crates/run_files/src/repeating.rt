@@ -1,4 +1,4 @@
-//! Further searches of the faults that too few patterns detect, each by other bits where cubes leave them open.
+//! Further patterns for the faults that too few detect: first of searches, each by other bits where cubes leave them open, then near to those that are there.
 ghost use Rattle.std.specs.Prelude.{◌≡◌, ◌+◌, List, ◌<◌, ◌≤◌, ◌^◌, IfOk, length};
 ghost use Rattle.std.specs.List.{All};
 ghost use Rattle.plain_text.specs.Limits.{most_workers};
@@ -14,6 +14,7 @@ ghost use Rattle.run_files.specs.inner.Often.{AreGathered};
 use crate::asked::RunPlan;
 use crate::differing::joined;
 use crate::finding::search_faults;
+use crate::near::found_near;
 use cubes::Pattern;
 use detections::times_of;
 use evidence::Engine;
@@ -28,7 +29,11 @@ use word_sim::unmarked;
 const MOST_PATTERNS: usize = (1 << 32) - 64;
 
 /// Marks the faults that aren't searched again: no pattern detects them, or enough do.
-fn settled_marks(alloc: Global, times: &[u32], most: u32) -> Result<Vec<bool>, AllocError>
+pub(crate) fn settled_marks(
+    alloc: Global,
+    times: &[u32],
+    most: u32,
+) -> Result<Vec<bool>, AllocError>
     ensures { IfOk result (λ v. length v.items ≡ length times.now) }
 {
     let mut marks = Vec::with_capacity(alloc, times.len())?;
@@ -90,8 +95,41 @@ fn plan_of_round(plan: RunPlan, round: u32) -> RunPlan
     other
 }
 
-/// These patterns, each once, with what further searches find: of each fault as many patterns as are asked for, where the searches come to them. Up to
-/// twice as many searches are made, since one may find patterns that are there; one that finds no other pattern is the last.
+/// What a round adds: in the first rounds what a search finds, and then, or where it finds nothing, what is near to patterns that are there.
+fn found_more<E: Engine + Sync, G: Gate + Sync, R: Threads + Wait + Sync>(
+    rt: &R,
+    alloc: Global,
+    core: &Core,
+    faults: &[Fault],
+    patterns: &[Pattern],
+    plan: RunPlan,
+    is_search: bool,
+    engine: &E,
+    stage: &G,
+    holds: &Holds,
+) -> Result<Vec<Pattern>, NoMemory>
+    requires few { length faults.now ≤ most_design_faults }
+    requires limit { 1 ≤ plan.limit }
+    requires held { AreHoldsOf core.now holds.now }
+    requires lines { All (λ (f : FaultOf). IsLineOf core.now f.line) faults.now }
+    requires workers { (0 < plan.workers) × (plan.workers ≤ most_workers) }
+    requires obey { All (IsPatternOf core.now holds.now) patterns.now }
+    requires small { length patterns.now + 64 ≤ 2 ^ 32 }
+    ensures obey { IfOk result (λ v. All (IsPatternOf core.now holds.now) v.items) }
+{
+    if is_search {
+        let found = found_again(
+            rt, alloc, core, faults, patterns, plan, engine, stage, holds,
+        )?;
+        if !found.is_empty() {
+            return Ok(found);
+        }
+    }
+    found_near(rt, alloc, core, holds, faults, patterns, plan)
+}
+
+/// These patterns, each once, with more of them: of each fault as many as are asked for, where searches and what is near come to them. A round that has
+/// nothing to add is the last.
 pub(crate) fn repeated<E: Engine + Sync, G: Gate + Sync, R: Threads + Wait + Sync>(
     rt: &R,
     alloc: Global,
@@ -114,13 +152,15 @@ pub(crate) fn repeated<E: Engine + Sync, G: Gate + Sync, R: Threads + Wait + Syn
 {
     let mut all = joined(Vec::new(alloc), patterns)?;
     for round in 1..plan.times.saturating_mul(2) {
-        let before = all.len();
         let other = plan_of_round(plan, round);
-        let more = found_again(rt, alloc, core, faults, &all, other, engine, stage, holds)?;
-        all = with_more(all, more)?;
-        if all.len() == before {
+        let is_search = round < plan.times;
+        let more = found_more(
+            rt, alloc, core, faults, &all, other, is_search, engine, stage, holds,
+        )?;
+        if more.is_empty() {
             break;
         }
+        all = with_more(all, more)?;
     }
     Ok(all)
 }

@@ -1,0 +1,215 @@
+//! Patterns near to one that detects a fault: equal to it but for a bit or two.
+//!
+//! What a fault's test doesn't need may be turned over, so that many of these detect it too, where one search more comes to the test that is known.
+//! (Clauses that forbid what is known would leave none out, and take a search for each pattern.)
+ghost use Rattle.std.specs.Prelude.{◌≡◌, ◌+◌, ◌<◌, ◌≤◌, ◌^◌, IfOk, length};
+ghost use Rattle.std.specs.List.{All};
+ghost use Rattle.statement.specs.declared.lines.Fault.{Fault as FaultOf};
+ghost use Rattle.cubes.specs.Cubes.{IsPatternOf};
+ghost use Rattle.netlist.specs.Lines.{IsLineOf};
+ghost use Rattle.netlist.specs.Holds.{AreHoldsOf};
+
+use crate::asked::RunPlan;
+use crate::repeating::settled_marks;
+use cubes::Pattern;
+use detections::{LastFew, last_few_of, times_of};
+use flat_netlist::number_of;
+use list_core::kept;
+use netlist::{Core, Fault, Holds, NoMemory, Point};
+use rand_core::Rng;
+use rand_pcg::Lcg64Xsh32;
+use std::alloc::{AllocError, Global};
+use std::thread::Threads;
+use stil_patterns::are_patterns;
+use word_sim::unmarked;
+use worker::last_tells_beside;
+
+/// So many are tried for a fault: they are simulated at once.
+const TRIED: u32 = 64;
+
+/// The stream of the seed that places are drawn from: 0 and 1 are those of bits that cubes leave open.
+const STREAM: u64 = 2;
+
+/// Two places of a pattern, or one twice. The inputs' stand before the cells'.
+#[derive(Clone, Copy)]
+struct Places {
+    one: u32,
+    other: u32,
+}
+
+/// Whether an input stands at this place that is held.
+fn is_held(core: &Core, holds: &Holds, place: u32) -> bool
+    requires { AreHoldsOf core.now holds.now }
+{
+    (place as usize) < core.netlist().inputs().len() && holds.held(place).is_some()
+}
+
+/// The places of inputs that aren't held, and of cells.
+fn free_places(alloc: Global, core: &Core, holds: &Holds) -> Result<Vec<u32>, AllocError>
+    requires { AreHoldsOf core.now holds.now }
+{
+    let inputs = number_of(core.netlist().inputs().len());
+    let cells = number_of(core.netlist().cells().len());
+    let mut places = Vec::new(alloc);
+    for place in 0..inputs.wrapping_add(cells) {
+        if !is_held(core, holds, place) {
+            places.push(place)?;
+        }
+    }
+    Ok(places)
+}
+
+/// The bits from a place of the pattern on, turned over at these places.
+fn turned(
+    alloc: Global,
+    bits: &[bool],
+    from: u32,
+    places: Places,
+) -> Result<Vec<bool>, AllocError> {
+    let mut new = Vec::with_capacity(alloc, bits.len())?;
+    for (k, bit) in bits.iter().enumerate() {
+        let place = from.wrapping_add(number_of(k));
+        new.push(*bit != (place == places.one || place == places.other))?;
+    }
+    Ok(new)
+}
+
+/// The pattern, turned over at these places.
+fn near_pattern(alloc: Global, pattern: &Pattern, places: Places) -> Result<Pattern, AllocError> {
+    let inputs = pattern.inputs();
+    let of_inputs = turned(alloc, inputs, 0, places)?;
+    let of_cells = turned(alloc, pattern.cells(), number_of(inputs.len()), places)?;
+    Ok(Pattern::new(of_inputs, of_cells))
+}
+
+/// The places of the one tried after so many others: each place by itself, and then each with another one.
+fn places_of<N: Rng>(free: &[u32], first: u32, tried: u32, rng: &mut N) -> Option<Places> {
+    let count = number_of(free.len());
+    if count == 0 {
+        return None;
+    }
+    let one = *free.get((first.wrapping_add(tried) % count) as usize)?;
+    let other = if tried < count {
+        one
+    } else {
+        *free.get((rng.next_u32() % count) as usize)?
+    };
+    Some(Places { one, other })
+}
+
+/// The patterns that are tried for a fault.
+fn near_patterns<N: Rng>(
+    alloc: Global,
+    pattern: &Pattern,
+    free: &[u32],
+    rng: &mut N,
+) -> Result<Vec<Pattern>, AllocError> {
+    let first = rng.next_u32() / 2;
+    let mut near = Vec::new(alloc);
+    for tried in 0..TRIED {
+        if let Some(places) = places_of(free, first, tried, rng) {
+            near.push(near_pattern(alloc, pattern, places)?)?;
+        }
+    }
+    Ok(near)
+}
+
+/// Those near to a pattern that are the last so many to detect the fault.
+fn near_tests<N: Rng>(
+    alloc: Global,
+    core: &Core,
+    holds: &Holds,
+    fault: &Fault,
+    pattern: &Pattern,
+    most: u32,
+    free: &[u32],
+    rng: &mut N,
+) -> Result<Vec<Pattern>, NoMemory>
+    requires held { AreHoldsOf core.now holds.now }
+    requires line { IsLineOf core.now fault.now.line }
+    ensures obey { IfOk result (λ v. All (IsPatternOf core.now holds.now) v.items) }
+{
+    let near = near_patterns(alloc, pattern, free, rng)?;
+    if !are_patterns(core.netlist(), holds, &near) {
+        return Ok(Vec::new(alloc));
+    }
+    let LastFew { needed, .. } = last_few_of(alloc, core, &[*fault], &near, most)?;
+    Ok(kept(alloc, near, &needed)?)
+}
+
+/// Those near to the last pattern that detects the fault, if one does.
+fn near_last<N: Rng>(
+    alloc: Global,
+    core: &Core,
+    holds: &Holds,
+    fault: &Fault,
+    last: Option<(u32, Point)>,
+    patterns: &[Pattern],
+    most: u32,
+    free: &[u32],
+    rng: &mut N,
+) -> Result<Vec<Pattern>, NoMemory>
+    requires held { AreHoldsOf core.now holds.now }
+    requires line { IsLineOf core.now fault.now.line }
+    ensures obey { IfOk result (λ v. All (IsPatternOf core.now holds.now) v.items) }
+{
+    let pattern = last.and_then(|(place, _)| patterns.get(place as usize));
+    match pattern {
+        Some(pattern) => near_tests(alloc, core, holds, fault, pattern, most, free, rng),
+        None => Ok(Vec::new(alloc)),
+    }
+}
+
+/// Those near to the last pattern that detects each of these faults.
+fn all_near_tests<N: Rng>(
+    alloc: Global,
+    core: &Core,
+    holds: &Holds,
+    faults: &[Fault],
+    last: &[Option<(u32, Point)>],
+    patterns: &[Pattern],
+    most: u32,
+    rng: &mut N,
+) -> Result<Vec<Pattern>, NoMemory>
+    requires held { AreHoldsOf core.now holds.now }
+    requires lines { All (λ (f : FaultOf). IsLineOf core.now f.line) faults.now }
+    requires size { length last.now ≡ length faults.now }
+    ensures obey { IfOk result (λ v. All (IsPatternOf core.now holds.now) v.items) }
+{
+    let free = free_places(alloc, core, holds)?;
+    let mut all = Vec::new(alloc);
+    for k in 0..faults.len() {
+        let mut near = near_last(
+            alloc, core, holds, &faults[k], last[k], patterns, most, &free, rng,
+        )?;
+        all.append(&mut near)?;
+    }
+    Ok(all)
+}
+
+/// What is near to patterns that detect a fault, of the faults that some of these detect, but too few.
+pub(crate) fn found_near<R: Threads + Sync>(
+    rt: &R,
+    alloc: Global,
+    core: &Core,
+    holds: &Holds,
+    faults: &[Fault],
+    patterns: &[Pattern],
+    plan: RunPlan,
+) -> Result<Vec<Pattern>, NoMemory>
+    requires held { AreHoldsOf core.now holds.now }
+    requires lines { All (λ (f : FaultOf). IsLineOf core.now f.line) faults.now }
+    requires obey { All (IsPatternOf core.now holds.now) patterns.now }
+    requires small { length patterns.now + 64 ≤ 2 ^ 32 }
+    requires workers { 0 < plan.workers }
+    ensures obey { IfOk result (λ v. All (IsPatternOf core.now holds.now) v.items) }
+{
+    let times = times_of(alloc, core, faults, patterns, plan.times)?;
+    let settled = settled_marks(alloc, &times, plan.times)?;
+    let left = unmarked(alloc, faults, &settled)?;
+    let last = last_tells_beside(rt, alloc, core, &left, patterns, plan.workers)?;
+    let mut rng = Lcg64Xsh32::new(plan.seed, STREAM);
+    all_near_tests(
+        alloc, core, holds, &left, &last, patterns, plan.times, &mut rng,
+    )
+}
