@@ -1,4 +1,4 @@
--- Faults that are played in batches of 64.
+-- Faults that are played in batches of 512.
 use Rattle.std.proofs.Common.{◌≡◌, ℕ, suc, zero, ◌+◌, ◌-◌, ◌*◌, ◌<◌, ◌≤◌, ◌⊎◌, List, [], ◌∷◌, ◌++◌, map, length, take, drop, Option, Some, None, sym, ◌∙◌, ap, subst, inl, inr, arith}
 use Rattle.std.specs.List.{AllZip}
 use Rattle.std.proofs.lemmas.List.{length-drop, take_all}
@@ -35,21 +35,21 @@ take_both xs zero b = ap (λ i. take i xs) (let e : zero + b ≡ b = omega arith
 take_both [] (suc a) b = ap (λ i. take i []) (let e : suc a + b ≡ suc (a + b) = omega arith in e) ∙ sym (take_all b [] (omega arith))
 take_both (x ∷ xs) (suc a) b = ap (λ i. take i (x ∷ xs)) (let e : suc a + b ≡ suc (a + b) = omega arith in e) ∙ ap (λ ys. x ∷ ys) (take_both xs a b)
 
--- the next 64, or as many as there are
-pub batch_taken : {X : Type 0} (xs : List X) (start count : ℕ) → start ≤ length xs → (count ≡ 64) ⊎ ((count ≡ length xs - start) × (count < 64)) → take (start + count - start) (drop start xs) ≡ take 64 (drop start xs)
+-- the next 512, or as many as there are
+pub batch_taken : {X : Type 0} (xs : List X) (start count : ℕ) → start ≤ length xs → (count ≡ 512) ⊎ ((count ≡ length xs - start) × (count < 512)) → take (start + count - start) (drop start xs) ≡ take 512 (drop start xs)
 batch_taken xs start count l h =
     let e : start + count - start ≡ count = omega arith in
     let size = length-drop start xs in
     ap (λ i. take i (drop start xs)) e ∙ elim h [
       | inl same ↦ ap (λ i. take i (drop start xs)) same
-      | inr rest ↦ take_all count (drop start xs) (let r = rest.0 in omega arith) ∙ sym (take_all 64 (drop start xs) (let r = rest.0 in let f = rest.1 in omega arith))
+      | inr rest ↦ take_all count (drop start xs) (let r = rest.0 in omega arith) ∙ sym (take_all 512 (drop start xs) (let r = rest.0 in let f = rest.1 in omega arith))
     ]
 
 -- one batch more
-pub batch_more : {X Y : Type 0} (R : X → Y → Type 0) (xs : List X) (ys more new : List Y) (b : ℕ) (own : List X) → own ≡ take 64 (drop (b * 64) xs) → new ≡ ys ++ more
-    → AllZip R (take (b * 64) xs) ys → AllZip R own more → AllZip R (take ((b + 1) * 64) xs) new
+pub batch_more : {X Y : Type 0} (R : X → Y → Type 0) (xs : List X) (ys more new : List Y) (b : ℕ) (own : List X) → own ≡ take 512 (drop (b * 512) xs) → new ≡ ys ++ more
+    → AllZip R (take (b * 512) xs) ys → AllZip R own more → AllZip R (take ((b + 1) * 512) xs) new
 batch_more R xs ys more new b own is all h one =
-    let e : (b + 1) * 64 ≡ b * 64 + 64 = omega arith in
-    subst (λ zs. AllZip R zs new) (sym (ap (λ i. take i xs) e ∙ take_both xs (b * 64) 64))
-    (subst (λ zs. AllZip R (take (b * 64) xs ++ take 64 (drop (b * 64) xs)) zs) (sym all)
-    (zip_append R (take (b * 64) xs) (take 64 (drop (b * 64) xs)) ys more h (subst (λ zs. AllZip R zs more) is one)))
+    let e : (b + 1) * 512 ≡ b * 512 + 512 = omega arith in
+    subst (λ zs. AllZip R zs new) (sym (ap (λ i. take i xs) e ∙ take_both xs (b * 512) 512))
+    (subst (λ zs. AllZip R (take (b * 512) xs ++ take 512 (drop (b * 512) xs)) zs) (sym all)
+    (zip_append R (take (b * 512) xs) (take 512 (drop (b * 512) xs)) ys more h (subst (λ zs. AllZip R zs more) is one)))

@@ -214,12 +214,12 @@ module _ (j : ℕ) (low : j < 64) where
   clear_bit : (w : ℕ) → bit_of j (bit_and w (bit_not w64 (one_at j))) ≡ false
   clear_bit w = ne_eqb (bit_at (bit_and w (bit_not w64 (one_at j))) j) 1 (λ o. let z : bit_at (bit_and w (bit_not w64 (one_at j))) j ≡ 0 = bit_at_clear_same w64 w j low in let o' : bit_at (bit_and w (bit_not w64 (one_at j))) j ≡ 1 = o in omega arith)
 
-  lane_with : (b : Bool) (v : Lanes) → lane j (with_lane j b v) ≡ known b
+  pub lane_with : (b : Bool) (v : Lanes) → lane j (with_lane j b v) ≡ known b
   lane_with true v = same_tri (bit_of j (bit_or v.known (one_at j))) true (bit_of j (bit_or v.value (one_at j))) true (set_bit v.known) (set_bit v.value)
   lane_with false v =
       same_tri (bit_of j (bit_or v.known (one_at j))) true (bit_of j (bit_and v.value (bit_not w64 (one_at j)))) false (set_bit v.known) (clear_bit v.value)
 
-  lane_with_other : (k : ℕ) (b : Bool) (v : Lanes) → k < 64 → j ≢ k → lane j (with_lane k b v) ≡ lane j v
+  pub lane_with_other : (k : ℕ) (b : Bool) (v : Lanes) → k < 64 → j ≢ k → lane j (with_lane k b v) ≡ lane j v
   lane_with_other k true v l ne =
       same_tri (bit_of j (bit_or v.known (one_at k))) (bit_of j v.known) (bit_of j (bit_or v.value (one_at k))) (bit_of j v.value)
       (ap (λ x. eqb x 1) (bit_at_set_other w64 v.known k l j ne)) (ap (λ x. eqb x 1) (bit_at_set_other w64 v.value k l j ne))

@@ -5,3 +5,5 @@ pub mod PlayedLemmas
 pub mod Machines
 pub mod ShiftLemmas
 pub mod CountedLemmas
+pub mod PackLemmas
+pub mod ApartLemmas

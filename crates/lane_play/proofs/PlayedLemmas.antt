@@ -1,8 +1,8 @@
 -- Machines played side by side are as far as their own players.
 use Rattle.std.proofs.Common.{◌≡◌, ℕ, suc, zero, ◌+◌, ◌<◌, ◌≤◌, Bool, true, false, cond, List, [], ◌∷◌, ◌++◌, map, length, get_or, take, drop, replicate, Option, Some, None, refl, sym, ◌∙◌, ap, subst, arith, length-append, length-take}
-use Rattle.std.specs.List.{All, slice_get}
+use Rattle.std.specs.List.{slice_get}
 use Rattle.std.proofs.lemmas.Bool.{both_ways}
-use Rattle.std.proofs.lemmas.List.{length-map, length-replicate, get_or-map, take_all, take_more, take-append-drop, append_assoc, append-nil}
+use Rattle.std.proofs.lemmas.List.{length-map, get_or-map, take_all, take_more, take-append-drop, append_assoc, append-nil}
 use Rattle.std.proofs.lemmas.Grind.{flat_map-append}
 use Rattle.statement.specs.declared.kinds.Tri.{Tri}
 use Rattle.statement.specs.declared.kinds.Tri.TheVariants.{X}
@@ -11,24 +11,21 @@ use Rattle.netlist.specs.Conditions.{IsSound}
 use Rattle.statement.specs.Netlists.{Netlist, cells}
 use Rattle.statement.specs.Values.{Settles, next, known}
 use Rattle.netlist.specs.Settled.{at}
-use Rattle.netlist.proofs.Settling.{zip_from}
 use Rattle.events.specs.Words.{bit_of}
 use Rattle.statement.specs.Runs.{numbers_from, Cycle}
 use Rattle.scan_insert.proofs.Numbers.{length-numbers_from, get_or-numbers_from}
 use Rattle.scan_play.specs.declared.cycles.Burst.{Burst}
 use Rattle.scan_play.specs.declared.played.Played.{Played}
 use Rattle.scan_play.specs.Bursts.{all_cycles, cycle_of, cycles_of}
-use Rattle.scan_play.specs.Cycles.{IsCycleOf}
-use Rattle.scan_play.specs.Judging.{IsJudged, IsOpen, Judging, judged_in, played_or_else}
+use Rattle.scan_play.specs.Judging.{IsOpen, Judging, judged_in, played_or_else}
 use Rattle.scan_play.specs.inner.Steps.{IsStep, PlaysOn}
-use Rattle.scan_play.proofs.PlayLemmas.{judged_as, plays_found, plays_nothing, plays_step, plays_then}
+use Rattle.scan_play.proofs.PlayLemmas.{plays_found, plays_step, plays_then}
 use Rattle.scan_play.proofs.PlaySteps.{length-cycles_of, step_from}
 use Rattle.scan_play.proofs.RunLaws.{next_length}
 use Rattle.lane_play.specs.declared.packed.Lanes.{Lanes}
 use Rattle.lane_play.specs.inner.Lanes.{always, lane, lanes, lanes_rule}
 use Rattle.lane_play.specs.inner.Verdicts.{AreJudgedIn, AreLeft, found_at, is_open}
-use Rattle.lane_play.specs.Judged.{AreJudged}
-use Rattle.lane_play.specs.inner.Steps.{AreEnded, ArePlayed, AreSteps, KeepsOn, StaysKept}
+use Rattle.lane_play.specs.inner.Steps.{AreEnded, ArePlayed, AreSteps, Keeping, KeepsBehind, KeepsOn, StaysKept}
 use Rattle.lane_play.proofs.LaneBits.{bit_none, lane_always, lane_next, lane_outs, lane_settles, lane_unknown}
 
 -- ---- one machine of lists
@@ -158,6 +155,33 @@ module _ (P : List Cycle → Type 0) where
   pub bursts_stopped : (bursts : List Burst) (i : ℕ) → P (all_cycles (take i bursts) ++ all_cycles (drop i bursts)) → P (all_cycles bursts)
   bursts_stopped bursts i h = subst P (sym (flat_map-append cycles_of (take i bursts) (drop i bursts)) ∙ ap all_cycles (take-append-drop i bursts)) h
 
+-- ---- bursts one behind the other
+
+pub keeps_none : (kept : Keeping) (faults : List Fault) (n : Netlist) (first : ℕ) (state : List Lanes) → KeepsBehind kept kept faults n first [] state state
+keeps_none kept faults n first state before size h = subst (λ cs. kept faults n cs state) (sym (append-nil before)) h
+
+pub keeps_then : (old mid new : Keeping) (faults : List Fault) (n : Netlist) (first next : ℕ) (cs ds : List Cycle) (state between after : List Lanes) → next ≡ first + length cs
+    → KeepsBehind old mid faults n first cs state between → KeepsBehind mid new faults n next ds between after → KeepsBehind old new faults n first (cs ++ ds) state after
+keeps_then old mid new faults n first next cs ds state between after at one two before size h =
+    let long = length-append before cs in
+    subst (λ xs. new faults n xs after) (append_assoc before cs ds) (two (before ++ cs) (omega (arith, size, at, long)) (one before size h))
+
+pub keeps_whole : (old new : Keeping) (faults : List Fault) (n : Netlist) (first : ℕ) (cs ds : List Cycle) (state after : List Lanes) → StaysKept new
+    → KeepsBehind old new faults n first cs state after → KeepsBehind old new faults n first (cs ++ ds) state after
+keeps_whole old new faults n first cs ds state after stays one before size h =
+    subst (λ xs. new faults n xs after) (append_assoc before cs ds) (stays faults n (before ++ cs) ds after (one before size h))
+
+-- how many cycles there are up to a burst's end
+pub burst_next : (bursts : List Burst) (i : ℕ) (b : Burst) → i < length bursts → b ≡ get_or bursts i b → length (all_cycles (take i bursts)) + b.count ≡ length (all_cycles (take (i + 1) bursts))
+burst_next bursts i b l is =
+    bursts_more (λ cs. length (all_cycles (take i bursts)) + b.count ≡ length cs) bursts i b l is
+    (sym (length-append (all_cycles (take i bursts)) (cycles_of b) ∙ ap (λ k. length (all_cycles (take i bursts)) + k) (length-cycles_of b)))
+
+pub burst_within : (bursts : List Burst) (i : ℕ) (b : Burst) → i < length bursts → b ≡ get_or bursts i b → length (all_cycles (take i bursts)) + b.count ≤ length (all_cycles bursts)
+burst_within bursts i b l is =
+    bursts_stopped (λ cs. length (all_cycles (take i bursts)) + b.count ≤ length cs) bursts (i + 1)
+    (let e = burst_next bursts i b l is in let long = length-append (all_cycles (take (i + 1) bursts)) (all_cycles (drop (i + 1) bursts)) in omega (arith, e, long))
+
 -- where so many cycles were played, the number of the next is how many
 pub number_here : (before : List Cycle) (b : Burst) (t first : ℕ) → t < b.count → length before ≡ first → length (before ++ take t (cycles_of b)) ≡ first + t
 number_here before b t first l size =
@@ -165,42 +189,3 @@ number_here before b t first l size =
     let one = length-append before (take t (cycles_of b)) in
     let two = length-take t (cycles_of b) in
     omega arith
-
--- ---- from all cells X to the answers
-
-module _ (J : Judging) (faults : List Fault) (n : Netlist) where
-  none_found : (count k : ℕ) → found_at (replicate count None) k ≡ None
-  none_found zero k = refl
-  none_found (suc count) zero = refl
-  none_found (suc count) (suc k) = none_found count k
-
-  pub played_nothing : (state : List Lanes) (found : List (Option Played)) → length faults ≤ 64 → state ≡ replicate (length (cells n)) (record { known = 0; value = 0 }) → found ≡ replicate (length faults) None
-      → ArePlayed J faults n [] state found
-  played_nothing state found few s f = record {
-    size = ap length f ∙ length-replicate (length faults) None;
-    each = λ k l.
-        let low : k < 64 = omega (arith, l, few) in
-        let start : lanes k state ≡ replicate (length (cells n)) X = ap (lanes k) s ∙ lanes_unknown k low (length (cells n)) in
-        let none : found_at found k ≡ None = ap (λ xs. found_at xs k) f ∙ none_found (length faults) k in
-        subst (PlaysOn J (slice_get faults k) n [] 0 (replicate (length (cells n)) X) (lanes k state)) (sym none)
-        (subst (λ x. PlaysOn J (slice_get faults k) n [] 0 (replicate (length (cells n)) X) x None) (sym start)
-        (plays_nothing J (slice_get faults k) n 0 (replicate (length (cells n)) X) (length-replicate (length (cells n)) X)));
-  }
-
-  slice_at : (fs : List Fault) (k : ℕ) (d : Fault) → k < length fs → slice_get fs k ≡ Some (get_or fs k d)
-  slice_at [] k d l = absurd (omega (arith, l))
-  slice_at (f ∷ fs) zero d l = refl
-  slice_at (f ∷ fs) (suc k) d l = slice_at fs k d (omega (arith, l))
-
-  default_none : (found : List (Option Played)) (k : ℕ) (d : Option Played) → k < length found → found_at found k ≡ get_or found k d
-  default_none [] k d l = absurd (omega (arith, l))
-  default_none (x ∷ xs) zero d l = refl
-  default_none (x ∷ xs) (suc k) d l = default_none xs k d (omega (arith, l))
-
-  pub judged_all : (cycles : List Cycle) (state : List Lanes) (found : List (Option Played)) → IsSound n → All (IsCycleOf n) cycles → ArePlayed J faults n cycles state found → AreJudged J n faults cycles found
-  judged_all cycles state found sound fits h =
-      zip_from (λ f said. IsJudged J n (Some f) cycles said) faults found (sym h.size)
-      (λ k f said l.
-      let p = judged_as J (slice_get faults k) n cycles (replicate (length (cells n)) X) (lanes k state) (found_at found k) sound fits refl (h.each k l) in
-      subst (IsJudged J n (Some (get_or faults k f)) cycles) (default_none found k said (let e = h.size in omega (arith, l)))
-      (subst (λ g. IsJudged J n g cycles (found_at found k)) (slice_at faults k f l) p))

@@ -5,3 +5,4 @@ pub mod Verdicts
 pub mod Counts
 pub mod Shifts
 pub mod Steps
+pub mod Apart

@@ -38,7 +38,7 @@ fn with_bit(word: u64, k: usize, bit: bool) -> u64
 }
 
 /// Whether nothing was said.
-fn is_open(said: &Option<Played>) -> bool
+pub(crate) fn is_open(said: &Option<Played>) -> bool
     ensures { result ≡ is_open said.now }
 {
     match said {

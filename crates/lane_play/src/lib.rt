@@ -1,8 +1,8 @@
-//! Up to 64 faulty machines, played side by side.
+//! Faulty machines, played 64 side by side.
 //!
 //! Gives: `play_lanes`, `count_lanes`.
-//! Proved: for each of up to 64 stuck lines, as if it were played alone, `play_lanes`: exactly what a judge first says of its run in three values;
-//! `count_lanes`: of exactly how many strobes he says something, on either of two sides.
+//! Proved: for each stuck line, as if it were played alone, `play_lanes`: exactly what a judge first says of its run in three values; `count_lanes`, of up
+//! to 64: of exactly how many strobes he says something, on either of two sides.
 //! Tested: run below `chain_test` and `diagnose` by rows of `cases`.
 //! Neither: time.
 #![tactic(auto)]
@@ -11,7 +11,9 @@ mod counting;
 mod cycles;
 mod evaluating;
 mod judging;
+mod legs;
 mod packed;
+mod packing;
 mod pins;
 mod planning;
 mod playing;
@@ -21,4 +23,4 @@ mod stuck;
 mod watching;
 
 pub use counting::{Counts, Sides, count_lanes};
-pub use playing::play_lanes;
+pub use legs::play_lanes;

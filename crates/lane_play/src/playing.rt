@@ -4,19 +4,17 @@ ghost use Rattle.std.specs.List.{All};
 ghost use Rattle.statement.specs.Netlists.{cells};
 ghost use Rattle.scan_play.specs.Bursts.{all_cycles, cycles_of};
 ghost use Rattle.scan_play.specs.Cycles.{IsCycleOf};
-ghost use Rattle.lane_play.specs.Judged.{AreJudged};
 ghost use Rattle.lane_play.specs.declared.packed.Lanes.{Lanes as Shown};
 ghost use Rattle.lane_play.specs.inner.Steps.{AreSized, KeepsBehind};
 
 use crate::cycles::{Bench, play_cycles};
-use crate::judging::Verdicts;
 use crate::packed::Lanes;
 use crate::planning::{Planner, plan_burst, push_unknowns};
 use crate::shifting::play_shifts;
 use crate::stuck::Stuck;
 use crate::watching::Watch;
 use netlist::{Core, Fault, NoMemory};
-use scan_play::{Burst, Judge, Played, Vectors};
+use scan_play::{Burst, Vectors};
 use std::alloc::{AllocError, Global};
 
 /// From so many cycles on it pays to plan a burst.
@@ -66,6 +64,7 @@ fn play_bursts<J, W: Watch<J>>(
     rule: &Stuck,
     judge: &J,
     bursts: &[Burst],
+    first: u64,
     idle: &[Lanes],
     planner: &mut Planner,
     bench: &mut Bench,
@@ -74,20 +73,19 @@ fn play_bursts<J, W: Watch<J>>(
     requires fits { All (IsCycleOf core.now) (all_cycles bursts.now) }
     requires bench { AreSized core.now bench.old.state.items bench.old.values.items }
     requires idle { idle.now ≡ replicate (length (cells core.now)) (record { known = 0; value = 0 }) }
-    requires few { length (all_cycles bursts.now) < 2 ^ 64 }
-    requires begun { W.kept judge.now watch rule.now.faults.now core.now [] bench.old.state.items }
-    ensures { IfOk result (λ w. W.kept judge.now w rule.now.faults.now core.now (all_cycles bursts.now) bench.new.state.items) }
+    requires few { first + length (all_cycles bursts.now) < 2 ^ 64 }
+    ensures { IfOk result (λ w. KeepsBehind (W.kept judge.now watch) (W.kept judge.now w) rule.now.faults.now core.now first (all_cycles bursts.now) bench.old.state.items bench.new.state.items) }
 {
-    let mut first: u64 = 0;
+    let mut number = first;
     let mut so_far = watch;
     for burst in bursts {
         so_far = play_burst(
-            core, rule, judge, burst, first, idle, planner, bench, so_far,
+            core, rule, judge, burst, number, idle, planner, bench, so_far,
         )?;
         if so_far.is_done() {
             return Ok(so_far);
         }
-        first += burst.count as u64;
+        number += burst.count as u64;
     }
     Ok(so_far)
 }
@@ -101,18 +99,57 @@ fn unknowns(alloc: Global, count: usize) -> Result<Vec<Lanes>, AllocError>
     Ok(values)
 }
 
-/// A bench before the first cycle.
-fn bench_of(alloc: Global, cells: usize, signals: usize) -> Result<Bench, AllocError>
-    ensures state { IfOk result (λ b. b.state.items ≡ replicate cells (record { known = 0; value = 0 })) }
+/// A bench on which the cells hold this.
+fn bench_of(alloc: Global, state: Vec<Lanes>, signals: usize) -> Result<Bench, AllocError>
+    ensures state { IfOk result (λ b. b.state.items ≡ state.items) }
     ensures values { IfOk result (λ b. b.values.items ≡ replicate signals (record { known = 0; value = 0 })) }
 {
     Ok(Bench {
-        state: unknowns(alloc, cells)?,
+        state,
         drive: Vec::new(alloc),
         strobe: Vec::new(alloc),
         shown: Vec::new(alloc),
         values: unknowns(alloc, signals)?,
     })
+}
+
+/// Plays bursts on a netlist for up to 64 stuck lines side by side, behind `first` cycles after which the cells hold this, and has a watch hear it,
+/// which has heard those. Answers what the cells then hold, too.
+pub(crate) fn play_from<J, W: Watch<J>>(
+    alloc: Global,
+    core: &Core,
+    faults: &[Fault],
+    bursts: &[Burst],
+    first: u64,
+    state: Vec<Lanes>,
+    judge: &J,
+    watch: W,
+) -> Result<(W, Vec<Lanes>), AllocError>
+    requires machines { length faults.now ≤ 64 }
+    requires fits { All (IsCycleOf core.now) (all_cycles bursts.now) }
+    requires few { first + length (all_cycles bursts.now) < 2 ^ 64 }
+    requires size { length state.items ≡ length (cells core.now) }
+    ensures { IfOk result (λ r. KeepsBehind (W.kept judge.now watch) (W.kept judge.now r.0) faults.now core.now first (all_cycles bursts.now) state.items r.1.items) }
+{
+    let netlist = core.netlist();
+    netlist.sound();
+    let signals = netlist.inputs().len() + netlist.definitions().len();
+    let mut bench = bench_of(alloc, state, signals)?;
+    let idle = unknowns(alloc, netlist.cells().len())?;
+    let mut planner = Planner::new(alloc);
+    let rule = Stuck::new(alloc, faults, signals)?;
+    let heard = play_bursts(
+        core,
+        &rule,
+        judge,
+        bursts,
+        first,
+        &idle,
+        &mut planner,
+        &mut bench,
+        watch,
+    )?;
+    Ok((heard, bench.state))
 }
 
 /// Plays vectors on a netlist for up to 64 stuck lines side by side, and has a watch hear it, which has heard nothing before.
@@ -130,42 +167,17 @@ pub(crate) fn play<J, W: Watch<J>>(
     requires begun { W.kept judge.now watch faults.now core.now [] (replicate (length (cells core.now)) (record { known = 0; value = 0 })) }
     ensures { IfOk result (λ w. (state : List Shown) × W.kept judge.now w faults.now core.now vectors.now state) }
 {
-    let netlist = core.netlist();
-    netlist.sound();
-    let signals = netlist.inputs().len() + netlist.definitions().len();
-    let mut bench = bench_of(alloc, netlist.cells().len(), signals)?;
-    let idle = unknowns(alloc, netlist.cells().len())?;
-    let mut planner = Planner::new(alloc);
-    let rule = Stuck::new(alloc, faults, signals)?;
-    let bursts = vectors.bursts();
-    let watched = play_bursts(
+    core.netlist().sound();
+    let state = unknowns(alloc, core.netlist().cells().len())?;
+    let (heard, _state) = play_from(
+        alloc,
         core,
-        &rule,
+        faults,
+        vectors.bursts(),
+        0,
+        state,
         judge,
-        bursts,
-        &idle,
-        &mut planner,
-        &mut bench,
         watch,
     )?;
-    Ok(watched)
-}
-
-/// Plays vectors on a netlist for up to 64 stuck lines side by side: what the judge first says with each, if anything.
-pub fn play_lanes<J: Judge>(
-    alloc: Global,
-    core: &Core,
-    faults: &[Fault],
-    vectors: &Vectors,
-    judge: &J,
-) -> Result<Vec<Option<Played>>, NoMemory>
-    requires machines { length faults.now ≤ 64 }
-    requires fits { All (IsCycleOf core.now) vectors.now }
-    requires few { length vectors.now < 2 ^ 64 }
-    ensures { IfOk result (λ found. AreJudged (J.says judge.now) core.now faults.now vectors.now found.items) }
-{
-    core.netlist().sound();
-    let verdicts = Verdicts::none(alloc, faults.len())?;
-    let Verdicts { found, left: _ } = play(alloc, core, faults, vectors, judge, verdicts)?;
-    Ok(found)
+    Ok(heard)
 }

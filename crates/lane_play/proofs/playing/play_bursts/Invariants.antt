@@ -1,11 +1,11 @@
-use Rattle.std.proofs.Common.{◌≡◌, length, take}
+use Rattle.std.proofs.Common.{◌≡◌, ◌+◌, length, take}
 use Rattle.scan_play.specs.Bursts.{all_cycles}
-use Rattle.lane_play.specs.inner.Steps.{AreSized}
+use Rattle.lane_play.specs.inner.Steps.{AreSized, KeepsBehind}
 use Rattle.lane_play.proofs.playing.play_bursts.Given as goal
 
 abbrev pub invariant-loop-burst : goal.invariant-loop-burst
 invariant-loop-burst g l = record {
-  number : l.first ≡ length (all_cycles (take l.burst-index l.bursts));
+  number : l.number ≡ l.first + length (all_cycles (take l.burst-index l.bursts));
   bench : AreSized l.core l.bench.state.items l.bench.values.items;
-  played : g.W.Watch.kept l.judge l.so_far l.rule.faults.now l.core (all_cycles (take l.burst-index l.bursts)) l.bench.state.items;
+  played : KeepsBehind (g.W.Watch.kept l.judge l.initial.so_far) (g.W.Watch.kept l.judge l.so_far) l.rule.faults.now l.core l.first (all_cycles (take l.burst-index l.bursts)) l.initial.bench.state.items l.bench.state.items;
 }

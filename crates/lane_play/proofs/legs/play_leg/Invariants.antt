@@ -1,0 +1,12 @@
+use Rattle.std.proofs.Common.{◌≤◌, ◌-◌, length}
+use Rattle.lane_play.specs.inner.Apart.{AreInLeg}
+use Rattle.lane_play.proofs.legs.play_leg.Given as goal
+
+abbrev pub invariant-loop-start : goal.invariant-loop-start
+invariant-loop-start g l = record {
+  within : l.start ≤ length l.machines;
+  apart : AreInLeg (g.J.Judge.says l.judge) l.faults l.core l.played l.leg l.start l.machines;
+}
+
+abbrev pub decreases-loop-start : goal.decreases-loop-start
+decreases-loop-start g l = length l.machines - l.start
