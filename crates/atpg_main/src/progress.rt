@@ -203,9 +203,19 @@ impl<'a, R: Runtime> Progress<'a, R> {
         self.answered.fetch_add(count, Ordering::SeqCst);
     }
 
+    /// A search begins of so many. A run has further ones of what too few patterns detect, and each is counted from nothing.
+    fn begun(&self, count: u64) {
+        self.redundant.store(0, Ordering::SeqCst);
+        self.aborted.store(0, Ordering::SeqCst);
+        self.undetected.store(u64::MAX, Ordering::SeqCst);
+        self.answered.store(0, Ordering::SeqCst);
+        self.detected.store(0, Ordering::SeqCst);
+        self.count.store(count, Ordering::SeqCst);
+    }
+
     fn take(&self, stage: Stage) {
         match stage {
-            Stage::Begun { count } => self.count.store(count, Ordering::SeqCst),
+            Stage::Begun { count } => self.begun(count),
             Stage::Claimed => {
                 self.searches.fetch_add(1, Ordering::SeqCst);
             }
