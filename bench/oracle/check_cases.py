@@ -745,6 +745,8 @@ def told_runs(texts):
     """The runs whose five texts the input tells, by netlist and options."""
     gates = texts["two_gates"]
     runs = {(gates, ("--limit", "2")): [gates, gates] + [texts[f"two_gates_{end}"] for end in ("stil", "cert", "rep")]}
+    runs[gates, ("--detect", "1"), ("--limit", "2")] = runs[gates, ("--limit", "2")]
+    runs[gates, ("--detect", "2"), ("--limit", "2")] = [gates, gates] + [texts[f"two_gates_{end}"] for end in ("stil", "cert", "counted_rep")]
     for name in ("nothing", "one_fault", "one_fault_redundant", "two_faults"):
         runs[gates, ("--faults", texts[name]), ("--limit", "2")] = [gates, gates, *texts_of_some(texts, texts[name].split("\n"))]
     return runs
