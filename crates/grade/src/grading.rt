@@ -1,4 +1,4 @@
-//! Lines, graded in batches of 64 that are played side by side.
+//! Lines, graded in batches of 512: 64 are played side by side, and those that are left are packed together anew.
 //!
 //! A play ends once each line of the batch met a strobe that isn't known and equal. That tells of all lines but of those at which X was shown there: for
 //! their sake the batch is played again, by a judge who passes over what isn't known.
@@ -83,7 +83,6 @@ fn batch_grades(
     lines: &[Fault],
     vectors: &Vectors,
 ) -> Result<Vec<Grade>, NoMemory>
-    requires lanes { length lines.now ≤ 64 }
     requires fits { All (IsCycleOf core.now) vectors.now }
     requires few { length vectors.now < 2 ^ 64 }
     ensures { IfOk result (λ grades. AllZip (λ f grade. IsGraded core.now f vectors.now grade) lines.now grades.items) }
@@ -99,14 +98,13 @@ fn batch_grades(
     Ok(grades)
 }
 
-/// The next 64 lines, or as many as there are.
+/// The next 512 lines, or as many as there are.
 fn batch_at(lines: &[Fault], start: usize) -> &[Fault]
     requires { start ≤ length lines.now }
-    ensures batch { result.now ≡ take 64 (drop start lines.now) }
-    ensures few { length result.now ≤ 64 }
+    ensures batch { result.now ≡ take 512 (drop start lines.now) }
 {
     let left = lines.len() - start;
-    let count = if left < 64 { left } else { 64 };
+    let count = if left < 512 { left } else { 512 };
     &lines[start..start + count]
 }
 
@@ -143,8 +141,8 @@ pub(crate) fn line_grades<G: Gate>(
 {
     stage.at(0, begun(lines));
     let mut all = Vec::with_capacity(alloc, lines.len())?;
-    for batch in 0..lines.len().div_ceil(64) {
-        let own = batch_at(lines, batch * 64);
+    for batch in 0..lines.len().div_ceil(512) {
+        let own = batch_at(lines, batch * 512);
         let grades = batch_grades(alloc, core, own, vectors)?;
         all.extend_from_slice(&grades)?;
         stage.at(0, answered(&grades));

@@ -4,4 +4,4 @@ use Rattle.grade.specs.Grades.{IsGraded}
 use Rattle.grade.proofs.grading.line_grades.Given as goal
 
 abbrev pub invariant-loop-batch : goal.invariant-loop-batch
-invariant-loop-batch g l = AllZip (λ f grade. IsGraded l.core f l.vectors grade) (take (l.batch * 64) l.lines) l.all.items
+invariant-loop-batch g l = AllZip (λ f grade. IsGraded l.core f l.vectors grade) (take (l.batch * 512) l.lines) l.all.items
