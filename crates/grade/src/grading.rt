@@ -102,6 +102,7 @@ fn batch_grades(
 fn batch_at(lines: &[Fault], start: usize) -> &[Fault]
     requires { start ≤ length lines.now }
     ensures batch { result.now ≡ take 512 (drop start lines.now) }
+    ensures few { length result.now ≤ 512 }
 {
     let left = lines.len() - start;
     let count = if left < 512 { left } else { 512 };
