@@ -517,7 +517,7 @@ CAUSES = (
     (("run", "--with=a.stil", "a.bench", "b"), "4 stil does not fit",
      ["atpg: a.stil is no test of the netlist in a.bench: with its 2 chains the inputs and the outputs are others"]),
     (("run", "--faults", "a.stil", "a.bench", "b"), "4 fault list line 2: no such fault", ['atpg: a.stil line 2: no fault of a.bench:   ScanChain "c1" {', A_LINE]),
-    (("run", "a.bench", "b", "--faults", "none", "--coverage", "90", "--compact", "0"), "4 fault list line 1: no such fault", [A_LINE]),
+    (("run", "a.bench", "b", "--faults", "none", "--coverage", "90", "--compact", "0", "--detect", "2"), "4 fault list line 1: no such fault", [A_LINE]),
     (("chaintest", "a.bench", "a.stil"), "4 not a stil file", []),
     (("run", "a.bench", "b", "--hold", "x=1,,y=0"), "2 bad hold", ["atpg: --hold, item 2, '': it is empty"]),
     (("run", "a.bench", "b", "--hold", ""), "2 bad hold", ["atpg: --hold, item 1, '': it is empty"]),
