@@ -19,6 +19,6 @@ pub use classes::{classes_of, have_lines};
 pub use designs::{design_core, scanned, scanned_core};
 pub use holds::holds_of;
 pub use names::{name_of, push_fault, push_line_text, push_names, signal};
-pub use patterns::{all_drawn, bits, patterns_of, push_bits, push_pattern};
+pub use patterns::{all_drawn, bits, drawn, patterns_of, push_bits, push_pattern};
 pub use trees::{nodes_of, push_tree};
 pub use values::{digit_of, push_cube};

@@ -77,8 +77,8 @@ fn drawn_bits(alloc: Global, count: usize, random: &mut Pcg32) -> Result<Vec<boo
     Ok(bits)
 }
 
-/// A pattern for a netlist.
-fn drawn(alloc: Global, core: &Core, random: &mut Pcg32) -> Result<Pattern, AllocError>
+/// A pattern for a netlist; `bench/measure/timings` draws by it too.
+pub fn drawn(alloc: Global, core: &Core, random: &mut Pcg32) -> Result<Pattern, AllocError>
     ensures { IfOk result (HasWidthsOf core.now) }
 {
     let inputs = drawn_bits(alloc, core.netlist().inputs().len(), random)?;
