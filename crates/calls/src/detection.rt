@@ -65,11 +65,8 @@ pub fn faults_of(alloc: Global, netlist: &Netlist, text: &str) -> Result<Vec<Fau
     ensures { IfOk result (λ v. All (λ (f : FaultOf). IsLineOf netlist.now f.line) v.items) }
 {
     let mut faults = Vec::new(alloc);
-    let mut rest = text;
-    for _ in 0..text.len() {
-        let (name, more) = cut_at(rest, ", ");
+    for name in text.split(", ") {
         push_listed(netlist, name, &mut faults)?;
-        rest = more;
     }
     Ok(faults)
 }

@@ -3,7 +3,7 @@ ghost use Rattle.std.specs.Prelude.{◌≡◌, IfOk, IfSome, length};
 ghost use Rattle.std.specs.List.{All};
 ghost use Rattle.word_sim.specs.Words.{HasWidthsOf};
 
-use case_text::{cut, cut_at};
+use case_text::cut_at;
 use cubes::Pattern;
 use netlist::Core;
 use rand_core::Rng;
@@ -55,14 +55,11 @@ pub fn patterns_of(alloc: Global, core: &Core, text: &str) -> Result<Vec<Pattern
     ensures { IfOk result (λ v. All (HasWidthsOf core.now) v.items) }
 {
     let mut patterns = Vec::new(alloc);
-    let mut rest = text;
-    for _ in 0..text.len() {
-        let (word, more) = cut(rest);
+    for word in text.split(' ') {
         let Some(pattern) = pattern_of(alloc, core, word)? else {
             return Ok(patterns);
         };
         patterns.push(pattern)?;
-        rest = more;
     }
     Ok(patterns)
 }
