@@ -155,6 +155,48 @@ fn with_report(
     })
 }
 
+/// The texts of these verdicts and patterns, where the netlist has been scanned.
+fn texts_beside(
+    alloc: Global,
+    core: &Core,
+    plan: RunPlan,
+    holds: &Holds,
+    chains: &Chains,
+    subject: &Subject,
+    asked: &[bool],
+    scanned: &Netlist,
+    found: Finished,
+) -> Result<RunFiles, NoMemory>
+    requires design { IsDesign core.now }
+    requires some { 1 ≤ plan.chains }
+    requires times { 1 ≤ plan.times }
+    requires held { AreHoldsOf core.now holds.now }
+    requires chains { chains.now ≡ design_chains core.now plan.chains }
+    requires subject { IsSubjectOf core.now subject.now }
+    requires asked { length asked.now ≡ length (universe_of core.now) }
+    requires scanned { scanned.now ≡ scanned_of core.now chains.now }
+    requires verdicts { AreVerdicts core.now holds.now subject.now.classes.representatives plan.limit found.patterns.items found.verdicts.items }
+    requires few { length found.patterns.items < 2 ^ 32 }
+    ensures { IfOk result (IsWritten core.now holds.now (design_chains core.now plan.chains) subject.now.classes plan.limit plan.times asked.now found.patterns.items found.verdicts.items) }
+{
+    let netlist = core.netlist();
+    netlist.sound();
+    faults_have_signals();
+    let said = counted_and_said(
+        alloc, core, plan, holds, chains, subject, asked, scanned, &found,
+    )?;
+    let netlists = netlist_texts(alloc, netlist, scanned)?;
+    let test = test_texts(
+        alloc,
+        core,
+        chains,
+        holds,
+        subject.classes.representatives(),
+        found,
+    )?;
+    with_report(alloc, netlists, test, said)
+}
+
 /// The texts of these verdicts and patterns.
 fn texts_of(
     alloc: Global,
@@ -179,9 +221,8 @@ fn texts_of(
 {
     let netlist = core.netlist();
     netlist.sound();
-    faults_have_signals();
     let scanned = insert(alloc, netlist, chains)?;
-    let said = counted_and_said(
+    texts_beside(
         alloc,
         core,
         plan,
@@ -190,18 +231,8 @@ fn texts_of(
         subject,
         asked,
         scanned.netlist(),
-        &found,
-    )?;
-    let netlists = netlist_texts(alloc, netlist, scanned.netlist())?;
-    let test = test_texts(
-        alloc,
-        core,
-        chains,
-        holds,
-        subject.classes.representatives(),
         found,
-    )?;
-    with_report(alloc, netlists, test, said)
+    )
 }
 
 /// Makes the five files of a design: workers search and compact, and all texts are written. Whatever the number of workers and the
