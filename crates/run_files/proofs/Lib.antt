@@ -15,3 +15,4 @@ mod PointLemmas
 mod ChainLemmas
 mod TimesLemmas
 mod RunLemmas
+mod WrittenLemmas

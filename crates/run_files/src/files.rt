@@ -10,21 +10,18 @@ ghost use Rattle.run_report.specs.Subjects.{IsSubjectOf};
 ghost use Rattle.good_files.specs.ScanOff.{design_chains};
 ghost use Rattle.run_files.specs.Runs.{IsRun, asked_by};
 ghost use Rattle.statement.specs.Faults.{universe_of};
-ghost use Rattle.run_files.specs.inner.Written.{IsTestText, IsWritten};
+ghost use Rattle.run_files.specs.inner.Written.{IsMadeOf, IsWritten};
 ghost use Rattle.run_files.specs.inner.Verdicts.{AreVerdicts};
-ghost use Rattle.run_files.specs.inner.Reports.{IsSaid};
+ghost use Rattle.run_files.specs.inner.Reports.{AreTimes, IsSaid};
 ghost use Rattle.report.specs.Reports.{AreCounted};
 
 use crate::asked::{RunPlan, Wanted};
-use crate::leaves::leaves_of;
 use crate::lines::lines_of;
 use crate::reporting::{report_of, times_said};
 use crate::searching::search;
 use crate::stitching::stitched;
+use crate::texts::{NetlistTexts, TestTexts, netlist_texts, test_texts};
 use crate::truth::written_is_run;
-use bench_text::write;
-use certificate::write_evidence;
-use cubes::Pattern;
 use evidence::Engine;
 use fault_universe::faults_have_signals;
 use list_core::Finished;
@@ -36,8 +33,6 @@ use scan_insert::{Chains, insert};
 use std::alloc::Global;
 use std::sync::Wait;
 use std::thread::Threads;
-use stil_patterns::stil_of;
-use stil_write::write_stil;
 
 /// The texts of a run, and its report as a value.
 #[derive(Drop)]
@@ -48,25 +43,6 @@ pub struct RunFiles {
     pub certificate: Vec<u8>,
     pub report: Vec<u8>,
     pub said: Report,
-}
-
-/// The test of these patterns as text.
-fn stil_text(
-    alloc: Global,
-    core: &Core,
-    chains: &Chains,
-    patterns: &[Pattern],
-    holds: &Holds,
-) -> Result<Vec<u8>, NoMemory>
-    requires design { IsDesign core.now }
-    requires holds { AreHoldsOf core.now holds.now }
-    requires chains { AreChainsOf core.now chains.now }
-    requires patterns { All (IsPatternOf core.now holds.now) patterns.now }
-    ensures { IfOk result (λ text. IsTestText core.now holds.now chains.now patterns.now text.items) }
-{
-    let file = stil_of(alloc, core, chains, patterns, holds)?;
-    file.sound();
-    write_stil(alloc, &file).map_err(|_| NoMemory)
 }
 
 /// What the report says of these verdicts.
@@ -119,6 +95,108 @@ fn said_of(
     )
 }
 
+/// What the report says, and how often each fault is detected, where that is counted.
+fn counted_and_said(
+    alloc: Global,
+    core: &Core,
+    plan: RunPlan,
+    holds: &Holds,
+    chains: &Chains,
+    subject: &Subject,
+    asked: &[bool],
+    scanned: &Netlist,
+    found: &Finished,
+) -> Result<Report, NoMemory>
+    requires design { IsDesign core.now }
+    requires times { 1 ≤ plan.times }
+    requires held { AreHoldsOf core.now holds.now }
+    requires chains { AreChainsOf core.now chains.now }
+    requires scanned { scanned.now ≡ scanned_of core.now chains.now }
+    requires subject { IsSubjectOf core.now subject.now }
+    requires asked { length asked.now ≡ length (universe_of core.now) }
+    requires verdicts { AreVerdicts core.now holds.now subject.now.classes.representatives plan.limit found.now.patterns.items found.now.verdicts.items }
+    requires few { length found.now.patterns.items < 2 ^ 32 }
+    ensures said { IfOk result (IsSaid core.now chains.now holds.now subject.now.classes plan.limit asked.now found.now.patterns.items found.now.verdicts.items) }
+    ensures counted { IfOk result (λ said. AreTimes core.now found.now.patterns.items plan.times said.times) }
+{
+    let times = times_said(alloc, core, subject, &found.patterns, plan.times)?;
+    said_of(
+        alloc,
+        core.netlist(),
+        scanned,
+        chains,
+        subject,
+        asked,
+        found,
+        plan.limit,
+        holds,
+        times,
+    )
+}
+
+/// The report's text beside the others.
+fn with_report(
+    alloc: Global,
+    netlists: NetlistTexts,
+    test: TestTexts,
+    said: Report,
+) -> Result<RunFiles, NoMemory>
+    ensures { IfOk result (IsMadeOf netlists.net.items netlists.scan.items test.stil.items test.certificate.items said) }
+{
+    said.sound();
+    let report = write_report(alloc, &said)?;
+    Ok(RunFiles {
+        net: netlists.net,
+        scan: netlists.scan,
+        stil: test.stil,
+        certificate: test.certificate,
+        report,
+        said,
+    })
+}
+
+/// The texts of these verdicts and patterns, where the netlist has been scanned.
+fn texts_beside(
+    alloc: Global,
+    core: &Core,
+    plan: RunPlan,
+    holds: &Holds,
+    chains: &Chains,
+    subject: &Subject,
+    asked: &[bool],
+    scanned: &Netlist,
+    found: Finished,
+) -> Result<RunFiles, NoMemory>
+    requires design { IsDesign core.now }
+    requires some { 1 ≤ plan.chains }
+    requires times { 1 ≤ plan.times }
+    requires held { AreHoldsOf core.now holds.now }
+    requires chains { chains.now ≡ design_chains core.now plan.chains }
+    requires subject { IsSubjectOf core.now subject.now }
+    requires asked { length asked.now ≡ length (universe_of core.now) }
+    requires scanned { scanned.now ≡ scanned_of core.now chains.now }
+    requires verdicts { AreVerdicts core.now holds.now subject.now.classes.representatives plan.limit found.patterns.items found.verdicts.items }
+    requires few { length found.patterns.items < 2 ^ 32 }
+    ensures { IfOk result (IsWritten core.now holds.now (design_chains core.now plan.chains) subject.now.classes plan.limit plan.times asked.now found.patterns.items found.verdicts.items) }
+{
+    let netlist = core.netlist();
+    netlist.sound();
+    faults_have_signals();
+    let said = counted_and_said(
+        alloc, core, plan, holds, chains, subject, asked, scanned, &found,
+    )?;
+    let netlists = netlist_texts(alloc, netlist, scanned)?;
+    let test = test_texts(
+        alloc,
+        core,
+        chains,
+        holds,
+        subject.classes.representatives(),
+        found,
+    )?;
+    with_report(alloc, netlists, test, said)
+}
+
 /// The texts of these verdicts and patterns.
 fn texts_of(
     alloc: Global,
@@ -143,37 +221,18 @@ fn texts_of(
 {
     let netlist = core.netlist();
     netlist.sound();
-    faults_have_signals();
     let scanned = insert(alloc, netlist, chains)?;
-    let times = times_said(alloc, core, subject, &found.patterns, plan.times)?;
-    let said = said_of(
+    texts_beside(
         alloc,
-        netlist,
-        scanned.netlist(),
+        core,
+        plan,
+        holds,
         chains,
         subject,
         asked,
-        &found,
-        plan.limit,
-        holds,
-        times,
-    )?;
-    said.sound();
-    let Finished { patterns, verdicts } = found;
-    let stil = stil_text(alloc, core, chains, patterns.as_slice(), holds)?;
-    let leaves = leaves_of(alloc, subject.classes.representatives(), verdicts)?;
-    let certificate = write_evidence(alloc, core, leaves.as_slice())?;
-    let net = write(alloc, netlist)?;
-    let scan = write(alloc, scanned.netlist())?;
-    let report = write_report(alloc, &said)?;
-    Ok(RunFiles {
-        net,
-        scan,
-        stil,
-        certificate,
-        report,
-        said,
-    })
+        scanned.netlist(),
+        found,
+    )
 }
 
 /// Makes the five files of a design: workers search and compact, and all texts are written. Whatever the number of workers and the

@@ -26,6 +26,7 @@ mod searching;
 mod spreading;
 mod stitching;
 mod telling;
+mod texts;
 mod truth;
 
 pub use asked::{RunPlan, Wanted};

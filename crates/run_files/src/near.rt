@@ -27,8 +27,9 @@ use worker::last_tells_beside;
 /// So many are tried for a fault: they are simulated at once.
 const TRIED: u32 = 64;
 
-/// The stream of the seed that places are drawn from: 0 and 1 are those of bits that cubes leave open.
-const STREAM: u64 = 2;
+/// The stream of the words by which places are drawn, apart from those of workers, one by the number of each and one more, and of the rounds that make
+/// patterns fewer.
+const STREAM: u64 = (1 << 32) + 1;
 
 /// Two places of a pattern, or one twice. The inputs' stand before the cells'.
 #[derive(Clone, Copy)]

@@ -12,7 +12,7 @@ use Rattle.statement.specs.Tests.{IsFileOf}
 use Rattle.fault_collapse.specs.Numbers.{Classes}
 use Rattle.evidence.specs.declared.kinds.Evidence.{Evidence}
 use Rattle.certificate.specs.Certificates.{HasSmallNumbers, certificate_text}
-use Rattle.report.specs.Reports.{IsReport}
+use Rattle.report.specs.Reports.{IsReport, Report}
 use Rattle.report.specs.Texts.{report_text}
 use Rattle.list_core.specs.declared.verdicts.Verdict.{Verdict}
 use Rattle.run_files.specs.declared.files.RunFiles.{RunFiles}
@@ -37,3 +37,13 @@ pub record IsWritten (n : Netlist) (holds : Holds) (chains : List (List ℕ)) (c
   pub is_report : IsReport made.said
   pub said : IsSaid n chains holds classes limit marks patterns verdicts made.said
   pub counted : AreTimes n patterns times made.said.times
+
+-- these four texts, and that of the report beside them
+pub record IsMadeOf (of_netlist of_scanned of_test of_leaves : List ℕ) (report : Report) (made : RunFiles) : Type 0 where
+  pub net : made.net.items ≡ of_netlist
+  pub scan : made.scan.items ≡ of_scanned
+  pub stil : made.stil.items ≡ of_test
+  pub certificate : made.certificate.items ≡ of_leaves
+  pub text : made.report.items ≡ report_text report
+  pub is_report : IsReport report
+  pub said : made.said ≡ report

@@ -1,0 +1,112 @@
+//! The texts of a run beside its report. Each function has one text or two at hand where the next one fails, so that little has to be let go there.
+ghost use Rattle.std.specs.Prelude.{◌≡◌, ◌≤◌, IfOk, length};
+ghost use Rattle.std.specs.List.{All};
+ghost use Rattle.statement.specs.declared.lines.Fault.{Fault};
+ghost use Rattle.statement.specs.Benches.{canonical};
+ghost use Rattle.netlist.specs.Designs.{IsDesign};
+ghost use Rattle.cubes.specs.Cubes.{IsPatternOf};
+ghost use Rattle.netlist.specs.Holds.{AreHoldsOf};
+ghost use Rattle.scan_insert.specs.Scanned.{AreChainsOf};
+ghost use Rattle.evidence.specs.declared.kinds.Evidence.{Evidence};
+ghost use Rattle.certificate.specs.Certificates.{HasSmallNumbers, IsNamed, certificate_text};
+ghost use Rattle.run_files.specs.inner.Verdicts.{leaves_of};
+ghost use Rattle.run_files.specs.inner.Written.{IsTestText};
+
+use crate::leaves::leaves_of;
+use bench_text::write;
+use certificate::write_evidence;
+use cubes::Pattern;
+use list_core::{Finished, Verdict};
+use netlist::{Core, Fault, Holds, Netlist, NoMemory};
+use scan_insert::Chains;
+use std::alloc::Global;
+use stil_patterns::stil_of;
+use stil_write::write_stil;
+
+/// A netlist and what scan insertion makes of it, as texts.
+#[derive(Drop)]
+pub(crate) struct NetlistTexts {
+    pub net: Vec<u8>,
+    pub scan: Vec<u8>,
+}
+
+/// A test and its certificate, as texts.
+#[derive(Drop)]
+pub(crate) struct TestTexts {
+    pub stil: Vec<u8>,
+    pub certificate: Vec<u8>,
+}
+
+/// The texts of a netlist and of the scanned one.
+pub(crate) fn netlist_texts(
+    alloc: Global,
+    netlist: &Netlist,
+    scanned: &Netlist,
+) -> Result<NetlistTexts, NoMemory>
+    ensures net { IfOk result (λ texts. texts.net.items ≡ canonical netlist.now) }
+    ensures scan { IfOk result (λ texts. texts.scan.items ≡ canonical scanned.now) }
+{
+    let net = write(alloc, netlist)?;
+    let scan = write(alloc, scanned)?;
+    Ok(NetlistTexts { net, scan })
+}
+
+/// The test of these patterns as text.
+fn stil_text(
+    alloc: Global,
+    core: &Core,
+    chains: &Chains,
+    patterns: &[Pattern],
+    holds: &Holds,
+) -> Result<Vec<u8>, NoMemory>
+    requires design { IsDesign core.now }
+    requires holds { AreHoldsOf core.now holds.now }
+    requires chains { AreChainsOf core.now chains.now }
+    requires patterns { All (IsPatternOf core.now holds.now) patterns.now }
+    ensures { IfOk result (λ text. IsTestText core.now holds.now chains.now patterns.now text.items) }
+{
+    let file = stil_of(alloc, core, chains, patterns, holds)?;
+    file.sound();
+    write_stil(alloc, &file).map_err(|_| NoMemory)
+}
+
+/// The certificate of these verdicts, one for each representative.
+fn text_of_leaves(
+    alloc: Global,
+    core: &Core,
+    representatives: &[Fault],
+    verdicts: Vec<Verdict>,
+) -> Result<Vec<u8>, NoMemory>
+    requires size { length verdicts.items ≤ length representatives.now }
+    requires named { All (IsNamed core.now) (leaves_of representatives.now verdicts.items) }
+    ensures text { IfOk result (λ text. text.items ≡ certificate_text core.now (leaves_of representatives.now verdicts.items)) }
+    ensures within { IfOk result (λ text. All (λ (p : Fault × Evidence). HasSmallNumbers p.1) (leaves_of representatives.now verdicts.items)) }
+{
+    let leaves = leaves_of(alloc, representatives, verdicts)?;
+    write_evidence(alloc, core, leaves.as_slice())
+}
+
+/// The texts of patterns and verdicts, one for each representative.
+pub(crate) fn test_texts(
+    alloc: Global,
+    core: &Core,
+    chains: &Chains,
+    holds: &Holds,
+    representatives: &[Fault],
+    found: Finished,
+) -> Result<TestTexts, NoMemory>
+    requires design { IsDesign core.now }
+    requires held { AreHoldsOf core.now holds.now }
+    requires chains { AreChainsOf core.now chains.now }
+    requires obey { All (IsPatternOf core.now holds.now) found.patterns.items }
+    requires size { length found.verdicts.items ≤ length representatives.now }
+    requires named { All (IsNamed core.now) (leaves_of representatives.now found.verdicts.items) }
+    ensures stil { IfOk result (λ texts. IsTestText core.now holds.now chains.now found.patterns.items texts.stil.items) }
+    ensures certificate { IfOk result (λ texts. texts.certificate.items ≡ certificate_text core.now (leaves_of representatives.now found.verdicts.items)) }
+    ensures within { IfOk result (λ texts. All (λ (p : Fault × Evidence). HasSmallNumbers p.1) (leaves_of representatives.now found.verdicts.items)) }
+{
+    let Finished { patterns, verdicts } = found;
+    let stil = stil_text(alloc, core, chains, patterns.as_slice(), holds)?;
+    let certificate = text_of_leaves(alloc, core, representatives, verdicts)?;
+    Ok(TestTexts { stil, certificate })
+}
