@@ -3,10 +3,14 @@
 
     bench/oracle/plain_transition.py PREFIX     tries all that the five files of `atpg transition` say: PREFIX.net, .scan, .stil, .cert and .rep
     bench/oracle/plain_transition.py --all NET  counts by all patterns how many transition faults there are tests for
+    bench/oracle/plain_transition.py --check PREFIX     prints the line that `check` has to print, and ends with its status
+    bench/oracle/plain_transition.py --make NET PREFIX [--chains C] [--limit L] [--patterns N] [--seed S] [--refute]
+                                                makes five good files, as bench/oracle/plain_check.py does for stuck lines
 
 It prints how many faults there are, or the first thing that is false, and ends with 1. It plays the test with each slow line from some power-up
 states (all of up to three cells), and tries all patterns where there are up to 17 inputs and cells.
 """
+import argparse
 import itertools
 import pathlib
 import random
@@ -185,16 +189,21 @@ def stil_of(netlist, chains, patterns):
 
 def patterns_of(tokens, netlist, chains):
     """Patterns whose file has these tokens; None where there are none such. It takes candidates and compares the whole text."""
-    start = tokens.index(b"Pattern")
+    start = tokens.index(b"Pattern") if b"Pattern" in tokens else len(tokens)
     pi = plain_check.words_after(tokens[start:], b"SC__pi")
     loads = [plain_check.words_after(tokens[start:], f"SC__si{c}".encode()) for c in range(len(chains))]
     patterns = []
-    for p, word in enumerate(pi[::2]):
-        pattern = dict(zip(netlist.inputs, map(int, word)))
-        for chain, words in zip(chains, loads):
-            # three flush loads, then for each pattern its load and two vectors
-            pattern |= {cell: int(bit) for cell, bit in zip(chain, words[3 + 3 * p][::-1])}
-        patterns.append(pattern)
+    try:
+        for p, word in enumerate(pi[::2]):
+            pattern = dict(zip(netlist.inputs, map(int, word)))
+            for chain, words in zip(chains, loads):
+                # three flush loads, then for each pattern its load and two vectors
+                pattern |= {cell: int(bit) for cell, bit in zip(chain, words[3 + 3 * p][::-1])}
+            patterns.append(pattern)
+    except (IndexError, ValueError):
+        return None
+    if any(pattern.get(name) not in (0, 1) for pattern in patterns for name in netlist.inputs + netlist.cells):
+        return None
     return patterns if plain.stil_tokens(stil_of(netlist, chains, patterns)) == tokens else None
 
 
@@ -293,6 +302,11 @@ def kept(netlist, chains, patterns):
 def report_of(situation, limit):
     """The report's text, where each fault that isn't detected is redundant."""
     said = [(fault_text(fault), situation.detected(last) if last else ("redundant",)) for fault, last in zip(situation.faults, situation.last)]
+    return text_of(situation, limit, said)
+
+
+def text_of(situation, limit, said):
+    """The report's text, where this is said of the faults."""
     head = situation.head(said, limit)
     lines = ["atpg transition 1"] + [f"{word} {head[word]}" for word in plain_check.COUNTS]
     lines += [f"{word} {plain_check.percent(head[word])}" for word in ("coverage", "efficiency")]
@@ -309,6 +323,99 @@ def read_report(text):
     head, _, said = plain_check.read_report("\n".join(["atpg report 1"] + lines[1:17] + stuck).encode("latin-1"))
     texts = [FAULT.match(line)[0].rstrip() for line in lines[17:-1]]
     return head, [(text, verdict) for text, (_, verdict) in zip(texts, said)]
+
+
+def is_slow(text):
+    """Whether a report is one of slow lines."""
+    return text.startswith(b"atpg transition 1\n")
+
+
+def read_certificate(text, netlist):
+    """Pairs of a slow line's text and its evidence. The signals of the two frames have the same names for each."""
+    first, *lines = text.decode("latin-1").split("\n")
+    if first not in FIRST or lines[-1:] != [""]:
+        raise NotText
+    faults = plain.universe(netlist)
+    texts, names = {fault_text(fault) for fault in faults}, set(frames(netlist, faults[0])[0].signals)
+    evidence = []
+    for line in lines[:-1]:
+        words = line.split(" ")
+        place = 4 if words[0] == "pin" else 3
+        fault = " ".join(words[:place])
+        if fault not in texts:
+            raise NotText
+        evidence.append((fault, plain_check.evidence_of(line, place, words, names)))
+    if first != FIRST[any(kind == "refutation" for _, (kind, _) in evidence)]:
+        raise NotText
+    return evidence
+
+
+def false_fault(situation, said, evidence, limit):
+    """The first slow line of which the report's line is missing, another's or false."""
+    by_fault = {}
+    for fault, told in evidence:
+        by_fault.setdefault(fault, told)
+    for k, fault in enumerate(situation.faults):
+        text = fault_text(fault)
+        if k >= len(said):
+            return text
+        if said[k][0] != text:
+            return said[k][0]
+        verdict, last = said[k][1], situation.last[k]
+        if verdict[0] == "unasked":
+            return text
+        if verdict[0] == "detected":
+            if last is None or verdict != situation.detected(last):
+                return text
+            continue
+        told = by_fault.get(text)
+        counts = told and plain_check.ends_of(*frames(situation.netlist, fault), told, {})
+        wanted = counts is not None and (counts[1] == 0 if verdict[0] == "redundant" else counts[0] == limit and counts[1] > 0)
+        if last is not None or not wanted:
+            return text
+    return None
+
+
+def further_fault(situation, said, evidence):
+    """A further line of the report, or the first line of the certificate that isn't that of the next slow line that is redundant or aborted."""
+    if len(said) > len(situation.faults):
+        return said[len(situation.faults)][0]
+    left = [fault for fault, verdict in said if verdict[0] in ("redundant", "aborted")]
+    return next((fault for k, (fault, _) in enumerate(evidence) if k >= len(left) or left[k] != fault), None)
+
+
+def check(files):
+    """The status and the line: on standard output where it is 0 or 1, else on standard error."""
+    try:
+        netlist = plain.read(files["net"])
+    except plain.Refusal as refusal:
+        return 3, str(refusal)
+    if not is_stil(files["stil"]):
+        return 4, "not a stil file"
+    try:
+        evidence = read_certificate(files["cert"], netlist)
+    except NotText:
+        return 4, "not a certificate"
+    try:
+        head, said = read_report(files["rep"])
+    except (NotText, False_):
+        return 4, "not a report"
+    asked = head["chains"]
+    if (asked == 0 and netlist.cells) or asked >= 2 ** 32:
+        return 1, "scan differs"
+    chains = plain.chains_of(netlist.cells, asked)
+    if files["scan"] != plain.canonical(plain.scanned(netlist, chains)):
+        return 1, "scan differs"
+    patterns = patterns_of(plain.stil_tokens(files["stil"]), netlist, chains)
+    if patterns is None:
+        return 1, "stil differs"
+    situation = SlowLines(netlist, chains, patterns)
+    false = false_fault(situation, said, evidence, head["limit"]) or further_fault(situation, said, evidence)
+    if false is not None:
+        return 1, f"fault {false}"
+    if head != situation.head(said, head["limit"]) or not 1 <= head["limit"] <= plain_check.MOST_LIMIT:
+        return 1, "totals differ"
+    return 0, f"checked {len(situation.faults)} faults"
 
 
 def try_evidence(text, situation, said, limit):
@@ -367,15 +474,62 @@ def try_files(files):
     return len(said)
 
 
+def make(netlist, chains, limit, count, seed, refutes=False):
+    """Five texts: drawn patterns of which those are left out that are no last detector; trees split inputs and cells in order, or redundant slow lines
+    have refutations by the same cases."""
+    rng = random.Random(seed)
+    drawn = [{name: rng.randrange(2) for name in netlist.inputs + netlist.cells} for _ in range(count)]
+    situation = kept(netlist, chains, drawn)
+    said, lines, kinds = [], [], set()
+    for fault, last in zip(situation.faults, situation.last):
+        if last:
+            said.append((fault_text(fault), situation.detected(last)))
+            continue
+        two, stuck = frames(netlist, fault)
+        nodes = plain_check.tree_of(two, stuck, limit, {})
+        if nodes is None:
+            sys.exit(f"plain_transition: no tree of {fault_text(fault)} with this limit")
+        if "?" in nodes and nodes.count("!") < limit:
+            sys.exit(f"plain_transition: drawn patterns leave {fault_text(fault)}, which can be detected")
+        end = "aborted" if "?" in nodes else "redundant"
+        refuted = refutes and end == "redundant"
+        kinds.add(refuted)
+        lines.append(" ".join([fault_text(fault), *(["R", *plain_check.cases_of(two, stuck, {})] if refuted else nodes)]))
+        said.append((fault_text(fault), (end,)))
+    certificate = "".join(line + "\n" for line in [FIRST[True in kinds], *lines])
+    return {"net": plain.canonical(netlist), "scan": plain.canonical(plain.scanned(netlist, chains)), "stil": stil_of(netlist, chains, situation.patterns),
+            "cert": certificate.encode(), "rep": text_of(situation, limit, said).encode()}
+
+
 def main():
-    *options, path = sys.argv[1:]
-    if options == ["--all"]:
-        tests = tests_of(plain.read(pathlib.Path(path).read_bytes()))
+    parser = argparse.ArgumentParser(description=__doc__, formatter_class=argparse.RawDescriptionHelpFormatter)
+    parser.add_argument("path", type=pathlib.Path)
+    parser.add_argument("--all", action="store_true")
+    parser.add_argument("--check", action="store_true")
+    parser.add_argument("--make", type=pathlib.Path, metavar="NET")
+    parser.add_argument("--chains", type=int, default=1)
+    parser.add_argument("--limit", type=int, default=100)
+    parser.add_argument("--patterns", type=int, default=64)
+    parser.add_argument("--seed", type=int, default=1)
+    parser.add_argument("--refute", action="store_true")
+    asked = parser.parse_args()
+    if asked.all:
+        tests = tests_of(plain.read(asked.path.read_bytes()))
         detected = sum(bool(each) for each in tests)
         print(f"faults {len(tests)} detected {detected} redundant {len(tests) - detected}")
         return
+    if asked.make:
+        netlist = plain.read(asked.make.read_bytes())
+        files = make(netlist, plain.chains_of(netlist.cells, asked.chains), asked.limit, asked.patterns, asked.seed, asked.refute)
+        for end, text in files.items():
+            plain_check.path_of(asked.path, end).write_bytes(text)
+        return
+    if asked.check:
+        status, line = check(plain_check.read_files(asked.path))
+        print(line, file=sys.stdout if status < 2 else sys.stderr)
+        sys.exit(status)
     try:
-        print(f"tried {try_files(plain_check.read_files(pathlib.Path(path)))} faults")
+        print(f"tried {try_files(plain_check.read_files(asked.path))} faults")
     except (False_, NotText, plain.Refusal) as what:
         sys.exit(f"false: {what or 'a text outside its grammar'}")
 
