@@ -66,8 +66,7 @@ fn items_of<'a>(alloc: Global, list: &'a str) -> Result<Vec<Held<'a>>, NoRequest
     ensures { AreHeld (holds_of (slice_split (λ b. b == 44) list.now)) result }
 {
     let mut holds = Vec::new(alloc);
-    let mut rest = list;
-    while let Some((item, more)) = rest.split_once(',') {
+    for item in list.split(',') {
         let Some(hold) = hold_in(item) else {
             return Err(NoRequest::BadHold);
         };
@@ -75,15 +74,8 @@ fn items_of<'a>(alloc: Global, list: &'a str) -> Result<Vec<Held<'a>>, NoRequest
             Ok(()) => {}
             Err(_) => return Err(NoRequest::NoMemory),
         }
-        rest = more;
     }
-    let Some(hold) = hold_in(rest) else {
-        return Err(NoRequest::BadHold);
-    };
-    match holds.push(hold) {
-        Ok(()) => Ok(holds),
-        Err(_) => Err(NoRequest::NoMemory),
-    }
+    Ok(holds)
 }
 
 // Whether no name stands twice.
