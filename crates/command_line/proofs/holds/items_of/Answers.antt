@@ -23,7 +23,7 @@ loop-item-preserved c =
     let held = map hold_of c.loop-item.holds.items in
     let pushed = ap (map hold_of) c.in-Ok.ensures.items ∙ map_push hold_of c.loop-item.holds.items c.in-Some-hold_in.hold in
     rw (pushed, length_push c.loop-item.yielded c.in-Some.item) (
-      one_more _ held _ _ _ (hold_of c.in-Some-hold_in.hold) c.loop-item.invariant (cut_here _ (length c.loop-item.yielded) c.in-Some.item.now at) c.in-Some-hold_in.ensures
+    one_more _ held _ _ _ (hold_of c.in-Some-hold_in.hold) c.loop-item.invariant (cut_here _ (length c.loop-item.yielded) c.in-Some.item.now at) c.in-Some-hold_in.ensures
     )
 
 pub returns : goal.returns
