@@ -78,11 +78,11 @@ fn items_of<'a>(alloc: Global, list: &'a str) -> Result<Vec<Held<'a>>, NoRequest
     Ok(holds)
 }
 
-// Whether no name stands twice.
-fn are_distinct(alloc: Global, holds: &[Held<'_>]) -> Result<bool, AllocError>
-    ensures { IfOk result (λ yes. yes ≡ are_new [] (map (λ h. h.0) (map hold_of holds.now))) }
+// Whether no name stands twice, or among those seen, which take it. The set is lent: where it is
+// let go, each of its lists is.
+fn are_new<'a>(seen: &mut IndexSet<&'a str>, holds: &[Held<'a>]) -> Result<bool, AllocError>
+    ensures { IfOk result (λ yes. yes ≡ are_new (map (λ t. t.now) seen.old.keys) (map (λ h. h.0) (map hold_of holds.now))) }
 {
-    let mut seen = IndexSet::with_capacity(alloc, holds.len())?;
     for hold in holds {
         let (_, added) = seen.insert_full(hold.name)?;
         if !added {
@@ -90,6 +90,13 @@ fn are_distinct(alloc: Global, holds: &[Held<'_>]) -> Result<bool, AllocError>
         }
     }
     Ok(true)
+}
+
+fn are_distinct(alloc: Global, holds: &[Held<'_>]) -> Result<bool, AllocError>
+    ensures { IfOk result (λ yes. yes ≡ are_new [] (map (λ h. h.0) (map hold_of holds.now))) }
+{
+    let mut seen = IndexSet::with_capacity(alloc, holds.len())?;
+    are_new(&mut seen, holds)
 }
 
 pub(crate) fn holds_in<'a>(alloc: Global, list: &'a str) -> Result<Vec<Held<'a>>, NoRequest>
