@@ -1,12 +1,16 @@
 -- The list of held inputs, item by item.
 use denote.Ref.{Bor}
-use Rattle.std.proofs.Common.{◌≡◌, ℕ, suc, ◌+◌, ◌<◌, Bool, true, false, List, [], ◌∷◌, ◌++◌, drop, map, length, Option, Some, None, refl, sym, ap, ◌∙◌, add-one, append_assoc, drop-cons, get_or, option_map, lit<}
+use Rattle.std.proofs.Common.{◌≡◌, ℕ, suc, ◌+◌, ◌<◌, ◌≤◌, Bool, true, false, List, [], ◌∷◌, ◌++◌, drop, map, length, Option, Some, None, refl, sym, ap, ◌∙◌, add-one, append-nil, append_assoc, drop-cons, drop_of_length-le, get_or, option_map, lit<}
 use Rattle.std.specs.Prelude.{◌==◌, ◌&&◌, ◌||◌, not, if◌then◌else◌}
 use Rattle.std.specs.List.{list_any, slice_split}
 use Rattle.std.specs.Str.{bytes_eq}
-use Rattle.std.proofs.lemmas.List.{map_push}
-use Rattle.std.proofs.lemmas.Str.Pattern.{IsSplitOnceResult, split_parts}
-use Rattle.clap.proofs.CutLemmas.{slice_split-Lacks, slice_split-at}
+use Rattle.std.proofs.lemmas.Iterator.{YieldsList}
+use Rattle.std.proofs.lemmas.Iterator.Consumers.{YieldsList-at}
+use Rattle.std.proofs.lemmas.Iterator.Splits.{YieldsList-from_str_split}
+use Rattle.std.proofs.lemmas.List.{at_drop_more, map_push}
+use Rattle.std.specs.declared.str.Split.{Split}
+use Rattle.std.specs.Str.Iter.{split_has_more, split_pattern, split_steps, split_text}
+use Rattle.std.specs.Str.Pattern.{FindsChar}
 use Rattle.clap.specs.Words.{Text}
 use Rattle.command_line.specs.CommandLine.{hold_of}
 use Rattle.command_line.specs.declared.holds.Held.{Held}
@@ -41,16 +45,21 @@ not_true : (b : Bool) → not b ≡ true → b ≡ false
 not_true true e = cc
 not_true false e = refl
 
--- a comma is there: the first item and the others
-pub split_at_comma : (text : Text) (item more : Bor Text) → IsSplitOnceResult 44 text (Some (item, more))
-    → (slice_split (λ b. b == 44) text ≡ item.now ∷ slice_split (λ b. b == 44) more.now)
-split_at_comma text item more is =
-    let parts = split_parts 44 text (Some (item, more)) is (lit< tt) in
-    ap (slice_split (λ b. b == 44)) parts.0 ∙ slice_split-at 44 item.now more.now parts.1
+-- the parts of a text between commas
+pub YieldsItems : {s t : Split ℕ} (text : Text) → t ≡ s → split_text s ≡ text → split_has_more s ≡ true → split_pattern s ≡ 44
+    → YieldsList (split_steps FindsChar (λ a b. b ≡ a)) (λ x. x.now) t (slice_split (λ b. b == 44) text)
+YieldsItems text same is more pattern = YieldsList-at same (YieldsList-from_str_split 44 text (lit< tt) is more pattern)
 
--- none is there: one item
-pub one_item : (text : Text) → IsSplitOnceResult 44 text None → slice_split (λ b. b == 44) text ≡ text ∷ []
-one_item text is = slice_split-Lacks 44 text (split_parts 44 text None is (lit< tt))
+-- the item at a place, and those behind it
+pub cut_here : (items : List Text) (n : ℕ) (item : Text) → (n < length items) × (item ≡ get_or items n item) → drop n items ≡ item ∷ drop (n + 1) items
+cut_here items n item at = at_drop_more (λ ts. ts) items n item at.0 ∙ ap (λ (t : Text). t ∷ drop (n + 1) items) (sym at.1)
+
+pub none_done : (holds : Option (List HoldItem)) → holds ≡ after [] holds
+none_done None = refl
+none_done (Some hs) = refl
+
+pub all_done : (all : Option (List HoldItem)) (done : List HoldItem) (items : List Text) (n : ℕ) → all ≡ after done (holds_of (drop n items)) → length items ≤ n → all ≡ Some done
+all_done all done items n e past = e ∙ ap (λ (ts : List Text). after done (holds_of ts)) (drop_of_length-le items past) ∙ ap Some (append-nil done)
 
 abbrev pub names : List Held → List Text
 names holds = map (λ h. h.0) (map hold_of holds)

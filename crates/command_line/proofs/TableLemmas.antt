@@ -1,10 +1,7 @@
 -- The table is made as it is written, and is one of which `clap`'s rule speaks.
-use Rattle.std.proofs.Common.{◌≡◌, ◌<◌, ◌+◌, ℕ, Bool, Bor, List, [], ◌∷◌, ◌++◌, Option, Some, Result, Ok, Err, IfOk, ap, ap₂, sym, ◌∙◌, true, false, refl, length, get_or, take, map, append_assoc, append-nil}
+use Rattle.std.proofs.Common.{◌≡◌, ◌<◌, ◌≤◌, ◌+◌, ℕ, Bool, Bor, List, [], ◌∷◌, ◌++◌, Option, Some, Result, Ok, Err, IfOk, ap, ap₂, sym, ◌∙◌, true, false, refl, length, get_or, drop, drop_of_length-le, take, map, append_assoc, append-nil}
 use Rattle.std.specs.Prelude.{◌||◌}
-use Rattle.std.proofs.lemmas.List.{map_push, take_more}
-use Rattle.std.specs.Option.{option_zip}
-use Rattle.std.specs.Result.{result_ok}
-use Rattle.std.proofs.lemmas.Option.{same_Some}
+use Rattle.std.proofs.lemmas.List.{at_drop_more, map_push, take_more}
 use Rattle.std.proofs.lemmas.Result.{IfOk-weaker}
 use Rattle.clap.specs.Words.{AddsArg, AddsSubcommand, App, Rule, Shape, Text, app_of, is_simple, new_app, rule_of, with_rule, with_subcommand}
 use Rattle.clap.specs.Faults.{is_simple_and_free}
@@ -14,8 +11,9 @@ use Rattle.clap.specs.declared.builder.command.Command.{Command}
 use Rattle.clap.specs.declared.builder.command.Command.TheOpen.{Command-F}
 use Rattle.clap.specs.declared.builder.command.Command.TheViews.{out-Command as fields_of}
 use Rattle.command_line.specs.declared.clap_table.Argument.{Argument}
-use Rattle.command_line.specs.Table.{command, command_table}
-use Rattle.command_line.specs.inner.Arguments.{Adds, Grows, IsShaped, asked_by, with_rules}
+use Rattle.command_line.specs.declared.clap_table.Listed.{Listed}
+use Rattle.command_line.specs.Table.{command, command_table, program}
+use Rattle.command_line.specs.inner.Arguments.{Adds, Grows, IsShaped, asked_by, command_shapes, shape_by, with_rules, with_subcommands}
 
 -- ---- a setting changes one field of many. The fields are a variable here: compared as a command's own, each one that differs would be unfolded first
 
@@ -105,25 +103,36 @@ shaped name rules more c r is grows =
 
 -- ---- the table grows by one command after the other
 
-both : {E : Type 0} (t c : Result Command E) (table command : Command) → option_zip (result_ok t) (result_ok c) ≡ Some (table, command) → (t ≡ Ok table) × (c ≡ Ok command)
-both (Ok x) (Ok y) table command are = let same = same_Some (x, y) (table, command) are in (ap Ok (ap (λ p. p.0) same), ap Ok (ap (λ p. p.1) same))
-both (Ok x) (Err f) table command are = cc
-both (Err e) c table command are = cc
+pub adds : {E : Type 0} (table command : Command) (c r : Result Command E) → c ≡ Ok command → IfOk r (AddsSubcommand table command) → Adds table c r
+adds table command c r is added = record {
+  app = λ shape here.
+      let sub : IsShaped shape command = rw is at here in
+      IfOk-weaker r (AddsSubcommand table command) (λ k. app_of k ≡ with_subcommand (app_of table) shape) (λ k g. g.shape sub.local ∙ ap (with_subcommand (app_of table)) sub.shape) added;
+}
 
-pub adds : {E : Type 0} (table command : Command) (t c r : Result Command E) → option_zip (result_ok t) (result_ok c) ≡ Some (table, command)
-    → IfOk r (AddsSubcommand table command) → Adds t c r
-adds table command t c r are added =
-    let is_table : t ≡ Ok table = (both t c table command are).0 in
-    let is_command : c ≡ Ok command = (both t c table command are).1 in
-    record {
-      app = λ before shape made here.
-          let app : app_of table ≡ before = rw is_table at made in
-          let sub : IsShaped shape command = rw is_command at here in
-          IfOk-weaker r (AddsSubcommand table command) (λ k. app_of k ≡ with_subcommand before shape) (λ k g. g.shape sub.local ∙ ap₂ with_subcommand app sub.shape) added;
-    }
+pub adds_none : {E : Type 0} (table : Command) (c : Result Command E) (e : E) → Adds table c (Err e)
+adds_none table c e = record { app = λ shape here. tt }
 
-pub adds_none : {E : Type 0} (t c : Result Command E) (e : E) → Adds t c (Err e)
-adds_none t c e = record { app = λ before shape made here. tt }
+-- with the commands from a place on, it is the whole
+pub record IsSoFar (commands : List Listed) (i : ℕ) (all app : App) : Type 0 where
+  pub rest : with_subcommands app (map shape_by (drop i commands)) ≡ all
+
+pub begun_table : (commands : List Listed) (app : App) → app ≡ program → IsSoFar commands 0 (with_subcommands program (map shape_by commands)) app
+begun_table commands app is = record { rest = ap (λ (a : App). with_subcommands a (map shape_by commands)) is }
+
+pub one_added : (commands : List Listed) (i : ℕ) (none : Listed) (all before after : App) → i < length commands → IsSoFar commands i all before
+    → after ≡ with_subcommand before (shape_by (get_or commands i none)) → IsSoFar commands (i + 1) all after
+one_added commands i none all before after within so is = record {
+  rest = ap (λ (a : App). with_subcommands a (map shape_by (drop (i + 1) commands))) is
+      ∙ sym (at_drop_more (λ (ls : List Listed). with_subcommands before (map shape_by ls)) commands i none within) ∙ so.rest;
+}
+
+pub all_added : (commands : List Listed) (i : ℕ) (all app : App) → length commands ≤ i → IsSoFar commands i all app → app ≡ all
+all_added commands i all app past so = ap (λ (ls : List Listed). with_subcommands app (map shape_by ls)) (sym (drop_of_length-le commands past)) ∙ so.rest
+
+pub is_table : with_subcommands program command_shapes ≡ command_table
+unfolding command_table
+is_table = refl
 
 -- ---- what `clap`'s rule asks of it
 

@@ -2,24 +2,8 @@
 ghost use Rattle.std.specs.Prelude.{◌≡◌, ◌≤◌, IfOk, false, map};
 ghost use Rattle.clap.specs.Words.{app_of, rule_of};
 ghost use Rattle.clap.specs.declared.builder.command.Command.TheViews.{out-Command as fields_of};
-ghost use Rattle.command_line.specs.Table.{
-  chaintest_command,
-  check_command,
-  command,
-  command_table,
-  diagnose_command,
-  faults_command,
-  grade_command,
-  play_command,
-  program,
-  run_command,
-  run_rules,
-  scan_command,
-  search_rules,
-  sweep_command,
-  transition_command,
-};
-ghost use Rattle.command_line.specs.inner.Arguments.{Adds, Grows, IsShaped, asked_by};
+ghost use Rattle.command_line.specs.Table.{command_table, program};
+ghost use Rattle.command_line.specs.inner.Arguments.{Adds, Grows, IsShaped, asked_by, command_shapes, shape_by, with_subcommands};
 
 use crate::values::{MOST_PERCENT, MOST_ROUNDS, MOST_TIMES};
 use clap::builder::ValueParser;
@@ -41,6 +25,197 @@ enum Argument<'a> {
 }
 
 use Argument::{Number, Required, RequiredNumber, Text};
+
+/// A command of the table: its name, what it does, and its arguments.
+#[derive(Clone, Copy)]
+struct Listed<'a> {
+    name: &'a str,
+    about: &'a str,
+    arguments: &'a [Argument<'a>],
+}
+
+const NET: Argument<'static> = Required("NET", "The netlist, a .bench file");
+
+const STIL: Argument<'static> = Required("STIL", "The test, a STIL file");
+
+const RUN_PREFIX: Argument<'static> = Required(
+    "PREFIX",
+    "What the names of the five files begin with",
+);
+
+const CHAINS: Argument<'static> = Number(
+    "chains",
+    1,
+    MOST_CHAINS,
+    "How many chains at most, 1 to 256 [default: 1]",
+);
+
+const WORKERS: Argument<'static> = Number(
+    "workers",
+    1,
+    MOST_WORKERS,
+    "How many workers, 1 to 64 [default: 1]",
+);
+
+const LIMIT: Argument<'static> = Number(
+    "limit",
+    1,
+    MOST_LIMIT,
+    "The backtrack limit: how many ends a search may close, 1 to 100000 [default: 100]",
+);
+
+const SEED: Argument<'static> = Number(
+    "seed",
+    0,
+    u64::MAX,
+    "What free bits are drawn from [default: 1]",
+);
+
+const ENGINE: Argument<'static> = Text(
+    "engine",
+    "The search: podem, fan or clauses [default: podem]",
+);
+
+const THEN: Argument<'static> = Text("then", "What settles what podem or fan gives up: clauses");
+
+const SCAN: Listed<'static> = Listed {
+    name: "scan",
+    about: "Puts scan cells into a netlist",
+    arguments: &[
+        NET,
+        Required("OUT", "The file for the scanned netlist"),
+        CHAINS,
+    ],
+};
+
+const FAULTS: Listed<'static> = Listed {
+    name: "faults",
+    about: "Lists the faults of a netlist and their classes",
+    arguments: &[NET],
+};
+
+const RUN: Listed<'static> = Listed {
+    name: "run",
+    about: "Searches tests for the faults of a netlist",
+    arguments: &[
+        NET,
+        RUN_PREFIX,
+        CHAINS,
+        WORKERS,
+        LIMIT,
+        SEED,
+        ENGINE,
+        THEN,
+        Text("hold", "Inputs that are held, as NAME=0,NAME=1"),
+        Text("faults", "A file that lists the faults that are asked for"),
+        Number(
+            "coverage",
+            1,
+            MOST_PERCENT,
+            "Stop once so many in a hundred of the faults are detected",
+        ),
+        Text(
+            "with",
+            "A STIL file, or the prefix of one, whose patterns come first",
+        ),
+        Number(
+            "compact",
+            0,
+            MOST_ROUNDS,
+            "How many rounds make the patterns fewer, 0 to 100 [default: 3]",
+        ),
+        Number(
+            "detect",
+            1,
+            MOST_TIMES,
+            "How many patterns are to detect each fault, 1 to 100 [default: 1]",
+        ),
+    ],
+};
+
+const PLAY: Listed<'static> = Listed {
+    name: "play",
+    about: "Plays a test on a netlist",
+    arguments: &[
+        Required("NET", "The scanned netlist, a .bench file"),
+        STIL,
+        Text("fault", "A fault that the netlist has, as stem q/0"),
+    ],
+};
+
+const CHECK: Listed<'static> = Listed {
+    name: "check",
+    about: "Checks the files of a run",
+    arguments: &[RUN_PREFIX],
+};
+
+const SWEEP: Listed<'static> = Listed {
+    name: "sweep",
+    about: "Searches tests for a sample netlist and plays them",
+    arguments: &[
+        RequiredNumber(
+            "SEED",
+            0,
+            u64::MAX,
+            "What the netlist and free bits are drawn from",
+        ),
+        RequiredNumber(
+            "GATES",
+            FEWEST_GATES,
+            MOST_GATES,
+            "How many gates, 16 to 20000",
+        ),
+    ],
+};
+
+const CHAINTEST: Listed<'static> = Listed {
+    name: "chaintest",
+    about: "Says what a test shows of the faults in the scan hardware",
+    arguments: &[NET, STIL, CHAINS],
+};
+
+const DIAGNOSE: Listed<'static> = Listed {
+    name: "diagnose",
+    about: "Lists the faults that explain a tester's log",
+    arguments: &[
+        NET,
+        STIL,
+        Required("LOG", "What failed on the tester"),
+        CHAINS,
+        WORKERS,
+        Number(
+            "rank",
+            1,
+            u64::MAX,
+            "List so many faults that come nearest to the log",
+        ),
+    ],
+};
+
+const TRANSITION: Listed<'static> = Listed {
+    name: "transition",
+    about: "Searches tests for the slow lines of a netlist",
+    arguments: &[NET, RUN_PREFIX, CHAINS, WORKERS, LIMIT, SEED, ENGINE, THEN],
+};
+
+const GRADE: Listed<'static> = Listed {
+    name: "grade",
+    about: "Says which stuck lines a test detects",
+    arguments: &[
+        NET,
+        STIL,
+        Required("PREFIX", "What the name of the file of grades begins with"),
+        CHAINS,
+    ],
+};
+
+fn commands<'a>() -> [Listed<'a>; 10]
+    ensures { map shape_by result ≡ command_shapes }
+{
+    [
+        SCAN, FAULTS, RUN, PLAY, CHECK, SWEEP, CHAINTEST, DIAGNOSE, TRANSITION, GRADE,
+    ]
+}
 
 // The argument in the terms of `clap`.
 fn arg<'a>(alloc: Global, argument: Argument<'a>) -> Arg<'a>
@@ -76,220 +251,28 @@ fn with_arguments<'a>(
     Ok(command)
 }
 
-// A command by its name and its arguments.
-fn command<'a>(
-    alloc: Global,
-    name: &'a str,
-    about: &'a str,
-    arguments: &[Argument<'a>],
-) -> Result<Command<'a>, AllocError>
-    ensures { IfOk result (IsShaped (command name.entry.now (map asked_by arguments.now))) }
+fn command<'a>(alloc: Global, listed: Listed<'a>) -> Result<Command<'a>, AllocError>
+    ensures { IfOk result (IsShaped (shape_by listed.entry)) }
 {
-    with_arguments(alloc, Command::new(alloc, name).about(about), arguments)
+    let command = Command::new(alloc, listed.name).about(listed.about);
+    with_arguments(alloc, command, listed.arguments)
 }
 
-// The table with one more command, where there was memory for both. `zip` lets go the one where
-// there was none for the other: a command is many lists, and here each would be let go apart.
+// The table with one more command. Where there was no memory for that, the table is let go as a
+// whole: a command is many lists, and where `?` lets it go, each is let go apart.
 fn with_command<'a>(
-    table: Result<Command<'a>, AllocError>,
+    table: Command<'a>,
     command: Result<Command<'a>, AllocError>,
 ) -> Result<Command<'a>, AllocError>
     ensures { Adds table.entry command.entry result }
 {
-    match table.ok().zip(command.ok()) {
-        Some((table, command)) => table.subcommand(command),
-        None => Err(AllocError),
+    match command {
+        Ok(command) => table.subcommand(command),
+        Err(error) => {
+            drop(table);
+            Err(error)
+        }
     }
-}
-
-fn scan<'a>(alloc: Global) -> Result<Command<'a>, AllocError>
-    ensures { IfOk result (IsShaped scan_command) }
-{
-    let about = "Puts scan cells into a netlist";
-    let chains = "How many chains at most, 1 to 256 [default: 1]";
-    command(
-        alloc,
-        "scan",
-        about,
-        &[
-            Required("NET", "The netlist, a .bench file"),
-            Required("OUT", "The file for the scanned netlist"),
-            Number("chains", 1, MOST_CHAINS, chains),
-        ],
-    )
-}
-
-fn faults<'a>(alloc: Global) -> Result<Command<'a>, AllocError>
-    ensures { IfOk result (IsShaped faults_command) }
-{
-    let about = "Lists the faults of a netlist and their classes";
-    let net = Required("NET", "The netlist, a .bench file");
-    command(alloc, "faults", about, &[net])
-}
-
-// What `run` and `transition` have alike.
-fn search_arguments<'a>() -> [Argument<'a>; 6]
-    ensures { map asked_by result ≡ search_rules }
-{
-    let prefix = "What the names of the five files begin with";
-    let chains = "How many chains at most, 1 to 256 [default: 1]";
-    let workers = "How many workers, 1 to 64 [default: 1]";
-    let limit = "The backtrack limit: how many ends a search may close, 1 to 100000 [default: 100]";
-    [
-        Required("NET", "The netlist, a .bench file"),
-        Required("PREFIX", prefix),
-        Number("chains", 1, MOST_CHAINS, chains),
-        Number("workers", 1, MOST_WORKERS, workers),
-        Number("limit", 1, MOST_LIMIT, limit),
-        Number(
-            "seed",
-            0,
-            u64::MAX,
-            "What free bits are drawn from [default: 1]",
-        ),
-    ]
-}
-
-const ENGINE: &str = "The search: podem, fan or clauses [default: podem]";
-
-const THEN: &str = "What settles what podem or fan gives up: clauses";
-
-// What `run` has of its own.
-fn run_arguments<'a>() -> [Argument<'a>; 8]
-    ensures { map asked_by result ≡ run_rules }
-{
-    let coverage = "Stop once so many in a hundred of the faults are detected";
-    let with = "A STIL file, or the prefix of one, whose patterns come first";
-    let compact = "How many rounds make the patterns fewer, 0 to 100 [default: 3]";
-    let detect = "How many patterns are to detect each fault, 1 to 100 [default: 1]";
-    [
-        Text("engine", ENGINE),
-        Text("then", THEN),
-        Text("hold", "Inputs that are held, as NAME=0,NAME=1"),
-        Text("faults", "A file that lists the faults that are asked for"),
-        Number("coverage", 1, MOST_PERCENT, coverage),
-        Text("with", with),
-        Number("compact", 0, MOST_ROUNDS, compact),
-        Number("detect", 1, MOST_TIMES, detect),
-    ]
-}
-
-fn run<'a>(alloc: Global) -> Result<Command<'a>, AllocError>
-    ensures { IfOk result (IsShaped run_command) }
-{
-    let about = "Searches tests for the faults of a netlist";
-    let command = command(alloc, "run", about, &search_arguments())?;
-    with_arguments(alloc, command, &run_arguments())
-}
-
-fn transition<'a>(alloc: Global) -> Result<Command<'a>, AllocError>
-    ensures { IfOk result (IsShaped transition_command) }
-{
-    let about = "Searches tests for the slow lines of a netlist";
-    let command = command(alloc, "transition", about, &search_arguments())?;
-    with_arguments(
-        alloc,
-        command,
-        &[Text("engine", ENGINE), Text("then", THEN)],
-    )
-}
-
-fn play<'a>(alloc: Global) -> Result<Command<'a>, AllocError>
-    ensures { IfOk result (IsShaped play_command) }
-{
-    let about = "Plays a test on a netlist";
-    command(
-        alloc,
-        "play",
-        about,
-        &[
-            Required("NET", "The scanned netlist, a .bench file"),
-            Required("STIL", "The test, a STIL file"),
-            Text("fault", "A fault that the netlist has, as stem q/0"),
-        ],
-    )
-}
-
-fn check<'a>(alloc: Global) -> Result<Command<'a>, AllocError>
-    ensures { IfOk result (IsShaped check_command) }
-{
-    let prefix = Required("PREFIX", "What the names of the five files begin with");
-    command(alloc, "check", "Checks the files of a run", &[prefix])
-}
-
-fn sweep<'a>(alloc: Global) -> Result<Command<'a>, AllocError>
-    ensures { IfOk result (IsShaped sweep_command) }
-{
-    let about = "Searches tests for a sample netlist and plays them";
-    let seed = "What the netlist and free bits are drawn from";
-    let gates = "How many gates, 16 to 20000";
-    command(
-        alloc,
-        "sweep",
-        about,
-        &[
-            RequiredNumber("SEED", 0, u64::MAX, seed),
-            RequiredNumber("GATES", FEWEST_GATES, MOST_GATES, gates),
-        ],
-    )
-}
-
-fn chaintest<'a>(alloc: Global) -> Result<Command<'a>, AllocError>
-    ensures { IfOk result (IsShaped chaintest_command) }
-{
-    let about = "Says what a test shows of the faults in the scan hardware";
-    let chains = "How many chains at most, 1 to 256 [default: 1]";
-    command(
-        alloc,
-        "chaintest",
-        about,
-        &[
-            Required("NET", "The netlist, a .bench file"),
-            Required("STIL", "The test, a STIL file"),
-            Number("chains", 1, MOST_CHAINS, chains),
-        ],
-    )
-}
-
-fn diagnose<'a>(alloc: Global) -> Result<Command<'a>, AllocError>
-    ensures { IfOk result (IsShaped diagnose_command) }
-{
-    let about = "Lists the faults that explain a tester's log";
-    let chains = "How many chains at most, 1 to 256 [default: 1]";
-    let workers = "How many workers, 1 to 64 [default: 1]";
-    let rank = "List so many faults that come nearest to the log";
-    command(
-        alloc,
-        "diagnose",
-        about,
-        &[
-            Required("NET", "The netlist, a .bench file"),
-            Required("STIL", "The test, a STIL file"),
-            Required("LOG", "What failed on the tester"),
-            Number("chains", 1, MOST_CHAINS, chains),
-            Number("workers", 1, MOST_WORKERS, workers),
-            Number("rank", 1, u64::MAX, rank),
-        ],
-    )
-}
-
-fn grade<'a>(alloc: Global) -> Result<Command<'a>, AllocError>
-    ensures { IfOk result (IsShaped grade_command) }
-{
-    let about = "Says which stuck lines a test detects";
-    let prefix = "What the name of the file of grades begins with";
-    let chains = "How many chains at most, 1 to 256 [default: 1]";
-    command(
-        alloc,
-        "grade",
-        about,
-        &[
-            Required("NET", "The netlist, a .bench file"),
-            Required("STIL", "The test, a STIL file"),
-            Required("PREFIX", prefix),
-            Number("chains", 1, MOST_CHAINS, chains),
-        ],
-    )
 }
 
 // The program's own words, before its commands. Its texts call it by this name, however it is
@@ -304,17 +287,20 @@ fn program<'a>(alloc: Global) -> Result<Command<'a>, AllocError>
         .bin_name("atpg")
 }
 
+// The program with these commands.
+fn with_commands<'a>(alloc: Global, commands: &[Listed<'a>]) -> Result<Command<'a>, AllocError>
+    ensures { IfOk result (λ c. app_of c ≡ with_subcommands program (map shape_by commands.now)) }
+{
+    let program = program(alloc)?;
+    let mut table = program;
+    for it in commands {
+        table = with_command(table, command(alloc, *it))?;
+    }
+    Ok(table)
+}
+
 pub(crate) fn table<'a>(alloc: Global) -> Result<Command<'a>, AllocError>
     ensures { IfOk result (λ c. app_of c ≡ command_table) }
 {
-    let table = with_command(program(alloc), scan(alloc));
-    let table = with_command(table, faults(alloc));
-    let table = with_command(table, run(alloc));
-    let table = with_command(table, play(alloc));
-    let table = with_command(table, check(alloc));
-    let table = with_command(table, sweep(alloc));
-    let table = with_command(table, chaintest(alloc));
-    let table = with_command(table, diagnose(alloc));
-    let table = with_command(table, transition(alloc));
-    with_command(table, grade(alloc))
+    with_commands(alloc, &commands())
 }

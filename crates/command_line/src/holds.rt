@@ -66,8 +66,7 @@ fn items_of<'a>(alloc: Global, list: &'a str) -> Result<Vec<Held<'a>>, NoRequest
     ensures { AreHeld (holds_of (slice_split (λ b. b == 44) list.now)) result }
 {
     let mut holds = Vec::new(alloc);
-    let mut rest = list;
-    while let Some((item, more)) = rest.split_once(',') {
+    for item in list.split(',') {
         let Some(hold) = hold_in(item) else {
             return Err(NoRequest::BadHold);
         };
@@ -75,22 +74,15 @@ fn items_of<'a>(alloc: Global, list: &'a str) -> Result<Vec<Held<'a>>, NoRequest
             Ok(()) => {}
             Err(_) => return Err(NoRequest::NoMemory),
         }
-        rest = more;
     }
-    let Some(hold) = hold_in(rest) else {
-        return Err(NoRequest::BadHold);
-    };
-    match holds.push(hold) {
-        Ok(()) => Ok(holds),
-        Err(_) => Err(NoRequest::NoMemory),
-    }
+    Ok(holds)
 }
 
-// Whether no name stands twice.
-fn are_distinct(alloc: Global, holds: &[Held<'_>]) -> Result<bool, AllocError>
-    ensures { IfOk result (λ yes. yes ≡ are_new [] (map (λ h. h.0) (map hold_of holds.now))) }
+// Whether no name stands twice, or among those seen, which take it. The set is lent: where it is
+// let go, each of its lists is.
+fn are_new<'a>(seen: &mut IndexSet<&'a str>, holds: &[Held<'a>]) -> Result<bool, AllocError>
+    ensures { IfOk result (λ yes. yes ≡ are_new (map (λ t. t.now) seen.old.keys) (map (λ h. h.0) (map hold_of holds.now))) }
 {
-    let mut seen = IndexSet::with_capacity(alloc, holds.len())?;
     for hold in holds {
         let (_, added) = seen.insert_full(hold.name)?;
         if !added {
@@ -98,6 +90,13 @@ fn are_distinct(alloc: Global, holds: &[Held<'_>]) -> Result<bool, AllocError>
         }
     }
     Ok(true)
+}
+
+fn are_distinct(alloc: Global, holds: &[Held<'_>]) -> Result<bool, AllocError>
+    ensures { IfOk result (λ yes. yes ≡ are_new [] (map (λ h. h.0) (map hold_of holds.now))) }
+{
+    let mut seen = IndexSet::with_capacity(alloc, holds.len())?;
+    are_new(&mut seen, holds)
 }
 
 pub(crate) fn holds_in<'a>(alloc: Global, list: &'a str) -> Result<Vec<Held<'a>>, NoRequest>

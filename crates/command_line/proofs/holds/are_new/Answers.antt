@@ -1,7 +1,7 @@
 use Rattle.std.proofs.Common.{◌∙◌, [], sym, false}
 use Rattle.command_line.specs.declared.holds.Held.{Held}
 use Rattle.command_line.proofs.HoldLemmas.{is_new, stands_twice}
-use Rattle.command_line.proofs.holds.are_distinct.Goals as goal
+use Rattle.command_line.proofs.holds.are_new.Goals as goal
 
 none : Held
 none = record { name = record { ref_ptr = (0, 0); now = [] }; bit = false }
