@@ -12,8 +12,8 @@
 //! What guides is how dear each bit is to set and to see, what can be read of labels, and where the fault's effect has come to. No answer rests
 //! on it, only how soon it comes: where it tells less than it could, a search goes on for longer.
 //!
-//! Gives: `Case`, `Step`, `push`, `climb`, `close_both`, `closed_tree`, `tree_so_far`, `one_if`; `Measures`, `Effects`, `Aim`, what guides read of a
-//! netlist and its labels, and `mixed`, `salt_of`, `hash_in`: numbers by a hash.
+//! Gives: `Case`, `Step`, `push`, `climb`, `close_both`, `closed_tree`, `tree_so_far`, `one_if`; `Measures`, `Effects`, `Aim`; `Orders`, `Places` and `By`: the pins of wide
+//! gates in the orders in which they are gone to; what guides read of a netlist and its labels, and `mixed`, `salt_of`, `hash_in`: numbers by a hash.
 //! Proved: `climb`, `close_both`: at which decision the search goes on and with which tree beside it, or the whole tree, exactly, with the labels of the
 //! path there; the others exactly; the lemmas: whatever a search asks of the nodes of its tree stays so, and no tree on so many signals has more ends
 //! than 2 to their number; what guides has no contract but that its calls are safe.
@@ -25,6 +25,7 @@ mod cases;
 mod climbing;
 mod effects;
 mod measures;
+mod orders;
 mod salts;
 mod trees;
 mod turns;
@@ -34,6 +35,7 @@ pub use cases::Case;
 pub use climbing::climb;
 pub use effects::Effects;
 pub use measures::Measures;
+pub use orders::{By, Orders, Places};
 pub use salts::{hash_in, mixed, salt_of};
 pub use trees::{closed_tree, tree_so_far};
 pub use turns::{Step, close_both, one_if, push};

@@ -1,125 +1,121 @@
-//! Signals that may be forced: what implications, a single gate of the D-frontier and the fault's line ask for. (Implication and unique sensitization
+//! Signals that may be forced: what the fault's line, implications and a single gate of the D-frontier ask for. (Implication and unique sensitization
 //! of Fujiwara and Shimono 1983.) These are guesses: `forcing` looks at the other side of each, and decides it where that is closed. So a rule that
 //! is left out here costs time and no answer; only what is next to a decision is asked for, and the rest comes up when the next turn asks.
+//!
+//! A guess is made when it is come to, from pins that stand in the netlist: mostly one of the first is forced, and the others were for nothing.
 ghost use Rattle.std.specs.Prelude.{◌≡◌};
 ghost use Rattle.pair_sim.specs.Sims.{IsNotBlocked};
 
 use crate::cases::RoledCase;
 use crate::frontier::Frontier;
 use crate::guides::has_head;
-use decisions::{
-    Aim, count_pins, excitation, gate_of, is_inverting, is_own_unknown, is_unknown, may_differ,
-};
+use decisions::{Orders, Places, count_pins, gate_of, is_inverting, is_own_unknown, is_unknown};
 use netlist::{Core, Kind, SignalId};
 use pair_sim::PairSim;
 use redundancy_cert::Side;
-use std::alloc::{AllocError, Global};
 
-/// Asks for a bit on each pin that is X.
-fn ask_all(
-    core: &Core,
-    labels: &PairSim,
-    pins: &[SignalId],
-    bit: bool,
-    aims: &mut Vec<Aim>,
-) -> Result<(), AllocError>
+/// What is asked of pins: that each one that is X has a bit; of pins that an effect passes, each to which it can't come itself.
+#[derive(Clone, Copy)]
+pub(crate) struct Asked<'a> {
+    pub pins: &'a [SignalId],
+    pub bit: bool,
+    pub is_passed: bool,
+}
+
+/// Whether one of the pins alone is X.
+fn is_last(core: &Core, labels: &PairSim, pins: &[SignalId]) -> bool
     requires { labels.now.netlist ≡ core.now }
 {
+    let mut unknown: u32 = 0;
     for pin in pins {
         if is_unknown(core, labels, *pin) {
-            aims.push(Aim { signal: *pin, bit })?;
+            if unknown > 0 {
+                return false;
+            }
+            unknown = 1;
         }
     }
-    Ok(())
+    unknown == 1
 }
 
 /// What the pins of a gate have to have so that it has its decided bit.
-fn imply(
-    core: &Core,
+fn implied<'a>(
+    core: &'a Core,
+    orders: &Orders,
+    places: &mut Places,
     labels: &PairSim,
-    gate: SignalId,
-    bit: bool,
-    aims: &mut Vec<Aim>,
-) -> Result<(), AllocError>
+    side: &Side,
+) -> Option<Asked<'a>>
     requires { labels.now.netlist ≡ core.now }
 {
-    let Some((kind, pins)) = gate_of(core, gate) else {
-        return Ok(());
+    let (kind, all) = gate_of(core, side.signal)?;
+    let inner = side.bit != is_inverting(kind);
+    let pins = places.left(core, labels, orders, side.signal, all);
+    let bit = match kind {
+        Kind::And | Kind::Nand if inner || is_last(core, labels, pins) => inner,
+        Kind::Or | Kind::Nor if !inner || is_last(core, labels, pins) => inner,
+        Kind::Xor | Kind::Xnor => parity_left(core, labels, pins, inner)?,
+        Kind::Not | Kind::Buff => inner,
+        _ => return None,
     };
+    Some(Asked {
+        pins,
+        bit,
+        is_passed: false,
+    })
+}
+
+/// The bit of a parity gate's last pin.
+fn parity_left(core: &Core, labels: &PairSim, pins: &[SignalId], bit: bool) -> Option<bool>
+    requires { labels.now.netlist ≡ core.now }
+{
     let (unknown, odd) = count_pins(core, labels, pins);
-    let inner = bit != is_inverting(kind);
-    match kind {
-        Kind::And | Kind::Nand => {
-            if inner || unknown == 1 {
-                ask_all(core, labels, pins, inner, aims)?;
-            }
-        }
-        Kind::Or | Kind::Nor => {
-            if !inner || unknown == 1 {
-                ask_all(core, labels, pins, inner, aims)?;
-            }
-        }
-        Kind::Xor | Kind::Xnor => {
-            if unknown == 1 {
-                ask_all(core, labels, pins, inner != odd, aims)?;
-            }
-        }
-        Kind::Not | Kind::Buff => ask_all(core, labels, pins, inner, aims)?,
-        Kind::Dff | Kind::Const0 | Kind::Const1 => {}
-    }
-    Ok(())
+    if unknown == 1 { Some(bit != odd) } else { None }
 }
 
 /// What the other pins of a gate have to have so that an effect goes through.
-fn let_through(
-    core: &Core,
+fn passed<'a>(
+    core: &'a Core,
+    orders: &Orders,
+    places: &mut Places,
     labels: &PairSim,
     gate: SignalId,
-    aims: &mut Vec<Aim>,
-) -> Result<(), AllocError>
-    requires same { labels.now.netlist ≡ core.now }
-    requires not_blocked { IsNotBlocked labels.now }
+) -> Option<Asked<'a>>
+    requires { labels.now.netlist ≡ core.now }
 {
-    let Some((kind, pins)) = gate_of(core, gate) else {
-        return Ok(());
-    };
+    let (kind, all) = gate_of(core, gate)?;
     let bit = match kind {
         Kind::And | Kind::Nand => true,
         Kind::Or | Kind::Nor => false,
-        _ => return Ok(()),
+        _ => return None,
     };
-    for pin in pins {
-        if is_unknown(core, labels, *pin) && !may_differ(core, labels, *pin) {
-            aims.push(Aim { signal: *pin, bit })?;
-        }
-    }
-    Ok(())
+    Some(Asked {
+        pins: places.left(core, labels, orders, gate, all),
+        bit,
+        is_passed: true,
+    })
 }
 
-/// What may be forced, in this order: by the fault's line, by what the decisions imply, and by the gate of the D-frontier where there is one alone.
-pub(crate) fn forced_aims(
-    alloc: Global,
-    roled: &RoledCase,
+/// What is asked for by the decision at a place of the stack, or behind all of them by the gate of the D-frontier where there is one alone.
+pub(crate) fn asked_at<'a>(
+    roled: &RoledCase<'a>,
     frontier: &Frontier,
+    orders: &Orders,
+    places: &mut Places,
     labels: &PairSim,
     stack: &[Side],
-) -> Result<Vec<Aim>, AllocError>
+    place: usize,
+) -> Option<Asked<'a>>
     requires same { labels.now.netlist ≡ roled.now.case.core.now }
     requires not_blocked { IsNotBlocked labels.now }
 {
-    let mut aims = Vec::new(alloc);
-    if let Some(aim) = excitation(roled.case.core, &roled.case.fault, labels) {
-        aims.push(aim)?;
+    let core = roled.case.core;
+    let Some(side) = stack.get(place) else {
+        let gate = frontier.only_gate()?;
+        return passed(core, orders, places, labels, gate);
+    };
+    if has_head(roled.roles, side.signal) || !is_own_unknown(core, labels, side.signal) {
+        return None;
     }
-    for side in stack {
-        if !has_head(roled.roles, side.signal)
-            && is_own_unknown(roled.case.core, labels, side.signal)
-        {
-            imply(roled.case.core, labels, side.signal, side.bit, &mut aims)?;
-        }
-    }
-    if let Some(gate) = frontier.only_gate() {
-        let_through(roled.case.core, labels, gate, &mut aims)?;
-    }
-    Ok(aims)
+    implied(core, orders, places, labels, side)
 }

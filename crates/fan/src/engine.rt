@@ -8,7 +8,7 @@ ghost use Rattle.fan.specs.inner.Searching.{IsRoledCase, IsReady, IsAnswer, IsKe
 use crate::cases::RoledCase;
 use crate::guides::{Guide, GuideRoom, Objectives, Stop};
 use crate::searching::search_from;
-use decisions::{Case, Measures};
+use decisions::{Case, Measures, Orders};
 use evidence::{Engine, Found};
 use head_lines::{RoleRoom, WantRoom, roles_of};
 use netlist::{Core, Fault, Holds, NoMemory};
@@ -28,6 +28,7 @@ const ROUNDS: u32 = 4;
 #[derive(Drop)]
 pub struct Fan {
     measures: Measures,
+    orders: Orders,
 }
 
 /// What a search leaves to the next one: its labels, the roles of signals, and the rooms of what is wanted of them and of its guide.
@@ -112,7 +113,8 @@ impl Fan {
     /// The search with the measures of a netlist. For another one its answers are right too, but it may be slow.
     pub fn of(alloc: Global, core: &Core) -> Result<Fan, NoMemory> {
         let measures = Measures::of(alloc, core)?;
-        Ok(Fan { measures })
+        let orders = Orders::of(alloc, core, &measures)?;
+        Ok(Fan { measures, orders })
     }
 }
 
@@ -142,8 +144,8 @@ impl Engine for Fan {
         limit: u32,
         holds: &Holds,
     ) -> Result<Found, NoMemory> {
-        let room = GuideRoom::of(alloc, core)?;
-        let mut guide = Guide::of(&self.measures, &fault, room);
+        let room = GuideRoom::of(alloc, core, &self.orders)?;
+        let mut guide = Guide::of(&self.measures, &self.orders, &fault, room);
         let mut labels = PairSim::new(alloc, core, fault, holds)?;
         let roles = roles_of(alloc, core, &fault, holds)?;
         let mut wants = WantRoom::of(alloc, core)?;
@@ -161,7 +163,7 @@ impl Engine for Fan {
             labels: SimRoom::new(alloc, core, holds)?,
             roles: RoleRoom::of(alloc, core, holds)?,
             wants: WantRoom::of(alloc, core)?,
-            guide: GuideRoom::of(alloc, core)?,
+            guide: GuideRoom::of(alloc, core, &self.orders)?,
         })
     }
 
@@ -178,7 +180,7 @@ impl Engine for Fan {
         roles.aim(core, &fault, holds)?;
         let mut labels = PairSim::in_room(room.labels, core, fault, holds);
         let mut wants = room.wants;
-        let mut guide = Guide::of(&self.measures, &fault, room.guide);
+        let mut guide = Guide::of(&self.measures, &self.orders, &fault, room.guide);
         let case = Case { core, fault, holds };
         let roled = RoledCase {
             case,

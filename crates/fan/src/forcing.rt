@@ -3,9 +3,11 @@
 ghost use Rattle.std.specs.Prelude.{IsTrue};
 ghost use Rattle.fan.specs.inner.Searching.{IsRoledCase, IsAt, IsGoing, IsFreeToDecide, IsForcedSeen};
 
+use crate::aims::{Asked, asked_at};
 use crate::cases::RoledCase;
+use crate::frontier::Frontier;
 use crate::standing::go;
-use decisions::Aim;
+use decisions::{Aim, Orders, Places, excitation, may_differ};
 use head_lines::Role;
 use netlist::{Point, SignalId, Tri};
 use pair_sim::{PairSim, State};
@@ -37,25 +39,111 @@ pub(crate) fn is_free(roled: &RoledCase, labels: &PairSim, stack: &[Side], id: S
     }
 }
 
-/// Looks for one of these whose other side is closed.
-pub(crate) fn find_forced(
+/// Whether a pin is asked of, and may be decided and isn't known.
+fn is_asked(
     roled: &RoledCase,
+    labels: &PairSim,
+    stack: &[Side],
+    asked: &Asked,
+    pin: SignalId,
+) -> bool
+    requires case { IsRoledCase roled.now }
+    requires at { IsAt roled.now.case labels.now stack.now }
+    requires going { IsGoing roled.now.case stack.now }
+    ensures { IsTrue result → IsFreeToDecide roled.now.case labels.now pin }
+{
+    if asked.is_passed && may_differ(roled.case.core, labels, pin) {
+        return false;
+    }
+    is_free(roled, labels, stack, pin)
+}
+
+/// Looks for a pin whose other side is closed.
+fn find_at(roled: &RoledCase, labels: &mut PairSim, stack: &[Side], asked: &Asked) -> Seen
+    requires case { IsRoledCase roled.now }
+    requires at { IsAt roled.now.case labels.old stack.now }
+    requires going { IsGoing roled.now.case stack.now }
+    ensures { IsForcedSeen roled.now.case labels.old labels.new stack.now result }
+{
+    for pin in asked.pins {
+        if is_asked(roled, labels, stack, asked, *pin) {
+            match go(roled, labels, stack, *pin, !asked.bit) {
+                State::Test(point) => return Seen::Reached(point),
+                State::Blocked => {
+                    return Seen::ShutBeside(Aim {
+                        signal: *pin,
+                        bit: asked.bit,
+                    });
+                }
+                State::Going => labels.undo(),
+            }
+        }
+    }
+    Seen::Nothing
+}
+
+/// Looks at what excites the fault.
+fn find_excited(roled: &RoledCase, labels: &mut PairSim, stack: &[Side]) -> Seen
+    requires case { IsRoledCase roled.now }
+    requires at { IsAt roled.now.case labels.old stack.now }
+    requires going { IsGoing roled.now.case stack.now }
+    ensures { IsForcedSeen roled.now.case labels.old labels.new stack.now result }
+{
+    let Some(aim) = excitation(roled.case.core, &roled.case.fault, labels) else {
+        return Seen::Nothing;
+    };
+    let pins = [aim.signal];
+    let asked = Asked {
+        pins: &pins,
+        bit: aim.bit,
+        is_passed: false,
+    };
+    find_at(roled, labels, stack, &asked)
+}
+
+/// Looks at what excites the fault, behind that at each decision, and then at the gate of the D-frontier where there is one alone.
+fn find_of(
+    roled: &RoledCase,
+    frontier: &Frontier,
+    orders: &Orders,
+    places: &mut Places,
     labels: &mut PairSim,
     stack: &[Side],
-    aims: &[Aim],
+    number: usize,
 ) -> Seen
     requires case { IsRoledCase roled.now }
     requires at { IsAt roled.now.case labels.old stack.now }
     requires going { IsGoing roled.now.case stack.now }
     ensures { IsForcedSeen roled.now.case labels.old labels.new stack.now result }
 {
-    for aim in aims {
-        if is_free(roled, labels, stack, aim.signal) {
-            match go(roled, labels, stack, aim.signal, !aim.bit) {
-                State::Test(point) => return Seen::Reached(point),
-                State::Blocked => return Seen::ShutBeside(*aim),
-                State::Going => labels.undo(),
-            }
+    if number == 0 {
+        return find_excited(roled, labels, stack);
+    }
+    match asked_at(roled, frontier, orders, places, labels, stack, number - 1) {
+        None => Seen::Nothing,
+        Some(asked) => find_at(roled, labels, stack, &asked),
+    }
+}
+
+/// Looks for a signal whose other side is closed.
+pub(crate) fn find_forced(
+    roled: &RoledCase,
+    frontier: &Frontier,
+    orders: &Orders,
+    places: &mut Places,
+    labels: &mut PairSim,
+    stack: &[Side],
+) -> Seen
+    requires case { IsRoledCase roled.now }
+    requires at { IsAt roled.now.case labels.old stack.now }
+    requires going { IsGoing roled.now.case stack.now }
+    ensures { IsForcedSeen roled.now.case labels.old labels.new stack.now result }
+{
+    for number in 0..stack.len() + 2 {
+        match find_of(roled, frontier, orders, places, labels, stack, number) {
+            Seen::Reached(point) => return Seen::Reached(point),
+            Seen::ShutBeside(aim) => return Seen::ShutBeside(aim),
+            Seen::Nothing => {}
         }
     }
     Seen::Nothing

@@ -18,5 +18,7 @@ mod paths;
 mod searching;
 mod standing;
 mod tracing;
+mod voting;
+mod wants;
 
 pub use engine::Fan;

@@ -10,7 +10,6 @@ ghost use Rattle.head_lines.specs.Justified.{IsMetAt};
 ghost use Rattle.head_lines.specs.Rooms.{IsReusableWantRoom};
 ghost use Rattle.fan.specs.inner.Searching.{IsRoledCase, IsAt, IsGoing, IsSideClosed, IsSideOpen, IsStepped, IsChosen, IsForcedSeen, IsReady, IsAnswer, IsKept};
 
-use crate::aims::forced_aims;
 use crate::cases::RoledCase;
 use crate::choosing::choose;
 use crate::forcing::{Seen, find_forced};
@@ -109,8 +108,15 @@ fn take_turn(
     ensures { IfOk result (IsStepped roled.now.case stack.old.items labels.new stack.new.items) }
 {
     guide.follow(roled, labels, stack.len())?;
-    let aims = forced_aims(alloc, roled, &guide.frontier, labels, stack)?;
-    match find_forced(roled, labels, stack, &aims) {
+    let seen = find_forced(
+        roled,
+        &guide.frontier,
+        guide.course.orders,
+        &mut guide.places,
+        labels,
+        stack,
+    );
+    match seen {
         Seen::Reached(point) => Ok(Step::Found(point)),
         Seen::ShutBeside(aim) => after_closed(
             alloc,

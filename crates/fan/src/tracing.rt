@@ -8,8 +8,8 @@ use crate::frontier::Frontier;
 use crate::guides::{Stop, has_head};
 use crate::paths::Paths;
 use decisions::{
-    Aim, Measures, count_pins, excitation, gate_of, hash_in, is_inverting, is_own_unknown,
-    is_unknown, may_differ, mixed, place_of, readers, signal_count,
+    Aim, By, Measures, Orders, Places, count_pins, excitation, gate_of, hash_in, is_inverting,
+    is_own_unknown, is_unknown, may_differ, mixed, place_of, readers, signal_count,
 };
 use netlist::{Core, Kind, SignalId};
 use pair_sim::PairSim;
@@ -18,7 +18,7 @@ use std::alloc::AllocError;
 
 /// Which pin of a gate is gone to, unless it is one by a hash.
 #[derive(Clone, Copy, Drop)]
-enum Pick {
+pub(crate) enum Pick {
     /// The one for which the bit costs least.
     Easiest(bool),
     /// The one for which the bit costs most.
@@ -36,10 +36,11 @@ pub(crate) enum Way {
     ByHash(u32),
 }
 
-/// What a backtrace goes by: what bits cost, what is wanted where both cost alike, how it goes from gate to gate, and where it stops.
+/// What a backtrace goes by: what bits cost, the orders of wide gates' pins, what is wanted where both cost alike, how it goes from gate to gate, and where it stops.
 #[derive(Clone, Copy, Drop)]
 pub(crate) struct Course<'a> {
     pub measures: &'a Measures,
+    pub orders: &'a Orders,
     pub salt: u64,
     pub way: Way,
     pub stop: Stop,
@@ -73,8 +74,8 @@ fn weight(course: &Course, pin: SignalId, pick: Pick) -> u64 {
     }
 }
 
-/// The pin that is X to go to.
-fn picked(
+/// That pin, where each one is looked at.
+fn best_pin(
     core: &Core,
     course: &Course,
     labels: &PairSim,
@@ -95,6 +96,34 @@ fn picked(
     best
 }
 
+/// The number of the order by which a gate's pins are gone to, if there is one.
+fn order_of(course: &Course, gate: SignalId, pins: &[SignalId], pick: Pick) -> Option<usize> {
+    let by = match (course.way, pick) {
+        (Way::ByCost, Pick::Easiest(_)) => By::Cheapest,
+        (Way::ByCost, Pick::Hardest(_)) => By::Dearest,
+        _ => return None,
+    };
+    course.orders.number(gate, pins, by)
+}
+
+/// The pin that is X to go to.
+pub(crate) fn picked(
+    core: &Core,
+    course: &Course,
+    places: &mut Places,
+    labels: &PairSim,
+    gate: SignalId,
+    pins: &[SignalId],
+    pick: Pick,
+) -> Option<SignalId>
+    requires { labels.now.netlist ≡ core.now }
+{
+    match order_of(course, gate, pins, pick) {
+        None => best_pin(core, course, labels, pins, pick),
+        Some(number) => places.first_unknown(core, labels, course.orders, number),
+    }
+}
+
 /// The pin of a parity gate to go to, and its bit: what gives the gate its own where no other is X.
 fn into_parity(
     core: &Core,
@@ -106,7 +135,7 @@ fn into_parity(
     requires { labels.now.netlist ≡ core.now }
 {
     let (unknown, odd) = count_pins(core, labels, pins);
-    let signal = picked(core, course, labels, pins, Pick::Cheapest)?;
+    let signal = best_pin(core, course, labels, pins, Pick::Cheapest)?;
     let bit = if unknown == 1 {
         bit != odd
     } else {
@@ -116,7 +145,13 @@ fn into_parity(
 }
 
 /// The pin to go to from a gate that should have a bit, and the bit of the pin.
-fn into_gate(core: &Core, course: &Course, labels: &PairSim, aim: Aim) -> Option<Aim>
+fn into_gate(
+    core: &Core,
+    course: &Course,
+    places: &mut Places,
+    labels: &PairSim,
+    aim: Aim,
+) -> Option<Aim>
     requires { labels.now.netlist ≡ core.now }
 {
     let (kind, pins) = gate_of(core, aim.signal)?;
@@ -127,7 +162,7 @@ fn into_gate(core: &Core, course: &Course, labels: &PairSim, aim: Aim) -> Option
         Kind::Xor | Kind::Xnor => return into_parity(core, course, labels, pins, bit),
         _ => Pick::Easiest(bit),
     };
-    let signal = picked(core, course, labels, pins, pick)?;
+    let signal = picked(core, course, places, labels, aim.signal, pins, pick)?;
     Some(Aim { signal, bit })
 }
 
@@ -148,9 +183,9 @@ fn lowest_decided(roled: &RoledCase, labels: &PairSim, stack: &[Side]) -> Option
     let mut best: Option<Aim> = None;
     for side in stack {
         let signal = side.signal;
-        let is_open = gate_of(core, signal).is_some()
-            && !has_head(roled.roles, signal)
-            && is_own_unknown(core, labels, signal);
+        let is_open = !has_head(roled.roles, signal)
+            && is_own_unknown(core, labels, signal)
+            && gate_of(core, signal).is_some();
         if is_open && is_lower(core, signal, &best) {
             best = Some(Aim {
                 signal,
@@ -161,23 +196,48 @@ fn lowest_decided(roled: &RoledCase, labels: &PairSim, stack: &[Side]) -> Option
     best
 }
 
-/// The lowest pin that is X of a gate that the effect should go through.
-fn lowest_pin(core: &Core, course: &Course, labels: &PairSim, gate: SignalId) -> Option<Aim>
+/// The bit at which an effect goes past a pin.
+pub(crate) fn passing_bit(course: &Course, kind: Kind, pin: SignalId) -> bool {
+    match kind {
+        Kind::And | Kind::Nand => true,
+        Kind::Or | Kind::Nor => false,
+        _ => course.cheap_bit(pin),
+    }
+}
+
+/// The lowest of the pins that is X.
+fn lowest_of(core: &Core, labels: &PairSim, pins: &[SignalId]) -> Option<SignalId>
     requires { labels.now.netlist ≡ core.now }
 {
-    let (kind, pins) = gate_of(core, gate)?;
-    let mut best: Option<Aim> = None;
+    let mut best: Option<SignalId> = None;
+    let mut least: u64 = 0;
     for pin in pins {
-        if is_unknown(core, labels, *pin) && is_lower(core, *pin, &best) {
-            let bit = match kind {
-                Kind::And | Kind::Nand => true,
-                Kind::Or | Kind::Nor => false,
-                _ => course.cheap_bit(*pin),
-            };
-            best = Some(Aim { signal: *pin, bit });
+        let place = place_of(core, *pin);
+        if is_unknown(core, labels, *pin) && (best.is_none() || place < least) {
+            best = Some(*pin);
+            least = place;
         }
     }
     best
+}
+
+/// The lowest pin that is X of a gate that the effect should go through.
+fn lowest_pin(
+    core: &Core,
+    course: &Course,
+    places: &mut Places,
+    labels: &PairSim,
+    gate: SignalId,
+) -> Option<Aim>
+    requires { labels.now.netlist ≡ core.now }
+{
+    let (kind, pins) = gate_of(core, gate)?;
+    let signal = match course.orders.number(gate, pins, By::Lowest) {
+        None => lowest_of(core, labels, pins)?,
+        Some(number) => places.first_unknown(core, labels, course.orders, number)?,
+    };
+    let bit = passing_bit(course, kind, signal);
+    Some(Aim { signal, bit })
 }
 
 /// The objective that is traced back: that the fault is excited; or else what is lowest in the order of evaluation of the decided gates that
@@ -189,6 +249,7 @@ pub(crate) fn objective(
     labels: &PairSim,
     stack: &[Side],
     paths: &mut Paths,
+    places: &mut Places,
 ) -> Result<Option<Aim>, AllocError>
     requires same { labels.now.netlist ≡ roled.now.case.core.now }
     requires not_blocked { IsNotBlocked labels.now }
@@ -199,7 +260,7 @@ pub(crate) fn objective(
     }
     let decided = lowest_decided(roled, labels, stack);
     if let Some(gate) = frontier.nearest(core, course.measures, labels, paths)? {
-        if let Some(pin) = lowest_pin(core, course, labels, gate) {
+        if let Some(pin) = lowest_pin(core, course, places, labels, gate) {
             if is_lower(core, pin.signal, &decided) {
                 return Ok(Some(pin));
             }
@@ -208,7 +269,7 @@ pub(crate) fn objective(
     let Some(gate) = decided else {
         return Ok(None);
     };
-    Ok(into_gate(core, course, labels, gate))
+    Ok(into_gate(core, course, places, labels, gate))
 }
 
 /// Whether the backtrace ends at a signal: at a head line, an input or a cell, and at the first fanout stem where it is to.
@@ -227,6 +288,7 @@ fn ends(roled: &RoledCase, labels: &PairSim, id: SignalId, stop: Stop) -> bool
 pub(crate) fn trace_from(
     roled: &RoledCase,
     course: &Course,
+    places: &mut Places,
     labels: &PairSim,
     objective: Aim,
 ) -> Option<Aim>
@@ -238,7 +300,7 @@ pub(crate) fn trace_from(
         if ends(roled, labels, aim.signal, course.stop) {
             return Some(aim);
         }
-        aim = into_gate(roled.case.core, course, labels, aim)?;
+        aim = into_gate(roled.case.core, course, places, labels, aim)?;
     }
     None
 }

@@ -4,9 +4,8 @@ ghost use Rattle.std.specs.Prelude.{◌≡◌, ◌≤◌, None, IfOk, IfSome, On
 ghost use Rattle.podem.specs.inner.Searching.{IsReady, IsAnswer, IsKept};
 
 use crate::guides::{Guide, Pick};
-use crate::orders::{Orders, Places};
 use crate::searching::search_from;
-use decisions::{Case, Effects, Measures};
+use decisions::{Case, Effects, Measures, Orders, Places};
 use evidence::{Engine, Found};
 use netlist::{Core, Fault, Holds, NoMemory};
 use pair_sim::{PairSim, SimRoom};

@@ -2,10 +2,9 @@
 ghost use Rattle.std.specs.Prelude.{◌≡◌};
 ghost use Rattle.pair_sim.specs.Sims.{IsNotBlocked};
 
-use crate::orders::{By, Orders, Places};
 use decisions::{
-    Aim, Case, Effects, Measures, count_pins, excitation, gate_of, hash_in, is_unknown,
-    may_get_effect, mixed, place_of, readers, salt_of, signal_count,
+    Aim, By, Case, Effects, Measures, Orders, Places, count_pins, excitation, gate_of, hash_in,
+    is_unknown, may_get_effect, mixed, place_of, readers, salt_of, signal_count,
 };
 use netlist::{Core, Fault, Kind, Line, SignalId};
 use pair_sim::PairSim;

@@ -10,7 +10,6 @@
 mod candidates;
 mod engine;
 mod guides;
-mod orders;
 mod searching;
 
 pub use candidates::tried_in;
