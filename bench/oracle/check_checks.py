@@ -1,6 +1,5 @@
 #!/usr/bin/env python3
-"""Works out what the rows of crates/check_cases have to print, by bench/oracle/plain_check.py and
-bench/oracle/plain_transition.py, which have nothing of the crates.
+"""Works out what the rows of crates/check_cases have to print, by bench/oracle/plain_check.py, which has nothing of the crates.
 
     bench/oracle/check_checks.py           prints it
 """
@@ -9,7 +8,6 @@ import sys
 
 sys.path.insert(0, str(pathlib.Path(__file__).resolve().parent))
 import plain_check
-import plain_transition
 
 STDIN = pathlib.Path(__file__).resolve().parents[2] / "crates/check_cases/stdin"
 
@@ -32,8 +30,7 @@ def answer(files):
     for end in plain_check.ENDS:
         if end not in files:
             return 7, f"no such file: p.{end}"
-    judge = plain_transition if plain_transition.is_slow(files["rep"]) else plain_check
-    return judge.check(files)
+    return plain_check.check(files)
 
 
 def rows(lines):
