@@ -1,11 +1,11 @@
 //! Netlists: made of parts, or refused with the first cause.
-ghost use Rattle.std.specs.Prelude.{◌≡◌, ◌<◌, ◌≤◌, ℕ, List, length, map, MatchResult, Some, [], slice_get, IfOk};
+ghost use Rattle.std.specs.Prelude.{◌≡◌, ◌<◌, ◌≤◌, ℕ, List, length, map, MatchOption, MatchResult, Some, [], slice_get, IfOk};
 ghost use Rattle.std.specs.List.{Contains, filter};
 ghost use Rattle.std.specs.Option.{option_map, option_map_or};
 ghost use Rattle.statement.specs.Netlists.{Definition as Equation, cells, is_cell, signals, readers_of};
 ghost use Rattle.netlist.specs.Netlist.{definition_of};
 ghost use Rattle.netlist.specs.Orders.{IsOrder};
-ghost use Rattle.netlist.specs.inner.Sorting.{AreReaders};
+ghost use Rattle.netlist.specs.inner.Kept.{AreNamed, IsArranged};
 ghost use Rattle.netlist.specs.Conditions.{IsWellFormed, IsSound, IsCause, whole};
 
 use crate::equations::{Definition, Parts};
@@ -70,19 +70,61 @@ fn flip_flops(alloc: Global, parts: &Parts) -> Result<Vec<SignalId>, AllocError>
     Ok(cells)
 }
 
-/// The netlist of parts that are sound.
-fn finish(
-    alloc: Global,
-    parts: Parts,
+/// The first cause against the parts, but for loops and want of memory.
+fn refusal(parts: &Parts) -> Option<NetRefusal>
+    requires { IsWellFormed (whole parts.now) }
+    ensures { MatchOption result (AreNamed (whole parts.now)) (IsCause (whole parts.now)) }
+{
+    let inputs = parts.inputs.len();
+    if inputs > MOST_SIGNALS || parts.definitions.len() > MOST_SIGNALS - inputs {
+        return Some(NetRefusal::TooMany);
+    }
+    if inputs == 0 {
+        return Some(NetRefusal::NoInput);
+    }
+    if parts.outputs.is_empty() {
+        return Some(NetRefusal::NoOutput);
+    }
+    let signals = inputs + parts.definitions.len();
+    if signals < parts.names.len() {
+        return Some(NetRefusal::Undefined(SignalId(signals as u32)));
+    }
+    None
+}
+
+/// The readers of every signal, and an order of evaluation.
+#[derive(Drop)]
+struct Arranged {
     table: ReaderTable,
     order: Vec<SignalId>,
-) -> Result<Netlist, AllocError>
-    requires sound { IsSound (whole parts) }
-    requires readers { AreReaders (whole parts) table }
-    requires ordered { IsOrder (whole parts) order.items }
+}
+
+/// The readers and an order, unless there is a loop.
+fn arrange(alloc: Global, parts: &Parts) -> Result<Arranged, NetRefusal>
+    requires formed { IsWellFormed (whole parts.now) }
+    requires named { AreNamed (whole parts.now) }
+    ensures { MatchResult result (λ a. IsArranged (whole parts.now) a.table a.order.items) (IsCause (whole parts.now)) }
+{
+    let Ok(table) = ReaderTable::of_parts(alloc, parts) else {
+        return Err(NetRefusal::NoMemory);
+    };
+    let Ok(sorting) = sort(alloc, parts, &table) else {
+        return Err(NetRefusal::NoMemory);
+    };
+    let Sorting { order, ranks } = sorting;
+    match first_left(&ranks) {
+        Some(z) => Err(NetRefusal::Loop(SignalId(z))),
+        None => Ok(Arranged { table, order }),
+    }
+}
+
+/// The netlist of parts that are sound.
+fn finish(alloc: Global, parts: Parts, arranged: Arranged) -> Result<Netlist, AllocError>
+    requires { IsArranged (whole parts) arranged.table arranged.order.items }
     ensures { IfOk result (λ n. n ≡ whole parts) }
 {
     let flip_flops = flip_flops(alloc, &parts)?;
+    let Arranged { table, order } = arranged;
     Ok(Netlist {
         parts,
         flip_flops,
@@ -97,30 +139,12 @@ impl Netlist {
         requires { IsWellFormed (whole parts) }
         ensures { MatchResult result (λ n. n ≡ whole parts) (IsCause (whole parts)) }
     {
-        let inputs = parts.inputs.len();
-        if inputs > MOST_SIGNALS || parts.definitions.len() > MOST_SIGNALS - inputs {
-            return Err(NetRefusal::TooMany);
+        if let Some(refusal) = refusal(&parts) {
+            return Err(refusal);
         }
-        if inputs == 0 {
-            return Err(NetRefusal::NoInput);
-        }
-        if parts.outputs.is_empty() {
-            return Err(NetRefusal::NoOutput);
-        }
-        let signals = inputs + parts.definitions.len();
-        if signals < parts.names.len() {
-            return Err(NetRefusal::Undefined(SignalId(signals as u32)));
-        }
-        let Ok(table) = ReaderTable::of_parts(alloc, &parts) else {
-            return Err(NetRefusal::NoMemory);
-        };
-        let Ok(sorting) = sort(alloc, &parts, &table) else {
-            return Err(NetRefusal::NoMemory);
-        };
-        let Sorting { order, ranks } = sorting;
-        match first_left(&ranks) {
-            Some(z) => Err(NetRefusal::Loop(SignalId(z))),
-            None => finish(alloc, parts, table, order).map_err(|_| NetRefusal::NoMemory),
+        match arrange(alloc, &parts) {
+            Ok(arranged) => finish(alloc, parts, arranged).map_err(|_| NetRefusal::NoMemory),
+            Err(refusal) => Err(refusal),
         }
     }
 

@@ -1,6 +1,15 @@
-use Rattle.std.proofs.Common.{◌∙◌}
-use Rattle.netlist.proofs.Settling.{cells_below, cells_distinct, sources_driven}
+use Rattle.std.proofs.Common.{◌<◌, ◌≢◌, ℕ, List, length, sym, subst, ◌∙◌}
+use Rattle.std.specs.List.{All, AllPairs}
+use Rattle.netlist.proofs.Settling.{inputs_below, inputs_distinct, cells_below, cells_distinct, sources_driven}
 use Rattle.netlist.proofs.rules.drive_sources.Goals as goal
+
+pub drive-requires-clause-below : goal.drive-requires-clause-below
+drive-requires-clause-below g c =
+    subst (λ (xs : List ℕ). All (λ x. x < length c.args.values.now.items) xs) (sym c.inputs.ensures) (inputs_below c.args.netlist.now c.requires.sound.formed.numbered _ c.requires.size)
+
+pub drive-requires-clause-distinct : goal.drive-requires-clause-distinct
+drive-requires-clause-distinct g c =
+    subst (λ (xs : List ℕ). AllPairs (λ x y. x ≢ y) xs) (sym c.inputs.ensures) (inputs_distinct c.args.netlist.now c.requires.sound.formed.numbered)
 
 pub drive-requires-2-clause-below : goal.drive-requires-2-clause-below
 drive-requires-2-clause-below g c =
