@@ -19,8 +19,8 @@ use Rattle.pair_sim.specs.Sims.{Sim, assigned, HasGood}
 use Rattle.decisions.specs.Standing.{MayDecide}
 use Rattle.decisions.specs.Turns.{undecided}
 use Rattle.decisions.proofs.Standing.{of_case}
-use Rattle.podem.specs.Sources.{all_sources, sources, PlaceInSources}
-use Rattle.podem.specs.inner.Searching.{IsAt, MayGoOn, IsFreeSource, IsChosen, IsKnownAt, IsTestAt, OnSources, IsKept}
+use Rattle.podem.specs.Sources.{all_sources, sources}
+use Rattle.podem.specs.inner.Searching.{IsAt, PlaceLooked, MayGoOn, IsFreeSource, IsChosen, IsKnownAt, IsTestAt, OnSources, IsKept}
 use Rattle.podem.proofs.Turns.{going_open, only_sources, none_only, known_decided}
 use Rattle.podem.proofs.Ends.{not_going}
 use Rattle.podem.proofs.Owns.{source_signal, any_source, free_is_source}
@@ -34,9 +34,9 @@ one_more_source n holds x b p h k y c e =
     ] in
     step (eqb y x) refl e
 
-module _ {c : Case} {s : Sim} {stack : List Side} {x : ℕ} (w : IsChosen c s stack x) where
+module _ {c : Case} {looks : Bool} {s : Sim} {stack : List Side} {x : ℕ} (w : IsChosen c looks s stack x) where
   on_sources : OnSources c.core.now c.holds.now (path_of_stack stack)
-  on_sources = only_sources c.fault c.core.now c.holds.now stack [] (none_only c.fault c.core.now c.holds.now) w.on.at.around
+  on_sources = only_sources c.fault c.core.now c.holds.now looks stack [] (none_only c.fault c.core.now c.holds.now) w.on.at.around
 
   pub test_there : (new : Sim) (b : Bool) (point : Point) → new ≡ assigned s x b → IsTestPath s.fault s.netlist s.holds ((x, b) ∷ s.path) point → IsTestAt c new point
   test_there new b point a t = record {
@@ -47,10 +47,10 @@ module _ {c : Case} {s : Sim} {stack : List Side} {x : ℕ} (w : IsChosen c s st
   }
 
   -- it may be split on, or forced where one side is closed
-  pub split : PlaceInSources c.fault c.core.now c.holds.now (record { path = path_of_stack stack; node = Split x })
+  pub split : PlaceLooked looks c.fault c.core.now c.holds.now (record { path = path_of_stack stack; node = Split x })
   split = ((going_open c.fault c.core.now c.holds.now w.on.case.sound (path_of_stack stack) w.on.going, w.chosen.free), w.chosen.source)
 
-  pub may_decide : MayDecide (PlaceInSources c.fault c.core.now c.holds.now) c.fault c.core.now c.holds.now s stack x
+  pub may_decide : MayDecide (PlaceLooked looks c.fault c.core.now c.holds.now) c.fault c.core.now c.holds.now s stack x
   may_decide = record {
     is = w.on.at;
     free = w.chosen.free;
@@ -72,8 +72,8 @@ none_left path (x ∷ xs) h =
     zero_sum true k p q = absurd cc
     zero_sum false k p q = omega arith
 
-pub some_free : {c : Case} {s : Sim} {stack : List Side} → MayGoOn c s stack → All (IsKnownAt s) c.core.now.inputs → All (IsKnownAt s) (map (λ (d : Definition). d.id) (cells c.core.now)) → ⊥
-some_free {c} {s} {stack} w inputs states =
+pub some_free : {c : Case} {looks : Bool} {s : Sim} {stack : List Side} → MayGoOn c looks s stack → All (IsKnownAt s) c.core.now.inputs → All (IsKnownAt s) (map (λ (d : Definition). d.id) (cells c.core.now)) → ⊥
+some_free {c} {looks} {s} {stack} w inputs states =
     let f = c.fault in
     let n = c.core.now in
     let holds = c.holds.now in
@@ -83,10 +83,10 @@ some_free {c} {s} {stack} w inputs states =
     All-from_contains (λ x. is_none (decisions path x) ≡ false) (sources n holds)
     (λ x m. let k = All-contains (IsKnownAt s) (all_sources n) x all (any_source n holds x m) in
     known_decided f n holds path x k.0 m (subst (λ (r : Sim). HasGood r x k.0) w.at.at k.1) k.2) in
-    not_going f n holds w.case.sound path (none_left path (sources n holds) decided) (only_sources f n holds stack [] (none_only f n holds) w.at.around) w.going
+    not_going f n holds w.case.sound path (none_left path (sources n holds) decided) (only_sources f n holds looks stack [] (none_only f n holds) w.at.around) w.going
 
-pub chosen_from : {c : Case} {s : Sim} {stack : List Side} → IsAt c s stack → (x : ℕ) → Contains (all_sources c.core.now) x → HasGood s x X → IsFreeSource c stack x
-chosen_from {c} {s} {stack} w x m h =
+pub chosen_from : {c : Case} {looks : Bool} {s : Sim} {stack : List Side} → IsAt c looks s stack → (x : ℕ) → Contains (all_sources c.core.now) x → HasGood s x X → IsFreeSource c stack x
+chosen_from {c} {looks} {s} {stack} w x m h =
     let path : Path = path_of_stack stack in
     let g : HasGood (sim_of c path) x X = subst (λ (r : Sim). HasGood r x X) w.at h in
     let free : IsUnknown c.fault c.core.now c.holds.now path x = record { label = g.label; are = g.are; signal = source_signal c.core.now x m; unknown = g.good } in

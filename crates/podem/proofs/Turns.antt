@@ -22,7 +22,7 @@ use Rattle.pair_sim.specs.Sims.{sim, HasGood}
 use Rattle.pair_sim.proofs.Free.{own_if_undecided}
 use Rattle.decisions.specs.Standing.{AsksFit, SplitsAmong}
 use Rattle.podem.specs.Sources.{sources, StandsInSources, PlaceInSources}
-use Rattle.podem.specs.inner.Searching.{OnSources}
+use Rattle.podem.specs.inner.Searching.{OnSources, PlaceLooked}
 use Rattle.podem.proofs.Owns.{source_signal, any_source, source_own}
 
 -- where the search may go on, the label isn't closed
@@ -44,16 +44,16 @@ splits_sources f n holds path x h = h.1
 
 module _ (f : Fault) (n : Netlist) (holds : Holds) where
   -- a path of decisions on sources
-  pub only_sources : (stack : List Side) (p : Path) → OnSources n holds p → StandsAround (PlaceInSources f n holds) p stack → OnSources n holds (stack_onto p stack)
-  only_sources [] p h w = h
-  only_sources (r ∷ ss) p h w = only_sources ss ((r.signal, r.bit) ∷ p) (more r.signal r.bit r.other w.0) w.2
+  pub only_sources : (looks : Bool) (stack : List Side) (p : Path) → OnSources n holds p → StandsAround (PlaceLooked looks f n holds) p stack → OnSources n holds (stack_onto p stack)
+  only_sources looks [] p h w = h
+  only_sources looks (r ∷ ss) p h w = only_sources looks ss ((r.signal, r.bit) ∷ p) (more r.signal r.bit r.other w.0) w.2
     where
-      source : (x : ℕ) (b : Bool) (o : Other) → PlaceInSources f n holds (record { path = p; node = node_of x b o }) → Contains (sources n holds) x
+      source : (x : ℕ) (b : Bool) (o : Other) → PlaceLooked looks f n holds (record { path = p; node = node_of x b o }) → Contains (sources n holds) x
       source x b Untried k = k.1
       source x b (Searched t) k = k.1
       source x b Shut k = k.1
 
-      more : (x : ℕ) (b : Bool) (o : Other) → PlaceInSources f n holds (record { path = p; node = node_of x b o }) → OnSources n holds ((x, b) ∷ p)
+      more : (x : ℕ) (b : Bool) (o : Other) → PlaceLooked looks f n holds (record { path = p; node = node_of x b o }) → OnSources n holds ((x, b) ∷ p)
       more x b o k y c e =
           let step : (t : Bool) → eqb y x ≡ t → cond t (Some b) (decisions p y) ≡ Some c → Contains (sources n holds) y =
           elim [

@@ -4,7 +4,7 @@ ghost use Rattle.std.specs.Prelude.{◌≡◌, ◌≤◌, None, IfOk, IfSome, On
 ghost use Rattle.podem.specs.inner.Searching.{IsReady, IsAnswer, IsKept};
 
 use crate::guides::{Guide, Pick};
-use crate::searching::search_from;
+use crate::searching::{short_search, whole_search};
 use decisions::{Case, Effects, Measures, Orders, Places};
 use evidence::{Engine, Found};
 use netlist::{Core, Fault, Holds, NoMemory};
@@ -48,15 +48,11 @@ fn short_attempt(
     if limit <= FEW {
         return Ok(None);
     }
-    match search_from(alloc, case, guide, labels, FEW)? {
-        Found::Test(cube, point) => Ok(Some(Found::Test(cube, point))),
-        Found::Closed(tree) => Ok(Some(Found::Closed(tree))),
-        Found::Refuted(_) => unreachable!(),
-        Found::Partial(_) => {
-            labels.undo_all();
-            Ok(None)
-        }
+    let found = short_search(alloc, case, guide, labels, FEW)?;
+    if found.is_none() {
+        labels.undo_all();
     }
+    Ok(found)
 }
 
 /// The attempts, one after the other.
@@ -87,7 +83,7 @@ fn attempts(
         Pick::Lowest
     };
     guide.go_to(last);
-    search_from(alloc, case, guide, labels, limit)
+    whole_search(alloc, case, guide, labels, limit)
 }
 
 impl Podem {

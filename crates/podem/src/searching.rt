@@ -3,29 +3,32 @@
 //! Branch and bound over the bits of inputs and cells alone (Goel 1981). The D-algorithm (Roth 1966) decides on inner signals too, and then has
 //! to justify what it decided; here each decision can be had, and whether a path is closed is told by its labels.
 //!
-//! A turn looks at the other side of a decision before it goes to the wanted one. Where that is closed already, the decision is Forced and
-//! takes nothing from the backtrack limit; where it is a test, the search is over.
+//! A turn of the last attempt looks at the other side of a decision before it goes to the wanted one. Where that is closed already, the decision
+//! is Forced and takes nothing from the backtrack limit; where it is a test, the search is over. Short attempts, whose trees are dropped where they
+//! give up, look at the other side only where the wanted one is closed, or once they come back to it: most end in a test before that.
 //!
 //! The decisions are a stack that stands for the tree at any time (`decisions`).
-ghost use Rattle.std.specs.Prelude.{◌≡◌, ◌≤◌, ◌<◌, [], ◌∷◌, length, IfOk, IfSome, OnOk, MatchOption, IsTrue, map};
+ghost use Rattle.std.specs.Prelude.{◌≡◌, ◌≤◌, ◌<◌, ◌||◌, not, Bool, true, false, None, [], ◌∷◌, length, IfOk, IfSome, OnOk, MatchOption, IsTrue, map};
 ghost use Rattle.std.specs.List.{All, Contains};
 ghost use Rattle.statement.specs.declared.kinds.Tri.TheVariants.{X};
 ghost use Rattle.statement.specs.Netlists.{signals};
 ghost use Rattle.decisions.specs.Cases.{IsCase};
+ghost use Rattle.decisions.specs.declared.cases.Case.{Case as CaseOf};
+ghost use Rattle.decisions.specs.Climbing.{IsAtEnd, IsBacktrackStep};
 ghost use Rattle.pair_sim.specs.Sims.{HasGood, IsFree};
 ghost use Rattle.redundancy_cert.specs.TestCubes.{IsTestCube};
 ghost use Rattle.podem.specs.Sources.{all_sources, value_of};
-ghost use Rattle.podem.specs.inner.Searching.{MayGoOn, IsFreeSource, IsChosen, IsClosedSide, IsGoingSide, IsSeen, IsGone, IsKnownAt, IsTestAt, IsStepped, IsReady, IsAnswer, IsKept};
+ghost use Rattle.podem.specs.inner.Searching.{MayGoOn, MayTurn, IsFreeSource, IsChosen, IsClosedSide, IsGoingSide, IsSeen, IsGone, IsKnownAt, IsTestAt, IsStepped, IsReady, IsAnswer, IsSettled, IsKept, HasGivenUp};
 
 use crate::guides::{Guide, best_aim};
 use cubes::Cube;
 use decisions::{
-    Aim, Case, Effects, Step, close_both, closed_tree, one_if, push, signal_count, tree_so_far,
+    Aim, Case, Effects, Step, climb, close_both, closed_tree, one_if, push, signal_count, tree_so_far,
 };
 use evidence::Found;
 use netlist::{Core, Point, SignalId, Tri};
 use pair_sim::{PairSim, State};
-use redundancy_cert::{Other, Side, Tree};
+use redundancy_cert::{Node, Other, Side, Tree};
 use std::alloc::{AllocError, Global};
 
 /// Looks at a side, and comes back unless it's a test.
@@ -72,7 +75,7 @@ fn first_free(labels: &PairSim, ids: &[SignalId]) -> Option<SignalId>
 
 /// A source that is X: while the search may go on there is one.
 fn any_free(case: &Case, labels: &PairSim, stack: &Vec<Side>) -> SignalId
-    requires { MayGoOn case.now labels.now stack.now.items }
+    requires { (looks : Bool) × MayGoOn case.now looks labels.now stack.now.items }
     ensures { IsFreeSource case.now stack.now.items result }
 {
     let netlist = case.core.netlist();
@@ -115,7 +118,7 @@ pub(crate) fn wanted_source(core: &Core, labels: &PairSim, wanted: SignalId) -> 
 
 /// The source to which the objective leads back.
 fn guided(case: &Case, guide: &mut Guide, labels: &PairSim, stack: &Vec<Side>) -> Option<Aim>
-    requires { MayGoOn case.now labels.now stack.now.items }
+    requires { (looks : Bool) × MayGoOn case.now looks labels.now stack.now.items }
     ensures { IfSome result (λ a. IsFreeSource case.now stack.now.items a.signal) }
 {
     let aim = best_aim(case, guide, labels)?;
@@ -128,7 +131,7 @@ fn guided(case: &Case, guide: &mut Guide, labels: &PairSim, stack: &Vec<Side>) -
 
 /// What to decide next.
 fn choose(case: &Case, guide: &mut Guide, labels: &PairSim, stack: &Vec<Side>) -> Aim
-    requires { MayGoOn case.now labels.now stack.now.items }
+    requires { (looks : Bool) × MayGoOn case.now looks labels.now stack.now.items }
     ensures { IsFreeSource case.now stack.now.items result.signal }
 {
     match guided(case, guide, labels, stack) {
@@ -143,15 +146,15 @@ fn choose(case: &Case, guide: &mut Guide, labels: &PairSim, stack: &Vec<Side>) -
 /// A turn where this side is closed: goes to the other one.
 fn after_closed(
     alloc: Global,
-    case: &Case,
     effects: &mut Effects,
     labels: &mut PairSim,
     stack: &mut Vec<Side>,
     side: Aim,
 ) -> Result<Step, AllocError>
-    requires chosen { IsChosen case.now labels.old stack.old.items side.signal }
-    requires closed { IsClosedSide case.now stack.old.items side.signal side.bit }
-    ensures { IfOk result (IsStepped case.now stack.old.items labels.new stack.new.items) }
+    requires end { IsAtEnd labels.old.fault labels.old.netlist labels.old.holds labels.old stack.old.items }
+    requires free { IsFree labels.old side.signal }
+    ensures { (c : CaseOf) (looks : Bool) → IsChosen c looks labels.old stack.old.items side.signal → IsClosedSide c stack.old.items side.signal side.bit
+        → IfOk result (IsStepped c looks stack.old.items labels.new stack.new.items) }
 {
     match go(labels, side.signal, !side.bit) {
         State::Test(point) => Ok(Step::Found(point)),
@@ -167,9 +170,9 @@ fn after_going(
     stack: &mut Vec<Side>,
     side: Aim,
 ) -> Result<Step, AllocError>
-    requires chosen { IsChosen case.now labels.old stack.old.items side.signal }
+    requires chosen { IsChosen case.now true labels.old stack.old.items side.signal }
     requires going { IsGoingSide case.now stack.old.items side.signal side.bit }
-    ensures { IfOk result (IsStepped case.now stack.old.items labels.new stack.new.items) }
+    ensures { IfOk result (IsStepped case.now true stack.old.items labels.new stack.new.items) }
 {
     match go(labels, side.signal, !side.bit) {
         State::Test(point) => Ok(Step::Found(point)),
@@ -181,28 +184,108 @@ fn after_going(
     }
 }
 
-/// A turn of the search: the other side of a decision is looked at, and then its own side is gone to.
+/// Decides this side, once the other one is looked at.
+fn split(
+    alloc: Global,
+    case: &Case,
+    effects: &mut Effects,
+    labels: &mut PairSim,
+    stack: &mut Vec<Side>,
+    side: Aim,
+) -> Result<Step, AllocError>
+    requires { IsChosen case.now true labels.old stack.old.items side.signal }
+    ensures { IfOk result (IsStepped case.now true stack.old.items labels.new stack.new.items) }
+{
+    let other = Aim {
+        signal: side.signal,
+        bit: !side.bit,
+    };
+    match look(labels, other.signal, other.bit) {
+        State::Test(point) => Ok(Step::Found(point)),
+        State::Blocked => after_closed(alloc, effects, labels, stack, other),
+        State::Going => after_going(case, labels, stack, other),
+    }
+}
+
+/// Decides this side, and looks at the other one only where this one is closed.
+fn hurry(
+    alloc: Global,
+    case: &Case,
+    effects: &mut Effects,
+    labels: &mut PairSim,
+    stack: &mut Vec<Side>,
+    side: Aim,
+) -> Result<Step, AllocError>
+    requires { IsChosen case.now false labels.old stack.old.items side.signal }
+    ensures { IfOk result (IsStepped case.now false stack.old.items labels.new stack.new.items) }
+{
+    match go(labels, side.signal, side.bit) {
+        State::Test(point) => Ok(Step::Found(point)),
+        State::Blocked => after_closed(alloc, effects, labels, stack, side),
+        State::Going => push(stack, side.signal, side.bit, Other::Untried),
+    }
+}
+
+/// A turn where the search may go on: a decision more.
 fn take_turn(
     alloc: Global,
     case: &Case,
     guide: &mut Guide,
     labels: &mut PairSim,
     stack: &mut Vec<Side>,
+    looks: bool,
 ) -> Result<Step, AllocError>
-    requires { MayGoOn case.now labels.old stack.old.items }
-    ensures { IfOk result (IsStepped case.now stack.old.items labels.new stack.new.items) }
+    requires { MayGoOn case.now looks labels.old stack.old.items }
+    ensures { IfOk result (IsStepped case.now looks stack.old.items labels.new stack.new.items) }
 {
     guide.effects.follow(case.core, &case.fault, labels)?;
     guide.places.reach(stack.len());
     let aim = choose(case, guide, labels, stack);
-    let other = Aim {
-        signal: aim.signal,
-        bit: !aim.bit,
-    };
-    match look(labels, other.signal, other.bit) {
+    if looks {
+        split(alloc, case, &mut guide.effects, labels, stack, aim)
+    } else {
+        hurry(alloc, case, &mut guide.effects, labels, stack, aim)
+    }
+}
+
+/// The path's end is closed: goes back.
+fn go_back(
+    alloc: Global,
+    effects: &mut Effects,
+    labels: &mut PairSim,
+    stack: &mut Vec<Side>,
+) -> Result<Step, AllocError>
+    requires { IsAtEnd labels.old.fault labels.old.netlist labels.old.holds labels.old stack.old.items }
+    ensures end { OnOk result (IsAtEnd labels.old.fault labels.old.netlist labels.old.holds labels.new stack.new.items) }
+    ensures step { IfOk result (IsBacktrackStep (Node.Closed ∷ []) stack.old.items stack.new.items) }
+{
+    let done = closed_tree(alloc)?;
+    match climb(effects, labels, stack, done)? {
+        Some(nodes) => Ok(Step::Done(nodes)),
+        None => Ok(Step::On(true)),
+    }
+}
+
+/// A turn of the search. Where it came back to a side that wasn't looked at, that is looked at first.
+fn turn(
+    alloc: Global,
+    case: &Case,
+    guide: &mut Guide,
+    labels: &mut PairSim,
+    stack: &mut Vec<Side>,
+    looks: bool,
+    is_seen: bool,
+) -> Result<Step, AllocError>
+    requires { MayTurn case.now looks is_seen labels.old stack.old.items }
+    ensures { IfOk result (IsStepped case.now looks stack.old.items labels.new stack.new.items) }
+{
+    if is_seen {
+        return take_turn(alloc, case, guide, labels, stack, looks);
+    }
+    match labels.state() {
         State::Test(point) => Ok(Step::Found(point)),
-        State::Blocked => after_closed(alloc, case, &mut guide.effects, labels, stack, other),
-        State::Going => after_going(case, labels, stack, other),
+        State::Blocked => go_back(alloc, &mut guide.effects, labels, stack),
+        State::Going => take_turn(alloc, case, guide, labels, stack, looks),
     }
 }
 
@@ -242,36 +325,100 @@ pub(crate) fn cube_there(
     Ok(Cube::new(inputs, cells))
 }
 
-/// The search from the path without decisions, where it may go on.
+/// Whether the end of the path was looked at, where the search goes on; whether it came back there.
+fn is_end_seen(looks: bool, came_back: bool) -> bool
+    ensures { result ≡ (looks || not came_back) }
+{
+    looks || !came_back
+}
+
+/// The search from the path without decisions, where it may go on, up to where it gives up.
 fn search_on(
     alloc: Global,
     case: &Case,
     guide: &mut Guide,
     labels: &mut PairSim,
+    stack: &mut Vec<Side>,
     limit: u32,
-) -> Result<Found, AllocError>
-    requires { MayGoOn case.now labels.old [] }
-    ensures answer { IfOk result (IsAnswer case.now limit) }
+    looks: bool,
+) -> Result<Option<Found>, AllocError>
+    requires start { MayGoOn case.now looks labels.old [] }
+    requires empty { stack.old.items ≡ [] }
+    ensures answer { IfOk result (λ o. IfSome o (IsSettled case.now limit)) }
+    ensures given_up { IfOk result (λ o. o ≡ None → HasGivenUp case.now looks limit labels.new stack.new.items) }
+    ensures kept { OnOk result (IsKept case.now labels.new) }
+{
+    let mut closed: u32 = 0;
+    let mut is_seen = true;
+    while closed < limit {
+        match turn(alloc, case, guide, labels, stack, looks, is_seen)? {
+            Step::Found(point) => {
+                let cube = cube_there(alloc, case, labels, &point)?;
+                return Ok(Some(Found::Test(cube, point)));
+            }
+            Step::Done(nodes) => return Ok(Some(Found::Closed(Tree::new(nodes)))),
+            Step::On(more) => {
+                closed += one_if(more);
+                is_seen = is_end_seen(looks, more);
+            }
+        }
+    }
+    Ok(None)
+}
+
+/// The search from the path without decisions: a test, a tree without Open, or nothing where it gives up.
+fn search_from(
+    alloc: Global,
+    case: &Case,
+    guide: &mut Guide,
+    labels: &mut PairSim,
+    stack: &mut Vec<Side>,
+    limit: u32,
+    looks: bool,
+) -> Result<Option<Found>, AllocError>
+    requires start { IsReady case.now labels.old }
+    requires empty { stack.old.items ≡ [] }
+    requires some { 1 ≤ limit }
+    ensures answer { IfOk result (λ o. IfSome o (IsSettled case.now limit)) }
+    ensures given_up { IfOk result (λ o. o ≡ None → HasGivenUp case.now looks limit labels.new stack.new.items) }
+    ensures kept { OnOk result (IsKept case.now labels.new) }
+{
+    match labels.state() {
+        State::Test(point) => {
+            let cube = cube_there(alloc, case, labels, &point)?;
+            Ok(Some(Found::Test(cube, point)))
+        }
+        State::Blocked => {
+            let tree = closed_tree(alloc)?;
+            Ok(Some(Found::Closed(Tree::new(tree))))
+        }
+        State::Going => {
+            guide.effects.begin();
+            search_on(alloc, case, guide, labels, stack, limit, looks)
+        }
+    }
+}
+
+/// A search that looks at the other side of a decision only where its own is closed, or once it comes back to it: a test, a tree without Open, or
+/// nothing where it gives up.
+pub(crate) fn short_search(
+    alloc: Global,
+    case: &Case,
+    guide: &mut Guide,
+    labels: &mut PairSim,
+    limit: u32,
+) -> Result<Option<Found>, AllocError>
+    requires start { IsReady case.now labels.old }
+    requires some { 1 ≤ limit }
+    ensures answer { IfOk result (λ o. IfSome o (IsSettled case.now limit)) }
     ensures kept { OnOk result (IsKept case.now labels.new) }
 {
     let mut stack = Vec::new(alloc);
-    let mut closed: u32 = 0;
-    while closed < limit {
-        match take_turn(alloc, case, guide, labels, &mut stack)? {
-            Step::Found(point) => {
-                let cube = cube_there(alloc, case, labels, &point)?;
-                return Ok(Found::Test(cube, point));
-            }
-            Step::Done(nodes) => return Ok(Found::Closed(Tree::new(nodes))),
-            Step::On(more) => closed += one_if(more),
-        }
-    }
-    let nodes = tree_so_far(alloc, stack)?;
-    Ok(Found::Partial(Tree::new(nodes)))
+    search_from(alloc, case, guide, labels, &mut stack, limit, false)
 }
 
-/// The search from the path without decisions: a test, a tree without Open, or a tree with as many Closed as the backtrack limit.
-pub(crate) fn search_from(
+/// A search that looks at both sides of a decision: a test, a tree without Open, or a tree with as many Closed as the backtrack limit.
+pub(crate) fn whole_search(
     alloc: Global,
     case: &Case,
     guide: &mut Guide,
@@ -283,18 +430,10 @@ pub(crate) fn search_from(
     ensures answer { IfOk result (IsAnswer case.now limit) }
     ensures kept { OnOk result (IsKept case.now labels.new) }
 {
-    match labels.state() {
-        State::Test(point) => {
-            let cube = cube_there(alloc, case, labels, &point)?;
-            Ok(Found::Test(cube, point))
-        }
-        State::Blocked => {
-            let tree = closed_tree(alloc)?;
-            Ok(Found::Closed(Tree::new(tree)))
-        }
-        State::Going => {
-            guide.effects.begin();
-            search_on(alloc, case, guide, labels, limit)
-        }
+    let mut stack = Vec::new(alloc);
+    if let Some(found) = search_from(alloc, case, guide, labels, &mut stack, limit, true)? {
+        return Ok(found);
     }
+    let nodes = tree_so_far(alloc, stack)?;
+    Ok(Found::Partial(Tree::new(nodes)))
 }
