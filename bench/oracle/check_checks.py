@@ -1,5 +1,6 @@
 #!/usr/bin/env python3
-"""Works out what the rows of crates/check_cases have to print, by bench/oracle/plain_check.py, which has nothing of the crates.
+"""Works out what the rows of crates/check_cases have to print, by bench/oracle/plain_check.py and
+bench/oracle/plain_transition.py, which have nothing of the crates.
 
     bench/oracle/check_checks.py           prints it
 """
@@ -8,6 +9,7 @@ import sys
 
 sys.path.insert(0, str(pathlib.Path(__file__).resolve().parent))
 import plain_check
+import plain_transition
 
 STDIN = pathlib.Path(__file__).resolve().parents[2] / "crates/check_cases/stdin"
 
@@ -30,7 +32,8 @@ def answer(files):
     for end in plain_check.ENDS:
         if end not in files:
             return 7, f"no such file: p.{end}"
-    return plain_check.check(files)
+    judge = plain_transition if plain_transition.is_slow(files["rep"]) else plain_check
+    return judge.check(files)
 
 
 def rows(lines):

@@ -3,7 +3,7 @@
 
     bench/oracle/plain_transition.py PREFIX     tries all that the five files of `atpg transition` say: PREFIX.net, .scan, .stil, .cert and .rep
     bench/oracle/plain_transition.py --all NET  counts by all patterns how many transition faults there are tests for
-    bench/oracle/plain_transition.py --check PREFIX     prints what is false of them by the clauses of `check`, which itself refuses them
+    bench/oracle/plain_transition.py --check PREFIX     prints the line that `check` has to print, and ends with its status
     bench/oracle/plain_transition.py --make NET PREFIX [--chains C] [--limit L] [--patterns N] [--seed S] [--refute]
                                                 makes five good files, as bench/oracle/plain_check.py does for stuck lines
 

@@ -13,11 +13,11 @@ use Rattle.refutation_text.specs.Texts.{text_of}
 use Rattle.refutation_text.proofs.StepTexts.{one_list}
 use Rattle.evidence.specs.declared.kinds.Evidence.{Evidence}
 use Rattle.evidence.specs.declared.kinds.Evidence.TheVariants.{Tree, Refutation}
-use Rattle.certificate.specs.Certificates.{evidence_text, node_text, HasSignal, IsCertFault, IsWellFormed}
+use Rattle.certificate.specs.Certificates.{evidence_text, node_text, HasSignal, IsCertFault, IsWellFormed, IsTextOf, NoText}
 use Rattle.certificate.specs.declared.reading.CertFault.{CertFault}
 use Rattle.certificate.specs.declared.reading.CertFault.TheVariants.{NotCertificate, NoMemory}
-use Rattle.certificate.specs.inner.Parts.{AreNodes, IsNodeAt, IsTextOf, NoNodeAt, NoText}
-use Rattle.certificate.specs.inner.Words.{IsEnd}
+use Rattle.certificate.specs.inner.Parts.{AreNodes, IsNodeAt, NoNodeAt}
+use Rattle.certificate.specs.Words.{IsEnd}
 use Rattle.certificate.proofs.Followers.{GoesOn, all_end, goes_on, same_list}
 use Rattle.certificate.proofs.NodeTexts.{kind, kind_byte, node_ends, node_some, same_node}
 use Rattle.certificate.proofs.StepBytes.{all_have_no, steps_have_no}

@@ -13,7 +13,7 @@ use Rattle.fault_universe.specs.inner.Written.{IsWritten}
 use Rattle.fault_universe.proofs.LineTexts.{same_fault}
 use Rattle.fault_universe.proofs.Members.{line_written, member_line}
 use Rattle.certificate.specs.inner.Parts.{IsFaultAt, NoFaultAt}
-use Rattle.certificate.specs.inner.Words.{IsCut, blanks, fault_blanks}
+use Rattle.certificate.specs.Words.{IsCut, blanks, fault_blanks}
 use Rattle.certificate.proofs.VisibleBytes.{has_no, name_has_no, number_has_no}
 use Rattle.certificate.proofs.WordLemmas.{blanks_append, no_blanks, same_cut}
 
@@ -29,7 +29,7 @@ module _ (n : Netlist) (sound : IsSound n) where
   name_blanks : (x : ℕ) → x < signal_count n → blanks (name_of n x) ≡ 0
   name_blanks x l = no_blanks (name_of n x) (name_has_no n sound 32 refl x l)
 
-  line_blanks : (l : Line) → IsWritten n l → (more : List ℕ) → blanks (line_text n l) ≡ fault_blanks (line_text n l ++ more)
+  pub line_blanks : (l : Line) → IsWritten n l → (more : List ℕ) → blanks (line_text n l) ≡ fault_blanks (line_text n l ++ more)
   line_blanks (Stem x) w more =
       let whole : blanks (line_text n (Stem x)) ≡ 0 + (0 + (0 + (0 + (1 + blanks (name_of n x))))) = refl in
       let due : fault_blanks (line_text n (Stem x) ++ more) ≡ 1 = refl in
@@ -83,7 +83,7 @@ module _ (n : Netlist) (sound : IsSound n) where
       (same_fault n sound f g (member_written f v.member) (member_written g w.member) m.0, m.1)
 
   -- no line end in it
-  line_has_no : (l : Line) → IsWritten n l → All (λ b. b ≢ 10) (line_text n l)
+  pub line_has_no : (l : Line) → IsWritten n l → All (λ b. b ≢ 10) (line_text n l)
   line_has_no (Stem x) w = All-append (λ b. b ≢ 10) (codes "stem ") (name_of n x) (has_no 10 (codes "stem ") refl) (name_has_no n sound 10 refl x w)
   line_has_no (Pin z k) w =
       All-append (λ b. b ≢ 10) (codes "pin ") (name_of n z ++ (codes " " ++ decimal k)) (has_no 10 (codes "pin ") refl)

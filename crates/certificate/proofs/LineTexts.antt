@@ -9,8 +9,8 @@ use Rattle.statement.specs.Netlists.{Netlist}
 use Rattle.statement.specs.Faults.{fault_text}
 use Rattle.plain_text.proofs.Parts.{byte_inside, same_parts}
 use Rattle.evidence.specs.declared.kinds.Evidence.{Evidence}
-use Rattle.certificate.specs.Certificates.{evidence_line, evidence_text, IsEvidence}
-use Rattle.certificate.specs.inner.Parts.{AreLines, IsFaultAt, IsLineOf, IsTextOf, NoFaultAt, NoLines, NoText}
+use Rattle.certificate.specs.Certificates.{evidence_line, evidence_text, IsEvidence, IsTextOf, NoText}
+use Rattle.certificate.specs.inner.Parts.{AreLines, IsFaultAt, IsLineOf, NoFaultAt, NoLines}
 use Rattle.certificate.proofs.EvidenceTexts.{evidence_ends, evidence_has_no, same_text}
 use Rattle.certificate.proofs.FaultTexts.{same_fault_at, text_has_no}
 use Rattle.certificate.proofs.Followers.{GoesOn, goes_on, same_list}

@@ -10,7 +10,7 @@ use Rattle.redundancy_cert.specs.declared.nodes.Node.{Node}
 use Rattle.redundancy_cert.specs.declared.nodes.Node.TheVariants.{Closed, Open, Split, Forced}
 use Rattle.certificate.specs.Certificates.{node_text, HasSignal}
 use Rattle.certificate.specs.inner.Parts.{bit_word}
-use Rattle.certificate.specs.inner.Words.{IsEnd}
+use Rattle.certificate.specs.Words.{IsEnd}
 use Rattle.certificate.proofs.VisibleBytes.{name_has_no}
 use Rattle.certificate.proofs.WordLemmas.{no_blanks, same_cut}
 

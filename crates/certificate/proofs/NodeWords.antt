@@ -11,7 +11,7 @@ use Rattle.certificate.specs.declared.node.Letter.{Letter}
 use Rattle.certificate.specs.declared.node.Letter.TheVariants as Letters
 use Rattle.certificate.specs.Certificates.{node_text}
 use Rattle.certificate.specs.inner.Parts.{IsNodeAt, NoNodeAt, bit_word, letter_word}
-use Rattle.certificate.specs.inner.Words.{IsEnd, IsWord}
+use Rattle.certificate.specs.Words.{IsEnd, IsWord}
 use Rattle.certificate.proofs.NodeTexts.{forced_text, no_blank_name}
 use Rattle.certificate.proofs.VisibleBytes.{has_no}
 use Rattle.certificate.proofs.WordLemmas.{same_word}

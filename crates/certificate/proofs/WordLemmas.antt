@@ -4,7 +4,7 @@ use Rattle.std.specs.List.{All}
 use Rattle.std.proofs.Math.Dec.{eqb}
 use Rattle.std.proofs.lemmas.Bool.Decides.{eqb_tells}
 use Rattle.std.proofs.lemmas.List.Elements.{All-head, All-tail}
-use Rattle.certificate.specs.inner.Words.{blank, blanks, fault_blanks, IsCut, IsEnd, IsWord}
+use Rattle.certificate.specs.Words.{blank, blanks, fault_blanks, IsCut, IsEnd, IsWord}
 
 visible : (b : ℕ) → b ≢ 32 → blank b ≡ 0
 visible b h = elim (eqb_tells b 32) [

@@ -73,6 +73,14 @@ abbrev pub IsWellFormed : Netlist → Evidence → Type 0
 IsWellFormed n (Tree nodes) = All (HasSignal n) nodes × IsOneTree nodes
 IsWellFormed n (Refutation steps) = All IsStep steps
 
+-- the text is that of the evidence
+pub record IsTextOf (n : Netlist) (text : List ℕ) (e : Evidence) : Type 0 where
+  pub formed : IsWellFormed n e
+  pub is : text ≡ evidence_text n e
+
+abbrev pub NoText : Netlist → List ℕ → Type 0
+NoText n text = (e : Evidence) → ¬ IsTextOf n text e
+
 -- a fault of the netlist, and such evidence
 pub record IsEvidence (n : Netlist) (p : Fault × Evidence) : Type 0 where
   pub fault : Contains (universe_of n) p.0

@@ -1,4 +1,3 @@
 -- What this crate's own proofs cite, and no public contract.
 pub mod Pending
-pub mod Words
 pub mod Parts

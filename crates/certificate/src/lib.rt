@@ -19,6 +19,8 @@ mod writing;
 
 pub use kinds::has_refutation;
 pub use laws::{first_line_tells, one_certificate};
+pub use line::evidence_of;
 pub use one_tree::is_one_tree;
 pub use reading::{CertFault, read_evidence};
+pub use word::{cut_fault, next_word};
 pub use writing::{push_evidence, push_nodes, write_evidence};

@@ -2,9 +2,9 @@
 ghost use Rattle.std.specs.Prelude.{List, MatchOption, MatchResult};
 ghost use Rattle.statement.specs.declared.lines.Fault.{Fault};
 ghost use Rattle.redundancy_cert.specs.declared.nodes.Node.{Node};
-ghost use Rattle.certificate.specs.Certificates.{IsCertFault};
-ghost use Rattle.certificate.specs.inner.Parts.{AreNodes, IsFaultAt, NoFaultAt, IsLineOf, IsTextOf, NoText};
-ghost use Rattle.certificate.specs.inner.Words.{IsEnd};
+ghost use Rattle.certificate.specs.Certificates.{IsCertFault, IsTextOf, NoText};
+ghost use Rattle.certificate.specs.inner.Parts.{AreNodes, IsFaultAt, NoFaultAt, IsLineOf};
+ghost use Rattle.certificate.specs.Words.{IsEnd};
 ghost use Rattle.redundancy_cert.specs.Trees.{IsOneTree};
 ghost use Rattle.refutation_text.specs.Texts.{AreSteps, NoSteps};
 ghost use Rattle.evidence.specs.declared.kinds.Evidence.{Evidence};
@@ -81,7 +81,7 @@ fn read_refutation(alloc: Global, text: &[u8]) -> Result<Refutation, CertFault>
 }
 
 /// The evidence that a text stands for.
-fn evidence_of(alloc: Global, names: &NameIndex, text: &[u8]) -> Result<Evidence, CertFault>
+pub fn evidence_of(alloc: Global, names: &NameIndex, text: &[u8]) -> Result<Evidence, CertFault>
     requires { IsEnd text.now }
     ensures { MatchResult result (IsTextOf names.now text.now) (IsCertFault (NoText names.now text.now)) }
 {

@@ -1,6 +1,6 @@
 //! Words of a line.
 ghost use Rattle.std.specs.Prelude.{◌≡◌, ◌≢◌, ◌==◌, ◌∷◌, ℕ, List, MatchOption, slice_index_or};
-ghost use Rattle.certificate.specs.inner.Words.{IsWord, IsCut};
+ghost use Rattle.certificate.specs.Words.{IsWord, IsCut};
 
 use plain_text::split_at;
 
@@ -15,7 +15,7 @@ fn word(text: &[u8]) -> (&[u8], &[u8])
 }
 
 /// The word behind a blank, and what comes behind it.
-pub(crate) fn next_word(text: &[u8]) -> Option<(&[u8], &[u8])>
+pub fn next_word(text: &[u8]) -> Option<(&[u8], &[u8])>
     ensures { MatchOption result ((r : List ℕ) → text.now ≢ 32 ∷ r) (λ p. (r : List ℕ) × (text.now ≡ 32 ∷ r) × IsWord r p.0.now p.1.now) }
 {
     match text.strip_prefix(b" ") {
@@ -53,7 +53,7 @@ fn behind_fault(line: &[u8]) -> Option<&[u8]>
 }
 
 /// What would be a fault's text, and what comes behind it.
-pub(crate) fn cut_fault(line: &[u8]) -> Option<(&[u8], &[u8])>
+pub fn cut_fault(line: &[u8]) -> Option<(&[u8], &[u8])>
     ensures { MatchOption result ((text rest : List ℕ) → ¬ IsCut line.now text rest) (λ p. IsCut line.now p.0.now p.1.now) }
 {
     match behind_fault(line) {

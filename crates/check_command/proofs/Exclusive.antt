@@ -7,8 +7,10 @@ use Rattle.good_files.specs.declared.answers.Checked.{Checked}
 use Rattle.good_files.specs.declared.answers.Checked.TheVariants.{Faults, False}
 use Rattle.good_files.specs.declared.answers.CheckFault.{CheckFault}
 use Rattle.good_files.specs.declared.answers.CheckFault.TheVariants as fault
+use Rattle.std.specs.Prelude.{Result}
 use Rattle.good_files.specs.Laws.{AnswersAgree, AreConsistentAnswers}
-use Rattle.check_command.specs.Checking.{answer_line, five_texts_due, fault_of, files_due, checked_finding}
+use Rattle.good_slow_files.specs.Laws.{SlowAnswersAgree}
+use Rattle.check_command.specs.Checking.{IsAnswerOf, answer_line, five_texts_due, fault_of, files_due, checked_finding}
 use Rattle.check_command.specs.declared.refusal.CheckRefusal.{CheckRefusal}
 use Rattle.check_command.specs.declared.refusal.CheckRefusal.TheVariants as refusal
 
@@ -56,22 +58,32 @@ same_refusal refusal.NotReport refusal.NotStil alike = ap told_by alike
 same_refusal refusal.NotReport refusal.NotCertificate alike = ap told_by alike
 same_refusal refusal.NotReport refusal.NotReport alike = refl
 
-module _ (agree : AnswersAgree) (files : FiveFiles) where
+-- by either check the same files are answered alike
+answers_alike : AnswersAgree → SlowAnswersAgree → (files : FiveFiles) (a b : Result Checked CheckFault) → IsAnswerOf files a → IsAnswerOf files b → AreConsistentAnswers a b
+answers_alike stuck slow files a b (inl p) (inl q) = slow files a b p.1 q.1
+answers_alike stuck slow files a b (inl p) (inr q) = absurd (q.0 p.0)
+answers_alike stuck slow files a b (inr p) (inl q) = absurd (p.0 q.0)
+answers_alike stuck slow files a b (inr p) (inr q) = stuck files a b p.1 q.1
+
+module _ (stuck : AnswersAgree) (slow : SlowAnswersAgree) (files : FiveFiles) where
+  agree : (a b : Result Checked CheckFault) → IsAnswerOf files a → IsAnswerOf files b → AreConsistentAnswers a b
+  agree = answers_alike stuck slow files
+
   alike : (c d : Due CheckRefusal) → files_due files c → files_due files d → AreAlike c d
   alike c d (inl p) (inl q) =
       given c d (Deliver [] (answer_line p.0) (checked_finding p.0)) (Deliver [] (answer_line q.0) (checked_finding q.0)) p.2 q.2
-      (same_finding p.0 q.0 (agree files (Ok p.0) (Ok q.0) p.1 q.1))
-  alike c d (inl p) (inr q) = absurd (not_behind p.0 q.0 (agree files (Ok p.0) (Err (fault_of q.0)) p.1 q.1))
-  alike c d (inr p) (inl q) = absurd (not_behind q.0 p.0 (agree files (Ok q.0) (Err (fault_of p.0)) q.1 p.1))
+      (same_finding p.0 q.0 (agree (Ok p.0) (Ok q.0) p.1 q.1))
+  alike c d (inl p) (inr q) = absurd (not_behind p.0 q.0 (agree (Ok p.0) (Err (fault_of q.0)) p.1 q.1))
+  alike c d (inr p) (inl q) = absurd (not_behind q.0 p.0 (agree (Ok q.0) (Err (fault_of p.0)) q.1 p.1))
   alike c d (inr p) (inr q) =
-      given c d (Refuse p.0) (Refuse q.0) p.2 q.2 (same_refusal p.0 q.0 (agree files (Err (fault_of p.0)) (Err (fault_of q.0)) p.1 q.1))
+      given c d (Refuse p.0) (Refuse q.0) p.2 q.2 (same_refusal p.0 q.0 (agree (Err (fault_of p.0)) (Err (fault_of q.0)) p.1 q.1))
 
-pub check_exclusive : AnswersAgree → IsExclusive five_texts_due
-check_exclusive agree [] c d p q = absurd p
-check_exclusive agree (net ∷ []) c d p q = absurd p
-check_exclusive agree (net ∷ scan ∷ []) c d p q = absurd p
-check_exclusive agree (net ∷ scan ∷ stil ∷ []) c d p q = absurd p
-check_exclusive agree (net ∷ scan ∷ stil ∷ certificate ∷ []) c d p q = absurd p
-check_exclusive agree (net ∷ scan ∷ stil ∷ certificate ∷ report ∷ []) c d p q =
-    let files : FiveFiles = record { net = net; scan = scan; stil = stil; certificate = certificate; report = report } in alike agree files c d p q
-check_exclusive agree (net ∷ scan ∷ stil ∷ certificate ∷ report ∷ more ∷ others) c d p q = absurd p
+pub check_exclusive : AnswersAgree → SlowAnswersAgree → IsExclusive five_texts_due
+check_exclusive stuck slow [] c d p q = absurd p
+check_exclusive stuck slow (net ∷ []) c d p q = absurd p
+check_exclusive stuck slow (net ∷ scan ∷ []) c d p q = absurd p
+check_exclusive stuck slow (net ∷ scan ∷ stil ∷ []) c d p q = absurd p
+check_exclusive stuck slow (net ∷ scan ∷ stil ∷ certificate ∷ []) c d p q = absurd p
+check_exclusive stuck slow (net ∷ scan ∷ stil ∷ certificate ∷ report ∷ []) c d p q =
+    let files : FiveFiles = record { net = net; scan = scan; stil = stil; certificate = certificate; report = report } in alike stuck slow files c d p q
+check_exclusive stuck slow (net ∷ scan ∷ stil ∷ certificate ∷ report ∷ more ∷ others) c d p q = absurd p

@@ -1,7 +1,9 @@
 -- Good files are checked.
-use Rattle.std.proofs.Common.{◌≡◌, ◌∙◌, ◌⊎◌, inl, inr, ℕ, [], Ok, Err, refl, ap, length}
+use Rattle.std.proofs.Common.{◌≡◌, ◌∙◌, ◌⊎◌, inl, inr, ℕ, zero, suc, List, [], ◌∷◌, ◌++◌, Ok, Err, refl, sym, ap, get_or, length, codes, arith}
 use Rattle.std.specs.Prelude.{Result}
 use Rattle.netlist.specs.Conditions.{IsSound}
+use Rattle.netlist.specs.Designs.{IsDesign}
+use Rattle.statement.specs.Benches.{Text}
 use Rattle.statement.specs.Netlists.{Netlist}
 use Rattle.statement.specs.Faults.{universe_of}
 use Rattle.commands.specs.Due.{Due, Deliver}
@@ -12,8 +14,14 @@ use Rattle.good_files.specs.declared.answers.Checked.{Checked}
 use Rattle.good_files.specs.declared.answers.Checked.TheVariants.{Faults}
 use Rattle.good_files.specs.declared.answers.CheckFault.{CheckFault}
 use Rattle.good_files.specs.declared.answers.CheckFault.TheVariants as fault
-use Rattle.good_files.specs.Laws.{GoodFilesPass}
-use Rattle.check_command.specs.Checking.{answer_line, checked_line, fault_of, files_due, checked_finding}
+use Rattle.good_files.specs.Checks.{IsChecked}
+use Rattle.good_files.specs.Laws.{GoodFilesPass, IsWholeAnswer}
+use Rattle.good_slow_files.specs.GoodSlowFiles.{AreGoodSlowFiles, SlowContents}
+use Rattle.good_slow_files.specs.Checks.{IsSlowChecked}
+use Rattle.good_slow_files.specs.Laws.{GoodSlowFilesPass, IsWholeSlowAnswer}
+use Rattle.report.specs.Reports.{Hold}
+use Rattle.report.specs.Texts.{head, report_text}
+use Rattle.check_command.specs.Checking.{IsAnswerOf, answer_line, checked_line, fault_of, files_due, checked_finding}
 use Rattle.check_command.specs.declared.refusal.CheckRefusal.{CheckRefusal}
 use Rattle.check_command.specs.declared.refusal.CheckRefusal.TheVariants as refusal
 
@@ -30,10 +38,43 @@ no_refusal r refusal.NotCertificate answer is (inl none) = cc
 no_refusal r refusal.NotReport answer is (inl none) = cc
 no_refusal r why answer is (inr one) = cc
 
+-- what is due where all answers are of one kind
+due_of : (files : FiveFiles) (count : ℕ) → ((answer : Result Checked CheckFault) → IsAnswerOf files answer → (answer ≡ Err fault.NoMemory) ⊎ (answer ≡ Ok (Faults count)))
+    → (d : Due CheckRefusal) → files_due files d → d ≡ Deliver [] (checked_line count) Fine
+due_of files count pass d (inl due) =
+    due.2 ∙ ap (λ (answer : Checked). let told : Due CheckRefusal = Deliver [] (answer_line answer) (checked_finding answer) in told)
+    (answer_is (Ok due.0) due.0 count refl (pass (Ok due.0) due.1))
+due_of files count pass d (inr due) = absurd (no_refusal (Err (fault_of due.0)) due.0 (Faults count) refl (pass (Err (fault_of due.0)) due.1))
+
+-- a report of stuck lines begins otherwise
+begins_other : (most unasked : ℕ) (holds : List Hold) (x y : Text) → head most unasked holds ++ x ≡ codes "atpg transition 1\n" ++ y → ⊥
+begins_other zero zero [] x y e = let c : 114 ≡ 116 = ap (λ (t : List ℕ). get_or t 5 0) e in absurd (omega (arith, c))
+begins_other zero zero (h ∷ hs) x y e = let c : 114 ≡ 116 = ap (λ (t : List ℕ). get_or t 5 0) e in absurd (omega (arith, c))
+begins_other zero (suc k) holds x y e = let c : 114 ≡ 116 = ap (λ (t : List ℕ). get_or t 5 0) e in absurd (omega (arith, c))
+begins_other (suc m) k holds x y e = let c : 114 ≡ 116 = ap (λ (t : List ℕ). get_or t 5 0) e in absurd (omega (arith, c))
+
+whole : (files : FiveFiles) (answer : Result Checked CheckFault) → IsWholeAnswer files answer → IsChecked files answer
+whole files (Ok answer) is = is.0
+whole files (Err refusal) is = is
+
+whole_slow : (files : FiveFiles) (answer : Result Checked CheckFault) → IsWholeSlowAnswer files answer → IsSlowChecked files answer
+whole_slow files (Ok answer) is = is.0
+whole_slow files (Err refusal) is = is
+
 module _ (pass : GoodFilesPass) (files : FiveFiles) (c : Contents) (sound : IsSound c.netlist) (good : AreGoodFiles files c) where
+  by_check : (answer : Result Checked CheckFault) → IsAnswerOf files answer → (answer ≡ Err fault.NoMemory) ⊎ (answer ≡ Ok (Faults (length (universe_of c.netlist))))
+  by_check answer (inl slow) =
+      let begins : report_text c.said ≡ codes "atpg transition 1\n" ++ slow.0.0 = sym good.stand.report ∙ slow.0.1 in
+      absurd (begins_other c.said.times.most c.said.counts.unasked c.said.holds _ slow.0.0 begins)
+  by_check answer (inr stuck) = pass files c sound good answer (whole files answer stuck.1)
+
   pub checked : (d : Due CheckRefusal) → files_due files d → d ≡ Deliver [] (checked_line (length (universe_of c.netlist))) Fine
-  checked d (inl due) =
-      due.2 ∙ ap (λ (answer : Checked). let told : Due CheckRefusal = Deliver [] (answer_line answer) (checked_finding answer) in told)
-      (answer_is (Ok due.0) due.0 (length (universe_of c.netlist)) refl (pass files c sound good (Ok due.0) due.1.0))
-  checked d (inr due) =
-      absurd (no_refusal (Err (fault_of due.0)) due.0 (Faults (length (universe_of c.netlist))) refl (pass files c sound good (Err (fault_of due.0)) due.1))
+  checked = due_of files (length (universe_of c.netlist)) by_check
+
+module _ (pass : GoodSlowFilesPass) (files : FiveFiles) (c : SlowContents) (sound : IsSound c.netlist) (design : IsDesign c.netlist) (good : AreGoodSlowFiles files c) where
+  by_slow_check : (answer : Result Checked CheckFault) → IsAnswerOf files answer → (answer ≡ Err fault.NoMemory) ⊎ (answer ≡ Ok (Faults (length (universe_of c.netlist))))
+  by_slow_check answer (inl slow) = pass files c sound design good answer (whole_slow files answer slow.1)
+  by_slow_check answer (inr stuck) = absurd (stuck.0 (_, good.stand.report))
+
+  pub slow_checked : (d : Due CheckRefusal) → files_due files d → d ≡ Deliver [] (checked_line (length (universe_of c.netlist))) Fine
+  slow_checked = due_of files (length (universe_of c.netlist)) by_slow_check

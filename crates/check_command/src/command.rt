@@ -6,7 +6,7 @@ ghost use Rattle.commands.specs.Names.{run_files, texts_of};
 ghost use Rattle.commands.specs.Rows.{CommandRow};
 ghost use Rattle.commands.specs.Worked.{IsWorked};
 ghost use Rattle.commands.specs.World.{world};
-ghost use Rattle.check_command.specs.Checking.{five_texts_due};
+ghost use Rattle.check_command.specs.Checking.{IsAnswerOf, five_texts_due};
 ghost use Rattle.check_command.specs.inner.Answers.{IsAnswered, answer_due};
 
 use crate::lines::{finding_of, line_of};
@@ -15,9 +15,33 @@ use commands::{Ending, Product, Stop, Work, file_names, run_command};
 use file_check::check_files;
 use good_files::{CheckFault, Checked};
 use outside::{Shelf, Sink};
+use report::behind;
+use slow_check::check_slow_files;
 use std::alloc::Global;
 
-/// Checks the five texts.
+/// How the report of slow lines begins.
+const SLOW_LINES: &[u8] = b"atpg transition 1\n";
+
+/// Checks the five texts, by the check of slow lines or by that of stuck ones.
+fn checked(
+    alloc: Global,
+    net: &[u8],
+    scan: &[u8],
+    stil: &[u8],
+    certificate: &[u8],
+    report: &[u8],
+) -> Result<Checked, CheckFault>
+    requires net { length net.now ≤ most_bytes }
+    requires stil { length stil.now ≤ most_bytes }
+    ensures { IsAnswerOf (record { net = net.now; scan = scan.now; stil = stil.now; certificate = certificate.now; report = report.now }) result }
+{
+    match behind(SLOW_LINES, report) {
+        Some(_) => check_slow_files(alloc, net, scan, stil, certificate, report),
+        None => check_files(alloc, net, scan, stil, certificate, report),
+    }
+}
+
+/// What is answered of the five texts.
 fn answer_of(
     alloc: Global,
     net: &[u8],
@@ -30,7 +54,7 @@ fn answer_of(
     requires stil { length stil.now ≤ most_bytes }
     ensures { IsAnswered (record { net = net.now; scan = scan.now; stil = stil.now; certificate = certificate.now; report = report.now }) result }
 {
-    match check_files(alloc, net, scan, stil, certificate, report) {
+    match checked(alloc, net, scan, stil, certificate, report) {
         Ok(answer) => Ok(answer),
         Err(CheckFault::Netlist(refusal)) => Err(Stop::Refused(CheckRefusal::Netlist(refusal))),
         Err(CheckFault::NotStil) => Err(Stop::Refused(CheckRefusal::NotStil)),

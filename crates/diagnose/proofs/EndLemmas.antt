@@ -7,7 +7,7 @@ use Rattle.std.proofs.lemmas.List.{append_cancel_left}
 use Rattle.std.proofs.lemmas.List.Elements.{All-append, All-cons, All-head, All-nil, All-tail}
 use Rattle.std.proofs.lemmas.Option.{slice_get-get_or}
 use Rattle.plain_text.proofs.Parts.{byte_inside, same_parts}
-use Rattle.report.specs.inner.Lines.{NoneBegins}
+use Rattle.report.specs.Beginnings.{NoneBegins}
 use Rattle.report.proofs.ByteLemmas.{above_by_test, above_lacks, number_above}
 use Rattle.report.proofs.LineLemmas.{nothing_begins, same_lines}
 use Rattle.diagnose.specs.Failures.{Failing, IsBefore, IsEnd, IsFailing}

@@ -1,6 +1,6 @@
 //! A line of a log.
 ghost use Rattle.std.specs.Prelude.{◌≡◌, ◌≢◌, ◌<◌, ◌^◌, ℕ, Option, Some, MatchOption};
-ghost use Rattle.report.specs.inner.Lines.{Begins, NoneBegins};
+ghost use Rattle.report.specs.Beginnings.{Begins, NoneBegins};
 ghost use Rattle.diagnose.specs.Failures.{Failing, IsEnd, IsFailing};
 ghost use Rattle.diagnose.specs.Texts.{end_line, failing_line};
 ghost use Rattle.diagnose.specs.inner.Words.{failure_words};

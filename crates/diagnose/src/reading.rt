@@ -2,7 +2,7 @@
 ghost use Rattle.std.specs.Prelude.{◌≡◌, ◌≢◌, ◌++◌, List, IfOk, MatchOption};
 ghost use Rattle.std.specs.Bool.{Decides};
 ghost use Rattle.std.specs.List.{All, flat_map};
-ghost use Rattle.report.specs.inner.Lines.{NoneBegins};
+ghost use Rattle.report.specs.Beginnings.{NoneBegins};
 ghost use Rattle.diagnose.specs.Failures.{Failing, IsBefore, IsFailing};
 ghost use Rattle.diagnose.specs.Reading.{IsLogOf, IsLogRead};
 ghost use Rattle.diagnose.specs.Texts.{failing_line};

@@ -5,10 +5,11 @@ use Rattle.std.proofs.lemmas.List.{get_or-map, length-take-le, take_more_set}
 use Rattle.std.proofs.lemmas.List.Elements.{All-map}
 use Rattle.std.proofs.lemmas.List.FromFn.{fill_by_all}
 use Rattle.report.specs.declared.counts.ReportCounts.{ReportCounts}
-use Rattle.report.specs.Counts.{AreSmallCounts, worded}
+use Rattle.report.specs.Counts.{AreAllAsked, AreSmallCounts, worded}
 use Rattle.report.specs.Texts.{count_line, counts_text, unasked_line}
 use Rattle.report.specs.inner.Counts.{AreNumbers, CountsBegin, count_words, counts_from, counts_lines, in_order, numbers_text, some_counts}
-use Rattle.report.specs.inner.Lines.{Begins, IsCount, NoneBegins, SomeBegins}
+use Rattle.report.specs.Beginnings.{Begins, IsCount, NoneBegins}
+use Rattle.report.specs.inner.Lines.{SomeBegins}
 use Rattle.report.proofs.LineLemmas.{IsTold, next_valid}
 use Rattle.report.proofs.NumberLemmas.{counts_told, next_count_read, no_counts, some_told}
 
@@ -37,11 +38,29 @@ all_counts_told text c d r s v w =
     let last = some_told (codes "unasked ") c.unasked d.unasked r s v.0.0.1 w.0.0.1 v.1 w.1 first.1 in
     (ap₂ counts_from first.0 last.0, last.1)
 
+-- where none weren't asked for
+pub asked_told : IsTold AreAllAsked counts_text
+asked_told c d r s v w e =
+    let told = numbers_told (in_order c) (in_order d) r s (numbers_of c v.0) (numbers_of d w.0) e in
+    (ap₂ counts_from told.0 (v.1 ∙ sym w.1), told.1)
+
 module _ (text : List ℕ) where
+  pub no_asked : NoneBegins AreNumbers numbers_text text → NoneBegins AreAllAsked counts_text text
+  no_asked none c r v e = none (in_order c) r (numbers_of c v.0) e
+
   pub no_numbers : NoneBegins AreNumbers numbers_text text → NoneBegins AreSmallCounts counts_lines text
   no_numbers none c r v e = none (in_order c) (unasked_line c.unasked ++ r) (numbers_of c v) (e ∙ append_assoc (counts_text c) (unasked_line c.unasked) r)
 
   module _ (numbers rest : List ℕ) (read : Begins AreNumbers numbers_text text numbers rest) where
+    pub asked_found : (c : ReportCounts) → c ≡ counts_from numbers 0 → Begins AreAllAsked counts_text text c rest
+    asked_found c made =
+        let these = counts_from_order numbers 0 read.0.0 in
+        let found : Begins AreAllAsked counts_text text (counts_from numbers 0) rest = (
+          (small_counts (counts_from numbers 0) (subst (All IsCount) (sym these) read.0.1) (omega arith), refl),
+          read.1 ∙ ap (λ ks. numbers_text ks ++ rest) (sym these),
+        ) in
+        subst (λ d. Begins AreAllAsked counts_text text d rest) (sym made) found
+
     pub counts_found : (unasked : ℕ) (after : List ℕ) → SomeBegins (codes "unasked ") rest unasked after → (c : ReportCounts) → c ≡ counts_from numbers unasked
         → CountsBegin text c after
     counts_found unasked after is c made =

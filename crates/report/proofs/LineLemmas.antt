@@ -5,7 +5,7 @@ use Rattle.std.proofs.lemmas.Grind.{flat_map-append}
 use Rattle.std.proofs.lemmas.List.{append-nil, append_cancel_left}
 use Rattle.std.proofs.lemmas.List.Elements.{All-head, All-push, All-tail}
 use Rattle.plain_text.proofs.Parts.{byte_inside, same_parts}
-use Rattle.report.specs.inner.Lines.{NoneBegins}
+use Rattle.report.specs.Beginnings.{NoneBegins}
 
 -- a value and the rest are told by their text
 abbrev pub IsTold : {X : Type 0} → (X → Type 0) → (X → List ℕ) → Type 0
@@ -17,7 +17,7 @@ pub record IsLined {X : Type 0} (valid : X → Type 0) (words line : X → List 
   pub whole : (x : X) → valid x → All (λ b. b ≢ 10) (words x)
 
 module _ {X : Type 0} (valid : X → Type 0) (words line : X → List ℕ) (lined : IsLined valid words line) where
-  line_rest : (x : X) (r : List ℕ) → line x ++ r ≡ words x ++ 10 ∷ r
+  pub line_rest : (x : X) (r : List ℕ) → line x ++ r ≡ words x ++ 10 ∷ r
   line_rest x r = ap (λ t. t ++ r) (lined.end x) ∙ append_assoc (words x) (10 ∷ []) r
 
   pub line_told : ((x y : X) → valid x → valid y → words x ≡ words y → x ≡ y) → IsTold valid line

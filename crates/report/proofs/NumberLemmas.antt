@@ -7,7 +7,8 @@ use Rattle.std.proofs.lemmas.List.Elements.{All-head, All-nil, All-tail}
 use Rattle.plain_text.proofs.Parts.{byte_inside, same_parts}
 use Rattle.report.specs.Texts.{count_line, hundredths, share_line, some_line}
 use Rattle.report.specs.inner.Counts.{some_counts}
-use Rattle.report.specs.inner.Lines.{Begins, NoSome, NoneBegins, SomeBegins, IsCount, IsShare, count_end, share_end}
+use Rattle.report.specs.Beginnings.{Begins, NoneBegins, IsCount, IsShare}
+use Rattle.report.specs.inner.Lines.{NoSome, SomeBegins, count_end, share_end}
 use Rattle.report.proofs.ByteLemmas.{Above, above_append, above_cons, above_lacks, above_less, number_above}
 use Rattle.report.proofs.LineLemmas.{IsLined, IsTold, behind_told, line_told}
 

@@ -5,10 +5,11 @@ use Rattle.std.proofs.Math.Seq.{take-append_seam}
 use Rattle.std.proofs.lemmas.Fmt.{decimal_injective}
 use Rattle.std.proofs.lemmas.List.{append_cancel_left}
 use Rattle.plain_text.proofs.Parts.{byte_inside, same_parts}
-use Rattle.report.specs.Reports.{IsFaultText, IsLine, IsOutcome, IsBenchWord}
+use Rattle.report.specs.Reports.{IsFaultTextBy, IsLineBy, IsOutcome, IsBenchWord}
 use Rattle.statement.specs.Reports.{Line, fault_line, outcome_text}
 use Rattle.statement.specs.declared.outcomes.Outcome.{Outcome}
 use Rattle.statement.specs.declared.outcomes.Outcome.TheVariants.{Aborted, Detected, Redundant, Unasked}
+use Rattle.report.specs.declared.models.FaultModel.{FaultModel}
 use Rattle.report.specs.inner.Faults.{FaultBegins}
 use Rattle.report.specs.inner.Lines.{fault_words}
 use Rattle.report.proofs.ByteLemmas.{Above, above_append, above_by_test, above_lacks, above_less, number_above, word_above}
@@ -98,56 +99,57 @@ outcome_behind Redundant pin = record { text = codes "redundant"; is = refl }
 outcome_behind Aborted pin = record { text = codes "aborted"; is = refl }
 outcome_behind Unasked pin = record { text = codes "unasked"; is = refl }
 
--- the fault, a blank and the rest of the line
-pub fault_taken : (line rest : List ℕ) → FaultBegins line rest → IsFaultText (take (length line - length rest - 1) line) × (line ≡ take (length line - length rest - 1) line ++ 32 ∷ rest)
-fault_taken line rest b =
-    let f = fault_before line rest b in
-    let size : length line - length rest - 1 ≡ length f.fault = omega (arith, ap length f.line_is, length-append f.fault (32 ∷ rest)) in
-    let taken : take (length line - length rest - 1) line ≡ f.fault =
-    ap (λ k. take k line) size ∙ (ap (take (length f.fault)) f.line_is ∙ take-append_seam f.fault (32 ∷ rest)) in
-    (subst IsFaultText (sym taken) f.is_fault, f.line_is ∙ ap (λ t. t ++ 32 ∷ rest) (sym taken))
+module _ (model : FaultModel) where
+  -- the fault, a blank and the rest of the line
+  pub fault_taken : (line rest : List ℕ) → FaultBegins model line rest → IsFaultTextBy model (take (length line - length rest - 1) line) × (line ≡ take (length line - length rest - 1) line ++ 32 ∷ rest)
+  fault_taken line rest b =
+      let f = fault_before model line rest b in
+      let size : length line - length rest - 1 ≡ length f.fault = omega (arith, ap length f.line_is, length-append f.fault (32 ∷ rest)) in
+      let taken : take (length line - length rest - 1) line ≡ f.fault =
+      ap (λ k. take k line) size ∙ (ap (take (length f.fault)) f.line_is ∙ take-append_seam f.fault (32 ∷ rest)) in
+      (subst (IsFaultTextBy model) (sym taken) f.is_fault, f.line_is ∙ ap (λ t. t ++ 32 ∷ rest) (sym taken))
 
-pub fault_room : (line rest : List ℕ) → FaultBegins line rest → length rest + 1 ≤ length line
-fault_room line rest b =
-    let f = fault_before line rest b in
-    omega (arith, ap length f.line_is, length-append f.fault (32 ∷ rest))
+  pub fault_room : (line rest : List ℕ) → FaultBegins model line rest → length rest + 1 ≤ length line
+  fault_room line rest b =
+      let f = fault_before model line rest b in
+      omega (arith, ap length f.line_is, length-append f.fault (32 ∷ rest))
 
-words_begin : (line : List ℕ) (l : Line) → IsLine l → line ≡ fault_words l → FaultBegins line (outcome_behind l.outcome l.pin).text
-words_begin line l v e =
-    fault_begins l.fault line (outcome_behind l.outcome l.pin).text v.fault (e ∙ ap (λ t. l.fault ++ t) (outcome_behind l.outcome l.pin).is)
+  words_begin : (line : List ℕ) (l : Line) → IsLineBy model l → line ≡ fault_words l → FaultBegins model line (outcome_behind l.outcome l.pin).text
+  words_begin line l v e =
+      fault_begins model l.fault line (outcome_behind l.outcome l.pin).text v.fault (e ∙ ap (λ t. l.fault ++ t) (outcome_behind l.outcome l.pin).is)
 
-pub no_line : (line : List ℕ) → ((rest : List ℕ) → FaultBegins line rest → ⊥) → (l : Line) → IsLine l → line ≢ fault_words l
-no_line line none l v e = none (outcome_behind l.outcome l.pin).text (words_begin line l v e)
+  pub no_line : (line : List ℕ) → ((rest : List ℕ) → FaultBegins model line rest → ⊥) → (l : Line) → IsLineBy model l → line ≢ fault_words l
+  no_line line none l v e = none (outcome_behind l.outcome l.pin).text (words_begin line l v e)
 
-pub other_outcome : (line rest : List ℕ) → FaultBegins line rest → ((o : Outcome) (pin : List ℕ) → IsOutcome o pin → 32 ∷ rest ≢ outcome_text o pin)
-    → (l : Line) → IsLine l → line ≢ fault_words l
-other_outcome line rest b none l v e =
-    let same = fault_once line (outcome_behind l.outcome l.pin).text rest (words_begin line l v e) b in
-    none l.outcome l.pin v.outcome (sym (ap (λ t. 32 ∷ t) same) ∙ sym (outcome_behind l.outcome l.pin).is)
+  pub other_outcome : (line rest : List ℕ) → FaultBegins model line rest → ((o : Outcome) (pin : List ℕ) → IsOutcome o pin → 32 ∷ rest ≢ outcome_text o pin)
+      → (l : Line) → IsLineBy model l → line ≢ fault_words l
+  other_outcome line rest b none l v e =
+      let same = fault_once model line (outcome_behind l.outcome l.pin).text rest (words_begin line l v e) b in
+      none l.outcome l.pin v.outcome (sym (ap (λ t. 32 ∷ t) same) ∙ sym (outcome_behind l.outcome l.pin).is)
 
-pub line_found : (line rest pin fault : List ℕ) (o : Outcome) → FaultBegins line rest → fault ≡ take (length line - length rest - 1) line → IsOutcome o pin
-    → 32 ∷ rest ≡ outcome_text o pin → IsLine (record { fault = fault; outcome = o; pin = pin }) × (line ≡ fault_words (record { fault = fault; outcome = o; pin = pin }))
-line_found line rest pin fault o b f v e =
-    let t = fault_taken line rest b in
-    (record { fault = subst IsFaultText (sym f) t.0; outcome = v }, t.1 ∙ (ap (λ u. u ++ 32 ∷ rest) (sym f) ∙ ap (λ u. fault ++ u) e))
+  pub line_found : (line rest pin fault : List ℕ) (o : Outcome) → FaultBegins model line rest → fault ≡ take (length line - length rest - 1) line → IsOutcome o pin
+      → 32 ∷ rest ≡ outcome_text o pin → IsLineBy model (record { fault = fault; outcome = o; pin = pin }) × (line ≡ fault_words (record { fault = fault; outcome = o; pin = pin }))
+  line_found line rest pin fault o b f v e =
+      let t = fault_taken line rest b in
+      (record { fault = subst (IsFaultTextBy model) (sym f) t.0; outcome = v }, t.1 ∙ (ap (λ u. u ++ 32 ∷ rest) (sym f) ∙ ap (λ u. fault ++ u) e))
 
--- lines of faults
-same_words : (l m : Line) → IsLine l → IsLine m → fault_words l ≡ fault_words m → l ≡ m
-same_words l m v w e =
-    let a = outcome_behind l.outcome l.pin in
-    let b = outcome_behind m.outcome m.pin in
-    let parts = same_fault l.fault m.fault a.text b.text v.fault w.fault (sym (ap (λ t. l.fault ++ t) a.is) ∙ (e ∙ ap (λ t. m.fault ++ t) b.is)) in
-    let others = same_outcome l.outcome m.outcome l.pin m.pin v.outcome w.outcome (a.is ∙ (ap (λ t. 32 ∷ t) parts.1 ∙ sym b.is)) in
-    ap (λ (t : List ℕ). record { fault = t; outcome = l.outcome; pin = l.pin }) parts.0
-    ∙ (ap (λ (o : Outcome). record { fault = m.fault; outcome = o; pin = l.pin }) others.0
-    ∙ ap (λ (t : List ℕ). record { fault = m.fault; outcome = m.outcome; pin = t }) others.1)
+  -- lines of faults
+  same_words : (l m : Line) → IsLineBy model l → IsLineBy model m → fault_words l ≡ fault_words m → l ≡ m
+  same_words l m v w e =
+      let a = outcome_behind l.outcome l.pin in
+      let b = outcome_behind m.outcome m.pin in
+      let parts = same_fault model l.fault m.fault a.text b.text v.fault w.fault (sym (ap (λ t. l.fault ++ t) a.is) ∙ (e ∙ ap (λ t. m.fault ++ t) b.is)) in
+      let others = same_outcome l.outcome m.outcome l.pin m.pin v.outcome w.outcome (a.is ∙ (ap (λ t. 32 ∷ t) parts.1 ∙ sym b.is)) in
+      ap (λ (t : List ℕ). record { fault = t; outcome = l.outcome; pin = l.pin }) parts.0
+      ∙ (ap (λ (o : Outcome). record { fault = m.fault; outcome = o; pin = l.pin }) others.0
+      ∙ ap (λ (t : List ℕ). record { fault = m.fault; outcome = m.outcome; pin = t }) others.1)
 
-pub fault_lined : IsLined IsLine fault_words fault_line
-fault_lined = record {
-  end = λ l. sym (append_assoc l.fault (outcome_text l.outcome l.pin) (10 ∷ []));
-  whole = λ l v. above_lacks 31 10 (fault_words l) (omega arith)
-      (above_append 31 l.fault (outcome_text l.outcome l.pin) (fault_above l.fault v.fault) (outcome_above l.outcome l.pin v.outcome));
-}
+  pub fault_lined : IsLined (IsLineBy model) fault_words fault_line
+  fault_lined = record {
+    end = λ l. sym (append_assoc l.fault (outcome_text l.outcome l.pin) (10 ∷ []));
+    whole = λ l v. above_lacks 31 10 (fault_words l) (omega arith)
+        (above_append 31 l.fault (outcome_text l.outcome l.pin) (fault_above model l.fault v.fault) (outcome_above l.outcome l.pin v.outcome));
+  }
 
-pub fault_told : IsTold IsLine fault_line
-fault_told = line_told IsLine fault_words fault_line fault_lined same_words
+  pub fault_told : IsTold (IsLineBy model) fault_line
+  fault_told = line_told (IsLineBy model) fault_words fault_line fault_lined same_words

@@ -4,7 +4,8 @@ use Rattle.std.specs.List.{All}
 use Rattle.std.proofs.lemmas.List.Elements.{All-nil, All-weaker}
 use Rattle.report.specs.Reports.{Times, AreCounted}
 use Rattle.report.specs.Texts.{count_line, times_lines}
-use Rattle.report.specs.inner.Lines.{IsCount, NoSome, TimesBegin}
+use Rattle.report.specs.Beginnings.{IsCount}
+use Rattle.report.specs.inner.Lines.{NoSome, TimesBegin}
 use Rattle.report.proofs.LineLemmas.{same_lines}
 use Rattle.report.proofs.NumberLemmas.{count_told, some_told}
 

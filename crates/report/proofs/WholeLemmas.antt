@@ -4,12 +4,15 @@ use Rattle.std.specs.List.{All, flat_map}
 use Rattle.std.proofs.lemmas.List.{append-nil}
 use Rattle.std.proofs.lemmas.List.Elements.{All-head}
 use Rattle.report.specs.declared.counts.ReportCounts.{ReportCounts}
-use Rattle.report.specs.Reports.{Hold, AreCounted, IsFaultText, IsLine, IsReport, Report, Times, at_stem, at_output, at_pin}
+use Rattle.report.specs.Reports.{Hold, AreCounted, IsFaultText, IsLine, IsLineBy, IsReport, Report, Times, at_stem, at_output, at_pin}
 use Rattle.statement.specs.Reports.{Line, fault_line, outcome_text}
 use Rattle.report.specs.Texts.{counts_text, hold_line, report_text, share_line, some_line, times_lines, times_text, unasked_line}
+use Rattle.report.specs.declared.models.FaultModel.{FaultModel}
+use Rattle.report.specs.declared.models.FaultModel.TheVariants.{StuckAt}
 use Rattle.report.specs.declared.versions.Version.{Version}
 use Rattle.report.specs.inner.Counts.{CountsBegin, counts_lines}
-use Rattle.report.specs.inner.Lines.{Begins, IsHold, IsShare, NoneBegins, TimesBegin, hold_words, fault_words}
+use Rattle.report.specs.Beginnings.{Begins, IsShare, NoneBegins}
+use Rattle.report.specs.inner.Lines.{IsHold, TimesBegin, hold_words, fault_words}
 use Rattle.report.specs.inner.Tables.{AreTables, tables_text}
 use Rattle.report.specs.inner.Versions.{version_line, version_of}
 use Rattle.report.proofs.HoldLemmas.{hold_lined, hold_told}
@@ -63,14 +66,18 @@ times_begin ts hs ls v w =
       λ k rest u e. tables_first 116 hs ls times w (ap (λ xs. get_or xs 0 0) e),
     )
 
-pub no_fault_begins : NoneBegins IsLine fault_line []
-no_fault_begins = nothing_begins IsLine fault_words fault_line fault_lined
+module _ (model : FaultModel) where
+  no_fault_begins : NoneBegins (IsLineBy model) fault_line []
+  no_fault_begins = nothing_begins (IsLineBy model) fault_words fault_line (fault_lined model)
 
--- lines of faults, with what is left of them
-pub faults_told : (xs ys : List Line) (rest : List ℕ) → All IsLine xs → All IsLine ys → NoneBegins IsLine fault_line rest
-    → flat_map fault_line xs ++ rest ≡ flat_map fault_line ys → (xs ≡ ys) × (rest ≡ [])
-faults_told xs ys rest v w none e =
-    same_lines IsLine fault_line fault_told xs ys rest [] v w none no_fault_begins (e ∙ sym (append-nil (flat_map fault_line ys)))
+  -- lines of faults, with what is left of them
+  pub faults_told : (xs ys : List Line) (rest : List ℕ) → All (IsLineBy model) xs → All (IsLineBy model) ys → NoneBegins (IsLineBy model) fault_line rest
+      → flat_map fault_line xs ++ rest ≡ flat_map fault_line ys → (xs ≡ ys) × (rest ≡ [])
+  faults_told xs ys rest v w none e =
+      same_lines (IsLineBy model) fault_line (fault_told model) xs ys rest [] v w none no_fault_begins (e ∙ sym (append-nil (flat_map fault_line ys)))
+
+  pub same_faults : (xs ys : List Line) → All (IsLineBy model) xs → All (IsLineBy model) ys → flat_map fault_line xs ≡ flat_map fault_line ys → xs ≡ ys
+  same_faults xs ys v w e = (faults_told xs ys [] v w no_fault_begins (append-nil (flat_map fault_line xs) ∙ e)).0
 
 -- all of them, as far as they were read
 pub tables_told : (text : List ℕ) (ts us : Times) (hs is : List Hold) (ls : List Line) (behind rest : List ℕ)
@@ -143,13 +150,13 @@ same_report r s v w e =
     let tables = tables_told (behind_shares r) r.times s.times r.holds s.holds s.lines (flat_map hold_line r.holds ++ flat_map fault_line r.lines)
     (flat_map fault_line r.lines) (times_begin r.times r.holds r.lines v.times v.lines) (v.holds, refl, no_hold_begins r.lines v.lines)
     w.times w.holds w.lines efficiency.1 in
-    let faults = faults_told r.lines s.lines [] v.lines w.lines no_fault_begins (append-nil (flat_map fault_line r.lines) ∙ tables.2) in
+    let faults = same_faults StuckAt r.lines s.lines v.lines w.lines tables.2 in
     ap (λ (k : ReportCounts). record { counts = k; coverage = r.coverage; efficiency = r.efficiency; times = r.times; holds = r.holds; lines = r.lines }) counts.0
     ∙ (ap (λ (k : ℕ). record { counts = s.counts; coverage = k; efficiency = r.efficiency; times = r.times; holds = r.holds; lines = r.lines }) coverage.0
     ∙ (ap (λ (k : ℕ). record { counts = s.counts; coverage = s.coverage; efficiency = k; times = r.times; holds = r.holds; lines = r.lines }) efficiency.0
     ∙ (ap (λ (t : Times). record { counts = s.counts; coverage = s.coverage; efficiency = s.efficiency; times = t; holds = r.holds; lines = r.lines }) tables.0
     ∙ (ap (λ (hs : List Hold). record { counts = s.counts; coverage = s.coverage; efficiency = s.efficiency; times = s.times; holds = hs; lines = r.lines }) tables.1
-    ∙ ap (λ (ls : List Line). record { counts = s.counts; coverage = s.coverage; efficiency = s.efficiency; times = s.times; holds = s.holds; lines = ls }) faults.0))))
+    ∙ ap (λ (ls : List Line). record { counts = s.counts; coverage = s.coverage; efficiency = s.efficiency; times = s.times; holds = s.holds; lines = ls }) faults))))
 
 -- what was read part by part is a report with this text
 pub whole_found : (bytes a b c d : List ℕ) (version : Version) (counts : ReportCounts) (coverage efficiency : ℕ) (ts : Times) (hs : List Hold) (ls : List Line)

@@ -1,5 +1,5 @@
 -- The counts of a report, in the order of its text.
-use Rattle.std.specs.Prelude.{ℕ, ◌<◌, ◌^◌, List, [], ◌∷◌, codes}
+use Rattle.std.specs.Prelude.{ℕ, ◌≡◌, ◌<◌, ◌^◌, List, [], ◌∷◌, codes}
 use Rattle.std.specs.List.{All}
 use Rattle.report.specs.declared.counts.ReportCounts.{ReportCounts}
 
@@ -13,3 +13,7 @@ worded c =
 -- each is a number of 64 bits
 abbrev pub AreSmallCounts : ReportCounts → Type 0
 AreSmallCounts c = All (λ (p : List ℕ × ℕ). p.1 < 2 ^ 64) (worded c) × (c.unasked < 2 ^ 64)
+
+-- and none weren't asked for
+abbrev pub AreAllAsked : ReportCounts → Type 0
+AreAllAsked c = AreSmallCounts c × (c.unasked ≡ 0)

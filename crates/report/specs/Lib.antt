@@ -1,3 +1,4 @@
+pub mod Beginnings
 pub mod Counts
 pub mod Laws
 pub mod Reading

@@ -1,68 +1,79 @@
 //! The line of a fault, word by word.
 ghost use Rattle.std.specs.Prelude.{◌≡◌, ◌≢◌, ◌<◌, ◌^◌, ◌++◌, ◌∷◌, ◌↔◌, ℕ, List, IsTrue, MatchOption, codes, decimal};
 ghost use Rattle.statement.specs.Reports.{Line, outcome_text};
-ghost use Rattle.report.specs.Reports.{IsLine, IsOutcome, IsBenchWord};
+ghost use Rattle.report.specs.declared.models.FaultModel.TheVariants.{StuckAt, Transition};
+ghost use Rattle.report.specs.Reports.{IsLineBy, IsOutcome, IsBenchWord};
 ghost use Rattle.statement.specs.declared.outcomes.Outcome.{Outcome};
-ghost use Rattle.report.specs.inner.Faults.{IsNamed, IsPlaced, NamedBegins, PinBegins, FaultBegins};
+ghost use Rattle.report.specs.inner.Faults.{EndsAt, NamedBegins, PinBegins, FaultBegins};
 ghost use Rattle.report.specs.inner.Lines.{fault_words};
 
 use crate::fault_lines::FaultLine;
-use crate::pieces::{before_value, behind, is_word};
+use crate::models::FaultModel;
+use crate::pieces::{before_value, behind, behind_slow, is_word};
 use plain_text::{number, split_at};
 use statement::Outcome;
 
-/// `x/0`
-fn is_named(text: &[u8]) -> bool
-    ensures { IsTrue result ↔ IsNamed text.now }
+/// Of `x/0 rest` what stands before the value, `x`, and behind it.
+fn before_stuck(text: &[u8]) -> Option<(&[u8], &[u8])>
+    ensures { MatchOption result ((front rest : List ℕ) → EndsAt StuckAt text.now front rest → ⊥) (λ p. EndsAt StuckAt text.now p.0.now p.1.now) }
 {
-    match before_value(text) {
-        Some(name) => is_word(name),
-        None => false,
+    let (word, rest) = split_at(text, b' ')?;
+    let front = before_value(word)?;
+    Some((front, rest))
+}
+
+/// Of `x rise rest` what stands before the word, `x`, and behind it.
+fn before_slow(text: &[u8]) -> Option<(&[u8], &[u8])>
+    ensures { MatchOption result ((front rest : List ℕ) → EndsAt Transition text.now front rest → ⊥) (λ p. EndsAt Transition text.now p.0.now p.1.now) }
+{
+    let (front, after) = split_at(text, b' ')?;
+    let rest = behind_slow(after)?;
+    Some((front, rest))
+}
+
+/// What stands before the end of a fault's text, and behind it.
+fn before_end(model: FaultModel, text: &[u8]) -> Option<(&[u8], &[u8])>
+    ensures { MatchOption result ((front rest : List ℕ) → EndsAt model text.now front rest → ⊥) (λ p. EndsAt model text.now p.0.now p.1.now) }
+{
+    match model {
+        FaultModel::StuckAt => before_stuck(text),
+        FaultModel::Transition => before_slow(text),
     }
 }
 
-/// `3/1`
-fn is_placed(text: &[u8]) -> bool
-    ensures { IsTrue result ↔ IsPlaced text.now }
+/// What stands behind a name and the end of a fault's text.
+fn behind_named(model: FaultModel, text: &[u8]) -> Option<&[u8]>
+    ensures { MatchOption result ((rest : List ℕ) → NamedBegins model text.now rest → ⊥) (λ rest. NamedBegins model text.now rest.now) }
 {
-    match before_value(text) {
-        Some(place) => number(place).is_some(),
-        None => false,
-    }
+    let (name, rest) = before_end(model, text)?;
+    if is_word(name) { Some(rest) } else { None }
 }
 
-/// What stands behind a named value.
-fn behind_named(text: &[u8]) -> Option<&[u8]>
-    ensures { MatchOption result ((rest : List ℕ) → NamedBegins text.now rest → ⊥) (λ rest. NamedBegins text.now rest.now) }
-{
-    let (named, rest) = split_at(text, b' ')?;
-    if is_named(named) { Some(rest) } else { None }
-}
-
-/// What stands behind a name and a placed value.
-fn behind_pin(text: &[u8]) -> Option<&[u8]>
-    ensures { MatchOption result ((rest : List ℕ) → PinBegins text.now rest → ⊥) (λ rest. PinBegins text.now rest.now) }
+/// What stands behind a name, a place and the end of a fault's text.
+fn behind_pin(model: FaultModel, text: &[u8]) -> Option<&[u8]>
+    ensures { MatchOption result ((rest : List ℕ) → PinBegins model text.now rest → ⊥) (λ rest. PinBegins model text.now rest.now) }
 {
     let (name, after) = split_at(text, b' ')?;
     if !is_word(name) {
         return None;
     }
-    let (placed, rest) = split_at(after, b' ')?;
-    if is_placed(placed) { Some(rest) } else { None }
+    let (digits, rest) = before_end(model, after)?;
+    let _place = number(digits)?;
+    Some(rest)
 }
 
 /// What stands behind a fault's text, which is passed over and not looked up.
-fn behind_fault(line: &[u8]) -> Option<&[u8]>
-    ensures { MatchOption result ((rest : List ℕ) → FaultBegins line.now rest → ⊥) (λ rest. FaultBegins line.now rest.now) }
+fn behind_fault(model: FaultModel, line: &[u8]) -> Option<&[u8]>
+    ensures { MatchOption result ((rest : List ℕ) → FaultBegins model line.now rest → ⊥) (λ rest. FaultBegins model line.now rest.now) }
 {
     if let Some(text) = behind(b"stem ", line) {
-        return behind_named(text);
+        return behind_named(model, text);
     }
     if let Some(text) = behind(b"out ", line) {
-        return behind_named(text);
+        return behind_named(model, text);
     }
     if let Some(text) = behind(b"pin ", line) {
-        return behind_pin(text);
+        return behind_pin(model, text);
     }
     None
 }
@@ -105,12 +116,12 @@ fn outcome_in(text: &[u8]) -> Option<(Outcome, &[u8])>
 }
 
 /// A line's fault, what came of it and the pin.
-pub(crate) fn fault_in(line: &[u8]) -> Option<FaultLine<'_>>
+pub(crate) fn fault_in(model: FaultModel, line: &[u8]) -> Option<FaultLine<'_>>
     ensures { MatchOption result
-        ((l : Line) → IsLine l → line.now ≢ fault_words l)
-        (λ f. IsLine (record { fault = f.fault.now; outcome = f.outcome; pin = f.pin.now }) × (line.now ≡ fault_words (record { fault = f.fault.now; outcome = f.outcome; pin = f.pin.now }))) }
+        ((l : Line) → IsLineBy model l → line.now ≢ fault_words l)
+        (λ f. IsLineBy model (record { fault = f.fault.now; outcome = f.outcome; pin = f.pin.now }) × (line.now ≡ fault_words (record { fault = f.fault.now; outcome = f.outcome; pin = f.pin.now }))) }
 {
-    let rest = behind_fault(line)?;
+    let rest = behind_fault(model, line)?;
     let (outcome, pin) = outcome_in(rest)?;
     Some(FaultLine {
         fault: &line[..line.len() - rest.len() - 1],

@@ -1,13 +1,15 @@
 //! The lines of a report, each at the front of a text.
 ghost use Rattle.std.specs.Prelude.{◌≡◌, ◌≢◌, ◌<◌, ◌+◌, ◌/◌, ◌^◌, ◌++◌, ◌∷◌, [], ◌%◌, ℕ, List, MatchOption};
-ghost use Rattle.report.specs.Reports.{IsLine, Hold};
+ghost use Rattle.report.specs.Reports.{IsLineBy, Hold};
 ghost use Rattle.report.specs.Texts.{count_line, hundredths, share_line, hold_line};
 ghost use Rattle.statement.specs.Reports.{fault_line};
-ghost use Rattle.report.specs.inner.Lines.{Begins, NoneBegins, SomeBegins, IsCount, IsShare, IsHold, count_end, share_end, hold_words};
+ghost use Rattle.report.specs.Beginnings.{Begins, NoneBegins, IsCount, IsShare};
+ghost use Rattle.report.specs.inner.Lines.{SomeBegins, IsHold, count_end, share_end, hold_words};
 
 use crate::fault_lines::FaultLine;
 use crate::fault_words::fault_in;
 use crate::hold_lines::HoldLine;
+use crate::models::FaultModel;
 use crate::pieces::{before_bit, behind, is_word};
 use plain_text::{number, split_at};
 
@@ -85,7 +87,7 @@ fn share_end(text: &[u8]) -> Option<(u128, &[u8])>
 }
 
 /// The share behind this word, `coverage 83.05`, and what stands behind its line.
-pub(crate) fn share<'a>(word: &[u8], text: &'a [u8]) -> Option<(u128, &'a [u8])>
+pub fn share<'a>(word: &[u8], text: &'a [u8]) -> Option<(u128, &'a [u8])>
     ensures { MatchOption result (NoneBegins IsShare (share_line word.now) text.now) (λ p. Begins IsShare (share_line word.now) text.now p.0 p.1.now) }
 {
     let after = behind(word, text)?;
@@ -120,12 +122,12 @@ pub(crate) fn hold(text: &[u8]) -> Option<(HoldLine<'_>, &[u8])>
 }
 
 /// The fault's line, and what stands behind it.
-pub(crate) fn fault(text: &[u8]) -> Option<(FaultLine<'_>, &[u8])>
+pub(crate) fn fault(model: FaultModel, text: &[u8]) -> Option<(FaultLine<'_>, &[u8])>
     ensures { MatchOption result
-        (NoneBegins IsLine fault_line text.now)
-        (λ p. Begins IsLine fault_line text.now (record { fault = p.0.fault.now; outcome = p.0.outcome; pin = p.0.pin.now }) p.1.now) }
+        (NoneBegins (IsLineBy model) fault_line text.now)
+        (λ p. Begins (IsLineBy model) fault_line text.now (record { fault = p.0.fault.now; outcome = p.0.outcome; pin = p.0.pin.now }) p.1.now) }
 {
     let (line, rest) = split_at(text, b'\n')?;
-    let fault = fault_in(line)?;
+    let fault = fault_in(model, line)?;
     Some((fault, rest))
 }

@@ -1,9 +1,10 @@
 //! Pieces of a line.
-ghost use Rattle.std.specs.Prelude.{◌≡◌, ◌≢◌, ◌<◌, ◌+◌, ◌^◌, ◌++◌, ◌↔◌, ℕ, Bool, List, IsTrue, MatchOption};
+ghost use Rattle.std.specs.Prelude.{◌≡◌, ◌≢◌, ◌<◌, ◌+◌, ◌^◌, ◌++◌, ◌∷◌, ◌↔◌, ℕ, Bool, List, IsTrue, MatchOption};
 ghost use Rattle.std.specs.List.{list_all};
 ghost use Rattle.statement.specs.Netlists.{is_name_byte};
 ghost use Rattle.statement.specs.Faults.{value_text};
 ghost use Rattle.report.specs.Reports.{IsBenchWord};
+ghost use Rattle.report.specs.inner.Faults.{slow_word};
 ghost use Rattle.report.specs.inner.Lines.{bit_text};
 
 /// What stands behind a word at the front.
@@ -58,6 +59,16 @@ pub(crate) fn before_value(text: &[u8]) -> Option<&[u8]>
         return Some(front);
     }
     before(b"/1", text)
+}
+
+/// What stands behind the word of a slow line at the front, and a blank.
+pub(crate) fn behind_slow(text: &[u8]) -> Option<&[u8]>
+    ensures { MatchOption result ((value : Bool) (rest : List ℕ) → text.now ≢ slow_word value ++ 32 ∷ rest) (λ rest. (value : Bool) × (text.now ≡ slow_word value ++ 32 ∷ rest.now)) }
+{
+    if let Some(rest) = behind(b"rise ", text) {
+        return Some(rest);
+    }
+    behind(b"fall ", text)
 }
 
 /// What stands before the bit of a held input, and the bit.

@@ -2,18 +2,20 @@
 ghost use Rattle.std.specs.Prelude.{◌≡◌, ◌≢◌, ◌<◌, ◌++◌, List, IfOk, MatchOption};
 ghost use Rattle.std.specs.List.{All, flat_map};
 ghost use Rattle.report.specs.Reading.{IsReportRead};
-ghost use Rattle.report.specs.Counts.{AreSmallCounts};
-ghost use Rattle.report.specs.Reports.{Hold, Report as Kept, Times as Counted, IsLine, IsReport};
+ghost use Rattle.report.specs.Counts.{AreAllAsked, AreSmallCounts};
+ghost use Rattle.report.specs.Reports.{Hold, Report as Kept, Times as Counted, IsLineBy, IsReport};
 ghost use Rattle.statement.specs.Reports.{Line, fault_line};
-ghost use Rattle.report.specs.Texts.{hold_line, report_text};
+ghost use Rattle.report.specs.Texts.{counts_text, hold_line, report_text};
 ghost use Rattle.report.specs.inner.Counts.{AreNumbers, CountsBegin, counts_lines, numbers_text};
-ghost use Rattle.report.specs.inner.Lines.{Begins, NoneBegins, TimesBegin, IsHold};
+ghost use Rattle.report.specs.Beginnings.{Begins, NoneBegins};
+ghost use Rattle.report.specs.inner.Lines.{TimesBegin, IsHold};
 ghost use Rattle.report.specs.inner.Tables.{AreTables, tables_text};
 
 use crate::counts::{COUNTS, ReportCounts, count_word};
 use crate::fault_lines::FaultLines;
 use crate::hold_lines::HoldLines;
 use crate::lines::{count, fault, hold, share, some_count};
+use crate::models::FaultModel;
 use crate::reports::Report;
 use crate::times::Times;
 use crate::versions::{Version, version_in};
@@ -48,6 +50,14 @@ fn counts(text: &[u8]) -> Option<(ReportCounts, &[u8])>
     Some((ReportCounts::of(numbers, unasked), rest))
 }
 
+/// The counts that every report has a line of, where none weren't asked for, and what stands behind their lines.
+pub fn asked_counts(text: &[u8]) -> Option<(ReportCounts, &[u8])>
+    ensures { MatchOption result (NoneBegins AreAllAsked counts_text text.now) (λ p. Begins AreAllAsked counts_text text.now p.0 p.1.now) }
+{
+    let (numbers, rest) = numbers(text)?;
+    Some((ReportCounts::of(numbers, 0), rest))
+}
+
 /// How often faults are detected, as lines say it, and what stands behind these.
 fn times<'a>(alloc: Global, text: &'a [u8]) -> Result<(Times, &'a [u8]), AllocError>
     ensures { IfOk result (λ p. TimesBegin text.now p.0 p.1.now) }
@@ -76,13 +86,19 @@ fn holds<'a>(alloc: Global, text: &'a [u8]) -> Result<(HoldLines, &'a [u8]), All
 }
 
 /// The lines of faults, of which the whole text is made.
-fn fault_lines(alloc: Global, text: &[u8]) -> Result<Option<FaultLines>, AllocError>
-    ensures { IfOk result (λ o. MatchOption o ((ls : List Line) → All IsLine ls → text.now ≢ flat_map fault_line ls) (λ ls. All IsLine ls × (text.now ≡ flat_map fault_line ls))) }
+pub fn fault_list(
+    alloc: Global,
+    model: FaultModel,
+    text: &[u8],
+) -> Result<Option<FaultLines>, AllocError>
+    ensures { IfOk result (λ o. MatchOption o
+        ((ls : List Line) → All (IsLineBy model) ls → text.now ≢ flat_map fault_line ls)
+        (λ ls. All (IsLineBy model) ls × (text.now ≡ flat_map fault_line ls))) }
 {
     let mut lines = FaultLines::new(alloc);
     let mut rest = text;
     'faults: while !rest.is_empty() {
-        let Some((line, after)) = fault(rest) else {
+        let Some((line, after)) = fault(model, rest) else {
             return Ok(None);
         };
         lines = lines.push(line.fault, line.outcome, line.pin)?;
@@ -110,7 +126,7 @@ fn tables(
     if !version.is_of(times.most(), unasked, &holds) {
         return Ok(None);
     }
-    let Some(lines) = fault_lines(alloc, rest)? else {
+    let Some(lines) = fault_list(alloc, FaultModel::StuckAt, rest)? else {
         return Ok(None);
     };
     Ok(Some((times, holds, lines)))

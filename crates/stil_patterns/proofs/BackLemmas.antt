@@ -59,7 +59,7 @@ by_chain_count [] values = refl
 by_chain_count (chain ∷ chains) values = ap suc (by_chain_count chains (drop (length chain) values))
 
 -- what stands behind the scan inputs' words brings nothing
-load_back : (chains others : List (List ℕ)) (values : List Bool) (held : List Tri) → map length others ≡ map length chains → length values ≡ length (cells_of chains)
+pub load_back : (chains others : List (List ℕ)) (values : List Bool) (held : List Tri) → map length others ≡ map length chains → length values ≡ length (cells_of chains)
     → cells_in chains (take (length others) (load_words others values held)) ≡ values
 load_back chains others values held like e =
     let m = longest_of others in
@@ -67,7 +67,7 @@ load_back chains others values held like e =
     let count : length ins ≡ length others = length-map (map (word_in m) (by_chain others values)) text_of_bits ∙ (length-map (by_chain others values) (word_in m) ∙ by_chain_count others values) in
     ap (cells_in chains) (take_at ins (map text_of_values (map (word_out m) (by_chain others held))) (length others) count) ∙ cells_back m chains others values like e
 
-inputs_back : (count : ℕ) (inputs : List Bool) → inputs_in count (text_of_bits (inputs ++ where_chained count false)) ≡ inputs
+pub inputs_back : (count : ℕ) (inputs : List Bool) → inputs_in count (text_of_bits (inputs ++ where_chained count false)) ≡ inputs
 inputs_back zero inputs = bits_back (inputs ++ []) ∙ append-nil inputs
 inputs_back (suc count) inputs =
     let word = text_of_bits (inputs ++ false ∷ []) in
@@ -83,7 +83,7 @@ same_pattern p inputs cells i c = ap (λ x. pattern x cells) i ∙ ap (pattern p
 
 -- ---- items
 
-abbrev applied_behind : ℕ → List (List ℕ) → Item → List Item → List Pattern
+abbrev pub applied_behind : ℕ → List (List ℕ) → Item → List Item → List Pattern
 applied_behind count chains before items = flat_map (λ p. test_in count chains p.0 p.1) (zip (before ∷ items) items)
 
 module _ (n other : Netlist) (holds : Holds) where

@@ -2,9 +2,9 @@ mod NameLemmas
 pub mod FileLemmas
 mod WordLemmas
 mod AddLemmas
-mod BackLemmas
-mod OnceLemmas
-mod PickLemmas
+pub mod BackLemmas
+pub mod OnceLemmas
+pub mod PickLemmas
 mod ReadLemmas
 mod SameLemmas
 mod SizeLemmas

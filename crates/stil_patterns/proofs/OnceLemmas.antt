@@ -32,7 +32,7 @@ same_response : (r s : Response) → r.outputs ≡ s.outputs → r.cells ≡ s.c
 unfolding response
 same_response r s o c = ap (λ x. response x r.cells) o ∙ ap (response s.outputs) c
 
-responds_once : (n : Netlist) → IsSound n → (p : Pattern) (r s : Response) → Responds n None p r → Responds n None p s → r ≡ s
+pub responds_once : (n : Netlist) → IsSound n → (p : Pattern) (r s : Response) → Responds n None p r → Responds n None p s → r ≡ s
 responds_once n sound p r s h k =
     let rule = bits None in
     let same : (x : ℕ) → Contains (signals n) x → h.values x ≡ k.values x = λ x c. settles_once beq decides_beq rule n p.inputs p.cells h.values k.values sound.closed sound.acyclic h.settles k.settles x c in
@@ -44,17 +44,19 @@ responds_once n sound p r s h k =
     (λ x m. same x (All-contains (Contains (signals n)) d.pins x
     (All-contains (λ (e : Definition). All (Contains (signals n)) e.pins) n.definitions d sound.closed.pins (contains_filter is_cell n.definitions d c).0) m)))) ∙ sym k.cells))
 
-all_once : (n : Netlist) → IsSound n → (ps : List Pattern) (rs ss : List Response) → AllZip (Responds n None) ps rs → AllZip (Responds n None) ps ss → rs ≡ ss
-all_once n sound [] [] [] h k = refl
-all_once n sound [] [] (s ∷ ss) h k = absurd k
-all_once n sound [] (r ∷ rs) ss h k = absurd h
-all_once n sound (p ∷ ps) [] ss h k = absurd h
-all_once n sound (p ∷ ps) (r ∷ rs) [] h k = absurd k
-all_once n sound (p ∷ ps) (r ∷ rs) (s ∷ ss) h k = ap (λ x. x ∷ rs) (responds_once n sound p r s h.0 k.0) ∙ ap (λ xs. s ∷ xs) (all_once n sound ps rs ss h.1 k.1)
+-- of a relation by which a pattern has one response
+pub all_once : (R : Pattern → Response → Type 0) → ((p : Pattern) (r s : Response) → R p r → R p s → r ≡ s)
+    → (ps : List Pattern) (rs ss : List Response) → AllZip R ps rs → AllZip R ps ss → rs ≡ ss
+all_once R once [] [] [] h k = refl
+all_once R once [] [] (s ∷ ss) h k = absurd k
+all_once R once [] (r ∷ rs) ss h k = absurd h
+all_once R once (p ∷ ps) [] ss h k = absurd h
+all_once R once (p ∷ ps) (r ∷ rs) [] h k = absurd k
+all_once R once (p ∷ ps) (r ∷ rs) (s ∷ ss) h k = ap (λ x. x ∷ rs) (once p r s h.0 k.0) ∙ ap (λ xs. s ∷ xs) (all_once R once ps rs ss h.1 k.1)
 
 pub one_file : OneFile
 one_file n holds chains patterns f g sound h k =
-    h.is ∙ (ap (λ (rs : List Response). test_file n holds chains (zip patterns rs)) (all_once n sound patterns h.responses k.responses h.respond k.respond) ∙ sym k.is)
+    h.is ∙ (ap (λ (rs : List Response). test_file n holds chains (zip patterns rs)) (all_once (Responds n None) (responds_once n sound) patterns h.responses k.responses h.respond k.respond) ∙ sym k.is)
 
 applies : (n : Netlist) (holds : Holds) (chains : List (List ℕ)) (ps : List Pattern) (f : StilFile) → AreChainsOf n chains → All (IsPatternOf n holds) ps → IsFileOf n holds chains ps f → applied_in n holds chains f ≡ ps
 applies n holds chains ps f are obey h = taken_back n n holds holds chains chains ps f are are refl refl obey h

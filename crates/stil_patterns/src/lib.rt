@@ -24,5 +24,5 @@ pub use capturing::{push_capture, push_launch};
 pub use loading::{Room, push_load, push_zero_load};
 pub use obeying::are_patterns;
 pub use pattern_files::{parts_with, stil_of};
-pub use patterns::patterns_of;
+pub use patterns::{are_same, patterns_of};
 pub use reading::applied_patterns;

@@ -18,7 +18,7 @@ use stil_read::laws::{at_most_one, written_stands};
 use stil_write::{StilFile, write_stil};
 
 /// Whether two files are the same, as they are where their texts are.
-fn are_same(alloc: Global, file: &StilFile, other: &StilFile) -> Result<bool, AllocError>
+pub fn are_same(alloc: Global, file: &StilFile, other: &StilFile) -> Result<bool, AllocError>
     ensures { IfOk result (λ yes. MatchBool yes (file.now ≡ other.now) (file.now ≡ other.now → ⊥)) }
 {
     file.sound();

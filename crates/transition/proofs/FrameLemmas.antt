@@ -1,29 +1,15 @@
 -- The search for a slow line on its own two frames.
-use Rattle.std.proofs.Common.{◌≡◌, ℕ, Bool, Result, Ok, Err, IfOk, sym, subst, arith}
+use Rattle.std.proofs.Common.{◌≡◌, ℕ, Bool, Result, Ok, Err, IfOk, subst}
 use Rattle.statement.specs.declared.lines.Fault.{Fault}
 use Rattle.statement.specs.Netlists.{Netlist}
 use Rattle.statement.specs.Patterns.{Holds}
-use Rattle.netlist.specs.Conditions.{IsSound}
 use Rattle.netlist.specs.Holds.{none_held}
-use Rattle.netlist.specs.Lines.{IsLineOf}
-use Rattle.netlist.proofs.Placed.{signal_from}
 use Rattle.evidence.specs.declared.engine.Found.{Found}
 use Rattle.evidence.specs.Answers.{HasEvidence, MayAnswer}
-use Rattle.transition_frames.specs.Frames.{frames_of, frame_fault, tie}
-use Rattle.transition_frames.proofs.Numbered.{frames_count}
+use Rattle.transition_frames.specs.Frames.{frames_of, frame_fault}
 use Rattle.transition.specs.Searches.{HasFrameEvidence}
 
--- the tie stands in the frames
-tie_there : (n : Netlist) (f : Fault) → IsSound (frames_of n f) → IsLineOf (frames_of n f) (frame_fault n f).line
-tie_there n f sound = signal_from (frames_of n f) sound.formed.numbered (tie n) (omega (arith, frames_count n f))
-
--- a search on the frames is one for their tie
-pub frame_line : (n : Netlist) (f : Fault) (core : Netlist) (t : Fault) → core ≡ frames_of n f → IsSound core → t ≡ frame_fault n f → IsLineOf core t.line
-frame_line n f core t same sound is =
-    subst (λ (m : Netlist). IsLineOf m t.line) (sym same)
-    (subst (λ (g : Fault). IsLineOf (frames_of n f) g.line) (sym is) (tie_there n f (subst IsSound same sound)))
-
--- and what it answers is evidence on them
+-- what it answers is evidence on them
 pub frame_answer : {E : Type 0} (n : Netlist) (f : Fault) (limit : ℕ) (refutes : Bool) (core : Netlist) (holds : Holds) (t : Fault) (r : Result Found E) → core ≡ frames_of n f
     → holds ≡ none_held core → t ≡ frame_fault n f → IfOk r (HasEvidence t core holds limit) → IfOk r (MayAnswer refutes) → IfOk r (HasFrameEvidence n limit refutes f)
 frame_answer n f limit refutes core holds t (Err e) same held is evidence kind = tt

@@ -1,4 +1,7 @@
 pub mod NameLemmas
-pub mod LeafLemmas
+pub mod ReportTexts
 pub mod SeenLemmas
-pub mod LineLemmas
+pub mod SlowFaultTexts
+pub mod EvidenceLines
+mod FirstFrames
+mod WriteLemmas

@@ -10,7 +10,7 @@ use Rattle.scan_play.specs.Vectors.{capture_cycle, unload_cycle}
 use Rattle.run_report.specs.Outcomes.{IsSeenAt}
 use Rattle.run_report.proofs.CycleLemmas.{small_product, longest_small, chain_small}
 use Rattle.transition_play.specs.LaunchVectors.{IsLaunchStrobedAt, second_cycle, second_unload}
-use Rattle.transition_report.specs.Lines.{IsLaunchSeenAt}
+use Rattle.transition_report.specs.Strobes.{IsLaunchSeenAt}
 
 -- a cycle more for each pattern before this one
 more : (p m : ℕ) → p * (m + 2) ≡ p * (m + 1) + p

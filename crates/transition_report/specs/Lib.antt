@@ -1,4 +1,6 @@
 pub mod Texts
-pub mod Lines
 pub mod Numbers
+pub mod Reading
+pub mod Strobes
+pub mod Laws
 pub mod inner

@@ -1,6 +1,6 @@
 -- Certificates and reports of transition faults as texts: those of stuck lines, with first lines of their own, the transition faults' texts,
 -- and the names of the two frames.
-use Rattle.std.specs.Prelude.{if◌then◌else◌, ℕ, ◌<◌, Bool, true, false, List, ◌++◌, codes, length}
+use Rattle.std.specs.Prelude.{if◌then◌else◌, ℕ, ◌<◌, Bool, List, ◌++◌, codes, length}
 use Rattle.std.specs.List.{flat_map}
 use Rattle.statement.specs.declared.lines.Fault.{Fault}
 use Rattle.statement.specs.Netlists.{Netlist, signals}
@@ -8,15 +8,11 @@ use Rattle.netlist.specs.Lines.{IsLineOf, signal_of}
 use Rattle.statement.specs.Faults.{line_text}
 use Rattle.evidence.specs.declared.kinds.Evidence.{Evidence}
 use Rattle.certificate.specs.Certificates.{evidence_text, has_refutation, HasSignals}
+use Rattle.report.specs.Reports.{slow_text}
 use Rattle.report.specs.Texts.{counts_text, share_line}
 use Rattle.statement.specs.Reports.{fault_line}
 use Rattle.transition_frames.specs.Frames.{frames_of}
 use Rattle.transition_report.specs.declared.reporting.TransitionReport.{TransitionReport}
-
--- a line that is slow to leave 0 is slow to rise
-abbrev pub slow_text : Bool → List ℕ
-slow_text false = codes " rise"
-slow_text true = codes " fall"
 
 -- `stem x rise`, `pin z 3 fall`
 abbrev pub transition_text : Netlist → Fault → List ℕ

@@ -17,11 +17,7 @@ use std::alloc::{AllocError, Global};
 use transition_frames::frames;
 
 /// Adds the text of a transition fault, as `pin z 0 rise`.
-pub(crate) fn push_fault(
-    text: &mut Vec<u8>,
-    netlist: &Netlist,
-    fault: Fault,
-) -> Result<(), AllocError>
+pub fn push_fault(text: &mut Vec<u8>, netlist: &Netlist, fault: Fault) -> Result<(), AllocError>
     requires { signal_of fault.line < length (signals netlist.now) }
     ensures { OnOk result (text.new.items ≡ text.old.items ++ transition_text netlist.now fault) }
 {
@@ -64,7 +60,7 @@ fn push_all(
 }
 
 /// The first line of a certificate with refutations, or of one with trees alone.
-fn first_line(refutes: bool) -> &'static [u8]
+pub(crate) fn first_line(refutes: bool) -> &'static [u8]
     ensures { result.now ≡ transition_first_line refutes }
 {
     if refutes {

@@ -23,7 +23,7 @@ pub struct TransitionReport {
 
 /// How many cycles so many patterns take.
 #[tactic(auto, using(run_report::proofs::CycleLemmas::small_product))]
-fn launch_cycles(longest: u64, patterns: u64) -> u64
+pub fn launch_cycles(longest: u64, patterns: u64) -> u64
     requires longest { longest ≤ 8000000 }
     requires patterns { patterns < 2 ^ 32 }
     ensures { result ≡ (patterns + 4) * longest + 2 * patterns }

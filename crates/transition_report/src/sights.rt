@@ -4,14 +4,14 @@ ghost use Rattle.std.specs.Prelude.{◌≡◌, map};
 ghost use Rattle.statement.specs.Runs.{output_name};
 ghost use Rattle.scan_insert.specs.Scanned.{AreChainsOf, scanned_of};
 ghost use Rattle.run_report.specs.Strobes.{IsPointOf};
-ghost use Rattle.transition_report.specs.Lines.{IsLaunchSeenAt};
+ghost use Rattle.transition_report.specs.Strobes.{IsLaunchSeenAt};
 
 use netlist::{NameTable, Netlist, Point};
 use run_report::{Sight, sight_of};
 use scan_insert::Chains;
 
 /// Where the tester sees a point for the pattern at a place. `pins` has the names of the pins at the scanned netlist's outputs.
-pub(crate) fn sight_behind<'a>(
+pub fn sight_behind<'a>(
     netlist: &Netlist,
     chains: &Chains,
     pins: &'a NameTable,

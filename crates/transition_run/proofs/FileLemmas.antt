@@ -17,9 +17,9 @@ use Rattle.fault_universe.proofs.Elements.{contains_at}
 use Rattle.good_files.specs.ScanOff.{design_chains}
 use Rattle.transition_tests.specs.declared.verdicts.TransitionVerdict.{TransitionVerdict}
 use Rattle.transition_tests.specs.Verdicts.{AreTests, IsVerdict}
-use Rattle.transition_report.specs.Lines.{leaves_of}
+use Rattle.transition_tests.specs.Lines.{leaves_of}
 use Rattle.transition_report.specs.Texts.{IsNamedInFrames}
-use Rattle.transition_report.proofs.LeafLemmas.{leaves_named}
+use Rattle.transition_tests.proofs.LeafLemmas.{leaves_named}
 
 -- each fault is one of a line and of a signal
 all_lines : FaultsHaveLines → FaultsHaveSignals → (n : Netlist) → IsSound n

@@ -6,7 +6,7 @@ use Rattle.statement.specs.declared.lines.Fault.{Fault}
 use Rattle.statement.specs.Netlists.{Netlist}
 use Rattle.statement.specs.Reports.{Line}
 use Rattle.transition_tests.specs.declared.verdicts.TransitionVerdict.{TransitionVerdict}
-use Rattle.transition_report.specs.Lines.{AreLines, IsVerdictLine}
+use Rattle.transition_tests.specs.Lines.{AreLines, IsVerdictLine}
 
 -- a line for each fault
 pub lines_count : (n : Netlist) (chains : List (List ℕ)) (faults : List Fault) (verdicts : List TransitionVerdict) (lines : List Line) → length verdicts ≡ length faults

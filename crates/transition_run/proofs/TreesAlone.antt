@@ -21,7 +21,8 @@ use Rattle.certificate.specs.Certificates.{has_refutation, is_refutation}
 use Rattle.transition_frames.specs.Frames.{frames_of}
 use Rattle.transition_frames.specs.Transition.{DetectsTransition}
 use Rattle.transition_report.specs.Texts.{transition_certificate, transition_first_line, transition_line}
-use Rattle.transition_run.specs.Theorem.{AreUndetectedTransitions, ComesTrue, IsCertified, TransitionTheorem}
+use Rattle.transition_run.specs.Runs.{HasNeeded}
+use Rattle.good_slow_files.specs.Theorem.{AreUndetectedTransitions, ComesTrue, IsCertified, TransitionTheorem}
 use Rattle.transition_run.specs.TreeTheorem.{trees_text, transition_tree_line, TransitionTreeTheorem, ComesTrue as TreeComesTrue}
 
 abbrev nodes_of : Evidence → List Node
@@ -86,8 +87,9 @@ same_faults : (es : List (Fault × Evidence)) → map (λ (p : Fault × Evidence
 same_faults [] = refl
 same_faults (p ∷ ps) = ap (λ (fs : List Fault). p.0 ∷ fs) (same_faults ps)
 
-pub trees_alone : (n : Netlist) (chains : List (List ℕ)) (limit : ℕ) (files : FiveFiles) → TransitionTheorem n chains limit false files → TransitionTreeTheorem n chains limit files
-trees_alone n chains limit files t =
+pub trees_alone : (n : Netlist) (chains : List (List ℕ)) (limit : ℕ) (files : FiveFiles) (t : TransitionTheorem n chains limit false files) → HasNeeded n chains limit false files t
+    → TransitionTreeTheorem n chains limit files
+trees_alone n chains limit files t needed =
     let es = t.certified in
     record {
       patterns = t.patterns;
@@ -100,7 +102,7 @@ trees_alone n chains limit files t =
       certificate_is = t.certificate_is ∙ text_alone n es t.kinds;
       report_is = t.report_is;
       is_file_of = t.is_file_of;
-      needed = t.needed;
+      needed = needed;
       passes = t.passes;
       runs = t.runs;
       once = t.once;

@@ -28,20 +28,20 @@ use Rattle.statement.specs.declared.outcomes.Outcome.{Outcome}
 use Rattle.statement.specs.Reports.{Line}
 use Rattle.run_report.specs.Heads.{count_of, one_if_detected, one_if_redundant, one_if_aborted}
 use Rattle.transition_frames.specs.Transition.{DetectsTransition}
-use Rattle.transition.specs.Detections.{LastTransition}
-use Rattle.transition.specs.Laws.{ShownHasNoTransition}
+use Rattle.transition_sim.specs.Detections.{LastTransition}
+use Rattle.transition_sim.specs.Laws.{ShownHasNoTransition}
 use Rattle.transition_play.specs.LaunchVectors.{AreLaunchVectors}
 use Rattle.transition_play.specs.Laws.{DetectedFailsSlowly, GoodPassesLaunches, LaunchVectorsFit, SomeSlowRun, UndetectedPassesSlowly}
 use Rattle.transition_files.specs.Laws.{LaunchFileVectors}
 use Rattle.transition_tests.specs.declared.verdicts.TransitionVerdict.{TransitionVerdict}
 use Rattle.transition_tests.specs.declared.verdicts.TransitionVerdict.TheVariants.{Detected, Redundant, Aborted}
 use Rattle.transition_tests.specs.Verdicts.{AreTests, IsVerdict, MayHave}
-use Rattle.transition_report.specs.Lines.{IsVerdictLine, IsOutcomeOf, leaf_at, leaves_of}
+use Rattle.transition_tests.specs.Lines.{IsVerdictLine, IsOutcomeOf, leaf_at, leaves_of}
 use Rattle.transition_report.specs.Texts.{transition_text}
-use Rattle.transition_report.proofs.LeafLemmas.{leaves_kinds}
+use Rattle.transition_tests.proofs.LeafLemmas.{leaves_kinds}
 use Rattle.transition_run.specs.declared.files.TransitionFiles.{TransitionFiles}
-use Rattle.transition_run.specs.Runs.{transition_files_of}
-use Rattle.transition_run.specs.Theorem.{AreUndetectedTransitions, ComesTrue, TransitionTheorem}
+use Rattle.transition_run.specs.Runs.{HasNeeded, transition_files_of}
+use Rattle.good_slow_files.specs.Theorem.{AreUndetectedTransitions, ComesTrue, TransitionTheorem}
 use Rattle.transition_run.specs.inner.Written.{IsWritten}
 
 -- the laws that are cited
@@ -180,10 +180,11 @@ comes_true laws n chains limit patterns certified cycles are f line (Aborted tre
       laws.undetected n chains patterns cycles f are.sound are.dealt are.vectors line (never_at n patterns f is.0),
     )
 
-pub truth : Laws → (n : Netlist) (chains : List (List ℕ)) (limit : ℕ) (refutes : Bool) (patterns : List Pattern) (verdicts : List TransitionVerdict) (made : TransitionFiles)
+-- what comes true
+what_is_said : Laws → (n : Netlist) (chains : List (List ℕ)) (limit : ℕ) (refutes : Bool) (patterns : List Pattern) (verdicts : List TransitionVerdict) (made : TransitionFiles)
     → IsSound n → IsDesign n → AreChainsOf n chains → AreTests n limit patterns verdicts → All (MayHave refutes) verdicts
     → IsWritten n chains limit patterns verdicts made → TransitionTheorem n chains limit refutes (transition_files_of made)
-truth laws n chains limit refutes patterns verdicts made sound design dealt tests may w =
+what_is_said laws n chains limit refutes patterns verdicts made sound design dealt tests may w =
     let file = w.stil.file in
     let cycles = vectors_in file in
     let lines = made.said.lines in
@@ -200,7 +201,6 @@ truth laws n chains limit refutes patterns verdicts made sound design dealt test
       certificate_is = w.certificate;
       report_is = w.report;
       is_file_of = w.stil.of_patterns;
-      needed = tests.needed;
       passes = laws.good n chains patterns cycles sound dealt vectors;
       runs = λ f state size. laws.run n chains cycles f state (laws.sound n chains sound design dealt) size (laws.fit n chains patterns cycles sound dealt vectors);
       once = named;
@@ -215,3 +215,10 @@ truth laws n chains limit refutes patterns verdicts made sound design dealt test
           ∙ (sym (length-map lines (λ (l : Line). l.fault)) ∙ (ap length named ∙ length-map (universe_of n) (transition_text n)));
       numbers = w.said.numbers;
     }
+
+pub truth : Laws → (n : Netlist) (chains : List (List ℕ)) (limit : ℕ) (refutes : Bool) (patterns : List Pattern) (verdicts : List TransitionVerdict) (made : TransitionFiles)
+    → IsSound n → IsDesign n → AreChainsOf n chains → AreTests n limit patterns verdicts → All (MayHave refutes) verdicts
+    → IsWritten n chains limit patterns verdicts made
+    → (t : TransitionTheorem n chains limit refutes (transition_files_of made)) × HasNeeded n chains limit refutes (transition_files_of made) t
+truth laws n chains limit refutes patterns verdicts made sound design dealt tests may w =
+    (what_is_said laws n chains limit refutes patterns verdicts made sound design dealt tests may w, tests.needed)

@@ -1,4 +1,3 @@
-pub mod Theorem
 pub mod TreeTheorem
 pub mod Runs
 pub mod inner

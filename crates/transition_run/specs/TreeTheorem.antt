@@ -24,15 +24,16 @@ use Rattle.run_report.specs.Heads.{count_of, one_if_detected, one_if_redundant, 
 use Rattle.statement.specs.Statement.{FiveFiles}
 use Rattle.transition_frames.specs.Frames.{frames_of}
 use Rattle.transition_frames.specs.Transition.{DetectsTransition}
-use Rattle.transition.specs.Detections.{IsLastTransition, LastTransition}
+use Rattle.transition_sim.specs.Detections.{IsLastTransition, LastTransition}
+use Rattle.transition_sim.specs.Shown.{FitsFrames}
 use Rattle.transition_play.specs.LaunchVectors.{IsLaunchStrobedAt}
 use Rattle.transition_play.specs.SlowPassing.{FailsSlowlyAt, PassesSlowly, RunsSlowly}
 use Rattle.transition_files.specs.LaunchFiles.{IsLaunchFileOf}
-use Rattle.transition_tests.specs.Verdicts.{FitsFrames, IsNeededForTransitions}
+use Rattle.transition_tests.specs.Verdicts.{IsNeededForTransitions}
 use Rattle.transition_report.specs.declared.reporting.TransitionReport.{TransitionReport}
 use Rattle.transition_report.specs.Numbers.{IsReportOf}
 use Rattle.transition_report.specs.Texts.{transition_report_text, transition_text}
-use Rattle.transition_run.specs.Theorem.{AreUndetectedTransitions}
+use Rattle.good_slow_files.specs.Theorem.{AreUndetectedTransitions}
 
 -- a fault, and the nodes of a tree in preorder, by the names of these two frames
 abbrev pub transition_tree_line : Netlist → Netlist → Fault × List Node → List ℕ

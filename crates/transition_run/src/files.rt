@@ -26,10 +26,8 @@ use std::thread::Threads;
 use stil_write::write_stil;
 use transition::{Trees, search_left};
 use transition_files::stil2_of;
-use transition_report::{
-    TransitionReport, leaves_of, lines_of, report_of, write_certificate, write_report,
-};
-use transition_tests::{Tests, batch_of, left_by, tests_of};
+use transition_report::{TransitionReport, report_of, write_certificate, write_report};
+use transition_tests::{Tests, batch_of, leaves_of, left_by, lines_of, tests_of};
 
 /// How a run goes: at most so many chains, so many workers, at most so many closed ends a search,
 /// the seed of the bits that cubes leave open, and which trees the engine's rule lets stand.

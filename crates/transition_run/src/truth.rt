@@ -4,12 +4,12 @@ ghost use Rattle.transition_run.specs.inner.Laws.{WrittenTellsTheTruth};
 use fault_universe::faults_have_lines;
 use scan_insert::laws::scanned_is_sound;
 use stil_read::laws::written_stands;
-use transition::laws::shown_has_no_transition;
 use transition_files::laws::launch_file_vectors;
 use transition_play::laws::{
     detected_fails_slowly, good_passes_launches, launch_vectors_fit, some_slow_run,
     undetected_passes_slowly,
 };
+use transition_sim::laws::shown_has_no_transition;
 
 /// The texts of verdicts tell the truth.
 pub(crate) fn written_tells_the_truth()

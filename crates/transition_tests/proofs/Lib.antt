@@ -2,3 +2,5 @@ pub mod BatchLemmas
 pub mod CubeLemmas
 pub mod EndLemmas
 pub mod TestLemmas
+pub mod LeafLemmas
+mod LineLemmas

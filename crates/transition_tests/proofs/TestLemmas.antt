@@ -22,10 +22,10 @@ use Rattle.list_core.proofs.KeepLemmas.{kept_all, source}
 use Rattle.list_core.proofs.LastPlaces.{last_kept, marked_by, marked_where, never_kept, some_marked}
 use Rattle.statement.specs.Faults.{universe_of}
 use Rattle.transition_frames.specs.Frames.{frames_of, frame_fault}
-use Rattle.transition.specs.Detections.{IsLastTransition, LastTransition}
+use Rattle.transition_sim.specs.Detections.{IsLastTransition, LastTransition}
 use Rattle.transition.specs.Searches.{AreFoundWhereLeft, IsFoundIfLeft}
-use Rattle.transition.proofs.Answering.{test_detects_transition}
-use Rattle.transition.proofs.LastTold.{to_frames, from_frames}
+use Rattle.transition_sim.proofs.Answering.{test_detects_transition}
+use Rattle.transition_sim.proofs.LastTold.{to_frames, from_frames}
 use Rattle.transition_tests.specs.declared.verdicts.TransitionVerdict.{TransitionVerdict}
 use Rattle.transition_tests.specs.Batches.{AreLeftBy, IsLeftBy}
 use Rattle.transition_tests.specs.Verdicts.{AreTests, IsNeededForTransitions, IsVerdict, MayHave}

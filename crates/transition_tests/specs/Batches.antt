@@ -8,16 +8,11 @@ use Rattle.rand_pcg.specs.Lcg.{started, increment_of}
 use Rattle.rand_pcg.specs.Pcg.{multiplier_64, pcg32}
 use Rattle.statement.specs.declared.kinds.Tri.TheVariants.{X}
 use Rattle.statement.specs.declared.lines.Fault.{Fault}
-use Rattle.statement.specs.declared.lines.Point.{Point}
 use Rattle.statement.specs.Netlists.{Netlist, cells}
 use Rattle.cubes.specs.Cubes.{Cube}
 use Rattle.statement.specs.Patterns.{Pattern}
 use Rattle.cubes.specs.Filling.{filled_all}
-use Rattle.transition.specs.Detections.{IsLastTransition, LastTransition}
-
--- some pattern of the list detects the transition fault
-abbrev pub IsDetected : Netlist → List Pattern → Fault → Type 0
-IsDetected n patterns f = (place : ℕ) × (point : Point) × IsLastTransition n patterns f place point
+use Rattle.transition_sim.specs.Detections.{IsDetected, LastTransition}
 
 -- a fault is left where no pattern of the batch detects it
 abbrev pub IsLeftBy : Netlist → List Pattern → Fault → Bool → Type 0

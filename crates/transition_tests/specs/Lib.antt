@@ -1,4 +1,5 @@
 pub mod Batches
+pub mod Lines
 pub mod Verdicts
 pub mod Making
 pub mod inner

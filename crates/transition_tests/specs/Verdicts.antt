@@ -8,23 +8,13 @@ use Rattle.statement.specs.Netlists.{Netlist}
 use Rattle.statement.specs.Patterns.{Pattern}
 use Rattle.cubes.specs.Cubes.{IsPatternOf}
 use Rattle.statement.specs.Faults.{universe_of}
-use Rattle.redundancy_cert.specs.declared.nodes.Node.{Node}
 use Rattle.redundancy_cert.specs.Trees.{closed_count, open_count}
-use Rattle.redundancy_cert.specs.Fits.{Fits}
 use Rattle.evidence.specs.declared.kinds.Evidence.{Evidence}
-use Rattle.evidence.specs.Evidence.{MayBe, Shows, open_ends}
-use Rattle.transition_frames.specs.Frames.{frames_of, frame_fault}
-use Rattle.transition.specs.Detections.{IsLastTransition, LastTransition}
+use Rattle.evidence.specs.Evidence.{MayBe, open_ends}
+use Rattle.transition_sim.specs.Detections.{IsLastTransition, LastTransition}
+use Rattle.transition_sim.specs.Shown.{FitsFrames, ShowsFrames}
 use Rattle.transition_tests.specs.declared.verdicts.TransitionVerdict.{TransitionVerdict}
 use Rattle.transition_tests.specs.declared.verdicts.TransitionVerdict.TheVariants.{Detected, Redundant, Aborted}
-
--- the tree fits the stuck-at fault of the two frames, where no input is held
-abbrev pub FitsFrames : Netlist → Fault → List Node → Type 0
-FitsFrames n f tree = Fits (frame_fault n f) (frames_of n f) (none_held n) tree
-
--- the tree fits it, or the steps refute it
-abbrev pub ShowsFrames : Netlist → Fault → Evidence → Type 0
-ShowsFrames n f e = Shows (frame_fault n f) (frames_of n f) (none_held n) e
 
 -- Detected: by the last pattern that detects the transition fault, at its first point. Else no pattern does, and there is evidence on the two
 -- frames: what leaves nothing open, or a tree that does, with as many closed ends as the backtrack limit.

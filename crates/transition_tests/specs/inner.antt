@@ -2,3 +2,4 @@
 pub mod Answers
 pub mod Cubes
 pub mod Ends
+pub mod Parts

@@ -14,7 +14,7 @@ use netlist::{Core, NoMemory, Point, Tri};
 use rand_core::Rng;
 use rand_pcg::Lcg64Xsh32;
 use std::alloc::{AllocError, Global};
-use transition::last_tells2;
+use transition_sim::last_tells2;
 
 /// How many patterns are drawn: as many as one word of a simulation has.
 const BATCH: usize = 64;

@@ -21,7 +21,7 @@ use fault_universe::FaultSet;
 use list_core::{kept, needed, new_places};
 use netlist::{Core, NoMemory, Point};
 use std::alloc::{AllocError, Global};
-use transition::last_tells2;
+use transition_sim::last_tells2;
 
 /// What comes of a fault: where it is last detected, by the new place of that pattern, or else what the search answered.
 fn verdict_of(

@@ -8,8 +8,8 @@ use Rattle.redundancy_cert.specs.declared.nodes.Node.{Node}
 use Rattle.evidence.specs.declared.kinds.Evidence.{Evidence}
 use Rattle.certificate.specs.declared.node.Letter.{Letter}
 use Rattle.certificate.specs.declared.node.Letter.TheVariants.{Closed, Open, Split, Forced}
-use Rattle.certificate.specs.Certificates.{evidence_line, evidence_text, node_text, HasSignal, IsEvidence, IsWellFormed}
-use Rattle.certificate.specs.inner.Words.{IsEnd}
+use Rattle.certificate.specs.Certificates.{evidence_line, evidence_text, node_text, HasSignal, IsEvidence}
+use Rattle.certificate.specs.Words.{IsEnd}
 
 -- how a node begins
 abbrev pub letter_word : Letter → List ℕ
@@ -44,14 +44,6 @@ NoFaultAt n text = (fault : Fault) (rest : List ℕ) → ¬ IsFaultAt n text fau
 pub record AreNodes (n : Netlist) (text : List ℕ) (nodes : List Node) : Type 0 where
   pub signals : All (HasSignal n) nodes
   pub is : text ≡ flat_map (node_text n) nodes
-
--- the text is that of the evidence
-pub record IsTextOf (n : Netlist) (text : List ℕ) (e : Evidence) : Type 0 where
-  pub formed : IsWellFormed n e
-  pub is : text ≡ evidence_text n e
-
-abbrev pub NoText : Netlist → List ℕ → Type 0
-NoText n text = (e : Evidence) → ¬ IsTextOf n text e
 
 -- the line, without its end, is that of the fault and its evidence
 pub record IsLineOf (n : Netlist) (line : List ℕ) (p : Fault × Evidence) : Type 0 where

@@ -5,15 +5,13 @@ use Rattle.commands.specs.declared.product.Stop.{Stop}
 use Rattle.commands.specs.declared.product.Stop.TheVariants as stop
 use Rattle.statement.specs.Statement.{FiveFiles}
 use Rattle.good_files.specs.declared.answers.Checked.{Checked}
-use Rattle.good_files.specs.Checks.{IsOutside}
-use Rattle.good_files.specs.Laws.{IsWholeAnswer}
-use Rattle.check_command.specs.Checking.{answer_line, fault_of, checked_finding}
+use Rattle.check_command.specs.Checking.{IsAnswerOf, answer_line, fault_of, checked_finding}
 use Rattle.check_command.specs.declared.refusal.CheckRefusal.{CheckRefusal}
 
 -- the answer of a check, or its refusal, or memory was refused
 abbrev pub IsAnswered : FiveFiles → Result Checked (Stop CheckRefusal) → Type 0
-IsAnswered files (Ok answer) = IsWholeAnswer files (Ok answer)
-IsAnswered files (Err (stop.Refused why)) = IsOutside files (fault_of why)
+IsAnswered files (Ok answer) = IsAnswerOf files (Ok answer)
+IsAnswered files (Err (stop.Refused why)) = IsAnswerOf files (Err (fault_of why))
 IsAnswered files (Err stop.NoMemory) = ⊤
 
 -- what is due of an answer

@@ -4,7 +4,8 @@ use Rattle.std.specs.List.{All, flat_map, zip}
 use Rattle.report.specs.declared.counts.ReportCounts.{ReportCounts}
 use Rattle.report.specs.Counts.{AreSmallCounts, worded}
 use Rattle.report.specs.Texts.{count_line, counts_text, unasked_line}
-use Rattle.report.specs.inner.Lines.{Begins, IsCount, NoSome}
+use Rattle.report.specs.Beginnings.{Begins, IsCount}
+use Rattle.report.specs.inner.Lines.{NoSome}
 
 abbrev pub count_of_counts : ℕ
 count_of_counts = 14

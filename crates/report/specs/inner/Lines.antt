@@ -3,21 +3,8 @@ use Rattle.std.specs.Prelude.{ℕ, ◌≡◌, ◌≢◌, ◌/◌, ◌^◌, ◌<�
 use Rattle.std.specs.List.{All}
 use Rattle.report.specs.Reports.{Hold, Times, IsBenchWord}
 use Rattle.statement.specs.Reports.{Line, outcome_text}
+use Rattle.report.specs.Beginnings.{Begins, NoneBegins, IsCount}
 use Rattle.report.specs.Texts.{count_line, hundredths, some_line, times_lines}
-
--- the text is what stands for this value, and then the rest
-abbrev pub Begins : {X : Type 0} → (X → Type 0) → (X → List ℕ) → List ℕ → X → List ℕ → Type 0
-Begins valid line text x rest = valid x × (text ≡ line x ++ rest)
-
--- the text begins with what stands for no value
-abbrev pub NoneBegins : {X : Type 0} → (X → Type 0) → (X → List ℕ) → List ℕ → Type 0
-NoneBegins {X} valid line text = (x : X) (rest : List ℕ) → valid x → text ≢ line x ++ rest
-
-abbrev pub IsCount : ℕ → Type 0
-IsCount count = count < 2 ^ 64
-
-abbrev pub IsShare : ℕ → Type 0
-IsShare share = share / 100 < 2 ^ 64
 
 abbrev pub IsHold : Hold → Type 0
 IsHold h = IsBenchWord h.name

@@ -9,12 +9,13 @@ use Rattle.scan_insert.specs.Scanned.{AreChainsOf}
 use Rattle.transition_tests.specs.declared.verdicts.TransitionVerdict.{TransitionVerdict}
 use Rattle.transition_tests.specs.Verdicts.{AreTests, MayHave}
 use Rattle.transition_run.specs.declared.files.TransitionFiles.{TransitionFiles}
-use Rattle.transition_run.specs.Theorem.{TransitionTheorem}
-use Rattle.transition_run.specs.Runs.{transition_files_of}
+use Rattle.good_slow_files.specs.Theorem.{TransitionTheorem}
+use Rattle.transition_run.specs.Runs.{HasNeeded, transition_files_of}
 use Rattle.transition_run.specs.inner.Written.{IsWritten}
 
 abbrev pub WrittenTellsTheTruth : Type 0
 WrittenTellsTheTruth =
     (n : Netlist) (chains : List (List ℕ)) (limit : ℕ) (refutes : Bool) (patterns : List Pattern) (verdicts : List TransitionVerdict) (made : TransitionFiles)
     → IsSound n → IsDesign n → AreChainsOf n chains → AreTests n limit patterns verdicts → All (MayHave refutes) verdicts
-    → IsWritten n chains limit patterns verdicts made → TransitionTheorem n chains limit refutes (transition_files_of made)
+    → IsWritten n chains limit patterns verdicts made
+    → (truth : TransitionTheorem n chains limit refutes (transition_files_of made)) × HasNeeded n chains limit refutes (transition_files_of made) truth

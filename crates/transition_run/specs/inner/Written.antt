@@ -10,7 +10,7 @@ use Rattle.statement.specs.Faults.{universe_of}
 use Rattle.transition_files.specs.LaunchFiles.{IsLaunchFileOf}
 use Rattle.transition_tests.specs.declared.verdicts.TransitionVerdict.{TransitionVerdict}
 use Rattle.transition_report.specs.declared.reporting.TransitionReport.{TransitionReport}
-use Rattle.transition_report.specs.Lines.{AreLines, leaves_of}
+use Rattle.transition_tests.specs.Lines.{AreLines, leaves_of}
 use Rattle.transition_report.specs.Numbers.{IsReportOf, HasWritableShares}
 use Rattle.transition_report.specs.Texts.{transition_certificate, transition_report_text}
 use Rattle.transition_run.specs.declared.files.TransitionFiles.{TransitionFiles}

@@ -5,7 +5,7 @@ use Rattle.statement.specs.Netlists.{Netlist}
 use Rattle.statement.specs.Patterns.{Pattern}
 use Rattle.evidence.specs.declared.engine.Found.{Found}
 use Rattle.transition.specs.Searches.{HasFrameEvidence}
-use Rattle.transition_tests.specs.Batches.{IsDetected}
+use Rattle.transition_sim.specs.Detections.{IsDetected}
 
 -- what its search answered, or without a search that some pattern of the batch detects it
 abbrev pub IsKnown : Netlist → ℕ → Bool → List Pattern → Fault → Option Found → Type 0

@@ -1,7 +1,7 @@
 use Rattle.std.proofs.Common.{◌≡◌, ◌++◌, length}
 use Rattle.std.specs.List.{All, flat_map}
 use Rattle.certificate.specs.Certificates.{node_text, HasSignal}
-use Rattle.certificate.specs.inner.Words.{IsEnd}
+use Rattle.certificate.specs.Words.{IsEnd}
 use Rattle.certificate.proofs.line.read_nodes.Given as goal
 
 abbrev pub invariant-loop-rest : goal.invariant-loop-rest

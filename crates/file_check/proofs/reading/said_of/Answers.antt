@@ -1,4 +1,4 @@
-use Rattle.file_check.specs.inner.Reading.{files_of}
+use Rattle.check_parts.specs.Texts.{files_of}
 use Rattle.file_check.proofs.ReadingLemmas.{certificate_outside, report_outside, stil_outside}
 use Rattle.file_check.proofs.reading.said_of.Goals as goal
 

@@ -1,4 +1,5 @@
-use Rattle.report.specs.inner.Lines.{IsCount, count_end}
+use Rattle.report.specs.Beginnings.{IsCount}
+use Rattle.report.specs.inner.Lines.{count_end}
 use Rattle.report.proofs.LineLemmas.{none_behind}
 use Rattle.report.proofs.lines.count.Goals as goal
 

@@ -1,5 +1,6 @@
 use Rattle.std.proofs.Common.{decimal}
-use Rattle.report.specs.inner.Lines.{IsCount, count_end}
+use Rattle.report.specs.Beginnings.{IsCount}
+use Rattle.report.specs.inner.Lines.{count_end}
 use Rattle.report.proofs.LineLemmas.{no_words}
 use Rattle.report.proofs.NumberLemmas.{count_lined}
 use Rattle.report.proofs.lines.count_end.Goals as goal

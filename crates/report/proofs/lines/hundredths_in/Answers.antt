@@ -1,6 +1,6 @@
 use Rattle.std.proofs.Common.{◌≡◌, ◌*◌, ◌+◌, ℕ, ap, sym, subst, ◌∙◌}
 use Rattle.report.specs.Texts.{hundredths}
-use Rattle.report.specs.inner.Lines.{IsShare}
+use Rattle.report.specs.Beginnings.{IsShare}
 use Rattle.report.proofs.NumberLemmas.{no_digits, no_point, no_whole, share_found}
 use Rattle.report.proofs.lines.hundredths_in.Goals as goal
 

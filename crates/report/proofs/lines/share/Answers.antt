@@ -1,4 +1,5 @@
-use Rattle.report.specs.inner.Lines.{IsShare, share_end}
+use Rattle.report.specs.Beginnings.{IsShare}
+use Rattle.report.specs.inner.Lines.{share_end}
 use Rattle.report.proofs.LineLemmas.{none_behind}
 use Rattle.report.proofs.lines.share.Goals as goal
 

@@ -1,5 +1,6 @@
 use Rattle.report.specs.Texts.{hundredths}
-use Rattle.report.specs.inner.Lines.{IsShare, share_end}
+use Rattle.report.specs.Beginnings.{IsShare}
+use Rattle.report.specs.inner.Lines.{share_end}
 use Rattle.report.proofs.LineLemmas.{no_words}
 use Rattle.report.proofs.NumberLemmas.{share_lined}
 use Rattle.report.proofs.lines.share_end.Goals as goal

@@ -1,7 +1,7 @@
 use Rattle.std.proofs.Common.{◌≡◌, ◌++◌, length, take}
 use Rattle.std.specs.List.{All}
 use Rattle.report.specs.inner.Counts.{count_words, some_counts}
-use Rattle.report.specs.inner.Lines.{IsCount}
+use Rattle.report.specs.Beginnings.{IsCount}
 use Rattle.report.proofs.reading.numbers.Given as goal
 
 abbrev pub invariant-loop-k : goal.invariant-loop-k

@@ -1,7 +1,7 @@
 use Rattle.std.proofs.Common.{◌≡◌, ◌++◌, length}
 use Rattle.std.specs.List.{All}
 use Rattle.report.specs.Texts.{times_lines}
-use Rattle.report.specs.inner.Lines.{IsCount}
+use Rattle.report.specs.Beginnings.{IsCount}
 use Rattle.report.proofs.reading.times.Given as goal
 
 abbrev pub invariant-times : goal.invariant-times

@@ -1,6 +1,7 @@
 use Rattle.std.proofs.Common.{◌∙◌, subst}
 use Rattle.netlist.specs.Conditions.{IsSound}
-use Rattle.transition.proofs.FrameLemmas.{frame_answer, frame_line}
+use Rattle.transition_sim.proofs.FrameLine.{frame_line}
+use Rattle.transition.proofs.FrameLemmas.{frame_answer}
 use Rattle.transition.proofs.own_frames.search_one.Goals as goal
 
 pub search-requires-clause-line : goal.search-requires-clause-line

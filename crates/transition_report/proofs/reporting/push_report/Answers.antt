@@ -2,7 +2,7 @@ use Rattle.std.proofs.Common.{codes}
 use Rattle.std.specs.List.{flat_map}
 use Rattle.report.specs.Texts.{counts_text, share_line}
 use Rattle.statement.specs.Reports.{fault_line}
-use Rattle.transition_report.proofs.LineLemmas.{five_parts}
+use Rattle.transition_report.proofs.WriteLemmas.{five_parts}
 use Rattle.transition_report.proofs.reporting.push_report.Goals as goal
 
 pub returns : goal.returns

@@ -4,9 +4,9 @@ use Rattle.statement.specs.Faults.{universe_of}
 use Rattle.statement.specs.Reports.{Line}
 use Rattle.transition.proofs.Gathering.{universe_few}
 use Rattle.transition_tests.specs.declared.verdicts.TransitionVerdict.{TransitionVerdict}
-use Rattle.transition_report.specs.Lines.{AreLines, IsInside}
+use Rattle.transition_tests.specs.Lines.{AreLines, IsInside}
 use Rattle.transition_report.specs.Numbers.{IsReportOf}
-use Rattle.transition_report.proofs.LeafLemmas.{all_inside}
+use Rattle.transition_tests.proofs.LeafLemmas.{all_inside}
 use Rattle.transition_run.proofs.FileLemmas.{verdicts_count}
 use Rattle.transition_run.proofs.SaidLemmas.{lines_count}
 use Rattle.transition_run.proofs.files.said_of.Goals as goal

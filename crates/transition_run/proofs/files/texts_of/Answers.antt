@@ -8,7 +8,7 @@ use Rattle.statement.specs.Benches.{canonical}
 use Rattle.scan_insert.specs.Scanned.{Insertion, scanned_of}
 use Rattle.evidence.specs.declared.kinds.Evidence.{Evidence}
 use Rattle.transition.proofs.Gathering.{universe_few}
-use Rattle.transition_report.specs.Lines.{leaves_of}
+use Rattle.transition_tests.specs.Lines.{leaves_of}
 use Rattle.transition_report.specs.Texts.{IsNamedInFrames, transition_certificate}
 use Rattle.transition_run.specs.inner.Written.{IsLaunchText, IsSaid}
 use Rattle.transition_run.proofs.FileLemmas.{evidence_named, verdicts_count}

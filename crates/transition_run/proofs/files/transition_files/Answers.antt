@@ -7,8 +7,8 @@ use Rattle.scan_play.proofs.ApplyLemmas.{few_cells}
 use Rattle.scan_insert.specs.Scanned.{cell_ids}
 use Rattle.statement.specs.Faults.{universe_of}
 use Rattle.good_files.specs.ScanOff.{design_chains}
-use Rattle.transition_run.specs.Runs.{transition_files_of}
-use Rattle.transition_run.specs.Theorem.{TransitionTheorem}
+use Rattle.transition_run.specs.Runs.{HasNeeded, transition_files_of}
+use Rattle.good_slow_files.specs.Theorem.{TransitionTheorem}
 use Rattle.transition_run.specs.inner.Written.{IsWritten}
 use Rattle.transition_run.proofs.FileLemmas.{are_chains, dealt}
 use Rattle.transition_run.proofs.TreesAlone.{trees_alone}
@@ -42,13 +42,17 @@ returns g c =
     let same : c.in_ok-chains.chains ≡ design_chains n asked =
     dealt n asked c.cells.result.now c.in_ok-chains.chains (c.cells.ensures ∙ ap cell_ids c.netlist-netlist.ensures) c.in_ok-chains.ensures in
     let written = subst (λ (cs : List (List ℕ)). IsWritten n cs limit tests.patterns.items tests.verdicts.items files) same c.in_ok-files.ensures in
-    let truth : TransitionTheorem n (design_chains n asked) limit g.E.Engine.refutes (transition_files_of files) =
+    let both : (t : TransitionTheorem n (design_chains n asked) limit g.E.Engine.refutes (transition_files_of files))
+    × HasNeeded n (design_chains n asked) limit g.E.Engine.refutes (transition_files_of files) t =
     c.written_tells_the_truth.ensures n (design_chains n asked) limit g.E.Engine.refutes tests.patterns.items tests.verdicts.items files
     (subst IsSound c.netlist-netlist.ensures c.sound.ensures) c.requires.design (are_chains n asked (design_chains n asked) c.requires.some refl)
     c.in_ok-tests.ensures.tests c.in_ok-tests.ensures.kinds written in
     record {
       report_is = c.in_ok-files.ensures.report;
-      truth = truth;
-      trees = λ none. trees_alone n (design_chains n asked) limit (transition_files_of files)
-          (subst (λ (b : Bool). TransitionTheorem n (design_chains n asked) limit b (transition_files_of files)) none truth);
+      truth = both.0;
+      needed = both.1;
+      trees = λ none.
+          let alone = subst (λ (b : Bool). (t : TransitionTheorem n (design_chains n asked) limit b (transition_files_of files))
+          × HasNeeded n (design_chains n asked) limit b (transition_files_of files) t) none both in
+          trees_alone n (design_chains n asked) limit (transition_files_of files) alone.0 alone.1;
     }

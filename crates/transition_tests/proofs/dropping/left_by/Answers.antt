@@ -7,7 +7,7 @@ use Rattle.netlist.specs.Conditions.{IsSound}
 use Rattle.netlist.specs.Holds.{none_held}
 use Rattle.word_sim.proofs.WidthLemmas.{widths}
 use Rattle.statement.specs.Faults.{universe_of}
-use Rattle.transition.specs.Detections.{LastTransition}
+use Rattle.transition_sim.specs.Detections.{LastTransition}
 use Rattle.transition.proofs.Gathering.{universe_few, universe_lines}
 use Rattle.transition_tests.specs.Batches.{AreLeftBy}
 use Rattle.transition_tests.proofs.TestLemmas.{left_where_none}

@@ -1,6 +1,6 @@
 use Rattle.std.proofs.Common.{ℕ, List, subst, arith}
 use Rattle.std.specs.List.{All}
-use Rattle.report.specs.inner.Lines.{IsCount}
+use Rattle.report.specs.Beginnings.{IsCount}
 use Rattle.report.proofs.CountLemmas.{small_counts}
 use Rattle.report.proofs.counts.ReportCounts.sound.Goals as goal
 

@@ -1,0 +1,5 @@
+pub mod Checkers
+pub mod Firsts
+pub mod Scanning
+pub mod Strays
+pub mod Texts

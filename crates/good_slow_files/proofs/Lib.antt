@@ -1,0 +1,3 @@
+mod Truth
+mod Passing
+mod Agreeing

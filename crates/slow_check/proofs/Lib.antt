@@ -1,0 +1,10 @@
+mod ReadingLemmas
+mod SizeLemmas
+mod SeenLemmas
+mod EvidentLemmas
+mod TruthLemmas
+mod LeftLemmas
+mod FaultLemmas
+mod WalkLemmas
+mod TotalLemmas
+mod CheckLemmas

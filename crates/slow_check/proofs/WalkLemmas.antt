@@ -1,0 +1,80 @@
+-- A line of the report, as the walk through the universe sees it.
+use Rattle.std.proofs.Common.{◌≡◌, ℕ, zero, suc, ◌<◌, ◌∙◌, Bool, true, false, MatchBool, not, List, [], ◌∷◌, ◌++◌, length, get_or, Option, Some, None, Result, Ok, Err, IfOk, refl, sym, ap, subst, arith}
+use Rattle.std.specs.List.{AllZip, Contains, slice_get}
+use Rattle.std.specs.Str.{bytes_eq}
+use Rattle.std.proofs.lemmas.Option.{slice_get-get_or, slice_get_within}
+use Rattle.std.proofs.lemmas.Slice.Zip.{AllZip-long}
+use Rattle.statement.specs.declared.lines.Fault.{Fault}
+use Rattle.statement.specs.declared.lines.Point.{Point}
+use Rattle.statement.specs.Netlists.{Netlist}
+use Rattle.statement.specs.Faults.{universe_of}
+use Rattle.statement.specs.Reports.{Line}
+use Rattle.fault_universe.proofs.Elements.{contains_at}
+use Rattle.transition_sim.specs.Detections.{LastTransition}
+use Rattle.transition_report.specs.Texts.{transition_text}
+use Rattle.check_parts.proofs.Matches.{texts_match}
+use Rattle.good_slow_files.specs.GoodSlowFiles.{IsTrueOfSlow, IsTrueSlowAt, SlowTest}
+use Rattle.slow_check.specs.declared.walking.Walk.{Walk}
+use Rattle.slow_check.specs.inner.Trials.{slow_test_of}
+use Rattle.slow_check.specs.inner.Walking.{IsReady}
+use Rattle.slow_check.proofs.FaultLemmas.{named_so, true_at, true_so}
+
+same_some : {X : Type 0} (x y : X) → Some x ≡ Some y → x ≡ y
+same_some x y e = cc
+
+-- what holds of two lists, place by place, holds where one is read
+zip_at : {A B : Type 0} (R : A → B → Type 0) (xs : List A) (ys : List B) (k : ℕ) (x : A) (d : B) → AllZip R xs ys → slice_get xs k ≡ Some x → R x (get_or ys k d)
+zip_at R [] [] k x d all at = cc
+zip_at R [] (y ∷ ys) k x d all at = absurd all
+zip_at R (a ∷ xs) [] k x d all at = absurd all
+zip_at R (a ∷ xs) (y ∷ ys) zero x d all at = let same : a ≡ x = same_some a x at in subst (λ b. R b y) same all.0
+zip_at R (a ∷ xs) (y ∷ ys) (suc k) x d all at = zip_at R xs ys k x d all.1 at
+
+module _ (w : Walk) (ready : IsReady w) (place : ℕ) where
+  -- the slow line at a place
+  pub member_at : (f : Fault) → slice_get w.faults.now place ≡ Some f → slice_get (universe_of w.trial.now.core) place ≡ Some f
+  member_at f at = ap (λ (fs : List Fault). slice_get fs place) (sym ready.faults) ∙ at
+
+  -- where it is last detected
+  pub last_at : (f : Fault) (d : Option (ℕ × Point)) → slice_get w.faults.now place ≡ Some f
+      → LastTransition w.trial.now.core w.trial.now.patterns.items f (get_or w.lasts.now place d)
+  last_at f d at =
+      zip_at (LastTransition w.trial.now.core w.trial.now.patterns.items) (universe_of w.trial.now.core) w.lasts.now place f d ready.lasts (member_at f at)
+
+  -- there are as many places
+  pub lasts_long : place < length (universe_of w.trial.now.core) → place < length w.lasts.now
+  lasts_long lt =
+      let all = AllZip-long (LastTransition w.trial.now.core w.trial.now.patterns.items) (universe_of w.trial.now.core) w.lasts.now ready.lasts in
+      omega (arith, all, lt)
+
+-- ---- what the walk answers
+
+module _ (t : SlowTest) (lines : List Line) (place : ℕ) (f : Fault) (line : Line) (member : slice_get (universe_of t.netlist) place ≡ Some f) (said : slice_get lines place ≡ Some line) where
+  says_so : (b : Bool) → line.fault ≡ transition_text t.netlist f → MatchBool b (IsTrueOfSlow t f line.outcome line.pin) (¬ IsTrueOfSlow t f line.outcome line.pin)
+      → MatchBool b (IsTrueSlowAt t lines place) (¬ IsTrueSlowAt t lines place)
+  says_so true names_it is = true_at t lines place f line member said names_it is
+  says_so false names_it other = λ is. other (true_so t lines place f line member said is)
+
+  pub all_say : {E : Type 0} (r : Result Bool E) → line.fault ≡ transition_text t.netlist f
+      → IfOk r (λ b. MatchBool b (IsTrueOfSlow t f line.outcome line.pin) (¬ IsTrueOfSlow t f line.outcome line.pin))
+      → IfOk r (λ b. MatchBool b (IsTrueSlowAt t lines place) (¬ IsTrueSlowAt t lines place))
+  all_say (Ok b) names_it is = says_so b names_it is
+  all_say (Err e) names_it is = tt
+
+  -- it names another
+  pub unnamed : ¬ (line.fault ≡ transition_text t.netlist f) → ¬ IsTrueSlowAt t lines place
+  unnamed other is = other (named_so t lines place f line member said is)
+
+-- the report has ended
+pub ended : (t : SlowTest) (lines : List Line) (place : ℕ) → ¬ (place < length lines) → ¬ IsTrueSlowAt t lines place
+ended t lines place past is = past (slice_get_within lines place is.line is.said)
+
+-- a text that is compared
+pub text_named : (n core : Netlist) (f : Fault) (cleared text read : List ℕ) → n ≡ core → cleared ≡ [] → text ≡ cleared ++ transition_text n f → read ≡ text → read ≡ transition_text core f
+text_named n core f cleared text read own none value is =
+    is ∙ (value ∙ (ap (λ (t : List ℕ). t ++ transition_text n f) none ∙ ap (λ (m : Netlist). transition_text m f) own))
+
+-- it is compared with what a line names
+pub compared : {own : List ℕ} (b : Bool) (read line : List ℕ) → b ≡ bytes_eq read line → read ≡ own → MatchBool b (line ≡ own) (¬ (line ≡ own))
+compared {own} b read line is named =
+    texts_match (line ≡ own) b read line is (λ same. sym same ∙ named) (λ same. named ∙ sym same)

@@ -1,5 +1,0 @@
-use Rattle.transition.proofs.Answering.{shown_has_no_transition}
-use Rattle.transition.proofs.laws.shown_has_no_transition.Goals as goal
-
-pub returns : goal.returns
-returns c = shown_has_no_transition c.shown_is_redundant.ensures

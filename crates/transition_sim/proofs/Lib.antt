@@ -1,0 +1,4 @@
+pub mod Answering
+pub mod WordsLaunched
+pub mod LastTold
+pub mod FrameLine

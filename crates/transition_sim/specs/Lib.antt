@@ -1,0 +1,4 @@
+pub mod Detections
+pub mod Shown
+pub mod Laws
+pub mod inner
