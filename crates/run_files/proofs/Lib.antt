@@ -2,6 +2,8 @@ mod SpreadLemmas
 mod CountLemmas
 mod KnownLemmas
 mod FirstLemmas
+mod OpenLemmas
+mod DrawLemmas
 mod TellLemmas
 mod JoinLemmas
 mod OftenLemmas

@@ -1,5 +1,5 @@
 -- What is found of the faults that are asked for, and so of all classes.
-use Rattle.std.proofs.Common.{◌≡◌, ℕ, zero, suc, ◌+◌, ◌-◌, ◌*◌, ◌<◌, ◌≤◌, inl, inr, ◌⊎◌, Bool, false, true, true≢false, cond, List, [], ◌∷◌, length, get_or, Option, Some, None, refl, sym, ◌∙◌, ap, subst, arith}
+use Rattle.std.proofs.Common.{◌≡◌, ℕ, zero, suc, ◌+◌, ◌-◌, ◌*◌, ◌<◌, ◌≤◌, inl, inr, ◌⊎◌, Bool, false, true, true≢false, cond, List, [], ◌∷◌, ◌++◌, length, get_or, Option, Some, None, refl, sym, ◌∙◌, ap, subst, arith}
 use Rattle.std.specs.Int.{div_ceil}
 use Rattle.std.specs.List.{All, Contains, slice_get}
 use Rattle.std.proofs.lemmas.Bool.{cases_order}
@@ -29,7 +29,7 @@ use Rattle.run_files.specs.inner.Searches.{AreDetectedMarks, AreFound, AreKnown,
 use Rattle.run_files.specs.inner.Spread.{marked_weight, spread, unmarked_weights}
 use Rattle.run_files.specs.inner.Verdicts.{IsVerdict, MayHave}
 use Rattle.run_files.proofs.CountLemmas.{asked_some, some_asked, weighed}
-use Rattle.run_files.proofs.KnownLemmas.{blank, detected_stays, kinds_of, seen_stays, shut_stays, verdicts_of}
+use Rattle.run_files.proofs.KnownLemmas.{blank, detected_stays, kinds_of, seen_before, seen_stays, shut_stays, verdicts_of}
 use Rattle.run_files.proofs.SpreadLemmas.{outweighs, spread_each, spread_open, spread_size, spread_weight}
 
 detected_shut : (v : Verdict) → one_if_class_detected v ≡ 1 → is_open v ≡ false
@@ -122,6 +122,19 @@ module _ (n : Netlist) (holds : Holds) (limit : ℕ) (refutes : Bool) (times : �
     first_kept = first_detected;
     done = ended percent asked weights marks goal verdicts new is ends none_open (met asked);
   }
+
+-- what is found behind patterns is found behind the first of them
+pub found_before : (n : Netlist) (holds : Holds) (limit : ℕ) (refutes : Bool) (times : ℕ) (percent : Option ℕ) (asked : ℕ) (faults : List Fault) (weights : List ℕ)
+    (first more all kept : List Pattern) (verdicts : List Verdict) → all ≡ first ++ more → AreFound n holds limit refutes times percent asked faults weights all kept verdicts
+    → AreFound n holds limit refutes times percent asked faults weights first kept verdicts
+found_before n holds limit refutes times percent asked faults weights first more all kept verdicts behind found = record {
+  verdicts_are = found.verdicts_are;
+  needed = found.needed;
+  kinds = found.kinds;
+  few = found.few;
+  first_kept = λ class f at seen. found.first_kept class f at (subst (λ (ps : List Pattern). IsSeenBy n ps f) (sym behind) (seen_before n first more f seen));
+  done = found.done;
+}
 
 -- ---- of all classes
 

@@ -8,3 +8,4 @@ pub mod Outcomes
 pub mod Reports
 pub mod Written
 pub mod Laws
+pub mod Open

@@ -14,6 +14,7 @@ mod asked;
 mod choosing;
 mod compacting;
 mod differing;
+mod drawing;
 mod files;
 mod finding;
 mod first;

@@ -14,22 +14,22 @@ asked_classes-requires-clause-size g c =
     let most : length c.args.classes.now.numbers ≤ 2052000000 = c.represented.ensures.all in
     (c.requires.faults, omega (arith, most, c.requires.faults))
 
-pub search_asked-requires-clause-few : goal.search_asked-requires-clause-few
-search_asked-requires-clause-few g c κs lives =
+pub search_behind_drawn-requires-clause-few : goal.search_behind_drawn-requires-clause-few
+search_behind_drawn-requires-clause-few g c κs lives =
     let a = c.in_ok-asked.asked in
     let reps = c.args.classes.now.representatives in
     let size = ap length c.in_ok-asked.ensures.faults_are in
     omega (arith, size, fewer a.others.items reps, c.represented.ensures.few)
 
-pub search_asked-requires-clause-weights : goal.search_asked-requires-clause-weights
-search_asked-requires-clause-weights g c κs lives =
+pub search_behind_drawn-requires-clause-weights : goal.search_behind_drawn-requires-clause-weights
+search_behind_drawn-requires-clause-weights g c κs lives =
     let a = c.in_ok-asked.asked in
     let are = c.in_ok-asked.ensures in
     let reps = c.args.classes.now.representatives in
     ap length are.weights_are ∙ (as_many a.others.items reps are.weights are.are_weights.size ∙ sym (ap length are.faults_are))
 
-pub search_asked-requires-clause-lines : goal.search_asked-requires-clause-lines
-search_asked-requires-clause-lines g c κs lives =
+pub search_behind_drawn-requires-clause-lines : goal.search_behind_drawn-requires-clause-lines
+search_behind_drawn-requires-clause-lines g c κs lives =
     let P : Fault → Type 0 = λ f. IsLineOf c.args.core.now f.line in
     subst (λ (fs : List Fault). All P fs) (sym c.in_ok-asked.ensures.faults_are)
     (left_have P c.in_ok-asked.asked.others.items c.args.classes.now.representatives c.represented.ensures.lines)
