@@ -1,0 +1,5 @@
+pub mod LineLemmas
+pub mod MarkLemmas
+pub mod NameLemmas
+pub mod GivenLemmas
+pub mod WholeLemmas

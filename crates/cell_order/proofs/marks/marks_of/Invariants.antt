@@ -1,0 +1,9 @@
+use Rattle.std.proofs.Common.{◌≡◌, length, take}
+use Rattle.cell_order.specs.inner.Reads.{AreMarked}
+use Rattle.cell_order.proofs.marks.marks_of.Given as goal
+
+abbrev pub invariant-loop-signal : goal.invariant-loop-signal
+invariant-loop-signal l = record {
+  size : length l.marks.items ≡ l.bound;
+  marked : AreMarked (take l.signal-index l.signals) l.marks.items;
+}

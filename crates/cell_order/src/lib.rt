@@ -1,0 +1,21 @@
+//! Orders of a netlist's cells: a text with a line for each chain, the names of its cells in order.
+//!
+//! The cells of a netlist are dealt to chains in the order in which they stand, as evenly as they can be. So an order is one of all cells, and its lines
+//! are as long as so many cells are dealt: then a netlist with its cells in this order has these chains.
+//!
+//! Gives: `read_order`, `Order`, `OrderRefusal`; the law `chains_are_given`.
+//! Proved: `read_order`: exactly the cells that the text names, each of the netlist's once, or the first cause against it; dealt to so many chains as the
+//! text has lines, the cells are in its chains.
+//! Neither: time; no command reads an order yet.
+#![tactic(auto)]
+
+mod grammar;
+mod laws;
+mod marks;
+mod naming;
+mod reading;
+mod refusal;
+
+pub use laws::chains_are_given;
+pub use reading::{Order, read_order};
+pub use refusal::OrderRefusal;
