@@ -23,7 +23,8 @@ ghost use Rattle.podem.specs.inner.Searching.{MayGoOn, MayTurn, IsFreeSource, Is
 use crate::guides::{Guide, best_aim};
 use cubes::Cube;
 use decisions::{
-    Aim, Case, Effects, Step, climb, close_both, closed_tree, one_if, push, signal_count, tree_so_far,
+    Aim, Case, Effects, Step, climb, close_both, closed_tree, one_if, push, signal_count,
+    tree_so_far,
 };
 use evidence::Found;
 use netlist::{Core, Point, SignalId, Tri};

@@ -255,7 +255,5 @@ pub(crate) fn drawn_patterns<G: Gate>(
     let left = numbered(alloc, faults)?;
     let mut simulator = Simulator::new(alloc, core)?;
     let mut rng = Lcg64Xsh32::new(seed, STREAM);
-    draw_batches(
-        alloc, &mut simulator, &cube, left, goal, &mut rng, stage,
-    )
+    draw_batches(alloc, &mut simulator, &cube, left, goal, &mut rng, stage)
 }
