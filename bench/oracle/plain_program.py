@@ -54,6 +54,15 @@ class OfRun(Begun):
         return made
 
 
+class KnownOfRun(str):
+    """A whole text of such five."""
+
+    def __new__(cls, text, run):
+        made = super().__new__(cls, text)
+        made.run = run
+        return made
+
+
 class Told(NamedTuple):
     """What is told of searches: the five texts of some runs, by netlist and options; and whether the run that is asked about leaves no fault aborted.
     Which faults are aborted, a search's guide decides; where none is, all patterns say the rest."""
@@ -255,11 +264,14 @@ def diagnose(texts, options):
 
 def check(texts, _):
     netlist = netlist_of(texts[0])
-    if all(isinstance(text, OfRun) and text.run == texts[2].run for text in texts[2:]):
+    runs = {getattr(text, "run", None) for text in texts[2:]}
+    if len(runs) == 1 and None not in runs:
         return Due([], f"checked {len(plain.universe(netlist))} faults\n")
-    if isinstance(texts[2], Begun):
+    if any(isinstance(text, Begun) for text in texts):
         raise Unknown
-    status, line = plain_check.check({end: text.encode("latin-1") for end, text in zip(ENDS, texts)})
+    files = {end: text.encode("latin-1") for end, text in zip(ENDS, texts)}
+    judge = plain_transition if plain_transition.is_slow(files["rep"]) else plain_check
+    status, line = judge.check(files)
     if status > 1:
         raise Refused(status, line + "\n")
     return Due([], line + "\n", status)
@@ -344,15 +356,16 @@ def transition(texts, options, told):
     last = plain_transition.SlowLines(netlist, chains, batch).last
     cubes = [plain_transition.cube_of(netlist, each) for each, known in zip(tests, last) if each and known is None]
     trees_alone = options.get("--engine") != "clauses" and "--then" not in options
+    this = "transition", texts[0], *sorted(options.items())
     if trees_alone and None not in cubes:
         situation = plain_transition.kept(netlist, chains, batch + plain_transition.filled(netlist, cubes, seed))
-        stil = plain_transition.stil_of(netlist, chains, situation.patterns).decode()
-        report = plain_transition.report_of(situation, limit)
+        stil = KnownOfRun(plain_transition.stil_of(netlist, chains, situation.patterns).decode(), this)
+        report = KnownOfRun(plain_transition.report_of(situation, limit), this)
         shown = f"{totals} patterns {len(situation.patterns)} cycles {situation.cycles()}\n"
     else:
-        stil, report, shown = Begun("STIL 1.0;\n"), Begun("atpg transition 1\n"), Begun(totals)
-    made = [plain.canonical(netlist).decode(), plain.canonical(plain.scanned(netlist, chains)).decode(), stil]
-    return Due(made + [Begun("atpg transition certificate " + "1\n" * trees_alone), report], shown)
+        stil, report, shown = OfRun("STIL 1.0;\n", this), OfRun("atpg transition 1\n", this), Begun(totals)
+    certificate = OfRun("atpg transition certificate " + "1\n" * trees_alone, this)
+    return Due([plain.canonical(netlist).decode(), plain.canonical(plain.scanned(netlist, chains)).decode(), stil, certificate, report], shown)
 
 
 WORK = {"scan": scan, "faults": faults, "play": play, "chaintest": chaintest, "grade": grade, "diagnose": diagnose, "check": check}
