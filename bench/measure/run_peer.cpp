@@ -1,5 +1,5 @@
 // A plain test generator in C++, to time `atpg run` with one worker beside: the search of search_peer.cpp and the simulation of
-// fault_sim_peer.cpp in the loop of `run`. Each class that is still open is searched; 64 cubes are merged, filled and simulated, and what they
+// fault_sim_peer.cpp in the loop of `run`. Drawn patterns come first; each class that is still open is searched; 64 cubes are merged, filled and simulated, and what they
 // detect is dropped; at last the patterns are simulated from the last to the first, and those that are no class's last detector go.
 // It writes no files and keeps no evidence. With `regions` faults are simulated by fanout-free regions.
 //   clang++ -O2 -std=c++20 -o run_peer run_peer.cpp && ./run_peer NETLIST [LIMIT [regions]]
@@ -135,6 +135,33 @@ struct Generator {
         cubes.clear();
     }
 
+    // Drawn patterns before any class is searched: of each batch those that are the last to detect some classes, up to a batch that detects few.
+    void draw() {
+        constexpr size_t worth = 4, least = 64;
+        simulating::Pcg32 drawn{1, simulating::Word{1} << 33};
+        std::vector<size_t> left(verdicts.size());
+        std::iota(left.begin(), left.end(), 0);
+        for (bool goes_on = !left.empty(); goes_on;) {
+            std::vector<Cube> batch(batch_size, Cube(sources.size()));
+            for (Cube& cube : batch)
+                for (Tri& bit : cube) bit = drawn.next() & 1 ? searching::One : searching::Zero;
+            settle(batch.data(), batch.size());
+            std::vector<simulating::Hit> hits = hits_of(left);
+            std::vector<size_t> told(batch_size, 0), rest;
+            for (const simulating::Hit& hit : hits) told[hit.pattern]++;
+            for (size_t k = 0, next = 0; k < left.size(); k++) {
+                bool is_hit = next < hits.size() && hits[next].fault == k;
+                if (is_hit && told[hits[next].pattern] >= worth) verdicts[left[k]] = Verdict::Detected;
+                else rest.push_back(left[k]);
+                next += is_hit;
+            }
+            for (size_t k = 0; k < batch_size; k++)
+                if (told[k] >= worth) patterns.push_back(batch[k]);
+            goes_on = !rest.empty() && left.size() - rest.size() >= (left.size() + least - 1) / least;
+            left.swap(rest);
+        }
+    }
+
     // How many patterns are the last to detect some class.
     size_t kept() {
         std::vector<size_t> left;
@@ -166,6 +193,7 @@ int main(int count, char** words) {
     if (count < 2) return 2;
     auto limit = static_cast<searching::u64>(count > 2 ? std::atoi(words[2]) : 100);
     Generator generator(words[1], count > 3 && std::strcmp(words[3], "regions") == 0);
+    generator.draw();
     for (size_t k = 0; k < generator.verdicts.size(); k++) {
         if (generator.verdicts[k] != Verdict::Open) continue;
         generator.search(k, limit);
