@@ -9,8 +9,8 @@ use Rattle.run_files.proofs.drawing.draw_batches.Given as goal
 abbrev pub invariant-loop-batch : goal.invariant-loop-batch
 invariant-loop-batch g l = record {
   obey : (holds : Holds) → IsCubeOf l.simulator holds l.cube → All (IsPatternOf l.simulator holds) l.patterns.items;
-  few : length l.patterns.items ≤ l.batch * 64;
-  within : l.batch ≤ 2048;
+  few : length l.patterns.items ≤ l._batch * 64;
+  within : l._batch ≤ 2048;
   lines : All (λ (f : ℕ × Fault). IsLineOf l.simulator f.1.line) l.left.items;
   cube : (holds : Holds) × IsCubeOf l.simulator holds l.cube;
   simulator : l.simulator ≡ l.initial.simulator;

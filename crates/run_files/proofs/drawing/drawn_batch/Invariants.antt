@@ -5,6 +5,6 @@ use Rattle.run_files.proofs.drawing.drawn_batch.Given as goal
 
 abbrev pub invariant-loop-drawn : goal.invariant-loop-drawn
 invariant-loop-drawn g l = record {
-  count : length l.patterns.items ≡ l.drawn;
+  count : length l.patterns.items ≡ l._drawn;
   obey : (n : _) (holds : _) → IsCubeOf n holds l.cube → All (IsPatternOf n holds) l.patterns.items;
 }
