@@ -1,4 +1,4 @@
-use Rattle.std.proofs.Common.{ℕ, ◌≤◌, ◌*◌, List, length, length-append, ap, subst, sym, arith}
+use Rattle.std.proofs.Common.{ℕ, List, length-append, subst, sym, arith}
 use Rattle.std.specs.List.{All}
 use Rattle.std.proofs.lemmas.List.Elements.{All-append}
 use Rattle.statement.specs.Netlists.{Netlist}

@@ -1,4 +1,4 @@
-use Rattle.std.proofs.Common.{[], ◌∷◌, length, length-append, arith}
+use Rattle.std.proofs.Common.{[], ◌∷◌, length-append, arith}
 use Rattle.std.proofs.lemmas.List.Elements.{All-push}
 use Rattle.cubes.specs.Cubes.{IsPatternOf}
 use Rattle.run_files.proofs.drawing.drawn_batch.Goals as goal

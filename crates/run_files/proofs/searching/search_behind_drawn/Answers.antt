@@ -1,4 +1,3 @@
-use Rattle.std.proofs.Common.{◌≡◌, ◌++◌, List, subst, sym}
 use Rattle.std.proofs.lemmas.Result.{IfOk-weaker}
 use Rattle.list_core.specs.declared.compaction.Finished.{Finished}
 use Rattle.run_files.specs.inner.Searches.{AreFound}

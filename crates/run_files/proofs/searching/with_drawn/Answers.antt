@@ -1,4 +1,4 @@
-use Rattle.std.proofs.Common.{◌≡◌, ◌++◌, List, length, ap, refl, subst, sym, arith, length-append}
+use Rattle.std.proofs.Common.{List, length, ap, subst, sym, arith, length-append}
 use Rattle.std.specs.List.{All}
 use Rattle.std.proofs.lemmas.List.Elements.{All-append}
 use Rattle.statement.specs.declared.lines.Fault.{Fault}
