@@ -1,14 +1,13 @@
 -- The open cube is one of the netlist that obeys the held inputs.
-use Rattle.std.proofs.Common.{zero, suc, ◌≡◌, ℕ, Bool, List, [], ◌∷◌, length, map, replicate, Option, Some, None, sym, ◌∙◌, ap}
+use Rattle.std.proofs.Common.{zero, suc, ◌≡◌, ℕ, Bool, [], ◌∷◌, length, map, Option, Some, ◌∙◌, ap}
 use Rattle.std.specs.List.{slice_get}
 use Rattle.std.proofs.lemmas.List.{length-map, length-replicate}
 use Rattle.statement.specs.Values.{known}
-use Rattle.statement.specs.declared.kinds.Tri.{Tri}
 use Rattle.statement.specs.declared.kinds.Tri.TheVariants.{X}
 use Rattle.statement.specs.Netlists.{Netlist, cells}
 use Rattle.statement.specs.Patterns.{Holds}
 use Rattle.netlist.specs.Holds.{AreHoldsOf}
-use Rattle.cubes.specs.Cubes.{Cube, IsCubeOf}
+use Rattle.cubes.specs.Cubes.{IsCubeOf}
 use Rattle.run_files.specs.inner.Open.{held_value, open_cube}
 
 held_there : (holds : Holds) (k : ℕ) (b : Bool) → slice_get holds k ≡ Some (Some b) → slice_get (map held_value holds) k ≡ Some (known b)

@@ -1,4 +1,4 @@
-use Rattle.std.proofs.Common.{ℕ, ◌≡◌, List, subst, sym}
+use Rattle.std.proofs.Common.{ℕ, ◌≡◌, subst, sym}
 use Rattle.std.specs.List.{All}
 use Rattle.std.proofs.lemmas.Result.{IfOk-weaker}
 use Rattle.statement.specs.Netlists.{Netlist}

@@ -1,4 +1,4 @@
-use Rattle.run_files.proofs.DrawLemmas.{values_all, values_more}
+use Rattle.run_files.proofs.DrawLemmas.{values_more}
 use Rattle.run_files.proofs.drawing.values_of.Goals as goal
 
 pub loop-input-preserved : goal.loop-input-preserved
