@@ -220,5 +220,6 @@ pub truth : Laws → (n : Netlist) (chains : List (List ℕ)) (limit : ℕ) (ref
     → IsSound n → IsDesign n → AreChainsOf n chains → AreTests n limit patterns verdicts → All (MayHave refutes) verdicts
     → IsWritten n chains limit patterns verdicts made
     → (t : TransitionTheorem n chains limit refutes (transition_files_of made)) × HasNeeded n chains limit refutes (transition_files_of made) t
+unfolding what_is_said
 truth laws n chains limit refutes patterns verdicts made sound design dealt tests may w =
     (what_is_said laws n chains limit refutes patterns verdicts made sound design dealt tests may w, tests.needed)
