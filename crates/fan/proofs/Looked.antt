@@ -1,6 +1,6 @@
 -- Where the other sides of decisions aren't looked at: what stands on the stack, the end of its path, and trees without Open.
-use Rattle.std.proofs.Common.{Result, Ok, Err, ◌≡◌, ℕ, ◌+◌, ◌<◌, ◌≤◌, Bool, true, false, not, cond, List, [], ◌∷◌, ◌++◌, refl, sym, subst, arith}
-use Rattle.std.specs.Prelude.{IfOk, OnOk, IsTrue, ◌||◌}
+use Rattle.std.proofs.Common.{Result, Ok, Err, ◌≡◌, ℕ, ◌+◌, ◌<◌, ◌≤◌, Bool, true, false, not, cond, List, [], ◌∷◌, ◌++◌, Option, Some, None, refl, sym, subst, arith}
+use Rattle.std.specs.Prelude.{IfOk, IfSome, OnOk, IsTrue, ◌||◌}
 use Rattle.std.specs.List.{All, Contains}
 use Rattle.std.proofs.lemmas.Bool.{both_ways}
 use Rattle.std.proofs.lemmas.List.Elements.{All-nil, All-cons, All-head, All-tail, All-append}
@@ -205,6 +205,10 @@ settled_longer k few limit (Tested cube point) l w = w
 settled_longer k few limit (Whole tree) l w = ((w.0.0, w.0.1, (let h = w.0.2 in omega arith)), w.1)
 settled_longer k few limit (Refuted steps) l w = absurd w
 settled_longer k few limit (Partial tree) l w = absurd w
+
+pub some_longer : (k : Case) (few limit : ℕ) (o : Option Found) → few ≤ limit → IfSome o (IsSettled k few) → IfSome o (IsAnswer k limit)
+some_longer k few limit None l w = tt
+some_longer k few limit (Some found) l w = settled_longer k few limit found l w
 
 -- the tree of a search that gives up, where both sides are looked at
 pub fits_looked : (f : Fault) (n : Netlist) (holds : Holds) → AsksFit (PlaceLooked true f n holds) f n holds

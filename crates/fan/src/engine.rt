@@ -65,6 +65,7 @@ fn lead(guide: &mut Guide, number: u32) -> u32
 }
 
 /// A short search, if its answer is more than that it gave up; if not, its decisions are taken back.
+#[tactic(auto, using(crate::proofs::Steps::kept_before, crate::proofs::Steps::ready_again))]
 fn short_attempt(
     alloc: Global,
     roled: &RoledCase,
