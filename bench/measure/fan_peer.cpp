@@ -304,7 +304,7 @@ struct Fan {
             Aim other{side.signal, !side.bit};
             State s = looks ? Going : look(other, true);
             if (s == Test) return 0;
-            if (s == Blocked) { closed++, nodes += 2; continue; }
+            if (s == Blocked) { closed++, nodes++; continue; }
             if (looks) sim.assign(other.signal, other.bit);
             stack.push_back({other.signal, other.bit, true, side.mark, nodes});
             return 2;

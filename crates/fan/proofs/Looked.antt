@@ -183,15 +183,13 @@ own_going r {s} {stack} {x} hurries w free split T b new stack' o a h =
 pub seen_after : (r : RoledCase) (more : Bool) (s : Sim) (stack : List Side) → IsAt r s stack
     → PlaceLooked r.looks r.case.fault r.case.core.now r.case.holds.now (record { path = path_of_stack stack; node = Open })
     → IsEndSeen s (On more) → IsTrue (r.looks || not more) → IsLeftOpen r.case.fault r.case.core.now r.case.holds.now (path_of_stack stack)
-seen_after r more s stack w going seen t = cases r.looks more going seen t
+seen_after r more s stack w going seen t = by_looks r.looks more going seen t
   where
-    Here : Type 0
-    Here = IsLeftOpen r.case.fault r.case.core.now r.case.holds.now (path_of_stack stack)
-
-    cases : (looks more : Bool) → (IsTrue looks → Here) → IsEndSeen s (On more) → IsTrue (looks || not more) → Here
-    cases true more g e t = g refl
-    cases false true g e t = absurd (both_ways false refl t)
-    cases false false g e t = subst (λ (q : Sim). IsLeftOpen q.fault q.netlist q.holds q.path) w.at e
+    by_looks : (looks more : Bool) → (IsTrue looks → IsLeftOpen r.case.fault r.case.core.now r.case.holds.now (path_of_stack stack)) → IsEndSeen s (On more) → IsTrue (looks || not more)
+        → IsLeftOpen r.case.fault r.case.core.now r.case.holds.now (path_of_stack stack)
+    by_looks true more g e t = g refl
+    by_looks false true g e t = absurd (both_ways false refl t)
+    by_looks false false g e t = subst (λ (q : Sim). IsLeftOpen q.fault q.netlist q.holds q.path) w.at e
 
 pub within_one : (more : Bool) (closed limit r : ℕ) → closed < limit → r ≡ cond more 1 0 → closed + r ≤ limit
 within_one true closed limit r l e = omega arith
@@ -209,6 +207,10 @@ settled_longer k few limit (Partial tree) l w = absurd w
 pub some_longer : (k : Case) (few limit : ℕ) (o : Option Found) → few ≤ limit → IfSome o (IsSettled k few) → IfSome o (IsAnswer k limit)
 some_longer k few limit None l w = tt
 some_longer k few limit (Some found) l w = settled_longer k few limit found l w
+
+pub settled_ok : {E : Type 0} (k : Case) (limit : ℕ) (o : Result Found E) → IfOk o (IsSettled k limit) → IfOk o (IsAnswer k limit)
+settled_ok k limit (Ok found) w = settled_longer k limit limit found (omega arith) w
+settled_ok k limit (Err e) w = tt
 
 -- the tree of a search that gives up, where both sides are looked at
 pub fits_looked : (f : Fault) (n : Netlist) (holds : Holds) → AsksFit (PlaceLooked true f n holds) f n holds

@@ -115,7 +115,11 @@ fn attempts(
     }
     guide.go_back(Objectives::All, Stop::Heads);
     let last = RoledCase {
-        case: roled.case,
+        case: Case {
+            core: roled.case.core,
+            fault: roled.case.fault,
+            holds: roled.case.holds,
+        },
         roles: roled.roles,
         looks: true,
     };
