@@ -6,7 +6,7 @@ use Rattle.statement.specs.declared.lines.Point.{Point}
 use Rattle.statement.specs.Netlists.{signals}
 use Rattle.netlist.specs.Conditions.{IsSound}
 use Rattle.netlist.proofs.Lists.{all_left, all_right}
-use Rattle.tri.specs.Paths.{Path, IsClosedPath, IsTestPath, IsGoingPath}
+use Rattle.tri.specs.Paths.{IsClosedPath, IsTestPath, IsGoingPath}
 use Rattle.redundancy_cert.specs.declared.nodes.Node.{Node}
 use Rattle.redundancy_cert.specs.declared.nodes.Node.TheVariants.{Closed}
 use Rattle.redundancy_cert.specs.declared.stacks.Side.{Side}

@@ -34,7 +34,7 @@ use Rattle.evidence.specs.declared.engine.Found.{Found}
 use Rattle.evidence.specs.declared.engine.Found.TheVariants.{Test as Tested, Closed as Whole, Refuted, Partial}
 use Rattle.fan.specs.declared.cases.RoledCase.{RoledCase}
 use Rattle.fan.specs.Trees.{IsLeftOpen, PlaceStands}
-use Rattle.fan.specs.inner.Searching.{IsAt, IsOnPath, IsChosen, PlaceLooked, IsEndSeen, IsAnswer, IsSettled}
+use Rattle.fan.specs.inner.Searching.{IsAt, IsOnPath, PlaceLooked, IsEndSeen, IsAnswer, IsSettled}
 use Rattle.fan.proofs.Placing.{places_may}
 use Rattle.fan.proofs.Turns.{all_on, none_on, stands_fits}
 

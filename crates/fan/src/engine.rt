@@ -1,7 +1,7 @@
-//! The engine: up to eight attempts, each a whole search, of which the last alone may give up and looks at both sides of each decision. The first goes back from the lowest objective to a head
-//! line and is short. The next two stop at the fanout stems nearest to what is wanted, so that a contradiction stays within its block: from all
-//! objectives together, and from the lowest. Four short ones more go back from the lowest to head lines, over pins by a hash: few faults that can be
-//! tested are missed by all of them. The last goes back from all objectives to head lines, up to the limit.
+//! The engine: up to eight attempts, each a whole search, of which the last alone may give up and looks at both sides of each decision. The first goes
+//! back from the lowest objective to a head line and is short. The next two stop at the fanout stems nearest to what is wanted, so that a contradiction
+//! stays within its block: from all objectives together, and from the lowest. Four short ones more go back from the lowest to head lines, over pins by a
+//! hash: few faults that can be tested are missed by all of them. The last goes back from all objectives to head lines, up to the limit.
 ghost use Rattle.std.specs.Prelude.{◌≡◌, ◌≤◌, IfOk, IfSome, OnOk};
 ghost use Rattle.fan.specs.inner.Searching.{IsRoledCase, IsReady, IsAnswer, IsKept};
 

@@ -17,8 +17,11 @@ stand_at_end-requires-clause-at c =
     subst (λ ss. IsOnPath c.args.roled.now.case c.args.labels.now ss) (sym c.deref.ensures.value) (on_path c.args.roled.now c.requires.case.roles c.requires.may.at)
 
 pub returns-in-Test : goal.returns-in-Test
-returns-in-Test c = (met_at_end (on_path c.args.roled.now c.requires.case.roles c.requires.may.at) c.in-Test.point
-    (subst (λ (ss : List Side). IsMet c.args.roled.now.case.fault c.args.roled.now.case.core.now c.args.roled.now.case.holds.now (path_of_stack ss) c.in-Test.point) c.deref.ensures.value c.in-Test.ensures), tt)
+returns-in-Test c = (
+  met_at_end (on_path c.args.roled.now c.requires.case.roles c.requires.may.at) c.in-Test.point
+      (subst (λ (ss : List Side). IsMet c.args.roled.now.case.fault c.args.roled.now.case.core.now c.args.roled.now.case.holds.now (path_of_stack ss) c.in-Test.point) c.deref.ensures.value c.in-Test.ensures),
+  tt,
+)
 
 pub go_back-requires : goal.go_back-requires
 go_back-requires c = end_looked c.args.roled.now c.requires.may.at
