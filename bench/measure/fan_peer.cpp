@@ -293,25 +293,42 @@ struct Fan {
         return s;
     }
     void push(Aim a, bool tried, size_t mark) { counts.decisions++, stack.push_back({a.signal, a.bit, tried, mark, 0}); }
-    // the last untried side, or false where the tree is whole
-    bool turn() {
+    // The last untried side, where sides of short attempts are looked at for the first time. 0: a test, 1: the tree is whole, 2: it may go on
+    int turn(u64& closed) {
         u64 nodes = 1;
-        for (; !stack.empty(); stack.pop_back()) {
-            Side& last = stack.back();
-            sim.undo(last.mark, last.signal);
-            if (!last.tried) {
-                last.tried = true, last.bit = !last.bit, last.nodes = nodes;
-                sim.assign(last.signal, last.bit);
-                return true;
-            }
-            nodes += last.nodes + 1;
+        while (!stack.empty()) {
+            Side side = stack.back();
+            sim.undo(side.mark, side.signal);
+            stack.pop_back();
+            if (side.tried) { nodes += side.nodes + 1; continue; }
+            Aim other{side.signal, !side.bit};
+            State s = looks ? Going : look(other, true);
+            if (s == Test) return 0;
+            if (s == Blocked) { closed++, nodes++; continue; }
+            if (looks) sim.assign(other.signal, other.bit);
+            stack.push_back({other.signal, other.bit, true, side.mark, nodes});
+            return 2;
         }
         counts.tree += nodes;
-        return false;
+        return 1;
+    }
+    // goes to a side and back to the other one where it is closed; 0: a test, 1: both are closed, 2: it may go on
+    int go(Aim a, State other) {
+        size_t mark = sim.trail.size();
+        State one = look(a, true);
+        if (one == Test) return 0;
+        if (one == Going) { push(a, other == Blocked, mark); return 2; }
+        if (other == Blocked) return 1;
+        Aim b{a.signal, !a.bit};
+        if (looks) { sim.assign(b.signal, b.bit), push(b, true, mark); return 2; }
+        State two = look(b, true);
+        if (two == Going) push(b, true, mark);
+        return two == Test ? 0 : two == Going ? 2 : 1;
     }
     // 0: a test, 1: redundant, 2: given up
-    int run(Manner how, u64 limit) {
-        manner = how;
+    bool looks = false;  // at both sides of each decision, as the last attempt does
+    int run(Manner how, u64 limit, bool last) {
+        manner = how, looks = last;
         salt = salt_of(sim.fault);
         stack.clear();
         State s = sim.state();
@@ -322,22 +339,19 @@ struct Fan {
             State other = Going;
             for (Aim each : aims()) {
                 if (good(each.signal) != X || !roles.may(each.signal)) continue;
+                if (!looks && splits(each.signal)) { a = each; break; }  // a place is decided without a look
                 other = look({each.signal, !each.bit}, false);
                 if (other == Test) return 0;
                 if (other == Blocked) { a = each; break; }
             }
             if (a.signal == NONE) {
                 a = choose();
-                other = look({a.signal, !a.bit}, false);
+                if (looks) other = look({a.signal, !a.bit}, false);
                 if (other == Test) return 0;
             }
-            size_t mark = sim.trail.size();
-            State one = look(a, true);
-            if (one == Test) return 0;
-            if (one == Going) { push(a, other == Blocked, mark); continue; }
-            if (other == Going) { sim.assign(a.signal, !a.bit); push({a.signal, !a.bit}, true, mark); continue; }
-            closed++;
-            if (!turn()) return 1;
+            int end = go(a, other);
+            if (end == 1) closed++, end = turn(closed);
+            if (end != 2) return end;
         }
         return 2;
     }
@@ -363,7 +377,7 @@ int main(int argc, char** argv) {
         for (auto& attempt : attempts) {
             if (attempt.most >= limit) continue;
             sim.aim(f);
-            end = search.run(attempt.manner, attempt.most ? attempt.most : limit);
+            end = search.run(attempt.manner, attempt.most ? attempt.most : limit, !attempt.most);
             if (end != 2) break;
         }
         (end == 0 ? counts.tests : end == 1 ? counts.closed : counts.aborted)++;

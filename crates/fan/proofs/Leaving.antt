@@ -1,5 +1,5 @@
 -- What may be split on, and that something is left to split on while the search may go on.
-use Rattle.std.proofs.Common.{◌≡◌, ℕ, ◌<◌, ◌≤◌, ◌⊎◌, ◌||◌, Bool, true, false, not, List, [], length, get_or, eqb, Option, Some, None, refl, sym, ◌∙◌, ap, subst, inl, inr, arith}
+use Rattle.std.proofs.Common.{◌≡◌, ℕ, ◌<◌, ◌≤◌, ◌⊎◌, ◌||◌, Bool, true, false, not, List, length, get_or, eqb, Option, Some, None, refl, sym, ◌∙◌, ap, subst, inl, inr, arith}
 use Rattle.std.specs.Bool.{Decides}
 use Rattle.std.specs.Option.{is_some}
 use Rattle.std.specs.List.{Contains, list_any}
@@ -34,9 +34,8 @@ use Rattle.head_lines.proofs.Inner.{input_own}
 use Rattle.head_lines.proofs.Ends.{met_there}
 use Rattle.head_lines.proofs.Readers.{get_or_any}
 use Rattle.decisions.specs.declared.cases.Case.{Case}
-use Rattle.fan.specs.inner.Searching.{IsAt, IsGoing, IsEndPlace, IsFreeEnd, IsNoFreeEnd, IsSplit}
-use Rattle.fan.proofs.Placing.{places_may, head_place, source_place}
-use Rattle.fan.proofs.Turns.{all_on, none_on}
+use Rattle.fan.specs.inner.Searching.{IsOnPath, IsGoing, IsEndPlace, IsFreeEnd, IsNoFreeEnd, IsSplit}
+use Rattle.fan.proofs.Placing.{head_place, source_place}
 
 -- ---- ends
 
@@ -171,7 +170,7 @@ labels_there f n holds sound path =
     some_settled (label_of None X X false) (labels (Some f) path) n (input_labels path n holds) (cell_labels path n) sound.formed.numbered sound.closed sound.acyclic
     (length-map n.inputs (λ x. source_label path x (held_value (get_or holds x None)))) (length-map (cells n) (λ (d : Definition). source_label path d.id X))
 
-pub some_end : (k : Case) {roles : List Role} → IsSound k.core.now → AreRoles k.fault k.core.now k.holds.now roles → (s : Sim) (stack : List Side) → IsAt k s stack → IsGoing k stack
+pub some_end : (k : Case) {roles : List Role} → IsSound k.core.now → AreRoles k.fault k.core.now k.holds.now roles → (s : Sim) (stack : List Side) → IsOnPath k s stack → IsGoing k stack
     → ((x : ℕ) → x < length (signals k.core.now) → IsNoFreeEnd k s x) → ⊥
 some_end k {roles} sound are s stack is going none =
     let f : Fault = k.fault in
@@ -185,6 +184,6 @@ some_end k {roles} sound are s stack is going none =
     let g : HasGood (sim n f holds path) x w.0 = subst (λ (r : Sim). HasGood r x w.0) is.at w.1 in
     w.2 (sym g.good ∙ (ap (λ (m : Label). m.good) (labels_once (Some f) (decisions path) n holds sound g.label l.0 g.are l.1 x c) ∙ e)) in
     let met = met_there f n holds sound (λ x. is_bound_role (role_at roles x)) (λ x. is_head_role (role_at roles x)) are.marks path
-    (all_on f n holds (places_may f n holds roles are) stack [] (none_on f n holds) is.around) l.0 l.1 told
+    is.on l.0 l.1 told
     (λ c. going.0 (record { label = l.0; are = l.1; closed = c })) in
     going.1 met.0 met.1

@@ -2,7 +2,7 @@
 //! of Fujiwara and Shimono 1983.) These are guesses: `forcing` looks at the other side of each, and decides it where that is closed. So a rule that
 //! is left out here costs time and no answer; only what is next to a decision is asked for, and the rest comes up when the next turn asks.
 //!
-//! A guess is made when it is come to, from pins that stand in the netlist: mostly one of the first is forced, and the others were for nothing.
+//! A guess is made when it is come to, from pins that stand in the netlist: those behind the one that is decided are never made.
 ghost use Rattle.std.specs.Prelude.{◌≡◌};
 ghost use Rattle.pair_sim.specs.Sims.{IsNotBlocked};
 

@@ -3,9 +3,10 @@
 use decisions::Case;
 use head_lines::Role;
 
-/// A case, and the roles that signals have in it.
+/// A case, the roles that signals have in it, and whether the search looks at both sides of each decision.
 #[derive(Clone, Copy)]
 pub(crate) struct RoledCase<'a> {
     pub case: Case<'a, 'a>,
     pub roles: &'a [Role],
+    pub looks: bool,
 }

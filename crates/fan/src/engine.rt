@@ -1,13 +1,13 @@
-//! The engine: up to eight attempts, each a whole search, of which the last alone may give up. The first goes back from the lowest objective to a head
-//! line and is short. The next two stop at the fanout stems nearest to what is wanted, so that a contradiction stays within its block: from all
-//! objectives together, and from the lowest. Four short ones more go back from the lowest to head lines, over pins by a hash: few faults that can be
-//! tested are missed by all of them. The last goes back from all objectives to head lines, up to the limit.
+//! The engine: up to eight attempts, each a whole search, of which the last alone may give up and looks at both sides of each decision. The first goes
+//! back from the lowest objective to a head line and is short. The next two stop at the fanout stems nearest to what is wanted, so that a contradiction
+//! stays within its block: from all objectives together, and from the lowest. Four short ones more go back from the lowest to head lines, over pins by a
+//! hash: few faults that can be tested are missed by all of them. The last goes back from all objectives to head lines, up to the limit.
 ghost use Rattle.std.specs.Prelude.{◌≡◌, ◌≤◌, IfOk, IfSome, OnOk};
 ghost use Rattle.fan.specs.inner.Searching.{IsRoledCase, IsReady, IsAnswer, IsKept};
 
 use crate::cases::RoledCase;
 use crate::guides::{Guide, GuideRoom, Objectives, Stop};
-use crate::searching::search_from;
+use crate::searching::{short_search, whole_search};
 use decisions::{Case, Measures, Orders};
 use evidence::{Engine, Found};
 use head_lines::{RoleRoom, WantRoom, roles_of};
@@ -21,8 +21,8 @@ const FEW: u32 = 16;
 /// As many the second and the third may take.
 const MORE: u32 = 64;
 
-/// So often it begins anew with pins by a hash, each time for a few Closed.
-const ROUNDS: u32 = 4;
+/// So many are short: the first three, and four with pins by a hash, each for a few Closed.
+const SHORT: u32 = 7;
 
 /// A search that stops at head lines, with what guides it.
 #[derive(Drop)]
@@ -38,6 +38,30 @@ pub struct FanRoom {
     roles: RoleRoom,
     wants: WantRoom,
     guide: GuideRoom,
+}
+
+/// Has the guide go back as a short attempt does; as many Closed as that may take.
+fn lead(guide: &mut Guide, number: u32) -> u32
+    ensures { 1 ≤ result }
+{
+    match number {
+        0 => {
+            guide.go_back(Objectives::One, Stop::Heads);
+            FEW
+        }
+        1 => {
+            guide.go_back(Objectives::All, Stop::Stems);
+            MORE
+        }
+        2 => {
+            guide.go_back(Objectives::One, Stop::Stems);
+            MORE
+        }
+        _ => {
+            guide.go_anyhow(number - 3);
+            FEW
+        }
+    }
 }
 
 /// A short search, if its answer is more than that it gave up; if not, its decisions are taken back.
@@ -61,15 +85,11 @@ fn short_attempt(
     if limit <= few {
         return Ok(None);
     }
-    match search_from(alloc, roled, guide, labels, wants, few)? {
-        Found::Test(cube, point) => Ok(Some(Found::Test(cube, point))),
-        Found::Closed(tree) => Ok(Some(Found::Closed(tree))),
-        Found::Refuted(_) => unreachable!(),
-        Found::Partial(_) => {
-            labels.undo_all();
-            Ok(None)
-        }
+    let found = short_search(alloc, roled, guide, labels, wants, few)?;
+    if found.is_none() {
+        labels.undo_all();
     }
+    Ok(found)
 }
 
 /// The attempts, one after the other.
@@ -87,26 +107,23 @@ fn attempts(
     ensures answer { IfOk result (IsAnswer roled.now.case limit) }
     ensures kept { OnOk result (IsKept roled.now.case labels.new wants.new) }
 {
-    guide.go_back(Objectives::One, Stop::Heads);
-    if let Some(found) = short_attempt(alloc, roled, guide, labels, wants, FEW, limit)? {
-        return Ok(found);
-    }
-    guide.go_back(Objectives::All, Stop::Stems);
-    if let Some(found) = short_attempt(alloc, roled, guide, labels, wants, MORE, limit)? {
-        return Ok(found);
-    }
-    guide.go_back(Objectives::One, Stop::Stems);
-    if let Some(found) = short_attempt(alloc, roled, guide, labels, wants, MORE, limit)? {
-        return Ok(found);
-    }
-    for round in 0..ROUNDS {
-        guide.go_anyhow(round);
-        if let Some(found) = short_attempt(alloc, roled, guide, labels, wants, FEW, limit)? {
+    for number in 0..SHORT {
+        let few = lead(guide, number);
+        if let Some(found) = short_attempt(alloc, roled, guide, labels, wants, few, limit)? {
             return Ok(found);
         }
     }
     guide.go_back(Objectives::All, Stop::Heads);
-    search_from(alloc, roled, guide, labels, wants, limit)
+    let last = RoledCase {
+        case: Case {
+            core: roled.case.core,
+            fault: roled.case.fault,
+            holds: roled.case.holds,
+        },
+        roles: roled.roles,
+        looks: true,
+    };
+    whole_search(alloc, &last, guide, labels, wants, limit)
 }
 
 impl Fan {
@@ -153,6 +170,7 @@ impl Engine for Fan {
         let roled = RoledCase {
             case,
             roles: &roles,
+            looks: false,
         };
         let found = attempts(alloc, &roled, &mut guide, &mut labels, &mut wants, limit)?;
         Ok(found)
@@ -185,6 +203,7 @@ impl Engine for Fan {
         let roled = RoledCase {
             case,
             roles: roles.roles(),
+            looks: false,
         };
         let found = attempts(alloc, &roled, &mut guide, &mut labels, &mut wants, limit)?;
         Ok((

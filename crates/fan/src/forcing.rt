@@ -1,15 +1,18 @@
 //! Signals of which one side is closed, so that the other is forced. A side is decided by way of trial and its labels tell whether it is closed, where FAN
 //! has rules of implication gate by gate: so all that follows from a decision counts, whatever gates it goes through, and each Forced shows its reason.
+//!
+//! Where the search looks at one side of a decision alone, a place that may be forced is decided without the trial, and split on. A signal that is no
+//! place can't be split on, so its other side is looked at.
 ghost use Rattle.std.specs.Prelude.{IsTrue};
-ghost use Rattle.fan.specs.inner.Searching.{IsRoledCase, IsAt, IsGoing, IsFreeToDecide, IsForcedSeen};
+ghost use Rattle.fan.specs.inner.Searching.{IsRoledCase, IsOnPath, IsGoing, IsChosen, IsFreeToDecide, IsForcedSeen};
 
 use crate::aims::{Asked, asked_at};
 use crate::cases::RoledCase;
+use crate::choosing::{is_free, is_split};
 use crate::frontier::Frontier;
 use crate::standing::go;
 use decisions::{Aim, Orders, Places, excitation, may_differ};
-use head_lines::Role;
-use netlist::{Point, SignalId, Tri};
+use netlist::{Point, SignalId};
 use pair_sim::{PairSim, State};
 use redundancy_cert::Side;
 
@@ -19,24 +22,9 @@ pub enum Seen {
     Reached(Point),
     /// The other side of this one is closed.
     ShutBeside(Aim),
+    /// This place may be forced, and its other side isn't looked at.
+    Guess(Aim),
     Nothing,
-}
-
-/// Whether a signal may be decided, and isn't known.
-pub(crate) fn is_free(roled: &RoledCase, labels: &PairSim, stack: &[Side], id: SignalId) -> bool
-    requires case { IsRoledCase roled.now }
-    requires at { IsAt roled.now.case labels.now stack.now }
-    ensures { IsTrue result → IsFreeToDecide roled.now.case labels.now id }
-{
-    roled.case.core.netlist().sound();
-    if id.index() >= roled.roles.len() {
-        return false;
-    }
-    match roled.roles[id.index()] {
-        Role::Inner => false,
-        Role::Bound => matches!(labels.good(id), Tri::X),
-        Role::Head => matches!(labels.good(id), Tri::X),
-    }
 }
 
 /// Whether a pin is asked of, and may be decided and isn't known.
@@ -48,7 +36,7 @@ fn is_asked(
     pin: SignalId,
 ) -> bool
     requires case { IsRoledCase roled.now }
-    requires at { IsAt roled.now.case labels.now stack.now }
+    requires at { IsOnPath roled.now.case labels.now stack.now }
     requires going { IsGoing roled.now.case stack.now }
     ensures { IsTrue result → IsFreeToDecide roled.now.case labels.now pin }
 {
@@ -58,24 +46,43 @@ fn is_asked(
     is_free(roled, labels, stack, pin)
 }
 
-/// Looks for a pin whose other side is closed.
+/// Looks at the other side of a signal, but not at that of a place where the search looks at one side alone.
+fn look_beside(roled: &RoledCase, labels: &mut PairSim, stack: &[Side], aim: Aim) -> Seen
+    requires case { IsRoledCase roled.now }
+    requires chosen { IsChosen roled.now.case labels.old stack.now aim.signal }
+    ensures { IsForcedSeen roled.now labels.old labels.new stack.now result }
+{
+    if !roled.looks && is_split(roled, labels, stack, aim.signal) {
+        return Seen::Guess(aim);
+    }
+    match go(roled, labels, stack, aim.signal, !aim.bit) {
+        State::Test(point) => Seen::Reached(point),
+        State::Blocked => Seen::ShutBeside(aim),
+        State::Going => {
+            labels.undo();
+            Seen::Nothing
+        }
+    }
+}
+
+/// Looks for a pin that is forced, or may be.
 fn find_at(roled: &RoledCase, labels: &mut PairSim, stack: &[Side], asked: &Asked) -> Seen
     requires case { IsRoledCase roled.now }
-    requires at { IsAt roled.now.case labels.old stack.now }
+    requires at { IsOnPath roled.now.case labels.old stack.now }
     requires going { IsGoing roled.now.case stack.now }
-    ensures { IsForcedSeen roled.now.case labels.old labels.new stack.now result }
+    ensures { IsForcedSeen roled.now labels.old labels.new stack.now result }
 {
     for pin in asked.pins {
         if is_asked(roled, labels, stack, asked, *pin) {
-            match go(roled, labels, stack, *pin, !asked.bit) {
-                State::Test(point) => return Seen::Reached(point),
-                State::Blocked => {
-                    return Seen::ShutBeside(Aim {
-                        signal: *pin,
-                        bit: asked.bit,
-                    });
-                }
-                State::Going => labels.undo(),
+            let aim = Aim {
+                signal: *pin,
+                bit: asked.bit,
+            };
+            match look_beside(roled, labels, stack, aim) {
+                Seen::Reached(point) => return Seen::Reached(point),
+                Seen::ShutBeside(aim) => return Seen::ShutBeside(aim),
+                Seen::Guess(aim) => return Seen::Guess(aim),
+                Seen::Nothing => {}
             }
         }
     }
@@ -85,9 +92,9 @@ fn find_at(roled: &RoledCase, labels: &mut PairSim, stack: &[Side], asked: &Aske
 /// Looks at what excites the fault.
 fn find_excited(roled: &RoledCase, labels: &mut PairSim, stack: &[Side]) -> Seen
     requires case { IsRoledCase roled.now }
-    requires at { IsAt roled.now.case labels.old stack.now }
+    requires at { IsOnPath roled.now.case labels.old stack.now }
     requires going { IsGoing roled.now.case stack.now }
-    ensures { IsForcedSeen roled.now.case labels.old labels.new stack.now result }
+    ensures { IsForcedSeen roled.now labels.old labels.new stack.now result }
 {
     let Some(aim) = excitation(roled.case.core, &roled.case.fault, labels) else {
         return Seen::Nothing;
@@ -112,9 +119,9 @@ fn find_of(
     number: usize,
 ) -> Seen
     requires case { IsRoledCase roled.now }
-    requires at { IsAt roled.now.case labels.old stack.now }
+    requires at { IsOnPath roled.now.case labels.old stack.now }
     requires going { IsGoing roled.now.case stack.now }
-    ensures { IsForcedSeen roled.now.case labels.old labels.new stack.now result }
+    ensures { IsForcedSeen roled.now labels.old labels.new stack.now result }
 {
     if number == 0 {
         return find_excited(roled, labels, stack);
@@ -135,14 +142,15 @@ pub(crate) fn find_forced(
     stack: &[Side],
 ) -> Seen
     requires case { IsRoledCase roled.now }
-    requires at { IsAt roled.now.case labels.old stack.now }
+    requires at { IsOnPath roled.now.case labels.old stack.now }
     requires going { IsGoing roled.now.case stack.now }
-    ensures { IsForcedSeen roled.now.case labels.old labels.new stack.now result }
+    ensures { IsForcedSeen roled.now labels.old labels.new stack.now result }
 {
     for number in 0..stack.len() + 2 {
         match find_of(roled, frontier, orders, places, labels, stack, number) {
             Seen::Reached(point) => return Seen::Reached(point),
             Seen::ShutBeside(aim) => return Seen::ShutBeside(aim),
+            Seen::Guess(aim) => return Seen::Guess(aim),
             Seen::Nothing => {}
         }
     }

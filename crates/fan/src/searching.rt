@@ -1,27 +1,44 @@
 //! The search from the path without decisions.
 //!
-//! As in `podem`, a stack of decisions stands for the tree (`decisions`), and both sides of a decision are looked at. But a turn looks first for a signal of
-//! which one side is closed already, and forces it to the other (`forcing`): FAN's unique implications, told by labels. Else it splits on what
-//! the backtrace wants (`guides`), a head line or a fanout stem sooner than an input. Where the condition for a test is met the head lines are
-//! justified without a decision (`head_lines`), so such a path is a test.
-ghost use Rattle.std.specs.Prelude.{ℕ, ◌≤◌, [], IfOk, OnOk};
+//! As in `podem`, a stack of decisions stands for the tree (`decisions`). A turn of the last attempt looks first for a signal of which one side is
+//! closed already, and forces it to the other (`forcing`): FAN's unique implications, told by labels. Else it splits on what the backtrace wants
+//! (`guides`), a head line or a fanout stem sooner than an input, and looks at both sides. Short attempts, whose trees are dropped where they give up,
+//! go to the own side of a decision first, also of a place that only may be forced, and look at the other one where the own is closed or once they
+//! come back to it: most end in a test before that.
+//!
+//! Where the condition for a test is met the head lines are justified without a decision (`head_lines`), so such a path is a test.
+ghost use Rattle.std.specs.Prelude.{ℕ, ◌≡◌, ◌≤◌, ◌||◌, not, true, false, [], ◌∷◌, IfOk, IfSome, OnOk};
+ghost use Rattle.decisions.specs.Climbing.{IsAtEnd, IsBacktrackStep};
 ghost use Rattle.head_lines.specs.HeadLines.{IsPlace};
 ghost use Rattle.head_lines.specs.Justified.{IsMetAt};
 ghost use Rattle.head_lines.specs.Rooms.{IsReusableWantRoom};
-ghost use Rattle.fan.specs.inner.Searching.{IsRoledCase, IsAt, IsGoing, IsSideClosed, IsSideOpen, IsStepped, IsChosen, IsForcedSeen, IsReady, IsAnswer, IsKept};
+ghost use Rattle.pair_sim.specs.Sims.{sim};
+ghost use Rattle.redundancy_cert.specs.declared.nodes.Node.{Node as NodeOf};
+ghost use Rattle.fan.specs.inner.Searching.{IsRoledCase, IsAt, MayTurn, IsGoing, IsSideClosed, IsSideOpen, IsStepped, IsChosen, IsReady, IsAnswer, IsSettled, IsEnd, IsKept, AreOfCase};
 
 use crate::cases::RoledCase;
 use crate::choosing::choose;
 use crate::forcing::{Seen, find_forced};
 use crate::guides::{Guide, best_aim};
-use crate::standing::go;
-use decisions::{Aim, Effects, Step, close_both, closed_tree, one_if, push, tree_so_far};
+use crate::standing::{go, stand_at_end};
+use decisions::{Aim, Effects, Step, climb, close_both, closed_tree, one_if, push, tree_so_far};
 use evidence::Found;
 use head_lines::{WantRoom, justified_cube};
-use netlist::{Point, SignalId};
+use netlist::Point;
 use pair_sim::{PairSim, State};
-use redundancy_cert::{Other, Side, Tree};
+use redundancy_cert::{Node, Other, Side, Tree};
 use std::alloc::{AllocError, Global};
+
+/// Where a search ends.
+#[derive(Drop)]
+pub enum End {
+    /// The condition for a test is met there.
+    Met(Point),
+    /// The tree is whole.
+    AllClosed(Vec<Node>),
+    /// There are as many Closed as the limit.
+    GivenUp,
+}
 
 /// A turn where this side is closed: goes to the other one.
 fn after_closed(
@@ -30,18 +47,18 @@ fn after_closed(
     effects: &mut Effects,
     labels: &mut PairSim,
     stack: &mut Vec<Side>,
-    signal: SignalId,
-    bit: bool,
+    side: Aim,
 ) -> Result<Step, AllocError>
     requires case { IsRoledCase roled.now }
-    requires chosen { IsChosen roled.now.case labels.old stack.old.items signal }
-    requires closed { IsSideClosed roled.now.case stack.old.items signal bit }
-    ensures { IfOk result (IsStepped roled.now.case stack.old.items labels.new stack.new.items) }
+    requires at { IsAt roled.now labels.old stack.old.items }
+    requires chosen { IsChosen roled.now.case labels.old stack.old.items side.signal }
+    requires closed { IsSideClosed roled.now.case stack.old.items side.signal side.bit }
+    ensures { IfOk result (IsStepped roled.now stack.old.items labels.new stack.new.items) }
 {
-    match go(roled, labels, stack, signal, !bit) {
+    match go(roled, labels, stack, side.signal, !side.bit) {
         State::Test(point) => Ok(Step::Found(point)),
-        State::Blocked => close_both(alloc, effects, labels, stack, signal, bit),
-        State::Going => push(stack, signal, !bit, Other::Shut),
+        State::Blocked => close_both(alloc, effects, labels, stack, side.signal, side.bit),
+        State::Going => push(stack, side.signal, !side.bit, Other::Shut),
     }
 }
 
@@ -50,27 +67,79 @@ fn after_going(
     roled: &RoledCase,
     labels: &mut PairSim,
     stack: &mut Vec<Side>,
-    signal: SignalId,
-    bit: bool,
+    side: Aim,
 ) -> Result<Step, AllocError>
     requires case { IsRoledCase roled.now }
-    requires chosen { IsChosen roled.now.case labels.old stack.old.items signal }
-    requires place { IsPlace roled.now.case.fault roled.now.case.core.now roled.now.case.holds.now signal }
-    requires going { IsSideOpen roled.now.case stack.old.items signal bit }
-    ensures { IfOk result (IsStepped roled.now.case stack.old.items labels.new stack.new.items) }
+    requires at { IsAt roled.now labels.old stack.old.items }
+    requires chosen { IsChosen roled.now.case labels.old stack.old.items side.signal }
+    requires place { IsPlace roled.now.case.fault roled.now.case.core.now roled.now.case.holds.now side.signal }
+    requires going { IsSideOpen roled.now.case stack.old.items side.signal side.bit }
+    ensures { IfOk result (IsStepped roled.now stack.old.items labels.new stack.new.items) }
 {
-    match go(roled, labels, stack, signal, !bit) {
+    match go(roled, labels, stack, side.signal, !side.bit) {
         State::Test(point) => Ok(Step::Found(point)),
         State::Blocked => {
-            labels.assign(signal, bit);
-            push(stack, signal, bit, Other::Shut)
+            labels.assign(side.signal, side.bit);
+            push(stack, side.signal, side.bit, Other::Shut)
         }
-        State::Going => push(stack, signal, !bit, Other::Untried),
+        State::Going => push(stack, side.signal, !side.bit, Other::Untried),
     }
 }
 
-/// A turn that splits on a place: the other side of a decision is looked at, and then its own side is gone to.
+/// Decides this side of a place, once the other one is looked at.
 fn split(
+    alloc: Global,
+    roled: &RoledCase,
+    effects: &mut Effects,
+    labels: &mut PairSim,
+    stack: &mut Vec<Side>,
+    side: Aim,
+) -> Result<Step, AllocError>
+    requires case { IsRoledCase roled.now }
+    requires at { IsAt roled.now labels.old stack.old.items }
+    requires chosen { IsChosen roled.now.case labels.old stack.old.items side.signal }
+    requires place { IsPlace roled.now.case.fault roled.now.case.core.now roled.now.case.holds.now side.signal }
+    ensures { IfOk result (IsStepped roled.now stack.old.items labels.new stack.new.items) }
+{
+    let other = Aim {
+        signal: side.signal,
+        bit: !side.bit,
+    };
+    match go(roled, labels, stack, other.signal, other.bit) {
+        State::Test(point) => Ok(Step::Found(point)),
+        State::Blocked => after_closed(alloc, roled, effects, labels, stack, other),
+        State::Going => {
+            labels.undo();
+            after_going(roled, labels, stack, other)
+        }
+    }
+}
+
+/// Decides this side of a place, and looks at the other one only where this one is closed.
+fn hurry(
+    alloc: Global,
+    roled: &RoledCase,
+    effects: &mut Effects,
+    labels: &mut PairSim,
+    stack: &mut Vec<Side>,
+    side: Aim,
+) -> Result<Step, AllocError>
+    requires case { IsRoledCase roled.now }
+    requires hurries { roled.now.looks ≡ false }
+    requires at { IsAt roled.now labels.old stack.old.items }
+    requires chosen { IsChosen roled.now.case labels.old stack.old.items side.signal }
+    requires place { IsPlace roled.now.case.fault roled.now.case.core.now roled.now.case.holds.now side.signal }
+    ensures { IfOk result (IsStepped roled.now stack.old.items labels.new stack.new.items) }
+{
+    match go(roled, labels, stack, side.signal, side.bit) {
+        State::Test(point) => Ok(Step::Found(point)),
+        State::Blocked => after_closed(alloc, roled, effects, labels, stack, side),
+        State::Going => push(stack, side.signal, side.bit, Other::Untried),
+    }
+}
+
+/// Decides on what the guide wants, or on another place.
+fn decide(
     alloc: Global,
     roled: &RoledCase,
     effects: &mut Effects,
@@ -79,22 +148,19 @@ fn split(
     wanted: &Option<Aim>,
 ) -> Result<Step, AllocError>
     requires case { IsRoledCase roled.now }
-    requires at { IsAt roled.now.case labels.old stack.old.items }
+    requires at { IsAt roled.now labels.old stack.old.items }
     requires going { IsGoing roled.now.case stack.old.items }
-    ensures { IfOk result (IsStepped roled.now.case stack.old.items labels.new stack.new.items) }
+    ensures { IfOk result (IsStepped roled.now stack.old.items labels.new stack.new.items) }
 {
     let aim = choose(roled, labels, stack, wanted);
-    match go(roled, labels, stack, aim.signal, !aim.bit) {
-        State::Test(point) => Ok(Step::Found(point)),
-        State::Blocked => after_closed(alloc, roled, effects, labels, stack, aim.signal, !aim.bit),
-        State::Going => {
-            labels.undo();
-            after_going(roled, labels, stack, aim.signal, !aim.bit)
-        }
+    if roled.looks {
+        split(alloc, roled, effects, labels, stack, aim)
+    } else {
+        hurry(alloc, roled, effects, labels, stack, aim)
     }
 }
 
-/// A turn of the search: what is forced is decided, or else a place is split on.
+/// A turn where the search may go on: what is forced is decided, or else a place.
 fn take_turn(
     alloc: Global,
     roled: &RoledCase,
@@ -103,9 +169,9 @@ fn take_turn(
     stack: &mut Vec<Side>,
 ) -> Result<Step, AllocError>
     requires case { IsRoledCase roled.now }
-    requires at { IsAt roled.now.case labels.old stack.old.items }
+    requires at { IsAt roled.now labels.old stack.old.items }
     requires going { IsGoing roled.now.case stack.old.items }
-    ensures { IfOk result (IsStepped roled.now.case stack.old.items labels.new stack.new.items) }
+    ensures { IfOk result (IsStepped roled.now stack.old.items labels.new stack.new.items) }
 {
     guide.follow(roled, labels, stack.len())?;
     let seen = find_forced(
@@ -118,18 +184,125 @@ fn take_turn(
     );
     match seen {
         Seen::Reached(point) => Ok(Step::Found(point)),
-        Seen::ShutBeside(aim) => after_closed(
-            alloc,
-            roled,
-            &mut guide.effects,
-            labels,
-            stack,
-            aim.signal,
-            !aim.bit,
-        ),
+        Seen::ShutBeside(aim) => {
+            let other = Aim {
+                signal: aim.signal,
+                bit: !aim.bit,
+            };
+            after_closed(alloc, roled, &mut guide.effects, labels, stack, other)
+        }
+        Seen::Guess(aim) => hurry(alloc, roled, &mut guide.effects, labels, stack, aim),
         Seen::Nothing => {
             let wanted = best_aim(roled, guide, labels, stack)?;
-            split(alloc, roled, &mut guide.effects, labels, stack, &wanted)
+            decide(alloc, roled, &mut guide.effects, labels, stack, &wanted)
+        }
+    }
+}
+
+/// The path's end is closed: goes back.
+fn go_back(
+    alloc: Global,
+    effects: &mut Effects,
+    labels: &mut PairSim,
+    stack: &mut Vec<Side>,
+) -> Result<Step, AllocError>
+    requires { IsAtEnd labels.old.fault labels.old.netlist labels.old.holds labels.old stack.old.items }
+    ensures end { OnOk result (IsAtEnd labels.old.fault labels.old.netlist labels.old.holds labels.new stack.new.items) }
+    ensures step { IfOk result (IsBacktrackStep (NodeOf.Closed ∷ []) stack.old.items stack.new.items) }
+{
+    let done = closed_tree(alloc)?;
+    match climb(effects, labels, stack, done)? {
+        Some(nodes) => Ok(Step::Done(nodes)),
+        None => Ok(Step::On(true)),
+    }
+}
+
+/// A turn of the search. Where it came back to a side that wasn't looked at, that is looked at first.
+fn turn(
+    alloc: Global,
+    roled: &RoledCase,
+    guide: &mut Guide,
+    labels: &mut PairSim,
+    stack: &mut Vec<Side>,
+    is_seen: bool,
+) -> Result<Step, AllocError>
+    requires case { IsRoledCase roled.now }
+    requires may { MayTurn roled.now is_seen labels.old stack.old.items }
+    ensures { IfOk result (IsStepped roled.now stack.old.items labels.new stack.new.items) }
+{
+    if is_seen {
+        return take_turn(alloc, roled, guide, labels, stack);
+    }
+    match stand_at_end(roled, labels, stack) {
+        State::Test(point) => Ok(Step::Found(point)),
+        State::Blocked => go_back(alloc, &mut guide.effects, labels, stack),
+        State::Going => take_turn(alloc, roled, guide, labels, stack),
+    }
+}
+
+/// Whether the end of the path was looked at, where the search goes on; whether it came back there.
+fn is_end_seen(looks: bool, came_back: bool) -> bool
+    ensures { result ≡ (looks || not came_back) }
+{
+    looks || !came_back
+}
+
+/// The search from the path without decisions, where it may go on.
+fn search_on(
+    alloc: Global,
+    roled: &RoledCase,
+    guide: &mut Guide,
+    labels: &mut PairSim,
+    stack: &mut Vec<Side>,
+    limit: u32,
+) -> Result<End, AllocError>
+    requires case { IsRoledCase roled.now }
+    requires start { labels.old ≡ sim roled.now.case.core.now roled.now.case.fault roled.now.case.holds.now [] }
+    requires empty { stack.old.items ≡ [] }
+    requires going { IsGoing roled.now.case [] }
+    ensures end { IfOk result (IsEnd roled.now limit labels.new stack.new.items) }
+    ensures kept { OnOk result (AreOfCase roled.now.case labels.new) }
+{
+    let mut closed: u32 = 0;
+    let mut is_seen = true;
+    while closed < limit {
+        match turn(alloc, roled, guide, labels, stack, is_seen)? {
+            Step::Found(point) => return Ok(End::Met(point)),
+            Step::Done(nodes) => return Ok(End::AllClosed(nodes)),
+            Step::On(more) => {
+                closed += one_if(more);
+                is_seen = is_end_seen(roled.looks, more);
+            }
+        }
+    }
+    Ok(End::GivenUp)
+}
+
+/// The search from the path without decisions.
+fn search_from(
+    alloc: Global,
+    roled: &RoledCase,
+    guide: &mut Guide,
+    labels: &mut PairSim,
+    stack: &mut Vec<Side>,
+    limit: u32,
+) -> Result<End, AllocError>
+    requires case { IsRoledCase roled.now }
+    requires start { labels.old ≡ sim roled.now.case.core.now roled.now.case.fault roled.now.case.holds.now [] }
+    requires empty { stack.old.items ≡ [] }
+    requires some { 1 ≤ limit }
+    ensures end { IfOk result (IsEnd roled.now limit labels.new stack.new.items) }
+    ensures kept { OnOk result (AreOfCase roled.now.case labels.new) }
+{
+    match stand_at_end(roled, labels, stack) {
+        State::Test(point) => Ok(End::Met(point)),
+        State::Blocked => {
+            let nodes = closed_tree(alloc)?;
+            Ok(End::AllClosed(nodes))
+        }
+        State::Going => {
+            guide.begin();
+            search_on(alloc, roled, guide, labels, stack, limit)
         }
     }
 }
@@ -145,7 +318,7 @@ fn test_at(
     requires case { IsRoledCase roled.now }
     requires met { IsMetAt roled.now.case.fault roled.now.case.core.now roled.now.case.holds.now labels.now point }
     requires wants { IsReusableWantRoom roled.now.case.core.now wants.old }
-    ensures answer { (limit : ℕ) → IfOk result (IsAnswer roled.now.case limit) }
+    ensures answer { (limit : ℕ) → IfOk result (IsSettled roled.now.case limit) }
     ensures kept { OnOk result (IsKept roled.now.case labels.now wants.new) }
 {
     let cube = justified_cube(
@@ -161,37 +334,34 @@ fn test_at(
     Ok(Found::Test(cube, point))
 }
 
-/// The search from the path without decisions, where it may go on.
-fn search_on(
+/// A search whose tree is dropped where it gives up: a test, a tree without Open, or nothing.
+pub(crate) fn short_search(
     alloc: Global,
     roled: &RoledCase,
     guide: &mut Guide,
     labels: &mut PairSim,
     wants: &mut WantRoom,
     limit: u32,
-) -> Result<Found, AllocError>
+) -> Result<Option<Found>, AllocError>
     requires start { IsReady roled.now.case labels.old wants.old }
     requires case { IsRoledCase roled.now }
-    requires going { IsGoing roled.now.case [] }
-    ensures answer { IfOk result (IsAnswer roled.now.case limit) }
+    requires some { 1 ≤ limit }
+    ensures answer { IfOk result (λ o. IfSome o (IsSettled roled.now.case limit)) }
     ensures kept { OnOk result (IsKept roled.now.case labels.new wants.new) }
 {
     let mut stack = Vec::new(alloc);
-    let mut closed: u32 = 0;
-    while closed < limit {
-        match take_turn(alloc, roled, guide, labels, &mut stack)? {
-            Step::Found(point) => return test_at(alloc, roled, labels, point, wants),
-            Step::Done(nodes) => return Ok(Found::Closed(Tree::new(nodes))),
-            Step::On(more) => closed += one_if(more),
+    match search_from(alloc, roled, guide, labels, &mut stack, limit)? {
+        End::Met(point) => {
+            let found = test_at(alloc, roled, labels, point, wants)?;
+            Ok(Some(found))
         }
+        End::AllClosed(nodes) => Ok(Some(Found::Closed(Tree::new(nodes)))),
+        End::GivenUp => Ok(None),
     }
-    let nodes = tree_so_far(alloc, stack)?;
-    Ok(Found::Partial(Tree::new(nodes)))
 }
 
-/// The search from the path without decisions: a test, a tree without Open, or a tree with as many Closed as the limit.
-#[tactic(auto, using(crate::proofs::Steps::kept_before))]
-pub(crate) fn search_from(
+/// A search that looks at both sides of a decision: a test, a tree without Open, or a tree with as many Closed as the limit.
+pub(crate) fn whole_search(
     alloc: Global,
     roled: &RoledCase,
     guide: &mut Guide,
@@ -201,20 +371,18 @@ pub(crate) fn search_from(
 ) -> Result<Found, AllocError>
     requires start { IsReady roled.now.case labels.old wants.old }
     requires case { IsRoledCase roled.now }
+    requires looks { roled.now.looks ≡ true }
     requires some { 1 ≤ limit }
     ensures answer { IfOk result (IsAnswer roled.now.case limit) }
     ensures kept { OnOk result (IsKept roled.now.case labels.new wants.new) }
 {
-    roled.case.core.netlist().sound();
-    match labels.state() {
-        State::Test(point) => test_at(alloc, roled, labels, point, wants),
-        State::Blocked => {
-            let tree = closed_tree(alloc)?;
-            Ok(Found::Closed(Tree::new(tree)))
-        }
-        State::Going => {
-            guide.begin();
-            search_on(alloc, roled, guide, labels, wants, limit)
+    let mut stack = Vec::new(alloc);
+    match search_from(alloc, roled, guide, labels, &mut stack, limit)? {
+        End::Met(point) => test_at(alloc, roled, labels, point, wants),
+        End::AllClosed(nodes) => Ok(Found::Closed(Tree::new(nodes))),
+        End::GivenUp => {
+            let nodes = tree_so_far(alloc, stack)?;
+            Ok(Found::Partial(Tree::new(nodes)))
         }
     }
 }
