@@ -3,3 +3,5 @@ pub mod MarkLemmas
 pub mod NameLemmas
 pub mod GivenLemmas
 pub mod WholeLemmas
+pub mod OrderedLemmas
+pub mod OneOrder

@@ -1,8 +1,8 @@
 -- Marks on signals, one by one.
-use Rattle.std.proofs.Common.{◌≡◌, ◌≢◌, ℕ, suc, zero, ◌+◌, ◌<◌, Bool, true, false, List, [], ◌∷◌, ◌++◌, length, get_or, set, take, drop, replicate, refl, sym, ◌∙◌, ap, subst, inl, inr, take-append-drop, drop-cons}
+use Rattle.std.proofs.Common.{◌≡◌, ◌≢◌, ℕ, suc, zero, ◌+◌, ◌<◌, Bool, true, false, List, [], ◌∷◌, ◌++◌, length, get_or, set, take, drop, replicate, refl, sym, ◌∙◌, ap, subst, inl, inr, take-append-drop, drop-cons, arith}
 use Rattle.std.specs.List.{All, AllPairs, Contains}
 use Rattle.std.proofs.lemmas.Bool.{both_ways, cases_eq}
-use Rattle.std.proofs.lemmas.List.{get_or-set_same, get_or-set_other, take_more}
+use Rattle.std.proofs.lemmas.List.{get_or-set_same, get_or-set_other, length-take-le, take_more}
 use Rattle.std.proofs.lemmas.List.Elements.{All-nil, All-push, All-weaker, Contains-append_left, Contains-push}
 use Rattle.std.proofs.lemmas.List.Quantifiers.{all_pairs_push}
 use Rattle.cell_order.specs.Orders.{IsTwice}
@@ -57,13 +57,18 @@ module _ (xs : List ℕ) (k x : ℕ) (l : k < length xs) (is : x ≡ get_or xs k
   pub marked_more : (new : List Bool) → AreMarked (take k xs ++ x ∷ []) new → AreMarked (take (k + 1) xs) new
   marked_more new h = subst (λ done. AreMarked done new) (sym taken_more) h
 
-  pub stands_twice : (marks : List Bool) → AreMarked (take k xs) marks → AllPairs (λ y z. y ≢ z) (take k xs) → is_marked marks x ≡ true → IsTwice xs x
-  stands_twice marks m once here = record { before = take k xs; behind = drop (suc k) xs; order_is = cut_here; once = once; twice = m.only x here }
+  number_here : k + 1 ≡ length (take k xs) + 1
+  number_here = ap (λ j. j + 1) (sym (length-take-le k xs (omega (arith, l))))
+
+  pub stands_twice : (marks : List Bool) → AreMarked (take k xs) marks → AllPairs (λ y z. y ≢ z) (take k xs) → is_marked marks x ≡ true → IsTwice xs (k + 1)
+  stands_twice marks m once here =
+      record { before = take k xs; cell = x; behind = drop (suc k) xs; order_is = cut_here; once = once; twice = m.only x here; number_is = number_here }
 
   pub once_more : (marks : List Bool) → AreMarked (take k xs) marks → AllPairs (λ y z. y ≢ z) (take k xs) → is_marked marks x ≡ false → AllPairs (λ y z. y ≢ z) (take (k + 1) xs)
   once_more marks m once here = subst (AllPairs (λ y z. y ≢ z)) (sym taken_more)
       (all_pairs_push (λ y z. y ≢ z) (take k xs) x once
       (λ j d b same. both_ways (is_marked marks x) here (subst (λ y. is_marked marks y ≡ true) same (m.each j d b))))
 
-  pub first_unmarked : (marks : List Bool) → All (λ y. is_marked marks y ≡ true) (take k xs) → is_marked marks x ≡ false → IsFirstUnmarked xs marks x
-  first_unmarked marks h here = record { before = take k xs; behind = drop (suc k) xs; xs_are = cut_here; each = h; unmarked = here }
+  pub first_unmarked : (marks : List Bool) → All (λ y. is_marked marks y ≡ true) (take k xs) → is_marked marks x ≡ false → IsFirstUnmarked xs marks (k + 1)
+  first_unmarked marks h here =
+      record { before = take k xs; x = x; behind = drop (suc k) xs; xs_are = cut_here; each = h; unmarked = here; number_is = number_here }

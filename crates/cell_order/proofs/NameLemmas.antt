@@ -1,10 +1,10 @@
 -- Names one by one, and the cells that have them.
 use denote.Ref.{Bor}
-use Rattle.std.proofs.Common.{◌≡◌, ◌≢◌, ℕ, ◌+◌, ◌<◌, Bool, true, false, List, [], ◌∷◌, ◌++◌, map, length, get_or, take, drop, suc, refl, sym, ◌∙◌, ap, subst, inl, inr, append_assoc, append-nil, take-append-drop, drop-cons, arith}
+use Rattle.std.proofs.Common.{◌≡◌, ◌≢◌, ℕ, ◌+◌, ◌<◌, Bool, true, false, List, [], ◌∷◌, ◌++◌, map, length, get_or, take, drop, suc, refl, sym, ◌∙◌, ap, ap₂, subst, inl, inr, append_assoc, append-nil, take-append-drop, drop-cons, arith}
 use Rattle.std.specs.List.{All, Contains, flat_map}
 use Rattle.std.proofs.lemmas.Bool.{both_ways, cases_order}
-use Rattle.std.proofs.lemmas.List.{map_push, take_more}
-use Rattle.std.proofs.lemmas.List.Elements.{All-contains, All-push}
+use Rattle.std.proofs.lemmas.List.{length-map, length-take-le, map_push, take_more}
+use Rattle.std.proofs.lemmas.List.Elements.{All-contains, All-head, All-push, All-tail}
 use Rattle.statement.specs.Benches.{Text}
 use Rattle.statement.specs.Netlists.{Netlist, name_of, signals}
 use Rattle.netlist.specs.Conditions.{IsSound}
@@ -79,6 +79,18 @@ module _ (n : Netlist) (sound : IsSound n) where
     ]
   ]
 
+  -- cells of the same names are the same
+  pub same_cells : (a b : List ℕ) → All (Contains (cell_ids n)) a → All (Contains (cell_ids n)) b → map (name_of n) a ≡ map (name_of n) b → a ≡ b
+  same_cells [] [] h g e = refl
+  same_cells [] (y ∷ b) h g e = cc
+  same_cells (x ∷ a) [] h g e = cc
+  same_cells (x ∷ a) (y ∷ b) h g e =
+      let here : (z : ℕ) → Contains (cell_ids n) z → z < length (signals n) = λ z c. All-contains (λ w. w < length (signals n)) (cell_ids n) z cell_below c in
+      let first : name_of n x ≡ name_of n y = cc in
+      let rest : map (name_of n) a ≡ map (name_of n) b = cc in
+      ap₂ (λ z (zs : List ℕ). z ∷ zs) (same_name x y (here x (All-head (Contains (cell_ids n)) x a h)) (here y (All-head (Contains (cell_ids n)) y b g)) first)
+      (same_cells a b (All-tail (Contains (cell_ids n)) x a h) (All-tail (Contains (cell_ids n)) y b g) rest)
+
   pub no_cell : (name : Text) (marks : List Bool) (y : ℕ) → AreMarked (cell_ids n) marks → y < length (signals n) → name_of n y ≡ name → is_marked marks y ≡ false
       → All (λ x. name_of n x ≢ name) (cell_ids n)
   no_cell name marks y m l is off = All-from_contains (λ x. name_of n x ≢ name) (cell_ids n) (λ x c e.
@@ -87,9 +99,10 @@ module _ (n : Netlist) (sound : IsSound n) where
       both_ways (is_marked marks y) off (subst (λ z. is_marked marks z ≡ true) same (All-contains (λ z. is_marked marks z ≡ true) (cell_ids n) x m.each c)))
 
 module _ (n : Netlist) (words : List (Bor Text)) (k : ℕ) (word : Bor Text) (l : k < length words) (is : word ≡ get_or words k word) (order : List ℕ) (are : AreCells n (texts_in (take k words)) order) where
-  pub stranger : All (λ x. name_of n x ≢ word.now) (cell_ids n) → IsStranger n (texts_in words) word.now
+  pub stranger : All (λ x. name_of n x ≢ word.now) (cell_ids n) → IsStranger n (texts_in words) (k + 1)
   stranger none = record {
     before = texts_in (take k words);
+    name = word.now;
     behind = texts_in (drop (suc k) words);
     order = order;
     names_are =
@@ -98,6 +111,7 @@ module _ (n : Netlist) (words : List (Bor Text)) (k : ℕ) (word : Bor Text) (l 
         ap texts_in cut ∙ map_append (take k words) (word ∷ drop (suc k) words);
     are = are;
     stranger = none;
+    number_is = ap (λ j. j + 1) (sym (length-map (take k words) (λ (w : Bor Text). w.now) ∙ length-take-le k words (omega (arith, l))));
   } where
     map_append : (xs ys : List (Bor Text)) → texts_in (xs ++ ys) ≡ texts_in xs ++ texts_in ys
     map_append [] ys = refl

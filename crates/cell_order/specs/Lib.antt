@@ -1,3 +1,4 @@
 pub mod Orders
+pub mod Ordered
 pub mod Given
 pub mod inner

@@ -1,5 +1,5 @@
 -- Orders of a netlist's cells, as text: a line for each chain, the names of its cells from scan input to scan output.
-use Rattle.std.specs.Prelude.{ℕ, ◌≡◌, ◌≢◌, ◌≤◌, ◌<◌, ◌==◌, ◌||◌, ◌&&◌, ◌++◌, ◌∷◌, ⊤, Bool, true, false, List, [], length, map, nat_eq, nat_lt}
+use Rattle.std.specs.Prelude.{ℕ, ◌≡◌, ◌≢◌, ◌≤◌, ◌<◌, ◌==◌, ◌||◌, ◌&&◌, ◌+◌, ◌++◌, ◌∷◌, ⊤, Bool, true, false, List, [], length, map, nat_eq, nat_lt}
 use Rattle.std.specs.List.{All, AllPairs, Contains, ends_with, flat_map, list_all, slice_split}
 use Rattle.plain_text.specs.Limits.{most_chains}
 use Rattle.statement.specs.Netlists.{Netlist, is_name_byte, name_of}
@@ -8,7 +8,9 @@ use Rattle.bench_text.specs.Bytes.{lines}
 use Rattle.scan_insert.specs.Chains.{lengths_of}
 use Rattle.scan_insert.specs.Scanned.{cell_ids}
 use Rattle.cell_order.specs.declared.refusal.OrderRefusal.{OrderRefusal}
-use Rattle.cell_order.specs.declared.refusal.OrderRefusal.TheVariants.{NotOrder, NotCell, Twice, LeftOut, TooMany, Uneven, NoMemory}
+use Rattle.cell_order.specs.declared.refusal.OrderRefusal.TheVariants.{NotOrder, NotCell, Twice, LeftOut, TooMany, Uneven}
+use Rattle.cell_order.specs.declared.refusal.OrderFault.{OrderFault}
+use Rattle.cell_order.specs.declared.refusal.OrderFault.TheVariants.{Refused, NoMemory}
 
 -- ---- the grammar
 
@@ -57,39 +59,44 @@ pub record IsOrder (n : Netlist) (text : Text) (order : List ℕ) (chains : ℕ)
   pub even : AreEven text order
   pub count : chains ≡ length (chains_in text)
 
--- ---- refusals
+-- ---- refusals; names and cells are counted from 1
 
--- the first of the names that is no cell's
-pub record IsStranger (n : Netlist) (names : List Text) (name : Text) : Type 0 where
+-- the first of the names that is no cell's has this number
+pub record IsStranger (n : Netlist) (names : List Text) (number : ℕ) : Type 0 where
   pub before : List Text
+  pub name : Text
   pub behind : List Text
   pub order : List ℕ
   pub names_are : names ≡ before ++ name ∷ behind
   pub are : AreCells n before order
   pub stranger : All (λ x. name_of n x ≢ name) (cell_ids n)
+  pub number_is : number ≡ length before + 1
 
--- the first of the cells that stands for the second time
-pub record IsTwice (order : List ℕ) (cell : ℕ) : Type 0 where
+-- the first of the cells that stands for the second time has this number
+pub record IsTwice (order : List ℕ) (number : ℕ) : Type 0 where
   pub before : List ℕ
+  pub cell : ℕ
   pub behind : List ℕ
   pub order_is : order ≡ before ++ cell ∷ behind
   pub once : AllPairs (λ x y. x ≢ y) before
   pub twice : Contains before cell
+  pub number_is : number ≡ length before + 1
 
--- the netlist's first cell that has no place
-pub record IsLeftOut (n : Netlist) (order : List ℕ) (cell : ℕ) : Type 0 where
+-- the netlist's first cell that has no place has this number among its cells
+pub record IsLeftOut (n : Netlist) (order : List ℕ) (number : ℕ) : Type 0 where
   pub before : List ℕ
+  pub cell : ℕ
   pub behind : List ℕ
   pub cells_are : cell_ids n ≡ before ++ cell ∷ behind
   pub placed : All (Contains order) before
   pub left : ¬ Contains order cell
+  pub number_is : number ≡ length before + 1
 
 -- Why these are not the names of all cells, each once: a name that is no cell's first, then a cell that stands twice, then one that is left out.
 abbrev pub AreRefused : Netlist → List Text → OrderRefusal → Type 0
-AreRefused n names (NotCell name) = IsStranger n names name.now
-AreRefused n names (Twice cell) = (order : List ℕ) × AreCells n names order × IsTwice order cell
-AreRefused n names (LeftOut cell) = (order : List ℕ) × AreCells n names order × AllPairs (λ x y. x ≢ y) order × IsLeftOut n order cell
-AreRefused n names NoMemory = ⊤
+AreRefused n names (NotCell number) = IsStranger n names number
+AreRefused n names (Twice number) = (order : List ℕ) × AreCells n names order × IsTwice order number
+AreRefused n names (LeftOut number) = (order : List ℕ) × AreCells n names order × AllPairs (λ x y. x ≢ y) order × IsLeftOut n order number
 AreRefused n names _ = ⊥
 
 -- Why a text is no order: its form first, then its names, then how many chains there are, and how long they are.
@@ -98,5 +105,9 @@ IsRefused n text NotOrder = is_order_text text ≡ false
 IsRefused n text TooMany = (is_order_text text ≡ true) × (order : List ℕ) × AreAllCells n (names_in text) order × (most_chains < length (chains_in text))
 IsRefused n text Uneven =
     (is_order_text text ≡ true) × (order : List ℕ) × AreAllCells n (names_in text) order × (length (chains_in text) ≤ most_chains) × ¬ AreEven text order
-IsRefused n text NoMemory = ⊤
 IsRefused n text r = (is_order_text text ≡ true) × AreRefused n (names_in text) r
+
+-- the same, where memory may be refused
+abbrev pub IsRefusedBy : (OrderRefusal → Type 0) → OrderFault → Type 0
+IsRefusedBy IsFor (Refused r) = IsFor r
+IsRefusedBy IsFor NoMemory = ⊤

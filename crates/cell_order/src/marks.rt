@@ -47,33 +47,33 @@ pub(crate) fn marks_of(
     Ok(marks)
 }
 
-/// The first that stands for the second time.
+/// The number, from 1, of the first that stands for the second time.
 pub(crate) fn first_twice(
     alloc: Global,
     bound: usize,
     signals: &[SignalId],
-) -> Result<Option<SignalId>, AllocError>
+) -> Result<Option<usize>, AllocError>
     requires { All (λ x. x < bound) signals.now }
     ensures { IfOk result (λ first. MatchOption first (AllPairs (λ x y. x ≢ y) signals.now) (IsTwice signals.now)) }
 {
     let mut marks = no_marks(alloc, bound)?;
-    for signal in signals {
+    for (place, signal) in signals.iter().enumerate() {
         if is_marked(marks.as_slice(), *signal) {
-            return Ok(Some(*signal));
+            return Ok(Some(place + 1));
         }
         mark(&mut marks, *signal);
     }
     Ok(None)
 }
 
-/// The first that isn't marked.
-pub(crate) fn first_unmarked(signals: &[SignalId], marks: &[bool]) -> Option<SignalId>
+/// The number, from 1, of the first that isn't marked.
+pub(crate) fn first_unmarked(signals: &[SignalId], marks: &[bool]) -> Option<usize>
     requires { All (λ x. x < length marks.now) signals.now }
     ensures { MatchOption result (All (λ x. is_marked marks.now x ≡ true) signals.now) (IsFirstUnmarked signals.now marks.now) }
 {
-    for signal in signals {
+    for (place, signal) in signals.iter().enumerate() {
         if !is_marked(marks, *signal) {
-            return Some(*signal);
+            return Some(place + 1);
         }
     }
     None

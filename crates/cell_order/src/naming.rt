@@ -4,13 +4,13 @@ ghost use Rattle.std.specs.List.{All, Contains};
 ghost use Rattle.statement.specs.Netlists.{name_of};
 ghost use Rattle.netlist.specs.Netlist.{signal_count};
 ghost use Rattle.scan_insert.specs.Scanned.{cell_ids};
-ghost use Rattle.cell_order.specs.Orders.{AreCells, words_of};
+ghost use Rattle.cell_order.specs.Orders.{AreCells, IsRefusedBy, words_of};
 ghost use Rattle.cell_order.specs.inner.Reads.{AreMarked, HasNames, texts_in};
 ghost use Rattle.cell_order.specs.inner.Refusing.{HasStranger};
 
 use crate::grammar::first_line;
 use crate::marks::is_marked;
-use crate::refusal::OrderRefusal;
+use crate::refusal::{OrderFault, OrderRefusal};
 use name_index::NameIndex;
 use netlist::SignalId;
 use plain_text::split_at;
@@ -70,23 +70,23 @@ fn cell_named(names: &NameIndex, is_cell: &[bool], name: &[u8]) -> Option<Signal
 }
 
 /// The cells of these names, or the first name that is no cell's.
-pub(crate) fn cells_named<'a>(
+pub(crate) fn cells_named(
     alloc: Global,
     names: &NameIndex,
     is_cell: &[bool],
-    texts: &[&'a [u8]],
-) -> Result<Vec<SignalId>, OrderRefusal<'a>>
+    texts: &[&[u8]],
+) -> Result<Vec<SignalId>, OrderFault>
     requires size { length is_cell.now ≡ signal_count names.now }
     requires cells { AreMarked (cell_ids names.now) is_cell.now }
-    ensures { MatchResult result (λ order. AreCells names.now (texts_in texts.now) order.items) (HasStranger names.now (texts_in texts.now)) }
+    ensures { MatchResult result (λ order. AreCells names.now (texts_in texts.now) order.items) (IsRefusedBy (HasStranger names.now (texts_in texts.now))) }
 {
     let mut order = Vec::new(alloc);
-    for text in texts {
+    for (place, text) in texts.iter().enumerate() {
         let Some(cell) = cell_named(names, is_cell, text) else {
-            return Err(OrderRefusal::NotCell(text));
+            return Err(OrderFault::Refused(OrderRefusal::NotCell(place + 1)));
         };
         let Ok(()) = order.push(cell) else {
-            return Err(OrderRefusal::NoMemory);
+            return Err(OrderFault::NoMemory);
         };
     }
     Ok(order)

@@ -5,13 +5,13 @@ ghost use Rattle.statement.specs.Netlists.{signals};
 ghost use Rattle.scan_insert.specs.Chains.{lengths_of};
 ghost use Rattle.scan_insert.specs.Scanned.{cell_ids};
 ghost use Rattle.cell_order.specs.inner.Refusing.{IsComplete, IsIncomplete};
-ghost use Rattle.cell_order.specs.Orders.{AreAllCells, AreRefused, IsOrder, IsRefused};
+ghost use Rattle.cell_order.specs.Orders.{AreAllCells, AreRefused, IsOrder, IsRefused, IsRefusedBy};
 ghost use Rattle.cell_order.specs.inner.Reads.{texts_in};
 
 use crate::grammar::is_order_text;
 use crate::marks::{first_twice, first_unmarked, marks_of};
 use crate::naming::{cells_named, said_in};
-use crate::refusal::OrderRefusal;
+use crate::refusal::{OrderFault, OrderRefusal};
 use name_index::NameIndex;
 use netlist::{Netlist, SignalId};
 use plain_text::MOST_CHAINS;
@@ -52,78 +52,70 @@ fn are_even(lengths: &[usize], cells: usize) -> bool
 }
 
 /// The cells, where each of the netlist's stands once.
-fn complete<'a>(
+fn complete(
     alloc: Global,
     netlist: &Netlist,
     bound: usize,
     order: Vec<SignalId>,
-) -> Result<Vec<SignalId>, OrderRefusal<'a>>
+) -> Result<Vec<SignalId>, OrderFault>
     requires bound { bound ≡ length (signals netlist.now) }
     requires cells { All (Contains (cell_ids netlist.now)) order.items }
-    ensures { MatchResult result (λ whole. (whole ≡ order) × IsComplete netlist.now order.items) (IsIncomplete netlist.now order.items) }
+    ensures { MatchResult result (λ whole. (whole ≡ order) × IsComplete netlist.now order.items) (IsRefusedBy (IsIncomplete netlist.now order.items)) }
 {
     netlist.sound();
     match first_twice(alloc, bound, order.as_slice()) {
         Ok(None) => {}
-        Ok(Some(cell)) => return Err(OrderRefusal::Twice(cell)),
-        Err(_) => return Err(OrderRefusal::NoMemory),
+        Ok(Some(number)) => return Err(OrderFault::Refused(OrderRefusal::Twice(number))),
+        Err(_) => return Err(OrderFault::NoMemory),
     }
     let Ok(marks) = marks_of(alloc, bound, order.as_slice()) else {
-        return Err(OrderRefusal::NoMemory);
+        return Err(OrderFault::NoMemory);
     };
     match first_unmarked(netlist.cells(), marks.as_slice()) {
-        Some(cell) => Err(OrderRefusal::LeftOut(cell)),
+        Some(number) => Err(OrderFault::Refused(OrderRefusal::LeftOut(number))),
         None => Ok(order),
     }
 }
 
 /// The cells of these names, all of the netlist's, each once.
-fn all_cells<'a>(
-    alloc: Global,
-    netlist: &Netlist,
-    texts: &[&'a [u8]],
-) -> Result<Vec<SignalId>, OrderRefusal<'a>>
-    ensures { MatchResult result (λ order. AreAllCells netlist.now (texts_in texts.now) order.items) (AreRefused netlist.now (texts_in texts.now)) }
+fn all_cells(alloc: Global, netlist: &Netlist, texts: &[&[u8]]) -> Result<Vec<SignalId>, OrderFault>
+    ensures { MatchResult result (λ order. AreAllCells netlist.now (texts_in texts.now) order.items) (IsRefusedBy (AreRefused netlist.now (texts_in texts.now))) }
 {
     netlist.sound();
     let bound = netlist.inputs().len() + netlist.definitions().len();
     let Ok(names) = NameIndex::of(alloc, netlist) else {
-        return Err(OrderRefusal::NoMemory);
+        return Err(OrderFault::NoMemory);
     };
     let Ok(is_cell) = marks_of(alloc, bound, netlist.cells()) else {
-        return Err(OrderRefusal::NoMemory);
+        return Err(OrderFault::NoMemory);
     };
     let order = match cells_named(alloc, &names, is_cell.as_slice(), texts) {
         Ok(order) => order,
-        Err(refusal) => return Err(refusal),
+        Err(fault) => return Err(fault),
     };
     complete(alloc, netlist, bound, order)
 }
 
 /// The order that a text says.
-pub fn read_order<'a>(
-    alloc: Global,
-    netlist: &Netlist,
-    text: &'a [u8],
-) -> Result<Order, OrderRefusal<'a>>
-    ensures { MatchResult result (λ order. IsOrder netlist.now text.now order.cells.items order.chains) (IsRefused netlist.now text.now) }
+pub fn read_order(alloc: Global, netlist: &Netlist, text: &[u8]) -> Result<Order, OrderFault>
+    ensures { MatchResult result (λ order. IsOrder netlist.now text.now order.cells.items order.chains) (IsRefusedBy (IsRefused netlist.now text.now)) }
 {
     if !is_order_text(text) {
-        return Err(OrderRefusal::NotOrder);
+        return Err(OrderFault::Refused(OrderRefusal::NotOrder));
     }
     let Ok(said) = said_in(alloc, text) else {
-        return Err(OrderRefusal::NoMemory);
+        return Err(OrderFault::NoMemory);
     };
     let cells = match all_cells(alloc, netlist, said.names.as_slice()) {
         Ok(cells) => cells,
-        Err(refusal) => return Err(refusal),
+        Err(fault) => return Err(fault),
     };
     let chains = said.lengths.len();
     if chains > MOST_CHAINS as usize {
-        return Err(OrderRefusal::TooMany);
+        return Err(OrderFault::Refused(OrderRefusal::TooMany));
     }
     if chains > 0 && !are_even(said.lengths.as_slice(), cells.len()) {
-        return Err(OrderRefusal::Uneven);
+        return Err(OrderFault::Refused(OrderRefusal::Uneven));
     }
     Ok(Order { cells, chains })
 }

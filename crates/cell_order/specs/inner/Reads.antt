@@ -1,6 +1,6 @@
 -- What is read of an order, and marks on signals.
 use denote.Ref.{Bor}
-use Rattle.std.specs.Prelude.{ℕ, ◌≡◌, ◌++◌, ◌∷◌, Bool, true, false, List, length, map, slice_index_or}
+use Rattle.std.specs.Prelude.{ℕ, ◌≡◌, ◌+◌, ◌++◌, ◌∷◌, Bool, true, false, List, length, map, slice_index_or}
 use Rattle.std.specs.List.{All, Contains}
 use Rattle.statement.specs.Benches.{Text}
 use Rattle.cell_order.specs.Orders.{chains_in, names_in}
@@ -23,10 +23,12 @@ pub record AreMarked (xs : List ℕ) (marks : List Bool) : Type 0 where
   pub each : All (λ x. is_marked marks x ≡ true) xs
   pub only : (x : ℕ) → is_marked marks x ≡ true → Contains xs x
 
--- the first that isn't marked
-pub record IsFirstUnmarked (xs : List ℕ) (marks : List Bool) (x : ℕ) : Type 0 where
+-- the first that isn't marked has this number, counted from 1
+pub record IsFirstUnmarked (xs : List ℕ) (marks : List Bool) (number : ℕ) : Type 0 where
   pub before : List ℕ
+  pub x : ℕ
   pub behind : List ℕ
   pub xs_are : xs ≡ before ++ x ∷ behind
   pub each : All (λ y. is_marked marks y ≡ true) before
   pub unmarked : is_marked marks x ≡ false
+  pub number_is : number ≡ length before + 1

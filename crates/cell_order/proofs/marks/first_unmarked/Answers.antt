@@ -7,19 +7,19 @@ use Rattle.cell_order.proofs.marks.first_unmarked.Goals as goal
 
 pub is_marked-requires : goal.is_marked-requires
 is_marked-requires c =
-    below_here c.args.signals.now c.loop-signal.signal-index c.signal-item.result c.loop-signal-test.true c.signal-item.is (length c.args.marks.now) c.requires
+    below_here c.args.signals.now c.loop-place.place c.signal-item.result c.loop-place-test.true c.signal-item.is (length c.args.marks.now) c.requires
 
 pub returns-then-not-is_marked : goal.returns-then-not-is_marked
 returns-then-not-is_marked c =
-    first_unmarked c.args.signals.now c.loop-signal.signal-index c.signal-item.result c.loop-signal-test.true c.signal-item.is c.args.marks.now c.loop-signal.invariant
+    first_unmarked c.args.signals.now c.loop-place.place c.signal-item.result c.loop-place-test.true c.signal-item.is c.args.marks.now c.loop-place.invariant
     (sym c.is_marked.ensures ∙ c.if-not-is_marked.true)
 
-pub loop-signal-preserved : goal.loop-signal-preserved
-loop-signal-preserved c =
-    all_more c.args.signals.now c.loop-signal.signal-index c.signal-item.result c.loop-signal-test.true c.signal-item.is (λ x. is_marked c.args.marks.now x ≡ true) c.loop-signal.invariant
+pub loop-place-preserved : goal.loop-place-preserved
+loop-place-preserved c =
+    all_more c.args.signals.now c.loop-place.place c.signal-item.result c.loop-place-test.true c.signal-item.is (λ x. is_marked c.args.marks.now x ≡ true) c.loop-place.invariant
     (sym c.is_marked.ensures ∙ c.if-not-is_marked.false)
 
 pub returns : goal.returns
 returns c =
-    let last = c.loop-signal-test.false in
-    subst (All (λ x. is_marked c.args.marks.now x ≡ true)) (take_all c.loop-signal.signal-index c.args.signals.now (omega arith)) c.loop-signal.invariant
+    let last = c.loop-place-test.false in
+    subst (All (λ x. is_marked c.args.marks.now x ≡ true)) (take_all c.loop-place.place c.args.signals.now (omega arith)) c.loop-place.invariant

@@ -12,15 +12,15 @@ pub returns-in_default : goal.returns-in_default
 unfolding none
 returns-in_default c =
     let texts = c.args.texts.now in
-    let k = c.loop-text.text-index in
+    let k = c.loop-place.place in
     let text = get_or texts k none in
-    stranger c.args.names.now texts k text c.loop-text-test.true (get_or_default texts k none text c.loop-text-test.true) c.loop-text.order.items c.loop-text.invariant c.in_default.ensures
+    stranger c.args.names.now texts k text c.loop-place-test.true (get_or_default texts k none text c.loop-place-test.true) c.loop-place.order.items c.loop-place.invariant c.in_default.ensures
 
-pub loop-text-preserved : goal.loop-text-preserved
+pub loop-place-preserved : goal.loop-place-preserved
 unfolding none
-loop-text-preserved c =
+loop-place-preserved c =
     let texts = c.args.texts.now in
-    let k = c.loop-text.text-index in
+    let k = c.loop-place.place in
     let text = get_or texts k none in
-    cells_more c.args.names.now texts k text c.loop-text-test.true (get_or_default texts k none text c.loop-text-test.true) c.loop-text.order.items c.loop-text.invariant c.in-Some.cell
+    cells_more c.args.names.now texts k text c.loop-place-test.true (get_or_default texts k none text c.loop-place-test.true) c.loop-place.order.items c.loop-place.invariant c.in-Some.cell
     c.push.new.self.items c.in-Some.ensures.0 c.in-Some.ensures.1 c.in-Ok.ensures.items

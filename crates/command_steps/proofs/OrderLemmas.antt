@@ -1,0 +1,74 @@
+-- What is due of texts with an order, step by step.
+use Rattle.std.proofs.Common.{◌≡◌, ◌∙◌, inl, inr, ℕ, List, [], ◌∷◌, Option, Some, None, Result, Ok, Err, refl, sym, subst, ap, length}
+use Rattle.statement.specs.Benches.{Text}
+use Rattle.statement.specs.Netlists.{Netlist}
+use Rattle.netlist.specs.Conditions.{IsSound}
+use Rattle.bench_text.specs.declared.refusal.Names.TheVariants.{Design}
+use Rattle.cell_order.specs.Orders.{chains_in}
+use Rattle.cell_order.specs.Ordered.{ordered_text}
+use Rattle.cell_order.specs.declared.refusal.OrderRefusal.{OrderRefusal}
+use Rattle.cell_order.proofs.OneOrder.{one_cause, one_order, order_or_cause}
+use Rattle.commands.specs.Due.{Due}
+use Rattle.commands.specs.Laws.{IsExclusive}
+use Rattle.commands.specs.Names.{texts_of}
+use Rattle.commands.specs.Worked.{IsWorked}
+use Rattle.commands.specs.declared.product.Product.{Product}
+use Rattle.commands.specs.declared.product.Stop.{Stop}
+use Rattle.commands.specs.declared.product.Stop.TheVariants as stop
+use Rattle.command_steps.specs.Ordering.{IsOrdered, cell_order, chains_asked, ordered_due}
+use Rattle.command_steps.specs.Steps.{◌>>=◌, netlist}
+use Rattle.command_steps.specs.declared.ordering.Ordered.{Ordered}
+use Rattle.command_steps.specs.declared.refusal.Refusal.{Refusal}
+use Rattle.command_steps.specs.declared.refusal.Refusal.TheVariants as refusal
+use Rattle.command_steps.proofs.Single.{IsSingle, netlist_single, then_one, then_one_where}
+use Rattle.command_steps.proofs.StepLemmas.{then_worked}
+
+-- a text is one order, or is refused for one cause
+pub order_single : (n : Netlist) → IsSound n → (text : Text) → IsSingle (cell_order n text)
+order_single n sound text = record {
+  value = λ a b p q. one_order n sound text a b (length (chains_in text)) (length (chains_in text)) p q;
+  refusal = λ r s p q. p.2 ∙ (ap (λ (c : OrderRefusal). refusal.Order c) (one_cause n sound text p.0 q.0 p.1 q.1) ∙ sym q.2);
+  apart = λ a r p q. order_or_cause n sound text a (length (chains_in text)) q.0 p q.1;
+}
+
+module _ (due : ℕ → List Text → Due Refusal → Type 0) where
+  -- what is due behind the netlist
+  abbrev behind : Text → List Text → Netlist → Due Refusal → Type 0
+  behind text texts n = cell_order n text >>= λ order. due (chains_asked text) (ordered_text n order ∷ texts)
+
+  pub ordered_exclusive : ((chains : ℕ) → IsExclusive (due chains)) → (order : Option Text) (chains : ℕ) → IsExclusive (ordered_due due order chains)
+  ordered_exclusive each None chains texts c d p q = each chains texts c d p q
+  ordered_exclusive each (Some name) chains [] c d p q = absurd p
+  ordered_exclusive each (Some name) chains (net ∷ []) c d p q = absurd p
+  ordered_exclusive each (Some name) chains (net ∷ text ∷ texts) c d p q =
+      then_one_where (netlist Design net) (behind text texts) (netlist_single Design net)
+      (λ n is. then_one (cell_order n text) (λ order. due (chains_asked text) (ordered_text n order ∷ texts)) (order_single n is.1 text)
+      (λ order. each (chains_asked text) (ordered_text n order ∷ texts))) c d p q
+
+  module _ (count : ℕ) where
+    same_worked : (i j : ℕ) (these those : List Text) (r : Result Product (Stop Refusal)) → i ≡ j → these ≡ those → IsWorked (due i these) count r → IsWorked (due j those) count r
+    same_worked i j these those r e is w = subst (λ (ts : List Text). IsWorked (due j ts) count r) is (subst (λ k. IsWorked (due k these) count r) e w)
+
+    -- of texts that were put in order, what is due of the texts
+    pub ordered_worked : (order : Option Text) (chains : ℕ) (texts : List Text) (o : Ordered) (r : Result Product (Stop Refusal)) → IsOrdered order chains texts (Ok o)
+        → IsWorked (due o.chains (texts_of o.texts.items)) count r → IsWorked (ordered_due due order chains texts) count r
+    ordered_worked None chains texts o r is w = same_worked o.chains chains (texts_of o.texts.items) texts r is.0 is.1 w
+    ordered_worked (Some name) chains [] o r is w = absurd is
+    ordered_worked (Some name) chains (net ∷ []) o r is w = absurd is
+    ordered_worked (Some name) chains (net ∷ text ∷ texts) o r is w =
+        then_worked (netlist Design net) (behind text texts) count is.0 r is.1
+        (then_worked (cell_order is.0 text) (λ order. due (chains_asked text) (ordered_text is.0 order ∷ texts)) count is.2 r is.3
+        (same_worked o.chains (chains_asked text) (texts_of o.texts.items) (ordered_text is.0 is.2 ∷ texts) r is.4 is.5 w))
+
+    -- none were
+    pub ordered_stopped : (order : Option Text) (chains : ℕ) (texts : List Text) (s : Stop Refusal) → IsOrdered order chains texts (Err s)
+        → IsWorked (ordered_due due order chains texts) count (Err s)
+    ordered_stopped None chains texts (stop.Refused r) is = absurd is
+    ordered_stopped None chains texts stop.NoMemory is = tt
+    ordered_stopped (Some name) chains [] (stop.Refused r) is = absurd is
+    ordered_stopped (Some name) chains (net ∷ []) (stop.Refused r) is = absurd is
+    ordered_stopped (Some name) chains (net ∷ text ∷ texts) (stop.Refused r) is = elim is as (λ _. IsWorked (ordered_due due (Some name) chains (net ∷ text ∷ texts)) count (Err (stop.Refused r))) [
+      | inl none ↦ inr (r, none, refl)
+      | inr some ↦ inl (some.0, some.1, inr (r, some.2, refl))
+    ]
+    ordered_stopped (Some name) chains texts stop.NoMemory is = tt
