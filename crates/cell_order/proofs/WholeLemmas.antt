@@ -25,7 +25,7 @@ left_out n order xs marks number e m u = record {
   behind = u.behind;
   cells_are = sym e ∙ u.xs_are;
   placed = all_marked u.before order marks m u.each;
-  left = λ c. both_ways (is_marked marks cell) u.unmarked (All-contains (λ y. is_marked marks y ≡ true) order u.x m.each c);
+  left = λ c. both_ways (is_marked marks u.x) u.unmarked (All-contains (λ y. is_marked marks y ≡ true) order u.x m.each c);
   number_is = u.number_is;
 }
 

@@ -22,13 +22,13 @@ first_unmarked-requires c =
 pub returns-in-Some : goal.returns-in-Some
 returns-in-Some c = (
   subst (AllPairs (λ x y. x ≢ y)) c.as_slice.ensures.value (rw c.in-Ok-None.field-0-is at c.in-Ok-None.ensures),
-  left_out c.args.netlist.now c.args.order.items c.cells.result.now c.in-Ok.marks.items c.in-Some.cell c.cells.ensures
+  left_out c.args.netlist.now c.args.order.items c.cells.result.now c.in-Ok.marks.items c.in-Some.number c.cells.ensures
       (subst (λ (done : List ℕ). AreMarked done c.in-Ok.marks.items) c.as_slice-2.ensures.value c.in-Ok.ensures.marks)
-      (subst (λ (ms : List Bool). IsFirstUnmarked c.cells.result.now ms c.in-Some.cell) c.as_slice-3.ensures.value c.in-Some.ensures),
+      (subst (λ (ms : List Bool). IsFirstUnmarked c.cells.result.now ms c.in-Some.number) c.as_slice-3.ensures.value c.in-Some.ensures),
 )
 
-pub returns : goal.returns
-returns c = (
+pub returns-in-None : goal.returns-in-None
+returns-in-None c = (
   refl,
   record {
     once = subst (AllPairs (λ x y. x ≢ y)) c.as_slice.ensures.value (rw c.in-Ok-None.field-0-is at c.in-Ok-None.ensures);
