@@ -126,7 +126,10 @@ fn written_over<'a>(
 {
     match request {
         Request::Scan {
-            net, out, order, ..
+            net,
+            out,
+            order,
+            ..
         } => {
             let reads = scan_reads(alloc, net, *order)?;
             Ok(first_among(reads.as_slice(), &[FileName::of(out)]))

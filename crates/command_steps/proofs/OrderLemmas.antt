@@ -1,13 +1,20 @@
 -- What is due of texts with an order, step by step.
-use Rattle.std.proofs.Common.{◌≡◌, ◌∙◌, inl, inr, ℕ, List, [], ◌∷◌, Option, Some, None, Result, Ok, Err, refl, sym, subst, ap, length}
+use Rattle.std.proofs.Common.{◌≡◌, ◌∙◌, ◌≤◌, ◌+◌, inl, inr, ℕ, List, [], ◌∷◌, Option, Some, None, Result, Ok, Err, Vec, refl, sym, subst, ap, arith, get_or, length}
+use Rattle.std.specs.Prelude.{max}
+use Rattle.std.specs.List.{All}
+use Rattle.std.specs.Option.{option_to_list}
+use Rattle.std.specs.declared.alloc.Global.{Global}
+use Rattle.std.proofs.lemmas.List.Elements.{All-head}
 use Rattle.statement.specs.Benches.{Text}
 use Rattle.statement.specs.Netlists.{Netlist}
 use Rattle.netlist.specs.Conditions.{IsSound}
 use Rattle.bench_text.specs.declared.refusal.Names.TheVariants.{Design}
-use Rattle.cell_order.specs.Orders.{chains_in}
+use Rattle.cell_order.specs.Orders.{IsOrder, chains_in}
 use Rattle.cell_order.specs.Ordered.{ordered_text}
+use Rattle.cell_order.specs.declared.reading.Order.{Order}
 use Rattle.cell_order.specs.declared.refusal.OrderRefusal.{OrderRefusal}
 use Rattle.cell_order.proofs.OneOrder.{one_cause, one_order, order_or_cause}
+use Rattle.commands.specs.Contents.{most_bytes}
 use Rattle.commands.specs.Due.{Due}
 use Rattle.commands.specs.Laws.{IsExclusive}
 use Rattle.commands.specs.Names.{texts_of}
@@ -15,6 +22,9 @@ use Rattle.commands.specs.Worked.{IsWorked}
 use Rattle.commands.specs.declared.product.Product.{Product}
 use Rattle.commands.specs.declared.product.Stop.{Stop}
 use Rattle.commands.specs.declared.product.Stop.TheVariants as stop
+use Rattle.command_steps.specs.Answers.{Answers}
+use Rattle.command_steps.specs.inner.Placed.{OrdersNetlist, OrdersText, ReadsOrder}
+use Rattle.command_steps.specs.declared.ordering.OrderedNet.{OrderedNet}
 use Rattle.command_steps.specs.Ordering.{IsOrdered, cell_order, chains_asked, ordered_due}
 use Rattle.command_steps.specs.Steps.{◌>>=◌, netlist}
 use Rattle.command_steps.specs.declared.ordering.Ordered.{Ordered}
@@ -72,3 +82,39 @@ module _ (due : ℕ → List Text → Due Refusal → Type 0) where
       | inr some ↦ inl (some.0, some.1, inr (r, some.2, refl))
     ]
     ordered_stopped (Some name) chains texts stop.NoMemory is = tt
+
+-- ---- how many texts there are
+
+-- where an order is given its text is left out
+pub ordered_length : (order : Option Text) (chains : ℕ) (texts : List Text) (o : Ordered) → IsOrdered order chains texts (Ok o)
+    → length texts ≡ length (texts_of o.texts.items) + length (option_to_list order)
+ordered_length None chains texts o is = let same = ap (λ (ts : List Text). length ts) is.1 in omega arith
+ordered_length (Some name) chains [] o is = absurd is
+ordered_length (Some name) chains (net ∷ []) o is = absurd is
+ordered_length (Some name) chains (net ∷ text ∷ texts) o is = let same = ap (λ (ts : List Text). length ts) is.5 in omega arith
+
+-- ---- what the code of the steps answers
+
+pub reads_order : (n : Netlist) (text : Text) (o : Order) → IsOrder n text o.cells.items o.chains → ReadsOrder n text (Ok o)
+reads_order n text o is = (record { form = is.form; are = is.are; few = is.few; even = is.even; count = refl }, is.count)
+
+-- what was read is written in order
+pub orders_netlist : (n : Netlist) (text : Text) (order : Order) (o : OrderedNet) → ReadsOrder n text (Ok order) → o.text.items ≡ ordered_text n order.cells.items → o.chains ≡ max order.chains 1
+    → OrdersNetlist n text (Ok o)
+orders_netlist n text order o read text_is chains_is = (order.cells.items, read.0, (let count = read.1 in omega arith), text_is)
+
+pub orders_text : (net text : Text) (n : Netlist) (r : Result OrderedNet (Stop Refusal)) → netlist Design net (Ok n) → OrdersNetlist n text r → OrdersText net text r
+orders_text net text n (Ok o) read is = (n, read, is)
+orders_text net text n (Err (stop.Refused r)) read is = inr (n, read, is)
+orders_text net text n (Err stop.NoMemory) read is = tt
+
+pub no_netlist : (net text : Text) (s : Stop Refusal) → Answers (netlist Design net) (Err s) → OrdersText net text (Err s)
+no_netlist net text (stop.Refused r) is = inl is
+no_netlist net text stop.NoMemory is = tt
+
+module _ (vs : List (Vec ℕ Global)) (v w : Vec ℕ Global) (count : 2 ≤ length vs) (first : v ≡ get_or vs 0 v) (second : w ≡ get_or vs 1 w) where
+  pub short_first : All (λ text. length text ≤ most_bytes) (texts_of vs) → length v.items ≤ most_bytes
+  short_first all = short vs v count first all where
+    short : (xs : List (Vec ℕ Global)) (x : Vec ℕ Global) → 2 ≤ length xs → x ≡ get_or xs 0 x → All (λ text. length text ≤ most_bytes) (texts_of xs) → length x.items ≤ most_bytes
+    short [] x few is h = absurd (omega (arith, few))
+    short (y ∷ ys) x few is h = subst (λ (u : Vec ℕ Global). length u.items ≤ most_bytes) (sym is) (All-head (λ text. length text ≤ most_bytes) y.items (texts_of ys) h)
