@@ -57,11 +57,7 @@ fn texts_of(alloc: Global, netlist: &Netlist, asked: u32) -> Result<OneFile, NoM
 }
 
 /// What `scan` writes and shows of a design.
-fn product_of(
-    alloc: Global,
-    netlist: &Netlist,
-    chains: u32,
-) -> Result<Product, Stop<Refusal>>
+fn product_of(alloc: Global, netlist: &Netlist, chains: u32) -> Result<Product, Stop<Refusal>>
     requires design { IsDesign netlist.now }
     requires some { 1 ≤ chains }
     ensures { IsWorked (scanned_due chains netlist.now) 1 result }

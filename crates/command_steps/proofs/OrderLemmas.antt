@@ -1,10 +1,10 @@
 -- What is due of texts with an order, step by step.
-use Rattle.std.proofs.Common.{◌≡◌, ◌∙◌, ◌≤◌, ◌+◌, inl, inr, ℕ, List, [], ◌∷◌, Option, Some, None, Result, Ok, Err, Vec, refl, sym, subst, ap, arith, get_or, length}
+use Rattle.std.proofs.Common.{◌≡◌, ◌∙◌, ◌≤◌, ◌+◌, inl, inr, ℕ, List, [], ◌∷◌, Option, Some, None, Result, Ok, Err, Vec, refl, sym, subst, ap, arith, get_or, length, set}
 use Rattle.std.specs.Prelude.{max}
-use Rattle.std.specs.List.{All}
+use Rattle.std.specs.List.{All, remove}
 use Rattle.std.specs.Option.{option_to_list}
 use Rattle.std.specs.declared.alloc.Global.{Global}
-use Rattle.std.proofs.lemmas.List.Elements.{All-head}
+use Rattle.std.proofs.lemmas.List.Elements.{All-cons, All-head, All-tail}
 use Rattle.statement.specs.Benches.{Text}
 use Rattle.statement.specs.Netlists.{Netlist}
 use Rattle.netlist.specs.Conditions.{IsSound}
@@ -25,7 +25,7 @@ use Rattle.commands.specs.declared.product.Stop.TheVariants as stop
 use Rattle.command_steps.specs.Answers.{Answers}
 use Rattle.command_steps.specs.inner.Placed.{OrdersNetlist, OrdersText, ReadsOrder}
 use Rattle.command_steps.specs.declared.ordering.OrderedNet.{OrderedNet}
-use Rattle.command_steps.specs.Ordering.{IsOrdered, cell_order, chains_asked, ordered_due}
+use Rattle.command_steps.specs.Ordering.{IsOrdered, IsPutInOrder, cell_order, chains_asked, ordered_due}
 use Rattle.command_steps.specs.Steps.{◌>>=◌, netlist}
 use Rattle.command_steps.specs.declared.ordering.Ordered.{Ordered}
 use Rattle.command_steps.specs.declared.refusal.Refusal.{Refusal}
@@ -112,9 +112,34 @@ pub no_netlist : (net text : Text) (s : Stop Refusal) → Answers (netlist Desig
 no_netlist net text (stop.Refused r) is = inl is
 no_netlist net text stop.NoMemory is = tt
 
-module _ (vs : List (Vec ℕ Global)) (v w : Vec ℕ Global) (count : 2 ≤ length vs) (first : v ≡ get_or vs 0 v) (second : w ≡ get_or vs 1 w) where
-  pub short_first : All (λ text. length text ≤ most_bytes) (texts_of vs) → length v.items ≤ most_bytes
-  short_first all = short vs v count first all where
-    short : (xs : List (Vec ℕ Global)) (x : Vec ℕ Global) → 2 ≤ length xs → x ≡ get_or xs 0 x → All (λ text. length text ≤ most_bytes) (texts_of xs) → length x.items ≤ most_bytes
-    short [] x few is h = absurd (omega (arith, few))
-    short (y ∷ ys) x few is h = subst (λ (u : Vec ℕ Global). length u.items ≤ most_bytes) (sym is) (All-head (λ text. length text ≤ most_bytes) y.items (texts_of ys) h)
+-- ---- the first two of some texts, and what they make
+
+abbrev IsShort : Text → Type 0
+IsShort text = length text ≤ most_bytes
+
+pub first_short : (vs : List (Vec ℕ Global)) (v : Vec ℕ Global) → 2 ≤ length vs → v ≡ get_or vs 0 v → All IsShort (texts_of vs) → IsShort v.items
+first_short [] v few is h = absurd (omega (arith, few))
+first_short (x ∷ xs) v few is h = subst (λ (u : Vec ℕ Global). IsShort u.items) (sym is) (All-head IsShort x.items (texts_of xs) h)
+
+module _ (v w : Vec ℕ Global) where
+  pub put_texts : (vs : List (Vec ℕ Global)) (made : OrderedNet) (o : Ordered) → 2 ≤ length vs → v ≡ get_or vs 0 v → w ≡ get_or vs 1 w → OrdersText v.items w.items (Ok made)
+      → o.chains ≡ made.chains → o.texts.items ≡ remove (set vs 1 made.text) 0 → IsPutInOrder (texts_of vs) (Ok o)
+  put_texts [] made o few first second is chains_are texts_are = absurd (omega (arith, few))
+  put_texts (x ∷ []) made o few first second is chains_are texts_are = absurd (omega (arith, few))
+  put_texts (x ∷ y ∷ rest) made o few first second is chains_are texts_are =
+      let here : OrdersText x.items y.items (Ok made) =
+      subst (λ (u : Vec ℕ Global). OrdersText x.items u.items (Ok made)) second (subst (λ (u : Vec ℕ Global). OrdersText u.items w.items (Ok made)) first is) in
+      (here.0, here.1, here.2.0, here.2.1, chains_are ∙ here.2.2, ap (λ (us : List (Vec ℕ Global)). texts_of us) texts_are ∙ ap (λ (t : Text). t ∷ texts_of rest) here.2.3)
+
+  pub put_stops : (vs : List (Vec ℕ Global)) (s : Stop Refusal) → 2 ≤ length vs → v ≡ get_or vs 0 v → w ≡ get_or vs 1 w → OrdersText v.items w.items (Err s) → IsPutInOrder (texts_of vs) (Err s)
+  put_stops vs stop.NoMemory few first second is = tt
+  put_stops [] (stop.Refused r) few first second is = absurd (omega (arith, few))
+  put_stops (x ∷ []) (stop.Refused r) few first second is = absurd (omega (arith, few))
+  put_stops (x ∷ y ∷ rest) (stop.Refused r) few first second is =
+      subst (λ (u : Vec ℕ Global). OrdersText x.items u.items (Err (stop.Refused r))) second (subst (λ (u : Vec ℕ Global). OrdersText u.items w.items (Err (stop.Refused r))) first is)
+
+pub put_short : (vs : List (Vec ℕ Global)) (made : Vec ℕ Global) → 2 ≤ length vs → All IsShort (texts_of vs) → IsShort made.items → All IsShort (texts_of (remove (set vs 1 made) 0))
+put_short [] made few all short = absurd (omega (arith, few))
+put_short (x ∷ []) made few all short = absurd (omega (arith, few))
+put_short (x ∷ y ∷ rest) made few all short =
+    All-cons IsShort made.items (texts_of rest) short (All-tail IsShort y.items (texts_of rest) (All-tail IsShort x.items (y.items ∷ texts_of rest) all))
