@@ -16,10 +16,10 @@ IsSearch given (Err none.BadNumber) = given ≡ None
 IsSearch given (Err _) = ⊥
 
 -- the files of a `run` that is given these
-pub record AreRunNames (rows : List Row) (order : Option (Bor Text)) (line : SearchLine) (names : RunNames) : Type 0 where
+pub record AreRunNames (rows : List Row) (given : Option (Bor Text)) (line : SearchLine) (names : RunNames) : Type 0 where
   pub net : names.net ≡ line.net
   pub prefix : names.prefix ≡ line.prefix
-  pub order : names.order ≡ order
+  pub order : names.order ≡ given
   pub list : option_map (λ t. t.now) names.list ≡ first_of (codes "faults") rows
   pub first : option_map (λ t. t.now) names.first ≡ first_of (codes "with") rows
 
