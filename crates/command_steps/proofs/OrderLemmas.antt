@@ -114,7 +114,7 @@ no_netlist net text stop.NoMemory is = tt
 
 -- ---- the first two of some texts, and what they make
 
-abbrev IsShort : Text → Type 0
+abbrev pub IsShort : Text → Type 0
 IsShort text = length text ≤ most_bytes
 
 pub first_short : (vs : List (Vec ℕ Global)) (v : Vec ℕ Global) → 2 ≤ length vs → v ≡ get_or vs 0 v → All IsShort (texts_of vs) → IsShort v.items
