@@ -470,6 +470,8 @@ def test_launcher_says_why():
             (made.folder / name).mkdir()
         (made.folder / "a.bench").write_text("INPUT(a)\n")
         (made.folder / "a.stil").write_text('  ScanChain "c0" {\n  ScanChain "c1" {\n')
+        (made.folder / "cells.bench").write_text("INPUT(a)\np = DFF(a) # q = DFF(a)\n q=dff (p)\n")
+        (made.folder / "order").write_text("p r\nq\n")
         for words, ends, causes in CAUSES:
             status, out, errors = made.run(made.root / "atpg", *words, ENDS=ends)
             assert (status, out, errors.splitlines()) == (int(ends.split()[0]), "", [ends.partition(" ")[2], *causes]), (words, errors)
@@ -519,6 +521,15 @@ CAUSES = (
     (("run", "--faults", "a.stil", "a.bench", "b"), "4 fault list line 2: no such fault", ['atpg: a.stil line 2: no fault of a.bench:   ScanChain "c1" {', A_LINE]),
     (("run", "a.bench", "b", "--faults", "none", "--coverage", "90", "--compact", "0", "--detect", "2"), "4 fault list line 1: no such fault", [A_LINE]),
     (("chaintest", "a.bench", "a.stil"), "4 not a stil file", []),
+    (("scan", "cells.bench", "b", "--order", "order"), "4 order name 2: no such cell", ["atpg: order: r"]),
+    (("scan", "cells.bench", "b", "--order=order"), "4 order name 3: the cell stands twice", ["atpg: order: q"]),
+    (("run", "cells.bench", "b", "--order", "order"), "4 order leaves out cell 2 of the netlist", ["atpg: order: q"]),
+    (("run", "cells.bench", "b", "--order", "order"), "4 order leaves out cell 1 of the netlist", ["atpg: order: p"]),
+    (("run", "cells.bench", "b", "--order", "order"), "4 not an order",
+     ["atpg: order: a line is a chain's, names of cells parted by one blank, and each ends with LF"]),
+    (("run", "cells.bench", "b", "--order", "order"), "4 order has too many chains", ["atpg: order: a line is a chain's, and 256 chains are the most"]),
+    (("run", "cells.bench", "b", "--order", "order"), "4 order has uneven chains",
+     ["atpg: order: no line may have two names more than another, and the longer ones come first"]),
     (("run", "a.bench", "b", "--hold", "x=1,,y=0"), "2 bad hold", ["atpg: --hold, item 2, '': it is empty"]),
     (("run", "a.bench", "b", "--hold", ""), "2 bad hold", ["atpg: --hold, item 1, '': it is empty"]),
     (("run", "a.bench", "b", "--hold", "x=1,"), "2 bad hold", ["atpg: --hold, item 2, '': it is empty"]),

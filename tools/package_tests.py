@@ -66,9 +66,10 @@ def test_completion():
 
         assert completed("") == ["chaintest", "check", "diagnose", "faults", "grade", "play", "run", "scan", "sweep", "transition"]
         assert completed("c") == ["chaintest", "check"]
-        assert completed("scan", "--") == ["--chains"]
-        assert completed("run", "a.bench", "b", "--") == ["--chains", "--compact", "--coverage", "--detect", "--engine", "--faults", "--hold", "--limit", "--seed", "--then",
-                                                          "--with", "--workers"]
+        assert completed("scan", "--") == ["--chains", "--order"]
+        assert completed("run", "a.bench", "b", "--") == ["--chains", "--compact", "--coverage", "--detect", "--engine", "--faults", "--hold", "--limit", "--order", "--seed",
+                                                          "--then", "--with", "--workers"]
+        assert completed("scan", "--order", "a.b") == ["a.bench"]
         assert completed("run", "--with", "a") == ["a.stil"]
         assert completed("run", "--faults", "a.b") == ["a.bench"]
         assert completed("run", "--engine", "") == ["clauses", "fan", "podem"]

@@ -711,11 +711,13 @@ def keep_files(case, prefix, words, told):
 
 
 def no_value(words):
-    """What is wrong with a number or an engine that clap takes, if anything."""
+    """What is wrong with a number, an engine or an order that clap takes, if anything."""
     given = dict(zip(words, words[1:]))
     engine, then = given.get("--engine", "podem"), given.get("--then")
     if (engine, then) not in (("podem", None), ("fan", None), ("clauses", None), ("podem", "clauses"), ("fan", "clauses")):
         return "the engine is podem, fan or clauses, and then, behind podem or fan alone, clauses"
+    if "--order" in given and "--chains" in given:
+        return "--order says how many chains there are, so that --chains can't be given beside it"
     if any(len(word) > 1 and word.isdigit() and word.startswith("0") for word in words):
         return "a number is written in decimal digits, without a sign or a leading zero"
     return None

@@ -19,11 +19,13 @@ from plain_play import site_of, unmet
 from plain_stil import Walk, cycles_in, is_stil, signals
 
 MOST_BYTES = 67_108_864
+MOST_CHAINS = 256
 MOST_LINES = 100_000  # of a netlist that the plain reader is given
 READ = {"scan": 1, "faults": 1, "run": 1, "transition": 1, "play": 2, "chaintest": 2, "grade": 2, "diagnose": 3, "sweep": 0}
 BY_PREFIX = ("run", "transition")  # what writes five files
 NAME = r"[!$-&*+\--<>-~]+"  # bytes of .bench's names
 HELD = re.compile(f"{NAME}=[01](,{NAME}=[01])*")
+ORDER = re.compile(f"(?:{NAME}(?: {NAME})*\n)*")
 NUMBER = r"(?:0|[1-9]\d*)"
 LOG = re.compile(rf"atpg fail log 1\n((?:{NUMBER} {NAME}\n)*)(?:end ({NUMBER})\n)?")
 
@@ -183,6 +185,41 @@ def log_of(text):
     if end is not None and end >= 2**64 or any(cycle >= (2**64 if end is None else end) for cycle, _ in failures):
         return None
     return failures, end
+
+
+def chains_in(netlist, text):
+    """The chains that an order says."""
+    if ORDER.fullmatch(text) is None:
+        raise Refused(4, "not an order\n")
+    chains = [line.split(" ") for line in text.split("\n")[:-1]]
+    names = [name for chain in chains for name in chain]
+    for number, name in enumerate(names, 1):
+        if name not in netlist.cells:
+            raise Refused(4, "order name ", str(number), ": no such cell\n")
+    for number, name in enumerate(names, 1):
+        if name in names[:number - 1]:
+            raise Refused(4, "order name ", str(number), ": the cell stands twice\n")
+    for number, cell in enumerate(netlist.cells, 1):
+        if cell not in names:
+            raise Refused(4, "order leaves out cell ", str(number), " of the netlist\n")
+    if len(chains) > MOST_CHAINS:
+        raise Refused(4, "order has too many chains\n")
+    if [len(chain) for chain in chains] != [len(chain) for chain in plain.chains_of(names, max(1, len(chains)))]:
+        raise Refused(4, "order has uneven chains\n")
+    return chains
+
+
+def in_order(texts, options):
+    """The texts and the options of the same command without an order: the netlist has its cells in it, and is asked for in as many chains."""
+    if "--order" not in options:
+        return texts, options
+    netlist = netlist_of(texts[0])
+    chains = chains_in(netlist, texts[1])
+    cells = iter([name for chain in chains for name in chain])
+    places = [next(cells) if kind == "DFF" else name for name, kind, _ in netlist.definitions]
+    ordered = plain.Netlist(netlist.inputs, netlist.outputs, [(name, netlist.kind[name], netlist.pins[name]) for name in places])
+    others = {name: value for name, value in options.items() if name != "--order"}
+    return [plain.canonical(ordered).decode()] + texts[2:], {**others, "--chains": str(max(1, len(chains)))}
 
 
 def scan(texts, options):
@@ -382,7 +419,8 @@ def names_read(command, given, options):
     if command == "check":
         return [(given[0], f".{end}") for end in ENDS]
     first = options.get("--with", "own")
-    beside = [(options.get("--faults", ""), "")] * ("--faults" in options) + [(first, "" if first.endswith(".stil") else ".stil")] * ("--with" in options)
+    beside = [(options.get("--order", ""), "")] * ("--order" in options)
+    beside += [(options.get("--faults", ""), "")] * ("--faults" in options) + [(first, "" if first.endswith(".stil") else ".stil")] * ("--with" in options)
     return [(name, "") for name in given[:READ[command]]] + beside
 
 
@@ -434,10 +472,12 @@ def ending(words, files, fails, told):
     command, given, options = parts_of(words)
     shelf, files, shown = Calls(fails.shelf), dict(files), ""
     try:
+        if "--order" in options and "--chains" in options:
+            raise Unknown
         if "--hold" in options and not is_hold_list(options["--hold"]):
             raise Refused(2, "bad hold\n")
         need_names(command, given, options)
-        texts = list(read_in_order(command, given, options, files, shelf))
+        texts, options = in_order(list(read_in_order(command, given, options, files, shelf)), options)
         due = SEARCHES[command](texts, options, told) if command in SEARCHES else WORK[command](texts, options)
         written(command, given, due, files, shelf)
         kept = fails.out.get(1)

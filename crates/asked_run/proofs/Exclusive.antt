@@ -13,8 +13,9 @@ use Rattle.commands.specs.declared.ending.Finding.TheVariants.{Fine}
 use Rattle.command_steps.specs.Runs.{tests_line}
 use Rattle.command_steps.specs.Steps.{named_holds, netlist}
 use Rattle.command_steps.proofs.HoldLemmas.{holds_single}
+use Rattle.command_steps.proofs.OrderLemmas.{ordered_exclusive}
 use Rattle.command_steps.proofs.Single.{IsOneKind, given, netlist_single, then_one, then_one_where}
-use Rattle.asked_run.specs.Asked.{RunRead, asked_due, asked_where, first_patterns, made_due, marked_faults, run_due, run_read, texts_made}
+use Rattle.asked_run.specs.Asked.{RunRead, asked_due, asked_where, first_patterns, made_due, marked_faults, ordered_run_due, run_due, run_read, texts_made, with_chains}
 use Rattle.asked_run.specs.inner.Asking.{first_due, held_due, wanted_due}
 use Rattle.asked_run.proofs.AskLemmas.{first_single, marks_single}
 
@@ -33,5 +34,9 @@ where_once : AtMostOne → (options : RunOptions) (named : List HoldItem) (o : O
 where_once one options named None c d p q = absurd p
 where_once one options named (Some t) c d p q = asked_once one options named t c d p q
 
-pub run_exclusive : AtMostOne → (list first : Option Text) (options : RunOptions) (named : List HoldItem) → IsExclusive (run_due list first options named)
+run_exclusive : AtMostOne → (list first : Option Text) (options : RunOptions) (named : List HoldItem) → IsExclusive (run_due list first options named)
 run_exclusive one list first options named texts = where_once one options named (run_read list first texts)
+
+pub ordered_run_exclusive : AtMostOne → (order list first : Option Text) (options : RunOptions) (named : List HoldItem) → IsExclusive (ordered_run_due order list first options named)
+ordered_run_exclusive one order list first options named =
+    ordered_exclusive (λ chains. run_due list first (with_chains options chains) named) (λ chains. run_exclusive one list first (with_chains options chains) named) order options.numbers.chains

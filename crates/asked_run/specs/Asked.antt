@@ -20,6 +20,7 @@ use Rattle.command_line.specs.declared.requests.RunOptions.{RunOptions}
 use Rattle.commands.specs.Due.{Due, Deliver}
 use Rattle.commands.specs.declared.ending.Finding.TheVariants.{Fine}
 use Rattle.command_steps.specs.Runs.{tests_line, texts_in}
+use Rattle.command_steps.specs.Ordering.{ordered_due}
 use Rattle.command_steps.specs.Steps.{◌>>=◌, named_holds, netlist}
 use Rattle.command_steps.specs.declared.refusal.Refusal.{Refusal}
 use Rattle.command_steps.specs.declared.refusal.Refusal.TheVariants.{NoFaultAt, NotStil, StilDoesNotFit}
@@ -121,6 +122,14 @@ asked_where options named (Some read) = asked_due options named read
 -- the five texts of a run that is asked for so; by PODEM and FAN alone the certificate has trees alone
 abbrev pub run_due : Option Text → Option Text → RunOptions → List HoldItem → List Text → Due Refusal → Type 0
 run_due list first options named texts = asked_where options named (run_read list first texts)
+
+-- the same options with so many chains
+abbrev pub with_chains : RunOptions → ℕ → RunOptions
+with_chains options chains = record options { numbers = record options.numbers { chains = chains } }
+
+-- where an order of the cells is given, the same of the netlist in that order, in as many chains as it has
+abbrev pub ordered_run_due : Option Text → Option Text → Option Text → RunOptions → List HoldItem → List Text → Due Refusal → Type 0
+ordered_run_due order list first options named = ordered_due (λ chains. run_due list first (with_chains options chains) named) order options.numbers.chains
 
 -- ---- what a run rests on
 

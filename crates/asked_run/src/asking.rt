@@ -1,5 +1,5 @@
 //! What `run` is asked for: a design, its held inputs, the faults that a list names, and the patterns of a STIL file.
-ghost use Rattle.std.specs.Prelude.{◌≡◌, ◌≤◌, ◌<◌, ◌^◌, IfOk, IfSome, Some, length, map, option_map, true};
+ghost use Rattle.std.specs.Prelude.{◌≡◌, ◌≤◌, ◌<◌, ◌^◌, IfOk, IfSome, None, Some, length, map, option_map, true};
 ghost use Rattle.std.specs.List.{All};
 ghost use Rattle.netlist.specs.Designs.{IsDesign};
 ghost use Rattle.netlist.specs.Holds.{AreHoldsOf};
@@ -45,7 +45,7 @@ struct RunTexts<'a> {
 
 /// Which text is which, by the files that the words name.
 fn run_texts<'a>(texts: &'a [Vec<u8>], list: Option<&str>, first: Option<&str>) -> RunTexts<'a>
-    requires { HaveCount (option_map (λ t. t.now) list) (option_map (λ t. t.now) first) (length texts.now) }
+    requires { HaveCount None (option_map (λ t. t.now) list) (option_map (λ t. t.now) first) (length texts.now) }
     ensures { run_read (option_map (λ t. t.now) list.entry) (option_map (λ t. t.now) first.entry) (texts_of texts.entry.now) ≡ Some (run_texts_of result) }
 {
     let net = texts[0].as_slice();
@@ -242,7 +242,7 @@ pub(crate) fn case_of(
     first: Option<&str>,
     named: &[Held<'_>],
 ) -> Result<RunCase, Stop<Refusal>>
-    requires count { HaveCount (option_map (λ t. t.now) list) (option_map (λ t. t.now) first) (length texts.items) }
+    requires count { HaveCount None (option_map (λ t. t.now) list) (option_map (λ t. t.now) first) (length texts.items) }
     requires within { All (λ text. length text ≤ most_bytes) (texts_of texts.items) }
     ensures reads { ReadsTexts (map hold_of named.now) (run_read (option_map (λ t. t.now) list.entry) (option_map (λ t. t.now) first.entry) (texts_of texts.items)) result }
     ensures ready { IfOk result IsReady }

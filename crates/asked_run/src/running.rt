@@ -1,5 +1,5 @@
 //! `run`: the five files of a file's netlist.
-ghost use Rattle.std.specs.Prelude.{◌≡◌, ◌≤◌, false, true, IfOk, length, map, option_map};
+ghost use Rattle.std.specs.Prelude.{◌≡◌, ◌≤◌, false, true, IfOk, None, length, map, option_map};
 ghost use Rattle.std.specs.List.{All};
 ghost use Rattle.netlist.specs.Designs.{IsDesign};
 ghost use Rattle.netlist.specs.Holds.{AreHoldsOf};
@@ -11,14 +11,14 @@ ghost use Rattle.commands.specs.World.{world};
 ghost use Rattle.commands.specs.declared.ending.Finding.TheVariants.{Fine};
 ghost use Rattle.command_line.specs.CommandLine.{AreInRunRange, hold_of, run_reads};
 ghost use Rattle.run_files.specs.Runs.{IsRun, asked_by};
-ghost use Rattle.asked_run.specs.Asked.{asked_of, made_due, run_due, texts_made, IsWanted, plan_of};
+ghost use Rattle.asked_run.specs.Asked.{asked_of, made_due, ordered_run_due, run_due, texts_made, with_chains, IsWanted, plan_of};
 ghost use Rattle.command_steps.specs.Runs.{tests_line};
 ghost use Rattle.asked_run.specs.inner.Asking.{HaveCount, IsReady};
 
 use crate::asking::{RunCase, case_of};
 use clauses::{Clauses, Then};
-use command_line::{EngineName, Held, RunNames, RunOptions, TreeEngine, run_reads};
-use command_steps::{Refusal, five_files_product, tests_line};
+use command_line::{EngineName, Held, RunNames, RunOptions, SearchNumbers, TreeEngine, run_reads};
+use command_steps::{Refusal, five_files_product, in_order, tests_line};
 use commands::{Ending, Product, Stop, deliver, file_names, read_in_order};
 use evidence::Engine;
 use fan::Fan;
@@ -239,13 +239,50 @@ fn work<R: Threads + Wait + Sync, G: Gate + Sync>(
     named: &[Held<'_>],
     stage: &G,
 ) -> Result<Product, Stop<Refusal>>
-    requires count { HaveCount (option_map (λ t. t.now) names.list) (option_map (λ t. t.now) names.first) (length texts.items) }
+    requires count { HaveCount None (option_map (λ t. t.now) names.list) (option_map (λ t. t.now) names.first) (length texts.items) }
     requires within { All (λ text. length text ≤ most_bytes) (texts_of texts.items) }
     requires range { AreInRunRange options }
     ensures { IsWorked (run_due (option_map (λ t. t.now) names.entry.list) (option_map (λ t. t.now) names.entry.first) options (map hold_of named.now) (texts_of texts.items)) 5 result }
 {
     match case_of(alloc, texts, names.list, names.first, named) {
         Ok(case) => run_case(rt, alloc, case, options, stage),
+        Err(stop) => Err(stop),
+    }
+}
+
+/// The same options with so many chains.
+fn with_chains(options: RunOptions, chains: u32) -> RunOptions
+    ensures { result ≡ with_chains options chains }
+{
+    RunOptions {
+        numbers: SearchNumbers {
+            chains,
+            ..options.numbers
+        },
+        ..options
+    }
+}
+
+/// The work of `run`, where an order of the cells may be given.
+fn ordered_work<R: Threads + Wait + Sync, G: Gate + Sync>(
+    rt: &R,
+    alloc: Global,
+    texts: Vec<Vec<u8>>,
+    names: RunNames<'_>,
+    options: RunOptions,
+    named: &[Held<'_>],
+    stage: &G,
+) -> Result<Product, Stop<Refusal>>
+    requires count { HaveCount (option_map (λ t. t.now) names.order) (option_map (λ t. t.now) names.list) (option_map (λ t. t.now) names.first) (length texts.items) }
+    requires within { All (λ text. length text ≤ most_bytes) (texts_of texts.items) }
+    requires range { AreInRunRange options }
+    ensures { IsWorked (ordered_run_due (option_map (λ t. t.now) names.entry.order) (option_map (λ t. t.now) names.entry.list) (option_map (λ t. t.now) names.entry.first) options (map hold_of named.now) (texts_of texts.items)) 5 result }
+{
+    match in_order(alloc, texts, names.order, options.numbers.chains) {
+        Ok(ordered) => {
+            let options = with_chains(options, ordered.chains);
+            work(rt, alloc, ordered.texts, names, options, named, stage)
+        }
         Err(stop) => Err(stop),
     }
 }
@@ -262,8 +299,8 @@ pub fn run_netlist<'a, R: Threads + Wait + Sync, S: Shelf, T: Sink, G: Gate + Sy
     named: &[Held<'_>],
 ) -> Ending<'a, Refusal>
     requires { AreInRunRange options }
-    ensures { CommandRow (run_reads names.entry.net.now (option_map (λ t. t.now) names.entry.list) (option_map (λ t. t.now) names.entry.first)) (run_files names.entry.prefix.now)
-        (run_due (option_map (λ t. t.now) names.entry.list) (option_map (λ t. t.now) names.entry.first) options (map hold_of named.now))
+    ensures { CommandRow (run_reads names.entry.net.now (option_map (λ t. t.now) names.entry.order) (option_map (λ t. t.now) names.entry.list) (option_map (λ t. t.now) names.entry.first)) (run_files names.entry.prefix.now)
+        (ordered_run_due (option_map (λ t. t.now) names.entry.order) (option_map (λ t. t.now) names.entry.list) (option_map (λ t. t.now) names.entry.first) options (map hold_of named.now))
         (world (S.files shelf.old) (S.failures shelf.old) (T.taken out.old) (T.failures out.old))
         (world (S.files shelf.new) (S.failures shelf.new) (T.taken out.new) (T.failures out.new)) result }
 {
@@ -276,6 +313,6 @@ pub fn run_netlist<'a, R: Threads + Wait + Sync, S: Shelf, T: Sink, G: Gate + Sy
         Ok(texts) => texts,
         Err(ending) => return ending,
     };
-    let worked = work(rt, alloc, texts, names, options, named, stage);
+    let worked = ordered_work(rt, alloc, texts, names, options, named, stage);
     deliver(alloc, shelf, out, &writes, worked)
 }

@@ -14,8 +14,9 @@ use Rattle.transition_run.specs.declared.files.TransitionFiles.{TransitionFiles}
 use Rattle.transition_run.specs.Runs.{transition_files_of}
 use Rattle.command_steps.specs.Runs.{tests_line, texts_in}
 use Rattle.command_steps.specs.declared.refusal.Refusal.{Refusal}
+use Rattle.command_steps.proofs.OrderLemmas.{ordered_exclusive}
 use Rattle.command_steps.proofs.Single.{design_exclusive, given}
-use Rattle.asked_run.proofs.Exclusive.{run_exclusive}
+use Rattle.asked_run.proofs.Exclusive.{ordered_run_exclusive}
 use Rattle.test_commands.proofs.Exclusive.{chaintest_exclusive, grade_exclusive, play_exclusive}
 use Rattle.diagnose_command.proofs.Exclusive.{diagnose_exclusive}
 use Rattle.atpg_top.specs.Checks.{check_due, refusal_of, told}
@@ -60,10 +61,10 @@ sweep_exclusive seed gates [] c d p q = given c d (Deliver [] (sweep_text p.0.sa
 sweep_exclusive seed gates (bytes ∷ others) c d p q = absurd p
 
 pub each_exclusive : AtMostOne → IsExclusive command.five_texts_due → OneLog → (line : CommandLine) → IsExclusive (due line)
-each_exclusive one checks once (scan net to chains) = scan_exclusive chains
+each_exclusive one checks once (scan net to chains order) = ordered_exclusive scan_due scan_exclusive order chains
 each_exclusive one checks once (faults net) = faults_exclusive
 each_exclusive one checks once (play net stil fault) = play_exclusive one fault
-each_exclusive one checks once (run net prefix list first options holds) = run_exclusive one list first options holds
+each_exclusive one checks once (run net prefix order list first options holds) = ordered_run_exclusive one order list first options holds
 each_exclusive one checks once (check prefix) = check_exclusive checks
 each_exclusive one checks once (sweep seed gates) = sweep_exclusive seed gates
 each_exclusive one checks once (chaintest net stil chains) = chaintest_exclusive one chains

@@ -2,6 +2,7 @@
 -- A command to come is an entry here and there.
 use Rattle.std.specs.Prelude.{◌≡◌, ℕ, List, [], ◌∷◌}
 use Rattle.statement.specs.Benches.{Text}
+use Rattle.statement.specs.Netlists.{Netlist}
 use Rattle.net_gen.specs.Samples.{sample, words_from_seed}
 use Rattle.command_line.specs.CommandLine.{CommandLine, chaintest, check, diagnose, faults, grade, play, run, scan, sweep, transition}
 use Rattle.commands.specs.Due.{Due, Deliver}
@@ -11,9 +12,10 @@ use Rattle.run_files.specs.declared.files.RunFiles.{RunFiles}
 use Rattle.transition_run.specs.declared.files.TransitionFiles.{TransitionFiles}
 use Rattle.transition_run.specs.Runs.{IsTransitionRun, transition_files_of}
 use Rattle.atpg_top.specs.Checks.{check_due}
+use Rattle.command_steps.specs.Ordering.{ordered_due}
 use Rattle.command_steps.specs.Steps.{design_due}
 use Rattle.command_steps.specs.Runs.{tests_line, texts_in}
-use Rattle.asked_run.specs.Asked.{may_refute, run_due}
+use Rattle.asked_run.specs.Asked.{may_refute, ordered_run_due}
 use Rattle.atpg_top.specs.Scans.{IsScanProduct}
 use Rattle.atpg_top.specs.FaultLists.{IsFaultList}
 use Rattle.test_commands.specs.ChainTests.{chaintest_due}
@@ -24,8 +26,11 @@ use Rattle.atpg_top.specs.Sweeps.{IsSweep, sweep_text}
 use Rattle.command_steps.specs.declared.refusal.Refusal.{Refusal}
 
 -- the scanned netlist's text, and the line that counts cells and chains
+abbrev pub scanned_due : ℕ → Netlist → Due Refusal → Type 0
+scanned_due chains n d = (text : Text) × (line : Text) × IsScanProduct n chains text line × (d ≡ Deliver (text ∷ []) line Fine)
+
 abbrev pub scan_due : ℕ → List Text → Due Refusal → Type 0
-scan_due chains = design_due (λ n d. (text : Text) × (line : Text) × IsScanProduct n chains text line × (d ≡ Deliver (text ∷ []) line Fine))
+scan_due chains = design_due (scanned_due chains)
 
 -- the list of faults
 abbrev pub faults_due : List Text → Due Refusal → Type 0
@@ -43,10 +48,10 @@ sweep_due seed gates texts = λ d. ⊥
 
 -- what is due of the texts that a command line has read
 abbrev pub due : CommandLine → List Text → Due Refusal → Type 0
-due (scan net to chains) = scan_due chains
+due (scan net to chains order) = ordered_due scan_due order chains
 due (faults net) = faults_due
 due (play net stil fault) = play_due fault
-due (run net prefix list first options holds) = run_due list first options holds
+due (run net prefix order list first options holds) = ordered_run_due order list first options holds
 due (check prefix) = check_due
 due (sweep seed gates) = sweep_due seed gates
 due (chaintest net stil chains) = chaintest_due chains

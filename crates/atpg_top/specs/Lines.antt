@@ -7,12 +7,15 @@ use Rattle.commands.specs.declared.ending.Ending.{Ending}
 use Rattle.commands.specs.declared.ending.Ending.TheVariants.{Ended, Refused, ReadFailed, WriteFailed, Missing, TooLong, Memory}
 use Rattle.commands.specs.Lines.{failure_line, netlist_line}
 use Rattle.command_steps.specs.declared.refusal.Refusal.{Refusal}
-use Rattle.command_steps.specs.declared.refusal.Refusal.TheVariants.{Netlist, NoSuchFault, NoSuchInput, NotStil, NotCertificate, NotReport, NotLog, NoFaultAt, StilDoesNotFit}
+use Rattle.command_steps.specs.declared.refusal.Refusal.TheVariants.{Netlist, Order, NoSuchFault, NoSuchInput, NotStil, NotCertificate, NotReport, NotLog, NoFaultAt, StilDoesNotFit}
+use Rattle.cell_order.specs.declared.refusal.OrderRefusal.{OrderRefusal}
+use Rattle.cell_order.specs.declared.refusal.OrderRefusal.TheVariants.{NotOrder, NotCell, Twice, LeftOut, TooMany, Uneven}
 use Rattle.atpg_top.specs.declared.status.Status.{Status}
 use Rattle.atpg_top.specs.declared.status.Status.TheVariants.{BadWords, BadHold, BadPrefix, WritesOver, Command}
 
 abbrev pub refusal_code : Refusal → ℕ
 refusal_code (Netlist refusal) = 3
+refusal_code (Order refusal) = 4
 refusal_code NoSuchFault = 2
 refusal_code (NoSuchInput place) = 2
 refusal_code NotStil = 4
@@ -39,9 +42,19 @@ status_code (BadPrefix prefix) = 2
 status_code (WritesOver name) = 2
 status_code (Command ending) = ending_code ending
 
+-- names and cells are counted from 1
+abbrev pub order_line : OrderRefusal → Text
+order_line NotOrder = codes "not an order\n"
+order_line (NotCell number) = codes "order name " ++ (decimal number ++ codes ": no such cell\n")
+order_line (Twice number) = codes "order name " ++ (decimal number ++ codes ": the cell stands twice\n")
+order_line (LeftOut number) = codes "order leaves out cell " ++ (decimal number ++ codes " of the netlist\n")
+order_line TooMany = codes "order has too many chains\n"
+order_line Uneven = codes "order has uneven chains\n"
+
 -- the names are those of the inputs that are to be held
 abbrev pub refusal_line : List Text → Refusal → Text
 refusal_line names (Netlist refusal) = netlist_line refusal
+refusal_line names (Order refusal) = order_line refusal
 refusal_line names NoSuchFault = codes "no such fault\n"
 refusal_line names (NoSuchInput place) = codes "no such input: " ++ (slice_index_or names place [] ++ codes "\n")
 refusal_line names NotStil = codes "not a stil file\n"

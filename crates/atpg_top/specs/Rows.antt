@@ -34,7 +34,7 @@ TopRow given a b (status.Command e) = WordsRow (command_line given) a b e
 
 -- the names of the inputs that a command line wants held
 abbrev pub held_names : Result CommandLine NoLine → List Text
-held_names (Ok (run net prefix list first options holds)) = map (λ (h : HoldItem). h.0) holds
+held_names (Ok (run net prefix order list first options holds)) = map (λ (h : HoldItem). h.0) holds
 held_names _ = []
 
 -- The error output gains the line of the status. Where the command did its work it is left alone.

@@ -78,7 +78,8 @@ fn perform<'a, R: Threads + Wait + Sync, S: Shelf, T: Sink, G: Gate + Sync>(
             net,
             out: to,
             chains,
-        } => scan_netlist(alloc, shelf, out, net, to, *chains),
+            order,
+        } => scan_netlist(alloc, shelf, out, net, to, *order, *chains),
         Request::Faults { net } => list_faults(alloc, shelf, out, net),
         Request::Play { net, stil, fault } => play_test(alloc, shelf, out, net, stil, *fault),
         Request::Run {

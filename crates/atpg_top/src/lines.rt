@@ -2,10 +2,11 @@
 ghost use Rattle.std.specs.Prelude.{◌≡◌, ◌++◌, [], codes, decimal, slice_index_or};
 ghost use Rattle.commands.specs.Lines.{IsSaid};
 ghost use Rattle.atpg_top.specs.inner.Held.{names_held};
-ghost use Rattle.atpg_top.specs.Lines.{refusal_line};
+ghost use Rattle.atpg_top.specs.Lines.{order_line, refusal_line};
 ghost use Rattle.atpg_top.specs.Rows.{ErrRow};
 
 use crate::status::Status;
+use cell_order::OrderRefusal;
 use command_line::Held;
 use command_steps::Refusal;
 use commands::{Ending, say, say_failed_write, say_name, say_netlist, say_text};
@@ -20,17 +21,36 @@ fn say_word<E: Sink>(err: &mut E, what: &[u8], word: &[u8])
     say(err, pieces.as_slice())
 }
 
-/// The line that names a line of a list of faults.
-fn say_stranger<E: Sink>(err: &mut E, number: usize)
-    ensures { IsSaid E.takes_memory (codes "fault list line " ++ (decimal number ++ codes ": no such fault\n")) (E.taken err.old) (E.failures err.old) (E.taken err.new) (E.failures err.new) }
+/// A line that names something by its number.
+fn say_number<E: Sink>(err: &mut E, what: &[u8], number: usize, why: &[u8])
+    ensures { IsSaid E.takes_memory (what.now ++ (decimal number ++ why.now)) (E.taken err.old) (E.failures err.old) (E.taken err.new) (E.failures err.new) }
 {
     let mut digits = Buffer::new();
-    let pieces = [
-        b"fault list line ".as_slice(),
-        digits.format(number).as_bytes(),
-        b": no such fault\n".as_slice(),
-    ];
+    let pieces = [what, digits.format(number).as_bytes(), why];
     say(err, pieces.as_slice())
+}
+
+/// The line of an order that is refused.
+fn say_order<E: Sink>(err: &mut E, refusal: &OrderRefusal)
+    ensures { IsSaid E.takes_memory (order_line refusal.now) (E.taken err.old) (E.failures err.old) (E.taken err.new) (E.failures err.new) }
+{
+    match refusal {
+        OrderRefusal::NotOrder => say_text(err, b"not an order\n"),
+        OrderRefusal::NotCell(number) => {
+            say_number(err, b"order name ", *number, b": no such cell\n")
+        }
+        OrderRefusal::Twice(number) => {
+            say_number(err, b"order name ", *number, b": the cell stands twice\n")
+        }
+        OrderRefusal::LeftOut(number) => say_number(
+            err,
+            b"order leaves out cell ",
+            *number,
+            b" of the netlist\n",
+        ),
+        OrderRefusal::TooMany => say_text(err, b"order has too many chains\n"),
+        OrderRefusal::Uneven => say_text(err, b"order has uneven chains\n"),
+    }
 }
 
 /// The name of the held input at a place.
@@ -49,13 +69,16 @@ fn say_refusal<E: Sink>(err: &mut E, refusal: &Refusal, holds: &[Held<'_>])
 {
     match refusal {
         Refusal::Netlist(refusal) => say_netlist(err, refusal),
+        Refusal::Order(refusal) => say_order(err, refusal),
         Refusal::NoSuchFault => say_text(err, b"no such fault\n"),
         Refusal::NoSuchInput(place) => say_word(err, b"no such input: ", name_at(holds, *place)),
         Refusal::NotStil => say_text(err, b"not a stil file\n"),
         Refusal::NotCertificate => say_text(err, b"not a certificate\n"),
         Refusal::NotReport => say_text(err, b"not a report\n"),
         Refusal::NotLog => say_text(err, b"not a fail log\n"),
-        Refusal::NoFaultAt(number) => say_stranger(err, *number),
+        Refusal::NoFaultAt(number) => {
+            say_number(err, b"fault list line ", *number, b": no such fault\n")
+        }
         Refusal::StilDoesNotFit => say_text(err, b"stil does not fit\n"),
     }
 }

@@ -25,6 +25,7 @@ fn refusal_code(refusal: &Refusal) -> u8
 {
     match refusal {
         Refusal::Netlist(_) => 3,
+        Refusal::Order(_) => 4,
         Refusal::NoSuchFault => 2,
         Refusal::NoSuchInput(_) => 2,
         Refusal::NotStil => 4,

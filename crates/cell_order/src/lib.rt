@@ -7,7 +7,7 @@
 //! Proved: `read_order`: exactly the cells that the text names, each of the netlist's once, or the first cause against it; dealt to so many chains as the
 //! text has lines, the cells are in its chains; `write_ordered`: the text of the netlist whose cells are put in an order; in its own order that is its
 //! canonical text.
-//! Neither: time; no command reads an order yet.
+//! Neither: time.
 #![tactic(auto)]
 
 mod grammar;

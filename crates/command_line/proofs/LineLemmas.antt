@@ -62,6 +62,7 @@ pub became : (words : List Text) (line : Line) (cause : NoRequest) (answer : Wor
     → IsUsageError words answer
 became words line none.BadNumber answer is same made = becomes_bad words answer (same ∙ ap line_with_files is) made
 became words line none.BadEngine answer is same made = becomes_bad words answer (same ∙ ap line_with_files is) made
+became words line none.BadOrder answer is same made = becomes_bad words answer (same ∙ ap line_with_files is) made
 became words line none.BadHold answer is same made = subst (λ (r : WordsRefusal). IsUsageError words r) (sym made) (same ∙ ap line_with_files is)
 became words line none.NoMemory answer is same made = subst (λ (r : WordsRefusal). IsUsageError words r) (sym made) tt
 

@@ -24,13 +24,13 @@ use Rattle.command_line.specs.declared.requests.Request.{Request}
 use Rattle.command_line.specs.declared.requests.Request.TheVariants as request
 
 pub data CommandLine : Type 0 where
-  -- the netlist's file, the file to write, and how many chains at most
-  scan : Text → Text → ℕ → CommandLine
+  -- the netlist's file, the file to write, how many chains at most, and the file of the order of the cells, where that is given in place of the number
+  scan : Text → Text → ℕ → Option Text → CommandLine
   -- the netlist's file
   faults : Text → CommandLine
-  -- the netlist's file, what the names of the files written begin with, the file that lists the faults which are asked for, and the STIL file whose patterns
-  -- come first, or what its name begins with; the engine and the numbers, and the inputs that are held
-  run : Text → Text → Option Text → Option Text → RunOptions → List HoldItem → CommandLine
+  -- the netlist's file, what the names of the files written begin with, the file of the order of the cells, the file that lists the faults which are asked for,
+  -- and the STIL file whose patterns come first, or what its name begins with; the engine and the numbers, and the inputs that are held
+  run : Text → Text → Option Text → Option Text → Option Text → RunOptions → List HoldItem → CommandLine
   -- the netlist's file, the STIL file, and the text of a fault
   play : Text → Text → Option Text → CommandLine
   -- what the names of the files read begin with
@@ -60,15 +60,19 @@ pub data NoLine : Type 0 where
 abbrev pub stil_file : Text → Text
 stil_file given = if ends_with nat_eq given (codes ".stil") then given else given ++ codes ".stil"
 
--- those that `run` reads: the netlist's, and where they are given that of the list of faults and that of the STIL file
-abbrev pub run_reads : Text → Option Text → Option Text → List Text
-run_reads net list first = net ∷ option_to_list list ++ option_to_list (option_map stil_file first)
+-- those that `scan` reads: the netlist's, and where it is given that of the order
+abbrev pub scan_reads : Text → Option Text → List Text
+scan_reads net order = net ∷ option_to_list order
+
+-- those that `run` reads: the netlist's, and where they are given that of the order, that of the list of faults and that of the STIL file
+abbrev pub run_reads : Text → Option Text → Option Text → Option Text → List Text
+run_reads net order list first = net ∷ option_to_list order ++ option_to_list list ++ option_to_list (option_map stil_file first)
 
 -- the names of the files that a command line reads, in order
 abbrev pub reads : CommandLine → List Text
-reads (scan net to chains) = net ∷ []
+reads (scan net to chains order) = scan_reads net order
 reads (faults net) = net ∷ []
-reads (run net prefix list first options holds) = run_reads net list first
+reads (run net prefix order list first options holds) = run_reads net order list first
 reads (play net stil fault) = net ∷ stil ∷ []
 reads (check prefix) = run_files prefix
 reads (sweep seed gates) = []
@@ -83,8 +87,8 @@ grade_file prefix = prefix ++ codes ".grade"
 
 -- the names of the files that it writes, in order
 abbrev pub writes : CommandLine → List Text
-writes (scan net to chains) = to ∷ []
-writes (run net prefix list first options holds) = run_files prefix
+writes (scan net to chains order) = to ∷ []
+writes (run net prefix order list first options holds) = run_files prefix
 writes (transition net prefix options) = run_files prefix
 writes (grade net stil prefix chains) = grade_file prefix ∷ []
 writes _ = []
@@ -102,7 +106,7 @@ if_nameless prefix = if is_nameless prefix then Some prefix else None
 
 -- what the names of the files written begin with, where that leaves them nameless
 abbrev pub nameless_prefix : CommandLine → Option Text
-nameless_prefix (run net prefix list first options holds) = if_nameless prefix
+nameless_prefix (run net prefix order list first options holds) = if_nameless prefix
 nameless_prefix (transition net prefix options) = if_nameless prefix
 nameless_prefix (grade net stil prefix chains) = if_nameless prefix
 nameless_prefix _ = None
@@ -139,10 +143,22 @@ number_if name low high rows = number_where low high (first_of name rows)
 abbrev pub number_of : Text → ℕ → ℕ → List Row → Option ℕ
 number_of name low high rows = option_and_then (number_in low high) (first_of name rows)
 
-abbrev pub scan_of : List Row → Option CommandLine
-scan_of rows = option_and_then (λ net. option_and_then (λ out.
-    option_map (λ chains. scan net out chains) (number_at (codes "chains") 1 1 most_chains rows))
+-- the file of an order, if there is one; it says how many chains there are, so that a number of chains doesn't go with it
+abbrev pub order_given : Option Text → Option Text → Option (Option Text)
+order_given chains None = Some None
+order_given None (Some order) = Some (Some order)
+order_given (Some chains) (Some order) = None
+
+abbrev pub order_of : List Row → Option (Option Text)
+order_of rows = order_given (first_of (codes "chains") rows) (first_of (codes "order") rows)
+
+abbrev pub scan_with : List Row → Option Text → Option CommandLine
+scan_with rows order = option_and_then (λ net. option_and_then (λ out.
+    option_map (λ chains. scan net out chains order) (number_at (codes "chains") 1 1 most_chains rows))
     (first_of (codes "OUT") rows)) (first_of (codes "NET") rows)
+
+abbrev pub scan_of : List Row → Option CommandLine
+scan_of rows = option_and_then (scan_with rows) (order_of rows)
 
 abbrev pub faults_line_of : List Row → Option CommandLine
 faults_line_of rows = option_map (λ net. faults net) (first_of (codes "NET") rows)
@@ -201,17 +217,18 @@ run_options_with rows numbers engine = option_and_then (λ percent. option_and_t
 abbrev pub run_options_of : List Row → SearchNumbers → Option RunOptions
 run_options_of rows numbers = option_and_then (run_options_with rows numbers) (engine_given (first_of (codes "engine") rows) (first_of (codes "then") rows))
 
-abbrev pub run_by : List Row → Search → Option RunOptions → Option (List HoldItem) → Result CommandLine NoLine
-run_by rows s (Some options) (Some holds) = Ok (run s.0 s.1 (first_of (codes "faults") rows) (first_of (codes "with") rows) options holds)
-run_by rows s (Some options) None = Err bad_hold
-run_by rows s None holds = Err bad_words
+abbrev pub run_by : List Row → Option Text → Search → Option RunOptions → Option (List HoldItem) → Result CommandLine NoLine
+run_by rows order s (Some options) (Some holds) = Ok (run s.0 s.1 order (first_of (codes "faults") rows) (first_of (codes "with") rows) options holds)
+run_by rows order s (Some options) None = Err bad_hold
+run_by rows order s None holds = Err bad_words
 
-abbrev pub run_where : List Row → Option Search → Option (List HoldItem) → Result CommandLine NoLine
-run_where rows (Some s) holds = run_by rows s (run_options_of rows s.2) holds
-run_where rows None holds = Err bad_words
+abbrev pub run_where : List Row → Option (Option Text) → Option Search → Option (List HoldItem) → Result CommandLine NoLine
+run_where rows (Some order) (Some s) holds = run_by rows order s (run_options_of rows s.2) holds
+run_where rows (Some order) None holds = Err bad_words
+run_where rows None s holds = Err bad_words
 
 abbrev pub run_of : List Row → Result CommandLine NoLine
-run_of rows = run_where rows (search_of rows) (holds_given (first_of (codes "hold") rows))
+run_of rows = run_where rows (order_of rows) (search_of rows) (holds_given (first_of (codes "hold") rows))
 
 abbrev pub transition_of : List Row → Option CommandLine
 transition_of rows = option_and_then (λ engine. option_map (λ s. transition s.0 s.1 (record { engine = engine; numbers = s.2 })) (search_of rows))
@@ -286,10 +303,10 @@ hold_of held = (held.name.now, held.bit)
 
 -- the command line that a request is
 abbrev pub command_line_of : Request → CommandLine
-command_line_of (request.Scan net out chains) = scan net.now out.now chains
+command_line_of (request.Scan net out chains order) = scan net.now out.now chains (option_map (λ t. t.now) order)
 command_line_of (request.Faults net) = faults net.now
 command_line_of (request.Run names options holds) =
-    run names.net.now names.prefix.now (option_map (λ t. t.now) names.list) (option_map (λ t. t.now) names.first) options (map hold_of holds.items)
+    run names.net.now names.prefix.now (option_map (λ t. t.now) names.order) (option_map (λ t. t.now) names.list) (option_map (λ t. t.now) names.first) options (map hold_of holds.items)
 command_line_of (request.Play net stil fault) = play net.now stil.now (option_map (λ t. t.now) fault)
 command_line_of (request.Check prefix) = check prefix.now
 command_line_of (request.Sweep seed gates) = sweep seed gates
@@ -321,7 +338,7 @@ pub record AreWithin (options : DiagnoseOptions) : Type 0 where
 
 -- each number of a request is in its range
 abbrev pub IsInRange : Request → Type 0
-IsInRange (request.Scan net out chains) = (1 ≤ chains) × (chains ≤ most_chains)
+IsInRange (request.Scan net out chains order) = (1 ≤ chains) × (chains ≤ most_chains)
 IsInRange (request.Run names options holds) = AreInRunRange options
 IsInRange (request.Sweep seed gates) = (fewest_gates ≤ gates) × (gates ≤ most_gates)
 IsInRange (request.ChainTest net stil chains) = (1 ≤ chains) × (chains ≤ most_chains)

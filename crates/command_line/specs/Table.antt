@@ -38,10 +38,10 @@ most_rank = 18446744073709551615
 abbrev pub most_percent : ℕ
 most_percent = 100
 
--- scan NET OUT [--chains C]
+-- scan NET OUT [--chains C] [--order FILE]
 abbrev pub scan_command : Shape
 scan_command = command (codes "scan")
-    (required (codes "NET") ∷ required (codes "OUT") ∷ number_option (codes "chains") 1 most_chains ∷ [])
+    (required (codes "NET") ∷ required (codes "OUT") ∷ number_option (codes "chains") 1 most_chains ∷ text_option (codes "order") ∷ [])
 
 -- faults NET
 abbrev pub faults_command : Shape
@@ -62,12 +62,12 @@ most_rounds = 100
 abbrev pub most_times : ℕ
 most_times = 100
 
--- what `run` has of its own: [--engine E] [--then E] [--hold LIST] [--faults FILE] [--coverage P] [--with FILE] [--compact K] [--detect N]
+-- what `run` has of its own: [--engine E] [--then E] [--hold LIST] [--faults FILE] [--coverage P] [--with FILE] [--compact K] [--detect N] [--order FILE]
 abbrev pub run_rules : List Rule
 run_rules =
     text_option (codes "engine") ∷ text_option (codes "then") ∷ text_option (codes "hold") ∷ text_option (codes "faults")
     ∷ number_option (codes "coverage") 1 most_percent ∷ text_option (codes "with") ∷ number_option (codes "compact") 0 most_rounds
-    ∷ number_option (codes "detect") 1 most_times ∷ []
+    ∷ number_option (codes "detect") 1 most_times ∷ text_option (codes "order") ∷ []
 
 -- run NET PREFIX ..
 abbrev pub run_command : Shape

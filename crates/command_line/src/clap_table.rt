@@ -78,6 +78,11 @@ const ENGINE: Argument<'static> = Text(
 
 const THEN: Argument<'static> = Text("then", "What settles what podem or fan gives up: clauses");
 
+const ORDER: Argument<'static> = Text(
+    "order",
+    "A file with a line for each chain, the names of its cells",
+);
+
 const SCAN: Listed<'static> = Listed {
     name: "scan",
     about: "Puts scan cells into a netlist",
@@ -85,6 +90,7 @@ const SCAN: Listed<'static> = Listed {
         NET,
         Required("OUT", "The file for the scanned netlist"),
         CHAINS,
+        ORDER,
     ],
 };
 
@@ -130,6 +136,7 @@ const RUN: Listed<'static> = Listed {
             MOST_TIMES,
             "How many patterns are to detect each fault, 1 to 100 [default: 1]",
         ),
+        ORDER,
     ],
 };
 

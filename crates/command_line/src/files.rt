@@ -4,7 +4,7 @@ ghost use Rattle.std.specs.List.{find, list_any};
 ghost use Rattle.std.specs.Option.{option_to_list};
 ghost use Rattle.std.specs.Str.{bytes_eq};
 ghost use Rattle.commands.specs.Names.{file_name_of, file_names_of};
-ghost use Rattle.command_line.specs.CommandLine.{IsInRange, command_line_of, grade_file, if_nameless, is_nameless, nameless_prefix, run_reads, stil_file, written_over};
+ghost use Rattle.command_line.specs.CommandLine.{IsInRange, command_line_of, grade_file, if_nameless, is_nameless, nameless_prefix, run_reads, scan_reads, stil_file, written_over};
 ghost use Rattle.command_line.specs.inner.Files.{AreNamed, IsNamed};
 
 use crate::WordsRefusal;
@@ -78,13 +78,28 @@ fn push_given<'a>(
     Ok(())
 }
 
+/// The names of the files that `scan` reads, in order.
+pub fn scan_reads<'a>(
+    alloc: Global,
+    net: &'a str,
+    order: Option<&'a str>,
+) -> Result<Vec<FileName<'a>>, AllocError>
+    ensures { IfOk result (λ reads. file_names_of reads.items ≡ scan_reads net.entry.now (option_map (λ t. t.now) order.entry)) }
+{
+    let mut reads = Vec::new(alloc);
+    reads.push(FileName::of(net))?;
+    push_given(&mut reads, order.map(FileName::of))?;
+    Ok(reads)
+}
+
 /// The names of the files that `run` reads, in order.
 pub fn run_reads<'a>(alloc: Global, names: RunNames<'a>) -> Result<Vec<FileName<'a>>, AllocError>
     ensures { IfOk result (λ reads. file_names_of reads.items
-        ≡ run_reads names.entry.net.now (option_map (λ t. t.now) names.entry.list) (option_map (λ t. t.now) names.entry.first)) }
+        ≡ run_reads names.entry.net.now (option_map (λ t. t.now) names.entry.order) (option_map (λ t. t.now) names.entry.list) (option_map (λ t. t.now) names.entry.first)) }
 {
     let mut reads = Vec::new(alloc);
     reads.push(FileName::of(names.net))?;
+    push_given(&mut reads, names.order.map(FileName::of))?;
     push_given(&mut reads, names.list.map(FileName::of))?;
     push_given(&mut reads, names.first.map(stil_name))?;
     Ok(reads)
@@ -110,8 +125,14 @@ fn written_over<'a>(
     ensures { IfOk result (λ name. option_map file_name_of name ≡ written_over (command_line_of request.now)) }
 {
     match request {
-        Request::Scan { net, out, .. } => {
-            Ok(first_among(&[FileName::of(net)], &[FileName::of(out)]))
+        Request::Scan {
+            net,
+            out,
+            order,
+            ..
+        } => {
+            let reads = scan_reads(alloc, net, *order)?;
+            Ok(first_among(reads.as_slice(), &[FileName::of(out)]))
         }
         Request::Run { names, .. } => {
             let reads = run_reads(alloc, *names)?;

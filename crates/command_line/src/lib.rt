@@ -4,7 +4,7 @@
 //! `clap_table` builds the table for `clap`, `values` reads single values, `requests` makes of what
 //! `clap` found a request, `files` looks at the names of its files.
 //!
-//! Gives: `parse`, `Request`, `grade_name`, `run_reads`.
+//! Gives: `parse`, `Request`, `grade_name`, `scan_reads`, `run_reads`.
 //! Proved: `parse`: exactly the request that clap's rule gives over the table, with exactly the list of held inputs, or why there is none: exactly where
 //! files would be nameless, and where one that is read would be written over; `nothing_written_over`: no command line writes a file that it reads.
 //! Tested: clap's texts.
@@ -31,7 +31,7 @@ use clap::{ArgMatches, Error};
 use clap_table::table;
 use commands::FileName;
 use files::with_files;
-pub use files::{grade_name, run_reads};
+pub use files::{grade_name, run_reads, scan_reads};
 pub use holds::Held;
 pub use laws::nothing_written_over;
 pub use requests::{
@@ -66,6 +66,13 @@ For more information, try '--help'.
 // Of engines that aren't there.
 const BAD_ENGINE: &str = "\
 error: the engine is podem, fan or clauses, and then, behind podem or fan alone, clauses
+
+For more information, try '--help'.
+";
+
+// Of an order that has chains of its own.
+const BAD_ORDER: &str = "\
+error: --order says how many chains there are, so that --chains can't be given beside it
 
 For more information, try '--help'.
 ";
@@ -108,6 +115,7 @@ fn refusal_of<'a>(alloc: Global, none: NoRequest) -> WordsRefusal<'a>
     match none {
         NoRequest::BadNumber => bad_words(alloc, BAD_NUMBER),
         NoRequest::BadEngine => bad_words(alloc, BAD_ENGINE),
+        NoRequest::BadOrder => bad_words(alloc, BAD_ORDER),
         NoRequest::BadHold => WordsRefusal::BadHold,
         NoRequest::NoMemory => WordsRefusal::NoMemory,
     }

@@ -14,6 +14,7 @@ ghost use Rattle.command_line.specs.CommandLine.{
   faults_line_of,
   grade_of,
   holds_given,
+  order_of,
   command_line_at,
   line_by,
   line_from,
@@ -25,6 +26,7 @@ ghost use Rattle.command_line.specs.CommandLine.{
   run_options_of,
   run_options_with,
   scan_of,
+  scan_with,
   search_of,
   sweep_of,
   transition_of,
@@ -108,6 +110,8 @@ pub struct RunNames<'a> {
     pub net: &'a str,
     /// What the names of the files written begin with.
     pub prefix: &'a str,
+    /// The order of the cells, which then says how many chains there are.
+    pub order: Option<&'a str>,
     /// The list of the faults that are asked for, where not all are.
     pub list: Option<&'a str>,
     /// The STIL file whose patterns come first, or what its name begins with.
@@ -123,6 +127,8 @@ pub enum Request<'a> {
         net: &'a str,
         out: &'a str,
         chains: u32,
+        /// The file of the order of the cells, which then says how many chains there are.
+        order: Option<&'a str>,
     },
     /// Print the list of faults of the netlist of the file `net`, each with its class.
     Faults {
@@ -194,12 +200,24 @@ struct SearchLine<'a> {
 pub(crate) enum NoRequest {
     BadNumber,
     BadEngine,
+    BadOrder,
     BadHold,
     NoMemory,
 }
 
-fn scan<'a>(found: &ArgMatches<'a>) -> Option<Request<'a>>
-    ensures line { option_map command_line_of result ≡ scan_of (rows_of (found_of found.now)) }
+// The file of an order, if it is given without a number of chains.
+fn order<'a>(found: &ArgMatches<'a>) -> Option<Option<&'a str>>
+    ensures { option_map (λ o. option_map (λ t. t.now) o) result ≡ order_of (rows_of (found_of found.now)) }
+{
+    match (text(found, "chains"), text(found, "order")) {
+        (_, None) => Some(None),
+        (None, Some(order)) => Some(Some(order)),
+        (Some(_), Some(_)) => None,
+    }
+}
+
+fn scan_with<'a>(found: &ArgMatches<'a>, order: Option<&'a str>) -> Option<Request<'a>>
+    ensures line { option_map command_line_of result ≡ scan_with (rows_of (found_of found.now)) (option_map (λ t. t.now) order.entry) }
     ensures in_range { IfSome result IsInRange }
 {
     let net = text(found, "NET")?;
@@ -209,7 +227,18 @@ fn scan<'a>(found: &ArgMatches<'a>) -> Option<Request<'a>>
         net,
         out,
         chains: chains as u32,
+        order,
     })
+}
+
+fn scan<'a>(found: &ArgMatches<'a>) -> Result<Request<'a>, NoRequest>
+    ensures line { IsAsked (line_from (scan_of (rows_of (found_of found.now)))) result }
+    ensures in_range { IfOk result IsInRange }
+{
+    let Some(order) = order(found) else {
+        return Err(NoRequest::BadOrder);
+    };
+    taken(scan_with(found, order))
 }
 
 fn faults<'a>(found: &ArgMatches<'a>) -> Option<Request<'a>>
@@ -429,12 +458,17 @@ fn run_options(found: &ArgMatches<'_>, numbers: SearchNumbers) -> Result<RunOpti
 }
 
 // The files of `run`.
-fn run_names<'a>(found: &ArgMatches<'a>, line: SearchLine<'a>) -> RunNames<'a>
-    ensures { AreRunNames (rows_of (found_of found.now)) line.entry result }
+fn run_names<'a>(
+    found: &ArgMatches<'a>,
+    order: Option<&'a str>,
+    line: SearchLine<'a>,
+) -> RunNames<'a>
+    ensures { AreRunNames (rows_of (found_of found.now)) order.entry line.entry result }
 {
     RunNames {
         net: line.net,
         prefix: line.prefix,
+        order,
         list: text(found, "faults"),
         first: text(found, "with"),
     }
@@ -444,6 +478,9 @@ fn run<'a>(alloc: Global, found: &ArgMatches<'a>) -> Result<Request<'a>, NoReque
     ensures line { IsAsked (run_of (rows_of (found_of found.now))) result }
     ensures in_range { IfOk result IsInRange }
 {
+    let Some(order) = order(found) else {
+        return Err(NoRequest::BadOrder);
+    };
     let line = match search_line(found) {
         Ok(line) => line,
         Err(none) => return Err(none),
@@ -454,7 +491,7 @@ fn run<'a>(alloc: Global, found: &ArgMatches<'a>) -> Result<Request<'a>, NoReque
     };
     match holds(alloc, found) {
         Ok(holds) => Ok(Request::Run {
-            names: run_names(found, line),
+            names: run_names(found, order, line),
             options,
             holds,
         }),
@@ -508,7 +545,7 @@ fn request_by<'a>(
     ensures in_range { IfOk result IsInRange }
 {
     match name {
-        "scan" => taken(scan(found)),
+        "scan" => scan(found),
         "faults" => taken(faults(found)),
         "run" => run(alloc, found),
         "play" => taken(play(found)),

@@ -72,6 +72,7 @@ module _ (n : Netlist) (sound : IsSound n) where
   holds_apart : (named : List HoldItem) (x : Holds) (r : Refusal) → named_holds n named (Ok x) → named_holds n named (Err r) → ⊥
   holds_apart named x (refusal.NoSuchInput place) p q = let w = all_inputs n named (none_held n) x p place q.hold q.at in q.unknown w.0 w.1
   holds_apart named x (refusal.Netlist r) p q = q
+  holds_apart named x (refusal.Order r) p q = q
   holds_apart named x refusal.NoSuchFault p q = q
   holds_apart named x refusal.NotStil p q = q
   holds_apart named x refusal.NotCertificate p q = q
@@ -92,6 +93,7 @@ module _ (n : Netlist) (sound : IsSound n) where
   refusals_once : (named : List HoldItem) (r s : Refusal) → named_holds n named (Err r) → named_holds n named (Err s) → r ≡ s
   refusals_once named (refusal.NoSuchInput i) (refusal.NoSuchInput j) p q = ap (λ k. refusal.NoSuchInput k) (first_once named i j p q)
   refusals_once named (refusal.NoSuchInput i) (refusal.Netlist s) p q = absurd q
+  refusals_once named (refusal.NoSuchInput i) (refusal.Order s) p q = absurd q
   refusals_once named (refusal.NoSuchInput i) refusal.NoSuchFault p q = absurd q
   refusals_once named (refusal.NoSuchInput i) refusal.NotStil p q = absurd q
   refusals_once named (refusal.NoSuchInput i) refusal.NotCertificate p q = absurd q
@@ -100,6 +102,7 @@ module _ (n : Netlist) (sound : IsSound n) where
   refusals_once named (refusal.NoSuchInput i) (refusal.NoFaultAt number) p q = absurd q
   refusals_once named (refusal.NoSuchInput i) refusal.StilDoesNotFit p q = absurd q
   refusals_once named (refusal.Netlist r) s p q = absurd p
+  refusals_once named (refusal.Order r) s p q = absurd p
   refusals_once named refusal.NoSuchFault s p q = absurd p
   refusals_once named refusal.NotStil s p q = absurd p
   refusals_once named refusal.NotCertificate s p q = absurd p

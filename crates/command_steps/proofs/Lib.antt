@@ -5,3 +5,4 @@ pub mod StepLemmas
 pub mod RunLemmas
 pub mod Single
 pub mod LineLemmas
+pub mod OrderLemmas

@@ -57,6 +57,7 @@ then_one step rest single each = then_one_where step rest single (λ x is. each 
 
 netlist_refusals : (reading : Names) (bytes : Text) (r s : Refusal) → netlist reading bytes (Err r) → netlist reading bytes (Err s) → r ≡ s
 netlist_refusals reading bytes (refusal.Netlist r) (refusal.Netlist s) a b = ap (λ x. refusal.Netlist x) (refusals_alike reading bytes r s a b)
+netlist_refusals reading bytes (refusal.Netlist r) (refusal.Order s) a b = absurd b
 netlist_refusals reading bytes (refusal.Netlist r) refusal.NoSuchFault a b = absurd b
 netlist_refusals reading bytes (refusal.Netlist r) (refusal.NoSuchInput place) a b = absurd b
 netlist_refusals reading bytes (refusal.Netlist r) refusal.NotStil a b = absurd b
@@ -65,6 +66,7 @@ netlist_refusals reading bytes (refusal.Netlist r) refusal.NotReport a b = absur
 netlist_refusals reading bytes (refusal.Netlist r) refusal.NotLog a b = absurd b
 netlist_refusals reading bytes (refusal.Netlist r) (refusal.NoFaultAt number) a b = absurd b
 netlist_refusals reading bytes (refusal.Netlist r) refusal.StilDoesNotFit a b = absurd b
+netlist_refusals reading bytes (refusal.Order r) s a b = absurd a
 netlist_refusals reading bytes refusal.NoSuchFault s a b = absurd a
 netlist_refusals reading bytes (refusal.NoSuchInput place) s a b = absurd a
 netlist_refusals reading bytes refusal.NotStil s a b = absurd a
@@ -76,6 +78,7 @@ netlist_refusals reading bytes refusal.StilDoesNotFit s a b = absurd a
 
 netlist_apart : (reading : Names) (bytes : Text) (n : Netlist) (r : Refusal) → netlist reading bytes (Ok n) → netlist reading bytes (Err r) → ⊥
 netlist_apart reading bytes n (refusal.Netlist r) a b = read_once reading bytes n r a.0 b
+netlist_apart reading bytes n (refusal.Order r) a b = b
 netlist_apart reading bytes n refusal.NoSuchFault a b = b
 netlist_apart reading bytes n (refusal.NoSuchInput place) a b = b
 netlist_apart reading bytes n refusal.NotStil a b = b

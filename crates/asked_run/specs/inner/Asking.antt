@@ -27,8 +27,8 @@ abbrev pub run_texts_of : RunTexts → RunRead
 run_texts_of t = run_texts t.net.now (option_map (λ text. text.now) t.list) (option_map (λ text. text.now) t.stil)
 
 -- there are as many texts as the words name files
-abbrev pub HaveCount : Option Text → Option Text → ℕ → Type 0
-HaveCount list first count = count ≡ length (run_reads [] list first)
+abbrev pub HaveCount : Option Text → Option Text → Option Text → ℕ → Type 0
+HaveCount order list first count = count ≡ length (run_reads [] order list first)
 
 -- ---- what is due behind each step
 

@@ -20,6 +20,7 @@ abbrev pub IsAsked : Result CommandLine NoLine → Result Request NoRequest → 
 IsAsked line (Ok request) = line ≡ Ok (command_line_of request)
 IsAsked line (Err none.BadNumber) = line ≡ Err bad_words
 IsAsked line (Err none.BadEngine) = line ≡ Err bad_words
+IsAsked line (Err none.BadOrder) = line ≡ Err bad_words
 IsAsked line (Err none.BadHold) = line ≡ Err bad_hold
 IsAsked line (Err none.NoMemory) = ⊤
 
@@ -33,5 +34,6 @@ IsBadWords _ = ⊥
 abbrev pub BecomesRefusal : NoRequest → WordsRefusal → Type 0
 BecomesRefusal none.BadNumber r = IsBadWords r
 BecomesRefusal none.BadEngine r = IsBadWords r
+BecomesRefusal none.BadOrder r = IsBadWords r
 BecomesRefusal none.BadHold r = r ≡ refusal.BadHold
 BecomesRefusal none.NoMemory r = r ≡ refusal.NoMemory

@@ -1,6 +1,7 @@
 -- What the values of a command that searches give.
+use denote.Ref.{Bor}
 use Rattle.std.specs.Prelude.{◌≡◌, List, Option, Some, None, Result, Ok, Err, codes, option_map}
-use Rattle.clap.specs.Words.{Row, first_of}
+use Rattle.clap.specs.Words.{Row, Text, first_of}
 use Rattle.command_line.specs.CommandLine.{Search}
 use Rattle.command_line.specs.declared.requests.NoRequest.{NoRequest}
 use Rattle.command_line.specs.declared.requests.NoRequest.TheVariants as none
@@ -15,9 +16,10 @@ IsSearch given (Err none.BadNumber) = given ≡ None
 IsSearch given (Err _) = ⊥
 
 -- the files of a `run` that is given these
-pub record AreRunNames (rows : List Row) (line : SearchLine) (names : RunNames) : Type 0 where
+pub record AreRunNames (rows : List Row) (given : Option (Bor Text)) (line : SearchLine) (names : RunNames) : Type 0 where
   pub net : names.net ≡ line.net
   pub prefix : names.prefix ≡ line.prefix
+  pub order : names.order ≡ given
   pub list : option_map (λ t. t.now) names.list ≡ first_of (codes "faults") rows
   pub first : option_map (λ t. t.now) names.first ≡ first_of (codes "with") rows
 

@@ -3,7 +3,7 @@ use Rattle.commands.specs.Names.{file_names_of, run_files, texts_of}
 use Rattle.commands.specs.World.{world}
 use Rattle.commands.proofs.CommandLemmas.{command_row, unread_row}
 use Rattle.command_line.specs.CommandLine.{hold_of, run_reads}
-use Rattle.asked_run.specs.Asked.{run_due}
+use Rattle.asked_run.specs.Asked.{ordered_run_due}
 use Rattle.command_steps.proofs.RowLemmas.{row_at}
 use Rattle.asked_run.proofs.running.run_netlist.Goals as goal
 
@@ -17,14 +17,15 @@ returns g c =
     let taken = g.T.Sink.taken c.args.out.now in
     let unwritten = g.T.Sink.failures c.args.out.now in
     let after = world (g.S.Shelf.files c.deliver.new.shelf) (g.S.Shelf.failures c.deliver.new.shelf) (g.T.Sink.taken c.deliver.new.out) (g.T.Sink.failures c.deliver.new.out) in
+    let order = option_map (λ t. t.now) c.args.names.order in
     let list = option_map (λ t. t.now) c.args.names.list in
     let first = option_map (λ t. t.now) c.args.names.first in
-    let due = run_due list first c.args.options (map hold_of c.args.named.now) in
+    let due = ordered_run_due order list first c.args.options (map hold_of c.args.named.now) in
     let reads = file_names_of c.as_slice.result.now in
     let writes = file_names_of c.file_names-writes.result in
     let read = c.in-Ok-read_in_order.ensures in
     let row = command_row reads writes due files failures (g.S.Shelf.files c.read_in_order.new.shelf) (g.S.Shelf.failures c.read_in_order.new.shelf) taken unwritten after
-    (texts_of c.in-Ok-read_in_order.texts.items) 5 c.work-worked.result c.deliver.result read.0 read.1 read.2 c.work-worked.ensures c.deliver.ensures in
-    row_at reads (run_reads c.args.names.net.now list first) writes (run_files c.args.names.prefix.now) due (world files failures taken unwritten) after c.deliver.result
+    (texts_of c.in-Ok-read_in_order.texts.items) 5 c.ordered_work-worked.result c.deliver.result read.0 read.1 read.2 c.ordered_work-worked.ensures c.deliver.ensures in
+    row_at reads (run_reads c.args.names.net.now order list first) writes (run_files c.args.names.prefix.now) due (world files failures taken unwritten) after c.deliver.result
     (ap file_names_of c.as_slice.ensures.value ∙ c.in-Ok.ensures)
     c.file_names-writes.ensures row

@@ -6,6 +6,9 @@ use Rattle.atpg_top.proofs.lines.say_refusal.Goals as goal
 pub returns-in-Netlist : goal.returns-in-Netlist
 returns-in-Netlist g c = rw c.in-Netlist.is c.say_netlist.ensures
 
+pub returns-in-Order : goal.returns-in-Order
+returns-in-Order g c = rw c.in-Order.is c.say_order.ensures
+
 pub returns-in-NoSuchFault : goal.returns-in-NoSuchFault
 returns-in-NoSuchFault g c = rw c.in-NoSuchFault.is c.say_text.ensures
 
@@ -22,7 +25,7 @@ pub returns-in-NotLog : goal.returns-in-NotLog
 returns-in-NotLog g c = rw c.in-NotLog.is c.say_text-in-NotLog.ensures
 
 pub returns-in-NoFaultAt : goal.returns-in-NoFaultAt
-returns-in-NoFaultAt g c = rw c.in-NoFaultAt.is c.say_stranger.ensures
+returns-in-NoFaultAt g c = rw c.in-NoFaultAt.is c.say_number.ensures
 
 pub returns-in-StilDoesNotFit : goal.returns-in-StilDoesNotFit
 returns-in-StilDoesNotFit g c = rw c.in-StilDoesNotFit.is c.say_text-in-StilDoesNotFit.ensures

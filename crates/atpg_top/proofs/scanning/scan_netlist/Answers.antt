@@ -1,14 +1,30 @@
-use Rattle.std.proofs.Common.{[], ◌∷◌, ap}
+use Rattle.std.proofs.Common.{◌∙◌, [], ◌∷◌, ap, inl, option_map, refl}
 use Rattle.statement.specs.Benches.{Text}
+use Rattle.commands.specs.Names.{file_name_of, file_names_of, texts_of}
 use Rattle.commands.specs.World.{world}
-use Rattle.commands.specs.Names.{file_name_of}
-use Rattle.atpg_top.specs.Commands.{scan_due}
+use Rattle.commands.proofs.CommandLemmas.{command_row}
+use Rattle.command_line.specs.CommandLine.{scan_reads}
+use Rattle.command_steps.specs.Ordering.{ordered_due}
 use Rattle.command_steps.proofs.RowLemmas.{row_at}
+use Rattle.atpg_top.specs.Commands.{scan_due}
 use Rattle.atpg_top.proofs.scanning.scan_netlist.Goals as goal
+
+pub returns-in-Err : goal.returns-in-Err
+returns-in-Err g c = inl ((refl, refl), (refl, refl))
 
 pub returns : goal.returns
 returns g c =
-    let before = world (g.S.Shelf.files c.args.shelf.now) (g.S.Shelf.failures c.args.shelf.now) (g.T.Sink.taken c.args.out.now) (g.T.Sink.failures c.args.out.now) in
-    let after = world (g.S.Shelf.files c.run_command.new.shelf) (g.S.Shelf.failures c.run_command.new.shelf) (g.T.Sink.taken c.run_command.new.out) (g.T.Sink.failures c.run_command.new.out) in
-    row_at (file_name_of c.of.result ∷ []) (c.args.net.now ∷ []) (file_name_of c.of-2.result ∷ []) (c.args.to.now ∷ []) (scan_due c.args.chains) before after c.run_command.result
-    (ap (λ (t : Text). t ∷ []) c.of.ensures) (ap (λ (t : Text). t ∷ []) c.of-2.ensures) c.run_command.ensures
+    let files = g.S.Shelf.files c.args.shelf.now in
+    let failures = g.S.Shelf.failures c.args.shelf.now in
+    let taken = g.T.Sink.taken c.args.out.now in
+    let unwritten = g.T.Sink.failures c.args.out.now in
+    let after = world (g.S.Shelf.files c.deliver.new.shelf) (g.S.Shelf.failures c.deliver.new.shelf) (g.T.Sink.taken c.deliver.new.out) (g.T.Sink.failures c.deliver.new.out) in
+    let order = option_map (λ t. t.now) c.args.order in
+    let due = ordered_due scan_due order c.args.chains in
+    let reads = file_names_of c.as_slice.result.now in
+    let writes = file_name_of c.of.result ∷ [] in
+    let read = c.in-Ok-read_in_order.ensures in
+    let row = command_row reads writes due files failures (g.S.Shelf.files c.read_in_order.new.shelf) (g.S.Shelf.failures c.read_in_order.new.shelf) taken unwritten after
+    (texts_of c.in-Ok-read_in_order.texts.items) 1 c.ordered_work-worked.result c.deliver.result read.0 read.1 read.2 c.ordered_work-worked.ensures c.deliver.ensures in
+    row_at reads (scan_reads c.args.net.now order) writes (c.args.to.now ∷ []) due (world files failures taken unwritten) after c.deliver.result
+    (ap file_names_of c.as_slice.ensures.value ∙ c.in-Ok.ensures) (ap (λ (t : Text). t ∷ []) c.of.ensures) row

@@ -4,10 +4,10 @@ use Rattle.command_line.proofs.LineLemmas.{asked_as, is_chaintest, is_check, is_
 use Rattle.command_line.proofs.requests.request_by.Goals as goal
 
 pub returns-in-scan-clause-line : goal.returns-in-scan-clause-line
-returns-in-scan-clause-line c = asked_as _ _ c.taken.result (named _ _ _ _ c.in-scan.is (ap line_from c.scan.ensures.line ∙ is_scan _)) c.taken.ensures.line
+returns-in-scan-clause-line c = asked_as _ _ c.scan.result (named _ _ _ _ c.in-scan.is (is_scan _)) c.scan.ensures.line
 
 pub returns-in-faults-clause-line : goal.returns-in-faults-clause-line
-returns-in-faults-clause-line c = asked_as _ _ c.taken-in-faults.result (named _ _ _ _ c.in-faults.is (ap line_from c.faults.ensures.line ∙ is_faults _)) c.taken-in-faults.ensures.line
+returns-in-faults-clause-line c = asked_as _ _ c.taken.result (named _ _ _ _ c.in-faults.is (ap line_from c.faults.ensures.line ∙ is_faults _)) c.taken.ensures.line
 
 pub returns-in-play-clause-line : goal.returns-in-play-clause-line
 returns-in-play-clause-line c = asked_as _ _ c.taken-in-play.result (named _ _ _ _ c.in-play.is (ap line_from c.play.ensures.line ∙ is_play _)) c.taken-in-play.ensures.line
