@@ -1,8 +1,8 @@
 -- What a run is asked for, step by step.
 use denote.Ref.{Bor}
-use Rattle.std.proofs.Common.{◌≡◌, ◌∙◌, ◌≤◌, ◌<◌, ◌+◌, inl, inr, ℕ, zero, suc, Bool, true, false, List, [], ◌∷◌, ◌++◌, Option, Some, None, Result, Ok, Err, Vec, refl, sym, subst, ap, ap₂, arith, length, length-append, map, replicate}
+use Rattle.std.proofs.Common.{◌≡◌, ◌∙◌, ◌≤◌, ◌<◌, ◌+◌, inl, inr, ℕ, suc, Bool, true, false, List, [], ◌∷◌, ◌++◌, Option, Some, None, Result, Ok, Err, Vec, refl, sym, subst, ap, ap₂, arith, length, length-append, map, replicate}
 use Rattle.std.specs.Prelude.{◌^◌, IfOk, IfSome, IsTrue, ◌↔◌, option_map}
-use Rattle.std.specs.List.{All, AllZip, Contains, filter, flat_map, zip}
+use Rattle.std.specs.List.{All, AllZip, Contains, flat_map, zip}
 use Rattle.std.specs.declared.alloc.Global.{Global}
 use Rattle.std.proofs.lemmas.List.{length-map}
 use Rattle.std.proofs.lemmas.List.Elements.{All-head, All-tail}

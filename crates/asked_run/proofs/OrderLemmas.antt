@@ -1,13 +1,13 @@
 -- The texts of a run whose netlist is put in order.
 use denote.Ref.{Bor}
-use Rattle.std.proofs.Common.{◌≡◌, ◌≤◌, ◌+◌, ℕ, List, [], Option, Some, None, Ok, Vec, arith, length, option_map, refl}
+use Rattle.std.proofs.Common.{◌≡◌, ◌≤◌, ◌+◌, ℕ, List, [], Option, Some, None, Ok, Vec, arith, length, option_map}
 use Rattle.std.specs.Prelude.{IfSome}
 use Rattle.std.specs.Option.{option_to_list}
 use Rattle.std.specs.declared.alloc.Global.{Global}
 use Rattle.std.proofs.lemmas.List.{length-map}
 use Rattle.statement.specs.Benches.{Text}
 use Rattle.commands.specs.Names.{texts_of}
-use Rattle.command_line.specs.CommandLine.{AreInRange, AreInRunRange, run_reads}
+use Rattle.command_line.specs.CommandLine.{AreInRunRange, run_reads}
 use Rattle.command_line.specs.declared.requests.RunOptions.{RunOptions}
 use Rattle.plain_text.specs.Limits.{most_chains}
 use Rattle.command_steps.specs.Ordering.{IsOrdered}

@@ -1,5 +1,4 @@
-use Rattle.std.proofs.Common.{◌∙◌, List, Vec, ℕ, ap, map, option_map, subst, sym}
-use Rattle.std.specs.List.{All}
+use Rattle.std.proofs.Common.{◌∙◌, List, Vec, ℕ, ap, map, option_map, sym}
 use Rattle.std.specs.declared.alloc.Global.{Global}
 use Rattle.commands.specs.Names.{texts_of}
 use Rattle.command_line.specs.CommandLine.{hold_of}

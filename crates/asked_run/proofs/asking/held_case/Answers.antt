@@ -1,4 +1,4 @@
-use Rattle.std.proofs.Common.{◌≡◌, ◌∙◌, None, Ok, Err, length, map, option_map, subst, sym}
+use Rattle.std.proofs.Common.{◌∙◌, None, Ok, Err, map, option_map, subst, sym}
 use Rattle.std.proofs.lemmas.List.{length-map}
 use Rattle.statement.specs.Netlists.{Netlist}
 use Rattle.netlist.specs.Designs.{IsDesign}

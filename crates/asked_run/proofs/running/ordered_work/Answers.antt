@@ -13,12 +13,12 @@ in_order-requires-clause-count g c =
     two_texts c.args.names.order (option_map (λ t. t.now) c.args.names.list) (option_map (λ t. t.now) c.args.names.first) (length c.args.texts.items) c.requires.count
 
 pub work-requires-clause-count : goal.work-requires-clause-count
-work-requires-clause-count g c =
+work-requires-clause-count g c κs within =
     left_over (option_map (λ t. t.now) c.args.names.order) (option_map (λ t. t.now) c.args.names.list) (option_map (λ t. t.now) c.args.names.first) c.args.options.numbers.chains c.args.texts.items c.in-Ok.ordered
     c.in-Ok.ensures.ordered c.requires.count
 
 pub work-requires-clause-range : goal.work-requires-clause-range
-work-requires-clause-range g c =
+work-requires-clause-range g c κs within =
     subst (λ (o : RunOptions). AreInRunRange o) (sym c.with_chains-options.ensures) (in_range c.args.options c.in-Ok.ordered.chains c.requires.range c.in-Ok.ensures.range)
 
 pub returns-in-Ok : goal.returns-in-Ok

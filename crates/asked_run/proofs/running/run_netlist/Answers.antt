@@ -1,7 +1,7 @@
 use Rattle.std.proofs.Common.{◌∙◌, ap, inl, map, option_map, refl}
 use Rattle.commands.specs.Names.{file_names_of, run_files, texts_of}
 use Rattle.commands.specs.World.{world}
-use Rattle.commands.proofs.CommandLemmas.{command_row, unread_row}
+use Rattle.commands.proofs.CommandLemmas.{command_row}
 use Rattle.command_line.specs.CommandLine.{hold_of, run_reads}
 use Rattle.asked_run.specs.Asked.{ordered_run_due}
 use Rattle.command_steps.proofs.RowLemmas.{row_at}
