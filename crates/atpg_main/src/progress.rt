@@ -176,8 +176,11 @@ impl<'a, R: Runtime> Progress<'a, R> {
         answered > 0 && answered >= self.count.load(Ordering::SeqCst)
     }
 
-    /// Writes the line over, unless that was just done.
+    /// Writes the line over, unless that was just done, or no search has begun: patterns are drawn before.
     fn show(&self, began: &Instant) {
+        if self.count.load(Ordering::SeqCst) == 0 {
+            return;
+        }
         let Ok(time) = began.elapsed(self.rt) else {
             return;
         };
