@@ -207,6 +207,27 @@ def test_program_begins_with_a_test():
         assert run_program(folder, "s27.bench", "few", "--limit", "128", "--faults", "some", "--with", "part", "--coverage", "1") == part
 
 
+def test_program_makes_the_same_files_by_any_number_of_workers():
+    """An AND of 200 inputs, which needs a test for each, in halves, and beside them gates of which half the faults are redundant: several batches of tests, and
+    classes between them that have none. Each search that owes its answer to the fault alone, with fewer patterns and without, also until enough is
+    detected."""
+    if not program("atpg_main").exists():
+        return NO_PROGRAM
+    inputs = [f"i{k}" for k in range(200)]
+    text = "".join(f"INPUT({name})\n" for name in inputs) + "OUTPUT(y)\n" + "".join(f"OUTPUT(z{k})\n" for k in range(99))
+    for k in range(99):
+        text += f"a{k} = AND(i{k}, i{k + 1})\nz{k} = OR(i{k}, a{k})\n"
+    text += f"low = AND({', '.join(inputs[:100])})\nhigh = AND({', '.join(inputs[100:])})\ny = AND(low, high)\n"
+    with tempfile.TemporaryDirectory() as room:
+        folder = pathlib.Path(room)
+        (folder / "and.bench").write_text(text)
+        for ways in ([], ["--engine", "fan", "--compact", "0"], ["--coverage", "60", "--limit", "1"]):
+            whole = run_program(folder, "and.bench", "p", *ways)
+            for workers in ("2", "5", "64"):
+                assert run_program(folder, "and.bench", "q", "--workers", workers, *ways) == whole, (workers, ways)
+                assert all((folder / f"p.{end}").read_bytes() == (folder / f"q.{end}").read_bytes() for end in plain_check.ENDS), (workers, ways)
+
+
 def test_program_detects_as_often_as_asked():
     """With --detect N each fault of two small designs is detected by N different patterns, or by all that there are: so a plain program counts, of all
     patterns and of those of the test. It takes the five files, also where an input is held, some faults aren't asked for or several workers search. With

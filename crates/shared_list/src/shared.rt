@@ -20,7 +20,7 @@ use crate::draws::{Drawer, Word, another, open};
 use crate::locked::{Events, Locked};
 use crate::share::{LedgerParts, Share};
 use evidence::Evidence;
-use list_core::{About, Claim, FaultList, Goal, Left, Over, Settling};
+use list_core::{About, Claim, FaultList, Goal, Left, Over, Settling, Verdict};
 use netlist::NoMemory;
 use std::alloc::{AllocError, Global};
 use std::sync::ledger::{Blank, Ledger};
@@ -176,10 +176,42 @@ impl<J: About, T: Ledger, S: Ledger, P: Ledger, U: Ledger> Shared<J, T, S, P, U>
         self.lock.lock(rt).list.undetected(alloc)
     }
 
+    /// How many classes there are.
+    pub fn count(&self) -> u32
+        ensures { result ≡ class_count J.subject }
+    {
+        self.classes
+    }
+
+    /// Whether the class has no verdict yet. One hold of the lock.
+    pub fn is_open(&self, rt: &impl Wait, class: u32) -> bool
+        requires { class < class_count J.subject }
+    {
+        matches!(self.lock.lock(rt).list.verdict(class), Verdict::Open)
+    }
+
+    /// The class behind the next so many that are open, from this one on; the number of classes where there are fewer. One hold of the lock.
+    pub fn behind(&self, rt: &impl Wait, from: u32, open: u32) -> u32 {
+        behind_open(&self.lock.lock(rt).list, from, open)
+    }
+
     /// Whether enough is detected. One hold of the lock.
     pub fn is_enough(&self, rt: &impl Wait, goal: &Goal) -> bool {
         self.lock.lock(rt).list.is_enough(goal)
     }
+}
+
+/// The class behind the next so many that are open, from this one on.
+fn behind_open<J: About>(list: &FaultList<J>, from: u32, open: u32) -> u32 {
+    let mut found = 0u32;
+    for class in from..list.count() {
+        if found == open {
+            return class;
+        }
+        let is_open = matches!(list.verdict(class), Verdict::Open);
+        found = found.wrapping_add(is_open as u32);
+    }
+    list.count()
 }
 
 /// A share for each worker.

@@ -10,17 +10,12 @@ use Rattle.worker.specs.inner.Stock.{IsStock}
 use Rattle.worker.proofs.WorkLemmas.{none_of}
 
 -- no cubes at the start
-pub none_at_hand : (j : Subject) (share : Tally) (cubes : Vec Cube Global) (size : ℕ) → cubes.items ≡ [] → vec_len cubes ≡ 0 → (0 < size) × (size ≤ 64) → IsStock j share cubes size
-none_at_hand j share cubes size none len fits = record {
-  few = omega (arith, len, fits.0);
-  full = fits.1;
+pub none_at_hand : (j : Subject) (share : Tally) (cubes : Vec Cube Global) → cubes.items ≡ [] → vec_len cubes ≡ 0 → IsStock j share cubes
+none_at_hand j share cubes none len = record {
+  few = omega (arith, len);
   unspent = omega (arith, len);
   wide = subst (All (IsCubeOf j.netlist j.holds)) (sym none) (none_of (IsCubeOf j.netlist j.holds));
 }
-
--- a full batch has room for them
-pub up_to_full : (j : Subject) (share : Tally) (cubes : Vec Cube Global) (size : ℕ) → IsStock j share cubes size → IsStock j share cubes 64
-up_to_full j share cubes size stock = record { few = omega (arith, stock.few, stock.full); full = omega arith; unspent = stock.unspent; wide = stock.wide }
 
 pub lent_below : (cubes : Vec Cube Global) (lent : List Cube) → lent ≡ cubes.items → vec_len cubes < 64 → length lent ≤ 64
 lent_below cubes lent same few = omega (arith, cubes.ok.0, ap length same, few)

@@ -5,7 +5,10 @@ ghost use Rattle.cubes.specs.Cubes.{IsCubeOf, IsPatternOf};
 ghost use Rattle.list_core.specs.Batches.{IsTrueBatch};
 ghost use Rattle.list_core.specs.Subjects.{HaveLines};
 
+use crate::errands::Errand;
+use crate::simulators::Simulators;
 use cubes::{Cube, Pattern, fill_all, merge};
+use evidence::Engine;
 use list_core::{About, Left};
 use netlist::NoMemory;
 use outside::{Gate, Stage};
@@ -14,10 +17,11 @@ use shared_list::{Share, Shared};
 use std::alloc::Global;
 use std::sync::Wait;
 use std::sync::ledger::Ledger;
+use std::thread::Threads;
 use word_sim::{Batch, Simulator};
 
 /// Fewer cubes, filled.
-fn patterns_of<J: About, N: Rng>(
+pub(crate) fn patterns_of<J: About, N: Rng>(
     alloc: Global,
     cubes: &[Cube],
     rng: &mut N,
@@ -71,6 +75,36 @@ fn batch_for<J: About, T: Ledger, S: Ledger, P: Ledger, U: Ledger, N: Rng, R: Wa
     let batch = batch_of(alloc, simulator, patterns, &left)?;
     let undetected = left.classes().len().saturating_sub(batch.hits().len()) as u64;
     Ok((batch, undetected))
+}
+
+/// The patterns with what they hit of the classes that are left, by all workers; and how many of these they leave.
+pub(crate) fn batch_beside<
+    J: About,
+    T: Ledger,
+    S: Ledger,
+    P: Ledger,
+    U: Ledger,
+    E: Engine,
+    G: Gate,
+    R: Threads + Wait + Sync,
+>(
+    errand: &Errand<'_, J, E, G, R>,
+    shared: &Shared<J, T, S, P, U>,
+    simulators: &mut Simulators<'_>,
+    patterns: Vec<Pattern>,
+) -> Result<(Batch, u64), NoMemory>
+    requires simulators { simulators.old ≡ J.subject.netlist }
+    requires lines { HaveLines J.subject }
+    requires few { vec_len patterns ≤ 64 }
+    requires wide { All (IsPatternOf J.subject.netlist J.subject.holds) patterns.items }
+    ensures patterns { IfOk result (λ r. r.0.patterns ≡ patterns.items) }
+    ensures true_batch { IfOk result (λ r. IsTrueBatch J.subject r.0) }
+    ensures simulators { simulators.new ≡ simulators.old }
+{
+    let left = shared.undetected(errand.rt, errand.alloc)?;
+    let hits = simulators.hits(errand.rt, errand.alloc, &patterns, left.classes())?;
+    let undetected = left.classes().len().saturating_sub(hits.len()) as u64;
+    Ok((Batch::new(patterns, hits), undetected))
 }
 
 /// Publishes the cubes, merged and filled, with what they hit of the classes that are left.

@@ -1,11 +1,8 @@
-//! What a worker does.
+//! What one worker does.
 //!
 //! It claims a class, searches with no lock held, and keeps the cubes of its tests. With 64 of them it merges and fills them, simulates the
 //! patterns over all classes that are left, and publishes patterns and hits in one hold: what a pattern detects beside its own class is never
 //! searched (fault dropping). To publish each test at once would drop classes sooner, but simulate one pattern where a word has room for 64.
-//!
-//! Workers beside each other begin with smaller batches. Until the first patterns are published nothing is dropped, so that k workers which each
-//! gathered 64 cubes first would search k times as many classes as one does, and simulate each batch over nearly all of them.
 //!
 //! Where there is a goal it looks whether enough is detected: before its first claim, and behind each batch, which alone brings detections. To look
 //! before each claim would hold the lock for a pass over all classes as often.
@@ -37,27 +34,10 @@ use std::sync::ledger::Ledger;
 use word_sim::Simulator;
 
 /// How many cubes make a batch.
-const FULL: usize = 64;
+pub(crate) const FULL: usize = 64;
 
-/// How many make the first batch of each of several workers. Each later one has twice as many, up to a full one.
-const FIRST: usize = 8;
-
-/// How a worker goes on: how many cubes its next batch has, and whether it claims no more, since none is left or enough is detected.
-#[derive(Clone, Copy)]
-struct Pace {
-    size: usize,
-    has_ended: bool,
-}
-
-/// How many cubes a worker's first batch has.
-fn first_batch(workers: u32) -> usize
-    ensures { (0 < result) × (result ≤ 64) }
-{
-    if workers == 1 { FULL } else { FIRST }
-}
-
-/// Whether there is a goal, and enough is detected. A list that others work on is asked under its lock, and only where there is a goal.
-fn is_enough<J: About, T: Ledger, S: Ledger, P: Ledger, U: Ledger, R: Wait>(
+/// Whether there is a goal, and enough is detected. The list is asked under its lock, and only where there is a goal.
+pub(crate) fn is_enough<J: About, T: Ledger, S: Ledger, P: Ledger, U: Ledger, R: Wait>(
     rt: &R,
     shared: &Shared<J, T, S, P, U>,
     goal: Option<&Goal>,
@@ -70,7 +50,7 @@ fn is_enough<J: About, T: Ledger, S: Ledger, P: Ledger, U: Ledger, R: Wait>(
     }
 }
 
-/// Searches claim after claim, until there is none, or enough is detected.
+/// Searches claim after claim, until there is none, or enough is detected. Room for searches and for simulation is made once.
 pub fn work<J: About, T: Ledger, S: Ledger, P: Ledger, U: Ledger, E: Engine, G: Gate, R: Wait>(
     rt: &R,
     alloc: Global,
@@ -92,13 +72,37 @@ pub fn work<J: About, T: Ledger, S: Ledger, P: Ledger, U: Ledger, E: Engine, G: 
     ensures table { share.new.table ≡ share.old.table }
     ensures ended { OnOk result (IfNone goal.entry (share.new.ended ≡ true)) }
 {
-    work_beside(
-        rt, alloc, shared, share, core, engine, stage, 1, seed, holds, goal,
+    let mut rng = Lcg64Xsh32::new(seed, share.worker() as u64);
+    let room = engine.room(alloc, core, holds)?;
+    let mut simulator = Simulator::new(alloc, core)?;
+    let cubes = work_turns(
+        rt,
+        alloc,
+        shared,
+        share,
+        core,
+        engine,
+        stage,
+        holds,
+        room,
+        &mut simulator,
+        &mut rng,
+        goal,
+    )?;
+    publish_cubes(
+        rt,
+        alloc,
+        shared,
+        share,
+        &mut simulator,
+        stage,
+        &mut rng,
+        &cubes,
     )
 }
 
 /// Hands a claim back with its evidence, and passes the stage if the class took it.
-fn settle<J: About, T: Ledger, S: Ledger, P: Ledger, U: Ledger, G: Gate, R: Wait>(
+pub(crate) fn settle<J: About, T: Ledger, S: Ledger, P: Ledger, U: Ledger, G: Gate, R: Wait>(
     rt: &R,
     shared: &Shared<J, T, S, P, U>,
     share: &mut Share<T, S, P, U>,
@@ -117,7 +121,7 @@ fn settle<J: About, T: Ledger, S: Ledger, P: Ledger, U: Ledger, G: Gate, R: Wait
 }
 
 /// Searches a claim that was drawn. The room comes back.
-fn searched<J: About, E: Engine, G: Gate>(
+pub(crate) fn searched<J: About, E: Engine, G: Gate>(
     alloc: Global,
     core: &Core,
     engine: &E,
@@ -164,7 +168,7 @@ fn answer<J: About, T: Ledger, S: Ledger, P: Ledger, U: Ledger, G: Gate, R: Wait
     }
 }
 
-/// Publishes the cubes once there are as many as a batch has, and then looks whether enough is detected; how to go on.
+/// Publishes the cubes once there are as many as a batch has, and then looks whether enough is detected; whether it is.
 fn publish_full<J: About, T: Ledger, S: Ledger, P: Ledger, U: Ledger, G: Gate, N: Rng, R: Wait>(
     rt: &R,
     alloc: Global,
@@ -174,37 +178,28 @@ fn publish_full<J: About, T: Ledger, S: Ledger, P: Ledger, U: Ledger, G: Gate, N
     stage: &G,
     rng: &mut N,
     cubes: &mut Vec<Cube>,
-    size: usize,
     goal: Option<&Goal>,
-) -> Result<Pace, NoMemory>
+) -> Result<bool, NoMemory>
     requires table { share.old.table ≡ shared.now.word.shared.table_id }
     requires simulator { simulator.old ≡ J.subject.netlist }
     requires lines { HaveLines J.subject }
     requires wide { All (IsCubeOf J.subject.netlist J.subject.holds) cubes.old.items }
-    requires some { 0 < size }
-    requires full { size ≤ 64 }
-    requires few { vec_len cubes.old ≤ size }
+    requires few { vec_len cubes.old ≤ 64 }
     requires unspent { vec_len cubes.old ≤ share.old.unspent }
     ensures table { share.new.table ≡ share.old.table }
     ensures simulator { simulator.new ≡ simulator.old }
-    ensures stock { IfOk result (λ p. IsStock J.subject share.new cubes.new p.size) }
-    ensures goal { IfOk result (λ p. IfNone goal.entry (p.has_ended ≡ false)) }
+    ensures stock { OnOk result (IsStock J.subject share.new cubes.new) }
+    ensures goal { IfOk result (λ b. IfNone goal.entry (b ≡ false)) }
 {
-    if cubes.len() < size {
-        return Ok(Pace {
-            size,
-            has_ended: false,
-        });
+    if cubes.len() < FULL {
+        return Ok(false);
     }
     publish_cubes(rt, alloc, shared, share, simulator, stage, rng, cubes)?;
     cubes.clear();
-    Ok(Pace {
-        size: (2 * size).min(FULL),
-        has_ended: is_enough(rt, shared, goal),
-    })
+    Ok(is_enough(rt, shared, goal))
 }
 
-/// Searches a claim that was drawn, answers it, and publishes once there are as many cubes as a batch has: the room back, and how to go on.
+/// Searches a claim that was drawn, answers it, and publishes once there are as many cubes as a batch has: the room back, and whether to end.
 fn work_claim<
     J: About,
     T: Ledger,
@@ -229,31 +224,28 @@ fn work_claim<
     simulator: &mut Simulator<'_>,
     rng: &mut N,
     cubes: &mut Vec<Cube>,
-    size: usize,
     goal: Option<&Goal>,
-) -> Result<(E::Room, Pace), NoMemory>
+) -> Result<(E::Room, bool), NoMemory>
     requires table { share.old.table ≡ shared.now.word.shared.table_id }
     requires subject { MaySearch J.subject core.now holds.now E.refutes }
     requires room { E.serves core.now holds.now room }
     requires simulator { simulator.old ≡ J.subject.netlist }
-    requires stock { IsStock J.subject share.old cubes.old size }
+    requires stock { IsStock J.subject share.old cubes.old }
     requires unspent { vec_len cubes.old < share.old.unspent }
     ensures table { share.new.table ≡ share.old.table }
     ensures simulator { simulator.new ≡ simulator.old }
     ensures room { IfOk result (λ r. E.serves core.now holds.now r.0) }
-    ensures stock { IfOk result (λ r. IsStock J.subject share.new cubes.new r.1.size) }
-    ensures goal { IfOk result (λ r. IfNone goal.entry (r.1.has_ended ≡ false)) }
+    ensures stock { OnOk result (IsStock J.subject share.new cubes.new) }
+    ensures goal { IfOk result (λ r. IfNone goal.entry (r.1 ≡ false)) }
 {
     let worker = share.worker();
     let (outcome, kept) = searched(alloc, core, engine, stage, holds, worker, &claim, room)?;
     answer(rt, shared, share, stage, claim, outcome, cubes)?;
-    let pace = publish_full(
-        rt, alloc, shared, share, simulator, stage, rng, cubes, size, goal,
-    )?;
-    Ok((kept, pace))
+    let has_ended = publish_full(rt, alloc, shared, share, simulator, stage, rng, cubes, goal)?;
+    Ok((kept, has_ended))
 }
 
-/// Draws a class, and works it, if one is left and still open: the room back, and how to go on.
+/// Draws a class, and works it, if one is left and still open: the room back, and whether to end, since none is left or enough is detected.
 fn take_turn<
     J: About,
     T: Ledger,
@@ -277,38 +269,30 @@ fn take_turn<
     simulator: &mut Simulator<'_>,
     rng: &mut N,
     cubes: &mut Vec<Cube>,
-    pace: Pace,
     goal: Option<&Goal>,
-) -> Result<(E::Room, Pace), NoMemory>
+) -> Result<(E::Room, bool), NoMemory>
     requires table { share.old.table ≡ shared.now.word.shared.table_id }
     requires subject { MaySearch J.subject core.now holds.now E.refutes }
     requires room { E.serves core.now holds.now room }
     requires simulator { simulator.old ≡ J.subject.netlist }
-    requires stock { IsStock J.subject share.old cubes.old pace.size }
-    requires goes_on { pace.has_ended ≡ false }
+    requires stock { IsStock J.subject share.old cubes.old }
     ensures table { share.new.table ≡ share.old.table }
     ensures simulator { simulator.new ≡ simulator.old }
     ensures room { IfOk result (λ r. E.serves core.now holds.now r.0) }
-    ensures stock { IfOk result (λ r. IsStock J.subject share.new cubes.new r.1.size) }
-    ensures told { IfOk result (λ r. IfNone goal.entry (IsTrue r.1.has_ended → share.new.ended ≡ true)) }
+    ensures stock { OnOk result (IsStock J.subject share.new cubes.new) }
+    ensures told { IfOk result (λ r. IfNone goal.entry (IsTrue r.1 → share.new.ended ≡ true)) }
 {
     match shared.take(rt, share) {
         Drawn::Claim(claim) => work_claim(
             rt, alloc, shared, share, core, engine, stage, holds, claim, room, simulator, rng,
-            cubes, pace.size, goal,
+            cubes, goal,
         ),
-        Drawn::Gone(_) => Ok((room, pace)),
-        Drawn::None => Ok((
-            room,
-            Pace {
-                has_ended: true,
-                ..pace
-            },
-        )),
+        Drawn::Gone(_) => Ok((room, false)),
+        Drawn::None => Ok((room, true)),
     }
 }
 
-/// Turn after turn, until no class is left, or enough is detected: the cubes that aren't published yet. The first batch has so many.
+/// Turn after turn, until no class is left, or enough is detected: the cubes that aren't published yet.
 fn work_turns<
     J: About,
     T: Ledger,
@@ -331,94 +315,30 @@ fn work_turns<
     room: E::Room,
     simulator: &mut Simulator<'_>,
     rng: &mut N,
-    size: usize,
     goal: Option<&Goal>,
 ) -> Result<Vec<Cube>, NoMemory>
     requires table { share.old.table ≡ shared.now.word.shared.table_id }
     requires subject { MaySearch J.subject core.now holds.now E.refutes }
     requires room { E.serves core.now holds.now room }
     requires simulator { simulator.old ≡ J.subject.netlist }
-    requires size { (0 < size) × (size ≤ 64) }
     ensures table { share.new.table ≡ share.old.table }
     ensures simulator { simulator.new ≡ simulator.old }
-    ensures stock { IfOk result (λ cubes. IsStock J.subject share.new cubes 64) }
+    ensures stock { IfOk result (λ cubes. IsStock J.subject share.new cubes) }
     ensures ended { OnOk result (IfNone goal.entry (share.new.ended ≡ true)) }
 {
     let mut room = room;
     let mut cubes = Vec::new(alloc);
-    let mut pace = Pace {
-        size,
-        has_ended: is_enough(rt, shared, goal),
-    };
+    let mut has_ended = is_enough(rt, shared, goal);
     for _ in rt.forever() {
-        if pace.has_ended {
+        if has_ended {
             break;
         }
-        let (kept, next) = take_turn(
+        let (kept, ends) = take_turn(
             rt, alloc, shared, share, core, engine, stage, holds, room, simulator, rng, &mut cubes,
-            pace, goal,
+            goal,
         )?;
         room = kept;
-        pace = next;
+        has_ended = ends;
     }
     Ok(cubes)
-}
-
-/// The work of one of so many workers: searches claim after claim, until there is none, or enough is detected. Room for searches and for
-/// simulation is made once.
-pub(crate) fn work_beside<
-    J: About,
-    T: Ledger,
-    S: Ledger,
-    P: Ledger,
-    U: Ledger,
-    E: Engine,
-    G: Gate,
-    R: Wait,
->(
-    rt: &R,
-    alloc: Global,
-    shared: &Shared<J, T, S, P, U>,
-    share: &mut Share<T, S, P, U>,
-    core: &Core,
-    engine: &E,
-    stage: &G,
-    workers: u32,
-    seed: u64,
-    holds: &Holds,
-    goal: Option<&Goal>,
-) -> Result<(), NoMemory>
-    requires table { share.old.table ≡ shared.now.word.shared.table_id }
-    requires subject { MaySearch J.subject core.now holds.now E.refutes }
-    ensures table { share.new.table ≡ share.old.table }
-    ensures ended { OnOk result (IfNone goal.entry (share.new.ended ≡ true)) }
-{
-    let mut rng = Lcg64Xsh32::new(seed, share.worker() as u64);
-    let room = engine.room(alloc, core, holds)?;
-    let mut simulator = Simulator::new(alloc, core)?;
-    let cubes = work_turns(
-        rt,
-        alloc,
-        shared,
-        share,
-        core,
-        engine,
-        stage,
-        holds,
-        room,
-        &mut simulator,
-        &mut rng,
-        first_batch(workers),
-        goal,
-    )?;
-    publish_cubes(
-        rt,
-        alloc,
-        shared,
-        share,
-        &mut simulator,
-        stage,
-        &mut rng,
-        &cubes,
-    )
 }

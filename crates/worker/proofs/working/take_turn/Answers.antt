@@ -1,4 +1,4 @@
-use Rattle.std.proofs.Common.{◌≡◌, true, false}
+use Rattle.std.proofs.Common.{◌≡◌, refl, true, false}
 use Rattle.std.specs.Prelude.{IfNone, IsTrue}
 use Rattle.std.proofs.lemmas.Result.{IfOk-weaker}
 use Rattle.worker.proofs.WorkLemmas.{ended_by_none, told_of, whether_none}
@@ -6,11 +6,11 @@ use Rattle.worker.proofs.working.take_turn.Goals as goal
 
 pub returns-in-Claim-clause-told : goal.returns-in-Claim-clause-told
 returns-in-Claim-clause-told g c =
-    IfOk-weaker c.work_claim.result (λ r. IfNone c.args.goal (r.1.has_ended ≡ false)) (λ r. IfNone c.args.goal (IsTrue r.1.has_ended → c.work_claim.new.share.ended ≡ true))
-    (λ r none. told_of _ c.args.goal r.1.has_ended none) c.work_claim.ensures.goal
+    IfOk-weaker c.work_claim.result (λ r. IfNone c.args.goal (r.1 ≡ false)) (λ r. IfNone c.args.goal (IsTrue r.1 → c.work_claim.new.share.ended ≡ true))
+    (λ r none. told_of _ c.args.goal r.1 none) c.work_claim.ensures.goal
 
 pub returns-in-Gone-clause-told : goal.returns-in-Gone-clause-told
-returns-in-Gone-clause-told g c = told_of _ c.args.goal c.args.pace.has_ended (whether_none c.args.goal c.requires.goes_on)
+returns-in-Gone-clause-told g c = told_of _ c.args.goal false (whether_none c.args.goal refl)
 
 pub returns-in-None-clause-told : goal.returns-in-None-clause-told
 returns-in-None-clause-told g c = whether_none c.args.goal (λ _. ended_by_none _ c.args.share.now c.take.new.share c.in-None.ensures)

@@ -5,8 +5,8 @@ use Rattle.worker.proofs.working.work_turns.Given as goal
 
 abbrev pub invariant-loop : goal.invariant-loop
 invariant-loop g l = record {
-  stock : IsStock g.J.About.subject l.share l.cubes l.pace.size;
-  told : IfNone l.goal (IsTrue l.pace.has_ended → l.share.ended ≡ true);
+  stock : IsStock g.J.About.subject l.share l.cubes;
+  told : IfNone l.goal (IsTrue l.has_ended → l.share.ended ≡ true);
   table : l.share.table ≡ l.fn.share.table;
   room : g.E.Engine.serves l.core l.holds l.room;
   simulator : l.simulator ≡ l.fn.simulator;

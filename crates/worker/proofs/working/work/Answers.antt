@@ -3,7 +3,7 @@ use Rattle.std.specs.List.{All}
 use Rattle.cubes.specs.Cubes.{IsCubeOf}
 use Rattle.worker.proofs.StockLemmas.{lent_below}
 use Rattle.worker.proofs.WorkLemmas.{if_none, whatever_comes}
-use Rattle.worker.proofs.working.work_beside.Goals as goal
+use Rattle.worker.proofs.working.work.Goals as goal
 
 pub publish_cubes-requires-clause-wide : goal.publish_cubes-requires-clause-wide
 publish_cubes-requires-clause-wide g c =

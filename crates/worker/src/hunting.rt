@@ -1,0 +1,219 @@
+//! A worker's part of a errand: it searches the classes below the round's end that it draws.
+//!
+//! Classes are drawn one by one, so that a worker whose searches end soon takes more. A class at the end or behind it is kept for a later round,
+//! since only a draw tells that none is left below: whether it is still open then is looked at there.
+ghost use Rattle.std.specs.Prelude.{◌≡◌, ◌+◌, ◌≤◌, IfOk, OnOk, vec_len};
+ghost use Rattle.shared_list.specs.Outcomes.{MatchDrawn};
+ghost use Rattle.worker.specs.inner.Tests.{AreTestsOf};
+ghost use Rattle.worker.specs.inner.Outcomes.{IsOutcome};
+
+use crate::adding::add;
+use crate::errands::Errand;
+use crate::hands::{Hand, Test};
+use crate::outcomes::Outcome;
+use crate::working::{searched, settle};
+use evidence::Engine;
+use list_core::{About, Claim};
+use netlist::NoMemory;
+use outside::Gate;
+use shared_list::{Drawn, Share, Shared};
+use std::sync::Wait;
+use std::sync::ledger::Ledger;
+
+/// A claim that was kept, or one draw. It leaves one claim more to publish a pattern for.
+fn drawn<J: About, T: Ledger, S: Ledger, P: Ledger, U: Ledger, R: Wait>(
+    rt: &R,
+    shared: &Shared<J, T, S, P, U>,
+    share: &mut Share<T, S, P, U>,
+    claims: &mut Vec<Claim<J>>,
+) -> Drawn<J>
+    requires table { share.old.table ≡ shared.now.word.shared.table_id }
+    ensures table { share.new.table ≡ share.old.table }
+    ensures unspent { MatchDrawn result
+        (λ worker class. share.new.unspent + vec_len claims.old ≡ share.old.unspent + vec_len claims.new + 1)
+        (λ class is_entered. share.new.unspent + vec_len claims.old ≡ share.old.unspent + vec_len claims.new)
+        (share.new.unspent + vec_len claims.old ≡ share.old.unspent + vec_len claims.new) }
+{
+    match claims.pop() {
+        Some(claim) => Drawn::Claim(claim),
+        None => shared.take(rt, share),
+    }
+}
+
+/// Keeps a test; evidence settles the claim.
+fn answer<J: About, T: Ledger, S: Ledger, P: Ledger, U: Ledger, E: Engine, G: Gate, R: Wait>(
+    errand: &Errand<'_, J, E, G, R>,
+    shared: &Shared<J, T, S, P, U>,
+    share: &mut Share<T, S, P, U>,
+    claim: Claim<J>,
+    outcome: Outcome,
+    tests: &mut Vec<Test>,
+) -> Result<(), NoMemory>
+    requires table { share.old.table ≡ shared.now.word.shared.table_id }
+    requires outcome { IsOutcome J.subject claim.fault outcome }
+    requires cubes { AreTestsOf J.subject.netlist J.subject.holds tests.old.items }
+    ensures table { share.new.table ≡ share.old.table }
+    ensures unspent { share.new.unspent ≡ share.old.unspent }
+    ensures few { OnOk result (vec_len tests.new ≤ vec_len tests.old + 1) }
+    ensures cubes { OnOk result (AreTestsOf J.subject.netlist J.subject.holds tests.new.items) }
+{
+    match outcome {
+        Outcome::Test(cube, _) => {
+            let class = claim.class();
+            add(tests, Test { class, cube })
+        }
+        Outcome::Settles(evidence, settled) => {
+            settle(
+                errand.rt,
+                shared,
+                share,
+                errand.stage,
+                claim,
+                evidence,
+                settled,
+            );
+            Ok(())
+        }
+    }
+}
+
+/// Searches a claim, unless its class has a verdict by now. The room comes back.
+fn hunt_claim<J: About, T: Ledger, S: Ledger, P: Ledger, U: Ledger, E: Engine, G: Gate, R: Wait>(
+    errand: &Errand<'_, J, E, G, R>,
+    shared: &Shared<J, T, S, P, U>,
+    share: &mut Share<T, S, P, U>,
+    claim: Claim<J>,
+    room: E::Room,
+    tests: &mut Vec<Test>,
+) -> Result<E::Room, NoMemory>
+    requires table { share.old.table ≡ shared.now.word.shared.table_id }
+    requires room { E.serves J.subject.netlist J.subject.holds room }
+    requires cubes { AreTestsOf J.subject.netlist J.subject.holds tests.old.items }
+    ensures table { share.new.table ≡ share.old.table }
+    ensures unspent { share.new.unspent ≡ share.old.unspent }
+    ensures few { OnOk result (vec_len tests.new ≤ vec_len tests.old + 1) }
+    ensures room { IfOk result (E.serves J.subject.netlist J.subject.holds) }
+    ensures cubes { OnOk result (AreTestsOf J.subject.netlist J.subject.holds tests.new.items) }
+{
+    if !shared.is_open(errand.rt, claim.class()) {
+        return Ok(room);
+    }
+    let (outcome, kept) = searched(
+        errand.alloc,
+        errand.core,
+        errand.engine,
+        errand.stage,
+        errand.holds,
+        share.worker(),
+        &claim,
+        room,
+    )?;
+    answer(errand, shared, share, claim, outcome, tests)?;
+    Ok(kept)
+}
+
+/// Draws a class, and searches it, if there is one below the end: the room back, and whether there was one to draw.
+fn take_turn<J: About, T: Ledger, S: Ledger, P: Ledger, U: Ledger, E: Engine, G: Gate, R: Wait>(
+    errand: &Errand<'_, J, E, G, R>,
+    end: u32,
+    shared: &Shared<J, T, S, P, U>,
+    share: &mut Share<T, S, P, U>,
+    claims: &mut Vec<Claim<J>>,
+    room: E::Room,
+    tests: &mut Vec<Test>,
+) -> Result<(E::Room, bool), NoMemory>
+    requires table { share.old.table ≡ shared.now.word.shared.table_id }
+    requires room { E.serves J.subject.netlist J.subject.holds room }
+    requires cubes { AreTestsOf J.subject.netlist J.subject.holds tests.old.items }
+    requires unspent { vec_len claims.old + vec_len tests.old ≤ share.old.unspent }
+    ensures table { share.new.table ≡ share.old.table }
+    ensures room { IfOk result (λ r. E.serves J.subject.netlist J.subject.holds r.0) }
+    ensures cubes { OnOk result (AreTestsOf J.subject.netlist J.subject.holds tests.new.items) }
+    ensures unspent { OnOk result (vec_len claims.new + vec_len tests.new ≤ share.new.unspent) }
+{
+    match drawn(errand.rt, shared, share, claims) {
+        Drawn::Claim(claim) => {
+            if claim.class() < end {
+                let kept = hunt_claim(errand, shared, share, claim, room, tests)?;
+                return Ok((kept, true));
+            }
+            add(claims, claim)?;
+            Ok((room, false))
+        }
+        Drawn::Gone(_) => Ok((room, true)),
+        Drawn::None => Ok((room, false)),
+    }
+}
+
+/// Turn after turn, until no class is left below the end. The room comes back.
+fn take_turns<J: About, T: Ledger, S: Ledger, P: Ledger, U: Ledger, E: Engine, G: Gate, R: Wait>(
+    errand: &Errand<'_, J, E, G, R>,
+    end: u32,
+    shared: &Shared<J, T, S, P, U>,
+    share: &mut Share<T, S, P, U>,
+    claims: &mut Vec<Claim<J>>,
+    room: E::Room,
+    tests: &mut Vec<Test>,
+) -> Result<E::Room, NoMemory>
+    requires table { share.old.table ≡ shared.now.word.shared.table_id }
+    requires room { E.serves J.subject.netlist J.subject.holds room }
+    requires cubes { AreTestsOf J.subject.netlist J.subject.holds tests.old.items }
+    requires unspent { vec_len claims.old + vec_len tests.old ≤ share.old.unspent }
+    ensures table { share.new.table ≡ share.old.table }
+    ensures room { IfOk result (E.serves J.subject.netlist J.subject.holds) }
+    ensures cubes { OnOk result (AreTestsOf J.subject.netlist J.subject.holds tests.new.items) }
+    ensures unspent { OnOk result (vec_len claims.new + vec_len tests.new ≤ share.new.unspent) }
+{
+    let mut room = room;
+    let mut goes_on = true;
+    for _ in errand.rt.forever() {
+        if !goes_on {
+            break;
+        }
+        let (kept, was_drawn) = take_turn(errand, end, shared, share, claims, room, tests)?;
+        room = kept;
+        goes_on = was_drawn;
+    }
+    Ok(room)
+}
+
+/// A worker's part of a errand.
+pub(crate) fn hunt<
+    'a,
+    J: About,
+    T: Ledger,
+    S: Ledger,
+    P: Ledger,
+    U: Ledger,
+    E: Engine,
+    G: Gate,
+    R: Wait,
+>(
+    errand: &Errand<'_, J, E, G, R>,
+    end: u32,
+    hand: Hand<'a, J, T, S, P, U, E>,
+) -> Result<Hand<'a, J, T, S, P, U, E>, NoMemory> {
+    let Hand {
+        shared,
+        mut share,
+        room,
+        mut claims,
+        mut tests,
+    } = hand;
+    let room = take_turns(
+        errand,
+        end,
+        shared,
+        &mut share,
+        &mut claims,
+        room,
+        &mut tests,
+    )?;
+    Ok(Hand {
+        shared,
+        share,
+        room,
+        claims,
+        tests,
+    })
+}
