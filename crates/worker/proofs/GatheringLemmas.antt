@@ -35,13 +35,13 @@ module _ (n : Netlist) (patterns : List Pattern) (numbers : List ℕ) where
       let rest = dealt_hits numbers w (place + 1) gs in
       let later : AreHits n patterns rest (h ∷ hs) → place ≤ h.class = λ k. omega (arith, from_place w (place + 1) gs h hs k) in
       let here : (k : Hit) (more : List Hit) → h ∷ hs ≡ k ∷ more → k.class ≡ place → place ≤ h.class = λ k more is class.
-        let same : h ≡ k = ap (λ (l : List Hit). get_or l 0 h) is in
-        omega (arith, class, ap (λ (x : Hit). x.class) same) in
+      let same : h ≡ k = ap (λ (l : List Hit). get_or l 0 h) is in
+      omega (arith, class, ap (λ (x : Hit). x.class) same) in
       let by_case : AreHits n patterns (cond (eqb (part_of numbers g.1) w) ((place, g.1) ∷ rest) rest) (h ∷ hs) → place ≤ h.class =
-        elim (eqb (part_of numbers g.1) w) as (λ b. AreHits n patterns (cond b ((place, g.1) ∷ rest) rest) (h ∷ hs) → place ≤ h.class) [
-          | true ↦ λ these. elim these [ inl none ↦ later none.1 | inr one ↦ here one.0 one.1 one.2 one.3 ]
-          | false ↦ later
-        ] in
+      elim (eqb (part_of numbers g.1) w) as (λ b. AreHits n patterns (cond b ((place, g.1) ∷ rest) rest) (h ∷ hs) → place ≤ h.class) [
+        | true ↦ λ these. elim these [ inl none ↦ later none.1 | inr one ↦ here one.0 one.1 one.2 one.3 ]
+        | false ↦ later
+      ] in
       by_case are
 
   -- what a hit, or none, tells of a fault
@@ -59,7 +59,7 @@ module _ (n : Netlist) (patterns : List Pattern) (numbers : List ℕ) where
       absurd (none h (at_drop hits next h rest is) class)
   next_told g w place given hits next after (Some f) (inl (never, more)) (on, (h, at, class, c, p, o)) =
       let all : AreHits n patterns (dealt_hits numbers w (place + 1) given) (h ∷ drop (next + 1) hits) =
-        subst (AreHits n patterns (dealt_hits numbers w (place + 1) given)) (drop_here hits next h at) more in
+      subst (AreHits n patterns (dealt_hits numbers w (place + 1) given)) (drop_here hits next h at) more in
       absurd (omega (arith, class, from_place w (place + 1) given h (drop (next + 1) hits) all))
   next_told g w place given hits next after (Some f) (inr (k, rest, is, class, last, more)) (on, (h, at, there, c, p, o)) =
       let whole : h ∷ drop (next + 1) hits ≡ k ∷ rest = sym (drop_here hits next h at) ∙ is in
@@ -68,8 +68,7 @@ module _ (n : Netlist) (patterns : List Pattern) (numbers : List ℕ) where
       let pattern : f.pattern ≡ k.pattern = p ∙ ap (λ (x : Hit). x.pattern) head in
       let point : f.point ≡ k.point = o ∙ ap (λ (x : Hit). x.point) head in
       let P : ℕ → Type 0 = λ i. AreHits n patterns (dealt_hits numbers w (place + 1) given) (drop i hits) in
-      let L : ℕ → Point → Type 0 = λ i q. IsLastDetected n patterns g.1 i q in
-      (
+      let L : ℕ → Point → Type 0 = λ i q. IsLastDetected n patterns g.1 i q in (
         (c, subst (λ (i : ℕ). L i f.point) (sym pattern) (subst (λ (q : Point). L k.pattern q) (sym point) last)),
         subst P (sym on) (subst (AreHits n patterns (dealt_hits numbers w (place + 1) given)) (sym tail) more),
       )
@@ -83,12 +82,12 @@ module _ (n : Netlist) (patterns : List Pattern) (numbers : List ℕ) where
   -- ---- the part of the fault at this place, and the others
 
   module _ (g : ℕ × Fault) (place : ℕ) (given : List (ℕ × Fault)) (parts : List Part) (nexts : List ℕ) (after : ℕ) (found : Option Hit) (part : ℕ) (own : part ≡ part_of numbers g.1) (lt : part < length parts) (p : Part) (read : p ≡ get_or parts part p)
-    (left : AreLeft n patterns numbers place (g ∷ given) parts nexts) (is : IsFound p.hits (get_or nexts part 0) place g.0 found after) where
+      (left : AreLeft n patterns numbers place (g ∷ given) parts nexts) (is : IsFound p.hits (get_or nexts part 0) place g.0 found after) where
     both : (d : Part) → IsToldOf g found × IfOk (get_or parts part d).hits (λ v. AreHits n patterns (dealt_hits numbers part (place + 1) given) (drop after v.items))
     both d =
         let rest = dealt_hits numbers part (place + 1) given in
         let taken : dealt_hits numbers part place (g ∷ given) ≡ (place, g.1) ∷ rest =
-          ap (λ b. cond b ((place, g.1) ∷ rest) rest) (eq-eqb (part_of numbers g.1) part (sym own)) in
+        ap (λ b. cond b ((place, g.1) ∷ rest) rest) (eq-eqb (part_of numbers g.1) part (sym own)) in
         let M : List (ℕ × Fault) → Type 0 = λ gs. IfOk (get_or parts part d).hits (λ v. AreHits n patterns gs (drop (get_or nexts part 0) v.items)) in
         let before : M ((place, g.1) ∷ rest) = subst M taken (left part d lt) in
         let there : p ≡ get_or parts part d = read ∙ get_or_default parts part p d lt in

@@ -35,7 +35,7 @@ module _ (n : Netlist) (patterns : List Pattern) (numbers : List ℕ) where
   within_by f own (Err e) next zip = tt
 
   module _ (f : Fault) (faults : List Fault) (parts : List Told) (nexts : List ℕ) (part : ℕ) (own : part ≡ part_of numbers f) (lt : part < length parts) (p : Told) (read : p ≡ get_or parts part p)
-    (left : AreLeft n patterns numbers (f ∷ faults) parts nexts) where
+      (left : AreLeft n patterns numbers (f ∷ faults) parts nexts) where
     before : (d : Told) → IfOk (get_or parts part d) (λ v. AllZip (LastDetected n patterns) (f ∷ dealt numbers part faults) (drop (get_or nexts part 0) v.items))
     before d =
         let rest = dealt numbers part faults in

@@ -273,7 +273,15 @@ impl<'a> Simulators<'a> {
         if self.parts.len() == 1 || given.len() < FEWEST || given.len() > MOST {
             hits_alone(alloc, core, &self.deal, patterns, given, &mut self.parts)
         } else {
-            hits_beside(rt, alloc, core, &self.deal, patterns, given, &mut self.parts)
+            hits_beside(
+                rt,
+                alloc,
+                core,
+                &self.deal,
+                patterns,
+                given,
+                &mut self.parts,
+            )
         }
     }
 }
