@@ -20,7 +20,9 @@ use outside::{Gate, Stage};
 use rand_core::Rng;
 use rand_pcg::Lcg64Xsh32;
 use std::alloc::{AllocError, Global};
-use word_sim::{Hit, Simulator};
+use std::thread::Threads;
+use word_sim::Hit;
+use worker::Simulators;
 
 /// So many are drawn at once: they are simulated in one word.
 const BATCH: usize = 64;
@@ -145,22 +147,23 @@ fn numbered(alloc: Global, faults: &[Fault]) -> Result<Vec<(u32, Fault)>, AllocE
 }
 
 /// Of a batch the patterns that are taken, and the faults that they leave.
-fn draw_batch<N: Rng>(
+fn draw_batch<N: Rng, R: Threads + Sync>(
+    rt: &R,
     alloc: Global,
-    simulator: &mut Simulator<'_>,
+    simulators: &mut Simulators<'_>,
     cube: &Cube,
     left: &[(u32, Fault)],
     rng: &mut N,
 ) -> Result<(Vec<Pattern>, Vec<(u32, Fault)>), NoMemory>
-    requires lines { All (λ (g : ℕ × FaultOf). IsLineOf simulator.old g.1.line) left.now }
-    requires cube { (holds : Held) × IsCubeOf simulator.old holds cube.now }
-    ensures obey { IfOk result (λ r. (holds : Held) → IsCubeOf simulator.old holds cube.now → All (IsPatternOf simulator.old holds) r.0.items) }
+    requires lines { All (λ (g : ℕ × FaultOf). IsLineOf simulators.old g.1.line) left.now }
+    requires cube { (holds : Held) × IsCubeOf simulators.old holds cube.now }
+    ensures obey { IfOk result (λ r. (holds : Held) → IsCubeOf simulators.old holds cube.now → All (IsPatternOf simulators.old holds) r.0.items) }
     ensures few { IfOk result (λ r. length r.0.items ≤ 64) }
-    ensures lines { IfOk result (λ r. All (λ (g : ℕ × FaultOf). IsLineOf simulator.old g.1.line) r.1.items) }
-    ensures simulator { simulator.new ≡ simulator.old }
+    ensures lines { IfOk result (λ r. All (λ (g : ℕ × FaultOf). IsLineOf simulators.old g.1.line) r.1.items) }
+    ensures simulators { simulators.new ≡ simulators.old }
 {
     let drawn = drawn_batch(alloc, cube, rng)?;
-    let hits = simulator.hits(alloc, &drawn, left)?;
+    let hits = simulators.hits(rt, alloc, &drawn, left)?;
     let marks = worth_marks(alloc, &hits)?;
     let rest = left_after(alloc, left, &hits, &marks)?;
     let taken = kept(alloc, drawn, &marks)?;
@@ -200,18 +203,19 @@ fn is_last(before: usize, left: usize) -> bool {
 }
 
 /// Patterns of the cube that detect many of these faults, batch after batch, until one detects few, or enough are detected.
-fn draw_batches<N: Rng, G: Gate>(
+fn draw_batches<N: Rng, G: Gate, R: Threads + Sync>(
+    rt: &R,
     alloc: Global,
-    simulator: &mut Simulator<'_>,
+    simulators: &mut Simulators<'_>,
     cube: &Cube,
     faults: Vec<(u32, Fault)>,
     goal: Option<&Goal>,
     rng: &mut N,
     stage: &G,
 ) -> Result<Vec<Pattern>, NoMemory>
-    requires lines { All (λ (g : ℕ × FaultOf). IsLineOf simulator.old g.1.line) faults.items }
-    requires cube { (holds : Held) × IsCubeOf simulator.old holds cube.now }
-    ensures obey { IfOk result (λ v. (holds : Held) → IsCubeOf simulator.old holds cube.now → All (IsPatternOf simulator.old holds) v.items) }
+    requires lines { All (λ (g : ℕ × FaultOf). IsLineOf simulators.old g.1.line) faults.items }
+    requires cube { (holds : Held) × IsCubeOf simulators.old holds cube.now }
+    ensures obey { IfOk result (λ v. (holds : Held) → IsCubeOf simulators.old holds cube.now → All (IsPatternOf simulators.old holds) v.items) }
     ensures few { IfOk result (λ v. length v.items ≤ 2 ^ 17) }
 {
     let all = whole_weight(goal, &faults);
@@ -222,7 +226,7 @@ fn draw_batches<N: Rng, G: Gate>(
         if is_over || is_enough(goal, all, &left) {
             break;
         }
-        let (mut more, rest) = draw_batch(alloc, simulator, cube, &left, rng)?;
+        let (mut more, rest) = draw_batch(rt, alloc, simulators, cube, &left, rng)?;
         patterns.append(&mut more)?;
         is_over = is_last(left.len(), rest.len());
         left = rest;
@@ -237,23 +241,35 @@ fn draw_batches<N: Rng, G: Gate>(
 }
 
 /// Patterns that obey the held inputs and detect many of these faults.
-pub(crate) fn drawn_patterns<G: Gate>(
+pub(crate) fn drawn_patterns<G: Gate, R: Threads + Sync>(
+    rt: &R,
     alloc: Global,
     core: &Core,
     holds: &Holds,
     faults: &[Fault],
     goal: Option<&Goal>,
     seed: u64,
+    workers: u32,
     stage: &G,
 ) -> Result<Vec<Pattern>, NoMemory>
     requires held { AreHoldsOf core.now holds.now }
     requires lines { All (λ (f : FaultOf). IsLineOf core.now f.line) faults.now }
+    requires workers { 0 < workers }
     ensures obey { IfOk result (λ v. All (IsPatternOf core.now holds.now) v.items) }
     ensures few { IfOk result (λ v. length v.items ≤ 2 ^ 17) }
 {
     let cube = open_cube(alloc, core, holds)?;
     let left = numbered(alloc, faults)?;
-    let mut simulator = Simulator::new(alloc, core)?;
+    let mut simulators = Simulators::new(alloc, core, workers)?;
     let mut rng = Lcg64Xsh32::new(seed, STREAM);
-    draw_batches(alloc, &mut simulator, &cube, left, goal, &mut rng, stage)
+    draw_batches(
+        rt,
+        alloc,
+        &mut simulators,
+        &cube,
+        left,
+        goal,
+        &mut rng,
+        stage,
+    )
 }

@@ -54,7 +54,17 @@ fn with_drawn<G: Gate, R: Threads + Sync>(
     let found = detected_marks(rt, alloc, core, &asked.faults, &first, plan.workers)?;
     let left = unmarked(alloc, &asked.faults, &found)?;
     let goal = goal_of(alloc, plan.percent, asked.count, &asked.weights, &found)?;
-    let mut drawn = drawn_patterns(alloc, core, holds, &left, goal.as_ref(), plan.seed, stage)?;
+    let mut drawn = drawn_patterns(
+        rt,
+        alloc,
+        core,
+        holds,
+        &left,
+        goal.as_ref(),
+        plan.seed,
+        plan.workers,
+        stage,
+    )?;
     let mut patterns = first;
     patterns.append(&mut drawn)?;
     Ok(patterns)

@@ -13,15 +13,15 @@ hits-requires-clause-few g c =
 
 pub hits-requires-clause-wide : goal.hits-requires-clause-wide
 hits-requires-clause-wide g c =
-    let n = c.args.simulator.now in
+    let n = c.args.simulators.now in
     let held = c.requires.cube in
     rw c.deref.ensures.value (widths n held.0 c.in_ok-drawn.drawn.items (c.in_ok-drawn.ensures.obey n held.0 held.1))
 
 pub returns-clause-obey : goal.returns-clause-obey
 returns-clause-obey g c holds is =
-    let P : Pattern → Type 0 = IsPatternOf c.args.simulator.now holds in
+    let P : Pattern → Type 0 = IsPatternOf c.args.simulators.now holds in
     subst (λ (ps : List Pattern). All P ps) (sym c.in_ok-taken.ensures)
-    (kept_all P (λ i. get_or c.deref-5.result.now i false) 0 c.in_ok-drawn.drawn.items (c.in_ok-drawn.ensures.obey c.args.simulator.now holds is))
+    (kept_all P (λ i. get_or c.deref-5.result.now i false) 0 c.in_ok-drawn.drawn.items (c.in_ok-drawn.ensures.obey c.args.simulators.now holds is))
 
 pub returns-clause-few : goal.returns-clause-few
 returns-clause-few g c =
@@ -29,4 +29,4 @@ returns-clause-few g c =
     omega (arith, taken, kept_few (λ (i : ℕ). get_or c.deref-5.result.now i false) 0 c.in_ok-drawn.drawn.items, c.in_ok-drawn.ensures.count)
 
 pub returns-clause-lines : goal.returns-clause-lines
-returns-clause-lines g c = c.in_ok-rest.ensures c.args.simulator.now c.requires.lines
+returns-clause-lines g c = c.in_ok-rest.ensures c.args.simulators.now c.requires.lines

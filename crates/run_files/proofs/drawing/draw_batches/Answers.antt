@@ -9,24 +9,24 @@ use Rattle.run_files.proofs.drawing.draw_batches.Goals as goal
 
 pub loop-batch-preserved : goal.loop-batch-preserved
 loop-batch-preserved g c =
-    let s = c.loop-batch.simulator in
+    let s = c.loop-batch.simulators in
     let old = c.loop-batch.patterns.items in
     let more = c.in_ok-more.more.items in
     let inv = c.loop-batch.invariant in
     let own = c.in_ok-more.ensures in
     let all = length-append old more in
-    rw (c.draw_batch.ensures.simulator, c.in_ok-append.ensures.items) (record {
+    rw (c.draw_batch.ensures.simulators, c.in_ok-append.ensures.items) (record {
       obey = λ holds is. All-append (IsPatternOf s holds) old more (inv.obey holds is) (own.obey holds is);
       few = omega (arith, all, own.few, inv.few);
       within = omega (arith, c.loop-batch-test.true);
       lines = own.lines;
       cube = inv.cube;
-      simulator = inv.simulator;
+      simulators = inv.simulators;
     })
 
 pub draw_batch-requires-clause-lines : goal.draw_batch-requires-clause-lines
 draw_batch-requires-clause-lines g c =
-    let s = c.loop-batch.simulator in
+    let s = c.loop-batch.simulators in
     subst (λ (fs : List (ℕ × Fault)). All (λ (f : ℕ × Fault). IsLineOf s f.1.line) fs) (sym c.deref-in-loop-batch.ensures.value) c.loop-batch.invariant.lines
 
 pub returns-clause-few : goal.returns-clause-few
@@ -36,8 +36,8 @@ returns-clause-few g c =
 pub returns-clause-obey : goal.returns-clause-obey
 returns-clause-obey g c holds is =
     let inv = c.loop-batch.invariant in
-    subst (λ (n : Netlist). All (IsPatternOf n holds) c.loop-batch.patterns.items) inv.simulator
-    (inv.obey holds (subst (λ (n : Netlist). IsCubeOf n holds c.args.cube.now) (sym inv.simulator) is))
+    subst (λ (n : Netlist). All (IsPatternOf n holds) c.loop-batch.patterns.items) inv.simulators
+    (inv.obey holds (subst (λ (n : Netlist). IsCubeOf n holds c.args.cube.now) (sym inv.simulators) is))
 
 pub draw_batch-requires-clause-cube : goal.draw_batch-requires-clause-cube
 draw_batch-requires-clause-cube g c = c.loop-batch.invariant.cube

@@ -8,10 +8,10 @@ use Rattle.run_files.proofs.drawing.draw_batches.Given as goal
 
 abbrev pub invariant-loop-batch : goal.invariant-loop-batch
 invariant-loop-batch g l = record {
-  obey : (holds : Holds) → IsCubeOf l.simulator holds l.cube → All (IsPatternOf l.simulator holds) l.patterns.items;
+  obey : (holds : Holds) → IsCubeOf l.simulators holds l.cube → All (IsPatternOf l.simulators holds) l.patterns.items;
   few : length l.patterns.items ≤ l._batch * 64;
   within : l._batch ≤ 2048;
-  lines : All (λ (f : ℕ × Fault). IsLineOf l.simulator f.1.line) l.left.items;
-  cube : (holds : Holds) × IsCubeOf l.simulator holds l.cube;
-  simulator : l.simulator ≡ l.initial.simulator;
+  lines : All (λ (f : ℕ × Fault). IsLineOf l.simulators f.1.line) l.left.items;
+  cube : (holds : Holds) × IsCubeOf l.simulators holds l.cube;
+  simulators : l.simulators ≡ l.initial.simulators;
 }

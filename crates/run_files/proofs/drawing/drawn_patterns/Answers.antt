@@ -11,26 +11,26 @@ use Rattle.run_files.specs.inner.Open.{open_cube}
 use Rattle.run_files.proofs.OpenLemmas.{open_fits}
 use Rattle.run_files.proofs.drawing.drawn_patterns.Goals as goal
 
--- the open cube is one of the simulator's netlist
+-- the open cube is one of the simulators' netlist
 open_there : (n m : Netlist) (holds : Holds) (cube : Cube) → AreHoldsOf n holds → cube ≡ open_cube n holds → m ≡ n → IsCubeOf m holds cube
 open_there n m holds cube are is same =
     subst (λ (s : Netlist). IsCubeOf s holds cube) (sym same) (subst (λ (d : Cube). IsCubeOf n holds d) (sym is) (open_fits n holds are))
 
 pub draw_batches-requires-clause-lines : goal.draw_batches-requires-clause-lines
 draw_batches-requires-clause-lines g c =
-    subst (λ (s : Netlist). All (λ (f : ℕ × Fault). IsLineOf s f.1.line) c.in_ok-left.left.items) (sym c.in_ok-simulator.ensures)
+    subst (λ (s : Netlist). All (λ (f : ℕ × Fault). IsLineOf s f.1.line) c.in_ok-left.left.items) (sym c.in_ok-simulators.ensures)
     (c.in_ok-left.ensures c.args.core.now c.requires.lines)
 
 pub draw_batches-requires-clause-cube : goal.draw_batches-requires-clause-cube
 draw_batches-requires-clause-cube g c =
-    (c.args.holds.now, open_there c.args.core.now c.in_ok-simulator.simulator c.args.holds.now c.in_ok-cube.cube c.requires.held c.in_ok-cube.ensures c.in_ok-simulator.ensures)
+    (c.args.holds.now, open_there c.args.core.now c.in_ok-simulators.simulators c.args.holds.now c.in_ok-cube.cube c.requires.held c.in_ok-cube.ensures c.in_ok-simulators.ensures)
 
 pub returns-clause-obey : goal.returns-clause-obey
 returns-clause-obey g c =
     let n = c.args.core.now in
-    let m = c.in_ok-simulator.simulator in
+    let m = c.in_ok-simulators.simulators in
     let holds = c.args.holds.now in
     let cube = c.in_ok-cube.cube in
-    let there : IsCubeOf m holds cube = open_there n m holds cube c.requires.held c.in_ok-cube.ensures c.in_ok-simulator.ensures in
+    let there : IsCubeOf m holds cube = open_there n m holds cube c.requires.held c.in_ok-cube.ensures c.in_ok-simulators.ensures in
     IfOk-weaker c.draw_batches.result (λ v. (hs : Holds) → IsCubeOf m hs cube → All (IsPatternOf m hs) v.items) (λ v. All (IsPatternOf n holds) v.items)
-    (λ v own. subst (λ (s : Netlist). All (IsPatternOf s holds) v.items) c.in_ok-simulator.ensures (own holds there)) c.draw_batches.ensures.obey
+    (λ v own. subst (λ (s : Netlist). All (IsPatternOf s holds) v.items) c.in_ok-simulators.ensures (own holds there)) c.draw_batches.ensures.obey
