@@ -94,7 +94,6 @@ pub(crate) fn batch_beside<
     patterns: Vec<Pattern>,
 ) -> Result<(Batch, u64), NoMemory>
     requires simulators { simulators.old ≡ J.subject.netlist }
-    requires lines { HaveLines J.subject }
     requires few { vec_len patterns ≤ 64 }
     requires wide { All (IsPatternOf J.subject.netlist J.subject.holds) patterns.items }
     ensures patterns { IfOk result (λ r. r.0.patterns ≡ patterns.items) }
@@ -102,8 +101,9 @@ pub(crate) fn batch_beside<
     ensures simulators { simulators.new ≡ simulators.old }
 {
     let left = shared.undetected(errand.rt, errand.alloc)?;
-    let hits = simulators.hits(errand.rt, errand.alloc, &patterns, left.classes())?;
-    let undetected = left.classes().len().saturating_sub(hits.len()) as u64;
+    let classes = left.classes();
+    let hits = simulators.hits(errand.rt, errand.alloc, &patterns, classes)?;
+    let undetected = classes.len().saturating_sub(hits.len()) as u64;
     Ok((Batch::new(patterns, hits), undetected))
 }
 
