@@ -212,7 +212,7 @@ fn hunt_more<
     let threads = if more < FEW { 1 } else { crew.others.len() + 1 };
     let crew = play_round(errand, end, threads, crew)?;
     let found = crew.lead.tests.len().saturating_sub(waiting);
-    let closed = more.saturating_sub(found as u32);
+    let closed = (more as usize).saturating_sub(found) as u32;
     Ok((
         crew,
         Pace {
