@@ -1,5 +1,5 @@
 -- Hits of parts, put together in the order of the faults.
-use Rattle.std.proofs.Common.{zero, suc, ℕ, ◌≡◌, ◌+◌, ◌<◌, ◌≤◌, eqb, true, false, cond, List, [], ◌∷◌, ◌++◌, length, get_or, set, drop, replicate, Option, Some, None, Result, Ok, Err, Vec, IfOk, option_to_list, refl, sym, ◌∙◌, ap, subst, inl, inr, arith, append_assoc, append-nil, eq-eqb, ne_eqb, get_or-set_same, get_or-set_other, get_or-replicate}
+use Rattle.std.proofs.Common.{zero, suc, ℕ, ◌≡◌, ◌+◌, ◌<◌, ◌≤◌, eqb, true, false, cond, List, [], ◌∷◌, ◌++◌, length, get_or, set, drop, Option, Some, None, Result, Ok, Err, Vec, IfOk, option_to_list, refl, sym, ◌∙◌, ap, subst, inl, inr, arith, append_assoc, append-nil, eq-eqb, ne_eqb, get_or-set_same, get_or-set_other}
 use Rattle.std.specs.List.{slice_get}
 use Rattle.std.specs.declared.alloc.Global.{Global}
 use Rattle.std.proofs.lemmas.Bool.{cases_eq}
@@ -14,7 +14,7 @@ use Rattle.word_sim.specs.Hits.{AreHits, IsNeverDetected}
 use Rattle.word_sim.specs.declared.batches.Hit.{Hit}
 use Rattle.worker.specs.declared.simulators.Part.{Part}
 use Rattle.worker.specs.inner.Dealing.{part_of, dealt_hits}
-use Rattle.worker.specs.inner.Gathering.{HaveFound, IsNextHit, IsFound, AreLeft}
+use Rattle.worker.specs.inner.Gathering.{IsNextHit, IsFound, AreLeft}
 
 -- the first of what is left
 pub at_drop : {X : Type 0} (xs : List X) (k : ℕ) (x : X) (rest : List X) → drop k xs ≡ x ∷ rest → slice_get xs k ≡ Some x
@@ -81,8 +81,9 @@ module _ (n : Netlist) (patterns : List Pattern) (numbers : List ℕ) where
 
   -- ---- the part of the fault at this place, and the others
 
-  module _ (g : ℕ × Fault) (place : ℕ) (given : List (ℕ × Fault)) (parts : List Part) (nexts : List ℕ) (after : ℕ) (found : Option Hit) (part : ℕ) (own : part ≡ part_of numbers g.1) (lt : part < length parts) (p : Part) (read : p ≡ get_or parts part p)
-      (left : AreLeft n patterns numbers place (g ∷ given) parts nexts) (is : IsFound p.hits (get_or nexts part 0) place g.0 found after) where
+  module _ (g : ℕ × Fault) (place : ℕ) (given : List (ℕ × Fault)) (parts : List Part) (nexts : List ℕ) (part : ℕ) (p : Part) (after : ℕ) (found : Option Hit)
+      (own : part ≡ part_of numbers g.1) (lt : part < length parts) (read : p ≡ get_or parts part p) (is : IsFound p.hits (get_or nexts part 0) place g.0 found after)
+      (left : AreLeft n patterns numbers place (g ∷ given) parts nexts) where
     both : (d : Part) → IsToldOf g found × IfOk (get_or parts part d).hits (λ v. AreHits n patterns (dealt_hits numbers part (place + 1) given) (drop after v.items))
     both d =
         let rest = dealt_hits numbers part (place + 1) given in
@@ -94,10 +95,7 @@ module _ (n : Netlist) (patterns : List Pattern) (numbers : List ℕ) where
         told_by g part place given (get_or parts part d).hits (get_or nexts part 0) after found before
         (subst (λ (q : Part). IsFound q.hits (get_or nexts part 0) place g.0 found after) there is)
 
-    pub told_here : IsToldOf g found
-    told_here = (both p).0
-
-    pub left_step : length nexts ≡ length parts → AreLeft n patterns numbers (place + 1) given parts (set nexts part after)
+    left_step : length nexts ≡ length parts → AreLeft n patterns numbers (place + 1) given parts (set nexts part after)
     left_step size w d within =
         let M : ℕ → List (ℕ × Fault) → ℕ → Type 0 = λ x gs k. IfOk (get_or parts x d).hits (λ v. AreHits n patterns gs (drop k v.items)) in
         elim (cases_eq w part) [
@@ -114,16 +112,7 @@ module _ (n : Netlist) (patterns : List Pattern) (numbers : List ℕ) where
               (subst (λ (gs : List (ℕ × Fault)). M w gs (get_or nexts w 0)) others (left w d within))
         ]
 
-  pub left_first : (given : List (ℕ × Fault)) (parts : List Part) (nexts : List ℕ) → nexts ≡ replicate (length parts) 0 → HaveFound n patterns numbers given parts
-      → AreLeft n patterns numbers 0 given parts nexts
-  left_first given parts nexts is found w d within =
-      let none : get_or nexts w 0 ≡ 0 = ap (λ (l : List ℕ). get_or l w 0) is ∙ get_or-replicate (length parts) w 0 0 within in
-      let M : ℕ → Type 0 = λ k. IfOk (get_or parts w d).hits (λ v. AreHits n patterns (dealt_hits numbers w 0 given) (drop k v.items)) in
-      subst M (sym none) (found w d within).hits
-
-  -- ---- what is put together
-
-  pub goes_on : (g : ℕ × Fault) (rest whole : List (ℕ × Fault)) (all more : List Hit) (found : Option Hit) → IsToldOf g found
+  goes_on : (g : ℕ × Fault) (rest whole : List (ℕ × Fault)) (all more : List Hit) (found : Option Hit) → IsToldOf g found
       → ((hs : List Hit) → AreHits n patterns (g ∷ rest) hs → AreHits n patterns whole (all ++ hs)) → more ≡ all ++ option_to_list found
       → (hs : List Hit) → AreHits n patterns rest hs → AreHits n patterns whole (more ++ hs)
   goes_on g rest whole all more None told goes pushed hs are =
@@ -133,8 +122,26 @@ module _ (n : Netlist) (patterns : List Pattern) (numbers : List ℕ) where
       let same : more ++ hs ≡ all ++ h ∷ hs = ap (λ (l : List Hit). l ++ hs) pushed ∙ append_assoc all (h ∷ []) hs in
       subst (AreHits n patterns whole) (sym same) (goes (h ∷ hs) (inr (h, hs, refl, told.0, told.1, are)))
 
-  pub goes_to_end : (given : List (ℕ × Fault)) (place : ℕ) (all : List Hit) → length given ≤ place
+  -- one fault more is put together
+  pub gather_next : (given : List (ℕ × Fault)) (place : ℕ) (g : ℕ × Fault) (parts : List Part) (nexts : List ℕ) (part : ℕ) (p : Part) (next after : ℕ) (found : Option Hit) (all more : List Hit)
+      → place < length given → g ≡ get_or given place g → length nexts ≡ length parts → part ≡ part_of numbers g.1 → part < length parts → p ≡ get_or parts part p → next ≡ get_or nexts part next
+      → IsFound p.hits next place g.0 found after → more ≡ all ++ option_to_list found
+      → AreLeft n patterns numbers place (drop place given) parts nexts → ((hs : List Hit) → AreHits n patterns (drop place given) hs → AreHits n patterns given (all ++ hs))
+      → AreLeft n patterns numbers (place + 1) (drop (place + 1) given) parts (set nexts part after) × ((hs : List Hit) → AreHits n patterns (drop (place + 1) given) hs → AreHits n patterns given (more ++ hs))
+  gather_next given place g parts nexts part p next after found all more lt is size own within read at told pushed left goes =
+      let rest = drop (place + 1) given in
+      let here : drop place given ≡ g ∷ rest = drop_more given place g lt ∙ ap (λ (x : ℕ × Fault). x ∷ rest) (sym is) in
+      let first : next ≡ get_or nexts part 0 = at ∙ get_or_default nexts part next 0 (omega (arith, within, size)) in
+      let told' : IsFound p.hits (get_or nexts part 0) place g.0 found after = subst (λ (k : ℕ). IsFound p.hits k place g.0 found after) first told in
+      let left' : AreLeft n patterns numbers place (g ∷ rest) parts nexts = subst (λ (gs : List (ℕ × Fault)). AreLeft n patterns numbers place gs parts nexts) here left in
+      let goes' : (hs : List Hit) → AreHits n patterns (g ∷ rest) hs → AreHits n patterns given (all ++ hs) =
+      subst (λ (gs : List (ℕ × Fault)). (hs : List Hit) → AreHits n patterns gs hs → AreHits n patterns given (all ++ hs)) here goes in (
+        left_step g place rest parts nexts part p after found own within read told' left' size,
+        goes_on g rest given all more found (both g place rest parts nexts part p after found own within read told' left' p).0 goes' pushed,
+      )
+
+  pub gather_end : (given : List (ℕ × Fault)) (place : ℕ) (all : List Hit) → length given ≤ place
       → ((hs : List Hit) → AreHits n patterns (drop place given) hs → AreHits n patterns given (all ++ hs)) → AreHits n patterns given all
-  goes_to_end given place all le goes =
+  gather_end given place all le goes =
       let none : AreHits n patterns (drop place given) [] = subst (λ (gs : List (ℕ × Fault)). AreHits n patterns gs []) (sym (drop_all place given le)) refl in
       subst (AreHits n patterns given) (append-nil all) (goes [] none)

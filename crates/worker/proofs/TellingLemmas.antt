@@ -1,15 +1,15 @@
 -- What parts told, put together in the order of the faults.
-use Rattle.std.proofs.Common.{ℕ, ◌≡◌, ◌+◌, ◌<◌, ◌≤◌, eqb, cond, List, [], ◌∷◌, ◌++◌, length, get_or, set, drop, replicate, Option, Result, Ok, Err, Vec, IfOk, sym, ◌∙◌, ap, subst, inl, inr, arith, append_assoc, append-nil, eq-eqb, ne_eqb, get_or-set_same, get_or-set_other, get_or-replicate}
+use Rattle.std.proofs.Common.{ℕ, ◌≡◌, ◌+◌, ◌<◌, ◌≤◌, eqb, cond, List, [], ◌∷◌, ◌++◌, length, get_or, set, drop, Option, Result, Ok, Err, Vec, IfOk, vec_len, sym, ◌∙◌, ap, subst, inl, inr, arith, append_assoc, append-nil, eq-eqb, ne_eqb, get_or-set_same, get_or-set_other}
 use Rattle.std.specs.List.{AllZip}
 use Rattle.std.proofs.lemmas.Bool.{cases_eq, cases_lt}
-use Rattle.std.proofs.lemmas.List.{drop_all, get_or_default}
+use Rattle.std.proofs.lemmas.List.{drop_more, drop_all, get_or_default}
 use Rattle.statement.specs.Netlists.{Netlist}
 use Rattle.statement.specs.Patterns.{Pattern}
 use Rattle.statement.specs.declared.lines.Fault.{Fault}
 use Rattle.statement.specs.declared.lines.Point.{Point}
 use Rattle.word_sim.specs.Hits.{LastDetected}
 use Rattle.worker.specs.inner.Dealing.{part_of, dealt}
-use Rattle.worker.specs.inner.Telling.{Told, HaveTold, IsTold, AreLeft}
+use Rattle.worker.specs.inner.Telling.{Told, IsTold, AreLeft}
 use Rattle.worker.proofs.GatheringLemmas.{drop_here}
 
 -- where something is told of one more, there is one more
@@ -30,11 +30,11 @@ module _ (n : Netlist) (patterns : List Pattern) (numbers : List ℕ) where
   told_by f own (Err e) next after one zip is = absurd is
 
   within_by : (f : Fault) (own : List Fault) (told : Told) (next : ℕ) → IfOk told (λ v. AllZip (LastDetected n patterns) (f ∷ own) (drop next v.items))
-      → IfOk told (λ v. next < length v.items)
-  within_by f own (Ok v) next zip = zip_within (LastDetected n patterns) f own v.items next zip
+      → IfOk told (λ v. next < vec_len v)
+  within_by f own (Ok v) next zip = omega (arith, v.ok.0, zip_within (LastDetected n patterns) f own v.items next zip)
   within_by f own (Err e) next zip = tt
 
-  module _ (f : Fault) (faults : List Fault) (parts : List Told) (nexts : List ℕ) (part : ℕ) (own : part ≡ part_of numbers f) (lt : part < length parts) (p : Told) (read : p ≡ get_or parts part p)
+  module _ (f : Fault) (faults : List Fault) (parts : List Told) (nexts : List ℕ) (part : ℕ) (p : Told) (own : part ≡ part_of numbers f) (lt : part < length parts) (read : p ≡ get_or parts part p)
       (left : AreLeft n patterns numbers (f ∷ faults) parts nexts) where
     before : (d : Told) → IfOk (get_or parts part d) (λ v. AllZip (LastDetected n patterns) (f ∷ dealt numbers part faults) (drop (get_or nexts part 0) v.items))
     before d =
@@ -43,9 +43,9 @@ module _ (n : Netlist) (patterns : List Pattern) (numbers : List ℕ) where
         let M : List Fault → Type 0 = λ fs. IfOk (get_or parts part d) (λ v. AllZip (LastDetected n patterns) fs (drop (get_or nexts part 0) v.items)) in
         subst M taken (left part d lt)
 
-    pub within_here : IfOk p (λ v. get_or nexts part 0 < length v.items)
-    within_here =
-        subst (λ (q : Told). IfOk q (λ v. get_or nexts part 0 < length v.items)) (sym read)
+    within_step : IfOk p (λ v. get_or nexts part 0 < vec_len v)
+    within_step =
+        subst (λ (q : Told). IfOk q (λ v. get_or nexts part 0 < vec_len v)) (sym read)
         (within_by f (dealt numbers part faults) (get_or parts part p) (get_or nexts part 0) (before p))
 
     module _ (one : Option (ℕ × Point)) (after : ℕ) (is : IsTold p (get_or nexts part 0) one after) where
@@ -55,10 +55,7 @@ module _ (n : Netlist) (patterns : List Pattern) (numbers : List ℕ) where
           told_by f (dealt numbers part faults) (get_or parts part d) (get_or nexts part 0) after one (before d)
           (subst (λ (q : Told). IsTold q (get_or nexts part 0) one after) there is)
 
-      pub told_here : LastDetected n patterns f one
-      told_here = (both p).0
-
-      pub left_step : length nexts ≡ length parts → AreLeft n patterns numbers faults parts (set nexts part after)
+      left_step : length nexts ≡ length parts → AreLeft n patterns numbers faults parts (set nexts part after)
       left_step size w d within =
           let M : ℕ → List Fault → ℕ → Type 0 = λ x fs k. IfOk (get_or parts x d) (λ v. AllZip (LastDetected n patterns) fs (drop k v.items)) in
           elim (cases_eq w part) [
@@ -73,24 +70,45 @@ module _ (n : Netlist) (patterns : List Pattern) (numbers : List ℕ) where
                 (subst (λ (fs : List Fault). M w fs (get_or nexts w 0)) others (left w d within))
           ]
 
-  pub left_first : (faults : List Fault) (parts : List Told) (nexts : List ℕ) → nexts ≡ replicate (length parts) 0 → HaveTold n patterns numbers faults parts
-      → AreLeft n patterns numbers faults parts nexts
-  left_first faults parts nexts is told w d within =
-      let none : get_or nexts w 0 ≡ 0 = ap (λ (l : List ℕ). get_or l w 0) is ∙ get_or-replicate (length parts) w 0 0 within in
-      let M : ℕ → Type 0 = λ k. IfOk (get_or parts w d) (λ v. AllZip (LastDetected n patterns) (dealt numbers w faults) (drop k v.items)) in
-      subst M (sym none) (told w d within)
+  goes_on : (f : Fault) (rest whole : List Fault) (told more : List (Option (ℕ × Point))) (one : Option (ℕ × Point)) → LastDetected n patterns f one
+      → ((ys : List (Option (ℕ × Point))) → AllZip (LastDetected n patterns) (f ∷ rest) ys → AllZip (LastDetected n patterns) whole (told ++ ys)) → more ≡ told ++ one ∷ []
+      → (ys : List (Option (ℕ × Point))) → AllZip (LastDetected n patterns) rest ys → AllZip (LastDetected n patterns) whole (more ++ ys)
+  goes_on f rest whole told more one here goes pushed ys zip =
+      let same : more ++ ys ≡ told ++ one ∷ ys = ap (λ (l : List (Option (ℕ × Point))). l ++ ys) pushed ∙ append_assoc told (one ∷ []) ys in
+      subst (AllZip (LastDetected n patterns) whole) (sym same) (goes (one ∷ ys) (here, zip))
 
--- ---- what is put together
+  module _ (faults : List Fault) (i : ℕ) (f : Fault) (parts : List Told) (nexts : List ℕ) (part : ℕ) (p : Told) (next : ℕ)
+      (lt : i < length faults) (is : f ≡ get_or faults i f) (size : length nexts ≡ length parts) (own : part ≡ part_of numbers f) (within : part < length parts) (read : p ≡ get_or parts part p) (at : next ≡ get_or nexts part next)
+      (left : AreLeft n patterns numbers (drop i faults) parts nexts) where
+    here : drop i faults ≡ f ∷ drop (i + 1) faults
+    here = drop_more faults i f lt ∙ ap (λ (x : Fault). x ∷ drop (i + 1) faults) (sym is)
 
-pub zip_goes_on : {A B : Type 0} (R : A → B → Type 0) (x : A) (rest whole : List A) (all more : List B) (y : B) → R x y
-    → ((ys : List B) → AllZip R (x ∷ rest) ys → AllZip R whole (all ++ ys)) → more ≡ all ++ y ∷ []
-    → (ys : List B) → AllZip R rest ys → AllZip R whole (more ++ ys)
-zip_goes_on {A} {B} R x rest whole all more y here goes pushed ys zip =
-    let same : more ++ ys ≡ all ++ y ∷ ys = ap (λ (l : List B). l ++ ys) pushed ∙ append_assoc all (y ∷ []) ys in
-    subst (AllZip R whole) (sym same) (goes (y ∷ ys) (here, zip))
+    first : next ≡ get_or nexts part 0
+    first = at ∙ get_or_default nexts part next 0 (omega (arith, within, size))
 
-pub zip_goes_to_end : {A B : Type 0} (R : A → B → Type 0) (whole : List A) (i : ℕ) (all : List B) → length whole ≤ i
-    → ((ys : List B) → AllZip R (drop i whole) ys → AllZip R whole (all ++ ys)) → AllZip R whole all
-zip_goes_to_end {A} {B} R whole i all le goes =
-    let none : AllZip R (drop i whole) [] = subst (λ (xs : List A). AllZip R xs []) (sym (drop_all i whole le)) tt in
-    subst (AllZip R whole) (append-nil all) (goes [] none)
+    left_here : AreLeft n patterns numbers (f ∷ drop (i + 1) faults) parts nexts
+    left_here = subst (λ (fs : List Fault). AreLeft n patterns numbers fs parts nexts) here left
+
+    -- the fault's part has told of it
+    pub within_next : IfOk p (λ v. next < vec_len v)
+    within_next =
+        subst (λ (k : ℕ). IfOk p (λ v. k < vec_len v)) (sym first) (within_step f (drop (i + 1) faults) parts nexts part p own within read left_here)
+
+    -- one fault more is put together
+    pub tell_next : (after : ℕ) (one : Option (ℕ × Point)) (told more : List (Option (ℕ × Point))) → IsTold p next one after → more ≡ told ++ one ∷ []
+        → ((ys : List (Option (ℕ × Point))) → AllZip (LastDetected n patterns) (drop i faults) ys → AllZip (LastDetected n patterns) faults (told ++ ys))
+        → AreLeft n patterns numbers (drop (i + 1) faults) parts (set nexts part after) × ((ys : List (Option (ℕ × Point))) → AllZip (LastDetected n patterns) (drop (i + 1) faults) ys → AllZip (LastDetected n patterns) faults (more ++ ys))
+    tell_next after one told more said pushed goes =
+        let rest = drop (i + 1) faults in
+        let said' : IsTold p (get_or nexts part 0) one after = subst (λ (k : ℕ). IsTold p k one after) first said in
+        let goes' : (ys : List (Option (ℕ × Point))) → AllZip (LastDetected n patterns) (f ∷ rest) ys → AllZip (LastDetected n patterns) faults (told ++ ys) =
+        subst (λ (fs : List Fault). (ys : List (Option (ℕ × Point))) → AllZip (LastDetected n patterns) fs ys → AllZip (LastDetected n patterns) faults (told ++ ys)) here goes in (
+          left_step f rest parts nexts part p own within read left_here one after said' size,
+          goes_on f rest faults told more one (both f rest parts nexts part p own within read left_here one after said' p).0 goes' pushed,
+        )
+
+  pub tell_end : (faults : List Fault) (i : ℕ) (told : List (Option (ℕ × Point))) → length faults ≤ i
+      → ((ys : List (Option (ℕ × Point))) → AllZip (LastDetected n patterns) (drop i faults) ys → AllZip (LastDetected n patterns) faults (told ++ ys)) → AllZip (LastDetected n patterns) faults told
+  tell_end faults i told le goes =
+      let none : AllZip (LastDetected n patterns) (drop i faults) [] = subst (λ (fs : List Fault). AllZip (LastDetected n patterns) fs []) (sym (drop_all i faults le)) tt in
+      subst (AllZip (LastDetected n patterns) faults) (append-nil told) (goes [] none)

@@ -194,9 +194,9 @@ fn gathered(
     let mut nexts = vec![in alloc; 0usize; parts.len()]?;
     let mut all = Vec::new(alloc);
     for place in 0..given.len() {
-        let (class, fault) = given[place];
-        let part = deal.part(&fault);
-        let (found, after) = found_of(&parts[part], nexts[part], place, class)?;
+        let one = given[place];
+        let part = deal.part(&one.1);
+        let (found, after) = found_of(&parts[part], nexts[part], place, one.0)?;
         nexts[part] = after;
         push_found(&mut all, found)?;
     }
