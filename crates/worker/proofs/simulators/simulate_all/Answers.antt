@@ -1,4 +1,3 @@
-use denote.Param.Send.{sendable}
 use Rattle.std.proofs.Common.{ℕ, ◌≡◌, ap, sym, subst, ◌∙◌}
 use Rattle.std.specs.List.{All}
 use Rattle.statement.specs.Netlists.{Netlist}
@@ -11,11 +10,8 @@ use Rattle.worker.proofs.simulators.simulate_all.Goals as goal
 pub for_each_mut-requires-clause-accepts : goal.for_each_mut-requires-clause-accepts
 for_each_mut-requires-clause-accepts g c κs within i p lt at =
     let same : p.now.simulator ≡ c.args.core.now = ap (λ (q : Part). q.simulator) at ∙ c.requires.parts.each i p.now lt in (
-      (
-        c.requires.short,
-        c.requires.few,
-        subst (λ (m : Netlist). All (HasWidthsOf m) c.args.patterns.now) (sym same) c.requires.wide,
-        subst (λ (m : Netlist). All (λ (f : ℕ × Fault). IsLineOf m f.1.line) c.args.given.now) (sym same) c.requires.lines,
-      ),
-      search sendable depth 20,
+      c.requires.short,
+      c.requires.few,
+      subst (λ (m : Netlist). All (HasWidthsOf m) c.args.patterns.now) (sym same) c.requires.wide,
+      subst (λ (m : Netlist). All (λ (f : ℕ × Fault). IsLineOf m f.1.line) c.args.given.now) (sym same) c.requires.lines,
     )

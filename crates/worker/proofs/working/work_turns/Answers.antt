@@ -8,7 +8,7 @@ use Rattle.worker.proofs.working.work_turns.Goals as goal
 pub loop-init : goal.loop-init
 loop-init g c = record {
   stock = none_at_hand g.J.About.subject c.args.share.now c.new-cubes.result c.new-cubes.ensures.items c.new-cubes.ensures.len;
-  told = told_of _ c.args.goal c.is_enough.result c.is_enough.ensures;
+  told = told_of _ c.args.goal c.is_enough-has_ended.result c.is_enough-has_ended.ensures;
   table = refl;
   room = c.requires.room;
   simulator = refl;
