@@ -1,8 +1,8 @@
 -- Tests that aren't published yet, one after the other.
-use Rattle.std.proofs.Common.{◌≡◌, List, [], ◌∷◌, ◌++◌, refl}
+use Rattle.std.proofs.Common.{◌≡◌, List, [], ◌∷◌, ◌++◌, refl, arith}
 use Rattle.std.specs.Prelude.{Some}
 use Rattle.std.specs.List.{All}
-use Rattle.std.proofs.lemmas.List.Elements.{All-pop, All-push}
+use Rattle.std.proofs.lemmas.List.Elements.{All-cons, All-head, All-pop, All-push, All-tail}
 use Rattle.statement.specs.Netlists.{Netlist}
 use Rattle.statement.specs.Patterns.{Holds}
 use Rattle.cubes.specs.Cubes.{Cube, IsCubeOf}
@@ -30,3 +30,10 @@ test_more n holds tests t rest before all =
 -- or as it was
 pub as_before : {P : Type 0} (n : Netlist) (holds : Holds) (tests : List Test) (t : Test) → (AreTestsOf n holds tests → P) → AreTestsOf n holds (tests ++ t ∷ []) → P
 as_before n holds tests t before all = before (split n holds tests t all).0
+
+-- those that come first
+pub front : (n : Netlist) (holds : Holds) (tests more : List Test) → AreTestsOf n holds (tests ++ more) → AreTestsOf n holds tests
+front n holds [] more all = λ k d lt. absurd (omega (arith, lt))
+front n holds (t ∷ tests) more all =
+    let P : Test → Type 0 = λ (x : Test). IsCubeOf n holds x.cube in
+    All-cons P t tests (All-head P t (tests ++ more) all) (front n holds tests more (All-tail P t (tests ++ more) all))
