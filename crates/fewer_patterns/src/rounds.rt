@@ -347,13 +347,13 @@ pub fn fewer<R: Threads + Sync>(
     let start = tail_start(&counts).min(patterns.len());
     let settled = settled_marks(alloc, start, &last)?;
     let left = unmarked(alloc, faults, &settled)?;
-    let last = told_before(alloc, start, &last)?;
+    let told = told_before(alloc, start, &last)?;
     let mut patterns = patterns;
     let mut tail = patterns.split_off(start)?;
-    let needed = needed(alloc, number_of(patterns.len()), &last)?;
+    let needed = needed(alloc, number_of(patterns.len()), &told)?;
     let first = Made {
         patterns,
-        last,
+        last: told,
         needed,
     };
     let mut better = improved(rt, alloc, core, holds, &left, first, rounds)?;
