@@ -4,9 +4,11 @@
 //! is filled anew. (Kajihara and Miyase, On identifying don't care inputs of test patterns, 2001.) Which bits are needed is found by tracing values
 //! from the point where a fault is detected back to inputs and cells; that owes nothing, since a round's patterns are taken only where a simulation
 //! says that they detect as much. That simulation also says to which of them each fault is left in the next round, so a round costs one, over the
-//! faults that some pattern detects. Tracing is shared: a signal's bit is followed once a pattern, and the way of a difference from the head of a
-//! fanout-free region on once for all faults of the region. Where over nine tenths of the bits are needed a round is the last. To choose among the
-//! given patterns alone (a cover) costs a table of all that each pattern detects, and leaves a seventh more of them.
+//! faults that some pattern detects. Tracing is shared: what is followed goes back to inputs and cells for 64 patterns at once, and the way of a
+//! difference from the head of a fanout-free region on once a pattern for all faults of the region. Where over nine tenths of the bits are needed a
+//! round is the last. The last few patterns, which detect seven tenths of what is detected, need most of their bits and cost most: they stay as they
+//! are, and the rounds go over those before and the faults that are left to these. To choose among the given patterns alone (a cover) costs a table of
+//! all that each pattern detects, and leaves a seventh more of them.
 //!
 //! Gives: `fewer`, `Rounds`.
 //! Proved: `fewer`: patterns of the netlist that obey the held inputs, no more than were given, which detect each of the faults that the given ones do.

@@ -28,23 +28,92 @@ fn places_of(alloc: Global, told: &Told<'_>) -> Result<Vec<u32>, AllocError> {
     Ok(places)
 }
 
-/// What the faults that are left to a pattern need of it. Where all bits are needed already, no more faults are looked at.
-fn need_all(
+/// Of the faults that are left to each pattern, which are looked at: those from the one up to the other.
+#[derive(Clone, Copy)]
+struct Stage {
+    from: u32,
+    to: u32,
+}
+
+/// What some of the faults that are left to the pattern at a place need of it, which stands in this lane of those that are traced. Where it needs
+/// nearly all of its bits already it is taken whole, and no more faults are looked at.
+fn need_some(
     tracing: &mut Tracing,
     core: &Core,
     told: &Told<'_>,
     by_place: &Sorted,
     place: u32,
-    places: u32,
+    lane: u32,
+    stage: Stage,
 ) -> Result<(), AllocError> {
     let (start, end) = by_place.of_key(place);
-    for slot in start..end {
-        if tracing.needed() >= places {
-            break;
-        }
+    let first = start.saturating_add(stage.from);
+    if first >= end {
+        return Ok(());
+    }
+    tracing.worlds.look_at(lane);
+    if stage.from > 0 && tracing.is_nearly_whole(core) {
+        tracing.take_whole(core);
+        return Ok(());
+    }
+    for slot in first..end.min(start.saturating_add(stage.to)) {
         if let Some(fault) = told.faults.get(by_place.number(slot) as usize) {
             tracing.need(core, fault.line)?;
         }
+    }
+    Ok(())
+}
+
+/// The same of up to 64 patterns, from a place on; and what that rests on.
+fn need_stage(
+    tracing: &mut Tracing,
+    core: &Core,
+    told: &Told<'_>,
+    by_place: &Sorted,
+    start: u32,
+    count: u32,
+    stage: Stage,
+) -> Result<(), AllocError> {
+    for lane in 0..count {
+        let place = start.wrapping_add(lane);
+        need_some(tracing, core, told, by_place, place, lane, stage)?;
+    }
+    tracing.trace();
+    Ok(())
+}
+
+/// How many faults are left to a pattern at most, of so many from a place on.
+fn most_left(by_place: &Sorted, start: u32, count: u32) -> u32 {
+    let mut most = 0;
+    for lane in 0..count {
+        let (first, end) = by_place.of_key(start.wrapping_add(lane));
+        most = end.wrapping_sub(first).max(most);
+    }
+    most
+}
+
+/// What the faults need that are left to up to 64 patterns, from a place on: a few at first, and four times as many each time.
+fn need_part(
+    tracing: &mut Tracing,
+    core: &Core,
+    told: &Told<'_>,
+    by_place: &Sorted,
+    start: u32,
+    part: &[Pattern],
+) -> Result<(), AllocError> {
+    tracing.begin(core, part)?;
+    let count = number_of(part.len());
+    let most = most_left(by_place, start, count);
+    let mut stage = Stage { from: 0, to: 8 };
+    for _stage in 0..16 {
+        if stage.from >= most {
+            break;
+        }
+        need_stage(tracing, core, told, by_place, start, count, stage)?;
+        stage = Stage {
+            from: stage.to,
+            to: stage.to.saturating_mul(4),
+        };
     }
     Ok(())
 }
@@ -105,6 +174,28 @@ fn push_needed(
     Ok(())
 }
 
+/// A row for each of up to 64 patterns to which a fault is left, from a place on.
+fn push_part(
+    rows: &mut Rows,
+    tracing: &mut Tracing,
+    core: &Core,
+    holds: &Holds,
+    by_place: &Sorted,
+    start: u32,
+    count: u32,
+) -> Result<(), AllocError>
+    requires { AreHoldsOf core.now holds.now }
+{
+    for lane in 0..count {
+        let (first, end) = by_place.of_key(start.wrapping_add(lane));
+        if first < end {
+            tracing.worlds.look_at(lane);
+            push_needed(rows, tracing, core, holds)?;
+        }
+    }
+    Ok(())
+}
+
 /// A row for each pattern to which a fault is left: the bits that such faults need, and those that are held.
 pub(crate) fn relaxed(
     alloc: Global,
@@ -121,13 +212,18 @@ pub(crate) fn relaxed(
     let mut by_place = Sorted::new(alloc);
     by_place.sort(&left_to, number_of(patterns.len()))?;
     let mut rows = Rows::new(alloc, places);
-    for (place, pattern) in patterns.iter().enumerate() {
-        let (start, end) = by_place.of_key(number_of(place));
-        if start < end {
-            tracing.begin(core, pattern)?;
-            need_all(tracing, core, told, &by_place, number_of(place), places)?;
-            push_needed(&mut rows, tracing, core, holds)?;
-        }
+    for (number, part) in patterns.chunks(64).enumerate() {
+        let start = number_of(number).wrapping_mul(64);
+        need_part(tracing, core, told, &by_place, start, part)?;
+        push_part(
+            &mut rows,
+            tracing,
+            core,
+            holds,
+            &by_place,
+            start,
+            number_of(part.len()),
+        )?;
     }
     Ok(rows)
 }

@@ -9,7 +9,7 @@ ghost use Rattle.netlist.specs.Lines.{IsLineOf};
 ghost use Rattle.cubes.specs.Cubes.{IsPatternOf};
 ghost use Rattle.word_sim.specs.Hits.{LastDetected};
 ghost use Rattle.fewer_patterns.specs.Fewer.{IsNoWorse};
-ghost use Rattle.fewer_patterns.specs.inner.Enough.{AreEnough, is_told, is_untold};
+ghost use Rattle.fewer_patterns.specs.inner.Enough.{AreEnough, is_settled, is_told};
 
 use crate::arranging::order_of;
 use crate::filling::filled;
@@ -75,11 +75,14 @@ fn is_told(one: &Option<(u32, Point)>) -> bool
     one.is_some()
 }
 
-/// Whether it wasn't.
-fn is_untold(one: &Option<(u32, Point)>) -> bool
-    ensures { result ≡ is_untold one.now }
+/// Whether a pattern from this place on is the last that detects it, or none does.
+fn is_settled(start: usize, one: &Option<(u32, Point)>) -> bool
+    ensures { result ≡ is_settled start one.now }
 {
-    one.is_none()
+    match one {
+        None => true,
+        Some((place, _)) => start <= *place as usize,
+    }
 }
 
 /// Whether each fault was told.
@@ -250,29 +253,76 @@ fn improved<R: Threads + Sync>(
     Ok(course.best.patterns)
 }
 
-/// Marks the faults that no pattern detects.
-fn untold_marks(alloc: Global, last: &[Option<(u32, Point)>]) -> Result<Vec<bool>, AllocError>
-    ensures { IfOk result (λ v. v.items ≡ map is_untold last.now) }
+/// How many faults are left to each pattern.
+fn left_counts(
+    alloc: Global,
+    patterns: u32,
+    last: &[Option<(u32, Point)>],
+) -> Result<Vec<u32>, AllocError> {
+    let mut counts = Vec::new(alloc);
+    fill(&mut counts, patterns, 0)?;
+    for one in last {
+        if let Some((place, _)) = one {
+            let count = at(&counts, *place).wrapping_add(1);
+            put(&mut counts, *place, count);
+        }
+    }
+    Ok(counts)
+}
+
+fn sum_of(counts: &[u32]) -> u64 {
+    let mut sum: u64 = 0;
+    for count in counts {
+        sum = sum.wrapping_add(*count as u64);
+    }
+    sum
+}
+
+/// From which place on the patterns detect at least seven tenths of what is detected: where so many faults are left to each.
+fn tail_start(counts: &[u32]) -> usize {
+    let mut before = sum_of(counts);
+    let most = (before / 10).wrapping_mul(3);
+    for place in (0..counts.len()).rev() {
+        if before <= most {
+            return place + 1;
+        }
+        before = before.saturating_sub(counts[place] as u64);
+    }
+    0
+}
+
+/// Marks the faults that the patterns before a place needn't detect.
+fn settled_marks(
+    alloc: Global,
+    start: usize,
+    last: &[Option<(u32, Point)>],
+) -> Result<Vec<bool>, AllocError>
+    ensures { IfOk result (λ v. v.items ≡ map (is_settled start) last.now) }
 {
     let mut marks = Vec::with_capacity(alloc, last.len())?;
     for one in last {
-        marks.push(is_untold(one))?;
+        marks.push(is_settled(start, one))?;
     }
     Ok(marks)
 }
 
 /// What is told of the others.
-fn told_only(alloc: Global, last: &[Option<(u32, Point)>]) -> Result<LastTold, AllocError> {
+fn told_before(
+    alloc: Global,
+    start: usize,
+    last: &[Option<(u32, Point)>],
+) -> Result<LastTold, AllocError> {
     let mut told = Vec::new(alloc);
     for one in last {
-        if is_told(one) {
+        if !is_settled(start, one) {
             told.push(*one)?;
         }
     }
     Ok(told)
 }
 
-/// Patterns that detect each of these faults that the given ones detect, and that are no more: after so many rounds.
+/// Patterns that detect each of these faults that the given ones detect, and that are no more: after so many rounds. Those to which most faults are
+/// left stay as they are, behind the others: they need most of their bits, and to trace what is left to them costs most.
 pub fn fewer<R: Threads + Sync>(
     rt: &R,
     alloc: Global,
@@ -293,14 +343,20 @@ pub fn fewer<R: Threads + Sync>(
         return Ok(patterns);
     }
     let last = last_tells_beside(rt, alloc, core, faults, &patterns, rounds.workers)?;
-    let untold = untold_marks(alloc, &last)?;
-    let left = unmarked(alloc, faults, &untold)?;
-    let last = told_only(alloc, &last)?;
-    let needed = needed(alloc, number_of(patterns.len()), &last)?;
+    let counts = left_counts(alloc, number_of(patterns.len()), &last)?;
+    let start = tail_start(&counts).min(patterns.len());
+    let settled = settled_marks(alloc, start, &last)?;
+    let left = unmarked(alloc, faults, &settled)?;
+    let told = told_before(alloc, start, &last)?;
+    let mut patterns = patterns;
+    let mut tail = patterns.split_off(start)?;
+    let needed = needed(alloc, number_of(patterns.len()), &told)?;
     let first = Made {
         patterns,
-        last,
+        last: told,
         needed,
     };
-    improved(rt, alloc, core, holds, &left, first, rounds)
+    let mut better = improved(rt, alloc, core, holds, &left, first, rounds)?;
+    better.append(&mut tail)?;
+    Ok(better)
 }

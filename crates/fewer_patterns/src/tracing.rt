@@ -1,84 +1,97 @@
-//! Which bits of a pattern the detection of faults rests on, by tracing back from where they are detected.
+//! Which bits of patterns the detection of faults rests on, by tracing back from where they are detected, for up to 64 patterns at once.
 //!
 //! At a gate whose bit a pin decides, one such pin is followed, that which is followed anyway or else the one that costs least; at others all are.
-//! A signal's bit is followed once a pattern, for all faults that rest on it. A fault comes to the head of its fanout-free region where all other pins
-//! on its way are followed; from there on it is the same for all faults of the region: the head's bit is turned once a pattern, and traced back in both
-//! worlds from the first point that sees it. In the world where it is turned, what stands before the head in the order of evaluation is as it was.
+//! As the patterns are they are traced together, in one pass from the last gate to the first, once it is known what the faults left to each need.
+//! A fault comes to the head of its fanout-free region where all other pins on its way are followed; from there on it is the same for all faults of
+//! the region: the head's bit is turned once a pattern, and traced back in both worlds from the first point that sees it. In the world where it is
+//! turned, what stands before the head in the order of evaluation is as it was.
 use crate::worlds::Worlds;
 use cubes::Pattern;
-use flat_netlist::{NONE, Shape, Waiting, byte_at, driver, fill_bytes, put_byte};
+use flat_netlist::{
+    NONE, Shape, byte_at, clear_words, driver, fill_bytes, put_byte, put_word, word_at,
+};
 use netlist::{Core, Line, SignalId};
 use std::alloc::{AllocError, Global};
-
-/// In which world a bit is followed: as it is, or with a head's bit turned.
-#[derive(Clone, Copy)]
-enum World {
-    Good,
-    Turned(u32),
-}
 
 #[derive(Drop)]
 pub(crate) struct Tracing {
     pub worlds: Worlds,
-    /// By signal, whether its good bit is followed under this pattern; and how many inputs and cells are.
-    followed: Vec<u8>,
-    needed: u32,
-    /// Gates that are followed and not traced yet, by their places.
-    waiting: Waiting,
+    /// By signal, under which patterns its bit is followed.
+    followed: Vec<u64>,
+    /// By signal, under which patterns a difference comes from it to the head of its region.
+    open: Vec<u64>,
     /// By signal, whether it is followed with the head turned; and the signals that are.
     turned: Vec<u8>,
     touched: Vec<u32>,
-    /// By signal, whether a difference comes from it to the head of its region.
-    open: Vec<u8>,
 }
 
 impl Tracing {
     pub(crate) fn new(alloc: Global, core: &Core) -> Result<Tracing, AllocError> {
         let worlds = Worlds::new(alloc, core)?;
-        let mut waiting = Waiting::new(alloc);
-        waiting.begin(worlds.whole.place_count())?;
         let mut turned = Vec::new(alloc);
         fill_bytes(&mut turned, worlds.whole.count(), 0)?;
         Ok(Tracing {
             worlds,
             followed: Vec::new(alloc),
-            needed: 0,
-            waiting,
+            open: Vec::new(alloc),
             turned,
             touched: Vec::new(alloc),
-            open: Vec::new(alloc),
         })
     }
 
-    /// Begins with a pattern, of which no bit is needed yet.
-    pub(crate) fn begin(&mut self, core: &Core, pattern: &Pattern) -> Result<(), AllocError> {
-        self.worlds.settle(core, pattern)?;
-        self.needed = 0;
-        fill_bytes(&mut self.open, self.worlds.whole.count(), 0)?;
-        fill_bytes(&mut self.followed, self.worlds.whole.count(), 0)
+    /// Begins with up to 64 patterns, of which no bit is needed yet.
+    pub(crate) fn begin(&mut self, core: &Core, patterns: &[Pattern]) -> Result<(), AllocError> {
+        self.worlds.settle(core, patterns)?;
+        clear_words(&mut self.open, self.worlds.whole.count())?;
+        clear_words(&mut self.followed, self.worlds.whole.count())
     }
 
-    /// Whether the bit of an input or a cell is needed.
+    /// Whether the pattern that is looked at needs the bit of a signal.
     pub(crate) fn is_needed(&self, signal: u32) -> bool {
-        byte_at(&self.followed, signal) != 0
+        word_at(&self.followed, signal) & self.worlds.mask() != 0
     }
 
-    /// How many of them are.
-    pub(crate) fn needed(&self) -> u32 {
-        self.needed
+    /// How many of these signals' bits the pattern that is looked at needs.
+    fn needed_of(&self, signals: &[SignalId]) -> usize {
+        let mut count: usize = 0;
+        for signal in signals {
+            if self.is_needed(signal.0) {
+                count = count.wrapping_add(1);
+            }
+        }
+        count
     }
 
+    /// Whether it needs at least fifteen of sixteen bits of inputs and cells.
+    pub(crate) fn is_nearly_whole(&self, core: &Core) -> bool {
+        let (inputs, cells) = (core.netlist().inputs(), core.netlist().cells());
+        let needed = self.needed_of(inputs).wrapping_add(self.needed_of(cells));
+        let all = inputs.len().wrapping_add(cells.len());
+        needed.wrapping_mul(16) >= all.wrapping_mul(15)
+    }
+
+    fn follow_each(&mut self, signals: &[SignalId]) {
+        for signal in signals {
+            self.follow_good(signal.0);
+        }
+    }
+
+    /// The pattern that is looked at needs all bits.
+    pub(crate) fn take_whole(&mut self, core: &Core) {
+        self.follow_each(core.netlist().inputs());
+        self.follow_each(core.netlist().cells());
+    }
+
+    /// Follows a signal under these patterns.
+    fn follow_under(&mut self, signal: u32, under: u64) {
+        let word = word_at(&self.followed, signal) | under;
+        put_word(&mut self.followed, signal, word);
+    }
+
+    /// Follows a signal under the pattern that is looked at.
     fn follow_good(&mut self, signal: u32) {
-        if byte_at(&self.followed, signal) != 0 {
-            return;
-        }
-        put_byte(&mut self.followed, signal, 1);
-        let place = self.worlds.whole.place(signal);
-        if place == 0 {
-            self.needed = self.needed.wrapping_add(1);
-        } else {
-            self.waiting.add(place);
-        }
+        let mask = self.worlds.mask();
+        self.follow_under(signal, mask);
     }
 
     /// Follows the bit that a signal has with the head turned. A signal before the head has its good bit.
@@ -97,51 +110,29 @@ impl Tracing {
         Ok(())
     }
 
-    fn follow(&mut self, signal: u32, world: World) -> Result<(), AllocError> {
-        match world {
-            World::Good => {
-                self.follow_good(signal);
-                Ok(())
-            }
-            World::Turned(head) => self.follow_turned(signal, head),
-        }
-    }
-
-    fn bit(&self, signal: u32, world: World) -> u8 {
-        match world {
-            World::Good => self.worlds.good(signal),
-            World::Turned(_) => self.worlds.faulty(signal),
-        }
-    }
-
-    /// Whether a signal is followed anyway.
-    fn is_followed(&self, signal: u32, world: World) -> bool {
-        match world {
-            World::Good => byte_at(&self.followed, signal) != 0,
-            World::Turned(head) => {
-                signal == head
-                    || byte_at(&self.turned, signal) != 0
-                    || byte_at(&self.followed, signal) != 0 && !self.worlds.differs(signal)
-            }
-        }
+    /// Whether a signal is followed anyway, with the head turned.
+    fn is_followed(&self, signal: u32, head: u32) -> bool {
+        signal == head
+            || byte_at(&self.turned, signal) != 0
+            || self.is_needed(signal) && !self.worlds.differs(signal)
     }
 
     /// What it costs to follow a pin with this bit.
-    fn cost(&self, signal: u32, bit: u8, world: World) -> u32 {
-        if self.is_followed(signal, world) {
+    fn cost(&self, signal: u32, bit: u8, head: u32) -> u32 {
+        if self.is_followed(signal, head) {
             return 0;
         }
         self.worlds.whole.cost(signal, bit).saturating_add(1)
     }
 
-    /// The pin that costs least, of those that decide the gate by this bit.
-    fn deciding(&self, gate: u32, by: u8, world: World) -> u32 {
+    /// The pin that costs least, of those that decide the gate by this bit with the head turned.
+    fn deciding(&self, gate: u32, by: u8, head: u32) -> u32 {
         let (start, end) = self.worlds.whole.graph.pins_of(gate);
         let (mut best, mut least) = (NONE, NONE);
         for slot in start..end {
             let pin = self.worlds.whole.graph.pin(slot);
-            if self.bit(pin, world) == by {
-                let cost = self.cost(pin, by, world);
+            if self.worlds.faulty(pin) == by {
+                let cost = self.cost(pin, by, head);
                 if best == NONE || cost < least {
                     (best, least) = (pin, cost);
                 }
@@ -150,39 +141,26 @@ impl Tracing {
         best
     }
 
-    /// Follows all pins of a gate but this signal.
-    fn follow_others(&mut self, gate: u32, but: u32, world: World) -> Result<(), AllocError> {
+    /// Follows all pins of a gate, with the head turned.
+    fn follow_all(&mut self, gate: u32, head: u32) -> Result<(), AllocError> {
         let (start, end) = self.worlds.whole.graph.pins_of(gate);
         for slot in start..end {
             let pin = self.worlds.whole.graph.pin(slot);
-            if pin != but {
-                self.follow(pin, world)?;
-            }
+            self.follow_turned(pin, head)?;
         }
         Ok(())
     }
 
-    /// Follows what a gate's bit rests on.
-    fn follow_pins(&mut self, gate: u32, world: World) -> Result<(), AllocError> {
+    /// Follows what a gate's bit rests on, with the head turned.
+    fn follow_pins(&mut self, gate: u32, head: u32) -> Result<(), AllocError> {
         let pin = match self.worlds.whole.graph.shape(gate) {
-            Shape::Controlled { by, .. } => self.deciding(gate, by, world),
+            Shape::Controlled { by, .. } => self.deciding(gate, by, head),
             _ => NONE,
         };
         if pin == NONE {
-            return self.follow_others(gate, NONE, world);
+            return self.follow_all(gate, head);
         }
-        self.follow(pin, world)
-    }
-
-    fn trace_good(&mut self) -> Result<(), AllocError> {
-        for _place in 0..self.worlds.whole.place_count() {
-            let Some(place) = self.waiting.take_last() else {
-                break;
-            };
-            let gate = self.worlds.whole.gate_at(place);
-            self.follow_pins(gate, World::Good)?;
-        }
-        Ok(())
+        self.follow_turned(pin, head)
     }
 
     /// A difference needs both of its bits.
@@ -195,7 +173,7 @@ impl Tracing {
             if self.worlds.differs(gate) {
                 self.follow_good(gate);
             }
-            self.follow_pins(gate, World::Turned(head))?;
+            self.follow_pins(gate, head)?;
         }
         Ok(())
     }
@@ -230,59 +208,155 @@ impl Tracing {
         self.worlds.whole.graph.reader(start)
     }
 
+    /// Whether a difference comes from a signal to the head of its region under the pattern that is looked at.
+    fn is_open(&self, signal: u32) -> bool {
+        word_at(&self.open, signal) & self.worlds.mask() != 0
+    }
+
+    fn open_at(&mut self, signal: u32) {
+        let word = word_at(&self.open, signal) | self.worlds.mask();
+        put_word(&mut self.open, signal, word);
+    }
+
+    /// Follows all pins of a gate but this signal.
+    fn follow_others(&mut self, gate: u32, but: u32) {
+        let (start, end) = self.worlds.whole.graph.pins_of(gate);
+        for slot in start..end {
+            let pin = self.worlds.whole.graph.pin(slot);
+            if pin != but {
+                self.follow_good(pin);
+            }
+        }
+    }
+
     /// What is needed for a difference to come from a signal to the head of its region: the head, or NONE where it comes there anyway.
-    fn open_way(&mut self, from: u32) -> Result<u32, AllocError> {
+    fn open_way(&mut self, from: u32) -> u32 {
         let mut signal = from;
         for _gate in 0..self.worlds.whole.place_count() {
-            if byte_at(&self.open, signal) != 0 {
-                return Ok(NONE);
+            if self.is_open(signal) {
+                return NONE;
             }
-            put_byte(&mut self.open, signal, 1);
+            self.open_at(signal);
             let gate = self.only_reader(signal);
             if gate == NONE {
-                return Ok(signal);
+                return signal;
             }
-            self.follow_others(gate, signal, World::Good)?;
+            self.follow_others(gate, signal);
             signal = gate;
         }
-        Ok(NONE)
+        NONE
     }
 
     /// The same of a pin: of a cell it is a point.
-    fn excite_pin(&mut self, core: &Core, gate: SignalId, k: u32) -> Result<u32, AllocError> {
+    fn excite_pin(&mut self, core: &Core, gate: SignalId, k: u32) -> u32 {
         if self.worlds.whole.place(gate.0) == 0 {
             let from = driver(core, gate, k);
             self.follow_good(from.0);
-            return Ok(NONE);
+            return NONE;
         }
-        self.follow_others(gate.0, NONE, World::Good)?;
-        Ok(gate.0)
+        self.follow_others(gate.0, NONE);
+        gate.0
     }
 
     /// What is needed for a line to have its good bit, and for a signal behind it to differ where the line does: that one. NONE where the line is a point.
-    fn excite(&mut self, core: &Core, line: Line) -> Result<u32, AllocError> {
+    fn excite(&mut self, core: &Core, line: Line) -> u32 {
         match line {
             Line::Stem(x) => {
                 self.follow_good(x.0);
-                Ok(x.0)
+                x.0
             }
             Line::Out(y) => {
                 self.follow_good(y.0);
-                Ok(NONE)
+                NONE
             }
             Line::Pin(z, k) => self.excite_pin(core, z, k),
         }
     }
 
-    /// What the detection of a fault of this line needs is needed.
+    /// What the detection of a fault of this line needs under the pattern that is looked at is needed, once all is traced.
     pub(crate) fn need(&mut self, core: &Core, line: Line) -> Result<(), AllocError> {
-        let from = self.excite(core, line)?;
-        if from != NONE {
-            let head = self.open_way(from)?;
-            if head != NONE {
-                self.turn(head)?;
+        let from = self.excite(core, line);
+        if from == NONE {
+            return Ok(());
+        }
+        let head = self.open_way(from);
+        if head == NONE {
+            return Ok(());
+        }
+        self.turn(head)
+    }
+
+    /// Follows all pins of a gate under these patterns.
+    fn follow_all_under(&mut self, gate: u32, under: u64) {
+        let (start, end) = self.worlds.whole.graph.pins_of(gate);
+        for slot in start..end {
+            let pin = self.worlds.whole.graph.pin(slot);
+            self.follow_under(pin, under);
+        }
+    }
+
+    /// Under which patterns a pin that decides the gate by this bit is followed anyway.
+    fn decided(&self, gate: u32, by: u8) -> u64 {
+        let (start, end) = self.worlds.whole.graph.pins_of(gate);
+        let mut decided: u64 = 0;
+        for slot in start..end {
+            let pin = self.worlds.whole.graph.pin(slot);
+            decided |= self.worlds.at(pin, by) & word_at(&self.followed, pin);
+        }
+        decided
+    }
+
+    /// The pin that costs least, of those that decide the gate by this bit under some of these patterns.
+    fn cheapest(&self, gate: u32, by: u8, under: u64) -> u32 {
+        let (start, end) = self.worlds.whole.graph.pins_of(gate);
+        let (mut best, mut least) = (NONE, NONE);
+        for slot in start..end {
+            let pin = self.worlds.whole.graph.pin(slot);
+            let cost = self.worlds.whole.cost(pin, by);
+            if (best == NONE || cost < least) && self.worlds.at(pin, by) & under != 0 {
+                (best, least) = (pin, cost);
             }
         }
-        self.trace_good()
+        best
+    }
+
+    /// Follows under each of these patterns the cheapest pin that decides the gate by this bit: some pin does.
+    fn follow_cheapest(&mut self, gate: u32, by: u8, under: u64) {
+        let mut left = under;
+        for _turn in 0..64 {
+            let pin = self.cheapest(gate, by, left);
+            if left == 0 || pin == NONE {
+                break;
+            }
+            let decides = self.worlds.at(pin, by) & left;
+            self.follow_under(pin, decides);
+            left ^= decides;
+        }
+    }
+
+    /// Follows what a gate's bit rests on under the patterns under which it is followed.
+    fn follow_back(&mut self, gate: u32) {
+        let under = word_at(&self.followed, gate);
+        if under == 0 {
+            return;
+        }
+        let Shape::Controlled { by, .. } = self.worlds.whole.graph.shape(gate) else {
+            self.follow_all_under(gate, under);
+            return;
+        };
+        let some = self.worlds.some_pin_at(gate, by);
+        if under & !some != 0 {
+            self.follow_all_under(gate, under & !some);
+        }
+        let left = under & some & !self.decided(gate, by);
+        self.follow_cheapest(gate, by, left);
+    }
+
+    /// Traces what is followed back to inputs and cells.
+    pub(crate) fn trace(&mut self) {
+        for place in (1..self.worlds.whole.place_count()).rev() {
+            let gate = self.worlds.whole.gate_at(place);
+            self.follow_back(gate);
+        }
     }
 }

@@ -1,51 +1,54 @@
-//! The settled bits of a pattern, and those where one signal's bit is turned.
+//! The settled bits of up to 64 patterns, and those of one of them where a signal's bit is turned.
 use cubes::Pattern;
-use flat_netlist::{Graph, NONE, Shape, Waiting, Whole, byte_at, fill_bytes, put_byte};
+use flat_netlist::{
+    Graph, NONE, Shape, Waiting, Whole, byte_at, clear_words, fill_bytes, put_byte, put_word,
+    word_at,
+};
 use netlist::{Core, SignalId};
 use std::alloc::{AllocError, Global};
 
-/// Whether some pin of a gate has the bit.
-fn has_pin_at(graph: &Graph, bits: &[u8], gate: u32, bit: u8) -> bool {
-    let (start, end) = graph.pins_of(gate);
-    for slot in start..end {
-        if byte_at(bits, graph.pin(slot)) == bit {
-            return true;
-        }
-    }
-    false
+/// The word, or its opposite.
+fn opposite_if(word: u64, is_opposite: bool) -> u64 {
+    if is_opposite { !word } else { word }
 }
 
-fn parity(graph: &Graph, bits: &[u8], gate: u32) -> u8 {
+/// Under which patterns some pin of a gate has the bit.
+fn some_pin_at(graph: &Graph, words: &[u64], gate: u32, bit: u8) -> u64 {
     let (start, end) = graph.pins_of(gate);
-    let mut odd = 0;
+    let mut some: u64 = 0;
     for slot in start..end {
-        odd ^= byte_at(bits, graph.pin(slot));
+        some |= opposite_if(word_at(words, graph.pin(slot)), bit == 0);
+    }
+    some
+}
+
+fn parity(graph: &Graph, words: &[u64], gate: u32) -> u64 {
+    let (start, end) = graph.pins_of(gate);
+    let mut odd: u64 = 0;
+    for slot in start..end {
+        odd ^= word_at(words, graph.pin(slot));
     }
     odd
 }
 
 /// What a gate gives.
-fn bit_of(graph: &Graph, bits: &[u8], gate: u32) -> u8 {
+fn word_of(graph: &Graph, words: &[u64], gate: u32) -> u64 {
     match graph.shape(gate) {
-        Shape::Source => byte_at(bits, gate),
-        Shape::Controlled { by, to } => {
-            if has_pin_at(graph, bits, gate, by) {
-                to
-            } else {
-                to ^ 1
-            }
-        }
-        Shape::Parity { odd } => odd ^ parity(graph, bits, gate),
+        Shape::Source => word_at(words, gate),
+        Shape::Controlled { by, to } => opposite_if(some_pin_at(graph, words, gate, by), to == 0),
+        Shape::Parity { odd } => opposite_if(parity(graph, words, gate), odd != 0),
     }
 }
 
-/// By signal its bit, under one pattern.
+/// By signal its bits under up to 64 patterns, of which one is looked at.
 #[derive(Drop)]
 pub(crate) struct Worlds {
     pub whole: Whole,
-    good: Vec<u8>,
-    faulty: Vec<u8>,
-    /// The signals whose bits differ.
+    words: Vec<u64>,
+    /// The place of the pattern that is looked at.
+    lane: u32,
+    /// By signal, 1 where its bit differs under this pattern from what it is with a bit turned; and the signals that differ.
+    turned: Vec<u8>,
     changed: Vec<u32>,
     /// Gates that wait, by their places. None does between two calls.
     pub waiting: Waiting,
@@ -57,50 +60,120 @@ impl Worlds {
         whole.begin(alloc, core)?;
         let mut waiting = Waiting::new(alloc);
         waiting.begin(whole.place_count())?;
+        let mut turned = Vec::new(alloc);
+        fill_bytes(&mut turned, whole.count(), 0)?;
         Ok(Worlds {
             whole,
-            good: Vec::new(alloc),
-            faulty: Vec::new(alloc),
+            words: Vec::new(alloc),
+            lane: 0,
+            turned,
             changed: Vec::new(alloc),
             waiting,
         })
     }
 
+    /// Looks at the pattern at this place.
+    pub(crate) fn look_at(&mut self, lane: u32) {
+        self.lane = lane % 64;
+    }
+
+    /// The pattern that is looked at, as a word.
+    #[inline(always)]
+    pub(crate) fn mask(&self) -> u64 {
+        1u64 << (self.lane % 64)
+    }
+
     #[inline(always)]
     pub(crate) fn good(&self, signal: u32) -> u8 {
-        byte_at(&self.good, signal)
+        (word_at(&self.words, signal) & self.mask() != 0) as u8
     }
 
     #[inline(always)]
     pub(crate) fn faulty(&self, signal: u32) -> u8 {
-        byte_at(&self.faulty, signal)
+        self.good(signal) ^ byte_at(&self.turned, signal)
     }
 
     /// Whether the signal's bits differ.
     #[inline(always)]
     pub(crate) fn differs(&self, signal: u32) -> bool {
-        self.good(signal) != self.faulty(signal)
+        byte_at(&self.turned, signal) != 0
     }
 
+    /// Under which patterns the signal has the bit.
+    #[inline(always)]
+    pub(crate) fn at(&self, signal: u32, bit: u8) -> u64 {
+        opposite_if(word_at(&self.words, signal), bit == 0)
+    }
+
+    /// Under which patterns some pin of a gate has the bit.
+    pub(crate) fn some_pin_at(&self, gate: u32, bit: u8) -> u64 {
+        some_pin_at(&self.whole.graph, &self.words, gate, bit)
+    }
+
+    /// The bits of a pattern for some signals.
     fn take(&mut self, signals: &[SignalId], bits: &[bool]) {
+        let mask = self.mask();
         for (signal, bit) in signals.iter().zip(bits.iter()) {
-            put_byte(&mut self.good, signal.0, *bit as u8);
+            if *bit {
+                let word = word_at(&self.words, signal.0) | mask;
+                put_word(&mut self.words, signal.0, word);
+            }
         }
     }
 
-    /// Settles the netlist under a pattern.
-    pub(crate) fn settle(&mut self, core: &Core, pattern: &Pattern) -> Result<(), AllocError> {
-        fill_bytes(&mut self.good, self.whole.count(), 0)?;
-        self.take(core.netlist().inputs(), pattern.inputs());
-        self.take(core.netlist().cells(), pattern.cells());
+    fn take_all(&mut self, core: &Core, patterns: &[Pattern]) {
+        for (lane, pattern) in (0u32..64).zip(patterns.iter()) {
+            self.look_at(lane);
+            self.take(core.netlist().inputs(), pattern.inputs());
+            self.take(core.netlist().cells(), pattern.cells());
+        }
+    }
+
+    /// Settles the netlist under up to 64 patterns.
+    pub(crate) fn settle(&mut self, core: &Core, patterns: &[Pattern]) -> Result<(), AllocError> {
+        clear_words(&mut self.words, self.whole.count())?;
+        self.take_all(core, patterns);
         for place in 1..self.whole.place_count() {
             let gate = self.whole.gate_at(place);
-            let bit = bit_of(&self.whole.graph, &self.good, gate);
-            put_byte(&mut self.good, gate, bit);
+            let word = word_of(&self.whole.graph, &self.words, gate);
+            put_word(&mut self.words, gate, word);
         }
-        self.changed.clear();
-        self.faulty.clear();
-        self.faulty.extend_from_slice(&self.good)
+        Ok(())
+    }
+
+    /// Whether some pin of a gate has the bit, with what is turned.
+    fn has_faulty_pin(&self, gate: u32, bit: u8) -> bool {
+        let (start, end) = self.whole.graph.pins_of(gate);
+        for slot in start..end {
+            if self.faulty(self.whole.graph.pin(slot)) == bit {
+                return true;
+            }
+        }
+        false
+    }
+
+    fn faulty_parity(&self, gate: u32) -> u8 {
+        let (start, end) = self.whole.graph.pins_of(gate);
+        let mut odd = 0;
+        for slot in start..end {
+            odd ^= self.faulty(self.whole.graph.pin(slot));
+        }
+        odd
+    }
+
+    /// What a gate gives with what is turned.
+    fn faulty_of(&self, gate: u32) -> u8 {
+        match self.whole.graph.shape(gate) {
+            Shape::Source => self.faulty(gate),
+            Shape::Controlled { by, to } => {
+                if self.has_faulty_pin(gate, by) {
+                    to
+                } else {
+                    to ^ 1
+                }
+            }
+            Shape::Parity { odd } => odd ^ self.faulty_parity(gate),
+        }
     }
 
     fn wake_readers(&mut self, signal: u32) {
@@ -113,24 +186,25 @@ impl Worlds {
         }
     }
 
-    /// Whether the signal changes by taking the bit.
-    fn change(&mut self, signal: u32, bit: u8) -> Result<bool, AllocError> {
-        if self.faulty(signal) == bit {
-            return Ok(false);
-        }
-        put_byte(&mut self.faulty, signal, bit);
+    /// The signal's bit differs.
+    fn change(&mut self, signal: u32) -> Result<(), AllocError> {
+        put_byte(&mut self.turned, signal, 1);
         self.changed.push(signal)?;
         self.wake_readers(signal);
-        Ok(true)
+        Ok(())
     }
 
     /// The gate, where it changes and is observed.
     fn evaluate(&mut self, gate: u32) -> Result<u32, AllocError> {
-        let bit = bit_of(&self.whole.graph, &self.faulty, gate);
-        if self.change(gate, bit)? && self.whole.is_observed(gate) {
-            return Ok(gate);
+        if self.faulty_of(gate) == self.faulty(gate) {
+            return Ok(NONE);
         }
-        Ok(NONE)
+        self.change(gate)?;
+        Ok(if self.whole.is_observed(gate) {
+            gate
+        } else {
+            NONE
+        })
     }
 
     /// Turns the signal's bit and settles what changes, until that comes to an observed signal: this one. NONE where it comes to none.
@@ -138,8 +212,7 @@ impl Worlds {
         if self.whole.is_observed(signal) {
             return Ok(signal);
         }
-        let turned = self.good(signal) ^ 1;
-        self.change(signal, turned)?;
+        self.change(signal)?;
         let mut seen = NONE;
         for _place in 0..self.whole.place_count() {
             let Some(place) = self.waiting.take_first() else {
@@ -156,7 +229,7 @@ impl Worlds {
     /// Turns it back.
     pub(crate) fn forget(&mut self) {
         for signal in &self.changed {
-            put_byte(&mut self.faulty, *signal, byte_at(&self.good, *signal));
+            put_byte(&mut self.turned, *signal, 0);
         }
         self.changed.clear();
     }

@@ -1,5 +1,5 @@
 -- Patterns that detect each of some faults.
-use Rattle.std.specs.Prelude.{ℕ, ◌≤◌, Bool, true, false, List, Option, Some, None, length}
+use Rattle.std.specs.Prelude.{ℕ, ◌≤◌, Bool, true, false, nat_le, List, Option, Some, None, length}
 use Rattle.std.specs.List.{All}
 use Rattle.statement.specs.declared.lines.Fault.{Fault}
 use Rattle.statement.specs.declared.lines.Point.{Point}
@@ -13,10 +13,10 @@ abbrev pub is_told : Option (ℕ × Point) → Bool
 is_told None = false
 is_told (Some one) = true
 
--- or it was not
-abbrev pub is_untold : Option (ℕ × Point) → Bool
-is_untold None = true
-is_untold (Some one) = false
+-- A pattern from this place on is the last that detects it, or none does: the patterns before needn't detect it.
+abbrev pub is_settled : ℕ → Option (ℕ × Point) → Bool
+is_settled start None = true
+is_settled start (Some one) = nat_le start one.0
 
 -- Patterns of the netlist that obey the held inputs, at most so many, that detect each of these faults.
 pub record AreEnough (n : Netlist) (holds : Holds) (faults : List Fault) (most : ℕ) (patterns : List Pattern) : Type 0 where

@@ -1,6 +1,0 @@
-use Rattle.std.proofs.Common.{◌≡◌, map, take}
-use Rattle.fewer_patterns.specs.inner.Enough.{is_untold}
-use Rattle.fewer_patterns.proofs.rounds.untold_marks.Given as goal
-
-abbrev pub invariant-loop-one : goal.invariant-loop-one
-invariant-loop-one l = l.marks.items ≡ map is_untold (take l.one-index l.last)
