@@ -93,16 +93,16 @@ left_others P false ms f fs all k d lt = all (suc k) d (omega (arith, lt))
 
 module _ (n : Netlist) (front tail : List Pattern) where
   front_seen : (f : Fault) (one : Option (ℕ × Point)) → LastDetected n (front ++ tail) f one → is_settled (length front) one ≡ false → IsSeenBy n front f
-  front_seen f None is no = absurd (true≢false no)
-  front_seen f (Some one) is no =
+  front_seen f None is unsettled = absurd (true≢false unsettled)
+  front_seen f (Some one) is unsettled =
       let before : one.0 < length front = grind (arith, leb_tells (length front) one.0) in
       seen_in_front n front tail f one.0 one.1 before is.here
 
   pub left_seen : (faults : List Fault) (last : List (Option (ℕ × Point))) → AllZip (LastDetected n (front ++ tail)) faults last
       → All (IsSeenBy n front) (unmarked (map (is_settled (length front)) last) faults)
-  left_seen [] [] is k d lt = absurd (omega arith)
+  left_seen [] [] is = λ k d lt. absurd (omega (arith, lt))
   left_seen [] (o ∷ os) is = absurd is
-  left_seen (f ∷ fs) [] is k d lt = absurd is
+  left_seen (f ∷ fs) [] is = absurd is
   left_seen (f ∷ fs) (o ∷ os) is =
       left_cons (IsSeenBy n front) (is_settled (length front) o) (map (is_settled (length front)) os) f fs (front_seen f o is.0) (left_seen fs os is.1)
 
@@ -111,12 +111,12 @@ module _ (n : Netlist) (front tail : List Pattern) where
   one_kept new f None is see seen = absurd (is seen.0 seen.1 seen.2)
   one_kept new f (Some one) is see seen = by (leb_tells (length front) one.0) where
     by : ((nat_le (length front) one.0 ≡ true) × (length front ≤ one.0)) ⊎ ((nat_le (length front) one.0 ≡ false) × (one.0 < length front)) → IsSeenBy n (new ++ tail) f
-    by (inl yes) = seen_behind n new tail f (seen_in_tail n front tail f one.0 one.1 yes.1 is.here)
-    by (inr no) = seen_before n new tail f (see no.0)
+    by (inl there) = seen_behind n new tail f (seen_in_tail n front tail f one.0 one.1 there.1 is.here)
+    by (inr before) = seen_before n new tail f (see before.0)
 
   pub keeps : (new : List Pattern) (faults : List Fault) (last : List (Option (ℕ × Point))) → AllZip (LastDetected n (front ++ tail)) faults last
       → All (IsSeenBy n new) (unmarked (map (is_settled (length front)) last) faults) → Keeps n faults (front ++ tail) (new ++ tail)
-  keeps new [] last is see k d lt = absurd (omega arith)
+  keeps new [] last is see k d lt = absurd (omega (arith, lt))
   keeps new (f ∷ fs) [] is see k d lt = absurd is
   keeps new (f ∷ fs) (o ∷ os) is see zero d lt =
       one_kept new f o is.0 (left_first (IsSeenBy n new) (is_settled (length front) o) (map (is_settled (length front)) os) f fs see)
