@@ -12,7 +12,7 @@ hits-requires-clause-few g c =
     omega (arith, drawn, c.in_ok-drawn.ensures.count)
 
 pub hits-requires-clause-wide : goal.hits-requires-clause-wide
-hits-requires-clause-wide g c =
+hits-requires-clause-wide g c κs lives =
     let n = c.args.simulators.now in
     let held = c.requires.cube in
     rw c.deref.ensures.value (widths n held.0 c.in_ok-drawn.drawn.items (c.in_ok-drawn.ensures.obey n held.0 held.1))

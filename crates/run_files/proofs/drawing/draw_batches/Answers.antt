@@ -25,7 +25,7 @@ loop-batch-preserved g c =
     })
 
 pub draw_batch-requires-clause-lines : goal.draw_batch-requires-clause-lines
-draw_batch-requires-clause-lines g c =
+draw_batch-requires-clause-lines g c κs lives =
     let s = c.loop-batch.simulators in
     subst (λ (fs : List (ℕ × Fault)). All (λ (f : ℕ × Fault). IsLineOf s f.1.line) fs) (sym c.deref-in-loop-batch.ensures.value) c.loop-batch.invariant.lines
 
@@ -40,4 +40,4 @@ returns-clause-obey g c holds is =
     (inv.obey holds (subst (λ (n : Netlist). IsCubeOf n holds c.args.cube.now) (sym inv.simulators) is))
 
 pub draw_batch-requires-clause-cube : goal.draw_batch-requires-clause-cube
-draw_batch-requires-clause-cube g c = c.loop-batch.invariant.cube
+draw_batch-requires-clause-cube g c κs lives = c.loop-batch.invariant.cube

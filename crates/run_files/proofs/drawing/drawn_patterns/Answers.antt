@@ -17,12 +17,12 @@ open_there n m holds cube are is same =
     subst (λ (s : Netlist). IsCubeOf s holds cube) (sym same) (subst (λ (d : Cube). IsCubeOf n holds d) (sym is) (open_fits n holds are))
 
 pub draw_batches-requires-clause-lines : goal.draw_batches-requires-clause-lines
-draw_batches-requires-clause-lines g c =
+draw_batches-requires-clause-lines g c κs lives =
     subst (λ (s : Netlist). All (λ (f : ℕ × Fault). IsLineOf s f.1.line) c.in_ok-left.left.items) (sym c.in_ok-simulators.ensures)
     (c.in_ok-left.ensures c.args.core.now c.requires.lines)
 
 pub draw_batches-requires-clause-cube : goal.draw_batches-requires-clause-cube
-draw_batches-requires-clause-cube g c =
+draw_batches-requires-clause-cube g c κs lives =
     (c.args.holds.now, open_there c.args.core.now c.in_ok-simulators.simulators c.args.holds.now c.in_ok-cube.cube c.requires.held c.in_ok-cube.ensures c.in_ok-simulators.ensures)
 
 pub returns-clause-obey : goal.returns-clause-obey

@@ -8,7 +8,7 @@ use Rattle.cubes.specs.Cubes.{IsPatternOf}
 use Rattle.run_files.proofs.searching.with_drawn.Goals as goal
 
 pub drawn_patterns-requires-clause-lines : goal.drawn_patterns-requires-clause-lines
-drawn_patterns-requires-clause-lines g c =
+drawn_patterns-requires-clause-lines g c κs lives =
     let P : List Fault → Type 0 = λ fs. All (λ (f : Fault). IsLineOf c.args.core.now f.line) fs in
     subst P (sym c.deref-7.ensures.value) (c.in_ok-left.ensures.lines c.args.core.now (subst P (sym c.deref-3.ensures.value) c.requires.lines))
 
