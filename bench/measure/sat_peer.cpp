@@ -3,14 +3,15 @@
 //   c++ -O2 -std=c++20 -o sat_peer sat_peer.cpp -lcadical && ./sat_peer NETLIST
 // All faults of a fanout-free region show at its head or not at all, so they share their clauses: for each signal that is needed its good value; for
 // each signal after the head from which a point is reached also its faulty value, and whether the fault shows there and goes on from there. A fault
-// then is a set of assumptions about good values: its line has the other bit, and the pins beside its way to the head let it pass. One solver serves
-// regions as they come, with a literal that switches the clauses of each off once it is done; when it has too many variables a new one begins.
+// then is a set of assumptions about good values: its line has the other bit, and the pins beside its way to the head let it pass. First the point
+// nearest to the head is asked for alone, whose clauses are few; then, for what can't be shown there, all. One solver serves regions as they come, with
+// a literal that switches the clauses of each off once it is done; when it has too many variables a new one begins.
 // What a test leaves free is what no good or faulty value on the way to one point depends on.
 #include <cadical.hpp>
 #include <cstdlib>
 #include "peer_loop.hpp"
 
-constexpr size_t most = 4;  // times the variables of a head's clauses in a solver before a new one begins
+constexpr size_t most = 8;  // times the variables of a head's clauses in a solver before a new one begins
 
 /// Which signals an observed point can be reached from, and the next signal that all ways there have in common.
 struct Ways {
@@ -58,6 +59,8 @@ struct Clauses {
     void begin() {
         solver = std::make_unique<CaDiCaL::Solver>();
         solver->set("lucky", 0);  // what it tries before it searches takes longer than most of these searches
+        solver->set("stabilizeonly", 1);  // few restarts, decisions by activity: a third of the time on multipliers
+        solver->set("chrono", 0);
         variables = 0;
     }
     int fresh() { return ++variables; }
@@ -112,6 +115,7 @@ struct Search {
     const Ways& ways;
     Clauses clauses;
     Id head = none;                          // none: the fault's line is itself a point's
+    bool is_part = false;                    // whether there are more points than the nearest, which is asked for
     int off = 0;                             // true switches the clauses of the head off
     std::vector<int> good, faulty, shows;    // literals
     std::vector<Id> support, after;          // signals in the order of their values; those after the head
@@ -137,14 +141,30 @@ struct Search {
 
     // ---- the clauses of a head
 
-    void aim(Id given, Id root) {
+    /// For the faults that only a point reads, which need a signal's value.
+    void aim_at(Id signal) {
+        begin(none);
+        list_support(signal);
+        make();
+    }
+
+    void aim(Id given, bool nearest) {
+        begin(given);
+        list_after();
+        if (nearest) keep_nearest();
+        for (Id x : after) list_support(x);
+        make();
+    }
+
+    void begin(Id given) {
         turn++;
         head = given;
+        is_part = false;
         support.clear();
         after.clear();
-        if (head == none) list_support(root);
-        else list_after();
-        for (Id x : after) list_support(x);
+    }
+
+    void make() {
         if (off != 0) clauses.add(0, {off});
         if (!clauses.solver || static_cast<size_t>(clauses.variables) > most * (support.size() + 2 * after.size())) {
             clauses.begin();
@@ -166,6 +186,18 @@ struct Search {
                 after.push_back(gate);
             }
         std::sort(after.begin() + 1, after.end(), [&](Id one, Id other) { return netlist.places[one] < netlist.places[other]; });
+    }
+
+    /// Only what lies on ways to the first point.
+    void keep_nearest() {
+        list_support(*std::find_if(after.begin(), after.end(), [&](Id x) { return points.first[x] != none; }));
+        std::vector<Id> kept;
+        for (Id x : after) {
+            if (in_support[x] == turn) kept.push_back(x);
+            else in_after[x] = 0;
+        }
+        is_part = kept.size() < after.size();
+        after.swap(kept);
     }
 
     /// All that a signal's value depends on, each signal behind its pins.
@@ -316,25 +348,25 @@ struct Searches {
 
     explicit Searches(Loop& given) : loop(given), ways(given.netlist, given.points), search(given, ways), waiting(given.netlist.signals()) {}
 
-    void settle(size_t place) {
-        const Fault& fault = loop.faults[place];
-        if (search.finds(fault)) loop.take(search.cube(loop));
-        else loop.verdicts[place] = Verdict::Redundant;
+    /// Whether there is a test, which the loop then has.
+    bool finds(size_t place) {
+        if (!search.finds(loop.faults[place])) return false;
+        loop.take(search.cube(loop));
+        return true;
     }
 
-    void settle_region(Id head) {
-        bool has_clauses = false;
-        for (size_t k : waiting[head]) {
-            if (loop.verdicts[k] != Verdict::Open) continue;
-            if (!ways.reaches[head]) {
-                loop.verdicts[k] = Verdict::Redundant;
-                continue;
-            }
-            if (!has_clauses) search.aim(head, head);
-            has_clauses = true;
-            settle(k);
+    /// The open ones of a head's classes; those without a test stay in the list where not all points were asked for.
+    void settle_region(Id head, bool nearest) {
+        std::vector<size_t> open, rest;
+        for (size_t k : waiting[head])
+            if (loop.verdicts[k] == Verdict::Open) open.push_back(k);
+        if (!open.empty() && ways.reaches[head]) search.aim(head, nearest);
+        for (size_t k : open) {
+            if (loop.verdicts[k] != Verdict::Open || (ways.reaches[head] && finds(k))) continue;
+            if (ways.reaches[head] && search.is_part) rest.push_back(k);
+            else loop.verdicts[k] = Verdict::Redundant;
         }
-        waiting[head].clear();
+        waiting[head].swap(rest);
     }
 
     void settle_all() {
@@ -344,11 +376,11 @@ struct Searches {
         for (size_t k = 0; k < loop.faults.size(); k++) {
             if (loop.verdicts[k] != Verdict::Open) continue;
             if (!is_observed_only(loop.netlist, loop.faults[k])) {
-                settle_region(search.regions.head_of(loop.faults[k]));
+                for (bool nearest : {true, false}) settle_region(search.regions.head_of(loop.faults[k]), nearest);
                 continue;
             }
-            search.aim(none, search.site_of(loop.faults[k]));
-            settle(k);
+            search.aim_at(search.site_of(loop.faults[k]));
+            if (!finds(k)) loop.verdicts[k] = Verdict::Redundant;
         }
     }
 };
