@@ -1,4 +1,5 @@
-"""What bench/measure/fault_sim and bench/measure/events share: the netlists and the C++ peers."""
+"""What the timings beside C++ peers share: the peers, compiled, and the netlists of bench/measure/fault_sim and bench/measure/events."""
+import glob
 import os
 import subprocess
 import sys
@@ -8,13 +9,14 @@ from measure import HERE, MADE, ORACLE, made_netlist
 ROUNDS = 5  # in which both run, one after the other
 
 
-def compiled(name):
-    """The peer of this name, compiled if it is older than its sources."""
-    sources = [os.path.join(HERE, name + ".cpp"), os.path.join(HERE, "peer_netlist.hpp")]
-    program = os.path.join(MADE, name)
+def compiled(name, *libraries):
+    """The peer of this name, compiled if it is older than the sources here."""
+    program, source = os.path.join(MADE, name), os.path.join(HERE, name + ".cpp")
+    newest = max(map(os.path.getmtime, [*glob.glob(os.path.join(HERE, "*.cpp")), *glob.glob(os.path.join(HERE, "*.hpp"))]))
     os.makedirs(MADE, exist_ok=True)
-    if not os.path.exists(program) or os.path.getmtime(program) < max(map(os.path.getmtime, sources)):
-        subprocess.run(["c++", "-std=c++17", "-O2", "-Wall", "-Wextra", "-o", program, sources[0]], check=True)
+    if not os.path.exists(program) or os.path.getmtime(program) < newest:
+        command = ["c++", "-std=c++20", "-O2", "-Wall", "-Wextra", "-o", program, source]
+        subprocess.run([*command, *(f"-l{library}" for library in libraries)], check=True)
     return program
 
 

@@ -5,10 +5,11 @@ import re
 import subprocess
 import sys
 
-from measure import HERE, MADE, ORACLE, ROOT, proved_build, run
+from measure import HERE, MADE, ORACLE, ROOT, made_netlist, proved_build, run
 
 EXAMPLES = os.path.join(ROOT, "examples")
-# names as this file takes them: an example, a circuit of make_circuits.py, or a sample netlist of a seed and gates
+# names as this file takes them: an example, a circuit of make_circuits.py, a sample netlist of a seed and gates, or near:N, a netlist of N signals
+# by make_netlists.py, whose wires are near as in designs
 SMALL = ["c17", "s27", "uart", "fifo", "datapath"]
 COMBINATIONAL = ["multiplier:8", "multiplier:16", "multiplier:32", "multiplier:48", "skip_adder:16", "skip_adder:64"]
 SEQUENTIAL = ["datapath:8", "datapath:16", "datapath:24"]
@@ -25,6 +26,8 @@ def netlist_of(name):
     if not os.path.exists(path):
         os.makedirs(MADE, exist_ok=True)
         kind, *sizes = name.split(":")
+        if kind == "near":
+            return made_netlist(int(sizes[0]))
         if kind == "sample":
             with open(path, "w", encoding="ascii") as out:
                 subprocess.run([sys.executable, os.path.join(ORACLE, "sample_netlist.py"), *sizes], stdout=out, check=True)
