@@ -1,11 +1,11 @@
 // What the plain test generators share, whatever they search by: the loop of `run`. Drawn patterns come first; the classes that are still open are
-// searched; 64 cubes are merged, filled and simulated, and what they detect is dropped; at last the patterns are simulated from the last to the first,
-// and those that are no class's last detector go. No files are written, and no evidence is kept.
+// searched; a batch of cubes is merged, filled and simulated, 64 patterns in a word, and what they detect is dropped; at last the patterns are
+// simulated from the last to the first, and those that are no class's last detector go. No files are written, and no evidence is kept.
 #pragma once
 #include <cstdio>
 #include "peer_regions.hpp"
 
-constexpr size_t batch_size = 64;
+constexpr size_t full = 64;  // patterns in a word
 
 enum class Bit : std::uint8_t { Zero, One, Free };
 
@@ -27,6 +27,7 @@ struct Loop {
     std::vector<Verdict> verdicts;
     std::vector<Cube> cubes, patterns;
     std::vector<Id> sources;
+    size_t batch = full;  // so many cubes are waited for
 
     Loop(const char* path, bool regions)
         : netlist(read_netlist(path)), events(netlist), points(netlist), together(netlist, Way::One), by_regions(regions) {
@@ -42,6 +43,14 @@ struct Loop {
         verdicts.assign(faults.size(), Verdict::Open);
         for (Id x = 0; x < netlist.inputs; x++) sources.push_back(x);
         sources.insert(sources.end(), netlist.cells.begin(), netlist.cells.end());
+        batch = batch_size(verdicts.size());
+    }
+
+    /// How many tests make a batch where so many classes are left: a batch looks at each of these, whatever it detects. More cubes than fill a word
+    /// take 64 MB at most.
+    size_t batch_size(size_t left) const {
+        constexpr size_t share = 256, most_bytes = size_t{1} << 26;
+        return std::max(full, std::min(left / share, most_bytes / std::max<size_t>(sources.size(), 1)));
     }
 
     static bool contradicts(const Cube& one, const Cube& other) {
@@ -69,7 +78,7 @@ struct Loop {
         for (size_t k = 0; k < sources.size(); k++) {
             Word word = 0;
             for (size_t j = 0; j < count; j++) word |= Word{first[j][k] == Bit::One} << j;
-            if (count < batch_size && count > 0) word |= first[count - 1][k] == Bit::One ? ~Word{0} << count : 0;
+            if (count < full && count > 0) word |= first[count - 1][k] == Bit::One ? ~Word{0} << count : 0;
             events.values[sources[k]] = word;
         }
         events.settle();
@@ -86,10 +95,24 @@ struct Loop {
         return hits;
     }
 
-    /// A search has found a test; once there are 64 they are made patterns.
+    std::vector<size_t> undetected() const {
+        std::vector<size_t> places;
+        for (size_t k = 0; k < verdicts.size(); k++)
+            if (verdicts[k] == Verdict::Open || verdicts[k] == Verdict::Aborted) places.push_back(k);
+        return places;
+    }
+
+    std::vector<size_t> detected() const {
+        std::vector<size_t> places;
+        for (size_t k = 0; k < verdicts.size(); k++)
+            if (verdicts[k] == Verdict::Detected) places.push_back(k);
+        return places;
+    }
+
+    /// A search has found a test; a batch of them is made patterns.
     void take(Cube cube) {
         cubes.push_back(std::move(cube));
-        if (cubes.size() == batch_size) publish();
+        if (cubes.size() >= batch) publish();
     }
 
     void publish() {
@@ -98,13 +121,15 @@ struct Loop {
         for (Cube& cube : filled)
             for (Bit& bit : cube)
                 if (bit == Bit::Free) bit = random.next() & 1 ? Bit::One : Bit::Zero;
-        settle(filled.data(), filled.size());
-        std::vector<size_t> left;
-        for (size_t k = 0; k < verdicts.size(); k++)
-            if (verdicts[k] == Verdict::Open || verdicts[k] == Verdict::Aborted) left.push_back(k);
-        for (const Hit& hit : hits_of(left)) verdicts[left[hit.fault]] = Verdict::Detected;
+        std::vector<size_t> left = undetected();
+        for (size_t begin = 0; begin < filled.size(); begin += full) {
+            settle(&filled[begin], std::min(full, filled.size() - begin));
+            for (const Hit& hit : hits_of(left)) verdicts[left[hit.fault]] = Verdict::Detected;
+            std::erase_if(left, [&](size_t k) { return verdicts[k] == Verdict::Detected; });
+        }
         patterns.insert(patterns.end(), filled.begin(), filled.end());
         cubes.clear();
+        batch = batch_size(left.size());
     }
 
     /// Drawn patterns before any class is searched: of each batch those that are the last to detect some classes, up to a batch that detects few.
@@ -114,12 +139,12 @@ struct Loop {
         std::vector<size_t> left(verdicts.size());
         std::iota(left.begin(), left.end(), 0);
         for (bool goes_on = !left.empty(); goes_on;) {
-            std::vector<Cube> batch(batch_size, Cube(sources.size()));
-            for (Cube& cube : batch)
+            std::vector<Cube> some(full, Cube(sources.size()));
+            for (Cube& cube : some)
                 for (Bit& bit : cube) bit = drawn.next() & 1 ? Bit::One : Bit::Zero;
-            settle(batch.data(), batch.size());
+            settle(some.data(), some.size());
             std::vector<Hit> hits = hits_of(left);
-            std::vector<size_t> told(batch_size, 0), rest;
+            std::vector<size_t> told(full, 0), rest;
             for (const Hit& hit : hits) told[hit.pattern]++;
             for (size_t k = 0, next = 0; k < left.size(); k++) {
                 bool is_hit = next < hits.size() && hits[next].fault == k;
@@ -127,35 +152,47 @@ struct Loop {
                 else rest.push_back(left[k]);
                 next += is_hit;
             }
-            for (size_t k = 0; k < batch_size; k++)
-                if (told[k] >= worth) patterns.push_back(batch[k]);
+            for (size_t k = 0; k < full; k++)
+                if (told[k] >= worth) patterns.push_back(some[k]);
             goes_on = !rest.empty() && left.size() - rest.size() >= (left.size() + least - 1) / least;
             left.swap(rest);
         }
+        batch = batch_size(left.size());
     }
 
-    /// How many patterns are the last to detect some class.
-    size_t kept() {
-        std::vector<size_t> left;
-        for (size_t k = 0; k < verdicts.size(); k++)
-            if (verdicts[k] == Verdict::Detected) left.push_back(k);
-        std::vector<bool> keeps(patterns.size() + batch_size, false);
-        for (size_t end = patterns.size(); end > 0;) {
-            size_t begin = end > batch_size ? end - batch_size : 0;
-            settle(&patterns[begin], end - begin);
-            std::vector<Hit> hits = hits_of(left);
-            std::vector<size_t> later;
+    /// Where each of these classes is last detected, or none.
+    std::vector<Id> last_of(const std::vector<Cube>& some, const std::vector<size_t>& classes) {
+        std::vector<Id> last(classes.size(), none);
+        std::vector<size_t> left(classes.size());
+        std::iota(left.begin(), left.end(), size_t{0});
+        for (size_t end = some.size(); end > 0;) {
+            size_t begin = end > full ? end - full : 0;
+            settle(&some[begin], end - begin);
+            std::vector<size_t> asked, later;
+            for (size_t k : left) asked.push_back(classes[k]);
+            std::vector<Hit> hits = hits_of(asked);
             for (size_t k = 0, next = 0; k < left.size(); k++) {
-                if (next == hits.size() || hits[next].fault != k) {
-                    later.push_back(left[k]);
-                    continue;
-                }
-                keeps[std::min(begin + hits[next++].pattern, end - 1)] = true;
+                if (next == hits.size() || hits[next].fault != k) later.push_back(left[k]);
+                else last[left[k]] = static_cast<Id>(std::min(begin + static_cast<size_t>(hits[next++].pattern), end - 1));
             }
             left.swap(later);
             end = begin;
         }
-        return std::count(keeps.begin(), keeps.end(), true);
+        return last;
+    }
+
+    /// Of how many classes each pattern is the last detector.
+    static std::vector<size_t> left_counts(size_t patterns, const std::vector<Id>& last) {
+        std::vector<size_t> counts(patterns, 0);
+        for (Id place : last)
+            if (place != none) counts[place]++;
+        return counts;
+    }
+
+    /// How many patterns are some class's last detector.
+    static size_t needed(size_t patterns, const std::vector<Id>& last) {
+        std::vector<size_t> counts = left_counts(patterns, last);
+        return static_cast<size_t>(std::count_if(counts.begin(), counts.end(), [](size_t count) { return count > 0; }));
     }
 
     size_t count(Verdict verdict) const { return std::count(verdicts.begin(), verdicts.end(), verdict); }
@@ -166,12 +203,11 @@ struct Loop {
         return count;
     }
 
-    /// The last cubes, the last pass, and what has come of the classes and of the faults.
-    void end() {
-        publish();
-        size_t left = kept();
+    /// The last pass, and what has come of the classes and of the faults.
+    void print() {
+        size_t kept = needed(patterns.size(), last_of(patterns, detected()));
         std::printf("classes %zu detected %zu redundant %zu aborted %zu open %zu patterns %zu of %zu\n", verdicts.size(), count(Verdict::Detected),
-                    count(Verdict::Redundant), count(Verdict::Aborted), count(Verdict::Open), left, patterns.size());
+                    count(Verdict::Redundant), count(Verdict::Aborted), count(Verdict::Open), kept, patterns.size());
         std::printf("faults: detected %zu redundant %zu aborted %zu\n", faults_of(Verdict::Detected), faults_of(Verdict::Redundant), faults_of(Verdict::Aborted));
     }
 };

@@ -1,9 +1,7 @@
-// What leaves fewer patterns, as crates/fewer_patterns does: which bits of patterns the faults left to them need is traced, for 64 patterns at once;
-// patterns relaxed to these bits are merged and filled anew.
+// Rounds that leave fewer of a loop's patterns, as crates/fewer_patterns does: which bits of patterns the faults left to them need is traced, for 64
+// patterns at once; patterns relaxed to these bits are merged and filled anew.
 #pragma once
-#include <algorithm>
-#include <numeric>
-#include "peer_regions.hpp"
+#include "peer_loop.hpp"
 
 /// Which bits of up to 64 patterns, which have settled, the detection of faults rests on.
 struct Tracing {
@@ -267,5 +265,129 @@ struct CubeRows {
             results.join(into, *this, row);
         }
         return results;
+    }
+};
+
+/// Patterns, where classes are last detected by them, and how many are needed.
+struct Made {
+    std::vector<Cube> patterns;
+    std::vector<Id> last;
+    size_t needed = 0;
+};
+
+/// The rounds over a loop whose cubes are all published.
+struct Rounds {
+    Loop& loop;
+    Tracing tracing;
+
+    Rounds(Loop& given, const std::vector<std::uint32_t>& zero_costs, const std::vector<std::uint32_t>& one_costs)
+        : loop(given), tracing(given.events, zero_costs, one_costs) {}
+
+    size_t needed_now() const {
+        return static_cast<size_t>(std::count_if(loop.sources.begin(), loop.sources.end(), [&](Id x) { return tracing.is_needed(x); }));
+    }
+
+    /// Which bits the classes need that are left to each of these patterns: a few at first, and four times as many each time. What needs nearly all
+    /// bits by then is taken whole.
+    void trace_part(const std::vector<size_t>* left, size_t count) {
+        tracing.begin();
+        bool goes_on = true;
+        for (size_t from = 0, to = 8; goes_on; from = to, to *= 4) {
+            goes_on = false;
+            for (size_t k = 0; k < count; k++) {
+                if (left[k].size() <= from) continue;
+                tracing.lane = static_cast<int>(k);
+                if (from > 0 && needed_now() * 16 >= loop.sources.size() * 15) {
+                    for (Id x : loop.sources) tracing.followed[x] |= tracing.mask();
+                    continue;
+                }
+                for (size_t j = from; j < std::min(to, left[k].size()); j++) tracing.need(loop.faults[left[k][j]]);
+                goes_on = goes_on || left[k].size() > to;
+            }
+            tracing.trace();
+        }
+    }
+
+    /// A row for each pattern to which a class is left: the bits that such classes need.
+    CubeRows relaxed(const Made& from, const std::vector<size_t>& classes) {
+        std::vector<std::vector<size_t>> left(from.patterns.size());
+        for (size_t k = 0; k < classes.size(); k++) left[from.last[k]].push_back(classes[k]);
+        CubeRows rows{loop.sources.size() / 64 + 1};
+        for (size_t begin = 0; begin < left.size(); begin += full) {
+            size_t count = std::min(full, left.size() - begin);
+            loop.settle(&from.patterns[begin], count);
+            trace_part(&left[begin], count);
+            for (size_t k = 0; k < count; k++) {
+                if (left[begin + k].empty()) continue;
+                tracing.lane = static_cast<int>(k);
+                rows.push();
+                for (size_t at = 0; at < loop.sources.size(); at++)
+                    if (tracing.is_needed(loop.sources[at])) rows.put(rows.count() - 1, at, tracing.good(loop.sources[at]));
+            }
+        }
+        return rows;
+    }
+
+    /// In every other round the last row comes first, else they are shuffled.
+    std::vector<size_t> order_of(size_t count, int round) {
+        std::vector<size_t> order(count);
+        std::iota(order.begin(), order.end(), size_t{0});
+        if (round % 2 == 0) std::reverse(order.begin(), order.end());
+        else
+            for (size_t k = count; k > 1; k--) std::swap(order[k - 1], order[loop.random.next() % k]);
+        return order;
+    }
+    std::vector<Cube> filled(const CubeRows& rows, int round) {
+        std::vector<Cube> results;
+        for (size_t row : order_of(rows.count(), round)) {
+            Cube cube(loop.sources.size());
+            for (size_t k = 0; k < cube.size(); k++) {
+                bool bit = rows.has(row, k) ? rows.one(row, k) : loop.random.next() & 1;
+                cube[k] = bit ? Bit::One : Bit::Zero;
+            }
+            results.push_back(cube);
+        }
+        return results;
+    }
+
+    /// The best patterns after so many rounds, each taken only where it detects all these classes.
+    std::vector<Cube> improved(const Made& first, const std::vector<size_t>& classes, int rounds) {
+        Made best = first, from = first;
+        bool is_dense = false;
+        for (int round = 0; round < rounds && !is_dense; round++) {
+            CubeRows rows = relaxed(from, classes);
+            is_dense = rows.size() * 10 > rows.count() * loop.sources.size() * 9;
+            Made tried;
+            tried.patterns = filled(rows.merged(), round);
+            tried.last = loop.last_of(tried.patterns, classes);
+            tried.needed = Loop::needed(tried.patterns.size(), tried.last);
+            bool detects_all = std::find(tried.last.begin(), tried.last.end(), none) == tried.last.end();
+            bool is_enough = detects_all && tried.patterns.size() <= first.patterns.size();
+            if (is_enough && tried.needed < best.needed) best = tried;
+            from = is_enough && tried.needed == best.needed ? tried : best;
+        }
+        return best.patterns;
+    }
+
+    /// The last patterns, which detect seven tenths of what is detected, stay as they are.
+    void make_fewer(int rounds) {
+        std::vector<Cube>& patterns = loop.patterns;
+        std::vector<size_t> classes = loop.detected(), before;
+        Made front;
+        std::vector<Id> last = loop.last_of(patterns, classes);
+        std::vector<size_t> counts = Loop::left_counts(patterns.size(), last);
+        size_t start = patterns.size(), left = classes.size();
+        while (start > 0 && left > classes.size() / 10 * 3) left -= counts[--start];
+        for (size_t k = 0; k < classes.size(); k++) {
+            if (last[k] == none || last[k] >= start) continue;
+            before.push_back(classes[k]);
+            front.last.push_back(last[k]);
+        }
+        auto tail = patterns.begin() + static_cast<std::ptrdiff_t>(start);
+        front.patterns.assign(patterns.begin(), tail);
+        front.needed = Loop::needed(start, front.last);
+        std::vector<Cube> fewer = improved(front, before, rounds);
+        fewer.insert(fewer.end(), tail, patterns.end());
+        patterns.swap(fewer);
     }
 };

@@ -391,5 +391,6 @@ int main(int count, char** words) {
     loop.draw();
     Searches searches(loop);
     searches.settle_all();
-    loop.end();
+    loop.publish();
+    loop.print();
 }
