@@ -81,34 +81,34 @@ module _ (n : Netlist) (patterns : List Pattern) (numbers : List ℕ) where
 
   -- ---- the part of the fault at this place, and the others
 
-  module _ (g : ℕ × Fault) (place : ℕ) (given : List (ℕ × Fault)) (parts : List Part) (nexts : List ℕ) (part : ℕ) (p : Part) (after : ℕ) (found : Option Hit)
-      (own : part ≡ part_of numbers g.1) (lt : part < length parts) (read : p ≡ get_or parts part p) (is : IsFound p.hits (get_or nexts part 0) place g.0 found after)
+  module _ (g : ℕ × Fault) (place : ℕ) (given : List (ℕ × Fault)) (parts : List Part) (nexts : List ℕ) (owner : ℕ) (p : Part) (after : ℕ) (found : Option Hit)
+      (own : owner ≡ part_of numbers g.1) (lt : owner < length parts) (read : p ≡ get_or parts owner p) (is : IsFound p.hits (get_or nexts owner 0) place g.0 found after)
       (left : AreLeft n patterns numbers place (g ∷ given) parts nexts) where
-    both : (d : Part) → IsToldOf g found × IfOk (get_or parts part d).hits (λ v. AreHits n patterns (dealt_hits numbers part (place + 1) given) (drop after v.items))
+    both : (d : Part) → IsToldOf g found × IfOk (get_or parts owner d).hits (λ v. AreHits n patterns (dealt_hits numbers owner (place + 1) given) (drop after v.items))
     both d =
-        let rest = dealt_hits numbers part (place + 1) given in
-        let taken : dealt_hits numbers part place (g ∷ given) ≡ (place, g.1) ∷ rest =
-        ap (λ b. cond b ((place, g.1) ∷ rest) rest) (eq-eqb (part_of numbers g.1) part (sym own)) in
-        let M : List (ℕ × Fault) → Type 0 = λ gs. IfOk (get_or parts part d).hits (λ v. AreHits n patterns gs (drop (get_or nexts part 0) v.items)) in
-        let before : M ((place, g.1) ∷ rest) = subst M taken (left part d lt) in
-        let there : p ≡ get_or parts part d = read ∙ get_or_default parts part p d lt in
-        told_by g part place given (get_or parts part d).hits (get_or nexts part 0) after found before
-        (subst (λ (q : Part). IsFound q.hits (get_or nexts part 0) place g.0 found after) there is)
+        let rest = dealt_hits numbers owner (place + 1) given in
+        let taken : dealt_hits numbers owner place (g ∷ given) ≡ (place, g.1) ∷ rest =
+        ap (λ b. cond b ((place, g.1) ∷ rest) rest) (eq-eqb (part_of numbers g.1) owner (sym own)) in
+        let M : List (ℕ × Fault) → Type 0 = λ gs. IfOk (get_or parts owner d).hits (λ v. AreHits n patterns gs (drop (get_or nexts owner 0) v.items)) in
+        let before : M ((place, g.1) ∷ rest) = subst M taken (left owner d lt) in
+        let there : p ≡ get_or parts owner d = read ∙ get_or_default parts owner p d lt in
+        told_by g owner place given (get_or parts owner d).hits (get_or nexts owner 0) after found before
+        (subst (λ (q : Part). IsFound q.hits (get_or nexts owner 0) place g.0 found after) there is)
 
-    left_step : length nexts ≡ length parts → AreLeft n patterns numbers (place + 1) given parts (set nexts part after)
+    left_step : length nexts ≡ length parts → AreLeft n patterns numbers (place + 1) given parts (set nexts owner after)
     left_step size w d within =
         let M : ℕ → List (ℕ × Fault) → ℕ → Type 0 = λ x gs k. IfOk (get_or parts x d).hits (λ v. AreHits n patterns gs (drop k v.items)) in
-        elim (cases_eq w part) [
+        elim (cases_eq w owner) [
           | inl e ↦
-              let at : get_or (set nexts part after) part 0 ≡ after = get_or-set_same nexts part after 0 (omega (arith, lt, size)) in
-              let here : M part (dealt_hits numbers part (place + 1) given) (get_or (set nexts part after) part 0) =
-              subst (M part (dealt_hits numbers part (place + 1) given)) (sym at) (both d).1 in
-              subst (λ (x : ℕ). M x (dealt_hits numbers x (place + 1) given) (get_or (set nexts part after) x 0)) (sym e) here
+              let at : get_or (set nexts owner after) owner 0 ≡ after = get_or-set_same nexts owner after 0 (omega (arith, lt, size)) in
+              let here : M owner (dealt_hits numbers owner (place + 1) given) (get_or (set nexts owner after) owner 0) =
+              subst (M owner (dealt_hits numbers owner (place + 1) given)) (sym at) (both d).1 in
+              subst (λ (x : ℕ). M x (dealt_hits numbers x (place + 1) given) (get_or (set nexts owner after) x 0)) (sym e) here
           | inr ne ↦
               let rest = dealt_hits numbers w (place + 1) given in
               let others : dealt_hits numbers w place (g ∷ given) ≡ rest =
               ap (λ b. cond b ((place, g.1) ∷ rest) rest) (ne_eqb (part_of numbers g.1) w (λ e. ne (sym e ∙ sym own))) in
-              subst (M w rest) (sym (get_or-set_other nexts part w after 0 ne))
+              subst (M w rest) (sym (get_or-set_other nexts owner w after 0 ne))
               (subst (λ (gs : List (ℕ × Fault)). M w gs (get_or nexts w 0)) others (left w d within))
         ]
 
@@ -123,21 +123,21 @@ module _ (n : Netlist) (patterns : List Pattern) (numbers : List ℕ) where
       subst (AreHits n patterns whole) (sym same) (goes (h ∷ hs) (inr (h, hs, refl, told.0, told.1, are)))
 
   -- one fault more is put together
-  pub gather_next : (given : List (ℕ × Fault)) (place : ℕ) (g : ℕ × Fault) (parts : List Part) (nexts : List ℕ) (part : ℕ) (p : Part) (next after : ℕ) (found : Option Hit) (all more : List Hit)
-      → place < length given → g ≡ get_or given place g → length nexts ≡ length parts → part ≡ part_of numbers g.1 → part < length parts → p ≡ get_or parts part p → next ≡ get_or nexts part next
+  pub gather_next : (given : List (ℕ × Fault)) (place : ℕ) (g : ℕ × Fault) (parts : List Part) (nexts : List ℕ) (owner : ℕ) (p : Part) (next after : ℕ) (found : Option Hit) (all more : List Hit)
+      → place < length given → g ≡ get_or given place g → length nexts ≡ length parts → owner ≡ part_of numbers g.1 → owner < length parts → p ≡ get_or parts owner p → next ≡ get_or nexts owner next
       → IsFound p.hits next place g.0 found after → more ≡ all ++ option_to_list found
       → AreLeft n patterns numbers place (drop place given) parts nexts → ((hs : List Hit) → AreHits n patterns (drop place given) hs → AreHits n patterns given (all ++ hs))
-      → AreLeft n patterns numbers (place + 1) (drop (place + 1) given) parts (set nexts part after) × ((hs : List Hit) → AreHits n patterns (drop (place + 1) given) hs → AreHits n patterns given (more ++ hs))
-  gather_next given place g parts nexts part p next after found all more lt is size own within read at told pushed left goes =
+      → AreLeft n patterns numbers (place + 1) (drop (place + 1) given) parts (set nexts owner after) × ((hs : List Hit) → AreHits n patterns (drop (place + 1) given) hs → AreHits n patterns given (more ++ hs))
+  gather_next given place g parts nexts owner p next after found all more lt is size own within read at told pushed left goes =
       let rest = drop (place + 1) given in
       let here : drop place given ≡ g ∷ rest = drop_more given place g lt ∙ ap (λ (x : ℕ × Fault). x ∷ rest) (sym is) in
-      let first : next ≡ get_or nexts part 0 = at ∙ get_or_default nexts part next 0 (omega (arith, within, size)) in
-      let told' : IsFound p.hits (get_or nexts part 0) place g.0 found after = subst (λ (k : ℕ). IsFound p.hits k place g.0 found after) first told in
+      let first : next ≡ get_or nexts owner 0 = at ∙ get_or_default nexts owner next 0 (omega (arith, within, size)) in
+      let told' : IsFound p.hits (get_or nexts owner 0) place g.0 found after = subst (λ (k : ℕ). IsFound p.hits k place g.0 found after) first told in
       let left' : AreLeft n patterns numbers place (g ∷ rest) parts nexts = subst (λ (gs : List (ℕ × Fault)). AreLeft n patterns numbers place gs parts nexts) here left in
       let goes' : (hs : List Hit) → AreHits n patterns (g ∷ rest) hs → AreHits n patterns given (all ++ hs) =
       subst (λ (gs : List (ℕ × Fault)). (hs : List Hit) → AreHits n patterns gs hs → AreHits n patterns given (all ++ hs)) here goes in (
-        left_step g place rest parts nexts part p after found own within read told' left' size,
-        goes_on g rest given all more found (both g place rest parts nexts part p after found own within read told' left' p).0 goes' pushed,
+        left_step g place rest parts nexts owner p after found own within read told' left' size,
+        goes_on g rest given all more found (both g place rest parts nexts owner p after found own within read told' left' p).0 goes' pushed,
       )
 
   pub gather_end : (given : List (ℕ × Fault)) (place : ℕ) (all : List Hit) → length given ≤ place

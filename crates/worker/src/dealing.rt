@@ -74,14 +74,14 @@ impl Deal {
     pub(crate) fn faults(
         &self,
         alloc: Global,
-        part: usize,
+        number: usize,
         faults: &[Fault],
     ) -> Result<Vec<Fault>, NoMemory>
-        ensures { IfOk result (λ v. v.items ≡ dealt self.now.numbers.items part faults.now) }
+        ensures { IfOk result (λ v. v.items ≡ dealt self.now.numbers.items number faults.now) }
     {
         let mut own = Vec::new(alloc);
         for fault in faults {
-            if self.part(fault) == part {
+            if self.part(fault) == number {
                 own.push(*fault)?;
             }
         }
@@ -91,17 +91,17 @@ impl Deal {
     /// The same of faults that have numbers. Those that are dealt have their places as numbers.
     pub(crate) fn deal(
         &self,
-        part: usize,
+        number: usize,
         given: &[(u32, Fault)],
         own: &mut Vec<(u32, Fault)>,
     ) -> Result<(), NoMemory>
         requires { length given.now ≤ 2 ^ 32 }
-        ensures { OnOk result (own.new.items ≡ dealt_hits self.now.numbers.items part 0 given.now) }
+        ensures { OnOk result (own.new.items ≡ dealt_hits self.now.numbers.items number 0 given.now) }
     {
         own.clear();
         for place in 0..given.len() {
             let fault = given[place].1;
-            if self.part(&fault) == part {
+            if self.part(&fault) == number {
                 own.push((place as u32, fault))?;
             }
         }

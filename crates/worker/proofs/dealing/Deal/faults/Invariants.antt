@@ -3,4 +3,4 @@ use Rattle.worker.specs.inner.Dealing.{dealt}
 use Rattle.worker.proofs.dealing.Deal.faults.Given as goal
 
 abbrev pub invariant-loop-fault : goal.invariant-loop-fault
-invariant-loop-fault l = l.own.items ++ dealt l.self.numbers.items l.part (drop l.fault-index l.faults) ≡ dealt l.self.numbers.items l.part l.faults
+invariant-loop-fault l = l.own.items ++ dealt l.self.numbers.items l.number (drop l.fault-index l.faults) ≡ dealt l.self.numbers.items l.number l.faults
