@@ -31,6 +31,9 @@ use worker::last_tells_beside;
 /// The stream of the words by which rounds fill, apart from those of workers.
 const STREAM: u64 = 1 << 32;
 
+/// So few patterns are all relaxed.
+const FEW: usize = 64;
+
 /// How many rounds, by how many workers, and the seed of the bits that are filled.
 #[derive(Clone, Copy)]
 pub struct Rounds {
@@ -278,8 +281,12 @@ fn sum_of(counts: &[u32]) -> u64 {
     sum
 }
 
-/// From which place on the patterns detect at least seven tenths of what is detected: where so many faults are left to each.
+/// From which place on the patterns detect at least seven tenths of what is detected: where so many faults are left to each. Of few patterns these
+/// would be most, so there is no tail.
 fn tail_start(counts: &[u32]) -> usize {
+    if counts.len() <= FEW {
+        return counts.len();
+    }
     let mut before = sum_of(counts);
     let most = (before / 10).wrapping_mul(3);
     for place in (0..counts.len()).rev() {
