@@ -1,5 +1,5 @@
 -- Where faults are last detected, when the patterns in front are others.
-use Rattle.std.proofs.Common.{◌≡◌, ℕ, zero, suc, ◌+◌, ◌-◌, ◌<◌, ◌≤◌, ◌⊎◌, inl, inr, ⊥, Bool, true, false, true≢false, cond, List, [], ◌∷◌, ◌++◌, length, get_or, map, drop, Option, Some, None, refl, sym, ap, ◌∙◌, arith}
+use Rattle.std.proofs.Common.{◌≡◌, ℕ, zero, suc, ◌+◌, ◌-◌, ◌<◌, ◌≤◌, ◌⊎◌, inl, inr, Bool, true, false, true≢false, cond, List, [], ◌∷◌, ◌++◌, length, get_or, map, drop, Option, Some, None, refl, sym, ap, ◌∙◌, arith}
 use Rattle.std.proofs.lemmas.List.{append_assoc, append-nil, drop_all, drop_more}
 use Rattle.std.specs.Prelude.{nat_le}
 use Rattle.std.specs.List.{AllZip, slice_get}
@@ -97,7 +97,7 @@ module _ (P : Fault → Told → Type 0) where
   zip_cons false ms f fs o os here others = (here refl, others)
 
 told_cons : (m : Bool) (o : Told) (os : List Told) → (m ≡ false → is_told o ≡ true) → AllTold os → AllTold (cond m os (o ∷ os))
-told_cons true o os here others = others
+told_cons true o os here others k lt = others k lt
 told_cons false o os here others zero lt = here refl
 told_cons false o os here others (suc k) lt = others k (omega (arith, lt))
 
@@ -154,6 +154,12 @@ module _ (n : Netlist) (front new tail : List Pattern) (less : ℕ) (size : less
       (λ these are. all_joined fs os these nevers is.1 are others)
 
 -- ---- loops
+
+pub others_next : (told : List Told) (next : ℕ) → drop (next + 1) told ≡ others_told (drop next told)
+others_next [] zero = refl
+others_next [] (suc k) = refl
+others_next (o ∷ os) zero = refl
+others_next (o ∷ os) (suc k) = others_next os k
 
 unsettled_cons : (start : ℕ) (l : Told) (ls : List Told) → unsettled start (l ∷ ls) ≡ unsettled start (l ∷ []) ++ unsettled start ls
 unsettled_cons start l ls = by (is_settled start l) where

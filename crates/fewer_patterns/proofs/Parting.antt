@@ -24,10 +24,10 @@ Told = Option (ℕ × Point)
 
 module _ (n : Netlist) (holds : Holds) (patterns : List Pattern) (start : ℕ) (faults : List Fault) (last : List Told) (front : Front) (within : start ≤ length patterns)
     (told : AllZip (LastDetected n patterns) faults last) (is : IsFront start faults patterns last front) where
-  before : List Pattern
+  abbrev pub before : List Pattern
   before = front.made.patterns.items
 
-  tail : List Pattern
+  abbrev pub tail : List Pattern
   tail = front.tail.items
 
   parts : patterns ≡ before ++ tail
@@ -82,4 +82,4 @@ module _ (n : Netlist) (holds : Holds) (patterns : List Pattern) (start : ℕ) (
         let by = all_joined n before new tail less sum faults last tells join.never told_parts own join.tells in
         let by_start = subst (λ (i : ℕ). AllZip (LastDetected n (new ++ tail)) faults (joined i less last tells join.never)) (sym size) by in
         subst (λ (ps : List Pattern). AllZip (LastDetected n ps) faults all.last.items) (sym join.patterns)
-        (subst (λ (os : List Told). AllZip (LastDetected n (new ++ tail)) faults os) (sym join.last) by_start)
+        (subst (λ (os : List Told). AllZip (LastDetected n (new ++ tail)) faults os) (sym join.lasts) by_start)
