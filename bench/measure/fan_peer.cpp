@@ -74,8 +74,8 @@ struct Fan {
     Fan(const Netlist& n, const Measures& m, const Roles& roles, Sim& sim, Counts& counts)
         : n(n), m(m), roles(roles), sim(sim), counts(counts), votes(n.count), met(n.count, 0), rounds(n.count, 0), at(n.count, 0) {}
 
-    Tri good(u32 x) const { return sim.labels[x].good; }
-    bool open(u32 x) const { return n.is_gate(x) && roles.role[x] != Head && sim.labels[x].own == X; }
+    Tri good(u32 x) const { return sim.labels[x].good(); }
+    bool open(u32 x) const { return n.is_gate(x) && roles.role[x] != Head && sim.labels[x].own() == X; }
     u32 driver() const { return sim.fault.sort == 1 ? n.pin(sim.fault.signal, sim.fault.pin) : sim.fault.signal; }
     u32 place(u32 x) const { return n.is_gate(x) ? n.place[x] + 1 : 0; }
     bool cheap(u32 x) const { return m.one[x] == m.zero[x] ? mixed(salt ^ x) & 1 : m.one[x] < m.zero[x]; }
@@ -117,7 +117,7 @@ struct Fan {
     void undo_to(size_t length) {
         for (; turned.size() > length; turned.pop_back()) turned.back().in ? remove(turned.back().gate) : add(turned.back().gate);
     }
-    bool may_get(u32 x) const { return sim.labels[x].differs && !sim.effect(sim.labels[x]); }
+    bool may_get(u32 x) const { return sim.labels[x].differs() && !sim.effect(sim.labels[x]); }
     void come(u32 x) { if (n.is_gate(x) && !at[x] && may_get(x)) add(x), turned.push_back({x, true}); }
     void look_at(u32 x) {
         if (at[x] && !may_get(x)) remove(x), turned.push_back({x, false});
@@ -148,7 +148,7 @@ struct Fan {
             if (n.observed[x]) return true;
             for (u32 i = n.fan_begin[x]; i < n.fan_begin[x + 1]; i++) {
                 u32 z = n.fan[i];
-                if (sim.labels[z].differs && !sim.effect(sim.labels[z])) meet(z);
+                if (sim.labels[z].differs() && !sim.effect(sim.labels[z])) meet(z);
             }
         }
         return false;
@@ -178,7 +178,7 @@ struct Fan {
         if (single != NONE && (joins(n.kind[single]) || parts(n.kind[single])))
             for (u32 k = 0; k < n.pin_count(single); k++) {
                 u32 p = n.pin(single, k);
-                if (good(p) == X && !sim.labels[p].differs) all.push_back({p, joins(n.kind[single])});
+                if (good(p) == X && !sim.labels[p].differs()) all.push_back({p, joins(n.kind[single])});
             }
         return all;
     }
@@ -211,7 +211,7 @@ struct Fan {
     Aim traced() {
         for (Aim a = objective(); a.signal != NONE; a = into(a)) {
             u32 x = a.signal;
-            if (roles.role[x] == Head || !n.is_gate(x) || (manner.stems && roles.is_stem(x) && !sim.labels[x].differs)) return a;
+            if (roles.role[x] == Head || !n.is_gate(x) || (manner.stems && roles.is_stem(x) && !sim.labels[x].differs())) return a;
         }
         return {};
     }
@@ -261,7 +261,7 @@ struct Fan {
             Aim a{x, v.one > v.zero};
             if (roles.role[x] == Head || !n.is_gate(x)) {
                 if (best.signal == NONE || v.zero + v.one > most) best = a, most = v.zero + v.one;
-            } else if (roles.is_stem(x) && !sim.labels[x].differs && (manner.stems || (v.zero && v.one))) return a;
+            } else if (roles.is_stem(x) && !sim.labels[x].differs() && (manner.stems || (v.zero && v.one))) return a;
             else spread(x, v);
         }
         return best;
@@ -286,7 +286,7 @@ struct Fan {
         State s = sim.state();
         for (size_t i = mark; i < sim.trail.size(); i++) {
             u32 x = sim.trail[i].signal;
-            if (sim.decided[x] != X && sim.labels[x].own != X && sim.labels[x].own != sim.decided[x]) s = Blocked;
+            if (sim.decided[x] != X && sim.labels[x].own() != X && sim.labels[x].own() != sim.decided[x]) s = Blocked;
         }
         if (s == Test && !justified(a.signal)) s = Going;
         if (s == Blocked || (s == Going && !stays)) sim.undo(mark, a.signal);

@@ -234,31 +234,63 @@ static inline u64 salt_of(const Fault& f) {
 
 // ---- labels of a path
 
-struct Label {
-    Tri own, good, faulty;
-    bool differs;
+// A label in one byte: what the signal may have without the fault and with it (a bit for 0, a bit for 1, X is both), whether the two may differ, and
+// what its pins tell of it, so that a gate is made by and/or of its pins' labels.
+class Label {
+    u8 bits = 0;
+    explicit Label(unsigned bits) : bits((u8)bits) {}
+    static Tri tri(unsigned may) { return (Tri)((may & 3) - 1); }
+
+public:
+    enum : u8 { Good0 = 1, Good1 = 2, Faulty0 = 4, Faulty1 = 8, Differs = 16, Own = 32, Zeros = Good0 | Faulty0, Ones = Good1 | Faulty1 };
+    Label() = default;
     bool operator==(const Label&) const = default;
+    static unsigned may(Tri v) { return v + 1u; }
+    Tri good() const { return tri(bits); }
+    Tri faulty() const { return tri(bits / Faulty0); }
+    Tri own() const { return tri(bits / Own); }
+    bool differs() const { return bits & Differs; }
+    bool effect() const { return (bits & 15) == (Good0 | Faulty1) || (bits & 15) == (Good1 | Faulty0); }
+    u8 pins() const { return bits & (Zeros | Ones | Differs); }
+    /// What a signal has whose pins make this, decided or not.
+    static Label of(u8 decision, unsigned made) {
+        unsigned own = made & 3, good = decision == X ? own : may((Tri)decision);
+        unsigned faulty = made & Differs ? made / Faulty0 & 3 : good;
+        bool differs = (made & Differs) && (good == 3 || good != faulty);
+        return Label(own * Own | good | faulty * Faulty0 | differs * Differs);
+    }
+    Label stuck(bool value) const {
+        unsigned faulty = may(value ? One : Zero);
+        return Label((bits & ~(Faulty0 | Faulty1 | Differs)) | faulty * Faulty0 | ((bits & 3u) != faulty) * Differs);
+    }
 };
 
 static Tri known(bool b) { return b ? One : Zero; }
 
-struct Together {  // what values on pins are together
-    bool zero = false, one = false, unknown = false, odd = false;
-    Tri last = X;
-    void with(Tri v) {
-        zero |= v == Zero, one |= v == One, unknown |= v == X, odd ^= v == One, last = v;
+struct Together {  // what labels on pins are together
+    unsigned all = ~0u, any = 0, unknown = 0, odd = 0, last = 0;
+    void with(Label l) {
+        unsigned pin = l.pins();
+        all &= pin, any |= pin, unknown |= pin & pin >> 1, odd ^= pin, last = pin;
     }
-    Tri through(Kind kind) const {
+    static unsigned inverted(unsigned made) { return (made & Label::Zeros) << 1 | (made & Label::Ones) >> 1 | (made & Label::Differs); }
+    unsigned conjunction() const { return (any & (Label::Zeros | Label::Differs)) | (all & Label::Ones); }
+    unsigned disjunction() const { return (all & Label::Zeros) | (any & (Label::Ones | Label::Differs)); }
+    unsigned parity() const {
+        unsigned free = unknown & Label::Zeros, ones = odd >> 1 & Label::Zeros;  // of both values, at their places of 0
+        return (free | (Label::Zeros & ~ones)) | (free | ones) << 1 | (any & Label::Differs);
+    }
+    unsigned through(Kind kind) const {
         switch (kind) {
-            case And: return zero ? Zero : unknown ? X : One;
-            case Nand: return zero ? One : unknown ? X : Zero;
-            case Or: return one ? One : unknown ? X : Zero;
-            case Nor: return one ? Zero : unknown ? X : One;
-            case Xor: return unknown ? X : known(odd);
-            case Xnor: return unknown ? X : known(!odd);
-            case Not: return last == X ? X : known(last == Zero);
-            case Const0: return Zero;
-            case Const1: return One;
+            case And: return conjunction();
+            case Nand: return inverted(conjunction());
+            case Or: return disjunction();
+            case Nor: return inverted(disjunction());
+            case Xor: return parity();
+            case Xnor: return inverted(parity());
+            case Not: return inverted(last);
+            case Const0: return Label::Zeros;
+            case Const1: return Label::Ones;
             default: return last;
         }
     }
@@ -284,24 +316,15 @@ struct Sim {
         for (u32 x : n.order) labels[x] = made(x);
         start = labels;
     }
-    Label label_of(u8 decision, Tri own, Tri faulty, bool differs) const {
-        Tri good = decision == X ? own : (Tri)decision;
-        return {own, good, differs ? faulty : good, differs && !(good != X && good == faulty)};
-    }
-    Label on_line(bool here, Label l) const {
-        if (!here) return l;
-        return {l.own, l.good, known(fault.value), l.good != known(fault.value)};
-    }
-    Label source(u32 x) const { return on_line(fault.sort == 0 && fault.signal == x, label_of(decided[x], X, X, false)); }
+    Label on_line(bool here, Label l) const { return here ? l.stuck(fault.value) : l; }
+    Label source(u32 x) const { return on_line(fault.sort == 0 && fault.signal == x, Label::of(decided[x], 3)); }
     Label made(u32 x) const {
-        Together good, faulty;
-        bool differs = false;
-        bool at_pin = fault.sort == 1 && fault.signal == x;
-        for (u32 k = 0; k < n.pin_count(x); k++) {
-            Label l = on_line(at_pin && fault.pin == k, labels[n.pin(x, k)]);
-            good.with(l.good), faulty.with(l.faulty), differs |= l.differs;
-        }
-        return on_line(fault.sort == 0 && fault.signal == x, label_of(decided[x], good.through(n.kind[x]), faulty.through(n.kind[x]), differs));
+        Together pins;
+        if (fault.sort == 1 && fault.signal == x)
+            for (u32 k = 0; k < n.pin_count(x); k++) pins.with(on_line(fault.pin == k, labels[n.pin(x, k)]));
+        else
+            for (u32 k = 0; k < n.pin_count(x); k++) pins.with(labels[n.pin(x, k)]);
+        return on_line(fault.sort == 0 && fault.signal == x, Label::of(decided[x], pins.through(n.kind[x])));
     }
     void mark(u32 place) {
         fine[place >> 6] |= 1ull << (place & 63);
@@ -343,18 +366,18 @@ struct Sim {
         while (trail.size() > mark) labels[trail.back().signal] = trail.back().before, trail.pop_back();
         decided[x] = X;
     }
-    bool effect(const Label& l) const { return l.good != X && l.faulty != X && l.good != l.faulty; }
+    bool effect(Label l) const { return l.effect(); }
     State state() const {
         bool differs = false;
         for (u32 x : n.outputs) {
             Label l = on_line(fault.sort == 2 && fault.signal == x, labels[x]);
             if (effect(l)) return Test;
-            differs |= l.differs;
+            differs |= l.differs();
         }
         for (u32 x : n.cells) {
             Label l = on_line(fault.sort == 1 && fault.signal == x, labels[n.pin(x, 0)]);
             if (effect(l)) return Test;
-            differs |= l.differs;
+            differs |= l.differs();
         }
         return differs ? Going : Blocked;
     }

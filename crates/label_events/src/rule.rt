@@ -1,11 +1,14 @@
 //! Labels as a rule by which values settle anew: each gate's pins are gone over once.
-ghost use Rattle.std.specs.Prelude.{◌≡◌, ◌<◌, ℕ, List, [], ◌∷◌, length, slice_index, IfSome, IsFalse};
+ghost use Rattle.std.specs.Prelude.{◌≡◌, ◌<◌, ◌≤◌, ℕ, List, [], ◌∷◌, length, map, slice_index, IfSome, IsFalse, IsTrue};
 ghost use Rattle.std.specs.List.{All};
 ghost use Rattle.netlist.specs.Settled.{at};
 ghost use Rattle.tri.specs.Labels.{labels, on_line};
 ghost use Rattle.tri.specs.Labelling.{decided_in};
 ghost use Rattle.tri.specs.declared.labels.Label.{Label as LabelOf};
-ghost use Rattle.label_events.specs.Gathered.{AreOnPins};
+ghost use Rattle.tri.specs.Gates.{gate_tri};
+ghost use Rattle.tri.specs.Gathered.{AreTriReductionsOf};
+ghost use Rattle.netlist.specs.Gates.{most_pins};
+ghost use Rattle.label_events.specs.Gathered.{AreGoodPins, IsNoPinStuck, pin_labels};
 
 use crate::watched::{controlled, controls, hides_label};
 use events::Comparing;
@@ -18,34 +21,31 @@ pub struct LabelRule<'a> {
     pub labelling: &'a Labelling,
 }
 
-/// What the labels on the pins of a gate are together.
+/// What the labels on the pins of a gate are together, but for their values with the fault.
 #[derive(Clone, Copy)]
-struct OnPins {
+struct GoodPins {
     good: Together,
-    faulty: Together,
     may_differ: bool,
 }
 
-impl OnPins {
+impl GoodPins {
     #[inline(always)]
-    fn none() -> OnPins
-        ensures { AreOnPins [] result }
+    fn none() -> GoodPins
+        ensures { AreGoodPins [] result }
     {
-        OnPins {
+        GoodPins {
             good: Together::none(),
-            faulty: Together::none(),
             may_differ: false,
         }
     }
 
     /// With one more, at the front.
     #[inline(always)]
-    fn with(self, label: Label) -> OnPins
-        ensures { (pins : List LabelOf) → AreOnPins pins self → AreOnPins (label ∷ pins) result }
+    fn with(self, label: Label) -> GoodPins
+        ensures { (pins : List LabelOf) → AreGoodPins pins self → AreGoodPins (label ∷ pins) result }
     {
-        OnPins {
+        GoodPins {
             good: self.good.with(label.good),
-            faulty: self.faulty.with(label.faulty),
             may_differ: label.may_differ || self.may_differ,
         }
     }
@@ -93,6 +93,92 @@ impl LabelRule<'_> {
             Some(pin) => pin.index() == id.index(),
         }
     }
+
+    /// Whether the fault's line is a pin of the gate.
+    #[inline(always)]
+    fn is_at(&self, id: SignalId) -> bool
+        ensures { IsFalse result → IsNoPinStuck self.now.labelling.now.fault id }
+    {
+        let Some(fault) = &self.labelling.fault else {
+            return false;
+        };
+        let Line::Pin(reader, _) = &fault.line else {
+            return false;
+        };
+        reader.index() == id.index()
+    }
+
+    /// The label on a pin of a gate.
+    #[inline(always)]
+    fn pin_label(&self, is_at: bool, id: SignalId, place: u32, label: Label) -> Label
+        requires { IsFalse is_at → IsNoPinStuck self.now.labelling.now.fault id }
+        ensures { result ≡ on_line self.now.labelling.now.fault (Line.Pin id place) label }
+    {
+        if is_at {
+            return self.line(&Line::Pin(id, place), label);
+        }
+        label
+    }
+
+    /// What the labels on the pins of a gate are together, but for their values with the fault.
+    #[inline(always)]
+    fn good_pins(&self, is_at: bool, id: SignalId, pins: &[SignalId], values: &[Label]) -> GoodPins
+        requires at { IsFalse is_at → IsNoPinStuck self.now.labelling.now.fault id }
+        requires below { All (λ x. x < length values.now) pins.now }
+        requires few { length pins.now ≤ most_pins }
+        ensures { AreGoodPins (pin_labels self.now.labelling.now.fault (decided_in self.now.labelling.now.decided.items) id pins.now values.now) result }
+    {
+        let mut all = GoodPins::none();
+        for k in (0..pins.len()).rev() {
+            let label = self.pin_label(is_at, id, k as u32, values[pins[k].index()]);
+            all = all.with(label);
+        }
+        all
+    }
+
+    /// What the values with the fault on the pins of a gate are together.
+    #[inline(always)]
+    fn faulty_pins(
+        &self,
+        is_at: bool,
+        id: SignalId,
+        pins: &[SignalId],
+        values: &[Label],
+    ) -> Together
+        requires at { IsFalse is_at → IsNoPinStuck self.now.labelling.now.fault id }
+        requires below { All (λ x. x < length values.now) pins.now }
+        requires few { length pins.now ≤ most_pins }
+        ensures { AreTriReductionsOf (map (λ (l : LabelOf). l.faulty) (pin_labels self.now.labelling.now.fault (decided_in self.now.labelling.now.decided.items) id pins.now values.now)) result }
+    {
+        let mut all = Together::none();
+        for k in (0..pins.len()).rev() {
+            let label = self.pin_label(is_at, id, k as u32, values[pins[k].index()]);
+            all = all.with(label.faulty);
+        }
+        all
+    }
+
+    /// What a gate makes with the fault where one of its pins may differ; where none may, nobody asks.
+    #[inline(always)]
+    fn faulty_made(
+        &self,
+        may_differ: bool,
+        is_at: bool,
+        id: SignalId,
+        kind: Kind,
+        pins: &[SignalId],
+        values: &[Label],
+    ) -> Tri
+        requires at { IsFalse is_at → IsNoPinStuck self.now.labelling.now.fault id }
+        requires below { All (λ x. x < length values.now) pins.now }
+        requires few { length pins.now ≤ most_pins }
+        ensures { IsTrue may_differ → result ≡ gate_tri kind (map (λ (l : LabelOf). l.faulty) (pin_labels self.now.labelling.now.fault (decided_in self.now.labelling.now.decided.items) id pins.now values.now)) }
+    {
+        if !may_differ {
+            return Tri::X;
+        }
+        self.faulty_pins(is_at, id, pins, values).through(kind)
+    }
 }
 
 impl Logic for LabelRule<'_> {
@@ -126,15 +212,13 @@ impl Comparing for LabelRule<'_> {
 
     #[inline(always)]
     fn made(&self, id: SignalId, kind: Kind, pins: &[SignalId], values: &[Label]) -> Label {
-        let mut on_pins = OnPins::none();
-        for k in (0..pins.len()).rev() {
-            let label = self.line(&Line::Pin(id, k as u32), values[pins[k].index()]);
-            on_pins = on_pins.with(label);
-        }
+        let is_at = self.is_at(id);
+        let on_pins = self.good_pins(is_at, id, pins, values);
+        let faulty = self.faulty_made(on_pins.may_differ, is_at, id, kind, pins, values);
         let label = label_of(
             self.labelling.decision(id),
             on_pins.good.through(kind),
-            on_pins.faulty.through(kind),
+            faulty,
             on_pins.may_differ,
         );
         self.line(&Line::Stem(id), label)

@@ -1,18 +1,17 @@
 //! What three values are together, from which each kind of gate takes its value: gathered in one pass, without a copy of the values.
 ghost use Rattle.std.specs.Prelude.{◌≡◌, List, [], ◌∷◌};
 ghost use Rattle.statement.specs.declared.kinds.Tri.{Tri as Value};
+ghost use Rattle.tri.specs.Gathered.{mark};
 ghost use Rattle.tri.specs.Gates.{gate_tri, conjunction_tri, disjunction_tri, parity_tri};
 ghost use Rattle.statement.specs.Values.{known};
 ghost use Rattle.netlist.specs.ThreeValues.{complement};
 
 use netlist::{Kind, Tri};
 
-/// Whether some are 0, 1 or X, whether an odd number of them is 1, and the first.
+/// Which of 0, 1 and X are among them, a bit for each; whether an odd number of them is 1, and the first.
 #[derive(Clone, Copy)]
 pub struct Together {
-    zero: bool,
-    one: bool,
-    unknown: bool,
+    seen: u8,
     odd: bool,
     first: Tri,
 }
@@ -35,6 +34,17 @@ fn complement(value: Tri) -> Tri
     }
 }
 
+/// The bit of a value: three tests would be branches, which no processor foresees.
+fn mark(value: Tri) -> u8
+    ensures { result ≡ mark value }
+{
+    match value {
+        Tri::Zero => 1,
+        Tri::One => 2,
+        Tri::X => 4,
+    }
+}
+
 impl Together {
     ghost use Rattle.tri.specs.Gathered.{AreTriReductionsOf};
 
@@ -42,49 +52,34 @@ impl Together {
         ensures { AreTriReductionsOf [] result }
     {
         Together {
-            zero: false,
-            one: false,
-            unknown: false,
+            seen: 0,
             odd: false,
             first: Tri::Zero,
         }
     }
 
     /// With one value more, at the front.
+    #[inline(always)]
     pub fn with(self, value: Tri) -> Together
         ensures { (values : List Value) → AreTriReductionsOf values self → AreTriReductionsOf (value ∷ values) result }
     {
-        match value {
-            Tri::Zero => Together {
-                zero: true,
-                one: self.one,
-                unknown: self.unknown,
-                odd: self.odd,
-                first: Tri::Zero,
+        Together {
+            seen: self.seen | mark(value),
+            odd: if matches!(value, Tri::One) {
+                !self.odd
+            } else {
+                self.odd
             },
-            Tri::One => Together {
-                zero: self.zero,
-                one: true,
-                unknown: self.unknown,
-                odd: !self.odd,
-                first: Tri::One,
-            },
-            Tri::X => Together {
-                zero: self.zero,
-                one: self.one,
-                unknown: true,
-                odd: self.odd,
-                first: Tri::X,
-            },
+            first: value,
         }
     }
 
     fn conjunction(self) -> Tri
         ensures { (values : List Value) → AreTriReductionsOf values self → result ≡ conjunction_tri values }
     {
-        if self.zero {
+        if self.seen & 1 != 0 {
             Tri::Zero
-        } else if self.unknown {
+        } else if self.seen & 4 != 0 {
             Tri::X
         } else {
             Tri::One
@@ -94,9 +89,9 @@ impl Together {
     fn disjunction(self) -> Tri
         ensures { (values : List Value) → AreTriReductionsOf values self → result ≡ disjunction_tri values }
     {
-        if self.one {
+        if self.seen & 2 != 0 {
             Tri::One
-        } else if self.unknown {
+        } else if self.seen & 4 != 0 {
             Tri::X
         } else {
             Tri::Zero
@@ -106,7 +101,7 @@ impl Together {
     fn parity(self) -> Tri
         ensures { (values : List Value) → AreTriReductionsOf values self → result ≡ parity_tri values }
     {
-        if self.unknown {
+        if self.seen & 4 != 0 {
             Tri::X
         } else {
             known(self.odd)
