@@ -107,7 +107,7 @@ unsettled_told start (Some one) is = refl
 
 pub all_told : (start : ℕ) (last : List Told) → AllTold (unsettled start last)
 all_told start [] k lt = absurd (omega (arith, lt))
-all_told start (o ∷ os) = told_cons (is_settled start o) o (unsettled start os) (unsettled_told start o) (all_told start os)
+all_told start (o ∷ os) k lt = told_cons (is_settled start o) o (unsettled start os) (unsettled_told start o) (all_told start os) k lt
 
 module _ (n : Netlist) (front tail : List Pattern) where
   one_left : (f : Fault) (o : Told) → LastDetected n (front ++ tail) f o → is_settled (length front) o ≡ false → LastDetected n front f o
@@ -156,10 +156,10 @@ module _ (n : Netlist) (front new tail : List Pattern) (less : ℕ) (size : less
 -- ---- loops
 
 pub others_next : (told : List Told) (next : ℕ) → drop (next + 1) told ≡ others_told (drop next told)
-others_next [] zero = refl
-others_next [] (suc k) = refl
-others_next (o ∷ os) zero = refl
-others_next (o ∷ os) (suc k) = others_next os k
+others_next told next = elim (cases_lt next (length told)) [
+  | inl lt ↦ sym (ap (λ (ls : List Told). others_told ls) (drop_more told next None lt))
+  | inr le ↦ drop_all (next + 1) told (omega (arith, le)) ∙ sym (ap (λ (ls : List Told). others_told ls) (drop_all next told le))
+]
 
 unsettled_cons : (start : ℕ) (l : Told) (ls : List Told) → unsettled start (l ∷ ls) ≡ unsettled start (l ∷ []) ++ unsettled start ls
 unsettled_cons start l ls = by (is_settled start l) where

@@ -1,4 +1,4 @@
-use Rattle.std.proofs.Common.{◌≡◌, ◌∙◌, Bool, ap, length}
+use Rattle.std.proofs.Common.{◌∙◌, ap, length}
 use Rattle.std.proofs.lemmas.List.{length-map}
 use Rattle.fewer_patterns.specs.inner.Enough.{is_settled}
 use Rattle.fewer_patterns.proofs.fronts.parted.Goals as goal

@@ -60,8 +60,8 @@ returns-clause-fewer g c =
     IfOk-weaker c.with_tail.result (λ (all : ToldPatterns). AreJoined n start faults c.deref-5.result.now best.patterns.items best.last.items front.tail.items all)
     (λ (all : ToldPatterns). IsNoWorse n holds faults patterns all.patterns.items)
     (λ (all : ToldPatterns) join.
-        let by = subst (λ (os : List Told). AreJoined n start faults os best.patterns.items best.last.items front.tail.items all) c.deref-5.ensures.value join in
-        no_worse n holds patterns start faults last front low c.requires.told is best.patterns.items best.last.items enough all by c.requires.obey)
+    let by = subst (λ (os : List Told). AreJoined n start faults os best.patterns.items best.last.items front.tail.items all) c.deref-5.ensures.value join in
+    no_worse n holds patterns start faults last front low c.requires.told is best.patterns.items best.last.items enough all by c.requires.obey)
     c.with_tail.ensures
 
 pub returns-clause-told : goal.returns-clause-told
@@ -80,6 +80,6 @@ returns-clause-told g c =
     IfOk-weaker c.with_tail.result (λ (all : ToldPatterns). AreJoined n start faults c.deref-5.result.now best.patterns.items best.last.items front.tail.items all)
     (λ (all : ToldPatterns). AllZip (LastDetected n all.patterns.items) faults all.last.items)
     (λ (all : ToldPatterns) join.
-        let by = subst (λ (os : List Told). AreJoined n start faults os best.patterns.items best.last.items front.tail.items all) c.deref-5.ensures.value join in
-        joined_told n holds patterns start faults last front low c.requires.told is best.patterns.items best.last.items enough all by)
+    let by = subst (λ (os : List Told). AreJoined n start faults os best.patterns.items best.last.items front.tail.items all) c.deref-5.ensures.value join in
+    joined_told n holds patterns start faults last front low c.requires.told is best.patterns.items best.last.items enough all by)
     c.with_tail.ensures
