@@ -1,5 +1,5 @@
 -- The patterns in front, with which the rounds begin, and those behind, which stay as they are.
-use Rattle.std.proofs.Common.{◌≡◌, ◌∙◌, ℕ, ◌+◌, ◌-◌, ◌≤◌, Bool, List, ◌++◌, length, map, take, drop, Option, ap, ap₂, subst, sym, arith, length-append}
+use Rattle.std.proofs.Common.{◌≡◌, ◌∙◌, ℕ, ◌+◌, ◌-◌, ◌≤◌, List, ◌++◌, length, map, Option, ap, ap₂, subst, sym, arith, length-append}
 use Rattle.std.specs.List.{All, AllZip}
 use Rattle.std.proofs.lemmas.List.{length-take-le, take-append-drop}
 use Rattle.std.proofs.lemmas.List.Elements.{All-append, All-drop, All-take}
@@ -13,7 +13,7 @@ use Rattle.word_sim.specs.Never.{unmarked}
 use Rattle.fewer_patterns.specs.Fewer.{IsNoWorse, IsSeenBy, Keeps}
 use Rattle.fewer_patterns.specs.declared.fronts.Front.{Front}
 use Rattle.fewer_patterns.specs.declared.fronts.ToldPatterns.{ToldPatterns}
-use Rattle.fewer_patterns.specs.inner.Enough.{AllTold, AreEnough, is_settled, is_told}
+use Rattle.fewer_patterns.specs.inner.Enough.{AllTold, AreEnough, is_settled}
 use Rattle.fewer_patterns.specs.inner.Fronts.{AreJoined, IsFront}
 use Rattle.fewer_patterns.specs.inner.Joined.{joined, unsettled}
 use Rattle.fewer_patterns.proofs.Joining.{all_joined, all_left, all_told}

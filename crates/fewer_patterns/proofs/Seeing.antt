@@ -1,14 +1,13 @@
 -- What is told is seen, and what is settled needs not be seen by the patterns in front.
-use Rattle.std.proofs.Common.{◌≡◌, ℕ, zero, suc, ◌+◌, ◌<◌, ◌≤◌, ◌⊎◌, inl, inr, Bool, true, false, true≢false, List, [], ◌∷◌, ◌++◌, length, get_or, map, Option, Some, None, refl, sym, ap, ◌∙◌, arith}
+use Rattle.std.proofs.Common.{◌≡◌, ℕ, zero, suc, ◌+◌, ◌<◌, ◌≤◌, ◌⊎◌, inl, inr, Bool, true, false, true≢false, List, [], ◌∷◌, ◌++◌, length, map, Option, Some, None, refl, sym, ap, ◌∙◌, arith}
 use Rattle.std.specs.Prelude.{nat_le}
 use Rattle.std.specs.List.{All, AllZip, slice_get}
-use Rattle.std.proofs.lemmas.Option.{slice_get_within}
 use Rattle.std.proofs.lemmas.Bool.Decides.{leb_tells}
 use Rattle.statement.specs.declared.lines.Fault.{Fault}
 use Rattle.statement.specs.declared.lines.Point.{Point}
 use Rattle.statement.specs.Netlists.{Netlist}
-use Rattle.statement.specs.Patterns.{Pattern, IsDetectedAt, IsLastDetected}
-use Rattle.word_sim.specs.Hits.{IsNeverDetected, LastDetected}
+use Rattle.statement.specs.Patterns.{Pattern, IsDetectedAt}
+use Rattle.word_sim.specs.Hits.{LastDetected}
 use Rattle.word_sim.specs.Never.{unmarked}
 use Rattle.fewer_patterns.specs.Fewer.{IsSeenBy, Keeps}
 use Rattle.fewer_patterns.specs.inner.Enough.{AllTold, is_settled, is_told}
