@@ -50,10 +50,10 @@ fn found_by(
 pub fn push_search(to: &mut Vec<u8>, alloc: Global, core: &Core, rest: &str, by: By) -> Pushed {
     let (held, rest) = cut(rest);
     let (limit, fault) = cut(rest);
-    let holds = holds_of(alloc, core, held)?;
     let Some(fault) = listed(core.netlist(), fault) else {
         return to.extend_from_slice(b"no fault\n");
     };
-    let found = found_by(by, alloc, core, fault, small(limit).max(1), &holds);
-    to.extend_from_slice(word_of(found)?.as_bytes())
+    let holds = holds_of(alloc, core, held)?;
+    let word = word_of(found_by(by, alloc, core, fault, small(limit).max(1), &holds))?;
+    to.extend_from_slice(word.as_bytes())
 }

@@ -7,13 +7,30 @@ ghost use Rattle.word_sim.specs.Words.{HasWidthsOf};
 
 use crate::detection::faults_of;
 use crate::faults::all_faults;
+use crate::values::push_checksum;
 use case_nets::{all_drawn, patterns_of};
-use case_text::{Pushed, checksum, cut, cut_at, push_number, small};
+use case_text::{Pushed, cut, cut_at, push_number, small};
 use cubes::Pattern;
 use detections::last_few_of;
 use netlist::{Core, Fault};
 use rand_pcg::Pcg32;
 use std::alloc::{AllocError, Global};
+
+fn push_times_of(to: &mut Vec<u8>, times: &[u32]) -> Pushed {
+    for count in times {
+        push_number(to, *count)?;
+        to.extend_from_slice(b"\n")?;
+    }
+    Ok(())
+}
+
+fn push_needed(to: &mut Vec<u8>, needed: &[bool]) -> Pushed {
+    to.extend_from_slice(b"needed ")?;
+    for is_needed in needed {
+        to.extend_from_slice(if *is_needed { b"y" } else { b"n" })?;
+    }
+    to.extend_from_slice(b"\n")
+}
 
 /// Adds how many patterns detect each fault, a line each, and then a character for each pattern: y where it is needed.
 fn push_said(
@@ -30,16 +47,24 @@ fn push_said(
     let Ok(found) = last_few_of(alloc, core, faults, patterns, most) else {
         return Err(AllocError);
     };
-    for times in &found.times {
-        push_number(to, *times)?;
-        to.push(b'\n')?;
-    }
-    to.extend_from_slice(b"needed ")?;
-    for needed in &found.needed {
-        to.push(if *needed { b'y' } else { b'n' })?;
-    }
-    to.push(b'\n')?;
-    Ok(())
+    push_times_of(to, &found.times)?;
+    push_needed(to, &found.needed)
+}
+
+fn push_said_sum(
+    to: &mut Vec<u8>,
+    alloc: Global,
+    core: &Core,
+    faults: &[Fault],
+    patterns: &[Pattern],
+    most: u32,
+) -> Pushed
+    requires wide { All (HasWidthsOf core.now) patterns.now }
+    requires lines { All (λ (f : FaultOf). IsLineOf core.now f.line) faults.now }
+{
+    let mut said = Vec::new(alloc);
+    push_said(&mut said, alloc, core, faults, patterns, most)?;
+    push_checksum(to, &said)
 }
 
 /// `times MOST FAULTS: PATTERNS`: how many patterns detect each fault, counted to a number, and which are among the last so many of some fault.
@@ -64,9 +89,5 @@ pub fn push_drawn_times(
 {
     let faults = all_faults(alloc, core.netlist())?;
     let patterns = all_drawn(alloc, core, count, &mut Pcg32::new(seed, 54))?;
-    let mut said = Vec::new(alloc);
-    push_said(&mut said, alloc, core, &faults, &patterns, most)?;
-    push_number(to, checksum(&said))?;
-    to.push(b'\n')?;
-    Ok(())
+    push_said_sum(to, alloc, core, &faults, &patterns, most)
 }

@@ -1,6 +1,6 @@
 //! The lines of `sweep`, shown so that they don't tell which tests a search has found.
 use crate::showing::push_number;
-use case_text::show;
+use case_text::{cut, show};
 use std::alloc::AllocError;
 
 /// The number behind a word at the beginning of a line; 0 where there is none.
@@ -49,7 +49,7 @@ pub fn push_sweep(to: &mut Vec<u8>, bytes: &[u8], each: u64, more: u64) -> Resul
         return show(to, bytes);
     };
     for line in text.lines() {
-        match line.split_once(' ').unwrap_or((line, "")).0 {
+        match cut(line).0 {
             "detected" | "redundant" | "patterns" => {}
             "aborted" => push_verdicts(to, text)?,
             "cycles" => push_cycles(to, text, each, more)?,

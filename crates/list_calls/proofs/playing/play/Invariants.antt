@@ -1,5 +1,5 @@
 use Rattle.std.proofs.Common.{true, false}
-use Rattle.list_calls.proofs.playing.push_played.Given as goal
+use Rattle.list_calls.proofs.playing.play.Given as goal
 
 abbrev pub ghosts-play_list : goal.ghosts-play_list
 ghosts-play_list g a = record { subject = record { netlist = a.core.now; faults = a.faults.now; limit = a.limit; holds = a.holds.now; refutes = true } }

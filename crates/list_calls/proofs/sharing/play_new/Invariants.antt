@@ -1,4 +1,4 @@
-use Rattle.list_calls.proofs.sharing.play_shares.Given as goal
+use Rattle.list_calls.proofs.sharing.play_new.Given as goal
 
 abbrev pub ghosts-play_named-T-Ledger : goal.ghosts-play_named-T-Ledger
 ghosts-play_named-T-Ledger g a = record { name = a.takes.name; parts = a.takes.parts }
