@@ -1,6 +1,5 @@
 #!/usr/bin/env python3
-"""Works out what the rows of crates/calls, crates/file_calls, crates/list_calls and crates/cases have to print, by plain programs apart
-from the crates, and compares.
+"""Works out what the rows of crates/calls and crates/cases have to print, by plain programs apart from the crates, and compares.
 
 A row that this program doesn't know (a refusal, a line of an error output) is worked out by hand; how many there are is printed.
 
@@ -613,9 +612,9 @@ def on_fault_list(verb, name, text, rest, given):
     return list(list_play.on_shares(faults, {place: found.get(number) for place, number in enumerate(chosen)}, calls))
 
 
-def check_calls(crate):
-    texts, rows = texts_and_rows(f"{ROOT}/crates/{crate}/stdin")
-    stored = answers(f"{ROOT}/crates/{crate}/stdout", rows)
+def check_calls():
+    texts, rows = texts_and_rows(f"{ROOT}/crates/calls/stdin")
+    stored = answers(f"{ROOT}/crates/calls/stdout", rows)
     wrong, known = int(len(stored) != len(rows)), 0
     for row, given in zip(rows, stored):
         verb, _, rest = row.partition(" ")
@@ -624,7 +623,7 @@ def check_calls(crate):
         if wanted is not None:
             known += 1
             wrong += differs(row, wanted, given)
-    print(f"{crate}: {known} of {len(rows)} rows worked out, {wrong} differ")
+    print(f"calls: {known} of {len(rows)} rows worked out, {wrong} differ")
     return wrong
 
 
@@ -818,4 +817,4 @@ def check_cases():
 
 
 if __name__ == "__main__":
-    sys.exit(1 if check_calls("calls") + check_calls("file_calls") + check_calls("list_calls") + check_cases() else 0)
+    sys.exit(1 if check_calls() + check_cases() else 0)
