@@ -2,17 +2,23 @@
 use Rattle.std.proofs.Common.{◌≡◌, ℕ, zero, suc, ◌+◌, ◌<◌, ◌≤◌, ◌⊎◌, inl, inr, Bool, true, false, true≢false, List, [], ◌∷◌, ◌++◌, length, get_or, map, Option, Some, None, refl, sym, ap, ◌∙◌, arith}
 use Rattle.std.specs.Prelude.{nat_le}
 use Rattle.std.specs.List.{All, AllZip, slice_get}
+use Rattle.std.proofs.lemmas.Option.{slice_get_within}
 use Rattle.std.proofs.lemmas.Bool.Decides.{leb_tells}
 use Rattle.statement.specs.declared.lines.Fault.{Fault}
 use Rattle.statement.specs.declared.lines.Point.{Point}
 use Rattle.statement.specs.Netlists.{Netlist}
-use Rattle.statement.specs.Patterns.{Pattern, IsDetectedAt}
-use Rattle.word_sim.specs.Hits.{LastDetected}
+use Rattle.statement.specs.Patterns.{Pattern, IsDetectedAt, IsLastDetected}
+use Rattle.word_sim.specs.Hits.{IsNeverDetected, LastDetected}
 use Rattle.word_sim.specs.Never.{unmarked}
 use Rattle.fewer_patterns.specs.Fewer.{IsSeenBy, Keeps}
-use Rattle.fewer_patterns.specs.inner.Enough.{is_settled, is_told}
+use Rattle.fewer_patterns.specs.inner.Enough.{AllTold, is_settled, is_told}
 
 -- ---- two lists of patterns, one behind the other
+
+pub behind : {X : Type 0} (xs ys : List X) (k i : ℕ) (x : X) → i ≡ length xs + k → slice_get (xs ++ ys) i ≡ Some x → slice_get ys k ≡ Some x
+behind [] ys k i x is e = (let same : i ≡ k = omega arith in ap (λ j. slice_get ys j) (sym same) ∙ e)
+behind (a ∷ xs) ys k zero x is e = absurd (omega arith)
+behind (a ∷ xs) ys k (suc i) x is e = behind xs ys k i x (omega arith) e
 
 left_place : {X : Type 0} (xs ys : List X) (k : ℕ) (x : X) → slice_get xs k ≡ Some x → slice_get (xs ++ ys) k ≡ Some x
 left_place [] ys k x e = cc
@@ -61,7 +67,7 @@ module _ (n : Netlist) (patterns : List Pattern) where
   one_seen f (Some one) is told = (one.0, one.1, is.here)
 
   pub all_seen : (faults : List Fault) (last : List (Option (ℕ × Point))) → AllZip (LastDetected n patterns) faults last
-      → ((k : ℕ) → k < length last → is_told (get_or last k None) ≡ true) → All (IsSeenBy n patterns) faults
+      → AllTold last → All (IsSeenBy n patterns) faults
   all_seen [] last is told k d lt = absurd (omega arith)
   all_seen (f ∷ fs) [] is told k d lt = absurd is
   all_seen (f ∷ fs) (o ∷ os) is told zero d lt = one_seen f o is.0 (told 0 (omega arith))

@@ -1,2 +1,4 @@
 -- What the contracts of private functions cite.
 pub mod Enough
+pub mod Fronts
+pub mod Joined

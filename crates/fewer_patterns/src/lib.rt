@@ -7,17 +7,19 @@
 //! faults that some pattern detects. Tracing is shared: what is followed goes back to inputs and cells for 64 patterns at once, and the way of a
 //! difference from the head of a fanout-free region on once a pattern for all faults of the region. Where over nine tenths of the bits are needed a
 //! round is the last. The last few patterns, which detect seven tenths of what is detected, need most of their bits and cost most: they stay as they
-//! are, and the rounds go over those before and the faults that are left to these. To choose among the given patterns alone (a cover) costs a table of
-//! all that each pattern detects, and leaves a seventh more of them.
+//! are, and the rounds go over those before and the faults that are left to these. Where there are few patterns these would be most, so there all are
+//! relaxed. To choose among the given patterns alone (a cover) costs a table of all that each pattern detects, and leaves a seventh more of them.
 //!
-//! Gives: `fewer`, `Rounds`.
-//! Proved: `fewer`: patterns of the netlist that obey the held inputs, no more than were given, which detect each of the faults that the given ones do.
+//! Gives: `fewer`, `Rounds`, `ToldPatterns`.
+//! Proved: `fewer`: patterns of the netlist that obey the held inputs, no more than were given, which detect each of the faults that the given ones do;
+//! and the last of them that detects each fault, with its first point.
 //! Tested: that there are fewer, by rows of `cases`.
 //! Neither: how many fewer; time.
 #![tactic(auto)]
 
 mod arranging;
 mod filling;
+mod fronts;
 mod merging;
 mod relaxing;
 mod rounds;
@@ -26,4 +28,5 @@ mod sorting;
 mod tracing;
 mod worlds;
 
+pub use fronts::ToldPatterns;
 pub use rounds::{Rounds, fewer};

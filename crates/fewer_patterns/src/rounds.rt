@@ -1,5 +1,5 @@
 //! Rounds of relaxing and merging, each verified.
-ghost use Rattle.std.specs.Prelude.{◌≡◌, ◌+◌, ◌<◌, ◌≤◌, ◌^◌, true, List, ℕ, None, IfOk, IfSome, length, map, slice_index_or};
+ghost use Rattle.std.specs.Prelude.{◌≡◌, ◌+◌, ◌<◌, ◌≤◌, ◌^◌, true, List, ℕ, IfOk, IfSome, length};
 ghost use Rattle.std.specs.List.{All, AllZip};
 ghost use Rattle.statement.specs.declared.lines.Fault.{Fault as FaultOf};
 ghost use Rattle.statement.specs.Netlists.{Netlist as Equations};
@@ -9,23 +9,23 @@ ghost use Rattle.netlist.specs.Lines.{IsLineOf};
 ghost use Rattle.cubes.specs.Cubes.{IsPatternOf};
 ghost use Rattle.word_sim.specs.Hits.{LastDetected};
 ghost use Rattle.fewer_patterns.specs.Fewer.{IsNoWorse};
-ghost use Rattle.fewer_patterns.specs.inner.Enough.{AreEnough, is_settled, is_told};
+ghost use Rattle.fewer_patterns.specs.inner.Enough.{AllTold, AreEnough};
 
 use crate::arranging::order_of;
 use crate::filling::filled;
+use crate::fronts::{Front, Made, ToldPatterns, is_told, needed, parted, tail_of, with_tail};
 use crate::merging::merged;
 use crate::relaxing::{Told, relaxed};
 use crate::rows::Rows;
 use crate::tracing::Tracing;
 use cubes::Pattern;
-use flat_netlist::{at, fill, number_of, put};
+use flat_netlist::number_of;
 use netlist::{Core, Fault, Holds, NoMemory, Point};
 use rand_core::Rng;
 use rand_pcg::Lcg64Xsh32;
 use std::alloc::{AllocError, Global};
 use std::thread::Threads;
 use stil_patterns::are_patterns;
-use word_sim::unmarked;
 use worker::last_tells_beside;
 
 /// The stream of the words by which rounds fill, apart from those of workers.
@@ -49,45 +49,9 @@ fn is_dense(rows: &Rows, places: u32) -> bool {
     bits.wrapping_mul(10) > all.wrapping_mul(9)
 }
 
-/// Where each of some faults is last detected, if at all.
-type LastTold = Vec<Option<(u32, Point)>>;
-
-/// To how many patterns a fault is left: so many are kept.
-fn needed(alloc: Global, patterns: u32, last: &[Option<(u32, Point)>]) -> Result<u32, AllocError> {
-    let mut marks = Vec::new(alloc);
-    fill(&mut marks, patterns, 0)?;
-    for one in last {
-        if let Some((place, _)) = one {
-            put(&mut marks, *place, 1);
-        }
-    }
-    let mut count: u32 = 0;
-    for place in 0..patterns {
-        count = count.wrapping_add(at(&marks, place));
-    }
-    Ok(count)
-}
-
-/// Whether a fault was told.
-fn is_told(one: &Option<(u32, Point)>) -> bool
-    ensures { result ≡ is_told one.now }
-{
-    one.is_some()
-}
-
-/// Whether a pattern from this place on is the last that detects it, or none does.
-fn is_settled(start: usize, one: &Option<(u32, Point)>) -> bool
-    ensures { result ≡ is_settled start one.now }
-{
-    match one {
-        None => true,
-        Some((place, _)) => start <= *place as usize,
-    }
-}
-
 /// Whether each fault was told.
 fn are_told(last: &[Option<(u32, Point)>]) -> bool
-    ensures { result ≡ true → (k : ℕ) → k < length last.now → is_told (slice_index_or last.now k None) ≡ true }
+    ensures { result ≡ true → AllTold last.now }
 {
     for k in 0..last.len() {
         if !is_told(&last[k]) {
@@ -95,14 +59,6 @@ fn are_told(last: &[Option<(u32, Point)>]) -> bool
         }
     }
     true
-}
-
-/// Patterns, where each of the faults is told by them, and how many of them are needed.
-#[derive(Drop)]
-struct Made {
-    patterns: Vec<Pattern>,
-    last: LastTold,
-    needed: u32,
 }
 
 /// The patterns, where a simulation says that they are at most so many and detect each of these faults.
@@ -120,7 +76,7 @@ fn verified<R: Threads + Sync>(
     requires lines { All (λ (f : FaultOf). IsLineOf core.now f.line) faults.now }
     requires few { most + 64 ≤ 2 ^ 32 }
     requires workers { 0 < workers }
-    ensures { IfOk result (λ found. IfSome found (λ made. AreEnough core.now holds.now faults.now most made.patterns.items)) }
+    ensures { IfOk result (λ found. IfSome found (λ made. AreEnough core.now holds.now faults.now most made.patterns.items made.last.items)) }
 {
     if tried.len() > most || !are_patterns(core.netlist(), holds, &tried) {
         return Ok(None);
@@ -157,8 +113,9 @@ impl Course {
 
 /// After a round that found these: they are the best where fewer of them are needed.
 fn after(course: Course, found: Option<Made>, is_over: bool) -> Course
-    ensures { (n : Equations) (holds : Held) (faults : List FaultOf) (most : ℕ) → AreEnough n holds faults most course.best.patterns.items
-        → IfSome found (λ made. AreEnough n holds faults most made.patterns.items) → AreEnough n holds faults most result.best.patterns.items }
+    ensures { (n : Equations) (holds : Held) (faults : List FaultOf) (most : ℕ) → AreEnough n holds faults most course.best.patterns.items course.best.last.items
+        → IfSome found (λ made. AreEnough n holds faults most made.patterns.items made.last.items)
+        → AreEnough n holds faults most result.best.patterns.items result.best.last.items }
 {
     let best = course.best;
     match found {
@@ -217,13 +174,13 @@ fn improved<R: Threads + Sync>(
     faults: &[Fault],
     first: Made,
     rounds: Rounds,
-) -> Result<Vec<Pattern>, NoMemory>
+) -> Result<Made, NoMemory>
     requires held { AreHoldsOf core.now holds.now }
     requires lines { All (λ (f : FaultOf). IsLineOf core.now f.line) faults.now }
     requires few { length first.patterns.items + 64 ≤ 2 ^ 32 }
     requires workers { 0 < rounds.workers }
-    requires enough { AreEnough core.now holds.now faults.now (length first.patterns.items) first.patterns.items }
-    ensures { IfOk result (λ v. AreEnough core.now holds.now faults.now (length first.patterns.items) v.items) }
+    requires enough { AreEnough core.now holds.now faults.now (length first.patterns.items) first.patterns.items first.last.items }
+    ensures { IfOk result (λ made. AreEnough core.now holds.now faults.now (length first.patterns.items) made.patterns.items made.last.items) }
 {
     let most = first.patterns.len();
     let mut tracing = Tracing::new(alloc, core)?;
@@ -250,79 +207,48 @@ fn improved<R: Threads + Sync>(
         let found = verified(rt, alloc, core, holds, faults, most, tried, rounds.workers)?;
         course = after(course, found, is_dense);
     }
-    Ok(course.best.patterns)
+    Ok(course.best)
 }
 
-/// How many faults are left to each pattern.
-fn left_counts(
+/// Patterns of which as much is told, and no more of them: the best in front after so many rounds, and the tail.
+fn fewer_told<R: Threads + Sync>(
+    rt: &R,
     alloc: Global,
-    patterns: u32,
-    last: &[Option<(u32, Point)>],
-) -> Result<Vec<u32>, AllocError> {
-    let mut counts = Vec::new(alloc);
-    fill(&mut counts, patterns, 0)?;
-    for one in last {
-        if let Some((place, _)) = one {
-            let count = at(&counts, *place).wrapping_add(1);
-            put(&mut counts, *place, count);
-        }
-    }
-    Ok(counts)
-}
-
-fn sum_of(counts: &[u32]) -> u64 {
-    let mut sum: u64 = 0;
-    for count in counts {
-        sum = sum.wrapping_add(*count as u64);
-    }
-    sum
-}
-
-/// From which place on the patterns detect at least seven tenths of what is detected: where so many faults are left to each.
-fn tail_start(counts: &[u32]) -> usize {
-    let mut before = sum_of(counts);
-    let most = (before / 10).wrapping_mul(3);
-    for place in (0..counts.len()).rev() {
-        if before <= most {
-            return place + 1;
-        }
-        before = before.saturating_sub(counts[place] as u64);
-    }
-    0
-}
-
-/// Marks the faults that the patterns before a place needn't detect.
-fn settled_marks(
-    alloc: Global,
-    start: usize,
-    last: &[Option<(u32, Point)>],
-) -> Result<Vec<bool>, AllocError>
-    ensures { IfOk result (λ v. v.items ≡ map (is_settled start) last.now) }
+    core: &Core,
+    holds: &Holds,
+    faults: &[Fault],
+    given: ToldPatterns,
+    rounds: Rounds,
+) -> Result<ToldPatterns, NoMemory>
+    requires held { AreHoldsOf core.now holds.now }
+    requires lines { All (λ (f : FaultOf). IsLineOf core.now f.line) faults.now }
+    requires obey { All (IsPatternOf core.now holds.now) given.patterns.items }
+    requires told { AllZip (LastDetected core.now given.patterns.items) faults.now given.last.items }
+    requires few { length given.patterns.items + 64 ≤ 2 ^ 32 }
+    requires workers { 0 < rounds.workers }
+    ensures fewer { IfOk result (λ all. IsNoWorse core.now holds.now faults.now given.patterns.items all.patterns.items) }
+    ensures told { IfOk result (λ all. AllZip (LastDetected core.now all.patterns.items) faults.now all.last.items) }
 {
-    let mut marks = Vec::with_capacity(alloc, last.len())?;
-    for one in last {
-        marks.push(is_settled(start, one))?;
-    }
-    Ok(marks)
-}
-
-/// What is told of the others.
-fn told_before(
-    alloc: Global,
-    start: usize,
-    last: &[Option<(u32, Point)>],
-) -> Result<LastTold, AllocError> {
-    let mut told = Vec::new(alloc);
-    for one in last {
-        if !is_settled(start, one) {
-            told.push(*one)?;
-        }
-    }
-    Ok(told)
+    let ToldPatterns { patterns, last } = given;
+    let start = tail_of(alloc, &patterns, &last)?;
+    let Front { left, made, tail } = parted(alloc, faults, patterns, &last, start)?;
+    let best = improved(rt, alloc, core, holds, &left, made, rounds)?;
+    with_tail(
+        rt,
+        alloc,
+        core,
+        faults,
+        start,
+        &last,
+        best,
+        tail,
+        rounds.workers,
+    )
 }
 
 /// Patterns that detect each of these faults that the given ones detect, and that are no more: after so many rounds. Those to which most faults are
-/// left stay as they are, behind the others: they need most of their bits, and to trace what is left to them costs most.
+/// left stay as they are, behind the others: they need most of their bits, and to trace what is left to them costs most. And where they last detect
+/// each fault, which the rounds have found by then.
 pub fn fewer<R: Threads + Sync>(
     rt: &R,
     alloc: Global,
@@ -331,32 +257,19 @@ pub fn fewer<R: Threads + Sync>(
     faults: &[Fault],
     patterns: Vec<Pattern>,
     rounds: Rounds,
-) -> Result<Vec<Pattern>, NoMemory>
+) -> Result<ToldPatterns, NoMemory>
     requires held { AreHoldsOf core.now holds.now }
     requires lines { All (λ (f : FaultOf). IsLineOf core.now f.line) faults.now }
     requires obey { All (IsPatternOf core.now holds.now) patterns.items }
     requires few { length patterns.items + 64 ≤ 2 ^ 32 }
     requires workers { 0 < rounds.workers }
-    ensures { IfOk result (λ v. IsNoWorse core.now holds.now faults.now patterns.items v.items) }
+    ensures fewer { IfOk result (λ all. IsNoWorse core.now holds.now faults.now patterns.items all.patterns.items) }
+    ensures told { IfOk result (λ all. AllZip (LastDetected core.now all.patterns.items) faults.now all.last.items) }
 {
-    if rounds.count == 0 {
-        return Ok(patterns);
-    }
     let last = last_tells_beside(rt, alloc, core, faults, &patterns, rounds.workers)?;
-    let counts = left_counts(alloc, number_of(patterns.len()), &last)?;
-    let start = tail_start(&counts).min(patterns.len());
-    let settled = settled_marks(alloc, start, &last)?;
-    let left = unmarked(alloc, faults, &settled)?;
-    let told = told_before(alloc, start, &last)?;
-    let mut patterns = patterns;
-    let mut tail = patterns.split_off(start)?;
-    let needed = needed(alloc, number_of(patterns.len()), &told)?;
-    let first = Made {
-        patterns,
-        last: told,
-        needed,
-    };
-    let mut better = improved(rt, alloc, core, holds, &left, first, rounds)?;
-    better.append(&mut tail)?;
-    Ok(better)
+    let given = ToldPatterns { patterns, last };
+    if rounds.count == 0 {
+        return Ok(given);
+    }
+    fewer_told(rt, alloc, core, holds, faults, given, rounds)
 }

@@ -1,5 +1,5 @@
 -- What a search knows of faults, before compaction and after.
-use Rattle.std.proofs.Common.{◌≡◌, ℕ, zero, suc, ◌+◌, ◌≤◌, inl, inr, Bool, false, true, true≢false, List, [], ◌∷◌, ◌++◌, length, map, get_or, Some, refl, sym, ◌∙◌, ap, subst, arith}
+use Rattle.std.proofs.Common.{◌≡◌, ⊥, ℕ, zero, suc, ◌+◌, ◌<◌, ◌≤◌, inl, inr, Bool, false, true, true≢false, List, [], ◌∷◌, ◌++◌, length, map, get_or, Some, refl, sym, ◌∙◌, ap, subst, arith}
 use Rattle.std.specs.List.{All, slice_get}
 use Rattle.std.proofs.lemmas.List.{length-map}
 use Rattle.std.proofs.lemmas.List.Elements.{All-append, All-from_get_or}
@@ -22,7 +22,7 @@ use Rattle.list_core.specs.States.{State, IsTrueList}
 use Rattle.list_core.specs.declared.verdicts.Verdict.{Verdict}
 use Rattle.list_core.specs.declared.verdicts.Verdict.TheVariants.{Open, Detected, Redundant, Aborted}
 use Rattle.list_core.specs.Verdicts.{VerdictHolds, is_open, one_if_class_detected, verdict_at}
-use Rattle.fewer_patterns.specs.Fewer.{IsNoWorse, IsSeenBy}
+use Rattle.fewer_patterns.specs.Fewer.{IsNoWorse, IsSeenBy, Keeps}
 use Rattle.run_files.specs.inner.Often.{AreChosen}
 use Rattle.run_files.specs.inner.Searches.{AreKnown, IsKnown}
 use Rattle.run_files.specs.inner.Spread.{spread}
@@ -56,6 +56,26 @@ known_of j s list = record {
   obey = list.patterns;
   each = λ class f represents. known_at j s.patterns class f represents (verdict_at s.verdicts class) (list.hold class);
 }
+
+-- ---- by other patterns that detect as much of what isn't marked
+
+module _ (n : Netlist) (old new : List Pattern) where
+  keeps_all : (marks : List Bool) (faults : List Fault) → AreNever n old faults marks → Keeps n (unmarked marks faults) old new → Keeps n faults old new
+  keeps_all marks [] never keep k d lt = absurd (omega (arith, lt))
+  keeps_all [] (f ∷ fs) never keep k d lt = absurd (let s = never.size in omega arith)
+  keeps_all (m ∷ ms) (f ∷ fs) never keep k d lt =
+      let rest : AreNever n old fs ms = record { size = (let s = never.size in omega arith); each = λ i g at marked. never.each (suc i) g at marked } in
+      by m k (λ is seen. never.each 0 f refl is seen.0 seen.1 seen.2) keep (keeps_all ms fs rest) lt where
+    by : (mark : Bool) (i : ℕ) → (mark ≡ true → IsSeenBy n old f → ⊥) → Keeps n (unmarked (mark ∷ ms) (f ∷ fs)) old new
+        → (Keeps n (unmarked ms fs) old new → Keeps n fs old new) → i < length (f ∷ fs) → IsSeenBy n old (get_or (f ∷ fs) i d) → IsSeenBy n new (get_or (f ∷ fs) i d)
+    by true zero none those others low seen = absurd (none refl seen)
+    by true (suc i) none those others low seen = others those i d (omega (arith, low)) seen
+    by false zero none those others low seen = those 0 f (omega arith) seen
+    by false (suc i) none those others low seen = others (λ j e lt. those (suc j) e (omega (arith, lt))) i d (omega (arith, low)) seen
+
+pub no_worse_of_all : (n : Netlist) (holds : Holds) (faults : List Fault) (old new : List Pattern) (marks : List Bool) → AreNever n old faults marks
+    → IsNoWorse n holds (unmarked marks faults) old new → IsNoWorse n holds faults old new
+no_worse_of_all n holds faults old new marks never is = record { obey = is.obey; few = is.few; keeps = keeps_all n old new marks faults never is.keeps }
 
 -- ---- behind the first patterns
 

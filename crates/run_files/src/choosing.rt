@@ -12,7 +12,7 @@ ghost use Rattle.run_files.specs.inner.Often.{AreChosen, AreGathered};
 ghost use Rattle.run_files.specs.inner.Searches.{AreKnown};
 
 use crate::asked::RunPlan;
-use crate::compacting::compact_beside;
+use crate::compacting::{compact_told, redundant_marks};
 use crate::repeating::repeated;
 use crate::telling::tell;
 use cubes::Pattern;
@@ -25,9 +25,10 @@ use outside::Gate;
 use std::alloc::Global;
 use std::sync::Wait;
 use std::thread::Threads;
+use word_sim::unmarked;
 use worker::last_tells_beside;
 
-/// Fewer patterns that detect as much, of which each is the last to detect some fault.
+/// Fewer patterns that detect as much, of which each is the last to detect some fault. Redundant ones are left out, since nothing detects them.
 fn chosen_once<E: Engine, R: Threads + Sync>(
     rt: &R,
     alloc: Global,
@@ -53,8 +54,10 @@ fn chosen_once<E: Engine, R: Threads + Sync>(
         workers: plan.workers,
         seed: plan.seed,
     };
-    let patterns = fewer(rt, alloc, core, holds, faults, patterns, rounds)?;
-    compact_beside(rt, alloc, core, faults, patterns, verdicts, plan.workers)
+    let redundant = redundant_marks(alloc, &verdicts)?;
+    let left = unmarked(alloc, faults, &redundant)?;
+    let told = fewer(rt, alloc, core, holds, &left, patterns, rounds)?;
+    compact_told(alloc, core, faults, &redundant, told, verdicts)
 }
 
 /// The patterns that are among the last so many to detect some fault, and the verdicts by them.

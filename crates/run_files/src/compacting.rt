@@ -1,20 +1,16 @@
 //! Compaction of what a search found.
-ghost use Rattle.std.specs.Prelude.{◌≡◌, ◌+◌, ◌<◌, ◌≤◌, ◌^◌, IfOk, length, map};
-ghost use Rattle.std.specs.List.{All};
-ghost use Rattle.statement.specs.declared.lines.Fault.{Fault as FaultOf};
-ghost use Rattle.netlist.specs.Lines.{IsLineOf};
-ghost use Rattle.word_sim.specs.Never.{AreNever};
-ghost use Rattle.word_sim.specs.Words.{HasWidthsOf};
+ghost use Rattle.std.specs.Prelude.{◌≡◌, ◌+◌, ◌≤◌, ◌^◌, IfOk, length, map};
+ghost use Rattle.std.specs.List.{AllZip};
+ghost use Rattle.word_sim.specs.Hits.{LastDetected};
+ghost use Rattle.word_sim.specs.Never.{AreNever, unmarked};
 ghost use Rattle.list_core.specs.Finished.{AreFinished};
 ghost use Rattle.run_files.specs.inner.Verdicts.{is_redundant};
 
-use cubes::Pattern;
+use fewer_patterns::ToldPatterns;
 use list_core::{Finished, Verdict, compact};
 use netlist::{Core, Fault, NoMemory};
 use std::alloc::{AllocError, Global};
-use std::thread::Threads;
-use word_sim::{told_of_all, unmarked};
-use worker::last_tells_beside;
+use word_sim::told_of_all;
 
 fn is_redundant(verdict: &Verdict) -> bool
     ensures { result ≡ is_redundant verdict.now }
@@ -22,8 +18,8 @@ fn is_redundant(verdict: &Verdict) -> bool
     matches!(verdict, Verdict::Redundant(_))
 }
 
-/// Marks the classes that are Redundant.
-fn redundant_marks(alloc: Global, verdicts: &[Verdict]) -> Result<Vec<bool>, AllocError>
+/// Marks the classes that are Redundant: nothing detects them.
+pub(crate) fn redundant_marks(alloc: Global, verdicts: &[Verdict]) -> Result<Vec<bool>, AllocError>
     ensures { IfOk result (λ v. v.items ≡ map is_redundant verdicts.now) }
 {
     let mut marks = Vec::with_capacity(alloc, verdicts.len())?;
@@ -33,28 +29,21 @@ fn redundant_marks(alloc: Global, verdicts: &[Verdict]) -> Result<Vec<bool>, All
     Ok(marks)
 }
 
-/// The patterns that are the last to detect one of these faults, and each verdict by them: each worker goes over a part of the faults for the last
-/// pattern that detects each. Redundant ones are left out, since nothing detects them.
-pub(crate) fn compact_beside<R: Threads + Sync>(
-    rt: &R,
+/// The patterns that are the last to detect one of these faults, and each verdict by them, where this is told of the faults that aren't redundant.
+pub(crate) fn compact_told(
     alloc: Global,
     core: &Core,
     faults: &[Fault],
-    patterns: Vec<Pattern>,
+    redundant: &[bool],
+    told: ToldPatterns,
     verdicts: Vec<Verdict>,
-    workers: u32,
 ) -> Result<Finished, NoMemory>
-    requires wide { All (HasWidthsOf core.now) patterns.items }
-    requires lines { All (λ (f : FaultOf). IsLineOf core.now f.line) faults.now }
     requires count { length verdicts.items ≡ length faults.now }
-    requires redundant { AreNever core.now patterns.items faults.now (map is_redundant verdicts.items) }
-    requires few { length patterns.items + 64 ≤ 2 ^ 32 }
-    requires workers { 0 < workers }
-    ensures { IfOk result (λ f. AreFinished core.now faults.now patterns.items verdicts.items f.patterns.items f.verdicts.items) }
+    requires redundant { AreNever core.now told.patterns.items faults.now redundant.now }
+    requires told { AllZip (LastDetected core.now told.patterns.items) (unmarked redundant.now faults.now) told.last.items }
+    requires few { length told.patterns.items + 64 ≤ 2 ^ 32 }
+    ensures { IfOk result (λ f. AreFinished core.now faults.now told.patterns.items verdicts.items f.patterns.items f.verdicts.items) }
 {
-    let redundant = redundant_marks(alloc, &verdicts)?;
-    let left = unmarked(alloc, faults, &redundant)?;
-    let told = last_tells_beside(rt, alloc, core, &left, &patterns, workers)?;
-    let last = told_of_all(alloc, &redundant, &told)?;
-    compact(alloc, patterns, verdicts, &last)
+    let last = told_of_all(alloc, redundant, &told.last)?;
+    compact(alloc, told.patterns, verdicts, &last)
 }

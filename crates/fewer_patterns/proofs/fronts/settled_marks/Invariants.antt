@@ -1,6 +1,6 @@
 use Rattle.std.proofs.Common.{◌≡◌, map, take}
 use Rattle.fewer_patterns.specs.inner.Enough.{is_settled}
-use Rattle.fewer_patterns.proofs.rounds.settled_marks.Given as goal
+use Rattle.fewer_patterns.proofs.fronts.settled_marks.Given as goal
 
 abbrev pub invariant-loop-one : goal.invariant-loop-one
 invariant-loop-one l = l.marks.items ≡ map (is_settled l.fn.start) (take l.one-index l.last)
