@@ -1,15 +1,15 @@
 -- Where faults are last detected, when the patterns in front are others.
-use Rattle.std.proofs.Common.{◌≡◌, ℕ, zero, suc, ◌+◌, ◌-◌, ◌<◌, ◌≤◌, ◌⊎◌, inl, inr, ⊥, Bool, true, false, true≢false, cond, List, [], ◌∷◌, ◌++◌, length, get_or, map, drop, Option, Some, None, refl, sym, ap, ◌∙◌, arith}
+use Rattle.std.proofs.Common.{◌≡◌, ℕ, zero, suc, ◌+◌, ◌-◌, ◌<◌, ◌≤◌, inl, inr, Bool, true, false, true≢false, cond, List, [], ◌∷◌, ◌++◌, length, get_or, map, drop, Option, Some, None, refl, sym, ap, ◌∙◌, arith}
 use Rattle.std.proofs.lemmas.List.{append_assoc, append-nil, drop_all, drop_more}
 use Rattle.std.specs.Prelude.{nat_le}
-use Rattle.std.specs.List.{AllZip, slice_get}
+use Rattle.std.specs.List.{AllZip}
 use Rattle.std.proofs.lemmas.Bool.Decides.{leb_tells}
 use Rattle.std.proofs.lemmas.Bool.{cases_lt}
 use Rattle.std.proofs.lemmas.Option.{slice_get_within}
 use Rattle.statement.specs.declared.lines.Fault.{Fault}
 use Rattle.statement.specs.declared.lines.Point.{Point}
 use Rattle.statement.specs.Netlists.{Netlist}
-use Rattle.statement.specs.Patterns.{Pattern, IsBefore, IsDetectedAt, IsLastDetected}
+use Rattle.statement.specs.Patterns.{Pattern, IsDetectedAt, IsLastDetected}
 use Rattle.word_sim.specs.Hits.{IsNeverDetected, LastDetected}
 use Rattle.word_sim.specs.Never.{unmarked}
 use Rattle.fewer_patterns.specs.inner.Enough.{AllTold, is_settled, is_told}
@@ -97,7 +97,7 @@ module _ (P : Fault → Told → Type 0) where
   zip_cons false ms f fs o os here others = (here refl, others)
 
 told_cons : (m : Bool) (o : Told) (os : List Told) → (m ≡ false → is_told o ≡ true) → AllTold os → AllTold (cond m os (o ∷ os))
-told_cons true o os here others = others
+told_cons true o os here others k lt = others k lt
 told_cons false o os here others zero lt = here refl
 told_cons false o os here others (suc k) lt = others k (omega (arith, lt))
 
@@ -107,7 +107,7 @@ unsettled_told start (Some one) is = refl
 
 pub all_told : (start : ℕ) (last : List Told) → AllTold (unsettled start last)
 all_told start [] k lt = absurd (omega (arith, lt))
-all_told start (o ∷ os) = told_cons (is_settled start o) o (unsettled start os) (unsettled_told start o) (all_told start os)
+all_told start (o ∷ os) k lt = told_cons (is_settled start o) o (unsettled start os) (unsettled_told start o) (all_told start os) k lt
 
 module _ (n : Netlist) (front tail : List Pattern) where
   one_left : (f : Fault) (o : Told) → LastDetected n (front ++ tail) f o → is_settled (length front) o ≡ false → LastDetected n front f o
@@ -154,6 +154,12 @@ module _ (n : Netlist) (front new tail : List Pattern) (less : ℕ) (size : less
       (λ these are. all_joined fs os these nevers is.1 are others)
 
 -- ---- loops
+
+pub others_next : (told : List Told) (next : ℕ) → drop (next + 1) told ≡ others_told (drop next told)
+others_next told next = elim (cases_lt next (length told)) [
+  | inl lt ↦ sym (ap (λ (ls : List Told). others_told ls) (drop_more told next None lt))
+  | inr le ↦ drop_all (next + 1) told (omega (arith, le)) ∙ sym (ap (λ (ls : List Told). others_told ls) (drop_all next told le))
+]
 
 unsettled_cons : (start : ℕ) (l : Told) (ls : List Told) → unsettled start (l ∷ ls) ≡ unsettled start (l ∷ []) ++ unsettled start ls
 unsettled_cons start l ls = by (is_settled start l) where

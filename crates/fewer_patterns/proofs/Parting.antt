@@ -1,5 +1,5 @@
 -- The patterns in front, with which the rounds begin, and those behind, which stay as they are.
-use Rattle.std.proofs.Common.{◌≡◌, ◌∙◌, ℕ, ◌+◌, ◌-◌, ◌≤◌, Bool, List, ◌++◌, length, map, take, drop, Option, ap, ap₂, subst, sym, arith, length-append}
+use Rattle.std.proofs.Common.{◌≡◌, ◌∙◌, ℕ, ◌+◌, ◌-◌, ◌≤◌, List, ◌++◌, length, map, Option, ap, ap₂, subst, sym, arith, length-append}
 use Rattle.std.specs.List.{All, AllZip}
 use Rattle.std.proofs.lemmas.List.{length-take-le, take-append-drop}
 use Rattle.std.proofs.lemmas.List.Elements.{All-append, All-drop, All-take}
@@ -13,7 +13,7 @@ use Rattle.word_sim.specs.Never.{unmarked}
 use Rattle.fewer_patterns.specs.Fewer.{IsNoWorse, IsSeenBy, Keeps}
 use Rattle.fewer_patterns.specs.declared.fronts.Front.{Front}
 use Rattle.fewer_patterns.specs.declared.fronts.ToldPatterns.{ToldPatterns}
-use Rattle.fewer_patterns.specs.inner.Enough.{AllTold, AreEnough, is_settled, is_told}
+use Rattle.fewer_patterns.specs.inner.Enough.{AllTold, AreEnough, is_settled}
 use Rattle.fewer_patterns.specs.inner.Fronts.{AreJoined, IsFront}
 use Rattle.fewer_patterns.specs.inner.Joined.{joined, unsettled}
 use Rattle.fewer_patterns.proofs.Joining.{all_joined, all_left, all_told}
@@ -24,10 +24,10 @@ Told = Option (ℕ × Point)
 
 module _ (n : Netlist) (holds : Holds) (patterns : List Pattern) (start : ℕ) (faults : List Fault) (last : List Told) (front : Front) (within : start ≤ length patterns)
     (told : AllZip (LastDetected n patterns) faults last) (is : IsFront start faults patterns last front) where
-  before : List Pattern
+  abbrev pub before : List Pattern
   before = front.made.patterns.items
 
-  tail : List Pattern
+  abbrev pub tail : List Pattern
   tail = front.tail.items
 
   parts : patterns ≡ before ++ tail
@@ -82,4 +82,4 @@ module _ (n : Netlist) (holds : Holds) (patterns : List Pattern) (start : ℕ) (
         let by = all_joined n before new tail less sum faults last tells join.never told_parts own join.tells in
         let by_start = subst (λ (i : ℕ). AllZip (LastDetected n (new ++ tail)) faults (joined i less last tells join.never)) (sym size) by in
         subst (λ (ps : List Pattern). AllZip (LastDetected n ps) faults all.last.items) (sym join.patterns)
-        (subst (λ (os : List Told). AllZip (LastDetected n (new ++ tail)) faults os) (sym join.last) by_start)
+        (subst (λ (os : List Told). AllZip (LastDetected n (new ++ tail)) faults os) (sym join.lasts) by_start)

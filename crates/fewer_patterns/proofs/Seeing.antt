@@ -1,14 +1,13 @@
 -- What is told is seen, and what is settled needs not be seen by the patterns in front.
-use Rattle.std.proofs.Common.{◌≡◌, ℕ, zero, suc, ◌+◌, ◌<◌, ◌≤◌, ◌⊎◌, inl, inr, Bool, true, false, true≢false, List, [], ◌∷◌, ◌++◌, length, get_or, map, Option, Some, None, refl, sym, ap, ◌∙◌, arith}
+use Rattle.std.proofs.Common.{◌≡◌, ℕ, zero, suc, ◌+◌, ◌<◌, ◌≤◌, ◌⊎◌, inl, inr, Bool, true, false, true≢false, List, [], ◌∷◌, ◌++◌, length, map, Option, Some, None, refl, sym, ap, ◌∙◌, arith}
 use Rattle.std.specs.Prelude.{nat_le}
 use Rattle.std.specs.List.{All, AllZip, slice_get}
-use Rattle.std.proofs.lemmas.Option.{slice_get_within}
 use Rattle.std.proofs.lemmas.Bool.Decides.{leb_tells}
 use Rattle.statement.specs.declared.lines.Fault.{Fault}
 use Rattle.statement.specs.declared.lines.Point.{Point}
 use Rattle.statement.specs.Netlists.{Netlist}
-use Rattle.statement.specs.Patterns.{Pattern, IsDetectedAt, IsLastDetected}
-use Rattle.word_sim.specs.Hits.{IsNeverDetected, LastDetected}
+use Rattle.statement.specs.Patterns.{Pattern, IsDetectedAt}
+use Rattle.word_sim.specs.Hits.{LastDetected}
 use Rattle.word_sim.specs.Never.{unmarked}
 use Rattle.fewer_patterns.specs.Fewer.{IsSeenBy, Keeps}
 use Rattle.fewer_patterns.specs.inner.Enough.{AllTold, is_settled, is_told}
@@ -20,17 +19,17 @@ behind [] ys k i x is e = (let same : i ≡ k = omega arith in ap (λ j. slice_g
 behind (a ∷ xs) ys k zero x is e = absurd (omega arith)
 behind (a ∷ xs) ys k (suc i) x is e = behind xs ys k i x (omega arith) e
 
-left_place : {X : Type 0} (xs ys : List X) (k : ℕ) (x : X) → slice_get xs k ≡ Some x → slice_get (xs ++ ys) k ≡ Some x
+pub left_place : {X : Type 0} (xs ys : List X) (k : ℕ) (x : X) → slice_get xs k ≡ Some x → slice_get (xs ++ ys) k ≡ Some x
 left_place [] ys k x e = cc
 left_place (a ∷ xs) ys zero x e = e
 left_place (a ∷ xs) ys (suc k) x e = left_place xs ys k x e
 
-right_place : {X : Type 0} (xs ys : List X) (k i : ℕ) (x : X) → i ≡ length xs + k → slice_get ys k ≡ Some x → slice_get (xs ++ ys) i ≡ Some x
+pub right_place : {X : Type 0} (xs ys : List X) (k i : ℕ) (x : X) → i ≡ length xs + k → slice_get ys k ≡ Some x → slice_get (xs ++ ys) i ≡ Some x
 right_place [] ys k i x is e = (let same : i ≡ k = omega arith in ap (λ j. slice_get ys j) same ∙ e)
 right_place (a ∷ xs) ys k zero x is e = absurd (omega arith)
 right_place (a ∷ xs) ys k (suc i) x is e = right_place xs ys k i x (omega arith) e
 
-in_left : {X : Type 0} (xs ys : List X) (k : ℕ) (x : X) → k < length xs → slice_get (xs ++ ys) k ≡ Some x → slice_get xs k ≡ Some x
+pub in_left : {X : Type 0} (xs ys : List X) (k : ℕ) (x : X) → k < length xs → slice_get (xs ++ ys) k ≡ Some x → slice_get xs k ≡ Some x
 in_left [] ys k x lt e = absurd (omega arith)
 in_left (a ∷ xs) ys zero x lt e = e
 in_left (a ∷ xs) ys (suc k) x lt e = in_left xs ys k x (omega arith) e

@@ -1,5 +1,5 @@
 //! Patterns parted into those in front, over which rounds go, and a tail, which stays as it is; and both put together again.
-ghost use Rattle.std.specs.Prelude.{◌≡◌, ◌×◌, ◌+◌, ◌++◌, ◌∷◌, ◌≤◌, ◌^◌, [], List, ℕ, Option, IfOk, OnOk, length, map, drop};
+ghost use Rattle.std.specs.Prelude.{◌≡◌, ◌+◌, ◌++◌, ◌∷◌, ◌<◌, ◌≤◌, ◌^◌, [], List, ℕ, Option, IfOk, OnOk, length, map, drop};
 ghost use Rattle.std.specs.List.{All, AllZip};
 ghost use Rattle.statement.specs.declared.lines.Fault.{Fault as FaultOf};
 ghost use Rattle.statement.specs.declared.lines.Point.{Point as PointOf};

@@ -25,4 +25,4 @@ pub record AreJoined (n : Netlist) (start : ℕ) (faults : List Fault) (last : L
   pub never : List (Option (ℕ × Point))
   pub tells : AllZip (LastDetected n front) (unmarked (map is_told last) faults) never
   pub patterns : all.patterns.items ≡ front ++ tail
-  pub last : all.last.items ≡ joined start (start - length front) last told never
+  pub lasts : all.last.items ≡ joined start (start - length front) last told never

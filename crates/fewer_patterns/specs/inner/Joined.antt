@@ -1,5 +1,5 @@
 -- What is told of faults by patterns in front of a tail, and of all faults by both.
-use Rattle.std.specs.Prelude.{ℕ, ◌-◌, Bool, true, false, cond, nat_le, List, [], ◌∷◌, Option, Some, None}
+use Rattle.std.specs.Prelude.{ℕ, ◌-◌, cond, nat_le, List, [], ◌∷◌, Option, Some, None}
 use Rattle.statement.specs.declared.lines.Point.{Point}
 use Rattle.fewer_patterns.specs.inner.Enough.{is_settled}
 

@@ -1,4 +1,4 @@
-use Rattle.std.proofs.Common.{List, Option, ℕ, subst, sym, arith}
+use Rattle.std.proofs.Common.{List, Option, ℕ, subst, arith}
 use Rattle.std.specs.List.{All, AllZip}
 use Rattle.statement.specs.declared.lines.Point.{Point}
 use Rattle.statement.specs.Netlists.{Netlist}
