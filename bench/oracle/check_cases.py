@@ -651,7 +651,7 @@ class Case:
 
     def shown_output(self, name, text):
         """An output as it is shown: whole, or up to the count of patterns."""
-        text = text.split(" patterns ")[0] if self.showing[name] == "totals" else text
+        text = text.split(" patterns ")[0] if self.showing[name].split(" ")[0] in ("totals", "cycles") else text
         return [name] + shown(text) if text else []
 
     def told(self, words, ended):
@@ -701,6 +701,15 @@ def sweep_answer(case, words):
             f"|detected, redundant or aborted {faults}", f"|cycles {gates // 8 + 1}P + {gates // 8 * 4}", "|play ok", "files 0"]
 
 
+def run_with_cycles(case, words, told):
+    """The lines of a run on one chain, with the cycles by the number of patterns behind its output; with so many cells there are as many cycles as
+    `sweep_answer` says."""
+    cells = case.files[words[2]].count("DFF(")
+    lines = case.told(words, case.ending(words, told))
+    assert lines[1] == "out" and lines[2].endswith("\\") and "--chains" not in words
+    return lines[:3] + [f"|cycles {cells + 1}P + {4 * cells}"] + lines[3:]
+
+
 def keep_files(case, prefix, words, told):
     """The files of a run stand in those that follow; where nobody can say what they hold, so."""
     try:
@@ -740,6 +749,8 @@ def case_answer(case, verb, rest, told):
         return case.told(words, plain_program.Ended(2, "", text, case.files))
     if words[1] == "sweep":
         return sweep_answer(case, words)
+    if case.showing["out"].startswith("cycles") and words[1] == "run":
+        return run_with_cycles(case, words, told)
     if case.showing["out"] not in ("whole", "totals"):
         raise plain_program.Unknown
     return case.told(words, case.ending(words, told))

@@ -1,5 +1,5 @@
 //! A case as it is told: its files, the calls that fail, and how its outputs are shown.
-use crate::showing::Showing;
+use crate::showing::{Cycles, Showing};
 use case_text::{Named, Pushed, cut, small, text_of};
 use outside::FailingCall;
 use std::alloc::Global;
@@ -44,9 +44,9 @@ pub fn push_failing(to: &mut Vec<FailingCall>, line: &str) -> Pushed {
     Ok(())
 }
 
-fn sweep_of(line: &str) -> Showing {
+fn expected_cycles(line: &str) -> Cycles {
     let (each, more) = numbers_of(line);
-    Showing::Sweep {
+    Cycles {
         each: u64::from(each),
         more: u64::from(more),
     }
@@ -59,7 +59,8 @@ pub fn showing_of(line: &str) -> Showing {
         "sum" => Showing::Sum,
         "hidden" => Showing::Hidden,
         "totals" => Showing::Totals,
-        "sweep" => sweep_of(rest),
+        "cycles" => Showing::Cycles(expected_cycles(rest)),
+        "sweep" => Showing::Sweep(expected_cycles(rest)),
         _ => Showing::Whole,
     }
 }

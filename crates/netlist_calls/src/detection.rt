@@ -71,24 +71,15 @@ pub fn faults_of(alloc: Global, netlist: &Netlist, text: &str) -> Result<Vec<Fau
     Ok(faults)
 }
 
-/// Adds a fault under its place.
-fn push_placed(core: &Core, place: u32, fault: Fault, classes: &mut Vec<(u32, Fault)>) -> Pushed
-    requires line { IsLineOf core.now fault.line }
-    requires lines { All (λ (g : ℕ × FaultOf). IsLineOf core.now g.1.line) classes.old.items }
-    ensures { OnOk result (All (λ (g : ℕ × FaultOf). IsLineOf core.now g.1.line) classes.new.items) }
-{
-    let _ = core;
-    classes.extend_from_slice(&[(place, fault)])
-}
-
+/// Each fault under its place.
 fn placed(alloc: Global, core: &Core, faults: &[Fault]) -> Result<Vec<(u32, Fault)>, AllocError>
     requires { All (λ (f : FaultOf). IsLineOf core.now f.line) faults.now }
     ensures { IfOk result (λ v. All (λ (g : ℕ × FaultOf). IsLineOf core.now g.1.line) v.items) }
 {
-    let mut classes = Vec::new(alloc);
+    let mut classes = Vec::with_capacity(alloc, faults.len())?;
     let mut place = 0u32;
     for fault in faults {
-        push_placed(core, place, *fault, &mut classes)?;
+        classes.push((place, *fault))?;
         place = place.wrapping_add(1);
     }
     Ok(classes)
