@@ -66,12 +66,12 @@ module _ (n : Netlist) (old new : List Pattern) where
   keeps_all (m ∷ ms) (f ∷ fs) never keep k d lt =
       let rest : AreNever n old fs ms = record { size = (let s = never.size in omega arith); each = λ i g at marked. never.each (suc i) g at marked } in
       by m k (λ is seen. never.each 0 f refl is seen.0 seen.1 seen.2) keep (keeps_all ms fs rest) lt where
-    by : (mark : Bool) (i : ℕ) → (mark ≡ true → IsSeenBy n old f → ⊥) → Keeps n (unmarked (mark ∷ ms) (f ∷ fs)) old new
-        → (Keeps n (unmarked ms fs) old new → Keeps n fs old new) → i < length (f ∷ fs) → IsSeenBy n old (get_or (f ∷ fs) i d) → IsSeenBy n new (get_or (f ∷ fs) i d)
-    by true zero none those others low seen = absurd (none refl seen)
-    by true (suc i) none those others low seen = others those i d (omega (arith, low)) seen
-    by false zero none those others low seen = those 0 f (omega arith) seen
-    by false (suc i) none those others low seen = others (λ j e lt. those (suc j) e (omega (arith, lt))) i d (omega (arith, low)) seen
+        by : (mark : Bool) (i : ℕ) → (mark ≡ true → IsSeenBy n old f → ⊥) → Keeps n (unmarked (mark ∷ ms) (f ∷ fs)) old new
+            → (Keeps n (unmarked ms fs) old new → Keeps n fs old new) → i < length (f ∷ fs) → IsSeenBy n old (get_or (f ∷ fs) i d) → IsSeenBy n new (get_or (f ∷ fs) i d)
+        by true zero none those others low seen = absurd (none refl seen)
+        by true (suc i) none those others low seen = others those i d (omega (arith, low)) seen
+        by false zero none those others low seen = those 0 f (omega arith) seen
+        by false (suc i) none those others low seen = others (λ j e lt. those (suc j) e (omega (arith, lt))) i d (omega (arith, low)) seen
 
 pub no_worse_of_all : (n : Netlist) (holds : Holds) (faults : List Fault) (old new : List Pattern) (marks : List Bool) → AreNever n old faults marks
     → IsNoWorse n holds (unmarked marks faults) old new → IsNoWorse n holds faults old new
