@@ -369,7 +369,7 @@ struct Rounds {
         return best.patterns;
     }
 
-    /// The last patterns, which detect seven tenths of what is detected, stay as they are.
+    /// The last patterns, which detect seven tenths of what is detected, stay as they are, but where there are few of all.
     void make_fewer(int rounds) {
         std::vector<Cube>& patterns = loop.patterns;
         std::vector<size_t> classes = loop.detected(), before;
@@ -377,7 +377,8 @@ struct Rounds {
         std::vector<Id> last = loop.last_of(patterns, classes);
         std::vector<size_t> counts = Loop::left_counts(patterns.size(), last);
         size_t start = patterns.size(), left = classes.size();
-        while (start > 0 && left > classes.size() / 10 * 3) left -= counts[--start];
+        if (start > 64)
+            while (start > 0 && left > classes.size() / 10 * 3) left -= counts[--start];
         for (size_t k = 0; k < classes.size(); k++) {
             if (last[k] == none || last[k] >= start) continue;
             before.push_back(classes[k]);

@@ -14,7 +14,7 @@
 //! of `sweep`: the numbers of good files of the sample netlist, whose test passes. 0 or 1 of `play` and `check` mean exactly what the player and the
 //! check answer, and hold on the chip from every power-up state where strobes are known. The laws: what is due of the same texts is alike; statuses
 //! exclude each other.
-//! Tested: that `run` heeds its options, by `outside_tests` and `cases`.
+//! Tested: that `run` heeds its options, by `cases`.
 #![tactic(auto)]
 
 ghost use Rattle.std.specs.Prelude.{◌≡◌, Ok, map};

@@ -6,7 +6,7 @@
 //! Gives: `check_texts`, `check_prefix`, `check_top`.
 //! Proved: `check_prefix`, `check_top`: 0 and 1 mean exactly what is answered of the five files read, and 0 that they have the run theorem, or for slow
 //! lines the transition theorem; each other status has its cause; `good_files_checked`, `good_slow_files_checked`: good files are due nothing but 0.
-//! Tested: that it comes to these answers, by rows of `check_cases`.
+//! Tested: that it comes to these answers, by rows of `cases`.
 #![tactic(auto)]
 
 mod command;

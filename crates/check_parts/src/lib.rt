@@ -5,7 +5,7 @@
 //! Proved: `core_of`, `file_of`: the netlist and the file of a text, or why it has none, exactly; `scanned_as`: whether there may be so many chains and this is the scanned netlist's text, with both, exactly; `Checkers`: whether evidence shows
 //! a fault, exactly, with its closed and open ends; `Firsts`: where the first evidence of each fault stands, if there is some; `first_stray`: the first
 //! evidence that isn't, in order, that of one of these faults.
-//! Tested: run by `check`, by rows of `check_cases`.
+//! Tested: run by `check`, by rows of `cases`.
 //! Neither: time.
 #![tactic(auto)]
 

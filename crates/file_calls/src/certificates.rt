@@ -43,11 +43,18 @@ fn lines_of(
 }
 
 /// Adds what was read: the lines, or their checksum.
-fn push_lines(to: &mut Vec<u8>, lines: &[u8], is_whole: bool) -> Pushed {
+fn push_lines(
+    to: &mut Vec<u8>,
+    alloc: Global,
+    netlist: &Netlist,
+    evidence: &[(Fault, Evidence)],
+    is_whole: bool,
+) -> Pushed {
+    let lines = lines_of(alloc, netlist, evidence)?;
     if is_whole {
-        show(to, lines)
+        show(to, &lines)
     } else {
-        push_numbers(to, b"sum", &[checksum(lines)])
+        push_numbers(to, b"sum", &[checksum(&lines)])
     }
 }
 
@@ -69,6 +76,21 @@ fn push_rewritten(
     }
 }
 
+fn push_read(
+    to: &mut Vec<u8>,
+    alloc: Global,
+    core: &Core,
+    bytes: &[u8],
+    evidence: &[(Fault, Evidence)],
+    is_whole: bool,
+) -> Pushed
+    requires { IsCertificate core.now bytes.now evidence.now }
+{
+    push_counts(to, evidence)?;
+    push_lines(to, alloc, core.netlist(), evidence, is_whole)?;
+    push_rewritten(to, alloc, core, bytes, evidence)
+}
+
 /// `certificate TEXT CERTIFICATE`: the evidence of the certificate, or that it is none. `certificate-sum` has the checksum of its lines.
 pub fn push_certificate(
     to: &mut Vec<u8>,
@@ -80,12 +102,7 @@ pub fn push_certificate(
     requires { IsDesign core.now }
 {
     match read_evidence(alloc, core, bytes) {
-        Ok(evidence) => {
-            push_counts(to, &evidence)?;
-            let lines = lines_of(alloc, core.netlist(), &evidence)?;
-            push_lines(to, &lines, is_whole)?;
-            push_rewritten(to, alloc, core, bytes, &evidence)
-        }
+        Ok(evidence) => push_read(to, alloc, core, bytes, &evidence, is_whole),
         Err(CertFault::NotCertificate) => to.extend_from_slice(b"NotCertificate\n"),
         Err(CertFault::NoMemory) => Err(AllocError),
     }

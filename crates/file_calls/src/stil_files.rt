@@ -22,8 +22,7 @@ pub fn push_patterns(to: &mut Vec<u8>, patterns: &[Pattern]) -> Result<(), Alloc
         to.push(b' ')?;
         push_pattern(to, pattern)?;
     }
-    to.push(b'\n')?;
-    Ok(())
+    to.extend_from_slice(b"\n")
 }
 
 fn push_read(

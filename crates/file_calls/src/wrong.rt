@@ -48,10 +48,9 @@ fn push_told(
     };
     to.extend_from_slice(b"fails ")?;
     push_number(to, cycle.min(1_000_000) as u32)?;
-    to.push(b' ')?;
+    to.extend_from_slice(b" ")?;
     to.extend_from_slice(output_name(netlist, output))?;
-    to.push(b'\n')?;
-    Ok(())
+    to.extend_from_slice(b"\n")
 }
 
 fn push_fitting(

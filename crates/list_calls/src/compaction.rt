@@ -49,15 +49,25 @@ fn push_verdicts(
     Ok(())
 }
 
+fn push_finished(
+    to: &mut Vec<u8>,
+    netlist: &Netlist,
+    finished: &Finished,
+) -> Result<(), AllocError> {
+    push_patterns(to, finished)?;
+    push_verdicts(to, netlist, finished)
+}
+
 /// The calls of a text, one by one, and what is kept once the list is compacted.
 pub fn play_compacted<J: About>(
+    to: &mut Vec<u8>,
     alloc: Global,
     core: &Core,
     faults: &[Fault],
     limit: u32,
     holds: &Holds,
-    calls: &[u8],
-) -> Result<Vec<u8>, AllocError>
+    calls: &str,
+) -> Result<(), AllocError>
     requires core { core.now ≡ J.subject.netlist }
     requires faults { (faults.now ≡ J.subject.faults) × (class_count J.subject < 2 ^ 31) }
     requires limit { (limit ≡ J.subject.limit) × (1 ≤ limit) }
@@ -65,15 +75,12 @@ pub fn play_compacted<J: About>(
     requires held { (holds.now ≡ J.subject.holds) × (holds.now ≡ none_held core.now) × AreHoldsOf core.now holds.now }
     requires refutes { IsTrue J.subject.refutes }
 {
-    let mut said = Vec::new(alloc);
-    let list = list_after::<J>(&mut said, alloc, core, faults, limit, holds, calls)?;
+    let list = list_after::<J>(to, alloc, core, faults, limit, holds, calls)?;
     if list.patterns().len() > 1_000_000 {
         return Err(AllocError);
     }
-    let Ok(finished) = compacted(alloc, core, faults, list) else {
-        return Err(AllocError);
-    };
-    push_patterns(&mut said, &finished)?;
-    push_verdicts(&mut said, core.netlist(), &finished)?;
-    Ok(said)
+    match compacted(alloc, core, faults, list) {
+        Ok(finished) => push_finished(to, core.netlist(), &finished),
+        Err(_) => Err(AllocError),
+    }
 }

@@ -13,7 +13,7 @@ use case_nets::{nodes_of, patterns_of};
 use certificate::is_one_tree;
 use evidence::{Evidence, Refutation};
 use list_core::{About, Claim, Left};
-use netlist::{Core, Holds};
+use netlist::{Core, Holds, NoMemory};
 use redundancy_cert::{Tree, TreeFault, check_tree};
 use refutation::Step;
 use refutation_check::{RefutationFault, check_refutation};
@@ -149,6 +149,25 @@ pub fn batch_for<J: About>(
     }
     match hits(alloc, core, &patterns, left.classes()) {
         Ok(hits) => Ok(Some(Batch::new(patterns, hits))),
+        Err(_) => Err(AllocError),
+    }
+}
+
+/// The same of classes for which there may have been no memory.
+pub fn batch_of<J: About>(
+    alloc: Global,
+    core: &Core,
+    left: Result<Left<J>, NoMemory>,
+    text: &str,
+    holds: &Holds,
+) -> Result<Option<Batch>, AllocError>
+    requires core { core.now ≡ J.subject.netlist }
+    requires lines { HaveLines J.subject }
+    requires held { (holds.now ≡ J.subject.holds) × (holds.now ≡ none_held core.now) }
+    ensures { IfOk result (λ batch. IfSome batch (IsTrueBatch J.subject)) }
+{
+    match left {
+        Ok(left) => batch_for(alloc, core, &left, text, holds),
         Err(_) => Err(AllocError),
     }
 }

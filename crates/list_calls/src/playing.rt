@@ -1,9 +1,10 @@
 //! Calls of a new list, alone or behind its lock.
-ghost use Rattle.std.specs.Prelude.{IfOk};
+ghost use Rattle.std.specs.Prelude.{◌<◌, ◌≤◌, IfOk, length};
 ghost use Rattle.std.specs.List.{All};
 ghost use Rattle.statement.specs.declared.lines.Fault.{Fault as FaultOf};
 ghost use Rattle.netlist.specs.Designs.{IsDesign};
 ghost use Rattle.netlist.specs.Lines.{IsLineOf};
+ghost use Rattle.plain_text.specs.Limits.{most_workers};
 
 use crate::compaction::play_compacted;
 use crate::lists::play_list;
@@ -59,6 +60,47 @@ fn chosen(
     Ok(faults)
 }
 
+/// The first members of the classes of these numbers among a design's.
+fn faults_of(alloc: Global, netlist: &Netlist, numbers: &str) -> Result<Vec<Fault>, AllocError>
+    requires { IsDesign netlist.now }
+    ensures { IfOk result (λ v. All (λ (f : FaultOf). IsLineOf netlist.now f.line) v.items) }
+{
+    let Ok(classes) = classes_of(alloc, netlist) else {
+        return Err(AllocError);
+    };
+    have_lines(netlist, &classes);
+    chosen(alloc, netlist, &classes, numbers)
+}
+
+/// Adds what the calls answer where no input is held.
+fn play<R: Wait>(
+    to: &mut Vec<u8>,
+    rt: &R,
+    alloc: Global,
+    core: &Core,
+    faults: &[Fault],
+    limit: u32,
+    workers: u32,
+    calls: &str,
+    on: On,
+) -> Result<(), AllocError>
+    requires lines { All (λ (f : FaultOf). IsLineOf core.now f.line) faults.now }
+    requires few { length faults.now ≤ 1000000 }
+    requires limit { 1 ≤ limit }
+    requires workers { (0 < workers) × (workers ≤ most_workers) }
+{
+    let Ok(holds) = Holds::none(alloc, core) else {
+        return Err(AllocError);
+    };
+    match on {
+        On::List => play_list::<Brand>(to, alloc, core, faults, limit, &holds, calls),
+        On::Compacted => play_compacted::<Brand>(to, alloc, core, faults, limit, &holds, calls),
+        On::Shares => {
+            play_shares::<Brand, R>(to, rt, alloc, core, faults, limit, &holds, workers, calls)
+        }
+    }
+}
+
 /// `list LIMIT CLASSES: CALLS`, `compacted LIMIT CLASSES: CALLS`, `shares WORKERS LIMIT CLASSES: CALLS`: what the calls answer, each on a new list's
 /// next state, and what the list keeps in the end.
 pub fn push_played<R: Wait>(
@@ -76,24 +118,9 @@ pub fn push_played<R: Wait>(
     let (limit, numbers) = cut(numbers);
     let workers = small(workers).clamp(1, 64);
     let limit = small(limit).max(1);
-    let calls = calls.as_bytes();
-    let Ok(classes) = classes_of(alloc, core.netlist()) else {
-        return Err(AllocError);
-    };
-    let Ok(holds) = Holds::none(alloc, core) else {
-        return Err(AllocError);
-    };
-    have_lines(core.netlist(), &classes);
-    let faults = chosen(alloc, core.netlist(), &classes, numbers)?;
+    let faults = faults_of(alloc, core.netlist(), numbers)?;
     if faults.len() > 1_000_000 {
         return to.extend_from_slice(b"more than 1000000 classes\n");
     }
-    let said = match on {
-        On::List => play_list::<Brand>(alloc, core, &faults, limit, &holds, calls)?,
-        On::Compacted => play_compacted::<Brand>(alloc, core, &faults, limit, &holds, calls)?,
-        On::Shares => {
-            play_shares::<Brand, R>(rt, alloc, core, &faults, limit, &holds, workers, calls)?
-        }
-    };
-    to.extend_from_slice(&said)
+    play(to, rt, alloc, core, &faults, limit, workers, calls, on)
 }

@@ -4,7 +4,7 @@
 //! Gives: `check_slow_files`.
 //! Proved: `check_slow_files`: exactly the first of five texts that is outside its grammar, else the first clause that is false with its slow line, or how
 //! many there are; where it is the last, what the files say of the chip's slow lines comes true (`TransitionTheorem`), whoever made them.
-//! Tested: that it comes to these answers, by rows of `check_cases`, worked out by a plain program.
+//! Tested: that it comes to these answers, by rows of `cases`, worked out by a plain program.
 //! Neither: time.
 #![tactic(auto)]
 

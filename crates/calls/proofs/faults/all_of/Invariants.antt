@@ -1,7 +1,0 @@
-use Rattle.std.specs.List.{All}
-use Rattle.netlist.specs.Lines.{IsLineOf}
-use Rattle.statement.specs.declared.lines.Fault.{Fault}
-use Rattle.calls.proofs.faults.all_of.Given as goal
-
-abbrev pub invariant-loop-place : goal.invariant-loop-place
-invariant-loop-place l = All (λ (f : Fault). IsLineOf l.netlist f.line) l.all.items

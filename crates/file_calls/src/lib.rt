@@ -1,0 +1,17 @@
+//! Calls on files, as rows of `calls`: reports, certificates, vectors and STIL files, the patterns that a file applies, and the first strobe that is
+//! known to be wrong.
+//!
+//! Gives: `FileCalls`, by which each line is a call.
+//! Tested: by `calls`.
+#![tactic(auto)]
+
+mod applied;
+mod certificates;
+mod refutations;
+mod reports;
+mod script;
+mod stil_files;
+mod vectors;
+mod wrong;
+
+pub use script::FileCalls;
