@@ -1,10 +1,8 @@
-use Rattle.std.proofs.Common.{List, Bool, None, false, arith, [], refl, subst, ◌∙◌, ap, length}
+use Rattle.std.proofs.Common.{List, Bool, None, false, arith, ◌∙◌, ap, length}
 use Rattle.std.proofs.lemmas.List.{length-map}
-use Rattle.std.proofs.lemmas.Result.{IfOk-weaker}
 use Rattle.statement.specs.Patterns.{Holds, Pattern}
-use Rattle.run_files.specs.Runs.{Asked, IsRun}
-use Rattle.run_files.specs.declared.files.RunFiles.{RunFiles}
-use Rattle.atpg_top.specs.Sweeps.{IsSweepRun, sweep_chains, sweep_limit}
+use Rattle.run_files.specs.Runs.{Asked}
+use Rattle.atpg_top.specs.Sweeps.{sweep_chains, sweep_limit}
 use Rattle.atpg_top.proofs.sweeping.run_sample.Goals as goal
 
 pub by_trees-requires-clause-range : goal.by_trees-requires-clause-range

@@ -1,4 +1,4 @@
-use Rattle.std.proofs.Common.{◌≡◌, ◌∙◌, ◌++◌, List, ℕ, ap, codes, get_or, subst}
+use Rattle.std.proofs.Common.{◌≡◌, ◌∙◌, ◌++◌, ap, codes, subst}
 use Rattle.statement.specs.Benches.{Text}
 use Rattle.report.specs.declared.counts.ReportCounts.{ReportCounts}
 use Rattle.atpg_top.specs.Sweeps.{number_line}

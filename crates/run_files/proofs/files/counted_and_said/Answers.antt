@@ -1,6 +1,5 @@
 use Rattle.std.proofs.Common.{List, subst, sym}
 use Rattle.std.specs.List.{All}
-use Rattle.statement.specs.Netlists.{Netlist}
 use Rattle.statement.specs.Patterns.{Pattern}
 use Rattle.word_sim.specs.Words.{HasWidthsOf}
 use Rattle.word_sim.proofs.WidthLemmas.{widths}

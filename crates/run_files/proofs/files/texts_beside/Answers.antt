@@ -2,7 +2,6 @@ use Rattle.std.proofs.Common.{ℕ, List, subst, sym, ◌∙◌, ap}
 use Rattle.std.specs.List.{All}
 use Rattle.std.proofs.lemmas.Result.{IfOk-weaker}
 use Rattle.statement.specs.declared.lines.Fault.{Fault}
-use Rattle.statement.specs.Netlists.{Netlist}
 use Rattle.netlist.specs.Conditions.{IsSound}
 use Rattle.statement.specs.Benches.{canonical}
 use Rattle.scan_insert.specs.Scanned.{scanned_of}

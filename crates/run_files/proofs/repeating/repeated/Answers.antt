@@ -1,6 +1,6 @@
 use Rattle.std.proofs.Common.{[], List, subst}
 use Rattle.statement.specs.Patterns.{Pattern}
-use Rattle.run_files.specs.inner.Often.{AreGathered, AreJoined}
+use Rattle.run_files.specs.inner.Often.{AreJoined}
 use Rattle.run_files.proofs.OftenLemmas.{first_gathered}
 use Rattle.run_files.proofs.repeating.repeated.Goals as goal
 
