@@ -200,7 +200,7 @@ struct Two {
     }
 };
 
-struct Params { bool rounds = false; int draw = 0; size_t batch = 64; bool skip = false; int mode = 0; u64 limit = 100; bool last_all = true; size_t together = 0; bool single = false; };
+struct Params { bool rounds = false; int draw = 0; size_t batch = 64; bool skip = false; int mode = 0; u64 limit = 100; bool last_all = true; size_t together = 0; bool single = false; size_t lines = 0; size_t every = 0; };
 
 int main(int argc, char** argv) {
     Params P;
@@ -208,6 +208,8 @@ int main(int argc, char** argv) {
         if (!strcmp(argv[i], "rounds")) P.rounds = true;
         else if (!strncmp(argv[i], "draw=", 5)) P.draw = atoi(argv[i] + 5);
         else if (!strncmp(argv[i], "mode=", 5)) P.mode = atoi(argv[i] + 5);
+        else if (!strncmp(argv[i], "lines=", 6)) P.lines = atoi(argv[i] + 6);
+        else if (!strncmp(argv[i], "every=", 6)) P.every = atoi(argv[i] + 6);
         else if (!strncmp(argv[i], "batch=", 6)) P.batch = atoi(argv[i] + 6);
         else if (!strncmp(argv[i], "limit=", 6)) P.limit = atoi(argv[i] + 6);
         else if (!strncmp(argv[i], "together=", 9)) P.together = atoi(argv[i] + 9);
@@ -335,6 +337,58 @@ int main(int argc, char** argv) {
             sizes.push_back(places.size());
             search_batch(places);
         }
+    } else if (P.lines) {
+        // `every` rounds over residues of the faults' numbers mod `lines`, the last over all
+        for (size_t r = 0; r < P.every; r++) {
+            std::vector<u8> marks(faults.size());
+            size_t left = 0;
+            for (size_t k = 0; k < faults.size(); k++) { marks[k] = !verdict[k] && (r + 1 == P.every || k % P.lines == r); left += marks[k]; }
+            size_t shares = std::max<size_t>(1, (left + 2 * most - 1) / (2 * most));
+            size_t size = std::max<size_t>(1, (faults.size() + shares - 1) / shares);
+            for (size_t k = 0; k < faults.size(); k++) {
+                if (!marks[k]) continue;
+                size_t to = std::min(faults.size(), (k / size + 1) * size);
+                std::vector<u32> places;
+                for (size_t i = k; i < to && places.size() < most; i++) {
+                    if (!marks[i]) continue;
+                    bool ok = true;
+                    for (u32 j : places) if (!apart(n, faults[j], faults[i])) { ok = false; break; }
+                    if (ok) places.push_back(i);
+                }
+                search_batch(places);
+                for (u32 i : places) marks[i] = 0;
+            }
+            publish();
+        }
+    } else if (P.every) {
+        // rounds: `every` batches of `most` lines from all that are open (each greedily), then publish
+        size_t rounds = 0;
+        for (size_t k = 0; k < faults.size(); ) {
+            if (verdict[k]) { k++; continue; }
+            rounds++;
+            std::vector<u8> mark(faults.size(), 0);
+            std::vector<std::vector<u32>> all;
+            size_t from = k;
+            for (size_t b = 0; b < P.every; b++) {
+                std::vector<u32> places;
+                { Timer t("gather");
+                std::vector<u8> stem(n.count, 0), read(n.count, 0);
+                std::unordered_map<u64, u8> pin;
+                for (size_t i = from; i < faults.size() && places.size() < most; i++) {
+                    if (verdict[i] || mark[i]) continue;
+                    const Fault& f = faults[i];
+                    u32 x = source_of(n, f);
+                    if (f.sort == 0 ? (stem[x] || read[x]) : stem[x]) continue;
+                    if (f.sort == 0) stem[x] = 1;
+                    else { u64 key = (u64)f.sort << 60 | (u64)f.signal << 24 | f.pin; if (pin[key]) continue; pin[key] = 1; read[x] = 1; }
+                    places.push_back(i); mark[i] = 1;
+                } }
+                if (places.size()) all.push_back(places);
+            }
+            for (auto& p : all) search_batch(p);
+            publish();
+        }
+        printf("rounds %zu\n", rounds);
     } else {
         for (size_t k = 0; k < faults.size(); k++) {
             if (verdict[k]) continue;
