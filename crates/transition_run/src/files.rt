@@ -1,5 +1,5 @@
-//! From a design to the five files of its transition faults. A batch of drawn patterns drops most faults that can be detected; the others are
-//! searched, each on two frames of its own, and then all patterns are simulated: there is no list that workers share, and so no lock.
+//! From a design to the five files of its transition faults. A batch of drawn patterns drops most faults that can be detected; the others are searched in
+//! two rounds, and then all patterns are simulated. What a round searches is set before it begins: there is no list that workers share, and so no lock.
 ghost use Rattle.std.specs.Prelude.{◌≡◌, ◌<◌, ◌≤◌, ◌+◌, ◌^◌, IfOk, length};
 ghost use Rattle.std.specs.List.{All};
 ghost use Rattle.plain_text.specs.Limits.{most_workers};

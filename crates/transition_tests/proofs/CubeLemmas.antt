@@ -42,7 +42,7 @@ module _ (n : Netlist) (limit : ℕ) (refutes : Bool) where
   one_cube : (f : Fault) (left : Bool) (x : Option Found) (xs : List (Option Found)) → IsFoundIfLeft n limit refutes f left x → All (IsCubeOf n (none_held n)) (cubes_in xs)
       → All (IsCubeOf n (none_held n)) (cubes_in (x ∷ xs))
   one_cube f left None xs is rest = rest
-  one_cube f false (Some x) xs is rest = absurd (let no : Some x ≡ None = is in cc)
+  one_cube f false (Some x) xs is rest = absurd (let e : Some x ≡ None = is in cc)
   one_cube f true (Some (Test c o)) xs is rest = All-cons (IsCubeOf n (none_held n)) c (cubes_in xs) (frame_cube n f c is.evidence.is_cube) rest
   one_cube f true (Some (Closed t)) xs is rest = rest
   one_cube f true (Some (Refuted s)) xs is rest = rest

@@ -59,18 +59,18 @@ module _ (n : Netlist) (limit : ℕ) (refutes : Bool) where
   one_joined f searched false (Some x) b first second = second
   one_joined f searched true None b first second = second
   one_joined f true true (Some x) b first second = first
-  one_joined f false true (Some x) b first second = absurd (let no : Some x ≡ None = first in cc)
+  one_joined f false true (Some x) b first second = absurd (let e : Some x ≡ None = first in cc)
 
   -- the answers of both rounds are those of the faults that are left
   pub found_joined : (faults : List Fault) (searched left marks : List Bool) (first second answers : List (Option Found)) → length left ≡ length faults
       → AreFoundWhereLeft n limit refutes faults searched first → AreUnanswered left first marks → AreFoundWhereLeft n limit refutes faults marks second
       → AreJoined left first second answers → AreFoundWhereLeft n limit refutes faults left answers
-  found_joined faults searched left marks first second answers size one open two are = record {
+  found_joined faults searched left marks first second answers size one unasked two are = record {
     size = are.size ∙ size;
     each = λ k f at.
         let low : k < length left = (let l = slice_get_within faults k f at in omega arith) in
         let other : IsFoundIfLeft n limit refutes f (unanswered (get_or left k true) (get_or first k None)) (get_or second k None) =
-        subst (λ (b : Bool). IsFoundIfLeft n limit refutes f b (get_or second k None)) (open.each k low) (two.each k f at) in
+        subst (λ (b : Bool). IsFoundIfLeft n limit refutes f b (get_or second k None)) (unasked.each k low) (two.each k f at) in
         subst (IsFoundIfLeft n limit refutes f (get_or left k true)) (sym (are.each k low))
         (one_joined f (get_or searched k true) (get_or left k true) (get_or first k None) (get_or second k None) (one.each k f at) other);
   }

@@ -1,7 +1,7 @@
 use Rattle.std.proofs.Common.{◌≡◌, ◌++◌, ◌∷◌, [], ◌<◌, true, None, List, length, get_or, Option, sym, ◌∙◌, ap, arith, append_assoc, length-append}
 use Rattle.std.proofs.lemmas.List.{length-set}
 use Rattle.evidence.specs.declared.engine.Found.{Found}
-use Rattle.transition_tests.proofs.RoundLemmas.{joined_more, later_stay, yielded_within}
+use Rattle.transition_tests.proofs.RoundLemmas.{joined_more, later_stay}
 use Rattle.transition_tests.proofs.rounds.all_answers.Goals as goal
 
 pub loop-answer-preserved : goal.loop-answer-preserved
