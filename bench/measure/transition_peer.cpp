@@ -1,4 +1,10 @@
-// A plain C++ model of `atpg transition` (PODEM, one worker).
+// A plain C++ model of `atpg transition` (PODEM, one worker), to try what would be spared.
+//
+//     g++ -O2 -std=c++20 -o transition_peer transition_peer.cpp && ./transition_peer NET [mode=2] [OPTION ..]
+//
+// Without an option: 64 drawn patterns, shares, batches, all cubes merged at the end. With `rounds` what a round's tests detect isn't searched:
+// `lines=S every=2` searches each S-th fault that is left first and then all others; `every=K` alone takes K batches a round, gathered over all that is
+// left, `draw=D` draws 64 patterns more as long as a batch of them detects one in D of what is left. mode=2 evaluates only launched words.
 #include <cstring>
 #include <numeric>
 #include <map>

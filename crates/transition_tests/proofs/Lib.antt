@@ -3,5 +3,4 @@ pub mod CubeLemmas
 pub mod EndLemmas
 pub mod TestLemmas
 pub mod LeafLemmas
-pub mod RoundLemmas
 mod LineLemmas

@@ -2,5 +2,4 @@ pub mod Batches
 pub mod Lines
 pub mod Verdicts
 pub mod Making
-pub mod Rounds
 pub mod inner
