@@ -66,7 +66,7 @@ pub fn play_compacted<J: About>(
     faults: &[Fault],
     limit: u32,
     holds: &Holds,
-    calls: &str,
+    calls: &[u8],
 ) -> Result<(), AllocError>
     requires core { core.now ≡ J.subject.netlist }
     requires faults { (faults.now ≡ J.subject.faults) × (class_count J.subject < 2 ^ 31) }

@@ -92,6 +92,7 @@ fn play<R: Wait>(
     let Ok(holds) = Holds::none(alloc, core) else {
         return Err(AllocError);
     };
+    let calls = calls.as_bytes();
     match on {
         On::List => play_list::<Brand>(to, alloc, core, faults, limit, &holds, calls),
         On::Compacted => play_compacted::<Brand>(to, alloc, core, faults, limit, &holds, calls),
