@@ -36,13 +36,13 @@ fn run_check(alloc: Global, words: &[String], ran: &mut Ran) {
     ran.status = check_top(alloc, words, &mut ran.shelf, &mut ran.out, &mut ran.err);
 }
 
-/// Runs the programs with these threads.
+/// Runs the programs with the threads of this process. (Of a parameter no impl of a trait knows that it is `Sync`.)
 #[derive(Drop)]
-pub struct Both<'a, R: Threads + Wait + Sync> {
-    pub rt: &'a R,
+pub struct Both<'a> {
+    pub rt: &'a HostRuntime,
 }
 
-impl<R: Threads + Wait + Sync> Runner for Both<'_, R> {
+impl Runner for Both<'_> {
     fn run(&self, alloc: Global, program: Program, words: &[String], ran: &mut Ran) {
         match program {
             Program::Whole => run_whole(self.rt, alloc, words, ran, &OpenGate),
