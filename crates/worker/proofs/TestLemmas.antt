@@ -1,6 +1,7 @@
 -- Tests that aren't published yet, one after the other.
-use Rattle.std.proofs.Common.{◌≡◌, List, [], ◌∷◌, ◌++◌, refl, arith}
-use Rattle.std.specs.Prelude.{Some}
+use Rattle.std.proofs.Common.{◌≡◌, List, [], ◌∷◌, ◌++◌, refl, arith, subst, sym}
+use Rattle.std.specs.Prelude.{Some, Result, Ok, Err}
+use Rattle.std.specs.Result.{OnErr, OnOk}
 use Rattle.std.specs.List.{All}
 use Rattle.std.proofs.lemmas.List.Elements.{All-cons, All-head, All-pop, All-push, All-tail}
 use Rattle.statement.specs.Netlists.{Netlist}
@@ -30,6 +31,13 @@ test_more n holds tests t rest before all =
 -- or as it was
 pub as_before : {P : Type 0} (n : Netlist) (holds : Holds) (tests : List Test) (t : Test) → (AreTestsOf n holds tests → P) → AreTestsOf n holds (tests ++ t ∷ []) → P
 as_before n holds tests t before all = before (split n holds tests t all).0
+
+-- one test more, or the same where memory was refused
+pub more_or_same : {A E Q : Type 0} (n : Netlist) (holds : Holds) (tests after : List Test) (t : Test) (r : Result A E) → OnOk r (after ≡ tests ++ t ∷ [])
+    → OnErr r ((after ≡ tests) × Q) → AreTestsOf n holds tests → IsCubeOf n holds t.cube → AreTestsOf n holds after
+more_or_same n holds tests after t (Ok x) more same all cube =
+    subst (AreTestsOf n holds) (sym more) (All-push (λ (t : Test). IsCubeOf n holds t.cube) tests t all cube)
+more_or_same n holds tests after t (Err e) more same all cube = subst (AreTestsOf n holds) (sym same.0) all
 
 -- those that come first
 pub front : (n : Netlist) (holds : Holds) (tests more : List Test) → AreTestsOf n holds (tests ++ more) → AreTestsOf n holds tests

@@ -14,19 +14,20 @@ pub(crate) struct Test {
 }
 
 /// A worker between two rounds: its share of the list, its room for searches, claims that are searched in a later round, and tests. It may publish a
-/// pattern for each claim and each test. Contracts see it as its share.
+/// pattern for each claim and each test. Room is made in its first round; behind a round it is missing where memory was refused. Contracts see a
+/// worker as its share.
 #[derive(Drop)]
 pub(crate) struct Hand<'a, J: About, T: Ledger, S: Ledger, P: Ledger, U: Ledger, E: Engine> {
     pub shared: &'a Shared<J, T, S, P, U>,
     pub share: Share<T, S, P, U>,
-    pub room: E::Room,
+    pub room: Option<E::Room>,
     pub claims: Vec<Claim<J>>,
     pub tests: Vec<Test>,
 }
 
 impl<'a, J: About, T: Ledger, S: Ledger, P: Ledger, U: Ledger, E: Engine> Model
     for Hand<'a, J, T, S, P, U, E> {
-    ghost use Rattle.std.specs.Prelude.{◌≡◌, ◌+◌, ◌≤◌, vec_len};
+    ghost use Rattle.std.specs.Prelude.{◌≡◌, ◌+◌, ◌≤◌, IfSome, vec_len};
     ghost use Rattle.shared_list.specs.Tally.{Tally};
     ghost use Rattle.worker.specs.inner.Tests.{AreTestsOf};
 
@@ -36,7 +37,7 @@ impl<'a, J: About, T: Ledger, S: Ledger, P: Ledger, U: Ledger, E: Engine> Model
 
     ghost invariant = { λ a.
         (a.share.table ≡ a.shared.now.word.shared.table_id)
-        × E.serves J.subject.netlist J.subject.holds a.room
+        × IfSome a.room (E.serves J.subject.netlist J.subject.holds)
         × AreTestsOf J.subject.netlist J.subject.holds a.tests.items
         × (vec_len a.claims + vec_len a.tests ≤ a.share.unspent) };
 }

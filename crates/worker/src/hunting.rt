@@ -1,8 +1,8 @@
-//! A worker's part of a errand: it searches the classes below the round's end that it draws.
+//! A worker's part of a round: it searches the classes below the round's end that it draws.
 //!
 //! Classes are drawn one by one, so that a worker whose searches end soon takes more. A class at the end or behind it is kept for a later round,
 //! since only a draw tells that none is left below: whether it is still open then is looked at there.
-ghost use Rattle.std.specs.Prelude.{◌≡◌, ◌+◌, ◌≤◌, IfOk, OnOk, vec_len};
+ghost use Rattle.std.specs.Prelude.{◌≡◌, ◌+◌, ◌≤◌, IfOk, IfSome, vec_len};
 ghost use Rattle.shared_list.specs.Outcomes.{MatchDrawn};
 ghost use Rattle.worker.specs.inner.Tests.{AreTestsOf};
 ghost use Rattle.worker.specs.inner.Outcomes.{IsOutcome};
@@ -54,8 +54,8 @@ fn answer<J: About, T: Ledger, S: Ledger, P: Ledger, U: Ledger, E: Engine, G: Ga
     requires cubes { AreTestsOf J.subject.netlist J.subject.holds tests.old.items }
     ensures table { share.new.table ≡ share.old.table }
     ensures unspent { share.new.unspent ≡ share.old.unspent }
-    ensures few { OnOk result (vec_len tests.new ≤ vec_len tests.old + 1) }
-    ensures cubes { OnOk result (AreTestsOf J.subject.netlist J.subject.holds tests.new.items) }
+    ensures few { vec_len tests.new ≤ vec_len tests.old + 1 }
+    ensures cubes { AreTestsOf J.subject.netlist J.subject.holds tests.new.items }
 {
     match outcome {
         Outcome::Test(cube, _) => {
@@ -91,9 +91,9 @@ fn hunt_claim<J: About, T: Ledger, S: Ledger, P: Ledger, U: Ledger, E: Engine, G
     requires cubes { AreTestsOf J.subject.netlist J.subject.holds tests.old.items }
     ensures table { share.new.table ≡ share.old.table }
     ensures unspent { share.new.unspent ≡ share.old.unspent }
-    ensures few { OnOk result (vec_len tests.new ≤ vec_len tests.old + 1) }
+    ensures few { vec_len tests.new ≤ vec_len tests.old + 1 }
     ensures room { IfOk result (E.serves J.subject.netlist J.subject.holds) }
-    ensures cubes { OnOk result (AreTestsOf J.subject.netlist J.subject.holds tests.new.items) }
+    ensures cubes { AreTestsOf J.subject.netlist J.subject.holds tests.new.items }
 {
     if !shared.is_open(errand.rt, claim.class()) {
         return Ok(room);
@@ -128,8 +128,8 @@ fn take_turn<J: About, T: Ledger, S: Ledger, P: Ledger, U: Ledger, E: Engine, G:
     requires unspent { vec_len claims.old + vec_len tests.old ≤ share.old.unspent }
     ensures table { share.new.table ≡ share.old.table }
     ensures room { IfOk result (λ r. E.serves J.subject.netlist J.subject.holds r.0) }
-    ensures cubes { OnOk result (AreTestsOf J.subject.netlist J.subject.holds tests.new.items) }
-    ensures unspent { OnOk result (vec_len claims.new + vec_len tests.new ≤ share.new.unspent) }
+    ensures cubes { AreTestsOf J.subject.netlist J.subject.holds tests.new.items }
+    ensures unspent { vec_len claims.new + vec_len tests.new ≤ share.new.unspent }
 {
     match drawn(errand.rt, shared, share, claims) {
         Drawn::Claim(claim) => {
@@ -161,8 +161,8 @@ fn take_turns<J: About, T: Ledger, S: Ledger, P: Ledger, U: Ledger, E: Engine, G
     requires unspent { vec_len claims.old + vec_len tests.old ≤ share.old.unspent }
     ensures table { share.new.table ≡ share.old.table }
     ensures room { IfOk result (E.serves J.subject.netlist J.subject.holds) }
-    ensures cubes { OnOk result (AreTestsOf J.subject.netlist J.subject.holds tests.new.items) }
-    ensures unspent { OnOk result (vec_len claims.new + vec_len tests.new ≤ share.new.unspent) }
+    ensures cubes { AreTestsOf J.subject.netlist J.subject.holds tests.new.items }
+    ensures unspent { vec_len claims.new + vec_len tests.new ≤ share.new.unspent }
 {
     let mut room = room;
     let mut goes_on = true;
@@ -177,9 +177,22 @@ fn take_turns<J: About, T: Ledger, S: Ledger, P: Ledger, U: Ledger, E: Engine, G
     Ok(room)
 }
 
-/// A worker's part of a errand.
+/// The room that was kept, or a new one.
+fn room_of<J: About, E: Engine, G: Gate, R: Wait>(
+    errand: &Errand<'_, J, E, G, R>,
+    kept: Option<E::Room>,
+) -> Result<E::Room, NoMemory>
+    requires { IfSome kept (E.serves J.subject.netlist J.subject.holds) }
+    ensures { IfOk result (E.serves J.subject.netlist J.subject.holds) }
+{
+    match kept {
+        Some(room) => Ok(room),
+        None => errand.engine.room(errand.alloc, errand.core, errand.holds),
+    }
+}
+
+/// A worker's part of a round. Where memory is refused to it, it has no room behind it.
 pub(crate) fn hunt<
-    'a,
     J: About,
     T: Ledger,
     S: Ledger,
@@ -188,32 +201,18 @@ pub(crate) fn hunt<
     E: Engine,
     G: Gate,
     R: Wait,
->(
-    errand: &Errand<'_, J, E, G, R>,
-    end: u32,
-    hand: Hand<'a, J, T, S, P, U, E>,
-) -> Result<Hand<'a, J, T, S, P, U, E>, NoMemory> {
-    let Hand {
-        shared,
-        mut share,
-        room,
-        mut claims,
-        mut tests,
-    } = hand;
-    let room = take_turns(
+>(errand: &Errand<'_, J, E, G, R>, end: u32, hand: &mut Hand<'_, J, T, S, P, U, E>) {
+    let Ok(room) = room_of(errand, hand.room.take()) else {
+        return;
+    };
+    let kept = take_turns(
         errand,
         end,
-        shared,
-        &mut share,
-        &mut claims,
+        hand.shared,
+        &mut hand.share,
+        &mut hand.claims,
         room,
-        &mut tests,
-    )?;
-    Ok(Hand {
-        shared,
-        share,
-        room,
-        claims,
-        tests,
-    })
+        &mut hand.tests,
+    );
+    hand.room = kept.ok();
 }

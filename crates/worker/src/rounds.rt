@@ -8,7 +8,7 @@
 //! Where few of the classes that are searched have tests, a round takes more of them, so that threads aren't begun for a few searches each. What is
 //! searched too early so changes nothing: a class that has no test has none, and one that was given up is detected by a later batch all the same. With a
 //! goal no class is searched early, since it would have a verdict that one worker would not have come to.
-ghost use Rattle.std.specs.Prelude.{◌≡◌, ◌+◌, ◌<◌, ◌≤◌, IfOk, OnOk, vec_len};
+ghost use Rattle.std.specs.Prelude.{◌≡◌, ◌+◌, ◌<◌, ◌≤◌, IfOk, length, vec_len};
 ghost use Rattle.std.specs.List.{All};
 ghost use Rattle.cubes.specs.Cubes.{IsPatternOf};
 ghost use Rattle.shared_list.specs.Tally.{Tally};
@@ -16,7 +16,7 @@ ghost use Rattle.worker.specs.inner.Tests.{AreTestsOf};
 
 use crate::adding::add;
 use crate::errands::Errand;
-use crate::gathering::{first_cubes, gathered, not_hit};
+use crate::gathering::{first_cubes, gather, keep_unhit};
 use crate::hands::{Hand, Test};
 use crate::hunting::hunt;
 use crate::publishing::{batch_beside, patterns_of};
@@ -33,8 +33,8 @@ use shared_list::{Share, Shared};
 use std::alloc::Global;
 use std::sync::Wait;
 use std::sync::ledger::Ledger;
-use std::thread;
 use std::thread::Threads;
+use std::{mem, thread};
 
 /// For fewer classes no thread is begun.
 const FEW: u32 = 4;
@@ -47,13 +47,6 @@ const SHARE: u64 = 256;
 
 /// So many bytes the cubes of a batch take at most, if there are more than fill a word.
 const MOST_BYTES: usize = 1 << 26;
-
-/// The workers between two steps. One of them publishes for all.
-#[derive(Drop)]
-struct Crew<'a, J: About, T: Ledger, S: Ledger, P: Ledger, U: Ledger, E: Engine> {
-    others: Vec<Hand<'a, J, T, S, P, U, E>>,
-    lead: Hand<'a, J, T, S, P, U, E>,
-}
 
 /// How far the workers are: where the last round ended, how many of its classes had no test, how many tests make the next batch, and whether no class
 /// is left, or enough is detected.
@@ -86,51 +79,8 @@ fn wanted(missing: usize, closed: u32, has_goal: bool) -> u32 {
     missing.saturating_add(closed).min(MOST)
 }
 
-/// Each worker in a slot of its own, from which its thread takes it.
-fn slots_of<'a, J: About, T: Ledger, S: Ledger, P: Ledger, U: Ledger, E: Engine>(
-    alloc: Global,
-    hands: Vec<Hand<'a, J, T, S, P, U, E>>,
-) -> Result<Vec<Option<Hand<'a, J, T, S, P, U, E>>>, NoMemory>
-    ensures { IfOk result (λ v. vec_len v ≡ vec_len hands.entry) }
-{
-    let mut slots = Vec::with_capacity(alloc, hands.len())?;
-    for hand in hands {
-        add(&mut slots, Some(hand))?;
-    }
-    Ok(slots)
-}
-
-/// The workers, unless memory was refused to one.
-fn hands_in<'a, J: About, T: Ledger, S: Ledger, P: Ledger, U: Ledger, E: Engine>(
-    alloc: Global,
-    slots: Vec<Option<Hand<'a, J, T, S, P, U, E>>>,
-) -> Result<Vec<Hand<'a, J, T, S, P, U, E>>, NoMemory>
-    ensures { IfOk result (λ v. vec_len v ≡ vec_len slots.entry) }
-{
-    let mut hands = Vec::with_capacity(alloc, slots.len())?;
-    for slot in slots {
-        let Some(hand) = slot else {
-            return Err(NoMemory);
-        };
-        add(&mut hands, hand)?;
-    }
-    Ok(hands)
-}
-
-/// The worker does its part of the round. Where memory is refused to it, its slot stays empty.
-fn hunt_in<J: About, T: Ledger, S: Ledger, P: Ledger, U: Ledger, E: Engine, G: Gate, R: Wait>(
-    errand: &Errand<'_, J, E, G, R>,
-    end: u32,
-    slot: &mut Option<Hand<'_, J, T, S, P, U, E>>,
-) {
-    if let Some(hand) = slot.take() {
-        *slot = hunt(errand, end, hand).ok();
-    }
-}
-
 /// The workers' parts of a round, in so many threads.
 fn hunt_beside<
-    'a,
     J: About + Send + Sync,
     T: Ledger + Send + Sync,
     S: Ledger + Send + Sync,
@@ -143,53 +93,29 @@ fn hunt_beside<
     errand: &Errand<'_, J, E, G, R>,
     end: u32,
     threads: usize,
-    hands: Vec<Hand<'a, J, T, S, P, U, E>>,
-) -> Result<Vec<Hand<'a, J, T, S, P, U, E>>, NoMemory>
+    crew: &mut [Hand<'_, J, T, S, P, U, E>],
+)
     requires { 0 < threads }
-    ensures { IfOk result (λ v. vec_len v ≡ vec_len hands.entry) }
+    ensures { length crew.new ≡ length crew.old }
 {
-    let mut slots = slots_of(errand.alloc, hands)?;
-    let part = move |_i: usize, slot: &mut Option<Hand<J, T, S, P, U, E>>| {
-        hunt_in(errand, end, slot)
-    };
-    thread::for_each_mut(errand.rt, slots.as_mut_slice(), threads, &part);
-    hands_in(errand.alloc, slots)
+    let part = move |_i: usize, hand: &mut Hand<J, T, S, P, U, E>| hunt(errand, end, hand);
+    thread::for_each_mut(errand.rt, crew, threads, &part);
 }
 
-/// A round that ends before this class. Behind it the lead has the tests of all.
-fn play_round<
-    'a,
-    J: About + Send + Sync,
-    T: Ledger + Send + Sync,
-    S: Ledger + Send + Sync,
-    P: Ledger + Send + Sync,
-    U: Ledger + Send + Sync,
-    E: Engine + Sync,
-    G: Gate + Sync,
-    R: Threads + Wait + Sync,
->(
-    errand: &Errand<'_, J, E, G, R>,
-    end: u32,
-    threads: usize,
-    crew: Crew<'a, J, T, S, P, U, E>,
-) -> Result<Crew<'a, J, T, S, P, U, E>, NoMemory>
-    requires { 0 < threads }
-    ensures { IfOk result (λ c. vec_len c.others ≡ vec_len crew.entry.others) }
-{
-    let Crew { others, lead } = crew;
-    let mut hands = others;
-    add(&mut hands, lead)?;
-    let mut hands = hunt_beside(errand, end, threads, hands)?;
-    let Some(lead) = hands.pop() else {
-        unreachable!();
-    };
-    let (others, lead) = gathered(errand.alloc, hands, lead)?;
-    Ok(Crew { others, lead })
+/// Refuses to go on where memory was refused to some worker.
+fn check_rooms<J: About, T: Ledger, S: Ledger, P: Ledger, U: Ledger, E: Engine>(
+    crew: &[Hand<'_, J, T, S, P, U, E>],
+) -> Result<(), NoMemory> {
+    for hand in crew {
+        if hand.room.is_none() {
+            return Err(NoMemory);
+        }
+    }
+    Ok(())
 }
 
-/// One round more, of the classes behind the last one.
+/// One round more, of the classes behind the last one. Behind it the first worker has the tests of all.
 fn hunt_more<
-    'a,
     J: About + Send + Sync,
     T: Ledger + Send + Sync,
     S: Ledger + Send + Sync,
@@ -200,31 +126,32 @@ fn hunt_more<
     R: Threads + Wait + Sync,
 >(
     errand: &Errand<'_, J, E, G, R>,
-    crew: Crew<'a, J, T, S, P, U, E>,
+    crew: &mut [Hand<'_, J, T, S, P, U, E>],
     pace: Pace,
-) -> Result<(Crew<'a, J, T, S, P, U, E>, Pace), NoMemory>
-    ensures { IfOk result (λ r. vec_len r.0.others ≡ vec_len crew.entry.others) }
+) -> Result<Pace, NoMemory>
+    requires { 0 < length crew.old }
+    ensures { length crew.new ≡ length crew.old }
 {
-    let waiting = crew.lead.tests.len();
+    let lead = &crew[0];
+    let waiting = lead.tests.len();
     let missing = pace.size.saturating_sub(waiting);
     let more = wanted(missing, pace.closed, errand.goal.is_some());
-    let end = crew.lead.shared.behind(errand.rt, pace.end, more);
-    let threads = if more < FEW { 1 } else { crew.others.len() + 1 };
-    let crew = play_round(errand, end, threads, crew)?;
-    let found = crew.lead.tests.len().saturating_sub(waiting);
+    let end = lead.shared.behind(errand.rt, pace.end, more);
+    let threads = if more < FEW { 1 } else { crew.len() };
+    hunt_beside(errand, end, threads, crew);
+    check_rooms(crew)?;
+    gather(crew)?;
+    let lead = &crew[0];
+    let found = lead.tests.len().saturating_sub(waiting);
     let closed = (more as usize).saturating_sub(found) as u32;
-    Ok((
-        crew,
-        Pace {
-            end,
-            closed,
-            ..pace
-        },
-    ))
+    Ok(Pace {
+        end,
+        closed,
+        ..pace
+    })
 }
 
-/// Publishes a word of patterns with what they hit of the classes that are left: the tests of classes that they don't hit, and how many classes they
-/// leave.
+/// Publishes a word of patterns with what they hit of the classes that are left: how many they leave. The tests of classes that they hit are let go.
 fn publish_word<
     J: About,
     T: Ledger,
@@ -240,29 +167,29 @@ fn publish_word<
     shared: &Shared<J, T, S, P, U>,
     share: &mut Share<T, S, P, U>,
     word: Vec<Pattern>,
-    tests: Vec<Test>,
-) -> Result<(Vec<Test>, u64), NoMemory>
+    tests: &mut Vec<Test>,
+) -> Result<u64, NoMemory>
     requires simulators { simulators.old ≡ J.subject.netlist }
     requires table { share.old.table ≡ shared.now.word.shared.table_id }
     requires few { vec_len word ≤ 64 }
     requires unspent { vec_len word ≤ share.old.unspent }
     requires wide { All (IsPatternOf J.subject.netlist J.subject.holds) word.items }
-    requires cubes { AreTestsOf J.subject.netlist J.subject.holds tests.items }
+    requires cubes { AreTestsOf J.subject.netlist J.subject.holds tests.old.items }
     ensures simulators { simulators.new ≡ simulators.old }
     ensures table { share.new.table ≡ share.old.table }
-    ensures unspent { OnOk result (share.old.unspent ≤ share.new.unspent + vec_len word) }
-    ensures fewer { IfOk result (λ r. vec_len r.0 ≤ vec_len tests) }
-    ensures cubes { IfOk result (λ r. AreTestsOf J.subject.netlist J.subject.holds r.0.items) }
+    ensures unspent { share.old.unspent ≤ share.new.unspent + vec_len word }
+    ensures fewer { vec_len tests.new ≤ vec_len tests.old }
+    ensures cubes { AreTestsOf J.subject.netlist J.subject.holds tests.new.items }
 {
     let (batch, undetected) = batch_beside(errand, shared, simulators, word)?;
-    let rest = not_hit(errand.alloc, tests, batch.hits())?;
+    keep_unhit(tests, batch.hits());
     if let Err((NoMemory, _)) = shared.publish(errand.rt, share, batch) {
         return Err(NoMemory);
     }
     errand
         .stage
         .at(share.worker(), Stage::Published { undetected });
-    Ok((rest, undetected))
+    Ok(undetected)
 }
 
 /// Publishes patterns word by word.
@@ -281,35 +208,31 @@ fn publish_words<
     shared: &Shared<J, T, S, P, U>,
     share: &mut Share<T, S, P, U>,
     patterns: Vec<Pattern>,
-    tests: Vec<Test>,
-) -> Result<(Vec<Test>, u64), NoMemory>
+    tests: &mut Vec<Test>,
+) -> Result<u64, NoMemory>
     requires simulators { simulators.old ≡ J.subject.netlist }
     requires table { share.old.table ≡ shared.now.word.shared.table_id }
     requires unspent { vec_len patterns ≤ share.old.unspent }
     requires wide { All (IsPatternOf J.subject.netlist J.subject.holds) patterns.items }
-    requires cubes { AreTestsOf J.subject.netlist J.subject.holds tests.items }
+    requires cubes { AreTestsOf J.subject.netlist J.subject.holds tests.old.items }
     ensures simulators { simulators.new ≡ simulators.old }
     ensures table { share.new.table ≡ share.old.table }
-    ensures unspent { OnOk result (share.old.unspent ≤ share.new.unspent + vec_len patterns) }
-    ensures fewer { IfOk result (λ r. vec_len r.0 ≤ vec_len tests) }
-    ensures cubes { IfOk result (λ r. AreTestsOf J.subject.netlist J.subject.holds r.0.items) }
+    ensures unspent { share.old.unspent ≤ share.new.unspent + vec_len patterns }
+    ensures fewer { vec_len tests.new ≤ vec_len tests.old }
+    ensures cubes { AreTestsOf J.subject.netlist J.subject.holds tests.new.items }
 {
     let mut left = patterns;
-    let mut tests = tests;
     let mut undetected = 0;
     while !left.is_empty() {
         let later = left.split_off(FULL.min(left.len()))?;
-        let (rest, count) = publish_word(errand, simulators, shared, share, left, tests)?;
-        tests = rest;
-        undetected = count;
+        undetected = publish_word(errand, simulators, shared, share, left, tests)?;
         left = later;
     }
-    Ok((tests, undetected))
+    Ok(undetected)
 }
 
 /// Publishes the first tests, merged and filled: how many classes are left. The tests of classes that they hit are let go.
 fn publish_first<
-    'a,
     J: About,
     T: Ledger,
     S: Ledger,
@@ -324,38 +247,27 @@ fn publish_first<
     simulators: &mut Simulators<'_>,
     rng: &mut N,
     size: usize,
-    lead: Hand<'a, J, T, S, P, U, E>,
-) -> Result<(Hand<'a, J, T, S, P, U, E>, u64), NoMemory>
+    lead: &mut Hand<'_, J, T, S, P, U, E>,
+) -> Result<u64, NoMemory>
     requires simulators { simulators.old ≡ J.subject.netlist }
     ensures simulators { simulators.new ≡ simulators.old }
 {
-    let Hand {
-        shared,
-        mut share,
-        room,
-        claims,
-        tests,
-    } = lead;
-    let (cubes, tests) = first_cubes(errand.alloc, tests, size)?;
+    let waiting = mem::replace(&mut lead.tests, Vec::new(errand.alloc));
+    let (cubes, rest) = first_cubes(errand.alloc, waiting, size)?;
     let patterns = patterns_of::<J, N>(errand.alloc, &cubes, rng)?;
-    let (tests, undetected) = publish_words(
-        errand, simulators, shared, &mut share, patterns, tests,
-    )?;
-    Ok((
-        Hand {
-            shared,
-            share,
-            room,
-            claims,
-            tests,
-        },
-        undetected,
-    ))
+    lead.tests = rest;
+    publish_words(
+        errand,
+        simulators,
+        lead.shared,
+        &mut lead.share,
+        patterns,
+        &mut lead.tests,
+    )
 }
 
 /// Publishes once there are as many tests as a batch has, or no class is left to search; else there is one round more.
 fn take_step<
-    'a,
     J: About + Send + Sync,
     T: Ledger + Send + Sync,
     S: Ledger + Send + Sync,
@@ -369,44 +281,37 @@ fn take_step<
     errand: &Errand<'_, J, E, G, R>,
     simulators: &mut Simulators<'_>,
     rng: &mut N,
-    crew: Crew<'a, J, T, S, P, U, E>,
+    crew: &mut [Hand<'_, J, T, S, P, U, E>],
     pace: Pace,
-) -> Result<(Crew<'a, J, T, S, P, U, E>, Pace), NoMemory>
+) -> Result<Pace, NoMemory>
     requires simulators { simulators.old ≡ J.subject.netlist }
+    requires crew { 0 < length crew.old }
     ensures simulators { simulators.new ≡ simulators.old }
-    ensures len { IfOk result (λ r. vec_len r.0.others ≡ vec_len crew.entry.others) }
+    ensures crew { length crew.new ≡ length crew.old }
 {
-    let waiting = crew.lead.tests.len();
-    let is_last = pace.end >= crew.lead.shared.count();
+    let lead = &crew[0];
+    let waiting = lead.tests.len();
+    let is_last = pace.end >= lead.shared.count();
     if waiting < pace.size && !is_last {
         return hunt_more(errand, crew, pace);
     }
     if waiting == 0 {
-        return Ok((
-            crew,
-            Pace {
-                has_ended: true,
-                ..pace
-            },
-        ));
-    }
-    let Crew { others, lead } = crew;
-    let (lead, left) = publish_first(errand, simulators, rng, pace.size, lead)?;
-    let has_ended = is_enough(errand.rt, lead.shared, errand.goal);
-    let size = batch_size(left, width_of(errand.core));
-    Ok((
-        Crew { others, lead },
-        Pace {
-            size,
-            has_ended,
+        return Ok(Pace {
+            has_ended: true,
             ..pace
-        },
-    ))
+        });
+    }
+    let lead = &mut crew[0];
+    let left = publish_first(errand, simulators, rng, pace.size, lead)?;
+    Ok(Pace {
+        size: batch_size(left, width_of(errand.core)),
+        has_ended: is_enough(errand.rt, lead.shared, errand.goal),
+        ..pace
+    })
 }
 
 /// Step after step, until no class is left, or enough is detected.
 fn take_steps<
-    'a,
     J: About + Send + Sync,
     T: Ledger + Send + Sync,
     S: Ledger + Send + Sync,
@@ -420,75 +325,61 @@ fn take_steps<
     errand: &Errand<'_, J, E, G, R>,
     simulators: &mut Simulators<'_>,
     rng: &mut N,
-    crew: Crew<'a, J, T, S, P, U, E>,
-) -> Result<Crew<'a, J, T, S, P, U, E>, NoMemory>
+    crew: &mut [Hand<'_, J, T, S, P, U, E>],
+) -> Result<(), NoMemory>
     requires simulators { simulators.old ≡ J.subject.netlist }
-    ensures { IfOk result (λ c. vec_len c.others ≡ vec_len crew.entry.others) }
+    requires crew { 0 < length crew.old }
+    ensures { length crew.new ≡ length crew.old }
 {
-    let mut crew = crew;
-    let classes = crew.lead.shared.count() as u64;
+    let lead = &crew[0];
+    let classes = lead.shared.count() as u64;
     let mut pace = Pace {
         end: 0,
         closed: 0,
         size: batch_size(classes, width_of(errand.core)),
-        has_ended: is_enough(errand.rt, crew.lead.shared, errand.goal),
+        has_ended: is_enough(errand.rt, lead.shared, errand.goal),
     };
     for _ in errand.rt.forever() {
         if pace.has_ended {
             break;
         }
-        let (same, next) = take_step(errand, simulators, rng, crew, pace)?;
-        crew = same;
-        pace = next;
+        pace = take_step(errand, simulators, rng, crew, pace)?;
     }
-    Ok(crew)
+    Ok(())
 }
 
-/// A worker at the start: with a share of the list, and room for its searches.
-fn hand_of<'a, J: About, T: Ledger, S: Ledger, P: Ledger, U: Ledger, E: Engine, G: Gate, R: Wait>(
-    errand: &Errand<'_, J, E, G, R>,
-    shared: &'a Shared<J, T, S, P, U>,
-    share: Share<T, S, P, U>,
-) -> Result<Hand<'a, J, T, S, P, U, E>, NoMemory>
-    requires { share.table ≡ shared.now.word.shared.table_id }
-{
-    let room = errand.engine.room(errand.alloc, errand.core, errand.holds)?;
-    Ok(Hand {
-        shared,
-        share,
-        room,
-        claims: Vec::new(errand.alloc),
-        tests: Vec::new(errand.alloc),
-    })
-}
-
-/// The workers at the start.
-fn hands_of<'a, J: About, T: Ledger, S: Ledger, P: Ledger, U: Ledger, E: Engine, G: Gate, R: Wait>(
-    errand: &Errand<'_, J, E, G, R>,
+/// The workers at the start, each with a share of the list.
+fn crew_of<'a, J: About, T: Ledger, S: Ledger, P: Ledger, U: Ledger, E: Engine>(
+    alloc: Global,
     shared: &'a Shared<J, T, S, P, U>,
     shares: Vec<Share<T, S, P, U>>,
 ) -> Result<Vec<Hand<'a, J, T, S, P, U, E>>, NoMemory>
     requires { All (λ (t : Tally). t.table ≡ shared.now.word.shared.table_id) shares.items }
     ensures { IfOk result (λ v. vec_len v ≡ vec_len shares) }
 {
-    let mut hands = Vec::with_capacity(errand.alloc, shares.len())?;
+    let mut crew = Vec::with_capacity(alloc, shares.len())?;
     for share in shares {
-        add(&mut hands, hand_of(errand, shared, share)?)?;
+        let hand = Hand {
+            shared,
+            share,
+            room: None,
+            claims: Vec::new(alloc),
+            tests: Vec::new(alloc),
+        };
+        add(&mut crew, hand)?;
     }
-    Ok(hands)
+    Ok(crew)
 }
 
 /// The shares back.
-fn shares_of<J: About, T: Ledger, S: Ledger, P: Ledger, U: Ledger, E: Engine, G: Gate, R: Wait>(
-    errand: &Errand<'_, J, E, G, R>,
-    crew: Crew<'_, J, T, S, P, U, E>,
+fn shares_of<J: About, T: Ledger, S: Ledger, P: Ledger, U: Ledger, E: Engine>(
+    alloc: Global,
+    crew: Vec<Hand<'_, J, T, S, P, U, E>>,
 ) -> Result<Vec<Share<T, S, P, U>>, NoMemory>
-    ensures { IfOk result (λ v. vec_len v ≡ vec_len crew.entry.others + 1) }
+    ensures { IfOk result (λ v. vec_len v ≡ vec_len crew.entry) }
 {
-    let Crew { others, lead } = crew;
-    let mut shares = Vec::with_capacity(errand.alloc, others.len() + 1)?;
-    add(&mut shares, lead.share)?;
-    for hand in others {
+    let mut shares = Vec::with_capacity(alloc, crew.len())?;
+    for hand in crew {
         add(&mut shares, hand.share)?;
     }
     Ok(shares)
@@ -517,10 +408,7 @@ pub(crate) fn work_rounds<
 {
     let mut rng = Lcg64Xsh32::new(seed, 0);
     let mut simulators = Simulators::new(errand.alloc, errand.core, workers)?;
-    let mut others = hands_of(errand, shared, shares)?;
-    let Some(lead) = others.pop() else {
-        unreachable!();
-    };
-    let crew = take_steps(errand, &mut simulators, &mut rng, Crew { others, lead })?;
-    shares_of(errand, crew)
+    let mut crew = crew_of(errand.alloc, shared, shares)?;
+    take_steps(errand, &mut simulators, &mut rng, &mut crew)?;
+    shares_of(errand.alloc, crew)
 }

@@ -1,5 +1,5 @@
-use Rattle.std.proofs.Common.{◌≡◌, vec_len}
+use Rattle.std.proofs.Common.{◌≡◌, length}
 use Rattle.worker.proofs.rounds.take_steps.Given as goal
 
 abbrev pub invariant-loop : goal.invariant-loop
-invariant-loop g l = (l.simulators ≡ l.fn.simulators) × (vec_len l.crew.others ≡ vec_len l.fn.crew.others)
+invariant-loop g l = (l.simulators ≡ l.fn.simulators) × (length l.crew ≡ length l.fn.crew)
