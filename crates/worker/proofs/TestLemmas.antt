@@ -33,11 +33,11 @@ pub as_before : {P : Type 0} (n : Netlist) (holds : Holds) (tests : List Test) (
 as_before n holds tests t before all = before (split n holds tests t all).0
 
 -- one test more, or the same where memory was refused
-pub more_or_same : {A E Q : Type 0} (n : Netlist) (holds : Holds) (tests after : List Test) (t : Test) (r : Result A E) → OnOk r (after ≡ tests ++ t ∷ [])
+pub more_or_same : {A E : Type 0} (Q : Type 0) (n : Netlist) (holds : Holds) (tests after : List Test) (t : Test) (r : Result A E) → OnOk r (after ≡ tests ++ t ∷ [])
     → OnErr r ((after ≡ tests) × Q) → AreTestsOf n holds tests → IsCubeOf n holds t.cube → AreTestsOf n holds after
-more_or_same n holds tests after t (Ok x) more same all cube =
+more_or_same Q n holds tests after t (Ok x) more same all cube =
     subst (AreTestsOf n holds) (sym more) (All-push (λ (t : Test). IsCubeOf n holds t.cube) tests t all cube)
-more_or_same n holds tests after t (Err e) more same all cube = subst (AreTestsOf n holds) (sym same.0) all
+more_or_same Q n holds tests after t (Err e) more same all cube = subst (AreTestsOf n holds) (sym same.0) all
 
 -- those that come first
 pub front : (n : Netlist) (holds : Holds) (tests more : List Test) → AreTestsOf n holds (tests ++ more) → AreTestsOf n holds tests
