@@ -15,11 +15,9 @@ use Rattle.cubes.specs.Cubes.{Cube, HaveSameWidths, AgreesWith, IsCubeOf, IsPatt
 use Rattle.word_sim.specs.declared.batches.Hit.{Hit}
 use Rattle.word_sim.specs.Hits.{AreHits}
 use Rattle.redundancy_cert.specs.declared.nodes.Node.{Node}
-use Rattle.evidence.specs.declared.kinds.Evidence.{Evidence}
 use Rattle.evidence.specs.declared.kinds.Evidence.TheVariants.{Tree, Refutation}
 use Rattle.evidence.specs.declared.engine.Found.{Found}
-use Rattle.evidence.specs.declared.engine.Found.TheVariants.{Test, Closed, Refuted, Partial}
-use Rattle.evidence.specs.Evidence.{Shows}
+use Rattle.evidence.specs.declared.engine.Found.TheVariants.{Closed, Refuted, Partial}
 use Rattle.evidence.specs.Answers.{HasEvidence, MayAnswer}
 use Rattle.redundancy_cert.specs.TestCubes.{IsTestCube}
 use Rattle.list_core.specs.States.{MaySettle}

@@ -1,5 +1,5 @@
 -- What is dealt to each of several who go over faults beside each other.
-use Rattle.std.specs.Prelude.{ℕ, ◌≡◌, ◌+◌, ◌==◌, List, [], ◌∷◌, cond, slice_index_or}
+use Rattle.std.specs.Prelude.{ℕ, ◌+◌, ◌==◌, List, [], ◌∷◌, cond, slice_index_or}
 use Rattle.statement.specs.declared.lines.Fault.{Fault}
 use Rattle.statement.specs.declared.lines.Line.{Line}
 use Rattle.statement.specs.declared.lines.Line.TheVariants.{Stem, Pin, Out}

@@ -1,4 +1,4 @@
-use Rattle.std.proofs.Common.{◌≡◌, List, [], ◌∷◌, ◌++◌, length-append, append_assoc, arith, ap, sym, ◌∙◌}
+use Rattle.std.proofs.Common.{List, [], ◌∷◌, ◌++◌, length-append, append_assoc, arith, ap, sym, ◌∙◌}
 use Rattle.shared_list.specs.Tally.{Tally}
 use Rattle.worker.proofs.rounds.shares_of.Goals as goal
 

@@ -1,6 +1,6 @@
 use Rattle.std.proofs.Common.{◌≡◌, List, subst, sym}
 use Rattle.std.specs.List.{All}
-use Rattle.shared_list.specs.Tally.{Tally, idle_from}
+use Rattle.shared_list.specs.Tally.{Tally}
 use Rattle.shared_list.proofs.TallyLemmas.{idle_tables}
 use Rattle.worker.proofs.running.run_shared.Goals as goal
 
