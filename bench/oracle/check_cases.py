@@ -1,5 +1,5 @@
 #!/usr/bin/env python3
-"""Works out what the rows of crates/calls, crates/cases and crates/check_cases have to print, by plain programs apart from the crates, and compares.
+"""Works out what the rows of crates/calls and crates/cases have to print, by plain programs apart from the crates, and compares.
 
 A row that this program doesn't know (a refusal, a line of an error output) is worked out by hand; how many there are is printed.
 
@@ -29,7 +29,8 @@ from sample_netlist import Pcg32
 
 ROOT = os.path.dirname(os.path.dirname(os.path.dirname(os.path.abspath(__file__))))
 WORDS = {"BUF": "BUFF"}
-RUNS = ("case ", "run ", "keep ", "twice ", "cut ")
+RUNS = ("case ", "run ", "keep ", "meet ", "twice ", "cut ")
+CHECK = "check "
 
 
 def shown(text):
@@ -650,7 +651,7 @@ class Case:
 
     def shown_output(self, name, text):
         """An output as it is shown: whole, or up to the count of patterns."""
-        text = text.split(" patterns ")[0] if self.showing[name] == "totals" else text
+        text = text.split(" patterns ")[0] if self.showing[name].split(" ")[0] in ("totals", "cycles") else text
         return [name] + shown(text) if text else []
 
     def told(self, words, ended):
@@ -700,6 +701,15 @@ def sweep_answer(case, words):
             f"|detected, redundant or aborted {faults}", f"|cycles {gates // 8 + 1}P + {gates // 8 * 4}", "|play ok", "files 0"]
 
 
+def run_with_cycles(case, words, told):
+    """The lines of a run on one chain, with the cycles by the number of patterns behind its output; with so many cells there are as many cycles as
+    `sweep_answer` says."""
+    cells = case.files[words[2]].count("DFF(")
+    lines = case.told(words, case.ending(words, told))
+    assert lines[1] == "out" and lines[2].endswith("\\") and "--chains" not in words
+    return lines[:3] + [f"|cycles {cells + 1}P + {4 * cells}"] + lines[3:]
+
+
 def keep_files(case, prefix, words, told):
     """The files of a run stand in those that follow; where nobody can say what they hold, so."""
     try:
@@ -729,6 +739,8 @@ def case_answer(case, verb, rest, told):
         return ["the same"]
     if verb == "cut":
         return case.told_cut(name, behind.split(" "), told)
+    if verb == "meet":
+        return [*case_answer(case, "run", rest, told), "met"]
     words = (behind if verb == "keep" else rest).split(" ")
     if case.showing["err"] == "hidden":
         raise plain_program.Unknown
@@ -737,6 +749,8 @@ def case_answer(case, verb, rest, told):
         return case.told(words, plain_program.Ended(2, "", text, case.files))
     if words[1] == "sweep":
         return sweep_answer(case, words)
+    if case.showing["out"].startswith("cycles") and words[1] == "run":
+        return run_with_cycles(case, words, told)
     if case.showing["out"] not in ("whole", "totals"):
         raise plain_program.Unknown
     return case.told(words, case.ending(words, told))
@@ -776,16 +790,26 @@ def texts_of_some(texts, asked):
     return stil, "\n".join(["atpg certificate 1", *evidence, ""]), "\n".join(["atpg report 3", *report, *said, ""])
 
 
+def head_of(row):
+    """The line by which the output of a row begins."""
+    verb, _, rest = row.partition(" ")
+    return "run " + rest if verb == "meet" else "run " + rest.split(" ", 1)[1] if verb == "keep" else row
+
+
 def check_cases():
     texts, rows = texts_and_rows(f"{ROOT}/crates/cases/stdin")
-    heads = ["run " + row.split(" ", 2)[2] if row.startswith("keep ") else row for row in rows if row.startswith(RUNS)]
+    heads = [head_of(row) for row in rows if row.startswith((*RUNS, CHECK))]
     stored = iter(answers(f"{ROOT}/crates/cases/stdout", heads))
-    wrong, known, count, case, runs = 0, 0, 0, Case(), told_runs(texts)
+    checks = check_checks.rows()
+    wrong, known, count, checked, case, runs = 0, 0, 0, 0, Case(), told_runs(texts)
     for row in rows:
         verb, _, rest = row.partition(" ")
-        given = [line for line in next(stored, []) if line] if row.startswith(RUNS) else []
+        given = [line for line in next(stored, []) if line] if row.startswith((*RUNS, CHECK)) else []
         if verb == "case":
             case = Case()
+        elif row.startswith(CHECK):
+            checked += 1
+            wrong += differs(row, next(checks), (row, given))
         elif not row.startswith(RUNS):
             case.take(verb, rest, texts)
         else:
@@ -799,19 +823,9 @@ def check_cases():
             case.said[rest] = given
             if verb == "keep":
                 keep_files(case, rest.split(" ")[0], rest.split(" ")[1:], told)
-    print(f"cases: {known} of {count} runs worked out, {wrong} differ")
-    return wrong
-
-
-def check_check_cases():
-    wanted = check_checks.wanted()
-    with open(f"{ROOT}/crates/check_cases/stdout", encoding="latin-1") as file:
-        given = file.read()
-    rows = wanted.count("\nstatus ")
-    wrong = differs("check_cases", wanted.split("\n"), given.split("\n"))
-    print(f"check_cases: {rows} of {rows} rows worked out, {'some' if wrong else 0} differ")
+    print(f"cases: {known} of {count} runs and {checked} of {checked} checks of five files worked out, {wrong} differ")
     return wrong
 
 
 if __name__ == "__main__":
-    sys.exit(1 if check_calls() + check_cases() + check_check_cases() else 0)
+    sys.exit(1 if check_calls() + check_cases() else 0)

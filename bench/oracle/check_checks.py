@@ -1,5 +1,5 @@
 #!/usr/bin/env python3
-"""Works out what the rows of crates/check_cases have to print, by bench/oracle/plain_check.py and
+"""Works out what the checks of five files among the rows of crates/cases have to print, by bench/oracle/plain_check.py and
 bench/oracle/plain_transition.py, which have nothing of the crates.
 
     bench/oracle/check_checks.py           prints it
@@ -11,7 +11,7 @@ sys.path.insert(0, str(pathlib.Path(__file__).resolve().parent))
 import plain_check
 import plain_transition
 
-STDIN = pathlib.Path(__file__).resolve().parents[2] / "crates/check_cases/stdin"
+STDIN = pathlib.Path(__file__).resolve().parents[2] / "crates/cases/stdin"
 
 
 def part_of(told):
@@ -36,10 +36,10 @@ def answer(files):
     return judge.check(files)
 
 
-def rows(lines):
-    """Each check's line, and what has to come."""
+def rows():
+    """Each check's line, and the lines that have to come."""
     texts, files, name = {}, {}, None
-    for line in lines:
+    for line in STDIN.read_text(encoding="latin-1").split("\n"):
         verb, _, rest = line.partition(" ")
         if line.startswith("|"):
             told = line[1:]
@@ -56,12 +56,9 @@ def rows(lines):
             del files[rest]
         elif verb == "check":
             status, said = answer(files)
-            yield line, f"status {status}\n|{said}\n"
-
-
-def wanted():
-    return "".join(f"{line}\n{came}" for line, came in rows(STDIN.read_text(encoding="latin-1").split("\n")))
+            yield line, [f"status {status}", f"|{said}"]
 
 
 if __name__ == "__main__":
-    print(wanted(), end="")
+    for row, came in rows():
+        print(row, *came, sep="\n")

@@ -2,17 +2,44 @@
 ghost use Rattle.std.specs.Prelude.{◌≤◌, IfOk};
 
 use outside::{FolderShelf, OutSink, ReadRefusal, Shelf, Sink, WriteRefusal};
+use std::alloc::Global;
 use std::io::{ErrorKind, Write};
 use std::test::Fail;
 use std::{fs, io};
 
 /// Whether a read came to what is wanted.
-pub fn is_read(read: &Result<Vec<u8>, ReadRefusal>, want: Result<&[u8], ReadRefusal>) -> bool {
+fn is_read(read: &Result<Vec<u8>, ReadRefusal>, want: Result<&[u8], ReadRefusal>) -> bool {
     match (read, want) {
         (Ok(bytes), Ok(wanted)) => bytes.as_slice() == wanted,
         (Err(refusal), Err(wanted)) => *refusal == wanted,
         _ => false,
     }
+}
+
+/// Whether a file of at most so many bytes is read as it is wanted.
+pub fn reads<S: Shelf>(
+    shelf: &mut S,
+    alloc: Global,
+    name: &str,
+    max: u64,
+    want: Result<&[u8], ReadRefusal>,
+) -> bool {
+    let read = shelf.read(alloc, name, max);
+    is_read(&read, want)
+}
+
+/// Whether a file is written.
+pub fn writes<S: Shelf>(shelf: &mut S, alloc: Global, name: &str, bytes: &[u8]) -> bool {
+    shelf.write(alloc, name, bytes).is_ok()
+}
+
+/// Whether a file is read back, up to its length, and not as one that may have a byte less.
+fn reads_back<S: Shelf>(shelf: &mut S, alloc: Global, name: &str, bytes: &[u8]) -> bool {
+    let length = bytes.len() as u64;
+    let most = length.saturating_sub(1);
+    writes(shelf, alloc, name, bytes)
+        && reads(shelf, alloc, name, length, Ok(bytes))
+        && reads(shelf, alloc, name, most, Err(ReadRefusal::TooLong(length)))
 }
 
 #[test]
@@ -21,23 +48,20 @@ fn real_files(rt: HostRuntime) -> Result<(), Fail> {
     let name = "outside_test.bin";
     let long = [b'x'; 5000];
     let mut shelf = FolderShelf::new(&rt);
-    assert_eq!(rt; shelf.write(alloc, name, long.as_slice()), Ok(()));
-    assert!(rt; is_read(&shelf.read(alloc, name, 5000), Ok(long.as_slice())));
-    assert!(rt;
-        is_read(
-            &shelf.read(alloc, name, 4999),
-            Err(ReadRefusal::TooLong(5000))
-        )
-    );
-    assert_eq!(rt; shelf.write(alloc, name, b"12345"), Ok(()));
-    assert!(rt; is_read(&shelf.read(alloc, name, 5), Ok(b"12345".as_slice())));
-    assert!(rt; is_read(&shelf.read(alloc, name, 4), Err(ReadRefusal::TooLong(5))));
+    assert!(rt; reads_back(&mut shelf, alloc, name, long.as_slice()));
+    assert!(rt; reads_back(&mut shelf, alloc, name, b"12345"));
     fs::remove_file(&rt, name)?;
-    assert!(rt; is_read(&shelf.read(alloc, name, 5), Err(ReadRefusal::Missing)));
+    assert!(rt; reads(&mut shelf, alloc, name, 5, Err(ReadRefusal::Missing)));
     assert_eq!(rt; shelf.failures(), 0);
+    Ok(())
+}
 
+#[test]
+fn no_real_files(rt: HostRuntime) -> Result<(), Fail> {
+    let alloc = rt.alloc();
+    let mut shelf = FolderShelf::new(&rt);
     // A folder can't be read, and a file can't be made in a folder that isn't there.
-    assert!(rt; is_read(&shelf.read(alloc, ".", 5), Err(ReadRefusal::Failed)));
+    assert!(rt; reads(&mut shelf, alloc, ".", 5, Err(ReadRefusal::Failed)));
     assert_eq!(rt;
         shelf.write(alloc, "outside_none/file", b"1"),
         Err(WriteRefusal::Failed)
