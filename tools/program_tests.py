@@ -207,25 +207,39 @@ def test_program_begins_with_a_test():
         assert run_program(folder, "s27.bench", "few", "--limit", "128", "--faults", "some", "--with", "part", "--coverage", "1") == part
 
 
-def test_program_makes_the_same_files_by_any_number_of_workers():
+def wide_and():
     """An AND of 200 inputs, which needs a test for each, in halves, and beside them gates of which half the faults are redundant: several batches of tests, and
-    classes between them that have none. Each search that owes its answer to the fault alone, with fewer patterns and without, also until enough is
-    detected."""
-    if not program("atpg_main").exists():
-        return NO_PROGRAM
+    classes between them that have none."""
     inputs = [f"i{k}" for k in range(200)]
     text = "".join(f"INPUT({name})\n" for name in inputs) + "OUTPUT(y)\n" + "".join(f"OUTPUT(z{k})\n" for k in range(99))
     for k in range(99):
         text += f"a{k} = AND(i{k}, i{k + 1})\nz{k} = OR(i{k}, a{k})\n"
-    text += f"low = AND({', '.join(inputs[:100])})\nhigh = AND({', '.join(inputs[100:])})\ny = AND(low, high)\n"
+    return text + f"low = AND({', '.join(inputs[:100])})\nhigh = AND({', '.join(inputs[100:])})\ny = AND(low, high)\n"
+
+
+def adder():
+    """An adder of 200 bits, in which thousands of faults are left to some tens of patterns: what they need is traced by several workers."""
+    text = "INPUT(c0)\nOUTPUT(c200)\n"
+    for k in range(200):
+        text += f"INPUT(a{k})\nINPUT(b{k})\nOUTPUT(s{k})\nx{k} = XOR(a{k}, b{k})\ns{k} = XOR(x{k}, c{k})\n"
+        text += f"g{k} = AND(a{k}, b{k})\np{k} = AND(x{k}, c{k})\nc{k + 1} = OR(g{k}, p{k})\n"
+    return text
+
+
+def test_program_makes_the_same_files_by_any_number_of_workers():
+    """Two designs, by each search that owes its answer to the fault alone, with fewer patterns and without, also until enough is detected."""
+    if not program("atpg_main").exists():
+        return NO_PROGRAM
     with tempfile.TemporaryDirectory() as room:
         folder = pathlib.Path(room)
-        (folder / "and.bench").write_text(text)
-        for ways in ([], ["--engine", "fan", "--compact", "0"], ["--coverage", "60", "--limit", "1"]):
-            whole = run_program(folder, "and.bench", "p", *ways)
-            for workers in ("2", "5", "64"):
-                assert run_program(folder, "and.bench", "q", "--workers", workers, *ways) == whole, (workers, ways)
-                assert all((folder / f"p.{end}").read_bytes() == (folder / f"q.{end}").read_bytes() for end in plain_check.ENDS), (workers, ways)
+        for name, text in (("and", wide_and()), ("adder", adder())):
+            (folder / f"{name}.bench").write_text(text)
+            for ways in ([], ["--engine", "fan", "--compact", "0"], ["--coverage", "60", "--limit", "1"]):
+                whole = run_program(folder, f"{name}.bench", "p", *ways)
+                for workers in ("2", "4", "5", "64"):
+                    assert run_program(folder, f"{name}.bench", "q", "--workers", workers, *ways) == whole, (name, workers, ways)
+                    same = all((folder / f"p.{end}").read_bytes() == (folder / f"q.{end}").read_bytes() for end in plain_check.ENDS)
+                    assert same, (name, workers, ways)
 
 
 def test_program_detects_as_often_as_asked():

@@ -1,13 +1,19 @@
-//! Patterns relaxed to the bits that are needed.
+//! Patterns relaxed to the bits that are needed, dealt to the workers: what one needs doesn't depend on the others that are traced with it.
 ghost use Rattle.netlist.specs.Holds.{AreHoldsOf};
 
 use crate::rows::Rows;
 use crate::sorting::Sorted;
 use crate::tracing::Tracing;
+use crate::worlds::Lanes;
 use cubes::Pattern;
-use flat_netlist::{NONE, number_of};
-use netlist::{Core, Fault, Holds, Point, SignalId};
+use flat_netlist::{NONE, Whole, at, fill, number_of, put};
+use netlist::{Core, Fault, Holds, NoMemory, Point, SignalId};
 use std::alloc::{AllocError, Global};
+use std::thread;
+use std::thread::Threads;
+
+/// What fewer faults need is traced sooner by one worker than threads are made.
+const FEWEST: usize = 512;
 
 /// Faults, and the pattern and point at which each is told last, if at all.
 #[derive(Drop)]
@@ -38,7 +44,7 @@ struct Stage {
 /// What some of the faults that are left to the pattern at a place need of it, which stands in this lane of those that are traced. Where it needs
 /// nearly all of its bits already it is taken whole, and no more faults are looked at.
 fn need_some(
-    tracing: &mut Tracing,
+    tracing: &mut Tracing<'_>,
     core: &Core,
     told: &Told<'_>,
     by_place: &Sorted,
@@ -64,52 +70,57 @@ fn need_some(
     Ok(())
 }
 
-/// The same of up to 64 patterns, from a place on; and what that rests on.
+/// The same of the patterns of these lanes; and what that rests on.
 fn need_stage(
-    tracing: &mut Tracing,
+    tracing: &mut Tracing<'_>,
     core: &Core,
     told: &Told<'_>,
     by_place: &Sorted,
-    start: u32,
-    count: u32,
+    lanes: Lanes,
     stage: Stage,
 ) -> Result<(), AllocError> {
-    for lane in 0..count {
-        let place = start.wrapping_add(lane);
-        need_some(tracing, core, told, by_place, place, lane, stage)?;
+    for lane in 0..lanes.count {
+        need_some(
+            tracing,
+            core,
+            told,
+            by_place,
+            lanes.place(lane),
+            lane,
+            stage,
+        )?;
     }
     tracing.trace();
     Ok(())
 }
 
-/// How many faults are left to a pattern at most, of so many from a place on.
-fn most_left(by_place: &Sorted, start: u32, count: u32) -> u32 {
+/// How many faults are left to a pattern of these lanes at most.
+fn most_left(by_place: &Sorted, lanes: Lanes) -> u32 {
     let mut most = 0;
-    for lane in 0..count {
-        let (first, end) = by_place.of_key(start.wrapping_add(lane));
+    for lane in 0..lanes.count {
+        let (first, end) = by_place.of_key(lanes.place(lane));
         most = end.wrapping_sub(first).max(most);
     }
     most
 }
 
-/// What the faults need that are left to up to 64 patterns, from a place on: a few at first, and four times as many each time.
-fn need_part(
-    tracing: &mut Tracing,
+/// What the faults need that are left to the patterns of these lanes: a few at first, and four times as many each time.
+fn need_lanes(
+    tracing: &mut Tracing<'_>,
     core: &Core,
     told: &Told<'_>,
     by_place: &Sorted,
-    start: u32,
-    part: &[Pattern],
+    patterns: &[Pattern],
+    lanes: Lanes,
 ) -> Result<(), AllocError> {
-    tracing.begin(core, part)?;
-    let count = number_of(part.len());
-    let most = most_left(by_place, start, count);
+    tracing.begin(core, patterns, lanes)?;
+    let most = most_left(by_place, lanes);
     let mut stage = Stage { from: 0, to: 8 };
     for _stage in 0..16 {
         if stage.from >= most {
             break;
         }
-        need_stage(tracing, core, told, by_place, start, count, stage)?;
+        need_stage(tracing, core, told, by_place, lanes, stage)?;
         stage = Stage {
             from: stage.to,
             to: stage.to.saturating_mul(4),
@@ -119,7 +130,7 @@ fn need_part(
 }
 
 /// Sets the bits of signals that are needed, from a place of the row on.
-fn put_needed(rows: &mut Rows, row: u32, tracing: &Tracing, signals: &[SignalId], from: u32) {
+fn put_needed(rows: &mut Rows, row: u32, tracing: &Tracing<'_>, signals: &[SignalId], from: u32) {
     for (k, signal) in signals.iter().enumerate() {
         if tracing.is_needed(signal.0) {
             let place = from.wrapping_add(number_of(k));
@@ -151,79 +162,203 @@ fn put_held(rows: &mut Rows, row: u32, core: &Core, holds: &Holds)
 }
 
 /// A row more, of what was needed.
-fn push_needed(
-    rows: &mut Rows,
-    tracing: &Tracing,
-    core: &Core,
-    holds: &Holds,
-) -> Result<(), AllocError>
-    requires { AreHoldsOf core.now holds.now }
-{
+fn push_needed(rows: &mut Rows, tracing: &Tracing<'_>, core: &Core) -> Result<(), AllocError> {
     let row = rows.count();
     rows.push()?;
     let inputs = core.netlist().inputs();
     put_needed(rows, row, tracing, inputs, 0);
-    put_needed(
-        rows,
-        row,
-        tracing,
-        core.netlist().cells(),
-        number_of(inputs.len()),
-    );
-    put_held(rows, row, core, holds);
+    let cells = core.netlist().cells();
+    put_needed(rows, row, tracing, cells, number_of(inputs.len()));
     Ok(())
 }
 
-/// A row for each of up to 64 patterns to which a fault is left, from a place on.
-fn push_part(
+/// A row for each pattern of these lanes to which a fault is left.
+fn push_lanes(
     rows: &mut Rows,
-    tracing: &mut Tracing,
+    tracing: &mut Tracing<'_>,
     core: &Core,
-    holds: &Holds,
     by_place: &Sorted,
-    start: u32,
-    count: u32,
-) -> Result<(), AllocError>
-    requires { AreHoldsOf core.now holds.now }
-{
-    for lane in 0..count {
-        let (first, end) = by_place.of_key(start.wrapping_add(lane));
-        if first < end {
+    lanes: Lanes,
+) -> Result<(), AllocError> {
+    for lane in 0..lanes.count {
+        if by_place.has_key(lanes.place(lane)) {
             tracing.worlds.look_at(lane);
-            push_needed(rows, tracing, core, holds)?;
+            push_needed(rows, tracing, core)?;
         }
     }
     Ok(())
 }
 
+/// A worker's room for tracing, the rows of its own patterns, and whether memory was refused to it.
+#[derive(Drop)]
+pub(crate) struct Part<'a> {
+    tracing: Tracing<'a>,
+    rows: Rows,
+    is_refused: bool,
+}
+
+/// The room of so many workers, for patterns of so many places.
+pub(crate) fn parts_of<'a>(
+    alloc: Global,
+    whole: &'a Whole,
+    places: u32,
+    workers: u32,
+) -> Result<Vec<Part<'a>>, AllocError> {
+    let mut parts = Vec::new(alloc);
+    for _worker in 0..workers {
+        parts.push(Part {
+            tracing: Tracing::new(alloc, whole)?,
+            rows: Rows::new(alloc, places),
+            is_refused: false,
+        })?;
+    }
+    Ok(parts)
+}
+
+/// The next lanes of a part, behind so many words of it.
+fn lanes_of(patterns: usize, number: u32, step: u32, word: u32) -> Lanes {
+    let first = number.wrapping_add(word.wrapping_mul(64).wrapping_mul(step));
+    let left = number_of(patterns).saturating_sub(first);
+    Lanes {
+        first,
+        step,
+        count: left.div_ceil(step.max(1)).min(64),
+    }
+}
+
+/// Rows for the patterns of a part.
+fn relax_lanes(
+    core: &Core,
+    told: &Told<'_>,
+    by_place: &Sorted,
+    patterns: &[Pattern],
+    number: u32,
+    step: u32,
+    part: &mut Part<'_>,
+) -> Result<(), AllocError> {
+    for word in 0..number_of(patterns.len()) {
+        let lanes = lanes_of(patterns.len(), number, step, word);
+        if lanes.count == 0 {
+            break;
+        }
+        need_lanes(&mut part.tracing, core, told, by_place, patterns, lanes)?;
+        push_lanes(&mut part.rows, &mut part.tracing, core, by_place, lanes)?;
+    }
+    Ok(())
+}
+
+/// The part of so many with this number: every so-many-th pattern is its own.
+fn relax_part(
+    core: &Core,
+    told: &Told<'_>,
+    by_place: &Sorted,
+    patterns: &[Pattern],
+    number: u32,
+    step: u32,
+    part: &mut Part<'_>,
+) {
+    part.rows.clear();
+    part.is_refused = relax_lanes(core, told, by_place, patterns, number, step, part).is_err();
+}
+
+/// Each part does its own, beside the others. Of few faults the first does all.
+fn relax_parts<R: Threads + Sync>(
+    rt: &R,
+    core: &Core,
+    told: &Told<'_>,
+    by_place: &Sorted,
+    patterns: &[Pattern],
+    parts: &mut [Part<'_>],
+) -> u32 {
+    if parts.len() < 2 || told.faults.len() < FEWEST {
+        if let Some(part) = parts.first_mut() {
+            relax_part(core, told, by_place, patterns, 0, 1, part);
+        }
+        return 1;
+    }
+    let workers = parts.len();
+    let step = number_of(workers);
+    let work = move |number: usize, part: &mut Part<'_>| {
+        let number = number_of(number);
+        relax_part(core, told, by_place, patterns, number, step, part)
+    };
+    thread::for_each_mut(rt, parts, workers, &work);
+    step
+}
+
+/// Takes the next row of a part.
+fn take_row(
+    rows: &mut Rows,
+    parts: &[Part<'_>],
+    nexts: &mut Vec<u32>,
+    number: u32,
+) -> Result<(), AllocError> {
+    let Some(part) = parts.get(number as usize) else {
+        return Ok(());
+    };
+    let next = at(nexts, number);
+    let row = rows.count();
+    rows.push()?;
+    rows.join(row, &part.rows, next);
+    put(nexts, number, next.wrapping_add(1));
+    Ok(())
+}
+
+/// The rows of all parts, in the order of the patterns.
+fn gathered(
+    alloc: Global,
+    by_place: &Sorted,
+    patterns: u32,
+    places: u32,
+    parts: &[Part<'_>],
+    step: u32,
+) -> Result<Rows, AllocError> {
+    let mut nexts = Vec::new(alloc);
+    fill(&mut nexts, step, 0)?;
+    let mut rows = Rows::new(alloc, places);
+    for place in 0..patterns {
+        if by_place.has_key(place) {
+            take_row(&mut rows, parts, &mut nexts, place % step.max(1))?;
+        }
+    }
+    Ok(rows)
+}
+
+/// Whether memory was refused to a part.
+fn is_refused(parts: &[Part<'_>]) -> bool {
+    parts.iter().any(|part| part.is_refused)
+}
+
 /// A row for each pattern to which a fault is left: the bits that such faults need, and those that are held.
-pub(crate) fn relaxed(
+pub(crate) fn relaxed<R: Threads + Sync>(
+    rt: &R,
     alloc: Global,
     core: &Core,
     holds: &Holds,
-    tracing: &mut Tracing,
+    parts: &mut [Part<'_>],
     told: &Told<'_>,
     patterns: &[Pattern],
     places: u32,
-) -> Result<Rows, AllocError>
+) -> Result<Rows, NoMemory>
     requires { AreHoldsOf core.now holds.now }
 {
     let left_to = places_of(alloc, told)?;
     let mut by_place = Sorted::new(alloc);
     by_place.sort(&left_to, number_of(patterns.len()))?;
-    let mut rows = Rows::new(alloc, places);
-    for (number, part) in patterns.chunks(64).enumerate() {
-        let start = number_of(number).wrapping_mul(64);
-        need_part(tracing, core, told, &by_place, start, part)?;
-        push_part(
-            &mut rows,
-            tracing,
-            core,
-            holds,
-            &by_place,
-            start,
-            number_of(part.len()),
-        )?;
+    let step = relax_parts(rt, core, told, &by_place, patterns, parts);
+    if is_refused(parts) {
+        return Err(NoMemory);
+    }
+    let mut rows = gathered(
+        alloc,
+        &by_place,
+        number_of(patterns.len()),
+        places,
+        parts,
+        step,
+    )?;
+    for row in 0..rows.count() {
+        put_held(&mut rows, row, core, holds);
     }
     Ok(rows)
 }

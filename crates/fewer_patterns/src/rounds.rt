@@ -15,11 +15,10 @@ use crate::arranging::order_of;
 use crate::filling::filled;
 use crate::fronts::{Front, Made, ToldPatterns, is_told, needed, parted, tail_of, with_tail};
 use crate::merging::merged;
-use crate::relaxing::{Told, relaxed};
+use crate::relaxing::{Part, Told, parts_of, relaxed};
 use crate::rows::Rows;
-use crate::tracing::Tracing;
 use cubes::Pattern;
-use flat_netlist::number_of;
+use flat_netlist::{Whole, number_of};
 use netlist::{Core, Fault, Holds, NoMemory, Point};
 use rand_core::Rng;
 use rand_pcg::Lcg64Xsh32;
@@ -137,17 +136,24 @@ fn after(course: Course, found: Option<Made>, is_over: bool) -> Course
     }
 }
 
+/// How many bits a pattern has.
+fn places_of(core: &Core) -> u32 {
+    let netlist = core.netlist();
+    number_of(netlist.inputs().len()).wrapping_add(number_of(netlist.cells().len()))
+}
+
 /// The patterns relaxed, merged and filled, in an order of the round; and whether that left them dense.
-fn tried_from<N: Rng>(
+fn tried_from<N: Rng, R: Threads + Sync>(
+    rt: &R,
     alloc: Global,
     core: &Core,
     holds: &Holds,
     faults: &[Fault],
-    tracing: &mut Tracing,
+    parts: &mut [Part<'_>],
     from: &Made,
     round: u32,
     rng: &mut N,
-) -> Result<(Vec<Pattern>, bool), AllocError>
+) -> Result<(Vec<Pattern>, bool), NoMemory>
     requires { AreHoldsOf core.now holds.now }
 {
     let told = Told {
@@ -156,8 +162,8 @@ fn tried_from<N: Rng>(
     };
     let inputs = number_of(core.netlist().inputs().len());
     let cells = number_of(core.netlist().cells().len());
-    let places = inputs.wrapping_add(cells);
-    let rows = relaxed(alloc, core, holds, tracing, &told, &from.patterns, places)?;
+    let places = places_of(core);
+    let rows = relaxed(rt, alloc, core, holds, parts, &told, &from.patterns, places)?;
     let is_dense = is_dense(&rows, places);
     let rows = merged(alloc, &rows, places)?;
     let order = order_of(alloc, rows.count(), round, rng)?;
@@ -183,7 +189,9 @@ fn improved<R: Threads + Sync>(
     ensures { IfOk result (λ made. AreEnough core.now holds.now faults.now (length first.patterns.items) made.patterns.items made.last.items) }
 {
     let most = first.patterns.len();
-    let mut tracing = Tracing::new(alloc, core)?;
+    let mut whole = Whole::new(alloc);
+    whole.begin(alloc, core)?;
+    let mut parts = parts_of(alloc, &whole, places_of(core), rounds.workers)?;
     let mut rng = Lcg64Xsh32::new(rounds.seed, STREAM);
     let mut course = Course {
         best: first,
@@ -195,11 +203,12 @@ fn improved<R: Threads + Sync>(
             break;
         }
         let (tried, is_dense) = tried_from(
+            rt,
             alloc,
             core,
             holds,
             faults,
-            &mut tracing,
+            &mut parts,
             course.from(),
             round,
             &mut rng,

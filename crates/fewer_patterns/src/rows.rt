@@ -20,6 +20,12 @@ impl Rows {
         }
     }
 
+    /// No row again.
+    pub(crate) fn clear(&mut self) {
+        self.set.clear();
+        self.ones.clear();
+    }
+
     pub(crate) fn count(&self) -> u32 {
         if self.words == 0 {
             return 0;

@@ -5,17 +5,17 @@
 //! A fault comes to the head of its fanout-free region where all other pins on its way are followed; from there on it is the same for all faults of
 //! the region: the head's bit is turned once a pattern, and traced back in both worlds from the first point that sees it. In the world where it is
 //! turned, what stands before the head in the order of evaluation is as it was.
-use crate::worlds::Worlds;
+use crate::worlds::{Lanes, Worlds};
 use cubes::Pattern;
 use flat_netlist::{
-    NONE, Shape, byte_at, clear_words, driver, fill_bytes, put_byte, put_word, word_at,
+    NONE, Shape, Whole, byte_at, clear_words, driver, fill_bytes, put_byte, put_word, word_at,
 };
 use netlist::{Core, Line, SignalId};
 use std::alloc::{AllocError, Global};
 
 #[derive(Drop)]
-pub(crate) struct Tracing {
-    pub worlds: Worlds,
+pub(crate) struct Tracing<'a> {
+    pub worlds: Worlds<'a>,
     /// By signal, under which patterns its bit is followed.
     followed: Vec<u64>,
     /// By signal, under which patterns a difference comes from it to the head of its region.
@@ -25,9 +25,9 @@ pub(crate) struct Tracing {
     touched: Vec<u32>,
 }
 
-impl Tracing {
-    pub(crate) fn new(alloc: Global, core: &Core) -> Result<Tracing, AllocError> {
-        let worlds = Worlds::new(alloc, core)?;
+impl<'a> Tracing<'a> {
+    pub(crate) fn new(alloc: Global, whole: &'a Whole) -> Result<Tracing<'a>, AllocError> {
+        let worlds = Worlds::new(alloc, whole)?;
         let mut turned = Vec::new(alloc);
         fill_bytes(&mut turned, worlds.whole.count(), 0)?;
         Ok(Tracing {
@@ -39,9 +39,14 @@ impl Tracing {
         })
     }
 
-    /// Begins with up to 64 patterns, of which no bit is needed yet.
-    pub(crate) fn begin(&mut self, core: &Core, patterns: &[Pattern]) -> Result<(), AllocError> {
-        self.worlds.settle(core, patterns)?;
+    /// Begins with the patterns of these lanes, of which no bit is needed yet.
+    pub(crate) fn begin(
+        &mut self,
+        core: &Core,
+        patterns: &[Pattern],
+        lanes: Lanes,
+    ) -> Result<(), AllocError> {
+        self.worlds.settle(core, patterns, lanes)?;
         clear_words(&mut self.open, self.worlds.whole.count())?;
         clear_words(&mut self.followed, self.worlds.whole.count())
     }

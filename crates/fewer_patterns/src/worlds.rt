@@ -40,10 +40,25 @@ fn word_of(graph: &Graph, words: &[u64], gate: u32) -> u64 {
     }
 }
 
+/// Which patterns the lanes of a word have: every so-many-th, from a place on.
+#[derive(Clone, Copy)]
+pub(crate) struct Lanes {
+    pub first: u32,
+    pub step: u32,
+    pub count: u32,
+}
+
+impl Lanes {
+    /// The place of the pattern in a lane.
+    pub(crate) fn place(&self, lane: u32) -> u32 {
+        self.first.wrapping_add(self.step.wrapping_mul(lane))
+    }
+}
+
 /// By signal its bits under up to 64 patterns, of which one is looked at.
 #[derive(Drop)]
-pub(crate) struct Worlds {
-    pub whole: Whole,
+pub(crate) struct Worlds<'a> {
+    pub whole: &'a Whole,
     words: Vec<u64>,
     /// The place of the pattern that is looked at.
     lane: u32,
@@ -54,10 +69,8 @@ pub(crate) struct Worlds {
     pub waiting: Waiting,
 }
 
-impl Worlds {
-    pub(crate) fn new(alloc: Global, core: &Core) -> Result<Worlds, AllocError> {
-        let mut whole = Whole::new(alloc);
-        whole.begin(alloc, core)?;
+impl<'a> Worlds<'a> {
+    pub(crate) fn new(alloc: Global, whole: &'a Whole) -> Result<Worlds<'a>, AllocError> {
         let mut waiting = Waiting::new(alloc);
         waiting.begin(whole.place_count())?;
         let mut turned = Vec::new(alloc);
@@ -121,18 +134,25 @@ impl Worlds {
         }
     }
 
-    fn take_all(&mut self, core: &Core, patterns: &[Pattern]) {
-        for (lane, pattern) in (0u32..64).zip(patterns.iter()) {
-            self.look_at(lane);
-            self.take(core.netlist().inputs(), pattern.inputs());
-            self.take(core.netlist().cells(), pattern.cells());
+    fn take_all(&mut self, core: &Core, patterns: &[Pattern], lanes: Lanes) {
+        for lane in 0..lanes.count {
+            if let Some(pattern) = patterns.get(lanes.place(lane) as usize) {
+                self.look_at(lane);
+                self.take(core.netlist().inputs(), pattern.inputs());
+                self.take(core.netlist().cells(), pattern.cells());
+            }
         }
     }
 
-    /// Settles the netlist under up to 64 patterns.
-    pub(crate) fn settle(&mut self, core: &Core, patterns: &[Pattern]) -> Result<(), AllocError> {
+    /// Settles the netlist under the patterns of these lanes.
+    pub(crate) fn settle(
+        &mut self,
+        core: &Core,
+        patterns: &[Pattern],
+        lanes: Lanes,
+    ) -> Result<(), AllocError> {
         clear_words(&mut self.words, self.whole.count())?;
-        self.take_all(core, patterns);
+        self.take_all(core, patterns, lanes);
         for place in 1..self.whole.place_count() {
             let gate = self.whole.gate_at(place);
             let word = word_of(&self.whole.graph, &self.words, gate);
