@@ -19,7 +19,7 @@ import zlib
 HERE = pathlib.Path(__file__).resolve().parent
 ROOT = HERE.parents[1]
 SOURCES = HERE / "timings"
-LINE = "timings: case_nets netlist fault_universe fault_collapse redundancy_cert evidence podem fan cubes events word_sim rand_core rand_pcg\n"
+LINE = "timings: statement case_nets netlist fault_universe fault_collapse redundancy_cert evidence podem fan cubes events word_sim rand_core rand_pcg\n"
 TREE = pathlib.Path(tempfile.gettempdir()) / f"atpg-timings-{os.getuid()}-{zlib.crc32(str(ROOT).encode()):08x}"
 CRATE = TREE / "crates" / "timings"
 PROGRAM = CRATE / "out" / "timings"
