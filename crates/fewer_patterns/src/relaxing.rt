@@ -197,6 +197,11 @@ pub(crate) struct Part<'a> {
     is_refused: bool,
 }
 
+/// How many workers relax so many patterns: each traces 64 of them at once, and fewer take it as long.
+pub(crate) fn sharing(workers: u32, patterns: usize) -> u32 {
+    workers.min(number_of(patterns.div_ceil(64)))
+}
+
 /// The room of so many workers, for patterns of so many places.
 pub(crate) fn parts_of<'a>(
     alloc: Global,

@@ -15,7 +15,7 @@ use crate::arranging::order_of;
 use crate::filling::filled;
 use crate::fronts::{Front, Made, ToldPatterns, is_told, needed, parted, tail_of, with_tail};
 use crate::merging::merged;
-use crate::relaxing::{Part, Told, parts_of, relaxed};
+use crate::relaxing::{Part, Told, parts_of, relaxed, sharing};
 use crate::rows::Rows;
 use cubes::Pattern;
 use flat_netlist::{Whole, number_of};
@@ -191,7 +191,8 @@ fn improved<R: Threads + Sync>(
     let most = first.patterns.len();
     let mut whole = Whole::new(alloc);
     whole.begin(alloc, core)?;
-    let mut parts = parts_of(alloc, &whole, places_of(core), rounds.workers)?;
+    let workers = sharing(rounds.workers, most);
+    let mut parts = parts_of(alloc, &whole, places_of(core), workers)?;
     let mut rng = Lcg64Xsh32::new(rounds.seed, STREAM);
     let mut course = Course {
         best: first,
