@@ -217,12 +217,12 @@ def wide_and():
     return text + f"low = AND({', '.join(inputs[:100])})\nhigh = AND({', '.join(inputs[100:])})\ny = AND(low, high)\n"
 
 
-def adder():
-    """An adder of 200 bits, in which thousands of faults are left to some tens of patterns: what they need is traced by several workers."""
-    text = "INPUT(c0)\nOUTPUT(c200)\n"
-    for k in range(200):
-        text += f"INPUT(a{k})\nINPUT(b{k})\nOUTPUT(s{k})\nx{k} = XOR(a{k}, b{k})\ns{k} = XOR(x{k}, c{k})\n"
-        text += f"g{k} = AND(a{k}, b{k})\np{k} = AND(x{k}, c{k})\nc{k + 1} = OR(g{k}, p{k})\n"
+def shared_ands():
+    """Sixteen gates of 150 of 166 inputs: some 150 patterns, more than a word has, to which more than 512 faults are left, so that what these need is traced by
+    several workers."""
+    text = "".join(f"INPUT(i{k})\n" for k in range(166)) + "".join(f"OUTPUT(y{k})\n" for k in range(16))
+    for k in range(16):
+        text += f"y{k} = {('AND', 'NAND', 'OR', 'NOR')[k % 4]}({', '.join(f'i{pin}' for pin in range(k, k + 150))})\n"
     return text
 
 
@@ -232,7 +232,7 @@ def test_program_makes_the_same_files_by_any_number_of_workers():
         return NO_PROGRAM
     with tempfile.TemporaryDirectory() as room:
         folder = pathlib.Path(room)
-        for name, text in (("and", wide_and()), ("adder", adder())):
+        for name, text in (("and", wide_and()), ("ands", shared_ands())):
             (folder / f"{name}.bench").write_text(text)
             for ways in ([], ["--engine", "fan", "--compact", "0"], ["--coverage", "60", "--limit", "1"]):
                 whole = run_program(folder, f"{name}.bench", "p", *ways)
