@@ -6,7 +6,8 @@
 //! simulation says that they detect as much. That simulation also says to which of them each fault is left in the next round, so a round costs one,
 //! over the faults that some pattern detects. Tracing is shared: what is followed goes back to inputs and cells for 64 patterns at once, and the way
 //! of a difference from the head of a fanout-free region on once a pattern for all faults of the region. Where over nine tenths of the bits are
-//! needed a round is the last. The workers deal the patterns among them; what one needs rests on no other, though 64 are traced together. The last
+//! needed a round is the last. The workers deal the patterns among them, no more workers than there are words of 64 patterns: what one needs rests on
+//! no other, though 64 are traced together, and where fewer go together the tracing shares less than a second processor gains. The last
 //! few patterns, which detect seven tenths of what is detected, need most of their bits and cost most: they stay as they are, and the rounds go over
 //! those before and the faults that are left to these. Where there are few patterns these would be most, so there all are relaxed. To choose among
 //! the given patterns alone (a cover) costs a table of all that each pattern detects, and leaves a seventh more of them.
