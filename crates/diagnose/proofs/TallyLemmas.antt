@@ -21,22 +21,22 @@ pub tally_none : (counts : Counting) (s : Netlist) (suspects : List Fault) (cycl
 tally_none counts s [] cycles numbers e = subst (λ xs. AreCounted counts s [] cycles xs) (sym e) tt
 tally_none counts s (f ∷ fs) cycles numbers e = subst (λ xs. AreCounted counts s [] cycles xs) (sym e) tt
 
--- a batch of 64, or the last suspects
-pub tally_more : (counts : Counting) (s : Netlist) (suspects : List Fault) (cycles : List Cycle) (start count : ℕ) (old more new : List ℕ) → (count ≡ 64) ⊎ ((count < 64) × (start + count ≡ length suspects))
+-- a batch of 128, or the last suspects
+pub tally_more : (counts : Counting) (s : Netlist) (suspects : List Fault) (cycles : List Cycle) (start count : ℕ) (old more new : List ℕ) → (count ≡ 128) ⊎ ((count < 128) × (start + count ≡ length suspects))
     → AreCounted counts s (take start suspects) cycles old → AreCounted counts s (take (start + count - start) (drop start suspects)) cycles more → new ≡ old ++ more
-    → AreCounted counts s (take (start + 64) suspects) cycles new
+    → AreCounted counts s (take (start + 128) suspects) cycles new
 tally_more counts s suspects cycles start count old more new whole before batch is =
     let e : start + count - start ≡ count = omega arith in
     let own : AreCounted counts s (take count (drop start suspects)) cycles more = subst (λ k. AreCounted counts s (take k (drop start suspects)) cycles more) e batch in
-    let same : take count (drop start suspects) ≡ take 64 (drop start suspects) = elim whole [
+    let same : take count (drop start suspects) ≡ take 128 (drop start suspects) = elim whole [
       | inl full ↦ ap (λ k. take k (drop start suspects)) full
       | inr last ↦
           let size = length-drop start suspects in
           let one = last.0 in
           let two = last.1 in
-          take_all count (drop start suspects) (omega arith) ∙ sym (take_all 64 (drop start suspects) (omega arith))
+          take_all count (drop start suspects) (omega arith) ∙ sym (take_all 128 (drop start suspects) (omega arith))
     ] in
-    subst (λ fs. AreCounted counts s fs cycles new) (sym (take_plus start 64 suspects ∙ ap (λ fs. take start suspects ++ fs) (sym same)))
+    subst (λ fs. AreCounted counts s fs cycles new) (sym (take_plus start 128 suspects ∙ ap (λ fs. take start suspects ++ fs) (sym same)))
     (subst (λ xs. AreCounted counts s (take start suspects ++ take count (drop start suspects)) cycles xs) (sym is)
     (zip_append (λ f number. IsCounted counts s (Some f) cycles number) (take start suspects) (take count (drop start suspects)) old more before own))
 

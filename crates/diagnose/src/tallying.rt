@@ -1,4 +1,4 @@
-//! How many strobes of each class contradict a log, in batches of 64.
+//! How many strobes of each class contradict a log, in batches of 128.
 ghost use Rattle.std.specs.Prelude.{◌≡◌, ◌^◌, ◌<◌, ◌+◌, ◌*◌, IfOk, length, take};
 ghost use Rattle.std.specs.List.{All};
 ghost use Rattle.scan_play.specs.Cycles.{IsCycleOf};
@@ -13,7 +13,7 @@ use outside::{Gate, Stage};
 use scan_play::Vectors;
 use std::alloc::Global;
 
-/// Plays the 64 suspects from one on, or as many as there are, to the end, and adds their counts.
+/// Plays the 128 suspects from one on, or as many as there are, to the end, and adds their counts.
 fn tally_batch(
     alloc: Global,
     core: &Core,
@@ -27,10 +27,10 @@ fn tally_batch(
     requires fits { All (IsCycleOf core.now) vectors.now }
     requires few { length vectors.now < 2 ^ 64 }
     requires old { AreTallies (mark_at marks.now.rows marks.now.width marks.now.table.items) core.now vectors.now (take start suspects.now) tallies.one.items tallies.other.items }
-    ensures { IfOk result (λ t. AreTallies (mark_at marks.now.rows marks.now.width marks.now.table.items) core.now vectors.now (take (start + 64) suspects.now) t.one.items t.other.items) }
+    ensures { IfOk result (λ t. AreTallies (mark_at marks.now.rows marks.now.width marks.now.table.items) core.now vectors.now (take (start + 128) suspects.now) t.one.items t.other.items) }
 {
     let left = suspects.len() - start;
-    let count = if left < 64 { left } else { 64 };
+    let count = if left < 128 { left } else { 128 };
     let batch = &suspects[start..start + count];
     let counts = count_lanes(alloc, core, batch, vectors, &Against { marks })?;
     let Counts { mut one, mut other } = tallies;
@@ -42,7 +42,7 @@ fn tally_batch(
 /// What is passed once so many suspects more were played. None of them ends before the others.
 fn tallied(left: usize) -> Stage {
     Stage::Answered {
-        count: left.min(64) as u64,
+        count: left.min(128) as u64,
         detected: 0,
     }
 }
@@ -64,8 +64,8 @@ pub(crate) fn tallies<G: Gate>(
         one: Vec::new(alloc),
         other: Vec::new(alloc),
     };
-    for batch in 0..suspects.len().div_ceil(64) {
-        let start = batch * 64;
+    for batch in 0..suspects.len().div_ceil(128) {
+        let start = batch * 128;
         tallies = tally_batch(alloc, core, suspects, vectors, marks, start, tallies)?;
         stage.at(0, tallied(suspects.len() - start));
     }

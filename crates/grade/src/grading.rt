@@ -1,4 +1,4 @@
-//! Lines, graded in batches of 512: 64 are played side by side, and those that are left are packed together anew.
+//! Lines, graded in batches of 512: 128 are played side by side, and those that are left are packed together anew.
 //!
 //! A play ends once each line of the batch met a strobe that isn't known and equal. That tells of all lines but of those at which X was shown there: for
 //! their sake the batch is played again, by a judge who passes over what isn't known.

@@ -1,6 +1,6 @@
 //! Grading a test: which stuck lines of a design the cycles of a STIL file detect.
 //!
-//! Where the file is the test of some patterns, the lines are graded by these, 64 a word; else each is played in three values, 64 side by side.
+//! Where the file is the test of some patterns, the lines are graded by these, 64 a word; else each is played in three values, 128 side by side.
 //!
 //! Gives: `Grade`, `grades`.
 //! Proved: `grades`: of each stuck line exactly whether the other bit is known to be shown at some strobe, and where first, or each strobe is known to be

@@ -151,7 +151,7 @@ module _ (counts : Counting) (f : Option Fault) (n : Netlist) where
 -- ---- machines
 
 -- a machine's step shows what counts as much as its own player does
-own_step : (counts : Counting) → IsBlind counts → (faults : List Fault) (n : Netlist) (state after row : List Lanes) (cycle : Cycle) (number k : ℕ) → k < 64 → AreSteps faults n state after cycle number row
+own_step : (counts : Counting) → IsBlind counts → (faults : List Fault) (n : Netlist) (state after row : List Lanes) (cycle : Cycle) (number k : ℕ) → k < 128 → AreSteps faults n state after cycle number row
     → (shown next : List Tri) → Ticks tri_table (slice_get faults k) n (lanes k state) cycle shown next
     → (counted_in counts number 0 cycle.strobe shown ≡ counted_in counts number 0 cycle.strobe (lanes k row)) × (next ≡ lanes k after)
 own_step counts blind faults n state after row cycle number k low steps shown next tick = (
@@ -159,13 +159,13 @@ own_step counts blind faults n state after row cycle number k low steps shown ne
   ((steps k (only counts 0) low (only_open counts blind 0)).outcome shown next tick).1,
 )
 
-pub counts_keep : (counts : Counting) → IsBlind counts → (number : ℕ) (strobes : List Tri) (row : List Lanes) (old new : List ℕ) → length new ≤ 64 → AreMoreIn counts number strobes row old new
+pub counts_keep : (counts : Counting) → IsBlind counts → (number : ℕ) (strobes : List Tri) (row : List Lanes) (old new : List ℕ) → length new ≤ 128 → AreMoreIn counts number strobes row old new
     → KeepsOn (λ faults n cycles state. AreCountedOn counts faults n cycles state old) (λ faults n cycles state. AreCountedOn counts faults n cycles state new) number strobes row
 counts_keep counts blind number strobes row old new few more = λ faults n before state after cycle at same steps h. record {
   size = more.size ∙ h.size;
   each = λ k l.
       let inside : k < length old = (let e = h.size in omega (arith, l)) in
-      let low : k < 64 = (let e = more.size in omega (arith, inside, few)) in
+      let low : k < 128 = (let e = more.size in omega (arith, inside, few)) in
       let many : ℕ = counted_in counts number 0 cycle.strobe (lanes k row) in
       let is : number_at new k ≡ number_at old k + many = more.each k inside ∙ ap (λ ss. number_at old k + counted_in counts number 0 ss (lanes k row)) (sym same) in
       let start : List Tri = replicate (length (cells n)) X in
@@ -179,12 +179,12 @@ zero_at zero k = refl
 zero_at (suc count) zero = refl
 zero_at (suc count) (suc k) = zero_at count k
 
-pub counts_begin : (counts : Counting) (faults : List Fault) (n : Netlist) (state : List Lanes) (numbers : List ℕ) → length faults ≤ 64 → state ≡ replicate (length (cells n)) (record { known = 0; value = 0 })
+pub counts_begin : (counts : Counting) (faults : List Fault) (n : Netlist) (state : List Lanes) (numbers : List ℕ) → length faults ≤ 128 → state ≡ replicate (length (cells n)) (record { known = 0; value = 0 })
     → numbers ≡ replicate (length faults) 0 → AreCountedOn counts faults n [] state numbers
 counts_begin counts faults n state numbers few s e = record {
   size = ap length e ∙ length-replicate (length faults) 0;
   each = λ k l.
-      let low : k < 64 = omega (arith, l, few) in
+      let low : k < 128 = omega (arith, l, few) in
       let start : List Tri = replicate (length (cells n)) X in
       let is : lanes k state ≡ start = ap (lanes k) s ∙ lanes_unknown k low (length (cells n)) in
       subst (λ m. CountsOn counts (slice_get faults k) n [] start (lanes k state) m) (sym (ap (λ xs. number_at xs k) e ∙ zero_at (length faults) k))
@@ -216,10 +216,10 @@ counted_all counts faults n cycles state numbers sound fits h =
 -- ---- a strobe
 
 -- what is added where nothing counts
-pub none_more : (counts : Tri → Bool) (shown : Lanes) (numbers : List ℕ) → length numbers ≤ 64 → ((k : ℕ) → k < 64 → counts (lane k shown) ≡ false) → AreMore counts shown numbers numbers
+pub none_more : (counts : Tri → Bool) (shown : Lanes) (numbers : List ℕ) → length numbers ≤ 128 → ((k : ℕ) → k < 128 → counts (lane k shown) ≡ false) → AreMore counts shown numbers numbers
 none_more counts shown numbers few h = record { size = refl; each = λ k l. let e : one_if (counts (lane k shown)) ≡ 0 = ap one_if (h k (omega (arith, l, few))) in omega (arith, e) }
 
-pub word_more : (counts : Tri → Bool) (shown : Lanes) (word : ℕ) (old new : List ℕ) → length old ≤ 64 → ((k : ℕ) → k < 64 → bit_of k word ≡ counts (lane k shown)) → length new ≡ length old
+pub word_more : (counts : Tri → Bool) (shown : Lanes) (word : ℕ) (old new : List ℕ) → length old ≤ 128 → ((k : ℕ) → k < 128 → bit_of k word ≡ counts (lane k shown)) → length new ≡ length old
     → ((k : ℕ) → k < length old → number_at new k ≡ number_at old k + one_if (bit_of k word)) → AreMore counts shown old new
 word_more counts shown word old new few h size each = record { size = size; each = λ k l. each k l ∙ ap (λ b. number_at old k + one_if b) (h k (omega (arith, l, few))) }
 
@@ -228,15 +228,15 @@ said_open None = refl
 said_open (Some p) = refl
 
 -- the machines of which something is said at a place of this side
-pub told_side : (say : Tri → Option Played) (b : Bool) (shown : Lanes) (told : ℕ) → b ≡ true → ((k : ℕ) → k < 64 → bit_of k told ≡ not (is_open (say (lane k shown))))
-    → (k : ℕ) → k < 64 → bit_of k told ≡ (b && is_said (say (lane k shown)))
+pub told_side : (say : Tri → Option Played) (b : Bool) (shown : Lanes) (told : ℕ) → b ≡ true → ((k : ℕ) → k < 128 → bit_of k told ≡ not (is_open (say (lane k shown))))
+    → (k : ℕ) → k < 128 → bit_of k told ≡ (b && is_said (say (lane k shown)))
 told_side say b shown told is h k low = h k low ∙ (said_open (say (lane k shown)) ∙ sym (ap (λ x. x && is_said (say (lane k shown))) is))
 
-pub off_side : (say : Tri → Option Played) (b : Bool) (shown : Lanes) → b ≡ false → (k : ℕ) → k < 64 → (b && is_said (say (lane k shown))) ≡ false
+pub off_side : (say : Tri → Option Played) (b : Bool) (shown : Lanes) → b ≡ false → (k : ℕ) → k < 128 → (b && is_said (say (lane k shown))) ≡ false
 off_side say b shown is k low = ap (λ x. x && is_said (say (lane k shown))) is
 
-pub untold_side : (say : Tri → Option Played) (b : Bool) (shown : Lanes) (told : ℕ) → told ≡ 0 → ((k : ℕ) → k < 64 → bit_of k told ≡ not (is_open (say (lane k shown))))
-    → (k : ℕ) → k < 64 → (b && is_said (say (lane k shown))) ≡ false
+pub untold_side : (say : Tri → Option Played) (b : Bool) (shown : Lanes) (told : ℕ) → told ≡ 0 → ((k : ℕ) → k < 128 → bit_of k told ≡ not (is_open (say (lane k shown))))
+    → (k : ℕ) → k < 128 → (b && is_said (say (lane k shown))) ≡ false
 untold_side say b shown told none h k low =
     let said : is_said (say (lane k shown)) ≡ false = sym (said_open (say (lane k shown))) ∙ (sym (h k low) ∙ (ap (bit_of k) none ∙ bit_none k low)) in
     ap (λ x. b && x) said ∙ and_false b

@@ -1,6 +1,6 @@
--- One machine of 64 side by side: lines and gates do to each what they do to three values.
+-- One machine of 128 side by side: lines and gates do to each what they do to three values.
 use Rattle.std.proofs.Common.{◌≡◌, ◌≢◌, ℕ, suc, zero, ◌+◌, ◌<◌, ◌≤◌, Bool, true, false, not, ◌&&◌, ◌||◌, cond, if◌then◌else◌, List, [], ◌∷◌, ◌++◌, map, length, refl, sym, ◌∙◌, ap, eqb, arith, bit_and, bit_or, bit_xor}
-use Rattle.std.specs.Int.{bit_at, bit_not, w64}
+use Rattle.std.specs.Int.{bit_at, bit_not, w128}
 use Rattle.std.specs.List.{slice_get, list_any, flat_map}
 use Rattle.std.proofs.lemmas.Bool.{eq-eqb, ne_eqb}
 use Rattle.std.proofs.lemmas.List.{map-append}
@@ -18,10 +18,10 @@ use Rattle.netlist.specs.ThreeValues.{complement, is_zero, is_one, is_x}
 use Rattle.netlist.proofs.Lists.{map_map}
 use Rattle.tri.specs.Gates.{conjunction_tri, disjunction_tri, parity_tri, only_tri, gate_tri}
 use Rattle.tri.specs.Settled.{tris}
-use Rattle.events.specs.Words.{bit_of, ones}
+use Rattle.events.specs.Words.{bit_of}
 use Rattle.events.proofs.WordBits.{bit_of_and, bit_of_or, bit_of_xor, image_settles}
 use Rattle.lane_play.specs.declared.packed.Lanes.{Lanes}
-use Rattle.lane_play.specs.inner.Lanes.{lane, lanes, always, both, either, unequal, opposite, all_of, some_of, odd_of, only_of, gate_lanes, one_at, with_lane, forced_from, lanes_rule}
+use Rattle.lane_play.specs.inner.Lanes.{lane, lanes, ones, always, both, either, unequal, opposite, all_of, some_of, odd_of, only_of, gate_lanes, one_at, with_lane, forced_from, lanes_rule}
 
 -- ---- two values
 
@@ -120,9 +120,9 @@ flip false = refl
 
 -- ---- one machine
 
-module _ (j : ℕ) (low : j < 64) where
+module _ (j : ℕ) (low : j < 128) where
   pub bit_ones : bit_of j ones ≡ true
-  bit_ones = eq-eqb (bit_at ones j) 1 (bit_at_ones 64 j low)
+  bit_ones = eq-eqb (bit_at ones j) 1 (bit_at_ones 128 j low)
 
   pub bit_none : bit_of j 0 ≡ false
   bit_none = ne_eqb (bit_at 0 j) 1 (λ o. let z = bit_at-zero j in omega arith)
@@ -209,25 +209,25 @@ module _ (j : ℕ) (low : j < 64) where
   -- ---- stuck lines
 
   set_bit : (w : ℕ) → bit_of j (bit_or w (one_at j)) ≡ true
-  set_bit w = eq-eqb (bit_at (bit_or w (one_at j)) j) 1 (bit_at_set_same w64 w j low)
+  set_bit w = eq-eqb (bit_at (bit_or w (one_at j)) j) 1 (bit_at_set_same w128 w j low)
 
-  clear_bit : (w : ℕ) → bit_of j (bit_and w (bit_not w64 (one_at j))) ≡ false
-  clear_bit w = ne_eqb (bit_at (bit_and w (bit_not w64 (one_at j))) j) 1 (λ o. let z : bit_at (bit_and w (bit_not w64 (one_at j))) j ≡ 0 = bit_at_clear_same w64 w j low in let o' : bit_at (bit_and w (bit_not w64 (one_at j))) j ≡ 1 = o in omega arith)
+  clear_bit : (w : ℕ) → bit_of j (bit_and w (bit_not w128 (one_at j))) ≡ false
+  clear_bit w = ne_eqb (bit_at (bit_and w (bit_not w128 (one_at j))) j) 1 (λ o. let z : bit_at (bit_and w (bit_not w128 (one_at j))) j ≡ 0 = bit_at_clear_same w128 w j low in let o' : bit_at (bit_and w (bit_not w128 (one_at j))) j ≡ 1 = o in omega arith)
 
   pub lane_with : (b : Bool) (v : Lanes) → lane j (with_lane j b v) ≡ known b
   lane_with true v = same_tri (bit_of j (bit_or v.known (one_at j))) true (bit_of j (bit_or v.value (one_at j))) true (set_bit v.known) (set_bit v.value)
   lane_with false v =
-      same_tri (bit_of j (bit_or v.known (one_at j))) true (bit_of j (bit_and v.value (bit_not w64 (one_at j)))) false (set_bit v.known) (clear_bit v.value)
+      same_tri (bit_of j (bit_or v.known (one_at j))) true (bit_of j (bit_and v.value (bit_not w128 (one_at j)))) false (set_bit v.known) (clear_bit v.value)
 
-  pub lane_with_other : (k : ℕ) (b : Bool) (v : Lanes) → k < 64 → j ≢ k → lane j (with_lane k b v) ≡ lane j v
+  pub lane_with_other : (k : ℕ) (b : Bool) (v : Lanes) → k < 128 → j ≢ k → lane j (with_lane k b v) ≡ lane j v
   lane_with_other k true v l ne =
       same_tri (bit_of j (bit_or v.known (one_at k))) (bit_of j v.known) (bit_of j (bit_or v.value (one_at k))) (bit_of j v.value)
-      (ap (λ x. eqb x 1) (bit_at_set_other w64 v.known k l j ne)) (ap (λ x. eqb x 1) (bit_at_set_other w64 v.value k l j ne))
+      (ap (λ x. eqb x 1) (bit_at_set_other w128 v.known k l j ne)) (ap (λ x. eqb x 1) (bit_at_set_other w128 v.value k l j ne))
   lane_with_other k false v l ne =
-      same_tri (bit_of j (bit_or v.known (one_at k))) (bit_of j v.known) (bit_of j (bit_and v.value (bit_not w64 (one_at k)))) (bit_of j v.value)
-      (ap (λ x. eqb x 1) (bit_at_set_other w64 v.known k l j ne)) (ap (λ x. eqb x 1) (bit_at_clear_other w64 v.value k l j low ne))
+      same_tri (bit_of j (bit_or v.known (one_at k))) (bit_of j v.known) (bit_of j (bit_and v.value (bit_not w128 (one_at k)))) (bit_of j v.value)
+      (ap (λ x. eqb x 1) (bit_at_set_other w128 v.known k l j ne)) (ap (λ x. eqb x 1) (bit_at_clear_other w128 v.value k l j low ne))
 
-  forced_other : (b here : Bool) (k : ℕ) (v : Lanes) → k < 64 → j ≢ k → lane j (if here then with_lane k b v else v) ≡ lane j v
+  forced_other : (b here : Bool) (k : ℕ) (v : Lanes) → k < 128 → j ≢ k → lane j (if here then with_lane k b v else v) ≡ lane j v
   forced_other b true k v l ne = lane_with_other k b v l ne
   forced_other b false k v l ne = refl
 
@@ -236,13 +236,13 @@ module _ (j : ℕ) (low : j < 64) where
   forced_here b false v = refl
 
   -- machines behind this one change nothing of it
-  forced_behind : (k : ℕ) (fs : List Fault) (line : Line) (v : Lanes) → j < k → k + length fs ≤ 64 → lane j (forced_from k fs line v) ≡ lane j v
+  forced_behind : (k : ℕ) (fs : List Fault) (line : Line) (v : Lanes) → j < k → k + length fs ≤ 128 → lane j (forced_from k fs line v) ≡ lane j v
   forced_behind k [] line v l few = refl
   forced_behind k (f ∷ fs) line v l few =
       forced_behind (k + 1) fs line (if is_line f.line line then with_lane k f.value v else v) (omega (arith, l)) (omega (arith, few))
       ∙ forced_other f.value (is_line f.line line) k v (omega (arith, few)) (λ e. omega (arith, l, e))
 
-  forced_at : (k i : ℕ) (fs : List Fault) (line : Line) (v : Lanes) → j ≡ k + i → k + length fs ≤ 64 → lane j (forced_from k fs line v) ≡ stuck known (slice_get fs i) line (lane j v)
+  forced_at : (k i : ℕ) (fs : List Fault) (line : Line) (v : Lanes) → j ≡ k + i → k + length fs ≤ 128 → lane j (forced_from k fs line v) ≡ stuck known (slice_get fs i) line (lane j v)
   forced_at k i [] line v e few = refl
   forced_at k zero (f ∷ fs) line v e few =
       let here : k ≡ j = omega (arith, e) in
@@ -252,7 +252,7 @@ module _ (j : ℕ) (low : j < 64) where
       forced_at (k + 1) i fs line (if is_line f.line line then with_lane k f.value v else v) (omega (arith, e)) (omega (arith, few))
       ∙ ap (stuck known (slice_get fs i) line) (forced_other f.value (is_line f.line line) k v (omega (arith, few)) (λ s. omega (arith, e, s)))
 
-  module _ (faults : List Fault) (few : length faults ≤ 64) where
+  module _ (faults : List Fault) (few : length faults ≤ 128) where
     pub lane_line : (line : Line) (v : Lanes) → lane j ((lanes_rule faults).line line v) ≡ (tris (slice_get faults j)).line line (lane j v)
     lane_line line v = forced_at 0 j faults line v (omega arith) (omega (arith, few))
 

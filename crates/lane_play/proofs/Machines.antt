@@ -16,11 +16,11 @@ use Rattle.netlist.proofs.Alike.{zip_append}
 use Rattle.netlist.proofs.Lists.{All-from_contains, map_agree, map_map}
 use Rattle.netlist.proofs.Settling.{zip_kept}
 use Rattle.tri.specs.Settled.{tris}
-use Rattle.events.specs.Words.{bit_of, ones}
+use Rattle.events.specs.Words.{bit_of}
 use Rattle.events.proofs.WordBits.{zip_map}
 use Rattle.scan_play.proofs.PlanLemmas.{flat_map_agree}
 use Rattle.lane_play.specs.declared.packed.Lanes.{Lanes}
-use Rattle.lane_play.specs.inner.Lanes.{always, lane, lanes, lanes_rule}
+use Rattle.lane_play.specs.inner.Lanes.{always, lane, lanes, lanes_rule, ones}
 use Rattle.lane_play.specs.inner.Shifts.{AreCommon}
 use Rattle.lane_play.proofs.LaneBits.{bit_ones, lane_always, lane_gates, lane_line, lane_next, lane_outs, lane_pins, lane_settles, lane_unknown}
 
@@ -52,12 +52,12 @@ known_is : (b : Bool) → is_x (known b) ≡ false
 known_is true = refl
 known_is false = refl
 
-pub all_known : (k : ℕ) → k < 64 → (v : Lanes) → v.known ≡ ones → is_x (lane k v) ≡ false
+pub all_known : (k : ℕ) → k < 128 → (v : Lanes) → v.known ≡ ones → is_x (lane k v) ≡ false
 all_known k low v e =
     ap (λ w. is_x (if bit_of k w then known (bit_of k v.value) else X)) e
     ∙ (ap (λ b. is_x (if b then known (bit_of k v.value) else X)) (bit_ones k low) ∙ known_is (bit_of k v.value))
 
-pub common_known : (k : ℕ) → k < 64 → (values : List Lanes) (table : List Tri) → AreCommon values table → (x : ℕ) → is_x (at table X x) ≡ false → is_x (at (lanes k values) X x) ≡ false
+pub common_known : (k : ℕ) → k < 128 → (values : List Lanes) (table : List Tri) → AreCommon values table → (x : ℕ) → is_x (at table X x) ≡ false → is_x (at (lanes k values) X x) ≡ false
 common_known k low [] [] c x e = e
 common_known k low [] (t ∷ ts) c x e = absurd c
 common_known k low (v ∷ vs) [] c x e = absurd c
@@ -71,11 +71,11 @@ common_size (v ∷ vs) [] c = absurd c
 common_size (v ∷ vs) (t ∷ ts) c = omega (arith, common_size vs ts c.1)
 
 pub common_more : (values : List Lanes) (old new : List Tri) (i : ℕ) (v : Lanes) (t : Tri) → i < length values → v ≡ get_or values i v → new ≡ old ++ t ∷ []
-    → ((k : ℕ) → k < 64 → is_x t ≡ false → is_x (lane k v) ≡ false) → AreCommon (take i values) old → AreCommon (take (i + 1) values) new
+    → ((k : ℕ) → k < 128 → is_x t ≡ false → is_x (lane k v) ≡ false) → AreCommon (take i values) old → AreCommon (take (i + 1) values) new
 common_more values old new i v t l is e here h =
     subst (λ vs. AreCommon vs new) (sym (take_more values i v l ∙ ap (λ y. take i values ++ y ∷ []) (sym is)))
     (subst (λ ts. AreCommon (take i values ++ v ∷ []) ts) (sym e)
-    (zip_append (λ (w : Lanes) (u : Tri). (k : ℕ) → k < 64 → is_x u ≡ false → is_x (lane k w) ≡ false) (take i values) (v ∷ []) old (t ∷ []) h (here, tt)))
+    (zip_append (λ (w : Lanes) (u : Tri). (k : ℕ) → k < 128 → is_x u ≡ false → is_x (lane k w) ≡ false) (take i values) (v ∷ []) old (t ∷ []) h (here, tt)))
 
 -- ---- one machine
 
@@ -85,7 +85,7 @@ everywhere Zero = always false
 everywhere One = always true
 everywhere X = record { known = 0; value = 0 }
 
-module _ (k : ℕ) (low : k < 64) where
+module _ (k : ℕ) (low : k < 128) where
   lane_everywhere : (t : Tri) → lane k (everywhere t) ≡ t
   lane_everywhere Zero = lane_always k low false
   lane_everywhere One = lane_always k low true
@@ -99,7 +99,7 @@ module _ (k : ℕ) (low : k < 64) where
   at_machine : (values : List Lanes) (x : ℕ) (t : Tri) → at (lanes k values) t x ≡ lane k (at values (everywhere t) x)
   at_machine values x t = ap (λ d. at (lanes k values) d x) (sym (lane_everywhere t)) ∙ at_lane values x (everywhere t)
 
-  module _ (faults : List Fault) (few : length faults ≤ 64) where
+  module _ (faults : List Fault) (few : length faults ≤ 128) where
     pub machine_sources : (n : Netlist) (inputs state old new : List Lanes) → AreSourcesDriven (lanes_rule faults) n inputs state old new
         → AreSourcesDriven (tris (slice_get faults k)) n (lanes k inputs) (lanes k state) (lanes k old) (lanes k new)
     machine_sources n inputs state old new h =

@@ -65,11 +65,11 @@ lines_length faults (p ∷ ps) (f ∷ fs) h = ap suc (lines_length faults ps fs 
 -- so far the first so many machines are packed
 pub record IsCellPacked (machines : List Machine) (places : List ℕ) (cell count : ℕ) (packed : Lanes) : Type 0 where
   pub done : (k place : ℕ) (m : Machine) (t : Tri) → k < count → slice_get places k ≡ Some place → slice_get machines place ≡ Some m → lane k packed ≡ get_or m.state.items cell t
-  pub free : (k : ℕ) → count ≤ k → k < 64 → lane k packed ≡ X
+  pub free : (k : ℕ) → count ≤ k → k < 128 → lane k packed ≡ X
 
-pub cell_more : (machines : List Machine) (places : List ℕ) (cell i place : ℕ) (old new : Lanes) (machine : Machine) (value : Tri) → i < length places → length places ≤ 64
+pub cell_more : (machines : List Machine) (places : List ℕ) (cell i place : ℕ) (old new : Lanes) (machine : Machine) (value : Tri) → i < length places → length places ≤ 128
     → place ≡ get_or places i place → place < length machines → machine ≡ get_or machines place machine
-    → cell < length machine.state.items → value ≡ get_or machine.state.items cell value → lane i new ≡ value → ((j : ℕ) → j < 64 → j ≢ i → lane j new ≡ lane j old)
+    → cell < length machine.state.items → value ≡ get_or machine.state.items cell value → lane i new ≡ value → ((j : ℕ) → j < 128 → j ≢ i → lane j new ≡ lane j old)
     → IsCellPacked machines places cell i old → IsCellPacked machines places cell (i + 1) new
 cell_more machines places cell i place old new machine value l few at low is within held here others h = record {
   done = λ k p m t inside e there. elim (cases_eq k i) [

@@ -30,11 +30,11 @@ use Rattle.lane_play.proofs.LaneBits.{bit_none, lane_always, lane_next, lane_out
 
 -- ---- one machine of lists
 
-pub lanes_always : (k : ℕ) → k < 64 → (bits : List Bool) → lanes k (map always bits) ≡ map known bits
+pub lanes_always : (k : ℕ) → k < 128 → (bits : List Bool) → lanes k (map always bits) ≡ map known bits
 lanes_always k low [] = refl
 lanes_always k low (b ∷ bs) = ap (λ v. v ∷ lanes k (map always bs)) (lane_always k low b) ∙ ap (λ vs. known b ∷ vs) (lanes_always k low bs)
 
-pub lanes_unknown : (k : ℕ) → k < 64 → (count : ℕ) → lanes k (replicate count (record { known = 0; value = 0 })) ≡ replicate count X
+pub lanes_unknown : (k : ℕ) → k < 128 → (count : ℕ) → lanes k (replicate count (record { known = 0; value = 0 })) ≡ replicate count X
 lanes_unknown k low zero = refl
 lanes_unknown k low (suc count) = ap (λ v. v ∷ lanes k (replicate count (record { known = 0; value = 0 }))) (lane_unknown k low) ∙ ap (λ vs. X ∷ vs) (lanes_unknown k low count)
 
@@ -53,7 +53,7 @@ size_kept faults n pulse state after a sound size is =
 
 -- ---- a cycle
 
-pub steps_from : (faults : List Fault) (n : Netlist) (cycle : Cycle) (number : ℕ) (state after drive values row : List Lanes) → length faults ≤ 64 → IsSound n
+pub steps_from : (faults : List Fault) (n : Netlist) (cycle : Cycle) (number : ℕ) (state after drive values row : List Lanes) → length faults ≤ 128 → IsSound n
     → drive ≡ map always cycle.drive → length state ≡ length (cells n)
     → ((d : Lanes) → Settles (lanes_rule faults) n drive state (at values d)) → AreEnded faults n cycle.pulse values state after row → AreSteps faults n state after cycle number row
 steps_from faults n cycle number state after drive values row machines sound d size settles ended = λ k J low opens.
@@ -86,24 +86,24 @@ module _ (J : Judging) (faults : List Fault) (n : Netlist) where
   closed_stays f cs ds start state (Some p) e h = plays_found J f n cs ds 0 start state p h
 
   -- once something is said of each machine, it stays, whatever comes behind
-  pub played_whole : (cs ds : List Cycle) (state : List Lanes) (found : List (Option Played)) (left : ℕ) → length found ≤ 64 → AreLeft found (length found) left → left ≡ 0
+  pub played_whole : (cs ds : List Cycle) (state : List Lanes) (found : List (Option Played)) (left : ℕ) → length found ≤ 128 → AreLeft found (length found) left → left ≡ 0
       → ArePlayed J faults n cs state found → ArePlayed J faults n (cs ++ ds) state found
   played_whole cs ds state found left few h none played = record {
     size = played.size;
     each = λ k l.
         let inside : k < length found = (let e = played.size in omega (arith, l)) in
-        let low : k < 64 = omega (arith, inside, few) in
+        let low : k < 128 = omega (arith, inside, few) in
         closed_stays (slice_get faults k) cs ds (replicate (length (cells n)) X) (lanes k state) (found_at found k)
         (sym (h k inside) ∙ (ap (bit_of k) none ∙ bit_none k low)) (played.each k l);
   }
 
-pub verdicts_keep : (J : Judging) → IsOpen J → (number : ℕ) (strobes : List Tri) (row : List Lanes) (old new : List (Option Played)) → length new ≤ 64 → AreJudgedIn J number strobes row old new
+pub verdicts_keep : (J : Judging) → IsOpen J → (number : ℕ) (strobes : List Tri) (row : List Lanes) (old new : List (Option Played)) → length new ≤ 128 → AreJudgedIn J number strobes row old new
     → KeepsOn (λ faults n cycles state. ArePlayed J faults n cycles state old) (λ faults n cycles state. ArePlayed J faults n cycles state new) number strobes row
 verdicts_keep J opens number strobes row old new few judged = λ faults n before state after cycle at same steps h. record {
   size = judged.size ∙ h.size;
   each = λ k l.
       let inside : k < length old = (let e = h.size in omega (arith, l)) in
-      let low : k < 64 = (let e = judged.size in omega (arith, inside, few)) in
+      let low : k < 128 = (let e = judged.size in omega (arith, inside, few)) in
       let said = judged_in J number 0 cycle.strobe (lanes k row) in
       let number_is : number ≡ 0 + length before = omega (arith, at) in
       one_more J faults n (slice_get faults k) before cycle (replicate (length (cells n)) X) (lanes k state) (lanes k after) (found_at old k) (found_at new k) said (h.each k l)
@@ -111,7 +111,7 @@ verdicts_keep J opens number strobes row old new few judged = λ faults n before
       (judged.each k inside ∙ ap (λ ss. played_or_else (found_at old k) (judged_in J number 0 ss (lanes k row))) (sym same));
 }
 
-pub verdicts_stay : (J : Judging) (found : List (Option Played)) (left : ℕ) → length found ≤ 64 → AreLeft found (length found) left → left ≡ 0 → StaysKept (λ faults n cycles state. ArePlayed J faults n cycles state found)
+pub verdicts_stay : (J : Judging) (found : List (Option Played)) (left : ℕ) → length found ≤ 128 → AreLeft found (length found) left → left ≡ 0 → StaysKept (λ faults n cycles state. ArePlayed J faults n cycles state found)
 verdicts_stay J found left few h none = λ faults n before behind state played. played_whole J faults n before behind state found left few h none played
 
 -- ---- what holds of cycles

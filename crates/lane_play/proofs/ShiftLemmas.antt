@@ -23,7 +23,7 @@ use Rattle.lane_play.proofs.PlayedLemmas.{lanes_always, lanes_chosen, lanes_unkn
 
 -- ---- a plan
 
-pub planned_lanes : (faults : List Fault) → length faults ≤ 64 → (n : Netlist) (drive : List Bool) (strobe table : List Tri) (steps : List ℕ) (empty front whole seen idle values : List Lanes) (wide narrow : ℕ)
+pub planned_lanes : (faults : List Fault) → length faults ≤ 128 → (n : Netlist) (drive : List Bool) (strobe table : List Tri) (steps : List ℕ) (empty front whole seen idle values : List Lanes) (wide narrow : ℕ)
     → wide ≡ length n.inputs → narrow ≡ length drive → empty ≡ [] → front ≡ empty ++ map always drive → whole ≡ front ++ replicate (wide - narrow) (record { known = 0; value = 0 }) → seen ≡ whole
     → idle ≡ replicate (length (cells n)) (record { known = 0; value = 0 }) → ((d : Lanes) → Settles (lanes_rule faults) n seen idle (at values d)) → length values ≡ length (signals n)
     → AreCommon values table → HasSteps n strobe table steps → ArePlanned faults n drive strobe steps values
@@ -51,7 +51,7 @@ planned_gates faults n drive strobe steps values plan = (plan 0 (omega arith)).h
 silence : Judging
 silence c o s v = None
 
-module _ (faults : List Fault) (machines : length faults ≤ 64) (n net : Netlist) (drive : List Bool) (strobe : List Tri) (steps : List ℕ) (v0 v1 v2 : List Lanes)
+module _ (faults : List Fault) (machines : length faults ≤ 128) (n net : Netlist) (drive : List Bool) (strobe : List Tri) (steps : List ℕ) (v0 v1 v2 : List Lanes)
     (ins : List Bool) (outs_of : List Tri) (state driven from : List Lanes) (there : net ≡ n) (sound : IsSound n) (plan : ArePlanned faults n drive strobe steps v0) (wide : length (drive ++ ins) ≡ length n.inputs)
     (size : length state ≡ length (cells n)) (is_driven : driven ≡ map always (drive ++ ins)) (is_from : from ≡ state)
     (onto : AreSourcesDriven (lanes_rule faults) net driven from v0 v1) (stepped : AreEvaluated (lanes_rule faults) net steps v1 v2) where

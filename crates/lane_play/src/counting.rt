@@ -29,8 +29,8 @@ pub struct Counts {
     pub other: Vec<u64>,
 }
 
-fn bit(word: u64, k: usize) -> bool
-    requires { k < 64 }
+fn bit(word: u128, k: usize) -> bool
+    requires { k < 128 }
     ensures { result ≡ bit_of k word }
 {
     (word >> k) % 2 == 1
@@ -50,8 +50,8 @@ fn more(number: u64, counts: bool) -> Result<u64, AllocError>
 }
 
 /// Adds 1 for each machine whose bit the word has.
-fn add(word: u64, numbers: Vec<u64>) -> Result<Vec<u64>, AllocError>
-    requires { length numbers.items ≤ 64 }
+fn add(word: u128, numbers: Vec<u64>) -> Result<Vec<u64>, AllocError>
+    requires { length numbers.items ≤ 128 }
     ensures size { IfOk result (λ v. length v.items ≡ length numbers.items) }
     ensures each { IfOk result (λ v. (k : ℕ) → k < length numbers.items → number_at v.items k ≡ number_at numbers.items k + one_if (bit_of k word)) }
 {
@@ -71,8 +71,8 @@ fn count_bit<S: Sides>(
     shown: Lanes,
     counts: Counts,
 ) -> Result<Counts, AllocError>
-    requires one { length counts.one.items ≤ 64 }
-    requires other { length counts.other.items ≤ 64 }
+    requires one { length counts.one.items ≤ 128 }
+    requires other { length counts.other.items ≤ 128 }
     ensures one { IfOk result (λ new. AreMore (on_one (S.says sides.now) (S.side sides.now) cycle output strobe) shown counts.one.items new.one.items) }
     ensures other { IfOk result (λ new. AreMore (on_other (S.says sides.now) (S.side sides.now) cycle output strobe) shown counts.other.items new.other.items) }
 {
@@ -98,8 +98,8 @@ fn count_output<S: Sides>(
     shown: Lanes,
     counts: Counts,
 ) -> Result<Counts, AllocError>
-    requires one { length counts.one.items ≤ 64 }
-    requires other { length counts.other.items ≤ 64 }
+    requires one { length counts.one.items ≤ 128 }
+    requires other { length counts.other.items ≤ 128 }
     ensures one { IfOk result (λ new. AreMore (on_one (S.says sides.now) (S.side sides.now) cycle output strobe) shown counts.one.items new.one.items) }
     ensures other { IfOk result (λ new. AreMore (on_other (S.says sides.now) (S.side sides.now) cycle output strobe) shown counts.other.items new.other.items) }
 {
@@ -120,8 +120,8 @@ fn count_row<S: Sides>(
 ) -> Result<Counts, AllocError>
     requires same { length strobes.now ≡ length shown.now }
     requires few { length strobes.now < 2 ^ 32 }
-    requires one { length counts.one.items ≤ 64 }
-    requires other { length counts.other.items ≤ 64 }
+    requires one { length counts.one.items ≤ 128 }
+    requires other { length counts.other.items ≤ 128 }
     ensures one { IfOk result (λ new. AreMoreIn (on_one (S.says sides.now) (S.side sides.now)) cycle strobes.now shown.now counts.one.items new.one.items) }
     ensures other { IfOk result (λ new. AreMoreIn (on_other (S.says sides.now) (S.side sides.now)) cycle strobes.now shown.now counts.other.items new.other.items) }
 {
@@ -136,8 +136,8 @@ fn count_row<S: Sides>(
 #[derive(Drop)]
 struct Counter {
     counts: Counts,
-    ghost one: { length counts.one.items ≤ 64 },
-    ghost other: { length counts.other.items ≤ 64 },
+    ghost one: { length counts.one.items ≤ 128 },
+    ghost other: { length counts.other.items ≤ 128 },
 }
 
 impl<S: Sides> Watch<S> for Counter {
@@ -172,7 +172,7 @@ fn zeros(alloc: Global, count: usize) -> Result<Vec<u64>, AllocError>
     Ok(zeros)
 }
 
-/// Plays vectors on a netlist for up to 64 stuck lines side by side, to their end: of how many strobes the judge says something with each.
+/// Plays vectors on a netlist for up to 128 stuck lines side by side, to their end: of how many strobes the judge says something with each.
 pub fn count_lanes<S: Sides>(
     alloc: Global,
     core: &Core,
@@ -180,7 +180,7 @@ pub fn count_lanes<S: Sides>(
     vectors: &Vectors,
     sides: &S,
 ) -> Result<Counts, NoMemory>
-    requires machines { length faults.now ≤ 64 }
+    requires machines { length faults.now ≤ 128 }
     requires fits { All (IsCycleOf core.now) vectors.now }
     requires few { length vectors.now < 2 ^ 64 }
     ensures one { IfOk result (λ counts. AreCounted (on_one (S.says sides.now) (S.side sides.now)) core.now faults.now vectors.now counts.one.items) }

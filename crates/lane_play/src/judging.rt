@@ -19,21 +19,21 @@ use std::alloc::{AllocError, Global};
 #[derive(Drop)]
 pub(crate) struct Verdicts {
     pub found: Vec<Option<Played>>,
-    pub left: u64,
-    pub ghost few: { length found.items ≤ 64 },
+    pub left: u128,
+    pub ghost few: { length found.items ≤ 128 },
     pub ghost lefts: { AreLeft found.items (length found.items) left },
 }
 
 /// The word with a bit at a place.
-fn with_bit(word: u64, k: usize, bit: bool) -> u64
-    requires { k < 64 }
+fn with_bit(word: u128, k: usize, bit: bool) -> u128
+    requires { k < 128 }
     ensures same { bit_of k result ≡ bit }
-    ensures others { (j : ℕ) → j < 64 → j ≢ k → bit_of j result ≡ bit_of j word }
+    ensures others { (j : ℕ) → j < 128 → j ≢ k → bit_of j result ≡ bit_of j word }
 {
     if bit {
-        word | (1u64 << k)
+        word | (1u128 << k)
     } else {
-        word & !(1u64 << k)
+        word & !(1u128 << k)
     }
 }
 
@@ -48,8 +48,8 @@ pub(crate) fn is_open(said: &Option<Played>) -> bool
 }
 
 /// The machines of which nothing was said.
-fn left_of(found: &[Option<Played>]) -> u64
-    requires { length found.now ≤ 64 }
+fn left_of(found: &[Option<Played>]) -> u128
+    requires { length found.now ≤ 128 }
     ensures { AreLeft found.now (length found.now) result }
 {
     let mut left = 0;
@@ -62,7 +62,7 @@ fn left_of(found: &[Option<Played>]) -> u64
 impl Verdicts {
     /// Nothing is said of so many machines.
     pub(crate) fn none(alloc: Global, count: usize) -> Result<Verdicts, AllocError>
-        requires { count ≤ 64 }
+        requires { count ≤ 128 }
         ensures { IfOk result (λ v. v.found.items ≡ replicate count None) }
     {
         let mut found = Vec::with_capacity(alloc, count)?;
@@ -93,8 +93,8 @@ fn first_of(one: Option<Played>, other: Option<Played>) -> Option<Played>
 }
 
 /// These machines, where something is said.
-fn masked(said: &Option<Played>, word: u64) -> u64
-    ensures { (k : ℕ) → k < 64 → bit_of k result ≡ (not (is_open said.now) && bit_of k word) }
+fn masked(said: &Option<Played>, word: u128) -> u128
+    ensures { (k : ℕ) → k < 128 → bit_of k result ≡ (not (is_open said.now) && bit_of k word) }
 {
     match said {
         Some(_) => word,
@@ -128,12 +128,12 @@ impl Sayings {
     }
 
     /// The machines of which something is said.
-    pub(crate) fn told(self, shown: Lanes) -> u64
-        ensures { (k : ℕ) → k < 64 → bit_of k result ≡ not (is_open (said_of self.zero self.one self.unknown (lane k shown))) }
+    pub(crate) fn told(self, shown: Lanes) -> u128
+        ensures { (k : ℕ) → k < 128 → bit_of k result ≡ not (is_open (said_of self.zero self.one self.unknown (lane k shown))) }
     {
-        let zero = masked(&self.zero, shown.known & (shown.value ^ u64::MAX));
+        let zero = masked(&self.zero, shown.known & (shown.value ^ u128::MAX));
         let one = masked(&self.one, shown.known & shown.value);
-        let unknown = masked(&self.unknown, shown.known ^ u64::MAX);
+        let unknown = masked(&self.unknown, shown.known ^ u128::MAX);
         zero | (one | unknown)
     }
 }

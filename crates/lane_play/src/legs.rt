@@ -1,6 +1,6 @@
 //! A play in legs, between which those machines are packed together anew of which nothing was said.
 //!
-//! Most machines are told early, and a batch of 64 would go on for the last of them. So all are played up to some cycle, then those that are left
+//! Most machines are told early, and 128 side by side would go on for the last of them. So all are played up to some cycle, then those that are left
 //! side by side from there. The first legs are a burst each, and then each is a quarter of all bursts before: what is packed in vain stays a small part
 //! of what is played.
 ghost use Rattle.std.specs.Prelude.{◌≡◌, ◌^◌, ◌<◌, ◌≤◌, ◌+◌, None, length, map, replicate, IfOk, OnOk};
@@ -21,7 +21,7 @@ use netlist::{Core, Fault, NoMemory, Tri};
 use scan_play::{Burst, Judge, Played, Vectors};
 use std::alloc::{AllocError, Global};
 
-/// The places of up to 64 machines of which nothing was said, and the place up to which there are no others.
+/// The places of up to 128 machines of which nothing was said, and the place up to which there are no others.
 #[derive(Drop)]
 struct Team {
     places: Vec<usize>,
@@ -31,13 +31,13 @@ struct Team {
 /// The next such machines, from a place on.
 fn team_from(alloc: Global, machines: &[Machine], start: usize) -> Result<Team, AllocError>
     requires { start < length machines.now }
-    ensures few { IfOk result (λ t. length t.places.items ≤ 64) }
+    ensures few { IfOk result (λ t. length t.places.items ≤ 128) }
     ensures within { IfOk result (λ t. (start < t.end) × (t.end ≤ length machines.now)) }
     ensures all { IfOk result (λ t. AreOpen machines.now start t.end t.places.items) }
 {
-    let mut places = Vec::with_capacity(alloc, 64)?;
+    let mut places = Vec::with_capacity(alloc, 128)?;
     for place in start..machines.len() {
-        if places.len() == 64 {
+        if places.len() == 128 {
             return Ok(Team { places, end: place });
         }
         if is_open(&machines[place].said) {
@@ -58,7 +58,7 @@ fn file_team(
     said: &[Option<Played>],
     machines: &mut [Machine],
 ) -> Result<(), AllocError>
-    requires few { length places.now ≤ 64 }
+    requires few { length places.now ≤ 128 }
     requires same { length said.now ≡ length places.now }
     requires within { All (λ place. place < length machines.old) places.now }
     ensures { OnOk result (AreFiled places.now (length places.now) state.now said.now machines.old machines.new) }
@@ -162,12 +162,12 @@ fn first_machines(alloc: Global, cells: usize, count: usize) -> Result<Vec<Machi
     Ok(machines)
 }
 
-/// How many bursts the leg has that begins behind so many, where so many are left. Up to 64 machines needn't be packed anew.
+/// How many bursts the leg has that begins behind so many, where so many are left. Up to 128 machines needn't be packed anew.
 fn leg_length(played: usize, left: usize, machines: usize) -> usize
     requires { 0 < left }
     ensures { (0 < result) × (result ≤ left) }
 {
-    if machines <= 64 {
+    if machines <= 128 {
         return left;
     }
     (played / 4).max(1).min(left)
@@ -184,7 +184,7 @@ fn said_of(alloc: Global, machines: &[Machine]) -> Result<Vec<Option<Played>>, A
     Ok(said)
 }
 
-/// Plays vectors on a netlist for stuck lines, 64 side by side: what the judge first says with each, if anything.
+/// Plays vectors on a netlist for stuck lines, 128 side by side: what the judge first says with each, if anything.
 pub fn play_lanes<J: Judge>(
     alloc: Global,
     core: &Core,

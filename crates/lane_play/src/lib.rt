@@ -1,8 +1,8 @@
-//! Faulty machines, played 64 side by side.
+//! Faulty machines, played 128 side by side.
 //!
 //! Gives: `play_lanes`, `count_lanes`.
 //! Proved: for each stuck line, as if it were played alone, `play_lanes`: exactly what a judge first says of its run in three values; `count_lanes`, of up
-//! to 64: of exactly how many strobes he says something, on either of two sides.
+//! to 128: of exactly how many strobes he says something, on either of two sides.
 //! Tested: run below `chain_test` and `diagnose` by rows of `cases`.
 //! Neither: time.
 #![tactic(auto)]

@@ -1,4 +1,4 @@
-//! Three values of 64 machines, side by side in two words. (Parallel fault simulation: Seshu, 1965.)
+//! Three values of 128 machines, side by side in two words of 128 bits. (Parallel fault simulation: Seshu, 1965.)
 //!
 //! One word says which values are known and one which bits they are. With "can be 0" and "can be 1" a gate would cost an operation less,
 //! but then a pair of bits would have no meaning, and each contract would have to exclude it.
@@ -10,8 +10,8 @@ use netlist::Tri;
 /// The value of machine k is known where bit k of `known` is 1, and then it is bit k of `value`.
 #[derive(Clone, Copy, PartialEq, Eq)]
 pub(crate) struct Lanes {
-    pub known: u64,
-    pub value: u64,
+    pub known: u128,
+    pub value: u128,
 }
 
 impl Lanes {
@@ -21,8 +21,8 @@ impl Lanes {
         ensures { result ≡ always bit }
     {
         Lanes {
-            known: u64::MAX,
-            value: if bit { u64::MAX } else { 0 },
+            known: u128::MAX,
+            value: if bit { u128::MAX } else { 0 },
         }
     }
 
@@ -38,8 +38,8 @@ impl Lanes {
     pub(crate) fn both(self, other: Lanes) -> Lanes
         ensures { result ≡ both self other }
     {
-        let zeros = (self.known & (self.value ^ u64::MAX))
-            | (other.known & (other.value ^ u64::MAX));
+        let zeros = (self.known & (self.value ^ u128::MAX))
+            | (other.known & (other.value ^ u128::MAX));
         Lanes {
             known: (self.known & other.known) | zeros,
             value: self.value & other.value,
@@ -76,16 +76,16 @@ impl Lanes {
     {
         Lanes {
             known: self.known,
-            value: self.value ^ u64::MAX,
+            value: self.value ^ u128::MAX,
         }
     }
 
     /// A machine's value becomes a bit.
     pub(crate) fn with(self, k: usize, bit: bool) -> Lanes
-        requires { k < 64 }
+        requires { k < 128 }
         ensures { result ≡ with_lane k bit self }
     {
-        let one = 1u64 << k;
+        let one = 1u128 << k;
         Lanes {
             known: self.known | one,
             value: if bit {
@@ -98,7 +98,7 @@ impl Lanes {
 
     /// The value of a machine.
     pub(crate) fn lane(self, k: usize) -> Tri
-        requires { k < 64 }
+        requires { k < 128 }
         ensures { result ≡ lane k self }
     {
         if (self.known >> k) % 2 != 1 {

@@ -1,4 +1,4 @@
-//! Machines by themselves: what each one's cells hold, apart from the 64 side by side.
+//! Machines by themselves: what each one's cells hold, apart from the 128 side by side.
 ghost use Rattle.std.specs.Prelude.{◌≡◌, ◌≢◌, ◌<◌, ◌≤◌, ◌++◌, ◌∷◌, [], ℕ, Some, length, slice_index_or, IfOk, OnOk};
 ghost use Rattle.std.specs.List.{All, slice_get};
 ghost use Rattle.statement.specs.declared.kinds.Tri.{Tri as Value};
@@ -44,10 +44,10 @@ pub(crate) fn lines_of(
 
 /// The same, and this is the value of machine k, of which nothing was known.
 fn put(lanes: Lanes, k: usize, value: Tri) -> Lanes
-    requires low { k < 64 }
+    requires low { k < 128 }
     requires free { lane k lanes ≡ X }
     ensures here { lane k result ≡ value }
-    ensures others { (j : ℕ) → j < 64 → j ≢ k → lane j result ≡ lane j lanes }
+    ensures others { (j : ℕ) → j < 128 → j ≢ k → lane j result ≡ lane j lanes }
 {
     match value {
         Tri::X => lanes,
@@ -58,7 +58,7 @@ fn put(lanes: Lanes, k: usize, value: Tri) -> Lanes
 
 /// What a cell holds in the machines at these places, side by side.
 fn pack_cell(machines: &[Machine], places: &[usize], cell: usize) -> Lanes
-    requires few { length places.now ≤ 64 }
+    requires few { length places.now ≤ 128 }
     requires there { All (λ place. place < length machines.now) places.now }
     requires within { All (λ (m : One). cell < length m.state.items) machines.now }
     ensures { (k place : ℕ) (m : One) (t : Value) → slice_get places.now k ≡ Some place → slice_get machines.now place ≡ Some m → lane k result ≡ slice_index_or m.state.items cell t }
@@ -77,7 +77,7 @@ pub(crate) fn pack(
     machines: &[Machine],
     places: &[usize],
 ) -> Result<Vec<Lanes>, AllocError>
-    requires few { length places.now ≤ 64 }
+    requires few { length places.now ≤ 128 }
     requires there { All (λ place. place < length machines.now) places.now }
     requires sized { All (λ (m : One). length m.state.items ≡ cells) machines.now }
     ensures { IfOk result (λ v. ArePacked machines.now places.now cells v.items) }
@@ -91,7 +91,7 @@ pub(crate) fn pack(
 
 /// What the cells of machine k hold.
 pub(crate) fn unpack(alloc: Global, k: usize, state: &[Lanes]) -> Result<Vec<Tri>, AllocError>
-    requires { k < 64 }
+    requires { k < 128 }
     ensures { IfOk result (λ v. v.items ≡ lanes k state.now) }
 {
     let mut own = Vec::with_capacity(alloc, state.len())?;

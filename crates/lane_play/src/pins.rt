@@ -48,7 +48,7 @@ pub(crate) struct Forced<'a> {
     pub values: &'a [Lanes],
     ghost below: { All (λ x. x < length values.now) pins.now },
     ghost few: { length pins.now ≤ most_pins },
-    ghost machines: { length faults.now ≤ 64 },
+    ghost machines: { length faults.now ≤ 128 },
     ghost some: { span.from < span.to },
     ghost spanned: { IsSpanned faults.now (length faults.now) id span },
 }

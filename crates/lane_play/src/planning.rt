@@ -34,14 +34,14 @@ impl Planner {
 
 /// Whether every machine knows its value.
 fn is_known(value: Lanes) -> bool
-    ensures { (k : ℕ) → k < 64 → result ≡ true → is_x (lane k value) ≡ false }
+    ensures { (k : ℕ) → k < 128 → result ≡ true → is_x (lane k value) ≡ false }
 {
-    value.known == u64::MAX
+    value.known == u128::MAX
 }
 
 /// Something that is known, where every machine knows its value.
 fn common(value: Lanes) -> Tri
-    ensures { (k : ℕ) → k < 64 → is_x result ≡ false → is_x (lane k value) ≡ false }
+    ensures { (k : ℕ) → k < 128 → is_x result ≡ false → is_x (lane k value) ≡ false }
 {
     if is_known(value) {
         value.lane(0)

@@ -1,4 +1,4 @@
-//! The player of up to 64 faulty machines: the cycles of vectors, from all cells X, until the watch is done.
+//! The player of up to 128 faulty machines: the cycles of vectors, from all cells X, until the watch is done.
 ghost use Rattle.std.specs.Prelude.{◌≡◌, ◌+◌, ◌^◌, ◌<◌, ◌≤◌, [], List, length, replicate, IfOk};
 ghost use Rattle.std.specs.List.{All};
 ghost use Rattle.statement.specs.Netlists.{cells};
@@ -113,7 +113,7 @@ fn bench_of(alloc: Global, state: Vec<Lanes>, signals: usize) -> Result<Bench, A
     })
 }
 
-/// Plays bursts on a netlist for up to 64 stuck lines side by side, behind `first` cycles after which the cells hold this, and has a watch hear it,
+/// Plays bursts on a netlist for up to 128 stuck lines side by side, behind `first` cycles after which the cells hold this, and has a watch hear it,
 /// which has heard those. Answers what the cells then hold, too.
 pub(crate) fn play_from<J, W: Watch<J>>(
     alloc: Global,
@@ -125,7 +125,7 @@ pub(crate) fn play_from<J, W: Watch<J>>(
     judge: &J,
     watch: W,
 ) -> Result<(W, Vec<Lanes>), AllocError>
-    requires machines { length faults.now ≤ 64 }
+    requires machines { length faults.now ≤ 128 }
     requires fits { All (IsCycleOf core.now) (all_cycles bursts.now) }
     requires few { first + length (all_cycles bursts.now) < 2 ^ 64 }
     requires size { length state.items ≡ length (cells core.now) }
@@ -152,7 +152,7 @@ pub(crate) fn play_from<J, W: Watch<J>>(
     Ok((heard, bench.state))
 }
 
-/// Plays vectors on a netlist for up to 64 stuck lines side by side, and has a watch hear it, which has heard nothing before.
+/// Plays vectors on a netlist for up to 128 stuck lines side by side, and has a watch hear it, which has heard nothing before.
 pub(crate) fn play<J, W: Watch<J>>(
     alloc: Global,
     core: &Core,
@@ -161,7 +161,7 @@ pub(crate) fn play<J, W: Watch<J>>(
     judge: &J,
     watch: W,
 ) -> Result<W, NoMemory>
-    requires machines { length faults.now ≤ 64 }
+    requires machines { length faults.now ≤ 128 }
     requires fits { All (IsCycleOf core.now) vectors.now }
     requires few { length vectors.now < 2 ^ 64 }
     requires begun { W.kept judge.now watch faults.now core.now [] (replicate (length (cells core.now)) (record { known = 0; value = 0 })) }

@@ -30,7 +30,7 @@ impl Span {
 
     /// With one machine more, which comes behind the others.
     fn with(self, k: u32) -> Span
-        requires { k < 64 }
+        requires { k < 128 }
         ensures others { (j : ℕ) → self.from ≤ j → j < self.to → j < k → (result.from ≤ j) × (j < result.to) }
         ensures here { (result.from ≤ k) × (result.to ≡ k + 1) }
     {
@@ -69,7 +69,7 @@ pub(crate) fn spans_of(
     faults: &[Fault],
     count: usize,
 ) -> Result<Vec<Span>, AllocError>
-    requires { length faults.now ≤ 64 }
+    requires { length faults.now ≤ 128 }
     ensures size { IfOk result (λ v. length v.items ≡ count) }
     ensures spans { IfOk result (λ v. AreSpans faults.now (length faults.now) v.items) }
 {
@@ -85,7 +85,7 @@ pub(crate) fn spans_of(
 
 /// A line's value where a machine may be stuck.
 fn forced_one(fault: &Fault, k: usize, line: &Line, value: Lanes) -> Lanes
-    requires { k < 64 }
+    requires { k < 128 }
     ensures { result ≡ (if is_line fault.now.line line.now then with_lane k fault.now.value value else value) }
 {
     if fault.line.is(line) {
@@ -98,7 +98,7 @@ fn forced_one(fault: &Fault, k: usize, line: &Line, value: Lanes) -> Lanes
 /// What a line makes of what comes onto it, where the machines outside of a span have no fault there.
 #[inline(never)]
 pub(crate) fn forced(faults: &[Fault], span: Span, line: &Line, value: Lanes) -> Lanes
-    requires few { length faults.now ≤ 64 }
+    requires few { length faults.now ≤ 128 }
     requires some { span.from < span.to }
     requires spanned { IsSpanned faults.now (length faults.now) (signal_of line.now) span }
     ensures { result ≡ forced_from 0 faults.now line.now value }

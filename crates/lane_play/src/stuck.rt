@@ -1,4 +1,4 @@
-//! How 64 machines settle side by side, each with its own stuck line.
+//! How 128 machines settle side by side, each with its own stuck line.
 ghost use Rattle.std.specs.Prelude.{◌≡◌, ◌<◌, ◌≤◌, IfOk, length, map};
 ghost use Rattle.std.specs.List.{All};
 ghost use Rattle.netlist.specs.Gates.{most_pins};
@@ -13,12 +13,12 @@ use crate::spans::{Span, forced, signal_of, spans_of};
 use netlist::{Definition, Fault, Kind, Line, Logic, SignalId};
 use std::alloc::{AllocError, Global};
 
-/// The faults of up to 64 machines.
+/// The faults of up to 128 machines.
 #[derive(Drop)]
 pub(crate) struct Stuck<'a> {
     pub faults: &'a [Fault],
     pub spans: Vec<Span>,
-    pub ghost few: { length faults.now ≤ 64 },
+    pub ghost few: { length faults.now ≤ 128 },
     pub ghost spanned: { AreSpans faults.now (length faults.now) spans.items },
 }
 
@@ -29,7 +29,7 @@ impl<'a> Stuck<'a> {
         faults: &'a [Fault],
         count: usize,
     ) -> Result<Stuck<'a>, AllocError>
-        requires { length faults.now ≤ 64 }
+        requires { length faults.now ≤ 128 }
         ensures faults { IfOk result (λ s. s.faults.now ≡ faults.now) }
         ensures size { IfOk result (λ s. length s.spans.items ≡ count) }
     {
@@ -82,7 +82,7 @@ fn made_forced(
     pins: &[SignalId],
     values: &[Lanes],
 ) -> Lanes
-    requires machines { length faults.now ≤ 64 }
+    requires machines { length faults.now ≤ 128 }
     requires some { span.from < span.to }
     requires spanned { IsSpanned faults.now (length faults.now) id span }
     requires below { All (λ x. x < length values.now) pins.now }

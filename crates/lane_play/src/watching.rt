@@ -6,7 +6,7 @@ use crate::packed::Lanes;
 use netlist::Tri;
 use std::alloc::AllocError;
 
-/// Hears what up to 64 machines show in one cycle after the other, beside a judge.
+/// Hears what up to 128 machines show in one cycle after the other, beside a judge.
 pub(crate) trait Watch<J>: Drop {
     /// With these faults these cycles were heard, behind which the machines' cells hold this.
     ghost kept: { J → Self → Keeping };

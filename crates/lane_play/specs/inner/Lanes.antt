@@ -1,7 +1,7 @@
--- Three values of 64 machines, side by side in two words, and how they settle: each machine has its own stuck line.
+-- Three values of 128 machines, side by side in two words, and how they settle: each machine has its own stuck line.
 -- (Parallel fault simulation: Seshu, On an improved diagnosis program, 1965.)
 use Rattle.std.specs.Prelude.{ℕ, ◌+◌, ◌*◌, ◌%◌, ◌^◌, Bool, true, false, List, [], ◌∷◌, map, bit_and, bit_or, bit_xor, if◌then◌else◌}
-use Rattle.std.specs.Int.{bit_not, w64}
+use Rattle.std.specs.Int.{bit_not, w128}
 use Rattle.statement.specs.declared.kinds.Kind.{Kind}
 use Rattle.statement.specs.declared.kinds.Kind.TheVariants.{And, Nand, Or, Nor, Xor, Xnor, Not, Buff, Dff, Const0, Const1}
 use Rattle.statement.specs.declared.kinds.Tri.{Tri}
@@ -9,8 +9,12 @@ use Rattle.statement.specs.declared.kinds.Tri.TheVariants.{X}
 use Rattle.statement.specs.declared.lines.Fault.{Fault}
 use Rattle.statement.specs.declared.lines.Line.{Line}
 use Rattle.statement.specs.Values.{Rule, is_line, known}
-use Rattle.events.specs.Words.{bit_of, ones}
+use Rattle.events.specs.Words.{bit_of}
 use Rattle.lane_play.specs.declared.packed.Lanes.{Lanes}
+
+-- every bit is 1
+abbrev pub ones : ℕ
+ones = 340282366920938463463374607431768211455
 
 -- the value of machine k
 abbrev pub lane : ℕ → Lanes → Tri
@@ -74,17 +78,17 @@ gate_lanes Const1 vs = always true
 -- ---- stuck lines
 
 abbrev pub one_at : ℕ → ℕ
-one_at k = 1 * 2 ^ k % 2 ^ 64
+one_at k = 1 * 2 ^ k % 2 ^ 128
 
 -- the value of machine k becomes a bit
 abbrev pub with_lane : ℕ → Bool → Lanes → Lanes
-with_lane k b v = record { known = bit_or v.known (one_at k); value = if b then bit_or v.value (one_at k) else bit_and v.value (bit_not w64 (one_at k)) }
+with_lane k b v = record { known = bit_or v.known (one_at k); value = if b then bit_or v.value (one_at k) else bit_and v.value (bit_not w128 (one_at k)) }
 
 -- machine k has the first of these faults, and so on: what the line makes of what comes onto it
 abbrev pub forced_from : ℕ → List Fault → Line → Lanes → Lanes
 forced_from k [] line v = v
 forced_from k (f ∷ fs) line v = forced_from (k + 1) fs line (if is_line f.line line then with_lane k f.value v else v)
 
--- the rule by which 64 machines settle side by side, each with its own stuck line
+-- the rule by which 128 machines settle side by side, each with its own stuck line
 abbrev pub lanes_rule : List Fault → Rule Lanes
 lanes_rule faults = record { line = forced_from 0 faults; gate = λ d. gate_lanes d.kind }

@@ -11,8 +11,8 @@ use Rattle.lane_play.specs.inner.Lanes.{lane, lanes}
 
 -- where the table has no X, each machine's value is known
 abbrev pub AreCommon : List Lanes → List Tri → Type 0
-AreCommon values table = AllZip (λ v t. (k : ℕ) → k < 64 → is_x t ≡ false → is_x (lane k v) ≡ false) values table
+AreCommon values table = AllZip (λ v t. (k : ℕ) → k < 128 → is_x t ≡ false → is_x (lane k v) ≡ false) values table
 
 -- With these values every cycle of a burst can be played by these steps, in each machine.
 abbrev pub ArePlanned : List Fault → Netlist → List Bool → List Tri → List ℕ → List Lanes → Type 0
-ArePlanned faults n drive strobe steps values = (k : ℕ) → k < 64 → IsPlanned (slice_get faults k) n drive strobe steps (lanes k values)
+ArePlanned faults n drive strobe steps values = (k : ℕ) → k < 128 → IsPlanned (slice_get faults k) n drive strobe steps (lanes k values)

@@ -25,7 +25,7 @@ AreSized n state values = (length state ≡ length (cells n)) × (length values 
 -- A cycle of this number was played in which the outputs showed this: whatever is said of its strobes, for each machine it is the step of its own player.
 abbrev pub AreSteps : List Fault → Netlist → List Lanes → List Lanes → Cycle → ℕ → List Lanes → Type 0
 AreSteps faults n state after cycle number row =
-    (k : ℕ) (says : Judging) → k < 64 → IsOpen says → IsStep says (slice_get faults k) n (lanes k state) (lanes k after) cycle number (judged_in says number 0 cycle.strobe (lanes k row))
+    (k : ℕ) (says : Judging) → k < 128 → IsOpen says → IsStep says (slice_get faults k) n (lanes k state) (lanes k after) cycle number (judged_in says number 0 cycle.strobe (lanes k row))
 
 -- what may be said of faults of a netlist, the cycles that were played with them, and what the machines' cells hold after these
 abbrev pub Keeping : Type 1

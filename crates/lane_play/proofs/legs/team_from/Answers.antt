@@ -23,7 +23,7 @@ loop-place-preserved c =
       | then-is_open+in_ok-push w ↦
           let e : new ≡ old ++ at ∷ [] = ap (λ (v : Vec ℕ Global). v.items) w.places-is ∙ w.in_ok-push.ensures.items in
           let long : length new ≡ length old + 1 = ap length e ∙ length-append old (at ∷ []) in
-          let not_full = c.if-len-eq64.false in
+          let not_full = c.if-len-eq128.false in
           let count = c.len.ensures in
           record {
             few = omega arith;
