@@ -1,4 +1,4 @@
-"""What the benches of 64 machines side by side share: the plain player in C++, tests of drawn patterns, and faults as it reads them."""
+"""What the benches of 128 machines side by side share: the plain player in C++, tests of drawn patterns, and faults as it reads them."""
 import os
 import random
 import subprocess

@@ -1,23 +1,43 @@
-// A plain player of 64 faulty machines side by side in C++, to time `atpg chaintest` and `atpg diagnose` beside: two words a signal for three
-// values, and a batch ends once each of its machines is told. For each shift of the chains those gates are chosen whose value isn't known in every
-// machine where scan inputs and cells are X, and which a cell or a scan output reads by way of such gates: they alone are evaluated while it shifts.
+// A plain player of 128 faulty machines side by side in C++, to time `atpg chaintest` and `atpg diagnose` beside: which values are known, and which
+// bits they are, two words each a signal, and a batch ends once each of its machines is told. For each shift of the chains those gates are chosen
+// whose value isn't known in every machine where scan inputs and cells are X, and which a cell or a scan output reads by way of such gates: they
+// alone are evaluated while it shifts.
 // It reads a scanned netlist, a file laid out as the writer of this repository does, and faults (`stem NAME BIT`, `pin NAME K BIT`, `out NAME BIT`),
 // and checks nothing of them. Without a log it tells of each fault the first strobe that is known to be wrong; with one, which faults explain it;
 // with `=K` it writes the log of fault K.
-// `--at-once=N` plays N machines in legs, and packs those that are left together anew after each, with what their cells hold.
+// `--at-once=N` plays N machines in legs, and packs those that are left together anew after each, with what their cells hold; -DWORDS=1 builds it with
+// one word of 64 machines a signal.
 //   g++ -O2 -std=c++17 -o lanes_peer lanes_peer.cpp && ./lanes_peer [--at-once=N] NET.scan TEST.stil FAULTS [LOG | =K]
 #include <algorithm>
 #include <cstring>
 #include <sstream>
 
 #include "peer_netlist.hpp"
+#ifndef WORDS
+#define WORDS 2
+#endif
+constexpr size_t side_by_side = 64 * WORDS;
+/// A bit for each machine: bit k % 64 of word k / 64 for machine k.
+typedef uint64_t Bits __attribute__((vector_size(8 * WORDS)));
+static const Bits every = ~Bits{};
 
-/// The value of machine k is known where bit k of `known` is 1, and then it is bit k of `value`.
-struct Lanes {
-    Word known = 0, value = 0;
-};
+static inline Bits bit_of(size_t k) {
+    Bits bits{};
+    bits[k / 64] = Word{1} << k % 64;
+    return bits;
+}
+
+static inline bool any(const Bits& bits) {
+    Word some = 0;
+    for (int w = 0; w < WORDS; w++) some |= bits[w];
+    return some;
+}
 
 constexpr size_t unfound = ~size_t{0};
+/// The value of machine k is known where bit k of `known` is 1, and then it is bit k of `value`.
+struct Lanes {
+    Bits known{}, value{};
+};
 
 struct Cycle {
     std::vector<char> drive;   // a bit for each input
@@ -36,7 +56,7 @@ struct Fault {
 struct Force {
     char line;
     Id signal, place;
-    Word mask = 0, bits = 0;
+    Bits mask{}, bits{};
 };
 
 static Lanes forced(Lanes v, const Force& f) { return {v.known | f.mask, (v.value & ~f.mask) | f.bits}; }
@@ -122,8 +142,8 @@ struct Player {
                 forces.push_back({f.line, f.signal, f.place});
                 found = forces.end() - 1;
             }
-            found->mask |= Word{1} << k;
-            if (f.bit) found->bits |= Word{1} << k;
+            found->mask |= bit_of(k);
+            if (f.bit) found->bits |= bit_of(k);
         }
         std::fill(values.begin(), values.end(), Lanes{});
         std::fill(next.begin(), next.end(), Lanes{});
@@ -140,24 +160,24 @@ struct Player {
         Lanes v;
         switch (net.kinds[x]) {
             case Kind::And: case Kind::Nand: {
-                Word zeros = 0, known = ones, all = ones;
+                Bits zeros{}, known = every, all = every;
                 for (Id k = 0; k < count; k++) { Lanes p = pin(k); zeros |= p.known & ~p.value; known &= p.known; all &= p.value; }
                 v = {known | zeros, all};
                 break;
             }
             case Kind::Or: case Kind::Nor: {
-                Word some = 0, known = ones, any = 0;
+                Bits some{}, known = every, any{};
                 for (Id k = 0; k < count; k++) { Lanes p = pin(k); some |= p.known & p.value; known &= p.known; any |= p.value; }
                 v = {known | some, any};
                 break;
             }
             case Kind::Xor: case Kind::Xnor: {
-                v = {ones, 0};
+                v = {every, Bits{}};
                 for (Id k = 0; k < count; k++) { Lanes p = pin(k); v.known &= p.known; v.value ^= p.value; }
                 break;
             }
-            case Kind::Const0: return {ones, 0};
-            case Kind::Const1: return {ones, ones};
+            case Kind::Const0: return {every, Bits{}};
+            case Kind::Const1: return {every, every};
             default: v = pin(0);
         }
         bool turned = net.kinds[x] == Kind::Nand || net.kinds[x] == Kind::Nor || net.kinds[x] == Kind::Xnor || net.kinds[x] == Kind::Not;
@@ -168,7 +188,7 @@ struct Player {
     /// What comes onto inputs and cells; of the last so many inputs nothing is known.
     void drive(const Cycle& cycle, Id free, const std::vector<Lanes>& state) {
         for (Id x = 0; x < net.inputs; x++) {
-            Lanes v = x + free < net.inputs ? Lanes{ones, cycle.drive[x] ? ones : 0} : Lanes{};
+            Lanes v = x + free < net.inputs ? Lanes{every, cycle.drive[x] ? every : Bits{}} : Lanes{};
             values[x] = named[x] ? on('s', x, 0, v) : v;
         }
         for (size_t c = 0; c < net.cells.size(); c++) {
@@ -197,7 +217,7 @@ struct Player {
         read.assign(net.signals(), 0);
         for (Id x : net.cells) read[*net.pins.begin(x)] = 1;
         for (size_t k = net.outputs.size() - chains; k < net.outputs.size(); k++) read[net.outputs[k]] = 1;
-        auto is_step = [&](Id x) { return read[x] && values[x].known != ones; };
+        auto is_step = [&](Id x) { return read[x] && any(values[x].known ^ every); };
         for (size_t k = net.order.size(); k-- > 0;)
             if (is_step(net.order[k])) for (const Id *p = net.pins.begin(net.order[k]), *last = net.pins.end(net.order[k]); p != last; p++) read[*p] = 1;
         steps.clear();
@@ -219,7 +239,7 @@ struct Player {
 };
 
 int main(int count, char** words) {
-    size_t at_once = 64;
+    size_t at_once = side_by_side;
     if (count > 1 && std::strncmp(words[1], "--at-once=", 10) == 0) at_once = std::strtoull(words[1] + 10, nullptr, 10), count--, words++;
     if (count < 4 || at_once == 0) return 2;
     Netlist net = read_netlist(words[1]);
@@ -259,47 +279,50 @@ int main(int count, char** words) {
     for (size_t first = 0; first < faults.size(); first += at_once) {
         std::vector<size_t> machines;
         for (size_t k = first; k < std::min(faults.size(), first + at_once); k++) machines.push_back(k);
-        std::vector<std::vector<Lanes>> states((machines.size() + 63) / 64, std::vector<Lanes>(net.cells.size()));
+        std::vector<std::vector<Lanes>> states((machines.size() + side_by_side - 1) / side_by_side, std::vector<Lanes>(net.cells.size()));
         for (size_t c = 0; c < cycles.size() && !machines.empty();) {
-            // a leg: up to a quarter more cycles than before, and to the end of its shift; where all go at once in one word, all cycles
-            size_t end = at_once == 64 ? cycles.size() : std::min(c + std::max<size_t>(1, c / 4), cycles.size());
+            // a leg: up to a quarter more cycles than before, and to the end of its shift; where no more go at once than stand side by side, all cycles
+            size_t end = at_once == side_by_side ? cycles.size() : std::min(c + std::max<size_t>(1, c / 4), cycles.size());
             while (end < cycles.size() && cycles[end].shift && cycles[end - 1].shift == cycles[end].shift) end++;
             std::vector<size_t> rest;
             std::vector<std::vector<Lanes>> kept;
-            for (size_t start = 0; start < machines.size(); start += 64) {
-                size_t count = std::min<size_t>(64, machines.size() - start);
+            for (size_t start = 0; start < machines.size(); start += side_by_side) {
+                size_t count = std::min<size_t>(side_by_side, machines.size() - start);
                 std::vector<Fault> team;
                 for (size_t k = 0; k < count; k++) team.push_back(faults[machines[start + k]]);
                 player.stick(team, 0, count);
-                player.next = states[start / 64];
-                Word left = count == 64 ? ones : (Word{1} << count) - 1;
-                for (size_t t = c; t < end && left; t++) {
+                player.next = states[start / side_by_side];
+                Bits left{};
+                for (size_t k = 0; k < count; k++) left |= bit_of(k);
+                for (size_t t = c; t < end && any(left); t++) {
                     const Cycle& cycle = cycles[t];
                     if (cycle.shift && (t == c || cycles[t - 1].shift != cycle.shift)) player.plan(cycle, chains);
                     player.settle(cycle);
                     for (auto [output, bit] : cycle.strobes) {
                         Lanes v = player.shown(output);
-                        Word wrong = bit ? ~v.value : v.value, said = v.known & wrong;
+                        Bits wrong = bit ? ~v.value : v.value, said = v.known & wrong;
                         if (logs) {
-                            if (said & 1) std::printf("%zu %s\n", t, names[net.outputs[output]].c_str());
+                            if (said[0] & 1) std::printf("%zu %s\n", t, names[net.outputs[output]].c_str());
                             continue;
                         }
                         if (diagnoses) said = ~v.known | (logged[t][output] ? ~wrong : wrong);
-                        for (said &= left; said; said &= said - 1) {
-                            int k = __builtin_ctzll(said);
+                        said &= left;
+                        for (size_t w = 0; w < WORDS; w++) for (Word some = said[w]; some; some &= some - 1) {
+                            size_t k = 64 * w + static_cast<size_t>(__builtin_ctzll(some));
                             found[machines[start + k]] = {t, output};
-                            left &= ~(Word{1} << k);
+                            left &= ~bit_of(k);
                         }
                     }
                     if (cycle.pulse) player.tick();
                     played++;
                 }
-                for (; left; left &= left - 1) {
-                    int k = __builtin_ctzll(left), to = rest.size() % 64;
+                for (size_t k = 0; k < count; k++) {
+                    if (!(left[k / 64] >> k % 64 & 1)) continue;
+                    size_t to = rest.size() % side_by_side;
                     if (to == 0) kept.emplace_back(net.cells.size());
                     for (size_t x = 0; x < net.cells.size(); x++) {
-                        kept.back()[x].known |= (player.next[x].known >> k & 1) << to;
-                        kept.back()[x].value |= (player.next[x].value >> k & 1) << to;
+                        kept.back()[x].known[to / 64] |= (player.next[x].known[k / 64] >> k % 64 & 1) << to % 64;
+                        kept.back()[x].value[to / 64] |= (player.next[x].value[k / 64] >> k % 64 & 1) << to % 64;
                     }
                     rest.push_back(machines[start + k]);
                 }
