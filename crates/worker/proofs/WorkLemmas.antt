@@ -1,7 +1,8 @@
 -- Cubes, patterns and hits of a batch.
-use Rattle.std.proofs.Common.{zero, suc, ◌≡◌, ◌≢◌, true≢false, inl, inr, ℕ, ◌<◌, List, [], ◌∷◌, get_or, refl, sym, ◌∙◌, ap, subst, arith}
+use Rattle.std.proofs.Common.{zero, suc, ◌≡◌, ◌≢◌, true≢false, inl, inr, ℕ, ◌<◌, List, [], ◌∷◌, get_or, refl, sym, ◌∙◌, ap, subst, arith, Bor}
 use Rattle.std.specs.List.{All, AllPairs}
 use Rattle.std.specs.Prelude.{true, false, Bool, Result, Ok, Err, Option, Some, None, IfNone, IsTrue}
+use Rattle.std.specs.Option.{option_copied}
 use Rattle.std.specs.Result.{OnOk}
 use Rattle.std.proofs.lemmas.List.Elements.{All-cons, All-head, All-tail}
 use Rattle.std.proofs.lemmas.List.Kept.{AllPairs-cons}
@@ -175,9 +176,9 @@ whatever_comes (Err e) p = tt
 
 -- ---- where there is no goal
 
-pub if_none : {T P Q : Type 0} (o : Option T) → (P → Q) → IfNone o P → IfNone o Q
-if_none None f p = f p
-if_none (Some x) f p = tt
+pub if_none_given : {T P Q : Type 0} (o : Option (Bor T)) → (P → Q) → IfNone (option_copied o) P → IfNone o Q
+if_none_given None f p = f p
+if_none_given (Some x) f p = tt
 
 pub whether_none : {T P : Type 0} (o : Option T) → P → IfNone o P
 whether_none None p = p

@@ -3,15 +3,15 @@
 //! Classes are drawn one by one, so that a worker whose searches end soon takes more. A class at the end or behind it is kept for a later round,
 //! since only a draw tells that none is left below: whether it is still open then is looked at there.
 ghost use Rattle.std.specs.Prelude.{◌≡◌, ◌+◌, ◌≤◌, IfOk, IfSome, vec_len};
+ghost use Rattle.cubes.specs.Cubes.{IsCubeOf};
 ghost use Rattle.shared_list.specs.Outcomes.{MatchDrawn};
 ghost use Rattle.worker.specs.inner.Tests.{AreTestsOf};
-ghost use Rattle.worker.specs.inner.Outcomes.{IsOutcome};
 
 use crate::adding::add;
 use crate::errands::Errand;
 use crate::hands::{Hand, Test};
-use crate::outcomes::Outcome;
-use crate::working::{searched, settle};
+use crate::working::{room_of, searched};
+use cubes::Cube;
 use evidence::Engine;
 use list_core::{About, Claim};
 use netlist::NoMemory;
@@ -40,40 +40,20 @@ fn drawn<J: About, T: Ledger, S: Ledger, P: Ledger, U: Ledger, R: Wait>(
     }
 }
 
-/// Keeps a test; evidence settles the claim.
-fn answer<J: About, T: Ledger, S: Ledger, P: Ledger, U: Ledger, E: Engine, G: Gate, R: Wait>(
-    errand: &Errand<'_, J, E, G, R>,
-    shared: &Shared<J, T, S, P, U>,
-    share: &mut Share<T, S, P, U>,
-    claim: Claim<J>,
-    outcome: Outcome,
+/// Keeps the cube of a test.
+fn keep_test<J: About>(
     tests: &mut Vec<Test>,
+    class: u32,
+    found: Option<Cube>,
 ) -> Result<(), NoMemory>
-    requires table { share.old.table ≡ shared.now.word.shared.table_id }
-    requires outcome { IsOutcome J.subject claim.fault outcome }
+    requires cube { IfSome found (IsCubeOf J.subject.netlist J.subject.holds) }
     requires cubes { AreTestsOf J.subject.netlist J.subject.holds tests.old.items }
-    ensures table { share.new.table ≡ share.old.table }
-    ensures unspent { share.new.unspent ≡ share.old.unspent }
     ensures few { vec_len tests.new ≤ vec_len tests.old + 1 }
     ensures cubes { AreTestsOf J.subject.netlist J.subject.holds tests.new.items }
 {
-    match outcome {
-        Outcome::Test(cube, _) => {
-            let class = claim.class();
-            add(tests, Test { class, cube })
-        }
-        Outcome::Settles(evidence, settled) => {
-            settle(
-                errand.rt,
-                shared,
-                share,
-                errand.stage,
-                claim,
-                evidence,
-                settled,
-            );
-            Ok(())
-        }
+    match found {
+        Some(cube) => add(tests, Test { class, cube }),
+        None => Ok(()),
     }
 }
 
@@ -95,20 +75,12 @@ fn hunt_claim<J: About, T: Ledger, S: Ledger, P: Ledger, U: Ledger, E: Engine, G
     ensures room { IfOk result (E.serves J.subject.netlist J.subject.holds) }
     ensures cubes { AreTestsOf J.subject.netlist J.subject.holds tests.new.items }
 {
-    if !shared.is_open(errand.rt, claim.class()) {
+    let class = claim.class();
+    if !shared.is_open(errand.rt, class) {
         return Ok(room);
     }
-    let (outcome, kept) = searched(
-        errand.alloc,
-        errand.core,
-        errand.engine,
-        errand.stage,
-        errand.holds,
-        share.worker(),
-        &claim,
-        room,
-    )?;
-    answer(errand, shared, share, claim, outcome, tests)?;
+    let (found, kept) = searched(errand, shared, share, claim, room)?;
+    keep_test::<J>(tests, class, found)?;
     Ok(kept)
 }
 
@@ -175,20 +147,6 @@ fn take_turns<J: About, T: Ledger, S: Ledger, P: Ledger, U: Ledger, E: Engine, G
         goes_on = was_drawn;
     }
     Ok(room)
-}
-
-/// The room that was kept, or a new one.
-fn room_of<J: About, E: Engine, G: Gate, R: Wait>(
-    errand: &Errand<'_, J, E, G, R>,
-    kept: Option<E::Room>,
-) -> Result<E::Room, NoMemory>
-    requires { IfSome kept (E.serves J.subject.netlist J.subject.holds) }
-    ensures { IfOk result (E.serves J.subject.netlist J.subject.holds) }
-{
-    match kept {
-        Some(room) => Ok(room),
-        None => errand.engine.room(errand.alloc, errand.core, errand.holds),
-    }
 }
 
 /// A worker's part of a round. Where memory is refused to it, it has no room behind it.

@@ -1,5 +1,5 @@
 //! Cubes to a batch, and the batch to the list.
-ghost use Rattle.std.specs.Prelude.{◌≡◌, ◌≤◌, length, IfOk, vec_len};
+ghost use Rattle.std.specs.Prelude.{◌≡◌, ◌+◌, ◌≤◌, length, IfOk, vec_len};
 ghost use Rattle.std.specs.List.{All};
 ghost use Rattle.cubes.specs.Cubes.{IsCubeOf, IsPatternOf};
 ghost use Rattle.list_core.specs.Batches.{IsTrueBatch};
@@ -54,25 +54,33 @@ fn batch_of<J: About>(
 }
 
 /// The cubes as a batch, merged and filled, with what it hits of the classes that are left; and how many of these it leaves.
-fn batch_for<J: About, T: Ledger, S: Ledger, P: Ledger, U: Ledger, N: Rng, R: Wait>(
-    rt: &R,
-    alloc: Global,
+fn batch_for<
+    J: About,
+    T: Ledger,
+    S: Ledger,
+    P: Ledger,
+    U: Ledger,
+    E: Engine,
+    G: Gate,
+    N: Rng,
+    R: Wait,
+>(
+    errand: &Errand<'_, J, E, G, R>,
     shared: &Shared<J, T, S, P, U>,
     simulator: &mut Simulator<'_>,
     rng: &mut N,
     cubes: &[Cube],
 ) -> Result<(Batch, u64), NoMemory>
     requires simulator { simulator.old ≡ J.subject.netlist }
-    requires lines { HaveLines J.subject }
     requires wide { All (IsCubeOf J.subject.netlist J.subject.holds) cubes.now }
     requires few { length cubes.now ≤ 64 }
     ensures few { IfOk result (λ r. length r.0.patterns ≤ length cubes.now) }
     ensures true_batch { IfOk result (λ r. IsTrueBatch J.subject r.0) }
     ensures simulator { simulator.new ≡ simulator.old }
 {
-    let patterns = patterns_of::<J, N>(alloc, cubes, rng)?;
-    let left = shared.undetected(rt, alloc)?;
-    let batch = batch_of(alloc, simulator, patterns, &left)?;
+    let patterns = patterns_of::<J, N>(errand.alloc, cubes, rng)?;
+    let left = shared.undetected(errand.rt, errand.alloc)?;
+    let batch = batch_of(errand.alloc, simulator, patterns, &left)?;
     let undetected = left.classes().len().saturating_sub(batch.hits().len()) as u64;
     Ok((batch, undetected))
 }
@@ -107,6 +115,39 @@ pub(crate) fn batch_beside<
     Ok((Batch::new(patterns, hits), undetected))
 }
 
+/// Publishes a batch, and passes the stage.
+pub(crate) fn publish_batch<
+    J: About,
+    T: Ledger,
+    S: Ledger,
+    P: Ledger,
+    U: Ledger,
+    E: Engine,
+    G: Gate,
+    R: Wait,
+>(
+    errand: &Errand<'_, J, E, G, R>,
+    shared: &Shared<J, T, S, P, U>,
+    share: &mut Share<T, S, P, U>,
+    batch: Batch,
+    undetected: u64,
+) -> Result<(), NoMemory>
+    requires table { share.old.table ≡ shared.now.word.shared.table_id }
+    requires true_batch { IsTrueBatch J.subject batch }
+    requires unspent { length batch.patterns ≤ share.old.unspent }
+    ensures table { share.new.table ≡ share.old.table }
+    ensures ended { share.new.ended ≡ share.old.ended }
+    ensures unspent { share.old.unspent ≤ share.new.unspent + length batch.patterns }
+{
+    if let Err((NoMemory, _)) = shared.publish(errand.rt, share, batch) {
+        return Err(NoMemory);
+    }
+    errand
+        .stage
+        .at(share.worker(), Stage::Published { undetected });
+    Ok(())
+}
+
 /// Publishes the cubes, merged and filled, with what they hit of the classes that are left.
 pub(crate) fn publish_cubes<
     J: About,
@@ -114,22 +155,20 @@ pub(crate) fn publish_cubes<
     S: Ledger,
     P: Ledger,
     U: Ledger,
+    E: Engine,
     G: Gate,
     N: Rng,
     R: Wait,
 >(
-    rt: &R,
-    alloc: Global,
+    errand: &Errand<'_, J, E, G, R>,
     shared: &Shared<J, T, S, P, U>,
     share: &mut Share<T, S, P, U>,
     simulator: &mut Simulator<'_>,
-    stage: &G,
     rng: &mut N,
     cubes: &[Cube],
 ) -> Result<(), NoMemory>
     requires table { share.old.table ≡ shared.now.word.shared.table_id }
     requires simulator { simulator.old ≡ J.subject.netlist }
-    requires lines { HaveLines J.subject }
     requires wide { All (IsCubeOf J.subject.netlist J.subject.holds) cubes.now }
     requires few { length cubes.now ≤ 64 }
     requires unspent { length cubes.now ≤ share.old.unspent }
@@ -137,10 +176,6 @@ pub(crate) fn publish_cubes<
     ensures ended { share.new.ended ≡ share.old.ended }
     ensures simulator { simulator.new ≡ simulator.old }
 {
-    let (batch, undetected) = batch_for(rt, alloc, shared, simulator, rng, cubes)?;
-    if let Err((NoMemory, _)) = shared.publish(rt, share, batch) {
-        return Err(NoMemory);
-    }
-    stage.at(share.worker(), Stage::Published { undetected });
-    Ok(())
+    let (batch, undetected) = batch_for(errand, shared, simulator, rng, cubes)?;
+    publish_batch(errand, shared, share, batch, undetected)
 }

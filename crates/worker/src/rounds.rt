@@ -19,14 +19,14 @@ use crate::errands::Errand;
 use crate::gathering::{first_cubes, gather, keep_unhit};
 use crate::hands::{Hand, Test};
 use crate::hunting::hunt;
-use crate::publishing::{batch_beside, patterns_of};
+use crate::publishing::{batch_beside, patterns_of, publish_batch};
 use crate::simulators::Simulators;
 use crate::working::{FULL, is_enough};
 use cubes::Pattern;
 use evidence::Engine;
 use list_core::About;
 use netlist::{Core, NoMemory};
-use outside::{Gate, Stage};
+use outside::Gate;
 use rand_core::Rng;
 use rand_pcg::Lcg64Xsh32;
 use shared_list::{Share, Shared};
@@ -183,12 +183,7 @@ fn publish_word<
 {
     let (batch, undetected) = batch_beside(errand, shared, simulators, word)?;
     keep_unhit(tests, batch.hits());
-    if let Err((NoMemory, _)) = shared.publish(errand.rt, share, batch) {
-        return Err(NoMemory);
-    }
-    errand
-        .stage
-        .at(share.worker(), Stage::Published { undetected });
+    publish_batch(errand, shared, share, batch, undetected)?;
     Ok(undetected)
 }
 
@@ -305,7 +300,7 @@ fn take_step<
     let left = publish_first(errand, simulators, rng, pace.size, lead)?;
     Ok(Pace {
         size: batch_size(left, width_of(errand.core)),
-        has_ended: is_enough(errand.rt, lead.shared, errand.goal),
+        has_ended: is_enough(errand, lead.shared),
         ..pace
     })
 }
@@ -337,7 +332,7 @@ fn take_steps<
         end: 0,
         closed: 0,
         size: batch_size(classes, width_of(errand.core)),
-        has_ended: is_enough(errand.rt, lead.shared, errand.goal),
+        has_ended: is_enough(errand, lead.shared),
     };
     for _ in errand.rt.forever() {
         if pace.has_ended {

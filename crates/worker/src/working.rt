@@ -6,18 +6,18 @@
 //!
 //! Where there is a goal it looks whether enough is detected: before its first claim, and behind each batch, which alone brings detections. To look
 //! before each claim would hold the lock for a pass over all classes as often.
-ghost use Rattle.std.specs.Prelude.{◌≡◌, ◌+◌, ◌≤◌, ◌<◌, ◌⊎◌, true, false, IfOk, IfNone, IsTrue, OnOk, vec_len};
+ghost use Rattle.std.specs.Prelude.{◌≡◌, ◌+◌, ◌≤◌, ◌<◌, ◌⊎◌, true, false, IfOk, IfNone, IfSome, IsTrue, OnOk, vec_len};
 ghost use Rattle.std.specs.List.{All};
 ghost use Rattle.netlist.specs.Holds.{AreHoldsOf};
 ghost use Rattle.cubes.specs.Cubes.{IsCubeOf};
 ghost use Rattle.list_core.specs.States.{MaySettle};
 ghost use Rattle.list_core.specs.Subjects.{HaveLines};
 ghost use Rattle.shared_list.specs.Tally.{gave};
-ghost use Rattle.worker.specs.Working.{MaySearch};
 ghost use Rattle.worker.specs.inner.Outcomes.{IsOutcome};
 ghost use Rattle.worker.specs.inner.Stock.{IsStock};
 
 use crate::adding::add;
+use crate::errands::Errand;
 use crate::outcomes::{Outcome, outcome_of};
 use crate::publishing::publish_cubes;
 use cubes::Cube;
@@ -29,6 +29,7 @@ use rand_core::Rng;
 use rand_pcg::Lcg64Xsh32;
 use shared_list::{Drawn, Share, Shared};
 use std::alloc::Global;
+use std::marker::PhantomData;
 use std::sync::Wait;
 use std::sync::ledger::Ledger;
 use word_sim::Simulator;
@@ -37,15 +38,20 @@ use word_sim::Simulator;
 pub(crate) const FULL: usize = 64;
 
 /// Whether there is a goal, and enough is detected. The list is asked under its lock, and only where there is a goal.
-pub(crate) fn is_enough<J: About, T: Ledger, S: Ledger, P: Ledger, U: Ledger, R: Wait>(
-    rt: &R,
-    shared: &Shared<J, T, S, P, U>,
-    goal: Option<&Goal>,
-) -> bool
-    ensures { IfNone goal.entry (result ≡ false) }
+pub(crate) fn is_enough<
+    J: About,
+    T: Ledger,
+    S: Ledger,
+    P: Ledger,
+    U: Ledger,
+    E: Engine,
+    G: Gate,
+    R: Wait,
+>(errand: &Errand<'_, J, E, G, R>, shared: &Shared<J, T, S, P, U>) -> bool
+    ensures { IfNone errand.now (result ≡ false) }
 {
-    match goal {
-        Some(goal) => shared.is_enough(rt, goal),
+    match errand.goal {
+        Some(goal) => shared.is_enough(errand.rt, goal),
         None => false,
     }
 }
@@ -73,40 +79,41 @@ pub fn work<J: About, T: Ledger, S: Ledger, P: Ledger, U: Ledger, E: Engine, G: 
     ensures ended { OnOk result (IfNone goal.entry (share.new.ended ≡ true)) }
 {
     let mut rng = Lcg64Xsh32::new(seed, share.worker() as u64);
-    let room = engine.room(alloc, core, holds)?;
     let mut simulator = Simulator::new(alloc, core)?;
-    let cubes = work_turns(
+    let errand = Errand {
         rt,
         alloc,
-        shared,
-        share,
         core,
         engine,
         stage,
         holds,
-        room,
-        &mut simulator,
-        &mut rng,
         goal,
-    )?;
-    publish_cubes(
-        rt,
-        alloc,
-        shared,
-        share,
-        &mut simulator,
-        stage,
-        &mut rng,
-        &cubes,
-    )
+        about: PhantomData,
+    };
+    let room = room_of(&errand, None)?;
+    let cubes = work_turns(&errand, shared, share, room, &mut simulator, &mut rng)?;
+    publish_cubes(&errand, shared, share, &mut simulator, &mut rng, &cubes)
+}
+
+/// The room that was kept, or a new one.
+pub(crate) fn room_of<J: About, E: Engine, G: Gate, R: Wait>(
+    errand: &Errand<'_, J, E, G, R>,
+    kept: Option<E::Room>,
+) -> Result<E::Room, NoMemory>
+    requires { IfSome kept (E.serves J.subject.netlist J.subject.holds) }
+    ensures { IfOk result (E.serves J.subject.netlist J.subject.holds) }
+{
+    match kept {
+        Some(room) => Ok(room),
+        None => errand.engine.room(errand.alloc, errand.core, errand.holds),
+    }
 }
 
 /// Hands a claim back with its evidence, and passes the stage if the class took it.
-pub(crate) fn settle<J: About, T: Ledger, S: Ledger, P: Ledger, U: Ledger, G: Gate, R: Wait>(
-    rt: &R,
+fn settle<J: About, T: Ledger, S: Ledger, P: Ledger, U: Ledger, E: Engine, G: Gate, R: Wait>(
+    errand: &Errand<'_, J, E, G, R>,
     shared: &Shared<J, T, S, P, U>,
     share: &mut Share<T, S, P, U>,
-    stage: &G,
     claim: Claim<J>,
     evidence: Evidence,
     settled: Stage,
@@ -115,91 +122,135 @@ pub(crate) fn settle<J: About, T: Ledger, S: Ledger, P: Ledger, U: Ledger, G: Ga
     requires shows { MaySettle J.subject claim.fault evidence }
     ensures { (share.new ≡ gave share.old) ⊎ (share.new ≡ share.old) }
 {
-    if let Settling::Settled = shared.settle(rt, share, claim, evidence) {
-        stage.at(share.worker(), settled);
+    if let Settling::Settled = shared.settle(errand.rt, share, claim, evidence) {
+        errand.stage.at(share.worker(), settled);
     }
 }
 
-/// Searches a claim that was drawn. The room comes back.
-pub(crate) fn searched<J: About, E: Engine, G: Gate>(
-    alloc: Global,
-    core: &Core,
-    engine: &E,
-    stage: &G,
-    holds: &Holds,
-    worker: u32,
-    claim: &Claim<J>,
-    room: E::Room,
-) -> Result<(Outcome, E::Room), NoMemory>
-    requires subject { MaySearch J.subject core.now holds.now E.refutes }
-    requires room { E.serves core.now holds.now room }
-    ensures outcome { IfOk result (λ r. IsOutcome J.subject claim.now.fault r.0) }
-    ensures room { IfOk result (λ r. E.serves core.now holds.now r.1) }
-{
-    stage.at(worker, Stage::Claimed);
-    let (found, kept) = engine.search_in(alloc, room, core, claim.fault(), claim.limit(), holds)?;
-    Ok((outcome_of(found), kept))
-}
-
-/// Keeps the cube of a test; evidence settles the claim.
-fn answer<J: About, T: Ledger, S: Ledger, P: Ledger, U: Ledger, G: Gate, R: Wait>(
-    rt: &R,
+/// The cube of a test; evidence settles the claim.
+fn answer<J: About, T: Ledger, S: Ledger, P: Ledger, U: Ledger, E: Engine, G: Gate, R: Wait>(
+    errand: &Errand<'_, J, E, G, R>,
     shared: &Shared<J, T, S, P, U>,
     share: &mut Share<T, S, P, U>,
-    stage: &G,
     claim: Claim<J>,
     outcome: Outcome,
-    cubes: &mut Vec<Cube>,
-) -> Result<(), NoMemory>
+) -> Option<Cube>
     requires table { share.old.table ≡ shared.now.word.shared.table_id }
     requires outcome { IsOutcome J.subject claim.fault outcome }
-    requires wide { All (IsCubeOf J.subject.netlist J.subject.holds) cubes.old.items }
     ensures table { share.new.table ≡ share.old.table }
     ensures unspent { share.new.unspent ≡ share.old.unspent }
-    ensures few { OnOk result (vec_len cubes.new ≤ vec_len cubes.old + 1) }
-    ensures wide { OnOk result (All (IsCubeOf J.subject.netlist J.subject.holds) cubes.new.items) }
+    ensures cube { IfSome result (IsCubeOf J.subject.netlist J.subject.holds) }
 {
     match outcome {
-        Outcome::Test(cube, _) => add(cubes, cube),
+        Outcome::Test(cube, _) => Some(cube),
         Outcome::Settles(evidence, settled) => {
-            settle(rt, shared, share, stage, claim, evidence, settled);
-            Ok(())
+            settle(errand, shared, share, claim, evidence, settled);
+            None
         }
     }
 }
 
+/// Searches a claim that was drawn, with no lock held: the cube of a test, and the room back. Evidence settles the claim.
+pub(crate) fn searched<
+    J: About,
+    T: Ledger,
+    S: Ledger,
+    P: Ledger,
+    U: Ledger,
+    E: Engine,
+    G: Gate,
+    R: Wait,
+>(
+    errand: &Errand<'_, J, E, G, R>,
+    shared: &Shared<J, T, S, P, U>,
+    share: &mut Share<T, S, P, U>,
+    claim: Claim<J>,
+    room: E::Room,
+) -> Result<(Option<Cube>, E::Room), NoMemory>
+    requires table { share.old.table ≡ shared.now.word.shared.table_id }
+    requires room { E.serves J.subject.netlist J.subject.holds room }
+    ensures table { share.new.table ≡ share.old.table }
+    ensures unspent { share.new.unspent ≡ share.old.unspent }
+    ensures cube { IfOk result (λ r. IfSome r.0 (IsCubeOf J.subject.netlist J.subject.holds)) }
+    ensures room { IfOk result (λ r. E.serves J.subject.netlist J.subject.holds r.1) }
+{
+    errand.stage.at(share.worker(), Stage::Claimed);
+    let (outcome, kept) = outcome_in(errand, &claim, room)?;
+    Ok((answer(errand, shared, share, claim, outcome), kept))
+}
+
+/// What a search for a claim answers. The room comes back.
+fn outcome_in<J: About, E: Engine, G: Gate, R: Wait>(
+    errand: &Errand<'_, J, E, G, R>,
+    claim: &Claim<J>,
+    room: E::Room,
+) -> Result<(Outcome, E::Room), NoMemory>
+    requires { E.serves J.subject.netlist J.subject.holds room }
+    ensures outcome { IfOk result (λ r. IsOutcome J.subject claim.now.fault r.0) }
+    ensures room { IfOk result (λ r. E.serves J.subject.netlist J.subject.holds r.1) }
+{
+    let (found, kept) = errand.engine.search_in(
+        errand.alloc,
+        room,
+        errand.core,
+        claim.fault(),
+        claim.limit(),
+        errand.holds,
+    )?;
+    Ok((outcome_of(found), kept))
+}
+
+/// Keeps the cube of a test.
+fn keep_cube<J: About>(cubes: &mut Vec<Cube>, found: Option<Cube>) -> Result<(), NoMemory>
+    requires cube { IfSome found (IsCubeOf J.subject.netlist J.subject.holds) }
+    requires wide { All (IsCubeOf J.subject.netlist J.subject.holds) cubes.old.items }
+    ensures few { OnOk result (vec_len cubes.new ≤ vec_len cubes.old + 1) }
+    ensures wide { OnOk result (All (IsCubeOf J.subject.netlist J.subject.holds) cubes.new.items) }
+{
+    match found {
+        Some(cube) => add(cubes, cube),
+        None => Ok(()),
+    }
+}
+
 /// Publishes the cubes once there are as many as a batch has, and then looks whether enough is detected; whether it is.
-fn publish_full<J: About, T: Ledger, S: Ledger, P: Ledger, U: Ledger, G: Gate, N: Rng, R: Wait>(
-    rt: &R,
-    alloc: Global,
+fn publish_full<
+    J: About,
+    T: Ledger,
+    S: Ledger,
+    P: Ledger,
+    U: Ledger,
+    E: Engine,
+    G: Gate,
+    N: Rng,
+    R: Wait,
+>(
+    errand: &Errand<'_, J, E, G, R>,
     shared: &Shared<J, T, S, P, U>,
     share: &mut Share<T, S, P, U>,
     simulator: &mut Simulator<'_>,
-    stage: &G,
     rng: &mut N,
     cubes: &mut Vec<Cube>,
-    goal: Option<&Goal>,
 ) -> Result<bool, NoMemory>
     requires table { share.old.table ≡ shared.now.word.shared.table_id }
     requires simulator { simulator.old ≡ J.subject.netlist }
-    requires lines { HaveLines J.subject }
     requires wide { All (IsCubeOf J.subject.netlist J.subject.holds) cubes.old.items }
     requires few { vec_len cubes.old ≤ 64 }
     requires unspent { vec_len cubes.old ≤ share.old.unspent }
     ensures table { share.new.table ≡ share.old.table }
     ensures simulator { simulator.new ≡ simulator.old }
     ensures stock { OnOk result (IsStock J.subject share.new cubes.new) }
-    ensures goal { IfOk result (λ b. IfNone goal.entry (b ≡ false)) }
+    ensures goal { IfOk result (λ b. IfNone errand.now (b ≡ false)) }
 {
     if cubes.len() < FULL {
         return Ok(false);
     }
-    publish_cubes(rt, alloc, shared, share, simulator, stage, rng, cubes)?;
+    publish_cubes(errand, shared, share, simulator, rng, cubes)?;
     cubes.clear();
-    Ok(is_enough(rt, shared, goal))
+    Ok(is_enough(errand, shared))
 }
 
-/// Searches a claim that was drawn, answers it, and publishes once there are as many cubes as a batch has: the room back, and whether to end.
+/// Searches a claim that was drawn, and publishes once there are as many cubes as a batch has: the room back, and whether to end.
 fn work_claim<
     J: About,
     T: Ledger,
@@ -211,37 +262,29 @@ fn work_claim<
     N: Rng,
     R: Wait,
 >(
-    rt: &R,
-    alloc: Global,
+    errand: &Errand<'_, J, E, G, R>,
     shared: &Shared<J, T, S, P, U>,
     share: &mut Share<T, S, P, U>,
-    core: &Core,
-    engine: &E,
-    stage: &G,
-    holds: &Holds,
     claim: Claim<J>,
     room: E::Room,
     simulator: &mut Simulator<'_>,
     rng: &mut N,
     cubes: &mut Vec<Cube>,
-    goal: Option<&Goal>,
 ) -> Result<(E::Room, bool), NoMemory>
     requires table { share.old.table ≡ shared.now.word.shared.table_id }
-    requires subject { MaySearch J.subject core.now holds.now E.refutes }
-    requires room { E.serves core.now holds.now room }
+    requires room { E.serves J.subject.netlist J.subject.holds room }
     requires simulator { simulator.old ≡ J.subject.netlist }
     requires stock { IsStock J.subject share.old cubes.old }
     requires unspent { vec_len cubes.old < share.old.unspent }
     ensures table { share.new.table ≡ share.old.table }
     ensures simulator { simulator.new ≡ simulator.old }
-    ensures room { IfOk result (λ r. E.serves core.now holds.now r.0) }
+    ensures room { IfOk result (λ r. E.serves J.subject.netlist J.subject.holds r.0) }
     ensures stock { OnOk result (IsStock J.subject share.new cubes.new) }
-    ensures goal { IfOk result (λ r. IfNone goal.entry (r.1 ≡ false)) }
+    ensures goal { IfOk result (λ r. IfNone errand.now (r.1 ≡ false)) }
 {
-    let worker = share.worker();
-    let (outcome, kept) = searched(alloc, core, engine, stage, holds, worker, &claim, room)?;
-    answer(rt, shared, share, stage, claim, outcome, cubes)?;
-    let has_ended = publish_full(rt, alloc, shared, share, simulator, stage, rng, cubes, goal)?;
+    let (found, kept) = searched(errand, shared, share, claim, room)?;
+    keep_cube::<J>(cubes, found)?;
+    let has_ended = publish_full(errand, shared, share, simulator, rng, cubes)?;
     Ok((kept, has_ended))
 }
 
@@ -257,36 +300,28 @@ fn take_turn<
     N: Rng,
     R: Wait,
 >(
-    rt: &R,
-    alloc: Global,
+    errand: &Errand<'_, J, E, G, R>,
     shared: &Shared<J, T, S, P, U>,
     share: &mut Share<T, S, P, U>,
-    core: &Core,
-    engine: &E,
-    stage: &G,
-    holds: &Holds,
     room: E::Room,
     simulator: &mut Simulator<'_>,
     rng: &mut N,
     cubes: &mut Vec<Cube>,
-    goal: Option<&Goal>,
 ) -> Result<(E::Room, bool), NoMemory>
     requires table { share.old.table ≡ shared.now.word.shared.table_id }
-    requires subject { MaySearch J.subject core.now holds.now E.refutes }
-    requires room { E.serves core.now holds.now room }
+    requires room { E.serves J.subject.netlist J.subject.holds room }
     requires simulator { simulator.old ≡ J.subject.netlist }
     requires stock { IsStock J.subject share.old cubes.old }
     ensures table { share.new.table ≡ share.old.table }
     ensures simulator { simulator.new ≡ simulator.old }
-    ensures room { IfOk result (λ r. E.serves core.now holds.now r.0) }
+    ensures room { IfOk result (λ r. E.serves J.subject.netlist J.subject.holds r.0) }
     ensures stock { OnOk result (IsStock J.subject share.new cubes.new) }
-    ensures told { IfOk result (λ r. IfNone goal.entry (IsTrue r.1 → share.new.ended ≡ true)) }
+    ensures told { IfOk result (λ r. IfNone errand.now (IsTrue r.1 → share.new.ended ≡ true)) }
 {
-    match shared.take(rt, share) {
-        Drawn::Claim(claim) => work_claim(
-            rt, alloc, shared, share, core, engine, stage, holds, claim, room, simulator, rng,
-            cubes, goal,
-        ),
+    match shared.take(errand.rt, share) {
+        Drawn::Claim(claim) => {
+            work_claim(errand, shared, share, claim, room, simulator, rng, cubes)
+        }
         Drawn::Gone(_) => Ok((room, false)),
         Drawn::None => Ok((room, true)),
     }
@@ -304,39 +339,29 @@ fn work_turns<
     N: Rng,
     R: Wait,
 >(
-    rt: &R,
-    alloc: Global,
+    errand: &Errand<'_, J, E, G, R>,
     shared: &Shared<J, T, S, P, U>,
     share: &mut Share<T, S, P, U>,
-    core: &Core,
-    engine: &E,
-    stage: &G,
-    holds: &Holds,
     room: E::Room,
     simulator: &mut Simulator<'_>,
     rng: &mut N,
-    goal: Option<&Goal>,
 ) -> Result<Vec<Cube>, NoMemory>
     requires table { share.old.table ≡ shared.now.word.shared.table_id }
-    requires subject { MaySearch J.subject core.now holds.now E.refutes }
-    requires room { E.serves core.now holds.now room }
+    requires room { E.serves J.subject.netlist J.subject.holds room }
     requires simulator { simulator.old ≡ J.subject.netlist }
     ensures table { share.new.table ≡ share.old.table }
     ensures simulator { simulator.new ≡ simulator.old }
     ensures stock { IfOk result (λ cubes. IsStock J.subject share.new cubes) }
-    ensures ended { OnOk result (IfNone goal.entry (share.new.ended ≡ true)) }
+    ensures ended { OnOk result (IfNone errand.now (share.new.ended ≡ true)) }
 {
     let mut room = room;
-    let mut cubes = Vec::new(alloc);
-    let mut has_ended = is_enough(rt, shared, goal);
-    for _ in rt.forever() {
+    let mut cubes = Vec::new(errand.alloc);
+    let mut has_ended = is_enough(errand, shared);
+    for _ in errand.rt.forever() {
         if has_ended {
             break;
         }
-        let (kept, ends) = take_turn(
-            rt, alloc, shared, share, core, engine, stage, holds, room, simulator, rng, &mut cubes,
-            goal,
-        )?;
+        let (kept, ends) = take_turn(errand, shared, share, room, simulator, rng, &mut cubes)?;
         room = kept;
         has_ended = ends;
     }
