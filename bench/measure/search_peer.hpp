@@ -359,7 +359,6 @@ struct Sim {
         std::fill(decided.begin(), decided.end(), X);
         fault = f;
         if (f.sort == 0 || (f.sort == 1 && n.is_gate(f.signal))) touch(f.signal);
-        trail.clear();
     }
     void assign(u32 x, bool bit) { decided[x] = known(bit); touch(x); }
     void undo(size_t mark, u32 x) {

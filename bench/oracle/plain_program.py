@@ -377,8 +377,8 @@ def run(texts, options, told):
 
 def transition(texts, options, told):
     """The texts of a test for slow lines. Every search comes to an end where the backtrack limit is that of all bits of the signals on which it
-    splits, or so it is told. A batch of drawn patterns comes first. The patterns are known where the tests of each fault that the batch leaves are those of one cube,
-    which is what a search that decides no more than it needs finds. The searches choose the trees."""
+    splits, or so it is told. A batch of drawn patterns comes first, and two rounds of searches behind it. The patterns are known where the tests of each fault that is searched
+    are those of one cube, which is what a search that decides no more than it needs finds. The searches choose the trees."""
     netlist = netlist_of(texts[0])
     limit, sources = int(options.get("--limit", "100")), len(netlist.inputs + netlist.cells)
     if sources > plain_transition.MOST_SOURCES:
@@ -389,13 +389,11 @@ def transition(texts, options, told):
     tests = plain_transition.tests_of(netlist)
     totals = totals_of(len(tests), sum(bool(each) for each in tests))
     seed = int(options.get("--seed", "1"))
-    batch = plain_transition.batch_of(netlist, seed)
-    last = plain_transition.SlowLines(netlist, chains, batch).last
-    cubes = [plain_transition.cube_of(netlist, each) for each, known in zip(tests, last) if each and known is None]
+    patterns = plain_transition.with_tests(netlist, chains, tests, seed)
     trees_alone = options.get("--engine") != "clauses" and "--then" not in options
     this = "transition", texts[0], *sorted(options.items())
-    if trees_alone and None not in cubes:
-        situation = plain_transition.kept(netlist, chains, batch + plain_transition.filled(netlist, cubes, seed))
+    if trees_alone and patterns is not None:
+        situation = plain_transition.kept(netlist, chains, patterns)
         stil = KnownOfRun(plain_transition.stil_of(netlist, chains, situation.patterns).decode(), this)
         report = KnownOfRun(plain_transition.report_of(situation, limit), this)
         shown = f"{totals} patterns {len(situation.patterns)} cycles {situation.cycles()}\n"

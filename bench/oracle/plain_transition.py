@@ -25,6 +25,8 @@ from sample_netlist import Pcg32
 
 MOST_SOURCES = 17
 BATCH = 64
+STEP = 16  # the first round takes each fault of so many
+ENOUGH = 128  # no more faults that are left need no first round
 FIRST = ("atpg transition certificate 1", "atpg transition certificate 2")  # without refutations, and with some
 SLOW = ("rise", "fall")  # of a line that is slow to leave 0, or 1
 FAULT = re.compile(r"((?:stem|out) \S+|pin \S+ \d+) (rise|fall) ")
@@ -282,9 +284,34 @@ def batch_of(netlist, seed):
     return [{name: words.next_u32() & 1 for name in netlist.inputs + netlist.cells} for _ in range(BATCH)]
 
 
-def filled(netlist, cubes, seed):
-    """Cubes merged in order, each with the first that it doesn't contradict, and filled by the lowest bits of drawn words."""
-    results, words = [], Pcg32(seed, 0)
+def first_round(last):
+    """The faults that are searched first, of those that no drawn pattern detects."""
+    left = [k for k, known in enumerate(last) if known is None]
+    return [k for k in left if k % STEP == 0] if len(left) > ENOUGH else []
+
+
+def cubes_of(netlist, tests, places):
+    """The cubes of these faults that can be detected; None for one whose tests aren't those of a cube."""
+    return [cube_of(netlist, tests[k]) for k in places if tests[k]]
+
+
+def with_tests(netlist, chains, tests, seed):
+    """The drawn patterns, and behind them those of two rounds of searches: the second is over what the patterns before it leave. None where some
+    tests aren't those of a cube."""
+    patterns = batch_of(netlist, seed)
+    for stream in (2, 0):
+        last = SlowLines(netlist, chains, patterns).last
+        places = first_round(last) if stream == 2 else [k for k, known in enumerate(last) if known is None]
+        cubes = cubes_of(netlist, tests, places)
+        if None in cubes:
+            return None
+        patterns = patterns + filled(netlist, cubes, seed, stream)
+    return patterns
+
+
+def filled(netlist, cubes, seed, stream):
+    """Cubes merged in order, each with the first that it doesn't contradict, and filled by the lowest bits of words drawn from a stream."""
+    results, words = [], Pcg32(seed, stream)
     for cube in cubes:
         fitting = next((result for result in results if all(result.get(name, bit) == bit for name, bit in cube.items())), None)
         if fitting is None:

@@ -1,6 +1,6 @@
-//! From a design to the five files of its transition faults. A batch of drawn patterns drops most faults that can be detected; the others are
-//! searched, each on two frames of its own, and then all patterns are simulated: there is no list that workers share, and so no lock.
-ghost use Rattle.std.specs.Prelude.{◌≡◌, ◌<◌, ◌≤◌, ◌^◌, IfOk, length};
+//! From a design to the five files of its transition faults. A batch of drawn patterns drops most faults that can be detected; the others are searched in
+//! two rounds, and then all patterns are simulated. What a round searches is set before it begins: there is no list that workers share, and so no lock.
+ghost use Rattle.std.specs.Prelude.{◌≡◌, ◌<◌, ◌≤◌, ◌+◌, ◌^◌, IfOk, length};
 ghost use Rattle.std.specs.List.{All};
 ghost use Rattle.plain_text.specs.Limits.{most_workers};
 ghost use Rattle.netlist.specs.Designs.{IsDesign};
@@ -8,6 +8,7 @@ ghost use Rattle.netlist.specs.Holds.{none_held};
 ghost use Rattle.cubes.specs.Cubes.{IsPatternOf};
 ghost use Rattle.scan_insert.specs.Scanned.{AreChainsOf, scanned_of};
 ghost use Rattle.statement.specs.Faults.{universe_of};
+ghost use Rattle.transition.specs.Searches.{AreFoundWhereLeft};
 ghost use Rattle.transition_tests.specs.Verdicts.{AreTests, MayHave};
 ghost use Rattle.transition_run.specs.Runs.{IsTransitionRun};
 ghost use Rattle.transition_run.specs.inner.Written.{IsLaunchText, IsSaid, IsWritten};
@@ -15,7 +16,7 @@ ghost use Rattle.transition_run.specs.inner.Written.{IsLaunchText, IsSaid, IsWri
 use crate::truth::written_tells_the_truth;
 use bench_text::write;
 use cubes::Pattern;
-use evidence::Engine;
+use evidence::{Engine, Found};
 use fault_universe::{FaultSet, faults_have_lines, faults_have_signals, few_faults, universe};
 use netlist::{Core, Netlist, NoMemory};
 use outside::{Gate, Stage};
@@ -27,7 +28,10 @@ use stil_write::write_stil;
 use transition::{Trees, search_left};
 use transition_files::stil2_of;
 use transition_report::{TransitionReport, report_of, write_certificate, write_report};
-use transition_tests::{Tests, batch_of, leaves_of, left_by, lines_of, tests_of};
+use transition_tests::{
+    Tests, all_answers, batch_of, first_round, leaves_of, left_by, lines_of, second_round,
+    tests_of, with_tests,
+};
 
 /// How a run goes: at most so many chains, so many workers, at most so many closed ends a search,
 /// the seed of the bits that cubes leave open, and which trees the engine's rule lets stand.
@@ -148,16 +152,99 @@ fn texts_of(
     })
 }
 
-/// What is passed once the drawn patterns are simulated: the faults that they detect are answered.
-fn drawn(left: &[bool]) -> Stage {
-    let detected = left.iter().filter(|is_left| !**is_left).count() as u64;
+/// What is passed where patterns detect so many faults that aren't searched.
+fn dropped(count: u64) -> Stage {
     Stage::Answered {
-        count: detected,
-        detected,
+        count,
+        detected: count,
     }
 }
 
-/// Tests of these faults: drawn patterns, searches for what they leave, and of all patterns those that are needed.
+/// How many faults are marked.
+fn count_of(marks: &[bool]) -> u64 {
+    marks.iter().filter(|is_marked| **is_marked).count() as u64
+}
+
+/// The answers for the faults that are marked.
+fn answers_of<R: Threads + Sync, E: Engine + Sync, G: Gate + Sync>(
+    rt: &R,
+    alloc: Global,
+    stage: &G,
+    core: &Core,
+    faults: &FaultSet,
+    plan: TransitionPlan,
+    engine: &E,
+    marks: &[bool],
+) -> Result<Vec<Option<Found>>, NoMemory>
+    requires design { IsDesign core.now }
+    requires faults { faults.now ≡ universe_of core.now }
+    requires limit { 1 ≤ plan.limit }
+    requires workers { 0 < plan.workers }
+    requires marks { length marks.now ≡ length (universe_of core.now) }
+    ensures { IfOk result (λ v. AreFoundWhereLeft core.now plan.limit E.refutes (universe_of core.now) marks.now v.items) }
+{
+    let netlist = core.netlist();
+    netlist.sound();
+    search_left(
+        rt,
+        alloc,
+        stage,
+        netlist,
+        engine,
+        faults,
+        marks,
+        plan.limit,
+        plan.trees,
+        plan.workers,
+    )
+}
+
+/// What a first round leaves: patterns, which faults it searched, its answers for them, and how many faults the drawn patterns detect.
+#[derive(Drop)]
+struct AfterFirst {
+    patterns: Vec<Pattern>,
+    searched: Vec<bool>,
+    found: Vec<Option<Found>>,
+    detected: u64,
+}
+
+/// Drawn patterns, and a first round of searches for what they leave, with the patterns of its tests.
+fn begun<R: Threads + Sync, E: Engine + Sync, G: Gate + Sync>(
+    rt: &R,
+    alloc: Global,
+    stage: &G,
+    core: &Core,
+    faults: &FaultSet,
+    plan: TransitionPlan,
+    engine: &E,
+) -> Result<AfterFirst, NoMemory>
+    requires design { IsDesign core.now }
+    requires faults { faults.now ≡ universe_of core.now }
+    requires limit { 1 ≤ plan.limit }
+    requires workers { 0 < plan.workers }
+    ensures patterns { IfOk result (λ b. All (IsPatternOf core.now (none_held core.now)) b.patterns.items) }
+    ensures few { IfOk result (λ b. length b.patterns.items ≤ length (universe_of core.now) + 64) }
+    ensures found { IfOk result (λ b. AreFoundWhereLeft core.now plan.limit E.refutes (universe_of core.now) b.searched.items b.found.items) }
+{
+    let batch = batch_of(alloc, core, plan.seed)?;
+    let left = left_by(alloc, core, faults, batch.as_slice())?;
+    let detected = (faults.len() as u64).saturating_sub(count_of(left.as_slice()));
+    stage.at(0, dropped(detected));
+    let searched = first_round(alloc, left.as_slice())?;
+    let marks = searched.as_slice();
+    let found = answers_of(rt, alloc, stage, core, faults, plan, engine, marks)?;
+    let answers = found.as_slice();
+    let patterns = with_tests(alloc, core, batch, marks, answers, plan.limit, plan.seed)?;
+    Ok(AfterFirst {
+        patterns,
+        searched,
+        found,
+        detected,
+    })
+}
+
+/// Tests of these faults: two rounds of searches, of which the second is over what the patterns of the first leave, and of all patterns those that are
+/// needed.
 fn slow_tests<R: Threads + Sync, E: Engine + Sync, G: Gate + Sync>(
     rt: &R,
     alloc: Global,
@@ -175,32 +262,26 @@ fn slow_tests<R: Threads + Sync, E: Engine + Sync, G: Gate + Sync>(
     ensures kinds { IfOk result (λ t. All (MayHave E.refutes) t.verdicts.items) }
     ensures few { IfOk result (λ t. length t.patterns.items < 2 ^ 32) }
 {
-    let netlist = core.netlist();
-    netlist.sound();
-    stage.at(
-        0,
-        Stage::Begun {
-            count: faults.len() as u64,
-        },
-    );
-    let batch = batch_of(alloc, core, plan.seed)?;
-    let left = left_by(alloc, core, faults, batch.as_slice())?;
-    let marks = left.as_slice();
-    stage.at(0, drawn(marks));
-    let found = search_left(
-        rt,
-        alloc,
-        stage,
-        netlist,
-        engine,
-        faults,
-        marks,
-        plan.limit,
-        plan.trees,
-        plan.workers,
-    )?;
+    let count = faults.len() as u64;
+    stage.at(0, Stage::Begun { count });
+    let AfterFirst {
+        patterns,
+        searched,
+        found,
+        detected,
+    } = begun(rt, alloc, stage, core, faults, plan, engine)?;
+    let undetected = left_by(alloc, core, faults, patterns.as_slice())?;
+    let left = undetected.as_slice();
+    let rest = second_round(alloc, left, found.as_slice())?;
+    let marks = rest.as_slice();
+    let others = detected
+        .saturating_add(count_of(searched.as_slice()))
+        .saturating_add(count_of(marks));
+    stage.at(0, dropped(count.saturating_sub(others)));
+    let more = answers_of(rt, alloc, stage, core, faults, plan, engine, marks)?;
+    let all = all_answers(left, found, more);
     tests_of(
-        alloc, core, faults, batch, marks, found, plan.limit, plan.seed,
+        alloc, core, faults, patterns, left, all, plan.limit, plan.seed,
     )
 }
 

@@ -1,6 +1,6 @@
 -- The cubes of tests, and patterns that have their bits.
 use Rattle.std.proofs.Common.{◌≡◌, ℕ, zero, suc, ◌+◌, ◌-◌, ◌<◌, ◌≤◌, ◌^◌, inl, inr, Bool, true, false, List, [], ◌∷◌, ◌++◌, length, length-append, get_or, Option, Some, None, refl, sym, ◌∙◌, ap, subst, arith}
-use Rattle.std.specs.List.{All, AllZip, Contains}
+use Rattle.std.specs.List.{All, AllZip, Contains, slice_get}
 use Rattle.std.proofs.lemmas.Bool.{cases_lt}
 use Rattle.std.proofs.lemmas.List.{get_or-append_right, get_or_past, length-map}
 use Rattle.std.proofs.lemmas.List.Elements.{All-nil, All-cons, All-append, Contains-append_right}
@@ -8,6 +8,8 @@ use Rattle.statement.specs.declared.kinds.Tri.{Tri}
 use Rattle.statement.specs.declared.kinds.Tri.TheVariants.{Zero, One, X}
 use Rattle.statement.specs.declared.lines.Fault.{Fault}
 use Rattle.statement.specs.Patterns.{Holds, Pattern}
+use Rattle.netlist.specs.Conditions.{IsSound}
+use Rattle.netlist.specs.Designs.{IsDesign}
 use Rattle.netlist.specs.Holds.{none_held}
 use Rattle.statement.specs.Netlists.{Netlist, cells}
 use Rattle.statement.specs.Values.{known, allows}
@@ -15,12 +17,14 @@ use Rattle.netlist.specs.ThreeValues.{AreAllowed}
 use Rattle.netlist.proofs.Lists.{contains_head, contains_tail}
 use Rattle.cubes.specs.Cubes.{Cube, AgreesWith, HasBitsOf, HaveSameWidths, IsCubeOf, IsPatternOf}
 use Rattle.cubes.proofs.RowLemmas.{bit_left, bit_right, known_is_no_x, row_left}
-use Rattle.fault_universe.specs.Universe.{fault_limit}
+use Rattle.statement.specs.Faults.{universe_of}
+use Rattle.fault_universe.specs.Laws.{most_design_faults}
+use Rattle.fault_universe.proofs.Sizes.{fault_bound}
 use Rattle.evidence.specs.declared.engine.Found.{Found}
 use Rattle.evidence.specs.declared.engine.Found.TheVariants.{Test, Closed, Refuted, Partial}
 use Rattle.transition_frames.specs.Frames.{frames_of, in_first}
 use Rattle.transition_frames.proofs.Framed.{cells_framed}
-use Rattle.transition_tests.specs.inner.Answers.{IsKnown}
+use Rattle.transition.specs.Searches.{IsFoundIfLeft}
 use Rattle.transition_tests.specs.Making.{cubes_in}
 use Rattle.transition_tests.specs.inner.Cubes.{HasAgreeing}
 
@@ -34,17 +38,24 @@ frame_cube n f c is = record {
   held = is.held;
 }
 
-pub all_cubes : (n : Netlist) (limit : ℕ) (refutes : Bool) (batch : List Pattern) (faults : List Fault) (found : List (Option Found)) → AllZip (IsKnown n limit refutes batch) faults found
-    → All (IsCubeOf n (none_held n)) (cubes_in found)
-all_cubes n limit refutes batch [] [] are = All-nil (IsCubeOf n (none_held n))
-all_cubes n limit refutes batch [] (x ∷ xs) are = elim are [ ]
-all_cubes n limit refutes batch (f ∷ fs) [] are = elim are [ ]
-all_cubes n limit refutes batch (f ∷ fs) (None ∷ xs) are = all_cubes n limit refutes batch fs xs are.1
-all_cubes n limit refutes batch (f ∷ fs) (Some (Test c o) ∷ xs) are =
-    All-cons (IsCubeOf n (none_held n)) c (cubes_in xs) (frame_cube n f c are.0.evidence.is_cube) (all_cubes n limit refutes batch fs xs are.1)
-all_cubes n limit refutes batch (f ∷ fs) (Some (Closed t) ∷ xs) are = all_cubes n limit refutes batch fs xs are.1
-all_cubes n limit refutes batch (f ∷ fs) (Some (Refuted s) ∷ xs) are = all_cubes n limit refutes batch fs xs are.1
-all_cubes n limit refutes batch (f ∷ fs) (Some (Partial t) ∷ xs) are = all_cubes n limit refutes batch fs xs are.1
+module _ (n : Netlist) (limit : ℕ) (refutes : Bool) where
+  one_cube : (f : Fault) (left : Bool) (x : Option Found) (xs : List (Option Found)) → IsFoundIfLeft n limit refutes f left x → All (IsCubeOf n (none_held n)) (cubes_in xs)
+      → All (IsCubeOf n (none_held n)) (cubes_in (x ∷ xs))
+  one_cube f left None xs is rest = rest
+  one_cube f false (Some x) xs is rest = absurd (let e : Some x ≡ None = is in cc)
+  one_cube f true (Some (Test c o)) xs is rest = All-cons (IsCubeOf n (none_held n)) c (cubes_in xs) (frame_cube n f c is.evidence.is_cube) rest
+  one_cube f true (Some (Closed t)) xs is rest = rest
+  one_cube f true (Some (Refuted s)) xs is rest = rest
+  one_cube f true (Some (Partial t)) xs is rest = rest
+
+  -- the cubes of what was found are cubes of the netlist
+  pub all_cubes : (faults : List Fault) (left : ℕ → Bool) (found : List (Option Found)) → length found ≡ length faults
+      → ((k : ℕ) (f : Fault) → slice_get faults k ≡ Some f → IsFoundIfLeft n limit refutes f (left k) (get_or found k None)) → All (IsCubeOf n (none_held n)) (cubes_in found)
+  all_cubes [] left [] size each = All-nil (IsCubeOf n (none_held n))
+  all_cubes [] left (x ∷ xs) size each = absurd (omega arith)
+  all_cubes (f ∷ fs) left [] size each = absurd (omega arith)
+  all_cubes (f ∷ fs) left (x ∷ xs) size each =
+      one_cube f (left zero) x xs (each zero f refl) (all_cubes fs (λ k. left (suc k)) xs (omega arith) (λ k g at. each (suc k) g at))
 
 pub few_cubes : (found : List (Option Found)) → length (cubes_in found) ≤ length found
 few_cubes [] = omega arith
@@ -54,9 +65,12 @@ few_cubes (Some (Closed t) ∷ xs) = let rest = few_cubes xs in omega arith
 few_cubes (Some (Refuted s) ∷ xs) = let rest = few_cubes xs in omega arith
 few_cubes (Some (Partial t) ∷ xs) = let rest = few_cubes xs in omega arith
 
+pub few_faults : (n : Netlist) → IsSound n → IsDesign n → length (universe_of n) ≤ most_design_faults
+few_faults n sound design = let b = fault_bound n sound in let s = design.small in omega arith
+
 -- behind the batch patterns are no more than cubes, and so than faults
 pub few_patterns : (faults : List Fault) (found : List (Option Found)) (cubes : List Cube) (batch patterns : List Pattern) → length found ≡ length faults
-    → length faults < fault_limit → cubes ≡ cubes_in found → length batch ≤ 64 → length patterns ≤ length batch + length cubes → length patterns + 64 ≤ 2 ^ 32
+    → length faults ≤ most_design_faults → cubes ≡ cubes_in found → length batch ≤ length faults + 64 → length patterns ≤ length batch + length cubes → length patterns + 64 ≤ 2 ^ 32
 few_patterns faults found cubes batch patterns size few is small fewer =
     let count = few_cubes found in
     let same = ap length is in

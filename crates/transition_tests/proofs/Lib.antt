@@ -3,4 +3,5 @@ pub mod CubeLemmas
 pub mod EndLemmas
 pub mod TestLemmas
 pub mod LeafLemmas
+pub mod RoundLemmas
 mod LineLemmas

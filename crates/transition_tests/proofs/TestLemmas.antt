@@ -65,11 +65,11 @@ module _ (n : Netlist) (limit : ℕ) (refutes : Bool) (batch : List Pattern) whe
   )
 
 -- the cubes of what was found are cubes of the netlist
-pub cubes_fit : (n : Netlist) (limit : ℕ) (refutes : Bool) (batch : List Pattern) (left : List Bool) (found : List (Option Found)) (cubes : List Cube) → AreLeftBy n batch (universe_of n) left
+pub cubes_fit : (n : Netlist) (limit : ℕ) (refutes : Bool) (left : List Bool) (found : List (Option Found)) (cubes : List Cube)
     → AreFoundWhereLeft n limit refutes (universe_of n) left found → cubes ≡ cubes_in found → All (IsCubeOf n (none_held n)) cubes
-cubes_fit n limit refutes batch left found cubes by are is =
+cubes_fit n limit refutes left found cubes are is =
     subst (λ (cs : List Cube). All (IsCubeOf n (none_held n)) cs) (sym is)
-    (all_cubes n limit refutes batch (universe_of n) found (all_known n limit refutes batch (universe_of n) left found by are))
+    (all_cubes n limit refutes (universe_of n) (λ k. get_or left k true) found are.size are.each)
 
 -- ---- where a test was found, or the batch detects, some pattern detects
 
@@ -265,7 +265,7 @@ alone n patterns k f None o never last = absurd (never k o last.here)
 alone n patterns k f (Some l) o other last = (l.1, ap (λ (i : ℕ). Some (i, l.1)) (same_last n patterns f l.0 k l.1 o other last))
 
 pub made_from : (n : Netlist) (batch patterns others : List Pattern) (found : List (Option Found)) (seed : ℕ) (lasts : List (Option (ℕ × Point))) (kept : List Pattern)
-    → AreFilledFrom (cubes_in found) seed others → patterns ≡ batch ++ others → AllZip (LastTransition n patterns) (universe_of n) lasts
+    → AreFilledFrom (cubes_in found) 0 seed others → patterns ≡ batch ++ others → AllZip (LastTransition n patterns) (universe_of n) lasts
     → kept ≡ kept_from (is_last_at lasts) 0 patterns → AreMadeFrom n batch found seed kept
 made_from n batch patterns others found seed lasts kept filled is told kept_is = record {
   others = others;

@@ -2,4 +2,5 @@ pub mod Batches
 pub mod Lines
 pub mod Verdicts
 pub mod Making
+pub mod Rounds
 pub mod inner

@@ -26,18 +26,18 @@ cube_of (Some (Partial tree)) = []
 abbrev pub cubes_in : List (Option Found) → List Cube
 cubes_in found = flat_map cube_of found
 
--- the cubes merged, and each then filled from the words of stream 0 of the seed
-abbrev pub AreFilledFrom : List Cube → ℕ → List Pattern → Type 0
-AreFilledFrom cubes seed patterns = (merged : List Cube) × AreMerged cubes merged (length cubes) × (patterns ≡ filled_all merged (words_on_stream 0 seed))
+-- the cubes merged, and each then filled from the words of this stream of the seed
+abbrev pub AreFilledFrom : List Cube → ℕ → ℕ → List Pattern → Type 0
+AreFilledFrom cubes stream seed patterns = (merged : List Cube) × AreMerged cubes merged (length cubes) × (patterns ≡ filled_all merged (words_on_stream stream seed))
 
 -- the batch, and behind it what the cubes become
-abbrev pub AreBehind : List Pattern → List Cube → ℕ → List Pattern → Type 0
-AreBehind batch cubes seed patterns = (others : List Pattern) × AreFilledFrom cubes seed others × (patterns ≡ batch ++ others)
+abbrev pub AreBehind : List Pattern → List Cube → ℕ → ℕ → List Pattern → Type 0
+AreBehind batch cubes stream seed patterns = (others : List Pattern) × AreFilledFrom cubes stream seed others × (patterns ≡ batch ++ others)
 
 -- Behind the batch stand the patterns of all tests; of these those are kept that are the last to detect some transition fault, in order.
 pub record AreMadeFrom (n : Netlist) (batch : List Pattern) (found : List (Option Found)) (seed : ℕ) (kept : List Pattern) : Type 0 where
   pub others : List Pattern
-  pub filled : AreFilledFrom (cubes_in found) seed others
+  pub filled : AreFilledFrom (cubes_in found) 0 seed others
   pub needed : ℕ → Bool
   pub exactly : (place : ℕ) → IsTrue (needed place) ↔ IsNeededForTransitions n (universe_of n) (batch ++ others) place
   pub are : kept ≡ kept_from needed 0 (batch ++ others)

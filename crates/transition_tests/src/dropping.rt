@@ -1,5 +1,5 @@
 //! Faults that drawn patterns detect aren't searched: most of those that can be detected are so by 64 patterns, in a fraction of the time of their searches.
-ghost use Rattle.std.specs.Prelude.{◌≡◌, ◌≤◌, length, map, IfOk, not};
+ghost use Rattle.std.specs.Prelude.{◌≡◌, ◌≤◌, ◌+◌, length, map, IfOk, not};
 ghost use Rattle.std.specs.List.{All};
 ghost use Rattle.std.specs.Option.{is_some};
 ghost use Rattle.netlist.specs.Designs.{IsDesign};
@@ -77,7 +77,7 @@ pub fn left_by(
     requires design { IsDesign core.now }
     requires faults { faults.now ≡ universe_of core.now }
     requires obey { All (IsPatternOf core.now (none_held core.now)) batch.now }
-    requires count { length batch.now ≤ 64 }
+    requires count { length batch.now ≤ length (universe_of core.now) + 64 }
     ensures { IfOk result (λ v. AreLeftBy core.now batch.now (universe_of core.now) v.items) }
 {
     core.netlist().sound();

@@ -37,15 +37,15 @@ pub(crate) fn cubes_of(alloc: Global, found: &[Option<Found>]) -> Result<Vec<Cub
 }
 
 /// Fewer patterns than cubes, where each cube has one with its bits.
-fn filled(alloc: Global, cubes: &[Cube], seed: u64) -> Result<Vec<Pattern>, NoMemory>
+fn filled(alloc: Global, cubes: &[Cube], stream: u64, seed: u64) -> Result<Vec<Pattern>, NoMemory>
     requires { AllPairs HaveSameWidths cubes.now }
-    ensures made { IfOk result (λ v. AreFilledFrom cubes.now seed v.items) }
+    ensures made { IfOk result (λ v. AreFilledFrom cubes.now stream seed v.items) }
     ensures fit { IfOk result (λ v. (n : Netlist) (holds : Holds) → All (IsCubeOf n holds) cubes.now → All (IsPatternOf n holds) v.items) }
     ensures few { IfOk result (λ v. length v.items ≤ length cubes.now) }
     ensures agree { IfOk result (λ v. (c : Values) → Contains cubes.now c → HasAgreeing v.items c) }
 {
     let merged = merge(alloc, cubes)?;
-    let mut rng = Lcg64Xsh32::new(seed, 0);
+    let mut rng = Lcg64Xsh32::new(seed, stream);
     fill_all(alloc, &merged, &mut rng)
 }
 
@@ -54,15 +54,16 @@ pub(crate) fn patterns_of(
     alloc: Global,
     mut batch: Vec<Pattern>,
     cubes: &[Cube],
+    stream: u64,
     seed: u64,
 ) -> Result<Vec<Pattern>, NoMemory>
     requires { AllPairs HaveSameWidths cubes.now }
     ensures fit { IfOk result (λ v. (n : Netlist) (holds : Holds) → All (IsPatternOf n holds) batch.items → All (IsCubeOf n holds) cubes.now → All (IsPatternOf n holds) v.items) }
     ensures few { IfOk result (λ v. length v.items ≤ length batch.items + length cubes.now) }
-    ensures made { IfOk result (λ v. AreBehind batch.items cubes.now seed v.items) }
+    ensures made { IfOk result (λ v. AreBehind batch.items cubes.now stream seed v.items) }
     ensures agree { IfOk result (λ v. (c : Values) → Contains cubes.now c → HasAgreeing v.items c) }
 {
-    let mut others = filled(alloc, cubes, seed)?;
+    let mut others = filled(alloc, cubes, stream, seed)?;
     batch.append(&mut others)?;
     Ok(batch)
 }

@@ -100,7 +100,7 @@ pub fn tests_of(
     requires design { IsDesign core.now }
     requires faults { faults.now ≡ universe_of core.now }
     requires batch { All (IsPatternOf core.now (none_held core.now)) batch.items }
-    requires count { length batch.items ≤ 64 }
+    requires count { length batch.items ≤ length (universe_of core.now) + 64 }
     requires left { AreLeftBy core.now batch.items (universe_of core.now) left.now }
     requires found { AreFoundWhereLeft core.now limit refutes (universe_of core.now) left.now found.items }
     ensures tests { IfOk result (λ t. AreTests core.now limit t.patterns.items t.verdicts.items) }
@@ -112,7 +112,7 @@ pub fn tests_of(
     let _ = left;
     core.netlist().sound();
     let cubes = cubes_of(alloc, &found)?;
-    let patterns = patterns_of(alloc, batch, &cubes, seed)?;
+    let patterns = patterns_of(alloc, batch, &cubes, 0, seed)?;
     let last = last_tells2(alloc, core, faults, &patterns)?;
     let tests = keep(alloc, patterns, &last, found)?;
     Ok(tests)

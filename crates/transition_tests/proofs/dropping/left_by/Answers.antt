@@ -10,6 +10,7 @@ use Rattle.statement.specs.Faults.{universe_of}
 use Rattle.transition_sim.specs.Detections.{LastTransition}
 use Rattle.transition.proofs.Gathering.{universe_few, universe_lines}
 use Rattle.transition_tests.specs.Batches.{AreLeftBy}
+use Rattle.transition_tests.proofs.CubeLemmas.{few_faults}
 use Rattle.transition_tests.proofs.TestLemmas.{left_where_none}
 use Rattle.transition_tests.proofs.dropping.left_by.Goals as goal
 
@@ -23,6 +24,11 @@ pub last_tells2-requires-clause-few_faults : goal.last_tells2-requires-clause-fe
 last_tells2-requires-clause-few_faults c =
     let few = universe_few c.args.core.now (subst IsSound c.netlist.ensures c.sound.ensures) c.requires.design in
     omega (arith, few, ap length c.requires.faults)
+
+pub last_tells2-requires-clause-count : goal.last_tells2-requires-clause-count
+last_tells2-requires-clause-count c =
+    let few = few_faults c.args.core.now (subst IsSound c.netlist.ensures c.sound.ensures) c.requires.design in
+    omega (arith, few, c.requires.count)
 
 pub returns : goal.returns
 returns c =

@@ -19,7 +19,7 @@ pub returns-clause-made : goal.returns-clause-made
 returns-clause-made c =
     let cubes = c.args.cubes.now in
     let merged = c.in_ok-merged.merged.items in
-    IfOk-weaker c.fill_all.result (λ v. v.items ≡ filled_all c.deref.result.now (stream_of (steps_u32 pcg32) c.new-rng.result)) (λ v. AreFilledFrom cubes c.args.seed v.items)
+    IfOk-weaker c.fill_all.result (λ v. v.items ≡ filled_all c.deref.result.now (stream_of (steps_u32 pcg32) c.new-rng.result)) (λ v. AreFilledFrom cubes c.args.stream c.args.seed v.items)
     (λ v is. (
       merged,
       c.in_ok-merged.ensures.merged,

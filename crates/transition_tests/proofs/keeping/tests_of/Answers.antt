@@ -16,21 +16,21 @@ use Rattle.list_core.proofs.KeepLemmas.{kept_few}
 use Rattle.transition.proofs.Gathering.{universe_few, universe_lines}
 use Rattle.transition_tests.specs.Making.{AreFilledFrom, cubes_in}
 use Rattle.transition_tests.specs.inner.Cubes.{HasAgreeing}
-use Rattle.transition_tests.proofs.CubeLemmas.{few_patterns}
+use Rattle.transition_tests.proofs.CubeLemmas.{few_faults, few_patterns}
 use Rattle.transition_tests.proofs.TestLemmas.{all_known, all_told, cubes_fit, last_along, last_within, made_from, tests_are, verdicts_kinds}
 use Rattle.transition_tests.proofs.keeping.tests_of.Goals as goal
 
 pub patterns_of-requires : goal.patterns_of-requires
 patterns_of-requires g c =
     let n = c.args.core.now in
-    netlist_widths n (none_held n) c.deref-2.result.now (cubes_fit n c.args.limit g.refutes c.args.batch.items c.args.left.now c.args.found.items c.deref-2.result.now
-    c.requires.1.1.1.1.0 c.requires.1.1.1.1.1 (c.deref-2.ensures.value ∙ (c.in_ok-cubes.ensures ∙ ap cubes_in c.deref.ensures.value)))
+    netlist_widths n (none_held n) c.deref-2.result.now (cubes_fit n c.args.limit g.refutes c.args.left.now c.args.found.items c.deref-2.result.now c.requires.1.1.1.1.1
+    (c.deref-2.ensures.value ∙ (c.in_ok-cubes.ensures ∙ ap cubes_in c.deref.ensures.value)))
 
 pub last_tells2-requires-clause-wide : goal.last_tells2-requires-clause-wide
 last_tells2-requires-clause-wide g c =
     let n = c.args.core.now in
-    let fit = cubes_fit n c.args.limit g.refutes c.args.batch.items c.args.left.now c.args.found.items c.deref-2.result.now
-    c.requires.1.1.1.1.0 c.requires.1.1.1.1.1 (c.deref-2.ensures.value ∙ (c.in_ok-cubes.ensures ∙ ap cubes_in c.deref.ensures.value)) in
+    let fit = cubes_fit n c.args.limit g.refutes c.args.left.now c.args.found.items c.deref-2.result.now c.requires.1.1.1.1.1
+    (c.deref-2.ensures.value ∙ (c.in_ok-cubes.ensures ∙ ap cubes_in c.deref.ensures.value)) in
     subst (λ (ps : List Pattern). All (HasWidthsOf n) ps) (sym c.deref-3.ensures.value)
     (widths n (none_held n) c.in_ok-patterns.patterns.items (c.in_ok-patterns.ensures.fit n (none_held n) c.requires.1.1.0 fit))
 
@@ -45,7 +45,7 @@ last_tells2-requires-clause-few_faults g c =
 pub last_tells2-requires-clause-count : goal.last_tells2-requires-clause-count
 last_tells2-requires-clause-count g c =
     let few = few_patterns (universe_of c.args.core.now) c.args.found.items c.deref-2.result.now c.args.batch.items c.in_ok-patterns.patterns.items c.requires.1.1.1.1.1.size
-    (universe_few c.args.core.now (subst IsSound c.netlist.ensures c.sound.ensures) c.requires.0)
+    (few_faults c.args.core.now (subst IsSound c.netlist.ensures c.sound.ensures) c.requires.0)
     (c.deref-2.ensures.value ∙ (c.in_ok-cubes.ensures ∙ ap cubes_in c.deref.ensures.value)) c.requires.1.1.1.0 c.in_ok-patterns.ensures.few in
     omega (arith, few, ap length c.deref-3.ensures.value)
 
@@ -71,7 +71,7 @@ keep-requires-clause-within g c =
 pub keep-requires-clause-few : goal.keep-requires-clause-few
 keep-requires-clause-few g c =
     let few = few_patterns (universe_of c.args.core.now) c.args.found.items c.deref-2.result.now c.args.batch.items c.in_ok-patterns.patterns.items c.requires.1.1.1.1.1.size
-    (universe_few c.args.core.now (subst IsSound c.netlist.ensures c.sound.ensures) c.requires.0)
+    (few_faults c.args.core.now (subst IsSound c.netlist.ensures c.sound.ensures) c.requires.0)
     (c.deref-2.ensures.value ∙ (c.in_ok-cubes.ensures ∙ ap cubes_in c.deref.ensures.value)) c.requires.1.1.1.0 c.in_ok-patterns.ensures.few in
     omega (arith, few)
 
@@ -80,8 +80,8 @@ returns-clause-tests g c =
     let n = c.args.core.now in
     let sound = subst IsSound c.netlist.ensures c.sound.ensures in
     let all = universe_lines n sound (universe_of n) refl in
-    let fit = cubes_fit n c.args.limit g.refutes c.args.batch.items c.args.left.now c.args.found.items c.deref-2.result.now
-    c.requires.1.1.1.1.0 c.requires.1.1.1.1.1 (c.deref-2.ensures.value ∙ (c.in_ok-cubes.ensures ∙ ap cubes_in c.deref.ensures.value)) in
+    let fit = cubes_fit n c.args.limit g.refutes c.args.left.now c.args.found.items c.deref-2.result.now c.requires.1.1.1.1.1
+    (c.deref-2.ensures.value ∙ (c.in_ok-cubes.ensures ∙ ap cubes_in c.deref.ensures.value)) in
     tests_are n sound c.args.limit g.refutes c.args.batch.items c.in_ok-patterns.patterns.items c.args.found.items c.deref-4.result.now c.in_ok-tests.tests.patterns.items
     c.in_ok-tests.tests.verdicts.items (c.in_ok-patterns.ensures.fit n (none_held n) c.requires.1.1.0 fit)
     (λ f is. All-contains (λ (g : Fault). IsLineOf n g.line) (universe_of n) f all is) all
@@ -103,7 +103,7 @@ returns-clause-made g c =
     let made = c.in_ok-patterns.ensures.made in
     let cubes : c.deref-2.result.now ≡ cubes_in c.args.found.items = c.deref-2.ensures.value ∙ (c.in_ok-cubes.ensures ∙ ap cubes_in c.deref.ensures.value) in
     made_from n c.args.batch.items c.in_ok-patterns.patterns.items made.0 c.args.found.items c.args.seed c.deref-4.result.now c.in_ok-tests.tests.patterns.items
-    (subst (λ (cs : List Cube). AreFilledFrom cs c.args.seed made.0) cubes made.1) made.2
+    (subst (λ (cs : List Cube). AreFilledFrom cs 0 c.args.seed made.0) cubes made.1) made.2
     (last_along n c.in_ok-patterns.patterns.items c.deref-3.result.now c.args.faults.now c.in_ok-last.last.items c.deref-4.result.now
     c.requires.1.0 c.deref-3.ensures.value c.deref-4.ensures.value c.in_ok-last.ensures)
     c.in_ok-tests.ensures.patterns
@@ -111,7 +111,7 @@ returns-clause-made g c =
 pub returns-clause-few : goal.returns-clause-few
 returns-clause-few g c =
     let few = few_patterns (universe_of c.args.core.now) c.args.found.items c.deref-2.result.now c.args.batch.items c.in_ok-patterns.patterns.items c.requires.1.1.1.1.1.size
-    (universe_few c.args.core.now (subst IsSound c.netlist.ensures c.sound.ensures) c.requires.0)
+    (few_faults c.args.core.now (subst IsSound c.netlist.ensures c.sound.ensures) c.requires.0)
     (c.deref-2.ensures.value ∙ (c.in_ok-cubes.ensures ∙ ap cubes_in c.deref.ensures.value)) c.requires.1.1.1.0 c.in_ok-patterns.ensures.few in
     let kept = kept_few (is_last_at c.deref-4.result.now) 0 c.in_ok-patterns.patterns.items in
     omega (arith, few, kept, ap length c.in_ok-tests.ensures.patterns)

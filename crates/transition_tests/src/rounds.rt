@@ -1,0 +1,131 @@
+//! Two rounds of searches. The first is over a part of the faults that the drawn patterns leave; what the patterns of its tests detect isn't searched in
+//! the second, which is over all the others.
+//!
+//! Tests of the first round, filled, detect most of what can be detected behind the drawn patterns, so that further rounds would spare few searches. A
+//! deeper draw spares as many, but leaves more patterns. The first round takes faults that stand apart: their tests differ, and their lines fit into fewer
+//! batches, since neighbours in the order of faults are often late at one reader.
+ghost use Rattle.std.specs.Prelude.{◌≡◌, ◌≤◌, ◌+◌, ◌<◌, Bool, length, slice_index_or, slice_set, IfOk, None};
+ghost use Rattle.std.specs.List.{All};
+ghost use Rattle.netlist.specs.Holds.{none_held};
+ghost use Rattle.cubes.specs.Cubes.{IsPatternOf};
+ghost use Rattle.statement.specs.Faults.{universe_of};
+ghost use Rattle.transition.specs.Searches.{AreFoundWhereLeft};
+ghost use Rattle.transition_tests.specs.Making.{AreBehind, cubes_in};
+ghost use Rattle.transition_tests.specs.Rounds.{AreJoined, AreUnanswered, joined, unanswered};
+
+use crate::filling::{cubes_of, patterns_of};
+use cubes::Pattern;
+use evidence::Found;
+use netlist::{Core, NoMemory};
+use std::alloc::{AllocError, Global};
+
+/// The first round takes each fault that is left of so many.
+const FIRST: usize = 16;
+
+/// Where no more faults are left, one round has them all.
+const ENOUGH: usize = 128;
+
+fn marked(alloc: Global, left: &[bool]) -> Result<Vec<bool>, AllocError>
+    ensures { IfOk result (λ v. length v.items ≡ length left.now) }
+{
+    let enough = left.iter().filter(|is_left| **is_left).count() > ENOUGH;
+    let mut marks = Vec::with_capacity(alloc, left.len())?;
+    for k in 0..left.len() {
+        marks.push(enough && left[k] && k % FIRST == 0)?;
+    }
+    Ok(marks)
+}
+
+/// Which faults the first round searches.
+pub fn first_round(alloc: Global, left: &[bool]) -> Result<Vec<bool>, NoMemory>
+    ensures { IfOk result (λ v. length v.items ≡ length left.now) }
+{
+    marked(alloc, left).map_err(|_| NoMemory)
+}
+
+/// The patterns so far, and behind them those of a round's tests: their cubes merged in the order of faults, and filled from stream 2 of the seed.
+pub fn with_tests(
+    alloc: Global,
+    core: &Core,
+    batch: Vec<Pattern>,
+    searched: &[bool],
+    found: &[Option<Found>],
+    limit: u32,
+    seed: u64,
+) -> Result<Vec<Pattern>, NoMemory>
+    ghost refutes: { Bool }
+    requires batch { All (IsPatternOf core.now (none_held core.now)) batch.items }
+    requires found { AreFoundWhereLeft core.now limit refutes (universe_of core.now) searched.now found.now }
+    ensures made { IfOk result (λ v. AreBehind batch.items (cubes_in found.now) 2 seed v.items) }
+    ensures obey { IfOk result (λ v. All (IsPatternOf core.now (none_held core.now)) v.items) }
+    ensures few { IfOk result (λ v. length v.items ≤ length batch.items + length (universe_of core.now)) }
+{
+    let _ = core;
+    let _ = searched;
+    let _ = limit;
+    let cubes = cubes_of(alloc, found)?;
+    patterns_of(alloc, batch, &cubes, 2, seed)
+}
+
+/// Whether a fault is left that has no answer yet.
+fn is_open(left: bool, answer: &Option<Found>) -> bool
+    ensures { result ≡ unanswered left answer.now }
+{
+    left && answer.is_none()
+}
+
+fn unanswered(
+    alloc: Global,
+    left: &[bool],
+    found: &[Option<Found>],
+) -> Result<Vec<bool>, AllocError>
+    requires { length found.now ≡ length left.now }
+    ensures { IfOk result (λ v. AreUnanswered left.now found.now v.items) }
+{
+    let mut marks = Vec::with_capacity(alloc, left.len())?;
+    for k in 0..left.len() {
+        marks.push(is_open(left[k], &found[k]))?;
+    }
+    Ok(marks)
+}
+
+/// Which faults the second round searches: of those that are left all that have no answer yet.
+pub fn second_round(
+    alloc: Global,
+    left: &[bool],
+    found: &[Option<Found>],
+) -> Result<Vec<bool>, NoMemory>
+    requires { length found.now ≡ length left.now }
+    ensures { IfOk result (λ v. AreUnanswered left.now found.now v.items) }
+{
+    unanswered(alloc, left, found).map_err(|_| NoMemory)
+}
+
+/// Puts the first round's answer for a fault that is left to its place.
+fn put(answers: &mut Vec<Option<Found>>, k: usize, left: bool, answer: Option<Found>)
+    requires { k < length answers.old.items }
+    ensures { answers.new.items ≡ slice_set answers.old.items k (joined left answer (slice_index_or answers.old.items k None)) }
+{
+    if left && answer.is_some() {
+        answers[k] = answer;
+    }
+}
+
+/// The answers of both rounds for the faults that are left behind the first.
+pub fn all_answers(
+    left: &[bool],
+    found: Vec<Option<Found>>,
+    more: Vec<Option<Found>>,
+) -> Vec<Option<Found>>
+    requires found { length found.items ≡ length left.now }
+    requires more { length more.items ≡ length left.now }
+    ensures { AreJoined left.now found.items more.items result.items }
+{
+    let mut answers = more;
+    let mut k = 0usize;
+    for answer in found {
+        put(&mut answers, k, left[k], answer);
+        k += 1;
+    }
+    answers
+}
