@@ -11,19 +11,20 @@ use Rattle.statement.specs.Runs.{Cycle, Runs, Ticks}
 use Rattle.netlist.specs.Conditions.{IsSound}
 use Rattle.netlist.proofs.Settling.{zip_from}
 use Rattle.tri.specs.Settled.{tri_table}
-use Rattle.events.specs.Words.{bit_of}
 use Rattle.scan_play.specs.declared.played.Played.{Played}
 use Rattle.scan_play.specs.declared.played.Played.TheVariants.{Passes}
 use Rattle.scan_play.specs.Cycles.{IsCycleOf}
 use Rattle.scan_play.specs.Judging.{IsOpen, Judging, judged_in, played_or_else}
 use Rattle.scan_play.proofs.RunLaws.{some_run}
 use Rattle.lane_play.specs.Counted.{AreCounted, Counting, IsCounted, counted, counted_in, is_said, on_one, on_other, one_if}
+use Rattle.lane_play.specs.declared.bits.Bits.{Bits}
 use Rattle.lane_play.specs.declared.packed.Lanes.{Lanes}
+use Rattle.lane_play.specs.inner.Bits.{bit_in, no_bits}
 use Rattle.lane_play.specs.inner.Counts.{AreMore, AreMoreIn, number_at}
-use Rattle.lane_play.specs.inner.Lanes.{lane, lanes}
+use Rattle.lane_play.specs.inner.Lanes.{lane, lanes, unknown}
 use Rattle.lane_play.specs.inner.Steps.{AreCountedOn, AreSteps, CountsOn, KeepsOn}
 use Rattle.lane_play.specs.inner.Verdicts.{is_open}
-use Rattle.lane_play.proofs.LaneBits.{bit_none}
+use Rattle.lane_play.proofs.BitLemmas.{bit_in_none}
 use Rattle.lane_play.proofs.PlayedLemmas.{lanes_unknown}
 
 -- nothing counts that isn't strobed
@@ -179,7 +180,7 @@ zero_at zero k = refl
 zero_at (suc count) zero = refl
 zero_at (suc count) (suc k) = zero_at count k
 
-pub counts_begin : (counts : Counting) (faults : List Fault) (n : Netlist) (state : List Lanes) (numbers : List ℕ) → length faults ≤ 128 → state ≡ replicate (length (cells n)) (record { known = 0; value = 0 })
+pub counts_begin : (counts : Counting) (faults : List Fault) (n : Netlist) (state : List Lanes) (numbers : List ℕ) → length faults ≤ 128 → state ≡ replicate (length (cells n)) unknown
     → numbers ≡ replicate (length faults) 0 → AreCountedOn counts faults n [] state numbers
 counts_begin counts faults n state numbers few s e = record {
   size = ap length e ∙ length-replicate (length faults) 0;
@@ -219,8 +220,8 @@ counted_all counts faults n cycles state numbers sound fits h =
 pub none_more : (counts : Tri → Bool) (shown : Lanes) (numbers : List ℕ) → length numbers ≤ 128 → ((k : ℕ) → k < 128 → counts (lane k shown) ≡ false) → AreMore counts shown numbers numbers
 none_more counts shown numbers few h = record { size = refl; each = λ k l. let e : one_if (counts (lane k shown)) ≡ 0 = ap one_if (h k (omega (arith, l, few))) in omega (arith, e) }
 
-pub word_more : (counts : Tri → Bool) (shown : Lanes) (word : ℕ) (old new : List ℕ) → length old ≤ 128 → ((k : ℕ) → k < 128 → bit_of k word ≡ counts (lane k shown)) → length new ≡ length old
-    → ((k : ℕ) → k < length old → number_at new k ≡ number_at old k + one_if (bit_of k word)) → AreMore counts shown old new
+pub word_more : (counts : Tri → Bool) (shown : Lanes) (word : Bits) (old new : List ℕ) → length old ≤ 128 → ((k : ℕ) → k < 128 → bit_in k word ≡ counts (lane k shown)) → length new ≡ length old
+    → ((k : ℕ) → k < length old → number_at new k ≡ number_at old k + one_if (bit_in k word)) → AreMore counts shown old new
 word_more counts shown word old new few h size each = record { size = size; each = λ k l. each k l ∙ ap (λ b. number_at old k + one_if b) (h k (omega (arith, l, few))) }
 
 said_open : (p : Option Played) → not (is_open p) ≡ is_said p
@@ -228,17 +229,17 @@ said_open None = refl
 said_open (Some p) = refl
 
 -- the machines of which something is said at a place of this side
-pub told_side : (say : Tri → Option Played) (b : Bool) (shown : Lanes) (told : ℕ) → b ≡ true → ((k : ℕ) → k < 128 → bit_of k told ≡ not (is_open (say (lane k shown))))
-    → (k : ℕ) → k < 128 → bit_of k told ≡ (b && is_said (say (lane k shown)))
+pub told_side : (say : Tri → Option Played) (b : Bool) (shown : Lanes) (told : Bits) → b ≡ true → ((k : ℕ) → k < 128 → bit_in k told ≡ not (is_open (say (lane k shown))))
+    → (k : ℕ) → k < 128 → bit_in k told ≡ (b && is_said (say (lane k shown)))
 told_side say b shown told is h k low = h k low ∙ (said_open (say (lane k shown)) ∙ sym (ap (λ x. x && is_said (say (lane k shown))) is))
 
 pub off_side : (say : Tri → Option Played) (b : Bool) (shown : Lanes) → b ≡ false → (k : ℕ) → k < 128 → (b && is_said (say (lane k shown))) ≡ false
 off_side say b shown is k low = ap (λ x. x && is_said (say (lane k shown))) is
 
-pub untold_side : (say : Tri → Option Played) (b : Bool) (shown : Lanes) (told : ℕ) → told ≡ 0 → ((k : ℕ) → k < 128 → bit_of k told ≡ not (is_open (say (lane k shown))))
+pub untold_side : (say : Tri → Option Played) (b : Bool) (shown : Lanes) (told : Bits) → told ≡ no_bits → ((k : ℕ) → k < 128 → bit_in k told ≡ not (is_open (say (lane k shown))))
     → (k : ℕ) → k < 128 → (b && is_said (say (lane k shown))) ≡ false
 untold_side say b shown told none h k low =
-    let said : is_said (say (lane k shown)) ≡ false = sym (said_open (say (lane k shown))) ∙ (sym (h k low) ∙ (ap (bit_of k) none ∙ bit_none k low)) in
+    let said : is_said (say (lane k shown)) ≡ false = sym (said_open (say (lane k shown))) ∙ (sym (h k low) ∙ (ap (bit_in k) none ∙ bit_in_none k)) in
     ap (λ x. b && x) said ∙ and_false b
   where
     and_false : (b : Bool) → (b && false) ≡ false
@@ -303,20 +304,20 @@ all_more counts cycle o strobes shown old new l h = record {
 -- ---- a machine more
 
 -- so far the first m machines had the word's bit added
-pub record AreAdded (word m : ℕ) (old new : List ℕ) : Type 0 where
+pub record AreAdded (word : Bits) (m : ℕ) (old new : List ℕ) : Type 0 where
   pub size : length new ≡ length old
-  pub done : (k : ℕ) → k < m → k < length old → number_at new k ≡ number_at old k + one_if (bit_of k word)
+  pub done : (k : ℕ) → k < m → k < length old → number_at new k ≡ number_at old k + one_if (bit_in k word)
   pub others : (k : ℕ) → m ≤ k → number_at new k ≡ number_at old k
 
-pub added_more : (word m : ℕ) (old new : List ℕ) (item put : ℕ) → m < length new → item ≡ get_or new m item → put ≡ item + one_if (bit_of m word)
+pub added_more : (word : Bits) (m : ℕ) (old new : List ℕ) (item put : ℕ) → m < length new → item ≡ get_or new m item → put ≡ item + one_if (bit_in m word)
     → AreAdded word m old new → AreAdded word (m + 1) old (set new m put)
 added_more word m old new item put l is p h = record {
   size = length-set new m put ∙ h.size;
   done = λ k low inside. elim (cases_eq k m) [
     | inl e ↦
         ap (number_at (set new m put)) e ∙ (get_or-set_same new m put 0 l
-        ∙ (p ∙ (ap (λ x. x + one_if (bit_of m word)) (is ∙ (get_or_default new m item 0 l ∙ (h.others m (omega arith) ∙ ap (number_at old) (sym e))))
-        ∙ ap (λ i. number_at old k + one_if (bit_of i word)) (sym e))))
+        ∙ (p ∙ (ap (λ x. x + one_if (bit_in m word)) (is ∙ (get_or_default new m item 0 l ∙ (h.others m (omega arith) ∙ ap (number_at old) (sym e))))
+        ∙ ap (λ i. number_at old k + one_if (bit_in i word)) (sym e))))
     | inr ne ↦ get_or-set_other new m k put 0 ne ∙ h.done k (omega (arith, low, ne)) inside
   ];
   others = λ k high. get_or-set_other new m k put 0 (λ e. omega (arith, high, e)) ∙ h.others k (omega (arith, high));

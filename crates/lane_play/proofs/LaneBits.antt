@@ -1,10 +1,7 @@
 -- One machine of 128 side by side: lines and gates do to each what they do to three values.
-use Rattle.std.proofs.Common.{◌≡◌, ◌≢◌, ℕ, suc, zero, ◌+◌, ◌<◌, ◌≤◌, Bool, true, false, not, ◌&&◌, ◌||◌, cond, if◌then◌else◌, List, [], ◌∷◌, ◌++◌, map, length, refl, sym, ◌∙◌, ap, eqb, arith, bit_and, bit_or, bit_xor}
-use Rattle.std.specs.Int.{bit_at, bit_not, w128}
+use Rattle.std.proofs.Common.{◌≡◌, ◌≢◌, ℕ, suc, zero, ◌+◌, ◌<◌, ◌≤◌, Bool, true, false, not, ◌&&◌, ◌||◌, cond, if◌then◌else◌, List, [], ◌∷◌, ◌++◌, map, length, refl, sym, ◌∙◌, ap, arith}
 use Rattle.std.specs.List.{slice_get, list_any, flat_map}
-use Rattle.std.proofs.lemmas.Bool.{eq-eqb, ne_eqb}
 use Rattle.std.proofs.lemmas.List.{map-append}
-use Rattle.std.proofs.lemmas.Nat.Bits.{bit_at_ones, bit_at-zero, bit_at_set_same, bit_at_set_other, bit_at_clear_same, bit_at_clear_other}
 use Rattle.statement.specs.declared.kinds.Kind.{Kind}
 use Rattle.statement.specs.declared.kinds.Kind.TheVariants.{And, Nand, Or, Nor, Xor, Xnor, Not, Buff, Dff, Const0, Const1}
 use Rattle.statement.specs.declared.kinds.Tri.{Tri}
@@ -18,10 +15,12 @@ use Rattle.netlist.specs.ThreeValues.{complement, is_zero, is_one, is_x}
 use Rattle.netlist.proofs.Lists.{map_map}
 use Rattle.tri.specs.Gates.{conjunction_tri, disjunction_tri, parity_tri, only_tri, gate_tri}
 use Rattle.tri.specs.Settled.{tris}
-use Rattle.events.specs.Words.{bit_of}
-use Rattle.events.proofs.WordBits.{bit_of_and, bit_of_or, bit_of_xor, image_settles}
+use Rattle.events.proofs.WordBits.{image_settles}
+use Rattle.lane_play.specs.declared.bits.Bits.{Bits}
 use Rattle.lane_play.specs.declared.packed.Lanes.{Lanes}
-use Rattle.lane_play.specs.inner.Lanes.{lane, lanes, ones, always, both, either, unequal, opposite, all_of, some_of, odd_of, only_of, gate_lanes, one_at, with_lane, forced_from, lanes_rule}
+use Rattle.lane_play.specs.inner.Bits.{all_bits, bit_in, bits_and, bits_not, bits_or, bits_xor, no_bits, with_bit}
+use Rattle.lane_play.specs.inner.Lanes.{lane, lanes, always, both, either, unequal, opposite, all_of, some_of, odd_of, only_of, gate_lanes, with_lane, forced_from, lanes_rule, unknown}
+use Rattle.lane_play.proofs.BitLemmas.{bit_in_all, bit_in_and, bit_in_none, bit_in_not, bit_in_or, bit_in_xor, with_bit_other, with_bit_same}
 
 -- ---- two values
 
@@ -114,68 +113,55 @@ not_bits true true = refl
 not_bits true false = refl
 not_bits false b = refl
 
-flip : (b : Bool) → cond b (not true) true ≡ not b
-flip true = refl
-flip false = refl
-
 -- ---- one machine
 
 module _ (j : ℕ) (low : j < 128) where
-  pub bit_ones : bit_of j ones ≡ true
-  bit_ones = eq-eqb (bit_at ones j) 1 (bit_at_ones 128 j low)
-
-  pub bit_none : bit_of j 0 ≡ false
-  bit_none = ne_eqb (bit_at 0 j) 1 (λ o. let z = bit_at-zero j in omega arith)
-
-  pub bit_not_word : (w : ℕ) → bit_of j (bit_xor w ones) ≡ not (bit_of j w)
-  bit_not_word w = bit_of_xor w ones j ∙ (ap (λ b. cond (bit_of j w) (not b) b) bit_ones ∙ flip (bit_of j w))
-
   same_tri : (k l b c : Bool) → k ≡ l → b ≡ c → tri_of k b ≡ tri_of l c
   same_tri k l b c e f = ap (λ x. tri_of x b) e ∙ ap (tri_of l) f
 
   pub lane_always : (b : Bool) → lane j (always b) ≡ known b
-  lane_always true = same_tri (bit_of j ones) true (bit_of j ones) true bit_ones bit_ones
-  lane_always false = same_tri (bit_of j ones) true (bit_of j 0) false bit_ones bit_none
+  lane_always true = same_tri (bit_in j all_bits) true (bit_in j all_bits) true (bit_in_all j) (bit_in_all j)
+  lane_always false = same_tri (bit_in j all_bits) true (bit_in j no_bits) false (bit_in_all j) (bit_in_none j)
 
-  pub lane_unknown : lane j (record { known = 0; value = 0 }) ≡ X
-  lane_unknown = ap (λ k. tri_of k (bit_of j 0)) bit_none
+  pub lane_unknown : lane j unknown ≡ X
+  lane_unknown = ap (λ k. tri_of k (bit_in j no_bits)) (bit_in_none j)
 
-  masked : (k v : ℕ) → bit_of j (bit_and k (bit_xor v ones)) ≡ (bit_of j k && not (bit_of j v))
-  masked k v = bit_of_and k (bit_xor v ones) j ∙ ap (λ b. bit_of j k && b) (bit_not_word v)
+  masked : (k v : Bits) → bit_in j (bits_and k (bits_not v)) ≡ (bit_in j k && not (bit_in j v))
+  masked k v = bit_in_and k (bits_not v) j ∙ ap (λ b. bit_in j k && b) (bit_in_not v j)
 
-  or_three : (a b c : ℕ) → bit_of j (bit_or a (bit_or b c)) ≡ (bit_of j a || (bit_of j b || bit_of j c))
-  or_three a b c = bit_of_or a (bit_or b c) j ∙ ap (λ x. bit_of j a || x) (bit_of_or b c j)
+  or_three : (a b c : Bits) → bit_in j (bits_or a (bits_or b c)) ≡ (bit_in j a || (bit_in j b || bit_in j c))
+  or_three a b c = bit_in_or a (bits_or b c) j ∙ ap (λ x. bit_in j a || x) (bit_in_or b c j)
 
   lane_both : (u v : Lanes) → lane j (both u v) ≡ and_tri (lane j u) (lane j v)
   lane_both u v =
-      same_tri (bit_of j (both u v).known) ((bit_of j u.known && bit_of j v.known) || ((bit_of j u.known && not (bit_of j u.value)) || (bit_of j v.known && not (bit_of j v.value))))
-      (bit_of j (both u v).value) (bit_of j u.value && bit_of j v.value)
-      (or_three (bit_and u.known v.known) (bit_and u.known (bit_xor u.value ones)) (bit_and v.known (bit_xor v.value ones))
-      ∙ (ap (λ x. x || (bit_of j (bit_and u.known (bit_xor u.value ones)) || bit_of j (bit_and v.known (bit_xor v.value ones)))) (bit_of_and u.known v.known j)
-      ∙ (ap (λ x. (bit_of j u.known && bit_of j v.known) || (x || bit_of j (bit_and v.known (bit_xor v.value ones)))) (masked u.known u.value)
-      ∙ ap (λ x. (bit_of j u.known && bit_of j v.known) || ((bit_of j u.known && not (bit_of j u.value)) || x)) (masked v.known v.value))))
-      (bit_of_and u.value v.value j)
-      ∙ and_bits (bit_of j u.known) (bit_of j u.value) (bit_of j v.known) (bit_of j v.value)
+      same_tri (bit_in j (both u v).known) ((bit_in j u.known && bit_in j v.known) || ((bit_in j u.known && not (bit_in j u.value)) || (bit_in j v.known && not (bit_in j v.value))))
+      (bit_in j (both u v).value) (bit_in j u.value && bit_in j v.value)
+      (or_three (bits_and u.known v.known) (bits_and u.known (bits_not u.value)) (bits_and v.known (bits_not v.value))
+      ∙ (ap (λ x. x || (bit_in j (bits_and u.known (bits_not u.value)) || bit_in j (bits_and v.known (bits_not v.value)))) (bit_in_and u.known v.known j)
+      ∙ (ap (λ x. (bit_in j u.known && bit_in j v.known) || (x || bit_in j (bits_and v.known (bits_not v.value)))) (masked u.known u.value)
+      ∙ ap (λ x. (bit_in j u.known && bit_in j v.known) || ((bit_in j u.known && not (bit_in j u.value)) || x)) (masked v.known v.value))))
+      (bit_in_and u.value v.value j)
+      ∙ and_bits (bit_in j u.known) (bit_in j u.value) (bit_in j v.known) (bit_in j v.value)
 
   lane_either : (u v : Lanes) → lane j (either u v) ≡ or_tri (lane j u) (lane j v)
   lane_either u v =
-      same_tri (bit_of j (either u v).known) ((bit_of j u.known && bit_of j v.known) || ((bit_of j u.known && bit_of j u.value) || (bit_of j v.known && bit_of j v.value)))
-      (bit_of j (either u v).value) (bit_of j u.value || bit_of j v.value)
-      (or_three (bit_and u.known v.known) (bit_and u.known u.value) (bit_and v.known v.value)
-      ∙ (ap (λ x. x || (bit_of j (bit_and u.known u.value) || bit_of j (bit_and v.known v.value))) (bit_of_and u.known v.known j)
-      ∙ (ap (λ x. (bit_of j u.known && bit_of j v.known) || (x || bit_of j (bit_and v.known v.value))) (bit_of_and u.known u.value j)
-      ∙ ap (λ x. (bit_of j u.known && bit_of j v.known) || ((bit_of j u.known && bit_of j u.value) || x)) (bit_of_and v.known v.value j))))
-      (bit_of_or u.value v.value j)
-      ∙ or_bits (bit_of j u.known) (bit_of j u.value) (bit_of j v.known) (bit_of j v.value)
+      same_tri (bit_in j (either u v).known) ((bit_in j u.known && bit_in j v.known) || ((bit_in j u.known && bit_in j u.value) || (bit_in j v.known && bit_in j v.value)))
+      (bit_in j (either u v).value) (bit_in j u.value || bit_in j v.value)
+      (or_three (bits_and u.known v.known) (bits_and u.known u.value) (bits_and v.known v.value)
+      ∙ (ap (λ x. x || (bit_in j (bits_and u.known u.value) || bit_in j (bits_and v.known v.value))) (bit_in_and u.known v.known j)
+      ∙ (ap (λ x. (bit_in j u.known && bit_in j v.known) || (x || bit_in j (bits_and v.known v.value))) (bit_in_and u.known u.value j)
+      ∙ ap (λ x. (bit_in j u.known && bit_in j v.known) || ((bit_in j u.known && bit_in j u.value) || x)) (bit_in_and v.known v.value j))))
+      (bit_in_or u.value v.value j)
+      ∙ or_bits (bit_in j u.known) (bit_in j u.value) (bit_in j v.known) (bit_in j v.value)
 
   lane_unequal : (u v : Lanes) → lane j (unequal u v) ≡ xor_tri (lane j u) (lane j v)
   lane_unequal u v =
-      same_tri (bit_of j (bit_and u.known v.known)) (bit_of j u.known && bit_of j v.known) (bit_of j (bit_xor u.value v.value)) (cond (bit_of j u.value) (not (bit_of j v.value)) (bit_of j v.value))
-      (bit_of_and u.known v.known j) (bit_of_xor u.value v.value j)
-      ∙ xor_bits (bit_of j u.known) (bit_of j u.value) (bit_of j v.known) (bit_of j v.value)
+      same_tri (bit_in j (bits_and u.known v.known)) (bit_in j u.known && bit_in j v.known) (bit_in j (bits_xor u.value v.value)) (cond (bit_in j u.value) (not (bit_in j v.value)) (bit_in j v.value))
+      (bit_in_and u.known v.known j) (bit_in_xor u.value v.value j)
+      ∙ xor_bits (bit_in j u.known) (bit_in j u.value) (bit_in j v.known) (bit_in j v.value)
 
   lane_opposite : (v : Lanes) → lane j (opposite v) ≡ complement (lane j v)
-  lane_opposite v = ap (tri_of (bit_of j v.known)) (bit_not_word v.value) ∙ not_bits (bit_of j v.known) (bit_of j v.value)
+  lane_opposite v = ap (tri_of (bit_in j v.known)) (bit_in_not v.value j) ∙ not_bits (bit_in j v.known) (bit_in j v.value)
 
   lane_all : (vs : List Lanes) → lane j (all_of vs) ≡ conjunction_tri (lanes j vs)
   lane_all [] = lane_always true
@@ -208,24 +194,13 @@ module _ (j : ℕ) (low : j < 128) where
 
   -- ---- stuck lines
 
-  set_bit : (w : ℕ) → bit_of j (bit_or w (one_at j)) ≡ true
-  set_bit w = eq-eqb (bit_at (bit_or w (one_at j)) j) 1 (bit_at_set_same w128 w j low)
-
-  clear_bit : (w : ℕ) → bit_of j (bit_and w (bit_not w128 (one_at j))) ≡ false
-  clear_bit w = ne_eqb (bit_at (bit_and w (bit_not w128 (one_at j))) j) 1 (λ o. let z : bit_at (bit_and w (bit_not w128 (one_at j))) j ≡ 0 = bit_at_clear_same w128 w j low in let o' : bit_at (bit_and w (bit_not w128 (one_at j))) j ≡ 1 = o in omega arith)
-
   pub lane_with : (b : Bool) (v : Lanes) → lane j (with_lane j b v) ≡ known b
-  lane_with true v = same_tri (bit_of j (bit_or v.known (one_at j))) true (bit_of j (bit_or v.value (one_at j))) true (set_bit v.known) (set_bit v.value)
-  lane_with false v =
-      same_tri (bit_of j (bit_or v.known (one_at j))) true (bit_of j (bit_and v.value (bit_not w128 (one_at j)))) false (set_bit v.known) (clear_bit v.value)
+  lane_with b v = same_tri (bit_in j (with_bit j true v.known)) true (bit_in j (with_bit j b v.value)) b (with_bit_same j true v.known) (with_bit_same j b v.value)
 
   pub lane_with_other : (k : ℕ) (b : Bool) (v : Lanes) → k < 128 → j ≢ k → lane j (with_lane k b v) ≡ lane j v
-  lane_with_other k true v l ne =
-      same_tri (bit_of j (bit_or v.known (one_at k))) (bit_of j v.known) (bit_of j (bit_or v.value (one_at k))) (bit_of j v.value)
-      (ap (λ x. eqb x 1) (bit_at_set_other w128 v.known k l j ne)) (ap (λ x. eqb x 1) (bit_at_set_other w128 v.value k l j ne))
-  lane_with_other k false v l ne =
-      same_tri (bit_of j (bit_or v.known (one_at k))) (bit_of j v.known) (bit_of j (bit_and v.value (bit_not w128 (one_at k)))) (bit_of j v.value)
-      (ap (λ x. eqb x 1) (bit_at_set_other w128 v.known k l j ne)) (ap (λ x. eqb x 1) (bit_at_clear_other w128 v.value k l j low ne))
+  lane_with_other k b v l ne =
+      same_tri (bit_in j (with_bit k true v.known)) (bit_in j v.known) (bit_in j (with_bit k b v.value)) (bit_in j v.value)
+      (with_bit_other k j true v.known l low ne) (with_bit_other k j b v.value l low ne)
 
   forced_other : (b here : Bool) (k : ℕ) (v : Lanes) → k < 128 → j ≢ k → lane j (if here then with_lane k b v else v) ≡ lane j v
   forced_other b true k v l ne = lane_with_other k b v l ne

@@ -1,3 +1,4 @@
+pub mod BitLemmas
 pub mod LaneBits
 pub mod Stuckness
 pub mod VerdictLemmas

@@ -16,13 +16,14 @@ use Rattle.netlist.proofs.Alike.{zip_append}
 use Rattle.netlist.proofs.Lists.{All-from_contains, map_agree, map_map}
 use Rattle.netlist.proofs.Settling.{zip_kept}
 use Rattle.tri.specs.Settled.{tris}
-use Rattle.events.specs.Words.{bit_of}
 use Rattle.events.proofs.WordBits.{zip_map}
 use Rattle.scan_play.proofs.PlanLemmas.{flat_map_agree}
 use Rattle.lane_play.specs.declared.packed.Lanes.{Lanes}
-use Rattle.lane_play.specs.inner.Lanes.{always, lane, lanes, lanes_rule, ones}
+use Rattle.lane_play.specs.inner.Bits.{all_bits, bit_in}
+use Rattle.lane_play.specs.inner.Lanes.{always, lane, lanes, lanes_rule, unknown}
 use Rattle.lane_play.specs.inner.Shifts.{AreCommon}
-use Rattle.lane_play.proofs.LaneBits.{bit_ones, lane_always, lane_gates, lane_line, lane_next, lane_outs, lane_pins, lane_settles, lane_unknown}
+use Rattle.lane_play.proofs.BitLemmas.{bit_in_all}
+use Rattle.lane_play.proofs.LaneBits.{lane_always, lane_gates, lane_line, lane_next, lane_outs, lane_pins, lane_settles, lane_unknown}
 
 -- ---- assignments that agree
 
@@ -52,10 +53,10 @@ known_is : (b : Bool) → is_x (known b) ≡ false
 known_is true = refl
 known_is false = refl
 
-pub all_known : (k : ℕ) → k < 128 → (v : Lanes) → v.known ≡ ones → is_x (lane k v) ≡ false
+pub all_known : (k : ℕ) → k < 128 → (v : Lanes) → v.known ≡ all_bits → is_x (lane k v) ≡ false
 all_known k low v e =
-    ap (λ w. is_x (if bit_of k w then known (bit_of k v.value) else X)) e
-    ∙ (ap (λ b. is_x (if b then known (bit_of k v.value) else X)) (bit_ones k low) ∙ known_is (bit_of k v.value))
+    ap (λ w. is_x (if bit_in k w then known (bit_in k v.value) else X)) e
+    ∙ (ap (λ b. is_x (if b then known (bit_in k v.value) else X)) (bit_in_all k) ∙ known_is (bit_in k v.value))
 
 pub common_known : (k : ℕ) → k < 128 → (values : List Lanes) (table : List Tri) → AreCommon values table → (x : ℕ) → is_x (at table X x) ≡ false → is_x (at (lanes k values) X x) ≡ false
 common_known k low [] [] c x e = e
@@ -83,7 +84,7 @@ common_more values old new i v t l is e here h =
 abbrev everywhere : Tri → Lanes
 everywhere Zero = always false
 everywhere One = always true
-everywhere X = record { known = 0; value = 0 }
+everywhere X = unknown
 
 module _ (k : ℕ) (low : k < 128) where
   lane_everywhere : (t : Tri) → lane k (everywhere t) ≡ t
@@ -147,12 +148,12 @@ module _ (k : ℕ) (low : k < 128) where
         settles_agree (tris (slice_get faults k)) n (λ x. lane k (at values (everywhere X) x)) (at (lanes k values) X) (λ x. sym (at_machine values x X)) (lanes k inputs) (lanes k state)
         (lane_settles k low faults few n inputs state (at values (everywhere X)) (s (everywhere X)))
 
-    pub machine_outs : (n : Netlist) (values : List Lanes) → lanes k (outs (lanes_rule faults) n (at values (record { known = 0; value = 0 }))) ≡ outs (tris (slice_get faults k)) n (at (lanes k values) X)
+    pub machine_outs : (n : Netlist) (values : List Lanes) → lanes k (outs (lanes_rule faults) n (at values unknown)) ≡ outs (tris (slice_get faults k)) n (at (lanes k values) X)
     machine_outs n values =
         sym (lane_outs k low faults few n (at values (everywhere X)))
         ∙ outs_agree (tris (slice_get faults k)) n (λ x. lane k (at values (everywhere X) x)) (at (lanes k values) X) (λ x. sym (at_machine values x X))
 
-    pub machine_next : (n : Netlist) (values : List Lanes) → lanes k (next (lanes_rule faults) n (at values (record { known = 0; value = 0 }))) ≡ next (tris (slice_get faults k)) n (at (lanes k values) X)
+    pub machine_next : (n : Netlist) (values : List Lanes) → lanes k (next (lanes_rule faults) n (at values unknown)) ≡ next (tris (slice_get faults k)) n (at (lanes k values) X)
     machine_next n values =
         sym (lane_next k low faults few n (at values (everywhere X)))
         ∙ next_agree (tris (slice_get faults k)) n (λ x. lane k (at values (everywhere X) x)) (at (lanes k values) X) (λ x. sym (at_machine values x X))

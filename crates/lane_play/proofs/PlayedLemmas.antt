@@ -11,7 +11,6 @@ use Rattle.netlist.specs.Conditions.{IsSound}
 use Rattle.statement.specs.Netlists.{Netlist, cells}
 use Rattle.statement.specs.Values.{Settles, next, known}
 use Rattle.netlist.specs.Settled.{at}
-use Rattle.events.specs.Words.{bit_of}
 use Rattle.statement.specs.Runs.{numbers_from, Cycle}
 use Rattle.scan_insert.proofs.Numbers.{length-numbers_from, get_or-numbers_from}
 use Rattle.scan_play.specs.declared.cycles.Burst.{Burst}
@@ -22,11 +21,14 @@ use Rattle.scan_play.specs.inner.Steps.{IsStep, PlaysOn}
 use Rattle.scan_play.proofs.PlayLemmas.{plays_found, plays_step, plays_then}
 use Rattle.scan_play.proofs.PlaySteps.{length-cycles_of, step_from}
 use Rattle.scan_play.proofs.RunLaws.{next_length}
+use Rattle.lane_play.specs.declared.bits.Bits.{Bits}
 use Rattle.lane_play.specs.declared.packed.Lanes.{Lanes}
-use Rattle.lane_play.specs.inner.Lanes.{always, lane, lanes, lanes_rule}
+use Rattle.lane_play.specs.inner.Bits.{bit_in, no_bits}
+use Rattle.lane_play.specs.inner.Lanes.{always, lane, lanes, lanes_rule, unknown}
 use Rattle.lane_play.specs.inner.Verdicts.{AreJudgedIn, AreLeft, found_at, is_open}
 use Rattle.lane_play.specs.inner.Steps.{AreEnded, ArePlayed, AreSteps, Keeping, KeepsBehind, KeepsOn, StaysKept}
-use Rattle.lane_play.proofs.LaneBits.{bit_none, lane_always, lane_next, lane_outs, lane_settles, lane_unknown}
+use Rattle.lane_play.proofs.BitLemmas.{bit_in_none}
+use Rattle.lane_play.proofs.LaneBits.{lane_always, lane_next, lane_outs, lane_settles, lane_unknown}
 
 -- ---- one machine of lists
 
@@ -34,9 +36,9 @@ pub lanes_always : (k : ℕ) → k < 128 → (bits : List Bool) → lanes k (map
 lanes_always k low [] = refl
 lanes_always k low (b ∷ bs) = ap (λ v. v ∷ lanes k (map always bs)) (lane_always k low b) ∙ ap (λ vs. known b ∷ vs) (lanes_always k low bs)
 
-pub lanes_unknown : (k : ℕ) → k < 128 → (count : ℕ) → lanes k (replicate count (record { known = 0; value = 0 })) ≡ replicate count X
+pub lanes_unknown : (k : ℕ) → k < 128 → (count : ℕ) → lanes k (replicate count unknown) ≡ replicate count X
 lanes_unknown k low zero = refl
-lanes_unknown k low (suc count) = ap (λ v. v ∷ lanes k (replicate count (record { known = 0; value = 0 }))) (lane_unknown k low) ∙ ap (λ vs. X ∷ vs) (lanes_unknown k low count)
+lanes_unknown k low (suc count) = ap (λ v. v ∷ lanes k (replicate count unknown)) (lane_unknown k low) ∙ ap (λ vs. X ∷ vs) (lanes_unknown k low count)
 
 pub lanes_chosen : (k : ℕ) (b : Bool) (us vs : List Lanes) → lanes k (cond b us vs) ≡ cond b (lanes k us) (lanes k vs)
 lanes_chosen k true us vs = refl
@@ -57,11 +59,10 @@ pub steps_from : (faults : List Fault) (n : Netlist) (cycle : Cycle) (number : �
     → drive ≡ map always cycle.drive → length state ≡ length (cells n)
     → ((d : Lanes) → Settles (lanes_rule faults) n drive state (at values d)) → AreEnded faults n cycle.pulse values state after row → AreSteps faults n state after cycle number row
 steps_from faults n cycle number state after drive values row machines sound d size settles ended = λ k J low opens.
-    let blank : Lanes = record { known = 0; value = 0 } in
-    let a : ℕ → Lanes = at values blank in
+    let a : ℕ → Lanes = at values unknown in
     step_from J (slice_get faults k) n cycle number (lanes k state) (lanes k after) (lanes k drive) cycle.strobe (lanes k row) (λ x. lane k (a x)) (judged_in J number 0 cycle.strobe (lanes k row)) sound
     (ap (lanes k) d ∙ lanes_always k low cycle.drive) refl (length-map state (lane k) ∙ size)
-    (lane_settles k low faults machines n drive state a (settles blank))
+    (lane_settles k low faults machines n drive state a (settles unknown))
     (ap (lanes k) ended.shows ∙ sym (lane_outs k low faults machines n a))
     (ap (lanes k) ended.ticked ∙ (lanes_chosen k cycle.pulse (next (lanes_rule faults) n a) state ∙ ap (λ vs. cond cycle.pulse vs (lanes k state)) (sym (lane_next k low faults machines n a))))
     refl
@@ -86,7 +87,7 @@ module _ (J : Judging) (faults : List Fault) (n : Netlist) where
   closed_stays f cs ds start state (Some p) e h = plays_found J f n cs ds 0 start state p h
 
   -- once something is said of each machine, it stays, whatever comes behind
-  pub played_whole : (cs ds : List Cycle) (state : List Lanes) (found : List (Option Played)) (left : ℕ) → length found ≤ 128 → AreLeft found (length found) left → left ≡ 0
+  pub played_whole : (cs ds : List Cycle) (state : List Lanes) (found : List (Option Played)) (left : Bits) → length found ≤ 128 → AreLeft found (length found) left → left ≡ no_bits
       → ArePlayed J faults n cs state found → ArePlayed J faults n (cs ++ ds) state found
   played_whole cs ds state found left few h none played = record {
     size = played.size;
@@ -94,7 +95,7 @@ module _ (J : Judging) (faults : List Fault) (n : Netlist) where
         let inside : k < length found = (let e = played.size in omega (arith, l)) in
         let low : k < 128 = omega (arith, inside, few) in
         closed_stays (slice_get faults k) cs ds (replicate (length (cells n)) X) (lanes k state) (found_at found k)
-        (sym (h k inside) ∙ (ap (bit_of k) none ∙ bit_none k low)) (played.each k l);
+        (sym (h k inside) ∙ (ap (bit_in k) none ∙ bit_in_none k)) (played.each k l);
   }
 
 pub verdicts_keep : (J : Judging) → IsOpen J → (number : ℕ) (strobes : List Tri) (row : List Lanes) (old new : List (Option Played)) → length new ≤ 128 → AreJudgedIn J number strobes row old new
@@ -111,7 +112,7 @@ verdicts_keep J opens number strobes row old new few judged = λ faults n before
       (judged.each k inside ∙ ap (λ ss. played_or_else (found_at old k) (judged_in J number 0 ss (lanes k row))) (sym same));
 }
 
-pub verdicts_stay : (J : Judging) (found : List (Option Played)) (left : ℕ) → length found ≤ 128 → AreLeft found (length found) left → left ≡ 0 → StaysKept (λ faults n cycles state. ArePlayed J faults n cycles state found)
+pub verdicts_stay : (J : Judging) (found : List (Option Played)) (left : Bits) → length found ≤ 128 → AreLeft found (length found) left → left ≡ no_bits → StaysKept (λ faults n cycles state. ArePlayed J faults n cycles state found)
 verdicts_stay J found left few h none = λ faults n before behind state played. played_whole J faults n before behind state found left few h none played
 
 -- ---- what holds of cycles

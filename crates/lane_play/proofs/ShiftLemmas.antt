@@ -15,7 +15,7 @@ use Rattle.scan_play.specs.Steps.{HasSteps}
 use Rattle.scan_play.proofs.PlanLemmas.{planned_driven, shift_planned, shift_step}
 use Rattle.scan_play.proofs.PlanMarks.{steps_known}
 use Rattle.lane_play.specs.declared.packed.Lanes.{Lanes}
-use Rattle.lane_play.specs.inner.Lanes.{always, lane, lanes, lanes_rule}
+use Rattle.lane_play.specs.inner.Lanes.{always, lane, lanes, lanes_rule, unknown}
 use Rattle.lane_play.specs.inner.Shifts.{AreCommon, ArePlanned}
 use Rattle.lane_play.specs.inner.Steps.{AreEnded, AreSteps}
 use Rattle.lane_play.proofs.Machines.{common_known, machine_next, machine_outs, machine_settles, machine_sources, machine_steps}
@@ -24,14 +24,14 @@ use Rattle.lane_play.proofs.PlayedLemmas.{lanes_always, lanes_chosen, lanes_unkn
 -- ---- a plan
 
 pub planned_lanes : (faults : List Fault) → length faults ≤ 128 → (n : Netlist) (drive : List Bool) (strobe table : List Tri) (steps : List ℕ) (empty front whole seen idle values : List Lanes) (wide narrow : ℕ)
-    → wide ≡ length n.inputs → narrow ≡ length drive → empty ≡ [] → front ≡ empty ++ map always drive → whole ≡ front ++ replicate (wide - narrow) (record { known = 0; value = 0 }) → seen ≡ whole
-    → idle ≡ replicate (length (cells n)) (record { known = 0; value = 0 }) → ((d : Lanes) → Settles (lanes_rule faults) n seen idle (at values d)) → length values ≡ length (signals n)
+    → wide ≡ length n.inputs → narrow ≡ length drive → empty ≡ [] → front ≡ empty ++ map always drive → whole ≡ front ++ replicate (wide - narrow) unknown → seen ≡ whole
+    → idle ≡ replicate (length (cells n)) unknown → ((d : Lanes) → Settles (lanes_rule faults) n seen idle (at values d)) → length values ≡ length (signals n)
     → AreCommon values table → HasSteps n strobe table steps → ArePlanned faults n drive strobe steps values
 planned_lanes faults machines n drive strobe table steps empty front whole seen idle values wide narrow p r e h w s i settles size common has k low = record {
   base = lanes k values;
   settles = planned_driven (slice_get faults k) n drive (lanes k empty) (lanes k front) (lanes k whole) (lanes k seen) (lanes k idle) (lanes k values) wide narrow p r (ap (lanes k) e)
       (ap (lanes k) h ∙ (map-append (lane k) empty (map always drive) ∙ ap (λ vs. lanes k empty ++ vs) (lanes_always k low drive)))
-      (ap (lanes k) w ∙ (map-append (lane k) front (replicate (wide - narrow) (record { known = 0; value = 0 })) ∙ ap (λ vs. lanes k front ++ vs) (lanes_unknown k low (wide - narrow))))
+      (ap (lanes k) w ∙ (map-append (lane k) front (replicate (wide - narrow) unknown) ∙ ap (λ vs. lanes k front ++ vs) (lanes_unknown k low (wide - narrow))))
       (ap (lanes k) s) (ap (lanes k) i ∙ lanes_unknown k low (length (cells n)))
       (machine_settles k low faults machines n seen idle values settles);
   has = steps_known n strobe table (lanes k values) steps (common_known k low values table common) has;
@@ -64,11 +64,10 @@ module _ (faults : List Fault) (machines : length faults ≤ 128) (n net : Netli
   pub shift_steps : (pulse : Bool) (number : ℕ) (after row : List Lanes) → AreEnded faults n pulse v2 state after row
       → AreSteps faults n state after (record { drive = drive ++ ins; strobe = strobe ++ outs_of; pulse = pulse }) number row
   shift_steps pulse number after row ended = λ k J low opens.
-      let blank : Lanes = record { known = 0; value = 0 } in
       shift_step J opens (slice_get faults k) n net drive strobe steps (lanes k v0) (lanes k v1) (lanes k v2) ins outs_of (lanes k state) (lanes k driven) (lanes k from) there sound (plan k low) wide
       (length-map state (lane k) ∙ size) (ap (lanes k) is_driven ∙ lanes_always k low (drive ++ ins)) (ap (lanes k) is_from)
       (machine_sources k low faults machines net driven from v0 v1 onto) (machine_steps k low faults machines net steps v1 v2 stepped)
       pulse number (lanes k v2) (lanes k row) (strobe ++ outs_of) (lanes k after) (judged_in J number 0 (strobe ++ outs_of) (lanes k row)) refl
       (ap (lanes k) ended.shows ∙ machine_outs k low faults machines n v2) refl refl
       (ap (lanes k) ended.ticked
-      ∙ (lanes_chosen k pulse (next (lanes_rule faults) n (at v2 blank)) state ∙ ap (λ vs. cond pulse vs (lanes k state)) (machine_next k low faults machines n v2)))
+      ∙ (lanes_chosen k pulse (next (lanes_rule faults) n (at v2 unknown)) state ∙ ap (λ vs. cond pulse vs (lanes k state)) (machine_next k low faults machines n v2)))

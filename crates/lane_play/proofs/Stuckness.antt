@@ -14,7 +14,7 @@ use Rattle.netlist.proofs.Lists.{map_agree}
 use Rattle.events.proofs.Stuck.{length-on_pins}
 use Rattle.lane_play.specs.declared.packed.Lanes.{Lanes}
 use Rattle.lane_play.specs.declared.spans.Span.{Span}
-use Rattle.lane_play.specs.inner.Lanes.{forced_from, gate_lanes, lanes_rule, with_lane}
+use Rattle.lane_play.specs.inner.Lanes.{forced_from, gate_lanes, lanes_rule, with_lane, unknown}
 use Rattle.lane_play.specs.inner.Spans.{IsSpanned}
 
 -- any fault: a lemma asks for a default
@@ -42,12 +42,11 @@ same_signal (Out x) (Pin y k) e = absurd (both_ways false refl e)
 -- ---- pins
 
 -- there is a value for each pin
-pub length-read : (rule : Rule Lanes) (z : ℕ) (values : List Lanes) (pins : List ℕ) → length (on_pins rule z 0 (map (at values (record { known = 0; value = 0 })) pins)) ≡ length pins
+pub length-read : (rule : Rule Lanes) (z : ℕ) (values : List Lanes) (pins : List ℕ) → length (on_pins rule z 0 (map (at values unknown) pins)) ≡ length pins
 length-read rule z values pins =
-    let blank : Lanes = record { known = 0; value = 0 } in
-    length-on_pins rule z 0 (map (at values blank) pins) ∙ length-map pins (at values blank)
+    length-on_pins rule z 0 (map (at values unknown) pins) ∙ length-map pins (at values unknown)
 
-pub place_read : (rule : Rule Lanes) (z : ℕ) (values : List Lanes) (pins : List ℕ) (place : ℕ) → place < length (on_pins rule z 0 (map (at values (record { known = 0; value = 0 })) pins)) → place < length pins
+pub place_read : (rule : Rule Lanes) (z : ℕ) (values : List Lanes) (pins : List ℕ) (place : ℕ) → place < length (on_pins rule z 0 (map (at values unknown) pins)) → place < length pins
 place_read rule z values pins place l = let n = length-read rule z values pins in omega arith
 
 -- ---- faults passed over

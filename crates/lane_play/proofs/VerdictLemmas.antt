@@ -1,39 +1,19 @@
 -- What is said of each machine, and the word of those of which nothing is.
-use Rattle.std.proofs.Common.{◌≡◌, ◌≢◌, ℕ, suc, zero, ◌+◌, ◌<◌, ◌≤◌, Bool, true, false, not, ◌&&◌, ◌||◌, if◌then◌else◌, List, [], ◌∷◌, length, get_or, set, drop, Option, Some, None, refl, sym, ◌∙◌, ap, inl, inr, eqb, arith, bit_and, bit_or, bit_xor}
-use Rattle.std.specs.Int.{bit_at, bit_not, w128}
-use Rattle.std.proofs.lemmas.Bool.{eq-eqb, ne_eqb, cases_eq, both_ways}
+use Rattle.std.proofs.Common.{◌≡◌, ℕ, suc, zero, ◌+◌, ◌<◌, ◌≤◌, Bool, true, false, not, ◌&&◌, ◌||◌, if◌then◌else◌, List, [], ◌∷◌, length, get_or, set, drop, Option, Some, None, refl, sym, ◌∙◌, ap, inl, inr, arith}
+use Rattle.std.proofs.lemmas.Bool.{cases_eq, both_ways}
 use Rattle.std.proofs.lemmas.List.{get_or_default, get_or-map, length-map, length-set, get_or-set_same, get_or-set_other}
-use Rattle.std.proofs.lemmas.Nat.Bits.{bit_at_set_same, bit_at_set_other, bit_at_clear_same, bit_at_clear_other}
 use Rattle.statement.specs.declared.kinds.Tri.{Tri}
 use Rattle.statement.specs.declared.kinds.Tri.TheVariants.{Zero, One, X}
 use Rattle.statement.specs.Values.{known}
-use Rattle.events.specs.Words.{bit_of}
-use Rattle.events.proofs.WordBits.{bit_of_and, bit_of_or}
 use Rattle.scan_play.specs.declared.played.Played.{Played}
 use Rattle.scan_play.specs.Judging.{Judging, judged_in, played_or_else}
 use Rattle.scan_play.proofs.PlayLemmas.{judged_more}
+use Rattle.lane_play.specs.declared.bits.Bits.{Bits}
 use Rattle.lane_play.specs.declared.packed.Lanes.{Lanes}
-use Rattle.lane_play.specs.inner.Lanes.{lane, lanes, one_at, ones}
+use Rattle.lane_play.specs.inner.Bits.{bit_in, bits_and, bits_not, bits_or, no_bits}
+use Rattle.lane_play.specs.inner.Lanes.{lane, lanes}
 use Rattle.lane_play.specs.inner.Verdicts.{AreLeft, AreSaid, found_at, is_open, said_of}
-use Rattle.lane_play.proofs.LaneBits.{bit_not_word, bit_none}
-
--- ---- one bit of a word
-
-pub put_same : (word k : ℕ) → k < 128 → bit_of k (bit_or word (one_at k)) ≡ true
-put_same word k l = eq-eqb (bit_at (bit_or word (one_at k)) k) 1 (bit_at_set_same w128 word k l)
-
-pub put_other : (word k j : ℕ) → k < 128 → j ≢ k → bit_of j (bit_or word (one_at k)) ≡ bit_of j word
-put_other word k j l ne = ap (λ x. eqb x 1) (bit_at_set_other w128 word k l j ne)
-
-pub cleared_same : (word k : ℕ) → k < 128 → bit_of k (bit_and word (bit_not w128 (one_at k))) ≡ false
-cleared_same word k l =
-    ne_eqb (bit_at (bit_and word (bit_not w128 (one_at k))) k) 1
-    (λ o. let z : bit_at (bit_and word (bit_not w128 (one_at k))) k ≡ 0 = bit_at_clear_same w128 word k l in let o' : bit_at (bit_and word (bit_not w128 (one_at k))) k ≡ 1 = o in omega arith)
-
-pub cleared_other : (word k j : ℕ) → k < 128 → j < 128 → j ≢ k → bit_of j (bit_and word (bit_not w128 (one_at k))) ≡ bit_of j word
-cleared_other word k j l m ne = ap (λ x. eqb x 1) (bit_at_clear_other w128 word k l j m ne)
-
--- ---- of which nothing was said
+use Rattle.lane_play.proofs.BitLemmas.{bit_in_and, bit_in_none, bit_in_not, bit_in_or}
 
 -- ---- what is said at a strobe
 
@@ -65,21 +45,21 @@ told_cases (Some z) (Some o) (Some x) true false = refl
 told_cases (Some z) (Some o) (Some x) false b = refl
 
 -- the machines of which something is said, from those that show 0, 1 and X
-pub told_bits : (k : ℕ) (low : k < 128) (z o x : Option Played) (shown : Lanes) (zs os xs : ℕ)
-    → bit_of k zs ≡ (not (is_open z) && bit_of k (bit_and shown.known (bit_xor shown.value ones))) → bit_of k os ≡ (not (is_open o) && bit_of k (bit_and shown.known shown.value))
-    → bit_of k xs ≡ (not (is_open x) && bit_of k (bit_xor shown.known ones))
-    → bit_of k (bit_or zs (bit_or os xs)) ≡ not (is_open (said_of z o x (lane k shown)))
+pub told_bits : (k : ℕ) (low : k < 128) (z o x : Option Played) (shown : Lanes) (zs os xs : Bits)
+    → bit_in k zs ≡ (not (is_open z) && bit_in k (bits_and shown.known (bits_not shown.value))) → bit_in k os ≡ (not (is_open o) && bit_in k (bits_and shown.known shown.value))
+    → bit_in k xs ≡ (not (is_open x) && bit_in k (bits_not shown.known))
+    → bit_in k (bits_or zs (bits_or os xs)) ≡ not (is_open (said_of z o x (lane k shown)))
 told_bits k low z o x shown zs os xs a b c =
-    let kb = bit_of k shown.known in
-    let vb = bit_of k shown.value in
-    let a' : bit_of k zs ≡ (not (is_open z) && (kb && not vb)) =
-    a ∙ ap (λ y. not (is_open z) && y) (bit_of_and shown.known (bit_xor shown.value ones) k ∙ ap (λ y. kb && y) (bit_not_word k low shown.value)) in
-    let b' : bit_of k os ≡ (not (is_open o) && (kb && vb)) = b ∙ ap (λ y. not (is_open o) && y) (bit_of_and shown.known shown.value k) in
-    let c' : bit_of k xs ≡ (not (is_open x) && not kb) = c ∙ ap (λ y. not (is_open x) && y) (bit_not_word k low shown.known) in
-    bit_of_or zs (bit_or os xs) k
-    ∙ (ap (λ y. bit_of k zs || y) (bit_of_or os xs k)
-    ∙ (ap (λ y. y || (bit_of k os || bit_of k xs)) a'
-    ∙ (ap (λ y. (not (is_open z) && (kb && not vb)) || (y || bit_of k xs)) b'
+    let kb = bit_in k shown.known in
+    let vb = bit_in k shown.value in
+    let a' : bit_in k zs ≡ (not (is_open z) && (kb && not vb)) =
+    a ∙ ap (λ y. not (is_open z) && y) (bit_in_and shown.known (bits_not shown.value) k ∙ ap (λ y. kb && y) (bit_in_not shown.value k)) in
+    let b' : bit_in k os ≡ (not (is_open o) && (kb && vb)) = b ∙ ap (λ y. not (is_open o) && y) (bit_in_and shown.known shown.value k) in
+    let c' : bit_in k xs ≡ (not (is_open x) && not kb) = c ∙ ap (λ y. not (is_open x) && y) (bit_in_not shown.known k) in
+    bit_in_or zs (bits_or os xs) k
+    ∙ (ap (λ y. bit_in k zs || y) (bit_in_or os xs k)
+    ∙ (ap (λ y. y || (bit_in k os || bit_in k xs)) a'
+    ∙ (ap (λ y. (not (is_open z) && (kb && not vb)) || (y || bit_in k xs)) b'
     ∙ (ap (λ y. (not (is_open z) && (kb && not vb)) || ((not (is_open o) && (kb && vb)) || y)) c'
     ∙ told_cases z o x kb vb))))
 
@@ -102,14 +82,14 @@ stays None (Some q) e = absurd (both_ways true e refl)
 stays (Some p) y e = refl
 
 -- nothing is said of a machine of which nothing was
-pub untold : (say : Tri → Option Played) (shown : Lanes) (found : List (Option Played)) (told left : ℕ) → length found ≤ 128
-    → ((k : ℕ) → k < 128 → bit_of k told ≡ not (is_open (say (lane k shown)))) → AreLeft found (length found) left → bit_and told left ≡ 0 → AreSaid say shown found found
+pub untold : (say : Tri → Option Played) (shown : Lanes) (found : List (Option Played)) (told left : Bits) → length found ≤ 128
+    → ((k : ℕ) → k < 128 → bit_in k told ≡ not (is_open (say (lane k shown)))) → AreLeft found (length found) left → bits_and told left ≡ no_bits → AreSaid say shown found found
 untold say shown found told left few t h none = record {
   size = refl;
   each = λ k l.
       let low : k < 128 = omega (arith, l, few) in
       stays (found_at found k) (say (lane k shown))
-      (ap (λ b. b && is_open (found_at found k)) (sym (t k low)) ∙ (ap (λ b. bit_of k told && b) (sym (h k l)) ∙ (sym (bit_of_and told left k) ∙ (ap (bit_of k) none ∙ bit_none k low))));
+      (ap (λ b. b && is_open (found_at found k)) (sym (t k low)) ∙ (ap (λ b. bit_in k told && b) (sym (h k l)) ∙ (sym (bit_in_and told left k) ∙ (ap (bit_in k) none ∙ bit_in_none k))));
 }
 
 -- so far the first m machines had it said

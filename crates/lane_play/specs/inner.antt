@@ -1,4 +1,5 @@
 -- What the contracts of private functions cite.
+pub mod Bits
 pub mod Lanes
 pub mod Spans
 pub mod Verdicts

@@ -1,11 +1,12 @@
 //! How many strobes of each machine something is said of.
 ghost use Rattle.std.specs.Prelude.{◌≡◌, ◌+◌, ◌^◌, ◌<◌, ◌≤◌, ℕ, Bool, IfOk, length, replicate};
 ghost use Rattle.std.specs.List.{All};
-ghost use Rattle.events.specs.Words.{bit_of};
 ghost use Rattle.scan_play.specs.Cycles.{IsCycleOf};
 ghost use Rattle.lane_play.specs.Counted.{AreCounted, on_one, on_other, one_if};
+ghost use Rattle.lane_play.specs.inner.Bits.{bit_in};
 ghost use Rattle.lane_play.specs.inner.Counts.{AreMore, AreMoreIn, number_at};
 
+use crate::bits::Bits;
 use crate::judging::ask;
 use crate::packed::Lanes;
 use crate::playing::play;
@@ -29,13 +30,6 @@ pub struct Counts {
     pub other: Vec<u64>,
 }
 
-fn bit(word: u128, k: usize) -> bool
-    requires { k < 128 }
-    ensures { result ≡ bit_of k word }
-{
-    (word >> k) % 2 == 1
-}
-
 /// One more, where it counts. A number that no word holds is refused as memory is: no test has so many strobes.
 fn more(number: u64, counts: bool) -> Result<u64, AllocError>
     ensures { IfOk result (λ more. more ≡ number + one_if counts) }
@@ -49,15 +43,15 @@ fn more(number: u64, counts: bool) -> Result<u64, AllocError>
     }
 }
 
-/// Adds 1 for each machine whose bit the word has.
-fn add(word: u128, numbers: Vec<u64>) -> Result<Vec<u64>, AllocError>
+/// Adds 1 for each machine that has its bit.
+fn add(bits: Bits, numbers: Vec<u64>) -> Result<Vec<u64>, AllocError>
     requires { length numbers.items ≤ 128 }
     ensures size { IfOk result (λ v. length v.items ≡ length numbers.items) }
-    ensures each { IfOk result (λ v. (k : ℕ) → k < length numbers.items → number_at v.items k ≡ number_at numbers.items k + one_if (bit_of k word)) }
+    ensures each { IfOk result (λ v. (k : ℕ) → k < length numbers.items → number_at v.items k ≡ number_at numbers.items k + one_if (bit_in k bits)) }
 {
     let mut numbers = numbers;
     for k in 0..numbers.len() {
-        numbers[k] = more(numbers[k], bit(word, k))?;
+        numbers[k] = more(numbers[k], bits.has(k))?;
     }
     Ok(numbers)
 }
@@ -77,7 +71,7 @@ fn count_bit<S: Sides>(
     ensures other { IfOk result (λ new. AreMore (on_other (S.says sides.now) (S.side sides.now) cycle output strobe) shown counts.other.items new.other.items) }
 {
     let told = ask(sides, cycle, output, strobe).told(shown);
-    if told == 0 {
+    if told.is_none() {
         return Ok(counts);
     }
     let Counts { one, other } = counts;

@@ -1,14 +1,15 @@
 //! What is said of each machine.
 //!
-//! A judge says the same of all machines that show the same value at a strobe. So it is asked for each of the three values, and one word tells
+//! A judge says the same of all machines that show the same value at a strobe. So it is asked for each of the three values, and their bits tell
 //! whether something is said of a machine of which nothing was; that is seldom, and then all machines are walked.
 ghost use Rattle.std.specs.Prelude.{◌≡◌, ◌≢◌, ◌&&◌, ◌^◌, ◌<◌, ◌≤◌, ℕ, None, IfOk, length, not, replicate};
 ghost use Rattle.statement.specs.declared.kinds.Tri.TheVariants.{Zero, One, X};
-ghost use Rattle.events.specs.Words.{bit_of};
 ghost use Rattle.scan_play.specs.Judging.{played_or_else};
+ghost use Rattle.lane_play.specs.inner.Bits.{bit_in};
 ghost use Rattle.lane_play.specs.inner.Lanes.{lane};
 ghost use Rattle.lane_play.specs.inner.Verdicts.{AreJudgedIn, AreLeft, AreSaid, is_open, said_of};
 
+use crate::bits::Bits;
 use crate::packed::Lanes;
 use crate::watching::Watch;
 use netlist::Tri;
@@ -19,22 +20,9 @@ use std::alloc::{AllocError, Global};
 #[derive(Drop)]
 pub(crate) struct Verdicts {
     pub found: Vec<Option<Played>>,
-    pub left: u128,
+    pub left: Bits,
     pub ghost few: { length found.items ≤ 128 },
     pub ghost lefts: { AreLeft found.items (length found.items) left },
-}
-
-/// The word with a bit at a place.
-fn with_bit(word: u128, k: usize, bit: bool) -> u128
-    requires { k < 128 }
-    ensures same { bit_of k result ≡ bit }
-    ensures others { (j : ℕ) → j < 128 → j ≢ k → bit_of j result ≡ bit_of j word }
-{
-    if bit {
-        word | (1u128 << k)
-    } else {
-        word & !(1u128 << k)
-    }
 }
 
 /// Whether nothing was said.
@@ -48,13 +36,13 @@ pub(crate) fn is_open(said: &Option<Played>) -> bool
 }
 
 /// The machines of which nothing was said.
-fn left_of(found: &[Option<Played>]) -> u128
+fn left_of(found: &[Option<Played>]) -> Bits
     requires { length found.now ≤ 128 }
     ensures { AreLeft found.now (length found.now) result }
 {
-    let mut left = 0;
+    let mut left = Bits::none();
     for k in 0..found.len() {
-        left = with_bit(left, k, is_open(&found[k]));
+        left = left.with(k, is_open(&found[k]));
     }
     left
 }
@@ -93,12 +81,12 @@ fn first_of(one: Option<Played>, other: Option<Played>) -> Option<Played>
 }
 
 /// These machines, where something is said.
-fn masked(said: &Option<Played>, word: u128) -> u128
-    ensures { (k : ℕ) → k < 128 → bit_of k result ≡ (not (is_open said.now) && bit_of k word) }
+fn masked(said: &Option<Played>, bits: Bits) -> Bits
+    ensures { (k : ℕ) → k < 128 → bit_in k result ≡ (not (is_open said.now) && bit_in k bits) }
 {
     match said {
-        Some(_) => word,
-        None => 0,
+        Some(_) => bits,
+        None => Bits::none(),
     }
 }
 
@@ -128,13 +116,13 @@ impl Sayings {
     }
 
     /// The machines of which something is said.
-    pub(crate) fn told(self, shown: Lanes) -> u128
-        ensures { (k : ℕ) → k < 128 → bit_of k result ≡ not (is_open (said_of self.zero self.one self.unknown (lane k shown))) }
+    pub(crate) fn told(self, shown: Lanes) -> Bits
+        ensures { (k : ℕ) → k < 128 → bit_in k result ≡ not (is_open (said_of self.zero self.one self.unknown (lane k shown))) }
     {
-        let zero = masked(&self.zero, shown.known & (shown.value ^ u128::MAX));
-        let one = masked(&self.one, shown.known & shown.value);
-        let unknown = masked(&self.unknown, shown.known ^ u128::MAX);
-        zero | (one | unknown)
+        let zero = masked(&self.zero, shown.known.and(shown.value.opposite()));
+        let one = masked(&self.one, shown.known.and(shown.value));
+        let unknown = masked(&self.unknown, shown.known.opposite());
+        zero.or(one.or(unknown))
     }
 }
 
@@ -163,7 +151,7 @@ fn judge_bit<J: Judge>(
     ensures { AreSaid (J.says judge.now cycle output strobe) shown verdicts.found.items result.found.items }
 {
     let sayings = ask(judge, cycle, output, strobe);
-    if sayings.told(shown) & verdicts.left == 0 {
+    if sayings.told(shown).and(verdicts.left).is_none() {
         return verdicts;
     }
     take_down(sayings, shown, verdicts)
@@ -223,6 +211,6 @@ impl<J: Judge> Watch<J> for Verdicts {
     }
 
     fn is_done(&self) -> bool {
-        self.left == 0
+        self.left.is_none()
     }
 }

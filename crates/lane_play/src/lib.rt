@@ -7,6 +7,7 @@
 //! Neither: time.
 #![tactic(auto)]
 
+mod bits;
 mod counting;
 mod cycles;
 mod evaluating;

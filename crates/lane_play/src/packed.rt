@@ -1,17 +1,18 @@
-//! Three values of 128 machines, side by side in two words of 128 bits. (Parallel fault simulation: Seshu, 1965.)
+//! Three values of 128 machines, side by side in two sets of bits. (Parallel fault simulation: Seshu, 1965.)
 //!
-//! One word says which values are known and one which bits they are. With "can be 0" and "can be 1" a gate would cost an operation less,
+//! One says which values are known and one which bits they are. With "can be 0" and "can be 1" a gate would cost an operation less,
 //! but then a pair of bits would have no meaning, and each contract would have to exclude it.
 ghost use Rattle.std.specs.Prelude.{◌≡◌, ◌<◌, true, false};
-ghost use Rattle.lane_play.specs.inner.Lanes.{both, either, unequal, opposite, always, with_lane, lane};
+ghost use Rattle.lane_play.specs.inner.Lanes.{both, either, unequal, opposite, always, unknown, with_lane, lane};
 
+use crate::bits::Bits;
 use netlist::Tri;
 
 /// The value of machine k is known where bit k of `known` is 1, and then it is bit k of `value`.
 #[derive(Clone, Copy, PartialEq, Eq)]
 pub(crate) struct Lanes {
-    pub known: u128,
-    pub value: u128,
+    pub known: Bits,
+    pub value: Bits,
 }
 
 impl Lanes {
@@ -21,16 +22,19 @@ impl Lanes {
         ensures { result ≡ always bit }
     {
         Lanes {
-            known: u128::MAX,
-            value: if bit { u128::MAX } else { 0 },
+            known: Bits::all(),
+            value: if bit { Bits::all() } else { Bits::none() },
         }
     }
 
     /// Of no machine anything is known.
     pub(crate) fn unknown() -> Lanes
-        ensures { result ≡ record { known = 0; value = 0 } }
+        ensures { result ≡ unknown }
     {
-        Lanes { known: 0, value: 0 }
+        Lanes {
+            known: Bits::none(),
+            value: Bits::none(),
+        }
     }
 
     /// AND: known where both are, or where one is known to be 0.
@@ -38,11 +42,11 @@ impl Lanes {
     pub(crate) fn both(self, other: Lanes) -> Lanes
         ensures { result ≡ both self other }
     {
-        let zeros = (self.known & (self.value ^ u128::MAX))
-            | (other.known & (other.value ^ u128::MAX));
+        let mine = self.known.and(self.value.opposite());
+        let others = other.known.and(other.value.opposite());
         Lanes {
-            known: (self.known & other.known) | zeros,
-            value: self.value & other.value,
+            known: self.known.and(other.known).or(mine.or(others)),
+            value: self.value.and(other.value),
         }
     }
 
@@ -51,10 +55,11 @@ impl Lanes {
     pub(crate) fn either(self, other: Lanes) -> Lanes
         ensures { result ≡ either self other }
     {
-        let ones = (self.known & self.value) | (other.known & other.value);
+        let mine = self.known.and(self.value);
+        let others = other.known.and(other.value);
         Lanes {
-            known: (self.known & other.known) | ones,
-            value: self.value | other.value,
+            known: self.known.and(other.known).or(mine.or(others)),
+            value: self.value.or(other.value),
         }
     }
 
@@ -64,8 +69,8 @@ impl Lanes {
         ensures { result ≡ unequal self other }
     {
         Lanes {
-            known: self.known & other.known,
-            value: self.value ^ other.value,
+            known: self.known.and(other.known),
+            value: self.value.xor(other.value),
         }
     }
 
@@ -76,7 +81,7 @@ impl Lanes {
     {
         Lanes {
             known: self.known,
-            value: self.value ^ u128::MAX,
+            value: self.value.opposite(),
         }
     }
 
@@ -85,14 +90,9 @@ impl Lanes {
         requires { k < 128 }
         ensures { result ≡ with_lane k bit self }
     {
-        let one = 1u128 << k;
         Lanes {
-            known: self.known | one,
-            value: if bit {
-                self.value | one
-            } else {
-                self.value & !one
-            },
+            known: self.known.with(k, true),
+            value: self.value.with(k, bit),
         }
     }
 
@@ -101,9 +101,9 @@ impl Lanes {
         requires { k < 128 }
         ensures { result ≡ lane k self }
     {
-        if (self.known >> k) % 2 != 1 {
+        if !self.known.has(k) {
             Tri::X
-        } else if (self.value >> k) % 2 == 1 {
+        } else if self.value.has(k) {
             Tri::One
         } else {
             Tri::Zero

@@ -4,7 +4,7 @@ ghost use Rattle.std.specs.List.{All};
 ghost use Rattle.netlist.specs.Gates.{most_pins};
 ghost use Rattle.statement.specs.Values.{on_pins};
 ghost use Rattle.netlist.specs.Settled.{at};
-ghost use Rattle.lane_play.specs.inner.Lanes.{all_of, some_of, odd_of, only_of, gate_lanes, lanes_rule};
+ghost use Rattle.lane_play.specs.inner.Lanes.{all_of, some_of, odd_of, only_of, gate_lanes, lanes_rule, unknown};
 ghost use Rattle.lane_play.specs.inner.Spans.{IsSpanned};
 ghost use Rattle.lane_play.specs.declared.packed.Lanes.{Lanes as Packed};
 
@@ -68,7 +68,7 @@ impl Pins for Given<'_> {
 }
 
 impl Pins for Free<'_> {
-    ghost values = { λ p. map (at p.values.now (record { known = 0; value = 0 })) p.pins.now };
+    ghost values = { λ p. map (at p.values.now unknown) p.pins.now };
 
     #[inline(always)]
     fn count(&self) -> usize {
@@ -82,7 +82,7 @@ impl Pins for Free<'_> {
 }
 
 impl Pins for Forced<'_> {
-    ghost values = { λ p. on_pins (lanes_rule p.faults.now) p.id 0 (map (at p.values.now (record { known = 0; value = 0 })) p.pins.now) };
+    ghost values = { λ p. on_pins (lanes_rule p.faults.now) p.id 0 (map (at p.values.now unknown) p.pins.now) };
 
     #[inline(always)]
     fn count(&self) -> usize {

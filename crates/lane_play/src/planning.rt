@@ -5,7 +5,7 @@
 ghost use Rattle.std.specs.Prelude.{◌≡◌, ◌<◌, ◌≤◌, ◌++◌, ℕ, true, false, length, replicate, IfOk, OnOk};
 ghost use Rattle.statement.specs.Netlists.{cells, signals};
 ghost use Rattle.netlist.specs.ThreeValues.{is_x};
-ghost use Rattle.lane_play.specs.inner.Lanes.{lane};
+ghost use Rattle.lane_play.specs.inner.Lanes.{lane, unknown};
 ghost use Rattle.lane_play.specs.inner.Shifts.{AreCommon, ArePlanned};
 
 use crate::cycles::{Bench, push_always};
@@ -36,7 +36,7 @@ impl Planner {
 fn is_known(value: Lanes) -> bool
     ensures { (k : ℕ) → k < 128 → result ≡ true → is_x (lane k value) ≡ false }
 {
-    value.known == u128::MAX
+    value.known.is_all()
 }
 
 /// Something that is known, where every machine knows its value.
@@ -63,7 +63,7 @@ fn read_common(values: &[Lanes], table: &mut Vec<Tri>) -> Result<(), AllocError>
 
 /// Adds so many values of which nothing is known.
 pub(crate) fn push_unknowns(count: usize, values: &mut Vec<Lanes>) -> Result<(), AllocError>
-    ensures { OnOk result (values.new.items ≡ values.old.items ++ replicate count (record { known = 0; value = 0 })) }
+    ensures { OnOk result (values.new.items ≡ values.old.items ++ replicate count unknown) }
 {
     for _done in 0..count {
         values.push(Lanes::unknown())?;
@@ -81,7 +81,7 @@ pub(crate) fn plan_burst(
     bench: &mut Bench,
 ) -> Result<bool, AllocError>
     requires narrow { length burst.now.drive.items ≤ length core.now.inputs }
-    requires idle { idle.now ≡ replicate (length (cells core.now)) (record { known = 0; value = 0 }) }
+    requires idle { idle.now ≡ replicate (length (cells core.now)) unknown }
     requires room { length bench.old.values.items ≡ length (signals core.now) }
     ensures state { IfOk result (λ _. bench.new.state.items ≡ bench.old.state.items) }
     ensures room { IfOk result (λ _. length bench.new.values.items ≡ length (signals core.now)) }

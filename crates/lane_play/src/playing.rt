@@ -5,6 +5,7 @@ ghost use Rattle.statement.specs.Netlists.{cells};
 ghost use Rattle.scan_play.specs.Bursts.{all_cycles, cycles_of};
 ghost use Rattle.scan_play.specs.Cycles.{IsCycleOf};
 ghost use Rattle.lane_play.specs.declared.packed.Lanes.{Lanes as Shown};
+ghost use Rattle.lane_play.specs.inner.Lanes.{unknown};
 ghost use Rattle.lane_play.specs.inner.Steps.{AreSized, KeepsBehind};
 
 use crate::cycles::{Bench, play_cycles};
@@ -34,7 +35,7 @@ fn play_burst<J, W: Watch<J>>(
 ) -> Result<W, AllocError>
     requires fits { All (IsCycleOf core.now) (cycles_of burst.now) }
     requires bench { AreSized core.now bench.old.state.items bench.old.values.items }
-    requires idle { idle.now ≡ replicate (length (cells core.now)) (record { known = 0; value = 0 }) }
+    requires idle { idle.now ≡ replicate (length (cells core.now)) unknown }
     requires few { first + burst.now.count < 2 ^ 64 }
     ensures bench { IfOk result (λ _. AreSized core.now bench.new.state.items bench.new.values.items) }
     ensures played { IfOk result (λ w. KeepsBehind (W.kept judge.now watch) (W.kept judge.now w) rule.now.faults.now core.now first (cycles_of burst.now) bench.old.state.items bench.new.state.items) }
@@ -72,7 +73,7 @@ fn play_bursts<J, W: Watch<J>>(
 ) -> Result<W, AllocError>
     requires fits { All (IsCycleOf core.now) (all_cycles bursts.now) }
     requires bench { AreSized core.now bench.old.state.items bench.old.values.items }
-    requires idle { idle.now ≡ replicate (length (cells core.now)) (record { known = 0; value = 0 }) }
+    requires idle { idle.now ≡ replicate (length (cells core.now)) unknown }
     requires few { first + length (all_cycles bursts.now) < 2 ^ 64 }
     ensures { IfOk result (λ w. KeepsBehind (W.kept judge.now watch) (W.kept judge.now w) rule.now.faults.now core.now first (all_cycles bursts.now) bench.old.state.items bench.new.state.items) }
 {
@@ -92,7 +93,7 @@ fn play_bursts<J, W: Watch<J>>(
 
 /// So many values of which nothing is known.
 fn unknowns(alloc: Global, count: usize) -> Result<Vec<Lanes>, AllocError>
-    ensures { IfOk result (λ v. v.items ≡ replicate count (record { known = 0; value = 0 })) }
+    ensures { IfOk result (λ v. v.items ≡ replicate count unknown) }
 {
     let mut values = Vec::with_capacity(alloc, count)?;
     push_unknowns(count, &mut values)?;
@@ -102,7 +103,7 @@ fn unknowns(alloc: Global, count: usize) -> Result<Vec<Lanes>, AllocError>
 /// A bench on which the cells hold this.
 fn bench_of(alloc: Global, state: Vec<Lanes>, signals: usize) -> Result<Bench, AllocError>
     ensures state { IfOk result (λ b. b.state.items ≡ state.items) }
-    ensures values { IfOk result (λ b. b.values.items ≡ replicate signals (record { known = 0; value = 0 })) }
+    ensures values { IfOk result (λ b. b.values.items ≡ replicate signals unknown) }
 {
     Ok(Bench {
         state,
@@ -164,7 +165,7 @@ pub(crate) fn play<J, W: Watch<J>>(
     requires machines { length faults.now ≤ 128 }
     requires fits { All (IsCycleOf core.now) vectors.now }
     requires few { length vectors.now < 2 ^ 64 }
-    requires begun { W.kept judge.now watch faults.now core.now [] (replicate (length (cells core.now)) (record { known = 0; value = 0 })) }
+    requires begun { W.kept judge.now watch faults.now core.now [] (replicate (length (cells core.now)) unknown) }
     ensures { IfOk result (λ w. (state : List Shown) × W.kept judge.now w faults.now core.now vectors.now state) }
 {
     core.netlist().sound();

@@ -4,7 +4,7 @@ ghost use Rattle.std.specs.List.{All};
 ghost use Rattle.netlist.specs.Gates.{most_pins};
 ghost use Rattle.netlist.specs.Settled.{at};
 ghost use Rattle.statement.specs.Values.{on_pins};
-ghost use Rattle.lane_play.specs.inner.Lanes.{gate_lanes, lanes_rule};
+ghost use Rattle.lane_play.specs.inner.Lanes.{gate_lanes, lanes_rule, unknown};
 ghost use Rattle.lane_play.specs.inner.Spans.{AreSpans, IsSpanned};
 
 use crate::packed::Lanes;
@@ -62,7 +62,7 @@ impl<'a> Stuck<'a> {
     ) -> Lanes
         requires below { All (λ x. x < length values.now) pins.now }
         requires few { length pins.now ≤ most_pins }
-        ensures { result ≡ (lanes_rule self.now.faults.now).line (Line.Stem id) (gate_lanes kind (on_pins (lanes_rule self.now.faults.now) id 0 (map (at values.now (record { known = 0; value = 0 })) pins.now))) }
+        ensures { result ≡ (lanes_rule self.now.faults.now).line (Line.Stem id) (gate_lanes kind (on_pins (lanes_rule self.now.faults.now) id 0 (map (at values.now unknown) pins.now))) }
     {
         let span = self.span(id);
         if span.is_empty() {
@@ -87,7 +87,7 @@ fn made_forced(
     requires spanned { IsSpanned faults.now (length faults.now) id span }
     requires below { All (λ x. x < length values.now) pins.now }
     requires few { length pins.now ≤ most_pins }
-    ensures { result ≡ (lanes_rule faults.now).line (Line.Stem id) (gate_lanes kind (on_pins (lanes_rule faults.now) id 0 (map (at values.now (record { known = 0; value = 0 })) pins.now))) }
+    ensures { result ≡ (lanes_rule faults.now).line (Line.Stem id) (gate_lanes kind (on_pins (lanes_rule faults.now) id 0 (map (at values.now unknown) pins.now))) }
 {
     let made = gate_of(
         kind,

@@ -1,7 +1,6 @@
--- Three values of 128 machines, side by side in two words, and how they settle: each machine has its own stuck line.
+-- Three values of 128 machines, side by side in two sets of bits, and how they settle: each machine has its own stuck line.
 -- (Parallel fault simulation: Seshu, On an improved diagnosis program, 1965.)
-use Rattle.std.specs.Prelude.{ℕ, ◌+◌, ◌*◌, ◌%◌, ◌^◌, Bool, true, false, List, [], ◌∷◌, map, bit_and, bit_or, bit_xor, if◌then◌else◌}
-use Rattle.std.specs.Int.{bit_not, w128}
+use Rattle.std.specs.Prelude.{ℕ, ◌+◌, Bool, true, false, List, [], ◌∷◌, map, if◌then◌else◌}
 use Rattle.statement.specs.declared.kinds.Kind.{Kind}
 use Rattle.statement.specs.declared.kinds.Kind.TheVariants.{And, Nand, Or, Nor, Xor, Xnor, Not, Buff, Dff, Const0, Const1}
 use Rattle.statement.specs.declared.kinds.Tri.{Tri}
@@ -9,42 +8,42 @@ use Rattle.statement.specs.declared.kinds.Tri.TheVariants.{X}
 use Rattle.statement.specs.declared.lines.Fault.{Fault}
 use Rattle.statement.specs.declared.lines.Line.{Line}
 use Rattle.statement.specs.Values.{Rule, is_line, known}
-use Rattle.events.specs.Words.{bit_of}
 use Rattle.lane_play.specs.declared.packed.Lanes.{Lanes}
-
--- every bit is 1
-abbrev pub ones : ℕ
-ones = 340282366920938463463374607431768211455
+use Rattle.lane_play.specs.inner.Bits.{all_bits, bit_in, bits_and, bits_not, bits_or, bits_xor, no_bits, with_bit}
 
 -- the value of machine k
 abbrev pub lane : ℕ → Lanes → Tri
-lane k v = if bit_of k v.known then known (bit_of k v.value) else X
+lane k v = if bit_in k v.known then known (bit_in k v.value) else X
 
 abbrev pub lanes : ℕ → List Lanes → List Tri
 lanes k vs = map (lane k) vs
 
+-- nothing is known of any machine
+abbrev pub unknown : Lanes
+unknown = record { known = no_bits; value = no_bits }
+
 -- ---- gates
 
 abbrev pub always : Bool → Lanes
-always b = record { known = ones; value = if b then ones else 0 }
+always b = record { known = all_bits; value = if b then all_bits else no_bits }
 
 abbrev pub both : Lanes → Lanes → Lanes
 both u v = record {
-  known = bit_or (bit_and u.known v.known) (bit_or (bit_and u.known (bit_xor u.value ones)) (bit_and v.known (bit_xor v.value ones)));
-  value = bit_and u.value v.value;
+  known = bits_or (bits_and u.known v.known) (bits_or (bits_and u.known (bits_not u.value)) (bits_and v.known (bits_not v.value)));
+  value = bits_and u.value v.value;
 }
 
 abbrev pub either : Lanes → Lanes → Lanes
 either u v = record {
-  known = bit_or (bit_and u.known v.known) (bit_or (bit_and u.known u.value) (bit_and v.known v.value));
-  value = bit_or u.value v.value;
+  known = bits_or (bits_and u.known v.known) (bits_or (bits_and u.known u.value) (bits_and v.known v.value));
+  value = bits_or u.value v.value;
 }
 
 abbrev pub unequal : Lanes → Lanes → Lanes
-unequal u v = record { known = bit_and u.known v.known; value = bit_xor u.value v.value }
+unequal u v = record { known = bits_and u.known v.known; value = bits_xor u.value v.value }
 
 abbrev pub opposite : Lanes → Lanes
-opposite v = record { known = v.known; value = bit_xor v.value ones }
+opposite v = record { known = v.known; value = bits_not v.value }
 
 abbrev pub all_of : List Lanes → Lanes
 all_of [] = always true
@@ -77,12 +76,9 @@ gate_lanes Const1 vs = always true
 
 -- ---- stuck lines
 
-abbrev pub one_at : ℕ → ℕ
-one_at k = 1 * 2 ^ k % 2 ^ 128
-
 -- the value of machine k becomes a bit
 abbrev pub with_lane : ℕ → Bool → Lanes → Lanes
-with_lane k b v = record { known = bit_or v.known (one_at k); value = if b then bit_or v.value (one_at k) else bit_and v.value (bit_not w128 (one_at k)) }
+with_lane k b v = record { known = with_bit k true v.known; value = with_bit k b v.value }
 
 -- machine k has the first of these faults, and so on: what the line makes of what comes onto it
 abbrev pub forced_from : ℕ → List Fault → Line → Lanes → Lanes

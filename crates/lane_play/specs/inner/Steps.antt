@@ -15,7 +15,7 @@ use Rattle.scan_play.specs.inner.Steps.{IsStep, PlaysOn}
 use Rattle.lane_play.specs.Counted.{Counting, counted}
 use Rattle.lane_play.specs.declared.packed.Lanes.{Lanes}
 use Rattle.lane_play.specs.inner.Counts.{number_at}
-use Rattle.lane_play.specs.inner.Lanes.{lanes, lanes_rule}
+use Rattle.lane_play.specs.inner.Lanes.{lanes, lanes_rule, unknown}
 use Rattle.lane_play.specs.inner.Verdicts.{found_at}
 
 -- a value for each cell, and one for each signal
@@ -47,8 +47,8 @@ StaysKept kept = (faults : List Fault) (n : Netlist) (before behind : List Cycle
 
 -- a cycle with these values ended: what the outputs show, and what the cells hold after it
 pub record AreEnded (faults : List Fault) (n : Netlist) (pulse : Bool) (values state after row : List Lanes) : Type 0 where
-  pub shows : row ≡ outs (lanes_rule faults) n (at values (record { known = 0; value = 0 }))
-  pub ticked : after ≡ cond pulse (next (lanes_rule faults) n (at values (record { known = 0; value = 0 }))) state
+  pub shows : row ≡ outs (lanes_rule faults) n (at values unknown)
+  pub ticked : after ≡ cond pulse (next (lanes_rule faults) n (at values unknown)) state
 
 -- these cycles were played, from all cells X: each machine is as far as its own player
 pub record ArePlayed (says : Judging) (faults : List Fault) (n : Netlist) (cycles : List Cycle) (state : List Lanes) (found : List (Option Played)) : Type 0 where

@@ -2,10 +2,11 @@
 use Rattle.std.specs.Prelude.{ℕ, ◌≡◌, ◌<◌, Bool, true, false, List, length, slice_index_or, Option, Some, None}
 use Rattle.statement.specs.declared.kinds.Tri.{Tri}
 use Rattle.statement.specs.declared.kinds.Tri.TheVariants.{Zero, One, X}
-use Rattle.events.specs.Words.{bit_of}
 use Rattle.scan_play.specs.declared.played.Played.{Played}
 use Rattle.scan_play.specs.Judging.{Judging, judged_in, played_or_else}
+use Rattle.lane_play.specs.declared.bits.Bits.{Bits}
 use Rattle.lane_play.specs.declared.packed.Lanes.{Lanes}
+use Rattle.lane_play.specs.inner.Bits.{bit_in}
 use Rattle.lane_play.specs.inner.Lanes.{lane, lanes}
 
 -- nothing was said
@@ -18,8 +19,8 @@ abbrev pub found_at : List (Option Played) → ℕ → Option Played
 found_at found k = slice_index_or found k None
 
 -- a bit for each of the first m machines of which nothing was said
-abbrev pub AreLeft : List (Option Played) → ℕ → ℕ → Type 0
-AreLeft found m left = (k : ℕ) → k < m → bit_of k left ≡ is_open (found_at found k)
+abbrev pub AreLeft : List (Option Played) → ℕ → Bits → Type 0
+AreLeft found m left = (k : ℕ) → k < m → bit_in k left ≡ is_open (found_at found k)
 
 -- what is said of a value, where it is this of 0, of 1 and of X
 abbrev pub said_of : Option Played → Option Played → Option Played → Tri → Option Played

@@ -7,18 +7,15 @@ use Rattle.netlist.specs.Settled.{at}
 use Rattle.statement.specs.Values.{outs, next}
 use Rattle.scan_play.proofs.PlaySteps.{few_outputs}
 use Rattle.lane_play.specs.declared.packed.Lanes.{Lanes}
-use Rattle.lane_play.specs.inner.Lanes.{lanes_rule}
+use Rattle.lane_play.specs.inner.Lanes.{lanes_rule, unknown}
 use Rattle.lane_play.specs.inner.Steps.{KeepsOn}
 use Rattle.lane_play.proofs.PlayedLemmas.{size_kept}
 use Rattle.lane_play.proofs.cycles.end_cycle.Goals as goal
 
-blank : Lanes
-blank = record { known = 0; value = 0 }
-
 pub hear-requires-clause-same : goal.hear-requires-clause-same
 hear-requires-clause-same g c =
     ap length c.deref-2.ensures.value
-    ∙ (c.requires.strobes ∙ sym (ap length (c.deref-3.ensures.value ∙ c.in_ok-outs_into.ensures blank) ∙ length-map c.args.core.now.outputs _))
+    ∙ (c.requires.strobes ∙ sym (ap length (c.deref-3.ensures.value ∙ c.in_ok-outs_into.ensures unknown) ∙ length-map c.args.core.now.outputs _))
 
 pub hear-requires-clause-few : goal.hear-requires-clause-few
 hear-requires-clause-few g c =
@@ -28,11 +25,10 @@ hear-requires-clause-few g c =
 
 pub returns-clause-size : goal.returns-clause-size
 returns-clause-size g c =
-    size_kept c.args.rule.now.faults.now c.args.core.now c.args.pulse c.args.bench.now.state.items c.tick.new.state.items (at c.deref-4.result.now blank)
-    (subst IsSound c.netlist.ensures c.sound.ensures) c.requires.bench.0 (c.in_ok-tick.ensures blank)
+    size_kept c.args.rule.now.faults.now c.args.core.now c.args.pulse c.args.bench.now.state.items c.tick.new.state.items (at c.deref-4.result.now unknown)
+    (subst IsSound c.netlist.ensures c.sound.ensures) c.requires.bench.0 (c.in_ok-tick.ensures unknown)
 
 pub returns-clause-ended : goal.returns-clause-ended
-unfolding blank
 returns-clause-ended g c =
     let rule = lanes_rule c.args.rule.now.faults.now in
     let n : Netlist = c.args.core.now in
@@ -41,7 +37,7 @@ returns-clause-ended g c =
       c.deref-3.result.now,
       subst (λ (ss : List Tri). KeepsOn (kept c.args.watch) (kept c.in_ok-heard.heard) c.args.number ss c.deref-3.result.now) c.deref-2.ensures.value c.in_ok-heard.ensures,
       record {
-        shows = c.deref-3.ensures.value ∙ (c.in_ok-outs_into.ensures blank ∙ ap (λ (vs : List Lanes). outs rule n (at vs blank)) c.deref.ensures.value);
-        ticked = c.in_ok-tick.ensures blank ∙ ap (λ (vs : List Lanes). cond c.args.pulse (next rule n (at vs blank)) state) c.deref-4.ensures.value;
+        shows = c.deref-3.ensures.value ∙ (c.in_ok-outs_into.ensures unknown ∙ ap (λ (vs : List Lanes). outs rule n (at vs unknown)) c.deref.ensures.value);
+        ticked = c.in_ok-tick.ensures unknown ∙ ap (λ (vs : List Lanes). cond c.args.pulse (next rule n (at vs unknown)) state) c.deref-4.ensures.value;
       },
     )

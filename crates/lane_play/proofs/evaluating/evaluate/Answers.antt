@@ -6,7 +6,7 @@ use Rattle.netlist.specs.Settled.{at}
 use Rattle.statement.specs.Values.{on_pins}
 use Rattle.netlist.proofs.Orders.{gate_below, gate_high}
 use Rattle.netlist.proofs.Settling.{pins_within, evaluated}
-use Rattle.lane_play.specs.inner.Lanes.{gate_lanes, lanes_rule}
+use Rattle.lane_play.specs.inner.Lanes.{gate_lanes, lanes_rule, unknown}
 use Rattle.lane_play.proofs.Stuckness.{made_any}
 use Rattle.lane_play.proofs.evaluating.evaluate.Goals as goal
 
@@ -47,7 +47,7 @@ returns c =
           evaluated n c.requires.sound.formed.numbered rule definition f c.args.values.now.items seen read read ids c.index.result c.args.id c.args.id
           (rule.gate definition read) c.made-made.result d
           c.definition-definition.ensures.member c.definition-definition.ensures.same gate same refl
-          (made_any c.args.rule.now.faults.now c.args.id c.kind.result ids seen c.made-made.result (record { known = 0; value = 0 }) d below c.made-made.ensures
+          (made_any c.args.rule.now.faults.now c.args.id c.kind.result ids seen c.made-made.result unknown d below c.made-made.ensures
           ∙ ap (λ k. rule.line (Stem c.args.id) (gate_lanes k read)) c.kind.ensures) refl refl
           refl c.deref.ensures.value c.pins.ensures c.index.ensures;
     }

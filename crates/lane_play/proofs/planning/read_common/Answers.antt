@@ -1,6 +1,7 @@
 use Rattle.std.proofs.Common.{◌<◌, List, length, get_or, subst, arith}
 use Rattle.std.proofs.lemmas.List.{get_or_default, take_all}
 use Rattle.lane_play.specs.declared.packed.Lanes.{Lanes}
+use Rattle.lane_play.specs.inner.Lanes.{unknown}
 use Rattle.lane_play.specs.inner.Shifts.{AreCommon}
 use Rattle.lane_play.proofs.Machines.{common_more}
 use Rattle.lane_play.proofs.planning.read_common.Goals as goal
@@ -10,8 +11,7 @@ loop-value-preserved c =
     let values = c.args.values.now in
     let i = c.loop-value.value-index in
     let within : i < length values = c.loop-value-test.true in
-    let blank : Lanes = record { known = 0; value = 0 } in
-    common_more values c.loop-value.table.items c.push.new.self.items i (get_or values i blank) c.common.result within (get_or_default values i blank (get_or values i blank) within)
+    common_more values c.loop-value.table.items c.push.new.self.items i (get_or values i unknown) c.common.result within (get_or_default values i unknown (get_or values i unknown) within)
     (c.in_ok-push.ensures.items) c.common.ensures c.loop-value.invariant
 
 pub returns : goal.returns
