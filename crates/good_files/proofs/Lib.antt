@@ -1,5 +1,7 @@
 pub mod FirstOnLoop
 pub mod Chains
+pub mod HeldWords
+pub mod ReadBack
 pub mod Truth
 pub mod TreesAlone
 pub mod Whole

@@ -10,11 +10,9 @@ mod OftenLemmas
 mod SearchLemmas
 mod LineLemmas
 mod LeafLemmas
-mod ReportLemmas
 mod TruthLemmas
 mod AskedLemmas
 mod PointLemmas
-mod ChainLemmas
 mod TimesLemmas
 mod RunLemmas
 mod WrittenLemmas

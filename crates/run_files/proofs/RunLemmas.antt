@@ -1,15 +1,12 @@
 -- The texts of verdicts are good files.
-use Rattle.std.proofs.Common.{◌≡◌, ◌∙◌, ℕ, Bool, not, false, List, Ok, refl, sym, ap, subst, length, IsTrue}
-use Rattle.std.proofs.lemmas.List.Elements.{All-weaker}
+use Rattle.std.proofs.Common.{◌≡◌, ◌∙◌, ℕ, List, refl, sym, ap, subst, length}
 use Rattle.statement.specs.declared.lines.Fault.{Fault}
 use Rattle.statement.specs.Netlists.{Netlist}
 use Rattle.netlist.specs.Conditions.{IsSound}
-use Rattle.netlist.specs.Designs.{IsDesign, is_reserved}
+use Rattle.netlist.specs.Designs.{IsDesign}
 use Rattle.statement.specs.Patterns.{Holds, Pattern}
-use Rattle.bench_text.specs.declared.refusal.Names.TheVariants.{Design}
 use Rattle.statement.specs.Benches.{canonical}
-use Rattle.bench_text.specs.Laws.{CanonicalTextIsRead, IsReadable, is_free}
-use Rattle.bench_text.specs.Reading.{IsRead}
+use Rattle.bench_text.specs.Laws.{CanonicalTextIsRead}
 use Rattle.scan_insert.specs.Scanned.{AreChainsOf, scanned_of}
 use Rattle.stil_read.specs.Laws.{WrittenStands}
 use Rattle.stil_read.specs.Reading.{StandsFor}
@@ -23,29 +20,14 @@ use Rattle.report.specs.declared.counts.ReportCounts.{ReportCounts}
 use Rattle.run_report.specs.Outcomes.{Test}
 use Rattle.good_files.specs.GoodFiles.{AreReportTotals, AreTrueFaults, Contents, IsChainCount, IsTested, StandFor, chains_said, limit_said, test_with}
 use Rattle.good_files.specs.ScanOff.{design_chains}
+use Rattle.good_files.proofs.Chains.{counted, made_again}
+use Rattle.good_files.proofs.ReadBack.{read_back}
 use Rattle.run_files.specs.declared.files.RunFiles.{RunFiles}
 use Rattle.run_files.specs.Runs.{Asked, contents_of, files_of}
 use Rattle.run_files.specs.inner.Laws.{AreGoodFilesBy, IsFinishedRun}
 use Rattle.run_files.specs.inner.Verdicts.{AreVerdicts, leaves_of}
-use Rattle.run_files.proofs.ChainLemmas.{counted, made_again}
 use Rattle.run_files.proofs.PointLemmas.{all_evident}
 use Rattle.run_files.proofs.TruthLemmas.{leaves_left, true_lines}
-
-unreserved : (b : Bool) → b ≡ false → IsTrue (not b)
-unreserved b e = ap not e
-
--- a design is read from its canonical text
-design_fits : (n : Netlist) → IsDesign n → IsReadable Design n
-design_fits n design = record {
-  short = design.short;
-  free = All-weaker (λ (x : List ℕ). is_reserved x ≡ false) (λ (x : List ℕ). IsTrue (is_free Design x)) (λ x e. unreserved (is_reserved x) e) n.names design.unreserved;
-  few = design.small;
-}
-
-read_back : CanonicalTextIsRead → (n : Netlist) → IsSound n → IsDesign n → (net : List ℕ) → net ≡ canonical n → IsRead Design net (Ok n)
-read_back law n sound design net is =
-    let w = law Design n sound (design_fits n design) in
-    subst (λ (t : List ℕ). IsRead Design t (Ok n)) (sym is) (sym w.1, w.0, sound.acyclic)
 
 module _ (alike : DetectedAlike) (texts : TextsDiffer) (n : Netlist) (a : Asked) (classes : Classes) (patterns : List Pattern) (verdicts : List Verdict) (made : RunFiles) (sound : IsSound n)
     (run : IsFinishedRun n a classes patterns verdicts made) where

@@ -3,7 +3,7 @@ use Rattle.std.specs.List.{All}
 use Rattle.report.specs.Reports.{Hold, IsBenchWord, Report}
 use Rattle.run_report.specs.Heads.{share_of}
 use Rattle.run_report.proofs.CycleLemmas.{share_small}
-use Rattle.run_files.proofs.ReportLemmas.{held_words}
+use Rattle.good_files.proofs.HeldWords.{held_words}
 use Rattle.run_files.proofs.reporting.report_of.Goals as goal
 
 pub new-requires : goal.new-requires
