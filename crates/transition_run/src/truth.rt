@@ -1,28 +1,18 @@
-//! What is written of verdicts comes true: a function that does nothing, whose contract is the law.
-ghost use Rattle.transition_run.specs.inner.Laws.{WrittenTellsTheTruth};
+//! What is written of verdicts is a run: a function that does nothing, whose contract is the law.
+ghost use Rattle.transition_run.specs.inner.Laws.{WrittenIsRun};
 
-use fault_universe::faults_have_lines;
-use scan_insert::laws::scanned_is_sound;
+use bench_text::canonical_text_is_read;
+use fault_universe::{faults_have_lines, texts_differ};
+use good_slow_files::good_slow_files_tell_the_truth;
 use stil_read::laws::written_stands;
-use transition_files::laws::launch_file_vectors;
-use transition_play::laws::{
-    detected_fails_slowly, good_passes_launches, launch_vectors_fit, some_slow_run,
-    undetected_passes_slowly,
-};
-use transition_sim::laws::shown_has_no_transition;
 
-/// The texts of verdicts tell the truth.
-pub(crate) fn written_tells_the_truth()
-    ensures { WrittenTellsTheTruth }
+/// The texts of verdicts are good files, which tell the truth.
+pub(crate) fn written_is_run()
+    ensures { WrittenIsRun }
 {
+    canonical_text_is_read();
     written_stands();
+    texts_differ();
     faults_have_lines();
-    scanned_is_sound();
-    shown_has_no_transition();
-    launch_file_vectors();
-    launch_vectors_fit();
-    good_passes_launches();
-    detected_fails_slowly();
-    undetected_passes_slowly();
-    some_slow_run();
+    good_slow_files_tell_the_truth();
 }

@@ -1,21 +1,23 @@
--- What is written of verdicts comes true.
-use Rattle.std.specs.Prelude.{ℕ, Bool, List}
+-- What is written of verdicts is a run.
+use Rattle.std.specs.Prelude.{ℕ, ◌≤◌, Bool, List}
 use Rattle.std.specs.List.{All}
+use Rattle.plain_text.specs.Limits.{most_limit}
 use Rattle.netlist.specs.Conditions.{IsSound}
 use Rattle.netlist.specs.Designs.{IsDesign}
+use Rattle.netlist.specs.Holds.{AreHoldsOf}
 use Rattle.statement.specs.Netlists.{Netlist}
-use Rattle.statement.specs.Patterns.{Pattern}
-use Rattle.scan_insert.specs.Scanned.{AreChainsOf}
+use Rattle.statement.specs.Patterns.{Holds, Pattern}
+use Rattle.good_files.specs.ScanOff.{design_chains}
 use Rattle.transition_tests.specs.declared.verdicts.TransitionVerdict.{TransitionVerdict}
 use Rattle.transition_tests.specs.Verdicts.{AreTests, MayHave}
 use Rattle.transition_run.specs.declared.files.TransitionFiles.{TransitionFiles}
-use Rattle.good_slow_files.specs.Theorem.{TransitionTheorem}
-use Rattle.transition_run.specs.Runs.{HasNeeded, transition_files_of}
+use Rattle.transition_run.specs.Runs.{IsTransitionRun}
 use Rattle.transition_run.specs.inner.Written.{IsWritten}
 
-abbrev pub WrittenTellsTheTruth : Type 0
-WrittenTellsTheTruth =
-    (n : Netlist) (chains : List (List ℕ)) (limit : ℕ) (refutes : Bool) (patterns : List Pattern) (verdicts : List TransitionVerdict) (made : TransitionFiles)
-    → IsSound n → IsDesign n → AreChainsOf n chains → AreTests n limit patterns verdicts → All (MayHave refutes) verdicts
-    → IsWritten n chains limit patterns verdicts made
-    → (truth : TransitionTheorem n chains limit refutes (transition_files_of made)) × HasNeeded n chains limit refutes (transition_files_of made) truth
+abbrev pub WrittenIsRun : Type 0
+WrittenIsRun =
+    (n : Netlist) (holds : Holds) (asked limit : ℕ) (refutes : Bool) (patterns : List Pattern) (verdicts : List TransitionVerdict) (made : TransitionFiles)
+    → IsSound n → IsDesign n → AreHoldsOf n holds → 1 ≤ asked → (1 ≤ limit) × (limit ≤ most_limit)
+    → AreTests n holds limit patterns verdicts → All (MayHave refutes) verdicts
+    → IsWritten n holds (design_chains n asked) limit patterns verdicts made
+    → IsTransitionRun n holds asked limit refutes made
