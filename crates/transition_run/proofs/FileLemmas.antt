@@ -8,7 +8,7 @@ use Rattle.netlist.specs.Conditions.{IsSound}
 use Rattle.netlist.specs.Designs.{IsDesign}
 use Rattle.netlist.specs.Lines.{IsLineOf, signal_of}
 use Rattle.statement.specs.Netlists.{Netlist, signals}
-use Rattle.statement.specs.Patterns.{Pattern}
+use Rattle.statement.specs.Patterns.{Holds, Pattern}
 use Rattle.scan_insert.specs.Chains.{chains_of}
 use Rattle.scan_insert.specs.Scanned.{AreChainsOf, cell_ids}
 use Rattle.fault_universe.specs.Laws.{FaultsHaveLines, FaultsHaveSignals}
@@ -30,17 +30,17 @@ all_lines lines have n sound k d lt =
     (lines n f sound (contains_at (universe_of n) k f at), have n k f sound at)
 
 -- there are as many verdicts as faults
-pub verdicts_count : (n : Netlist) (limit : ℕ) (patterns : List Pattern) (verdicts : List TransitionVerdict) → AreTests n limit patterns verdicts
+pub verdicts_count : (n : Netlist) (holds : Holds) (limit : ℕ) (patterns : List Pattern) (verdicts : List TransitionVerdict) → AreTests n holds limit patterns verdicts
     → length verdicts ≡ length (universe_of n)
-verdicts_count n limit patterns verdicts tests =
-    let all = AllZip-long (IsVerdict n limit patterns) (universe_of n) verdicts tests.each in
+verdicts_count n holds limit patterns verdicts tests =
+    let all = AllZip-long (IsVerdict n holds limit patterns) (universe_of n) verdicts tests.each in
     omega (arith, all)
 
 -- the evidence of tests is named in their two frames
-pub evidence_named : FaultsHaveLines → FaultsHaveSignals → (n : Netlist) → IsSound n → IsDesign n → (limit : ℕ) (patterns : List Pattern) (verdicts : List TransitionVerdict)
-    → AreTests n limit patterns verdicts → All (IsNamedInFrames n) (leaves_of (universe_of n) verdicts)
-evidence_named lines have n sound design limit patterns verdicts tests =
-    leaves_named n sound design limit patterns (universe_of n) verdicts (all_lines lines have n sound) tests.each
+pub evidence_named : FaultsHaveLines → FaultsHaveSignals → (n : Netlist) → IsSound n → IsDesign n → (holds : Holds) (limit : ℕ) (patterns : List Pattern) (verdicts : List TransitionVerdict)
+    → AreTests n holds limit patterns verdicts → All (IsNamedInFrames n) (leaves_of (universe_of n) verdicts)
+evidence_named lines have n sound design holds limit patterns verdicts tests =
+    leaves_named n sound design holds limit patterns (universe_of n) verdicts (all_lines lines have n sound) tests.each
 
 -- the cells dealt to chains are the design's chains
 pub dealt : (n : Netlist) (asked : ℕ) (cells : List ℕ) (chains : List (List ℕ)) → cells ≡ cell_ids n → chains ≡ chains_of cells asked → chains ≡ design_chains n asked

@@ -7,7 +7,7 @@ use Rattle.statement.specs.declared.lines.Point.{Point}
 use Rattle.statement.specs.declared.outcomes.Outcome.{Outcome}
 use Rattle.statement.specs.declared.outcomes.Outcome.TheVariants.{Detected, Redundant, Aborted, Unasked}
 use Rattle.statement.specs.Netlists.{Netlist}
-use Rattle.statement.specs.Patterns.{Pattern}
+use Rattle.statement.specs.Patterns.{Holds, Obeys, Pattern}
 use Rattle.statement.specs.Runs.{Cycle}
 use Rattle.statement.specs.Statement.{FiveFiles}
 use Rattle.statement.specs.Tests.{vectors_in}
@@ -69,13 +69,13 @@ text_alone n es all =
 
 -- ---- and they are the evidence
 
-module _ (n : Netlist) (chains : List (List ℕ)) (limit : ℕ) (patterns : List Pattern) (es : List (Fault × Evidence)) (cycles : List Cycle) (all : All IsTree es) where
-  redundant : (f : Fault) (pin : List ℕ) (e : Evidence) → IsCertified n chains limit patterns es cycles f e → open_ends e ≡ 0
-      → ((inputs state : List Bool) (point : Point) → ¬ DetectsTransition n f inputs state point) → TreeComesTrue n chains limit patterns (map as_tree es) cycles f Redundant pin
+module _ (n : Netlist) (holds : Holds) (chains : List (List ℕ)) (limit : ℕ) (patterns : List Pattern) (es : List (Fault × Evidence)) (cycles : List Cycle) (all : All IsTree es) where
+  redundant : (f : Fault) (pin : List ℕ) (e : Evidence) → IsCertified n holds chains limit patterns es cycles f e → open_ends e ≡ 0
+      → ((inputs state : List Bool) (point : Point) → Obeys holds inputs → ¬ DetectsTransition n f inputs state point) → TreeComesTrue n holds chains limit patterns (map as_tree es) cycles f Redundant pin
   redundant f pin (Tree nodes) c none never = (nodes, (map_contains as_tree es (f, Tree nodes) c.0, c.1), none, never)
   redundant f pin (Refutation steps) c none never = absurd (true≢false (sym (All-contains IsTree es (f, Refutation steps) all c.0)))
 
-  by_tree : (f : Fault) (o : Outcome) (pin : List ℕ) → ComesTrue n chains limit patterns es cycles f o pin → TreeComesTrue n chains limit patterns (map as_tree es) cycles f o pin
+  by_tree : (f : Fault) (o : Outcome) (pin : List ℕ) → ComesTrue n holds chains limit patterns es cycles f o pin → TreeComesTrue n holds chains limit patterns (map as_tree es) cycles f o pin
   by_tree f (Detected place cycle) pin true_of = true_of
   by_tree f Redundant pin true_of = redundant f pin true_of.0 true_of.1 true_of.2 true_of.3
   by_tree f Aborted pin true_of =
@@ -87,9 +87,9 @@ same_faults : (es : List (Fault × Evidence)) → map (λ (p : Fault × Evidence
 same_faults [] = refl
 same_faults (p ∷ ps) = ap (λ (fs : List Fault). p.0 ∷ fs) (same_faults ps)
 
-pub trees_alone : (n : Netlist) (chains : List (List ℕ)) (limit : ℕ) (files : FiveFiles) (t : TransitionTheorem n chains limit false files) → HasNeeded n chains limit false files t
-    → TransitionTreeTheorem n chains limit files
-trees_alone n chains limit files t needed =
+pub trees_alone : (n : Netlist) (holds : Holds) (chains : List (List ℕ)) (limit : ℕ) (files : FiveFiles) (t : TransitionTheorem n holds chains limit false files)
+    → HasNeeded n holds chains limit false files t → TransitionTreeTheorem n holds chains limit files
+trees_alone n holds chains limit files t needed =
     let es = t.certified in
     record {
       patterns = t.patterns;
@@ -101,13 +101,16 @@ trees_alone n chains limit files t needed =
       stil_is = t.stil_is;
       certificate_is = t.certificate_is ∙ text_alone n es t.kinds;
       report_is = t.report_is;
+      holds_are = t.holds_are;
+      obey = t.obey;
       is_file_of = t.is_file_of;
       needed = needed;
+      driven = t.driven;
       passes = t.passes;
       runs = t.runs;
       once = t.once;
       comes_true = λ place f line at said.
-          by_tree n chains limit t.patterns es (vectors_in t.file) t.kinds f line.outcome line.pin (t.comes_true place f line at said);
+          by_tree n holds chains limit t.patterns es (vectors_in t.file) t.kinds f line.outcome line.pin (t.comes_true place f line at said);
       left = subst (AreUndetectedTransitions n t.patterns (universe_of n)) (same_faults es) t.left;
       all = t.all;
       numbers = t.numbers;

@@ -4,7 +4,7 @@ ghost use Rattle.std.specs.Prelude.{◌≡◌, ◌<◌, ◌≤◌, ◌+◌, ◌^
 ghost use Rattle.std.specs.List.{All};
 ghost use Rattle.plain_text.specs.Limits.{most_workers};
 ghost use Rattle.netlist.specs.Designs.{IsDesign};
-ghost use Rattle.netlist.specs.Holds.{none_held};
+ghost use Rattle.netlist.specs.Holds.{AreHoldsOf};
 ghost use Rattle.cubes.specs.Cubes.{IsPatternOf};
 ghost use Rattle.scan_insert.specs.Scanned.{AreChainsOf, scanned_of};
 ghost use Rattle.statement.specs.Faults.{universe_of};
@@ -18,9 +18,9 @@ use bench_text::write;
 use cubes::Pattern;
 use evidence::{Engine, Found};
 use fault_universe::{FaultSet, faults_have_lines, faults_have_signals, few_faults, universe};
-use netlist::{Core, Netlist, NoMemory};
+use netlist::{Core, Holds, Netlist, NoMemory};
 use outside::{Gate, Stage};
-use run_report::pin_names;
+use run_report::{hold_lines, pin_names};
 use scan_insert::{Chains, insert, stitch};
 use std::alloc::Global;
 use std::thread::Threads;
@@ -61,13 +61,15 @@ fn stil_text(
     core: &Core,
     chains: &Chains,
     patterns: &[Pattern],
+    holds: &Holds,
 ) -> Result<Vec<u8>, NoMemory>
     requires design { IsDesign core.now }
+    requires held { AreHoldsOf core.now holds.now }
     requires chains { AreChainsOf core.now chains.now }
-    requires patterns { All (IsPatternOf core.now (none_held core.now)) patterns.now }
-    ensures { IfOk result (λ text. IsLaunchText core.now chains.now patterns.now text.items) }
+    requires patterns { All (IsPatternOf core.now holds.now) patterns.now }
+    ensures { IfOk result (λ text. IsLaunchText core.now holds.now chains.now patterns.now text.items) }
 {
-    let file = stil2_of(alloc, core, chains, patterns)?;
+    let file = stil2_of(alloc, core, chains, patterns, holds)?;
     file.sound();
     write_stil(alloc, &file).map_err(|_| NoMemory)
 }
@@ -81,26 +83,30 @@ fn said_of(
     faults: &FaultSet,
     tests: &Tests,
     limit: u32,
+    holds: &Holds,
 ) -> Result<TransitionReport, NoMemory>
     requires design { IsDesign netlist.now }
+    requires held { AreHoldsOf netlist.now holds.now }
     requires chains { AreChainsOf netlist.now chains.now }
     requires scanned { scanned.now ≡ scanned_of netlist.now chains.now }
     requires faults { faults.now ≡ universe_of netlist.now }
-    requires tests { AreTests netlist.now limit tests.now.patterns.items tests.now.verdicts.items }
+    requires tests { AreTests netlist.now holds.now limit tests.now.patterns.items tests.now.verdicts.items }
     requires few { length tests.now.patterns.items < 2 ^ 32 }
-    ensures { IfOk result (IsSaid netlist.now chains.now limit tests.now.patterns.items tests.now.verdicts.items) }
+    ensures { IfOk result (IsSaid netlist.now holds.now chains.now limit tests.now.patterns.items tests.now.verdicts.items) }
 {
     netlist.sound();
     few_faults();
     let pins = pin_names(alloc, scanned)?;
     let verdicts = tests.verdicts.as_slice();
     let lines = lines_of(alloc, netlist, chains, &pins, faults, verdicts)?;
+    let held = hold_lines(alloc, netlist, holds)?;
     Ok(report_of(
         netlist,
         chains,
         tests.patterns.as_slice().len() as u32,
         limit,
         lines,
+        held,
     ))
 }
 
@@ -112,13 +118,15 @@ fn texts_of(
     faults: &FaultSet,
     tests: Tests,
     limit: u32,
+    holds: &Holds,
 ) -> Result<TransitionFiles, NoMemory>
     requires design { IsDesign core.now }
+    requires held { AreHoldsOf core.now holds.now }
     requires chains { AreChainsOf core.now chains.now }
     requires faults { faults.now ≡ universe_of core.now }
-    requires tests { AreTests core.now limit tests.patterns.items tests.verdicts.items }
+    requires tests { AreTests core.now holds.now limit tests.patterns.items tests.verdicts.items }
     requires few { length tests.patterns.items < 2 ^ 32 }
-    ensures { IfOk result (IsWritten core.now chains.now limit tests.patterns.items tests.verdicts.items) }
+    ensures { IfOk result (IsWritten core.now holds.now chains.now limit tests.patterns.items tests.verdicts.items) }
 {
     let netlist = core.netlist();
     netlist.sound();
@@ -134,9 +142,10 @@ fn texts_of(
         faults,
         &tests,
         limit,
+        holds,
     )?;
     let Tests { patterns, verdicts } = tests;
-    let stil = stil_text(alloc, core, chains, patterns.as_slice())?;
+    let stil = stil_text(alloc, core, chains, patterns.as_slice(), holds)?;
     let leaves = leaves_of(alloc, faults, verdicts)?;
     let certificate = write_certificate(alloc, netlist, leaves.as_slice())?;
     let net = write(alloc, netlist)?;
@@ -175,13 +184,15 @@ fn answers_of<R: Threads + Sync, E: Engine + Sync, G: Gate + Sync>(
     plan: TransitionPlan,
     engine: &E,
     marks: &[bool],
+    holds: &Holds,
 ) -> Result<Vec<Option<Found>>, NoMemory>
     requires design { IsDesign core.now }
+    requires held { AreHoldsOf core.now holds.now }
     requires faults { faults.now ≡ universe_of core.now }
     requires limit { 1 ≤ plan.limit }
     requires workers { 0 < plan.workers }
     requires marks { length marks.now ≡ length (universe_of core.now) }
-    ensures { IfOk result (λ v. AreFoundWhereLeft core.now plan.limit E.refutes (universe_of core.now) marks.now v.items) }
+    ensures { IfOk result (λ v. AreFoundWhereLeft core.now holds.now plan.limit E.refutes (universe_of core.now) marks.now v.items) }
 {
     let netlist = core.netlist();
     netlist.sound();
@@ -196,6 +207,7 @@ fn answers_of<R: Threads + Sync, E: Engine + Sync, G: Gate + Sync>(
         plan.limit,
         plan.trees,
         plan.workers,
+        holds,
     )
 }
 
@@ -217,24 +229,28 @@ fn begun<R: Threads + Sync, E: Engine + Sync, G: Gate + Sync>(
     faults: &FaultSet,
     plan: TransitionPlan,
     engine: &E,
+    holds: &Holds,
 ) -> Result<AfterFirst, NoMemory>
     requires design { IsDesign core.now }
+    requires held { AreHoldsOf core.now holds.now }
     requires faults { faults.now ≡ universe_of core.now }
     requires limit { 1 ≤ plan.limit }
     requires workers { 0 < plan.workers }
-    ensures patterns { IfOk result (λ b. All (IsPatternOf core.now (none_held core.now)) b.patterns.items) }
+    ensures patterns { IfOk result (λ b. All (IsPatternOf core.now holds.now) b.patterns.items) }
     ensures few { IfOk result (λ b. length b.patterns.items ≤ length (universe_of core.now) + 64) }
-    ensures found { IfOk result (λ b. AreFoundWhereLeft core.now plan.limit E.refutes (universe_of core.now) b.searched.items b.found.items) }
+    ensures found { IfOk result (λ b. AreFoundWhereLeft core.now holds.now plan.limit E.refutes (universe_of core.now) b.searched.items b.found.items) }
 {
-    let batch = batch_of(alloc, core, plan.seed)?;
+    let batch = batch_of(alloc, core, plan.seed, holds)?;
     let left = left_by(alloc, core, faults, batch.as_slice())?;
     let detected = (faults.len() as u64).saturating_sub(count_of(left.as_slice()));
     stage.at(0, dropped(detected));
     let searched = first_round(alloc, left.as_slice())?;
     let marks = searched.as_slice();
-    let found = answers_of(rt, alloc, stage, core, faults, plan, engine, marks)?;
+    let found = answers_of(rt, alloc, stage, core, faults, plan, engine, marks, holds)?;
     let answers = found.as_slice();
-    let patterns = with_tests(alloc, core, batch, marks, answers, plan.limit, plan.seed)?;
+    let patterns = with_tests(
+        alloc, core, batch, marks, answers, plan.limit, plan.seed, holds,
+    )?;
     Ok(AfterFirst {
         patterns,
         searched,
@@ -253,12 +269,14 @@ fn slow_tests<R: Threads + Sync, E: Engine + Sync, G: Gate + Sync>(
     faults: &FaultSet,
     plan: TransitionPlan,
     engine: &E,
+    holds: &Holds,
 ) -> Result<Tests, NoMemory>
     requires design { IsDesign core.now }
+    requires held { AreHoldsOf core.now holds.now }
     requires faults { faults.now ≡ universe_of core.now }
     requires limit { 1 ≤ plan.limit }
     requires workers { 0 < plan.workers }
-    ensures tests { IfOk result (λ t. AreTests core.now plan.limit t.patterns.items t.verdicts.items) }
+    ensures tests { IfOk result (λ t. AreTests core.now holds.now plan.limit t.patterns.items t.verdicts.items) }
     ensures kinds { IfOk result (λ t. All (MayHave E.refutes) t.verdicts.items) }
     ensures few { IfOk result (λ t. length t.patterns.items < 2 ^ 32) }
 {
@@ -269,7 +287,7 @@ fn slow_tests<R: Threads + Sync, E: Engine + Sync, G: Gate + Sync>(
         searched,
         found,
         detected,
-    } = begun(rt, alloc, stage, core, faults, plan, engine)?;
+    } = begun(rt, alloc, stage, core, faults, plan, engine, holds)?;
     let undetected = left_by(alloc, core, faults, patterns.as_slice())?;
     let left = undetected.as_slice();
     let rest = second_round(alloc, left, found.as_slice())?;
@@ -278,14 +296,14 @@ fn slow_tests<R: Threads + Sync, E: Engine + Sync, G: Gate + Sync>(
         .saturating_add(count_of(searched.as_slice()))
         .saturating_add(count_of(marks));
     stage.at(0, dropped(count.saturating_sub(others)));
-    let more = answers_of(rt, alloc, stage, core, faults, plan, engine, marks)?;
+    let more = answers_of(rt, alloc, stage, core, faults, plan, engine, marks, holds)?;
     let all = all_answers(left, found, more);
     tests_of(
-        alloc, core, faults, patterns, left, all, plan.limit, plan.seed,
+        alloc, core, faults, patterns, left, all, plan.limit, plan.seed, holds,
     )
 }
 
-/// Makes the five files of a design's transition faults. Whatever the number of workers, what the files say comes true.
+/// Makes the five files of a design's transition faults with these inputs held. Whatever the number of workers, what the files say comes true.
 pub fn transition_files<R: Threads + Sync, E: Engine + Sync, G: Gate + Sync>(
     rt: &R,
     alloc: Global,
@@ -293,20 +311,22 @@ pub fn transition_files<R: Threads + Sync, E: Engine + Sync, G: Gate + Sync>(
     core: &Core,
     plan: TransitionPlan,
     engine: &E,
+    holds: &Holds,
 ) -> Result<TransitionFiles, NoMemory>
     requires design { IsDesign core.now }
     requires some { 1 ≤ plan.chains }
     requires limit { 1 ≤ plan.limit }
     requires workers { (0 < plan.workers) × (plan.workers ≤ most_workers) }
-    ensures { IfOk result (IsTransitionRun core.now plan.chains plan.limit E.refutes) }
+    requires held { AreHoldsOf core.now holds.now }
+    ensures { IfOk result (IsTransitionRun core.now holds.now plan.chains plan.limit E.refutes) }
 {
     let netlist = core.netlist();
     netlist.sound();
     few_faults();
     let chains = stitch(alloc, netlist.cells(), plan.chains)?;
     let faults = universe(alloc, netlist)?;
-    let tests = slow_tests(rt, alloc, stage, core, &faults, plan, engine)?;
-    let files = texts_of(alloc, core, &chains, &faults, tests, plan.limit)?;
+    let tests = slow_tests(rt, alloc, stage, core, &faults, plan, engine, holds)?;
+    let files = texts_of(alloc, core, &chains, &faults, tests, plan.limit, holds)?;
     written_tells_the_truth();
     Ok(files)
 }

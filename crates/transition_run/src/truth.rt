@@ -6,8 +6,8 @@ use scan_insert::laws::scanned_is_sound;
 use stil_read::laws::written_stands;
 use transition_files::laws::launch_file_vectors;
 use transition_play::laws::{
-    detected_fails_slowly, good_passes_launches, launch_vectors_fit, some_slow_run,
-    undetected_passes_slowly,
+    detected_fails_slowly, good_passes_launches, launch_vectors_fit, launch_vectors_obey,
+    some_slow_run, undetected_passes_slowly,
 };
 use transition_sim::laws::shown_has_no_transition;
 
@@ -21,6 +21,7 @@ pub(crate) fn written_tells_the_truth()
     shown_has_no_transition();
     launch_file_vectors();
     launch_vectors_fit();
+    launch_vectors_obey();
     good_passes_launches();
     detected_fails_slowly();
     undetected_passes_slowly();

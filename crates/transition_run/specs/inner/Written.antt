@@ -1,12 +1,13 @@
 -- The texts of patterns and verdicts.
 use Rattle.std.specs.Prelude.{ℕ, ◌≡◌, List, length}
 use Rattle.statement.specs.Netlists.{Netlist}
-use Rattle.statement.specs.Patterns.{Pattern}
+use Rattle.statement.specs.Patterns.{Holds, Pattern}
 use Rattle.statement.specs.Benches.{canonical}
 use Rattle.scan_insert.specs.Scanned.{scanned_of}
 use Rattle.stil_write.specs.StilFiles.{IsStilFile}
 use Rattle.statement.specs.Stils.{StilFile, stil_text}
 use Rattle.statement.specs.Faults.{universe_of}
+use Rattle.run_report.specs.Heads.{holds_named}
 use Rattle.transition_files.specs.LaunchFiles.{IsLaunchFileOf}
 use Rattle.transition_tests.specs.declared.verdicts.TransitionVerdict.{TransitionVerdict}
 use Rattle.transition_report.specs.declared.reporting.TransitionReport.{TransitionReport}
@@ -16,22 +17,23 @@ use Rattle.transition_report.specs.Texts.{transition_certificate, transition_rep
 use Rattle.transition_run.specs.declared.files.TransitionFiles.{TransitionFiles}
 
 -- the text of the file that applies these patterns
-pub record IsLaunchText (n : Netlist) (chains : List (List ℕ)) (patterns : List Pattern) (text : List ℕ) : Type 0 where
+pub record IsLaunchText (n : Netlist) (holds : Holds) (chains : List (List ℕ)) (patterns : List Pattern) (text : List ℕ) : Type 0 where
   pub file : StilFile
   pub is_file : IsStilFile file
-  pub of_patterns : IsLaunchFileOf n chains patterns file
+  pub of_patterns : IsLaunchFileOf n holds chains patterns file
   pub text_is : text ≡ stil_text file
 
--- the report of these verdicts
-pub record IsSaid (n : Netlist) (chains : List (List ℕ)) (limit : ℕ) (patterns : List Pattern) (verdicts : List TransitionVerdict) (r : TransitionReport) : Type 0 where
+-- the report of these verdicts, with these inputs held
+pub record IsSaid (n : Netlist) (holds : Holds) (chains : List (List ℕ)) (limit : ℕ) (patterns : List Pattern) (verdicts : List TransitionVerdict) (r : TransitionReport) : Type 0 where
   pub lines : AreLines n chains (universe_of n) verdicts r.lines
+  pub held : r.holds ≡ holds_named n holds
   pub numbers : IsReportOf n chains (length patterns) limit r.lines r
   pub sized : HasWritableShares r
 
-pub record IsWritten (n : Netlist) (chains : List (List ℕ)) (limit : ℕ) (patterns : List Pattern) (verdicts : List TransitionVerdict) (made : TransitionFiles) : Type 0 where
+pub record IsWritten (n : Netlist) (holds : Holds) (chains : List (List ℕ)) (limit : ℕ) (patterns : List Pattern) (verdicts : List TransitionVerdict) (made : TransitionFiles) : Type 0 where
   pub net : made.net.items ≡ canonical n
   pub scan : made.scan.items ≡ canonical (scanned_of n chains)
-  pub stil : IsLaunchText n chains patterns made.stil.items
+  pub stil : IsLaunchText n holds chains patterns made.stil.items
   pub certificate : made.certificate.items ≡ transition_certificate n (leaves_of (universe_of n) verdicts)
   pub report : made.report.items ≡ transition_report_text made.said
-  pub said : IsSaid n chains limit patterns verdicts made.said
+  pub said : IsSaid n holds chains limit patterns verdicts made.said

@@ -35,16 +35,17 @@ texts_of-requires-clause-chains g c =
 pub returns : goal.returns
 returns g c =
     let n = c.args.core.now in
+    let holds = c.args.holds.now in
     let asked = c.args.plan.chains in
     let limit = c.args.plan.limit in
     let tests = c.in_ok-tests.tests in
     let files = c.in_ok-files.files in
     let same : c.in_ok-chains.chains ≡ design_chains n asked =
     dealt n asked c.cells.result.now c.in_ok-chains.chains (c.cells.ensures ∙ ap cell_ids c.netlist-netlist.ensures) c.in_ok-chains.ensures in
-    let written = subst (λ (cs : List (List ℕ)). IsWritten n cs limit tests.patterns.items tests.verdicts.items files) same c.in_ok-files.ensures in
-    let both : (t : TransitionTheorem n (design_chains n asked) limit g.E.Engine.refutes (transition_files_of files))
-    × HasNeeded n (design_chains n asked) limit g.E.Engine.refutes (transition_files_of files) t =
-    c.written_tells_the_truth.ensures n (design_chains n asked) limit g.E.Engine.refutes tests.patterns.items tests.verdicts.items files
+    let written = subst (λ (cs : List (List ℕ)). IsWritten n holds cs limit tests.patterns.items tests.verdicts.items files) same c.in_ok-files.ensures in
+    let both : (t : TransitionTheorem n holds (design_chains n asked) limit g.E.Engine.refutes (transition_files_of files))
+    × HasNeeded n holds (design_chains n asked) limit g.E.Engine.refutes (transition_files_of files) t =
+    c.written_tells_the_truth.ensures n holds (design_chains n asked) limit g.E.Engine.refutes tests.patterns.items tests.verdicts.items files
     (subst IsSound c.netlist-netlist.ensures c.sound.ensures) c.requires.design (are_chains n asked (design_chains n asked) c.requires.some refl)
     c.in_ok-tests.ensures.tests c.in_ok-tests.ensures.kinds written in
     record {
@@ -52,7 +53,7 @@ returns g c =
       truth = both.0;
       needed = both.1;
       trees = λ none.
-          let alone = subst (λ (b : Bool). (t : TransitionTheorem n (design_chains n asked) limit b (transition_files_of files))
-          × HasNeeded n (design_chains n asked) limit b (transition_files_of files) t) none both in
-          trees_alone n (design_chains n asked) limit (transition_files_of files) alone.0 alone.1;
+          let alone = subst (λ (b : Bool). (t : TransitionTheorem n holds (design_chains n asked) limit b (transition_files_of files))
+          × HasNeeded n holds (design_chains n asked) limit b (transition_files_of files) t) none both in
+          trees_alone n holds (design_chains n asked) limit (transition_files_of files) alone.0 alone.1;
     }

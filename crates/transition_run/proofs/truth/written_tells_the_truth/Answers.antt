@@ -9,6 +9,7 @@ returns c = truth (record {
   shown = c.shown_has_no_transition.ensures;
   vectors = c.launch_file_vectors.ensures;
   fit = c.launch_vectors_fit.ensures;
+  obey = c.launch_vectors_obey.ensures;
   good = c.good_passes_launches.ensures;
   detected = c.detected_fails_slowly.ensures;
   undetected = c.undetected_passes_slowly.ensures;
