@@ -47,7 +47,7 @@ returns c =
       net = c.in_ok-net.ensures ∙ ap canonical same;
       scan = c.in_ok-scan.ensures ∙ ap canonical (c.netlist-2.ensures ∙ scanned);
       stil = subst (λ (ps : List Pattern). IsLaunchText n holds chains ps c.in_ok-stil.stil.items) c.as_slice.ensures.value c.in_ok-stil.ensures;
-      certificate = c.in_ok-certificate.ensures
+      certificate = c.in_ok-certificate.ensures.text
           ∙ (ap (λ (m : Netlist). transition_certificate m c.as_slice-2.result.now) same ∙ ap (transition_certificate n) certified);
       report = c.in_ok-report.ensures;
       said = subst (λ (m : Netlist). IsSaid m holds chains c.args.limit tests.patterns.items tests.verdicts.items c.in_ok-said.said) same c.in_ok-said.ensures;
