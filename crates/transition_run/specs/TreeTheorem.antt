@@ -1,5 +1,5 @@
 -- What five files say of a chip's slow lines where their certificate has trees alone: the theorem as it was before there were refutations, word for
--- word, so that nothing is said less of such files.
+-- word but for the held inputs, so that nothing is said less of such files.
 use Rattle.std.specs.Prelude.{ℕ, ◌≡◌, ◌<◌, ◌≤◌, ◌+◌, ◌++◌, Bool, List, codes, map, length, Some, None}
 use Rattle.std.specs.List.{All, Contains, flat_map, slice_get}
 use Rattle.statement.specs.declared.lines.Fault.{Fault}
@@ -65,10 +65,11 @@ module _ (n : Netlist) (holds : Holds) (chains : List (List ℕ)) (limit : ℕ) 
       × LastTransition n patterns f None × PassesSlowly n chains f cycles
   ComesTrue f Unasked pin = ⊥
 
--- The first two files are the canonical texts of the netlist and of the scanned one. The third stands for the file of some patterns that obey the held
--- inputs, each of which is the last to detect some transition fault; on the good scanned netlist it passes, and from each power-up state there is a run
--- with each slow line. The report names the held inputs, and each cycle of the test drives them with their bits. The report has each transition fault once, in order, and what it says comes true; detected, redundant and aborted faults are
--- all of them, and its numbers follow. The certificate has a tree for each fault that no pattern detects, in order, and no other.
+-- The first two files are the canonical texts of the netlist and of the scanned one. The third stands for the file of some patterns, each of
+-- which is the last to detect some transition fault; on the good scanned netlist it passes, and from each power-up state there is a run with
+-- each slow line. The report names the held inputs, and each cycle of the test drives them with their bits. The report has each transition fault
+-- once, in order, and what it says comes true; detected, redundant and aborted faults are all of them, and its numbers follow. The certificate has a
+-- tree for each fault that no pattern detects, in order, and no other.
 pub record TransitionTreeTheorem (n : Netlist) (holds : Holds) (chains : List (List ℕ)) (limit : ℕ) (files : FiveFiles) : Type 0 where
   pub patterns : List Pattern
   pub file : StilFile
@@ -82,8 +83,8 @@ pub record TransitionTreeTheorem (n : Netlist) (holds : Holds) (chains : List (L
   pub holds_are : AreHeldBy n said.holds holds
   pub obey : All (IsPatternOf n holds) patterns
   pub is_file_of : IsLaunchFileOf n holds chains patterns file
-  pub driven : All (λ (cycle : Cycle). Obeys holds cycle.drive) (vectors_in file)
   pub needed : (place : ℕ) → place < length patterns → IsNeededForTransitions n (universe_of n) patterns place
+  pub driven : All (λ (cycle : Cycle). Obeys holds cycle.drive) (vectors_in file)
   pub passes : Passes (scanned_of n chains) None (vectors_in file)
   pub runs : (f : Fault) (state : List Bool) → length state ≡ length (cells (scanned_of n chains))
       → (shown : List (List Bool)) × RunsSlowly n chains f state (vectors_in file) shown

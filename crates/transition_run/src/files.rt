@@ -64,7 +64,7 @@ fn stil_text(
     holds: &Holds,
 ) -> Result<Vec<u8>, NoMemory>
     requires design { IsDesign core.now }
-    requires holds { AreHoldsOf core.now holds.now }
+    requires held { AreHoldsOf core.now holds.now }
     requires chains { AreChainsOf core.now chains.now }
     requires patterns { All (IsPatternOf core.now holds.now) patterns.now }
     ensures { IfOk result (λ text. IsLaunchText core.now holds.now chains.now patterns.now text.items) }
@@ -86,7 +86,7 @@ fn said_of(
     holds: &Holds,
 ) -> Result<TransitionReport, NoMemory>
     requires design { IsDesign netlist.now }
-    requires holds { AreHoldsOf netlist.now holds.now }
+    requires held { AreHoldsOf netlist.now holds.now }
     requires chains { AreChainsOf netlist.now chains.now }
     requires scanned { scanned.now ≡ scanned_of netlist.now chains.now }
     requires faults { faults.now ≡ universe_of netlist.now }
@@ -100,8 +100,14 @@ fn said_of(
     let verdicts = tests.verdicts.as_slice();
     let lines = lines_of(alloc, netlist, chains, &pins, faults, verdicts)?;
     let held = hold_lines(alloc, netlist, holds)?;
-    let count = tests.patterns.as_slice().len() as u32;
-    Ok(report_of(netlist, chains, count, limit, lines, held))
+    Ok(report_of(
+        netlist,
+        chains,
+        tests.patterns.as_slice().len() as u32,
+        limit,
+        lines,
+        held,
+    ))
 }
 
 /// The texts of these tests.
@@ -115,7 +121,7 @@ fn texts_of(
     holds: &Holds,
 ) -> Result<TransitionFiles, NoMemory>
     requires design { IsDesign core.now }
-    requires holds { AreHoldsOf core.now holds.now }
+    requires held { AreHoldsOf core.now holds.now }
     requires chains { AreChainsOf core.now chains.now }
     requires faults { faults.now ≡ universe_of core.now }
     requires tests { AreTests core.now holds.now limit tests.patterns.items tests.verdicts.items }
@@ -181,7 +187,7 @@ fn answers_of<R: Threads + Sync, E: Engine + Sync, G: Gate + Sync>(
     holds: &Holds,
 ) -> Result<Vec<Option<Found>>, NoMemory>
     requires design { IsDesign core.now }
-    requires holds { AreHoldsOf core.now holds.now }
+    requires held { AreHoldsOf core.now holds.now }
     requires faults { faults.now ≡ universe_of core.now }
     requires limit { 1 ≤ plan.limit }
     requires workers { 0 < plan.workers }
@@ -226,7 +232,7 @@ fn begun<R: Threads + Sync, E: Engine + Sync, G: Gate + Sync>(
     holds: &Holds,
 ) -> Result<AfterFirst, NoMemory>
     requires design { IsDesign core.now }
-    requires holds { AreHoldsOf core.now holds.now }
+    requires held { AreHoldsOf core.now holds.now }
     requires faults { faults.now ≡ universe_of core.now }
     requires limit { 1 ≤ plan.limit }
     requires workers { 0 < plan.workers }
@@ -235,7 +241,7 @@ fn begun<R: Threads + Sync, E: Engine + Sync, G: Gate + Sync>(
     ensures found { IfOk result (λ b. AreFoundWhereLeft core.now holds.now plan.limit E.refutes (universe_of core.now) b.searched.items b.found.items) }
 {
     let batch = batch_of(alloc, core, plan.seed, holds)?;
-    let left = left_by(alloc, core, faults, batch.as_slice(), holds)?;
+    let left = left_by(alloc, core, faults, batch.as_slice())?;
     let detected = (faults.len() as u64).saturating_sub(count_of(left.as_slice()));
     stage.at(0, dropped(detected));
     let searched = first_round(alloc, left.as_slice())?;
@@ -266,7 +272,7 @@ fn slow_tests<R: Threads + Sync, E: Engine + Sync, G: Gate + Sync>(
     holds: &Holds,
 ) -> Result<Tests, NoMemory>
     requires design { IsDesign core.now }
-    requires holds { AreHoldsOf core.now holds.now }
+    requires held { AreHoldsOf core.now holds.now }
     requires faults { faults.now ≡ universe_of core.now }
     requires limit { 1 ≤ plan.limit }
     requires workers { 0 < plan.workers }
@@ -282,7 +288,7 @@ fn slow_tests<R: Threads + Sync, E: Engine + Sync, G: Gate + Sync>(
         found,
         detected,
     } = begun(rt, alloc, stage, core, faults, plan, engine, holds)?;
-    let undetected = left_by(alloc, core, faults, patterns.as_slice(), holds)?;
+    let undetected = left_by(alloc, core, faults, patterns.as_slice())?;
     let left = undetected.as_slice();
     let rest = second_round(alloc, left, found.as_slice())?;
     let marks = rest.as_slice();
@@ -297,8 +303,8 @@ fn slow_tests<R: Threads + Sync, E: Engine + Sync, G: Gate + Sync>(
     )
 }
 
-/// Makes the five files of a design's transition faults, with these inputs held. Whatever the number of workers, the files are good, and what they say
-/// comes true.
+/// Makes the five files of a design's transition faults with these inputs held. Whatever the number of workers, the files are good, and what they
+/// say comes true.
 pub fn transition_files<R: Threads + Sync, E: Engine + Sync, G: Gate + Sync>(
     rt: &R,
     alloc: Global,
@@ -309,10 +315,10 @@ pub fn transition_files<R: Threads + Sync, E: Engine + Sync, G: Gate + Sync>(
     holds: &Holds,
 ) -> Result<TransitionFiles, NoMemory>
     requires design { IsDesign core.now }
-    requires holds { AreHoldsOf core.now holds.now }
     requires some { 1 ≤ plan.chains }
     requires limit { (1 ≤ plan.limit) × (plan.limit ≤ most_limit) }
     requires workers { (0 < plan.workers) × (plan.workers ≤ most_workers) }
+    requires held { AreHoldsOf core.now holds.now }
     ensures { IfOk result (IsTransitionRun core.now holds.now plan.chains plan.limit E.refutes) }
 {
     let netlist = core.netlist();

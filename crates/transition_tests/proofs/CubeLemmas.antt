@@ -10,7 +10,6 @@ use Rattle.statement.specs.declared.lines.Fault.{Fault}
 use Rattle.statement.specs.Patterns.{Holds, Pattern}
 use Rattle.netlist.specs.Conditions.{IsSound}
 use Rattle.netlist.specs.Designs.{IsDesign}
-use Rattle.netlist.specs.Holds.{none_held}
 use Rattle.statement.specs.Netlists.{Netlist, cells}
 use Rattle.statement.specs.Values.{known, allows}
 use Rattle.netlist.specs.ThreeValues.{AreAllowed}
@@ -31,27 +30,27 @@ use Rattle.transition_tests.specs.inner.Cubes.{HasAgreeing}
 -- ---- the cubes of answers
 
 -- a cube of the two frames is one of the netlist
-frame_cube : (n : Netlist) (f : Fault) (c : Cube) → IsCubeOf (frames_of n f) (none_held (frames_of n f)) c → IsCubeOf n (none_held n) c
-frame_cube n f c is = record {
+frame_cube : (n : Netlist) (holds : Holds) (f : Fault) (c : Cube) → IsCubeOf (frames_of n f) holds c → IsCubeOf n holds c
+frame_cube n holds f c is = record {
   inputs = is.inputs;
   cells = is.cells ∙ (ap length (cells_framed n f) ∙ length-map (cells n) (in_first n f));
   held = is.held;
 }
 
-module _ (n : Netlist) (limit : ℕ) (refutes : Bool) where
-  one_cube : (f : Fault) (left : Bool) (x : Option Found) (xs : List (Option Found)) → IsFoundIfLeft n limit refutes f left x → All (IsCubeOf n (none_held n)) (cubes_in xs)
-      → All (IsCubeOf n (none_held n)) (cubes_in (x ∷ xs))
+module _ (n : Netlist) (holds : Holds) (limit : ℕ) (refutes : Bool) where
+  one_cube : (f : Fault) (left : Bool) (x : Option Found) (xs : List (Option Found)) → IsFoundIfLeft n holds limit refutes f left x → All (IsCubeOf n holds) (cubes_in xs)
+      → All (IsCubeOf n holds) (cubes_in (x ∷ xs))
   one_cube f left None xs is rest = rest
   one_cube f false (Some x) xs is rest = absurd (let e : Some x ≡ None = is in cc)
-  one_cube f true (Some (Test c o)) xs is rest = All-cons (IsCubeOf n (none_held n)) c (cubes_in xs) (frame_cube n f c is.evidence.is_cube) rest
+  one_cube f true (Some (Test c o)) xs is rest = All-cons (IsCubeOf n holds) c (cubes_in xs) (frame_cube n holds f c is.evidence.is_cube) rest
   one_cube f true (Some (Closed t)) xs is rest = rest
   one_cube f true (Some (Refuted s)) xs is rest = rest
   one_cube f true (Some (Partial t)) xs is rest = rest
 
   -- the cubes of what was found are cubes of the netlist
   pub all_cubes : (faults : List Fault) (left : ℕ → Bool) (found : List (Option Found)) → length found ≡ length faults
-      → ((k : ℕ) (f : Fault) → slice_get faults k ≡ Some f → IsFoundIfLeft n limit refutes f (left k) (get_or found k None)) → All (IsCubeOf n (none_held n)) (cubes_in found)
-  all_cubes [] left [] size each = All-nil (IsCubeOf n (none_held n))
+      → ((k : ℕ) (f : Fault) → slice_get faults k ≡ Some f → IsFoundIfLeft n holds limit refutes f (left k) (get_or found k None)) → All (IsCubeOf n holds) (cubes_in found)
+  all_cubes [] left [] size each = All-nil (IsCubeOf n holds)
   all_cubes [] left (x ∷ xs) size each = absurd (omega arith)
   all_cubes (f ∷ fs) left [] size each = absurd (omega arith)
   all_cubes (f ∷ fs) left (x ∷ xs) size each =

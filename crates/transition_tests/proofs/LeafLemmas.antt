@@ -5,10 +5,9 @@ use Rattle.std.proofs.lemmas.List.Elements.{All-append, All-nil, All-cons, All-h
 use Rattle.statement.specs.declared.lines.Fault.{Fault}
 use Rattle.netlist.specs.Conditions.{IsSound}
 use Rattle.netlist.specs.Designs.{IsDesign}
-use Rattle.netlist.specs.Holds.{none_held}
 use Rattle.netlist.specs.Lines.{IsLineOf, signal_of}
 use Rattle.statement.specs.Netlists.{Netlist, signals}
-use Rattle.statement.specs.Patterns.{Pattern}
+use Rattle.statement.specs.Patterns.{Holds, Pattern}
 use Rattle.evidence.specs.declared.kinds.Evidence.{Evidence}
 use Rattle.evidence.specs.declared.kinds.Evidence.TheVariants.{Tree}
 use Rattle.evidence.specs.Evidence.{Shows, MayBe}
@@ -43,21 +42,21 @@ leaves_more fs vs f v k old new count at before after =
 
 -- ---- of verdicts that are true
 
-module _ (n : Netlist) (sound : IsSound n) (design : IsDesign n) (limit : ℕ) (patterns : List Pattern) where
+module _ (n : Netlist) (sound : IsSound n) (design : IsDesign n) (holds : Holds) (limit : ℕ) (patterns : List Pattern) where
   one_named : (f : Fault) (e : Evidence) → IsLineOf n f.line → signal_of f.line < length (signals n)
-      → Shows (frame_fault n f) (frames_of n f) (none_held n) e → All (IsNamedInFrames n) ((f, e) ∷ [])
+      → Shows (frame_fault n f) (frames_of n f) holds e → All (IsNamedInFrames n) ((f, e) ∷ [])
   one_named f e line low shows =
       All-cons (IsNamedInFrames n) (f, e) []
-      (record { line = line; signal = low; signals = shown_named (frames_of n f) (frames_sound n sound design f line) (frame_fault n f) (none_held n) e shows })
+      (record { line = line; signal = low; signals = shown_named (frames_of n f) (frames_sound n sound design f line) (frame_fault n f) holds e shows })
       (All-nil (IsNamedInFrames n))
 
-  leaf_named : (f : Fault) (v : TransitionVerdict) → IsLineOf n f.line → signal_of f.line < length (signals n) → IsVerdict n limit patterns f v → All (IsNamedInFrames n) (leaf_at f v)
+  leaf_named : (f : Fault) (v : TransitionVerdict) → IsLineOf n f.line → signal_of f.line < length (signals n) → IsVerdict n holds limit patterns f v → All (IsNamedInFrames n) (leaf_at f v)
   leaf_named f (Detected place point) line low is = All-nil (IsNamedInFrames n)
   leaf_named f (Redundant e) line low is = one_named f e line low is.1
   leaf_named f (Aborted tree) line low is = one_named f (Tree tree) line low is.1
 
   pub leaves_named : (fs : List Fault) (vs : List TransitionVerdict) → All (λ (f : Fault). IsLineOf n f.line × (signal_of f.line < length (signals n))) fs
-      → AllZip (IsVerdict n limit patterns) fs vs → All (IsNamedInFrames n) (leaves_of fs vs)
+      → AllZip (IsVerdict n holds limit patterns) fs vs → All (IsNamedInFrames n) (leaves_of fs vs)
   leaves_named [] vs lines are = All-nil (IsNamedInFrames n)
   leaves_named (f ∷ fs) [] lines are = elim are [ ]
   leaves_named (f ∷ fs) (v ∷ vs) lines are =
@@ -65,12 +64,12 @@ module _ (n : Netlist) (sound : IsSound n) (design : IsDesign n) (limit : ℕ) (
       let here = All-head P f fs lines in
       All-append (IsNamedInFrames n) (leaf_at f v) (leaves_of fs vs) (leaf_named f v here.0 here.1 are.0) (leaves_named fs vs (All-tail P f fs lines) are.1)
 
-  inside : (f : Fault) (v : TransitionVerdict) → IsVerdict n limit patterns f v → IsInside n v
+  inside : (f : Fault) (v : TransitionVerdict) → IsVerdict n holds limit patterns f v → IsInside n v
   inside f (Detected place point) is = point_inside n sound f is.here.pattern.inputs _ point is.here.detects.detects
   inside f (Redundant e) is = tt
   inside f (Aborted tree) is = tt
 
-  pub all_inside : (fs : List Fault) (vs : List TransitionVerdict) → AllZip (IsVerdict n limit patterns) fs vs → All (IsInside n) vs
+  pub all_inside : (fs : List Fault) (vs : List TransitionVerdict) → AllZip (IsVerdict n holds limit patterns) fs vs → All (IsInside n) vs
   all_inside [] [] are = All-nil (IsInside n)
   all_inside [] (v ∷ vs) are = elim are [ ]
   all_inside (f ∷ fs) [] are = elim are [ ]

@@ -5,3 +5,4 @@ pub mod TestLemmas
 pub mod LeafLemmas
 pub mod RoundLemmas
 mod LineLemmas
+mod LineTexts

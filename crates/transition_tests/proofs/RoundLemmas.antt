@@ -5,6 +5,7 @@ use Rattle.std.proofs.lemmas.List.{get_or_at, get_or-set_same, get_or-set_other}
 use Rattle.std.proofs.lemmas.Option.{slice_get_within}
 use Rattle.statement.specs.declared.lines.Fault.{Fault}
 use Rattle.statement.specs.Netlists.{Netlist}
+use Rattle.statement.specs.Patterns.{Holds}
 use Rattle.evidence.specs.declared.engine.Found.{Found}
 use Rattle.transition.specs.Searches.{AreFoundWhereLeft, IsFoundIfLeft}
 use Rattle.transition_tests.specs.Rounds.{AreJoined, AreUnanswered, joined, unanswered}
@@ -47,9 +48,9 @@ joined_all left first second answers done rest k is none count same size each = 
   each = λ i lt. each i (omega (arith, lt, none, count, same, ap length is, length-append done rest));
 }
 
-module _ (n : Netlist) (limit : ℕ) (refutes : Bool) where
-  one_joined : (f : Fault) (searched left : Bool) (a b : Option Found) → IsFoundIfLeft n limit refutes f searched a → IsFoundIfLeft n limit refutes f (unanswered left a) b
-      → IsFoundIfLeft n limit refutes f left (joined left a b)
+module _ (n : Netlist) (holds : Holds) (limit : ℕ) (refutes : Bool) where
+  one_joined : (f : Fault) (searched left : Bool) (a b : Option Found) → IsFoundIfLeft n holds limit refutes f searched a → IsFoundIfLeft n holds limit refutes f (unanswered left a) b
+      → IsFoundIfLeft n holds limit refutes f left (joined left a b)
   one_joined f searched false None b first second = second
   one_joined f searched false (Some x) b first second = second
   one_joined f searched true None b first second = second
@@ -58,14 +59,14 @@ module _ (n : Netlist) (limit : ℕ) (refutes : Bool) where
 
   -- the answers of both rounds are those of the faults that are left
   pub found_joined : (faults : List Fault) (searched left marks : List Bool) (first second answers : List (Option Found)) → length left ≡ length faults
-      → AreFoundWhereLeft n limit refutes faults searched first → AreUnanswered left first marks → AreFoundWhereLeft n limit refutes faults marks second
-      → AreJoined left first second answers → AreFoundWhereLeft n limit refutes faults left answers
+      → AreFoundWhereLeft n holds limit refutes faults searched first → AreUnanswered left first marks → AreFoundWhereLeft n holds limit refutes faults marks second
+      → AreJoined left first second answers → AreFoundWhereLeft n holds limit refutes faults left answers
   found_joined faults searched left marks first second answers size one unasked two are = record {
     size = are.size ∙ size;
     each = λ k f at.
         let low : k < length left = (let l = slice_get_within faults k f at in omega arith) in
-        let other : IsFoundIfLeft n limit refutes f (unanswered (get_or left k true) (get_or first k None)) (get_or second k None) =
-        subst (λ (b : Bool). IsFoundIfLeft n limit refutes f b (get_or second k None)) (unasked.each k low) (two.each k f at) in
-        subst (IsFoundIfLeft n limit refutes f (get_or left k true)) (sym (are.each k low))
+        let other : IsFoundIfLeft n holds limit refutes f (unanswered (get_or left k true) (get_or first k None)) (get_or second k None) =
+        subst (λ (b : Bool). IsFoundIfLeft n holds limit refutes f b (get_or second k None)) (unasked.each k low) (two.each k f at) in
+        subst (IsFoundIfLeft n holds limit refutes f (get_or left k true)) (sym (are.each k low))
         (one_joined f (get_or searched k true) (get_or left k true) (get_or first k None) (get_or second k None) (one.each k f at) other);
   }

@@ -8,12 +8,11 @@ use Rattle.std.proofs.lemmas.Option.{slice_get_read, slice_get_within, slice_get
 use Rattle.statement.specs.declared.lines.Fault.{Fault}
 use Rattle.statement.specs.declared.lines.Point.{Point}
 use Rattle.netlist.specs.Conditions.{IsSound}
-use Rattle.netlist.specs.Holds.{none_held}
 use Rattle.netlist.specs.Lines.{IsLineOf}
 use Rattle.statement.specs.Netlists.{Netlist}
 use Rattle.netlist.proofs.Lists.{contains_head}
 use Rattle.cubes.specs.Cubes.{Cube, IsCubeOf, IsPatternOf}
-use Rattle.statement.specs.Patterns.{Pattern}
+use Rattle.statement.specs.Patterns.{Holds, Pattern}
 use Rattle.evidence.specs.declared.engine.Found.{Found}
 use Rattle.evidence.specs.declared.engine.Found.TheVariants.{Test, Closed, Refuted, Partial}
 use Rattle.list_core.specs.Kept.{is_last_at, kept_from, new_place}
@@ -47,14 +46,14 @@ left_where_none n batch (f ∷ faults) (Some l ∷ lasts) are = ((l.0, l.1, are.
 
 -- ---- what is known of faults, once those that a batch leaves were searched
 
-module _ (n : Netlist) (limit : ℕ) (refutes : Bool) (batch : List Pattern) where
-  known_one : (f : Fault) (left : Bool) (x : Option Found) → IsLeftBy n batch f left → IsFoundIfLeft n limit refutes f left x → IsKnown n limit refutes batch f x
+module _ (n : Netlist) (holds : Holds) (limit : ℕ) (refutes : Bool) (batch : List Pattern) where
+  known_one : (f : Fault) (left : Bool) (x : Option Found) → IsLeftBy n batch f left → IsFoundIfLeft n holds limit refutes f left x → IsKnown n holds limit refutes batch f x
   known_one f true (Some x) by is = is
   known_one f true None by is = elim is [ ]
-  known_one f false x by is = subst (IsKnown n limit refutes batch f) (sym is) by
+  known_one f false x by is = subst (IsKnown n holds limit refutes batch f) (sym is) by
 
-  pub all_known : (faults : List Fault) (left : List Bool) (found : List (Option Found)) → AreLeftBy n batch faults left → AreFoundWhereLeft n limit refutes faults left found
-      → AllZip (IsKnown n limit refutes batch) faults found
+  pub all_known : (faults : List Fault) (left : List Bool) (found : List (Option Found)) → AreLeftBy n batch faults left → AreFoundWhereLeft n holds limit refutes faults left found
+      → AllZip (IsKnown n holds limit refutes batch) faults found
   all_known [] left [] by are = tt
   all_known [] left (x ∷ found) by are = absurd (let size = are.size in omega arith)
   all_known (f ∷ faults) [] found by are = elim by [ ]
@@ -65,11 +64,11 @@ module _ (n : Netlist) (limit : ℕ) (refutes : Bool) (batch : List Pattern) whe
   )
 
 -- the cubes of what was found are cubes of the netlist
-pub cubes_fit : (n : Netlist) (limit : ℕ) (refutes : Bool) (left : List Bool) (found : List (Option Found)) (cubes : List Cube)
-    → AreFoundWhereLeft n limit refutes (universe_of n) left found → cubes ≡ cubes_in found → All (IsCubeOf n (none_held n)) cubes
-cubes_fit n limit refutes left found cubes are is =
-    subst (λ (cs : List Cube). All (IsCubeOf n (none_held n)) cs) (sym is)
-    (all_cubes n limit refutes (universe_of n) (λ k. get_or left k true) found are.size are.each)
+pub cubes_fit : (n : Netlist) (holds : Holds) (limit : ℕ) (refutes : Bool) (left : List Bool) (found : List (Option Found)) (cubes : List Cube)
+    → AreFoundWhereLeft n holds limit refutes (universe_of n) left found → cubes ≡ cubes_in found → All (IsCubeOf n holds) cubes
+cubes_fit n holds limit refutes left found cubes are is =
+    subst (λ (cs : List Cube). All (IsCubeOf n holds) cs) (sym is)
+    (all_cubes n holds limit refutes (universe_of n) (λ k. get_or left k true) found are.size are.each)
 
 -- ---- where a test was found, or the batch detects, some pattern detects
 
@@ -87,8 +86,8 @@ at_front [] ys k p e = cc
 at_front (x ∷ xs) ys zero p e = e
 at_front (x ∷ xs) ys (suc k) p e = at_front xs ys k p e
 
-module _ (n : Netlist) (sound : IsSound n) (limit : ℕ) (refutes : Bool) (batch patterns : List Pattern) (begins : BeginsWith batch patterns) where
-  told_one : (f : Fault) (x : Option Found) (last : Option (ℕ × Point)) → IsLineOf n f.line → IsKnown n limit refutes batch f x → LastTransition n patterns f last
+module _ (n : Netlist) (sound : IsSound n) (holds : Holds) (limit : ℕ) (refutes : Bool) (batch patterns : List Pattern) (begins : BeginsWith batch patterns) where
+  told_one : (f : Fault) (x : Option Found) (last : Option (ℕ × Point)) → IsLineOf n f.line → IsKnown n holds limit refutes batch f x → LastTransition n patterns f last
       → ((c : Cube) → Contains (cubes_in (x ∷ [])) c → HasAgreeing patterns c) → IsDetectedIfTested x last
   told_one f x (Some l) line known is agree = tt
   told_one f None None line known never agree =
@@ -103,7 +102,7 @@ module _ (n : Netlist) (sound : IsSound n) (limit : ℕ) (refutes : Bool) (batch
       never p.1.0 o (record {
         pattern = p.0;
         at = slice_get_read patterns (length patterns) p.1.0 p.0 refl p.1.1 (sym p.1.2);
-        detects = test_detects_transition n f c o p.0 sound line evidence.evidence p.2;
+        detects = test_detects_transition n holds f c o p.0 sound line evidence.evidence p.2;
       })
   told_one f (Some (Closed t)) None line evidence is agree = tt
   told_one f (Some (Refuted s)) None line evidence is agree = tt
@@ -122,7 +121,7 @@ module _ (n : Netlist) (sound : IsSound n) (limit : ℕ) (refutes : Bool) (batch
   first_cube (Some (Partial t)) xs c is = absurd (let lt = is.1 in omega arith)
 
   pub all_told : (faults : List Fault) (found : List (Option Found)) (lasts : List (Option (ℕ × Point))) → All (λ (f : Fault). IsLineOf n f.line) faults
-      → AllZip (IsKnown n limit refutes batch) faults found → AllZip (LastTransition n patterns) faults lasts → ((c : Cube) → Contains (cubes_in found) c → HasAgreeing patterns c)
+      → AllZip (IsKnown n holds limit refutes batch) faults found → AllZip (LastTransition n patterns) faults lasts → ((c : Cube) → Contains (cubes_in found) c → HasAgreeing patterns c)
       → AllZip IsDetectedIfTested found lasts
   all_told [] [] [] lines are is agree = tt
   all_told [] [] (l ∷ lasts) lines are is agree = elim is [ ]
@@ -148,7 +147,7 @@ last_within n patterns (f ∷ faults) (Some l ∷ lasts) are =
 
 -- ---- among the patterns that are kept
 
-module _ (n : Netlist) (sound : IsSound n) (limit : ℕ) (refutes : Bool) (batch patterns : List Pattern) (marked : ℕ → Bool) where
+module _ (n : Netlist) (sound : IsSound n) (holds : Holds) (limit : ℕ) (refutes : Bool) (batch patterns : List Pattern) (marked : ℕ → Bool) where
   kept_last : (f : Fault) (k : ℕ) (o : Point) → IsLineOf n f.line → marked k ≡ true → IsLastTransition n patterns f k o
       → IsLastTransition n (kept_from marked 0 patterns) f (new_place marked k) o
   kept_last f k o line mark is =
@@ -169,22 +168,22 @@ module _ (n : Netlist) (sound : IsSound n) (limit : ℕ) (refutes : Bool) (batch
       never_kept (frames_of n f) patterns marked (frame_fault n f) (λ p o d. never p o (from_frames n sound patterns f line p o d)) place q
       (to_frames n sound (kept_from marked 0 patterns) f line place q t)
 
-  verdict_is : (f : Fault) (x : Option Found) (last : Option (ℕ × Point)) (v : TransitionVerdict) → IsLineOf n f.line → IsKnown n limit refutes batch f x → LastTransition n patterns f last
-      → ((l : ℕ × Point) → last ≡ Some l → marked l.0 ≡ true) → IsVerdictOf (new_place marked) x last v → IsVerdict n limit (kept_from marked 0 patterns) f v
+  verdict_is : (f : Fault) (x : Option Found) (last : Option (ℕ × Point)) (v : TransitionVerdict) → IsLineOf n f.line → IsKnown n holds limit refutes batch f x → LastTransition n patterns f last
+      → ((l : ℕ × Point) → last ≡ Some l → marked l.0 ≡ true) → IsVerdictOf (new_place marked) x last v → IsVerdict n holds limit (kept_from marked 0 patterns) f v
   verdict_is f x (Some l) v line evidence is mark end =
-      subst (IsVerdict n limit (kept_from marked 0 patterns) f) (sym end) (kept_last f l.0 l.1 line (mark l refl) is)
+      subst (IsVerdict n holds limit (kept_from marked 0 patterns) f) (sym end) (kept_last f l.0 l.1 line (mark l refl) is)
   verdict_is f None None v line known never mark end = elim end [ ]
   verdict_is f (Some (Test c o)) None v line evidence never mark end = elim end [ ]
   verdict_is f (Some (Closed t)) None v line evidence never mark end =
-      subst (IsVerdict n limit (kept_from marked 0 patterns) f) (sym end) (kept_never f line never, evidence.evidence.0, evidence.evidence.1)
+      subst (IsVerdict n holds limit (kept_from marked 0 patterns) f) (sym end) (kept_never f line never, evidence.evidence.0, evidence.evidence.1)
   verdict_is f (Some (Refuted s)) None v line evidence never mark end =
-      subst (IsVerdict n limit (kept_from marked 0 patterns) f) (sym end) (kept_never f line never, evidence.evidence, refl)
+      subst (IsVerdict n holds limit (kept_from marked 0 patterns) f) (sym end) (kept_never f line never, evidence.evidence, refl)
   verdict_is f (Some (Partial t)) None v line evidence never mark end =
-      subst (IsVerdict n limit (kept_from marked 0 patterns) f) (sym end) (kept_never f line never, evidence.evidence.0, evidence.evidence.1, evidence.evidence.2)
+      subst (IsVerdict n holds limit (kept_from marked 0 patterns) f) (sym end) (kept_never f line never, evidence.evidence.0, evidence.evidence.1, evidence.evidence.2)
 
   verdicts_are : (faults : List Fault) (found : List (Option Found)) (lasts : List (Option (ℕ × Point))) (vs : List TransitionVerdict) → All (λ (f : Fault). IsLineOf n f.line) faults
-      → AllZip (IsKnown n limit refutes batch) faults found → AllZip (LastTransition n patterns) faults lasts → ((c : ℕ) (l : ℕ × Point) → last_at lasts c ≡ Some l → marked l.0 ≡ true)
-      → AreVerdictsOf (new_place marked) found lasts vs → AllZip (IsVerdict n limit (kept_from marked 0 patterns)) faults vs
+      → AllZip (IsKnown n holds limit refutes batch) faults found → AllZip (LastTransition n patterns) faults lasts → ((c : ℕ) (l : ℕ × Point) → last_at lasts c ≡ Some l → marked l.0 ≡ true)
+      → AreVerdictsOf (new_place marked) found lasts vs → AllZip (IsVerdict n holds limit (kept_from marked 0 patterns)) faults vs
   verdicts_are [] [] [] [] lines are is mark ends = tt
   verdicts_are [] [] [] (v ∷ vs) lines are is mark ends = elim ends [ ]
   verdicts_are [] [] (l ∷ lasts) vs lines are is mark ends = elim is [ ]
@@ -199,8 +198,8 @@ module _ (n : Netlist) (sound : IsSound n) (limit : ℕ) (refutes : Bool) (batch
 
 -- ---- kinds
 
-module _ (n : Netlist) (limit : ℕ) (refutes : Bool) (batch : List Pattern) (new : ℕ → ℕ) where
-  verdict_kind : (f : Fault) (x : Option Found) (last : Option (ℕ × Point)) (v : TransitionVerdict) → IsKnown n limit refutes batch f x → IsVerdictOf new x last v → MayHave refutes v
+module _ (n : Netlist) (holds : Holds) (limit : ℕ) (refutes : Bool) (batch : List Pattern) (new : ℕ → ℕ) where
+  verdict_kind : (f : Fault) (x : Option Found) (last : Option (ℕ × Point)) (v : TransitionVerdict) → IsKnown n holds limit refutes batch f x → IsVerdictOf new x last v → MayHave refutes v
   verdict_kind f x (Some l) v known end = subst (MayHave refutes) (sym end) tt
   verdict_kind f None None v known end = elim end [ ]
   verdict_kind f (Some (Test c o)) None v known end = elim end [ ]
@@ -209,7 +208,7 @@ module _ (n : Netlist) (limit : ℕ) (refutes : Bool) (batch : List Pattern) (ne
   verdict_kind f (Some (Partial t)) None v known end = subst (MayHave refutes) (sym end) tt
 
   pub verdicts_kinds : (faults : List Fault) (found : List (Option Found)) (lasts : List (Option (ℕ × Point))) (vs : List TransitionVerdict)
-      → AllZip (IsKnown n limit refutes batch) faults found → AreVerdictsOf new found lasts vs → All (MayHave refutes) vs
+      → AllZip (IsKnown n holds limit refutes batch) faults found → AreVerdictsOf new found lasts vs → All (MayHave refutes) vs
   verdicts_kinds [] [] [] [] are ends = All-nil (MayHave refutes)
   verdicts_kinds [] [] [] (v ∷ vs) are ends = elim ends [ ]
   verdicts_kinds [] [] (l ∷ lasts) vs are ends = elim ends [ ]
@@ -232,21 +231,21 @@ needed_at n sound patterns faults lasts lines are place p at =
     let start : 0 + s.place ≡ s.place = omega arith in
     let mark : marked s.place ≡ true = subst (λ (i : ℕ). marked i ≡ true) start s.mark in
     let by = marked_by (LastTransition n patterns) faults lasts s.place are mark in
-    let last = kept_last n sound 0 false patterns patterns marked by.0 s.place by.2.0 (lines by.0 by.1) mark by.2.1 in
+    let last = kept_last n sound [] 0 false patterns patterns marked by.0 s.place by.2.0 (lines by.0 by.1) mark by.2.1 in
     (by.0, by.1, (by.2.0, subst (λ (k : ℕ). IsLastTransition n (kept_from marked 0 patterns) by.0 k by.2.0) s.new last))
 
-pub tests_are : (n : Netlist) (sound : IsSound n) (limit : ℕ) (refutes : Bool) (batch patterns : List Pattern) (found : List (Option Found)) (lasts : List (Option (ℕ × Point))) (kept : List Pattern) (vs : List TransitionVerdict)
-    → All (IsPatternOf n (none_held n)) patterns → ((f : Fault) → Contains (universe_of n) f → IsLineOf n f.line) → All (λ (f : Fault). IsLineOf n f.line) (universe_of n)
-    → AllZip (IsKnown n limit refutes batch) (universe_of n) found → AllZip (LastTransition n patterns) (universe_of n) lasts
-    → kept ≡ kept_from (is_last_at lasts) 0 patterns → AreVerdictsOf (new_place (is_last_at lasts)) found lasts vs → AreTests n limit kept vs
-tests_are n sound limit refutes batch patterns found lasts kept vs obey lines all are is kept_is ends =
-    subst (λ (ps : List Pattern). AreTests n limit ps vs) (sym kept_is) (record {
-      obey = kept_all (IsPatternOf n (none_held n)) (is_last_at lasts) 0 patterns obey;
+pub tests_are : (n : Netlist) (sound : IsSound n) (holds : Holds) (limit : ℕ) (refutes : Bool) (batch patterns : List Pattern) (found : List (Option Found)) (lasts : List (Option (ℕ × Point))) (kept : List Pattern) (vs : List TransitionVerdict)
+    → All (IsPatternOf n holds) patterns → ((f : Fault) → Contains (universe_of n) f → IsLineOf n f.line) → All (λ (f : Fault). IsLineOf n f.line) (universe_of n)
+    → AllZip (IsKnown n holds limit refutes batch) (universe_of n) found → AllZip (LastTransition n patterns) (universe_of n) lasts
+    → kept ≡ kept_from (is_last_at lasts) 0 patterns → AreVerdictsOf (new_place (is_last_at lasts)) found lasts vs → AreTests n holds limit kept vs
+tests_are n sound holds limit refutes batch patterns found lasts kept vs obey lines all are is kept_is ends =
+    subst (λ (ps : List Pattern). AreTests n holds limit ps vs) (sym kept_is) (record {
+      obey = kept_all (IsPatternOf n holds) (is_last_at lasts) 0 patterns obey;
       needed = λ place lt.
           let left = kept_from (is_last_at lasts) 0 patterns in
           let nothing : Pattern = record { inputs = []; cells = [] } in
           needed_at n sound patterns (universe_of n) lasts lines is place (get_or left place nothing) (slice_get-get_or left place nothing lt);
-      each = verdicts_are n sound limit refutes batch patterns (is_last_at lasts) (universe_of n) found lasts vs all are is (some_marked lasts) ends;
+      each = verdicts_are n sound holds limit refutes batch patterns (is_last_at lasts) (universe_of n) found lasts vs all are is (some_marked lasts) ends;
     })
 
 -- ---- of which patterns they are made

@@ -1,6 +1,6 @@
 -- The batch of patterns that are drawn, and which faults it leaves to be searched. (Fault dropping: Bushnell and Agrawal, Essentials of Electronic
 -- Testing.)
-use Rattle.std.specs.Prelude.{ℕ, Bool, true, false, List, length, replicate, None}
+use Rattle.std.specs.Prelude.{ℕ, Bool, true, false, List, length, map, replicate, None}
 use Rattle.std.specs.List.{AllZip}
 use Rattle.rand_core.specs.Stream.{Stream}
 use Rattle.rand_core.specs.Steps.{stream_of, steps_u32}
@@ -9,8 +9,9 @@ use Rattle.rand_pcg.specs.Pcg.{multiplier_64, pcg32}
 use Rattle.statement.specs.declared.kinds.Tri.TheVariants.{X}
 use Rattle.statement.specs.declared.lines.Fault.{Fault}
 use Rattle.statement.specs.Netlists.{Netlist, cells}
+use Rattle.tri.specs.Labels.{held_value}
 use Rattle.cubes.specs.Cubes.{Cube}
-use Rattle.statement.specs.Patterns.{Pattern}
+use Rattle.statement.specs.Patterns.{Holds, Pattern}
 use Rattle.cubes.specs.Filling.{filled_all}
 use Rattle.transition_sim.specs.Detections.{IsDetected, LastTransition}
 
@@ -25,9 +26,9 @@ AreLeftBy n batch faults left = AllZip (IsLeftBy n batch) faults left
 
 -- ---- the batch
 
--- a cube that leaves each bit open
-abbrev pub open_cube : Netlist → Cube
-open_cube n = record { inputs = replicate (length n.inputs) X; cells = replicate (length (cells n)) X }
+-- the cube that leaves each bit open but those of held inputs
+abbrev pub open_cube : Netlist → Holds → Cube
+open_cube n holds = record { inputs = map held_value holds; cells = replicate (length (cells n)) X }
 
 -- so many patterns of one cube, each filled from the words that those before it leave
 unfoldable pub drawn : ℕ → Cube → Stream → List Pattern
@@ -37,6 +38,6 @@ drawn count c words = filled_all (replicate count c) words
 abbrev pub words_on_stream : ℕ → ℕ → Stream
 words_on_stream stream seed = stream_of (steps_u32 pcg32) (started 64 multiplier_64 seed (increment_of 64 stream))
 
--- 64 patterns of the netlist, each bit of which is drawn from stream 1 of the seed
-abbrev pub batch_of : Netlist → ℕ → List Pattern
-batch_of n seed = drawn 64 (open_cube n) (words_on_stream 1 seed)
+-- 64 patterns of the netlist, each bit of which is drawn from stream 1 of the seed but those of held inputs
+abbrev pub batch_of : Netlist → Holds → ℕ → List Pattern
+batch_of n holds seed = drawn 64 (open_cube n holds) (words_on_stream 1 seed)

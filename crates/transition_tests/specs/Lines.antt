@@ -7,6 +7,8 @@ use Rattle.evidence.specs.declared.kinds.Evidence.{Evidence}
 use Rattle.evidence.specs.declared.kinds.Evidence.TheVariants.{Tree}
 use Rattle.statement.specs.declared.outcomes.Outcome.{Outcome}
 use Rattle.statement.specs.declared.outcomes.Outcome.TheVariants as outcome
+use Rattle.report.specs.declared.models.FaultModel.TheVariants.{Transition}
+use Rattle.report.specs.Reports.{IsLineBy}
 use Rattle.statement.specs.Reports.{Line}
 use Rattle.run_report.specs.Strobes.{IsPointOf}
 use Rattle.transition_tests.specs.declared.verdicts.TransitionVerdict.{TransitionVerdict}
@@ -21,10 +23,11 @@ IsOutcomeOf n chains (Detected place point) o pin =
 IsOutcomeOf n chains (Redundant e) o pin = (o ≡ outcome.Redundant) × (pin ≡ [])
 IsOutcomeOf n chains (Aborted tree) o pin = (o ≡ outcome.Aborted) × (pin ≡ [])
 
--- the line of a fault with this verdict
+-- the line of a fault with this verdict, as a report of slow lines may have it
 pub record IsVerdictLine (n : Netlist) (chains : List (List ℕ)) (p : Fault × TransitionVerdict) (l : Line) : Type 0 where
   pub names_it : l.fault ≡ transition_text n p.0
   pub outcome : IsOutcomeOf n chains p.1 l.outcome l.pin
+  pub formed : IsLineBy Transition l
 
 -- the lines of these faults, by their verdicts, in order
 abbrev pub AreLines : Netlist → List (List ℕ) → List Fault → List TransitionVerdict → List Line → Type 0

@@ -3,9 +3,8 @@ use Rattle.std.specs.Prelude.{ℕ, ◌≡◌, ◌≤◌, ◌<◌, ⊤, Bool, Lis
 use Rattle.std.specs.List.{All, AllZip, Contains}
 use Rattle.statement.specs.declared.lines.Fault.{Fault}
 use Rattle.statement.specs.declared.lines.Point.{Point}
-use Rattle.netlist.specs.Holds.{none_held}
 use Rattle.statement.specs.Netlists.{Netlist}
-use Rattle.statement.specs.Patterns.{Pattern}
+use Rattle.statement.specs.Patterns.{Holds, Pattern}
 use Rattle.cubes.specs.Cubes.{IsPatternOf}
 use Rattle.statement.specs.Faults.{universe_of}
 use Rattle.redundancy_cert.specs.Trees.{closed_count, open_count}
@@ -17,11 +16,12 @@ use Rattle.transition_tests.specs.declared.verdicts.TransitionVerdict.{Transitio
 use Rattle.transition_tests.specs.declared.verdicts.TransitionVerdict.TheVariants.{Detected, Redundant, Aborted}
 
 -- Detected: by the last pattern that detects the transition fault, at its first point. Else no pattern does, and there is evidence on the two
--- frames: what leaves nothing open, or a tree that does, with as many closed ends as the backtrack limit.
-abbrev pub IsVerdict : Netlist → ℕ → List Pattern → Fault → TransitionVerdict → Type 0
-IsVerdict n limit patterns f (Detected place point) = IsLastTransition n patterns f place point
-IsVerdict n limit patterns f (Redundant e) = LastTransition n patterns f None × ShowsFrames n f e × (open_ends e ≡ 0)
-IsVerdict n limit patterns f (Aborted tree) = LastTransition n patterns f None × FitsFrames n f tree × (closed_count tree ≡ limit) × (1 ≤ open_count tree)
+-- frames with these inputs held: what leaves nothing open, or a tree that does, with as many closed ends as the backtrack limit.
+abbrev pub IsVerdict : Netlist → Holds → ℕ → List Pattern → Fault → TransitionVerdict → Type 0
+IsVerdict n holds limit patterns f (Detected place point) = IsLastTransition n patterns f place point
+IsVerdict n holds limit patterns f (Redundant e) = LastTransition n patterns f None × ShowsFrames n holds f e × (open_ends e ≡ 0)
+IsVerdict n holds limit patterns f (Aborted tree) =
+    LastTransition n patterns f None × FitsFrames n holds f tree × (closed_count tree ≡ limit) × (1 ≤ open_count tree)
 
 -- a refutation only where refutations are given
 abbrev pub MayHave : Bool → TransitionVerdict → Type 0
@@ -33,8 +33,8 @@ MayHave refutes (Aborted tree) = ⊤
 abbrev pub IsNeededForTransitions : Netlist → List Fault → List Pattern → ℕ → Type 0
 IsNeededForTransitions n faults patterns place = (f : Fault) × Contains faults f × ((point : Point) × IsLastTransition n patterns f place point)
 
--- Patterns of the netlist, each of which is needed, and a verdict for each transition fault, in order.
-pub record AreTests (n : Netlist) (limit : ℕ) (patterns : List Pattern) (verdicts : List TransitionVerdict) : Type 0 where
-  pub obey : All (IsPatternOf n (none_held n)) patterns
+-- Patterns of the netlist that obey the held inputs, each of which is needed, and a verdict for each transition fault, in order.
+pub record AreTests (n : Netlist) (holds : Holds) (limit : ℕ) (patterns : List Pattern) (verdicts : List TransitionVerdict) : Type 0 where
+  pub obey : All (IsPatternOf n holds) patterns
   pub needed : (place : ℕ) → place < length patterns → IsNeededForTransitions n (universe_of n) patterns place
-  pub each : AllZip (IsVerdict n limit patterns) (universe_of n) verdicts
+  pub each : AllZip (IsVerdict n holds limit patterns) (universe_of n) verdicts

@@ -3,14 +3,16 @@ ghost use Rattle.std.specs.Prelude.{◌≡◌, ◌≤◌, ◌+◌, length, map, 
 ghost use Rattle.std.specs.List.{All};
 ghost use Rattle.std.specs.Option.{is_some};
 ghost use Rattle.netlist.specs.Designs.{IsDesign};
-ghost use Rattle.netlist.specs.Holds.{none_held};
+ghost use Rattle.netlist.specs.Holds.{AreHoldsOf};
+ghost use Rattle.tri.specs.Labels.{held_value};
 ghost use Rattle.cubes.specs.Cubes.{IsPatternOf};
+ghost use Rattle.word_sim.specs.Words.{HasWidthsOf};
 ghost use Rattle.statement.specs.Faults.{universe_of};
 ghost use Rattle.transition_tests.specs.Batches.{AreLeftBy, open_cube, drawn, batch_of};
 
 use cubes::{Cube, Pattern, fill};
 use fault_universe::FaultSet;
-use netlist::{Core, NoMemory, Point, Tri};
+use netlist::{Core, Holds, NoMemory, Point, Tri};
 use rand_core::Rng;
 use rand_pcg::Lcg64Xsh32;
 use std::alloc::{AllocError, Global};
@@ -22,13 +24,37 @@ const BATCH: usize = 64;
 /// The stream of the drawn patterns. Cubes are filled from stream 0.
 const BATCH_STREAM: u64 = 1;
 
-/// A cube that leaves each bit open.
-fn open_cube(alloc: Global, core: &Core) -> Result<Cube, AllocError>
-    ensures { IfOk result (λ c. c ≡ open_cube core.now) }
+/// Its bit, where an input is held.
+fn value_of(bit: Option<bool>) -> Tri
+    ensures { result ≡ held_value bit }
 {
-    let netlist = core.netlist();
-    let inputs = vec![in alloc; Tri::X; netlist.inputs().len()]?;
-    let cells = vec![in alloc; Tri::X; netlist.cells().len()]?;
+    match bit {
+        Some(true) => Tri::One,
+        Some(false) => Tri::Zero,
+        None => Tri::X,
+    }
+}
+
+/// A value for each input: an X where it isn't held.
+fn values_of(alloc: Global, holds: &Holds, inputs: u32) -> Result<Vec<Tri>, AllocError>
+    requires { length holds.now ≡ inputs }
+    ensures { IfOk result (λ v. v.items ≡ map held_value holds.now) }
+{
+    let mut values = Vec::with_capacity(alloc, inputs as usize)?;
+    for input in 0..inputs {
+        values.push(value_of(holds.held(input)))?;
+    }
+    Ok(values)
+}
+
+/// The cube that leaves each bit open but those of held inputs.
+fn open_cube(alloc: Global, core: &Core, holds: &Holds) -> Result<Cube, AllocError>
+    requires { AreHoldsOf core.now holds.now }
+    ensures { IfOk result (λ c. c ≡ open_cube core.now holds.now) }
+{
+    core.netlist().sound();
+    let inputs = values_of(alloc, holds, core.netlist().inputs().len() as u32)?;
+    let cells = vec![in alloc; Tri::X; core.netlist().cells().len()]?;
     Ok(Cube::new(inputs, cells))
 }
 
@@ -49,13 +75,19 @@ fn drawn<N: Rng>(
     Ok(patterns)
 }
 
-/// The patterns that are drawn from a seed before any fault is searched.
-pub fn batch_of(alloc: Global, core: &Core, seed: u64) -> Result<Vec<Pattern>, NoMemory>
-    ensures drawn { IfOk result (λ v. v.items ≡ batch_of core.now seed) }
-    ensures obey { IfOk result (λ v. All (IsPatternOf core.now (none_held core.now)) v.items) }
+/// The patterns that are drawn from a seed before any fault is searched. Each held input has its bit in all of them.
+pub fn batch_of(
+    alloc: Global,
+    core: &Core,
+    seed: u64,
+    holds: &Holds,
+) -> Result<Vec<Pattern>, NoMemory>
+    requires { AreHoldsOf core.now holds.now }
+    ensures drawn { IfOk result (λ v. v.items ≡ batch_of core.now holds.now seed) }
+    ensures obey { IfOk result (λ v. All (IsPatternOf core.now holds.now) v.items) }
     ensures count { IfOk result (λ v. length v.items ≡ 64) }
 {
-    let open = open_cube(alloc, core)?;
+    let open = open_cube(alloc, core, holds)?;
     let mut rng = Lcg64Xsh32::new(seed, BATCH_STREAM);
     drawn(alloc, &open, BATCH, &mut rng)
 }
@@ -76,7 +108,7 @@ pub fn left_by(
 ) -> Result<Vec<bool>, NoMemory>
     requires design { IsDesign core.now }
     requires faults { faults.now ≡ universe_of core.now }
-    requires obey { All (IsPatternOf core.now (none_held core.now)) batch.now }
+    requires wide { All (HasWidthsOf core.now) batch.now }
     requires count { length batch.now ≤ length (universe_of core.now) + 64 }
     ensures { IfOk result (λ v. AreLeftBy core.now batch.now (universe_of core.now) v.items) }
 {

@@ -5,7 +5,6 @@ ghost use Rattle.std.specs.List.{All, AllZip};
 ghost use Rattle.netlist.specs.Designs.{IsDesign};
 ghost use Rattle.statement.specs.Faults.{universe_of};
 ghost use Rattle.list_core.specs.Kept.{is_last_at, kept_from, new_place};
-ghost use Rattle.netlist.specs.Holds.{none_held};
 ghost use Rattle.cubes.specs.Cubes.{IsPatternOf};
 ghost use Rattle.transition.specs.Searches.{AreFoundWhereLeft};
 ghost use Rattle.transition_tests.specs.Batches.{AreLeftBy};
@@ -19,7 +18,7 @@ use cubes::Pattern;
 use evidence::{Evidence, Found};
 use fault_universe::FaultSet;
 use list_core::{kept, needed, new_places};
-use netlist::{Core, NoMemory, Point};
+use netlist::{Core, Holds, NoMemory, Point};
 use std::alloc::{AllocError, Global};
 use transition_sim::last_tells2;
 
@@ -95,21 +94,23 @@ pub fn tests_of(
     found: Vec<Option<Found>>,
     limit: u32,
     seed: u64,
+    holds: &Holds,
 ) -> Result<Tests, NoMemory>
     ghost refutes: { Bool }
     requires design { IsDesign core.now }
     requires faults { faults.now ≡ universe_of core.now }
-    requires batch { All (IsPatternOf core.now (none_held core.now)) batch.items }
+    requires batch { All (IsPatternOf core.now holds.now) batch.items }
     requires count { length batch.items ≤ length (universe_of core.now) + 64 }
     requires left { AreLeftBy core.now batch.items (universe_of core.now) left.now }
-    requires found { AreFoundWhereLeft core.now limit refutes (universe_of core.now) left.now found.items }
-    ensures tests { IfOk result (λ t. AreTests core.now limit t.patterns.items t.verdicts.items) }
+    requires found { AreFoundWhereLeft core.now holds.now limit refutes (universe_of core.now) left.now found.items }
+    ensures tests { IfOk result (λ t. AreTests core.now holds.now limit t.patterns.items t.verdicts.items) }
     ensures kinds { IfOk result (λ t. All (MayHave refutes) t.verdicts.items) }
     ensures made { IfOk result (λ t. AreMadeFrom core.now batch.items found.items seed t.patterns.items) }
     ensures few { IfOk result (λ t. length t.patterns.items < 2 ^ 32) }
 {
     let _ = limit;
     let _ = left;
+    let _ = holds;
     core.netlist().sound();
     let cubes = cubes_of(alloc, &found)?;
     let patterns = patterns_of(alloc, batch, &cubes, 0, seed)?;

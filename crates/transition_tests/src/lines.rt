@@ -2,15 +2,16 @@
 ghost use Rattle.std.specs.Prelude.{◌≡◌, ◌<◌, ◌++◌, ◌∷◌, [], ◌^◌, IfOk, length, map};
 ghost use Rattle.std.specs.List.{All};
 ghost use Rattle.statement.specs.Netlists.{signals};
-ghost use Rattle.netlist.specs.Lines.{signal_of};
+ghost use Rattle.netlist.specs.Lines.{IsLineOf, signal_of};
 ghost use Rattle.statement.specs.Runs.{output_name};
 ghost use Rattle.scan_insert.specs.Scanned.{AreChainsOf, scanned_of};
 ghost use Rattle.statement.specs.Faults.{universe_of};
+ghost use Rattle.report.specs.Reports.{IsBenchWord, IsOutcome};
 ghost use Rattle.transition_tests.specs.Lines.{AreLines, IsInside, IsOutcomeOf};
 ghost use Rattle.transition_tests.specs.inner.Parts.{IsAdded};
 
 use crate::verdicts::TransitionVerdict;
-use fault_universe::{FaultSet, faults_have_signals};
+use fault_universe::{FaultSet, faults_have_lines, faults_have_signals};
 use netlist::{Fault, NameTable, Netlist, NoMemory};
 use report::{FaultLines, Outcome};
 use scan_insert::Chains;
@@ -32,8 +33,10 @@ fn said_of<'a>(
 ) -> Said<'a>
     requires chains { AreChainsOf netlist.now chains.now }
     requires pins { pins.now ≡ map (output_name (scanned_of netlist.now chains.now)) (scanned_of netlist.now chains.now).outputs }
+    requires words { All IsBenchWord pins.now }
     requires verdict { IsInside netlist.now verdict.now }
-    ensures { IsOutcomeOf netlist.now chains.now verdict.now result.outcome result.pin.now }
+    ensures outcome { IsOutcomeOf netlist.now chains.now verdict.now result.outcome result.pin.now }
+    ensures formed { IsOutcome result.outcome result.pin.now }
 {
     match verdict {
         TransitionVerdict::Detected(place, point) => {
@@ -66,10 +69,13 @@ fn add_line(
 ) -> Result<FaultLines, AllocError>
     requires chains { AreChainsOf netlist.now chains.now }
     requires pins { pins.now ≡ map (output_name (scanned_of netlist.now chains.now)) (scanned_of netlist.now chains.now).outputs }
+    requires words { All IsBenchWord pins.now }
     requires verdict { IsInside netlist.now verdict.now }
+    requires line { IsLineOf netlist.now fault.line }
     requires signal { signal_of fault.line < length (signals netlist.now) }
     ensures { IfOk result (IsAdded netlist.now chains.now fault verdict.now lines) }
 {
+    netlist.sound();
     text.clear();
     push_fault(text, netlist, fault)?;
     let said = said_of(netlist, chains, pins, verdict);
@@ -86,6 +92,7 @@ fn lines_within(
 ) -> Result<FaultLines, AllocError>
     requires chains { AreChainsOf netlist.now chains.now }
     requires pins { pins.now ≡ map (output_name (scanned_of netlist.now chains.now)) (scanned_of netlist.now chains.now).outputs }
+    requires words { All IsBenchWord pins.now }
     requires universe { faults.now ≡ universe_of netlist.now }
     requires size { length verdicts.now ≡ length (universe_of netlist.now) }
     requires inside { All (IsInside netlist.now) verdicts.now }
@@ -93,6 +100,7 @@ fn lines_within(
 {
     netlist.sound();
     faults_have_signals();
+    faults_have_lines();
     let mut text = Vec::new(alloc);
     let mut lines = FaultLines::new(alloc);
     for i in 0..faults.len() {
@@ -114,6 +122,7 @@ pub fn lines_of(
 ) -> Result<FaultLines, NoMemory>
     requires chains { AreChainsOf netlist.now chains.now }
     requires pins { pins.now ≡ map (output_name (scanned_of netlist.now chains.now)) (scanned_of netlist.now chains.now).outputs }
+    requires words { All IsBenchWord pins.now }
     requires universe { faults.now ≡ universe_of netlist.now }
     requires size { length verdicts.now ≡ length (universe_of netlist.now) }
     requires inside { All (IsInside netlist.now) verdicts.now }

@@ -4,19 +4,18 @@
 //! Tests of the first round, filled, detect most of what can be detected behind the drawn patterns, so that further rounds would spare few searches. A
 //! deeper draw spares as many, but leaves more patterns. The first round takes faults that stand apart: their tests differ, and their lines fit into fewer
 //! batches, since neighbours in the order of faults are often late at one reader.
-ghost use Rattle.std.specs.Prelude.{◌≡◌, ◌≤◌, ◌+◌, ◌<◌, Bool, length, slice_index_or, slice_set, IfOk, None};
+ghost use Rattle.std.specs.Prelude.{◌≡◌, ◌≤◌, ◌+◌, ◌<◌, ◌&&◌, Bool, count_by, length, slice_index_or, slice_set, IfOk, None};
 ghost use Rattle.std.specs.List.{All};
-ghost use Rattle.netlist.specs.Holds.{none_held};
 ghost use Rattle.cubes.specs.Cubes.{IsPatternOf};
 ghost use Rattle.statement.specs.Faults.{universe_of};
 ghost use Rattle.transition.specs.Searches.{AreFoundWhereLeft};
 ghost use Rattle.transition_tests.specs.Making.{AreBehind, cubes_in};
-ghost use Rattle.transition_tests.specs.Rounds.{AreJoined, AreUnanswered, joined, unanswered};
+ghost use Rattle.transition_tests.specs.Rounds.{AreFirst, AreJoined, AreUnanswered, are_many, is_sixteenth, joined, unanswered};
 
 use crate::filling::{cubes_of, patterns_of};
 use cubes::Pattern;
 use evidence::Found;
-use netlist::{Core, NoMemory};
+use netlist::{Core, Holds, NoMemory};
 use std::alloc::{AllocError, Global};
 
 /// The first round takes each fault that is left of so many.
@@ -25,20 +24,41 @@ const FIRST: usize = 16;
 /// Where no more faults are left, one round has them all.
 const ENOUGH: usize = 128;
 
-fn marked(alloc: Global, left: &[bool]) -> Result<Vec<bool>, AllocError>
-    ensures { IfOk result (λ v. length v.items ≡ length left.now) }
+/// How many faults are left.
+fn left_count(left: &[bool]) -> usize
+    ensures { result ≡ count_by (λ is_left. is_left) left.now }
 {
-    let enough = left.iter().filter(|is_left| **is_left).count() > ENOUGH;
+    left.iter().filter(|is_left| **is_left).count()
+}
+
+/// Whether so many are left that the first round takes some of them.
+fn are_many(left: &[bool]) -> bool
+    ensures { result ≡ are_many left.now }
+{
+    left_count(left) > ENOUGH
+}
+
+/// Whether the first round takes the fault at a place.
+fn is_taken(many: bool, is_left: bool, place: usize) -> bool
+    ensures { result ≡ (many && is_sixteenth is_left place) }
+{
+    many && is_left && place % FIRST == 0
+}
+
+fn marked(alloc: Global, left: &[bool]) -> Result<Vec<bool>, AllocError>
+    ensures { IfOk result (λ v. AreFirst left.now v.items) }
+{
+    let many = are_many(left);
     let mut marks = Vec::with_capacity(alloc, left.len())?;
     for k in 0..left.len() {
-        marks.push(enough && left[k] && k % FIRST == 0)?;
+        marks.push(is_taken(many, left[k], k))?;
     }
     Ok(marks)
 }
 
-/// Which faults the first round searches.
+/// Which faults the first round searches: where many are left one in sixteen of them, else none.
 pub fn first_round(alloc: Global, left: &[bool]) -> Result<Vec<bool>, NoMemory>
-    ensures { IfOk result (λ v. length v.items ≡ length left.now) }
+    ensures { IfOk result (λ v. AreFirst left.now v.items) }
 {
     marked(alloc, left).map_err(|_| NoMemory)
 }
@@ -52,17 +72,19 @@ pub fn with_tests(
     found: &[Option<Found>],
     limit: u32,
     seed: u64,
+    holds: &Holds,
 ) -> Result<Vec<Pattern>, NoMemory>
     ghost refutes: { Bool }
-    requires batch { All (IsPatternOf core.now (none_held core.now)) batch.items }
-    requires found { AreFoundWhereLeft core.now limit refutes (universe_of core.now) searched.now found.now }
+    requires batch { All (IsPatternOf core.now holds.now) batch.items }
+    requires found { AreFoundWhereLeft core.now holds.now limit refutes (universe_of core.now) searched.now found.now }
     ensures made { IfOk result (λ v. AreBehind batch.items (cubes_in found.now) 2 seed v.items) }
-    ensures obey { IfOk result (λ v. All (IsPatternOf core.now (none_held core.now)) v.items) }
+    ensures obey { IfOk result (λ v. All (IsPatternOf core.now holds.now) v.items) }
     ensures few { IfOk result (λ v. length v.items ≤ length batch.items + length (universe_of core.now)) }
 {
     let _ = core;
     let _ = searched;
     let _ = limit;
+    let _ = holds;
     let cubes = cubes_of(alloc, found)?;
     patterns_of(alloc, batch, &cubes, 2, seed)
 }

@@ -28,13 +28,13 @@ pub record IsLaunchText (n : Netlist) (holds : Holds) (chains : List (List ℕ))
   pub of_patterns : IsLaunchFileOf n holds chains patterns file
   pub text_is : text ≡ stil_text file
 
--- the report of these verdicts
+-- the report of these verdicts, with these inputs held
 pub record IsSaid (n : Netlist) (holds : Holds) (chains : List (List ℕ)) (limit : ℕ) (patterns : List Pattern) (verdicts : List TransitionVerdict) (r : TransitionReport) : Type 0 where
   pub lines : AreLines n chains (universe_of n) verdicts r.lines
+  pub held : r.holds ≡ holds_named n holds
   pub numbers : IsReportOf n chains (length patterns) limit r.lines r
   pub sized : HasWritableShares r
   pub counts : AreSmallCounts r.counts
-  pub held : r.holds ≡ holds_named n holds
 
 pub record IsWritten (n : Netlist) (holds : Holds) (chains : List (List ℕ)) (limit : ℕ) (patterns : List Pattern) (verdicts : List TransitionVerdict) (made : TransitionFiles) : Type 0 where
   pub net : made.net.items ≡ canonical n

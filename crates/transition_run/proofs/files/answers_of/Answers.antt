@@ -20,12 +20,16 @@ search_left-requires-clause-few g c κs within =
 pub search_left-requires-clause-left : goal.search_left-requires-clause-left
 search_left-requires-clause-left g c κs within = omega (arith, c.requires.marks, ap length c.requires.faults)
 
+pub search_left-requires-clause-holds : goal.search_left-requires-clause-holds
+search_left-requires-clause-holds g c κs within = c.requires.held ∙ ap (λ (m : Netlist). length m.inputs) (sym c.netlist-netlist.ensures)
+
 pub returns : goal.returns
 returns g c =
     let n = c.args.core.now in
+    let holds = c.args.holds.now in
     let limit = c.args.plan.limit in
     let refutes = g.E.Engine.refutes in
-    IfOk-weaker c.search_left.result (λ v. AreFoundWhereLeft c.netlist-netlist.result.now limit refutes c.args.faults.now c.args.marks.now v.items)
-    (λ v. AreFoundWhereLeft n limit refutes (universe_of n) c.args.marks.now v.items)
-    (λ v are. subst (λ (fs : List Fault). AreFoundWhereLeft n limit refutes fs c.args.marks.now v.items) c.requires.faults
-    (subst (λ (m : Netlist). AreFoundWhereLeft m limit refutes c.args.faults.now c.args.marks.now v.items) c.netlist-netlist.ensures are)) c.search_left.ensures
+    IfOk-weaker c.search_left.result (λ v. AreFoundWhereLeft c.netlist-netlist.result.now holds limit refutes c.args.faults.now c.args.marks.now v.items)
+    (λ v. AreFoundWhereLeft n holds limit refutes (universe_of n) c.args.marks.now v.items)
+    (λ v are. subst (λ (fs : List Fault). AreFoundWhereLeft n holds limit refutes fs c.args.marks.now v.items) c.requires.faults
+    (subst (λ (m : Netlist). AreFoundWhereLeft m holds limit refutes c.args.faults.now c.args.marks.now v.items) c.netlist-netlist.ensures are)) c.search_left.ensures

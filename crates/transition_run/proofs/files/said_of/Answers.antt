@@ -15,21 +15,21 @@ pub lines_of-requires-clause-size : goal.lines_of-requires-clause-size
 lines_of-requires-clause-size c =
     let tests = c.args.tests.now in
     ap length c.as_slice-verdicts.ensures.value
-    ∙ verdicts_count c.args.netlist.now c.args.limit tests.patterns.items tests.verdicts.items c.requires.tests
+    ∙ verdicts_count c.args.netlist.now c.args.holds.now c.args.limit tests.patterns.items tests.verdicts.items c.requires.tests
 
 pub lines_of-requires-clause-inside : goal.lines_of-requires-clause-inside
 lines_of-requires-clause-inside c =
     let n = c.args.netlist.now in
     let tests = c.args.tests.now in
     subst (λ (vs : List TransitionVerdict). All (IsInside n) vs) (sym c.as_slice-verdicts.ensures.value)
-    (all_inside n c.sound.ensures c.requires.design c.args.limit tests.patterns.items (universe_of n) tests.verdicts.items c.requires.tests.each)
+    (all_inside n c.sound.ensures c.requires.design c.args.holds.now c.args.limit tests.patterns.items (universe_of n) tests.verdicts.items c.requires.tests.each)
 
 pub report_of-requires-clause-lines : goal.report_of-requires-clause-lines
 report_of-requires-clause-lines c =
     let n = c.args.netlist.now in
     let tests = c.args.tests.now in
     lines_count n c.args.chains.now (universe_of n) c.as_slice-verdicts.result.now c.in_ok-lines.lines
-    (ap length c.as_slice-verdicts.ensures.value ∙ verdicts_count n c.args.limit tests.patterns.items tests.verdicts.items c.requires.tests)
+    (ap length c.as_slice-verdicts.ensures.value ∙ verdicts_count n c.args.holds.now c.args.limit tests.patterns.items tests.verdicts.items c.requires.tests)
     c.in_ok-lines.ensures
 
 pub report_of-requires-clause-few : goal.report_of-requires-clause-few
@@ -37,7 +37,7 @@ report_of-requires-clause-few c =
     let n = c.args.netlist.now in
     let tests = c.args.tests.now in
     let size = lines_count n c.args.chains.now (universe_of n) c.as_slice-verdicts.result.now c.in_ok-lines.lines
-    (ap length c.as_slice-verdicts.ensures.value ∙ verdicts_count n c.args.limit tests.patterns.items tests.verdicts.items c.requires.tests)
+    (ap length c.as_slice-verdicts.ensures.value ∙ verdicts_count n c.args.holds.now c.args.limit tests.patterns.items tests.verdicts.items c.requires.tests)
     c.in_ok-lines.ensures in
     let few = universe_few n c.sound.ensures c.requires.design in
     omega (arith, size, few)
@@ -58,5 +58,7 @@ returns c =
       lines = subst (λ (ls : List Line). AreLines n chains (universe_of n) tests.verdicts.items ls) (sym is.lines_are) all;
       numbers = subst (λ (ls : List Line). IsReportOf n chains (length tests.patterns.items) limit ls r) (sym is.lines_are)
           (subst (λ (k : ℕ). IsReportOf n chains k limit lines r) count is);
+      held = c.report_of.ensures.holds ∙ c.in_ok-held.ensures;
       sized = c.report_of.ensures.sized;
+      counts = c.report_of.ensures.counts;
     }

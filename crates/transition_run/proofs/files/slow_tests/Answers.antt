@@ -1,9 +1,9 @@
 use Rattle.std.proofs.Common.{List, Bool, Option, length, subst, sym, ap, arith}
 use Rattle.std.specs.List.{All}
 use Rattle.std.proofs.lemmas.Slice.Zip.{AllZip-long}
-use Rattle.netlist.specs.Holds.{none_held}
 use Rattle.statement.specs.Patterns.{Pattern}
 use Rattle.cubes.specs.Cubes.{IsPatternOf}
+use Rattle.word_sim.proofs.WidthLemmas.{widths}
 use Rattle.statement.specs.Faults.{universe_of}
 use Rattle.evidence.specs.declared.engine.Found.{Found}
 use Rattle.transition.specs.Searches.{AreFoundWhereLeft}
@@ -12,10 +12,11 @@ use Rattle.transition_tests.specs.Rounds.{AreUnanswered}
 use Rattle.transition_tests.proofs.RoundLemmas.{found_joined}
 use Rattle.transition_run.proofs.files.slow_tests.Goals as goal
 
-pub left_by-requires-clause-obey : goal.left_by-requires-clause-obey
-left_by-requires-clause-obey g c =
+pub left_by-requires-clause-wide : goal.left_by-requires-clause-wide
+left_by-requires-clause-wide g c =
     let n = c.args.core.now in
-    subst (λ (ps : List Pattern). All (IsPatternOf n (none_held n)) ps) (sym c.as_slice.ensures.value) c.in_ok-patterns.ensures.patterns
+    widths n c.args.holds.now c.as_slice.result.now
+    (subst (λ (ps : List Pattern). All (IsPatternOf n c.args.holds.now) ps) (sym c.as_slice.ensures.value) c.in_ok-patterns.ensures.patterns)
 
 pub left_by-requires-clause-count : goal.left_by-requires-clause-count
 left_by-requires-clause-count g c = omega (arith, ap length c.as_slice.ensures.value, c.in_ok-patterns.ensures.few)
@@ -51,6 +52,7 @@ all_answers-all-requires-clause-more g c =
 pub tests_of-requires : goal.tests_of-requires
 tests_of-requires g c =
     let n = c.args.core.now in
+    let holds = c.args.holds.now in
     let limit = c.args.plan.limit in
     let refutes = g.E.Engine.refutes in
     let marks = c.as_slice-left.result.now in
@@ -63,8 +65,8 @@ tests_of-requires g c =
     (subst (λ (ps : List Pattern). AreLeftBy n ps (universe_of n) c.in_ok-undetected.undetected.items) c.as_slice.ensures.value c.in_ok-undetected.ensures) in
     let unasked : AreUnanswered marks first.found.items rest =
     subst (λ (xs : List (Option Found)). AreUnanswered marks xs rest) c.as_slice-2.ensures.value c.in_ok-rest.ensures in
-    let two : AreFoundWhereLeft n limit refutes (universe_of n) rest more =
-    subst (λ (ms : List Bool). AreFoundWhereLeft n limit refutes (universe_of n) ms more) c.as_slice-marks.ensures.value c.in_ok-more.ensures in
-    let found = found_joined n limit refutes (universe_of n) first.searched.items marks rest first.found.items more c.all_answers-all.result.items
+    let two : AreFoundWhereLeft n holds limit refutes (universe_of n) rest more =
+    subst (λ (ms : List Bool). AreFoundWhereLeft n holds limit refutes (universe_of n) ms more) c.as_slice-marks.ensures.value c.in_ok-more.ensures in
+    let found = found_joined n holds limit refutes (universe_of n) first.searched.items marks rest first.found.items more c.all_answers-all.result.items
     (omega (arith, all, ap length c.as_slice-left.ensures.value)) c.in_ok-patterns.ensures.found unasked two c.all_answers-all.ensures in
     (c.requires.design, (c.requires.faults, (c.in_ok-patterns.ensures.patterns, (c.in_ok-patterns.ensures.few, (left, found)))))

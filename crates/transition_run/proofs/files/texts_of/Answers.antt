@@ -7,6 +7,7 @@ use Rattle.statement.specs.Patterns.{Pattern}
 use Rattle.statement.specs.Benches.{canonical}
 use Rattle.scan_insert.specs.Scanned.{Insertion, scanned_of}
 use Rattle.evidence.specs.declared.kinds.Evidence.{Evidence}
+use Rattle.certificate.specs.Certificates.{HasSmallNumbers}
 use Rattle.transition.proofs.Gathering.{universe_few}
 use Rattle.transition_tests.specs.Lines.{leaves_of}
 use Rattle.transition_report.specs.Texts.{IsNamedInFrames, transition_certificate}
@@ -16,7 +17,7 @@ use Rattle.transition_run.proofs.files.texts_of.Goals as goal
 
 pub leaves_of-requires-clause-size : goal.leaves_of-requires-clause-size
 leaves_of-requires-clause-size c =
-    let count = verdicts_count c.args.core.now c.args.limit c.args.tests.patterns.items c.args.tests.verdicts.items c.requires.tests in
+    let count = verdicts_count c.args.core.now c.args.holds.now c.args.limit c.args.tests.patterns.items c.args.tests.verdicts.items c.requires.tests in
     omega (arith, count, ap length c.requires.faults)
 
 pub leaves_of-requires-clause-few : goal.leaves_of-requires-clause-few
@@ -29,7 +30,7 @@ write_certificate-requires-clause-named c =
     let n = c.args.core.now in
     let tests = c.args.tests in
     let named = evidence_named c.faults_have_lines.ensures c.faults_have_signals.ensures n (subst IsSound c.netlist-netlist.ensures c.sound.ensures) c.requires.design
-    c.args.limit tests.patterns.items tests.verdicts.items c.requires.tests in
+    c.args.holds.now c.args.limit tests.patterns.items tests.verdicts.items c.requires.tests in
     let certified = c.as_slice-2.ensures.value ∙ (c.in_ok-leaves.ensures ∙ ap (λ (fs : List Fault). leaves_of fs tests.verdicts.items) c.requires.faults) in
     subst (λ (m : Netlist). All (IsNamedInFrames m) c.as_slice-2.result.now) (sym c.netlist-netlist.ensures)
     (subst (λ (ls : List (Fault × Evidence)). All (IsNamedInFrames n) ls) (sym certified) named)
@@ -37,6 +38,7 @@ write_certificate-requires-clause-named c =
 pub returns : goal.returns
 returns c =
     let n = c.args.core.now in
+    let holds = c.args.holds.now in
     let chains = c.args.chains.now in
     let tests = c.args.tests in
     let same = c.netlist-netlist.ensures in
@@ -45,9 +47,10 @@ returns c =
     record {
       net = c.in_ok-net.ensures ∙ ap canonical same;
       scan = c.in_ok-scan.ensures ∙ ap canonical (c.netlist-2.ensures ∙ scanned);
-      stil = subst (λ (ps : List Pattern). IsLaunchText n chains ps c.in_ok-stil.stil.items) c.as_slice.ensures.value c.in_ok-stil.ensures;
-      certificate = c.in_ok-certificate.ensures
+      stil = subst (λ (ps : List Pattern). IsLaunchText n holds chains ps c.in_ok-stil.stil.items) c.as_slice.ensures.value c.in_ok-stil.ensures;
+      certificate = c.in_ok-certificate.ensures.text
           ∙ (ap (λ (m : Netlist). transition_certificate m c.as_slice-2.result.now) same ∙ ap (transition_certificate n) certified);
+      small = subst (λ (ls : List (Fault × Evidence)). All (λ (p : Fault × Evidence). HasSmallNumbers p.1) ls) certified c.in_ok-certificate.ensures.within;
       report = c.in_ok-report.ensures;
-      said = subst (λ (m : Netlist). IsSaid m chains c.args.limit tests.patterns.items tests.verdicts.items c.in_ok-said.said) same c.in_ok-said.ensures;
+      said = subst (λ (m : Netlist). IsSaid m holds chains c.args.limit tests.patterns.items tests.verdicts.items c.in_ok-said.said) same c.in_ok-said.ensures;
     }

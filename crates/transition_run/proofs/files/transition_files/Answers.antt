@@ -1,4 +1,4 @@
-use Rattle.std.proofs.Common.{◌≡◌, ℕ, Bool, List, length, refl, subst, ◌∙◌, ap, arith}
+use Rattle.std.proofs.Common.{◌≡◌, ℕ, List, length, subst, ◌∙◌, ap, arith}
 use Rattle.std.proofs.lemmas.List.{length-map}
 use Rattle.netlist.specs.Conditions.{IsSound}
 use Rattle.statement.specs.Netlists.{Definition, cells}
@@ -7,11 +7,8 @@ use Rattle.scan_play.proofs.ApplyLemmas.{few_cells}
 use Rattle.scan_insert.specs.Scanned.{cell_ids}
 use Rattle.statement.specs.Faults.{universe_of}
 use Rattle.good_files.specs.ScanOff.{design_chains}
-use Rattle.transition_run.specs.Runs.{HasNeeded, transition_files_of}
-use Rattle.good_slow_files.specs.Theorem.{TransitionTheorem}
 use Rattle.transition_run.specs.inner.Written.{IsWritten}
 use Rattle.transition_run.proofs.FileLemmas.{are_chains, dealt}
-use Rattle.transition_run.proofs.TreesAlone.{trees_alone}
 use Rattle.transition_run.proofs.files.transition_files.Goals as goal
 
 pub stitch-requires-clause-few : goal.stitch-requires-clause-few
@@ -35,24 +32,14 @@ texts_of-requires-clause-chains g c =
 pub returns : goal.returns
 returns g c =
     let n = c.args.core.now in
+    let holds = c.args.holds.now in
     let asked = c.args.plan.chains in
     let limit = c.args.plan.limit in
     let tests = c.in_ok-tests.tests in
     let files = c.in_ok-files.files in
     let same : c.in_ok-chains.chains ≡ design_chains n asked =
     dealt n asked c.cells.result.now c.in_ok-chains.chains (c.cells.ensures ∙ ap cell_ids c.netlist-netlist.ensures) c.in_ok-chains.ensures in
-    let written = subst (λ (cs : List (List ℕ)). IsWritten n cs limit tests.patterns.items tests.verdicts.items files) same c.in_ok-files.ensures in
-    let both : (t : TransitionTheorem n (design_chains n asked) limit g.E.Engine.refutes (transition_files_of files))
-    × HasNeeded n (design_chains n asked) limit g.E.Engine.refutes (transition_files_of files) t =
-    c.written_tells_the_truth.ensures n (design_chains n asked) limit g.E.Engine.refutes tests.patterns.items tests.verdicts.items files
-    (subst IsSound c.netlist-netlist.ensures c.sound.ensures) c.requires.design (are_chains n asked (design_chains n asked) c.requires.some refl)
-    c.in_ok-tests.ensures.tests c.in_ok-tests.ensures.kinds written in
-    record {
-      report_is = c.in_ok-files.ensures.report;
-      truth = both.0;
-      needed = both.1;
-      trees = λ none.
-          let alone = subst (λ (b : Bool). (t : TransitionTheorem n (design_chains n asked) limit b (transition_files_of files))
-          × HasNeeded n (design_chains n asked) limit b (transition_files_of files) t) none both in
-          trees_alone n (design_chains n asked) limit (transition_files_of files) alone.0 alone.1;
-    }
+    let written = subst (λ (cs : List (List ℕ)). IsWritten n holds cs limit tests.patterns.items tests.verdicts.items files) same c.in_ok-files.ensures in
+    c.written_is_run.ensures n holds asked limit g.E.Engine.refutes tests.patterns.items tests.verdicts.items files
+    (subst IsSound c.netlist-netlist.ensures c.sound.ensures) c.requires.design c.requires.held c.requires.some c.requires.limit
+    c.in_ok-tests.ensures.tests c.in_ok-tests.ensures.kinds written

@@ -4,8 +4,6 @@ use Rattle.std.specs.Option.{is_some}
 use Rattle.statement.specs.declared.lines.Fault.{Fault}
 use Rattle.statement.specs.declared.lines.Point.{Point}
 use Rattle.netlist.specs.Conditions.{IsSound}
-use Rattle.netlist.specs.Holds.{none_held}
-use Rattle.word_sim.proofs.WidthLemmas.{widths}
 use Rattle.statement.specs.Faults.{universe_of}
 use Rattle.transition_sim.specs.Detections.{LastTransition}
 use Rattle.transition.proofs.Gathering.{universe_few, universe_lines}
@@ -13,9 +11,6 @@ use Rattle.transition_tests.specs.Batches.{AreLeftBy}
 use Rattle.transition_tests.proofs.CubeLemmas.{few_faults}
 use Rattle.transition_tests.proofs.TestLemmas.{left_where_none}
 use Rattle.transition_tests.proofs.dropping.left_by.Goals as goal
-
-pub last_tells2-requires-clause-wide : goal.last_tells2-requires-clause-wide
-last_tells2-requires-clause-wide c = widths c.args.core.now (none_held c.args.core.now) c.args.batch.now c.requires.obey
 
 pub last_tells2-requires-clause-lines : goal.last_tells2-requires-clause-lines
 last_tells2-requires-clause-lines c = universe_lines c.args.core.now (subst IsSound c.netlist.ensures c.sound.ensures) c.args.faults.now c.requires.faults

@@ -3,7 +3,6 @@ use Rattle.std.specs.List.{All, Contains}
 use Rattle.std.proofs.lemmas.List.Elements.{All-contains}
 use Rattle.statement.specs.declared.lines.Fault.{Fault}
 use Rattle.netlist.specs.Conditions.{IsSound}
-use Rattle.netlist.specs.Holds.{none_held}
 use Rattle.netlist.specs.Lines.{IsLineOf}
 use Rattle.cubes.specs.Cubes.{Cube}
 use Rattle.statement.specs.Patterns.{Pattern}
@@ -23,16 +22,16 @@ use Rattle.transition_tests.proofs.keeping.tests_of.Goals as goal
 pub patterns_of-requires : goal.patterns_of-requires
 patterns_of-requires g c =
     let n = c.args.core.now in
-    netlist_widths n (none_held n) c.deref-2.result.now (cubes_fit n c.args.limit g.refutes c.args.left.now c.args.found.items c.deref-2.result.now c.requires.1.1.1.1.1
+    netlist_widths n c.args.holds.now c.deref-2.result.now (cubes_fit n c.args.holds.now c.args.limit g.refutes c.args.left.now c.args.found.items c.deref-2.result.now c.requires.1.1.1.1.1
     (c.deref-2.ensures.value ∙ (c.in_ok-cubes.ensures ∙ ap cubes_in c.deref.ensures.value)))
 
 pub last_tells2-requires-clause-wide : goal.last_tells2-requires-clause-wide
 last_tells2-requires-clause-wide g c =
     let n = c.args.core.now in
-    let fit = cubes_fit n c.args.limit g.refutes c.args.left.now c.args.found.items c.deref-2.result.now c.requires.1.1.1.1.1
+    let fit = cubes_fit n c.args.holds.now c.args.limit g.refutes c.args.left.now c.args.found.items c.deref-2.result.now c.requires.1.1.1.1.1
     (c.deref-2.ensures.value ∙ (c.in_ok-cubes.ensures ∙ ap cubes_in c.deref.ensures.value)) in
     subst (λ (ps : List Pattern). All (HasWidthsOf n) ps) (sym c.deref-3.ensures.value)
-    (widths n (none_held n) c.in_ok-patterns.patterns.items (c.in_ok-patterns.ensures.fit n (none_held n) c.requires.1.1.0 fit))
+    (widths n c.args.holds.now c.in_ok-patterns.patterns.items (c.in_ok-patterns.ensures.fit n c.args.holds.now c.requires.1.1.0 fit))
 
 pub last_tells2-requires-clause-lines : goal.last_tells2-requires-clause-lines
 last_tells2-requires-clause-lines g c = universe_lines c.args.core.now (subst IsSound c.netlist.ensures c.sound.ensures) c.args.faults.now c.requires.1.0
@@ -57,9 +56,9 @@ keep-requires-clause-told g c =
     c.requires.1.0 c.deref-3.ensures.value c.deref-4.ensures.value c.in_ok-last.ensures in
     let cubes : c.deref-2.result.now ≡ cubes_in c.args.found.items = c.deref-2.ensures.value ∙ (c.in_ok-cubes.ensures ∙ ap cubes_in c.deref.ensures.value) in
     let agree = subst (λ (cs : List Cube). (x : Cube) → Contains cs x → HasAgreeing c.in_ok-patterns.patterns.items x) cubes c.in_ok-patterns.ensures.agree in
-    all_told n sound c.args.limit g.refutes c.args.batch.items c.in_ok-patterns.patterns.items (c.in_ok-patterns.ensures.made.0, c.in_ok-patterns.ensures.made.2) (universe_of n) c.args.found.items c.deref-4.result.now
+    all_told n sound c.args.holds.now c.args.limit g.refutes c.args.batch.items c.in_ok-patterns.patterns.items (c.in_ok-patterns.ensures.made.0, c.in_ok-patterns.ensures.made.2) (universe_of n) c.args.found.items c.deref-4.result.now
     (universe_lines n sound (universe_of n) refl)
-    (all_known n c.args.limit g.refutes c.args.batch.items (universe_of n) c.args.left.now c.args.found.items c.requires.1.1.1.1.0 c.requires.1.1.1.1.1) last agree
+    (all_known n c.args.holds.now c.args.limit g.refutes c.args.batch.items (universe_of n) c.args.left.now c.args.found.items c.requires.1.1.1.1.0 c.requires.1.1.1.1.1) last agree
 
 pub keep-requires-clause-within : goal.keep-requires-clause-within
 keep-requires-clause-within g c =
@@ -80,12 +79,12 @@ returns-clause-tests g c =
     let n = c.args.core.now in
     let sound = subst IsSound c.netlist.ensures c.sound.ensures in
     let all = universe_lines n sound (universe_of n) refl in
-    let fit = cubes_fit n c.args.limit g.refutes c.args.left.now c.args.found.items c.deref-2.result.now c.requires.1.1.1.1.1
+    let fit = cubes_fit n c.args.holds.now c.args.limit g.refutes c.args.left.now c.args.found.items c.deref-2.result.now c.requires.1.1.1.1.1
     (c.deref-2.ensures.value ∙ (c.in_ok-cubes.ensures ∙ ap cubes_in c.deref.ensures.value)) in
-    tests_are n sound c.args.limit g.refutes c.args.batch.items c.in_ok-patterns.patterns.items c.args.found.items c.deref-4.result.now c.in_ok-tests.tests.patterns.items
-    c.in_ok-tests.tests.verdicts.items (c.in_ok-patterns.ensures.fit n (none_held n) c.requires.1.1.0 fit)
+    tests_are n sound c.args.holds.now c.args.limit g.refutes c.args.batch.items c.in_ok-patterns.patterns.items c.args.found.items c.deref-4.result.now c.in_ok-tests.tests.patterns.items
+    c.in_ok-tests.tests.verdicts.items (c.in_ok-patterns.ensures.fit n c.args.holds.now c.requires.1.1.0 fit)
     (λ f is. All-contains (λ (g : Fault). IsLineOf n g.line) (universe_of n) f all is) all
-    (all_known n c.args.limit g.refutes c.args.batch.items (universe_of n) c.args.left.now c.args.found.items c.requires.1.1.1.1.0 c.requires.1.1.1.1.1)
+    (all_known n c.args.holds.now c.args.limit g.refutes c.args.batch.items (universe_of n) c.args.left.now c.args.found.items c.requires.1.1.1.1.0 c.requires.1.1.1.1.1)
     (last_along n c.in_ok-patterns.patterns.items c.deref-3.result.now c.args.faults.now c.in_ok-last.last.items c.deref-4.result.now
     c.requires.1.0 c.deref-3.ensures.value c.deref-4.ensures.value c.in_ok-last.ensures)
     c.in_ok-tests.ensures.patterns c.in_ok-tests.ensures.verdicts
@@ -93,8 +92,8 @@ returns-clause-tests g c =
 pub returns-clause-kinds : goal.returns-clause-kinds
 returns-clause-kinds g c =
     let n = c.args.core.now in
-    verdicts_kinds n c.args.limit g.refutes c.args.batch.items (new_place (is_last_at c.deref-4.result.now)) (universe_of n) c.args.found.items c.deref-4.result.now
-    c.in_ok-tests.tests.verdicts.items (all_known n c.args.limit g.refutes c.args.batch.items (universe_of n) c.args.left.now c.args.found.items c.requires.1.1.1.1.0 c.requires.1.1.1.1.1)
+    verdicts_kinds n c.args.holds.now c.args.limit g.refutes c.args.batch.items (new_place (is_last_at c.deref-4.result.now)) (universe_of n) c.args.found.items c.deref-4.result.now
+    c.in_ok-tests.tests.verdicts.items (all_known n c.args.holds.now c.args.limit g.refutes c.args.batch.items (universe_of n) c.args.left.now c.args.found.items c.requires.1.1.1.1.0 c.requires.1.1.1.1.1)
     c.in_ok-tests.ensures.verdicts
 
 pub returns-clause-made : goal.returns-clause-made

@@ -2,8 +2,15 @@ use Rattle.std.proofs.Common.{◌≡◌, ◌<◌, List, length, Some, subst, ap,
 use Rattle.std.specs.List.{slice_get}
 use Rattle.statement.specs.declared.lines.Fault.{Fault}
 use Rattle.statement.specs.Faults.{universe_of}
+use Rattle.fault_universe.proofs.Elements.{contains_at}
 use Rattle.transition_tests.proofs.LineLemmas.{lines_all, lines_more}
 use Rattle.transition_tests.proofs.lines.lines_within.Goals as goal
+
+pub add_line-requires-clause-line : goal.add_line-requires-clause-line
+add_line-requires-clause-line c =
+    let n = c.args.netlist.now in
+    let at = subst (λ (fs : List Fault). slice_get fs c.loop-i.i ≡ Some c.fault-fault.result) c.requires.universe c.fault-fault.ensures in
+    c.faults_have_lines.ensures n c.fault-fault.result c.sound.ensures (contains_at (universe_of n) c.loop-i.i c.fault-fault.result at)
 
 pub loop-i-preserved : goal.loop-i-preserved
 loop-i-preserved c =

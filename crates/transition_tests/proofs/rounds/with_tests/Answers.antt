@@ -1,7 +1,6 @@
 use Rattle.std.proofs.Common.{◌≤◌, ◌+◌, List, length, subst, ◌∙◌, ap, arith}
 use Rattle.std.specs.List.{All}
 use Rattle.std.proofs.lemmas.Result.{IfOk-weaker}
-use Rattle.netlist.specs.Holds.{none_held}
 use Rattle.statement.specs.Faults.{universe_of}
 use Rattle.statement.specs.Patterns.{Holds}
 use Rattle.statement.specs.Netlists.{Netlist}
@@ -15,8 +14,8 @@ use Rattle.transition_tests.proofs.rounds.with_tests.Goals as goal
 pub patterns_of-requires : goal.patterns_of-requires
 patterns_of-requires g c =
     let n = c.args.core.now in
-    netlist_widths n (none_held n) c.deref.result.now
-    (cubes_fit n c.args.limit g.refutes c.args.searched.now c.args.found.now c.deref.result.now c.requires.1 (c.deref.ensures.value ∙ c.in_ok-cubes.ensures))
+    netlist_widths n c.args.holds.now c.deref.result.now
+    (cubes_fit n c.args.holds.now c.args.limit g.refutes c.args.searched.now c.args.found.now c.deref.result.now c.requires.1 (c.deref.ensures.value ∙ c.in_ok-cubes.ensures))
 
 pub returns-clause-made : goal.returns-clause-made
 returns-clause-made g c =
@@ -28,9 +27,9 @@ returns-clause-obey g c =
     let n = c.args.core.now in
     IfOk-weaker c.patterns_of.result
     (λ v. (m : Netlist) (holds : Holds) → All (IsPatternOf m holds) c.args.batch.items → All (IsCubeOf m holds) c.deref.result.now → All (IsPatternOf m holds) v.items)
-    (λ v. All (IsPatternOf n (none_held n)) v.items)
-    (λ v fit. fit n (none_held n) c.requires.0
-    (cubes_fit n c.args.limit g.refutes c.args.searched.now c.args.found.now c.deref.result.now c.requires.1 (c.deref.ensures.value ∙ c.in_ok-cubes.ensures)))
+    (λ v. All (IsPatternOf n c.args.holds.now) v.items)
+    (λ v fit. fit n c.args.holds.now c.requires.0
+    (cubes_fit n c.args.holds.now c.args.limit g.refutes c.args.searched.now c.args.found.now c.deref.result.now c.requires.1 (c.deref.ensures.value ∙ c.in_ok-cubes.ensures)))
     c.patterns_of.ensures.fit
 
 pub returns-clause-few : goal.returns-clause-few
