@@ -3,7 +3,7 @@ use Rattle.std.specs.Prelude.{◌≡◌, ⊤, true, List, Result, Ok, Err, lengt
 use Rattle.statement.specs.Benches.{Text, canonical}
 use Rattle.statement.specs.declared.lines.Fault.{Fault}
 use Rattle.statement.specs.Netlists.{Netlist}
-use Rattle.statement.specs.Patterns.{Pattern}
+use Rattle.statement.specs.Patterns.{Holds, Pattern}
 use Rattle.statement.specs.Stils.{StilFile}
 use Rattle.statement.specs.Statement.{FiveFiles}
 use Rattle.statement.specs.Faults.{universe_of}
@@ -23,15 +23,16 @@ use Rattle.good_files.specs.declared.answers.CheckFault.TheVariants as fault
 use Rattle.transition_report.specs.declared.reporting.TransitionReport.{TransitionReport}
 use Rattle.transition_report.specs.Reading.{IsTransitionCertificate, IsTransitionReport, NoTransitionCertificate}
 use Rattle.transition_report.specs.Texts.{transition_report_text}
-use Rattle.good_slow_files.specs.GoodSlowFiles.{AreGoodSlowFiles, AreSlowTotals, AreTrueSlowFaults, HasLaunchPatterns, HasSlowScan, IsSlowTested, SlowContents, StandForSlow, slow_chains_in, slow_limit_said, slow_test_in}
+use Rattle.good_slow_files.specs.GoodSlowFiles.{AreGoodSlowFiles, AreSlowTotals, AreTrueSlowFaults, HasLaunchPatterns, HasSlowHolds, HasSlowScan, IsSlowTested, SlowContents, StandForSlow, slow_chains_in, slow_limit_said, slow_test_in}
 use Rattle.good_slow_files.specs.Clauses.{IsFalseSlowFault}
 use Rattle.good_slow_files.specs.Theorem.{TransitionTheorem}
 
--- THE FIRST CLAUSE THAT IS FALSE, or how many faults there are where none is. No input is held, so nothing can be false of that.
+-- THE FIRST CLAUSE THAT IS FALSE, or how many faults there are where none is
 abbrev pub IsSlowAnswer : SlowContents → Checked → Type 0
 IsSlowAnswer c (False clause.ScanDiffers) = ¬ HasSlowScan c
-IsSlowAnswer c (False clause.HoldDiffers) = ⊥
-IsSlowAnswer c (False clause.StilDiffers) = HasSlowScan c × ((patterns : List Pattern) → ¬ HasLaunchPatterns c patterns)
+IsSlowAnswer c (False clause.HoldDiffers) = HasSlowScan c × ((holds : Holds) → ¬ HasSlowHolds c holds)
+IsSlowAnswer c (False clause.StilDiffers) =
+    HasSlowScan c × ((holds : Holds) × HasSlowHolds c holds × ((patterns : List Pattern) → ¬ HasLaunchPatterns c holds patterns))
 IsSlowAnswer c (False (clause.Fault text)) = (t : IsSlowTested c) × IsFalseSlowFault (slow_test_in c t) c.said.lines text.items
 IsSlowAnswer c (False clause.TotalsDiffer) =
     (t : IsSlowTested c) × AreTrueSlowFaults (slow_test_in c t) c.said.lines × (¬ AreSlowTotals (slow_test_in c t) c.said)
@@ -66,14 +67,16 @@ abbrev pub with_canonical_net : FiveFiles → Netlist → FiveFiles
 with_canonical_net files n =
     record { net = canonical n; scan = files.scan; stil = files.stil; certificate = files.certificate; report = files.report }
 
--- The files are good for what they stand for, whoever made them: the netlist of the first, and the chains and the backtrack limit of the report.
--- So they say of the chip's slow lines what comes true.
+-- The files are good for what they stand for, whoever made them: the netlist of the first, and the held inputs, the chains and the backtrack limit
+-- of the report. So they say of the chip's slow lines what comes true.
 pub record ArePassedSlow (files : FiveFiles) : Type 0 where
   pub contents : SlowContents
+  pub holds : Holds
   pub sound : IsSound contents.netlist
   pub design : IsDesign contents.netlist
+  pub held : HasSlowHolds contents holds
   pub good : AreGoodSlowFiles files contents
-  pub truth : TransitionTheorem contents.netlist (slow_chains_in contents) (slow_limit_said contents.said) true (with_canonical_net files contents.netlist)
+  pub truth : TransitionTheorem contents.netlist holds (slow_chains_in contents) (slow_limit_said contents.said) true (with_canonical_net files contents.netlist)
 
 abbrev pub PassesWhereTrueSlow : FiveFiles → Checked → Type 0
 PassesWhereTrueSlow files (Faults count) = ArePassedSlow files

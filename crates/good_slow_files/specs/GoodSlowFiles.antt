@@ -9,11 +9,10 @@ use Rattle.statement.specs.declared.lines.Point.{Point}
 use Rattle.statement.specs.declared.outcomes.Outcome.{Outcome}
 use Rattle.statement.specs.declared.outcomes.Outcome.TheVariants.{Detected, Redundant, Aborted, Unasked}
 use Rattle.statement.specs.Netlists.{Netlist}
-use Rattle.statement.specs.Patterns.{Pattern}
+use Rattle.statement.specs.Patterns.{Holds, Pattern}
 use Rattle.statement.specs.Faults.{universe_of}
 use Rattle.statement.specs.Reports.{Line}
 use Rattle.statement.specs.Stils.{StilFile}
-use Rattle.netlist.specs.Holds.{none_held}
 use Rattle.cubes.specs.Cubes.{IsPatternOf}
 use Rattle.bench_text.specs.Reading.{IsRead}
 use Rattle.bench_text.specs.declared.refusal.Names.TheVariants.{Design}
@@ -25,7 +24,7 @@ use Rattle.evidence.specs.declared.kinds.Evidence.TheVariants.{Tree}
 use Rattle.evidence.specs.Evidence.{open_ends}
 use Rattle.run_report.specs.Outcomes.{IsFirstOf, has_evidence}
 use Rattle.good_files.specs.ScanOff.{design_chains}
-use Rattle.good_files.specs.GoodFiles.{IsScanText, faults_in}
+use Rattle.good_files.specs.GoodFiles.{AreHeldBy, IsScanText, faults_in}
 use Rattle.transition_sim.specs.Detections.{IsLastTransition, LastTransition}
 use Rattle.transition_sim.specs.Shown.{ShowsFrames}
 use Rattle.transition_files.specs.LaunchFiles.{IsLaunchFileOf}
@@ -72,38 +71,47 @@ slow_chains_in c = design_chains c.netlist (slow_chains_said c.said)
 abbrev pub HasSlowScan : SlowContents → Type 0
 HasSlowScan c = IsScanText c.netlist (slow_chains_said c.said) c.scan
 
+-- ---- the held inputs
+
+-- the report's held inputs are these
+abbrev pub HasSlowHolds : SlowContents → Holds → Type 0
+HasSlowHolds c holds = AreHeldBy c.netlist c.said.holds holds
+
 -- ---- the test
 
--- the STIL file is that of these patterns by launch on capture
-pub record AreLaunchPatternsOf (n : Netlist) (chains : List (List ℕ)) (file : StilFile) (patterns : List Pattern) : Type 0 where
-  pub obey : All (IsPatternOf n (none_held n)) patterns
-  pub is_file_of : IsLaunchFileOf n chains patterns file
+-- the STIL file is that of these patterns by launch on capture, all of which obey the held inputs
+pub record AreLaunchPatternsOf (n : Netlist) (holds : Holds) (chains : List (List ℕ)) (file : StilFile) (patterns : List Pattern) : Type 0 where
+  pub obey : All (IsPatternOf n holds) patterns
+  pub is_file_of : IsLaunchFileOf n holds chains patterns file
 
-abbrev pub HasLaunchPatterns : SlowContents → List Pattern → Type 0
-HasLaunchPatterns c patterns = AreLaunchPatternsOf c.netlist (slow_chains_in c) c.file patterns
+abbrev pub HasLaunchPatterns : SlowContents → Holds → List Pattern → Type 0
+HasLaunchPatterns c holds patterns = AreLaunchPatternsOf c.netlist holds (slow_chains_in c) c.file patterns
 
 -- these clauses hold: the files are a test of the netlist
 pub record IsSlowTested (c : SlowContents) : Type 0 where
+  pub holds : Holds
   pub patterns : List Pattern
   pub scan : HasSlowScan c
-  pub test : HasLaunchPatterns c patterns
+  pub held : HasSlowHolds c holds
+  pub test : HasLaunchPatterns c holds patterns
 
--- A test for the slow lines of a netlist: the scan chains, how many closed ends a search might make, the patterns in their order, and the evidence
--- that it left.
+-- A test for the slow lines of a netlist: the held inputs, the scan chains, how many closed ends a search might make, the patterns in their order,
+-- and the evidence that it left.
 pub record SlowTest : Type 0 where
   pub netlist : Netlist
+  pub holds : Holds
   pub chains : List (List ℕ)
   pub limit : ℕ
   pub patterns : List Pattern
   pub evidence : List (Fault × Evidence)
 
--- the test by these patterns
-abbrev pub slow_test_with : SlowContents → List Pattern → SlowTest
-slow_test_with c patterns =
-    record { netlist = c.netlist; chains = slow_chains_in c; limit = slow_limit_said c.said; patterns = patterns; evidence = c.evidence }
+-- the test with these inputs held, and by these patterns
+abbrev pub slow_test_with : SlowContents → Holds → List Pattern → SlowTest
+slow_test_with c holds patterns =
+    record { netlist = c.netlist; holds = holds; chains = slow_chains_in c; limit = slow_limit_said c.said; patterns = patterns; evidence = c.evidence }
 
 abbrev pub slow_test_in : (c : SlowContents) → IsSlowTested c → SlowTest
-slow_test_in c t = slow_test_with c t.patterns
+slow_test_in c t = slow_test_with c t.holds t.patterns
 
 -- ---- the faults
 
@@ -116,7 +124,7 @@ pub record IsSlowSeen (t : SlowTest) (f : Fault) (place cycle : ℕ) (pin : List
 -- No pattern detects the slow line, and its evidence is a tree that fits on its two frames, or steps that refute it there.
 pub record IsSlowLeft (t : SlowTest) (f : Fault) (e : Evidence) : Type 0 where
   pub first : IsFirstOf t.evidence f e
-  pub shows : ShowsFrames t.netlist f e
+  pub shows : ShowsFrames t.netlist t.holds f e
   pub never : LastTransition t.netlist t.patterns f None
 
 -- What is said of a slow line is true: where it is seen; or evidence that leaves nothing open; or a tree that leaves an end open and has as many
@@ -161,8 +169,8 @@ pub record AreSlowTotals (t : SlowTest) (said : TransitionReport) : Type 0 where
 
 -- ---- good files
 
--- The texts stand for these contents. By the report's own number of chains and limit the second text is that of the scanned netlist and the third
--- that of some patterns; each slow line has a line that is true, each that is redundant or aborted its evidence, and the numbers follow.
+-- The texts stand for these contents. By the report's own number of chains, held inputs and limit the second text is that of the scanned netlist
+-- and the third that of some patterns; each slow line has a line that is true, each that is redundant or aborted its evidence, and the numbers follow.
 pub record AreGoodSlowFiles (files : FiveFiles) (c : SlowContents) : Type 0 where
   pub stand : StandForSlow files c
   pub tested : IsSlowTested c

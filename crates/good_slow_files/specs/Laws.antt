@@ -16,8 +16,8 @@ use Rattle.good_slow_files.specs.Theorem.{TransitionTheorem}
 -- Good files tell the truth.
 abbrev pub GoodSlowFilesTellTheTruth : Type 0
 GoodSlowFilesTellTheTruth =
-    (files : FiveFiles) (c : SlowContents) → IsSound c.netlist → IsDesign c.netlist → AreGoodSlowFiles files c
-    → TransitionTheorem c.netlist (slow_chains_in c) (slow_limit_said c.said) true (with_canonical_net files c.netlist)
+    (files : FiveFiles) (c : SlowContents) → IsSound c.netlist → IsDesign c.netlist → (good : AreGoodSlowFiles files c)
+    → TransitionTheorem c.netlist good.tested.holds (slow_chains_in c) (slow_limit_said c.said) true (with_canonical_net files c.netlist)
 
 -- Where no clause is false, the files are good.
 abbrev pub SlowCheckedIsGood : Type 0

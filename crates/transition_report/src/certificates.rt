@@ -6,7 +6,7 @@ ghost use Rattle.evidence.specs.declared.kinds.Evidence.{Evidence as EvidenceOf}
 ghost use Rattle.netlist.specs.Designs.{IsDesign};
 ghost use Rattle.netlist.specs.Lines.{signal_of};
 ghost use Rattle.statement.specs.Netlists.{signals};
-ghost use Rattle.certificate.specs.Certificates.{HasSignals};
+ghost use Rattle.certificate.specs.Certificates.{HasSignals, HasSmallNumbers};
 ghost use Rattle.transition_report.specs.Texts.{transition_text, transition_line, transition_first_line, transition_certificate, IsNamedInFrames};
 
 use certificate::{has_refutation, push_evidence};
@@ -36,7 +36,8 @@ fn push_one(
 ) -> Result<(), AllocError>
     requires signal { signal_of fault.line < length (signals netlist.now) }
     requires signals { HasSignals two.now evidence.now }
-    ensures { OnOk result (text.new.items ≡ text.old.items ++ transition_line netlist.now two.now (fault, evidence.now)) }
+    ensures text { OnOk result (text.new.items ≡ text.old.items ++ transition_line netlist.now two.now (fault, evidence.now)) }
+    ensures within { OnOk result (HasSmallNumbers evidence.now) }
 {
     push_fault(text, netlist, fault)?;
     push_evidence(text, two, evidence)?;
@@ -51,7 +52,8 @@ fn push_all(
     evidence: &[(Fault, Evidence)],
 ) -> Result<(), AllocError>
     requires { All (λ (p : FaultOf × EvidenceOf). (signal_of p.0.line < length (signals netlist.now)) × HasSignals two.now p.1) evidence.now }
-    ensures { OnOk result (text.new.items ≡ text.old.items ++ flat_map (transition_line netlist.now two.now) evidence.now) }
+    ensures text { OnOk result (text.new.items ≡ text.old.items ++ flat_map (transition_line netlist.now two.now) evidence.now) }
+    ensures within { OnOk result (All (λ (p : FaultOf × EvidenceOf). HasSmallNumbers p.1) evidence.now) }
 {
     for pair in evidence {
         push_one(text, netlist, two, pair.0, &pair.1)?;
@@ -70,7 +72,8 @@ pub(crate) fn first_line(refutes: bool) -> &'static [u8]
     }
 }
 
-/// The certificate of this evidence for a design, each with its transition fault, in this order.
+/// The certificate of this evidence for a design, each with its transition fault, in this order. The numbers of its refutations are below 2^32, so that
+/// it is read back.
 pub fn write_certificate(
     alloc: Global,
     netlist: &Netlist,
@@ -78,7 +81,8 @@ pub fn write_certificate(
 ) -> Result<Vec<u8>, NoMemory>
     requires design { IsDesign netlist.now }
     requires named { All (IsNamedInFrames netlist.now) evidence.now }
-    ensures { IfOk result (λ text. text.items ≡ transition_certificate netlist.now evidence.now) }
+    ensures text { IfOk result (λ text. text.items ≡ transition_certificate netlist.now evidence.now) }
+    ensures within { IfOk result (λ text. All (λ (p : FaultOf × EvidenceOf). HasSmallNumbers p.1) evidence.now) }
 {
     let head = first_line(has_refutation(evidence));
     let mut text = Vec::from_slice(alloc, head).map_err(|_| NoMemory)?;

@@ -1,5 +1,6 @@
 //! The report of transition faults: its numbers, and its text.
 ghost use Rattle.std.specs.Prelude.{◌≡◌, ◌+◌, ◌*◌, ◌<◌, ◌≤◌, ◌^◌, ◌++◌, IfOk, OnOk, length};
+ghost use Rattle.report.specs.Counts.{AreSmallCounts};
 ghost use Rattle.scan_insert.specs.Scanned.{AreChainsOf};
 ghost use Rattle.statement.specs.Faults.{universe_of};
 ghost use Rattle.transition_report.specs.Texts.{transition_report_text};
@@ -44,6 +45,7 @@ pub fn report_of(
     requires few { length lines < 2 ^ 32 }
     ensures report { IsReportOf netlist.now chains.now patterns limit lines result }
     ensures sized { HasWritableShares result }
+    ensures counts { AreSmallCounts result.counts }
 {
     netlist.sound();
     let faults = lines.len() as u32;
@@ -59,6 +61,7 @@ pub fn report_of(
         limit as u64,
         &lines,
     );
+    counts.sound();
     let coverage = share_of(faults, tally.detected);
     let efficiency = share_of(faults, tally.detected + tally.redundant);
     TransitionReport {

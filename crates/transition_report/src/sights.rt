@@ -1,6 +1,7 @@
 //! What the tester sees of a point by launch on capture. A launch is a cycle more for each pattern up to this one, and all else is as for stuck
 //! lines: so a point is seen where it would be seen there, and so many cycles later.
 ghost use Rattle.std.specs.Prelude.{◌≡◌, map};
+ghost use Rattle.std.specs.List.{Contains};
 ghost use Rattle.statement.specs.Runs.{output_name};
 ghost use Rattle.scan_insert.specs.Scanned.{AreChainsOf, scanned_of};
 ghost use Rattle.run_report.specs.Strobes.{IsPointOf};
@@ -21,7 +22,8 @@ pub fn sight_behind<'a>(
     requires chains { AreChainsOf netlist.now chains.now }
     requires pins { pins.now ≡ map (output_name (scanned_of netlist.now chains.now)) (scanned_of netlist.now chains.now).outputs }
     requires point { IsPointOf netlist.now point }
-    ensures { IsLaunchSeenAt netlist.now chains.now place point result.cycle result.pin.now }
+    ensures seen { IsLaunchSeenAt netlist.now chains.now place point result.cycle result.pin.now }
+    ensures named { Contains pins.now result.pin.now }
 {
     netlist.sound();
     let sight = sight_of(netlist, chains, pins, place, point);

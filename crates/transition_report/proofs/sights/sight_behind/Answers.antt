@@ -14,6 +14,6 @@ overflow_add-result-2 c =
     (omega (arith, c.ranges.place.fits)) c.sight_of-sight.ensures.seen in
     omega (arith, small)
 
-pub returns : goal.returns
-returns c =
+pub returns-clause-seen : goal.returns-clause-seen
+returns-clause-seen c =
     seen_behind c.args.netlist.now c.args.chains.now c.args.place c.args.point c.sight_of-sight.result.cycle c.sight_of-sight.result.pin.now c.sight_of-sight.ensures.seen
