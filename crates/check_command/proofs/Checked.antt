@@ -9,7 +9,7 @@ use Rattle.good_files.specs.Checks.{IsChecked, PassesWhereTrue}
 use Rattle.good_slow_files.specs.Checks.{IsSlowChecked, PassesWhereTrueSlow}
 use Rattle.check_command.specs.Checking.{AreSlow, IsAnswerOf}
 
-pub as_slow : (files : FiveFiles) (rest : Text) → files.report ≡ codes "atpg transition 1\n" ++ rest → (r : Result Checked CheckFault) → IsSlowChecked files r
+pub as_slow : (files : FiveFiles) (rest : Text) → files.report ≡ codes "atpg transition " ++ rest → (r : Result Checked CheckFault) → IsSlowChecked files r
     → IfOk r (PassesWhereTrueSlow files) → IsAnswerOf files r
 as_slow files rest begins (Ok answer) is good = inl ((rest, begins), (is, good))
 as_slow files rest begins (Err refusal) is good = inl ((rest, begins), is)

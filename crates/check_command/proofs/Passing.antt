@@ -21,6 +21,8 @@ use Rattle.good_slow_files.specs.Checks.{IsSlowChecked}
 use Rattle.good_slow_files.specs.Laws.{GoodSlowFilesPass, IsWholeSlowAnswer}
 use Rattle.report.specs.Reports.{Hold}
 use Rattle.report.specs.Texts.{head, report_text}
+use Rattle.transition_report.specs.declared.reporting.TransitionReport.{TransitionReport}
+use Rattle.transition_report.specs.Texts.{transition_head, transition_report_text}
 use Rattle.check_command.specs.Checking.{IsAnswerOf, answer_line, checked_line, fault_of, files_due, checked_finding}
 use Rattle.check_command.specs.declared.refusal.CheckRefusal.{CheckRefusal}
 use Rattle.check_command.specs.declared.refusal.CheckRefusal.TheVariants as refusal
@@ -47,11 +49,19 @@ due_of files count pass d (inl due) =
 due_of files count pass d (inr due) = absurd (no_refusal (Err (fault_of due.0)) due.0 (Faults count) refl (pass (Err (fault_of due.0)) due.1))
 
 -- a report of stuck lines begins otherwise
-begins_other : (most unasked : ℕ) (holds : List Hold) (x y : Text) → head most unasked holds ++ x ≡ codes "atpg transition 1\n" ++ y → ⊥
+begins_other : (most unasked : ℕ) (holds : List Hold) (x y : Text) → head most unasked holds ++ x ≡ codes "atpg transition " ++ y → ⊥
 begins_other zero zero [] x y e = let c : 114 ≡ 116 = ap (λ (t : List ℕ). get_or t 5 0) e in absurd (omega (arith, c))
 begins_other zero zero (h ∷ hs) x y e = let c : 114 ≡ 116 = ap (λ (t : List ℕ). get_or t 5 0) e in absurd (omega (arith, c))
 begins_other zero (suc k) holds x y e = let c : 114 ≡ 116 = ap (λ (t : List ℕ). get_or t 5 0) e in absurd (omega (arith, c))
 begins_other (suc m) k holds x y e = let c : 114 ≡ 116 = ap (λ (t : List ℕ). get_or t 5 0) e in absurd (omega (arith, c))
+
+-- a report of slow lines begins so, of either version
+begins_slow : (holds : List Hold) (x : Text) → (rest : Text) × (transition_head holds ++ x ≡ codes "atpg transition " ++ rest)
+begins_slow [] x = (codes "1\n" ++ x, refl)
+begins_slow (h ∷ hs) x = (codes "2\n" ++ x, refl)
+
+slow_report_begins : (r : TransitionReport) → (rest : Text) × (transition_report_text r ≡ codes "atpg transition " ++ rest)
+slow_report_begins r = begins_slow r.holds _
 
 whole : (files : FiveFiles) (answer : Result Checked CheckFault) → IsWholeAnswer files answer → IsChecked files answer
 whole files (Ok answer) is = is.0
@@ -64,7 +74,7 @@ whole_slow files (Err refusal) is = is
 module _ (pass : GoodFilesPass) (files : FiveFiles) (c : Contents) (sound : IsSound c.netlist) (good : AreGoodFiles files c) where
   by_check : (answer : Result Checked CheckFault) → IsAnswerOf files answer → (answer ≡ Err fault.NoMemory) ⊎ (answer ≡ Ok (Faults (length (universe_of c.netlist))))
   by_check answer (inl slow) =
-      let begins : report_text c.said ≡ codes "atpg transition 1\n" ++ slow.0.0 = sym good.stand.report ∙ slow.0.1 in
+      let begins : report_text c.said ≡ codes "atpg transition " ++ slow.0.0 = sym good.stand.report ∙ slow.0.1 in
       absurd (begins_other c.said.times.most c.said.counts.unasked c.said.holds _ slow.0.0 begins)
   by_check answer (inr stuck) = pass files c sound good answer (whole files answer stuck.1)
 
@@ -74,7 +84,9 @@ module _ (pass : GoodFilesPass) (files : FiveFiles) (c : Contents) (sound : IsSo
 module _ (pass : GoodSlowFilesPass) (files : FiveFiles) (c : SlowContents) (sound : IsSound c.netlist) (design : IsDesign c.netlist) (good : AreGoodSlowFiles files c) where
   by_slow_check : (answer : Result Checked CheckFault) → IsAnswerOf files answer → (answer ≡ Err fault.NoMemory) ⊎ (answer ≡ Ok (Faults (length (universe_of c.netlist))))
   by_slow_check answer (inl slow) = pass files c sound design good answer (whole_slow files answer slow.1)
-  by_slow_check answer (inr stuck) = absurd (stuck.0 (_, good.stand.report))
+  by_slow_check answer (inr stuck) =
+      let begins = slow_report_begins c.said in
+      absurd (stuck.0 (begins.0, good.stand.report ∙ begins.1))
 
   pub slow_checked : (d : Due CheckRefusal) → files_due files d → d ≡ Deliver [] (checked_line (length (universe_of c.netlist))) Fine
   slow_checked = due_of files (length (universe_of c.netlist)) by_slow_check

@@ -45,9 +45,9 @@ checked_finding (False clause) = Differs
 
 -- ---- which check
 
--- The files are of slow lines: their report begins so. No report of stuck lines does.
+-- The files are of slow lines: their report begins so, of either version. No report of stuck lines does.
 abbrev pub AreSlow : FiveFiles → Type 0
-AreSlow files = (rest : Text) × (files.report ≡ codes "atpg transition 1\n" ++ rest)
+AreSlow files = (rest : Text) × (files.report ≡ codes "atpg transition " ++ rest)
 
 -- what is answered of them, and what it means: by the check of slow lines, or else by that of stuck ones
 abbrev pub IsAnswerOf : FiveFiles → Result Checked CheckFault → Type 0

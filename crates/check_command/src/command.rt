@@ -19,8 +19,8 @@ use report::behind;
 use slow_check::check_slow_files;
 use std::alloc::Global;
 
-/// How the report of slow lines begins.
-const SLOW_LINES: &[u8] = b"atpg transition 1\n";
+/// How a report of slow lines begins, of either version.
+const SLOW_LINES: &[u8] = b"atpg transition ";
 
 /// Checks the five texts, by the check of slow lines or by that of stuck ones.
 fn checked(

@@ -2,31 +2,32 @@
 use Rattle.std.proofs.Common.{◌≡◌, ℕ, ◌∙◌, Vec, Global, List, length, sym, ap, subst}
 use Rattle.std.specs.List.{All}
 use Rattle.statement.specs.Netlists.{Netlist}
-use Rattle.statement.specs.Patterns.{Pattern}
+use Rattle.statement.specs.Patterns.{Holds, Pattern}
 use Rattle.statement.specs.Statement.{FiveFiles}
 use Rattle.statement.specs.Faults.{universe_of}
 use Rattle.netlist.specs.Conditions.{IsSound}
 use Rattle.netlist.specs.Designs.{IsDesign}
-use Rattle.netlist.specs.Holds.{none_held}
 use Rattle.cubes.specs.Cubes.{IsPatternOf}
+use Rattle.good_files.specs.GoodFiles.{AreHeldBy}
 use Rattle.good_files.specs.ScanOff.{design_chains}
 use Rattle.good_files.specs.declared.answers.Checked.{Checked}
 use Rattle.good_files.specs.declared.answers.Checked.TheVariants.{Faults, False}
 use Rattle.good_files.specs.declared.answers.Clause.TheVariants as clause
 use Rattle.transition_files.specs.LaunchFiles.{IsLaunchFileOf}
-use Rattle.good_slow_files.specs.GoodSlowFiles.{AreSlowTotals, AreTrueSlowFaults, HasLaunchPatterns, HasSlowScan, IsSlowTested, SlowContents, SlowTest, StandForSlow, slow_chains_in, slow_chains_said, slow_limit_said, slow_test_with}
+use Rattle.good_slow_files.specs.GoodSlowFiles.{AreSlowTotals, AreTrueSlowFaults, HasLaunchPatterns, HasSlowHolds, HasSlowScan, IsSlowTested, SlowContents, SlowTest, StandForSlow, slow_chains_in, slow_chains_said, slow_limit_said, slow_test_with}
 use Rattle.good_slow_files.specs.Clauses.{IsFalseSlowFault}
 use Rattle.good_slow_files.specs.Checks.{IsSlowAnswer, PassesWhereTrueSlow}
 use Rattle.good_slow_files.specs.Laws.{SlowCheckedIsGood}
 use Rattle.slow_check.specs.declared.reading.Said.{Said}
-use Rattle.slow_check.specs.inner.Checking.{IsPosedAnswer, IsScanAnswer, IsVerdict}
+use Rattle.slow_check.specs.inner.Checking.{IsHeldAnswer, IsPosedAnswer, IsScanAnswer, IsVerdict}
 use Rattle.slow_check.specs.inner.Reading.{contents_of}
 
 -- ---- answers
 
-module _ (c : SlowContents) (t : SlowTest) (patterns : List Pattern) (scan : HasSlowScan c) (test : HasLaunchPatterns c patterns) (same : t ≡ slow_test_with c patterns) where
+module _ (c : SlowContents) (t : SlowTest) (holds : Holds) (patterns : List Pattern) (scan : HasSlowScan c) (held : HasSlowHolds c holds) (test : HasLaunchPatterns c holds patterns)
+    (same : t ≡ slow_test_with c holds patterns) where
   abbrev tested : IsSlowTested c
-  tested = record { patterns = patterns; scan = scan; test = test }
+  tested = record { holds = holds; patterns = patterns; scan = scan; held = held; test = test }
 
   answer_by : (answer : Checked) → IsVerdict t c.said answer → IsSlowAnswer c answer
   answer_by (False clause.ScanDiffers) is = absurd is
@@ -50,21 +51,17 @@ passes_by law files c sound design stand (False which) is = tt
 
 -- ---- clause by clause
 
-pub no_stil : (s : Said) (chains : List (List ℕ)) → chains ≡ design_chains s.core (slow_chains_said s.report)
-    → ((patterns : List Pattern) → All (IsPatternOf s.core (none_held s.core)) patterns → ¬ IsLaunchFileOf s.core chains patterns s.file) → IsScanAnswer s (False clause.StilDiffers)
-no_stil s chains own none scan has = (
-  has,
-  λ patterns is. none patterns is.obey (subst (λ (cs : List (List ℕ)). IsLaunchFileOf s.core cs patterns s.file) (sym own) is.is_file_of),
-)
+pub no_hold : (s : Said) → ((holds : Holds) → ¬ AreHeldBy s.core s.report.holds holds) → IsScanAnswer s (False clause.HoldDiffers)
+no_hold s none scan has = (has, none)
 
-pub posed_by : (s : Said) (patterns : List Pattern) (chains : List (List ℕ)) (limit : ℕ) → chains ≡ design_chains s.core (slow_chains_said s.report) → limit ≡ slow_limit_said s.report
-    → (answer : Checked) → IsVerdict (record { netlist = s.core; chains = chains; limit = limit; patterns = patterns; evidence = s.evidence.items }) s.report answer
-    → IsPosedAnswer s patterns answer
-posed_by s patterns chains limit own most answer is scan has test =
-    answer_by (contents_of scan s) (record { netlist = s.core; chains = chains; limit = limit; patterns = patterns; evidence = s.evidence.items }) patterns has test
-    (λ i. record { netlist = s.core; chains = own i; limit = most i; patterns = patterns; evidence = s.evidence.items }) answer is
+pub no_stil : (s : Said) (holds : Holds) (chains : List (List ℕ)) → chains ≡ design_chains s.core (slow_chains_said s.report)
+    → ((patterns : List Pattern) → All (IsPatternOf s.core holds) patterns → ¬ IsLaunchFileOf s.core holds chains patterns s.file) → IsHeldAnswer s holds (False clause.StilDiffers)
+no_stil s holds chains own none scan has held =
+    (has, (holds, held, λ patterns is. none patterns is.obey (subst (λ (cs : List (List ℕ)). IsLaunchFileOf s.core holds cs patterns s.file) (sym own) is.is_file_of)))
 
--- with any scanned netlist's text, where the patterns are those of the file
-pub scanned_by : (s : Said) (patterns : List Pattern) (answer : Checked) → (((scan : List ℕ) → HasSlowScan (contents_of scan s) → HasLaunchPatterns (contents_of scan s) patterns))
-    → IsPosedAnswer s patterns answer → IsScanAnswer s answer
-scanned_by s patterns answer test is scan has = is scan has (test scan has)
+pub posed_by : (s : Said) (holds : Holds) (patterns : List Pattern) (chains : List (List ℕ)) (limit : ℕ) → chains ≡ design_chains s.core (slow_chains_said s.report) → limit ≡ slow_limit_said s.report
+    → (answer : Checked) → IsVerdict (record { netlist = s.core; holds = holds; chains = chains; limit = limit; patterns = patterns; evidence = s.evidence.items }) s.report answer
+    → IsPosedAnswer s holds patterns answer
+posed_by s holds patterns chains limit own most answer is scan has held test =
+    answer_by (contents_of scan s) (record { netlist = s.core; holds = holds; chains = chains; limit = limit; patterns = patterns; evidence = s.evidence.items }) holds patterns has held test
+    (λ i. record { netlist = s.core; holds = holds; chains = own i; limit = most i; patterns = patterns; evidence = s.evidence.items }) answer is

@@ -1,6 +1,7 @@
 mod ReadingLemmas
 mod SizeLemmas
 mod SeenLemmas
+mod HeldLemmas
 mod EvidentLemmas
 mod TruthLemmas
 mod LeftLemmas

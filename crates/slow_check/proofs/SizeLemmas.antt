@@ -6,7 +6,7 @@ use Rattle.statement.specs.declared.kinds.Tri.{Tri}
 use Rattle.statement.specs.declared.kinds.Tri.TheVariants.{X}
 use Rattle.statement.specs.Netlists.{Netlist}
 use Rattle.statement.specs.Values.{known}
-use Rattle.statement.specs.Patterns.{Pattern}
+use Rattle.statement.specs.Patterns.{Holds, Pattern}
 use Rattle.statement.specs.Tests.{cells_of, Response, flush, capture_item, load_items}
 use Rattle.statement.specs.Stils.{StilFile}
 use Rattle.stil_vectors.specs.TestFiles.{launch_item}
@@ -37,6 +37,6 @@ items_long outputs chains tests =
     length-append (first ++ second ++ last) (launched_items outputs chains nothing tests) in
     omega (arith, all, launched_long outputs chains nothing tests)
 
-pub launches_take_items : (n : Netlist) (chains : List (List ℕ)) (patterns : List Pattern) (f : StilFile) → IsLaunchFileOf n chains patterns f → length patterns ≤ length f.items
-launches_take_items n chains patterns f is =
+pub launches_take_items : (n : Netlist) (holds : Holds) (chains : List (List ℕ)) (patterns : List Pattern) (f : StilFile) → IsLaunchFileOf n holds chains patterns f → length patterns ≤ length f.items
+launches_take_items n holds chains patterns f is =
     omega (arith, ap (λ (g : StilFile). length g.items) is.is, items_long (length n.outputs) chains (zip patterns is.responses), zip_long _ patterns is.responses is.respond)

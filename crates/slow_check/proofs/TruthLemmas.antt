@@ -97,7 +97,7 @@ module _ (t : SlowTest) (f : Fault) where
 
   -- the evidence that is looked at is the fault's first
   abbrev Ends : Option Counts → Type 0
-  Ends ends = MatchOption ends (NoFirstShown t.netlist t.evidence f) (IsFirstShown t.netlist t.evidence f)
+  Ends ends = MatchOption ends (NoFirstShown t.netlist t.holds t.evidence f) (IsFirstShown t.netlist t.holds t.evidence f)
 
   shut_true : (never : LastTransition t.netlist t.patterns f None) (ends : Option Counts) → Ends ends → IsShutBy ends → IsShownShut t f
   shut_true never None is shut = absurd shut
@@ -111,7 +111,7 @@ module _ (t : SlowTest) (f : Fault) where
       is.counted.left_open ∙ (ap open_ends same ∙ so.2)
 
   pub by_shut : (never : LastTransition t.netlist t.patterns f None) (b : Bool) (ends : Option Counts)
-      → MatchOption ends (NoFirstShown t.netlist t.evidence f) (IsFirstShown t.netlist t.evidence f)
+      → MatchOption ends (NoFirstShown t.netlist t.holds t.evidence f) (IsFirstShown t.netlist t.holds t.evidence f)
       → MatchBool b (IsShutBy ends) (¬ IsShutBy ends) → MatchBool b (IsShownShut t f) (¬ IsShownShut t f)
   by_shut never true ends is shut = shut_true never ends is shut
   by_shut never false ends is unshut = λ so. unshut (true_shut ends is so)
@@ -142,7 +142,7 @@ module _ (t : SlowTest) (f : Fault) where
       (is.counted.closed ∙ (ap closed_ends same ∙ so.2), omega arith)
 
   pub by_open : (never : LastTransition t.netlist t.patterns f None) (b : Bool) (ends : Option Counts)
-      → MatchOption ends (NoFirstShown t.netlist t.evidence f) (IsFirstShown t.netlist t.evidence f)
+      → MatchOption ends (NoFirstShown t.netlist t.holds t.evidence f) (IsFirstShown t.netlist t.holds t.evidence f)
       → MatchBool b (IsLeftOpenBy t.limit ends) (¬ IsLeftOpenBy t.limit ends) → MatchBool b (IsShownOpen t f) (¬ IsShownOpen t f)
   by_open never true ends is say = open_true never ends is say
   by_open never false ends is shut = λ so. shut (true_open ends is so)

@@ -5,15 +5,17 @@ ghost use Rattle.std.specs.Prelude.{◌≡◌, ◌<◌, ◌≤◌, ◌+◌, ◌^
 ghost use Rattle.bench_text.specs.Bytes.{lines};
 ghost use Rattle.scan_insert.specs.Scanned.{scanned_of};
 ghost use Rattle.check_parts.specs.Scanning.{IsStitched};
+ghost use Rattle.good_files.specs.GoodFiles.{AreHeldBy};
 ghost use Rattle.good_files.specs.ScanOff.{design_chains};
 ghost use Rattle.good_slow_files.specs.Checks.{IsSlowAnswer, IsSlowChecked, PassesWhereTrueSlow};
 ghost use Rattle.good_slow_files.specs.GoodSlowFiles.{AreLaunchPatternsOf, slow_chains_said, slow_limit_said};
-ghost use Rattle.slow_check.specs.inner.Checking.{IsPosed, IsPosedAnswer, IsScanAnswer, IsVerdict};
+ghost use Rattle.slow_check.specs.inner.Checking.{IsHeldAnswer, IsPosed, IsPosedAnswer, IsScanAnswer, IsVerdict};
 ghost use Rattle.slow_check.specs.inner.Reading.{AreSaid, contents_of};
 ghost use Rattle.slow_check.specs.inner.Trials.{IsSlowTrial, slow_test_of};
 ghost use Rattle.slow_check.specs.inner.Walking.{IsReady};
 
 use crate::faults::false_fault;
+use crate::holding::holds_by;
 use crate::reading::{Said, said_of};
 use crate::totals::has_totals;
 use crate::trials::SlowTrial;
@@ -23,7 +25,7 @@ use cubes::Pattern;
 use fault_universe::{faults_have_lines, few_faults, universe};
 use good_files::{CheckFault, Checked, Clause};
 use good_slow_files::slow_checked_is_good;
-use netlist::{Netlist, NoMemory};
+use netlist::{Holds, Netlist, NoMemory};
 use run_report::pin_names;
 use std::alloc::Global;
 use stil_read::laws::items_take_bytes;
@@ -82,17 +84,19 @@ fn tried(
     verdict_of(alloc, &walk, said)
 }
 
-/// What is found of a test with these chains and patterns.
+/// What is found of a test with these held inputs, chains and patterns.
 fn posed(
     alloc: Global,
     said: Said,
     made: Stitched,
+    holds: Holds,
     patterns: Vec<Pattern>,
 ) -> Result<Checked, NoMemory>
     requires said { IsPosed said }
     requires made { IsStitched said.core (design_chains said.core (slow_chains_said said.report)) made }
-    requires patterns { AreLaunchPatternsOf said.core made.chains said.file patterns.items }
-    ensures { IfOk result (IsPosedAnswer said patterns.items) }
+    requires held { AreHeldBy said.core said.report.holds holds }
+    requires patterns { AreLaunchPatternsOf said.core holds made.chains said.file patterns.items }
+    ensures { IfOk result (IsPosedAnswer said holds patterns.items) }
 {
     let Said {
         core,
@@ -106,6 +110,7 @@ fn posed(
     let trial = SlowTrial {
         core,
         chains,
+        holds,
         limit,
         patterns,
         evidence,
@@ -115,17 +120,37 @@ fn posed(
     answer
 }
 
-/// The same, if the STIL file is that of patterns by launch on capture.
+/// The same, if the STIL file is that of patterns by launch on capture which obey the held inputs.
+fn with_holds(alloc: Global, said: Said, made: Stitched, holds: Holds) -> Result<Checked, NoMemory>
+    requires said { IsPosed said }
+    requires made { IsStitched said.core (design_chains said.core (slow_chains_said said.report)) made }
+    requires held { AreHeldBy said.core said.report.holds holds }
+    ensures { IfOk result (IsHeldAnswer said holds) }
+{
+    match launch_patterns_of(alloc, &said.core, &made.chains, &said.file, &holds) {
+        Ok(Some(patterns)) => posed(alloc, said, made, holds, patterns),
+        Ok(None) => {
+            drop((said, made, holds));
+            Ok(Checked::False(Clause::StilDiffers))
+        }
+        Err(NoMemory) => {
+            drop((said, made, holds));
+            Err(NoMemory)
+        }
+    }
+}
+
+/// The same, if the report's held inputs are inputs, each once at most, in their order.
 fn with_scan(alloc: Global, said: Said, made: Stitched) -> Result<Checked, NoMemory>
     requires said { IsPosed said }
     requires made { IsStitched said.core (design_chains said.core (slow_chains_said said.report)) made }
     ensures { IfOk result (IsScanAnswer said) }
 {
-    match launch_patterns_of(alloc, &said.core, &made.chains, &said.file) {
-        Ok(Some(patterns)) => posed(alloc, said, made, patterns),
+    match holds_by(alloc, &said.core, &said.report.holds) {
+        Ok(Some(holds)) => with_holds(alloc, said, made, holds),
         Ok(None) => {
             drop((said, made));
-            Ok(Checked::False(Clause::StilDiffers))
+            Ok(Checked::False(Clause::HoldDiffers))
         }
         Err(NoMemory) => {
             drop((said, made));

@@ -2,7 +2,7 @@
 ghost use Rattle.std.specs.Prelude.{◌≡◌, length, IfOk, MatchOption};
 ghost use Rattle.std.specs.List.{All, Contains};
 ghost use Rattle.netlist.specs.Designs.{IsDesign};
-ghost use Rattle.netlist.specs.Holds.{none_held};
+ghost use Rattle.netlist.specs.Holds.{AreHoldsOf};
 ghost use Rattle.netlist.specs.Lines.{IsLineOf};
 ghost use Rattle.statement.specs.Faults.{universe_of};
 ghost use Rattle.evidence.specs.Evidence.{Shows};
@@ -39,45 +39,48 @@ fn ends_by(
     }
 }
 
-/// The same on this netlist, where no input is held.
+/// The same on this netlist with these inputs held.
 fn ends_on(
     alloc: Global,
     core: &Core,
     fault: &Fault,
     evidence: &Evidence,
+    holds: &Holds,
 ) -> Result<Option<Counts>, NoMemory>
     requires line { IsLineOf core.now fault.now.line }
     requires formed { IsWellFormed core.now evidence.now }
-    ensures { IfOk result (AreShown (Shows fault.now core.now (none_held core.now) evidence.now) evidence.now) }
+    requires held { AreHoldsOf core.now holds.now }
+    ensures { IfOk result (AreShown (Shows fault.now core.now holds.now evidence.now) evidence.now) }
 {
     core.netlist().sound();
-    let holds = Holds::none(alloc, core)?;
-    let mut checkers = Checkers::new(alloc, core, &holds)?;
+    let mut checkers = Checkers::new(alloc, core, holds)?;
     let answer = ends_by(&mut checkers, fault, evidence);
     drop(checkers);
     answer
 }
 
-/// The ends of evidence, where it shows a slow line on its two frames. `names` are those of the frames' signals.
+/// The ends of evidence, where it shows a slow line on its two frames, whose inputs are those of the netlist. `names` are those of the frames' signals.
 fn ends_of(
     alloc: Global,
     netlist: &Netlist,
     names: &NameTable,
     fault: Fault,
     evidence: &Evidence,
+    holds: &Holds,
 ) -> Result<Option<Counts>, NoMemory>
     requires design { IsDesign netlist.now }
     requires names { names.now ≡ names_of netlist.now }
     requires line { IsLineOf netlist.now fault.line }
     requires formed { IsWellFormed (frames_of netlist.now fault) evidence.now }
-    ensures { IfOk result (AreShown (ShowsFrames netlist.now fault evidence.now) evidence.now) }
+    requires held { AreHoldsOf netlist.now holds.now }
+    ensures { IfOk result (AreShown (ShowsFrames netlist.now holds.now fault evidence.now) evidence.now) }
 {
     let (two, slow) = frames_named(alloc, netlist, names, fault)?;
     let Ok(core) = Core::of(alloc, two) else {
         return Err(NoMemory);
     };
     core.netlist().sound();
-    ends_on(alloc, &core, &slow, evidence)
+    ends_on(alloc, &core, &slow, evidence, holds)
 }
 
 /// The ends of a slow line's first evidence, where there is some and it shows the line.
@@ -88,18 +91,20 @@ pub(crate) fn first_ends(
     evidence: &[(Fault, Evidence)],
     first: Option<usize>,
     fault: Fault,
+    holds: &Holds,
 ) -> Result<Option<Counts>, NoMemory>
     requires design { IsDesign netlist.now }
     requires names { names.now ≡ names_of netlist.now }
     requires member { Contains (universe_of netlist.now) fault }
     requires each { All (IsTransitionEvidence netlist.now) evidence.now }
     requires first { IsFirst evidence.now (length evidence.now) fault first }
-    ensures { IfOk result (λ o. MatchOption o (NoFirstShown netlist.now evidence.now fault) (IsFirstShown netlist.now evidence.now fault)) }
+    requires held { AreHoldsOf netlist.now holds.now }
+    ensures { IfOk result (λ o. MatchOption o (NoFirstShown netlist.now holds.now evidence.now fault) (IsFirstShown netlist.now holds.now evidence.now fault)) }
 {
     netlist.sound();
     faults_have_lines();
     let Some(place) = first else {
         return Ok(None);
     };
-    ends_of(alloc, netlist, names, fault, &evidence[place].1)
+    ends_of(alloc, netlist, names, fault, &evidence[place].1, holds)
 }

@@ -56,13 +56,21 @@ fn left_ends(alloc: Global, walk: &Walk<'_>, fault: &Fault) -> Result<Option<Cou
     requires ready { IsReady walk.now }
     requires member { Contains (universe_of walk.now.trial.now.core) fault.now }
     ensures { IfOk result (λ o. MatchOption o
-        (NoFirstShown walk.now.trial.now.core walk.now.trial.now.evidence.items fault.now)
-        (IsFirstShown walk.now.trial.now.core walk.now.trial.now.evidence.items fault.now)) }
+        (NoFirstShown walk.now.trial.now.core walk.now.trial.now.holds walk.now.trial.now.evidence.items fault.now)
+        (IsFirstShown walk.now.trial.now.core walk.now.trial.now.holds walk.now.trial.now.evidence.items fault.now)) }
 {
     let trial = walk.trial;
     let netlist = trial.core.netlist();
     let first = walk.firsts.get(netlist, &trial.evidence, fault);
-    first_ends(alloc, netlist, walk.names, &trial.evidence, first, *fault)
+    first_ends(
+        alloc,
+        netlist,
+        walk.names,
+        &trial.evidence,
+        first,
+        *fault,
+        &trial.holds,
+    )
 }
 
 /// Whether evidence with these ends leaves nothing open.

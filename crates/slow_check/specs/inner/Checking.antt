@@ -2,7 +2,7 @@
 use Rattle.std.specs.Prelude.{◌≡◌, ◌≤◌, ◌+◌, ◌^◌, List, length}
 use Rattle.std.specs.List.{All}
 use Rattle.statement.specs.Benches.{Text}
-use Rattle.statement.specs.Patterns.{Pattern}
+use Rattle.statement.specs.Patterns.{Holds, Pattern}
 use Rattle.statement.specs.Faults.{universe_of}
 use Rattle.netlist.specs.Conditions.{IsSound}
 use Rattle.netlist.specs.Designs.{IsDesign}
@@ -11,7 +11,7 @@ use Rattle.transition_report.specs.Reading.{IsTransitionEvidence}
 use Rattle.good_files.specs.declared.answers.Checked.{Checked}
 use Rattle.good_files.specs.declared.answers.Checked.TheVariants.{Faults, False}
 use Rattle.good_files.specs.declared.answers.Clause.TheVariants as clause
-use Rattle.good_slow_files.specs.GoodSlowFiles.{AreSlowTotals, AreTrueSlowFaults, HasLaunchPatterns, HasSlowScan, SlowTest}
+use Rattle.good_slow_files.specs.GoodSlowFiles.{AreSlowTotals, AreTrueSlowFaults, HasLaunchPatterns, HasSlowHolds, HasSlowScan, SlowTest}
 use Rattle.good_slow_files.specs.Clauses.{IsFalseSlowFault}
 use Rattle.good_slow_files.specs.Checks.{IsSlowAnswer}
 use Rattle.slow_check.specs.declared.reading.Said.{Said}
@@ -39,6 +39,10 @@ IsVerdict t said (Faults count) = AreTrueSlowFaults t said.lines × AreSlowTotal
 abbrev pub IsScanAnswer : Said → Checked → Type 0
 IsScanAnswer s answer = (scan : Text) → HasSlowScan (contents_of scan s) → IsSlowAnswer (contents_of scan s) answer
 
-abbrev pub IsPosedAnswer : Said → List Pattern → Checked → Type 0
-IsPosedAnswer s patterns answer =
-    (scan : Text) → HasSlowScan (contents_of scan s) → HasLaunchPatterns (contents_of scan s) patterns → IsSlowAnswer (contents_of scan s) answer
+abbrev pub IsHeldAnswer : Said → Holds → Checked → Type 0
+IsHeldAnswer s holds answer = (scan : Text) → HasSlowScan (contents_of scan s) → HasSlowHolds (contents_of scan s) holds → IsSlowAnswer (contents_of scan s) answer
+
+abbrev pub IsPosedAnswer : Said → Holds → List Pattern → Checked → Type 0
+IsPosedAnswer s holds patterns answer =
+    (scan : Text) → HasSlowScan (contents_of scan s) → HasSlowHolds (contents_of scan s) holds → HasLaunchPatterns (contents_of scan s) holds patterns
+    → IsSlowAnswer (contents_of scan s) answer

@@ -10,13 +10,13 @@ use Rattle.slow_check.proofs.checking.posed.Goals as goal
 pub tried-answer-requires-clause-few : goal.tried-answer-requires-clause-few
 tried-answer-requires-clause-few c =
     let s = c.args.said in
-    let fewer = launches_take_items s.core c.args.made.chains c.args.patterns.items s.file c.requires.patterns.is_file_of in
+    let fewer = launches_take_items s.core c.args.holds c.args.made.chains c.args.patterns.items s.file c.requires.patterns.is_file_of in
     omega (arith, fewer, c.requires.said.few)
 
 pub returns : goal.returns
 returns c =
     let s = c.args.said in
-    let test : SlowTest = record { netlist = s.core; chains = c.args.made.chains; limit = s.report.counts.limit; patterns = c.args.patterns.items; evidence = s.evidence.items } in
-    IfOk-weaker c.tried-answer.result (IsVerdict test s.report) (IsPosedAnswer s c.args.patterns.items)
-    (λ (answer : Checked) is. posed_by s c.args.patterns.items c.args.made.chains s.report.counts.limit c.requires.made.chains_are refl answer is)
+    let test : SlowTest = record { netlist = s.core; holds = c.args.holds; chains = c.args.made.chains; limit = s.report.counts.limit; patterns = c.args.patterns.items; evidence = s.evidence.items } in
+    IfOk-weaker c.tried-answer.result (IsVerdict test s.report) (IsPosedAnswer s c.args.holds c.args.patterns.items)
+    (λ (answer : Checked) is. posed_by s c.args.holds c.args.patterns.items c.args.made.chains s.report.counts.limit c.requires.made.chains_are refl answer is)
     c.tried-answer.ensures

@@ -5,7 +5,6 @@ use Rattle.statement.specs.declared.lines.Point.{Point}
 use Rattle.statement.specs.Netlists.{Netlist}
 use Rattle.statement.specs.Patterns.{Pattern}
 use Rattle.statement.specs.Faults.{universe_of}
-use Rattle.netlist.specs.Holds.{none_held}
 use Rattle.netlist.specs.Lines.{IsLineOf}
 use Rattle.evidence.specs.declared.kinds.Evidence.{Evidence}
 use Rattle.word_sim.specs.Words.{HasWidthsOf}
@@ -18,7 +17,7 @@ use Rattle.slow_check.proofs.checking.tried.Goals as goal
 pub last_tells2-requires-clause-wide : goal.last_tells2-requires-clause-wide
 last_tells2-requires-clause-wide c =
     let t = c.args.trial.now in
-    subst (λ (ps : List Pattern). All (HasWidthsOf t.core) ps) (sym c.deref.ensures.value) (widths t.core (none_held t.core) t.patterns.items c.requires.trial.obey)
+    subst (λ (ps : List Pattern). All (HasWidthsOf t.core) ps) (sym c.deref.ensures.value) (widths t.core t.holds t.patterns.items c.requires.trial.obey)
 
 pub last_tells2-requires-clause-lines : goal.last_tells2-requires-clause-lines
 last_tells2-requires-clause-lines c =

@@ -1,6 +1,5 @@
-use Rattle.std.proofs.Common.{subst, sym, ◌∙◌, ap}
+use Rattle.std.proofs.Common.{subst, sym}
 use Rattle.netlist.specs.Conditions.{IsSound}
-use Rattle.netlist.specs.Holds.{none_held}
 use Rattle.netlist.specs.Lines.{IsLineOf}
 use Rattle.statement.specs.Netlists.{Netlist}
 use Rattle.slow_check.proofs.EvidentLemmas.{named_on, shown_on}
@@ -16,5 +15,5 @@ ends_by-answer-requires-clause-named c =
 
 pub returns : goal.returns
 returns c =
-    shown_on c.in_ok-checkers.checkers c.args.core.now c.args.fault.now c.args.evidence.now c.ends_by-answer.result c.in_ok-checkers.ensures.0
-    (c.in_ok-checkers.ensures.1 ∙ c.in_ok-holds.ensures) c.ends_by-answer.ensures
+    shown_on c.in_ok-checkers.checkers c.args.core.now c.args.holds.now c.args.fault.now c.args.evidence.now c.ends_by-answer.result c.in_ok-checkers.ensures.0
+    c.in_ok-checkers.ensures.1 c.ends_by-answer.ensures
