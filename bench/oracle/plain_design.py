@@ -296,13 +296,18 @@ def items_of(netlist, chains, patterns, captured=None):
     return items + [("call", *load_words(chains, longest, zeros, before))]
 
 
-def cycles_of(netlist, chains, items):
+def shift_word(netlist, held):
+    """What a shift drives on the inputs and behind them: held inputs have their bits, the others 0."""
+    return "".join(str(held.get(name, 0)) for name in netlist.inputs) + "1"
+
+
+def cycles_of(netlist, chains, items, held={}):
     """Each cycle's drives of the scanned netlist's inputs, strobes of its outputs, and whether there is a pulse."""
-    count, inputs, outputs = len(chains), len(netlist.inputs), len(netlist.outputs)
+    count, outputs, shift = len(chains), len(netlist.outputs), shift_word(netlist, held)
     for item in items:
         if item[0] == "call":
             for t in range(len(item[1][0])):
-                yield "0" * inputs + "1" + "".join(word[t] for word in item[1]), "X" * outputs + "".join(word[t] for word in item[2]), True
+                yield shift + "".join(word[t] for word in item[1]), "X" * outputs + "".join(word[t] for word in item[2]), True
         else:
             yield item[1] + "0" * (count + 1 if chains else 0), item[2] + "X" * count, bool(chains)
 
@@ -312,7 +317,6 @@ def stil_text(netlist, chains, held, items):
     count = range(len(chains))
     pi = netlist.inputs + (["SC__se"] if chains else [])
     po = pin_names(netlist)
-    shift = "".join(str(held.get(name, 0)) for name in netlist.inputs) + "1"
     lines = ["STIL 1.0;", "Header {", '  Title "full scan test";', "}", "Signals {"]
     lines += [f'  "{name}" In;' for name in pi] + [f'  "SC__si{c}" In {{ ScanIn; }}' for c in count]
     lines += ['  "SC__ck" In;'] * bool(chains) + [f'  "{name}" Out;' for name in po]
@@ -332,7 +336,7 @@ def stil_text(netlist, chains, held, items):
         lines += ["}"]
     lines += ['PatternBurst "burst" {', '  PatList { "pattern"; }', "}", "PatternExec {", '  PatternBurst "burst";', "}"]
     if chains:
-        inner = [f'"SC__pi" = {shift};'] + [f'"SC__si{c}" = #;' for c in count] + ['"SC__ck" = P;', f'"SC__po" = {"X" * len(po)};']
+        inner = [f'"SC__pi" = {shift_word(netlist, held)};'] + [f'"SC__si{c}" = #;' for c in count] + ['"SC__ck" = P;', f'"SC__po" = {"X" * len(po)};']
         inner += [f'"SC__so{c}" = #;' for c in count]
         lines += ["Procedures {", '  "load_unload" {', '    W "wft";', "    Shift {", f"      V {{ {' '.join(inner)} }}", "    }", "  }", "}"]
     lines += ['Pattern "pattern" {', '  W "wft";'] + [item_line(item, chains) for item in items] + ["}"]

@@ -380,25 +380,26 @@ def transition(texts, options, told):
     splits, or so it is told. A batch of drawn patterns comes first, and two rounds of searches behind it. The patterns are known where the tests of each fault that is searched
     are those of one cube, which is what a search that decides no more than it needs finds. The searches choose the trees."""
     netlist = netlist_of(texts[0])
-    limit, sources = int(options.get("--limit", "100")), len(netlist.inputs + netlist.cells)
+    held = held_of(netlist, options)
+    limit, sources = int(options.get("--limit", "100")), len(plain_transition.free_of(netlist, held))
     if sources > plain_transition.MOST_SOURCES:
         raise Unknown
-    if not told.none_aborted and limit < 2 ** (plain_transition.most_places(netlist) if options.get("--engine") == "fan" else sources):
+    if not told.none_aborted and limit < 2 ** (plain_transition.most_places(netlist, held) if options.get("--engine") == "fan" else sources):
         raise Unknown
     chains = plain.chains_of(netlist.cells, asked_chains(options))
-    tests = plain_transition.tests_of(netlist)
+    tests = plain_transition.tests_of(netlist, held)
     totals = totals_of(len(tests), sum(bool(each) for each in tests))
     seed = int(options.get("--seed", "1"))
-    patterns = plain_transition.with_tests(netlist, chains, tests, seed)
+    patterns = plain_transition.with_tests(netlist, chains, held, tests, seed)
     trees_alone = options.get("--engine") != "clauses" and "--then" not in options
     this = "transition", texts[0], *sorted(options.items())
     if trees_alone and patterns is not None:
-        situation = plain_transition.kept(netlist, chains, patterns)
-        stil = KnownOfRun(plain_transition.stil_of(netlist, chains, situation.patterns).decode(), this)
+        situation = plain_transition.kept(netlist, chains, held, patterns)
+        stil = KnownOfRun(plain_transition.stil_of(netlist, chains, held, situation.patterns).decode(), this)
         report = KnownOfRun(plain_transition.report_of(situation, limit), this)
         shown = f"{totals} patterns {len(situation.patterns)} cycles {situation.cycles()}\n"
     else:
-        stil, report, shown = OfRun("STIL 1.0;\n", this), OfRun("atpg transition 1\n", this), Begun(totals)
+        stil, report, shown = OfRun("STIL 1.0;\n", this), OfRun(plain_transition.REPORT[bool(held)] + "\n", this), Begun(totals)
     certificate = OfRun("atpg transition certificate " + "1\n" * trees_alone, this)
     return Due([plain.canonical(netlist).decode(), plain.canonical(plain.scanned(netlist, chains)).decode(), stil, certificate, report], shown)
 

@@ -2,9 +2,9 @@
 """Slow lines by launch on capture, by a plain program apart from the crates, for small designs.
 
     bench/oracle/plain_transition.py PREFIX     tries all that the five files of `atpg transition` say: PREFIX.net, .scan, .stil, .cert and .rep
-    bench/oracle/plain_transition.py --all NET  counts by all patterns how many transition faults there are tests for
+    bench/oracle/plain_transition.py --all NET [--hold LIST]  counts by all patterns that obey how many transition faults there are tests for
     bench/oracle/plain_transition.py --check PREFIX     prints the line that `check` has to print, and ends with its status
-    bench/oracle/plain_transition.py --make NET PREFIX [--chains C] [--limit L] [--patterns N] [--seed S] [--refute]
+    bench/oracle/plain_transition.py --make NET PREFIX [--chains C] [--limit L] [--hold LIST] [--patterns N] [--seed S] [--refute]
                                                 makes five good files, as bench/oracle/plain_check.py does for stuck lines
 
 It prints how many faults there are, or the first thing that is false, and ends with 1. It plays the test with each slow line from some power-up
@@ -28,6 +28,7 @@ BATCH = 64
 STEP = 16  # the first round takes each fault of so many
 ENOUGH = 128  # no more faults that are left need no first round
 FIRST = ("atpg transition certificate 1", "atpg transition certificate 2")  # without refutations, and with some
+REPORT = ("atpg transition 1", "atpg transition 2")  # without held inputs, and with some
 SLOW = ("rise", "fall")  # of a line that is slow to leave 0, or 1
 FAULT = re.compile(r"((?:stem|out) \S+|pin \S+ \d+) (rise|fall) ")
 
@@ -86,9 +87,15 @@ def all_patterns(names):
     return {name: ones ^ ones // ((1 << (1 << k)) + 1) for k, name in enumerate(names)}, ones
 
 
-def tests_of(netlist):
-    """For each transition fault the patterns, of all that there are, that detect it: a bit for each."""
-    launches = Launches(netlist, *all_patterns(netlist.inputs + netlist.cells))
+def free_of(netlist, held):
+    """The inputs and cells that a test may choose."""
+    return [name for name in netlist.inputs + netlist.cells if name not in held]
+
+
+def tests_of(netlist, held):
+    """For each transition fault the patterns, of all that obey the held inputs, that detect it: a bit for each."""
+    columns, ones = all_patterns(free_of(netlist, held))
+    launches = Launches(netlist, columns | {name: ones * bit for name, bit in held.items()}, ones)
     found = []
     for fault in plain.universe(netlist):
         word = 0
@@ -164,12 +171,12 @@ class Roles:
         return None
 
 
-def most_places(netlist):
+def most_places(netlist, held):
     """The most signals on which a search of FAN may split, over all slow lines."""
     most = 0
     for fault in plain.universe(netlist):
         two, (line, _) = frames(netlist, fault)
-        most = max(most, len(Roles(two, line).places))
+        most = max(most, len(Roles(two, line, held).places))
     return most
 
 
@@ -185,11 +192,11 @@ def items_of(netlist, chains, patterns):
     return plain.items_of(netlist, chains, patterns, captured)
 
 
-def stil_of(netlist, chains, patterns):
-    return plain.stil_text(netlist, chains, {}, items_of(netlist, chains, patterns))
+def stil_of(netlist, chains, held, patterns):
+    return plain.stil_text(netlist, chains, held, items_of(netlist, chains, patterns))
 
 
-def patterns_of(tokens, netlist, chains):
+def patterns_of(tokens, netlist, chains, held):
     """Patterns whose file has these tokens; None where there are none such. It takes candidates and compares the whole text."""
     start = tokens.index(b"Pattern") if b"Pattern" in tokens else len(tokens)
     pi = plain_check.words_after(tokens[start:], b"SC__pi")
@@ -206,7 +213,9 @@ def patterns_of(tokens, netlist, chains):
         return None
     if any(pattern.get(name) not in (0, 1) for pattern in patterns for name in netlist.inputs + netlist.cells):
         return None
-    return patterns if plain.stil_tokens(stil_of(netlist, chains, patterns)) == tokens else None
+    if any(pattern[name] != bit for pattern in patterns for name, bit in held.items()):
+        return None
+    return patterns if plain.stil_tokens(stil_of(netlist, chains, held, patterns)) == tokens else None
 
 
 def failing(scanned, cycles, state, fault=None):
@@ -241,10 +250,10 @@ def site_of(netlist, line):
 # The files.
 
 class SlowLines(plain_check.Situation):
-    """What follows of a design, its chains and patterns: each fault is a class of its own."""
+    """What follows of a design, its chains, held inputs and patterns: each fault is a class of its own."""
 
-    def __init__(self, netlist, chains, patterns):
-        self.netlist, self.chains, self.held, self.patterns = netlist, chains, {}, patterns
+    def __init__(self, netlist, chains, held, patterns):
+        self.netlist, self.chains, self.held, self.patterns = netlist, chains, held, patterns
         self.faults = plain.universe(netlist)
         self.representatives = list(range(len(self.faults)))
         self.launches = packed(netlist, patterns)
@@ -271,17 +280,21 @@ class SlowLines(plain_check.Situation):
         return super().head(said, limit, detect) | {"cycles": self.cycles()}
 
 
-def cube_of(netlist, tests):
+def cube_of(netlist, held, tests):
     """The bits that all tests of a fault have, where its tests are all patterns that have these; else None."""
-    columns, _ = all_patterns(netlist.inputs + netlist.cells)
+    columns, _ = all_patterns(free_of(netlist, held))
     cube = {name: int(bool(tests & column)) for name, column in columns.items() if tests & column in (0, tests)}
-    return cube if tests.bit_count() == 2 ** (len(columns) - len(cube)) else None
+    return held | cube if tests.bit_count() == 2 ** (len(columns) - len(cube)) else None
 
 
-def batch_of(netlist, seed):
-    """The patterns that are drawn before any search: one word a bit, in order."""
-    words = Pcg32(seed, 1)
-    return [{name: words.next_u32() & 1 for name in netlist.inputs + netlist.cells} for _ in range(BATCH)]
+def batch_of(netlist, held, seed):
+    """The patterns that are drawn before any search: one word a bit that isn't held, in order."""
+    return completed(netlist, [held] * BATCH, Pcg32(seed, 1))
+
+
+def completed(netlist, cubes, words):
+    """The patterns of cubes: the open bits of each, in order, are the lowest bits of words."""
+    return [{name: cube[name] if name in cube else words.next_u32() & 1 for name in netlist.inputs + netlist.cells} for cube in cubes]
 
 
 def first_round(last):
@@ -290,19 +303,19 @@ def first_round(last):
     return [k for k in left if k % STEP == 0] if len(left) > ENOUGH else []
 
 
-def cubes_of(netlist, tests, places):
+def cubes_of(netlist, held, tests, places):
     """The cubes of these faults that can be detected; None for one whose tests aren't those of a cube."""
-    return [cube_of(netlist, tests[k]) for k in places if tests[k]]
+    return [cube_of(netlist, held, tests[k]) for k in places if tests[k]]
 
 
-def with_tests(netlist, chains, tests, seed):
+def with_tests(netlist, chains, held, tests, seed):
     """The drawn patterns, and behind them those of two rounds of searches: the second is over what the patterns before it leave. None where some
     tests aren't those of a cube."""
-    patterns = batch_of(netlist, seed)
+    patterns = batch_of(netlist, held, seed)
     for stream in (2, 0):
-        last = SlowLines(netlist, chains, patterns).last
+        last = SlowLines(netlist, chains, held, patterns).last
         places = first_round(last) if stream == 2 else [k for k, known in enumerate(last) if known is None]
-        cubes = cubes_of(netlist, tests, places)
+        cubes = cubes_of(netlist, held, tests, places)
         if None in cubes:
             return None
         patterns = patterns + filled(netlist, cubes, seed, stream)
@@ -311,19 +324,19 @@ def with_tests(netlist, chains, tests, seed):
 
 def filled(netlist, cubes, seed, stream):
     """Cubes merged in order, each with the first that it doesn't contradict, and filled by the lowest bits of words drawn from a stream."""
-    results, words = [], Pcg32(seed, stream)
+    results = []
     for cube in cubes:
         fitting = next((result for result in results if all(result.get(name, bit) == bit for name, bit in cube.items())), None)
         if fitting is None:
             results.append(dict(cube))
         else:
             fitting.update(cube)
-    return [{name: cube[name] if name in cube else words.next_u32() & 1 for name in netlist.inputs + netlist.cells} for cube in results]
+    return completed(netlist, results, Pcg32(seed, stream))
 
 
-def kept(netlist, chains, patterns):
+def kept(netlist, chains, held, patterns):
     """What follows of the patterns that are the last to detect some fault."""
-    return SlowLines(netlist, chains, plain_check.kept_patterns(SlowLines(netlist, chains, patterns)))
+    return SlowLines(netlist, chains, held, plain_check.kept_patterns(SlowLines(netlist, chains, held, patterns)))
 
 
 def report_of(situation, limit):
@@ -335,26 +348,29 @@ def report_of(situation, limit):
 def text_of(situation, limit, said):
     """The report's text, where this is said of the faults."""
     head = situation.head(said, limit)
-    lines = ["atpg transition 1"] + [f"{word} {head[word]}" for word in plain_check.COUNTS]
+    lines = [REPORT[bool(situation.held)]] + [f"{word} {head[word]}" for word in plain_check.COUNTS]
     lines += [f"{word} {plain_check.percent(head[word])}" for word in ("coverage", "efficiency")]
+    lines += [f"hold {name} {situation.held[name]}" for name in situation.netlist.inputs if name in situation.held]
     lines += [" ".join(str(each) for each in (fault, *verdict)) for fault, verdict in said]
     return "".join(line + "\n" for line in lines)
 
 
 def read_report(text):
-    """The head and what is said of each fault: but for its first line and the faults' texts it is a report of stuck lines."""
-    lines = text.decode("latin-1").split("\n")
-    need(lines[0] == "atpg transition 1", "the report's first line")
-    need(all(FAULT.match(line) for line in lines[17:-1]), "a line of the report")
-    stuck = [FAULT.sub(lambda match: f"{match[1]}/{SLOW.index(match[2])} ", line) for line in lines[17:]]
-    head, _, said = plain_check.read_report("\n".join(["atpg report 1"] + lines[1:17] + stuck).encode("latin-1"))
-    texts = [FAULT.match(line)[0].rstrip() for line in lines[17:-1]]
-    return head, [(text, verdict) for text, (_, verdict) in zip(texts, said)]
+    """The head, the held inputs and what is said of each fault: but for its first line and the faults' texts it is a report of stuck lines."""
+    first, *lines = text.decode("latin-1").split("\n")
+    need(first in REPORT, "the report's first line")
+    begin = next((place for place, line in enumerate(lines) if place >= 16 and not line.startswith("hold ")), len(lines))
+    need(all(FAULT.match(line) for line in lines[begin:-1]), "a line of the report")
+    stuck = [FAULT.sub(lambda match: f"{match[1]}/{SLOW.index(match[2])} ", line) for line in lines[begin:]]
+    version = 1 + REPORT.index(first)
+    head, held, said = plain_check.read_report("\n".join([f"atpg report {version}"] + lines[:begin] + stuck).encode("latin-1"))
+    texts = [FAULT.match(line)[0].rstrip() for line in lines[begin:-1]]
+    return head, held, [(text, verdict) for text, (_, verdict) in zip(texts, said)]
 
 
 def is_slow(text):
-    """Whether a report is one of slow lines."""
-    return text.startswith(b"atpg transition 1\n")
+    """Whether a report is one of slow lines, in whatever version."""
+    return text.startswith(b"atpg transition ")
 
 
 def read_certificate(text, netlist):
@@ -396,7 +412,7 @@ def false_fault(situation, said, evidence, limit):
                 return text
             continue
         told = by_fault.get(text)
-        counts = told and plain_check.ends_of(*frames(situation.netlist, fault), told, {})
+        counts = told and plain_check.ends_of(*frames(situation.netlist, fault), told, situation.held)
         wanted = counts is not None and (counts[1] == 0 if verdict[0] == "redundant" else counts[0] == limit and counts[1] > 0)
         if last is not None or not wanted:
             return text
@@ -424,19 +440,26 @@ def check(files):
     except NotText:
         return 4, "not a certificate"
     try:
-        head, said = read_report(files["rep"])
+        head, held, said = read_report(files["rep"])
     except (NotText, False_):
         return 4, "not a report"
+    return clauses(files, netlist, evidence, head, held, said)
+
+
+def clauses(files, netlist, evidence, head, held, said):
     asked = head["chains"]
     if (asked == 0 and netlist.cells) or asked >= 2 ** 32:
         return 1, "scan differs"
     chains = plain.chains_of(netlist.cells, asked)
     if files["scan"] != plain.canonical(plain.scanned(netlist, chains)):
         return 1, "scan differs"
-    patterns = patterns_of(plain.stil_tokens(files["stil"]), netlist, chains)
+    if not plain_check.are_holds(netlist, held):
+        return 1, "hold differs"
+    held = dict(held)
+    patterns = patterns_of(plain.stil_tokens(files["stil"]), netlist, chains, held)
     if patterns is None:
         return 1, "stil differs"
-    situation = SlowLines(netlist, chains, patterns)
+    situation = SlowLines(netlist, chains, held, patterns)
     false = false_fault(situation, said, evidence, head["limit"]) or further_fault(situation, said, evidence)
     if false is not None:
         return 1, f"fault {false}"
@@ -458,7 +481,7 @@ def try_evidence(text, situation, said, limit):
         need(line.startswith(told + " "), "the evidence of", told)
         netlist, stuck = frames(situation.netlist, fault)
         evidence = plain_check.evidence_of(line, len(told.split(" ")), line.split(" "), set(netlist.signals))
-        counts = plain_check.ends_of(netlist, stuck, evidence, {})
+        counts = plain_check.ends_of(netlist, stuck, evidence, situation.held)
         need(counts is not None and (counts[1] == 0 if verdict == "redundant" else counts[0] == limit and counts[1] > 0), "the evidence of", told)
         kinds.add(evidence[0])
     need(first == FIRST["refutation" in kinds], "the certificate's first line")
@@ -468,8 +491,10 @@ def try_on_tester(situation, said):
     """The good netlist passes; a detected fault fails where it is said, and a fault that no pattern detects nowhere."""
     netlist, chains = situation.netlist, situation.chains
     scanned = plain.scanned(netlist, chains)
-    cycles = list(plain.cycles_of(netlist, chains, items_of(netlist, chains, situation.patterns)))
+    cycles = list(plain.cycles_of(netlist, chains, items_of(netlist, chains, situation.patterns), situation.held))
     need(len(cycles) == situation.cycles(), "the cycles of the file")
+    drives = [dict(zip(netlist.inputs, map(int, drive))) for drive, _, _ in cycles]
+    need(all(drive[name] == bit for drive in drives for name, bit in situation.held.items()), "each cycle drives held inputs with their bits")
     for state in power_ups(scanned.cells):
         need(not failing(scanned, cycles, state), "the good netlist passes")
         for (line, old), (text, verdict) in zip(situation.faults, said):
@@ -481,13 +506,15 @@ def try_files(files):
     """How many faults there are, where nothing is false."""
     netlist = plain.read(files["net"])
     need(plain.canonical(netlist) == files["net"], ".net is the canonical text")
-    head, said = read_report(files["rep"])
+    head, held, said = read_report(files["rep"])
     chains = plain.chains_of(netlist.cells, head["chains"])
     need(plain.canonical(plain.scanned(netlist, chains)) == files["scan"], ".scan is the scanned netlist")
+    need(plain_check.are_holds(netlist, held), "the report's held inputs are the netlist's, in order")
+    held = dict(held)
     need(is_stil(files["stil"]), ".stil is a STIL file")
-    patterns = patterns_of(plain.stil_tokens(files["stil"]), netlist, chains)
+    patterns = patterns_of(plain.stil_tokens(files["stil"]), netlist, chains, held)
     need(patterns is not None, ".stil is the file of patterns")
-    situation = SlowLines(netlist, chains, patterns)
+    situation = SlowLines(netlist, chains, held, patterns)
     need({last[0] for last in situation.last if last} == set(range(len(patterns))), "each pattern is needed")
     need([text for text, _ in said] == [fault_text(fault) for fault in situation.faults], "each fault stands once")
     for last, (text, verdict) in zip(situation.last, said):
@@ -495,25 +522,25 @@ def try_files(files):
     need(head == situation.head(said, head["limit"]), "the numbers of the report")
     try_evidence(files["cert"], situation, said, head["limit"])
     try_on_tester(situation, said)
-    if len(netlist.inputs + netlist.cells) <= MOST_SOURCES:
-        for tests, (text, verdict) in zip(tests_of(netlist), said):
+    if len(free_of(netlist, held)) <= MOST_SOURCES:
+        for tests, (text, verdict) in zip(tests_of(netlist, held), said):
             need(not tests or verdict[0] != "redundant", "redundant:", text)
     return len(said)
 
 
-def make(netlist, chains, limit, count, seed, refutes=False):
+def make(netlist, chains, limit, held, count, seed, refutes=False):
     """Five texts: drawn patterns of which those are left out that are no last detector; trees split inputs and cells in order, or redundant slow lines
     have refutations by the same cases."""
     rng = random.Random(seed)
-    drawn = [{name: rng.randrange(2) for name in netlist.inputs + netlist.cells} for _ in range(count)]
-    situation = kept(netlist, chains, drawn)
+    drawn = [{name: held.get(name, rng.randrange(2)) for name in netlist.inputs + netlist.cells} for _ in range(count)]
+    situation = kept(netlist, chains, held, drawn)
     said, lines, kinds = [], [], set()
     for fault, last in zip(situation.faults, situation.last):
         if last:
             said.append((fault_text(fault), situation.detected(last)))
             continue
         two, stuck = frames(netlist, fault)
-        nodes = plain_check.tree_of(two, stuck, limit, {})
+        nodes = plain_check.tree_of(two, stuck, limit, held)
         if nodes is None:
             sys.exit(f"plain_transition: no tree of {fault_text(fault)} with this limit")
         if "?" in nodes and nodes.count("!") < limit:
@@ -521,10 +548,10 @@ def make(netlist, chains, limit, count, seed, refutes=False):
         end = "aborted" if "?" in nodes else "redundant"
         refuted = refutes and end == "redundant"
         kinds.add(refuted)
-        lines.append(" ".join([fault_text(fault), *(["R", *plain_check.cases_of(two, stuck, {})] if refuted else nodes)]))
+        lines.append(" ".join([fault_text(fault), *(["R", *plain_check.cases_of(two, stuck, held)] if refuted else nodes)]))
         said.append((fault_text(fault), (end,)))
     certificate = "".join(line + "\n" for line in [FIRST[True in kinds], *lines])
-    return {"net": plain.canonical(netlist), "scan": plain.canonical(plain.scanned(netlist, chains)), "stil": stil_of(netlist, chains, situation.patterns),
+    return {"net": plain.canonical(netlist), "scan": plain.canonical(plain.scanned(netlist, chains)), "stil": stil_of(netlist, chains, held, situation.patterns),
             "cert": certificate.encode(), "rep": text_of(situation, limit, said).encode()}
 
 
@@ -536,18 +563,20 @@ def main():
     parser.add_argument("--make", type=pathlib.Path, metavar="NET")
     parser.add_argument("--chains", type=int, default=1)
     parser.add_argument("--limit", type=int, default=100)
+    parser.add_argument("--hold", default="")
     parser.add_argument("--patterns", type=int, default=64)
     parser.add_argument("--seed", type=int, default=1)
     parser.add_argument("--refute", action="store_true")
     asked = parser.parse_args()
+    held = {name: int(bit) for name, bit in (item.split("=") for item in asked.hold.split(",") if item)}
     if asked.all:
-        tests = tests_of(plain.read(asked.path.read_bytes()))
+        tests = tests_of(plain.read(asked.path.read_bytes()), held)
         detected = sum(bool(each) for each in tests)
         print(f"faults {len(tests)} detected {detected} redundant {len(tests) - detected}")
         return
     if asked.make:
         netlist = plain.read(asked.make.read_bytes())
-        files = make(netlist, plain.chains_of(netlist.cells, asked.chains), asked.limit, asked.patterns, asked.seed, asked.refute)
+        files = make(netlist, plain.chains_of(netlist.cells, asked.chains), asked.limit, held, asked.patterns, asked.seed, asked.refute)
         for end, text in files.items():
             plain_check.path_of(asked.path, end).write_bytes(text)
         return

@@ -3,8 +3,10 @@
 use Rattle.std.specs.Prelude.{◌≡◌, ℕ, List, [], ◌∷◌}
 use Rattle.statement.specs.Benches.{Text}
 use Rattle.statement.specs.Netlists.{Netlist}
+use Rattle.statement.specs.Patterns.{Holds}
 use Rattle.net_gen.specs.Samples.{sample, words_from_seed}
 use Rattle.command_line.specs.CommandLine.{CommandLine, chaintest, check, diagnose, faults, grade, play, run, scan, sweep, transition}
+use Rattle.command_line.specs.HoldLists.{HoldItem}
 use Rattle.commands.specs.Due.{Due, Deliver}
 use Rattle.commands.specs.declared.ending.Finding.TheVariants.{Fine}
 use Rattle.command_line.specs.declared.requests.SlowOptions.{SlowOptions}
@@ -13,7 +15,7 @@ use Rattle.transition_run.specs.declared.files.TransitionFiles.{TransitionFiles}
 use Rattle.transition_run.specs.Runs.{IsTransitionRun, transition_files_of}
 use Rattle.atpg_top.specs.Checks.{check_due}
 use Rattle.command_steps.specs.Ordering.{ordered_due}
-use Rattle.command_steps.specs.Steps.{design_due}
+use Rattle.command_steps.specs.Steps.{◌>>=◌, design_due, named_holds}
 use Rattle.command_steps.specs.Runs.{tests_line, texts_in}
 use Rattle.asked_run.specs.Asked.{may_refute, ordered_run_due}
 use Rattle.atpg_top.specs.Scans.{IsScanProduct}
@@ -36,10 +38,18 @@ scan_due chains = design_due (scanned_due chains)
 abbrev pub faults_due : List Text → Due Refusal → Type 0
 faults_due = design_due (λ n d. (text : Text) × IsFaultList n text × (d ≡ Deliver [] text Fine))
 
--- the five texts of a design's slow lines, and the line with the report's numbers
-abbrev pub transition_due : SlowOptions → List Text → Due Refusal → Type 0
-transition_due options = design_due (λ n d.
-    (made : TransitionFiles) × IsTransitionRun n options.numbers.chains options.numbers.limit (may_refute options.engine) made × (d ≡ Deliver (texts_in (transition_files_of made)) (tests_line made.said.counts) Fine))
+-- the five texts of a design's slow lines with held inputs, and the line with the report's numbers
+abbrev pub slow_due : SlowOptions → Netlist → Holds → Due Refusal → Type 0
+slow_due options n holds d =
+    (made : TransitionFiles) × IsTransitionRun n holds options.numbers.chains options.numbers.limit (may_refute options.engine) made × (d ≡ Deliver (texts_in (transition_files_of made)) (tests_line made.said.counts) Fine)
+
+-- the same where inputs of these names are held
+abbrev pub named_slow_due : SlowOptions → List HoldItem → Netlist → Due Refusal → Type 0
+named_slow_due options named n = named_holds n named >>= slow_due options n
+
+-- and of a design's text
+abbrev pub transition_due : SlowOptions → List HoldItem → List Text → Due Refusal → Type 0
+transition_due options named = design_due (named_slow_due options named)
 
 -- the numbers of a run of the sample netlist, whose test passes
 abbrev pub sweep_due : ℕ → ℕ → List Text → Due Refusal → Type 0
@@ -56,5 +66,5 @@ due (check prefix) = check_due
 due (sweep seed gates) = sweep_due seed gates
 due (chaintest net stil chains) = chaintest_due chains
 due (diagnose net stil log options) = diagnose_due options.chains options.rank
-due (transition net prefix options) = transition_due options
+due (transition net prefix options holds) = transition_due options holds
 due (grade net stil prefix chains) = grade_due chains

@@ -1,7 +1,7 @@
 -- The status of a call of the program, and what it leaves.
 use Rattle.std.specs.Prelude.{◌≡◌, ℕ, Bool, List, [], Option, Result, Ok, Err, map}
 use Rattle.statement.specs.Benches.{Text}
-use Rattle.command_line.specs.CommandLine.{CommandLine, NoLine, bad_hold, bad_prefix, bad_words, command_line, reads, run, writes, writes_over}
+use Rattle.command_line.specs.CommandLine.{CommandLine, NoLine, bad_hold, bad_prefix, bad_words, command_line, reads, run, transition, writes, writes_over}
 use Rattle.command_line.specs.HoldLists.{HoldItem}
 use Rattle.commands.specs.Names.{file_name_of}
 use Rattle.commands.specs.World.{IsAsBefore, World}
@@ -35,6 +35,7 @@ TopRow given a b (status.Command e) = WordsRow (command_line given) a b e
 -- the names of the inputs that a command line wants held
 abbrev pub held_names : Result CommandLine NoLine → List Text
 held_names (Ok (run net prefix order list first options holds)) = map (λ (h : HoldItem). h.0) holds
+held_names (Ok (transition net prefix options holds)) = map (λ (h : HoldItem). h.0) holds
 held_names _ = []
 
 -- The error output gains the line of the status. Where the command did its work it is left alone.

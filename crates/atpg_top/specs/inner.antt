@@ -1,4 +1,3 @@
 pub mod Declined
 pub mod Pieces
 pub mod Held
-pub mod Running

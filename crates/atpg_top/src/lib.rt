@@ -9,11 +9,11 @@
 //! Proved: `top`: every status has its cause and says what stands. 0 means, of `scan`: the canonical text of the scanned netlist, which behaves as
 //! the original with scan off; of `faults`: exactly the list of faults with their classes; of `run`: good files of the netlist that was read, with
 //! the run theorem, for the inputs, the faults and the first patterns that the words and the files name, and the line with their numbers; of
-//! `transition`: five files of slow lines that tell the truth; of `chaintest`: each fault of the scan hardware with what the file shows of it; of
-//! `grade`: of each stuck line whether the file detects it; of `diagnose`: exactly the faults that explain the log, or those that come nearest to it;
-//! of `sweep`: the numbers of good files of the sample netlist, whose test passes. 0 or 1 of `play` and `check` mean exactly what the player and the
-//! check answer, and hold on the chip from every power-up state where strobes are known. The laws: what is due of the same texts is alike; statuses
-//! exclude each other.
+//! `transition`: five files of slow lines that tell the truth, for the inputs that the words name; of `chaintest`: each fault of the scan hardware
+//! with what the file shows of it; of `grade`: of each stuck line whether the file detects it; of `diagnose`: exactly the faults that explain the
+//! log, or those that come nearest to it; of `sweep`: the numbers of good files of the sample netlist, whose test passes. 0 or 1 of `play` and
+//! `check` mean exactly what the player and the check answer, and hold on the chip from every power-up state where strobes are known. The laws: what
+//! is due of the same texts is alike; statuses exclude each other.
 //! Tested: that `run` heeds its options, by `cases`.
 #![tactic(auto)]
 
@@ -113,7 +113,18 @@ fn perform<'a, R: Threads + Wait + Sync, S: Shelf, T: Sink, G: Gate + Sync>(
             net,
             prefix,
             options,
-        } => test_slow_lines(rt, alloc, shelf, out, stage, net, prefix, *options),
+            holds,
+        } => test_slow_lines(
+            rt,
+            alloc,
+            shelf,
+            out,
+            stage,
+            net,
+            prefix,
+            *options,
+            holds.as_slice(),
+        ),
         Request::Grade {
             net,
             stil,
@@ -138,12 +149,13 @@ fn decline<'a>(refusal: &'a WordsRefusal<'_>) -> Status<'a>
     }
 }
 
-/// The inputs that are to be held, which `run` alone may name.
+/// The inputs that are to be held, which `run` and `transition` alone may name.
 fn held_in<'a, 'b>(request: &'b Request<'a>) -> &'b [Held<'a>]
     ensures { names_held result.now ≡ held_names (Ok (command_line_of request.now)) }
 {
     match request {
         Request::Run { holds, .. } => holds.as_slice(),
+        Request::Transition { holds, .. } => holds.as_slice(),
         _ => &[],
     }
 }

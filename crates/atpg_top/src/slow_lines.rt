@@ -1,27 +1,27 @@
 //! `transition`: the five files of the slow lines of a file's netlist.
-ghost use Rattle.std.specs.Prelude.{◌≡◌, ◌≤◌, ◌∷◌, [], false, IfOk, length, true};
+ghost use Rattle.std.specs.Prelude.{◌≡◌, ◌≤◌, ◌∷◌, [], false, IfOk, length, map, true};
 ghost use Rattle.std.specs.List.{All};
 ghost use Rattle.netlist.specs.Designs.{IsDesign};
+ghost use Rattle.netlist.specs.Holds.{AreHoldsOf};
 ghost use Rattle.commands.specs.Contents.{most_bytes};
 ghost use Rattle.commands.specs.Names.{run_files, texts_of};
 ghost use Rattle.commands.specs.Rows.{CommandRow};
 ghost use Rattle.commands.specs.Worked.{IsWorked};
 ghost use Rattle.commands.specs.World.{world};
 ghost use Rattle.commands.specs.declared.ending.Finding.TheVariants.{Fine};
-ghost use Rattle.command_line.specs.CommandLine.{AreInRange};
+ghost use Rattle.command_line.specs.CommandLine.{AreInRange, hold_of};
 ghost use Rattle.transition_run.specs.Runs.{IsTransitionRun, transition_files_of};
-ghost use Rattle.atpg_top.specs.Commands.{transition_due};
+ghost use Rattle.atpg_top.specs.Commands.{named_slow_due, slow_due, transition_due};
 ghost use Rattle.asked_run.specs.Asked.{may_refute};
 ghost use Rattle.command_steps.specs.Runs.{tests_line, texts_in};
-ghost use Rattle.atpg_top.specs.inner.Running.{slow_due};
 
 use clauses::{Clauses, Then};
-use command_line::{EngineName, SlowOptions, TreeEngine};
-use command_steps::{Refusal, design_of, five_files_product, tests_line};
+use command_line::{EngineName, Held, SlowOptions, TreeEngine};
+use command_steps::{Refusal, design_of, five_files_product, holds_of, tests_line};
 use commands::{Ending, FileName, Product, Stop, deliver, file_names, read_in_order};
 use evidence::Engine;
 use fan::Fan;
-use netlist::{Core, Fault, Line, Netlist, NoMemory};
+use netlist::{Core, Fault, Holds, Line, Netlist, NoMemory};
 use outside::{Gate, Shelf, Sink};
 use podem::Podem;
 use std::alloc::{AllocError, Global};
@@ -75,10 +75,12 @@ fn made_by<R: Threads + Sync, E: Engine + Sync, G: Gate + Sync>(
     options: SlowOptions,
     trees: Trees,
     engine: &E,
+    holds: &Holds,
 ) -> Result<TransitionFiles, NoMemory>
     requires design { IsDesign core.now }
+    requires held { AreHoldsOf core.now holds.now }
     requires range { AreInRange options.numbers }
-    ensures { IfOk result (IsTransitionRun core.now options.numbers.chains options.numbers.limit E.refutes) }
+    ensures { IfOk result (IsTransitionRun core.now holds.now options.numbers.chains options.numbers.limit E.refutes) }
 {
     let plan = TransitionPlan {
         chains: options.numbers.chains,
@@ -87,7 +89,7 @@ fn made_by<R: Threads + Sync, E: Engine + Sync, G: Gate + Sync>(
         seed: options.numbers.seed,
         trees,
     };
-    transition_files(rt, alloc, stage, core, plan, engine)
+    transition_files(rt, alloc, stage, core, plan, engine, holds)
 }
 
 /// The five files, by a tree of decisions for each line. Those of FAN keep its rule on the line's own frames.
@@ -99,19 +101,39 @@ fn by_trees<R: Threads + Sync, G: Gate + Sync>(
     options: SlowOptions,
     guide: &Core,
     engine: TreeEngine,
+    holds: &Holds,
 ) -> Result<TransitionFiles, NoMemory>
     requires design { IsDesign core.now }
+    requires held { AreHoldsOf core.now holds.now }
     requires range { AreInRange options.numbers }
-    ensures { IfOk result (IsTransitionRun core.now options.numbers.chains options.numbers.limit false) }
+    ensures { IfOk result (IsTransitionRun core.now holds.now options.numbers.chains options.numbers.limit false) }
 {
     match engine {
         TreeEngine::Podem => {
             let podem = Podem::of(alloc, guide)?;
-            made_by(rt, alloc, stage, core, options, Trees::OfFrames, &podem)
+            made_by(
+                rt,
+                alloc,
+                stage,
+                core,
+                options,
+                Trees::OfFrames,
+                &podem,
+                holds,
+            )
         }
         TreeEngine::Fan => {
             let fan = Fan::of(alloc, guide)?;
-            made_by(rt, alloc, stage, core, options, Trees::OnPlaces, &fan)
+            made_by(
+                rt,
+                alloc,
+                stage,
+                core,
+                options,
+                Trees::OnPlaces,
+                &fan,
+                holds,
+            )
         }
     }
 }
@@ -124,13 +146,24 @@ fn by_clauses<R: Threads + Sync, G: Gate + Sync>(
     core: &Core,
     options: SlowOptions,
     guide: &Core,
+    holds: &Holds,
 ) -> Result<TransitionFiles, NoMemory>
     requires design { IsDesign core.now }
+    requires held { AreHoldsOf core.now holds.now }
     requires range { AreInRange options.numbers }
-    ensures { IfOk result (IsTransitionRun core.now options.numbers.chains options.numbers.limit true) }
+    ensures { IfOk result (IsTransitionRun core.now holds.now options.numbers.chains options.numbers.limit true) }
 {
     let clauses = Clauses::of(alloc, guide)?;
-    made_by(rt, alloc, stage, core, options, Trees::OfFrames, &clauses)
+    made_by(
+        rt,
+        alloc,
+        stage,
+        core,
+        options,
+        Trees::OfFrames,
+        &clauses,
+        holds,
+    )
 }
 
 /// The five files, by a tree of decisions for each line, or, where the search gives up, by clauses. What these settle may be by a tree of PODEM, so
@@ -143,10 +176,12 @@ fn by_trees_then_clauses<R: Threads + Sync, G: Gate + Sync>(
     options: SlowOptions,
     guide: &Core,
     engine: TreeEngine,
+    holds: &Holds,
 ) -> Result<TransitionFiles, NoMemory>
     requires design { IsDesign core.now }
+    requires held { AreHoldsOf core.now holds.now }
     requires range { AreInRange options.numbers }
-    ensures { IfOk result (IsTransitionRun core.now options.numbers.chains options.numbers.limit true) }
+    ensures { IfOk result (IsTransitionRun core.now holds.now options.numbers.chains options.numbers.limit true) }
 {
     let second = Clauses::of(alloc, guide)?;
     let few = options.numbers.limit;
@@ -154,12 +189,30 @@ fn by_trees_then_clauses<R: Threads + Sync, G: Gate + Sync>(
         TreeEngine::Podem => {
             let first = Podem::of(alloc, guide)?;
             let both = Then { first, few, second };
-            made_by(rt, alloc, stage, core, options, Trees::OfFrames, &both)
+            made_by(
+                rt,
+                alloc,
+                stage,
+                core,
+                options,
+                Trees::OfFrames,
+                &both,
+                holds,
+            )
         }
         TreeEngine::Fan => {
             let first = Fan::of(alloc, guide)?;
             let both = Then { first, few, second };
-            made_by(rt, alloc, stage, core, options, Trees::OfFrames, &both)
+            made_by(
+                rt,
+                alloc,
+                stage,
+                core,
+                options,
+                Trees::OfFrames,
+                &both,
+                holds,
+            )
         }
     }
 }
@@ -171,42 +224,67 @@ fn made_of<R: Threads + Sync, G: Gate + Sync>(
     stage: &G,
     core: &Core,
     options: SlowOptions,
+    holds: &Holds,
 ) -> Result<TransitionFiles, NoMemory>
     requires design { IsDesign core.now }
+    requires held { AreHoldsOf core.now holds.now }
     requires range { AreInRange options.numbers }
-    ensures { IfOk result (IsTransitionRun core.now options.numbers.chains options.numbers.limit (may_refute options.engine)) }
+    ensures { IfOk result (IsTransitionRun core.now holds.now options.numbers.chains options.numbers.limit (may_refute options.engine)) }
 {
     let guide = some_frames(alloc, core.netlist())?;
     match options.engine {
-        EngineName::Trees(engine) => by_trees(rt, alloc, stage, core, options, &guide, engine),
-        EngineName::Clauses => by_clauses(rt, alloc, stage, core, options, &guide),
+        EngineName::Trees(engine) => by_trees(
+            rt, alloc, stage, core, options, &guide, engine, holds,
+        ),
+        EngineName::Clauses => by_clauses(rt, alloc, stage, core, options, &guide, holds),
         EngineName::TreesThenClauses(engine) => {
-            by_trees_then_clauses(rt, alloc, stage, core, options, &guide, engine)
+            by_trees_then_clauses(rt, alloc, stage, core, options, &guide, engine, holds)
         }
     }
 }
 
-/// What `transition` makes of a design.
+/// What `transition` makes of a design with held inputs.
+fn test_held<R: Threads + Sync, G: Gate + Sync>(
+    rt: &R,
+    alloc: Global,
+    stage: &G,
+    core: &Core,
+    options: SlowOptions,
+    holds: &Holds,
+) -> Result<Product, Stop<Refusal>>
+    requires design { IsDesign core.now }
+    requires held { AreHoldsOf core.now holds.now }
+    requires range { AreInRange options.numbers }
+    ensures { IsWorked (slow_due options core.now holds.now) 5 result }
+{
+    let Ok(made) = made_of(rt, alloc, stage, core, options, holds) else {
+        return Err(Stop::NoMemory);
+    };
+    match product_by(alloc, made) {
+        Ok(product) => Ok(product),
+        Err(_) => Err(Stop::NoMemory),
+    }
+}
+
+/// What `transition` makes of a design, its inputs of these names held.
 fn test_design<R: Threads + Sync, G: Gate + Sync>(
     rt: &R,
     alloc: Global,
     stage: &G,
     netlist: Netlist,
     options: SlowOptions,
+    named: &[Held<'_>],
 ) -> Result<Product, Stop<Refusal>>
     requires design { IsDesign netlist }
     requires range { AreInRange options.numbers }
-    ensures { IsWorked (slow_due options netlist) 5 result }
+    ensures { IsWorked (named_slow_due options (map hold_of named.now) netlist) 5 result }
 {
     let Ok(core) = Core::of(alloc, netlist) else {
         return Err(Stop::NoMemory);
     };
-    let Ok(made) = made_of(rt, alloc, stage, &core, options) else {
-        return Err(Stop::NoMemory);
-    };
-    match product_by(alloc, made) {
-        Ok(product) => Ok(product),
-        Err(_) => Err(Stop::NoMemory),
+    match holds_of(alloc, &core, named) {
+        Ok(holds) => test_held(rt, alloc, stage, &core, options, &holds),
+        Err(stop) => Err(stop),
     }
 }
 
@@ -217,19 +295,20 @@ fn work<R: Threads + Sync, G: Gate + Sync>(
     stage: &G,
     texts: Vec<Vec<u8>>,
     options: SlowOptions,
+    named: &[Held<'_>],
 ) -> Result<Product, Stop<Refusal>>
     requires count { length texts.items ≡ 1 }
     requires within { All (λ text. length text ≤ most_bytes) (texts_of texts.items) }
     requires range { AreInRange options.numbers }
-    ensures { IsWorked (transition_due options (texts_of texts.items)) 5 result }
+    ensures { IsWorked (transition_due options (map hold_of named.now) (texts_of texts.items)) 5 result }
 {
     match design_of(alloc, texts) {
-        Ok(netlist) => test_design(rt, alloc, stage, netlist, options),
+        Ok(netlist) => test_design(rt, alloc, stage, netlist, options, named),
         Err(stop) => Err(stop),
     }
 }
 
-/// Writes the five files of the slow lines of the netlist of the file `net` under names that begin with `prefix`.
+/// Writes the five files of the slow lines of the netlist of the file `net`, its inputs of these names held, under names that begin with `prefix`.
 pub fn test_slow_lines<'a, R: Threads + Sync, S: Shelf, T: Sink, G: Gate + Sync>(
     rt: &R,
     alloc: Global,
@@ -239,9 +318,10 @@ pub fn test_slow_lines<'a, R: Threads + Sync, S: Shelf, T: Sink, G: Gate + Sync>
     net: &'a str,
     prefix: &'a str,
     options: SlowOptions,
+    named: &[Held<'_>],
 ) -> Ending<'a, Refusal>
     requires { AreInRange options.numbers }
-    ensures { CommandRow (net.now ∷ []) (run_files prefix.now) (transition_due options)
+    ensures { CommandRow (net.now ∷ []) (run_files prefix.now) (transition_due options (map hold_of named.now))
         (world (S.files shelf.old) (S.failures shelf.old) (T.taken out.old) (T.failures out.old))
         (world (S.files shelf.new) (S.failures shelf.new) (T.taken out.new) (T.failures out.new)) result }
 {
@@ -251,6 +331,6 @@ pub fn test_slow_lines<'a, R: Threads + Sync, S: Shelf, T: Sink, G: Gate + Sync>
         Ok(texts) => texts,
         Err(ending) => return ending,
     };
-    let worked = work(rt, alloc, stage, texts, options);
+    let worked = work(rt, alloc, stage, texts, options, named);
     deliver(alloc, shelf, out, &writes, worked)
 }

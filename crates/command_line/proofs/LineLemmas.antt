@@ -122,7 +122,7 @@ pub is_diagnose : (rows : List Row) → line_from (diagnose_of rows) ≡ line_by
 unfolding line_by
 is_diagnose rows = refl
 
-pub is_transition : (rows : List Row) → line_from (transition_of rows) ≡ line_by (codes "transition") rows
+pub is_transition : (rows : List Row) → transition_of rows ≡ line_by (codes "transition") rows
 unfolding line_by
 is_transition rows = refl
 

@@ -41,8 +41,8 @@ pub data CommandLine : Type 0 where
   chaintest : Text → Text → ℕ → CommandLine
   -- the design's file, the STIL file, the file of the tester's log, and the numbers
   diagnose : Text → Text → Text → DiagnoseOptions → CommandLine
-  -- the netlist's file, what the names of the files written begin with, and the engine and the numbers
-  transition : Text → Text → SlowOptions → CommandLine
+  -- the netlist's file, what the names of the files written begin with, the engine and the numbers, and the inputs that are held
+  transition : Text → Text → SlowOptions → List HoldItem → CommandLine
   -- the design's file, the STIL file, what the name of the file written begins with, and how many chains at most
   grade : Text → Text → Text → ℕ → CommandLine
 
@@ -78,7 +78,7 @@ reads (check prefix) = run_files prefix
 reads (sweep seed gates) = []
 reads (chaintest net stil chains) = net ∷ stil ∷ []
 reads (diagnose net stil log options) = net ∷ stil ∷ log ∷ []
-reads (transition net prefix options) = net ∷ []
+reads (transition net prefix options holds) = net ∷ []
 reads (grade net stil prefix chains) = net ∷ stil ∷ []
 
 -- the name of the file of grades
@@ -89,7 +89,7 @@ grade_file prefix = prefix ++ codes ".grade"
 abbrev pub writes : CommandLine → List Text
 writes (scan net to chains order) = to ∷ []
 writes (run net prefix order list first options holds) = run_files prefix
-writes (transition net prefix options) = run_files prefix
+writes (transition net prefix options holds) = run_files prefix
 writes (grade net stil prefix chains) = grade_file prefix ∷ []
 writes _ = []
 
@@ -107,7 +107,7 @@ if_nameless prefix = if is_nameless prefix then Some prefix else None
 -- what the names of the files written begin with, where that leaves them nameless
 abbrev pub nameless_prefix : CommandLine → Option Text
 nameless_prefix (run net prefix order list first options holds) = if_nameless prefix
-nameless_prefix (transition net prefix options) = if_nameless prefix
+nameless_prefix (transition net prefix options holds) = if_nameless prefix
 nameless_prefix (grade net stil prefix chains) = if_nameless prefix
 nameless_prefix _ = None
 
@@ -230,9 +230,14 @@ run_where rows None s holds = Err bad_words
 abbrev pub run_of : List Row → Result CommandLine NoLine
 run_of rows = run_where rows (order_of rows) (search_of rows) (holds_given (first_of (codes "hold") rows))
 
-abbrev pub transition_of : List Row → Option CommandLine
-transition_of rows = option_and_then (λ engine. option_map (λ s. transition s.0 s.1 (record { engine = engine; numbers = s.2 })) (search_of rows))
-    (engine_given (first_of (codes "engine") rows) (first_of (codes "then") rows))
+abbrev pub transition_by : Option EngineName → Option Search → Option (List HoldItem) → Result CommandLine NoLine
+transition_by (Some engine) (Some s) (Some holds) = Ok (transition s.0 s.1 (record { engine = engine; numbers = s.2 }) holds)
+transition_by (Some engine) (Some s) None = Err bad_hold
+transition_by (Some engine) None holds = Err bad_words
+transition_by None s holds = Err bad_words
+
+abbrev pub transition_of : List Row → Result CommandLine NoLine
+transition_of rows = transition_by (engine_given (first_of (codes "engine") rows) (first_of (codes "then") rows)) (search_of rows) (holds_given (first_of (codes "hold") rows))
 
 abbrev pub play_of : List Row → Option CommandLine
 play_of rows = option_and_then (λ net. option_map (λ stil. play net stil (first_of (codes "fault") rows))
@@ -278,7 +283,7 @@ line_by name rows =
     else if bytes_eq name (codes "sweep") then line_from (sweep_of rows)
     else if bytes_eq name (codes "chaintest") then line_from (chaintest_of rows)
     else if bytes_eq name (codes "diagnose") then line_from (diagnose_of rows)
-    else if bytes_eq name (codes "transition") then line_from (transition_of rows)
+    else if bytes_eq name (codes "transition") then transition_of rows
     else if bytes_eq name (codes "grade") then line_from (grade_of rows)
     else Err bad_words
 
@@ -312,7 +317,7 @@ command_line_of (request.Check prefix) = check prefix.now
 command_line_of (request.Sweep seed gates) = sweep seed gates
 command_line_of (request.ChainTest net stil chains) = chaintest net.now stil.now chains
 command_line_of (request.Diagnose net stil log options) = diagnose net.now stil.now log.now options
-command_line_of (request.Transition net prefix options) = transition net.now prefix.now options
+command_line_of (request.Transition net prefix options holds) = transition net.now prefix.now options (map hold_of holds.items)
 command_line_of (request.Grade net stil prefix chains) = grade net.now stil.now prefix.now chains
 
 pub record AreInRange (numbers : SearchNumbers) : Type 0 where
@@ -343,6 +348,6 @@ IsInRange (request.Run names options holds) = AreInRunRange options
 IsInRange (request.Sweep seed gates) = (fewest_gates ≤ gates) × (gates ≤ most_gates)
 IsInRange (request.ChainTest net stil chains) = (1 ≤ chains) × (chains ≤ most_chains)
 IsInRange (request.Diagnose net stil log options) = AreWithin options
-IsInRange (request.Transition net prefix options) = AreInRange options.numbers
+IsInRange (request.Transition net prefix options holds) = AreInRange options.numbers
 IsInRange (request.Grade net stil prefix chains) = (1 ≤ chains) × (chains ≤ most_chains)
 IsInRange _ = ⊤

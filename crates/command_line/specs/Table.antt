@@ -97,9 +97,9 @@ diagnose_command = command (codes "diagnose")
     (required (codes "NET") ∷ required (codes "STIL") ∷ required (codes "LOG") ∷ number_option (codes "chains") 1 most_chains
     ∷ number_option (codes "workers") 1 most_workers ∷ number_option (codes "rank") 1 most_rank ∷ [])
 
--- transition NET PREFIX .. [--engine E] [--then E]
+-- transition NET PREFIX .. [--engine E] [--then E] [--hold LIST]
 abbrev pub transition_command : Shape
-transition_command = command (codes "transition") (search_rules ++ text_option (codes "engine") ∷ text_option (codes "then") ∷ [])
+transition_command = command (codes "transition") (search_rules ++ text_option (codes "engine") ∷ text_option (codes "then") ∷ text_option (codes "hold") ∷ [])
 
 -- grade NET STIL PREFIX [--chains C]
 abbrev pub grade_command : Shape

@@ -78,6 +78,8 @@ const ENGINE: Argument<'static> = Text(
 
 const THEN: Argument<'static> = Text("then", "What settles what podem or fan gives up: clauses");
 
+const HOLD: Argument<'static> = Text("hold", "Inputs that are held, as NAME=0,NAME=1");
+
 const ORDER: Argument<'static> = Text(
     "order",
     "A file with a line for each chain, the names of its cells",
@@ -112,7 +114,7 @@ const RUN: Listed<'static> = Listed {
         SEED,
         ENGINE,
         THEN,
-        Text("hold", "Inputs that are held, as NAME=0,NAME=1"),
+        HOLD,
         Text("faults", "A file that lists the faults that are asked for"),
         Number(
             "coverage",
@@ -202,7 +204,9 @@ const DIAGNOSE: Listed<'static> = Listed {
 const TRANSITION: Listed<'static> = Listed {
     name: "transition",
     about: "Searches tests for the slow lines of a netlist",
-    arguments: &[NET, RUN_PREFIX, CHAINS, WORKERS, LIMIT, SEED, ENGINE, THEN],
+    arguments: &[
+        NET, RUN_PREFIX, CHAINS, WORKERS, LIMIT, SEED, ENGINE, THEN, HOLD,
+    ],
 };
 
 const GRADE: Listed<'static> = Listed {

@@ -170,12 +170,13 @@ pub enum Request<'a> {
         log: &'a str,
         options: DiagnoseOptions,
     },
-    /// Search tests for the slow lines of the netlist of the file `net`, and write the files whose
-    /// names begin with `prefix`.
+    /// Search tests for the slow lines of the netlist of the file `net`, its inputs of these names
+    /// held, and write the files whose names begin with `prefix`.
     Transition {
         net: &'a str,
         prefix: &'a str,
         options: SlowOptions,
+        holds: Vec<Held<'a>>,
     },
     /// Say which stuck lines of the netlist of the file `net`, scanned in at most `chains` chains,
     /// the file `stil` detects, in the file whose name begins with `prefix`.
@@ -499,21 +500,26 @@ fn run<'a>(alloc: Global, found: &ArgMatches<'a>) -> Result<Request<'a>, NoReque
     }
 }
 
-fn transition<'a>(found: &ArgMatches<'a>) -> Result<Request<'a>, NoRequest>
-    ensures line { IsAsked (line_from (transition_of (rows_of (found_of found.now)))) result }
+fn transition<'a>(alloc: Global, found: &ArgMatches<'a>) -> Result<Request<'a>, NoRequest>
+    ensures line { IsAsked (transition_of (rows_of (found_of found.now))) result }
     ensures in_range { IfOk result IsInRange }
 {
     let Some(engine) = engine(text(found, "engine"), text(found, "then")) else {
         return Err(NoRequest::BadEngine);
     };
-    match search_line(found) {
-        Ok(line) => Ok(Request::Transition {
+    let line = match search_line(found) {
+        Ok(line) => line,
+        Err(none) => return Err(none),
+    };
+    match holds(alloc, found) {
+        Ok(holds) => Ok(Request::Transition {
             net: line.net,
             prefix: line.prefix,
             options: SlowOptions {
                 engine,
                 numbers: line.numbers,
             },
+            holds,
         }),
         Err(none) => Err(none),
     }
@@ -553,7 +559,7 @@ fn request_by<'a>(
         "sweep" => taken(sweep(found)),
         "chaintest" => taken(chaintest(found)),
         "diagnose" => taken(diagnose(found)),
-        "transition" => transition(found),
+        "transition" => transition(alloc, found),
         "grade" => taken(grade(found)),
         _ => Err(NoRequest::BadNumber),
     }

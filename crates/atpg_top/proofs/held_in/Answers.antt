@@ -7,3 +7,6 @@ use Rattle.atpg_top.proofs.held_in.Goals as goal
 
 pub returns-in-Run : goal.returns-in-Run
 returns-in-Run c = rw c.in-Run.is (ap names_held c.as_slice.ensures.value ∙ sym (map_map hold_of (λ (h : HoldItem). h.0) c.in-Run.holds.items))
+
+pub returns-in-Transition : goal.returns-in-Transition
+returns-in-Transition c = rw c.in-Transition.is (ap names_held c.as_slice-in-Transition.ensures.value ∙ sym (map_map hold_of (λ (h : HoldItem). h.0) c.in-Transition.holds.items))

@@ -20,7 +20,7 @@ pub returns-in-Diagnose : goal.returns-in-Diagnose
 returns-in-Diagnose g c = rw c.in-Diagnose.is c.diagnose_log.ensures
 
 pub returns-in-Transition : goal.returns-in-Transition
-returns-in-Transition g c = rw c.in-Transition.is c.test_slow_lines.ensures
+returns-in-Transition g c = rw (c.in-Transition.is, sym c.as_slice-in-Transition.ensures.value) c.test_slow_lines.ensures
 
 pub returns-in-Grade : goal.returns-in-Grade
 returns-in-Grade g c = rw c.in-Grade.is c.grade_test.ensures

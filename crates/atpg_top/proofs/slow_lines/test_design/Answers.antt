@@ -1,14 +1,31 @@
-use Rattle.std.proofs.Common.{refl, subst}
+use Rattle.std.proofs.Common.{◌∙◌, None, map, subst}
+use Rattle.std.proofs.lemmas.List.{length-map}
 use Rattle.statement.specs.Netlists.{Netlist}
-use Rattle.commands.specs.Due.{Deliver}
-use Rattle.commands.specs.Names.{texts_of}
-use Rattle.atpg_top.specs.inner.Running.{slow_due}
+use Rattle.netlist.specs.Holds.{none_held}
+use Rattle.commands.specs.Worked.{IsWorked}
+use Rattle.command_line.specs.CommandLine.{hold_of}
+use Rattle.command_steps.specs.Steps.{named_holds}
+use Rattle.command_steps.proofs.HoldLemmas.{held_length}
+use Rattle.command_steps.proofs.StepLemmas.{stopped, then_worked}
+use Rattle.atpg_top.specs.Commands.{named_slow_due, slow_due}
 use Rattle.atpg_top.proofs.slow_lines.test_design.Goals as goal
 
-pub returns-in-Ok-product_by : goal.returns-in-Ok-product_by
-returns-in-Ok-product_by g c =
-    let p = c.in-Ok-product_by in (
-      subst (λ (m : Netlist). slow_due c.args.options m (Deliver (texts_of p.product.texts.items) p.product.shown.items p.product.finding)) c.in-Ok.ensures
-          (c.in-Ok-made_of.made, c.in-Ok-made_of.ensures, rw (p.ensures.texts, p.ensures.shown, p.ensures.fine) refl),
-      p.ensures.count,
-    )
+pub test_held-requires-clause-held : goal.test_held-requires-clause-held
+test_held-requires-clause-held g c =
+    let n = c.in-Ok.core in
+    held_length n (map hold_of c.args.named.now) (none_held n) c.in-Ok-holds_of.holds c.in-Ok-holds_of.ensures ∙ length-map n.inputs (λ _. None)
+
+pub returns-in-Ok-holds_of : goal.returns-in-Ok-holds_of
+returns-in-Ok-holds_of g c =
+    let n = c.in-Ok.core in
+    let named = map hold_of c.args.named.now in
+    subst (λ (m : Netlist). IsWorked (named_slow_due c.args.options named m) 5 c.test_held.result) c.in-Ok.ensures
+    (then_worked (named_holds n named) (slow_due c.args.options n) 5 c.in-Ok-holds_of.holds c.test_held.result c.in-Ok-holds_of.ensures c.test_held.ensures)
+
+pub returns-in-Err-holds_of : goal.returns-in-Err-holds_of
+returns-in-Err-holds_of g c =
+    let n = c.in-Ok.core in
+    let named = map hold_of c.args.named.now in
+    let s = c.in-Err-holds_of.stop in
+    subst (λ (m : Netlist). IsWorked (named_slow_due c.args.options named m) 5 (Err s)) c.in-Ok.ensures
+    (stopped (named_holds n named) (slow_due c.args.options n) 5 s c.in-Err-holds_of.ensures)

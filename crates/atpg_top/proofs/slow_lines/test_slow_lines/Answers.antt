@@ -1,8 +1,9 @@
-use Rattle.std.proofs.Common.{[], ◌∷◌, ap}
+use Rattle.std.proofs.Common.{[], ◌∷◌, ap, map}
 use Rattle.statement.specs.Benches.{Text}
 use Rattle.commands.specs.Names.{file_name_of, file_names_of, run_files, texts_of}
 use Rattle.commands.specs.World.{world}
 use Rattle.commands.proofs.CommandLemmas.{command_row}
+use Rattle.command_line.specs.CommandLine.{hold_of}
 use Rattle.atpg_top.specs.Commands.{transition_due}
 use Rattle.command_steps.proofs.RowLemmas.{row_at}
 use Rattle.atpg_top.proofs.slow_lines.test_slow_lines.Goals as goal
@@ -14,7 +15,7 @@ returns g c =
     let taken = g.T.Sink.taken c.args.out.now in
     let unwritten = g.T.Sink.failures c.args.out.now in
     let after = world (g.S.Shelf.files c.deliver.new.shelf) (g.S.Shelf.failures c.deliver.new.shelf) (g.T.Sink.taken c.deliver.new.out) (g.T.Sink.failures c.deliver.new.out) in
-    let due = transition_due c.args.options in
+    let due = transition_due c.args.options (map hold_of c.args.named.now) in
     let reads = file_name_of c.of.result ∷ [] in
     let writes = file_names_of c.file_names-writes.result in
     let read = c.in-Ok.ensures in
