@@ -1,8 +1,8 @@
 //! Laws of `top`'s rows: functions that do nothing, whose contracts are the laws.
-ghost use Rattle.atpg_top.specs.Checks.{RunsPass};
+ghost use Rattle.atpg_top.specs.Checks.{RunsPass, TransitionsPass};
 ghost use Rattle.atpg_top.specs.Laws.{DeclinedExactly, EachExclusive, FailedExactly, MissingExactly, NothingElse, RefusedExactly, TooLongExactly};
 
-use check_command::{check_exclusive, good_files_checked};
+use check_command::{check_exclusive, good_files_checked, good_slow_files_checked};
 use diagnose::one_log;
 use stil_read::laws::at_most_one;
 
@@ -58,4 +58,11 @@ pub fn runs_pass()
     ensures { RunsPass }
 {
     good_files_checked();
+}
+
+/// The files of a run for slow lines pass the check likewise.
+pub fn transitions_pass()
+    ensures { TransitionsPass }
+{
+    good_slow_files_checked();
 }

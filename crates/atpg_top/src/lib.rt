@@ -45,7 +45,7 @@ use commands::Ending;
 use diagnose_command::diagnose_log;
 pub use laws::{
     declined_exactly, each_exclusive, failed_exactly, missing_exactly, nothing_else,
-    refused_exactly, runs_pass, too_long_exactly,
+    refused_exactly, runs_pass, too_long_exactly, transitions_pass,
 };
 use lines::tell;
 use listing::list_faults;
