@@ -12,7 +12,6 @@ use Rattle.statement.specs.Values.{bits, known, next, outs}
 use Rattle.statement.specs.Stils.{Call, Item, StilFile, Vector, where_chained}
 use Rattle.statement.specs.Tests.{cells_of, Response, Responds, capture_item, flush}
 use Rattle.netlist.specs.Conditions.{IsSound}
-use Rattle.netlist.specs.Holds.{none_held}
 use Rattle.cubes.specs.Cubes.{IsPatternOf}
 use Rattle.scan_insert.specs.Scanned.{AreChainsOf}
 use Rattle.scan_play.proofs.Widths.{cells_count}
@@ -75,9 +74,9 @@ seconds_obey P (p ∷ q ∷ ps) h =
 
 -- ---- items
 
-module _ (n : Netlist) (outs : ℕ) where
+module _ (n : Netlist) (holds : Holds) (outs : ℕ) where
   abbrev obeys : Pattern → Type 0
-  obeys = IsPatternOf n (none_held n)
+  obeys = IsPatternOf n holds
 
   launched_back : (chain : List ℕ) (rest : List (List ℕ)) (before : Item) (held : List Tri) (ps : List Pattern) (rs : List Response)
       → length (cells n) ≡ length (cells_of (chain ∷ rest)) → All obeys ps → AllZip (RespondsTwice n) ps rs
@@ -109,52 +108,50 @@ module _ (n : Netlist) (outs : ℕ) where
 
 -- ---- files
 
-file_tests : (n : Netlist) (chains : List (List ℕ)) (ps : List Pattern) (f : StilFile) (is : IsLaunchFileOf n chains ps f)
-    → applied_in n (none_held n) chains f ≡ filter (is_pattern n (none_held n)) (tests_in (length chains) chains (launch_items (length n.outputs) chains (zip ps is.responses)))
-file_tests n chains ps f is =
+file_tests : (n : Netlist) (holds : Holds) (chains : List (List ℕ)) (ps : List Pattern) (f : StilFile) (is : IsLaunchFileOf n holds chains ps f)
+    → applied_in n holds chains f ≡ filter (is_pattern n holds) (tests_in (length chains) chains (launch_items (length n.outputs) chains (zip ps is.responses)))
+file_tests n holds chains ps f is =
     let items = launch_items (length n.outputs) chains (zip ps is.responses) in
-    ap (applied_in n (none_held n) chains) is.is
-    ∙ ap (λ k. filter (is_pattern n (none_held n)) (tests_in k chains items)) (length-map chains (map (name_of n)))
+    ap (applied_in n holds chains) is.is
+    ∙ ap (λ k. filter (is_pattern n holds) (tests_in k chains items)) (length-map chains (map (name_of n)))
 
-pub file_back : (n : Netlist) (chains : List (List ℕ)) (ps : List Pattern) (f : StilFile) → AreChainsOf n chains → All (IsPatternOf n (none_held n)) ps → IsLaunchFileOf n chains ps f
-    → launched_in n chains f ≡ ps
-file_back n [] ps f are h is =
+pub file_back : (n : Netlist) (holds : Holds) (chains : List (List ℕ)) (ps : List Pattern) (f : StilFile) → AreChainsOf n chains → All (IsPatternOf n holds) ps → IsLaunchFileOf n holds chains ps f
+    → launched_in n holds chains f ≡ ps
+file_back n holds [] ps f are h is =
     let nothing = replicate (length (cells_of [])) X in
-    ap every_second (file_tests n [] ps f is
-    ∙ (ap (filter (is_pattern n (none_held n))) (both_back n (length n.outputs) (Vector []) nothing ps is.responses (cells_count n [] are) h is.respond)
-    ∙ all_picked n (none_held n) (twice ps) (all_twice (IsPatternOf n (none_held n)) ps h))) ∙ once_of ps
-file_back n (chain ∷ rest) ps f are h is =
+    ap every_second (file_tests n holds [] ps f is
+    ∙ (ap (filter (is_pattern n holds)) (both_back n holds (length n.outputs) (Vector []) nothing ps is.responses (cells_count n [] are) h is.respond)
+    ∙ all_picked n holds (twice ps) (all_twice (IsPatternOf n holds) ps h))) ∙ once_of ps
+file_back n holds (chain ∷ rest) ps f are h is =
     let chains = chain ∷ rest in
     let zeros = Call (load_words chains (replicate (length (cells_of chains)) false) (map known (map not (flush chains)))) in
-    file_tests n chains ps f is
-    ∙ (ap (filter (is_pattern n (none_held n)))
-    (launched_back n (length n.outputs) chain rest zeros (replicate (length (cells_of chains)) X) ps is.responses (cells_count n chains are) h is.respond)
-    ∙ all_picked n (none_held n) ps h)
+    file_tests n holds chains ps f is
+    ∙ (ap (filter (is_pattern n holds))
+    (launched_back n holds (length n.outputs) chain rest zeros (replicate (length (cells_of chains)) X) ps is.responses (cells_count n chains are) h is.respond)
+    ∙ all_picked n holds ps h)
 
 -- what is read of a file, with chains and without
-pub read_loads : (n : Netlist) (holds : Holds) (chains : List (List ℕ)) (f : StilFile) (read : List Pattern) → 0 < length chains → holds ≡ none_held n
-    → read ≡ applied_in n holds chains f → read ≡ launched_in n chains f
-read_loads n holds [] f read some none is = absurd (omega arith)
-read_loads n holds (chain ∷ rest) f read some none is = is ∙ ap (λ (h : Holds). applied_in n h (chain ∷ rest) f) none
+pub read_loads : (n : Netlist) (holds : Holds) (chains : List (List ℕ)) (f : StilFile) (read : List Pattern) → 0 < length chains
+    → read ≡ applied_in n holds chains f → read ≡ launched_in n holds chains f
+read_loads n holds [] f read some is = absurd (omega arith)
+read_loads n holds (chain ∷ rest) f read some is = is
 
-pub read_launches : (n : Netlist) (holds : Holds) (chains : List (List ℕ)) (f : StilFile) (read kept : List Pattern) → length chains ≡ 0 → holds ≡ none_held n
-    → read ≡ applied_in n holds chains f → kept ≡ every_second read → kept ≡ launched_in n chains f
-read_launches n holds [] f read kept none_there none is kept_is =
-    kept_is ∙ ap every_second (is ∙ ap (λ (h : Holds). applied_in n h [] f) none)
-read_launches n holds (chain ∷ rest) f read kept none_there none is kept_is = absurd (omega (arith, none_there))
+pub read_launches : (n : Netlist) (holds : Holds) (chains : List (List ℕ)) (f : StilFile) (read kept : List Pattern) → length chains ≡ 0
+    → read ≡ applied_in n holds chains f → kept ≡ every_second read → kept ≡ launched_in n holds chains f
+read_launches n holds [] f read kept none_there is kept_is = kept_is ∙ ap every_second is
+read_launches n holds (chain ∷ rest) f read kept none_there is kept_is = absurd (omega (arith, none_there))
 
-pub loads_obey : (n m : Netlist) (holds : Holds) (read : List Pattern) → m ≡ n → holds ≡ none_held n → All (IsPatternOf m holds) read → All (IsPatternOf n (none_held n)) read
-loads_obey n m holds read own none h =
-    subst (λ (k : Holds). All (IsPatternOf n k) read) none (subst (λ (o : Netlist). All (IsPatternOf o holds) read) own h)
+pub loads_obey : (n m : Netlist) (holds : Holds) (read : List Pattern) → m ≡ n → All (IsPatternOf m holds) read → All (IsPatternOf n holds) read
+loads_obey n m holds read own h = subst (λ (o : Netlist). All (IsPatternOf o holds) read) own h
 
-pub launches_obey : (n m : Netlist) (holds : Holds) (read kept : List Pattern) → m ≡ n → holds ≡ none_held n → All (IsPatternOf m holds) read → kept ≡ every_second read
-    → All (IsPatternOf n (none_held n)) kept
-launches_obey n m holds read kept own none h kept_is =
-    let obeys = IsPatternOf n (none_held n) in
-    subst (All obeys) (sym kept_is) (seconds_obey obeys read (loads_obey n m holds read own none h))
+pub launches_obey : (n m : Netlist) (holds : Holds) (read kept : List Pattern) → m ≡ n → All (IsPatternOf m holds) read → kept ≡ every_second read
+    → All (IsPatternOf n holds) kept
+launches_obey n m holds read kept own h kept_is =
+    let obeys = IsPatternOf n holds in
+    subst (All obeys) (sym kept_is) (seconds_obey obeys read (loads_obey n m holds read own h))
 
 pub one_launch_list : OneLaunchPatternList
-one_launch_list n chains patterns others f sound are obey also h k = sym (file_back n chains patterns f are obey h) ∙ file_back n chains others f are also k
+one_launch_list n holds chains patterns others f sound are obey also h k = sym (file_back n holds chains patterns f are obey h) ∙ file_back n holds chains others f are also k
 
 -- ---- one file
 
@@ -172,13 +169,13 @@ twice_once n sound p r s h k =
     let own = in_second_frame p (next (bits None) n k.first) in
     responds_once n sound own r s (subst (λ (bits : List Bool). Responds n None (in_second_frame p bits) r) (first_taken n sound p r s h k) h.second) k.second
 
-one_file : (n : Netlist) (chains : List (List ℕ)) (patterns : List Pattern) (f g : StilFile) → IsSound n → IsLaunchFileOf n chains patterns f → IsLaunchFileOf n chains patterns g → f ≡ g
-one_file n chains patterns f g sound h k =
-    h.is ∙ (ap (λ (rs : List Response). launch_file n chains (zip patterns rs))
+one_file : (n : Netlist) (holds : Holds) (chains : List (List ℕ)) (patterns : List Pattern) (f g : StilFile) → IsSound n → IsLaunchFileOf n holds chains patterns f → IsLaunchFileOf n holds chains patterns g → f ≡ g
+one_file n holds chains patterns f g sound h k =
+    h.is ∙ (ap (λ (rs : List Response). launch_file n holds chains (zip patterns rs))
     (all_once (RespondsTwice n) (twice_once n sound) patterns h.responses k.responses h.respond k.respond) ∙ sym k.is)
 
 -- the file of what another one launches is that other, or the other is that of no patterns
-pub none_has : (n : Netlist) (chains : List (List ℕ)) (f own : StilFile) (read : List Pattern) → IsSound n → AreChainsOf n chains → read ≡ launched_in n chains f
-    → IsLaunchFileOf n chains read own → (own ≡ f → ⊥) → (ps : List Pattern) → All (IsPatternOf n (none_held n)) ps → IsLaunchFileOf n chains ps f → ⊥
-none_has n chains f own read sound are is made none ps obey h =
-    none (one_file n chains read own f sound made (subst (λ (qs : List Pattern). IsLaunchFileOf n chains qs f) (sym (is ∙ file_back n chains ps f are obey h)) h))
+pub none_has : (n : Netlist) (holds : Holds) (chains : List (List ℕ)) (f own : StilFile) (read : List Pattern) → IsSound n → AreChainsOf n chains → read ≡ launched_in n holds chains f
+    → IsLaunchFileOf n holds chains read own → (own ≡ f → ⊥) → (ps : List Pattern) → All (IsPatternOf n holds) ps → IsLaunchFileOf n holds chains ps f → ⊥
+none_has n holds chains f own read sound are is made none ps obey h =
+    none (one_file n holds chains read own f sound made (subst (λ (qs : List Pattern). IsLaunchFileOf n holds chains qs f) (sym (is ∙ file_back n holds chains ps f are obey h)) h))

@@ -2,7 +2,7 @@
 ghost use Rattle.std.specs.Prelude.{◌≡◌, ◌++◌, ◌∷◌, [], cond, List, IfOk, MatchOption, OnOk};
 ghost use Rattle.std.specs.List.{All};
 ghost use Rattle.netlist.specs.Designs.{IsDesign};
-ghost use Rattle.netlist.specs.Holds.{none_held};
+ghost use Rattle.netlist.specs.Holds.{AreHoldsOf};
 ghost use Rattle.cubes.specs.Cubes.{IsPatternOf};
 ghost use Rattle.statement.specs.Patterns.{Pattern as Test};
 ghost use Rattle.scan_insert.specs.Scanned.{AreChainsOf};
@@ -40,19 +40,20 @@ fn every_second(alloc: Global, patterns: Vec<Pattern>) -> Result<Vec<Pattern>, A
     Ok(kept)
 }
 
-/// The patterns that a file launches: those that it applies, each load with the launch behind it. Without chains nothing is loaded, and each launch has
-/// a capture behind it that would be one too.
+/// The patterns that a file launches and that obey the held inputs: those that it applies, each load with the launch behind it. Without chains nothing
+/// is loaded, and each launch has a capture behind it that would be one too.
 fn launched_patterns(
     alloc: Global,
     core: &Core,
     chains: &Chains,
     file: &StilFile,
+    holds: &Holds,
 ) -> Result<Vec<Pattern>, NoMemory>
-    ensures are { IfOk result (λ patterns. patterns.items ≡ launched_in core.now chains.now file.now) }
-    ensures obey { IfOk result (λ patterns. All (IsPatternOf core.now (none_held core.now)) patterns.items) }
+    requires { AreHoldsOf core.now holds.now }
+    ensures are { IfOk result (λ patterns. patterns.items ≡ launched_in core.now holds.now chains.now file.now) }
+    ensures obey { IfOk result (λ patterns. All (IsPatternOf core.now holds.now) patterns.items) }
 {
-    let holds = Holds::none(alloc, core)?;
-    let applied = applied_patterns(alloc, core.netlist(), chains, &holds, file)?;
+    let applied = applied_patterns(alloc, core.netlist(), chains, holds, file)?;
     if chains.count() > 0 {
         return Ok(applied);
     }
@@ -60,23 +61,25 @@ fn launched_patterns(
     Ok(kept)
 }
 
-/// The patterns of which this is the file by launch on capture; None where it is that of no patterns.
+/// The patterns that obey the held inputs and of which this is the file by launch on capture; None where it is that of no such patterns.
 pub fn launch_patterns_of(
     alloc: Global,
     core: &Core,
     chains: &Chains,
     file: &StilFile,
+    holds: &Holds,
 ) -> Result<Option<Vec<Pattern>>, NoMemory>
     requires design { IsDesign core.now }
+    requires holds { AreHoldsOf core.now holds.now }
     requires chains { AreChainsOf core.now chains.now }
     ensures { IfOk result (λ found. MatchOption found
-        ((patterns : List Test) → All (IsPatternOf core.now (none_held core.now)) patterns → ¬ IsLaunchFileOf core.now chains.now patterns file.now)
-        (λ patterns. All (IsPatternOf core.now (none_held core.now)) patterns.items × IsLaunchFileOf core.now chains.now patterns.items file.now)) }
+        ((patterns : List Test) → All (IsPatternOf core.now holds.now) patterns → ¬ IsLaunchFileOf core.now holds.now chains.now patterns file.now)
+        (λ patterns. All (IsPatternOf core.now holds.now) patterns.items × IsLaunchFileOf core.now holds.now chains.now patterns.items file.now)) }
 {
     let netlist = core.netlist();
     netlist.sound();
-    let patterns = launched_patterns(alloc, core, chains, file)?;
-    let own = stil2_of(alloc, core, chains, &patterns)?;
+    let patterns = launched_patterns(alloc, core, chains, file, holds)?;
+    let own = stil2_of(alloc, core, chains, &patterns, holds)?;
     match are_same(alloc, &own, file) {
         Ok(true) => Ok(Some(patterns)),
         Ok(false) => Ok(None),

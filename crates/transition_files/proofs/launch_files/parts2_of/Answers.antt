@@ -4,5 +4,5 @@ use Rattle.transition_files.proofs.launch_files.parts2_of.Goals as goal
 
 pub returns : goal.returns
 returns c =
-    filed c.args.core.now c.in_ok-holds.holds c.args.chains.now c.args.patterns.now c.in-Ok.items (file_of c.in_ok-parts.parts)
-    c.in_ok-holds.ensures c.in-Ok.ensures c.in_ok-parts.ensures
+    filed c.args.core.now c.args.holds.now c.args.chains.now c.args.patterns.now c.in-Ok.items (file_of c.in_ok-parts.parts)
+    c.requires.holds c.in-Ok.ensures c.in_ok-parts.ensures
