@@ -14,7 +14,8 @@ use Rattle.statement.specs.declared.outcomes.Outcome.{Outcome}
 use Rattle.statement.specs.declared.outcomes.Outcome.TheVariants.{Detected, Redundant, Aborted, Unasked}
 use Rattle.statement.specs.Faults.{universe_of}
 use Rattle.statement.specs.Netlists.{Netlist}
-use Rattle.statement.specs.Patterns.{Pattern}
+use Rattle.statement.specs.Patterns.{Holds, Obeys, Pattern}
+use Rattle.cubes.specs.Cubes.{IsPatternOf}
 use Rattle.statement.specs.Reports.{Line}
 use Rattle.statement.specs.Runs.{Cycle}
 use Rattle.statement.specs.Statement.{FiveFiles}
@@ -33,7 +34,7 @@ use Rattle.transition_frames.specs.Transition.{DetectsTransition}
 use Rattle.transition_sim.specs.Detections.{LastTransition}
 use Rattle.transition_sim.specs.Laws.{ShownHasNoTransition}
 use Rattle.transition_play.specs.LaunchVectors.{AreLaunchVectors}
-use Rattle.transition_play.specs.Laws.{DetectedFailsSlowly, GoodPassesLaunches, LaunchVectorsFit, SomeSlowRun, UndetectedPassesSlowly}
+use Rattle.transition_play.specs.Laws.{DetectedFailsSlowly, GoodPassesLaunches, LaunchVectorsFit, LaunchVectorsObey, SomeSlowRun, UndetectedPassesSlowly}
 use Rattle.transition_files.specs.Laws.{LaunchFileVectors}
 use Rattle.transition_report.specs.Texts.{transition_text}
 use Rattle.good_slow_files.specs.Theorem.{AreUndetectedTransitions, ComesTrue, TransitionTheorem}
@@ -51,6 +52,7 @@ pub record Laws : Type 0 where
   pub detected : DetectedFailsSlowly
   pub undetected : UndetectedPassesSlowly
   pub run : SomeSlowRun
+  pub obey : LaunchVectorsObey
 
 same_some : {X : Type 0} (x y : X) → Some x ≡ Some y → x ≡ y
 same_some x y e = cc
@@ -120,6 +122,9 @@ any_kind : (e : Evidence) → MayBe true e
 any_kind (Tree nodes) = tt
 any_kind (Refutation steps) = refl
 
+pub any_kinds : (es : List (Fault × Evidence)) → All (λ (p : Fault × Evidence). MayBe true p.1) es
+any_kinds es k d lt = any_kind (get_or es k d).1
+
 -- ---- the tester
 
 -- what a test and its file are
@@ -127,14 +132,14 @@ record IsPlayable (t : SlowTest) (cycles : List Cycle) : Type 0 where
   sound : IsSound t.netlist
   design : IsDesign t.netlist
   dealt : AreChainsOf t.netlist t.chains
-  vectors : AreLaunchVectors t.netlist t.chains t.patterns cycles
+  vectors : AreLaunchVectors t.netlist t.holds t.chains t.patterns cycles
 
 never_at : (n : Netlist) (patterns : List Pattern) (f : Fault) → LastTransition n patterns f None
     → All (λ (p : Pattern). (point : Point) → ¬ DetectsTransition n f p.inputs p.cells point) patterns
 never_at n patterns f never k d lt = λ point t. never k point (record { pattern = get_or patterns k d; at = slice_get-get_or patterns k d lt; detects = t })
 
 comes_true : Laws → (t : SlowTest) (cycles : List Cycle) → IsPlayable t cycles → (f : Fault) → IsLineOf t.netlist f.line → (o : Outcome) (pin : List ℕ) → IsTrueOfSlow t f o pin
-    → ComesTrue t.netlist t.chains t.limit t.patterns t.evidence cycles f o pin
+    → ComesTrue t.netlist t.holds t.chains t.limit t.patterns t.evidence cycles f o pin
 comes_true laws t cycles are f line (Detected place cycle) pin is =
     let here = is.last.here in
     let output = is.seen.0 in (
@@ -143,27 +148,32 @@ comes_true laws t cycles are f line (Detected place cycle) pin is =
       is.last,
       is.seen.1,
       is.seen.2,
-      laws.detected t.netlist t.chains t.patterns cycles f place here.pattern is.point cycle output are.sound are.dealt are.vectors line here.at here.detects is.seen.1,
+      laws.detected t.netlist t.holds t.chains t.patterns cycles f place here.pattern is.point cycle output are.sound are.dealt are.vectors line here.at here.detects is.seen.1,
     )
 comes_true laws t cycles are f line Redundant pin is =
     let e = is.0 in
-    (e, (stands t.evidence f e is.1.first, is.1.shows), is.2, λ inputs state point. laws.shown t.netlist f e are.sound are.design line is.1.shows is.2 inputs state point)
+    (e, (stands t.evidence f e is.1.first, is.1.shows), is.2, laws.shown t.netlist t.holds f e are.sound are.design line is.1.shows is.2)
 comes_true laws t cycles are f line Aborted pin is = (
   is.0,
   (stands t.evidence f (Tree is.0) is.1.first, is.1.shows),
   is.2,
   is.3,
   is.1.never,
-  laws.undetected t.netlist t.chains t.patterns cycles f are.sound are.dealt are.vectors line (never_at t.netlist t.patterns f is.1.never),
+  laws.undetected t.netlist t.holds t.chains t.patterns cycles f are.sound are.dealt are.vectors line (never_at t.netlist t.patterns f is.1.never),
 )
 comes_true laws t cycles are f line Unasked pin is = absurd is
 
 -- ---- good files
 
-pub truth : Laws → (files : FiveFiles) (c : SlowContents) → IsSound c.netlist → IsDesign c.netlist → AreGoodSlowFiles files c
-    → TransitionTheorem c.netlist (slow_chains_in c) (slow_limit_said c.said) true (with_canonical_net files c.netlist)
-truth laws files c sound design good =
+obeyed : (n : Netlist) (holds : Holds) (patterns : List Pattern) → All (IsPatternOf n holds) patterns → All (λ (p : Pattern). Obeys holds p.inputs) patterns
+obeyed n holds patterns obey k d lt = (obey k d lt).obeys
+
+truth_of : Laws → (files : FiveFiles) (c : SlowContents) (refutes : Bool) → IsSound c.netlist → IsDesign c.netlist → (good : AreGoodSlowFiles files c)
+    → All (λ (p : Fault × Evidence). MayBe refutes p.1) c.evidence
+    → TransitionTheorem c.netlist good.tested.holds (slow_chains_in c) (slow_limit_said c.said) refutes (with_canonical_net files c.netlist)
+truth_of laws files c refutes sound design good kinds =
     let n = c.netlist in
+    let holds = good.tested.holds in
     let patterns = good.tested.patterns in
     let lines = c.said.lines in
     let chains = slow_chains_in c in
@@ -171,7 +181,7 @@ truth laws files c sound design good =
     let cycles = vectors_in c.file in
     let are_true = good.faults.lines_true in
     let of_cells = dealt n (slow_chains_said c.said) good.tested.scan.allowed in
-    let vectors = laws.vectors n chains patterns c.file good.tested.test.is_file_of in
+    let vectors = laws.vectors n holds chains patterns c.file good.tested.test.is_file_of in
     let true_of : (place : ℕ) (f : Fault) (l : Line) → slice_get (universe_of n) place ≡ Some f → slice_get lines place ≡ Some l → IsTrueOfSlow t f l.outcome l.pin =
     λ place f l at said.
     let w = are_true.each place (slice_get_within (universe_of n) place f at) in
@@ -193,15 +203,25 @@ truth laws files c sound design good =
       stil_is = good.stand.stil;
       certificate_is = good.stand.certificate.text;
       report_is = good.stand.report;
+      holds_are = good.tested.held;
+      obey = good.tested.test.obey;
       is_file_of = good.tested.test.is_file_of;
-      passes = laws.good n chains patterns cycles sound of_cells vectors;
-      runs = λ f state size. laws.run n chains cycles f state (laws.sound n chains sound design of_cells) size (laws.fit n chains patterns cycles sound of_cells vectors);
+      driven = laws.obey n holds chains patterns cycles vectors (obeyed n holds patterns good.tested.test.obey);
+      passes = laws.good n holds chains patterns cycles sound of_cells vectors;
+      runs = λ f state size. laws.run n chains cycles f state (laws.sound n chains sound design of_cells) size (laws.fit n holds chains patterns cycles sound of_cells vectors);
       once = once t lines are_true;
       comes_true = λ place f line at said.
           comes_true laws t cycles (record { sound = sound; design = design; dealt = of_cells; vectors = vectors }) f
           (laws.lines n f sound (contains_at (universe_of n) place f at)) line.outcome line.pin (true_of place f line at said);
       left = subst (AreUndetectedTransitions n patterns (universe_of n)) (sym good.faults.left) (left t (universe_of n) lines are_true.no_more true_of);
-      kinds = λ k d lt. any_kind (get_or c.evidence k d).1;
+      kinds = kinds;
       all = all_kinds lines one_each ∙ are_true.no_more;
       numbers = good.totals.numbers;
     }
+
+pub truth : Laws → (files : FiveFiles) (c : SlowContents) (refutes : Bool) → IsSound c.netlist → IsDesign c.netlist → (good : AreGoodSlowFiles files c)
+    → All (λ (p : Fault × Evidence). MayBe refutes p.1) c.evidence
+    → (t : TransitionTheorem c.netlist good.tested.holds (slow_chains_in c) (slow_limit_said c.said) refutes (with_canonical_net files c.netlist))
+    × (t.patterns ≡ good.tested.patterns)
+unfolding truth_of
+truth laws files c refutes sound design good kinds = (truth_of laws files c refutes sound design good kinds, refl)

@@ -1,9 +1,13 @@
 -- The laws of good files of slow lines.
-use Rattle.std.specs.Prelude.{ℕ, ◌≡◌, ◌⊎◌, true, Result, Ok, Err, length}
+use Rattle.std.specs.Prelude.{ℕ, ◌≡◌, ◌⊎◌, Bool, Result, Ok, Err, length}
+use Rattle.std.specs.List.{All}
 use Rattle.netlist.specs.Conditions.{IsSound}
 use Rattle.netlist.specs.Designs.{IsDesign}
+use Rattle.statement.specs.declared.lines.Fault.{Fault}
 use Rattle.statement.specs.Statement.{FiveFiles}
 use Rattle.statement.specs.Faults.{universe_of}
+use Rattle.evidence.specs.declared.kinds.Evidence.{Evidence}
+use Rattle.evidence.specs.Evidence.{MayBe}
 use Rattle.good_files.specs.declared.answers.Checked.{Checked}
 use Rattle.good_files.specs.declared.answers.Checked.TheVariants.{Faults}
 use Rattle.good_files.specs.declared.answers.CheckFault.{CheckFault}
@@ -13,11 +17,13 @@ use Rattle.good_slow_files.specs.GoodSlowFiles.{AreGoodSlowFiles, SlowContents, 
 use Rattle.good_slow_files.specs.Checks.{ArePassedSlow, IsSlowAnswer, IsSlowChecked, PassesWhereTrueSlow, with_canonical_net}
 use Rattle.good_slow_files.specs.Theorem.{TransitionTheorem}
 
--- Good files tell the truth.
+-- Good files tell the truth of the patterns by which they are good. There are refutations only where their evidence has some.
 abbrev pub GoodSlowFilesTellTheTruth : Type 0
 GoodSlowFilesTellTheTruth =
-    (files : FiveFiles) (c : SlowContents) → IsSound c.netlist → IsDesign c.netlist → (good : AreGoodSlowFiles files c)
-    → TransitionTheorem c.netlist good.tested.holds (slow_chains_in c) (slow_limit_said c.said) true (with_canonical_net files c.netlist)
+    (files : FiveFiles) (c : SlowContents) (refutes : Bool) → IsSound c.netlist → IsDesign c.netlist → (good : AreGoodSlowFiles files c)
+    → All (λ (p : Fault × Evidence). MayBe refutes p.1) c.evidence
+    → (truth : TransitionTheorem c.netlist good.tested.holds (slow_chains_in c) (slow_limit_said c.said) refutes (with_canonical_net files c.netlist))
+    × (truth.patterns ≡ good.tested.patterns)
 
 -- Where no clause is false, the files are good.
 abbrev pub SlowCheckedIsGood : Type 0

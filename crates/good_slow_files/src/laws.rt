@@ -6,8 +6,8 @@ use scan_insert::laws::scanned_is_sound;
 use stil_read::laws::at_most_one;
 use transition_files::laws::{launch_file_vectors, one_launch_pattern_list};
 use transition_play::laws::{
-    detected_fails_slowly, good_passes_launches, launch_vectors_fit, some_slow_run,
-    undetected_passes_slowly,
+    detected_fails_slowly, good_passes_launches, launch_vectors_fit, launch_vectors_obey,
+    some_slow_run, undetected_passes_slowly,
 };
 use transition_report::{one_transition_certificate, transition_texts_tell_reports};
 use transition_sim::laws::shown_has_no_transition;
@@ -25,6 +25,7 @@ pub fn good_slow_files_tell_the_truth()
     detected_fails_slowly();
     undetected_passes_slowly();
     some_slow_run();
+    launch_vectors_obey();
 }
 
 /// Files that pass the check are good, whoever made them.

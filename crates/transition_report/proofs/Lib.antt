@@ -1,4 +1,5 @@
 pub mod NameLemmas
+pub mod TableTexts
 pub mod ReportTexts
 pub mod SeenLemmas
 pub mod SlowFaultTexts

@@ -10,7 +10,7 @@ use Rattle.report.specs.declared.models.FaultModel.TheVariants.{Transition}
 use Rattle.report.specs.declared.reading.ReportFault.{ReportFault}
 use Rattle.report.specs.declared.reading.ReportFault.TheVariants as fault
 use Rattle.report.specs.Counts.{AreAllAsked}
-use Rattle.report.specs.Reports.{IsLineBy}
+use Rattle.report.specs.Reports.{Hold, IsBenchWord, IsLineBy}
 use Rattle.transition_frames.specs.Frames.{frames_of}
 use Rattle.transition_report.specs.declared.reporting.TransitionReport.{TransitionReport}
 use Rattle.transition_report.specs.Texts.{transition_certificate, transition_report_text}
@@ -20,6 +20,7 @@ pub record IsTransitionReport (r : TransitionReport) : Type 0 where
   pub counts : AreAllAsked r.counts
   pub coverage : r.coverage / 100 < 2 ^ 64
   pub efficiency : r.efficiency / 100 < 2 ^ 64
+  pub holds : All (λ (h : Hold). IsBenchWord h.name) r.holds
   pub lines : All (IsLineBy Transition) r.lines
 
 -- what reading answers: the report with this text, or that no report has it

@@ -1,6 +1,6 @@
 -- Certificates and reports of transition faults as texts: those of stuck lines, with first lines of their own, the transition faults' texts,
 -- and the names of the two frames.
-use Rattle.std.specs.Prelude.{if◌then◌else◌, ℕ, ◌<◌, Bool, List, ◌++◌, codes, length}
+use Rattle.std.specs.Prelude.{if◌then◌else◌, ℕ, ◌<◌, Bool, List, [], ◌∷◌, ◌++◌, codes, length}
 use Rattle.std.specs.List.{flat_map}
 use Rattle.statement.specs.declared.lines.Fault.{Fault}
 use Rattle.statement.specs.Netlists.{Netlist, signals}
@@ -8,8 +8,8 @@ use Rattle.netlist.specs.Lines.{IsLineOf, signal_of}
 use Rattle.statement.specs.Faults.{line_text}
 use Rattle.evidence.specs.declared.kinds.Evidence.{Evidence}
 use Rattle.certificate.specs.Certificates.{evidence_text, has_refutation, HasSignals}
-use Rattle.report.specs.Reports.{slow_text}
-use Rattle.report.specs.Texts.{counts_text, share_line}
+use Rattle.report.specs.Reports.{Hold, slow_text}
+use Rattle.report.specs.Texts.{counts_text, hold_line, share_line}
 use Rattle.statement.specs.Reports.{fault_line}
 use Rattle.transition_frames.specs.Frames.{frames_of}
 use Rattle.transition_report.specs.declared.reporting.TransitionReport.{TransitionReport}
@@ -36,10 +36,16 @@ pub record IsNamedInFrames (n : Netlist) (p : Fault × Evidence) : Type 0 where
   pub signal : signal_of p.0.line < length (signals n)
   pub signals : HasSignals (frames_of n p.0) p.1
 
+-- The second version is written exactly where an input is held.
+abbrev pub transition_head : List Hold → List ℕ
+transition_head [] = codes "atpg transition 1\n"
+transition_head (h ∷ hs) = codes "atpg transition 2\n"
+
 abbrev pub transition_report_text : TransitionReport → List ℕ
 transition_report_text r =
-    codes "atpg transition 1\n"
+    transition_head r.holds
     ++ (counts_text r.counts
     ++ (share_line (codes "coverage ") r.coverage
     ++ (share_line (codes "efficiency ") r.efficiency
-    ++ flat_map fault_line r.lines)))
+    ++ (flat_map hold_line r.holds
+    ++ flat_map fault_line r.lines))))

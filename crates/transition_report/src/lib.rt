@@ -3,7 +3,8 @@
 //!
 //! Gives: `report_of`, `launch_cycles`, `sight_behind`, `push_fault`, `write_report`, `read_transition_report`, `write_certificate`, `read_transition_certificate`.
 //! Proved: each exactly: the numbers of a report, where the tester sees a point, and the texts of report and certificate; the first line of a
-//! certificate says whether there are refutations; no two reports have one text, and no two lists of evidence one certificate.
+//! certificate says whether there are refutations, that of a report whether inputs are held; no two reports have one text, and no two lists of
+//! evidence one certificate.
 //! Tested: run by the command `transition`, by rows of `cases`.
 //! Neither: time.
 #![tactic(auto)]
@@ -11,6 +12,8 @@
 mod certificate_reading;
 mod certificates;
 mod fault_reading;
+mod heads;
+mod hold_lines;
 mod laws;
 mod report_reading;
 mod reporting;

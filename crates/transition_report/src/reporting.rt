@@ -6,19 +6,22 @@ ghost use Rattle.statement.specs.Faults.{universe_of};
 ghost use Rattle.transition_report.specs.Texts.{transition_report_text};
 ghost use Rattle.transition_report.specs.Numbers.{IsReportOf, HasWritableShares};
 
+use crate::heads::{head_line, is_any_held};
+use crate::hold_lines::push_holds;
 use netlist::{Netlist, NoMemory};
-use report::{FaultLines, ReportCounts, push_counts, push_faults, push_share};
+use report::{FaultLines, HoldLines, ReportCounts, push_counts, push_faults, push_share};
 use run_report::{counts_with, share_of, tally_of};
 use scan_insert::Chains;
 use std::alloc::{AllocError, Global};
 
-/// What a test says of a design's transition faults: the counts of a report, coverage and efficiency in hundredths of a percent, and a line for
-/// each fault.
+/// What a test says of a design's transition faults: the counts of a report, coverage and efficiency in hundredths of a percent, the inputs that
+/// are held, and a line for each fault.
 #[derive(Drop)]
 pub struct TransitionReport {
     pub counts: ReportCounts,
     pub coverage: u128,
     pub efficiency: u128,
+    pub holds: HoldLines,
     pub lines: FaultLines,
 }
 
@@ -32,19 +35,21 @@ pub fn launch_cycles(longest: u64, patterns: u64) -> u64
     (patterns + 4) * longest + 2 * patterns
 }
 
-/// The report of these lines, one for each fault, for so many patterns, with this backtrack limit.
+/// The report of these lines, one for each fault, for so many patterns, with this backtrack limit and these inputs held.
 pub fn report_of(
     netlist: &Netlist,
     chains: &Chains,
     patterns: u32,
     limit: u32,
     lines: FaultLines,
+    holds: HoldLines,
 ) -> TransitionReport
     requires chains { AreChainsOf netlist.now chains.now }
     requires lines { length lines ≡ length (universe_of netlist.now) }
     requires few { length lines < 2 ^ 32 }
     ensures report { IsReportOf netlist.now chains.now patterns limit lines result }
     ensures sized { HasWritableShares result }
+    ensures holds { result.holds ≡ holds }
     ensures counts { AreSmallCounts result.counts }
 {
     netlist.sound();
@@ -68,6 +73,7 @@ pub fn report_of(
         counts,
         coverage,
         efficiency,
+        holds,
         lines,
     }
 }
@@ -76,10 +82,11 @@ fn push_report(out: &mut Vec<u8>, report: &TransitionReport) -> Result<(), Alloc
     requires { HasWritableShares report.now }
     ensures { OnOk result (out.new.items ≡ out.old.items ++ transition_report_text report.now) }
 {
-    out.extend_from_slice(b"atpg transition 1\n")?;
+    out.extend_from_slice(head_line(is_any_held(&report.holds)))?;
     push_counts(out, report.counts)?;
     push_share(out, b"coverage ", report.coverage)?;
     push_share(out, b"efficiency ", report.efficiency)?;
+    push_holds(out, &report.holds)?;
     push_faults(out, &report.lines)?;
     Ok(())
 }

@@ -12,4 +12,5 @@ returns c = truth (record {
   detected = c.detected_fails_slowly.ensures;
   undetected = c.undetected_passes_slowly.ensures;
   run = c.some_slow_run.ensures;
+  obey = c.launch_vectors_obey.ensures;
 })
