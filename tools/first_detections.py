@@ -93,7 +93,7 @@ def patterns_of(prefix, design, head):
         return None
     if head.is_slow:
         try:
-            return plain_transition.patterns_of(tokens, netlist, chains)
+            return plain_transition.patterns_of(tokens, netlist, chains, dict(head.held))
         except (IndexError, ValueError):  # fewer words than such a test has
             return None
     return plain_check.patterns_of(tokens, netlist, chains, dict(head.held))

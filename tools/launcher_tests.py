@@ -540,6 +540,7 @@ CAUSES = (
     (("run", "--hold=x=0, y=1", "a.bench", "b"), "2 bad hold", ["atpg: --hold, item 2, ' y=1': no name of .bench has such a byte"]),
     (("run", "--hold=x=0,*=1,x=0", "a.bench", "b"), "2 bad hold", ["atpg: --hold, item 3, 'x=0': x stands twice"]),
     (("run", "--hold=x=0", "a.bench", "b"), "2 no such input: x", []),
+    (("transition", "a.bench", "b", "--hold", "x=2"), "2 bad hold", ["atpg: --hold, item 1, 'x=2': an input is held at 0 or 1"]),
 )
 
 

@@ -67,6 +67,7 @@ def test_completion():
         assert completed("") == ["chaintest", "check", "diagnose", "faults", "grade", "play", "run", "scan", "sweep", "transition"]
         assert completed("c") == ["chaintest", "check"]
         assert completed("scan", "--") == ["--chains", "--order"]
+        assert completed("transition", "a.bench", "b", "--") == ["--chains", "--engine", "--hold", "--limit", "--seed", "--then", "--workers"]
         assert completed("run", "a.bench", "b", "--") == ["--chains", "--compact", "--coverage", "--detect", "--engine", "--faults", "--hold", "--limit", "--order", "--seed",
                                                           "--then", "--with", "--workers"]
         assert completed("scan", "--order", "a.b") == ["a.bench"]

@@ -306,6 +306,30 @@ def test_program_settles_slow_lines_by_clauses():
             plain_transition.try_files(files)
 
 
+def test_program_holds_inputs_of_slow_lines():
+    """With held inputs as many slow lines of s27 are detected as some pattern that obeys detects. A plain program tries all that the files say, that each
+    cycle drives these inputs with their bits among it, and takes them as `check` does; FAN splits and forces what it may."""
+    if not program("atpg_main").exists():
+        return NO_PROGRAM
+    netlist = plain_design.read(example("s27"))
+    ways = (["--limit", "64"], ["--limit", "64", "--chains", "2", "--workers", "3"], ["--engine", "fan", "--limit", "65536"], ["--engine", "clauses", "--limit", "1", "--workers", "3"])
+    with tempfile.TemporaryDirectory() as room:
+        folder = pathlib.Path(room)
+        (folder / "s27.bench").write_bytes(example("s27"))
+        for held, way in itertools.product(({"G0": 0}, {"G3": 1, "G1": 0}), ways):
+            words = ["transition", "s27.bench", "p", "--hold", ",".join(f"{name}={bit}" for name, bit in held.items()), *way]
+            said = subprocess.run([program("atpg_main"), *words], cwd=folder, check=True, capture_output=True, timeout=60).stdout.decode()
+            detected = sum(map(bool, plain_transition.tests_of(netlist, held)))
+            assert said.startswith(f"faults 52 detected {detected} redundant {52 - detected} aborted 0 "), (words, said)
+            files = plain_check.read_files(folder / "p")
+            assert plain_transition.read_report(files["rep"])[1] == sorted(held.items()), words
+            assert plain_transition.try_files(files) == 52 and plain_transition.check(files) == (0, "checked 52 faults"), words
+            checked = subprocess.run([program("atpg_main"), "check", "p"], cwd=folder, capture_output=True, timeout=60)
+            assert (checked.returncode, checked.stdout) == (0, b"checked 52 faults\n"), words
+            if "fan" in way:
+                assert not check_places.wrong_trees(netlist, files["cert"].decode(), held)[1], words
+
+
 def test_program_settles_by_clauses():
     """Of the example datapath, one of whose faults no tree of a hundred closed ends shows redundant, clauses leave none aborted; so do they where PODEM
     has given up. A plain checker takes each refutation, and `check` the five files."""

@@ -18,9 +18,10 @@ import sys
 sys.path.insert(0, str(pathlib.Path(__file__).resolve().parent.parent / "bench/oracle"))
 import plain_check  # noqa: E402
 import plain_design as plain  # noqa: E402
+import plain_transition  # noqa: E402
 
-from first_detections import Simulation  # noqa: E402
-from run_files import evaluation_order  # noqa: E402
+from first_detections import Launches, Simulation  # noqa: E402
+from run_files import evaluation_order, fault_of  # noqa: E402
 
 UNUSED, TIED, STILL = "unused", "tied", "still"
 AS_HELD, IN_ITSELF, EITHER = "untestable as held", "redundant in itself", "redundant in itself or as held"
@@ -130,11 +131,11 @@ def representatives(design, head, verdicts):
     return {verdict.fault: verdicts[first].fault for verdict, first in zip(verdicts, firsts)}
 
 
-def detected_unheld(design, faults):
+def detected_unheld(design, faults, is_slow):
     """Those of the faults that a drawn pattern detects where no input is held; it stops where that takes long."""
     rng, found = random.Random(1), set()
     sources = {name: rng.getrandbits(DRAWN) for name in design.kinds if design.is_source(name)}
-    simulation = Simulation(design, sources, (1 << DRAWN) - 1)
+    simulation = (Launches if is_slow else Simulation)(design, sources, (1 << DRAWN) - 1)
     for verdict in faults:
         if simulation.steps > MOST_STEPS:
             break
@@ -146,8 +147,8 @@ def detected_unheld(design, faults):
 class Trees:
     """Which trees of the certificate fit with no input held too."""
 
-    def __init__(self, design, evidence):
-        self.netlist, self.left = design.as_plain(), MOST_STEPS
+    def __init__(self, design, evidence, is_slow):
+        self.netlist, self.is_slow, self.left = design.as_plain(), is_slow, MOST_STEPS
         self.by_fault, self.found = {each.fault: each for each in evidence if each.nodes}, {}
 
     def fits(self, fault):
@@ -156,16 +157,17 @@ class Trees:
         if tree is None or tree.is_open:
             return False
         if fault not in self.found:
-            steps = tree.nodes * len(self.netlist.signals)
+            steps = tree.nodes * len(self.netlist.signals) * (2 if self.is_slow else 1)
             self.found[fault] = steps <= self.left and self.is_fit(tree)
             self.left -= steps if steps <= self.left else 0
         return self.found[fault]
 
     def is_fit(self, tree):
-        line, _, bit = tree.fault.rpartition("/")
+        line, bit = fault_of(tree.fault.split(" "), self.is_slow)
+        fault = line, int(bit)
+        netlist, stuck = plain_transition.frames(self.netlist, fault) if self.is_slow else (self.netlist, fault)
         words = tree.text[len(tree.fault):].split()
-        nodes = plain_check.nodes_of(words, set(self.netlist.signals))
-        return plain_check.counts_of(self.netlist, (line, int(bit)), nodes, {}) is not None
+        return plain_check.counts_of(netlist, stuck, plain_check.nodes_of(words, set(netlist.signals)), {}) is not None
 
 
 def reasons_of(design, head, verdicts, evidence, representatives):
@@ -175,7 +177,7 @@ def reasons_of(design, head, verdicts, evidence, representatives):
     left = [verdict for verdict in redundant if reasons[verdict.fault] is None]
     if not head.held:
         return reasons | {verdict.fault: IN_ITSELF for verdict in left}
-    detected, certified = detected_unheld(design, left), Trees(design, evidence)
+    detected, certified = detected_unheld(design, left, head.is_slow), Trees(design, evidence, head.is_slow)
     for verdict in left:
         if verdict.fault in detected:
             reasons[verdict.fault] = AS_HELD

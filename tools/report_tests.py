@@ -138,18 +138,18 @@ def first_by_walking(situation):
     return counts
 
 
-def slow_run(folder, bench):
+def slow_run(folder, bench, held={}):
     """Files of a small design's slow lines, each of which some drawn pattern detects or none at all, and what they are of."""
     netlist = plain_design.read((ROOT / "examples" / bench).read_bytes() if bench.endswith(".bench") else bench.encode())
     chains = plain_design.chains_of(netlist.cells, 1)
-    situation = plain_transition.kept(netlist, chains, plain_transition.batch_of(netlist, 1))
+    situation = plain_transition.kept(netlist, chains, held, plain_transition.batch_of(netlist, held, 1))
     trees = ["atpg transition certificate 1"]
     for fault, last in zip(situation.faults, situation.last):
         if last is None:
             frames, stuck = plain_transition.frames(netlist, fault)
-            trees.append(f"{plain_transition.fault_text(fault)} {' '.join(plain_check.tree_of(frames, stuck, 100_000, {}))}")
+            trees.append(f"{plain_transition.fault_text(fault)} {' '.join(plain_check.tree_of(frames, stuck, 100_000, held))}")
     (folder / "slow.net").write_bytes(plain_design.canonical(netlist))
-    (folder / "slow.stil").write_bytes(plain_transition.stil_of(netlist, chains, situation.patterns))
+    (folder / "slow.stil").write_bytes(plain_transition.stil_of(netlist, chains, held, situation.patterns))
     (folder / "slow.rep").write_text(plain_transition.report_of(situation, 100_000))
     (folder / "slow.cert").write_text("\n".join(trees) + "\n")
     return folder / "slow", situation
@@ -196,13 +196,13 @@ def test_first_detections():
         with tempfile.TemporaryDirectory() as name:
             prefix, situation = plain_run(pathlib.Path(name), bench, chains, held)
             check_firsts(prefix, first_by_walking(situation))
-    for bench in ("s27.bench", LAUNCHED):
+    for bench, held in (("s27.bench", {}), ("s27.bench", {"G0": 0}), (LAUNCHED, {}), (LAUNCHED, {"b": 1})):
         with tempfile.TemporaryDirectory() as name:
-            prefix, situation = slow_run(pathlib.Path(name), bench)
+            prefix, situation = slow_run(pathlib.Path(name), bench, held)
             check_firsts(prefix, first_slow_by_walking(situation))
 
 
-# Why faults are redundant: worked out by hand for each fault of three small netlists.
+# Why faults are redundant: worked out by hand for each fault of four small netlists.
 
 TIES = """INPUT(a)
 INPUT(b)
@@ -252,6 +252,23 @@ WHY_SLOW = {
     "redundant in itself": ["pin n 0 fall", "pin z 0 rise", "stem n rise", "stem z rise", "stem z fall"],
 }
 
+# q rises with a, which is held at 1. z is 0, since q and n aren't 1 together; where the tree ends at a, nothing tells that they aren't.
+SLOW_HELD = """INPUT(a)
+INPUT(b)
+OUTPUT(y)
+OUTPUT(z)
+q = DFF(a)
+y = AND(q, b)
+n = NOT(q)
+z = AND(q, n)
+"""
+WHY_SLOW_AS_HELD = {
+    "still": ["stem a rise", "stem a fall", "stem b rise", "stem b fall"],
+    "untestable as held": ["stem q fall", "pin y 0 fall", "pin z 0 fall", "stem y fall"],
+    "redundant in itself": ["stem z fall"],
+    "redundant in itself or as held": ["pin n 0 fall", "pin z 0 rise", "stem n rise", "stem z rise"],
+}
+
 
 def why_by_json(prefix):
     status, said, errors = said_by(TOOL, prefix, "--json")
@@ -266,10 +283,11 @@ def why_by_json(prefix):
 
 def test_reasons():
     """Why each fault is redundant, in JSON, in the text and on the page."""
-    for make, text, held, why in ((plain_run, TIES, None, WHY_BY_TIES), (plain_run, HELD, {"b": 0}, WHY_AS_HELD), (slow_run, SLOW, None, WHY_SLOW)):
+    for make, text, held, why in ((plain_run, TIES, None, WHY_BY_TIES), (plain_run, HELD, {"b": 0}, WHY_AS_HELD), (slow_run, SLOW, {}, WHY_SLOW),
+                                  (slow_run, SLOW_HELD, {"a": 1}, WHY_SLOW_AS_HELD)):
         with tempfile.TemporaryDirectory() as name:
             folder = pathlib.Path(name)
-            prefix, _ = make(folder, text, 1, held) if make is plain_run else make(folder, text)
+            prefix, _ = make(folder, text, 1, held) if make is plain_run else make(folder, text, held)
             assert why_by_json(prefix) == {reason: set(faults) for reason, faults in why.items()}
             status, said, errors = said_by(TOOL, prefix, "--rows", 0, "--html", folder)
             assert status == 0, errors
@@ -514,8 +532,10 @@ def test_json():
     assert not is_of({}, schema) and not is_of({"version": 2, "lines": "stuck", "numbers": {}, "held": {}, "faults": []}, schema)
     with tempfile.TemporaryDirectory() as name:
         folder = pathlib.Path(name)
-        for prefix in (plain_run(folder, "s27.bench", 2, {"G0": 1, "G3": 0})[0], made_run(folder, ROOT / "examples/uart.bench", "made"),
-                       slow_run(folder, "s27.bench")[0], plain_run(folder, MODULES, 1)[0]):
+        for make in (lambda: plain_run(folder, "s27.bench", 2, {"G0": 1, "G3": 0})[0], lambda: made_run(folder, ROOT / "examples/uart.bench", "made"),
+                     lambda: slow_run(folder, "s27.bench")[0], lambda: slow_run(folder, "s27.bench", {"G0": 0, "G3": 1})[0],
+                     lambda: plain_run(folder, MODULES, 1)[0]):
+            prefix = make()
             status, said, errors = said_by(TOOL, prefix, "--json")
             assert status == 0, errors
             found = json.loads(said)

@@ -11,7 +11,7 @@ SETTLED = ("detected", "redundant", "aborted")
 ENDS = (*SETTLED, "unasked")
 
 # Whether it is of slow lines.
-FIRST_LINES = {"atpg report 1": False, "atpg report 2": False, "atpg report 3": False, "atpg report 4": False, "atpg transition 1": True}
+FIRST_LINES = {f"atpg report {version}": False for version in (1, 2, 3, 4)} | {f"atpg transition {version}": True for version in (1, 2)}
 SLOW = {"rise": "0", "fall": "1"}  # the bit that a slow line keeps too long
 
 # A line of the report: the fault's text, its line and its bit, what came of it, and where it is detected.
