@@ -1,6 +1,6 @@
 //! Two searches for slow lines run beside each other.
 use crate::meeting::MeetingEngine;
-use crate::runs::{allocated, core_of};
+use crate::runs::{allocated, core_of, nothing_held};
 use evidence::Found;
 use outside::OpenGate;
 use std::alloc::{AllocError, Global};
@@ -21,6 +21,7 @@ fn chain_of(alloc: Global, length: u32) -> Result<String, AllocError> {
 fn two_searches_for_slow_lines_meet(rt: HostRuntime) -> Result<(), Fail> {
     let alloc = rt.alloc();
     let core = core_of(alloc, chain_of(alloc, 70)?.as_bytes())?;
+    let holds = nothing_held(alloc, &core)?;
     let engine = allocated(MeetingEngine::of(alloc, &core))?;
     let found = allocated(search_all(
         &rt,
@@ -31,6 +32,7 @@ fn two_searches_for_slow_lines_meet(rt: HostRuntime) -> Result<(), Fail> {
         4,
         Trees::OfFrames,
         2,
+        &holds,
     ))?;
     assert!(rt; engine.went_well());
     assert_eq!(rt; found.len(), 142);

@@ -10,7 +10,7 @@ use Rattle.statement.specs.declared.lines.Fault.{Fault}
 use Rattle.netlist.specs.Conditions.{IsSound}
 use Rattle.netlist.specs.Designs.{IsDesign}
 use Rattle.statement.specs.Patterns.{Holds}
-use Rattle.netlist.specs.Holds.{none_held}
+use Rattle.netlist.specs.Holds.{AreHoldsOf}
 use Rattle.netlist.specs.Lines.{IsLineOf}
 use Rattle.statement.specs.Netlists.{Netlist, signals}
 use Rattle.netlist.proofs.Placed.{signal_from, signals_length}
@@ -101,6 +101,10 @@ tie_line n fs j f core t same sound l is =
     subst (λ (m : Netlist). IsLineOf m t.line) (sym same)
     (subst (λ (g : Fault). IsLineOf (batch_of n fs) g.line) (sym is) (tie_there n fs j f (subst IsSound same sound) l))
 
+-- held inputs of the netlist are such of a batch's, whose inputs are the same
+pub held_in_batch : (n : Netlist) (fs : List Fault) (core : Netlist) (holds : Holds) → core ≡ batch_of n fs → AreHoldsOf n holds → AreHoldsOf core holds
+held_in_batch n fs core holds same held = held ∙ sym (ap (λ (m : Netlist). length m.inputs) same)
+
 -- what decides signals of the frames is no refutation
 no_refutation : (n : Netlist) (refutes : Bool) (found : Found) → DecidesFrames n found → MayAnswer refutes found
 no_refutation n refutes (Test cube point) decides = tt
@@ -109,84 +113,83 @@ no_refutation n refutes (Refuted steps) decides = absurd decides
 no_refutation n refutes (Partial tree) decides = tt
 
 -- and what it answers is evidence on the line's own two frames
-pub carried : BatchCarries → (n : Netlist) (fs : List Fault) (j : ℕ) (f : Fault) (limit : ℕ) (refutes : Bool) (found : Found) (core : Netlist) (holds : Holds) (t : Fault)
-    → IsSound n → IsDesign n → All (λ (g : Fault). IsLineOf n g.line) fs → AllPairs (AreApart n) fs → core ≡ batch_of n fs → IsSound core → holds ≡ none_held core
-    → t ≡ batch_fault n j f → j < length fs → get_or fs j f ≡ f → HasEvidence t core holds limit found → DecidesFrames n found → HasFrameEvidence n limit refutes f found
-carried law n fs j f limit refutes found core holds t sound design lines apart same whole held is l at evidence decides = record {
-  evidence = law n fs j f limit found sound design lines apart (subst IsSound same whole) (slice_get-get_or fs j f l ∙ ap (λ (g : Fault). Some g) at) decides
-      (subst (λ (m : Netlist). HasEvidence (batch_fault n j f) m (none_held m) limit found) same
-      (subst (λ (g : Fault). HasEvidence g core (none_held core) limit found) is
-      (subst (λ (h : Holds). HasEvidence t core h limit found) held evidence)));
+pub carried : BatchCarries → (n : Netlist) (holds : Holds) (fs : List Fault) (j : ℕ) (f : Fault) (limit : ℕ) (refutes : Bool) (found : Found) (core : Netlist) (t : Fault)
+    → IsSound n → IsDesign n → All (λ (g : Fault). IsLineOf n g.line) fs → AllPairs (AreApart n) fs → core ≡ batch_of n fs → IsSound core
+    → t ≡ batch_fault n j f → j < length fs → get_or fs j f ≡ f → HasEvidence t core holds limit found → DecidesFrames n found → HasFrameEvidence n holds limit refutes f found
+carried law n holds fs j f limit refutes found core t sound design lines apart same whole is l at evidence decides = record {
+  evidence = law n holds fs j f limit found sound design lines apart (subst IsSound same whole) (slice_get-get_or fs j f l ∙ ap (λ (g : Fault). Some g) at) decides
+      (subst (λ (m : Netlist). HasEvidence (batch_fault n j f) m holds limit found) same
+      (subst (λ (g : Fault). HasEvidence g core holds limit found) is evidence));
   kind = no_refutation n refutes found decides;
 }
 
 -- ---- their answers in the slots
 
-pub one_found : (n : Netlist) (limit : ℕ) (refutes : Bool) (slow : List Fault) (answers : List Found) (j : ℕ) (f : Fault) (found : Found) → AreFound n limit refutes (take j slow) answers → j < length slow
-    → get_or slow j f ≡ f → HasFrameEvidence n limit refutes f found → AreFound n limit refutes (take (j + 1) slow) (answers ++ found ∷ [])
-one_found n limit refutes slow answers j f found had l is evidence =
-    subst (λ (fs : List Fault). AreFound n limit refutes fs (answers ++ found ∷ [])) (ap (λ (g : Fault). take j slow ++ g ∷ []) (sym is) ∙ sym (take_more slow j f l))
-    (zip_push (HasFrameEvidence n limit refutes) (take j slow) answers f found had evidence)
+pub one_found : (n : Netlist) (holds : Holds) (limit : ℕ) (refutes : Bool) (slow : List Fault) (answers : List Found) (j : ℕ) (f : Fault) (found : Found) → AreFound n holds limit refutes (take j slow) answers → j < length slow
+    → get_or slow j f ≡ f → HasFrameEvidence n holds limit refutes f found → AreFound n holds limit refutes (take (j + 1) slow) (answers ++ found ∷ [])
+one_found n holds limit refutes slow answers j f found had l is evidence =
+    subst (λ (fs : List Fault). AreFound n holds limit refutes fs (answers ++ found ∷ [])) (ap (λ (g : Fault). take j slow ++ g ∷ []) (sym is) ∙ sym (take_more slow j f l))
+    (zip_push (HasFrameEvidence n holds limit refutes) (take j slow) answers f found had evidence)
 
-pub first_answers : (n : Netlist) (limit : ℕ) (refutes : Bool) (faults : List Fault) (left : List Bool) → AreAnswersFrom n limit refutes faults left 0 (map first_slot left)
-first_answers n limit refutes faults left k l =
+pub first_answers : (n : Netlist) (holds : Holds) (limit : ℕ) (refutes : Bool) (faults : List Fault) (left : List Bool) → AreAnswersFrom n holds limit refutes faults left 0 (map first_slot left)
+first_answers n holds limit refutes faults left k l =
     let low : k < length left = omega (arith, l, length-map left first_slot) in
-    let at : (b : Bool) → get_or left k true ≡ b → AnswersAt n limit refutes faults left (0 + k) (first_slot b) =
+    let at : (b : Bool) → get_or left k true ≡ b → AnswersAt n holds limit refutes faults left (0 + k) (first_slot b) =
     elim [
       | true ↦ λ e. tt
-      | false ↦ λ e f is. subst (λ i. IsFoundIfLeft n limit refutes f (get_or left i true) None) (let same : k ≡ 0 + k = omega arith in same)
-          (subst (λ b. IsFoundIfLeft n limit refutes f b None) (sym e) refl)
+      | false ↦ λ e f is. subst (λ i. IsFoundIfLeft n holds limit refutes f (get_or left i true) None) (let same : k ≡ 0 + k = omega arith in same)
+          (subst (λ b. IsFoundIfLeft n holds limit refutes f b None) (sym e) refl)
     ] in
-    subst (AnswersAt n limit refutes faults left (0 + k)) (sym (get_or-map first_slot left k true None low)) (at (get_or left k true) refl)
+    subst (AnswersAt n holds limit refutes faults left (0 + k)) (sym (get_or-map first_slot left k true None low)) (at (get_or left k true) refl)
 
-pub one_stored : (n : Netlist) (limit : ℕ) (refutes : Bool) (faults : List Fault) (left : List Bool) (first k : ℕ) (slots : List (Option (Option Found))) (f : Fault) (found : Found)
-    → AreAnswersFrom n limit refutes faults left first slots → IsSlotOf faults left first (length slots) k f → HasFrameEvidence n limit refutes f found
-    → AreAnswersFrom n limit refutes faults left first (set slots k (Some (Some found)))
-one_stored n limit refutes faults left first k slots f found had slot evidence i l =
+pub one_stored : (n : Netlist) (holds : Holds) (limit : ℕ) (refutes : Bool) (faults : List Fault) (left : List Bool) (first k : ℕ) (slots : List (Option (Option Found))) (f : Fault) (found : Found)
+    → AreAnswersFrom n holds limit refutes faults left first slots → IsSlotOf faults left first (length slots) k f → HasFrameEvidence n holds limit refutes f found
+    → AreAnswersFrom n holds limit refutes faults left first (set slots k (Some (Some found)))
+one_stored n holds limit refutes faults left first k slots f found had slot evidence i l =
     let low : i < length slots = omega (arith, l, length-set slots k (Some (Some found))) in
-    let here : AnswersAt n limit refutes faults left (first + k) (Some (Some found)) = λ g at.
+    let here : AnswersAt n holds limit refutes faults left (first + k) (Some (Some found)) = λ g at.
     let same : f ≡ g = let e = sym slot.fault ∙ at in cc in
-    subst (λ b. IsFoundIfLeft n limit refutes g b (Some found)) (sym slot.marked) (subst (λ (h : Fault). HasFrameEvidence n limit refutes h found) same evidence) in
+    subst (λ b. IsFoundIfLeft n holds limit refutes g b (Some found)) (sym slot.marked) (subst (λ (h : Fault). HasFrameEvidence n holds limit refutes h found) same evidence) in
     elim (cases_eq i k) [
       | inl same ↦
-          subst (λ j. AnswersAt n limit refutes faults left (first + j) (get_or (set slots k (Some (Some found))) j None)) (sym same)
-          (subst (AnswersAt n limit refutes faults left (first + k)) (sym (get_or-set_same slots k (Some (Some found)) None slot.within)) here)
-      | inr other ↦ subst (AnswersAt n limit refutes faults left (first + i)) (sym (get_or-set_other slots k i (Some (Some found)) None other)) (had i low)
+          subst (λ j. AnswersAt n holds limit refutes faults left (first + j) (get_or (set slots k (Some (Some found))) j None)) (sym same)
+          (subst (AnswersAt n holds limit refutes faults left (first + k)) (sym (get_or-set_same slots k (Some (Some found)) None slot.within)) here)
+      | inr other ↦ subst (AnswersAt n holds limit refutes faults left (first + i)) (sym (get_or-set_other slots k i (Some (Some found)) None other)) (had i low)
     ]
 
-pub place_within : (n : Netlist) (limit : ℕ) (refutes : Bool) (faults : List Fault) (left : List Bool) (first count : ℕ) (places : List ℕ) (slow : List Fault) (done : List Found) (y : Found) (rest : List Found)
-    → AllZip (IsSlotOf faults left first count) places slow → AreFound n limit refutes slow (done ++ y ∷ rest) → (length done < length places) × (get_or places (length done) 0 < count)
-place_within n limit refutes faults left first count places slow done y rest each found =
-    let t = both_at (IsSlotOf faults left first count) (HasFrameEvidence n limit refutes) places slow done y rest each found in
+pub place_within : (n : Netlist) (holds : Holds) (limit : ℕ) (refutes : Bool) (faults : List Fault) (left : List Bool) (first count : ℕ) (places : List ℕ) (slow : List Fault) (done : List Found) (y : Found) (rest : List Found)
+    → AllZip (IsSlotOf faults left first count) places slow → AreFound n holds limit refutes slow (done ++ y ∷ rest) → (length done < length places) × (get_or places (length done) 0 < count)
+place_within n holds limit refutes faults left first count places slow done y rest each found =
+    let t = both_at (IsSlotOf faults left first count) (HasFrameEvidence n holds limit refutes) places slow done y rest each found in
     (t.0, t.1.1.within)
 
-pub one_answered : (n : Netlist) (limit : ℕ) (refutes : Bool) (faults : List Fault) (left : List Bool) (first count : ℕ) (places : List ℕ) (slow : List Fault) (done : List Found) (y : Found) (rest : List Found)
-    (slots new : List (Option (Option Found))) (place : ℕ) → AllZip (IsSlotOf faults left first count) places slow → AreFound n limit refutes slow (done ++ y ∷ rest)
-    → length slots ≡ count → place ≡ get_or places (length done) 0 → new ≡ set slots place (Some (Some y)) → AreAnswersFrom n limit refutes faults left first slots
-    → AreAnswersFrom n limit refutes faults left first new
-one_answered n limit refutes faults left first count places slow done y rest slots new place each found size is put had =
-    let t = (both_at (IsSlotOf faults left first count) (HasFrameEvidence n limit refutes) places slow done y rest each found).1 in
+pub one_answered : (n : Netlist) (holds : Holds) (limit : ℕ) (refutes : Bool) (faults : List Fault) (left : List Bool) (first count : ℕ) (places : List ℕ) (slow : List Fault) (done : List Found) (y : Found) (rest : List Found)
+    (slots new : List (Option (Option Found))) (place : ℕ) → AllZip (IsSlotOf faults left first count) places slow → AreFound n holds limit refutes slow (done ++ y ∷ rest)
+    → length slots ≡ count → place ≡ get_or places (length done) 0 → new ≡ set slots place (Some (Some y)) → AreAnswersFrom n holds limit refutes faults left first slots
+    → AreAnswersFrom n holds limit refutes faults left first new
+one_answered n holds limit refutes faults left first count places slow done y rest slots new place each found size is put had =
+    let t = (both_at (IsSlotOf faults left first count) (HasFrameEvidence n holds limit refutes) places slow done y rest each found).1 in
     let at : IsSlotOf faults left first count place t.0 = subst (λ k. IsSlotOf faults left first count k t.0) (sym is) t.1 in
     let slot : IsSlotOf faults left first (length slots) place t.0 = subst (λ m. IsSlotOf faults left first m place t.0) (sym size) at in
-    subst (AreAnswersFrom n limit refutes faults left first) (sym put) (one_stored n limit refutes faults left first place slots t.0 y had slot t.2)
+    subst (AreAnswersFrom n holds limit refutes faults left first) (sym put) (one_stored n holds limit refutes faults left first place slots t.0 y had slot t.2)
 
 -- ---- the slots of a chunk
 
-pub chunk_answers : (n : Netlist) (limit : ℕ) (refutes : Bool) (faults : List Fault) (left : List Bool) (slots : List (Option (Option Found))) (start : ℕ) (chunk : List (Option (Option Found)))
-    → AreAnswersFrom n limit refutes faults left 0 slots → start + length chunk ≤ length slots
-    → ((k : ℕ) (d : Option (Option Found)) → k < length chunk → get_or chunk k d ≡ get_or slots (start + k) d) → AreAnswersFrom n limit refutes faults left start chunk
-chunk_answers n limit refutes faults left slots start chunk all inside same k l =
-    let at : AnswersAt n limit refutes faults left (0 + (start + k)) (get_or slots (start + k) None) = all (start + k) (omega arith) in
-    subst (AnswersAt n limit refutes faults left (start + k)) (sym (same k None l))
-    (subst (λ i. AnswersAt n limit refutes faults left i (get_or slots (start + k) None)) (let e : 0 + (start + k) ≡ start + k = omega arith in e) at)
+pub chunk_answers : (n : Netlist) (holds : Holds) (limit : ℕ) (refutes : Bool) (faults : List Fault) (left : List Bool) (slots : List (Option (Option Found))) (start : ℕ) (chunk : List (Option (Option Found)))
+    → AreAnswersFrom n holds limit refutes faults left 0 slots → start + length chunk ≤ length slots
+    → ((k : ℕ) (d : Option (Option Found)) → k < length chunk → get_or chunk k d ≡ get_or slots (start + k) d) → AreAnswersFrom n holds limit refutes faults left start chunk
+chunk_answers n holds limit refutes faults left slots start chunk all inside same k l =
+    let at : AnswersAt n holds limit refutes faults left (0 + (start + k)) (get_or slots (start + k) None) = all (start + k) (omega arith) in
+    subst (AnswersAt n holds limit refutes faults left (start + k)) (sym (same k None l))
+    (subst (λ i. AnswersAt n holds limit refutes faults left i (get_or slots (start + k) None)) (let e : 0 + (start + k) ≡ start + k = omega arith in e) at)
 
-pub answer_back : (n : Netlist) (limit : ℕ) (refutes : Bool) (faults : List Fault) (left : List Bool) (start offset i : ℕ) (chunk : List (Option (Option Found))) (slot : Option (Option Found))
-    → AreAnswersFrom n limit refutes faults left start chunk → offset < length chunk → start + offset ≡ i → get_or chunk offset None ≡ slot → AnswersAt n limit refutes faults left (0 + i) slot
-answer_back n limit refutes faults left start offset i chunk slot here low at is =
-    subst (AnswersAt n limit refutes faults left (0 + i)) is
-    (subst (λ j. AnswersAt n limit refutes faults left j (get_or chunk offset None)) (let e : start + offset ≡ 0 + i = omega arith in e) (here offset low))
+pub answer_back : (n : Netlist) (holds : Holds) (limit : ℕ) (refutes : Bool) (faults : List Fault) (left : List Bool) (start offset i : ℕ) (chunk : List (Option (Option Found))) (slot : Option (Option Found))
+    → AreAnswersFrom n holds limit refutes faults left start chunk → offset < length chunk → start + offset ≡ i → get_or chunk offset None ≡ slot → AnswersAt n holds limit refutes faults left (0 + i) slot
+answer_back n holds limit refutes faults left start offset i chunk slot here low at is =
+    subst (AnswersAt n holds limit refutes faults left (0 + i)) is
+    (subst (λ j. AnswersAt n holds limit refutes faults left j (get_or chunk offset None)) (let e : start + offset ≡ 0 + i = omega arith in e) (here offset low))
 
-pub answers_within : (n : Netlist) (limit : ℕ) (refutes : Bool) (faults : List Fault) (left : List Bool) (slots : List (Option (Option Found))) → length slots ≡ length faults
-    → AreAnswersFrom n limit refutes faults left 0 slots → (i : ℕ) → i < length faults → AnswersAt n limit refutes faults left i (get_or slots i None)
-answers_within n limit refutes faults left slots size all i l =
-    subst (λ j. AnswersAt n limit refutes faults left j (get_or slots i None)) (let e : 0 + i ≡ i = omega arith in e) (all i (omega arith))
+pub answers_within : (n : Netlist) (holds : Holds) (limit : ℕ) (refutes : Bool) (faults : List Fault) (left : List Bool) (slots : List (Option (Option Found))) → length slots ≡ length faults
+    → AreAnswersFrom n holds limit refutes faults left 0 slots → (i : ℕ) → i < length faults → AnswersAt n holds limit refutes faults left i (get_or slots i None)
+answers_within n holds limit refutes faults left slots size all i l =
+    subst (λ j. AnswersAt n holds limit refutes faults left j (get_or slots i None)) (let e : 0 + i ≡ i = omega arith in e) (all i (omega arith))

@@ -11,7 +11,7 @@
 ghost use Rattle.std.specs.Prelude.{◌≡◌, ◌+◌, ◌≤◌, ◌<◌, ◌^◌, ℕ, length, IfOk, IsTrue};
 ghost use Rattle.std.specs.List.{All, AllPairs};
 ghost use Rattle.netlist.specs.Designs.{IsDesign};
-ghost use Rattle.netlist.specs.Holds.{none_held};
+ghost use Rattle.netlist.specs.Holds.{AreHoldsOf};
 ghost use Rattle.netlist.specs.Lines.{IsLineOf};
 ghost use Rattle.statement.specs.declared.lines.Fault.{Fault as FaultOf};
 ghost use Rattle.evidence.specs.declared.engine.Found.{Found as FoundOf};
@@ -121,18 +121,20 @@ fn own_answer<E: Engine>(
     limit: u32,
     rule: Option<&PlaceRule>,
     found: Found,
+    holds: &Holds,
 ) -> Result<Found, NoMemory>
     requires design { IsDesign netlist.now }
     requires names { names.now ≡ names_of netlist.now }
     requires line { IsLineOf netlist.now fault.line }
     requires limit { 1 ≤ limit }
-    requires carries { DecidesFrames netlist.now found → HasFrameEvidence netlist.now limit E.refutes fault found }
-    ensures { IfOk result (HasFrameEvidence netlist.now limit E.refutes fault) }
+    requires holds { AreHoldsOf netlist.now holds.now }
+    requires carries { DecidesFrames netlist.now found → HasFrameEvidence netlist.now holds.now limit E.refutes fault found }
+    ensures { IfOk result (HasFrameEvidence netlist.now holds.now limit E.refutes fault) }
 {
     if decides_frames(netlist, &found) && keeps_rule(netlist, rule, &fault, &found) {
         return Ok(found);
     }
-    search_one(alloc, netlist, names, engine, fault, limit)
+    search_one(alloc, netlist, names, engine, fault, limit, holds)
 }
 
 /// Searches for the lines of a batch on its netlist.
@@ -142,10 +144,10 @@ fn search_together<E: Engine>(
     names: &NameTable,
     engine: &E,
     core: &Core,
-    holds: &Holds,
     slow: &[Fault],
     limit: u32,
     rule: Option<&PlaceRule>,
+    holds: &Holds,
 ) -> Result<Vec<Found>, NoMemory>
     requires design { IsDesign netlist.now }
     requires names { names.now ≡ names_of netlist.now }
@@ -153,9 +155,9 @@ fn search_together<E: Engine>(
     requires apart { AllPairs (AreApart netlist.now) slow.now }
     requires few { length slow.now ≤ 1024 }
     requires core { core.now ≡ batch_of netlist.now slow.now }
-    requires holds { holds.now ≡ none_held core.now }
     requires limit { 1 ≤ limit }
-    ensures { IfOk result (λ v. AreFound netlist.now limit E.refutes slow.now v.items) }
+    requires holds { AreHoldsOf netlist.now holds.now }
+    ensures { IfOk result (λ v. AreFound netlist.now holds.now limit E.refutes slow.now v.items) }
 {
     batch_carries();
     netlist.sound();
@@ -167,7 +169,9 @@ fn search_together<E: Engine>(
         let tie = tie_fault(netlist, j, &fault);
         let (found, kept) = engine.search_in(alloc, room, core, tie, limit, holds)?;
         room = kept;
-        answers.push(own_answer(alloc, netlist, names, engine, fault, limit, rule, found)?)?;
+        answers.push(own_answer(
+            alloc, netlist, names, engine, fault, limit, rule, found, holds,
+        )?)?;
     }
     Ok(answers)
 }
@@ -180,16 +184,18 @@ fn search_each<E: Engine>(
     engine: &E,
     slow: &[Fault],
     limit: u32,
+    holds: &Holds,
 ) -> Result<Vec<Found>, NoMemory>
     requires design { IsDesign netlist.now }
     requires names { names.now ≡ names_of netlist.now }
     requires lines { All (λ (f : FaultOf). IsLineOf netlist.now f.line) slow.now }
     requires limit { 1 ≤ limit }
-    ensures { IfOk result (λ v. AreFound netlist.now limit E.refutes slow.now v.items) }
+    requires holds { AreHoldsOf netlist.now holds.now }
+    ensures { IfOk result (λ v. AreFound netlist.now holds.now limit E.refutes slow.now v.items) }
 {
     let mut answers = Vec::with_capacity(alloc, slow.len())?;
     for fault in slow {
-        answers.push(search_one(alloc, netlist, names, engine, *fault, limit)?)?;
+        answers.push(search_one(alloc, netlist, names, engine, *fault, limit, holds)?)?;
     }
     Ok(answers)
 }
@@ -203,6 +209,7 @@ pub(crate) fn search_batch<E: Engine>(
     slow: &[Fault],
     limit: u32,
     rule: Option<&PlaceRule>,
+    holds: &Holds,
 ) -> Result<Vec<Found>, NoMemory>
     requires design { IsDesign netlist.now }
     requires names { names.now ≡ names_of netlist.now }
@@ -210,18 +217,18 @@ pub(crate) fn search_batch<E: Engine>(
     requires apart { AllPairs (AreApart netlist.now) slow.now }
     requires few { length slow.now ≤ 1024 }
     requires limit { 1 ≤ limit }
-    ensures { IfOk result (λ v. AreFound netlist.now limit E.refutes slow.now v.items) }
+    requires holds { AreHoldsOf netlist.now holds.now }
+    ensures { IfOk result (λ v. AreFound netlist.now holds.now limit E.refutes slow.now v.items) }
 {
     match batch(alloc, netlist, slow)? {
         Some(made) => {
             let Ok(core) = Core::of(alloc, made) else {
                 return Err(NoMemory);
             };
-            let holds = Holds::none(alloc, &core)?;
             search_together(
-                alloc, netlist, names, engine, &core, &holds, slow, limit, rule,
+                alloc, netlist, names, engine, &core, slow, limit, rule, holds,
             )
         }
-        None => search_each(alloc, netlist, names, engine, slow, limit),
+        None => search_each(alloc, netlist, names, engine, slow, limit, holds),
     }
 }

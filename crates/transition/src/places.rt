@@ -9,12 +9,13 @@
 //! - Its readers in the second frame are reached from the fault. Where they aren't bound whatever the line, there is one, and again a chain.
 //! - Its signal of the second frame is read by the gate that makes it late, which is bound; by that gate alone, if the line is a stem.
 //!
-//! Inputs and cells are never bound, since no input is held. What a tie cell reaches counts as bound here, and so as no place but where it is a stem:
-//! such a tree may be refused that keeps the rule, and its line is searched once more than it had to be.
+//! Cells are never bound, and inputs only where they are held, at which nothing splits. What a tie cell or a held input reaches counts as bound here, and
+//! so as no place but where it is a stem: such a tree may be refused that keeps the rule, and its line is searched once more than it had to be.
 //!
 //! The alternatives are the roles on each line's own frames, which cost a netlist for each line, and to search each such line on them, which costs more.
 //! A tree with an Open isn't taken at all: whether the search could have ended there depends on the head lines too.
 ghost use Rattle.netlist.specs.Designs.{IsDesign};
+ghost use Rattle.netlist.specs.Holds.{AreHoldsOf};
 ghost use Rattle.netlist.specs.Lines.{IsLineOf};
 ghost use Rattle.statement.specs.Netlists.{signals};
 ghost use Rattle.std.specs.Prelude.{◌≡◌, ◌<◌, ◌≤◌, length};
@@ -101,9 +102,11 @@ fn is_fanout(slow: &SlowLine, x: usize, signal: &Signal) -> bool {
 }
 
 impl PlaceRule {
-    /// That of a design's slow lines.
-    pub(crate) fn of(alloc: Global, netlist: &Netlist) -> Result<PlaceRule, NoMemory>
-        requires { IsDesign netlist.now }
+    /// That of a design's slow lines under held inputs.
+    #[tactic(auto, using(crate::proofs::BatchLemmas::held_in_batch))]
+    pub(crate) fn of(alloc: Global, netlist: &Netlist, holds: &Holds) -> Result<PlaceRule, NoMemory>
+        requires design { IsDesign netlist.now }
+        requires holds { AreHoldsOf netlist.now holds.now }
     {
         let Some(plain) = batch(alloc, netlist, &[])? else {
             return Ok(PlaceRule {
@@ -113,13 +116,12 @@ impl PlaceRule {
         let Ok(core) = Core::of(alloc, plain) else {
             return Err(NoMemory);
         };
-        let holds = Holds::none(alloc, &core)?;
         // A stuck output binds nothing.
         let nowhere = Fault {
             line: Line::Out(SignalId(0)),
             value: false,
         };
-        let roles = roles_of(alloc, &core, &nowhere, &holds)?;
+        let roles = roles_of(alloc, &core, &nowhere, holds)?;
         let signals = signals_of(alloc, core.netlist(), &roles)?;
         Ok(PlaceRule { signals })
     }

@@ -1,5 +1,5 @@
 -- Trees and cubes are evidence on the two frames of a slow line where they are in a batch: the labels of both are the same ones.
-use Rattle.std.proofs.Common.{◌≡◌, ℕ, ◌<◌, ◌≤◌, Bool, true, false, not, List, [], ◌∷◌, ◌++◌, length, Some, None, refl, sym, ◌∙◌, ap, subst, arith, eqb, cond}
+use Rattle.std.proofs.Common.{◌≡◌, ℕ, ◌<◌, ◌≤◌, Bool, true, false, not, List, [], ◌∷◌, ◌++◌, Some, None, refl, sym, ◌∙◌, ap, subst, arith, eqb, cond}
 use Rattle.std.proofs.lemmas.List.{length-map}
 use Rattle.std.proofs.lemmas.Bool.{eqb-true}
 use Rattle.std.proofs.lemmas.List.Elements.{All-head, All-tail, All-nil, All-cons, All-append}
@@ -50,7 +50,7 @@ pub record Carries (bound : ℕ) (m n : Netlist) (g f : Fault) (holds other : Ho
   pub signal : (x : ℕ) → x < bound → Contains (signals n) x
 
 module _ (bound : ℕ) (m n : Netlist) (g f : Fault) (holds other : Holds) (to : ℕ → ℕ) (carries : Carries bound m n g f holds other to)
-    (whole : IsSound m) (sound : IsSound n) (held : length holds ≡ length m.inputs) where
+    (whole : IsSound m) (sound : IsSound n) where
   some_labels : (path : Decisions) → (l : ℕ → Label) × AreLabels (Some g) path m holds l
   some_labels path =
       let blank : Label = record { own = X; good = X; faulty = X; may_differ = false } in

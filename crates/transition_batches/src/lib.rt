@@ -3,7 +3,7 @@
 //! Gives: `batch`, `MOST_FAULTS`, `are_apart`, `decides_frames`.
 //! Proved: `batch`: exactly the two frames with three gates for each of the slow lines, or nothing; `are_apart`: no line is late by both, where it says so;
 //! `decides_frames`: nothing but the two frames is decided, where it says so; the law: what is evidence for one of them there is evidence on the two
-//! frames in which it alone is slow.
+//! frames in which it alone is slow, under the same held inputs.
 //! Tested: run by the command `transition`, by rows of `cases`.
 //! Neither: time.
 #![tactic(auto)]

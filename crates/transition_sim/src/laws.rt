@@ -8,7 +8,7 @@ pub fn test_detects_transition()
     ensures { TestDetectsTransition }
 {}
 
-/// A tree without Open on the two frames, or a refutation, shows that no pattern detects the transition fault.
+/// A tree without Open on the two frames, or a refutation, shows that no pattern that obeys the held inputs detects the transition fault.
 pub fn shown_has_no_transition()
     ensures { ShownHasNoTransition }
 {
