@@ -1,4 +1,4 @@
-use Rattle.std.proofs.Common.{rules, ◌≡◌, ◌++◌, ℕ, List, codes, ◌∙◌, ap}
+use Rattle.std.proofs.Common.{rules, ◌≡◌, ◌++◌, ℕ, List, ◌∙◌, ap}
 use Rattle.std.specs.List.{flat_map}
 use Rattle.statement.specs.Netlists.{Netlist}
 use Rattle.certificate.specs.Certificates.{has_refutation}
