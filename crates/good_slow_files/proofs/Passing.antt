@@ -13,7 +13,6 @@ use Rattle.netlist.specs.Conditions.{IsSound}
 use Rattle.netlist.specs.Designs.{IsDesign}
 use Rattle.cubes.specs.Cubes.{IsPatternOf}
 use Rattle.bench_text.specs.declared.refusal.Names.TheVariants.{Design}
-use Rattle.scan_insert.specs.Scanned.{AreChainsOf}
 use Rattle.stil_read.specs.Laws.{AtMostOne}
 use Rattle.good_files.specs.declared.answers.Checked.{Checked}
 use Rattle.good_files.specs.declared.answers.Checked.TheVariants.{Faults, False}
@@ -28,7 +27,7 @@ use Rattle.transition_files.specs.LaunchFiles.{IsLaunchFileOf}
 use Rattle.transition_files.specs.Laws.{OneLaunchPatternList}
 use Rattle.transition_report.specs.Reading.{IsTransitionCertificate}
 use Rattle.transition_report.specs.Laws.{OneTransitionCertificate, TransitionTextsTellReports}
-use Rattle.good_slow_files.specs.GoodSlowFiles.{AreGoodSlowFiles, AreSlowTotals, AreTrueSlowFaults, HasLaunchPatterns, HasSlowHolds, IsSlowTested, SlowContents, SlowTest, StandForSlow, slow_chains_in, slow_chains_said, slow_left_of, slow_test_in, slow_test_with}
+use Rattle.good_slow_files.specs.GoodSlowFiles.{AreGoodSlowFiles, AreSlowTotals, AreTrueSlowFaults, HasLaunchPatterns, HasSlowHolds, IsSlowTested, SlowContents, SlowTest, StandForSlow, slow_chains_in, slow_chains_said, slow_test_in, slow_test_with}
 use Rattle.good_slow_files.specs.Clauses.{IsFalseSlowFault}
 use Rattle.good_slow_files.specs.Checks.{IsSlowAnswer, IsSlowChecked}
 

@@ -1,5 +1,5 @@
 -- What good files say of slow lines comes true.
-use Rattle.std.proofs.Common.{◌≡◌, ◌+◌, ◌<◌, ℕ, Bool, true, false, cond, zero, suc, inl, inr, List, [], ◌∷◌, length, map, get_or, option_map, Some, None, refl, sym, ◌∙◌, ap, ap₂, subst, arith}
+use Rattle.std.proofs.Common.{◌≡◌, ◌+◌, ℕ, Bool, true, cond, zero, suc, inl, inr, List, [], ◌∷◌, length, map, get_or, option_map, Some, None, refl, sym, ◌∙◌, ap, subst, arith}
 use Rattle.std.specs.List.{All, Contains, slice_get}
 use Rattle.std.proofs.lemmas.List.{ext_get_or, length-map}
 use Rattle.std.proofs.lemmas.List.Sums.{sum_by-cons}
@@ -38,7 +38,7 @@ use Rattle.transition_play.specs.Laws.{DetectedFailsSlowly, GoodPassesLaunches, 
 use Rattle.transition_files.specs.Laws.{LaunchFileVectors}
 use Rattle.transition_report.specs.Texts.{transition_text}
 use Rattle.good_slow_files.specs.Theorem.{AreUndetectedTransitions, ComesTrue, TransitionTheorem}
-use Rattle.good_slow_files.specs.GoodSlowFiles.{AreGoodSlowFiles, AreTrueSlowLines, IsTrueOfSlow, IsTrueSlowAt, SlowContents, SlowTest, slow_chains_in, slow_chains_said, slow_left_of, slow_limit_said, slow_test_in}
+use Rattle.good_slow_files.specs.GoodSlowFiles.{AreGoodSlowFiles, AreTrueSlowLines, IsTrueOfSlow, SlowContents, SlowTest, slow_chains_in, slow_chains_said, slow_left_of, slow_limit_said, slow_test_in}
 use Rattle.good_slow_files.specs.Checks.{with_canonical_net}
 
 -- the laws that are cited

@@ -3,10 +3,8 @@ use Rattle.std.specs.Prelude.{ℕ, ◌≡◌, ◌≢◌, ◌<◌, ◌⊎◌, Lis
 use Rattle.std.specs.List.{slice_get}
 use Rattle.statement.specs.Benches.{Text}
 use Rattle.statement.specs.declared.lines.Fault.{Fault}
-use Rattle.statement.specs.Netlists.{Netlist}
 use Rattle.statement.specs.Faults.{universe_of}
 use Rattle.statement.specs.Reports.{Line}
-use Rattle.evidence.specs.declared.kinds.Evidence.{Evidence}
 use Rattle.good_files.specs.GoodFiles.{faults_in}
 use Rattle.good_files.specs.Clauses.{named_at}
 use Rattle.transition_report.specs.Texts.{transition_text}
