@@ -1,5 +1,6 @@
 pub mod RowLemmas
 pub mod FirstLemmas
+pub mod HeldLemmas
 pub mod ShowLemmas
 pub mod Matches
 pub mod ChainLemmas

@@ -3,3 +3,4 @@ pub mod Firsts
 pub mod Scanning
 pub mod Strays
 pub mod Texts
+pub mod inner

@@ -1,7 +1,6 @@
 mod ReadingLemmas
 mod SizeLemmas
 mod SeenLemmas
-mod HeldLemmas
 mod EvidentLemmas
 mod TruthLemmas
 mod LeftLemmas

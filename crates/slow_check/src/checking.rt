@@ -15,12 +15,11 @@ ghost use Rattle.slow_check.specs.inner.Trials.{IsSlowTrial, slow_test_of};
 ghost use Rattle.slow_check.specs.inner.Walking.{IsReady};
 
 use crate::faults::false_fault;
-use crate::holding::holds_by;
 use crate::reading::{Said, said_of};
 use crate::totals::has_totals;
 use crate::trials::SlowTrial;
 use crate::walking::Walk;
-use check_parts::{Firsts, FiveTexts, Stitched, scanned_as};
+use check_parts::{Firsts, FiveTexts, Stitched, holds_by, scanned_as};
 use cubes::Pattern;
 use fault_universe::{faults_have_lines, few_faults, universe};
 use good_files::{CheckFault, Checked, Clause};

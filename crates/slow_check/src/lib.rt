@@ -11,7 +11,6 @@
 mod checking;
 mod evident;
 mod faults;
-mod holding;
 mod leftovers;
 mod reading;
 mod totals;

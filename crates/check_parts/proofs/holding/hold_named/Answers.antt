@@ -1,6 +1,6 @@
 use Rattle.std.proofs.Common.{arith, ap, length}
-use Rattle.slow_check.proofs.HeldLemmas.{all_held, input_here, input_signal, next_held, none_held_yet}
-use Rattle.slow_check.proofs.holding.hold_named.Goals as goal
+use Rattle.check_parts.proofs.HeldLemmas.{all_held, input_here, input_signal, next_held, none_held_yet}
+use Rattle.check_parts.proofs.holding.hold_named.Goals as goal
 
 pub loop-k-init : goal.loop-k-init
 loop-k-init c = none_held_yet c.args.netlist.now c.args.lines.now c.args.holds.now c.requires.none

@@ -2,8 +2,8 @@ use Rattle.std.proofs.Common.{◌∙◌, ap, sym, subst}
 use Rattle.statement.specs.Netlists.{Netlist}
 use Rattle.good_files.specs.inner.Matching.{matched, unmatched}
 use Rattle.netlist.specs.Conditions.{IsSound}
-use Rattle.slow_check.proofs.HeldLemmas.{held_all, none_held_so}
-use Rattle.slow_check.proofs.holding.holds_by.Goals as goal
+use Rattle.check_parts.proofs.HeldLemmas.{held_all, none_held_so}
+use Rattle.check_parts.proofs.holding.holds_by.Goals as goal
 
 pub returns-then-next-count : goal.returns-then-next-count
 returns-then-next-count c =

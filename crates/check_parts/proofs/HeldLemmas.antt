@@ -17,7 +17,7 @@ use Rattle.good_files.specs.GoodFiles.{AreHeldBy}
 use Rattle.good_files.proofs.Held.{held_by, held_is}
 use Rattle.report.specs.Reports.{Hold}
 use Rattle.good_files.specs.inner.Matching.{matched, unmatched}
-use Rattle.slow_check.specs.inner.Held.{IsNext, Names, free, held}
+use Rattle.check_parts.specs.inner.Held.{IsNext, Names, free, held}
 use Rattle.check_parts.proofs.Matches.{texts_match}
 
 -- so many inputs are held as the lines say, and no other

@@ -1,5 +1,5 @@
-use Rattle.slow_check.proofs.HeldLemmas.{names_by}
-use Rattle.slow_check.proofs.holding.names.Goals as goal
+use Rattle.check_parts.proofs.HeldLemmas.{names_by}
+use Rattle.check_parts.proofs.holding.names.Goals as goal
 
 pub returns : goal.returns
 returns c =
