@@ -13,8 +13,7 @@ loop-other-preserved c =
 
 pub returns : goal.returns
 returns c =
-    let end : length c.args.taken.now ≤ c.loop-other.other-index = let past = c.loop-other-test.false in omega arith in
-    (
+    let end : length c.args.taken.now ≤ c.loop-other.other-index = let past = c.loop-other-test.false in omega arith in (
       λ _. subst (All (λ (f : Fault). AreApart c.args.netlist.now f c.args.fault.now)) (take_all c.loop-other.other-index c.args.taken.now end) c.loop-other.invariant,
       λ _. refl,
     )
