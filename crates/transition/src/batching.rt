@@ -8,7 +8,7 @@
 //! The alternative is a netlist for each line. What is made for a search then grows with the netlist, as the number of lines does, so that the time grows
 //! with the square of it, and nearly all of it goes into what is made. To rewire one line's frames for the next one saves less: readers, order and room
 //! have to be made anew.
-ghost use Rattle.std.specs.Prelude.{◌≡◌, ◌+◌, ◌≤◌, ◌<◌, ◌^◌, ℕ, length, IfOk, IsTrue};
+ghost use Rattle.std.specs.Prelude.{◌≡◌, ◌+◌, ◌≤◌, ◌<◌, ◌^◌, ◌↔◌, ℕ, length, IfOk, IsTrue};
 ghost use Rattle.std.specs.List.{All, AllPairs};
 ghost use Rattle.netlist.specs.Designs.{IsDesign};
 ghost use Rattle.netlist.specs.Holds.{AreHoldsOf};
@@ -43,7 +43,7 @@ pub(crate) fn most_together(netlist: &Netlist) -> usize
 fn is_apart(netlist: &Netlist, taken: &[Fault], fault: &Fault) -> bool
     requires taken { All (λ (f : FaultOf). IsLineOf netlist.now f.line) taken.now }
     requires line { IsLineOf netlist.now fault.now.line }
-    ensures { IsTrue result → All (λ (f : FaultOf). AreApart netlist.now f fault.now) taken.now }
+    ensures { IsTrue result ↔ All (λ (f : FaultOf). AreApart netlist.now f fault.now) taken.now }
 {
     for other in taken {
         if !are_apart(netlist, other, fault) {

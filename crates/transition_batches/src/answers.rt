@@ -4,7 +4,7 @@
 //! decides inputs and cells, or signals on the way to them, so that this is a test that hardly ever fails: whoever fails it is searched alone.
 //!
 //! A refutation never carries over: its steps read the pins of gates, and in a batch readers of the other slow lines have others.
-ghost use Rattle.std.specs.Prelude.{IsTrue};
+ghost use Rattle.std.specs.Prelude.{◌↔◌, IsTrue};
 ghost use Rattle.std.specs.List.{All};
 ghost use Rattle.transition_batches.specs.Batches.{DecidesBelow, DecidesFrames};
 
@@ -14,7 +14,7 @@ use redundancy_cert::Node;
 
 /// Whether a node decides nothing but signals below the bound.
 fn decides_below(bound: usize, node: &Node) -> bool
-    ensures { IsTrue result → DecidesBelow bound node.now }
+    ensures { IsTrue result ↔ DecidesBelow bound node.now }
 {
     match node {
         Node::Closed => true,
@@ -26,7 +26,7 @@ fn decides_below(bound: usize, node: &Node) -> bool
 
 /// Whether all nodes do.
 fn all_decide_below(bound: usize, nodes: &[Node]) -> bool
-    ensures { IsTrue result → All (DecidesBelow bound) nodes.now }
+    ensures { IsTrue result ↔ All (DecidesBelow bound) nodes.now }
 {
     for node in nodes {
         if !decides_below(bound, node) {
@@ -38,7 +38,7 @@ fn all_decide_below(bound: usize, nodes: &[Node]) -> bool
 
 /// Whether an answer decides nothing but inputs, cells and gates of the two frames.
 pub fn decides_frames(netlist: &Netlist, found: &Found) -> bool
-    ensures { IsTrue result → DecidesFrames netlist.now found.now }
+    ensures { IsTrue result ↔ DecidesFrames netlist.now found.now }
 {
     netlist.sound();
     let bound = netlist.inputs().len() + 2 * netlist.definitions().len();

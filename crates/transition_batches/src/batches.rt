@@ -3,8 +3,9 @@
 //! For each slow line alone the netlist, an engine's tables and its labels would be made anew, which costs more than most searches. Here they are made
 //! once for many: each slow line has three gates of its own, and all but the one that is searched let their lines pass. Named signals would have to be
 //! kept apart from those of the design and of each other; numbered ones are apart, and nobody reads them.
-ghost use Rattle.std.specs.Prelude.{◌≡◌, ◌≤◌, length, IfOk, IfSome};
+ghost use Rattle.std.specs.Prelude.{◌≡◌, ◌≤◌, length, IfOk, MatchOption};
 ghost use Rattle.std.specs.List.{All, AllPairs};
+ghost use Rattle.netlist.specs.Conditions.{IsSound};
 ghost use Rattle.netlist.specs.Designs.{IsDesign};
 ghost use Rattle.netlist.specs.Lines.{IsLineOf};
 ghost use Rattle.statement.specs.declared.lines.Fault.{Fault as FaultOf};
@@ -27,13 +28,15 @@ pub fn batch(
     requires lines { All (λ (f : FaultOf). IsLineOf netlist.now f.line) faults.now }
     requires apart { AllPairs (AreApart netlist.now) faults.now }
     requires few { length faults.now ≤ 1024 }
-    ensures { IfOk result (λ r. IfSome r (λ b. b ≡ batch_of netlist.now faults.now)) }
+    ensures { IfOk result (λ r. MatchOption r (¬ IsSound (batch_of netlist.now faults.now)) (λ b. b ≡ batch_of netlist.now faults.now)) }
 {
     netlist.sound();
     let parts = batch_parts(alloc, netlist, faults)?;
     match Netlist::new(alloc, parts) {
         Ok(batch) => Ok(Some(batch)),
-        Err(NetRefusal::NoMemory) => Err(NoMemory),
-        Err(_) => Ok(None),
+        Err(refusal) => match refusal {
+            NetRefusal::NoMemory => Err(NoMemory),
+            _ => Ok(None),
+        },
     }
 }

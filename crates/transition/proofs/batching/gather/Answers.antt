@@ -29,7 +29,7 @@ loop-k-preserved c =
           gathered_as n faults left c.args.first count _ _ _ _ places taken
           (one_gathered n faults left c.args.first count c.loop-k.places.items c.loop-k.taken.items c.loop-k.k w.fault-fault.result c.loop-k.invariant slot
           (line_at n faults c.requires.lines (c.args.first + c.loop-k.k) w.fault-fault.result w.fault-fault.ensures)
-          (subst (All (λ (f : Fault). AreApart c.args.netlist.now f w.fault-fault.result)) w.deref.ensures.value (w.is_apart.ensures told)) few)
+          (subst (All (λ (f : Fault). AreApart c.args.netlist.now f w.fault-fault.result)) w.deref.ensures.value (w.is_apart.ensures.0 told)) few)
       | then-len-most+then-left-first+then-is_none+else-is_apart w ↦
           let places : c.if-len-most.places.items ≡ c.loop-k.places.items = search rules in
           let taken : c.if-len-most.taken.items ≡ c.loop-k.taken.items = search rules in
