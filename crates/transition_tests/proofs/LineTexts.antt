@@ -1,5 +1,5 @@
 -- The text of a netlist's slow line is that of one in a report.
-use Rattle.std.proofs.Common.{ℕ, ◌<◌, ◌++◌, ◌∙◌, Bool, length, codes, decimal, ap, arith, append_assoc}
+use Rattle.std.proofs.Common.{◌<◌, ◌++◌, ◌∙◌, Bool, length, codes, decimal, ap, arith, append_assoc}
 use Rattle.statement.specs.declared.lines.Line.{Line as LineOf}
 use Rattle.statement.specs.declared.lines.Line.TheVariants.{Stem, Pin, Out}
 use Rattle.statement.specs.declared.lines.Fault.{Fault}

@@ -8,7 +8,6 @@ use Rattle.statement.specs.Patterns.{Holds, Pattern}
 use Rattle.cubes.specs.Cubes.{IsPatternOf}
 use Rattle.statement.specs.Faults.{universe_of}
 use Rattle.redundancy_cert.specs.Trees.{closed_count, open_count}
-use Rattle.evidence.specs.declared.kinds.Evidence.{Evidence}
 use Rattle.evidence.specs.Evidence.{MayBe, open_ends}
 use Rattle.transition_sim.specs.Detections.{IsLastTransition, LastTransition}
 use Rattle.transition_sim.specs.Shown.{FitsFrames, ShowsFrames}
