@@ -139,10 +139,10 @@ next_held n lines k next x after old new input (free none step is) so_far =
 
 -- ---- before the first input, and behind the last
 
-none_at : (xs : List ℕ) (j : ℕ) → get_or (map {B = Option Bool} (λ (x : ℕ). None) xs) j None ≡ None
+none_at : (ys : List ℕ) (j : ℕ) → get_or (map {B = Option Bool} (λ (x : ℕ). None) ys) j None ≡ None
 none_at [] j = refl
-none_at (x ∷ xs) zero = refl
-none_at (x ∷ xs) (suc j) = none_at xs j
+none_at (y ∷ ys) zero = refl
+none_at (y ∷ ys) (suc j) = none_at ys j
 
 pub none_held_yet : (n : Netlist) (lines : List Hold) (holds : Holds) → holds ≡ none_held n → ArePartHeld n lines 0 0 holds
 none_held_yet n lines holds is = record {

@@ -54,6 +54,10 @@ passes_by law files c sound design stand (False which) is = tt
 pub no_hold : (s : Said) → ((holds : Holds) → ¬ AreHeldBy s.core s.report.holds holds) → IsScanAnswer s (False clause.HoldDiffers)
 no_hold s none scan has = (has, none)
 
+-- with these inputs held, where the report says so
+pub held_by : (s : Said) (holds : Holds) → AreHeldBy s.core s.report.holds holds → (answer : Checked) → IsHeldAnswer s holds answer → IsScanAnswer s answer
+held_by s holds held answer is scan has = is scan has held
+
 pub no_stil : (s : Said) (holds : Holds) (chains : List (List ℕ)) → chains ≡ design_chains s.core (slow_chains_said s.report)
     → ((patterns : List Pattern) → All (IsPatternOf s.core holds) patterns → ¬ IsLaunchFileOf s.core holds chains patterns s.file) → IsHeldAnswer s holds (False clause.StilDiffers)
 no_stil s holds chains own none scan has held =
