@@ -1,6 +1,6 @@
 -- What is written of verdicts has the form of a report's lines and of a certificate's evidence.
-use Rattle.std.proofs.Common.{◌≡◌, ℕ, zero, suc, ◌+◌, List, [], ◌∷◌, ◌++◌, length, Some, refl, ap, ◌∙◌, arith}
-use Rattle.std.specs.List.{All, AllZip, Contains, slice_get, zip}
+use Rattle.std.proofs.Common.{◌≡◌, ℕ, zero, suc, List, [], ◌∷◌, Some, refl, ap, arith}
+use Rattle.std.specs.List.{All, AllZip, Contains, slice_get}
 use Rattle.std.proofs.lemmas.List.Elements.{All-append, All-contains, All-cons, All-nil}
 use Rattle.std.proofs.lemmas.List.Sums.{sum_by-cons}
 use Rattle.netlist.proofs.Lists.{All-from_contains}
@@ -12,7 +12,6 @@ use Rattle.statement.specs.Faults.{universe_of}
 use Rattle.statement.specs.Reports.{Line}
 use Rattle.netlist.specs.Conditions.{IsSound}
 use Rattle.netlist.specs.Designs.{IsDesign}
-use Rattle.netlist.specs.Lines.{IsLineOf}
 use Rattle.fault_universe.specs.Laws.{FaultsHaveLines}
 use Rattle.fault_universe.proofs.Elements.{contains_at}
 use Rattle.evidence.specs.declared.kinds.Evidence.{Evidence}

@@ -7,7 +7,7 @@ use Rattle.statement.specs.Netlists.{Netlist}
 use Rattle.statement.specs.Benches.{canonical}
 use Rattle.statement.specs.Patterns.{Holds, Pattern}
 use Rattle.statement.specs.Statement.{FiveFiles}
-use Rattle.statement.specs.Faults.{fault_text, universe_of}
+use Rattle.statement.specs.Faults.{universe_of}
 use Rattle.netlist.specs.Conditions.{IsSound}
 use Rattle.netlist.specs.Designs.{IsDesign}
 use Rattle.netlist.specs.Holds.{AreHoldsOf}

@@ -1,5 +1,5 @@
 -- The lines and the evidence of verdicts are true.
-use Rattle.std.proofs.Common.{◌≡◌, ◌≢◌, ◌<◌, ℕ, zero, suc, inl, inr, Bool, true, false, cond, List, [], ◌∷◌, ◌++◌, length, get_or, map, Some, refl, sym, ◌∙◌, ap, subst, arith}
+use Rattle.std.proofs.Common.{◌≡◌, ◌≢◌, ℕ, zero, suc, inl, inr, false, cond, List, [], ◌∷◌, ◌++◌, length, get_or, Some, refl, sym, ◌∙◌, ap, subst, arith}
 use Rattle.std.specs.List.{AllZip, slice_get, zip}
 use Rattle.std.proofs.lemmas.Option.{slice_get-get_or}
 use Rattle.statement.specs.declared.lines.Line.TheVariants.{Stem}
